@@ -1,0 +1,4 @@
+pub mod Boundaries
+pub mod Rules
+pub mod Slices
+pub mod Text
