@@ -1,0 +1,10 @@
+pub mod AnswerLemmas
+pub mod ClassLemmas
+pub mod CutLemmas
+pub mod OrderLemmas
+pub mod ReadingLemmas
+pub mod SoundLemmas
+pub mod TextLemmas
+pub mod TokenLemmas
+pub mod UniqueLemmas
+pub mod Values

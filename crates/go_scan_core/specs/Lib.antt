@@ -1,0 +1,5 @@
+pub mod Cutting
+pub mod Reading
+pub mod Spelling
+pub mod Texts
+pub mod Tokens
