@@ -1,0 +1,28 @@
+#!/bin/sh
+# Compares what `govisd resolve` and go/types say of the same files: which declaration each identifier denotes.
+#
+#     bench/conformance.sh              the benchmark files, the examples and 300 small files of few names
+#     bench/conformance.sh FILE.go ..   these files
+#
+# GOVISD names another program than crates/govisd/out/govisd. Status 0 where the two agree wherever both name a
+# declaration, 1 where not, 2 where nothing could be compared.
+set -u
+
+bench=$(dirname -- "$(readlink -f -- "$0")")
+govisd=${GOVISD:-$bench/../crates/govisd/out/govisd}
+out=${BENCH_OUT:-$bench/out}
+export BENCH_OUT="$out"
+
+if [ ! -x "$govisd" ]; then
+    echo "bench: there is no program $govisd: ./govisd at the top of the repository builds it" >&2
+    exit 2
+fi
+govisd=$(readlink -f -- "$govisd")
+mkdir -p "$out" || exit 2
+gofront=$("$bench/gofront.sh") || exit 2
+if [ $# -eq 0 ]; then
+    python3 "$bench/generate.py" bench "$out/files" || exit 2
+    python3 "$bench/generate.py" small "$out/small" || exit 2
+    set -- "$out"/files/*.go "$bench"/../examples/*.go "$out"/small/*.go
+fi
+exec python3 "$bench/agree.py" --govisd "$govisd" --gofront "$gofront" "$@"

@@ -1,0 +1,33 @@
+#!/bin/sh
+# Measures `govisd resolve` on files of 1 MB, beside Go's own front end, and checks that the times and the memory
+# are within bounds. README.md beside this file says what is measured.
+#
+#     bench/resolve.sh             the program crates/govisd/out/govisd
+#     GOVISD=FILE bench/resolve.sh   another program
+#
+# Status 0 where all bounds hold and both programs agree, 1 where not, 2 where nothing could be measured.
+set -u
+
+bench=$(dirname -- "$(readlink -f -- "$0")")
+govisd=${GOVISD:-$bench/../crates/govisd/out/govisd}
+out=${BENCH_OUT:-$bench/out}
+export BENCH_OUT="$out"
+
+if [ ! -x "$govisd" ]; then
+    echo "bench: there is no program $govisd: ./govisd at the top of the repository builds it" >&2
+    exit 2
+fi
+govisd=$(readlink -f -- "$govisd")
+mkdir -p "$out" && python3 "$bench/generate.py" bench "$out/files" || exit 2
+gofront=$("$bench/gofront.sh") || gofront=
+
+set --
+[ -z "$gofront" ] || set -- --gofront "$gofront"
+python3 "$bench/measure.py" --govisd "$govisd" "$@" --files "$out/files"
+measured=$?
+[ -n "$gofront" ] || exit $measured
+echo
+GOVISD="$govisd" "$bench/conformance.sh"
+conforms=$?
+[ $measured -ne 0 ] && exit $measured
+exit $conforms

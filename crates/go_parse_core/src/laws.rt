@@ -1,0 +1,36 @@
+//! Laws of the definitions.
+//!
+//! A whole tree has a semicolon behind each statement of a block, and a text may leave out those before a
+//! closing mark; a tree of the text has none where the text leaves it out.
+ghost use Rattle.go_parse_core.specs.Correct.{HasOneTree};
+ghost use Rattle.go_parse_core.specs.LeftOut.{HasOneWholeTree, MarkedIsWhole, WholeIsMarked};
+ghost use Rattle.go_parse_core.specs.Names.{HasNamesSpelled};
+
+/// A law, with nothing to run: a text has at most one tree.
+pub fn one_tree()
+    ensures { HasOneTree }
+{}
+
+/// A law, with nothing to run: each name among the tokens of a text in UTF-8 is a piece of the text, so
+/// that a tree can write it.
+pub fn names_spelled()
+    ensures { HasNamesSpelled }
+{}
+
+/// A law, with nothing to run: a tree of a text can be filled to a whole tree of the text, with a semicolon
+/// wherever it has none, and no higher.
+pub fn marked_is_whole()
+    ensures { MarkedIsWhole }
+{}
+
+/// A law, with nothing to run: a whole tree of a text, without the semicolons that the text leaves out, is a
+/// tree of the text.
+pub fn whole_is_marked()
+    ensures { WholeIsMarked }
+{}
+
+/// A law, with nothing to run: a text has at most one whole tree, apart from the places of the semicolons
+/// that it leaves out.
+pub fn one_whole_tree()
+    ensures { HasOneWholeTree }
+{}

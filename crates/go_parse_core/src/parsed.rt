@@ -1,0 +1,126 @@
+//! Parsed texts.
+ghost use Rattle.std.specs.Prelude.{◌≡◌, ◌≤◌, ◌<◌, ◌^◌, ℕ, length, string_bytes};
+ghost use Rattle.go_tree_core.specs.Occurrences.{file_occs};
+ghost use Rattle.go_tree_core.specs.Shapes.{file_of};
+ghost use Rattle.go_tree_core.specs.Spelling.{spell_file, file_height};
+ghost use Rattle.go_tree_core.specs.Terminals.{InOrder};
+ghost use Rattle.go_tree_core.specs.Trees.{FileTree};
+ghost use Rattle.go_parse_core.specs.Correct.{HasTree, max_height};
+ghost use Rattle.go_parse_core.specs.Parsing.{Parses, IsParsedUnlessMemory};
+ghost use Rattle.go_parse_core.specs.Stopping.{IsErrorOf, IsTreeAnswer, IsTreeUnlessMemory};
+
+use crate::ahead::Ahead;
+use crate::error::{ParseError, SynFault};
+use crate::file::file;
+use crate::stop::Stop;
+use go_scan_core::{ScanError, scan};
+use go_text_core::Rule;
+use go_tree_core::File;
+use std::alloc::Global;
+use std::marker::Model;
+
+/// The greatest height of the statements of a function. A function and its body are a node each, so that no
+/// tree is higher than 200.
+const INNER_HEIGHT: u32 = 198;
+
+/// A text that has a tree of height at most 200, with that tree. Contracts see it as its text, of which it
+/// is the only tree.
+#[derive(Drop)]
+pub struct Parsed {
+    text: String,
+    tree: File,
+}
+
+impl Model for Parsed {
+    ghost use Rattle.std.specs.Prelude.{List, ℕ, string_bytes};
+
+    ghost Value = { List ℕ };
+
+    ghost use Rattle.go_tree_core.specs.Shapes.{file_of};
+    ghost use Rattle.go_parse_core.specs.Parsing.{IsParse};
+
+    ghost view = { λ p. string_bytes p.text };
+
+    ghost invariant = { λ p. IsParse (string_bytes p.text) (file_of p.tree) };
+}
+
+impl Parsed {
+    /// The text that was parsed, as it was given.
+    pub fn text(&self) -> &str
+        ensures { result.now ≡ self.now }
+    {
+        self.text.as_str()
+    }
+
+    /// The tree of the text. Its spans are in bytes of the text.
+    pub fn tree(&self) -> &File
+        ensures found { HasTree self.now (file_of result.now) }
+        ensures low { file_height (file_of result.now) ≤ max_height }
+        // The tokens that the tree writes follow one another in the text.
+        ensures placed { InOrder 0 (spell_file (file_of result.now)) (length self.now) }
+        ensures few { length (file_occs (file_of result.now)) < 2 ^ 64 }
+    {
+        &self.tree
+    }
+}
+
+/// The fault with which the parser stops in a text of `len` bytes, or want of memory.
+fn error_of(stop: Stop, len: usize) -> ParseError
+    ensures { IsErrorOf result stop len }
+{
+    match stop {
+        Stop::Memory => ParseError::Memory,
+        Stop::Grammar(at) => ParseError::Fault(SynFault {
+            rule: Rule::P1,
+            offset: at.min(len),
+        }),
+        Stop::TooHigh(at) => ParseError::Fault(SynFault {
+            rule: Rule::P2,
+            offset: at.min(len),
+        }),
+    }
+}
+
+/// The tree of a text, whose tokens follow one another.
+fn tree_of(alloc: Global, text: &str) -> Result<File, ParseError>
+    ensures answer { IsTreeAnswer text.now result }
+    ensures only { (f : FileTree) → HasTree text.now f → file_height f ≤ max_height → IsTreeUnlessMemory result }
+{
+    let len = text.len();
+    let tokens = match scan(alloc, text) {
+        Ok(tokens) => tokens,
+        Err(ScanError::Memory) => return Err(ParseError::Memory),
+        Err(ScanError::Fault(fault)) => {
+            return Err(ParseError::Fault(SynFault {
+                rule: fault.rule,
+                offset: fault.offset,
+            }));
+        }
+    };
+    match file(alloc, Ahead::new(text, &tokens), INNER_HEIGHT) {
+        Ok(tree) => Ok(tree),
+        Err(stop) => Err(error_of(stop, len)),
+    }
+}
+
+/// Parses the text of a file, by the grammar of the Go specification, "Source file organization",
+/// "Operators" and "Semicolons".
+///
+/// A text has at most one tree, [`one_tree`](crate::one_tree). It is found where it is at most 200 high,
+/// unless memory runs out. Offsets count the bytes of the text from its start.
+///
+/// # Errors
+///
+/// - [`ParseError::Memory`] where memory runs out.
+/// - [`ParseError::Fault`] with the rule L1, L2 or L3 and the offset of the first place where no token,
+///   white space or end of a line begins, as [`scan`] answers it.
+/// - [`ParseError::Fault`] with the rule P1 where the tokens have no tree of any height, and P2 where they
+///   have none of height 200 or less. The offset is that of the token where the parser stopped, or that of
+///   the text's end where it stopped behind the last token.
+pub fn parse(alloc: Global, text: String) -> Result<Parsed, ParseError>
+    ensures answer { Parses (string_bytes text) result }
+    ensures only { (f : FileTree) → HasTree (string_bytes text) f → file_height f ≤ max_height → IsParsedUnlessMemory result }
+{
+    let tree = tree_of(alloc, text.as_str())?;
+    Ok(Parsed { text, tree })
+}

@@ -1,0 +1,16 @@
+pub mod Agreement
+pub mod DenotedLemmas
+pub mod Each
+pub mod Envs
+pub mod Files
+pub mod Fits
+pub mod Found
+pub mod OrderLemmas
+pub mod Package
+pub mod Parts
+pub mod Placed
+pub mod Predeclared
+pub mod Pushes
+pub mod Steps
+pub mod Tops
+pub mod Walks

@@ -1,0 +1,10 @@
+use Rattle.go_tree_core.specs.Shapes.{lines_of}
+use Rattle.go_resolve_core.specs.declared.declared.Block.TheVariants.{Within}
+use Rattle.go_resolve_core.proofs.Walks.{left_block, inner_open}
+use Rattle.go_resolve_core.proofs.file.walk_func.Goals as goal
+
+pub leave-requires : goal.leave-requires
+leave-requires c = inner_open c.args.resolver.now c.enter.new.self c.walk_lines.new.resolver (Within c.args.func.now.open_brace.start c.args.func.now.close_brace.start) (lines_of c.args.func.now.body.items) c.requires c.in_ok-enter.ensures.ok c.in_ok-walk_lines.ensures.open
+
+pub returns-clause-open : goal.returns-clause-open
+returns-clause-open c = left_block c.args.resolver.now c.leave.new.self c.enter.new.self c.walk_lines.new.resolver _ (Within c.args.func.now.open_brace.start c.args.func.now.close_brace.start) (lines_of c.args.func.now.body.items) c.in_ok-enter.ensures.ok c.in_ok-walk_lines.ensures.open c.leave.ensures

@@ -1,0 +1,12 @@
+use Rattle.std.proofs.Common.{map}
+use Rattle.go_tree_core.specs.Occurrences.{expr_occs, exprs_occs}
+use Rattle.go_tree_core.specs.Shapes.{shape, shape_exprs}
+use Rattle.go_resolve_core.specs.Walk.{use_in}
+use Rattle.go_resolve_core.proofs.Steps.{each_init, next_uses, exprs_each}
+use Rattle.go_resolve_core.proofs.walk.walk_exprs.Goals as goal
+
+pub loop-next-init : goal.loop-next-init
+loop-next-init c =
+    let env = c.args.resolver.now in
+    let all = c.args.exprs.now in
+    each_init (next_uses env) all.more.items c.deref-next-items.result.now c.args.uses.now.items c.walk_expr.new.uses.items (map (use_in env) (expr_occs (shape all.first))) (map (use_in env) (exprs_occs (shape_exprs all))) c.in_ok-walk_expr.ensures c.deref-next-items.ensures.value (exprs_each env all.first all.more.items)

@@ -1,0 +1,10 @@
+use Rattle.std.proofs.Common.{◌≡◌, ◌++◌, map, drop}
+use Rattle.go_tree_core.specs.Occurrences.{exprs_occs}
+use Rattle.go_tree_core.specs.Shapes.{shape_exprs}
+use Rattle.go_resolve_core.specs.Walk.{use_in}
+use Rattle.go_resolve_core.proofs.Steps.{each, next_uses}
+use Rattle.go_resolve_core.proofs.walk.walk_exprs.Given as goal
+
+abbrev pub invariant-loop-next : goal.invariant-loop-next
+invariant-loop-next l =
+    l.uses.items ++ each (next_uses l.resolver) (drop l.next-index l.next-items) ≡ l.fn.uses.items ++ map (use_in l.resolver) (exprs_occs (shape_exprs l.exprs))

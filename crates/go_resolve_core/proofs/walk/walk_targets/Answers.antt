@@ -1,0 +1,12 @@
+use Rattle.std.proofs.Common.{map}
+use Rattle.go_tree_core.specs.Occurrences.{target_occs, targets_occs}
+use Rattle.go_tree_core.specs.Shapes.{shape, shape_exprs}
+use Rattle.go_resolve_core.specs.Walk.{use_in}
+use Rattle.go_resolve_core.proofs.Steps.{each_init, next_target_uses, targets_each}
+use Rattle.go_resolve_core.proofs.walk.walk_targets.Goals as goal
+
+pub loop-next-init : goal.loop-next-init
+loop-next-init c =
+    let env = c.args.resolver.now in
+    let all = c.args.targets.now in
+    each_init (next_target_uses env) all.more.items c.deref-next-items.result.now c.args.uses.now.items c.walk_target.new.uses.items (map (use_in env) (target_occs (shape all.first))) (map (use_in env) (targets_occs (shape_exprs all))) c.in_ok-walk_target.ensures c.deref-next-items.ensures.value (targets_each env all.first all.more.items)

@@ -1,0 +1,10 @@
+pub mod Binding
+pub mod Declarations
+pub mod Denoted
+pub mod Env
+pub mod Faults
+pub mod Order
+pub mod Outcomes
+pub mod Placed
+pub mod Universe
+pub mod Walk

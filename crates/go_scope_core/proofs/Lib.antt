@@ -1,0 +1,4 @@
+pub mod Distinct
+pub mod Innermost
+pub mod Names
+pub mod Tables

@@ -1,0 +1,5 @@
+pub mod Covering
+pub mod OccLemmas
+pub mod Order
+pub mod Seeking
+pub mod ShapeLemmas

@@ -1,0 +1,3 @@
+pub mod InputLemmas
+pub mod InputsAgree
+pub mod ReportLemmas

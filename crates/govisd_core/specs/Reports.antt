@@ -1,0 +1,100 @@
+-- What a run over some bytes writes, by the rules alone.
+use Rattle.std.specs.Prelude.{◌≡◌, ◌≤◌, ◌<◌, ℕ, Bool, true, false, List, length, Option, Ok, Err}
+use Rattle.std.specs.Str.{IsUtf8}
+use Rattle.std.specs.Io.KnownBytes.{Appends, Keeps}
+use Rattle.go_text_core.specs.declared.rule.Rule.{Rule}
+use Rattle.go_text_core.specs.declared.rule.Rule.TheVariants.{E3, L1, P1, P2}
+use Rattle.go_scan_core.specs.declared.token.LexFault.{LexFault}
+use Rattle.go_scan_core.specs.declared.token.Token.{Token}
+use Rattle.go_scan_core.specs.Cutting.{tokens_of}
+use Rattle.go_tree_core.specs.Trees.{FileTree}
+use Rattle.go_tree_core.specs.Spelling.{file_height}
+use Rattle.go_parse_core.specs.Correct.{HasTree, HasNoTree, HasNoLowTree, max_height}
+use Rattle.govisd_core.specs.declared.run.ResolveEnd.{ResolveEnd}
+use Rattle.govisd_core.specs.declared.run.ResolveEnd.TheVariants.{Clean, Faults, ReadFault, WriteFault, Memory}
+use Rattle.govisd_core.specs.Lines.{fault_line, lines_of, has_no_fault}
+
+-- the most bytes that a text may have
+abbrev pub max_bytes : ℕ
+max_bytes = 1048576
+
+-- what bytes are: too many, no text, a text with a first fault of its tokens, a text whose tokens have no
+-- tree or none that is low enough, or a file
+pub data Input : Type 0 where
+  TooLong : Input
+  NoText : Input
+  BadToken : LexFault → Input
+  NoTree : ℕ → Input
+  TooHigh : ℕ → Input
+  Whole : FileTree → Input
+
+-- a text of a length that is allowed
+pub record IsText (bytes : List ℕ) : Type 0 where
+  pub size : length bytes ≤ max_bytes
+  pub utf8 : IsUtf8 bytes
+
+-- a text that has tokens
+pub record HasTokens (bytes : List ℕ) : Type 0 where
+  pub text : IsText bytes
+  pub tokens : List Token
+  pub scanned : tokens_of bytes ≡ Ok tokens
+
+abbrev pub IsInput : List ℕ → Input → Type 0
+IsInput bytes TooLong = max_bytes < length bytes
+IsInput bytes NoText = (length bytes ≤ max_bytes) × ¬ (IsUtf8 bytes)
+IsInput bytes (BadToken fault) = IsText bytes × (tokens_of bytes ≡ Err fault)
+IsInput bytes (NoTree offset) = HasTokens bytes × HasNoTree bytes × (offset ≤ length bytes)
+IsInput bytes (TooHigh offset) = HasTokens bytes × HasNoLowTree bytes × (offset ≤ length bytes)
+IsInput bytes (Whole f) = IsText bytes × HasTree bytes f × (file_height f ≤ max_height)
+
+abbrev pub the_fault : ℕ → Rule → List ℕ
+the_fault offset rule = fault_line (record { offset = offset; rule = rule })
+
+-- what is written
+abbrev pub report : List ℕ → Input → List ℕ
+report bytes TooLong = the_fault 0 E3
+report bytes NoText = the_fault 0 L1
+report bytes (BadToken fault) = the_fault fault.offset fault.rule
+report bytes (NoTree offset) = the_fault offset P1
+report bytes (TooHigh offset) = the_fault offset P2
+report bytes (Whole f) = lines_of bytes f
+
+-- the status is that of a source without fault
+abbrev pub is_clean : Input → Bool
+is_clean (Whole f) = has_no_fault f
+is_clean _ = false
+
+-- the report on the bytes was written, and it says whether there is a fault
+pub record Reports (clean : Bool) (bytes : List ℕ) (old new : Option (List ℕ)) : Type 0 where
+  pub input : Input
+  pub is : IsInput bytes input
+  pub says : is_clean input ≡ clean
+  pub writes : Appends old new (report bytes input)
+
+-- how a run over these bytes ended, and what was written
+abbrev pub IsEnd : ResolveEnd → List ℕ → Option (List ℕ) → Option (List ℕ) → Type 0
+IsEnd Clean bytes old new = Reports true bytes old new
+IsEnd Faults bytes old new = Reports false bytes old new
+IsEnd ReadFault bytes old new = Keeps old new
+IsEnd Memory bytes old new = Keeps old new
+IsEnd WriteFault bytes old new = Unit {0}
+
+-- the text of a report on the bytes, and whether it is of a source without fault
+pub record IsReport (bytes : List ℕ) (clean : Bool) (text : List ℕ) : Type 0 where
+  pub input : Input
+  pub is : IsInput bytes input
+  pub says : is_clean input ≡ clean
+  pub writes : text ≡ report bytes input
+
+-- an input, but for the place where a text without a low tree is refused, and which of P1 and P2 refuses it
+abbrev pub but_for_place : Input → Input
+but_for_place (NoTree offset) = NoTree 0
+but_for_place (TooHigh offset) = NoTree 0
+but_for_place TooLong = TooLong
+but_for_place NoText = NoText
+but_for_place (BadToken fault) = BadToken fault
+but_for_place (Whole f) = Whole f
+
+-- but for that, bytes are one input
+abbrev pub OneInput : Type 0
+OneInput = (bytes : List ℕ) (a b : Input) → IsInput bytes a → IsInput bytes b → but_for_place a ≡ but_for_place b

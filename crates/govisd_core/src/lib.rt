@@ -1,0 +1,10 @@
+//! The programs of govisd as functions over a reader and a writer.
+#![tactic(auto)]
+
+mod input;
+mod laws;
+mod lines;
+mod run;
+
+pub use laws::one_input;
+pub use run::{ResolveEnd, run_resolve};
