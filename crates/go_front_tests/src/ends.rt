@@ -3,12 +3,14 @@ use std::alloc::Global;
 use std::io;
 use std::io::{ErrorKind, Read, Write};
 
-/// Gives a text at most `step` bytes a read, and fails once `reads` reads are made.
+/// Gives a text at most `step` bytes a read, and fails once `reads` reads are made. Where it is told to, every
+/// second read is interrupted.
 #[derive(Drop)]
 pub struct Source<'a> {
     pub rest: &'a [u8],
     pub step: usize,
     pub reads: usize,
+    pub interrupts: bool,
 }
 
 impl Read for Source<'_> {
@@ -17,6 +19,9 @@ impl Read for Source<'_> {
             return Err(io::Error::from(ErrorKind::Other));
         }
         self.reads -= 1;
+        if self.interrupts && self.reads % 2 == 0 {
+            return Err(io::Error::from(ErrorKind::Interrupted));
+        }
         let n = self.step.min(buf.len()).min(self.rest.len());
         let (front, back) = self.rest.split_at(n);
         buf[..n].copy_from_slice(front);

@@ -14,6 +14,7 @@ fn reports(rt: &(impl Abort + AllocGlobal), text: &str, end: ResolveEnd, report:
         rest: text.as_bytes(),
         step: 4096,
         reads: 1000,
+        interrupts: false,
     };
     let mut sink = Sink::new(rt.alloc(), false);
     let ended = run_resolve(rt.alloc(), &mut source, &mut sink);
@@ -107,6 +108,7 @@ fn unreadable_texts(rt: HostRuntime) -> Result<(), Fail> {
             rest: &bytes,
             step: 1,
             reads: 1000,
+            interrupts: false,
         };
         let mut sink = Sink::new(rt.alloc(), false);
         assert_eq!(rt;
@@ -128,6 +130,7 @@ fn unreadable_texts(rt: HostRuntime) -> Result<(), Fail> {
             rest: long.as_slice(),
             step: 65_536,
             reads: 1000,
+            interrupts: false,
         };
         let mut sink = Sink::new(rt.alloc(), false);
         assert_eq!(rt;
@@ -146,6 +149,7 @@ fn small_reads_and_failures(rt: HostRuntime) {
             rest: SHADOWING.as_bytes(),
             step,
             reads: 1000,
+            interrupts: false,
         };
         let mut sink = Sink::new(rt.alloc(), false);
         assert_eq!(rt;
@@ -160,6 +164,7 @@ fn small_reads_and_failures(rt: HostRuntime) {
             rest: SHADOWING.as_bytes(),
             step: 1,
             reads,
+            interrupts: false,
         };
         let mut sink = Sink::new(rt.alloc(), false);
         assert_eq!(rt;
@@ -168,10 +173,23 @@ fn small_reads_and_failures(rt: HostRuntime) {
         );
         assert!(rt; sink.bytes.is_empty());
     }
+    let mut interrupted = Source {
+        rest: SHADOWING.as_bytes(),
+        step: 5,
+        reads: 1000,
+        interrupts: true,
+    };
+    let mut sink = Sink::new(rt.alloc(), false);
+    assert_eq!(rt;
+        run_resolve(rt.alloc(), &mut interrupted, &mut sink),
+        ResolveEnd::Clean
+    );
+    assert!(rt; sink.bytes.as_slice() == SHADOWED.as_bytes());
     let mut source = Source {
         rest: SHADOWING.as_bytes(),
         step: 4096,
         reads: 1000,
+        interrupts: false,
     };
     let mut sink = Sink::new(rt.alloc(), true);
     assert_eq!(rt;
@@ -187,6 +205,7 @@ fn every_prefix(rt: HostRuntime) {
             rest: &SHADOWING.as_bytes()[..len],
             step: 4096,
             reads: 1000,
+            interrupts: false,
         };
         let mut sink = Sink::new(rt.alloc(), false);
         let ended = run_resolve(rt.alloc(), &mut source, &mut sink);

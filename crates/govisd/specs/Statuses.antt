@@ -13,7 +13,7 @@ abbrev pub end_status : ResolveEnd → ℕ
 end_status Clean = 0
 end_status _ = 1
 
--- why no report was written
+-- why no whole report was written
 abbrev pub end_message : ResolveEnd → Option (List ℕ)
 end_message Clean = None
 end_message Faults = None

@@ -32,7 +32,7 @@ fn read_words(alloc: Global, words: &[String]) -> Result<(), Error> {
     Ok(())
 }
 
-// A run over a reader and a writer. Where it writes no report, it says why.
+// A run over a reader and a writer. Where it writes no whole report, it says why.
 fn resolve<R: Read, W: Write>(rt: &HostRuntime, reader: &mut R, writer: &mut W) -> ExitCode
     ensures { IsRun (exit_status result) (R.remaining reader.old) (W.contents writer.old) (W.contents writer.new) }
 {

@@ -17,7 +17,7 @@ pub fn end_status(end: ResolveEnd) -> u8
     }
 }
 
-/// Why a run wrote no report, or none where it wrote one.
+/// Why a run wrote no whole report, or none where it wrote one.
 pub fn end_message(end: ResolveEnd) -> Option<&'static str>
     ensures { option_map (λ text. text.now) result ≡ message_of_end end }
 {

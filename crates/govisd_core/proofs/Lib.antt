@@ -1,3 +1,4 @@
 pub mod InputLemmas
 pub mod InputsAgree
+pub mod OutputLemmas
 pub mod ReportLemmas

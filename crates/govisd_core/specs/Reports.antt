@@ -1,5 +1,5 @@
 -- What a run over some bytes writes, by the rules alone.
-use Rattle.std.specs.Prelude.{◌≡◌, ◌≤◌, ◌<◌, ℕ, Bool, true, false, List, length, Option, Ok, Err}
+use Rattle.std.specs.Prelude.{◌≡◌, ◌≤◌, ◌<◌, ℕ, Bool, true, false, List, length, take, Option, Ok, Err}
 use Rattle.std.specs.Str.{IsUtf8}
 use Rattle.std.specs.Io.KnownBytes.{Appends, Keeps}
 use Rattle.go_text_core.specs.declared.rule.Rule.{Rule}
@@ -71,13 +71,20 @@ pub record Reports (clean : Bool) (bytes : List ℕ) (old new : Option (List ℕ
   pub says : is_clean input ≡ clean
   pub writes : Appends old new (report bytes input)
 
+-- the first bytes of the report were written, and nothing else
+pub record ReportsPart (bytes : List ℕ) (old new : Option (List ℕ)) : Type 0 where
+  pub input : Input
+  pub is : IsInput bytes input
+  pub count : ℕ
+  pub writes : Appends old new (take count (report bytes input))
+
 -- how a run over these bytes ended, and what was written
 abbrev pub IsEnd : ResolveEnd → List ℕ → Option (List ℕ) → Option (List ℕ) → Type 0
 IsEnd Clean bytes old new = Reports true bytes old new
 IsEnd Faults bytes old new = Reports false bytes old new
 IsEnd ReadFault bytes old new = Keeps old new
 IsEnd Memory bytes old new = Keeps old new
-IsEnd WriteFault bytes old new = Unit {0}
+IsEnd WriteFault bytes old new = ReportsPart bytes old new
 
 -- the text of a report on the bytes, and whether it is of a source without fault
 pub record IsReport (bytes : List ℕ) (clean : Bool) (text : List ℕ) : Type 0 where

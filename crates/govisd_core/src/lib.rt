@@ -4,6 +4,7 @@
 mod input;
 mod laws;
 mod lines;
+mod output;
 mod run;
 
 pub use laws::one_input;

@@ -4,6 +4,7 @@ ghost use Rattle.govisd_core.specs.Reports.{IsReport, IsEnd, IsText, the_fault};
 
 use crate::input::{LIMIT, read_input};
 use crate::lines::{fault_lines, has_no_fault, resolution_lines};
+use crate::output::write_report;
 use go_parse_core::{ParseError, Parsed, parse};
 use go_resolve_core::{Fault, resolve};
 use go_text_core::Rule;
@@ -19,7 +20,7 @@ pub enum ResolveEnd {
     Faults,
     /// The reader failed, or gave too little at a time. Nothing is written.
     ReadFault,
-    /// The writer failed.
+    /// The writer failed. A first part of the report is written, or nothing of it.
     WriteFault,
     /// Memory ran out. Nothing is written.
     Memory,
@@ -86,7 +87,9 @@ fn report_of(alloc: Global, bytes: Vec<u8>) -> Result<Report, AllocError>
 /// identifier; ANSWER is `universe.` with a predeclared name, `local/in.go:` with the offset of the
 /// declaration, or the number of the rule that refuses the identifier. Bytes that are no file have one
 /// line `fault OFFSET RULE`: E3 at 0 for more than 1,048,576 bytes, of which one more is read at the most;
-/// L1 at 0 for no UTF-8; and else the fault of the text. The report is made before any of it is written.
+/// L1 at 0 for no UTF-8; and else the fault of the text. The report is made before any of it is written,
+/// and where the writer fails, what it took is a first part of the report. Reads and writes that are
+/// interrupted are made again.
 pub fn run_resolve<R: Read, W: Write>(alloc: Global, reader: &mut R, writer: &mut W) -> ResolveEnd
     ensures { IfSome (R.remaining reader.old) (λ bytes. IsEnd result (take LIMIT bytes) (W.contents writer.old) (W.contents writer.new)) }
 {
@@ -97,9 +100,9 @@ pub fn run_resolve<R: Read, W: Write>(alloc: Global, reader: &mut R, writer: &mu
     let Ok(report) = report_of(alloc, bytes) else {
         return ResolveEnd::Memory;
     };
-    let Ok(()) = writer.write_all(report.text.as_slice()) else {
+    if !write_report(writer, report.text.as_slice()) {
         return ResolveEnd::WriteFault;
-    };
+    }
     if report.clean {
         ResolveEnd::Clean
     } else {
