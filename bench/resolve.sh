@@ -9,15 +9,7 @@
 set -u
 
 bench=$(dirname -- "$(readlink -f -- "$0")")
-govisd=${GOVISD:-$bench/../crates/govisd/out/govisd}
-out=${BENCH_OUT:-$bench/out}
-export BENCH_OUT="$out"
-
-if [ ! -x "$govisd" ]; then
-    echo "bench: there is no program $govisd: ./govisd at the top of the repository builds it" >&2
-    exit 2
-fi
-govisd=$(readlink -f -- "$govisd")
+. "$bench/program.sh"
 mkdir -p "$out" && python3 "$bench/generate.py" bench "$out/files" || exit 2
 gofront=$("$bench/gofront.sh") || gofront=
 
