@@ -11,7 +11,7 @@ set -u
 bench=$(dirname -- "$(readlink -f -- "$0")")
 . "$bench/program.sh"
 mkdir -p "$out" || exit 2
-gofront=$("$bench/gofront.sh") || exit 2
+gofront=$("$bench/go_peer.sh" gofront) || exit 2
 if [ $# -eq 0 ]; then
     python3 "$bench/generate.py" bench "$out/files" || exit 2
     python3 "$bench/generate.py" small "$out/small" || exit 2

@@ -11,11 +11,11 @@ set -u
 bench=$(dirname -- "$(readlink -f -- "$0")")
 . "$bench/program.sh"
 mkdir -p "$out" && python3 "$bench/generate.py" bench "$out/files" || exit 2
-gofront=$("$bench/gofront.sh") || gofront=
+gofront=$("$bench/go_peer.sh" gofront) || gofront=
 
 set --
 [ -z "$gofront" ] || set -- --gofront "$gofront"
-python3 "$bench/measure.py" --govisd "$govisd" "$@" --files "$out/files"
+python3 "$bench/measure.py" resolve --govisd "$govisd" "$@" --files "$out/files"
 measured=$?
 [ -n "$gofront" ] || exit $measured
 echo

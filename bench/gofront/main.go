@@ -1,5 +1,6 @@
 // Gofront reads one Go file on standard input and tells by go/types what each identifier that is used
-// denotes: the peer of `govisd resolve`, in its format as far as go/types answers.
+// denotes: the peer of `govisd resolve`, in its format as far as go/types answers. With the argument `parse` it
+// only parses the file, by go/parser: the peer of `govisd_probe parse`.
 //
 // Each line is OFFSET ROLE TEXT ANSWER. ROLE is type or value. ANSWER is universe.NAME,
 // local/in.go:OFFSET, or ? where go/types finds no declaration. Errors go to standard error, but that a
@@ -159,17 +160,25 @@ func check(files *token.FileSet, file *ast.File) (map[*ast.Ident]types.Object, b
 	return info.Uses, clean
 }
 
-func run() int {
+// parse reads the file and parses it.
+func parse(files *token.FileSet) (*ast.File, error) {
 	text, err := io.ReadAll(bufio.NewReaderSize(os.Stdin, 1<<16))
+	if err != nil {
+		return nil, err
+	}
+	return parser.ParseFile(files, "in.go", text, parser.SkipObjectResolution)
+}
+
+func run() int {
+	files := token.NewFileSet()
+	file, err := parse(files)
 	if err != nil {
 		fmt.Fprintln(os.Stderr, err)
 		return 1
 	}
-	files := token.NewFileSet()
-	file, err := parser.ParseFile(files, "in.go", text, parser.SkipObjectResolution)
-	if err != nil {
-		fmt.Fprintln(os.Stderr, err)
-		return 1
+	if len(os.Args) == 2 && os.Args[1] == "parse" {
+		fmt.Println("tree")
+		return 0
 	}
 	denoted, clean := check(files, file)
 	var found finder

@@ -1,15 +1,13 @@
-//! Tests of the layers from a text's characters to the report of a run. Expected values are worked out by hand
-//! from the rules.
+//! Tests of the layers from a text's characters to the report of a run, of what the cases of the crate govisd_probe
+//! don't reach. Expected values are worked out by hand from the rules.
 #![tactic(auto)]
 
 pub mod ends;
 #[cfg(test)]
-mod parsing;
-#[cfg(test)]
 mod reports;
 #[cfg(test)]
-mod scanning;
-#[cfg(test)]
 mod scopes;
+#[cfg(test)]
+mod trees;
 #[cfg(test)]
 mod words;

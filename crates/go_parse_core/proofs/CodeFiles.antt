@@ -2,16 +2,17 @@
 use Rattle.std.specs.Prelude.{◌==◌, map}
 use Rattle.std.proofs.Common.{◌≡◌, ℕ, zero, suc, ◌-◌, ◌<◌, ◌≤◌, true, false, List, [], ◌∷◌, ◌++◌, length, Result, Ok, Err, refl, sym, ap, ◌∙◌, arith}
 use Rattle.std.proofs.lemmas.Bool.Decides.{nat_tests}
-use Rattle.go_tree_core.specs.declared.tree.TopDecl.{TopDecl}
+use Rattle.go_tree_core.specs.declared.files.TopDecl.{TopDecl}
 use Rattle.go_tree_core.specs.Terminals.{Terminal}
 use Rattle.go_tree_core.specs.Trees.{TopTree}
 use Rattle.go_tree_core.specs.Shapes.{top_of}
-use Rattle.go_parse_core.specs.declared.stop.Stop.{Stop}
-use Rattle.go_parse_core.specs.Giving.{Fails}
-use Rattle.go_parse_core.specs.Reading.{Stuck, ◌>>=◌, top_at, tops_go}
+use Rattle.go_parse_types.specs.declared.stop.Stop.{Stop}
+use Rattle.go_parse_types.specs.Giving.{Fails}
+use Rattle.go_parse_types.specs.Marks.{Stuck, ◌>>=◌}
+use Rattle.go_parse_types.proofs.CodeSteps.{fails_along}
+use Rattle.go_parse_core.specs.FileReading.{top_at, tops_go}
 use Rattle.go_parse_core.proofs.FileFound.{tops_turn}
 use Rattle.go_parse_core.proofs.FileSound.{top_shorter}
-use Rattle.go_parse_core.proofs.CodeSteps.{fails_along}
 
 abbrev pub Tops : Type 0
 Tops = Result (List TopTree) Stuck

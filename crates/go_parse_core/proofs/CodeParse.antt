@@ -6,23 +6,24 @@ use Rattle.go_scan_core.specs.Cutting.{tokens_of}
 use Rattle.go_scan_core.specs.Texts.{IsFilled}
 use Rattle.go_scan_core.specs.Tokens as scanned
 use Rattle.go_tree_core.proofs.Order.{few_occs}
-use Rattle.go_tree_core.specs.Spelling.{spell_file, file_height}
+use Rattle.go_tree_core.specs.Heights.{file_height}
+use Rattle.go_tree_core.specs.Spelling.{spell_file}
 use Rattle.go_tree_core.specs.Terminals.{Terminal, terminals, InOrder}
 use Rattle.go_tree_core.specs.Trees.{FileTree}
+use Rattle.go_parse_types.specs.declared.stop.Stop.{Stop}
+use Rattle.go_parse_types.specs.declared.stop.Stop.TheVariants as stop
+use Rattle.go_parse_types.specs.Giving.{Fails}
 use Rattle.go_parse_core.specs.declared.error.ParseError.{ParseError}
 use Rattle.go_parse_core.specs.declared.error.ParseError.TheVariants as errors
-use Rattle.go_parse_core.specs.declared.stop.Stop.{Stop}
-use Rattle.go_parse_core.specs.declared.stop.Stop.TheVariants as stop
 use Rattle.go_parse_core.specs.Correct.{HasTree, max_height}
-use Rattle.go_parse_core.specs.Giving.{Fails}
 use Rattle.go_parse_core.specs.Parsing.{IsParse}
-use Rattle.go_parse_core.specs.Reading.{file_at}
+use Rattle.go_parse_core.specs.FileReading.{file_at}
 use Rattle.go_parse_core.specs.Stopping.{IsErrorOf, IsTreeAnswer, IsTreeUnlessMemory}
 use Rattle.go_parse_core.proofs.CodePlaces.{terminals_in_order}
 use Rattle.go_parse_core.proofs.Meanings.{found, no_tree, no_low_tree, tree_of_tokens}
 
 -- a file that is read
-pub parsed : (text : List ℕ) (tokens : List Token) (f : FileTree) → tokens_of text ≡ Ok tokens → scanned.InOrder 0 tokens (length text) → All IsFilled tokens → length text < 2 ^ 64 → file_at 198 (terminals text tokens) ≡ Ok f → IsParse text f
+pub parsed : (text : List ℕ) (tokens : List Token) (f : FileTree) → tokens_of text ≡ Ok tokens → scanned.InOrder 0 tokens (length text) → All IsFilled tokens → length text < 2 ^ 64 → file_at 199 (terminals text tokens) ≡ Ok f → IsParse text f
 parsed text tokens f is order filled short read =
     let w = found text tokens f is read in
     let spelled = (tree_of_tokens text tokens f is w.0).spelled in
@@ -31,7 +32,7 @@ parsed text tokens f is order filled short read =
     record { found = w.0; low = w.1; placed = placed; few = omega (arith, few_occs f (length text) placed) }
 
 -- a text that is not read
-pub refused : (text : List ℕ) (tokens : List Token) (s : Stop) (e : ParseError) → tokens_of text ≡ Ok tokens → Fails s (file_at 198 (terminals text tokens)) → IsErrorOf e s (length text) → IsTreeAnswer text (Err e)
+pub refused : (text : List ℕ) (tokens : List Token) (s : Stop) (e : ParseError) → tokens_of text ≡ Ok tokens → Fails s (file_at 199 (terminals text tokens)) → IsErrorOf e s (length text) → IsTreeAnswer text (Err e)
 refused text tokens stop.Memory errors.Memory is read h = tt
 refused text tokens (stop.Grammar at) errors.Memory is read h = tt
 refused text tokens (stop.TooHigh at) errors.Memory is read h = tt
@@ -42,7 +43,7 @@ refused text tokens (stop.TooHigh at) (errors.Fault fault) is read h =
     inr (record { tokens = tokens; scanned = is; within = h.1; why = inr (h.0, no_low_tree text tokens is read) })
 
 -- and has no tree that is low enough
-pub refused_only : (text : List ℕ) (tokens : List Token) (s : Stop) (e : ParseError) → tokens_of text ≡ Ok tokens → Fails s (file_at 198 (terminals text tokens)) → IsErrorOf e s (length text) → (f : FileTree) → HasTree text f → file_height f ≤ max_height → IsTreeUnlessMemory (Err e)
+pub refused_only : (text : List ℕ) (tokens : List Token) (s : Stop) (e : ParseError) → tokens_of text ≡ Ok tokens → Fails s (file_at 199 (terminals text tokens)) → IsErrorOf e s (length text) → (f : FileTree) → HasTree text f → file_height f ≤ max_height → IsTreeUnlessMemory (Err e)
 refused_only text tokens stop.Memory errors.Memory is read h f has low = tt
 refused_only text tokens (stop.Grammar at) errors.Memory is read h f has low = tt
 refused_only text tokens (stop.TooHigh at) errors.Memory is read h f has low = tt
@@ -50,5 +51,5 @@ refused_only text tokens stop.Memory (errors.Fault fault) is read h f has low = 
 refused_only text tokens (stop.Grammar at) (errors.Fault fault) is read h f has low = no_tree text tokens is read f has
 refused_only text tokens (stop.TooHigh at) (errors.Fault fault) is read h f has low = no_low_tree text tokens is read f has low
 
-pub fails_at : (ts us : List Terminal) (s : Stop) → ts ≡ us → Fails s (file_at 198 ts) → Fails s (file_at 198 us)
-fails_at ts us s same failed = let P : List Terminal → Type 0 = λ ts. Fails s (file_at 198 ts) in subst P same failed
+pub fails_at : (ts us : List Terminal) (s : Stop) → ts ≡ us → Fails s (file_at 199 ts) → Fails s (file_at 199 us)
+fails_at ts us s same failed = let P : List Terminal → Type 0 = λ ts. Fails s (file_at 199 ts) in subst P same failed

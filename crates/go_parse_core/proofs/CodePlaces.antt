@@ -1,5 +1,5 @@
 -- The terminals of a scanned text lie in order.
-use Rattle.std.proofs.Common.{◌≡◌, ℕ, ◌+◌, ◌<◌, ◌≤◌, ◌⊎◌, inl, inr, List, [], ◌∷◌, Option, Some, None, refl, subst, sym, arith}
+use Rattle.std.proofs.Common.{◌≡◌, ℕ, ◌+◌, ◌<◌, ◌≤◌, ◌⊎◌, inl, inr, List, [], ◌∷◌, Bool, true, false, Option, Some, None, refl, subst, sym, arith, nat_le, if◌then◌else◌}
 use Rattle.std.specs.List.{All}
 use Rattle.std.proofs.lemmas.List.Elements.{All-head, All-tail}
 use Rattle.go_text_core.specs.declared.span.Span.{Span}
@@ -9,9 +9,10 @@ use Rattle.go_scan_core.specs.declared.kind.Operator.TheVariants as operator
 use Rattle.go_scan_core.specs.declared.kind.TokenKind.{TokenKind}
 use Rattle.go_scan_core.specs.declared.kind.TokenKind.TheVariants as token
 use Rattle.go_scan_core.specs.declared.token.Token.{Token}
+use Rattle.go_scan_core.specs.Numbers.{integer_value_of}
 use Rattle.go_scan_core.specs.Texts.{IsFilled}
 use Rattle.go_scan_core.specs.Tokens as scanned
-use Rattle.go_tree_core.specs.Terminals.{name_kind, kind_at, least_width_of, least_width, terminals, InOrder}
+use Rattle.go_tree_core.specs.Terminals.{Number, Stray, name_kind, number_kind, text_kind, kind_at, least_width_of, least_width, terminals, InOrder}
 
 operator_width : (o : Operator) → least_width_of o ≤ 1
 operator_width operator.Semicolon = omega arith
@@ -21,9 +22,22 @@ name_width : (name : Option (List ℕ)) → least_width (name_kind name) ≡ 1
 name_width None = refl
 name_width (Some x) = refl
 
+number_width : (digits : Option (List ℕ)) → least_width (number_kind digits) ≡ 1
+number_width None = refl
+number_width (Some x) = of (integer_value_of x) (nat_le (integer_value_of x) 9223372036854775807)
+  where
+    of : (n : ℕ) (b : Bool) → least_width (if b then Number n else Stray) ≡ 1
+    of n true = refl
+    of n false = refl
+
+text_width : (spelled : Option (List ℕ)) → least_width (text_kind spelled) ≡ 1
+text_width None = refl
+text_width (Some x) = refl
+
 kind_width : (text : List ℕ) (s : Span) (k : TokenKind) → (s.start < s.end) ⊎ ((k ≡ token.Operator operator.Semicolon) × (s.start ≤ s.end)) → s.start + least_width (kind_at text s k) ≤ s.end
 kind_width text s token.Identifier (inl h) = omega (arith, name_width (slice_of text s))
-kind_width text s token.Integer (inl h) = omega arith
+kind_width text s token.Integer (inl h) = omega (arith, number_width (slice_of text s))
+kind_width text s token.String (inl h) = omega (arith, text_width (slice_of text s))
 kind_width text s (token.Keyword k) (inl h) = omega arith
 kind_width text s (token.Operator o) (inl h) = omega (arith, operator_width o)
 kind_width text s k (inr h) = let P : TokenKind → Type 0 = λ k. s.start + least_width (kind_at text s k) ≤ s.end in subst P (sym h.0) (omega (arith, h.1))

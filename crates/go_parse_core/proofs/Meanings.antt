@@ -5,16 +5,17 @@ use Rattle.go_scan_core.specs.declared.token.Token.{Token}
 use Rattle.go_scan_core.specs.Cutting.{tokens_of}
 use Rattle.go_tree_core.specs.Terminals.{Terminal, terminals}
 use Rattle.go_tree_core.specs.Trees.{FileTree}
-use Rattle.go_tree_core.specs.Spelling.{file_height}
+use Rattle.go_tree_core.specs.Heights.{file_height}
+use Rattle.go_parse_types.specs.Marks.{Stuck, Grammar, TooHigh}
 use Rattle.go_parse_core.specs.Correct.{IsTreeOf, HasTree, HasOneTree, HasNoTree, HasNoLowTree, max_height}
-use Rattle.go_parse_core.specs.Reading.{Stuck, Grammar, TooHigh, file_at}
+use Rattle.go_parse_core.specs.FileReading.{file_at}
 use Rattle.go_parse_core.proofs.FileFound.{file_complete}
 use Rattle.go_parse_core.proofs.FileSound.{file_sound}
 
-same_ok : {A E : Type 0} (x y : A) (r : Result A E) → r ≡ Ok x → r ≡ Ok y → x ≡ y
+pub same_ok : {A E : Type 0} (x y : A) (r : Result A E) → r ≡ Ok x → r ≡ Ok y → x ≡ y
 same_ok x y r e d = cc
 
-ok_not_err : {A E : Type 0} (x : A) (y : E) (r : Result A E) → r ≡ Ok x → r ≡ Err y → ⊥
+pub ok_not_err : {A E : Type 0} (x : A) (y : E) (r : Result A E) → r ≡ Ok x → r ≡ Err y → ⊥
 ok_not_err x y r e d = cc
 
 grammar_not_high : {A : Type 0} (r : Result A Stuck) → r ≡ Err Grammar → r ≡ Err TooHigh → ⊥
@@ -35,7 +36,7 @@ grammar_means b ts e f is =
     elim (file_complete b ts f is) [ inl d ↦ ok_not_err f Grammar (file_at b ts) d e | inr h ↦ grammar_not_high (file_at b ts) e h.0 ]
 
 -- terminals that are read as too high have no tree that is low enough
-pub too_high_means : (b : ℕ) (ts : List Terminal) → file_at b ts ≡ Err TooHigh → (f : FileTree) → IsTreeOf f ts → file_height f ≤ b + 2 → ⊥
+pub too_high_means : (b : ℕ) (ts : List Terminal) → file_at b ts ≡ Err TooHigh → (f : FileTree) → IsTreeOf f ts → file_height f ≤ b + 1 → ⊥
 too_high_means b ts e f is low =
     elim (file_complete b ts f is) [ inl d ↦ ok_not_err f TooHigh (file_at b ts) d e | inr h ↦ absurd (omega (arith, h.1)) ]
 
@@ -53,14 +54,14 @@ pub no_tokens : (text : List ℕ) (fault : LexFault) → tokens_of text ≡ Err 
 no_tokens text fault e f has = ok_not_err has.tokens fault (tokens_of text) has.scanned e
 
 -- what a text that is refused lacks
-pub no_tree : (text : List ℕ) (tokens : List Token) → tokens_of text ≡ Ok tokens → file_at 198 (terminals text tokens) ≡ Err Grammar → HasNoTree text
-no_tree text tokens scanned e f has = grammar_means 198 (terminals text tokens) e f (tree_of_tokens text tokens f scanned has)
+pub no_tree : (text : List ℕ) (tokens : List Token) → tokens_of text ≡ Ok tokens → file_at 199 (terminals text tokens) ≡ Err Grammar → HasNoTree text
+no_tree text tokens scanned e f has = grammar_means 199 (terminals text tokens) e f (tree_of_tokens text tokens f scanned has)
 
-pub no_low_tree : (text : List ℕ) (tokens : List Token) → tokens_of text ≡ Ok tokens → file_at 198 (terminals text tokens) ≡ Err TooHigh → HasNoLowTree text
-no_low_tree text tokens scanned e f has low = too_high_means 198 (terminals text tokens) e f (tree_of_tokens text tokens f scanned has) low
+pub no_low_tree : (text : List ℕ) (tokens : List Token) → tokens_of text ≡ Ok tokens → file_at 199 (terminals text tokens) ≡ Err TooHigh → HasNoLowTree text
+no_low_tree text tokens scanned e f has low = too_high_means 199 (terminals text tokens) e f (tree_of_tokens text tokens f scanned has) low
 
 -- a tree that is read is that of the text, and low enough
-pub found : (text : List ℕ) (tokens : List Token) (f : FileTree) → tokens_of text ≡ Ok tokens → file_at 198 (terminals text tokens) ≡ Ok f → HasTree text f × (file_height f ≤ max_height)
+pub found : (text : List ℕ) (tokens : List Token) (f : FileTree) → tokens_of text ≡ Ok tokens → file_at 199 (terminals text tokens) ≡ Ok f → HasTree text f × (file_height f ≤ max_height)
 found text tokens f scanned e =
-    let w = file_sound 198 (terminals text tokens) f e in
+    let w = file_sound 199 (terminals text tokens) f e in
     (record { tokens = tokens; scanned = scanned; tree = w.0 }, w.1)

@@ -3,9 +3,11 @@ use Rattle.std.specs.Prelude.{◌≡◌, ◌≤◌, ◌⊎◌, ℕ, List, length
 use Rattle.go_text_core.specs.declared.rule.Rule.TheVariants.{P1, P2}
 use Rattle.go_scan_core.specs.declared.token.Token.{Token}
 use Rattle.go_scan_core.specs.Cutting.{tokens_of}
+use Rattle.go_tree_core.specs.Heights.{file_height}
+use Rattle.go_tree_core.specs.Rules.{Wf_file}
+use Rattle.go_tree_core.specs.Spelling.{spell_file}
 use Rattle.go_tree_core.specs.Terminals.{Terminal, terminals}
 use Rattle.go_tree_core.specs.Trees.{FileTree}
-use Rattle.go_tree_core.specs.Spelling.{spell_file, Wf_file, file_height}
 use Rattle.go_parse_core.specs.declared.error.SynFault.{SynFault}
 
 -- the tree respects the rules of the grammar and writes these terminals

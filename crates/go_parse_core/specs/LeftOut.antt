@@ -1,14 +1,17 @@
 -- Trees that write all their semicolons, and texts that leave out some before a closing mark.
-use Rattle.std.specs.Prelude.{◌≡◌, ◌⊎◌, ℕ, List, [], ◌∷◌, ◌++◌, Option, Some, None, Ok}
+use Rattle.std.specs.Prelude.{◌≡◌, ◌⊎◌, ℕ, ◌+◌, ◌<◌, Bool, true, false, List, [], ◌∷◌, ◌++◌, Option, Some, None, Ok}
 use Rattle.go_text_core.specs.declared.span.Span.{Span}
 use Rattle.go_scan_core.specs.declared.kind.Keyword.TheVariants as keyword
 use Rattle.go_scan_core.specs.declared.kind.Operator.{Operator}
 use Rattle.go_scan_core.specs.declared.kind.Operator.TheVariants as operator
 use Rattle.go_scan_core.specs.declared.token.Token.{Token}
 use Rattle.go_scan_core.specs.Cutting.{tokens_of}
-use Rattle.go_tree_core.specs.Terminals.{TerminalKind, Terminal, Word, Mark, terminal, terminals}
-use Rattle.go_tree_core.specs.Trees.{StmtTree, Lines, Declare, Short, Assign, Return, Block, Empty, More, FuncTree, DeclTree, Value, Func, TopTree, FileTree}
-use Rattle.go_tree_core.specs.Spelling.{spell_ident, spell_exprs, spell_idents, spell_some_type, spell_some, spell_value, Wf_exprs, Wf_some, Wf_value, file_height}
+use Rattle.go_tree_core.specs.declared.decls.ValueKind.{ValueKind}
+use Rattle.go_tree_core.specs.Terminals.{TerminalKind, Terminal, Number, Mark, terminal, terminals}
+use Rattle.go_tree_core.specs.Trees.{Separated, One, Then, TypeTree, FieldTrees, MethodTrees, SignatureTree, ResultTree, ParamTrees, NamedType, Pointer, ParenType, Struct, Interface, NoFields, NamedFields, EmbeddedField, NoMethods, Method, Signed, NoResult, OneResult, Results, NoParams, Param, ExprTree, ItemTrees, Integer, Text, Named, Paren, Unary, Binary, Select, Call, Literal, StructLiteral, NoItems, Item, ValueSpecTree, Specs, Single, Group, ValueTree, TypeSpecTree, TypeDeclTree, SimpleTree, Alone, Step, Assign, Update, Define, IfTree, ForTree, Forever, While, Clauses, StmtTree, BranchTree, ElseTree, Lines, Empty, Declare, Simple, Return, Break, Continue, Block, If, For, Branch, NoElse, ElseBlock, ElseIf, NoLines, Line, FuncTree, DeclTree, Value, Types, Func, TopTree, ImportSpecTree, ImportTree, FileTree}
+use Rattle.go_tree_core.specs.Spelling.{mark, word, spell_ident, spell_text, spell_idents, spell_some, spell_type_name, spell_tag, spell_names, spell_key, keyword_of, spell_receiver, spell_import}
+use Rattle.go_tree_core.specs.Rules.{rank_of, unary_rank, primary_rank, is_unary, is_step, is_update, IsKept, IsLastParam, IsLastItem, is_group, is_grouped, IsBare, Binds, MayHaveKey, IsFalse, IsStructType, HasEnough, IsPost}
+use Rattle.go_tree_core.specs.Heights.{file_height}
 use Rattle.go_parse_core.specs.Correct.{HasTree}
 
 -- what a tree writes: a terminal that stands there, or a semicolon that may be left out
@@ -41,67 +44,332 @@ LeftOut [] ts = ts ≡ []
 LeftOut (Sure t ∷ more) ts = (rest : List Terminal) × (ts ≡ t ∷ rest) × LeftOut more rest
 LeftOut (Loose t ∷ more) ts = ((rest : List Terminal) × (ts ≡ t ∷ rest) × LeftOut more rest) ⊎ (Closes more × LeftOut more ts)
 
--- what a tree writes, with each semicolon that may be left out
+-- what a tree writes, with each semicolon that may be left out. Those of headers and of the package block are such signs
+-- too; no closing mark follows them
 
 abbrev pub sign_semicolon : Option Span → List Sign
 sign_semicolon None = []
-sign_semicolon (Some s) = Loose (terminal (Mark operator.Semicolon) s) ∷ []
+sign_semicolon (Some s) = Loose (mark operator.Semicolon s) ∷ []
+
+-- types
+
+abbrev mutual
+  pub signs_type : TypeTree → List Sign
+  signs_type (NamedType n) = sure (spell_type_name n)
+  signs_type (Pointer star t) = Sure (mark operator.Star star) ∷ signs_type t
+  signs_type (ParenType first t last) = Sure (mark operator.OpenParen first) ∷ (signs_type t ++ Sure (mark operator.CloseParen last) ∷ [])
+  signs_type (Struct k first fs last) = Sure (word keyword.Struct k) ∷ (Sure (mark operator.OpenBrace first) ∷ (signs_fields fs ++ Sure (mark operator.CloseBrace last) ∷ []))
+  signs_type (Interface k first ms last) = Sure (word keyword.Interface k) ∷ (Sure (mark operator.OpenBrace first) ∷ (signs_methods ms ++ Sure (mark operator.CloseBrace last) ∷ []))
+
+  pub signs_fields : FieldTrees → List Sign
+  signs_fields NoFields = []
+  signs_fields (NamedFields xs t tag s rest) = sure (spell_idents xs) ++ (signs_type t ++ (sure (spell_tag tag) ++ (sign_semicolon s ++ signs_fields rest)))
+  signs_fields (EmbeddedField star n tag s rest) = sure (spell_some operator.Star star) ++ (sure (spell_type_name n) ++ (sure (spell_tag tag) ++ (sign_semicolon s ++ signs_fields rest)))
+
+  pub signs_methods : MethodTrees → List Sign
+  signs_methods NoMethods = []
+  signs_methods (Method x signature s rest) = Sure (spell_ident x) ∷ (signs_signature signature ++ (sign_semicolon s ++ signs_methods rest))
+
+  pub signs_signature : SignatureTree → List Sign
+  signs_signature (Signed first params last result) = Sure (mark operator.OpenParen first) ∷ (signs_params params ++ (Sure (mark operator.CloseParen last) ∷ signs_result result))
+
+  pub signs_result : ResultTree → List Sign
+  signs_result NoResult = []
+  signs_result (OneResult t) = signs_type t
+  signs_result (Results first params last) = Sure (mark operator.OpenParen first) ∷ (signs_params params ++ Sure (mark operator.CloseParen last) ∷ [])
+
+  pub signs_params : ParamTrees → List Sign
+  signs_params NoParams = []
+  signs_params (Param xs t comma rest) = sure (spell_names xs) ++ (signs_type t ++ (sure (spell_some operator.Comma comma) ++ signs_params rest))
+
+-- what a tree writes that may not be there
+abbrev pub signs_some : {A : Type 0} → (A → List Sign) → Option A → List Sign
+signs_some f None = []
+signs_some f (Some x) = f x
+
+-- expressions
+
+abbrev mutual
+  pub signs_expr : ExprTree → List Sign
+  signs_expr (Integer n span) = Sure (terminal (Number n) span) ∷ []
+  signs_expr (Text t) = Sure (spell_text t) ∷ []
+  signs_expr (Named x) = Sure (spell_ident x) ∷ []
+  signs_expr (Paren first t last) = Sure (mark operator.OpenParen first) ∷ (signs_expr t ++ Sure (mark operator.CloseParen last) ∷ [])
+  signs_expr (Unary op span t) = Sure (mark op span) ∷ signs_expr t
+  signs_expr (Binary a op span b) = signs_expr a ++ (Sure (mark op span) ∷ signs_expr b)
+  signs_expr (Select t dot x) = signs_expr t ++ (Sure (mark operator.Dot dot) ∷ (Sure (spell_ident x) ∷ []))
+  signs_expr (Call t first is last) = signs_expr t ++ (Sure (mark operator.OpenParen first) ∷ (signs_items is ++ Sure (mark operator.CloseParen last) ∷ []))
+  signs_expr (Literal n first is last) = sure (spell_type_name n) ++ (Sure (mark operator.OpenBrace first) ∷ (signs_items is ++ Sure (mark operator.CloseBrace last) ∷ []))
+  signs_expr (StructLiteral t first is last) = signs_type t ++ (Sure (mark operator.OpenBrace first) ∷ (signs_items is ++ Sure (mark operator.CloseBrace last) ∷ []))
+
+  pub signs_items : ItemTrees → List Sign
+  signs_items NoItems = []
+  signs_items (Item key t comma rest) = sure (spell_key key) ++ (signs_expr t ++ (sure (spell_some operator.Comma comma) ++ signs_items rest))
+
+abbrev pub signs_exprs : Separated ExprTree → List Sign
+signs_exprs (One t) = signs_expr t
+signs_exprs (Then t comma more) = signs_expr t ++ (Sure (mark operator.Comma comma) ∷ signs_exprs more)
+
+-- declarations
+
+abbrev pub signs_values : Span × Separated ExprTree → List Sign
+signs_values v = Sure (mark operator.Assign v.0) ∷ signs_exprs v.1
+
+abbrev pub signs_value_spec : ValueSpecTree → List Sign
+signs_value_spec v = sure (spell_idents v.names) ++ (signs_some signs_type v.type_expr ++ signs_some signs_values v.values)
+
+abbrev pub signs_group : {A : Type 0} → (A → List Sign) → List (A × Option Span) → List Sign
+signs_group f [] = []
+signs_group f (x ∷ xs) = f x.0 ++ (sign_semicolon x.1 ++ signs_group f xs)
+
+abbrev pub signs_specs : {A : Type 0} → (A → List Sign) → Specs A → List Sign
+signs_specs f (Single x) = f x
+signs_specs f (Group first xs last) = Sure (mark operator.OpenParen first) ∷ (signs_group f xs ++ Sure (mark operator.CloseParen last) ∷ [])
+
+abbrev pub signs_value : ValueTree → List Sign
+signs_value v = Sure (word (keyword_of v.kind) v.keyword) ∷ signs_specs signs_value_spec v.specs
+
+abbrev pub signs_type_spec : TypeSpecTree → List Sign
+signs_type_spec t = Sure (spell_ident t.name) ∷ signs_type t.type_expr
+
+abbrev pub signs_types : TypeDeclTree → List Sign
+signs_types t = Sure (word keyword.«Type» t.keyword) ∷ signs_specs signs_type_spec t.specs
+
+-- statements
+
+abbrev pub signs_simple : SimpleTree → List Sign
+signs_simple (Alone t) = signs_expr t
+signs_simple (Step t op span) = signs_expr t ++ Sure (mark op span) ∷ []
+signs_simple (Assign ts span es) = signs_exprs ts ++ (Sure (mark operator.Assign span) ∷ signs_exprs es)
+signs_simple (Update t op span e) = signs_expr t ++ (Sure (mark op span) ∷ signs_expr e)
+signs_simple (Define xs span es) = sure (spell_idents xs) ++ (Sure (mark operator.Define span) ∷ signs_exprs es)
+
+abbrev pub signs_init : Option (Option SimpleTree × Span) → List Sign
+signs_init None = []
+signs_init (Some i) = signs_some signs_simple i.0 ++ Loose (mark operator.Semicolon i.1) ∷ []
+
+abbrev pub signs_if : IfTree → List Sign
+signs_if h = signs_init h.init ++ signs_expr h.condition
+
+abbrev pub signs_for : ForTree → List Sign
+signs_for Forever = []
+signs_for (While t) = signs_expr t
+signs_for (Clauses init a test b post) = signs_some signs_simple init ++ (Loose (mark operator.Semicolon a) ∷ (signs_some signs_expr test ++ (Loose (mark operator.Semicolon b) ∷ signs_some signs_simple post)))
+
+abbrev pub is_empty : StmtTree → Bool
+is_empty Empty = true
+is_empty _ = false
+
+-- the semicolon behind a statement. An empty statement writes nothing but its semicolon, and keeps it: with that left
+-- out, `{}` would be a block of no statement, and one of an empty statement
+abbrev pub signs_end : Bool → Option Span → List Sign
+signs_end true s = sure (spell_some operator.Semicolon s)
+signs_end false s = sign_semicolon s
 
 abbrev mutual
   pub signs_stmt : StmtTree → List Sign
-  signs_stmt (Declare v) = sure (spell_value v)
-  signs_stmt (Short xs s es) = sure (spell_idents xs ++ (terminal (Mark operator.Define) s ∷ spell_exprs es))
-  signs_stmt (Assign ts s es) = sure (spell_exprs ts ++ (terminal (Mark operator.Assign) s ∷ spell_exprs es))
-  signs_stmt (Return s es) = Sure (terminal (Word keyword.Return) s) ∷ sure (spell_some es)
-  signs_stmt (Block first ls last) = Sure (terminal (Mark operator.OpenBrace) first) ∷ (signs_lines ls ++ Sure (terminal (Mark operator.CloseBrace) last) ∷ [])
+  signs_stmt Empty = []
+  signs_stmt (Declare v) = signs_value v
+  signs_stmt (Simple s) = signs_simple s
+  signs_stmt (Return s es) = Sure (word keyword.Return s) ∷ signs_some signs_exprs es
+  signs_stmt (Break s) = Sure (word keyword.Break s) ∷ []
+  signs_stmt (Continue s) = Sure (word keyword.Continue s) ∷ []
+  signs_stmt (Block first ls last) = Sure (mark operator.OpenBrace first) ∷ (signs_lines ls ++ Sure (mark operator.CloseBrace last) ∷ [])
+  signs_stmt (If b) = signs_branch b
+  signs_stmt (For k head first ls last) = Sure (word keyword.For k) ∷ (signs_for head ++ (Sure (mark operator.OpenBrace first) ∷ (signs_lines ls ++ Sure (mark operator.CloseBrace last) ∷ [])))
+
+  pub signs_branch : BranchTree → List Sign
+  signs_branch (Branch k head first ls last otherwise) = Sure (word keyword.If k) ∷ (signs_if head ++ (Sure (mark operator.OpenBrace first) ∷ (signs_lines ls ++ (Sure (mark operator.CloseBrace last) ∷ signs_else otherwise))))
+
+  pub signs_else : ElseTree → List Sign
+  signs_else NoElse = []
+  signs_else (ElseBlock k first ls last) = Sure (word keyword.Else k) ∷ (Sure (mark operator.OpenBrace first) ∷ (signs_lines ls ++ Sure (mark operator.CloseBrace last) ∷ []))
+  signs_else (ElseIf k b) = Sure (word keyword.Else k) ∷ signs_branch b
 
   pub signs_lines : Lines → List Sign
-  signs_lines Empty = []
-  signs_lines (More c s rest) = signs_stmt c ++ (sign_semicolon s ++ signs_lines rest)
+  signs_lines NoLines = []
+  signs_lines (Line c s rest) = signs_stmt c ++ (signs_end (is_empty c) s ++ signs_lines rest)
+
+-- functions and files
 
 abbrev pub signs_func : FuncTree → List Sign
 signs_func f =
-    Sure (terminal (Word keyword.Func) f.func) ∷ (Sure (spell_ident f.name) ∷ (Sure (terminal (Mark operator.OpenParen) f.open_paren) ∷ (Sure (terminal (Mark operator.CloseParen) f.close_paren) ∷ (sure (spell_some_type f.outcome) ++ (Sure (terminal (Mark operator.OpenBrace) f.open_brace) ∷ (signs_lines f.body ++ Sure (terminal (Mark operator.CloseBrace) f.close_brace) ∷ []))))))
+    Sure (word keyword.Func f.func) ∷ (sure (spell_receiver f.receiver) ++ (Sure (spell_ident f.name) ∷ (signs_signature f.signature ++ (Sure (mark operator.OpenBrace f.open_brace) ∷ (signs_lines f.body ++ Sure (mark operator.CloseBrace f.close_brace) ∷ [])))))
 
 abbrev pub signs_decl : DeclTree → List Sign
-signs_decl (Value v) = sure (spell_value v)
+signs_decl (Value v) = signs_value v
+signs_decl (Types t) = signs_types t
 signs_decl (Func f) = signs_func f
-
-abbrev pub signs_top : TopTree → List Sign
-signs_top d = signs_decl d.decl ++ Loose (terminal (Mark operator.Semicolon) d.semicolon) ∷ []
 
 abbrev pub signs_tops : List TopTree → List Sign
 signs_tops [] = []
-signs_tops (d ∷ ds) = signs_top d ++ signs_tops ds
+signs_tops (d ∷ ds) = signs_decl d.decl ++ (Loose (mark operator.Semicolon d.semicolon) ∷ signs_tops ds)
+
+abbrev pub signs_import : ImportSpecTree → List Sign
+signs_import i = sure (spell_import i)
+
+abbrev pub signs_imports : List ImportTree → List Sign
+signs_imports [] = []
+signs_imports (i ∷ is) = (Sure (word keyword.Import i.keyword) ∷ signs_specs signs_import i.specs) ++ (Loose (mark operator.Semicolon i.semicolon) ∷ signs_imports is)
 
 abbrev pub signs_file : FileTree → List Sign
-signs_file f = Sure (terminal (Word keyword.Package) f.clause) ∷ (Sure (spell_ident f.name) ∷ (Loose (terminal (Mark operator.Semicolon) f.semicolon) ∷ signs_tops f.decls))
+signs_file f = Sure (word keyword.Package f.clause) ∷ (Sure (spell_ident f.name) ∷ (Loose (mark operator.Semicolon f.semicolon) ∷ (signs_imports f.imports ++ signs_tops f.decls)))
 
--- which trees respect the rules, with a semicolon behind each statement
+-- which trees respect the rules of the grammar, with a semicolon behind each line of a list
+
+abbrev pub IsThere : Option Span → Type 0
+IsThere (Some s) = Unit {0}
+IsThere None = ⊥
+
+-- types
+
+abbrev mutual
+  pub Whole_type : TypeTree → Type 0
+  Whole_type (NamedType n) = Unit {0}
+  Whole_type (Pointer star t) = Whole_type t
+  Whole_type (ParenType first t last) = Whole_type t
+  Whole_type (Struct k first fs last) = Whole_fields fs
+  Whole_type (Interface k first ms last) = Whole_methods ms
+
+  pub Whole_fields : FieldTrees → Type 0
+  Whole_fields NoFields = Unit {0}
+  Whole_fields (NamedFields xs t tag s rest) = Whole_type t × IsThere s × Whole_fields rest
+  Whole_fields (EmbeddedField star n tag s rest) = IsThere s × Whole_fields rest
+
+  pub Whole_methods : MethodTrees → Type 0
+  Whole_methods NoMethods = Unit {0}
+  Whole_methods (Method x signature s rest) = Whole_signature signature × IsThere s × Whole_methods rest
+
+  pub Whole_signature : SignatureTree → Type 0
+  Whole_signature (Signed first params last result) = Whole_params (is_grouped params) params × Whole_result result
+
+  pub Whole_result : ResultTree → Type 0
+  Whole_result NoResult = Unit {0}
+  Whole_result (OneResult t) = Whole_type t × IsBare t
+  Whole_result (Results first params last) = Whole_params (is_grouped params) params
+
+  pub Whole_params : Bool → ParamTrees → Type 0
+  Whole_params groups NoParams = Unit {0}
+  Whole_params groups (Param xs t comma rest) = (is_group xs ≡ groups) × Whole_type t × IsKept comma (IsLastParam rest) × Whole_params groups rest
+
+-- what is there is whole
+abbrev pub Whole_some : {A : Type 0} → (A → Type 0) → Option A → Type 0
+Whole_some P None = Unit {0}
+Whole_some P (Some x) = P x
+
+-- expressions, in a header or outside of one
+
+abbrev mutual
+  pub Whole_expr : Bool → ExprTree → Type 0
+  Whole_expr header (Integer n span) = Unit {0}
+  Whole_expr header (Text t) = Unit {0}
+  Whole_expr header (Named x) = Unit {0}
+  Whole_expr header (Paren first t last) = Whole_expr false t
+  Whole_expr header (Unary op span t) = (is_unary op ≡ true) × Whole_expr header t × Binds unary_rank t
+  Whole_expr header (Binary a op span b) = (0 < rank_of op) × Whole_expr header a × Binds (rank_of op) a × Whole_expr header b × Binds (rank_of op + 1) b
+  Whole_expr header (Select t dot x) = Whole_expr header t × Binds primary_rank t
+  Whole_expr header (Call t first is last) = Whole_expr header t × Binds primary_rank t × Whole_items false is
+  Whole_expr header (Literal n first is last) = IsFalse header × Whole_items true is
+  Whole_expr header (StructLiteral t first is last) = IsStructType t × Whole_type t × Whole_items true is
+
+  pub Whole_items : Bool → ItemTrees → Type 0
+  Whole_items keyed NoItems = Unit {0}
+  Whole_items keyed (Item key t comma rest) = MayHaveKey keyed key × Whole_expr false t × IsKept comma (IsLastItem rest) × Whole_items keyed rest
+
+abbrev pub Whole_exprs : Bool → Separated ExprTree → Type 0
+Whole_exprs header (One t) = Whole_expr header t
+Whole_exprs header (Then t comma more) = Whole_expr header t × Whole_exprs header more
+
+-- declarations
+
+abbrev pub Whole_values : Span × Separated ExprTree → Type 0
+Whole_values v = Whole_exprs false v.1
+
+abbrev pub Whole_value_spec : ValueKind → ValueSpecTree → Type 0
+Whole_value_spec kind v = HasEnough kind v.type_expr v.values × Whole_some Whole_type v.type_expr × Whole_some Whole_values v.values
+
+abbrev pub Whole_group : {A : Type 0} → (A → Type 0) → List (A × Option Span) → Type 0
+Whole_group P [] = Unit {0}
+Whole_group P (x ∷ xs) = P x.0 × IsThere x.1 × Whole_group P xs
+
+abbrev pub Whole_specs : {A : Type 0} → (A → Type 0) → Specs A → Type 0
+Whole_specs P (Single x) = P x
+Whole_specs P (Group first xs last) = Whole_group P xs
+
+abbrev pub Whole_value : ValueTree → Type 0
+Whole_value v = Whole_specs (Whole_value_spec v.kind) v.specs
+
+abbrev pub Whole_type_spec : TypeSpecTree → Type 0
+Whole_type_spec t = Whole_type t.type_expr
+
+abbrev pub Whole_types : TypeDeclTree → Type 0
+Whole_types t = Whole_specs Whole_type_spec t.specs
+
+-- statements
+
+abbrev pub Whole_simple : Bool → SimpleTree → Type 0
+Whole_simple header (Alone t) = Whole_expr header t
+Whole_simple header (Step t op span) = (is_step op ≡ true) × Whole_expr header t
+Whole_simple header (Assign ts span es) = Whole_exprs header ts × Whole_exprs header es
+Whole_simple header (Update t op span e) = (is_update op ≡ true) × Whole_expr header t × Whole_expr header e
+Whole_simple header (Define xs span es) = Whole_exprs header es
+
+abbrev pub Whole_init : Option (Option SimpleTree × Span) → Type 0
+Whole_init None = Unit {0}
+Whole_init (Some i) = Whole_some (Whole_simple true) i.0
+
+abbrev pub Whole_if : IfTree → Type 0
+Whole_if h = Whole_init h.init × Whole_expr true h.condition
+
+abbrev pub Whole_for : ForTree → Type 0
+Whole_for Forever = Unit {0}
+Whole_for (While t) = Whole_expr true t
+Whole_for (Clauses init a test b post) = Whole_some (Whole_simple true) init × Whole_some (Whole_expr true) test × Whole_some (Whole_simple true) post × IsPost post
 
 abbrev mutual
   pub Whole_stmt : StmtTree → Type 0
-  Whole_stmt (Declare v) = Wf_value v
-  Whole_stmt (Short xs s es) = Wf_exprs es
-  Whole_stmt (Assign ts s es) = Wf_exprs ts × Wf_exprs es
-  Whole_stmt (Return s es) = Wf_some es
+  Whole_stmt Empty = Unit {0}
+  Whole_stmt (Declare v) = Whole_value v
+  Whole_stmt (Simple s) = Whole_simple false s
+  Whole_stmt (Return s es) = Whole_some (Whole_exprs false) es
+  Whole_stmt (Break s) = Unit {0}
+  Whole_stmt (Continue s) = Unit {0}
   Whole_stmt (Block first ls last) = Whole_lines ls
+  Whole_stmt (If b) = Whole_branch b
+  Whole_stmt (For k head first ls last) = Whole_for head × Whole_lines ls
+
+  pub Whole_branch : BranchTree → Type 0
+  Whole_branch (Branch k head first ls last otherwise) = Whole_if head × Whole_lines ls × Whole_else otherwise
+
+  pub Whole_else : ElseTree → Type 0
+  Whole_else NoElse = Unit {0}
+  Whole_else (ElseBlock k first ls last) = Whole_lines ls
+  Whole_else (ElseIf k b) = Whole_branch b
 
   pub Whole_lines : Lines → Type 0
-  Whole_lines Empty = Unit {0}
-  Whole_lines (More c None rest) = ⊥
-  Whole_lines (More c (Some s) rest) = Whole_stmt c × Whole_lines rest
+  Whole_lines NoLines = Unit {0}
+  Whole_lines (Line c s rest) = Whole_stmt c × IsThere s × Whole_lines rest
+
+-- files
 
 abbrev pub Whole_decl : DeclTree → Type 0
-Whole_decl (Value v) = Wf_value v
-Whole_decl (Func f) = Whole_lines f.body
+Whole_decl (Value v) = Whole_value v
+Whole_decl (Types t) = Whole_types t
+Whole_decl (Func f) = Whole_signature f.signature × Whole_lines f.body
 
 abbrev pub Whole_tops : List TopTree → Type 0
 Whole_tops [] = Unit {0}
 Whole_tops (d ∷ ds) = Whole_decl d.decl × Whole_tops ds
 
+abbrev pub Whole_import : ImportSpecTree → Type 0
+Whole_import i = Unit {0}
+
+abbrev pub Whole_imports : List ImportTree → Type 0
+Whole_imports [] = Unit {0}
+Whole_imports (i ∷ is) = Whole_specs Whole_import i.specs × Whole_imports is
+
 abbrev pub Whole_file : FileTree → Type 0
-Whole_file f = Whole_tops f.decls
+Whole_file f = Whole_imports f.imports × Whole_tops f.decls
 
 -- the second tree is the first, with a semicolon wherever the first has none
 
@@ -110,26 +378,158 @@ Fills_semicolon None (Some r) = Unit {0}
 Fills_semicolon (Some s) (Some r) = s ≡ r
 Fills_semicolon _ None = ⊥
 
+-- types
+
+abbrev mutual
+  pub Fills_type : TypeTree → TypeTree → Type 0
+  Fills_type (NamedType n) (NamedType o) = n ≡ o
+  Fills_type (Pointer a t) (Pointer b u) = (a ≡ b) × Fills_type t u
+  Fills_type (ParenType a t z) (ParenType b u y) = (a ≡ b) × Fills_type t u × (z ≡ y)
+  Fills_type (Struct k a fs z) (Struct l b gs y) = (k ≡ l) × (a ≡ b) × Fills_fields fs gs × (z ≡ y)
+  Fills_type (Interface k a ms z) (Interface l b ns y) = (k ≡ l) × (a ≡ b) × Fills_methods ms ns × (z ≡ y)
+  Fills_type _ _ = ⊥
+
+  pub Fills_fields : FieldTrees → FieldTrees → Type 0
+  Fills_fields NoFields NoFields = Unit {0}
+  Fills_fields (NamedFields xs t tag s rest) (NamedFields ys u label r more) = (xs ≡ ys) × Fills_type t u × (tag ≡ label) × Fills_semicolon s r × Fills_fields rest more
+  Fills_fields (EmbeddedField a n tag s rest) (EmbeddedField b o label r more) = (a ≡ b) × (n ≡ o) × (tag ≡ label) × Fills_semicolon s r × Fills_fields rest more
+  Fills_fields _ _ = ⊥
+
+  pub Fills_methods : MethodTrees → MethodTrees → Type 0
+  Fills_methods NoMethods NoMethods = Unit {0}
+  Fills_methods (Method x g s rest) (Method y h r more) = (x ≡ y) × Fills_signature g h × Fills_semicolon s r × Fills_methods rest more
+  Fills_methods _ _ = ⊥
+
+  pub Fills_signature : SignatureTree → SignatureTree → Type 0
+  Fills_signature (Signed a ps z g) (Signed b qs y h) = (a ≡ b) × Fills_params ps qs × (z ≡ y) × Fills_result g h
+
+  pub Fills_result : ResultTree → ResultTree → Type 0
+  Fills_result NoResult NoResult = Unit {0}
+  Fills_result (OneResult t) (OneResult u) = Fills_type t u
+  Fills_result (Results a ps z) (Results b qs y) = (a ≡ b) × Fills_params ps qs × (z ≡ y)
+  Fills_result _ _ = ⊥
+
+  pub Fills_params : ParamTrees → ParamTrees → Type 0
+  Fills_params NoParams NoParams = Unit {0}
+  Fills_params (Param xs t comma rest) (Param ys u behind more) = (xs ≡ ys) × Fills_type t u × (comma ≡ behind) × Fills_params rest more
+  Fills_params _ _ = ⊥
+
+-- both are there, or none
+abbrev pub Fills_some : {A : Type 0} → (A → A → Type 0) → Option A → Option A → Type 0
+Fills_some F None None = Unit {0}
+Fills_some F (Some x) (Some y) = F x y
+Fills_some F _ _ = ⊥
+
+-- expressions
+
+abbrev mutual
+  pub Fills_expr : ExprTree → ExprTree → Type 0
+  Fills_expr (Integer n a) (Integer m b) = (n ≡ m) × (a ≡ b)
+  Fills_expr (Text t) (Text u) = t ≡ u
+  Fills_expr (Named x) (Named y) = x ≡ y
+  Fills_expr (Paren a t z) (Paren b u y) = (a ≡ b) × Fills_expr t u × (z ≡ y)
+  Fills_expr (Unary op a t) (Unary oq b u) = (op ≡ oq) × (a ≡ b) × Fills_expr t u
+  Fills_expr (Binary t op a v) (Binary u oq b w) = Fills_expr t u × (op ≡ oq) × (a ≡ b) × Fills_expr v w
+  Fills_expr (Select t a x) (Select u b y) = Fills_expr t u × (a ≡ b) × (x ≡ y)
+  Fills_expr (Call t a is z) (Call u b js y) = Fills_expr t u × (a ≡ b) × Fills_items is js × (z ≡ y)
+  Fills_expr (Literal n a is z) (Literal o b js y) = (n ≡ o) × (a ≡ b) × Fills_items is js × (z ≡ y)
+  Fills_expr (StructLiteral t a is z) (StructLiteral u b js y) = Fills_type t u × (a ≡ b) × Fills_items is js × (z ≡ y)
+  Fills_expr _ _ = ⊥
+
+  pub Fills_items : ItemTrees → ItemTrees → Type 0
+  Fills_items NoItems NoItems = Unit {0}
+  Fills_items (Item k t comma rest) (Item l u behind more) = (k ≡ l) × Fills_expr t u × (comma ≡ behind) × Fills_items rest more
+  Fills_items _ _ = ⊥
+
+abbrev pub Fills_exprs : Separated ExprTree → Separated ExprTree → Type 0
+Fills_exprs (One t) (One u) = Fills_expr t u
+Fills_exprs (Then t comma ts) (Then u behind us) = Fills_expr t u × (comma ≡ behind) × Fills_exprs ts us
+Fills_exprs _ _ = ⊥
+
+-- declarations
+
+abbrev pub Fills_values : Span × Separated ExprTree → Span × Separated ExprTree → Type 0
+Fills_values v w = (v.0 ≡ w.0) × Fills_exprs v.1 w.1
+
+abbrev pub Fills_value_spec : ValueSpecTree → ValueSpecTree → Type 0
+Fills_value_spec v w = (v.names ≡ w.names) × Fills_some Fills_type v.type_expr w.type_expr × Fills_some Fills_values v.values w.values
+
+abbrev pub Fills_group : {A : Type 0} → (A → A → Type 0) → List (A × Option Span) → List (A × Option Span) → Type 0
+Fills_group F [] [] = Unit {0}
+Fills_group F (x ∷ xs) (y ∷ ys) = F x.0 y.0 × Fills_semicolon x.1 y.1 × Fills_group F xs ys
+Fills_group F _ _ = ⊥
+
+abbrev pub Fills_specs : {A : Type 0} → (A → A → Type 0) → Specs A → Specs A → Type 0
+Fills_specs F (Single x) (Single y) = F x y
+Fills_specs F (Group a xs z) (Group b ys y) = (a ≡ b) × Fills_group F xs ys × (z ≡ y)
+Fills_specs F _ _ = ⊥
+
+abbrev pub Fills_value : ValueTree → ValueTree → Type 0
+Fills_value v w = (v.kind ≡ w.kind) × (v.keyword ≡ w.keyword) × Fills_specs Fills_value_spec v.specs w.specs
+
+abbrev pub Fills_type_spec : TypeSpecTree → TypeSpecTree → Type 0
+Fills_type_spec t u = (t.name ≡ u.name) × Fills_type t.type_expr u.type_expr
+
+abbrev pub Fills_types : TypeDeclTree → TypeDeclTree → Type 0
+Fills_types t u = (t.keyword ≡ u.keyword) × Fills_specs Fills_type_spec t.specs u.specs
+
+-- statements
+
+abbrev pub Fills_simple : SimpleTree → SimpleTree → Type 0
+Fills_simple (Alone t) (Alone u) = Fills_expr t u
+Fills_simple (Step t op a) (Step u oq b) = Fills_expr t u × (op ≡ oq) × (a ≡ b)
+Fills_simple (Assign ts a es) (Assign us b fs) = Fills_exprs ts us × (a ≡ b) × Fills_exprs es fs
+Fills_simple (Update t op a e) (Update u oq b f) = Fills_expr t u × (op ≡ oq) × (a ≡ b) × Fills_expr e f
+Fills_simple (Define xs a es) (Define ys b fs) = (xs ≡ ys) × (a ≡ b) × Fills_exprs es fs
+Fills_simple _ _ = ⊥
+
+abbrev pub Fills_init : Option SimpleTree × Span → Option SimpleTree × Span → Type 0
+Fills_init i j = Fills_some Fills_simple i.0 j.0 × (i.1 ≡ j.1)
+
+abbrev pub Fills_if : IfTree → IfTree → Type 0
+Fills_if h k = Fills_some Fills_init h.init k.init × Fills_expr h.condition k.condition
+
+abbrev pub Fills_for : ForTree → ForTree → Type 0
+Fills_for Forever Forever = Unit {0}
+Fills_for (While t) (While u) = Fills_expr t u
+Fills_for (Clauses i a t b p) (Clauses j c u d q) = Fills_some Fills_simple i j × (a ≡ c) × Fills_some Fills_expr t u × (b ≡ d) × Fills_some Fills_simple p q
+Fills_for _ _ = ⊥
+
 abbrev mutual
   pub Fills_stmt : StmtTree → StmtTree → Type 0
+  Fills_stmt Empty Empty = Unit {0}
+  Fills_stmt (Declare v) (Declare w) = Fills_value v w
+  Fills_stmt (Simple s) (Simple r) = Fills_simple s r
+  Fills_stmt (Return a es) (Return b fs) = (a ≡ b) × Fills_some Fills_exprs es fs
+  Fills_stmt (Break a) (Break b) = a ≡ b
+  Fills_stmt (Continue a) (Continue b) = a ≡ b
   Fills_stmt (Block a ls z) (Block b ms y) = (a ≡ b) × Fills_lines ls ms × (z ≡ y)
-  Fills_stmt (Block a ls z) _ = ⊥
-  Fills_stmt c d = c ≡ d
+  Fills_stmt (If c) (If d) = Fills_branch c d
+  Fills_stmt (For k g a ls z) (For l h b ms y) = (k ≡ l) × Fills_for g h × (a ≡ b) × Fills_lines ls ms × (z ≡ y)
+  Fills_stmt _ _ = ⊥
+
+  pub Fills_branch : BranchTree → BranchTree → Type 0
+  Fills_branch (Branch k g a ls z e) (Branch l h b ms y f) = (k ≡ l) × Fills_if g h × (a ≡ b) × Fills_lines ls ms × (z ≡ y) × Fills_else e f
+
+  pub Fills_else : ElseTree → ElseTree → Type 0
+  Fills_else NoElse NoElse = Unit {0}
+  Fills_else (ElseBlock k a ls z) (ElseBlock l b ms y) = (k ≡ l) × (a ≡ b) × Fills_lines ls ms × (z ≡ y)
+  Fills_else (ElseIf k c) (ElseIf l d) = (k ≡ l) × Fills_branch c d
+  Fills_else _ _ = ⊥
 
   pub Fills_lines : Lines → Lines → Type 0
-  Fills_lines Empty Empty = Unit {0}
-  Fills_lines (More c s rest) (More d r more) = Fills_stmt c d × Fills_semicolon s r × Fills_lines rest more
+  Fills_lines NoLines NoLines = Unit {0}
+  Fills_lines (Line c s rest) (Line d r more) = Fills_stmt c d × Fills_semicolon s r × Fills_lines rest more
   Fills_lines _ _ = ⊥
 
-abbrev pub with_body : Lines → FuncTree → FuncTree
-with_body ls f = record { func = f.func; name = f.name; open_paren = f.open_paren; close_paren = f.close_paren; outcome = f.outcome; open_brace = f.open_brace; body = ls; close_brace = f.close_brace }
+-- functions and files
 
--- the functions are the same, but for their bodies
 abbrev pub Fills_func : FuncTree → FuncTree → Type 0
-Fills_func m f = (with_body f.body m ≡ f) × Fills_lines m.body f.body
+Fills_func m f = (m.func ≡ f.func) × (m.receiver ≡ f.receiver) × (m.name ≡ f.name) × Fills_signature m.signature f.signature × (m.open_brace ≡ f.open_brace) × Fills_lines m.body f.body × (m.close_brace ≡ f.close_brace)
 
 abbrev pub Fills_decl : DeclTree → DeclTree → Type 0
-Fills_decl (Value v) (Value w) = v ≡ w
+Fills_decl (Value v) (Value w) = Fills_value v w
+Fills_decl (Types t) (Types u) = Fills_types t u
 Fills_decl (Func m) (Func f) = Fills_func m f
 Fills_decl _ _ = ⊥
 
@@ -138,8 +538,16 @@ Fills_tops [] [] = Unit {0}
 Fills_tops (m ∷ ms) (d ∷ ds) = Fills_decl m.decl d.decl × (m.semicolon ≡ d.semicolon) × Fills_tops ms ds
 Fills_tops _ _ = ⊥
 
+abbrev pub Fills_import : ImportSpecTree → ImportSpecTree → Type 0
+Fills_import i j = i ≡ j
+
+abbrev pub Fills_imports : List ImportTree → List ImportTree → Type 0
+Fills_imports [] [] = Unit {0}
+Fills_imports (i ∷ is) (j ∷ js) = (i.keyword ≡ j.keyword) × Fills_specs Fills_import i.specs j.specs × (i.semicolon ≡ j.semicolon) × Fills_imports is js
+Fills_imports _ _ = ⊥
+
 abbrev pub Fills_file : FileTree → FileTree → Type 0
-Fills_file m f = (m.clause ≡ f.clause) × (m.name ≡ f.name) × (m.semicolon ≡ f.semicolon) × Fills_tops m.decls f.decls
+Fills_file m f = (m.clause ≡ f.clause) × (m.name ≡ f.name) × (m.semicolon ≡ f.semicolon) × Fills_imports m.imports f.imports × Fills_tops m.decls f.decls
 
 -- the tokens of the text are what this tree writes, with some semicolons left out before a closing mark
 pub record HasWholeTree (text : List ℕ) (f : FileTree) : Type 0 where

@@ -1,7 +1,6 @@
 pub mod Correct
-pub mod Giving
+pub mod FileReading
 pub mod LeftOut
 pub mod Names
 pub mod Parsing
-pub mod Reading
 pub mod Stopping

@@ -1,9 +1,13 @@
 -- What `parse` answers.
 use Rattle.std.specs.Prelude.{◌≡◌, ◌≤◌, ◌^◌, ◌<◌, ℕ, List, length, Result, Ok, Err}
+use Rattle.go_scan_core.specs.declared.token.Comment.{Comment}
+use Rattle.go_scan_core.specs.Cutting.{comments_in}
+use Rattle.go_scan_core.specs.Tokens.{IsAnswerOf}
 use Rattle.go_tree_core.specs.Trees.{FileTree}
 use Rattle.go_tree_core.specs.Occurrences.{file_occs}
 use Rattle.go_tree_core.specs.Terminals.{InOrder}
-use Rattle.go_tree_core.specs.Spelling.{spell_file, file_height}
+use Rattle.go_tree_core.specs.Heights.{file_height}
+use Rattle.go_tree_core.specs.Spelling.{spell_file}
 use Rattle.go_parse_core.specs.declared.error.ParseError.{ParseError}
 use Rattle.go_parse_core.specs.declared.error.ParseError.TheVariants as errors
 use Rattle.go_parse_core.specs.Correct.{HasTree, IsSynFault, max_height}
@@ -26,3 +30,7 @@ abbrev pub IsParsedUnlessMemory : Result (List ℕ) ParseError → Type 0
 IsParsedUnlessMemory (Ok parsed) = Unit {0}
 IsParsedUnlessMemory (Err errors.Memory) = Unit {0}
 IsParsedUnlessMemory (Err (errors.Fault fault)) = ⊥
+
+-- the comments of a text, in the words of the lexical grammar
+abbrev pub AreComments : List ℕ → List Comment → Type 0
+AreComments text cs = IsAnswerOf comments_in text (Ok cs)

@@ -1,20 +1,14 @@
 -- What the reading of a text answers, by its tree.
-use Rattle.std.specs.Prelude.{◌≡◌, ◌≤◌, ℕ, List, [], ◌∷◌, Result, Ok, Err}
+use Rattle.std.specs.Prelude.{◌≡◌, ◌≤◌, ℕ, List, Result, Ok, Err}
 use Rattle.go_text_core.specs.declared.rule.Rule.TheVariants.{P1, P2}
-use Rattle.go_tree_core.specs.declared.tree.File.{File}
-use Rattle.go_tree_core.specs.Terminals.{Terminal}
+use Rattle.go_tree_core.specs.declared.files.File.{File}
 use Rattle.go_tree_core.specs.Shapes.{file_of}
 use Rattle.go_parse_core.specs.declared.error.ParseError.{ParseError}
 use Rattle.go_parse_core.specs.declared.error.ParseError.TheVariants as errors
-use Rattle.go_parse_core.specs.declared.stop.Stop.{Stop}
-use Rattle.go_parse_core.specs.declared.stop.Stop.TheVariants as stop
+use Rattle.go_parse_types.specs.declared.stop.Stop.{Stop}
+use Rattle.go_parse_types.specs.declared.stop.Stop.TheVariants as stop
 use Rattle.go_parse_core.specs.Correct.{IsSynFault}
 use Rattle.go_parse_core.specs.Parsing.{IsParse}
-
--- the place where the parser stands; at the end of the terminals it is not said here
-abbrev pub IsPlace : ℕ → List Terminal → Type 0
-IsPlace at [] = Unit {0}
-IsPlace at (t ∷ ts) = at ≡ t.span.start
 
 -- the fault for which the parser stops; its place lies in a text of that length
 abbrev pub IsErrorOf : ParseError → Stop → ℕ → Type 0

@@ -1,7 +1,9 @@
 //! Laws of the definitions.
 //!
-//! A whole tree has a semicolon behind each statement of a block, and a text may leave out those before a
-//! closing mark; a tree of the text has none where the text leaves it out.
+//! A whole tree has a semicolon behind each statement of a block, each field of a struct type, each method of an
+//! interface type and each specification in parentheses. A text may leave out those before a closing mark (the Go
+//! specification, "Semicolons"), but an empty statement keeps its semicolon. A tree of the text has none where the
+//! text leaves it out.
 ghost use Rattle.go_parse_core.specs.Correct.{HasOneTree};
 ghost use Rattle.go_parse_core.specs.LeftOut.{HasOneWholeTree, MarkedIsWhole, WholeIsMarked};
 ghost use Rattle.go_parse_core.specs.Names.{HasNamesSpelled};
@@ -11,8 +13,8 @@ pub fn one_tree()
     ensures { HasOneTree }
 {}
 
-/// A law, with nothing to run: each name among the tokens of a text in UTF-8 is a piece of the text, so
-/// that a tree can write it.
+/// A law, with nothing to run: each name and each literal among the tokens of a text in UTF-8 is a piece of
+/// the text, and each integer literal is at most 2^63 - 1, so that a tree can write it.
 pub fn names_spelled()
     ensures { HasNamesSpelled }
 {}

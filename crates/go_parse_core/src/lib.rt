@@ -1,25 +1,23 @@
 //! From the text of a Go file to its tree.
 //!
-//! The grammar is the part of Go in which a file is a package clause, then declarations of the package
-//! block. Each declares a constant or a variable with its value, or a function without parameters, and
-//! ends with a semicolon. A function's block holds such declarations of values, short declarations,
-//! assignments, returns and blocks. An expression is an integer literal, a name, an expression in
-//! parentheses, or two of them with a binary operator of rank 4 or 5 between them (the Go specification,
-//! "Source file organization", "Operators" and "Semicolons").
+//! A file is a package clause, its imports, then the declarations of the package block: constants, variables,
+//! types, functions and methods, each with a semicolon behind it. A type is a name, a pointer, a struct, an
+//! interface of methods, or a type in parentheses. An expression is an integer or string literal, a name, a
+//! literal of a struct, a selector, a call, one with unary or binary operators, or one in parentheses. A
+//! statement is empty, a declaration of constants or variables, an expression, `++`, `--`, an assignment, a
+//! short declaration, `return`, `break`, `continue`, a block, `if`, or `for` without `range` (the Go
+//! specification, "Source file organization", "Declarations and scope", "Types", "Expressions", "Statements"
+//! and "Semicolons").
 //!
 //! [`parse`] finds the tree of a text, or says where the text has none.
 #![tactic(auto)]
 
-mod ahead;
 mod error;
-mod expr;
 mod file;
+mod funcs;
+mod imports;
 mod laws;
-mod list;
 mod parsed;
-mod stmt;
-mod stop;
-mod value;
 
 pub use error::{ParseError, SynFault};
 pub use laws::{marked_is_whole, names_spelled, one_tree, one_whole_tree, whole_is_marked};

@@ -1,27 +1,30 @@
 //! Parsed texts.
-ghost use Rattle.std.specs.Prelude.{◌≡◌, ◌≤◌, ◌<◌, ◌^◌, ℕ, length, string_bytes};
+ghost use Rattle.std.specs.Prelude.{◌≡◌, ◌≤◌, ◌<◌, ◌^◌, ℕ, length, string_bytes, All, IfOk};
+ghost use Rattle.go_scan_core.specs.Cutting.{comments_of};
+ghost use Rattle.go_scan_core.specs.Texts.{CommentHasItsText};
+ghost use Rattle.go_scan_core.specs.Tokens.{CommentsInOrder};
+ghost use Rattle.go_tree_core.specs.Heights.{file_height};
 ghost use Rattle.go_tree_core.specs.Occurrences.{file_occs};
 ghost use Rattle.go_tree_core.specs.Shapes.{file_of};
-ghost use Rattle.go_tree_core.specs.Spelling.{spell_file, file_height};
+ghost use Rattle.go_tree_core.specs.Spelling.{spell_file};
 ghost use Rattle.go_tree_core.specs.Terminals.{InOrder};
 ghost use Rattle.go_tree_core.specs.Trees.{FileTree};
 ghost use Rattle.go_parse_core.specs.Correct.{HasTree, max_height};
-ghost use Rattle.go_parse_core.specs.Parsing.{Parses, IsParsedUnlessMemory};
+ghost use Rattle.go_parse_core.specs.Parsing.{AreComments, Parses, IsParsedUnlessMemory};
 ghost use Rattle.go_parse_core.specs.Stopping.{IsErrorOf, IsTreeAnswer, IsTreeUnlessMemory};
 
-use crate::ahead::Ahead;
 use crate::error::{ParseError, SynFault};
 use crate::file::file;
-use crate::stop::Stop;
-use go_scan_core::{ScanError, scan};
+use go_parse_types::{Ahead, Stop};
+use go_scan_core::{Comment, ScanError, comments, scan};
 use go_text_core::Rule;
 use go_tree_core::File;
-use std::alloc::Global;
+use std::alloc::{AllocError, Global};
 use std::marker::Model;
 
-/// The greatest height of the statements of a function. A function and its body are a node each, so that no
-/// tree is higher than 200.
-const INNER_HEIGHT: u32 = 198;
+/// The greatest height of the parts of a declaration of the package block. The declaration is one node
+/// above them, so that no tree is higher than 200.
+const PART_HEIGHT: u32 = 199;
 
 /// A text that has a tree of height at most 200, with that tree. Contracts see it as its text, of which it
 /// is the only tree.
@@ -62,6 +65,31 @@ impl Parsed {
     {
         &self.tree
     }
+
+    /// An equal value. The one error is want of memory.
+    pub fn copy(&self, alloc: Global) -> Result<Parsed, AllocError>
+        ensures { IfOk result (λ p. p ≡ self.now) }
+    {
+        let text = String::from_str(alloc, self.text.as_str())?;
+        let tree = self.tree.copy(alloc)?;
+        Ok(Parsed { text, tree })
+    }
+
+    /// The comments of the text in their order, with their spans in bytes of the text. The one error is want
+    /// of memory.
+    pub fn comments(&self, alloc: Global) -> Result<Vec<Comment>, AllocError>
+        ensures answer { IfOk result (λ v. AreComments self.now v.items) }
+        ensures value { IfOk result (λ v. comments_of self.now ≡ Ok v.items) }
+        ensures spans { IfOk result (λ v. CommentsInOrder 0 v.items (length self.now)) }
+        ensures slices { IfOk result (λ v. All (CommentHasItsText self.now) v.items) }
+    {
+        match comments(alloc, self.text.as_str()) {
+            Ok(comments) => Ok(comments),
+            Err(ScanError::Memory) => Err(AllocError),
+            // A text with a tree has tokens.
+            Err(ScanError::Fault(_)) => unreachable!(),
+        }
+    }
 }
 
 /// The fault with which the parser stops in a text of `len` bytes, or want of memory.
@@ -97,14 +125,14 @@ fn tree_of(alloc: Global, text: &str) -> Result<File, ParseError>
             }));
         }
     };
-    match file(alloc, Ahead::new(text, &tokens), INNER_HEIGHT) {
+    match file(alloc, Ahead::new(text, &tokens), PART_HEIGHT) {
         Ok(tree) => Ok(tree),
         Err(stop) => Err(error_of(stop, len)),
     }
 }
 
 /// Parses the text of a file, by the grammar of the Go specification, "Source file organization",
-/// "Operators" and "Semicolons".
+/// "Declarations and scope", "Types", "Expressions", "Statements" and "Semicolons".
 ///
 /// A text has at most one tree, [`one_tree`](crate::one_tree). It is found where it is at most 200 high,
 /// unless memory runs out. Offsets count the bytes of the text from its start.
@@ -112,8 +140,8 @@ fn tree_of(alloc: Global, text: &str) -> Result<File, ParseError>
 /// # Errors
 ///
 /// - [`ParseError::Memory`] where memory runs out.
-/// - [`ParseError::Fault`] with the rule L1, L2 or L3 and the offset of the first place where no token,
-///   white space or end of a line begins, as [`scan`] answers it.
+/// - [`ParseError::Fault`] with the rule L1, L2 or L3 and the offset of the first fault of the tokens, as
+///   [`scan`] answers it.
 /// - [`ParseError::Fault`] with the rule P1 where the tokens have no tree of any height, and P2 where they
 ///   have none of height 200 or less. The offset is that of the token where the parser stopped, or that of
 ///   the text's end where it stopped behind the last token.

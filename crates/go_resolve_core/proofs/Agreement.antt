@@ -4,14 +4,14 @@ use Rattle.std.specs.Prelude.{if◌then◌else◌}
 use Rattle.std.proofs.lemmas.List.{append_assoc, append-nil, map-append}
 use Rattle.go_text_core.specs.Text.{is_blank}
 use Rattle.go_text_core.specs.declared.span.Span.{Span}
-use Rattle.go_tree_core.specs.declared.tree.Ident.{Ident}
-use Rattle.go_tree_core.specs.declared.tree.TypeExpr.{TypeExpr}
-use Rattle.go_tree_core.specs.declared.tree.TypeExpr.TheVariants as type_expr
-use Rattle.go_tree_core.specs.declared.occurrence.Role.TheVariants as role
-use Rattle.go_tree_core.specs.declared.occurrence.Occ.{Occ}
-use Rattle.go_tree_core.specs.Trees as tree
-use Rattle.go_tree_core.specs.Trees.{ExprTree, Literal, Named, Paren, Binary, Separated, One, Then, ValueTree, StmtTree, Lines, Declare, Short, Assign, Return, Empty, More}
-use Rattle.go_tree_core.specs.Occurrences.{occurrence, expr_occs, exprs_occs, target_occs, targets_occs, type_occs, value_occs, some_occs, stmt_occs, lines_occs}
+use Rattle.go_tree_core.specs.declared.names.Ident.{Ident}
+use Rattle.go_subset_core.specs.declared.tree.TypeExpr.{TypeExpr}
+use Rattle.go_subset_core.specs.declared.tree.TypeExpr.TheVariants as type_expr
+use Rattle.go_subset_core.specs.declared.occurrence.Role.TheVariants as role
+use Rattle.go_subset_core.specs.declared.occurrence.Occ.{Occ}
+use Rattle.go_subset_core.specs.Trees as tree
+use Rattle.go_subset_core.specs.Trees.{ExprTree, Literal, Named, Paren, Binary, Separated, One, Then, ValueTree, StmtTree, Lines, Declare, Short, Assign, Return, Empty, More}
+use Rattle.go_subset_core.specs.Occurrences.{occurrence, expr_occs, exprs_occs, target_occs, targets_occs, type_occs, value_occs, some_occs, stmt_occs, lines_occs}
 use Rattle.go_scope_core.specs.Blocks.{in_block, innermost, with_innermost, is_taken, is_new}
 use Rattle.go_resolve_core.specs.declared.declared.Block.{Block}
 use Rattle.go_resolve_core.specs.declared.declared.Block.TheVariants.{Within}
@@ -39,7 +39,7 @@ abbrev pub IsAt : ℕ → ℕ → Occ → Type 0
 IsAt lo hi x = (lo ≤ x.span.start) × (x.span.start < hi)
 
 pub expr_places : (t : ExprTree) (lo hi : ℕ) → IsWithin lo t hi → Each (IsAt lo hi) (expr_occs t)
-expr_places (Literal span) lo hi h = tt
+expr_places (Literal n span) lo hi h = tt
 expr_places (Named x) lo hi h = (h, tt)
 expr_places (Paren first t last) lo hi h = expr_places t lo hi h
 expr_places (Binary a op span b) lo hi h = each-append _ (expr_occs a) (expr_occs b) (expr_places a lo hi h.0) (expr_places b lo hi h.1)
@@ -49,7 +49,7 @@ exprs_places (One t) lo hi h = expr_places t lo hi h
 exprs_places (Then t comma more) lo hi h = each-append _ (expr_occs t) (exprs_occs more) (expr_places t lo hi h.0) (exprs_places more lo hi h.1)
 
 target_places : (t : ExprTree) (lo hi : ℕ) → IsWithin lo t hi → Each (IsAt lo hi) (target_occs t)
-target_places (Literal span) lo hi h = tt
+target_places (Literal n span) lo hi h = tt
 target_places (Named x) lo hi h = by (is_blank x.name)
   where
     by : (b : Bool) → Each (IsAt lo hi) (if b then [] else occurrence role.Value x ∷ [])

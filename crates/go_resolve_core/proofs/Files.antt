@@ -6,8 +6,8 @@ use Rattle.std.proofs.lemmas.List.{append_assoc, append-nil, map-append}
 use Rattle.std.proofs.lemmas.List.Elements.{filter-append}
 use Rattle.go_text_core.specs.Text.{is_blank}
 use Rattle.go_text_core.specs.declared.rule.Rule.TheVariants.{K3}
-use Rattle.go_tree_core.specs.Trees.{FuncTree, DeclTree, Value, Func, TopTree, FileTree}
-use Rattle.go_tree_core.specs.Occurrences.{value_occs, type_occs, lines_occs, decl_occs, tops_occs, file_occs}
+use Rattle.go_subset_core.specs.Trees.{FuncTree, DeclTree, Value, Func, TopTree, FileTree}
+use Rattle.go_subset_core.specs.Occurrences.{value_occs, type_occs, lines_occs, decl_occs, tops_occs, file_occs}
 use Rattle.go_scope_core.specs.Blocks.{in_block, innermost}
 use Rattle.go_resolve_core.specs.declared.declared.Block.{Block}
 use Rattle.go_resolve_core.specs.declared.declared.Block.TheVariants.{Universe, Package, File, Within}

@@ -3,19 +3,19 @@ use Rattle.std.proofs.Common.{ℕ, ◌+◌, ◌<◌, ◌≤◌, List, [], ◌∷
 use Rattle.std.proofs.lemmas.List.{append_assoc}
 use Rattle.go_text_core.specs.declared.span.Span.{Span}
 use Rattle.go_scan_core.specs.declared.kind.Operator.TheVariants as operator
-use Rattle.go_tree_core.specs.declared.tree.Ident.{Ident}
-use Rattle.go_tree_core.specs.declared.tree.TypeExpr.{TypeExpr}
-use Rattle.go_tree_core.specs.declared.tree.TypeExpr.TheVariants as type_expr
+use Rattle.go_tree_core.specs.declared.names.Ident.{Ident}
+use Rattle.go_subset_core.specs.declared.tree.TypeExpr.{TypeExpr}
+use Rattle.go_subset_core.specs.declared.tree.TypeExpr.TheVariants as type_expr
 use Rattle.go_tree_core.specs.Terminals.{Terminal, terminal, Mark, InOrder}
-use Rattle.go_tree_core.specs.Trees.{ExprTree, Literal, Named, Paren, Binary, Separated, One, Then, ValueTree, StmtTree, Lines, Declare, Short, Assign, Return, Block, Empty, More, FuncTree, DeclTree, Value, Func, TopTree, FileTree}
-use Rattle.go_tree_core.specs.Spelling.{spell, spell_exprs, spell_idents, spell_some_type, spell_value, spell_semicolon, spell_stmt, spell_lines, spell_func, spell_decl, spell_tops}
+use Rattle.go_subset_core.specs.Trees.{ExprTree, Literal, Named, Paren, Binary, Separated, One, Then, ValueTree, StmtTree, Lines, Declare, Short, Assign, Return, Block, Empty, More, FuncTree, DeclTree, Value, Func, TopTree, FileTree}
+use Rattle.go_subset_core.specs.Spelling.{spell, spell_exprs, spell_idents, spell_some_type, spell_outcome, spell_value, spell_semicolon, spell_stmt, spell_lines, spell_func, spell_decl, spell_tops}
 use Rattle.go_resolve_core.specs.Declarations.{expr_end, exprs_end}
 use Rattle.go_resolve_core.specs.Walk.{idents}
 use Rattle.go_resolve_core.specs.Placed.{IsPlaced}
 
 -- the names of an expression lie between two places
 abbrev pub IsWithin : ℕ → ExprTree → ℕ → Type 0
-IsWithin lo (Literal span) hi = Unit {0}
+IsWithin lo (Literal n span) hi = Unit {0}
 IsWithin lo (Named x) hi = (lo ≤ x.span.start) × (x.span.start < hi)
 IsWithin lo (Paren first t last) hi = IsWithin lo t hi
 IsWithin lo (Binary a op span b) hi = IsWithin lo a hi × IsWithin lo b hi
@@ -84,7 +84,7 @@ AreDeclsPlaced lo (d ∷ ds) = IsDeclPlaced lo d.decl × AreDeclsPlaced (decl_en
 -- wider bounds
 
 wider : (lo hi lo' hi' : ℕ) → lo' ≤ lo → hi ≤ hi' → (t : ExprTree) → IsWithin lo t hi → IsWithin lo' t hi'
-wider lo hi lo' hi' l h (Literal span) k = tt
+wider lo hi lo' hi' l h (Literal n span) k = tt
 wider lo hi lo' hi' l h (Named x) k = (omega (arith, k.0), omega (arith, k.1))
 wider lo hi lo' hi' l h (Paren first t last) k = wider lo hi lo' hi' l h t k
 wider lo hi lo' hi' l h (Binary a op span b) k = (wider lo hi lo' hi' l h a k.0, wider lo hi lo' hi' l h b k.1)
@@ -122,7 +122,7 @@ in_order_from a b high h (t ∷ ts) k = (omega (arith, k.0), k.1, k.2)
 
 -- the tokens of a tree and those behind it
 pub expr_placed : (t : ExprTree) (lo high : ℕ) (rest : List Terminal) → InOrder lo (spell t ++ rest) high → IsWithin lo t (expr_end t) × (lo < expr_end t) × InOrder (expr_end t) rest high
-expr_placed (Literal span) lo high rest k = (tt, omega (arith, k.0, k.1), k.2)
+expr_placed (Literal n span) lo high rest k = (tt, omega (arith, k.0, k.1), k.2)
 expr_placed (Named x) lo high rest k = ((k.0, omega (arith, k.1)), omega (arith, k.0, k.1), k.2)
 expr_placed (Paren first t last) lo high rest k =
     let inner = expr_placed t first.end high (terminal (Mark operator.CloseParen) last ∷ rest)
@@ -171,6 +171,10 @@ idents_placed (Then x comma more) lo high rest k =
 pub type_placed : (t : Option TypeExpr) (lo high : ℕ) (rest : List Terminal) → InOrder lo (spell_some_type t ++ rest) high → (mid : ℕ) × IsTypeWithin lo t mid × (lo ≤ mid) × InOrder mid rest high
 type_placed None lo high rest k = (lo, tt, omega arith, k)
 type_placed (Some (type_expr.Name x)) lo high rest k = (x.span.end, (k.0, omega (arith, k.1)), omega (arith, k.0, k.1), k.2)
+
+outcome_placed : (t : Option TypeExpr) (lo high : ℕ) (rest : List Terminal) → InOrder lo (spell_outcome t ++ rest) high → (mid : ℕ) × IsTypeWithin lo t mid × (lo ≤ mid) × InOrder mid rest high
+outcome_placed None lo high rest k = (lo, tt, omega arith, k)
+outcome_placed (Some (type_expr.Name x)) lo high rest k = (x.span.end, (k.0, omega (arith, k.1)), omega (arith, k.0, k.1), k.2)
 
 pub value_placed : (v : ValueTree) (lo high : ℕ) (rest : List Terminal) → InOrder lo (spell_value v ++ rest) high → IsValuePlaced lo v × (lo < expr_end v.value) × InOrder (expr_end v.value) rest high
 value_placed v lo high rest k =
@@ -242,8 +246,8 @@ func_placed : (f : FuncTree) (lo high : ℕ) (rest : List Terminal) → InOrder 
 func_placed f lo high rest k =
     let close : List Terminal = terminal (Mark operator.CloseBrace) f.close_brace ∷ [] in
     let tail : List Terminal = terminal (Mark operator.OpenBrace) f.open_brace ∷ (spell_lines f.body ++ close) in
-    let typed = type_placed f.outcome f.close_paren.end high (tail ++ rest)
-    (subst (λ ts. InOrder f.close_paren.end ts high) (append_assoc (spell_some_type f.outcome) tail rest) k.2.2.2.2) in
+    let typed = outcome_placed f.outcome f.close_paren.end high (tail ++ rest)
+    (subst (λ ts. InOrder f.close_paren.end ts high) (append_assoc (spell_outcome f.outcome) tail rest) k.2.2.2.2) in
     let body = lines_placed f.body f.open_brace.end high f.close_brace rest
     (subst (λ ts. InOrder f.open_brace.end ts high) (append_assoc (spell_lines f.body) close rest) typed.3.2) in
     let opens : f.name.span.end ≤ f.open_brace.start = omega (arith, k.2.2.0, k.2.2.1, k.2.2.2.0, k.2.2.2.1, typed.2, typed.3.0) in (
@@ -263,9 +267,7 @@ decl_placed (Func f) lo high rest k = func_placed f lo high rest k
 decls_placed : (ds : List TopTree) (lo high : ℕ) → InOrder lo (spell_tops ds) high → AreDeclsPlaced lo ds
 decls_placed [] lo high k = tt
 decls_placed (d ∷ ds) lo high k =
-    let semicolon : List Terminal = terminal (Mark operator.Semicolon) d.semicolon ∷ [] in
-    let here = decl_placed d.decl lo high (terminal (Mark operator.Semicolon) d.semicolon ∷ spell_tops ds)
-    (subst (λ ts. InOrder lo ts high) (append_assoc (spell_decl d.decl) semicolon (spell_tops ds)) k) in
+    let here = decl_placed d.decl lo high (terminal (Mark operator.Semicolon) d.semicolon ∷ spell_tops ds) k in
     (here.0, decls_placed ds (decl_end d.decl) high (in_order_from (decl_end d.decl) d.semicolon.end high (omega (arith, here.1.0, here.1.1)) (spell_tops ds) here.1.2))
 
 -- in a file that is placed the declarations are, and none of them stands at the start

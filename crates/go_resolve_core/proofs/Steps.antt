@@ -9,12 +9,12 @@ use Rattle.std.proofs.lemmas.List.Folds.{list_any-append}
 use Rattle.std.proofs.lemmas.Slice.Eq.{bytes_eq-Decides}
 use Rattle.go_text_core.specs.Text.{is_blank}
 use Rattle.go_text_core.specs.declared.rule.Rule.TheVariants.{B1}
-use Rattle.go_tree_core.specs.declared.tree.Ident.{Ident}
-use Rattle.go_tree_core.specs.declared.tree.Expr.{Expr}
-use Rattle.go_tree_core.specs.declared.tree.NextExpr.{NextExpr}
-use Rattle.go_tree_core.specs.declared.tree.NextIdent.{NextIdent}
-use Rattle.go_tree_core.specs.Shapes.{shape, exprs_from, idents_from}
-use Rattle.go_tree_core.specs.Occurrences.{expr_occs, exprs_occs, target_occs, targets_occs}
+use Rattle.go_tree_core.specs.declared.names.Ident.{Ident}
+use Rattle.go_subset_core.specs.declared.tree.Expr.{Expr}
+use Rattle.go_subset_core.specs.declared.tree.NextExpr.{NextExpr}
+use Rattle.go_tree_core.specs.declared.names.NextIdent.{NextIdent}
+use Rattle.go_subset_core.specs.Shapes.{shape, exprs_from, idents_from}
+use Rattle.go_subset_core.specs.Occurrences.{expr_occs, exprs_occs, target_occs, targets_occs}
 use Rattle.go_scope_core.specs.declared.DeclId.{DeclId}
 use Rattle.go_scope_core.specs.Blocks.{in_block, innermost, with_innermost, is_taken, block_with, is_new}
 use Rattle.go_resolve_core.specs.declared.declared.Block.{Block}

@@ -2,9 +2,9 @@
 use Rattle.std.proofs.Common.{◌≡◌, ℕ, ◌+◌, ◌<◌, Bool, true, false, List, [], ◌∷◌, ◌++◌, map, length, get_or, drop, refl, ap, ◌∙◌, arith}
 use Rattle.std.specs.Prelude.{if◌then◌else◌}
 use Rattle.std.proofs.lemmas.List.{append_assoc}
-use Rattle.go_tree_core.specs.declared.tree.TopDecl.{TopDecl}
-use Rattle.go_tree_core.specs.Trees.{DeclTree}
-use Rattle.go_tree_core.specs.Shapes.{top_of, decl_of}
+use Rattle.go_subset_core.specs.declared.tree.TopDecl.{TopDecl}
+use Rattle.go_subset_core.specs.Trees.{DeclTree}
+use Rattle.go_subset_core.specs.Shapes.{top_of, decl_of}
 use Rattle.go_resolve_core.specs.declared.declared.Block.TheVariants as block
 use Rattle.go_resolve_core.specs.declared.declared.Use.{Use}
 use Rattle.go_resolve_core.specs.declared.declared.Fault.{Fault}

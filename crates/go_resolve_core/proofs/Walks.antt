@@ -5,15 +5,15 @@ use Rattle.std.specs.declared.alloc.AllocError.{AllocError}
 use Rattle.std.proofs.lemmas.List.{same_from_push, length-append, append_assoc}
 use mathlib.Core.Former.{Count}
 use Rattle.go_text_core.specs.declared.span.Span.{Span}
-use Rattle.go_tree_core.specs.declared.tree.Ident.{Ident}
-use Rattle.go_tree_core.specs.declared.tree.Idents.{Idents}
-use Rattle.go_tree_core.specs.declared.tree.Exprs.{Exprs}
-use Rattle.go_tree_core.specs.declared.tree.Line.{Line}
-use Rattle.go_tree_core.specs.declared.tree.Stmt.{Stmt, Block, Row_of-Line, end_of-Line, more_of-Line, items-the_row-Line, items_hidden-the_row-Line-0}
-use Rattle.go_tree_core.specs.declared.tree.Stmt.TheVariants as stmt
-use Rattle.go_tree_core.specs.Trees as tree
-use Rattle.go_tree_core.specs.Trees.{StmtTree, Lines, Declare, Short, Assign, Return, Empty, More}
-use Rattle.go_tree_core.specs.Shapes.{shape_stmt, shape_row, lines_of, shape_exprs, shape_idents}
+use Rattle.go_tree_core.specs.declared.names.Ident.{Ident}
+use Rattle.go_tree_core.specs.declared.names.Idents.{Idents}
+use Rattle.go_subset_core.specs.declared.tree.Exprs.{Exprs}
+use Rattle.go_subset_core.specs.declared.tree.Line.{Line}
+use Rattle.go_subset_core.specs.declared.tree.Stmt.{Stmt, Block, Row_of-Line, end_of-Line, more_of-Line, items-the_row-Line, items_hidden-the_row-Line-0}
+use Rattle.go_subset_core.specs.declared.tree.Stmt.TheVariants as stmt
+use Rattle.go_subset_core.specs.Trees as tree
+use Rattle.go_subset_core.specs.Trees.{StmtTree, Lines, Declare, Short, Assign, Return, Empty, More}
+use Rattle.go_subset_core.specs.Shapes.{shape_stmt, shape_row, lines_of, shape_exprs, shape_idents}
 use Rattle.go_scope_core.specs.Blocks.{innermost, with_innermost, is_taken, block_with}
 use Rattle.go_resolve_core.specs.declared.declared.Block as declared_block
 use Rattle.go_resolve_core.specs.declared.declared.DeclKind.{DeclKind}

@@ -1,6 +1,6 @@
 -- The declaration that a name denotes at a place, in the words of the language.
 use Rattle.std.specs.Prelude.{◌≡◌, ℕ, ◌⊎◌, ◌↔◌, true, false, List, [], ◌∷◌, Some}
-use Rattle.go_tree_core.specs.Trees.{FileTree}
+use Rattle.go_subset_core.specs.Trees.{FileTree}
 use Rattle.go_resolve_core.specs.declared.declared.Declared.{Declared}
 use Rattle.go_resolve_core.specs.Binding.{Entry, is_inside, region_has, is_second, binds}
 use Rattle.go_resolve_core.specs.Declarations.{file_declares}

@@ -2,7 +2,7 @@
 use Rattle.std.specs.Prelude.{◌≡◌, ℕ, ◌<◌, ◌⊎◌, Bool, true, false, ◌&&◌, ◌||◌, nat_lt, nat_eq, List, [], ◌∷◌}
 use Rattle.std.specs.List.{AllByRecursion}
 use Rattle.go_text_core.specs.Rules.{rule_number}
-use Rattle.go_tree_core.specs.Trees.{FileTree}
+use Rattle.go_subset_core.specs.Trees.{FileTree}
 use Rattle.go_resolve_core.specs.declared.declared.Fault.{Fault}
 use Rattle.go_resolve_core.specs.Faults.{faults_of}
 use Rattle.go_resolve_core.specs.Placed.{IsPlaced}

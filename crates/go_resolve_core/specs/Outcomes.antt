@@ -2,11 +2,11 @@
 use Rattle.std.specs.Prelude.{List, [], map, Option, Some, None, if◌then◌else◌}
 use Rattle.go_text_core.specs.Text.{is_blank}
 use Rattle.go_text_core.specs.declared.rule.Rule.TheVariants.{N1, N5, N6, N7, N8, X1}
-use Rattle.go_tree_core.specs.declared.occurrence.Role.{Role}
-use Rattle.go_tree_core.specs.declared.occurrence.Role.TheVariants as role
-use Rattle.go_tree_core.specs.declared.occurrence.Occ.{Occ}
-use Rattle.go_tree_core.specs.Occurrences.{file_occs}
-use Rattle.go_tree_core.specs.Trees.{FileTree}
+use Rattle.go_subset_core.specs.declared.occurrence.Role.{Role}
+use Rattle.go_subset_core.specs.declared.occurrence.Role.TheVariants as role
+use Rattle.go_subset_core.specs.declared.occurrence.Occ.{Occ}
+use Rattle.go_subset_core.specs.Occurrences.{file_occs}
+use Rattle.go_subset_core.specs.Trees.{FileTree}
 use Rattle.go_resolve_core.specs.declared.declared.DeclKind.{DeclKind}
 use Rattle.go_resolve_core.specs.declared.declared.DeclKind.TheVariants as kinds
 use Rattle.go_resolve_core.specs.declared.declared.Declared.{Declared}

@@ -1,6 +1,6 @@
 //! Declarations, and what an identifier may have.
+use go_subset_core::Role;
 use go_text_core::{Rule, Span};
-use go_tree_core::Role;
 
 /// The block that owns a declaration.
 #[derive(Clone, Copy, Debug, PartialEq, Eq)]

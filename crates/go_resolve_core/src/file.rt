@@ -1,7 +1,7 @@
 //! The package block, and the file.
 ghost use Rattle.std.specs.Prelude.{◌≡◌, ℕ, ◌<◌, List, [], ◌∷◌, ◌++◌, length, map, IfOk, OnOk};
-ghost use Rattle.go_tree_core.specs.Shapes.{decl_of, func_of, top_of, file_of};
-ghost use Rattle.go_tree_core.specs.Trees.{Func};
+ghost use Rattle.go_subset_core.specs.Shapes.{decl_of, func_of, top_of, file_of};
+ghost use Rattle.go_subset_core.specs.Trees.{Func};
 ghost use Rattle.go_resolve_core.specs.Declarations.{decl_name, decl_kind};
 ghost use Rattle.go_resolve_core.specs.Faults.{is_procedure, procedure_fault, faults_of};
 ghost use Rattle.go_resolve_core.specs.Outcomes.{uses_of};
@@ -12,8 +12,9 @@ use crate::declared::{Block, DeclKind, Fault, Resolution, Use};
 use crate::names::{is_blank, is_init, is_main};
 use crate::resolver::Resolver;
 use crate::walk::{declare, fault, value_kind, walk_lines, walk_type, walk_value};
+use go_subset_core::{Decl, File, FuncDecl, TopDecl};
 use go_text_core::Rule;
-use go_tree_core::{Decl, File, FuncDecl, Ident, TopDecl};
+use go_tree_core::Ident;
 use std::alloc::{AllocError, Global};
 
 fn name_of(decl: &Decl) -> &Ident

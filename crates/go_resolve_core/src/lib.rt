@@ -1,4 +1,5 @@
-//! Which declaration each identifier of a file denotes, or which rule refuses it.
+//! Which declaration each identifier of a file denotes, or which rule refuses it, in the part of Go that
+//! `resolve` answers.
 #![tactic(auto)]
 
 mod declared;

@@ -1,6 +1,6 @@
 //! The names before `:=`.
 ghost use Rattle.std.specs.Prelude.{◌≡◌, ℕ, ◌<◌, List, [], ◌∷◌, ◌++◌, length, IfOk, OnOk, if◌then◌else◌};
-ghost use Rattle.go_tree_core.specs.Shapes.{shape_idents};
+ghost use Rattle.go_subset_core.specs.Shapes.{shape_idents};
 ghost use Rattle.go_scope_core.specs.Blocks.{is_taken, innermost, with_innermost, block_with, is_new};
 ghost use Rattle.go_resolve_core.specs.Walk.{env_with, idents, env_names, any_new_in, repeated_in, taken_note};
 

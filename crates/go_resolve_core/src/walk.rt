@@ -2,8 +2,8 @@
 ghost use Rattle.std.specs.Prelude.{◌≡◌, ℕ, ◌<◌, List, [], ◌∷◌, ◌++◌, length, map, not, IfOk, OnOk, Some};
 ghost use Rattle.std.specs.Str.{bytes_eq};
 ghost use Rattle.go_text_core.specs.Text.{is_blank};
-ghost use Rattle.go_tree_core.specs.Occurrences.{occurrence, expr_occs, exprs_occs, target_occs, targets_occs, type_occs, value_occs, some_occs};
-ghost use Rattle.go_tree_core.specs.Shapes.{shape, shape_exprs, shape_some, shape_idents, shape_value, shape_stmt, lines_of};
+ghost use Rattle.go_subset_core.specs.Occurrences.{occurrence, expr_occs, exprs_occs, target_occs, targets_occs, type_occs, value_occs, some_occs};
+ghost use Rattle.go_subset_core.specs.Shapes.{shape, shape_exprs, shape_some, shape_idents, shape_value, shape_stmt, lines_of};
 ghost use Rattle.go_scope_core.specs.Blocks.{is_taken, innermost, is_new};
 ghost use Rattle.go_resolve_core.specs.Declarations.{expr_end, exprs_end, kind_of};
 ghost use Rattle.go_resolve_core.specs.Outcomes.{outcome_by, found_outcome};
@@ -14,8 +14,9 @@ use crate::declared::{Block, DeclKind, Declared, Fault, Outcome, Use};
 use crate::names::is_blank;
 use crate::resolver::Resolver;
 use crate::short::{declare_names, note_repeated};
+use go_subset_core::{Expr, Exprs, Line, Role, Stmt, TypeExpr, ValueDecl};
 use go_text_core::Rule;
-use go_tree_core::{Expr, Exprs, Ident, Idents, Line, Role, Stmt, TypeExpr, ValueDecl, ValueKind};
+use go_tree_core::{Ident, Idents, ValueKind};
 use std::alloc::{AllocError, Global};
 
 fn value_outcome(declared: Declared) -> Outcome
@@ -83,7 +84,7 @@ fn walk_expr(resolver: &Resolver, uses: &mut Vec<Use>, expr: &Expr) -> Result<()
     ensures { OnOk result (uses.new.items ≡ uses.old.items ++ map (use_in resolver.now) (expr_occs (shape expr.now))) }
 {
     match expr {
-        Expr::Literal(_) => Ok(()),
+        Expr::Literal(_, _) => Ok(()),
         Expr::Name(ident) => note_use(resolver, uses, Role::Value, ident),
         Expr::Paren(_, inner, _) => walk_expr(resolver, uses, inner),
         Expr::Binary(left, _, _, right) => {
@@ -108,7 +109,7 @@ fn walk_target(resolver: &Resolver, uses: &mut Vec<Use>, target: &Expr) -> Resul
     ensures { OnOk result (uses.new.items ≡ uses.old.items ++ map (use_in resolver.now) (target_occs (shape target.now))) }
 {
     match target {
-        Expr::Literal(_) => Ok(()),
+        Expr::Literal(_, _) => Ok(()),
         Expr::Name(ident) => {
             if is_blank(ident) {
                 return Ok(());
@@ -164,7 +165,7 @@ fn end_of(expr: &Expr) -> usize
     ensures { result ≡ expr_end (shape expr.now) }
 {
     match expr {
-        Expr::Literal(span) => span.end,
+        Expr::Literal(_, span) => span.end,
         Expr::Name(ident) => ident.span.end,
         Expr::Paren(_, _, last) => last.end,
         Expr::Binary(_, _, _, right) => end_of(right),

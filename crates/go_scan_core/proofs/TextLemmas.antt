@@ -12,14 +12,21 @@ use Rattle.go_text_core.specs.Slices.{slice_of}
 use Rattle.go_text_core.specs.declared.span.Span.{Span}
 use Rattle.go_scan_core.specs.declared.kind.TokenKind.{TokenKind}
 use Rattle.go_scan_core.specs.declared.token.Token.{Token}
-use Rattle.go_scan_core.specs.Reading.{first_passes}
-use Rattle.go_scan_core.specs.Cutting.{Part, Gap, Break, Word, close, ends_statement, place_of, semicolon_after, semicolon_behind, width}
-use Rattle.go_scan_core.specs.Tokens.{AreParts, IsAnswer, IsAnswerFrom, IsLexeme}
-use Rattle.go_scan_core.specs.Texts.{HasItsText, IsFilled, IsSpelled}
+use Rattle.go_scan_core.specs.Front.{first_passes}
+use Rattle.go_scan_core.specs.Cutting.{Part, Gap, Break, Word, Note, close, comments_in, ends_statement, place_of, semicolon_after, semicolon_behind, width}
+use Rattle.go_scan_core.specs.Tokens.{AreParts, IsAnswer, IsAnswerFrom, IsAnswerOf, IsComment, IsGood, IsLexeme, tokens_by_line}
+use Rattle.go_scan_core.specs.Texts.{CommentHasItsText, HasItsText, IsEncodedComment, IsFilled, IsSpelled}
 use Rattle.go_scan_core.proofs.AnswerLemmas.{tokens_by_line-close}
-use Rattle.go_scan_core.proofs.ClassLemmas.{and_true, kind_class_small, lexeme_class, true_or_false}
+use Rattle.go_scan_core.proofs.FrontLemmas.{and_true, chosen, true_or_false}
+use Rattle.go_scan_core.proofs.LexemeLemmas.{keyword_word, operator_some}
 use Rattle.go_scan_core.proofs.CutLemmas.{width-encodes}
-use Rattle.go_scan_core.proofs.ReadingLemmas.{chosen}
+use Rattle.go_scan_core.proofs.ReachLemmas.{lexeme_in_reach}
+use Rattle.go_scan_core.specs.declared.enclosed.Enclosure.{Enclosure}
+use Rattle.go_scan_core.specs.declared.enclosed.Enclosure.TheVariants.{General, Quoted, Raw}
+use Rattle.go_scan_core.specs.declared.kind.TokenKind.TheVariants as kinds
+use Rattle.go_scan_core.specs.declared.token.Comment.{Comment}
+use Rattle.go_scan_core.specs.Tokens.{IsEnclosed, IsWord}
+use Rattle.go_text_core.specs.Text.{letter}
 
 -- the characters begin at this byte of the text, and are the rest of it
 record Begins (text cs : List ℕ) (start : ℕ) : Type 0 where
@@ -78,8 +85,8 @@ slice_here text w rest start b =
 from_slice : (text bytes : List ℕ) (t : Token) → slice_of text t.span ≡ Some bytes → IsSpelled t.kind bytes → HasItsText text t
 from_slice text bytes t e h = subst (λ o. MatchOption o ⊥ (IsSpelled t.kind)) (sym e) h
 
-word_text : (text w rest : List ℕ) (start : ℕ) (t : Token) → Begins text (w ++ rest) start → IsLexeme t.kind w → t.span ≡ place_of start (start + width w) → HasItsText text t
-word_text text w rest start t b lexeme place = from_slice text (encode_utf8_all w) t (ap (slice_of text) place ∙ slice_here text w rest start b) (inl (w, lexeme, refl))
+word_text : (text w rest : List ℕ) (start : ℕ) (t : Token) → Begins text (w ++ rest) start → IsLexeme t.kind w → IsGood t.kind w rest → t.span ≡ place_of start (start + width w) → HasItsText text t
+word_text text w rest start t b lexeme good place = from_slice text (encode_utf8_all w) t (ap (slice_of text) place ∙ slice_here text w rest start b) (inl (w, lexeme, refl, lexeme_in_reach t.kind w rest lexeme good))
 
 -- an inserted semicolon covers nothing, where characters begin
 semicolon_text : (text cs : List ℕ) (t : Token) → Begins text cs t.span.end → HasItsText text (semicolon_behind t)
@@ -113,13 +120,19 @@ part_texts text (Gap ∷ ps) cs start last b e a =
 part_texts text (Break ∷ ps) cs start last b e a =
     let here : Begins text (a.0 ++ a.1) start = subst (λ x. Begins text x start) a.2 b in
     semicolon_texts text last (close None ps) e (part_texts text ps a.1 (start + width a.0) None (onward text a.0 a.1 start here) tt a.4)
+part_texts text (Note c false ∷ ps) cs start last b e a =
+    let here : Begins text (a.0 ++ a.1) start = subst (λ x. Begins text x start) a.2 b in
+    part_texts text ps a.1 (start + width a.0) last (onward text a.0 a.1 start here) e a.4
+part_texts text (Note c true ∷ ps) cs start last b e a =
+    let here : Begins text (a.0 ++ a.1) start = subst (λ x. Begins text x start) a.2 b in
+    semicolon_texts text last (close None ps) e (part_texts text ps a.1 (start + width a.0) None (onward text a.0 a.1 start here) tt a.4)
 part_texts text (Word t ∷ ps) cs start last b e a =
     let here : Begins text (a.0 ++ a.1) start = subst (λ x. Begins text x start) a.2 b in
     let behind : Begins text a.1 (start + width a.0) = onward text a.0 a.1 start here in
-    let ends : t.span.end ≡ start + width a.0 = ap (λ s. s.end) a.3.2 in
-    (word_text text a.0 a.1 start t here a.3.0.lexeme a.3.2, part_texts text ps a.1 (start + width a.0) (Some t) behind (a.1, subst (Begins text a.1) (sym ends) behind) a.4)
+    let ends : t.span.end ≡ start + width a.0 = ap (λ s. s.end) a.3.3 in
+    (word_text text a.0 a.1 start t here a.3.0 a.3.2 a.3.3, part_texts text ps a.1 (start + width a.0) (Some t) behind (a.1, subst (Begins text a.1) (sym ends) behind) a.4)
 
-answer_texts : (text cs : List ℕ) (start : ℕ) (ts : List Token) → Begins text cs start → IsAnswerFrom start cs (Ok ts) → HaveTexts text ts
+answer_texts : (text cs : List ℕ) (start : ℕ) (ts : List Token) → Begins text cs start → IsAnswerFrom tokens_by_line start cs (Ok ts) → HaveTexts text ts
 answer_texts text cs start ts b a = subst (HaveTexts text) (sym (a.2 ∙ tokens_by_line-close a.0)) (part_texts text a.0 cs start None b tt a.1)
 
 -- the text's characters begin at its start, and those behind a mark behind three bytes
@@ -170,9 +183,24 @@ slice_width text bytes span e = elim (chosen (nat_le span.start span.end && is_b
     short : (n : ℕ) (xs : List ℕ) → length (take n xs) ≤ n
     short n xs = omega (arith, length-take n xs)
 
-lexeme_some : (kind : TokenKind) (w : List ℕ) → IsLexeme kind w → 0 < length w
-lexeme_some kind [] h = absurd (omega (arith, lexeme_class kind [] h, kind_class_small kind))
-lexeme_some kind (c ∷ w) h = omega arith
+enclosed_some : (e : Enclosure) (w : List ℕ) → IsEnclosed e w → 0 < length w
+enclosed_some General w h = omega (arith, ap length h.1)
+enclosed_some Quoted w h = omega (arith, ap length h.1)
+enclosed_some Raw w h = omega (arith, ap length h.1)
+
+first_some : (w : List ℕ) → first_passes letter w ≡ true → 0 < length w
+first_some [] h = cc
+first_some (c ∷ w) h = omega arith
+
+pub lexeme_some : (kind : TokenKind) (w : List ℕ) → IsLexeme kind w → 0 < length w
+lexeme_some kinds.Identifier w h = first_some w h.0.first
+lexeme_some (kinds.Keyword k) w h = let word : IsWord w = subst IsWord (sym h) (keyword_word k) in first_some w word.first
+lexeme_some kinds.Integer w h = elim h [
+  | inl ten ↦ omega (arith, ap length ten.2)
+  | inr other ↦ elim other [ inl eight ↦ omega (arith, ap length eight.1) | inr based ↦ omega (arith, ap length based.3) ]
+]
+lexeme_some kinds.String w h = elim h [ inl quoted ↦ enclosed_some Quoted w quoted | inr raw ↦ enclosed_some Raw w raw ]
+lexeme_some (kinds.Operator o) w h = omega (arith, ap length h, operator_some o)
 
 pub filled_by_text : (text : List ℕ) (t : Token) → HasItsText text t → IsFilled t
 filled_by_text text t h =
@@ -182,3 +210,33 @@ filled_by_text text t h =
       | inl lexeme ↦ inl (omega (arith, size.1, lexeme_some t.kind lexeme.0 lexeme.1, length-le-encodes lexeme.0, ap length lexeme.2))
       | inr mark ↦ inr (mark.0, size.0)
     ]
+
+-- ---- comments
+
+comment_text : (text w rest : List ℕ) (start : ℕ) (c : Comment) → Begins text (w ++ rest) start → IsComment c.kind w → c.span ≡ place_of start (start + width w) → CommentHasItsText text c
+comment_text text w rest start c b comment place = subst (λ o. MatchOption o ⊥ (IsEncodedComment c.kind)) (sym (ap (slice_of text) place ∙ slice_here text w rest start b)) (w, comment, refl)
+
+abbrev AllComments : List ℕ → List Comment → Type 0
+AllComments text cs = AllByRecursion (CommentHasItsText text) cs
+
+part_comments : (text : List ℕ) (ps : List Part) (cs : List ℕ) (start : ℕ) → Begins text cs start → AreParts ps cs start None → AllComments text (comments_in ps)
+unfolding comments_in
+part_comments text [] cs start b a = tt
+part_comments text (Gap ∷ ps) cs start b a =
+    part_comments text ps a.1 (start + width a.0) (onward text a.0 a.1 start (subst (λ x. Begins text x start) a.2 b)) a.4
+part_comments text (Break ∷ ps) cs start b a =
+    part_comments text ps a.1 (start + width a.0) (onward text a.0 a.1 start (subst (λ x. Begins text x start) a.2 b)) a.4
+part_comments text (Word t ∷ ps) cs start b a =
+    part_comments text ps a.1 (start + width a.0) (onward text a.0 a.1 start (subst (λ x. Begins text x start) a.2 b)) a.4
+part_comments text (Note c d ∷ ps) cs start b a =
+    let here : Begins text (a.0 ++ a.1) start = subst (λ x. Begins text x start) a.2 b in
+    (comment_text text a.0 a.1 start c here a.3.0 a.3.2, part_comments text ps a.1 (start + width a.0) (onward text a.0 a.1 start here) a.4)
+
+comments_texts : (text cs : List ℕ) (start : ℕ) (xs : List Comment) → Begins text cs start → IsAnswerFrom comments_in start cs (Ok xs) → AllComments text xs
+comments_texts text cs start xs b a = subst (AllComments text) (sym a.2) (part_comments text a.0 cs start b a.1)
+
+pub text_comments : (text : List ℕ) (xs : List Comment) → IsUtf8 text → IsAnswerOf comments_in text (Ok xs) → All (CommentHasItsText text) xs
+text_comments text xs u a = All-from_recursion (CommentHasItsText text) xs (elim (true_or_false (first_passes (λ c. c == 65279) (chars text))) [
+  | inl mark ↦ comments_texts text (drop 1 (chars text)) 3 xs (behind_mark text (chars text) mark (begins_at_start text u)) (a.0 mark)
+  | inr none ↦ comments_texts text (chars text) 0 xs (begins_at_start text u) (a.1 none)
+])

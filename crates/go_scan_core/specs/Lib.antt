@@ -1,5 +1,10 @@
 pub mod Cutting
+pub mod Enclosed
+pub mod Escapes
+pub mod Front
+pub mod Numbers
 pub mod Reading
 pub mod Spelling
 pub mod Texts
 pub mod Tokens
+pub mod Values

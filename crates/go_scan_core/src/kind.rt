@@ -170,13 +170,25 @@ pub enum TokenKind {
     /// A letter with the letters and digits behind it, spelled as no keyword. The Go specification,
     /// "Identifiers".
     Identifier,
-    /// Decimal digits, where 0 is first only if it is alone, up to 2^63 - 1. The Go specification,
-    /// "Integer literals".
+    /// An integer literal, up to 2^63 - 1. The Go specification, "Integer literals".
     Integer,
+    /// A string literal, interpreted or raw. The Go specification, "String literals".
+    String,
     /// A keyword.
     Keyword(Keyword),
     /// An operator or a punctuation mark, or the semicolon of the end of a line.
     Operator(Operator),
+}
+
+/// What a comment is.
+///
+/// The Go specification, "Comments".
+#[derive(Clone, Copy, Debug, PartialEq, Eq)]
+pub enum CommentKind {
+    /// From `//` up to the end of the line, without it.
+    Line,
+    /// From `/*` to `*/`.
+    General,
 }
 
 /// All keywords, in alphabetical order.

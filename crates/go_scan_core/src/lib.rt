@@ -1,18 +1,24 @@
-//! The scanner of Go: from a source text to its tokens.
+//! The scanner of Go: from a source text to its tokens and comments.
 //!
 //! The Go specification, "Lexical elements". Identifiers, keywords, operators and punctuation marks,
-//! decimal integer literals and white space are read, and semicolons are inserted at the ends of
-//! lines. Comments, strings, runes and all other literals are faults where they begin.
+//! integer and string literals, comments and white space are read, and semicolons are inserted at
+//! the ends of lines. Runes, fractions and imaginary numbers are faults where they begin.
 #![tactic(auto)]
 
+mod enclosed;
+mod escape;
+mod front;
 mod kind;
 mod laws;
+mod number;
 mod piece;
 mod reading;
 mod scanner;
 mod token;
+mod value;
 
-pub use kind::{KEYWORDS, Keyword, OPERATORS, Operator, TokenKind};
+pub use kind::{CommentKind, KEYWORDS, Keyword, OPERATORS, Operator, TokenKind};
 pub use laws::one_answer;
-pub use scanner::scan;
-pub use token::{LexFault, ScanError, Token};
+pub use scanner::{comments, scan};
+pub use token::{Comment, LexFault, ScanError, Token};
+pub use value::{integer_value, string_value};

@@ -1,12 +1,9 @@
-//! The pieces of a text: white space, ends of lines and lexemes.
-ghost use Rattle.std.specs.Prelude.{◌≡◌, ℕ, ◌+◌, ◌^◌, ◌<◌, ◌≤◌, length, IfOk};
+//! The pieces of a text: white space, ends of lines, lexemes and comments.
+ghost use Rattle.std.specs.Prelude.{◌≡◌, ◌^◌, ◌<◌};
 ghost use Rattle.std.specs.Char.{len_utf8};
 ghost use Rattle.std.specs.List.{sum_by};
-ghost use Rattle.go_scan_core.specs.Cutting.{piece_at};
 
-use crate::kind::TokenKind;
-use crate::reading::lexeme;
-use go_text_core::Rule;
+use crate::kind::{CommentKind, TokenKind};
 
 /// What a piece of a text is.
 #[derive(Clone, Copy, Debug, PartialEq, Eq)]
@@ -17,6 +14,8 @@ pub enum Piece {
     LineEnd,
     /// The characters of a token.
     Lexeme(TokenKind),
+    /// A comment.
+    Remark(CommentKind),
 }
 
 /// How many bytes characters take.
@@ -25,19 +24,4 @@ pub fn width(text: &[char]) -> usize
     ensures { result ≡ sum_by len_utf8 text.now }
 {
     text.iter().map(|c| c.len_utf8()).sum()
-}
-
-/// The piece at the front, and its number of characters, or the rule that the front breaks.
-#[tactic(auto, unfolding(crate::specs::Cutting::piece_at))]
-pub fn front_piece(text: &[char]) -> Result<(Piece, usize), Rule>
-    ensures { result ≡ piece_at text.now }
-{
-    match text {
-        [' ' | '\t' | '\r', ..] => Ok((Piece::Space, 1)),
-        ['\n', ..] => Ok((Piece::LineEnd, 1)),
-        _ => {
-            let (kind, len) = lexeme(text)?;
-            Ok((Piece::Lexeme(kind), len))
-        }
-    }
 }

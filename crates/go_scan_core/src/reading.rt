@@ -1,15 +1,17 @@
-//! What the front of a text reads as: the lexeme that begins it.
-ghost use Rattle.std.specs.Prelude.{◌≡◌, ℕ, ◌+◌, ◌≤◌, nat_eq, nat_lt, length};
-ghost use Rattle.std.specs.Char.{is_ascii_digit};
+//! What the front of a text reads as: a piece and its characters, or a fault.
+ghost use Rattle.std.specs.Prelude.{◌≡◌, ◌≤◌, nat_eq, length};
 ghost use Rattle.std.specs.List.{prefix_len, starts_with};
+ghost use Rattle.go_scan_core.specs.Enclosed.{enclosed_at, opening};
 ghost use Rattle.go_scan_core.specs.Spelling.{operator_spelling};
-ghost use Rattle.go_scan_core.specs.Reading.{letter_or_digit, decimal_value, first_passes, continues, keyword_of, word_at, number_len, number_at, opens, operator_of, lexeme_at};
+ghost use Rattle.go_scan_core.specs.Front.{first_passes};
+ghost use Rattle.go_scan_core.specs.Reading.{letter_or_digit, continues, keyword_of, word_at, number_at, operator_of, operator_at, in_line, piece_from, piece_at};
 
-use crate::kind::{KEYWORDS, Keyword, OPERATORS, Operator, TokenKind};
+use crate::enclosed::{Enclosure, enclosed_len};
+use crate::front::{Front, front_at};
+use crate::kind::{CommentKind, KEYWORDS, Keyword, OPERATORS, Operator, TokenKind};
+use crate::number::{literal_value, number_width};
+use crate::piece::Piece;
 use go_text_core::{Rule, is_digit, is_letter};
-
-/// The greatest integer literal.
-const GREATEST: u64 = 9223372036854775807;
 
 /// Whether an identifier may have the character behind its first.
 fn is_letter_or_digit(c: char) -> bool
@@ -23,14 +25,6 @@ fn word_len(text: &[char]) -> usize
     ensures { result ≡ prefix_len letter_or_digit text.now }
 {
     text.iter().take_while(|c| is_letter_or_digit(**c)).count()
-}
-
-/// How many decimal digits stand at the front.
-fn digits_len(text: &[char]) -> usize
-    ensures value { result ≡ prefix_len is_ascii_digit text.now }
-    ensures within { result ≤ length text.now }
-{
-    text.iter().take_while(|c| c.is_ascii_digit()).count()
 }
 
 /// The keyword that is spelled so, if there is one.
@@ -58,7 +52,7 @@ fn operator(text: &[char]) -> Option<Operator>
 
 /// The identifier or keyword at the front, where a letter is first.
 #[tactic(auto, unfolding(crate::specs::Reading::word_at))]
-fn word(text: &[char]) -> Result<(TokenKind, usize), Rule>
+fn word(text: &[char]) -> (Piece, usize)
     ensures { result ≡ word_at text.now }
 {
     let len = word_len(text);
@@ -66,22 +60,7 @@ fn word(text: &[char]) -> Result<(TokenKind, usize), Rule>
         Some(k) => TokenKind::Keyword(k),
         None => TokenKind::Identifier,
     };
-    Ok((kind, len))
-}
-
-/// Whether the number is above the greatest integer literal.
-fn is_too_large(digits: &[char]) -> bool
-    ensures { result ≡ nat_lt 9223372036854775807 (decimal_value digits.now) }
-{
-    let mut value: u64 = 0;
-    for c in digits {
-        let digit = u64::from(u32::from(*c)).saturating_sub(48);
-        if value > (GREATEST - digit) / 10 {
-            return true;
-        }
-        value = value * 10 + digit;
-    }
-    false
+    (Piece::Lexeme(kind), len)
 }
 
 /// Whether the first character may not stand behind a number.
@@ -94,55 +73,76 @@ fn may_not_follow(text: &[char]) -> bool
     }
 }
 
-/// How many digits the number at the front has: a first 0 stands alone.
-#[tactic(auto, unfolding(crate::specs::Reading::number_len))]
-fn number_width(text: &[char]) -> usize
-    ensures value { result ≡ number_len text.now }
-    ensures within { result ≤ length text.now }
-{
-    match text {
-        ['0', ..] => 1,
-        _ => digits_len(text),
-    }
-}
-
 /// The integer literal at the front, where a digit is first.
 #[tactic(auto, unfolding(crate::specs::Reading::number_at))]
-fn number(text: &[char]) -> Result<(TokenKind, usize), Rule>
+fn number(text: &[char]) -> Result<(Piece, usize), (Rule, usize)>
     ensures { result ≡ number_at text.now }
 {
     let len = number_width(text);
     let (digits, rest) = text.split_at(len);
-    if may_not_follow(rest) || is_too_large(digits) {
-        return Err(Rule::L3);
+    if may_not_follow(rest) || literal_value(digits).is_none() {
+        return Err((Rule::L3, 0));
     }
-    Ok((TokenKind::Integer, len))
+    Ok((Piece::Lexeme(TokenKind::Integer), len))
 }
 
-/// Whether a comment, a string, a rune or a fraction begins here.
-#[tactic(auto, unfolding(crate::specs::Reading::opens))]
-fn is_opening(text: &[char]) -> bool
-    ensures { result ≡ opens text.now }
+/// The string or general comment at the front, as this piece.
+fn enclosed(
+    enclosure: Enclosure,
+    piece: Piece,
+    text: &[char],
+) -> Result<(Piece, usize), (Rule, usize)>
+    requires { length (opening enclosure) ≤ length text.now }
+    ensures { result ≡ piece_from piece (enclosed_at enclosure text.now) }
 {
-    match text {
-        ['\'' | '"' | '`', ..] | ['/', '/' | '*', ..] => true,
-        ['.', c, ..] => c.is_ascii_digit(),
-        _ => false,
+    let len = enclosed_len(enclosure, text)?;
+    Ok((piece, len))
+}
+
+/// How many characters of the line stand at the front.
+fn line_len(text: &[char]) -> usize
+    ensures { result ≡ prefix_len in_line text.now }
+{
+    text.iter()
+        .take_while(|c| !matches!(**c, '\n' | '\0' | '\u{feff}'))
+        .count()
+}
+
+/// The operator or punctuation mark at the front.
+#[tactic(auto, unfolding(crate::specs::Reading::operator_at))]
+fn mark(text: &[char]) -> Result<(Piece, usize), (Rule, usize)>
+    ensures { result ≡ operator_at text.now }
+{
+    match operator(text) {
+        Some(o) => Ok((Piece::Lexeme(TokenKind::Operator(o)), o.spelling().len())),
+        None => Err((Rule::L1, 0)),
     }
 }
 
-/// The kind and the number of characters of the lexeme at the front, or the rule that it breaks.
-#[tactic(auto, unfolding(crate::specs::Reading::lexeme_at))]
-pub fn lexeme(text: &[char]) -> Result<(TokenKind, usize), Rule>
-    ensures { result ≡ lexeme_at text.now }
+/// The piece at the front and its number of characters, or the rule that the front breaks and the
+/// number of characters before the place of the fault.
+#[tactic(auto, unfolding(crate::specs::Reading::piece_at))]
+pub fn front_piece(text: &[char]) -> Result<(Piece, usize), (Rule, usize)>
+    ensures { result ≡ piece_at text.now }
 {
-    match text {
-        [c, ..] if is_letter(*c) => word(text),
-        [c, ..] if c.is_ascii_digit() => number(text),
-        _ if is_opening(text) => Err(Rule::L3),
-        _ => match operator(text) {
-            Some(o) => Ok((TokenKind::Operator(o), o.spelling().len())),
-            None => Err(Rule::L1),
-        },
+    let string = Piece::Lexeme(TokenKind::String);
+    match front_at(text) {
+        Front::Nothing => Err((Rule::L1, 0)),
+        Front::Blank => Ok((Piece::Space, 1)),
+        Front::LineEnd => Ok((Piece::LineEnd, 1)),
+        Front::Quote => enclosed(Enclosure::Quoted, string, text),
+        Front::Backquote => enclosed(Enclosure::Raw, string, text),
+        Front::LineComment => Ok((Piece::Remark(CommentKind::Line), line_len(text))),
+        Front::GeneralComment => {
+            enclosed(
+                Enclosure::General,
+                Piece::Remark(CommentKind::General),
+                text,
+            )
+        }
+        Front::Refused => Err((Rule::L3, 0)),
+        Front::Letter => Ok(word(text)),
+        Front::Digit => number(text),
+        Front::Other => mark(text),
     }
 }

@@ -1,5 +1,5 @@
 //! Tokens, and what may stand in their way.
-use crate::kind::TokenKind;
+use crate::kind::{CommentKind, TokenKind};
 use go_text_core::{Rule, Span};
 use std::alloc::{AllocError, AllocFailed};
 
@@ -13,13 +13,23 @@ pub struct Token {
     pub span: Span,
 }
 
+/// A comment, and where it stands in its text.
+#[derive(Clone, Copy, Debug, PartialEq, Eq)]
+pub struct Comment {
+    /// What it is.
+    pub kind: CommentKind,
+    /// The bytes that it covers.
+    pub span: Span,
+}
+
 /// A fault of a text, and where it stands.
 ///
-/// The rule is L1 at a character that no token may have, and L3 at the start of a comment, of a
-/// string or rune, or of a number other than a decimal integer up to 2^63 - 1.
+/// The rule is L1 at a character that may stand nowhere or begins nothing, L2 at the start of a
+/// string or a general comment that is not ended, and L3 at the start of a string with a wrong
+/// escape, of a rune, or of a number other than an integer literal up to 2^63 - 1.
 #[derive(Clone, Copy, Debug, PartialEq, Eq)]
 pub struct LexFault {
-    /// The rule that the text breaks: L1 or L3.
+    /// The rule that the text breaks: L1, L2 or L3.
     pub rule: Rule,
     /// The byte of the text where the fault begins.
     pub offset: usize,

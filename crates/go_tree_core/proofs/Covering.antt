@@ -1,19 +1,40 @@
 -- Which occurrence covers a place.
 use Rattle.std.proofs.Common.{◌≡◌, ℕ, zero, suc, ◌+◌, ◌^◌, ◌<◌, ◌≤◌, Bool, true, false, List, [], ◌∷◌, length, get_or, Some, None, refl, sym, ap, ◌∙◌, arith, cond, if◌then◌else◌}
-use Rattle.std.specs.List.{position_from}
+use Rattle.std.specs.List.{fold, position_from}
 use Rattle.std.proofs.lemmas.Bool.Decides.{nat_tests}
 use Rattle.std.proofs.lemmas.Iterator.Adapters.{position_from-zero}
 use Rattle.std.proofs.lemmas.List.Quantifiers.{position-Some}
 use Rattle.go_tree_core.specs.declared.occurrence.Occ.{Occ}
+use Rattle.go_tree_core.specs.declared.seek.Sought.{Sought}
 use Rattle.go_tree_core.specs.declared.seek.Sought.TheVariants.{Found, Passed}
 use Rattle.go_tree_core.specs.Occurrences.{covers, covering, Follow}
-use Rattle.go_tree_core.specs.Seeking.{Covers, CoversAt, NoneCovers, seek, counted}
+use Rattle.go_tree_core.specs.Seeking.{Covers, CoversAt, NoneCovers, counted, sought_next}
 
 covers-true : (offset : ℕ) (o : Occ) → covers offset o ≡ true → Covers offset o
 covers-true offset o h = grind (arith, nat_tests)
 
 covers-false : (offset : ℕ) (o : Occ) → covers offset o ≡ false → ¬ Covers offset o
 covers-false offset o h = λ both. grind (arith, nat_tests)
+
+-- the search by its steps
+abbrev pub seek : ℕ → ℕ → List Occ → Sought
+seek offset p [] = Passed p
+seek offset p (o ∷ os) = if covers offset o then Found p else seek offset (counted p) os
+
+found_stays : (offset n : ℕ) (os : List Occ) → fold (sought_next offset) (Found n) os ≡ Found n
+found_stays offset n [] = refl
+found_stays offset n (o ∷ os) = found_stays offset n os
+
+fold_is : (offset p : ℕ) (os : List Occ) → fold (sought_next offset) (Passed p) os ≡ seek offset p os
+fold_is offset p [] = refl
+fold_is offset p (o ∷ os) = by (covers offset o) (fold_is offset (counted p) os)
+  where
+    by : (b : Bool) → fold (sought_next offset) (Passed (counted p)) os ≡ seek offset (counted p) os → fold (sought_next offset) (if b then Found p else Passed (counted p)) os ≡ (if b then Found p else seek offset (counted p) os)
+    by true rest = found_stays offset p os
+    by false rest = rest
+
+pub seek_is : (offset : ℕ) (os : List Occ) (s : Sought) → s ≡ fold (sought_next offset) (Passed 0) os → seek offset 0 os ≡ s
+seek_is offset os s e = sym (e ∙ fold_is offset 0 os)
 
 -- the search finds the first
 found_at : (offset p n : ℕ) (os : List Occ) → p + length os < 2 ^ 64 → seek offset p os ≡ Found n → position_from (covers offset) p os ≡ Some n

@@ -1,5 +1,7 @@
 pub mod Covering
 pub mod OccLemmas
 pub mod Order
-pub mod Seeking
+pub mod SameTrees
 pub mod ShapeLemmas
+pub mod TypeShapes
+pub mod Visits

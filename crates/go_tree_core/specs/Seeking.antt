@@ -1,13 +1,13 @@
 -- Which occurrence covers a place.
-use Rattle.std.specs.Prelude.{ℕ, ◌+◌, ◌-◌, ◌^◌, ◌≤◌, ◌<◌, min, List, [], ◌∷◌, length, All, HoldsAt, if◌then◌else◌}
+use Rattle.std.specs.Prelude.{◌≡◌, ℕ, ◌+◌, ◌-◌, ◌^◌, ◌≤◌, ◌<◌, min, true, List, length, All, HoldsAt, if◌then◌else◌}
 use Rattle.go_tree_core.specs.declared.occurrence.Occ.{Occ}
 use Rattle.go_tree_core.specs.declared.seek.Sought.{Sought}
 use Rattle.go_tree_core.specs.declared.seek.Sought.TheVariants.{Found, Passed}
-use Rattle.go_tree_core.specs.Occurrences.{covers}
+use Rattle.go_tree_core.specs.Occurrences.{covers, is_identifier}
 
--- the place lies in the identifier
+-- the occurrence is an identifier, and the place lies in it
 abbrev pub Covers : ℕ → Occ → Type 0
-Covers offset o = (o.span.start ≤ offset) × (offset < o.span.end)
+Covers offset o = (is_identifier o.role ≡ true) × (o.span.start ≤ offset) × (offset < o.span.end)
 
 -- the occurrence with this number covers the place
 abbrev pub CoversAt : ℕ → List Occ → ℕ → Type 0
@@ -21,8 +21,8 @@ NoneCovers offset os = All (λ o. ¬ Covers offset o) os
 abbrev pub counted : ℕ → ℕ
 counted passed = min (passed + 1) (2 ^ 64 - 1)
 
--- the number of the first occurrence that covers the place, where some have been passed before these,
--- or else how many have been passed with these
-abbrev pub seek : ℕ → ℕ → List Occ → Sought
-seek offset passed [] = Passed passed
-seek offset passed (o ∷ os) = if covers offset o then Found passed else seek offset (counted passed) os
+-- what a search has come to behind one more occurrence: the number of the first that covers the place,
+-- or else how many have been passed
+abbrev pub sought_next : ℕ → Sought → Occ → Sought
+sought_next offset (Found n) o = Found n
+sought_next offset (Passed p) o = if covers offset o then Found p else Passed (counted p)

@@ -1,210 +1,238 @@
--- What a tree writes, which trees respect the rules of the grammar, and how high they are.
-use Rattle.std.specs.Prelude.{ℕ, ◌+◌, ◌≤◌, ◌<◌, max, List, [], ◌∷◌, ◌++◌, Option, Some, None}
+-- What a tree writes.
+use Rattle.std.specs.Prelude.{List, [], ◌∷◌, ◌++◌, Option, Some, None}
 use Rattle.go_text_core.specs.declared.span.Span.{Span}
 use Rattle.go_scan_core.specs.declared.kind.Keyword.{Keyword}
 use Rattle.go_scan_core.specs.declared.kind.Keyword.TheVariants as keyword
 use Rattle.go_scan_core.specs.declared.kind.Operator.{Operator}
 use Rattle.go_scan_core.specs.declared.kind.Operator.TheVariants as operator
-use Rattle.go_tree_core.specs.declared.tree.Ident.{Ident}
-use Rattle.go_tree_core.specs.declared.tree.TypeExpr.{TypeExpr}
-use Rattle.go_tree_core.specs.declared.tree.TypeExpr.TheVariants as type_expr
-use Rattle.go_tree_core.specs.declared.tree.ValueKind.{ValueKind}
-use Rattle.go_tree_core.specs.declared.tree.ValueKind.TheVariants as kinds
-use Rattle.go_tree_core.specs.Terminals.{Terminal, terminal, Spelled, Number, Word, Mark}
-use Rattle.go_tree_core.specs.Trees.{ExprTree, Literal, Named, Paren, Binary, Separated, One, Then, ValueTree, StmtTree, Lines, Declare, Short, Assign, Return, Block, Empty, More, FuncTree, DeclTree, Value, Func, TopTree, FileTree}
+use Rattle.go_tree_core.specs.declared.names.Ident.{Ident}
+use Rattle.go_tree_core.specs.declared.names.TextLiteral.{TextLiteral}
+use Rattle.go_tree_core.specs.declared.types.TypeName.{TypeName}
+use Rattle.go_tree_core.specs.declared.types.TypeName.TheVariants as type_name
+use Rattle.go_tree_core.specs.declared.exprs.Key.{Key}
+use Rattle.go_tree_core.specs.declared.decls.ValueKind.{ValueKind}
+use Rattle.go_tree_core.specs.declared.decls.ValueKind.TheVariants as kinds
+use Rattle.go_tree_core.specs.declared.files.ImportName.{ImportName}
+use Rattle.go_tree_core.specs.declared.files.ImportName.TheVariants as import_name
+use Rattle.go_tree_core.specs.declared.files.Receiver.{Receiver}
+use Rattle.go_tree_core.specs.Terminals.{Terminal, terminal, Spelled, Number, Quoted, Word, Mark}
+use Rattle.go_tree_core.specs.Trees.{Separated, One, Then, TypeTree, FieldTrees, MethodTrees, SignatureTree, ResultTree, ParamTrees, NamedType, Pointer, ParenType, Struct, Interface, NoFields, NamedFields, EmbeddedField, NoMethods, Method, Signed, NoResult, OneResult, Results, NoParams, Param, ExprTree, ItemTrees, Integer, Text, Named, Paren, Unary, Binary, Select, Call, Literal, StructLiteral, NoItems, Item, ValueSpecTree, Specs, Single, Group, ValueTree, TypeSpecTree, TypeDeclTree, SimpleTree, Alone, Step, Assign, Update, Define, IfTree, ForTree, Forever, While, Clauses, StmtTree, BranchTree, ElseTree, Lines, Empty, Declare, Simple, Return, Break, Continue, Block, If, For, Branch, NoElse, ElseBlock, ElseIf, NoLines, Line, FuncTree, DeclTree, Value, Types, Func, TopTree, ImportSpecTree, ImportTree, FileTree}
 
--- what a tree writes
+abbrev pub mark : Operator → Span → Terminal
+mark o s = terminal (Mark o) s
+
+abbrev pub word : Keyword → Span → Terminal
+word k s = terminal (Word k) s
 
 abbrev pub spell_ident : Ident → Terminal
 spell_ident x = terminal (Spelled x.name) x.span
 
-abbrev pub spell : ExprTree → List Terminal
-spell (Literal span) = terminal Number span ∷ []
-spell (Named x) = spell_ident x ∷ []
-spell (Paren first t last) = terminal (Mark operator.OpenParen) first ∷ (spell t ++ terminal (Mark operator.CloseParen) last ∷ [])
-spell (Binary a op span b) = spell a ++ (terminal (Mark op) span ∷ spell b)
-
-abbrev pub spell_exprs : Separated ExprTree → List Terminal
-spell_exprs (One t) = spell t
-spell_exprs (Then t comma more) = spell t ++ (terminal (Mark operator.Comma) comma ∷ spell_exprs more)
+abbrev pub spell_text : TextLiteral → Terminal
+spell_text t = terminal (Quoted t.value) t.span
 
 abbrev pub spell_idents : Separated Ident → List Terminal
 spell_idents (One x) = spell_ident x ∷ []
-spell_idents (Then x comma more) = spell_ident x ∷ (terminal (Mark operator.Comma) comma ∷ spell_idents more)
+spell_idents (Then x comma more) = spell_ident x ∷ (mark operator.Comma comma ∷ spell_idents more)
 
-abbrev pub spell_type : TypeExpr → List Terminal
-spell_type (type_expr.Name x) = spell_ident x ∷ []
+-- a mark that may be left out
+abbrev pub spell_some : Operator → Option Span → List Terminal
+spell_some o None = []
+spell_some o (Some s) = mark o s ∷ []
 
-abbrev pub spell_some_type : Option TypeExpr → List Terminal
+-- types
+
+abbrev pub spell_type_name : TypeName → List Terminal
+spell_type_name (type_name.Plain x) = spell_ident x ∷ []
+spell_type_name (type_name.Qualified p dot x) = spell_ident p ∷ (mark operator.Dot dot ∷ (spell_ident x ∷ []))
+
+abbrev pub spell_tag : Option TextLiteral → List Terminal
+spell_tag None = []
+spell_tag (Some t) = spell_text t ∷ []
+
+abbrev pub spell_names : Option (Separated Ident) → List Terminal
+spell_names None = []
+spell_names (Some xs) = spell_idents xs
+
+abbrev mutual
+  pub spell_type : TypeTree → List Terminal
+  spell_type (NamedType n) = spell_type_name n
+  spell_type (Pointer star t) = mark operator.Star star ∷ spell_type t
+  spell_type (ParenType first t last) = mark operator.OpenParen first ∷ (spell_type t ++ mark operator.CloseParen last ∷ [])
+  spell_type (Struct k first fields last) = word keyword.Struct k ∷ (mark operator.OpenBrace first ∷ (spell_fields fields ++ mark operator.CloseBrace last ∷ []))
+  spell_type (Interface k first methods last) = word keyword.Interface k ∷ (mark operator.OpenBrace first ∷ (spell_methods methods ++ mark operator.CloseBrace last ∷ []))
+
+  pub spell_fields : FieldTrees → List Terminal
+  spell_fields NoFields = []
+  spell_fields (NamedFields xs t tag s rest) = spell_idents xs ++ (spell_type t ++ (spell_tag tag ++ (spell_some operator.Semicolon s ++ spell_fields rest)))
+  spell_fields (EmbeddedField star n tag s rest) = spell_some operator.Star star ++ (spell_type_name n ++ (spell_tag tag ++ (spell_some operator.Semicolon s ++ spell_fields rest)))
+
+  pub spell_methods : MethodTrees → List Terminal
+  spell_methods NoMethods = []
+  spell_methods (Method x signature s rest) = spell_ident x ∷ (spell_signature signature ++ (spell_some operator.Semicolon s ++ spell_methods rest))
+
+  pub spell_signature : SignatureTree → List Terminal
+  spell_signature (Signed first params last result) = mark operator.OpenParen first ∷ (spell_params params ++ (mark operator.CloseParen last ∷ spell_result result))
+
+  pub spell_result : ResultTree → List Terminal
+  spell_result NoResult = []
+  spell_result (OneResult t) = spell_type t
+  spell_result (Results first params last) = mark operator.OpenParen first ∷ (spell_params params ++ mark operator.CloseParen last ∷ [])
+
+  pub spell_params : ParamTrees → List Terminal
+  spell_params NoParams = []
+  spell_params (Param xs t comma rest) = spell_names xs ++ (spell_type t ++ (spell_some operator.Comma comma ++ spell_params rest))
+
+-- expressions
+
+abbrev pub spell_key : Option Key → List Terminal
+spell_key None = []
+spell_key (Some k) = spell_ident k.name ∷ (mark operator.Colon k.colon ∷ [])
+
+abbrev mutual
+  pub spell : ExprTree → List Terminal
+  spell (Integer n span) = terminal (Number n) span ∷ []
+  spell (Text t) = spell_text t ∷ []
+  spell (Named x) = spell_ident x ∷ []
+  spell (Paren first t last) = mark operator.OpenParen first ∷ (spell t ++ mark operator.CloseParen last ∷ [])
+  spell (Unary op span t) = mark op span ∷ spell t
+  spell (Binary a op span b) = spell a ++ (mark op span ∷ spell b)
+  spell (Select t dot x) = spell t ++ (mark operator.Dot dot ∷ (spell_ident x ∷ []))
+  spell (Call t first items last) = spell t ++ (mark operator.OpenParen first ∷ (spell_items items ++ mark operator.CloseParen last ∷ []))
+  spell (Literal n first items last) = spell_type_name n ++ (mark operator.OpenBrace first ∷ (spell_items items ++ mark operator.CloseBrace last ∷ []))
+  spell (StructLiteral t first items last) = spell_type t ++ (mark operator.OpenBrace first ∷ (spell_items items ++ mark operator.CloseBrace last ∷ []))
+
+  pub spell_items : ItemTrees → List Terminal
+  spell_items NoItems = []
+  spell_items (Item key t comma rest) = spell_key key ++ (spell t ++ (spell_some operator.Comma comma ++ spell_items rest))
+
+abbrev pub spell_exprs : Separated ExprTree → List Terminal
+spell_exprs (One t) = spell t
+spell_exprs (Then t comma more) = spell t ++ (mark operator.Comma comma ∷ spell_exprs more)
+
+-- declarations
+
+abbrev pub spell_some_type : Option TypeTree → List Terminal
 spell_some_type None = []
 spell_some_type (Some t) = spell_type t
+
+abbrev pub spell_values : Option (Span × Separated ExprTree) → List Terminal
+spell_values None = []
+spell_values (Some v) = mark operator.Assign v.0 ∷ spell_exprs v.1
+
+abbrev pub spell_value_spec : ValueSpecTree → List Terminal
+spell_value_spec v = spell_idents v.names ++ (spell_some_type v.type_expr ++ spell_values v.values)
+
+abbrev pub spell_specs_of : {A : Type 0} → (A → List Terminal) → List (A × Option Span) → List Terminal
+spell_specs_of f [] = []
+spell_specs_of f (x ∷ xs) = f x.0 ++ (spell_some operator.Semicolon x.1 ++ spell_specs_of f xs)
+
+abbrev pub spell_specs : {A : Type 0} → (A → List Terminal) → Specs A → List Terminal
+spell_specs f (Single x) = f x
+spell_specs f (Group first xs last) = mark operator.OpenParen first ∷ (spell_specs_of f xs ++ mark operator.CloseParen last ∷ [])
 
 abbrev pub keyword_of : ValueKind → Keyword
 keyword_of kinds.Const = keyword.Const
 keyword_of kinds.Var = keyword.Var
 
 abbrev pub spell_value : ValueTree → List Terminal
-spell_value v = terminal (Word (keyword_of v.kind)) v.keyword ∷ (spell_ident v.name ∷ (spell_some_type v.type_expr ++ (terminal (Mark operator.Assign) v.assign ∷ spell v.value)))
+spell_value v = word (keyword_of v.kind) v.keyword ∷ spell_specs spell_value_spec v.specs
 
-abbrev pub spell_some : Option (Separated ExprTree) → List Terminal
-spell_some None = []
-spell_some (Some es) = spell_exprs es
+abbrev pub spell_type_spec : TypeSpecTree → List Terminal
+spell_type_spec t = spell_ident t.name ∷ spell_type t.type_expr
 
-abbrev pub spell_semicolon : Option Span → List Terminal
-spell_semicolon None = []
-spell_semicolon (Some s) = terminal (Mark operator.Semicolon) s ∷ []
+abbrev pub spell_types : TypeDeclTree → List Terminal
+spell_types t = word keyword.«Type» t.keyword ∷ spell_specs spell_type_spec t.specs
+
+-- statements
+
+abbrev pub spell_simple : SimpleTree → List Terminal
+spell_simple (Alone t) = spell t
+spell_simple (Step t op span) = spell t ++ mark op span ∷ []
+spell_simple (Assign ts span es) = spell_exprs ts ++ (mark operator.Assign span ∷ spell_exprs es)
+spell_simple (Update t op span e) = spell t ++ (mark op span ∷ spell e)
+spell_simple (Define xs span es) = spell_idents xs ++ (mark operator.Define span ∷ spell_exprs es)
+
+abbrev pub spell_some_simple : Option SimpleTree → List Terminal
+spell_some_simple None = []
+spell_some_simple (Some s) = spell_simple s
+
+abbrev pub spell_some_expr : Option ExprTree → List Terminal
+spell_some_expr None = []
+spell_some_expr (Some t) = spell t
+
+abbrev pub spell_init : Option (Option SimpleTree × Span) → List Terminal
+spell_init None = []
+spell_init (Some i) = spell_some_simple i.0 ++ mark operator.Semicolon i.1 ∷ []
+
+abbrev pub spell_if : IfTree → List Terminal
+spell_if h = spell_init h.init ++ spell h.condition
+
+abbrev pub spell_for : ForTree → List Terminal
+spell_for Forever = []
+spell_for (While t) = spell t
+spell_for (Clauses init a test b post) = spell_some_simple init ++ (mark operator.Semicolon a ∷ (spell_some_expr test ++ (mark operator.Semicolon b ∷ spell_some_simple post)))
+
+abbrev pub spell_some_exprs : Option (Separated ExprTree) → List Terminal
+spell_some_exprs None = []
+spell_some_exprs (Some es) = spell_exprs es
 
 abbrev mutual
   pub spell_stmt : StmtTree → List Terminal
+  spell_stmt Empty = []
   spell_stmt (Declare v) = spell_value v
-  spell_stmt (Short xs s es) = spell_idents xs ++ (terminal (Mark operator.Define) s ∷ spell_exprs es)
-  spell_stmt (Assign ts s es) = spell_exprs ts ++ (terminal (Mark operator.Assign) s ∷ spell_exprs es)
-  spell_stmt (Return s es) = terminal (Word keyword.Return) s ∷ spell_some es
-  spell_stmt (Block first ls last) = terminal (Mark operator.OpenBrace) first ∷ (spell_lines ls ++ terminal (Mark operator.CloseBrace) last ∷ [])
+  spell_stmt (Simple s) = spell_simple s
+  spell_stmt (Return s es) = word keyword.Return s ∷ spell_some_exprs es
+  spell_stmt (Break s) = word keyword.Break s ∷ []
+  spell_stmt (Continue s) = word keyword.Continue s ∷ []
+  spell_stmt (Block first ls last) = mark operator.OpenBrace first ∷ (spell_lines ls ++ mark operator.CloseBrace last ∷ [])
+  spell_stmt (If b) = spell_branch b
+  spell_stmt (For k head first ls last) = word keyword.For k ∷ (spell_for head ++ (mark operator.OpenBrace first ∷ (spell_lines ls ++ mark operator.CloseBrace last ∷ [])))
+
+  pub spell_branch : BranchTree → List Terminal
+  spell_branch (Branch k head first ls last otherwise) = word keyword.If k ∷ (spell_if head ++ (mark operator.OpenBrace first ∷ (spell_lines ls ++ (mark operator.CloseBrace last ∷ spell_else otherwise))))
+
+  pub spell_else : ElseTree → List Terminal
+  spell_else NoElse = []
+  spell_else (ElseBlock k first ls last) = word keyword.Else k ∷ (mark operator.OpenBrace first ∷ (spell_lines ls ++ mark operator.CloseBrace last ∷ []))
+  spell_else (ElseIf k b) = word keyword.Else k ∷ spell_branch b
 
   pub spell_lines : Lines → List Terminal
-  spell_lines Empty = []
-  spell_lines (More c s rest) = spell_stmt c ++ (spell_semicolon s ++ spell_lines rest)
+  spell_lines NoLines = []
+  spell_lines (Line c s rest) = spell_stmt c ++ (spell_some operator.Semicolon s ++ spell_lines rest)
+
+-- functions and files
+
+abbrev pub spell_receiver_name : Option Ident → List Terminal
+spell_receiver_name None = []
+spell_receiver_name (Some x) = spell_ident x ∷ []
+
+abbrev pub spell_receiver : Option Receiver → List Terminal
+spell_receiver None = []
+spell_receiver (Some r) = mark operator.OpenParen r.open_paren ∷ (spell_receiver_name r.name ++ (spell_some operator.Star r.star ++ (spell_type_name r.base ++ (spell_some operator.Comma r.comma ++ mark operator.CloseParen r.close_paren ∷ []))))
 
 abbrev pub spell_func : FuncTree → List Terminal
-spell_func f =
-    terminal (Word keyword.Func) f.func ∷ (spell_ident f.name ∷ (terminal (Mark operator.OpenParen) f.open_paren ∷ (terminal (Mark operator.CloseParen) f.close_paren ∷ (spell_some_type f.outcome ++ (terminal (Mark operator.OpenBrace) f.open_brace ∷ (spell_lines f.body ++ terminal (Mark operator.CloseBrace) f.close_brace ∷ []))))))
+spell_func f = word keyword.Func f.func ∷ (spell_receiver f.receiver ++ (spell_ident f.name ∷ (spell_signature f.signature ++ (mark operator.OpenBrace f.open_brace ∷ (spell_lines f.body ++ mark operator.CloseBrace f.close_brace ∷ [])))))
 
 abbrev pub spell_decl : DeclTree → List Terminal
 spell_decl (Value v) = spell_value v
+spell_decl (Types t) = spell_types t
 spell_decl (Func f) = spell_func f
-
-abbrev pub spell_top : TopTree → List Terminal
-spell_top d = spell_decl d.decl ++ terminal (Mark operator.Semicolon) d.semicolon ∷ []
 
 abbrev pub spell_tops : List TopTree → List Terminal
 spell_tops [] = []
-spell_tops (d ∷ ds) = spell_top d ++ spell_tops ds
+spell_tops (d ∷ ds) = spell_decl d.decl ++ (mark operator.Semicolon d.semicolon ∷ spell_tops ds)
+
+abbrev pub spell_import_name : ImportName → List Terminal
+spell_import_name import_name.Own = []
+spell_import_name (import_name.Named x) = spell_ident x ∷ []
+spell_import_name (import_name.Dot s) = mark operator.Dot s ∷ []
+
+abbrev pub spell_import : ImportSpecTree → List Terminal
+spell_import i = spell_import_name i.name ++ spell_text i.path ∷ []
+
+abbrev pub spell_imports : List ImportTree → List Terminal
+spell_imports [] = []
+spell_imports (i ∷ is) = (word keyword.Import i.keyword ∷ spell_specs spell_import i.specs) ++ (mark operator.Semicolon i.semicolon ∷ spell_imports is)
 
 abbrev pub spell_file : FileTree → List Terminal
-spell_file f = terminal (Word keyword.Package) f.clause ∷ (spell_ident f.name ∷ (terminal (Mark operator.Semicolon) f.semicolon ∷ spell_tops f.decls))
-
--- which trees respect the rules
-
--- how strongly a binary operator binds; 0 for what is no binary operator of the grammar
-abbrev pub rank_of : Operator → ℕ
-rank_of operator.Star = 5
-rank_of operator.Slash = 5
-rank_of operator.Percent = 5
-rank_of operator.ShiftLeft = 5
-rank_of operator.ShiftRight = 5
-rank_of operator.And = 5
-rank_of operator.AndNot = 5
-rank_of operator.Plus = 4
-rank_of operator.Minus = 4
-rank_of operator.Or = 4
-rank_of operator.Caret = 4
-rank_of _ = 0
-
--- no operator outside parentheses binds weaker than this
-abbrev pub Binds : ℕ → ExprTree → Type 0
-Binds least (Binary a op span b) = least ≤ rank_of op
-Binds least _ = Unit {0}
-
--- binary operators are grouped by rank, and those of one rank to the left
-abbrev pub Wf : ExprTree → Type 0
-Wf (Literal span) = Unit {0}
-Wf (Named x) = Unit {0}
-Wf (Paren first t last) = Wf t
-Wf (Binary a op span b) = (0 < rank_of op) × Wf a × Binds (rank_of op) a × Wf b × Binds (rank_of op + 1) b
-
-abbrev pub Wf_exprs : Separated ExprTree → Type 0
-Wf_exprs (One t) = Wf t
-Wf_exprs (Then t comma more) = Wf t × Wf_exprs more
-
-abbrev pub Wf_some : Option (Separated ExprTree) → Type 0
-Wf_some None = Unit {0}
-Wf_some (Some es) = Wf_exprs es
-
--- a constant has no written type
-abbrev pub MayHaveType : ValueKind → Option TypeExpr → Type 0
-MayHaveType kinds.Const (Some t) = ⊥
-MayHaveType _ _ = Unit {0}
-
-abbrev pub Wf_value : ValueTree → Type 0
-Wf_value v = MayHaveType v.kind v.type_expr × Wf v.value
-
--- only the last semicolon of a block is left out, which stands before the brace
-abbrev pub IsLast : Lines → Type 0
-IsLast Empty = Unit {0}
-IsLast (More c s rest) = ⊥
-
-abbrev pub MayLeaveOut : Option Span → Lines → Type 0
-MayLeaveOut None rest = IsLast rest
-MayLeaveOut (Some s) rest = Unit {0}
-
-abbrev mutual
-  pub Wf_stmt : StmtTree → Type 0
-  Wf_stmt (Declare v) = Wf_value v
-  Wf_stmt (Short xs s es) = Wf_exprs es
-  Wf_stmt (Assign ts s es) = Wf_exprs ts × Wf_exprs es
-  Wf_stmt (Return s es) = Wf_some es
-  Wf_stmt (Block first ls last) = Wf_lines ls
-
-  pub Wf_lines : Lines → Type 0
-  Wf_lines Empty = Unit {0}
-  Wf_lines (More c s rest) = Wf_stmt c × MayLeaveOut s rest × Wf_lines rest
-
-abbrev pub Wf_decl : DeclTree → Type 0
-Wf_decl (Value v) = Wf_value v
-Wf_decl (Func f) = Wf_lines f.body
-
-abbrev pub Wf_tops : List TopTree → Type 0
-Wf_tops [] = Unit {0}
-Wf_tops (d ∷ ds) = Wf_decl d.decl × Wf_tops ds
-
-abbrev pub Wf_file : FileTree → Type 0
-Wf_file f = Wf_tops f.decls
-
--- how high a tree is: the declarations, types, expressions, statements and blocks on its longest path
-
-abbrev pub height : ExprTree → ℕ
-height (Literal span) = 1
-height (Named x) = 1
-height (Paren first t last) = height t + 1
-height (Binary a op span b) = max (height a) (height b) + 1
-
-abbrev pub exprs_height : Separated ExprTree → ℕ
-exprs_height (One t) = height t
-exprs_height (Then t comma more) = max (height t) (exprs_height more)
-
-abbrev pub some_height : Option (Separated ExprTree) → ℕ
-some_height None = 0
-some_height (Some es) = exprs_height es
-
-abbrev pub type_height : Option TypeExpr → ℕ
-type_height None = 0
-type_height (Some t) = 1
-
--- a declaration is one node, also where it stands as a statement
-abbrev pub value_height : ValueTree → ℕ
-value_height v = max (type_height v.type_expr) (height v.value) + 1
-
-abbrev mutual
-  pub stmt_height : StmtTree → ℕ
-  stmt_height (Declare v) = value_height v
-  stmt_height (Short xs s es) = exprs_height es + 1
-  stmt_height (Assign ts s es) = max (exprs_height ts) (exprs_height es) + 1
-  stmt_height (Return s es) = some_height es + 1
-  stmt_height (Block first ls last) = lines_height ls + 1
-
-  pub lines_height : Lines → ℕ
-  lines_height Empty = 0
-  lines_height (More c s rest) = max (stmt_height c) (lines_height rest)
-
--- a function is a node, and its body another
-abbrev pub decl_height : DeclTree → ℕ
-decl_height (Value v) = value_height v
-decl_height (Func f) = max (type_height f.outcome) (lines_height f.body + 1) + 1
-
-abbrev pub tops_height : List TopTree → ℕ
-tops_height [] = 0
-tops_height (d ∷ ds) = max (decl_height d.decl) (tops_height ds)
-
-abbrev pub file_height : FileTree → ℕ
-file_height f = tops_height f.decls
+spell_file f = word keyword.Package f.clause ∷ (spell_ident f.name ∷ (mark operator.Semicolon f.semicolon ∷ (spell_imports f.imports ++ spell_tops f.decls)))

@@ -1,5 +1,5 @@
--- Tokens as trees write them: with the spelling of each name.
-use Rattle.std.specs.Prelude.{ℕ, ◌+◌, ◌≤◌, List, [], ◌∷◌, map, Option, Some, None}
+-- Tokens as trees write them: with the spelling of each name and the value of each literal.
+use Rattle.std.specs.Prelude.{ℕ, ◌+◌, ◌≤◌, nat_le, List, [], ◌∷◌, map, Option, Some, None, if◌then◌else◌}
 use Rattle.go_text_core.specs.declared.span.Span.{Span}
 use Rattle.go_text_core.specs.Slices.{slice_of}
 use Rattle.go_scan_core.specs.declared.kind.Keyword.{Keyword}
@@ -8,12 +8,16 @@ use Rattle.go_scan_core.specs.declared.kind.Operator.TheVariants as operator
 use Rattle.go_scan_core.specs.declared.kind.TokenKind.{TokenKind}
 use Rattle.go_scan_core.specs.declared.kind.TokenKind.TheVariants as token
 use Rattle.go_scan_core.specs.declared.token.Token.{Token}
+use Rattle.go_scan_core.specs.Numbers.{integer_value_of}
+use Rattle.go_scan_core.specs.Values.{string_value_of}
+use Rattle.std.specs.Str.{chars}
 
--- a name with its spelling, an integer literal, a keyword, an operator or a punctuation mark;
--- and a name that is no piece of its text, which no tree writes
+-- a name with its spelling, an integer literal and a string literal with their values, a keyword, an operator
+-- or a punctuation mark; and a token that is no piece of its text, which no tree writes
 pub data TerminalKind : Type 0 where
   Spelled : List ℕ → TerminalKind
-  Number : TerminalKind
+  Number : ℕ → TerminalKind
+  Quoted : List ℕ → TerminalKind
   Word : Keyword → TerminalKind
   Mark : Operator → TerminalKind
   Stray : TerminalKind
@@ -29,14 +33,24 @@ abbrev pub name_kind : Option (List ℕ) → TerminalKind
 name_kind None = Stray
 name_kind (Some name) = Spelled name
 
+-- an integer literal has its value, which is below 2^63
+abbrev pub number_kind : Option (List ℕ) → TerminalKind
+number_kind None = Stray
+number_kind (Some digits) = if nat_le (integer_value_of digits) 9223372036854775807 then Number (integer_value_of digits) else Stray
+
+abbrev pub text_kind : Option (List ℕ) → TerminalKind
+text_kind None = Stray
+text_kind (Some spelled) = Quoted (string_value_of (chars spelled))
+
 -- the kind of a token that stands here in a text
 abbrev pub kind_at : List ℕ → Span → TokenKind → TerminalKind
 kind_at text span token.Identifier = name_kind (slice_of text span)
-kind_at text span token.Integer = Number
+kind_at text span token.Integer = number_kind (slice_of text span)
+kind_at text span token.String = text_kind (slice_of text span)
 kind_at text span (token.Keyword k) = Word k
 kind_at text span (token.Operator o) = Mark o
 
--- a token of a text, with its spelling where it is a name
+-- a token of a text, with its spelling where it is a name, and its value where it is a literal
 abbrev pub terminal_of : List ℕ → Token → Terminal
 terminal_of text t = terminal (kind_at text t.span t.kind) t.span
 

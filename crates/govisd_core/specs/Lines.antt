@@ -2,9 +2,9 @@
 use Rattle.std.specs.Prelude.{ℕ, Bool, true, false, ◌&&◌, List, [], ◌∷◌, ◌++◌, flat_map, slice_range, codes, decimal}
 use Rattle.std.specs.List.{list_all}
 use Rattle.go_text_core.specs.Rules.{rule_number}
-use Rattle.go_tree_core.specs.declared.occurrence.Role.{Role}
-use Rattle.go_tree_core.specs.declared.occurrence.Role.TheVariants as role
-use Rattle.go_tree_core.specs.Trees.{FileTree}
+use Rattle.go_subset_core.specs.declared.occurrence.Role.{Role}
+use Rattle.go_subset_core.specs.declared.occurrence.Role.TheVariants as role
+use Rattle.go_subset_core.specs.Trees.{FileTree}
 use Rattle.go_resolve_core.specs.declared.declared.Block.{Block}
 use Rattle.go_resolve_core.specs.declared.declared.Block.TheVariants as block
 use Rattle.go_resolve_core.specs.declared.declared.Outcome.{Outcome}

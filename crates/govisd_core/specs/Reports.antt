@@ -3,12 +3,15 @@ use Rattle.std.specs.Prelude.{◌≡◌, ◌≤◌, ◌<◌, ℕ, Bool, true, fa
 use Rattle.std.specs.Str.{IsUtf8}
 use Rattle.std.specs.Io.KnownBytes.{Appends, Keeps}
 use Rattle.go_text_core.specs.declared.rule.Rule.{Rule}
-use Rattle.go_text_core.specs.declared.rule.Rule.TheVariants.{E3, L1, P1, P2}
+use Rattle.go_text_core.specs.declared.rule.Rule.TheVariants.{E3, L1, P1, P2, X1}
 use Rattle.go_scan_core.specs.declared.token.LexFault.{LexFault}
 use Rattle.go_scan_core.specs.declared.token.Token.{Token}
 use Rattle.go_scan_core.specs.Cutting.{tokens_of}
-use Rattle.go_tree_core.specs.Trees.{FileTree}
-use Rattle.go_tree_core.specs.Spelling.{file_height}
+use Rattle.go_tree_core.specs.Trees as wide
+use Rattle.go_tree_core.specs.Heights.{file_height}
+use Rattle.go_subset_core.specs.Trees.{FileTree}
+use Rattle.go_subset_core.specs.Widening.{widen_file}
+use Rattle.go_subset_core.specs.Subset.{Inside_file, IsOutside}
 use Rattle.go_parse_core.specs.Correct.{HasTree, HasNoTree, HasNoLowTree, max_height}
 use Rattle.govisd_core.specs.declared.run.ResolveEnd.{ResolveEnd}
 use Rattle.govisd_core.specs.declared.run.ResolveEnd.TheVariants.{Clean, Faults, ReadFault, WriteFault, Memory}
@@ -19,13 +22,14 @@ abbrev pub max_bytes : ℕ
 max_bytes = 1048576
 
 -- what bytes are: too many, no text, a text with a first fault of its tokens, a text whose tokens have no
--- tree or none that is low enough, or a file
+-- tree or none that is low enough, a file outside the part of Go that is answered, or one inside it
 pub data Input : Type 0 where
   TooLong : Input
   NoText : Input
   BadToken : LexFault → Input
   NoTree : ℕ → Input
   TooHigh : ℕ → Input
+  Outside : wide.FileTree → Input
   Whole : FileTree → Input
 
 -- a text of a length that is allowed
@@ -45,7 +49,8 @@ IsInput bytes NoText = (length bytes ≤ max_bytes) × ¬ (IsUtf8 bytes)
 IsInput bytes (BadToken fault) = IsText bytes × (tokens_of bytes ≡ Err fault)
 IsInput bytes (NoTree offset) = HasTokens bytes × HasNoTree bytes × (offset ≤ length bytes)
 IsInput bytes (TooHigh offset) = HasTokens bytes × HasNoLowTree bytes × (offset ≤ length bytes)
-IsInput bytes (Whole f) = IsText bytes × HasTree bytes f × (file_height f ≤ max_height)
+IsInput bytes (Outside f) = IsText bytes × HasTree bytes f × (file_height f ≤ max_height) × IsOutside bytes f
+IsInput bytes (Whole f) = IsText bytes × HasTree bytes (widen_file f) × (file_height (widen_file f) ≤ max_height) × Inside_file bytes f
 
 abbrev pub the_fault : ℕ → Rule → List ℕ
 the_fault offset rule = fault_line (record { offset = offset; rule = rule })
@@ -57,6 +62,7 @@ report bytes NoText = the_fault 0 L1
 report bytes (BadToken fault) = the_fault fault.offset fault.rule
 report bytes (NoTree offset) = the_fault offset P1
 report bytes (TooHigh offset) = the_fault offset P2
+report bytes (Outside f) = the_fault 0 X1
 report bytes (Whole f) = lines_of bytes f
 
 -- the status is that of a source without fault
@@ -100,6 +106,7 @@ but_for_place (TooHigh offset) = NoTree 0
 but_for_place TooLong = TooLong
 but_for_place NoText = NoText
 but_for_place (BadToken fault) = BadToken fault
+but_for_place (Outside f) = Outside f
 but_for_place (Whole f) = Whole f
 
 -- but for that, bytes are one input

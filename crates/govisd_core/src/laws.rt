@@ -2,6 +2,7 @@
 ghost use Rattle.govisd_core.specs.Reports.{OneInput};
 
 use go_parse_core::one_tree;
+use go_subset_core::one_subset;
 
 /// Bytes are one input, and so have one report, but for the place of a P1 or a P2 and for which of the two
 /// it is.
@@ -9,4 +10,5 @@ pub fn one_input()
     ensures { OneInput }
 {
     one_tree();
+    one_subset();
 }

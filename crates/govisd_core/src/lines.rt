@@ -4,8 +4,8 @@ ghost use Rattle.std.specs.List.{list_all};
 ghost use Rattle.govisd_core.specs.Lines.{role_text, place_text, answer_text, use_line, fault_line, is_bound, is_empty};
 
 use go_resolve_core::{Block, Declared, Fault, Outcome, Resolution, Use};
+use go_subset_core::Role;
 use go_text_core::Span;
-use go_tree_core::Role;
 use std::alloc::{AllocError, Global};
 
 fn role_name(role: Role) -> &'static str

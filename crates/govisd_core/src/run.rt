@@ -7,6 +7,7 @@ use crate::lines::{fault_lines, has_no_fault, resolution_lines};
 use crate::output::write_report;
 use go_parse_core::{ParseError, Parsed, parse};
 use go_resolve_core::{Fault, resolve};
+use go_subset_core::subset;
 use go_text_core::Rule;
 use std::alloc::{AllocError, Global};
 use std::io::{Read, Write};
@@ -42,12 +43,15 @@ fn fault_report(alloc: Global, offset: usize, rule: Rule) -> Result<Report, Allo
     Ok(Report { text, clean: false })
 }
 
-// The report on a file.
+// The report on a file, which is inside the part of Go that is answered or not.
 fn file_report(alloc: Global, parsed: &Parsed) -> Result<Report, AllocError>
     requires { IsText parsed.now }
     ensures { IfOk result (λ r. IsReport parsed.now r.clean r.text.items) }
 {
-    let resolution = resolve(alloc, parsed.tree())?;
+    let Some(file) = subset(alloc, parsed.text(), parsed.tree())? else {
+        return fault_report(alloc, 0, Rule::X1);
+    };
+    let resolution = resolve(alloc, &file)?;
     let text = resolution_lines(alloc, parsed.text().as_bytes(), &resolution)?;
     Ok(Report {
         text,
@@ -82,11 +86,11 @@ fn report_of(alloc: Global, bytes: Vec<u8>) -> Result<Report, AllocError>
 
 /// Reads a Go file, and writes what each identifier that it uses denotes.
 ///
-/// A file has a line `OFFSET ROLE TEXT ANSWER` for each such identifier, in order, and then a line
-/// `fault OFFSET RULE` for each fault. OFFSET counts bytes from 0; ROLE is `type` or `value`; TEXT is the
+/// A file of the part of Go that is answered, [`go_subset_core`], has a line `OFFSET ROLE TEXT ANSWER` for
+/// each such identifier, in order, and then a line `fault OFFSET RULE` for each fault. OFFSET counts bytes from 0; ROLE is `type` or `value`; TEXT is the
 /// identifier; ANSWER is `universe.` with a predeclared name, `local/in.go:` with the offset of the
-/// declaration, or the number of the rule that refuses the identifier. Bytes that are no file have one
-/// line `fault OFFSET RULE`: E3 at 0 for more than 1,048,576 bytes, of which one more is read at the most;
+/// declaration, or the number of the rule that refuses the identifier. Any other file has the one line
+/// `fault 0 X1`. Bytes that are no file have one line `fault OFFSET RULE`: E3 at 0 for more than 1,048,576 bytes, of which one more is read at the most;
 /// L1 at 0 for no UTF-8; and else the fault of the text. The report is made before any of it is written,
 /// and where the writer fails, what it took is a first part of the report. Reads and writes that are
 /// interrupted are made again.

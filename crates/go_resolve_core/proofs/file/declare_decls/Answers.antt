@@ -1,5 +1,5 @@
 use Rattle.std.proofs.Common.{length, arith, ap, ◌∙◌}
-use Rattle.go_tree_core.specs.Shapes.{decl_of}
+use Rattle.go_subset_core.specs.Shapes.{decl_of}
 use Rattle.go_resolve_core.proofs.Tops.{length-env_decl, repeats_step, env_tops_step}
 use Rattle.go_resolve_core.proofs.file.declare_decls.Goals as goal
 

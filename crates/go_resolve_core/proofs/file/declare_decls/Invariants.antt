@@ -1,5 +1,5 @@
 use Rattle.std.proofs.Common.{◌≡◌, ◌<◌, ◌++◌, map, length, drop}
-use Rattle.go_tree_core.specs.Shapes.{top_of}
+use Rattle.go_subset_core.specs.Shapes.{top_of}
 use Rattle.go_resolve_core.specs.Walk.{repeats_of, env_tops}
 use Rattle.go_resolve_core.proofs.file.declare_decls.Given as goal
 

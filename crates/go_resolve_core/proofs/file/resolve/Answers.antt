@@ -1,5 +1,5 @@
 use Rattle.std.proofs.Common.{[], ◌∷◌, ◌++◌, map, length, ap, sym, ◌∙◌}
-use Rattle.go_tree_core.specs.Shapes.{file_of, top_of}
+use Rattle.go_subset_core.specs.Shapes.{file_of, top_of}
 use Rattle.go_resolve_core.specs.Walk.{tops_uses, tops_notes}
 use Rattle.go_resolve_core.proofs.Tops.{length-repeats_of}
 use Rattle.go_resolve_core.proofs.Files.{resolved_open, resolved_uses, resolved_faults}

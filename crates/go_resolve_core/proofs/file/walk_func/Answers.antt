@@ -1,4 +1,4 @@
-use Rattle.go_tree_core.specs.Shapes.{lines_of}
+use Rattle.go_subset_core.specs.Shapes.{lines_of}
 use Rattle.go_resolve_core.specs.declared.declared.Block.TheVariants.{Within}
 use Rattle.go_resolve_core.proofs.Walks.{left_block, inner_open}
 use Rattle.go_resolve_core.proofs.file.walk_func.Goals as goal

@@ -1,5 +1,5 @@
 use Rattle.std.proofs.Common.{◌++◌, length, arith, ap, sym, ◌∙◌}
-use Rattle.go_tree_core.specs.Shapes.{shape_stmt, lines_of}
+use Rattle.go_subset_core.specs.Shapes.{shape_stmt, lines_of}
 use Rattle.go_resolve_core.specs.Walk.{stmt_uses, stmt_notes, env_after, lines_uses, lines_notes}
 use Rattle.go_resolve_core.specs.declared.declared.Block.TheVariants.{Within}
 use Rattle.go_resolve_core.proofs.Walks.{length-env_after, block_shape, left_block, inner_open, uses_step, notes_step, env_step, short_notes}

@@ -19,13 +19,13 @@ of_answer P text (Ok v) holds h = holds v.items h
 of_answer P text (Err e) holds h = tt
 
 pub returns-clause-answer : goal.returns-clause-answer
-returns-clause-answer c = scans c.args.text.now c.scan_all.result c.scan_all.ensures
+returns-clause-answer c = scans c.args.text.now c.tokens_alone.result c.tokens_alone.ensures
 
 pub returns-clause-spans : goal.returns-clause-spans
-returns-clause-spans c = of_answer _ c.args.text.now c.scan_all.result (λ ts e. tokens_in_order c.args.text.now ts c.utf8.text e) c.scan_all.ensures
+returns-clause-spans c = of_answer _ c.args.text.now c.tokens_alone.result (λ ts e. tokens_in_order c.args.text.now ts c.utf8.text e) c.tokens_alone.ensures
 
 pub returns-clause-slices : goal.returns-clause-slices
-returns-clause-slices c = of_answer _ c.args.text.now c.scan_all.result (λ ts e. tokens_have_texts c.args.text.now ts c.utf8.text e) c.scan_all.ensures
+returns-clause-slices c = of_answer _ c.args.text.now c.tokens_alone.result (λ ts e. tokens_have_texts c.args.text.now ts c.utf8.text e) c.tokens_alone.ensures
 
 pub returns-clause-filled : goal.returns-clause-filled
-returns-clause-filled c = of_answer _ c.args.text.now c.scan_all.result (λ ts e. tokens_filled c.args.text.now ts c.utf8.text e) c.scan_all.ensures
+returns-clause-filled c = of_answer _ c.args.text.now c.tokens_alone.result (λ ts e. tokens_filled c.args.text.now ts c.utf8.text e) c.tokens_alone.ensures

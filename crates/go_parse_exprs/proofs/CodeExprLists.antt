@@ -1,0 +1,115 @@
+-- What reading expressions with commas between them gives from the middle on.
+use Rattle.std.proofs.Common.{◌≡◌, ℕ, max, Bool, zero, suc, ◌-◌, ◌<◌, List, [], ◌∷◌, ◌++◌, length, Some, None, Ok, Err, refl, sym, ap, ◌∙◌, arith, length-append}
+use Rattle.go_text_core.specs.declared.span.Span.{Span}
+use Rattle.go_scan_core.specs.declared.kind.Operator.TheVariants as operator
+use Rattle.go_tree_core.specs.declared.exprs.Expr.{Expr}
+use Rattle.go_tree_core.specs.declared.exprs.NextExpr.{NextExpr}
+use Rattle.go_tree_core.specs.Terminals.{Terminal}
+use Rattle.go_tree_core.specs.Trees.{ExprTree, Separated, One, Then}
+use Rattle.go_tree_core.specs.Spelling.{spell}
+use Rattle.go_tree_core.specs.Heights.{height, exprs_height}
+use Rattle.go_tree_core.specs.Shapes.{shape, exprs_from}
+use Rattle.go_parse_types.specs.declared.stop.Stop.{Stop}
+use Rattle.go_parse_types.specs.Giving.{Fails}
+use Rattle.go_parse_types.specs.Marks.{Stuck, ◌>>=◌, Reading, mark_at}
+use Rattle.go_parse_exprs.specs.ExprReading.{expr_at, exprs_by, exprs_go, exprs_at}
+use Rattle.go_parse_types.proofs.Marks.{mark_shorter}
+use Rattle.go_parse_exprs.proofs.Fronts.{spell_some}
+use Rattle.go_parse_exprs.proofs.ExprSound.{expr_sound}
+use Rattle.go_parse_types.proofs.CodeSteps.{fails_along}
+
+pub first_shorter : (b : ℕ) (header : Bool) (ts rest : List Terminal) (t : ExprTree) → expr_at b header 1 ts ≡ Ok (t, rest) → length rest < length ts
+first_shorter b header ts rest t e =
+    let s = (expr_sound b header ts (t, rest) e).spelled in
+    omega (arith, ap length s, length-append (spell t) rest, spell_some t)
+
+pub next_shorter : (b : ℕ) (header : Bool) (ts : List Terminal) (m : Span × List Terminal) (x : ExprTree × List Terminal) → Some m ≡ mark_at operator.Comma ts → expr_at b header 1 m.1 ≡ Ok x → length x.1 < length ts
+next_shorter b header ts m x at e = omega (arith, mark_shorter operator.Comma ts m (sym at), first_shorter b header m.1 x.1 x.0 e)
+
+abbrev pub Exprs : Type 0
+Exprs = Reading (Separated ExprTree)
+
+-- the expressions that are read, and the last of them given to what reads on
+abbrev pub with_front : Expr → List NextExpr → (ExprTree → Exprs) → Exprs
+with_front e [] on = on (shape e)
+with_front e (n ∷ ns) on = with_front n.expr ns on >>= λ x. Ok (Then (shape e) n.comma x.0, x.1)
+
+front_along : (e : Expr) (ns : List NextExpr) (f g : ExprTree → Exprs) → ((t : ExprTree) → f t ≡ g t) → with_front e ns f ≡ with_front e ns g
+front_along e [] f g h = h (shape e)
+front_along e (n ∷ ns) f g h = ap (λ r. r >>= λ x. Ok (Then (shape e) n.comma x.0, x.1)) (front_along n.expr ns f g h)
+
+front_append : (e : Expr) (ns : List NextExpr) (n : NextExpr) (on : ExprTree → Exprs) → with_front e (ns ++ (n ∷ [])) on ≡ with_front e ns (λ t. on (shape n.expr) >>= λ x. Ok (Then t n.comma x.0, x.1))
+front_append e [] n on = refl
+front_append e (m ∷ ns) n on = ap (λ r. r >>= λ x. Ok (Then (shape e) m.comma x.0, x.1)) (front_append m.expr ns n on)
+
+front_err : (e : Expr) (ns : List NextExpr) (f : Stuck) → with_front e ns (λ t. Err f) ≡ Err f
+front_err e [] f = refl
+front_err e (n ∷ ns) f = ap (λ r. r >>= λ x. Ok (Then (shape e) n.comma x.0, x.1)) (front_err n.expr ns f)
+
+front_one : (e : Expr) (ns : List NextExpr) (ts : List Terminal) → with_front e ns (λ t. Ok (One t, ts)) ≡ Ok (exprs_from e ns, ts)
+front_one e [] ts = refl
+front_one e (n ∷ ns) ts = ap (λ r. r >>= λ x. Ok (Then (shape e) n.comma x.0, x.1)) (front_one n.expr ns ts)
+
+-- what reads on behind an expression
+abbrev pub on_from : ℕ → Bool → ℕ → List Terminal → ExprTree → Exprs
+on_from b header turns rest t = exprs_by (exprs_go (expr_at b header 1) turns) t rest (mark_at operator.Comma rest)
+
+-- reading gives these expressions, and then what reading the rest gives
+pub record ExprsSoFar (b : ℕ) (header : Bool) (ts : List Terminal) (first : Expr) (more : List NextExpr) (rest : List Terminal) : Type 0 where
+  pub turns : ℕ
+  pub enough : length rest < turns
+  pub same : exprs_at b header ts ≡ with_front first more (on_from b header turns rest)
+
+go_is : (b k : ℕ) (header : Bool) (ts rest : List Terminal) (t : ExprTree) → 0 < k → expr_at b header 1 ts ≡ Ok (t, rest) → exprs_go (expr_at b header 1) k ts ≡ on_from b header (k - 1) rest t
+unfolding exprs_go
+go_is b zero header ts rest t some e = absurd (omega arith)
+go_is b (suc k) header ts rest t some e =
+    let less : k ≡ suc k - 1 = omega arith in
+    ap (λ r. r >>= λ x. exprs_by (exprs_go (expr_at b header 1) k) x.0 x.1 (mark_at operator.Comma x.1)) e ∙ ap (λ m. on_from b header m rest t) less
+
+go_err : (b k : ℕ) (header : Bool) (ts : List Terminal) (f : Stuck) → 0 < k → expr_at b header 1 ts ≡ Err f → exprs_go (expr_at b header 1) k ts ≡ Err f
+unfolding exprs_go
+go_err b zero header ts f some e = absurd (omega arith)
+go_err b (suc k) header ts f some e = ap (λ r. r >>= λ x. exprs_by (exprs_go (expr_at b header 1) k) x.0 x.1 (mark_at operator.Comma x.1)) e
+
+pub exprs_start : (b : ℕ) (header : Bool) (ts rest : List Terminal) (first : Expr) (more : List NextExpr) → more ≡ [] → expr_at b header 1 ts ≡ Ok (shape first, rest) → ExprsSoFar b header ts first more rest
+exprs_start b header ts rest first more none e =
+    let less = first_shorter b header ts rest (shape first) e in
+    let step : exprs_at b header ts ≡ on_from b header (suc (length ts) - 1) rest (shape first) = go_is b (suc (length ts)) header ts rest (shape first) (omega arith) e in
+    record { turns = suc (length ts) - 1; enough = omega arith; same = step ∙ ap (λ ns. with_front first ns (on_from b header (suc (length ts) - 1) rest)) (sym none) }
+
+pub exprs_start_fails : (b : ℕ) (header : Bool) (ts : List Terminal) (e : Stop) → Fails e (expr_at b header 1 ts) → Fails e (exprs_at b header ts)
+exprs_start_fails b header ts e failed = fails_along (expr_at b header 1 ts) (exprs_at b header ts) e (λ f g. go_err b (suc (length ts)) header ts f (omega arith) g) failed
+
+pub exprs_more : (b : ℕ) (header : Bool) (ts rest after : List Terminal) (first : Expr) (more new : List NextExpr) (m : Span × List Terminal) (n : NextExpr) → ExprsSoFar b header ts first more rest → Some m ≡ mark_at operator.Comma rest → expr_at b header 1 m.1 ≡ Ok (shape n.expr, after) → n.comma ≡ m.0 → new ≡ more ++ (n ∷ []) → ExprsSoFar b header ts first new after
+exprs_more b header ts rest after first more new m n so at e comma is =
+    let less = mark_shorter operator.Comma rest m (sym at) in
+    let down = first_shorter b header m.1 after (shape n.expr) e in
+    let k = so.turns in
+    let some : 0 < k = omega (arith, so.enough) in
+    let on : (t : ExprTree) → on_from b header k rest t ≡ (on_from b header (k - 1) after (shape n.expr) >>= λ x. Ok (Then t n.comma x.0, x.1)) =
+    λ t. ap (exprs_by (exprs_go (expr_at b header 1) k) t rest) (sym at) ∙ ap (λ r. r >>= λ x. Ok (Then t m.0 x.0, x.1)) (go_is b k header m.1 after (shape n.expr) some e) ∙ ap (λ c. on_from b header (k - 1) after (shape n.expr) >>= λ x. Ok (Then t c x.0, x.1)) (sym comma) in
+    record { turns = k - 1; enough = omega (arith, so.enough); same = so.same ∙ front_along first more (on_from b header k rest) (λ t. on_from b header (k - 1) after (shape n.expr) >>= λ x. Ok (Then t n.comma x.0, x.1)) on ∙ sym (front_append first more n (on_from b header (k - 1) after)) ∙ ap (λ ns. with_front first ns (on_from b header (k - 1) after)) (sym is) }
+
+pub exprs_fails : (b : ℕ) (header : Bool) (ts rest : List Terminal) (first : Expr) (more : List NextExpr) (m : Span × List Terminal) (e : Stop) → ExprsSoFar b header ts first more rest → Some m ≡ mark_at operator.Comma rest → Fails e (expr_at b header 1 m.1) → Fails e (exprs_at b header ts)
+exprs_fails b header ts rest first more m e so at failed =
+    fails_along (expr_at b header 1 m.1) (exprs_at b header ts) e (λ f g. so.same ∙ front_along first more (on_from b header so.turns rest) (λ t. Err f) (on f g) ∙ front_err first more f) failed
+  where
+    on : (f : Stuck) → expr_at b header 1 m.1 ≡ Err f → (t : ExprTree) → on_from b header so.turns rest t ≡ Err f
+    on f g t =
+        let some : 0 < so.turns = omega (arith, so.enough) in
+        ap (exprs_by (exprs_go (expr_at b header 1) so.turns) t rest) (sym at) ∙ ap (λ r. r >>= λ x. Ok (Then t m.0 x.0, x.1)) (go_err b so.turns header m.1 f some g)
+
+pub exprs_end : (b : ℕ) (header : Bool) (ts rest : List Terminal) (first : Expr) (more : List NextExpr) → ExprsSoFar b header ts first more rest → None ≡ mark_at operator.Comma rest → exprs_at b header ts ≡ Ok (exprs_from first more, rest)
+exprs_end b header ts rest first more so at =
+    so.same ∙ front_along first more (on_from b header so.turns rest) (λ t. Ok (One t, rest)) (λ t. ap (exprs_by (exprs_go (expr_at b header 1) so.turns) t rest) (sym at)) ∙ front_one first more rest
+
+-- the height of one more
+high_more : (first : Expr) (more : List NextExpr) (n : NextExpr) → exprs_height (exprs_from first (more ++ (n ∷ []))) ≡ max (exprs_height (exprs_from first more)) (height (shape n.expr))
+high_more first [] n = refl
+high_more first (m ∷ ms) n = omega (arith, high_more m.expr ms n)
+
+pub high_after : (first : Expr) (more new : List NextExpr) (n : NextExpr) (before last after : ℕ) → before ≡ exprs_height (exprs_from first more) → last ≡ height (shape n.expr) → new ≡ more ++ (n ∷ []) → after ≡ max before last → after ≡ exprs_height (exprs_from first new)
+high_after first more new n before last after high low is most =
+    let all : after ≡ exprs_height (exprs_from first (more ++ (n ∷ []))) = omega (arith, high, low, most, high_more first more n) in
+    all ∙ ap (λ ns. exprs_height (exprs_from first ns)) (sym is)

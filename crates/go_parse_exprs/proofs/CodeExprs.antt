@@ -1,0 +1,186 @@
+-- What reading an expression gives, in the words of the program.
+use Rattle.std.proofs.Common.{◌≡◌, ℕ, ◌-◌, ◌<◌, Bool, true, false, List, [], ◌∷◌, map, Option, Some, None, Result, Ok, Err, refl, sym, ap, ◌∙◌, cond}
+use Rattle.std.proofs.lemmas.Bool.{lt-ltb}
+use Rattle.std.specs.Prelude.{is_some}
+use Rattle.go_text_core.specs.declared.span.Span.{Span}
+use Rattle.go_scan_core.specs.declared.kind.Keyword.TheVariants as keyword
+use Rattle.go_scan_core.specs.declared.kind.Operator.{Operator}
+use Rattle.go_scan_core.specs.declared.kind.Operator.TheVariants as operator
+use Rattle.go_tree_core.specs.declared.names.Ident.{Ident}
+use Rattle.go_tree_core.specs.declared.names.TextLiteral.{TextLiteral}
+use Rattle.go_tree_core.specs.declared.types.TypeName.{TypeName}
+use Rattle.go_tree_core.specs.declared.types.TypeName.TheVariants as type_name
+use Rattle.go_tree_core.specs.declared.exprs.«Item» as declared_item
+use Rattle.go_tree_core.specs.Terminals.{TerminalKind, Spelled, Number, Quoted, Word, Mark, Stray, Terminal}
+use Rattle.go_tree_core.specs.Trees.{ExprTree, ItemTrees, Item, Integer, Text, Named}
+use Rattle.go_tree_core.specs.Shapes.{shape, items_of}
+use Rattle.go_tree_core.specs.Heights.{height}
+use Rattle.go_tree_core.specs.Rules.{is_unary}
+use Rattle.go_parse_types.specs.declared.stop.Stop.{Stop}
+use Rattle.go_parse_types.specs.EntryShapes.{list_all}
+use Rattle.go_parse_types.specs.Giving.{Fails}
+use Rattle.go_parse_types.specs.Marks.{Stuck, Grammar, TooHigh, ◌>>=◌, Reading, Place, need, mark_in, mark_at, word_in, word_at, name_in, name_at, number_in, number_at, text_in, text_at, mark_that_in, mark_that}
+use Rattle.go_parse_types.proofs.CodeSteps.{fails_along}
+use Rattle.go_parse_types.proofs.Marks.{need_ok}
+use Rattle.go_parse_exprs.specs.CodeShapes.{item_of, opens_member, opens_dot, opens_body}
+use Rattle.go_parse_exprs.specs.ExprReading.{Inner, as_items, item_at, items_at, close_by, literal_member, literal_dot, literal_name, body_by, body_of, body_at, literal_by, named_by, struct_literal, by_word, by_unary, by_paren, operand_in, operand_at, Next, next_at, step, expr_at}
+use Rattle.go_parse_exprs.proofs.Onward.{onward, from_err, from_first_err}
+
+-- what fails
+
+pub expr_turn_fails : (n : ℕ) (header : Bool) (least : ℕ) (whole : Reading ExprTree) (t : ExprTree) (ts : List Terminal) (o : Next) (e : Stop) → whole ≡ onward (n - 1) header least t ts → Some o ≡ next_at least ts → height t < n → Fails e (step (expr_at (n - 1)) header t o) → Fails e whole
+expr_turn_fails n header least whole t ts o e so ahead low failed =
+    fails_along (step (expr_at (n - 1)) header t o) whole e (λ f g. from_err n header least whole t ts o f so (sym ahead) low g) failed
+
+pub expr_start_fails : (n : ℕ) (header : Bool) (least : ℕ) (ts : List Terminal) (e : Stop) → 0 < n → Fails e (operand_at (expr_at (n - 1)) (n - 1) header ts) → Fails e (expr_at n header least ts)
+expr_start_fails n header least ts e some failed =
+    fails_along (operand_at (expr_at (n - 1)) (n - 1) header ts) (expr_at n header least ts) e (λ f g. from_first_err n header least ts f some g) failed
+
+pub bind_fails : {X Y : Type 0} (r : Result X Stuck) (go : X → Result Y Stuck) (whole : Result Y Stuck) (e : Stop) → whole ≡ (r >>= go) → Fails e r → Fails e whole
+bind_fails r go whole e is failed = fails_along r whole e (λ f g. is ∙ ap (λ r. r >>= go) g) failed
+
+need_err : {X : Type 0} (o : Option X) (f : Stuck) → need o ≡ Err f → (o ≡ None) × (f ≡ Grammar)
+need_err None f e = (refl, cc)
+need_err (Some x) f e = cc
+
+pub need_fails : {X Y : Type 0} (o : Option X) (go : Option X → Result Y Stuck) (whole : Result Y Stuck) (e : Stop) → whole ≡ go o → go None ≡ Err Grammar → Fails e (need o) → Fails e whole
+need_fails o go whole e is none failed =
+    fails_along (need o) whole e (λ f g. let w = need_err o f g in is ∙ ap go w.0 ∙ none ∙ ap (λ f. Err f) (sym w.1)) failed
+
+-- what is there is not missed
+pub found_fails : {X Y : Type 0} (o : Option X) (x : X) (whole : Result Y Stuck) (e : Stop) → o ≡ Some x → Fails e (need o) → Fails e whole
+found_fails o x whole e is failed = fails_along (need o) whole e (λ f g. let w = need_err o f g in cc (w.0, is)) failed
+
+-- operands, by what is in front
+
+in_integer : (inner : Inner) (b : ℕ) (header : Bool) (k : TerminalKind) (s : Span) (rest ts : List Terminal) (m : ℕ × Span × List Terminal) → Some m ≡ number_in k s rest → operand_in inner b header k s rest ts ≡ Ok (Integer m.0 m.1, m.2)
+in_integer inner b header (Number n) s rest ts m e =
+    let same : (n, s, rest) ≡ m = cc in ap (λ (m : ℕ × Span × List Terminal). Ok (Integer m.0 m.1, m.2)) same
+in_integer inner b header _ s rest ts m e = cc
+
+pub operand_integer : (inner : Inner) (b : ℕ) (header : Bool) (ts : List Terminal) (m : ℕ × Span × List Terminal) → Some m ≡ number_at ts → operand_at inner b header ts ≡ Ok (Integer m.0 m.1, m.2)
+operand_integer inner b header [] m e = cc
+operand_integer inner b header (t ∷ ts) m e = in_integer inner b header t.kind t.span ts (t ∷ ts) m e
+
+in_text : (inner : Inner) (b : ℕ) (header : Bool) (k : TerminalKind) (s : Span) (rest ts : List Terminal) (m : TextLiteral × List Terminal) → Some m ≡ text_in k s rest → operand_in inner b header k s rest ts ≡ Ok (Text m.0, m.1)
+in_text inner b header (Quoted v) s rest ts m e =
+    let same : (record { value = v; span = s }, rest) ≡ m = cc in ap (λ (m : TextLiteral × List Terminal). Ok (Text m.0, m.1)) same
+in_text inner b header _ s rest ts m e = cc
+
+pub operand_text : (inner : Inner) (b : ℕ) (header : Bool) (ts : List Terminal) (m : TextLiteral × List Terminal) → Some m ≡ text_at ts → operand_at inner b header ts ≡ Ok (Text m.0, m.1)
+operand_text inner b header [] m e = cc
+operand_text inner b header (t ∷ ts) m e = in_text inner b header t.kind t.span ts (t ∷ ts) m e
+
+in_name : (inner : Inner) (b : ℕ) (header : Bool) (k : TerminalKind) (s : Span) (rest ts : List Terminal) (m : Ident × List Terminal) → Some m ≡ name_in k s rest → operand_in inner b header k s rest ts ≡ named_by inner b m.0 m.1 (body_at header m.0 m.1)
+in_name inner b header (Spelled x) s rest ts m e =
+    let same : (record { name = x; span = s }, rest) ≡ m = cc in ap (λ (m : Ident × List Terminal). named_by inner b m.0 m.1 (body_at header m.0 m.1)) same
+in_name inner b header _ s rest ts m e = cc
+
+pub operand_name : (inner : Inner) (b : ℕ) (header : Bool) (ts : List Terminal) (m : Ident × List Terminal) → Some m ≡ name_at ts → operand_at inner b header ts ≡ named_by inner b m.0 m.1 (body_at header m.0 m.1)
+operand_name inner b header [] m e = cc
+operand_name inner b header (t ∷ ts) m e = in_name inner b header t.kind t.span ts (t ∷ ts) m e
+
+in_word : (inner : Inner) (b : ℕ) (header : Bool) (k : TerminalKind) (s : Span) (rest ts : List Terminal) (m : Span × List Terminal) → Some m ≡ word_in keyword.Struct k s rest → Some m ≡ word_at keyword.Struct ts → operand_in inner b header k s rest ts ≡ struct_literal inner b m.0 m.1
+in_word inner b header (Word k) s rest ts m e f = ap (by_word inner b) (sym f)
+in_word inner b header _ s rest ts m e f = cc
+
+pub operand_word : (inner : Inner) (b : ℕ) (header : Bool) (ts : List Terminal) (m : Span × List Terminal) → Some m ≡ word_at keyword.Struct ts → operand_at inner b header ts ≡ struct_literal inner b m.0 m.1
+operand_word inner b header [] m e = cc
+operand_word inner b header (t ∷ ts) m e = in_word inner b header t.kind t.span ts (t ∷ ts) m e e
+
+in_paren : (inner : Inner) (b : ℕ) (header : Bool) (k : TerminalKind) (s : Span) (rest ts : List Terminal) (m : Span × List Terminal) → Some m ≡ mark_in operator.OpenParen k s rest → Some m ≡ mark_at operator.OpenParen ts → operand_in inner b header k s rest ts ≡ (inner false 1 m.1 >>= λ x. close_by m.0 x.0 (mark_at operator.CloseParen x.1))
+in_paren inner b header (Mark o) s rest ts m e f = ap (by_paren inner header ts) (sym f)
+in_paren inner b header _ s rest ts m e f = cc
+
+pub operand_paren : (inner : Inner) (b : ℕ) (header : Bool) (ts : List Terminal) (m : Span × List Terminal) → Some m ≡ mark_at operator.OpenParen ts → operand_at inner b header ts ≡ (inner false 1 m.1 >>= λ x. close_by m.0 x.0 (mark_at operator.CloseParen x.1))
+operand_paren inner b header [] m e = cc
+operand_paren inner b header (t ∷ ts) m e = in_paren inner b header t.kind t.span ts (t ∷ ts) m e e
+
+in_unary : (inner : Inner) (b : ℕ) (header : Bool) (k : TerminalKind) (s : Span) (rest ts : List Terminal) → None ≡ number_in k s rest → None ≡ text_in k s rest → None ≡ name_in k s rest → None ≡ word_at keyword.Struct ts → None ≡ mark_at operator.OpenParen ts → mark_that is_unary ts ≡ mark_that_in is_unary k s rest → operand_in inner b header k s rest ts ≡ by_unary inner header (mark_that_in is_unary k s rest)
+in_unary inner b header (Number n) s rest ts number text name struct paren same = cc
+in_unary inner b header (Quoted v) s rest ts number text name struct paren same = cc
+in_unary inner b header (Spelled x) s rest ts number text name struct paren same = cc
+in_unary inner b header (Word k) s rest ts number text name struct paren same = ap (by_word inner b) (sym struct)
+in_unary inner b header (Mark o) s rest ts number text name struct paren same = ap (by_paren inner header ts) (sym paren) ∙ ap (by_unary inner header) same
+in_unary inner b header Stray s rest ts number text name struct paren same = refl
+
+pub operand_unary : (inner : Inner) (b : ℕ) (header : Bool) (ts : List Terminal) → None ≡ number_at ts → None ≡ text_at ts → None ≡ name_at ts → None ≡ word_at keyword.Struct ts → None ≡ mark_at operator.OpenParen ts → operand_at inner b header ts ≡ by_unary inner header (mark_that is_unary ts)
+operand_unary inner b header [] number text name struct paren = refl
+operand_unary inner b header (t ∷ ts) number text name struct paren = in_unary inner b header t.kind t.span ts (t ∷ ts) number text name struct paren refl
+
+-- the type's name and the opening brace of a literal
+
+no_brace : (n : TypeName) (m : Place) → is_some m ≡ false → body_by n m ≡ None
+no_brace n None e = refl
+no_brace n (Some m) e = cc
+
+none_member : (x : Ident) (ts : List Terminal) (dot : Span) (o : Option (Ident × List Terminal)) → opens_member ts o ≡ false → body_of (literal_member x ts dot o) ≡ None
+none_member x ts dot None e = no_brace (type_name.Plain x) (mark_at operator.OpenBrace ts) e
+none_member x ts dot (Some y) e = no_brace (type_name.Qualified x dot y.0) (mark_at operator.OpenBrace y.1) e
+
+none_dot : (x : Ident) (ts : List Terminal) (m : Place) → opens_dot ts m ≡ false → body_of (literal_dot x ts m) ≡ None
+none_dot x ts None e = no_brace (type_name.Plain x) (mark_at operator.OpenBrace ts) e
+none_dot x ts (Some dot) e = none_member x ts dot.0 (name_at dot.1) e
+
+body_none : (header : Bool) (x : Ident) (ts : List Terminal) → opens_body header ts ≡ false → body_at header x ts ≡ None
+body_none true x ts e = refl
+body_none false x ts e = none_dot x ts (mark_at operator.Dot ts) e
+
+pub named_plain : (inner : Inner) (b : ℕ) (header : Bool) (x : Ident) (ts : List Terminal) → opens_body header ts ≡ false → named_by inner b x ts (body_at header x ts) ≡ Ok (Named x, ts)
+named_plain inner b header x ts e = ap (named_by inner b x ts) (body_none header x ts e)
+
+brace_of : (m : Place) → is_some m ≡ true → (s : Span × List Terminal) × (m ≡ Some s)
+brace_of None e = cc
+brace_of (Some s) e = (s, refl)
+
+some_member : (x : Ident) (ts : List Terminal) (dot : Span) (o : Option (Ident × List Terminal)) → opens_member ts o ≡ true → (s : Span × List Terminal) × (mark_at operator.OpenBrace (literal_member x ts dot o).1 ≡ Some s)
+some_member x ts dot None e = brace_of (mark_at operator.OpenBrace ts) e
+some_member x ts dot (Some y) e = brace_of (mark_at operator.OpenBrace y.1) e
+
+some_dot : (x : Ident) (ts : List Terminal) (m : Place) → opens_dot ts m ≡ true → (s : Span × List Terminal) × (mark_at operator.OpenBrace (literal_dot x ts m).1 ≡ Some s)
+some_dot x ts None e = brace_of (mark_at operator.OpenBrace ts) e
+some_dot x ts (Some dot) e = some_member x ts dot.0 (name_at dot.1) e
+
+-- where a brace opens, it does behind the type's name
+pub body_some : (header : Bool) (x : Ident) (ts : List Terminal) → opens_body header ts ≡ true → (s : Span × List Terminal) × (mark_at operator.OpenBrace (literal_name x ts).1 ≡ Some s) × (body_at header x ts ≡ Some ((literal_name x ts).0, s.0, s.1))
+body_some true x ts e = cc
+body_some false x ts e =
+    let s = some_dot x ts (mark_at operator.Dot ts) e in
+    (s.0, s.1, ap (body_by (literal_name x ts).0) s.1)
+
+pub named_high : (inner : Inner) (b : ℕ) (header : Bool) (x : Ident) (ts : List Terminal) → opens_body header ts ≡ true → b ≡ 0 → named_by inner b x ts (body_at header x ts) ≡ Err TooHigh
+named_high inner b header x ts e none =
+    ap (λ b. named_by inner b x ts (body_at header x ts)) none ∙ ap (named_by inner 0 x ts) (body_some header x ts e).2
+
+pub brace_fails : (header : Bool) (x : Ident) (ts : List Terminal) (n : TypeName × List Terminal) (whole : Reading ExprTree) (e : Stop) → opens_body header ts ≡ true → n ≡ literal_name x ts → Fails e (need (mark_at operator.OpenBrace n.1)) → Fails e whole
+brace_fails header x ts n whole e opens is failed =
+    let s = body_some header x ts opens in
+    found_fails (mark_at operator.OpenBrace n.1) s.0 whole e (ap (λ (n : TypeName × List Terminal). mark_at operator.OpenBrace n.1) is ∙ s.1) failed
+
+-- the elements of a literal and its closing brace
+abbrev pub literal_from : Inner → TypeName → Span → List Terminal → Reading ExprTree
+literal_from inner n first ts = items_at inner true operator.CloseBrace ts >>= λ y. literal_by n first y.0 (mark_at operator.CloseBrace y.1)
+
+pub named_goes : (inner : Inner) (b : ℕ) (header : Bool) (x : Ident) (ts : List Terminal) (n : TypeName × List Terminal) (first : Span × List Terminal) → opens_body header ts ≡ true → 0 < b → n ≡ literal_name x ts → need (mark_at operator.OpenBrace n.1) ≡ Ok first → named_by inner b x ts (body_at header x ts) ≡ literal_from inner n.0 first.0 first.1
+named_goes inner b header x ts n first opens some is at =
+    let s = body_some header x ts opens in
+    let here : mark_at operator.OpenBrace (literal_name x ts).1 ≡ Some first = ap (λ (n : TypeName × List Terminal). mark_at operator.OpenBrace n.1) (sym is) ∙ need_ok (mark_at operator.OpenBrace n.1) first at in
+    let same : s.0 ≡ first = cc (s.1, here) in
+    ap (named_by inner b x ts) s.2
+    ∙ ap (λ c. cond c (literal_from inner (literal_name x ts).0 s.0.0 s.0.1) (Err TooHigh)) (lt-ltb 0 b some)
+    ∙ ap (λ (s : Span × List Terminal). literal_from inner (literal_name x ts).0 s.0 s.1) same
+    ∙ ap (λ (n : TypeName × List Terminal). literal_from inner n.0 first.0 first.1) (sym is)
+
+-- arguments and elements
+
+pub items_are : (is : List declared_item.Item) → as_items (map item_of is) ≡ items_of is
+items_are [] = refl
+items_are (i ∷ is) = ap (Item i.key (shape i.value) i.comma) (items_are is)
+
+pub items_found : (inner : Inner) (keyed : Bool) (close : Operator) (ts rest : List Terminal) (is : List declared_item.Item) → list_all (item_at inner keyed) operator.Comma close ts ≡ Ok (map item_of is, rest) → items_at inner keyed close ts ≡ Ok (items_of is, rest)
+items_found inner keyed close ts rest is e =
+    ap (λ r. r >>= λ x. Ok (as_items x.0, x.1)) e ∙ ap (λ l. Ok (l, rest)) (items_are is)
+
+pub items_fail : (inner : Inner) (keyed : Bool) (close : Operator) (ts : List Terminal) (go : ItemTrees × List Terminal → Reading ExprTree) (whole : Reading ExprTree) (e : Stop) → whole ≡ (items_at inner keyed close ts >>= go) → Fails e (list_all (item_at inner keyed) operator.Comma close ts) → Fails e whole
+items_fail inner keyed close ts go whole e is failed =
+    fails_along (list_all (item_at inner keyed) operator.Comma close ts) whole e (λ f g. is ∙ ap (λ r. (r >>= λ x. Ok (as_items x.0, x.1)) >>= go) g) failed

@@ -1,0 +1,11 @@
+pub mod Behind
+pub mod Chains
+pub mod Fronts
+pub mod Items
+pub mod ExprFound
+pub mod ExprSound
+pub mod ExprLists
+pub mod Onward
+pub mod CodeExprs
+pub mod CodeItems
+pub mod CodeExprLists

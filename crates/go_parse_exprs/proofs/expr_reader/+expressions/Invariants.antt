@@ -1,0 +1,59 @@
+use Rattle.std.proofs.Common.{◌≡◌, ◌≤◌, ◌<◌, ◌+◌, ◌-◌, ◌*◌, ◌^◌, length, map}
+use Rattle.go_scan_core.specs.declared.kind.Operator.TheVariants as operator
+use Rattle.go_tree_core.specs.Shapes.{shape, items_of}
+use Rattle.go_tree_core.specs.Heights.{height, items_height}
+use Rattle.go_parse_types.proofs.CodeLists.{ListSoFar}
+use Rattle.go_parse_exprs.specs.CodeShapes.{item_of}
+use Rattle.go_parse_exprs.specs.ExprReading.{ItemTree, item_at, expr_at}
+use Rattle.go_parse_exprs.proofs.Onward.{onward}
+use Rattle.go_parse_exprs.proofs.expr_reader.+expressions.Given as goal
+
+abbrev pub decreases-expr : goal.decreases-expr
+decreases-expr l = 10 * l.budget
+
+abbrev pub decreases-one_step : goal.decreases-one_step
+decreases-one_step l = 10 * l.inner + 9
+
+abbrev pub decreases-operand : goal.decreases-operand
+decreases-operand l = 10 * l.inner + 9
+
+abbrev pub decreases-in_parens : goal.decreases-in_parens
+decreases-in_parens l = 10 * l.inner + 1
+
+abbrev pub decreases-unary : goal.decreases-unary
+decreases-unary l = 10 * l.inner + 1
+
+abbrev pub decreases-named : goal.decreases-named
+decreases-named l = 10 * l.inner + 8
+
+abbrev pub decreases-struct_literal : goal.decreases-struct_literal
+decreases-struct_literal l = 10 * l.inner + 8
+
+abbrev pub decreases-item : goal.decreases-item
+decreases-item l = 10 * l.inner + 1
+
+abbrev pub decreases-items : goal.decreases-items
+decreases-items l = 10 * l.inner + 2
+
+abbrev pub invariant-expr-turns : goal.invariant-expr-turns
+invariant-expr-turns l = record {
+  some : 0 < l.budget;
+  few : l.budget < 2 ^ 31;
+  high : l.high ≡ height (shape l.left);
+  low : l.high ≤ l.budget;
+  same : expr_at l.budget l.header l.least l.fn.ahead ≡ onward (l.budget - 1) l.header l.least (shape l.left) l.rest;
+}
+
+abbrev pub decreases-expr-turns : goal.decreases-expr-turns
+decreases-expr-turns l = l.budget - l.high
+
+abbrev pub invariant-items-turns : goal.invariant-items-turns
+invariant-items-turns l = record {
+  few : l.inner < 2 ^ 31;
+  low : l.high ≤ l.inner;
+  high : l.high ≡ items_height (items_of l.all.items);
+  so_far : ListSoFar ItemTree (item_at (expr_at l.inner) l.keyed) operator.Comma l.close l.fn.ahead (map item_of l.all.items) l.rest;
+}
+
+abbrev pub decreases-items-turns : goal.decreases-items-turns
+decreases-items-turns l = length l.rest

@@ -1,0 +1,2 @@
+pub mod CodeShapes
+pub mod ExprReading

@@ -1,0 +1,35 @@
+//! What comes behind an operand.
+ghost use Rattle.std.specs.Prelude.{◌≡◌};
+ghost use Rattle.std.specs.Option.{option_map};
+ghost use Rattle.go_parse_exprs.specs.ExprReading.{next_at};
+ghost use Rattle.go_parse_exprs.specs.CodeShapes.{next_of};
+
+use crate::operators::infix;
+use go_parse_types::Ahead;
+use go_scan_core::Operator;
+use go_text_core::Span;
+
+/// What may come behind an operand.
+#[derive(Clone, Copy)]
+pub enum After {
+    /// A binary operator.
+    Operate(Operator),
+    /// The dot of a selector.
+    Pick,
+    /// The opening parenthesis of a call.
+    Apply,
+}
+
+/// What comes behind an operand if it binds as strongly as `least`: its kind, its place, and what is behind it.
+pub fn next<'a>(ahead: &Ahead<'a>, least: u32) -> Option<(After, Span, Ahead<'a>)>
+    ensures { option_map (λ x. next_of x.0 x.1 x.2) result ≡ next_at least ahead.now }
+{
+    if let Some((op, span, rest)) = infix(ahead, least) {
+        return Some((After::Operate(op), span, rest));
+    }
+    if let Some((dot, rest)) = ahead.mark(Operator::Dot) {
+        return Some((After::Pick, dot, rest));
+    }
+    let (open, rest) = ahead.mark(Operator::OpenParen)?;
+    Some((After::Apply, open, rest))
+}

@@ -1,0 +1,259 @@
+//! Expressions.
+ghost use Rattle.std.specs.Prelude.{◌≡◌, ◌≤◌, ◌<◌, ◌+◌, ◌^◌, map, IfOk};
+ghost use Rattle.go_scan_core.specs.declared.kind.Operator.TheVariants as operator;
+ghost use Rattle.go_tree_core.specs.Shapes.{shape, items_of};
+ghost use Rattle.go_tree_core.specs.Heights.{height, items_height};
+ghost use Rattle.go_tree_core.specs.Rules as rules;
+ghost use Rattle.go_parse_types.specs.EntryShapes.{list_all};
+ghost use Rattle.go_parse_types.specs.Giving.{Gives};
+ghost use Rattle.go_parse_types.specs.Marks.{mark_that};
+ghost use Rattle.go_parse_exprs.specs.CodeShapes as shapes;
+ghost use Rattle.go_parse_exprs.specs.CodeShapes.{next_of, item_of};
+ghost use Rattle.go_parse_exprs.specs.ExprReading as reading;
+ghost use Rattle.go_parse_exprs.specs.ExprReading.{item_at, body_at, named_by, by_unary, operand_at, step, expr_at};
+
+use crate::after::{After, next};
+use crate::literal::{key, literal_name, opens_body};
+use crate::operators::{prefix, rank};
+use go_parse_types::{Ahead, Stop, struct_type, type_height};
+use go_scan_core::{Keyword, Operator};
+use go_text_core::Span;
+use go_tree_core::{Expr, Ident, Item, Key};
+use std::alloc::Global;
+
+/// An expression, how high it is, and what is behind it.
+type Found<'a> = Result<(Expr, u32, Ahead<'a>), Stop>;
+
+/// The longest expression in front whose operators bind as strongly as `least`, at most `budget` high, in a header
+/// or not; with its height.
+///
+/// # Errors
+///
+/// [`Stop::Grammar`] where none stands there, with the offset in bytes of the first token that is no part of one;
+/// [`Stop::TooHigh`] where it would be too high, with the offset in bytes of what is too deep inside it; and
+/// [`Stop::Memory`] where memory runs out.
+#[cycle(expressions)]
+pub fn expr<'a>(alloc: Global, ahead: Ahead<'a>, header: bool, least: u32, budget: u32) -> Found<'a>
+    requires { budget < 2 ^ 31 }
+    ensures tree { Gives (λ x. (shape x.0, x.2)) result (expr_at budget header least ahead.entry) }
+    ensures height { IfOk result (λ x. (x.1 ≡ height (shape x.0)) × (x.1 ≤ budget)) }
+{
+    if budget == 0 {
+        return Err(Stop::TooHigh(ahead.offset()));
+    }
+    let (mut left, mut high, mut rest) = operand(alloc, ahead, header, budget - 1)?;
+    'turns: while let Some((after, span, behind)) = next(&rest, least) {
+        if high >= budget {
+            return Err(Stop::TooHigh(rest.offset()));
+        }
+        let (new, new_high, behind) = one_step(
+            alloc,
+            left,
+            high,
+            after,
+            span,
+            behind,
+            header,
+            budget - 1,
+        )?;
+        left = new;
+        high = new_high;
+        rest = behind;
+    }
+    Ok((left, high, rest))
+}
+
+/// One step behind an operand: an operator and its other operand, a selector, or a call.
+#[cycle(expressions)]
+fn one_step<'a>(
+    alloc: Global,
+    left: Expr,
+    high: u32,
+    after: After,
+    span: Span,
+    ahead: Ahead<'a>,
+    header: bool,
+    inner: u32,
+) -> Found<'a>
+    requires room { inner < 2 ^ 31 }
+    requires high { high ≡ height (shape left) }
+    requires low { high ≤ inner }
+    ensures tree { Gives (λ x. (shape x.0, x.2)) result (step (expr_at inner) header (shape left) (next_of after span ahead.entry)) }
+    ensures height { IfOk result (λ x. (x.1 ≡ height (shape x.0)) × (x.1 ≤ inner + 1) × (high < x.1)) }
+{
+    match after {
+        After::Operate(op) => {
+            let (right, right_high, rest) = expr(alloc, ahead, header, rank(op) + 1, inner)?;
+            let right = Box::new(alloc, right)?;
+            let whole = Expr::Binary(Box::new(alloc, left)?, op, span, right);
+            Ok((whole, high.max(right_high) + 1, rest))
+        }
+        After::Pick => {
+            let (picked, rest) = ahead.need_name(alloc)?;
+            let whole = Expr::Select(Box::new(alloc, left)?, span, picked);
+            Ok((whole, high + 1, rest))
+        }
+        After::Apply => {
+            let (all, items_high, rest) = items(alloc, ahead, false, Operator::CloseParen, inner)?;
+            let (close, rest) = rest.need_mark(Operator::CloseParen)?;
+            let whole = Expr::Call(Box::new(alloc, left)?, span, all, close);
+            Ok((whole, high.max(items_high) + 1, rest))
+        }
+    }
+}
+
+/// An operand, whose parts are at most `inner` high.
+#[cycle(expressions)]
+fn operand<'a>(alloc: Global, ahead: Ahead<'a>, header: bool, inner: u32) -> Found<'a>
+    requires { inner < 2 ^ 31 }
+    ensures tree { Gives (λ x. (shape x.0, x.2)) result (operand_at (expr_at inner) inner header ahead.entry) }
+    ensures height { IfOk result (λ x. (x.1 ≡ height (shape x.0)) × (x.1 ≤ inner + 1)) }
+{
+    if let Some((value, span, rest)) = ahead.integer() {
+        return Ok((Expr::Integer(value, span), 1, rest));
+    }
+    if let Some((text, rest)) = ahead.text(alloc)? {
+        return Ok((Expr::Text(text), 1, rest));
+    }
+    if let Some((first, rest)) = ahead.name(alloc)? {
+        return named(alloc, rest, first, header, inner);
+    }
+    if let Some((keyword, rest)) = ahead.word(Keyword::Struct) {
+        return struct_literal(alloc, rest, keyword, inner);
+    }
+    if let Some((open, rest)) = ahead.mark(Operator::OpenParen) {
+        return in_parens(alloc, rest, open, inner);
+    }
+    unary(alloc, ahead, header, inner)
+}
+
+/// An expression and the closing parenthesis behind it.
+#[cycle(expressions)]
+fn in_parens<'a>(alloc: Global, ahead: Ahead<'a>, opening: Span, inner: u32) -> Found<'a>
+    requires { inner < 2 ^ 31 }
+    ensures tree { Gives (λ x. (shape x.0, x.2)) result (shapes.in_parens (expr_at inner) opening ahead.entry) }
+    ensures height { IfOk result (λ x. (x.1 ≡ height (shape x.0)) × (x.1 ≤ inner + 1)) }
+{
+    let (inside, high, rest) = expr(alloc, ahead, false, 1, inner)?;
+    let (close, rest) = rest.need_mark(Operator::CloseParen)?;
+    let whole = Expr::Paren(opening, Box::new(alloc, inside)?, close);
+    Ok((whole, high + 1, rest))
+}
+
+/// A unary operator and its operand.
+#[cycle(expressions)]
+fn unary<'a>(alloc: Global, ahead: Ahead<'a>, header: bool, inner: u32) -> Found<'a>
+    requires { inner < 2 ^ 31 }
+    ensures tree { Gives (λ x. (shape x.0, x.2)) result (by_unary (expr_at inner) header (mark_that rules.is_unary ahead.entry)) }
+    ensures height { IfOk result (λ x. (x.1 ≡ height (shape x.0)) × (x.1 ≤ inner + 1)) }
+{
+    let Some((op, span, rest)) = prefix(&ahead) else {
+        return Err(Stop::Grammar(ahead.offset()));
+    };
+    let (operand, high, rest) = expr(alloc, rest, header, 6, inner)?;
+    let whole = Expr::Unary(op, span, Box::new(alloc, operand)?);
+    Ok((whole, high + 1, rest))
+}
+
+/// What begins with the name `first`: the name, or a literal of that type.
+#[cycle(expressions)]
+fn named<'a>(alloc: Global, ahead: Ahead<'a>, first: Ident, header: bool, inner: u32) -> Found<'a>
+    requires { inner < 2 ^ 31 }
+    ensures tree { Gives (λ x. (shape x.0, x.2)) result (named_by (expr_at inner) inner first ahead.entry (body_at header first ahead.entry)) }
+    ensures height { IfOk result (λ x. (x.1 ≡ height (shape x.0)) × (x.1 ≤ inner + 1)) }
+{
+    if !opens_body(&ahead, header) {
+        return Ok((Expr::Name(first), 1, ahead));
+    }
+    if inner == 0 {
+        return Err(Stop::TooHigh(ahead.offset()));
+    }
+    let (name, rest) = literal_name(alloc, first, ahead)?;
+    let (open, rest) = rest.need_mark(Operator::OpenBrace)?;
+    let (all, high, rest) = items(alloc, rest, true, Operator::CloseBrace, inner)?;
+    let (close, rest) = rest.need_mark(Operator::CloseBrace)?;
+    Ok((Expr::Literal(name, open, all, close), high.max(1) + 1, rest))
+}
+
+/// A literal of a struct type, behind `struct`.
+#[cycle(expressions)]
+fn struct_literal<'a>(alloc: Global, ahead: Ahead<'a>, keyword: Span, inner: u32) -> Found<'a>
+    requires { inner < 2 ^ 31 }
+    ensures tree { Gives (λ x. (shape x.0, x.2)) result (reading.struct_literal (expr_at inner) inner keyword ahead.entry) }
+    ensures height { IfOk result (λ x. (x.1 ≡ height (shape x.0)) × (x.1 ≤ inner + 1)) }
+{
+    if inner == 0 {
+        return Err(Stop::TooHigh(ahead.offset()));
+    }
+    let (type_expr, rest) = struct_type(alloc, ahead, keyword, inner - 1)?;
+    let (open, rest) = rest.need_mark(Operator::OpenBrace)?;
+    let (all, high, rest) = items(alloc, rest, true, Operator::CloseBrace, inner)?;
+    let (close, rest) = rest.need_mark(Operator::CloseBrace)?;
+    let high = high.max(type_height(&type_expr)) + 1;
+    Ok((Expr::StructLiteral(type_expr, open, all, close), high, rest))
+}
+
+/// An argument, or an element with its key if it has one.
+#[cycle(expressions)]
+fn item<'a>(
+    alloc: Global,
+    ahead: Ahead<'a>,
+    keyed: bool,
+    inner: u32,
+) -> Result<(Option<Key>, Expr, u32, Ahead<'a>), Stop>
+    requires { inner < 2 ^ 31 }
+    ensures tree { Gives (λ x. ((x.0, shape x.1), x.3)) result (item_at (expr_at inner) keyed ahead.entry) }
+    ensures height { IfOk result (λ x. (x.2 ≡ height (shape x.1)) × (x.2 ≤ inner)) }
+{
+    if !keyed {
+        let (value, high, rest) = expr(alloc, ahead, false, 1, inner)?;
+        return Ok((None, value, high, rest));
+    }
+    let Some((found, behind)) = key(alloc, &ahead)? else {
+        let (value, high, rest) = expr(alloc, ahead, false, 1, inner)?;
+        return Ok((None, value, high, rest));
+    };
+    let (value, high, rest) = expr(alloc, behind, false, 1, inner)?;
+    Ok((Some(found), value, high, rest))
+}
+
+/// The arguments or elements in front up to a closing mark, each at most `inner` high; with the height of the highest.
+#[cycle(expressions)]
+fn items<'a>(
+    alloc: Global,
+    ahead: Ahead<'a>,
+    keyed: bool,
+    close: Operator,
+    inner: u32,
+) -> Result<(Vec<Item>, u32, Ahead<'a>), Stop>
+    requires { inner < 2 ^ 31 }
+    ensures tree { Gives (λ x. (map item_of x.0.items, x.2)) result (list_all (item_at (expr_at inner) keyed) operator.Comma close ahead.entry) }
+    ensures height { IfOk result (λ x. (x.1 ≡ items_height (items_of x.0.items)) × (x.1 ≤ inner)) }
+{
+    let mut all = Vec::new(alloc);
+    let mut high: u32 = 0;
+    let mut rest = ahead;
+    'turns: while rest.mark(close).is_none() {
+        let (key, value, value_high, behind) = item(alloc, rest, keyed, inner)?;
+        high = high.max(value_high);
+        let Some((comma, after)) = behind.mark(Operator::Comma) else {
+            // The last comma before the closing mark may be left out.
+            if behind.mark(close).is_none() {
+                return Err(Stop::Grammar(behind.offset()));
+            }
+            all.push(Item {
+                key,
+                value,
+                comma: None,
+            })?;
+            return Ok((all, high, behind));
+        };
+        all.push(Item {
+            key,
+            value,
+            comma: Some(comma),
+        })?;
+        rest = after;
+    }
+    Ok((all, high, rest))
+}

@@ -1,0 +1,64 @@
+//! The front of a composite literal, and the keys of its elements.
+ghost use Rattle.std.specs.Prelude.{◌≡◌, IfOk};
+ghost use Rattle.go_parse_exprs.specs.ExprReading as reading;
+ghost use Rattle.go_parse_exprs.specs.ExprReading.{key_at};
+ghost use Rattle.go_parse_exprs.specs.CodeShapes as shapes;
+
+use go_parse_types::Ahead;
+use go_scan_core::Operator;
+use go_tree_core::{Ident, Key, TypeName};
+use std::alloc::{AllocError, Global};
+
+/// Whether an opening brace stands in front, or behind a dot and a name in front; in a header there is none.
+pub fn opens_body(ahead: &Ahead<'_>, header: bool) -> bool
+    ensures { result ≡ shapes.opens_body header ahead.now }
+{
+    if header {
+        return false;
+    }
+    let Some((_, behind)) = ahead.mark(Operator::Dot) else {
+        return ahead.mark(Operator::OpenBrace).is_some();
+    };
+    let Some(rest) = behind.behind_name() else {
+        return ahead.mark(Operator::OpenBrace).is_some();
+    };
+    rest.mark(Operator::OpenBrace).is_some()
+}
+
+/// The name of a type that begins with `first`: a dot belongs to it where a name stands behind.
+///
+/// # Errors
+///
+/// [`AllocError`] where memory runs out.
+pub fn literal_name<'a>(
+    alloc: Global,
+    first: Ident,
+    ahead: Ahead<'a>,
+) -> Result<(TypeName, Ahead<'a>), AllocError>
+    ensures { IfOk result (λ x. (x.0, x.1) ≡ reading.literal_name first ahead.entry) }
+{
+    let Some((dot, behind)) = ahead.mark(Operator::Dot) else {
+        return Ok((TypeName::Plain(first), ahead));
+    };
+    let Some((name, rest)) = behind.name(alloc)? else {
+        return Ok((TypeName::Plain(first), ahead));
+    };
+    Ok((TypeName::Qualified(first, dot, name), rest))
+}
+
+/// The name and the colon in front, and what is behind them.
+///
+/// # Errors
+///
+/// [`AllocError`] where memory runs out.
+pub fn key<'a>(alloc: Global, ahead: &Ahead<'a>) -> Result<Option<(Key, Ahead<'a>)>, AllocError>
+    ensures { IfOk result (λ x. x ≡ key_at ahead.now) }
+{
+    let Some((name, rest)) = ahead.name(alloc)? else {
+        return Ok(None);
+    };
+    let Some((colon, rest)) = rest.mark(Operator::Colon) else {
+        return Ok(None);
+    };
+    Ok(Some((Key { name, colon }, rest)))
+}

@@ -1,0 +1,13 @@
+pub mod Ends
+pub mod Specs
+pub mod Values
+pub mod Simple
+pub mod Heads
+pub mod StmtFound
+pub mod StmtSound
+pub mod CodeSpecs
+pub mod CodeNames
+pub mod CodeSimple
+pub mod CodeHeads
+pub mod EmptyStmts
+pub mod CodeStmts

@@ -1,0 +1,13 @@
+use Rattle.std.proofs.Common.{length, map}
+use Rattle.go_scan_core.specs.declared.kind.Operator.TheVariants as operator
+use Rattle.go_tree_core.specs.Shapes.{shape_type_line}
+use Rattle.go_tree_core.specs.Trees.{TypeSpecTree}
+use Rattle.go_parse_types.proofs.CodeLists.{ListSoFar}
+use Rattle.go_parse_stmts.specs.StmtReading.{type_spec_at}
+use Rattle.go_parse_stmts.proofs.type_decls.type_lines.Given as goal
+
+abbrev pub invariant-turns : goal.invariant-turns
+invariant-turns l = ListSoFar TypeSpecTree (type_spec_at l.budget) operator.Semicolon operator.CloseParen l.fn.ahead (map shape_type_line l.all.items) l.rest
+
+abbrev pub decreases-turns : goal.decreases-turns
+decreases-turns l = length l.rest

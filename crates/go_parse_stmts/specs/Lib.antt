@@ -1,0 +1,2 @@
+pub mod StmtReading
+pub mod CodeShapes

@@ -1,0 +1,94 @@
+//! Declarations of types.
+ghost use Rattle.std.specs.Prelude.{◌≡◌, map};
+ghost use Rattle.go_scan_core.specs.declared.kind.Operator.TheVariants as operator;
+ghost use Rattle.go_tree_core.specs.Shapes.{shape_type_spec, shape_type_line, shape_type_specs, shape_type_decl};
+ghost use Rattle.go_parse_types.specs.EntryShapes.{list_all};
+ghost use Rattle.go_parse_types.specs.Giving.{Gives};
+ghost use Rattle.go_parse_stmts.specs.StmtReading.{type_spec_at, specs_at, types_at};
+
+use go_parse_types::{Ahead, Stop, type_expr};
+use go_scan_core::Operator;
+use go_text_core::Span;
+use go_tree_core::{TypeDecl, TypeLine, TypeSpec, TypeSpecs};
+use std::alloc::Global;
+
+/// The name in front and the type that it stands for, at most `budget` high.
+fn type_spec<'a>(
+    alloc: Global,
+    ahead: Ahead<'a>,
+    budget: u32,
+) -> Result<(TypeSpec, Ahead<'a>), Stop>
+    ensures { Gives (λ x. (shape_type_spec x.0, x.1)) result (type_spec_at budget ahead.entry) }
+{
+    let (name, rest) = ahead.need_name(alloc)?;
+    let (type_expr, rest) = type_expr(alloc, rest, budget)?;
+    Ok((TypeSpec { name, type_expr }, rest))
+}
+
+/// The specifications in front up to a closing parenthesis, with types at most `budget` high.
+fn type_lines<'a>(
+    alloc: Global,
+    ahead: Ahead<'a>,
+    budget: u32,
+) -> Result<(Vec<TypeLine>, Ahead<'a>), Stop>
+    ensures { Gives (λ x. (map shape_type_line x.0.items, x.1)) result (list_all (type_spec_at budget) operator.Semicolon operator.CloseParen ahead.entry) }
+{
+    let mut all = Vec::new(alloc);
+    let mut rest = ahead;
+    'turns: while rest.mark(Operator::CloseParen).is_none() {
+        let (spec, behind) = type_spec(alloc, rest, budget)?;
+        let Some((semicolon, after)) = behind.mark(Operator::Semicolon) else {
+            // The last semicolon before the parenthesis may be left out.
+            if behind.mark(Operator::CloseParen).is_none() {
+                return Err(Stop::Grammar(behind.offset()));
+            }
+            all.push(TypeLine {
+                spec,
+                semicolon: None,
+            })?;
+            return Ok((all, behind));
+        };
+        all.push(TypeLine {
+            spec,
+            semicolon: Some(semicolon),
+        })?;
+        rest = after;
+    }
+    Ok((all, rest))
+}
+
+/// The specification in front, or those in the parentheses in front, with types at most `budget` high.
+fn type_specs<'a>(
+    alloc: Global,
+    ahead: Ahead<'a>,
+    budget: u32,
+) -> Result<(TypeSpecs, Ahead<'a>), Stop>
+    ensures { Gives (λ x. (shape_type_specs x.0, x.1)) result (specs_at (type_spec_at budget) ahead.entry) }
+{
+    let Some((open, rest)) = ahead.mark(Operator::OpenParen) else {
+        let (spec, rest) = type_spec(alloc, ahead, budget)?;
+        return Ok((TypeSpecs::One(spec), rest));
+    };
+    let (lines, rest) = type_lines(alloc, rest, budget)?;
+    let (close, rest) = rest.need_mark(Operator::CloseParen)?;
+    Ok((TypeSpecs::Group(open, lines, close), rest))
+}
+
+/// What stands behind `type` (the Go specification, "Type declarations"), with types at most `budget` high.
+///
+/// # Errors
+///
+/// [`Stop::Grammar`] where no declaration stands there, with the offset in bytes of the first token that is no part of
+/// one; [`Stop::TooHigh`] where it would be too high, with the offset in bytes of what is too deep inside it; and
+/// [`Stop::Memory`] where memory runs out.
+pub fn type_decl<'a>(
+    alloc: Global,
+    ahead: Ahead<'a>,
+    keyword: Span,
+    budget: u32,
+) -> Result<(TypeDecl, Ahead<'a>), Stop>
+    ensures { Gives (λ x. (shape_type_decl x.0, x.1)) result (types_at budget keyword ahead.entry) }
+{
+    let (specs, rest) = type_specs(alloc, ahead, budget)?;
+    Ok((TypeDecl { keyword, specs }, rest))
+}

@@ -1,0 +1,86 @@
+-- What reading a list gives from the middle on.
+use Rattle.std.proofs.Common.{◌≡◌, ℕ, zero, suc, ◌-◌, ◌<◌, ◌≤◌, List, [], ◌∷◌, ◌++◌, length, Option, Some, None, Ok, Err, refl, sym, ap, ◌∙◌, arith, append_assoc}
+use Rattle.go_text_core.specs.declared.span.Span.{Span}
+use Rattle.go_scan_core.specs.declared.kind.Operator.{Operator}
+use Rattle.go_tree_core.specs.Terminals.{Terminal}
+use Rattle.go_parse_types.specs.declared.stop.Stop.{Stop}
+use Rattle.go_parse_types.specs.EntryShapes.{list_all}
+use Rattle.go_parse_types.specs.Giving.{Fails}
+use Rattle.go_parse_types.specs.Marks.{Stuck, Grammar, ◌>>=◌, Reading, mark_at, last_by, more_by, list_by, list_go}
+use Rattle.go_parse_types.proofs.Marks.{mark_shorter}
+use Rattle.go_parse_types.proofs.CodeSteps.{fails_along}
+
+abbrev pub with_front : {A : Type 0} → List (A × Option Span) → Reading (List (A × Option Span)) → Reading (List (A × Option Span))
+with_front done r = r >>= λ x. Ok (done ++ x.0, x.1)
+
+-- reading gives these items, and then what reading the rest gives
+pub record ListSoFar (A : Type 0) (item : List Terminal → Reading A) (between close : Operator) (ts : List Terminal) (done : List (A × Option Span)) (rest : List Terminal) : Type 0 where
+  pub turns : ℕ
+  pub enough : length rest < turns
+  pub same : list_all item between close ts ≡ with_front done (list_go item between close turns rest)
+
+whole : {A : Type 0} (r : Reading (List (A × Option Span))) → r ≡ with_front [] r
+whole (Ok x) = refl
+whole (Err e) = refl
+
+pub list_none : (A : Type 0) (item : List Terminal → Reading A) (between close : Operator) (ts : List Terminal) → ListSoFar A item between close ts [] ts
+list_none A item between close ts =
+    record { turns = suc (length ts); enough = omega arith; same = whole (list_all item between close ts) }
+
+-- a turn: an item, and what comes behind it
+turn_is : (A : Type 0) (item : List Terminal → Reading A) (between close : Operator) (k : ℕ) (rest after : List Terminal) (x : A) → 0 < k → None ≡ mark_at close rest → item rest ≡ Ok (x, after) → list_go item between close k rest ≡ more_by (list_go item between close (k - 1)) close x after (mark_at between after)
+unfolding list_go
+turn_is A item between close zero rest after x some free e = absurd (omega arith)
+turn_is A item between close (suc k) rest after x some free e =
+    let less : suc k - 1 ≡ k = omega arith in
+    ap (list_by item (list_go item between close k) between close rest) (sym free)
+    ∙ ap (λ r. r >>= λ x. more_by (list_go item between close k) close x.0 x.1 (mark_at between x.1)) e
+    ∙ ap (λ m. more_by (list_go item between close m) close x after (mark_at between after)) (sym less)
+
+turn_err : (A : Type 0) (item : List Terminal → Reading A) (between close : Operator) (k : ℕ) (rest : List Terminal) (f : Stuck) → 0 < k → None ≡ mark_at close rest → item rest ≡ Err f → list_go item between close k rest ≡ Err f
+unfolding list_go
+turn_err A item between close zero rest f some free e = absurd (omega arith)
+turn_err A item between close (suc k) rest f some free e =
+    ap (list_by item (list_go item between close k) between close rest) (sym free)
+    ∙ ap (λ r. r >>= λ x. more_by (list_go item between close k) close x.0 x.1 (mark_at between x.1)) e
+
+turn_end : (A : Type 0) (item : List Terminal → Reading A) (between close : Operator) (k : ℕ) (rest : List Terminal) (m : Span × List Terminal) → 0 < k → mark_at close rest ≡ Some m → list_go item between close k rest ≡ Ok ([], rest)
+unfolding list_go
+turn_end A item between close zero rest m some at = absurd (omega arith)
+turn_end A item between close (suc k) rest m some at = ap (list_by item (list_go item between close k) between close rest) at
+
+fuse : {A : Type 0} (done : List (A × Option Span)) (x : A × Option Span) (r : Reading (List (A × Option Span))) → with_front done (r >>= λ y. Ok (x ∷ y.0, y.1)) ≡ with_front (done ++ (x ∷ [])) r
+fuse done x (Err e) = refl
+fuse done x (Ok y) = ap (λ l. Ok (l, y.1)) (sym (append_assoc done (x ∷ []) y.0))
+
+pub list_more : (A : Type 0) (item : List Terminal → Reading A) (between close : Operator) (ts : List Terminal) (done new : List (A × Option Span)) (rest after : List Terminal) (x : A) (m : Span × List Terminal) → ListSoFar A item between close ts done rest → None ≡ mark_at close rest → item rest ≡ Ok (x, after) → length after ≤ length rest → Some m ≡ mark_at between after → new ≡ done ++ ((x, Some m.0) ∷ []) → ListSoFar A item between close ts new m.1
+list_more A item between close ts done new rest after x m so free e less at is =
+    let second = mark_shorter between after m (sym at) in
+    let k = so.turns in
+    let go = list_go item between close (k - 1) in
+    record { turns = k - 1; enough = omega (arith, so.enough); same = so.same ∙ ap (with_front done) (turn_is A item between close k rest after x (omega (arith, so.enough)) free e ∙ ap (more_by go close x after) (sym at)) ∙ fuse done (x, Some m.0) (go m.1) ∙ ap (λ d. with_front d (go m.1)) (sym is) }
+
+pub list_turn_shorter : (between : Operator) (rest after : List Terminal) (m : Span × List Terminal) → length after ≤ length rest → Some m ≡ mark_at between after → length m.1 < length rest
+list_turn_shorter between rest after m less at = omega (arith, mark_shorter between after m (sym at))
+
+pub list_fails : (A : Type 0) (item : List Terminal → Reading A) (between close : Operator) (ts : List Terminal) (done : List (A × Option Span)) (rest : List Terminal) (e : Stop) → ListSoFar A item between close ts done rest → None ≡ mark_at close rest → Fails e (item rest) → Fails e (list_all item between close ts)
+list_fails A item between close ts done rest e so free failed =
+    fails_along (item rest) (list_all item between close ts) e (λ f g. so.same ∙ ap (with_front done) (turn_err A item between close so.turns rest f (omega (arith, so.enough)) free g)) failed
+
+append_nil : {B : Type 0} (xs : List B) → xs ++ [] ≡ xs
+append_nil [] = refl
+append_nil (x ∷ xs) = ap (λ l. x ∷ l) (append_nil xs)
+
+pub list_end : (A : Type 0) (item : List Terminal → Reading A) (between close : Operator) (ts : List Terminal) (done : List (A × Option Span)) (rest : List Terminal) (m : Span × List Terminal) → ListSoFar A item between close ts done rest → mark_at close rest ≡ Some m → list_all item between close ts ≡ Ok (done, rest)
+list_end A item between close ts done rest m so at =
+    so.same ∙ ap (with_front done) (turn_end A item between close so.turns rest m (omega (arith, so.enough)) at) ∙ ap (λ l. Ok (l, rest)) (append_nil done)
+
+pub list_missing : (A : Type 0) (item : List Terminal → Reading A) (between close : Operator) (ts : List Terminal) (done : List (A × Option Span)) (rest after : List Terminal) (x : A) → ListSoFar A item between close ts done rest → None ≡ mark_at close rest → item rest ≡ Ok (x, after) → None ≡ mark_at between after → None ≡ mark_at close after → list_all item between close ts ≡ Err Grammar
+list_missing A item between close ts done rest after x so free e at closed =
+    let go = list_go item between close (so.turns - 1) in
+    so.same ∙ ap (with_front done) (turn_is A item between close so.turns rest after x (omega (arith, so.enough)) free e ∙ ap (more_by go close x after) (sym at) ∙ ap (last_by x after) (sym closed))
+
+pub list_last : (A : Type 0) (item : List Terminal → Reading A) (between close : Operator) (ts : List Terminal) (done new : List (A × Option Span)) (rest after : List Terminal) (x : A) (m : Span × List Terminal) → ListSoFar A item between close ts done rest → None ≡ mark_at close rest → item rest ≡ Ok (x, after) → None ≡ mark_at between after → mark_at close after ≡ Some m → new ≡ done ++ ((x, None) ∷ []) → list_all item between close ts ≡ Ok (new, after)
+list_last A item between close ts done new rest after x m so free e at closed is =
+    let go = list_go item between close (so.turns - 1) in
+    so.same ∙ ap (with_front done) (turn_is A item between close so.turns rest after x (omega (arith, so.enough)) free e ∙ ap (more_by go close x after) (sym at) ∙ ap (last_by x after) closed) ∙ ap (λ l. Ok (l, after)) (sym is)

@@ -1,0 +1,13 @@
+pub mod Marks
+pub mod Lists
+pub mod TypeFacts
+pub mod Params
+pub mod Signatures
+pub mod TypeLines
+pub mod Types
+pub mod CodeSteps
+pub mod CodeIdents
+pub mod CodeLists
+pub mod CodeEntries
+pub mod CodeTypes
+pub mod CodeHeights

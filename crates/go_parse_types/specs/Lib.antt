@@ -1,0 +1,4 @@
+pub mod EntryShapes
+pub mod Giving
+pub mod Marks
+pub mod TypeReading

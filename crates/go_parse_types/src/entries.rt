@@ -1,0 +1,126 @@
+//! Parameters from the entries of their list.
+ghost use Rattle.std.specs.Prelude.{◌≡◌, map, IfOk};
+ghost use Rattle.std.specs.Option.{option_map};
+ghost use Rattle.go_tree_core.specs.TypeShapes.{shape_idents, shape_type, params_of};
+ghost use Rattle.go_parse_types.specs.EntryShapes.{entry_of, with_last};
+ghost use Rattle.go_parse_types.specs.TypeReading.{has_name, as_types, as_groups, as_params, plain_name};
+
+use go_text_core::Span;
+use go_tree_core::{Ident, Idents, NextIdent, Param, TypeExpr, TypeName};
+use std::alloc::{AllocError, Global};
+
+/// An entry of a parameter list: a type, or a name and a type, with the comma behind it where one stands.
+#[derive(Drop)]
+pub struct Entry {
+    pub name: Option<Ident>,
+    pub type_expr: TypeExpr,
+    pub comma: Option<Span>,
+}
+
+/// Whether an entry has a name.
+fn is_named(entries: &[Entry]) -> bool
+    ensures { result ≡ has_name (map entry_of entries.now) }
+{
+    'turns: for entry in entries {
+        if entry.name.is_some() {
+            return true;
+        }
+    }
+    false
+}
+
+/// The parameters that entries without names are.
+fn types_from(alloc: Global, entries: Vec<Entry>) -> Result<Vec<Param>, AllocError>
+    ensures { IfOk result (λ x. params_of x.items ≡ as_types (map entry_of entries.items)) }
+{
+    let mut params = Vec::new(alloc);
+    'turns: for entry in entries {
+        params.push(Param {
+            names: None,
+            type_expr: entry.type_expr,
+            comma: entry.comma,
+        })?;
+    }
+    Ok(params)
+}
+
+/// The names so far, with the comma behind them, and one more.
+fn with_name(
+    alloc: Global,
+    names: Option<(Idents, Span)>,
+    name: Ident,
+) -> Result<Idents, AllocError>
+    ensures { IfOk result (λ x. shape_idents x ≡ with_last (option_map (λ n. (shape_idents n.0, n.1)) names) name) }
+{
+    match names {
+        Some((mut names, comma)) => {
+            names.more.push(NextIdent { comma, ident: name })?;
+            Ok(names)
+        }
+        None => Ok(Idents {
+            first: name,
+            more: Vec::new(alloc),
+        }),
+    }
+}
+
+/// The name that a type is.
+fn plain(type_expr: TypeExpr) -> Option<Ident>
+    ensures { result ≡ plain_name (shape_type type_expr) }
+{
+    match type_expr {
+        TypeExpr::Name(TypeName::Plain(name)) => Some(name),
+        _ => None,
+    }
+}
+
+/// The parameters that entries of which some have names are: an entry that is a name alone belongs to the
+/// group of the next one.
+fn groups_from(alloc: Global, entries: Vec<Entry>) -> Result<Option<Vec<Param>>, AllocError>
+    ensures { IfOk result (λ x. option_map (λ v. params_of v.items) x ≡ as_groups (map entry_of entries.items)) }
+{
+    let mut params = Vec::new(alloc);
+    let mut names = None;
+    'turns: for entry in entries {
+        let Entry {
+            name,
+            type_expr,
+            comma,
+        } = entry;
+        if let Some(name) = name {
+            let group = with_name(alloc, names, name)?;
+            names = None;
+            params.push(Param {
+                names: Some(group),
+                type_expr,
+                comma,
+            })?;
+        } else {
+            let Some(name) = plain(type_expr) else {
+                return Ok(None);
+            };
+            let Some(comma) = comma else {
+                return Ok(None);
+            };
+            names = Some((with_name(alloc, names, name)?, comma));
+        }
+    }
+    if names.is_some() {
+        return Ok(None);
+    }
+    Ok(Some(params))
+}
+
+/// The parameters that entries are, or none where they are no parameters.
+///
+/// # Errors
+///
+/// [`AllocError`] where memory runs out.
+pub fn params_from(alloc: Global, entries: Vec<Entry>) -> Result<Option<Vec<Param>>, AllocError>
+    ensures { IfOk result (λ x. option_map (λ v. params_of v.items) x ≡ as_params (map entry_of entries.items)) }
+{
+    if is_named(&entries) {
+        return groups_from(alloc, entries);
+    }
+    Ok(Some(types_from(alloc, entries)?))
+}

@@ -1,0 +1,15 @@
+//! Reading types, parameters and signatures (the Go specification, "Types").
+#![tactic(auto)]
+
+mod ahead;
+mod entries;
+mod heights;
+mod names;
+mod stop;
+mod type_reader;
+
+pub use ahead::Ahead;
+pub use heights::type_height;
+pub use names::{idents, type_name};
+pub use stop::Stop;
+pub use type_reader::{signature, struct_type, type_expr};

@@ -1,0 +1,48 @@
+//! Names with commas between them, and the names of types.
+ghost use Rattle.std.specs.Prelude.{◌≡◌, suc, length};
+ghost use Rattle.go_tree_core.specs.TypeShapes.{shape_idents};
+ghost use Rattle.go_parse_types.specs.Giving.{Gives};
+ghost use Rattle.go_parse_types.specs.Marks.{idents_go};
+ghost use Rattle.go_parse_types.specs.TypeReading.{type_name_at};
+
+use crate::ahead::Ahead;
+use crate::stop::Stop;
+use go_scan_core::Operator;
+use go_tree_core::{Idents, NextIdent, TypeName};
+use std::alloc::Global;
+
+/// The names in front with commas between them.
+///
+/// # Errors
+///
+/// [`Stop::Grammar`] where a name is missing, with the offset in bytes of what stands in its place, and
+/// [`Stop::Memory`] where memory runs out.
+pub fn idents<'a>(alloc: Global, ahead: Ahead<'a>) -> Result<(Idents, Ahead<'a>), Stop>
+    ensures { Gives (λ x. (shape_idents x.0, x.1)) result (idents_go (suc (length ahead.entry)) ahead.entry) }
+{
+    let (first, mut rest) = ahead.need_name(alloc)?;
+    let mut more = Vec::new(alloc);
+    'turns: while let Some((comma, after)) = rest.mark(Operator::Comma) {
+        let (ident, after) = after.need_name(alloc)?;
+        more.push(NextIdent { comma, ident })?;
+        rest = after;
+    }
+    Ok((Idents { first, more }, rest))
+}
+
+/// The name of a type in front.
+///
+/// # Errors
+///
+/// [`Stop::Grammar`] where a name is missing, with the offset in bytes of what stands in its place, and
+/// [`Stop::Memory`] where memory runs out.
+pub fn type_name<'a>(alloc: Global, ahead: Ahead<'a>) -> Result<(TypeName, Ahead<'a>), Stop>
+    ensures { Gives (λ x. (x.0, x.1)) result (type_name_at ahead.entry) }
+{
+    let (first, rest) = ahead.need_name(alloc)?;
+    let Some((dot, behind)) = rest.mark(Operator::Dot) else {
+        return Ok((TypeName::Plain(first), rest));
+    };
+    let (name, rest) = behind.need_name(alloc)?;
+    Ok((TypeName::Qualified(first, dot, name), rest))
+}

@@ -1,0 +1,9 @@
+pub mod Covering
+pub mod EachLemmas
+pub mod NarrowLemmas
+pub mod OccLemmas
+pub mod Order
+pub mod Seeking
+pub mod ShapeLemmas
+pub mod SignatureLemmas
+pub mod SubsetLemmas

@@ -1,0 +1,17 @@
+use Rattle.std.proofs.Common.{◌≡◌, List, arith, sym, subst}
+use Rattle.std.proofs.lemmas.Grind.{common_steps}
+use Rattle.go_subset_core.specs.declared.occurrence.Occ.{Occ}
+use Rattle.go_subset_core.specs.Shapes.{file_of}
+use Rattle.go_subset_core.specs.Occurrences.{file_occs, Follow}
+use Rattle.go_subset_core.proofs.OccLemmas.{tops_occs_list}
+use Rattle.go_subset_core.proofs.Order.{occs_follow}
+use Rattle.go_subset_core.proofs.occurrence.occurrences.Goals as goal
+
+pub returns-clause-value : goal.returns-clause-value
+returns-clause-value c = grind (arith, common_steps, tops_occs_list)
+
+pub returns-clause-ordered : goal.returns-clause-ordered
+returns-clause-ordered c = λ high h.
+    let P : List Occ → Type 0 = λ os. Follow 0 os high in
+    let value : c.loop-top.occs.items ≡ file_occs (file_of c.args.file.now) = returns-clause-value c in
+    subst P (sym value) (occs_follow (file_of c.args.file.now) high h)

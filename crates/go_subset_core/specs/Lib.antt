@@ -1,0 +1,8 @@
+pub mod Narrowing
+pub mod Occurrences
+pub mod Seeking
+pub mod Shapes
+pub mod Spelling
+pub mod Subset
+pub mod Trees
+pub mod Widening

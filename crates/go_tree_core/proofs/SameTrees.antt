@@ -1,0 +1,112 @@
+-- Lists whose elements have the same trees have the same tree.
+use Rattle.std.proofs.Common.{◌≡◌, List, [], ◌∷◌, map, refl, ap, sym, ◌∙◌}
+use Rattle.go_text_core.specs.declared.span.Span.{Span}
+use Rattle.go_tree_core.specs.declared.types.FieldLine.{FieldLine}
+use Rattle.go_tree_core.specs.declared.types.Fields.{Fields}
+use Rattle.go_tree_core.specs.declared.types.Fields.TheVariants as fields
+use Rattle.go_tree_core.specs.declared.types.MethodLine.{MethodLine, MethodLine'}
+use Rattle.go_tree_core.specs.declared.types.«Param» as declared_param
+use Rattle.go_tree_core.specs.declared.exprs.Expr.{Expr}
+use Rattle.go_tree_core.specs.declared.exprs.«Item» as declared_item
+use Rattle.go_tree_core.specs.declared.exprs.NextExpr.{NextExpr}
+use Rattle.go_tree_core.specs.declared.stmts.«Line» as declared_line
+use Rattle.go_tree_core.specs.Trees.{Separated, One, Then, FieldTrees, NoFields, NamedFields, EmbeddedField, MethodTrees, NoMethods, Method, ParamTrees, NoParams, Param, ExprTree, ItemTrees, NoItems, Item, Lines, NoLines, Line}
+use Rattle.go_tree_core.specs.TypeShapes.{shape_names, shape_type, fields_before, fields_of, method_before, methods_of, params_of}
+use Rattle.go_tree_core.specs.Shapes.{shape, items_of, exprs_from, shape_stmt, lines_of}
+
+-- the tree of a list from the trees of its elements
+module _ {X T : Type 0} (whole : List X → T) (before : T → T → T) (step : (x : X) (xs : List X) → whole (x ∷ xs) ≡ before (whole (x ∷ [])) (whole xs)) where
+  abbrev joined : List T → T
+  joined [] = whole []
+  joined (t ∷ ts) = before t (joined ts)
+
+  joined_is : (xs : List X) → whole xs ≡ joined (map (λ x. whole (x ∷ [])) xs)
+  joined_is [] = refl
+  joined_is (x ∷ xs) = step x xs ∙ ap (before (whole (x ∷ []))) (joined_is xs)
+
+  same_whole : (xs ys : List X) → map (λ x. whole (x ∷ [])) xs ≡ map (λ x. whole (x ∷ [])) ys → whole xs ≡ whole ys
+  same_whole xs ys e = joined_is xs ∙ ap joined e ∙ sym (joined_is ys)
+
+-- the lines of a struct type
+
+abbrev pub field_tree : FieldLine → FieldTrees
+field_tree l = fields_before l.fields l.tag l.semicolon NoFields
+
+abbrev fields_first : FieldTrees → FieldTrees → FieldTrees
+fields_first NoFields rest = rest
+fields_first (NamedFields xs t tag s _) rest = NamedFields xs t tag s rest
+fields_first (EmbeddedField star n tag s _) rest = EmbeddedField star n tag s rest
+
+fields_step : (f : Fields) (tag : _) (s : _) (rest : FieldTrees) → fields_before f tag s rest ≡ fields_first (fields_before f tag s NoFields) rest
+fields_step (fields.Named xs t) tag s rest = refl
+fields_step (fields.Embedded star n) tag s rest = refl
+
+pub same_fields : (ls ms : List FieldLine) → map field_tree ls ≡ map field_tree ms → fields_of ls ≡ fields_of ms
+same_fields = same_whole fields_of fields_first (λ l ls. fields_step l.fields l.tag l.semicolon (fields_of ls))
+
+-- the methods of an interface type
+
+abbrev pub method_tree : MethodLine → MethodTrees
+method_tree m = method_before m NoMethods
+
+abbrev methods_first : MethodTrees → MethodTrees → MethodTrees
+methods_first NoMethods rest = rest
+methods_first (Method x signature s _) rest = Method x signature s rest
+
+methods_step : (m : MethodLine) (rest : MethodTrees) → method_before m rest ≡ methods_first (method_tree m) rest
+methods_step (MethodLine' x signature s) rest = refl
+
+pub same_methods : (ls ms : List MethodLine) → map method_tree ls ≡ map method_tree ms → methods_of ls ≡ methods_of ms
+same_methods = same_whole methods_of methods_first (λ m ms. methods_step m (methods_of ms))
+
+-- the entries of a parameter list
+
+abbrev pub param_tree : declared_param.Param → ParamTrees
+param_tree p = Param (shape_names p.names) (shape_type p.type_expr) p.comma NoParams
+
+abbrev params_first : ParamTrees → ParamTrees → ParamTrees
+params_first NoParams rest = rest
+params_first (Param xs t comma _) rest = Param xs t comma rest
+
+pub same_params : (ps qs : List declared_param.Param) → map param_tree ps ≡ map param_tree qs → params_of ps ≡ params_of qs
+same_params = same_whole params_of params_first (λ p ps. refl)
+
+-- arguments and elements
+
+abbrev pub item_tree : declared_item.Item → ItemTrees
+item_tree i = Item i.key (shape i.value) i.comma NoItems
+
+abbrev items_first : ItemTrees → ItemTrees → ItemTrees
+items_first NoItems rest = rest
+items_first (Item key t comma _) rest = Item key t comma rest
+
+pub same_items : (is js : List declared_item.Item) → map item_tree is ≡ map item_tree js → items_of is ≡ items_of js
+same_items = same_whole items_of items_first (λ i is. refl)
+
+-- expressions with commas between them
+
+abbrev pub next_expr : NextExpr → Span × ExprTree
+next_expr n = (n.comma, shape n.expr)
+
+abbrev with_next : ExprTree → List (Span × ExprTree) → Separated ExprTree
+with_next t [] = One t
+with_next t (n ∷ ns) = Then t n.0 (with_next n.1 ns)
+
+with_next_is : (e : Expr) (ns : List NextExpr) → exprs_from e ns ≡ with_next (shape e) (map next_expr ns)
+with_next_is e [] = refl
+with_next_is e (n ∷ ns) = ap (Then (shape e) n.comma) (with_next_is n.expr ns)
+
+pub same_exprs : (e f : Expr) (ns ms : List NextExpr) → shape e ≡ shape f → map next_expr ns ≡ map next_expr ms → exprs_from e ns ≡ exprs_from f ms
+same_exprs e f ns ms first more = with_next_is e ns ∙ ap (λ t. with_next t (map next_expr ns)) first ∙ ap (with_next (shape f)) more ∙ sym (with_next_is f ms)
+
+-- the lines of a block
+
+abbrev pub line_tree : declared_line.Line → Lines
+line_tree l = Line (shape_stmt l.stmt) l.semicolon NoLines
+
+abbrev lines_first : Lines → Lines → Lines
+lines_first NoLines rest = rest
+lines_first (Line c s _) rest = Line c s rest
+
+pub same_lines : (ls ms : List declared_line.Line) → map line_tree ls ≡ map line_tree ms → lines_of ls ≡ lines_of ms
+same_lines = same_whole lines_of lines_first (λ l ls. refl)
