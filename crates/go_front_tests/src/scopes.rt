@@ -1,11 +1,11 @@
 //! Open blocks and their names.
-use go_scope_core::{DeclId, Scopes};
+use go_open_core::{DeclId, OpenBlocks};
 use go_text_core::Rule;
 use std::test::Fail;
 
 #[test]
 fn shadows(rt: HostRuntime) -> Result<(), Fail> {
-    let mut scopes = Scopes::new(rt.alloc());
+    let mut scopes = OpenBlocks::new(rt.alloc());
     assert_eq!(rt; scopes.find("x"), None);
     assert_eq!(rt; scopes.enter(), Ok(()));
     assert_eq!(rt; scopes.declare("x", DeclId(26)), Ok(()));
@@ -28,7 +28,7 @@ fn shadows(rt: HostRuntime) -> Result<(), Fail> {
 
 #[test]
 fn short_declarations(rt: HostRuntime) -> Result<(), Fail> {
-    let mut scopes = Scopes::new(rt.alloc());
+    let mut scopes = OpenBlocks::new(rt.alloc());
     assert_eq!(rt; scopes.enter(), Ok(()));
     assert_eq!(rt; scopes.declare("a", DeclId(1)), Ok(()));
     let names = [("a", DeclId(2)), ("b", DeclId(3)), ("_", DeclId(4))];

@@ -38,8 +38,8 @@ fn top_decl<'a>(alloc: Global, ahead: Ahead<'a>, budget: u32) -> Result<(TopDecl
     ensures { Gives (λ x. (top_of x.0, x.1)) result (top_at budget ahead.entry) }
 {
     let (decl, rest) = decl(alloc, ahead, budget)?;
-    let (semicolon, rest) = rest.need_mark(Operator::Semicolon)?;
-    Ok((TopDecl { decl, semicolon }, rest))
+    rest.need_mark(Operator::Semicolon)
+        .map(|(semicolon, rest)| (TopDecl { decl, semicolon }, rest))
 }
 
 /// The declarations that all the tokens make.

@@ -66,6 +66,19 @@ impl Parsed {
         &self.tree
     }
 
+    /// The text, as it was given, and its tree.
+    pub fn into_parts(self) -> (String, File)
+        ensures text { string_bytes result.0 ≡ self }
+        ensures found { HasTree self (file_of result.1) }
+        ensures low { file_height (file_of result.1) ≤ max_height }
+        // The tokens that the tree writes follow one another in the text.
+        ensures placed { InOrder 0 (spell_file (file_of result.1)) (length self) }
+        ensures few { length (file_occs (file_of result.1)) < 2 ^ 64 }
+    {
+        let Parsed { text, tree } = self;
+        (text, tree)
+    }
+
     /// An equal value. The one error is want of memory.
     pub fn copy(&self, alloc: Global) -> Result<Parsed, AllocError>
         ensures { IfOk result (λ p. p ≡ self.now) }

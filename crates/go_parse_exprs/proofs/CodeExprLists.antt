@@ -12,6 +12,7 @@ use Rattle.go_tree_core.specs.Shapes.{shape, exprs_from}
 use Rattle.go_parse_types.specs.declared.stop.Stop.{Stop}
 use Rattle.go_parse_types.specs.Giving.{Fails}
 use Rattle.go_parse_types.specs.Marks.{Stuck, ◌>>=◌, Reading, mark_at}
+use Rattle.go_parse_exprs.specs.CodeShapes.{on_from}
 use Rattle.go_parse_exprs.specs.ExprReading.{expr_at, exprs_by, exprs_go, exprs_at}
 use Rattle.go_parse_types.proofs.Marks.{mark_shorter}
 use Rattle.go_parse_exprs.proofs.Fronts.{spell_some}
@@ -50,15 +51,11 @@ front_one : (e : Expr) (ns : List NextExpr) (ts : List Terminal) → with_front 
 front_one e [] ts = refl
 front_one e (n ∷ ns) ts = ap (λ r. r >>= λ x. Ok (Then (shape e) n.comma x.0, x.1)) (front_one n.expr ns ts)
 
--- what reads on behind an expression
-abbrev pub on_from : ℕ → Bool → ℕ → List Terminal → ExprTree → Exprs
-on_from b header turns rest t = exprs_by (exprs_go (expr_at b header 1) turns) t rest (mark_at operator.Comma rest)
-
 -- reading gives these expressions, and then what reading the rest gives
-pub record ExprsSoFar (b : ℕ) (header : Bool) (ts : List Terminal) (first : Expr) (more : List NextExpr) (rest : List Terminal) : Type 0 where
+pub record ExprsSoFar (b : ℕ) (header : Bool) (whole : Exprs) (first : Expr) (more : List NextExpr) (rest : List Terminal) : Type 0 where
   pub turns : ℕ
   pub enough : length rest < turns
-  pub same : exprs_at b header ts ≡ with_front first more (on_from b header turns rest)
+  pub same : whole ≡ with_front first more (on_from b header turns rest)
 
 go_is : (b k : ℕ) (header : Bool) (ts rest : List Terminal) (t : ExprTree) → 0 < k → expr_at b header 1 ts ≡ Ok (t, rest) → exprs_go (expr_at b header 1) k ts ≡ on_from b header (k - 1) rest t
 unfolding exprs_go
@@ -72,17 +69,20 @@ unfolding exprs_go
 go_err b zero header ts f some e = absurd (omega arith)
 go_err b (suc k) header ts f some e = ap (λ r. r >>= λ x. exprs_by (exprs_go (expr_at b header 1) k) x.0 x.1 (mark_at operator.Comma x.1)) e
 
-pub exprs_start : (b : ℕ) (header : Bool) (ts rest : List Terminal) (first : Expr) (more : List NextExpr) → more ≡ [] → expr_at b header 1 ts ≡ Ok (shape first, rest) → ExprsSoFar b header ts first more rest
-exprs_start b header ts rest first more none e =
-    let less = first_shorter b header ts rest (shape first) e in
-    let step : exprs_at b header ts ≡ on_from b header (suc (length ts) - 1) rest (shape first) = go_is b (suc (length ts)) header ts rest (shape first) (omega arith) e in
-    record { turns = suc (length ts) - 1; enough = omega arith; same = step ∙ ap (λ ns. with_front first ns (on_from b header (suc (length ts) - 1) rest)) (sym none) }
+pub exprs_start : (b turns : ℕ) (header : Bool) (ts : List Terminal) (first : Expr) (more : List NextExpr) → more ≡ [] → length ts < turns → ExprsSoFar b header (on_from b header turns ts (shape first)) first more ts
+exprs_start b turns header ts first more none some =
+    record { turns = turns; enough = some; same = ap (λ ns. with_front first ns (on_from b header turns ts)) (sym none) }
+
+-- the first, and what reads on
+pub exprs_first : (b : ℕ) (header : Bool) (ts rest : List Terminal) (t : ExprTree) → expr_at b header 1 ts ≡ Ok (t, rest) → exprs_at b header ts ≡ on_from b header (length ts) rest t
+unfolding exprs_go
+exprs_first b header ts rest t e = ap (λ r. r >>= λ x. exprs_by (exprs_go (expr_at b header 1) (length ts)) x.0 x.1 (mark_at operator.Comma x.1)) e
 
 pub exprs_start_fails : (b : ℕ) (header : Bool) (ts : List Terminal) (e : Stop) → Fails e (expr_at b header 1 ts) → Fails e (exprs_at b header ts)
 exprs_start_fails b header ts e failed = fails_along (expr_at b header 1 ts) (exprs_at b header ts) e (λ f g. go_err b (suc (length ts)) header ts f (omega arith) g) failed
 
-pub exprs_more : (b : ℕ) (header : Bool) (ts rest after : List Terminal) (first : Expr) (more new : List NextExpr) (m : Span × List Terminal) (n : NextExpr) → ExprsSoFar b header ts first more rest → Some m ≡ mark_at operator.Comma rest → expr_at b header 1 m.1 ≡ Ok (shape n.expr, after) → n.comma ≡ m.0 → new ≡ more ++ (n ∷ []) → ExprsSoFar b header ts first new after
-exprs_more b header ts rest after first more new m n so at e comma is =
+pub exprs_more : (b : ℕ) (header : Bool) (whole : Exprs) (rest after : List Terminal) (first : Expr) (more new : List NextExpr) (m : Span × List Terminal) (n : NextExpr) → ExprsSoFar b header whole first more rest → Some m ≡ mark_at operator.Comma rest → expr_at b header 1 m.1 ≡ Ok (shape n.expr, after) → n.comma ≡ m.0 → new ≡ more ++ (n ∷ []) → ExprsSoFar b header whole first new after
+exprs_more b header whole rest after first more new m n so at e comma is =
     let less = mark_shorter operator.Comma rest m (sym at) in
     let down = first_shorter b header m.1 after (shape n.expr) e in
     let k = so.turns in
@@ -91,17 +91,17 @@ exprs_more b header ts rest after first more new m n so at e comma is =
     λ t. ap (exprs_by (exprs_go (expr_at b header 1) k) t rest) (sym at) ∙ ap (λ r. r >>= λ x. Ok (Then t m.0 x.0, x.1)) (go_is b k header m.1 after (shape n.expr) some e) ∙ ap (λ c. on_from b header (k - 1) after (shape n.expr) >>= λ x. Ok (Then t c x.0, x.1)) (sym comma) in
     record { turns = k - 1; enough = omega (arith, so.enough); same = so.same ∙ front_along first more (on_from b header k rest) (λ t. on_from b header (k - 1) after (shape n.expr) >>= λ x. Ok (Then t n.comma x.0, x.1)) on ∙ sym (front_append first more n (on_from b header (k - 1) after)) ∙ ap (λ ns. with_front first ns (on_from b header (k - 1) after)) (sym is) }
 
-pub exprs_fails : (b : ℕ) (header : Bool) (ts rest : List Terminal) (first : Expr) (more : List NextExpr) (m : Span × List Terminal) (e : Stop) → ExprsSoFar b header ts first more rest → Some m ≡ mark_at operator.Comma rest → Fails e (expr_at b header 1 m.1) → Fails e (exprs_at b header ts)
-exprs_fails b header ts rest first more m e so at failed =
-    fails_along (expr_at b header 1 m.1) (exprs_at b header ts) e (λ f g. so.same ∙ front_along first more (on_from b header so.turns rest) (λ t. Err f) (on f g) ∙ front_err first more f) failed
+pub exprs_fails : (b : ℕ) (header : Bool) (whole : Exprs) (rest : List Terminal) (first : Expr) (more : List NextExpr) (m : Span × List Terminal) (e : Stop) → ExprsSoFar b header whole first more rest → Some m ≡ mark_at operator.Comma rest → Fails e (expr_at b header 1 m.1) → Fails e whole
+exprs_fails b header whole rest first more m e so at failed =
+    fails_along (expr_at b header 1 m.1) whole e (λ f g. so.same ∙ front_along first more (on_from b header so.turns rest) (λ t. Err f) (on f g) ∙ front_err first more f) failed
   where
     on : (f : Stuck) → expr_at b header 1 m.1 ≡ Err f → (t : ExprTree) → on_from b header so.turns rest t ≡ Err f
     on f g t =
         let some : 0 < so.turns = omega (arith, so.enough) in
         ap (exprs_by (exprs_go (expr_at b header 1) so.turns) t rest) (sym at) ∙ ap (λ r. r >>= λ x. Ok (Then t m.0 x.0, x.1)) (go_err b so.turns header m.1 f some g)
 
-pub exprs_end : (b : ℕ) (header : Bool) (ts rest : List Terminal) (first : Expr) (more : List NextExpr) → ExprsSoFar b header ts first more rest → None ≡ mark_at operator.Comma rest → exprs_at b header ts ≡ Ok (exprs_from first more, rest)
-exprs_end b header ts rest first more so at =
+pub exprs_end : (b : ℕ) (header : Bool) (whole : Exprs) (rest : List Terminal) (first : Expr) (more : List NextExpr) → ExprsSoFar b header whole first more rest → None ≡ mark_at operator.Comma rest → whole ≡ Ok (exprs_from first more, rest)
+exprs_end b header whole rest first more so at =
     so.same ∙ front_along first more (on_from b header so.turns rest) (λ t. Ok (One t, rest)) (λ t. ap (exprs_by (exprs_go (expr_at b header 1) so.turns) t rest) (sym at)) ∙ front_one first more rest
 
 -- the height of one more
@@ -109,7 +109,12 @@ high_more : (first : Expr) (more : List NextExpr) (n : NextExpr) → exprs_heigh
 high_more first [] n = refl
 high_more first (m ∷ ms) n = omega (arith, high_more m.expr ms n)
 
-pub high_after : (first : Expr) (more new : List NextExpr) (n : NextExpr) (before last after : ℕ) → before ≡ exprs_height (exprs_from first more) → last ≡ height (shape n.expr) → new ≡ more ++ (n ∷ []) → after ≡ max before last → after ≡ exprs_height (exprs_from first new)
+pub high_after : (first : Expr) (more new : List NextExpr) (n : NextExpr) (before last after : ℕ) → exprs_height (exprs_from first more) ≡ max (height (shape first)) before → last ≡ height (shape n.expr) → new ≡ more ++ (n ∷ []) → after ≡ max before last → exprs_height (exprs_from first new) ≡ max (height (shape first)) after
 high_after first more new n before last after high low is most =
-    let all : after ≡ exprs_height (exprs_from first (more ++ (n ∷ []))) = omega (arith, high, low, most, high_more first more n) in
-    all ∙ ap (λ ns. exprs_height (exprs_from first ns)) (sym is)
+    let all : exprs_height (exprs_from first (more ++ (n ∷ []))) ≡ max (height (shape first)) after = omega (arith, high, low, most, high_more first more n) in
+    ap (λ ns. exprs_height (exprs_from first ns)) is ∙ all
+
+pub high_none : (first : Expr) (more : List NextExpr) → more ≡ [] → exprs_height (exprs_from first more) ≡ max (height (shape first)) 0
+high_none first more none =
+    let all : exprs_height (exprs_from first []) ≡ max (height (shape first)) 0 = omega arith in
+    ap (λ ns. exprs_height (exprs_from first ns)) none ∙ all

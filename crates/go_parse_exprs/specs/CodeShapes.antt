@@ -1,16 +1,21 @@
 -- What values of the program stand for, before it is known what they belong to.
-use Rattle.std.specs.Prelude.{Bool, true, false, List, Option, Some, None, is_some}
+use Rattle.std.specs.Prelude.{◌≡◌, ◌<◌, ℕ, max, Bool, true, false, List, length, Option, Some, None, Result, is_some}
 use Rattle.go_text_core.specs.declared.span.Span.{Span}
 use Rattle.go_scan_core.specs.declared.kind.Operator.TheVariants as operator
 use Rattle.go_tree_core.specs.declared.names.Ident.{Ident}
+use Rattle.go_tree_core.specs.declared.exprs.Expr.{Expr}
 use Rattle.go_tree_core.specs.declared.exprs.«Item» as declared_item
+use Rattle.go_tree_core.specs.declared.exprs.NextExpr.{NextExpr}
 use Rattle.go_tree_core.specs.Terminals.{Terminal}
-use Rattle.go_tree_core.specs.Trees.{ExprTree}
-use Rattle.go_tree_core.specs.Shapes.{shape}
+use Rattle.go_tree_core.specs.Trees.{ExprTree, Separated}
+use Rattle.go_tree_core.specs.Heights.{height, exprs_height}
+use Rattle.go_tree_core.specs.Shapes.{shape, exprs_from}
+use Rattle.go_parse_types.specs.declared.stop.Stop.{Stop}
+use Rattle.go_parse_types.specs.Giving.{Gives}
 use Rattle.go_parse_types.specs.Marks.{◌>>=◌, Reading, Place, mark_at, name_at}
 use Rattle.go_parse_exprs.specs.declared.after.After.{After}
 use Rattle.go_parse_exprs.specs.declared.after.After.TheVariants as after
-use Rattle.go_parse_exprs.specs.ExprReading.{Inner, ItemTree, close_by, Next, Operate, Pick, Apply}
+use Rattle.go_parse_exprs.specs.ExprReading.{Inner, ItemTree, close_by, Next, Operate, Pick, Apply, expr_at, exprs_by, exprs_go}
 
 abbrev pub next_of : After → Span → List Terminal → Next
 next_of (after.Operate o) s rest = Operate o s rest
@@ -40,3 +45,16 @@ opens_body false ts = opens_dot ts (mark_at operator.Dot ts)
 -- an expression and the closing parenthesis behind it
 abbrev pub in_parens : Inner → Span → List Terminal → Reading ExprTree
 in_parens inner first ts = inner false 1 ts >>= λ x. close_by first x.0 (mark_at operator.CloseParen x.1)
+
+-- what reads on behind an expression, at most turns of them more
+abbrev pub on_from : ℕ → Bool → ℕ → List Terminal → ExprTree → Reading (Separated ExprTree)
+on_from b header turns rest t = exprs_by (exprs_go (expr_at b header 1) turns) t rest (mark_at operator.Comma rest)
+
+-- reading on gives what the program returned, behind any first expression
+abbrev pub GivesBehind : {X : Type 0} → (X → List NextExpr × List Terminal) → Result X Stop → ℕ → Bool → List Terminal → Type 0
+GivesBehind view result b header ts =
+    (first : Expr) (turns : ℕ) → length ts < turns → Gives (λ x. (exprs_from first (view x).0, (view x).1)) result (on_from b header turns ts (shape first))
+
+-- these expressions raise what stands before them to this height
+abbrev pub HighBehind : List NextExpr → ℕ → Type 0
+HighBehind more high = (first : Expr) → exprs_height (exprs_from first more) ≡ max (height (shape first)) high

@@ -3,6 +3,7 @@ ghost use Rattle.std.specs.Prelude.{◌≡◌, ◌≤◌, ◌<◌, ◌^◌, IfOk
 ghost use Rattle.go_tree_core.specs.Shapes.{shape_exprs};
 ghost use Rattle.go_tree_core.specs.Heights.{exprs_height};
 ghost use Rattle.go_parse_types.specs.Giving.{Gives};
+ghost use Rattle.go_parse_exprs.specs.CodeShapes.{GivesBehind, HighBehind};
 ghost use Rattle.go_parse_exprs.specs.ExprReading.{exprs_at};
 
 use crate::expr_reader::expr;
@@ -29,13 +30,31 @@ pub fn exprs<'a>(
     ensures tree { Gives (λ x. (shape_exprs x.0, x.2)) result (exprs_at budget header ahead.entry) }
     ensures height { IfOk result (λ x. (x.1 ≡ exprs_height (shape_exprs x.0)) × (x.1 ≤ budget)) }
 {
-    let (first, mut high, mut rest) = expr(alloc, ahead, header, 1, budget)?;
+    let (first, high, rest) = expr(alloc, ahead, header, 1, budget)?;
+    let (more, more_high, rest) = next_exprs(alloc, rest, header, budget)?;
+    Ok((Exprs { first, more }, high.max(more_high), rest))
+}
+
+/// The expressions in front with a comma before each, each at most `budget` high, in a header or not; with the height
+/// of the highest.
+fn next_exprs<'a>(
+    alloc: Global,
+    ahead: Ahead<'a>,
+    header: bool,
+    budget: u32,
+) -> Result<(Vec<NextExpr>, u32, Ahead<'a>), Stop>
+    requires { budget < 2 ^ 31 }
+    ensures tree { GivesBehind (λ x. (x.0.items, x.2)) result budget header ahead.entry }
+    ensures height { IfOk result (λ x. HighBehind x.0.items x.1 × (x.1 ≤ budget)) }
+{
     let mut more = Vec::new(alloc);
+    let mut high: u32 = 0;
+    let mut rest = ahead;
     'turns: while let Some((comma, after)) = rest.mark(Operator::Comma) {
         let (expr, expr_high, after) = expr(alloc, after, header, 1, budget)?;
         more.push(NextExpr { comma, expr })?;
         high = high.max(expr_high);
         rest = after;
     }
-    Ok((Exprs { first, more }, high, rest))
+    Ok((more, high, rest))
 }

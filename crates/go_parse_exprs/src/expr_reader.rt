@@ -81,22 +81,22 @@ fn one_step<'a>(
     ensures tree { Gives (λ x. (shape x.0, x.2)) result (step (expr_at inner) header (shape left) (next_of after span ahead.entry)) }
     ensures height { IfOk result (λ x. (x.1 ≡ height (shape x.0)) × (x.1 ≤ inner + 1) × (high < x.1)) }
 {
+    // In a box at once: where reading stops, a box is dropped in one step.
+    let left = Box::new(alloc, left)?;
     match after {
         After::Operate(op) => {
             let (right, right_high, rest) = expr(alloc, ahead, header, rank(op) + 1, inner)?;
-            let right = Box::new(alloc, right)?;
-            let whole = Expr::Binary(Box::new(alloc, left)?, op, span, right);
+            let whole = Expr::Binary(left, op, span, Box::new(alloc, right)?);
             Ok((whole, high.max(right_high) + 1, rest))
         }
         After::Pick => {
             let (picked, rest) = ahead.need_name(alloc)?;
-            let whole = Expr::Select(Box::new(alloc, left)?, span, picked);
-            Ok((whole, high + 1, rest))
+            Ok((Expr::Select(left, span, picked), high + 1, rest))
         }
         After::Apply => {
             let (all, items_high, rest) = items(alloc, ahead, false, Operator::CloseParen, inner)?;
             let (close, rest) = rest.need_mark(Operator::CloseParen)?;
-            let whole = Expr::Call(Box::new(alloc, left)?, span, all, close);
+            let whole = Expr::Call(left, span, all, close);
             Ok((whole, high.max(items_high) + 1, rest))
         }
     }
@@ -135,9 +135,9 @@ fn in_parens<'a>(alloc: Global, ahead: Ahead<'a>, opening: Span, inner: u32) -> 
     ensures height { IfOk result (λ x. (x.1 ≡ height (shape x.0)) × (x.1 ≤ inner + 1)) }
 {
     let (inside, high, rest) = expr(alloc, ahead, false, 1, inner)?;
+    let inside = Box::new(alloc, inside)?;
     let (close, rest) = rest.need_mark(Operator::CloseParen)?;
-    let whole = Expr::Paren(opening, Box::new(alloc, inside)?, close);
-    Ok((whole, high + 1, rest))
+    Ok((Expr::Paren(opening, inside, close), high + 1, rest))
 }
 
 /// A unary operator and its operand.

@@ -1,16 +1,16 @@
 -- What reading the headers of `if` and `for` gives, in the words of the program.
-use Rattle.std.proofs.Common.{◌≡◌, ℕ, Bool, true, false, List, Option, Some, None, Ok, Err, refl, sym, ap, ◌∙◌, cond}
+use Rattle.std.proofs.Common.{◌≡◌, ℕ, Bool, true, false, List, Option, Some, None, Ok, Err, refl, ap, ◌∙◌, cond}
 use Rattle.go_text_core.specs.declared.span.Span.{Span}
 use Rattle.go_scan_core.specs.declared.kind.Operator.TheVariants as operator
 use Rattle.go_tree_core.specs.Terminals.{Terminal}
-use Rattle.go_tree_core.specs.Trees.{Separated, ExprTree, SimpleTree, ForTree, Clauses}
+use Rattle.go_tree_core.specs.Trees.{ExprTree, SimpleTree, ForTree, Clauses}
 use Rattle.go_parse_types.specs.declared.stop.Stop.{Stop}
 use Rattle.go_parse_types.specs.Giving.{Fails}
 use Rattle.go_parse_types.specs.Marks.{Stuck, Grammar, ◌>>=◌, Reading, Place, need, mark_at}
 use Rattle.go_parse_types.proofs.CodeSteps.{fails_along}
-use Rattle.go_parse_exprs.specs.ExprReading.{expr_at, exprs_at}
+use Rattle.go_parse_exprs.specs.ExprReading.{expr_at}
 use Rattle.go_parse_stmts.specs.StmtReading as reading
-use Rattle.go_parse_stmts.specs.StmtReading.{is_define, simple_from, post_first, for_post, for_second, for_test, for_clauses, for_from, for_begins, for_first, for_at}
+use Rattle.go_parse_stmts.specs.StmtReading.{is_define, post_first, for_post, for_second, for_test, for_clauses}
 use Rattle.go_parse_stmts.specs.CodeShapes.{test_by, test_at, as_post, post_by, post_at}
 
 -- the parts of a `for`, put together
@@ -66,10 +66,9 @@ clauses_are n init a ts rest after test b post found last =
 
 -- a statement behind `for` that no semicolon follows
 
-clauses_missing : (n : ℕ) (i : SimpleTree) (m : Place) (f : Stuck) → need m ≡ Err f → for_clauses n (Some i) m ≡ Err f
+clauses_missing : (n : ℕ) (i : Option SimpleTree) (m : Place) (f : Stuck) → need m ≡ Err f → for_clauses n i m ≡ Err f
 clauses_missing n i None f e = cc
 clauses_missing n i (Some a) f e = cc
 
-pub for_missing : (n : ℕ) (ts rest after : List Terminal) (es : Separated ExprTree) (i : SimpleTree) (e : Stop) → None ≡ mark_at operator.OpenBrace ts → None ≡ mark_at operator.Semicolon ts → exprs_at n true ts ≡ Ok (es, rest) → None ≡ mark_at operator.OpenBrace rest → simple_from n true es rest ≡ Ok (i, after) → Fails e (need (mark_at operator.Semicolon after)) → Fails e (for_at n ts)
-for_missing n ts rest after es i e brace semicolon first block init failed =
-    fails_along (need (mark_at operator.Semicolon after)) (for_at n ts) e (λ f g. ap (for_first n ts) (sym brace) ∙ ap (for_begins n ts) (sym semicolon) ∙ ap (λ r. r >>= λ x. for_from n x.0 x.1 (mark_at operator.OpenBrace x.1)) first ∙ ap (for_from n es rest) (sym block) ∙ ap (λ r. r >>= λ i. for_clauses n (Some i.0) (mark_at operator.Semicolon i.1)) init ∙ clauses_missing n i (mark_at operator.Semicolon after) f g) failed
+pub clauses_fail : (n : ℕ) (i : Option SimpleTree) (m : Place) (e : Stop) → Fails e (need m) → Fails e (for_clauses n i m)
+clauses_fail n i m e failed = fails_along (need m) (for_clauses n i m) e (clauses_missing n i m) failed

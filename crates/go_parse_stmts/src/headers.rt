@@ -67,8 +67,8 @@ fn test<'a>(
         return Ok((None, semicolon, rest));
     }
     let (test, _, rest) = expr(alloc, ahead, true, 1, budget)?;
-    let (semicolon, rest) = rest.need_mark(Operator::Semicolon)?;
-    Ok((Some(test), semicolon, rest))
+    rest.need_mark(Operator::Semicolon)
+        .map(|(semicolon, rest)| (Some(test), semicolon, rest))
 }
 
 /// The statement behind the second semicolon of a `for`, at most `budget` high, if one stands there. It is no short
@@ -92,19 +92,18 @@ fn post<'a>(
     Ok((Some(simple), rest))
 }
 
-/// What stands behind the first semicolon of a `for`, with parts at most `budget` high: `init` and `semicolon` stand
-/// before it.
+/// What stands behind `init` in the head of a `for`, from the first semicolon on, with parts at most `budget` high.
 fn clauses<'a>(
     alloc: Global,
     ahead: Ahead<'a>,
     init: Option<Simple>,
-    semicolon: Span,
     budget: u32,
 ) -> Result<(ForHead, Ahead<'a>), Stop>
     requires { budget < 2 ^ 31 }
-    ensures { Gives (λ x. (shape_for x.0, x.1)) result (reading.for_test budget (shape_some_simple init) semicolon ahead.entry (mark_at operator.Semicolon ahead.entry)) }
+    ensures { Gives (λ x. (shape_for x.0, x.1)) result (reading.for_clauses budget (shape_some_simple init) (mark_at operator.Semicolon ahead.entry)) }
 {
-    let (test, second, rest) = test(alloc, ahead, budget)?;
+    let (semicolon, rest) = ahead.need_mark(Operator::Semicolon)?;
+    let (test, second, rest) = test(alloc, rest, budget)?;
     let (post, rest) = post(alloc, rest, budget)?;
     Ok((ForHead::Clauses(init, semicolon, test, second, post), rest))
 }
@@ -127,14 +126,14 @@ pub fn for_head<'a>(
     if ahead.mark(Operator::OpenBrace).is_some() {
         return Ok((ForHead::Forever, ahead));
     }
-    if let Some((semicolon, rest)) = ahead.mark(Operator::Semicolon) {
-        return clauses(alloc, rest, None, semicolon, budget);
+    if ahead.mark(Operator::Semicolon).is_some() {
+        return clauses(alloc, ahead, None, budget);
     }
     let (front, height, rest) = exprs(alloc, ahead, true, budget)?;
     if rest.mark(Operator::OpenBrace).is_some() {
-        return Ok((ForHead::While(single(front, &rest)?), rest));
+        let condition = single(front, &rest)?;
+        return Ok((ForHead::While(condition), rest));
     }
     let (init, rest) = header_simple(alloc, front, height, rest, budget)?;
-    let (semicolon, rest) = rest.need_mark(Operator::Semicolon)?;
-    clauses(alloc, rest, Some(init), semicolon, budget)
+    clauses(alloc, rest, Some(init), budget)
 }

@@ -57,9 +57,11 @@ fn some_values<'a>(
 }
 
 /// Whether enough is declared: of a constant its values, of a variable its type or its values.
-fn is_enough(kind: ValueKind, type_expr: &Option<TypeExpr>, values: &Option<Values>) -> bool
-    ensures { result ≡ enough kind (shape_some_type type_expr.now) (shape_values values.now) }
+/// Values are there if an `=` is in front of `ahead`.
+fn is_enough(kind: ValueKind, type_expr: &Option<TypeExpr>, ahead: &Ahead<'_>) -> bool
+    ensures { result ≡ enough kind (shape_some_type type_expr.now) (mark_at operator.Assign ahead.now) }
 {
+    let values = ahead.mark(Operator::Assign);
     match kind {
         ValueKind::Const => values.is_some(),
         ValueKind::Var => type_expr.is_some() || values.is_some(),
@@ -78,10 +80,10 @@ fn value_spec<'a>(
 {
     let (names, rest) = idents(alloc, ahead)?;
     let (type_expr, rest) = some_type(alloc, rest, budget)?;
-    let (values, rest) = some_values(alloc, rest, budget)?;
-    if !is_enough(kind, &type_expr, &values) {
+    if !is_enough(kind, &type_expr, &rest) {
         return Err(Stop::Grammar(rest.offset()));
     }
+    let (values, rest) = some_values(alloc, rest, budget)?;
     let spec = ValueSpec {
         names,
         type_expr,

@@ -117,15 +117,15 @@ group_closed ps None x p (Some rest) is =
 group_closed ps (Some n) x p (Some rest) is =
     ap (front ps) (names_one n.0 n.1 x (shape_type p.type_expr) p.comma rest) ∙ ap (λ n. Some (params_before ps (Param n (shape_type p.type_expr) p.comma rest))) (sym is) ∙ ap Some (sym (before_append ps p rest))
 
-pub groups_push : (done : List Entry) (ps new : List declared_param.Param) (names : Option (Idents × Span)) (e : Entry) (x : Ident) (group : Idents) (p : declared_param.Param) → GroupsSoFar done ps names → e.name ≡ Some x → shape_idents group ≡ with_last (option_map (λ n. (shape_idents n.0, n.1)) names) x → p.names ≡ Some group → p.type_expr ≡ e.type_expr → p.comma ≡ e.comma → new ≡ ps ++ (p ∷ []) → GroupsSoFar (done ++ (e ∷ [])) new None
-groups_push done ps new names e x group p so named joined grouped type comma is =
+pub groups_push : (done : List Entry) (ps new : List declared_param.Param) (names : Option (Idents × Span)) (e : Entry) (x : Ident) (p : declared_param.Param) → GroupsSoFar done ps names → e.name ≡ Some x → shape_names p.names ≡ Some (with_last (option_map (λ n. (shape_idents n.0, n.1)) names) x) → p.type_expr ≡ e.type_expr → p.comma ≡ e.comma → new ≡ ps ++ (p ∷ []) → GroupsSoFar (done ++ (e ∷ [])) new None
+groups_push done ps new names e x p so named joined type comma is =
     let n = option_map (λ (n : Idents × Span). (shape_idents n.0, n.1)) names in
     record {
       same = λ more. ap as_groups (map_append done e more) ∙ so.same (entry_of e ∷ more)
           ∙ ap (λ m. front ps (behind n (as_groups (((m, shape_type e.type_expr), e.comma) ∷ more)))) named
           ∙ ap (λ t. front ps (behind n (group_one x (shape_type t) e.comma (as_groups more)))) (sym type)
           ∙ ap (λ c. front ps (behind n (group_one x (shape_type p.type_expr) c (as_groups more)))) (sym comma)
-          ∙ group_closed ps n x p (as_groups more) (ap shape_names grouped ∙ ap Some joined)
+          ∙ group_closed ps n x p (as_groups more) joined
           ∙ ap (λ l. front l (as_groups more)) (sym is);
     }
 

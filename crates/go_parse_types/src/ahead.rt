@@ -144,8 +144,10 @@ impl<'a> Ahead<'a> {
         };
         match first.kind {
             TokenKind::Identifier => {
-                let name = ident(alloc, self.text, first.span)?;
-                Ok(name.map(|x| (x, Ahead::new(self.text, rest))))
+                let Some(name) = ident(alloc, self.text, first.span)? else {
+                    return Ok(None);
+                };
+                Ok(Some((name, Ahead::new(self.text, rest))))
             }
             _ => Ok(None),
         }
@@ -192,8 +194,10 @@ impl<'a> Ahead<'a> {
         };
         match first.kind {
             TokenKind::String => {
-                let literal = text_literal(alloc, self.text, first.span)?;
-                Ok(literal.map(|x| (x, Ahead::new(self.text, rest))))
+                let Some(literal) = text_literal(alloc, self.text, first.span)? else {
+                    return Ok(None);
+                };
+                Ok(Some((literal, Ahead::new(self.text, rest))))
             }
             _ => Ok(None),
         }

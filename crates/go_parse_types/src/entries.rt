@@ -1,7 +1,7 @@
 //! Parameters from the entries of their list.
-ghost use Rattle.std.specs.Prelude.{◌≡◌, map, IfOk};
+ghost use Rattle.std.specs.Prelude.{◌≡◌, map, Some, IfOk};
 ghost use Rattle.std.specs.Option.{option_map};
-ghost use Rattle.go_tree_core.specs.TypeShapes.{shape_idents, shape_type, params_of};
+ghost use Rattle.go_tree_core.specs.TypeShapes.{shape_idents, shape_names, shape_type, params_of};
 ghost use Rattle.go_parse_types.specs.EntryShapes.{entry_of, with_last};
 ghost use Rattle.go_parse_types.specs.TypeReading.{has_name, as_types, as_groups, as_params, plain_name};
 
@@ -74,6 +74,24 @@ fn plain(type_expr: TypeExpr) -> Option<Ident>
     }
 }
 
+/// The parameters of one type: the names so far, and one more before the type.
+fn group(
+    alloc: Global,
+    names: Option<(Idents, Span)>,
+    name: Ident,
+    type_expr: TypeExpr,
+    comma: Option<Span>,
+) -> Result<Param, AllocError>
+    ensures { IfOk result (λ x. (shape_names x.names ≡ Some (with_last (option_map (λ n. (shape_idents n.0, n.1)) names) name)) × (x.type_expr ≡ type_expr) × (x.comma ≡ comma)) }
+{
+    let names = with_name(alloc, names, name)?;
+    Ok(Param {
+        names: Some(names),
+        type_expr,
+        comma,
+    })
+}
+
 /// The parameters that entries of which some have names are: an entry that is a name alone belongs to the
 /// group of the next one.
 fn groups_from(alloc: Global, entries: Vec<Entry>) -> Result<Option<Vec<Param>>, AllocError>
@@ -88,13 +106,8 @@ fn groups_from(alloc: Global, entries: Vec<Entry>) -> Result<Option<Vec<Param>>,
             comma,
         } = entry;
         if let Some(name) = name {
-            let group = with_name(alloc, names, name)?;
+            params.push(group(alloc, names, name, type_expr, comma)?)?;
             names = None;
-            params.push(Param {
-                names: Some(group),
-                type_expr,
-                comma,
-            })?;
         } else {
             let Some(name) = plain(type_expr) else {
                 return Ok(None);

@@ -55,8 +55,9 @@ fn type_above<'a>(
     }
     if let Some((open, rest)) = ahead.mark(Operator::OpenParen) {
         let (inside, rest) = type_expr(alloc, rest, inner)?;
+        let inside = Box::new(alloc, inside)?;
         let (close, rest) = rest.need_mark(Operator::CloseParen)?;
-        return Ok((TypeExpr::Paren(open, Box::new(alloc, inside)?, close), rest));
+        return Ok((TypeExpr::Paren(open, inside, close), rest));
     }
     if let Some((keyword, rest)) = ahead.word(Keyword::Struct) {
         return struct_type(alloc, rest, keyword, inner);

@@ -12,7 +12,7 @@ use Rattle.go_subset_core.specs.declared.occurrence.Occ.{Occ}
 use Rattle.go_subset_core.specs.Trees as tree
 use Rattle.go_subset_core.specs.Trees.{ExprTree, Literal, Named, Paren, Binary, Separated, One, Then, ValueTree, StmtTree, Lines, Declare, Short, Assign, Return, Empty, More}
 use Rattle.go_subset_core.specs.Occurrences.{occurrence, expr_occs, exprs_occs, target_occs, targets_occs, type_occs, value_occs, some_occs, stmt_occs, lines_occs}
-use Rattle.go_scope_core.specs.Blocks.{in_block, innermost, with_innermost, is_taken, is_new}
+use Rattle.go_open_core.specs.Blocks.{in_block, innermost, with_innermost, is_taken, is_new}
 use Rattle.go_resolve_core.specs.declared.declared.Block.{Block}
 use Rattle.go_resolve_core.specs.declared.declared.Block.TheVariants.{Within}
 use Rattle.go_resolve_core.specs.declared.declared.DeclKind.{DeclKind}

@@ -5,8 +5,8 @@ use Rattle.std.specs.List.{AllByRecursion}
 use Rattle.std.specs.Option.{option_map}
 use Rattle.std.specs.Str.{bytes_eq}
 use Rattle.std.proofs.lemmas.List.{get_or_append_left, get_or_at, length-append, map-append}
-use Rattle.go_scope_core.specs.declared.DeclId.{DeclId}
-use Rattle.go_scope_core.specs.Blocks.{in_block, or_else, found_in, innermost, with_innermost, is_taken, block_with}
+use Rattle.go_open_core.specs.declared.DeclId.{DeclId}
+use Rattle.go_open_core.specs.Blocks.{in_block, or_else, found_in, innermost, with_innermost, is_taken, block_with}
 use Rattle.go_text_core.specs.Text.{is_blank}
 use Rattle.go_resolve_core.specs.declared.declared.Declared.{Declared}
 use Rattle.go_resolve_core.specs.Env.{nothing, numbered, env_of, blocks_of, AreNumbers}

@@ -8,7 +8,7 @@ use Rattle.go_text_core.specs.Text.{is_blank}
 use Rattle.go_text_core.specs.declared.rule.Rule.TheVariants.{K3}
 use Rattle.go_subset_core.specs.Trees.{FuncTree, DeclTree, Value, Func, TopTree, FileTree}
 use Rattle.go_subset_core.specs.Occurrences.{value_occs, type_occs, lines_occs, decl_occs, tops_occs, file_occs}
-use Rattle.go_scope_core.specs.Blocks.{in_block, innermost}
+use Rattle.go_open_core.specs.Blocks.{in_block, innermost}
 use Rattle.go_resolve_core.specs.declared.declared.Block.{Block}
 use Rattle.go_resolve_core.specs.declared.declared.Block.TheVariants.{Universe, Package, File, Within}
 use Rattle.go_resolve_core.specs.Binding.{Entry, region_has, is_second, shown}

@@ -9,7 +9,7 @@ use Rattle.std.proofs.lemmas.List.Elements.{filter-append}
 use Rattle.std.proofs.lemmas.List.Folds.{list_any-append}
 use Rattle.std.proofs.lemmas.Slice.Eq.{bytes_eq-Decides}
 use Rattle.go_subset_core.specs.declared.occurrence.Occ.{Occ}
-use Rattle.go_scope_core.specs.Blocks.{in_block, or_else, innermost, with_innermost}
+use Rattle.go_open_core.specs.Blocks.{in_block, or_else, innermost, with_innermost}
 use Rattle.go_resolve_core.specs.declared.declared.Block.{Block}
 use Rattle.go_resolve_core.specs.declared.declared.Block.TheVariants.{Universe, Package, File, Within}
 use Rattle.go_resolve_core.specs.declared.declared.Declared.{Declared}

@@ -9,7 +9,7 @@ use Rattle.std.proofs.lemmas.Bool.{le-leb}
 use Rattle.std.proofs.lemmas.List.{append_assoc}
 use Rattle.std.proofs.lemmas.List.Elements.{filter-append}
 use Rattle.std.proofs.lemmas.List.Folds.{list_all-append}
-use Rattle.go_scope_core.specs.Blocks.{in_block, or_else, found_in}
+use Rattle.go_open_core.specs.Blocks.{in_block, or_else, found_in}
 use Rattle.go_resolve_core.specs.declared.declared.Block.{Block}
 use Rattle.go_resolve_core.specs.declared.declared.Block.TheVariants.{Universe, Package, File, Within}
 use Rattle.go_resolve_core.specs.Binding.{Entry, is_inside, innermost_of, shown, binds}

@@ -11,7 +11,7 @@ use Rattle.std.proofs.lemmas.Slice.Eq.{bytes_eq-Decides}
 use Rattle.go_text_core.specs.Text.{is_blank}
 use Rattle.go_tree_core.specs.declared.names.Ident.{Ident}
 use Rattle.go_subset_core.specs.Trees.{DeclTree, Value, Func, TopTree}
-use Rattle.go_scope_core.specs.Blocks.{in_block, innermost, with_innermost}
+use Rattle.go_open_core.specs.Blocks.{in_block, innermost, with_innermost}
 use Rattle.go_resolve_core.specs.declared.declared.Block.{Block}
 use Rattle.go_resolve_core.specs.declared.declared.Block.TheVariants.{Universe, Package, File, Within}
 use Rattle.go_resolve_core.specs.Binding.{Entry, same_block, is_second}

@@ -3,7 +3,7 @@ use Rattle.std.proofs.Common.{◌≡◌, ℕ, Bool, true, false, cond, ◌||◌,
 use Rattle.std.specs.Prelude.{codes}
 use Rattle.std.specs.List.{list_any}
 use Rattle.std.specs.Str.{bytes_eq}
-use Rattle.go_scope_core.specs.Blocks.{in_block}
+use Rattle.go_open_core.specs.Blocks.{in_block}
 use Rattle.go_resolve_core.specs.declared.declared.Block.TheVariants.{Universe}
 use Rattle.go_resolve_core.specs.declared.declared.DeclKind.{DeclKind}
 use Rattle.go_resolve_core.specs.declared.declared.DeclKind.TheVariants.{Const, Func, «Type», Nil, Outside}

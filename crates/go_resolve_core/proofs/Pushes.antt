@@ -1,7 +1,8 @@
 -- One declaration more in the innermost block.
-use Rattle.std.proofs.Common.{◌≡◌, ℕ, Bool, true, false, cond, ◌||◌, List, [], ◌∷◌, ◌++◌, length, Option, Some, None, is_some, refl, ap, ◌∙◌, arith}
+use Rattle.std.proofs.Common.{◌≡◌, ℕ, Bool, true, false, cond, ◌||◌, ◌<◌, List, [], ◌∷◌, ◌++◌, length, Option, Some, None, is_some, Vec, refl, ap, ◌∙◌, arith}
+use Rattle.std.specs.Prelude.{vec_len}
 use Rattle.std.specs.Str.{bytes_eq}
-use Rattle.go_scope_core.specs.Blocks.{in_block, or_else, innermost, with_innermost}
+use Rattle.go_open_core.specs.Blocks.{in_block, or_else, innermost, with_innermost}
 
 pub innermost_with : {X : Type 0} (block : List (List ℕ × X)) (env : List (List (List ℕ × X))) (new : List (List ℕ × X)) → innermost (with_innermost (block ∷ env) new) ≡ new
 innermost_with block [] new = refl
@@ -33,3 +34,14 @@ some_push block d n = ap is_some (in_block_push block d n) ∙ by (in_block bloc
     by (Some y) b = refl
     by None true = refl
     by None false = refl
+
+-- as many blocks are open as before
+pub still_open : (n m k : ℕ) → n ≡ m → m ≡ k → 1 < k → 1 < n
+still_open n m k first second open_before = omega (arith, first, second)
+
+-- the number of elements, as a list and as a vector has it
+pub len_as_list : {T A : Type 0} (v : Vec T A) (n : ℕ) → n ≡ vec_len v → n ≡ length v.items
+len_as_list v n is = omega (arith, v.ok.0)
+
+pub within_len : {T A : Type 0} (v : Vec T A) (n : ℕ) → n < length v.items → n < vec_len v
+within_len v n within = omega (arith, v.ok.0)

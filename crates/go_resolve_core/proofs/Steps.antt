@@ -1,10 +1,10 @@
 -- Loops over the parts of a tree.
-use Rattle.std.proofs.Common.{◌≡◌, ℕ, zero, suc, ◌+◌, ◌-◌, ◌<◌, Bool, true, false, not, ◌&&◌, ◌||◌, List, [], ◌∷◌, ◌++◌, map, length, get_or, drop, Some, is_some, refl, sym, ap, subst, ◌∙◌, arith}
+use Rattle.std.proofs.Common.{◌≡◌, ℕ, zero, suc, ◌+◌, ◌-◌, ◌<◌, ◌≤◌, Bool, true, false, not, ◌&&◌, ◌||◌, List, [], ◌∷◌, ◌++◌, map, length, get_or, drop, Some, is_some, refl, sym, ap, subst, ◌∙◌, arith}
 use Rattle.std.specs.List.{list_any, slice_get}
 use Rattle.std.proofs.lemmas.Option.{slice_get_within}
 use Rattle.std.specs.Str.{bytes_eq}
 use Rattle.std.specs.Prelude.{if◌then◌else◌}
-use Rattle.std.proofs.lemmas.List.{append_assoc, append-nil, map-append, drop_more}
+use Rattle.std.proofs.lemmas.List.{append_assoc, append-nil, map-append, drop_more, drop_all}
 use Rattle.std.proofs.lemmas.List.Folds.{list_any-append}
 use Rattle.std.proofs.lemmas.Slice.Eq.{bytes_eq-Decides}
 use Rattle.go_text_core.specs.Text.{is_blank}
@@ -15,8 +15,8 @@ use Rattle.go_subset_core.specs.declared.tree.NextExpr.{NextExpr}
 use Rattle.go_tree_core.specs.declared.names.NextIdent.{NextIdent}
 use Rattle.go_subset_core.specs.Shapes.{shape, exprs_from, idents_from}
 use Rattle.go_subset_core.specs.Occurrences.{expr_occs, exprs_occs, target_occs, targets_occs}
-use Rattle.go_scope_core.specs.declared.DeclId.{DeclId}
-use Rattle.go_scope_core.specs.Blocks.{in_block, innermost, with_innermost, is_taken, block_with, is_new}
+use Rattle.go_open_core.specs.declared.DeclId.{DeclId}
+use Rattle.go_open_core.specs.Blocks.{in_block, innermost, with_innermost, is_taken, block_with, is_new}
 use Rattle.go_resolve_core.specs.declared.declared.Block.{Block}
 use Rattle.go_resolve_core.specs.declared.declared.DeclKind.{DeclKind}
 use Rattle.go_resolve_core.specs.declared.declared.DeclKind.TheVariants as kinds
@@ -183,3 +183,10 @@ end_last (m ∷ m' ∷ ns) (suc i) e n h k = end_last (m' ∷ ns) i m.expr n (om
 -- expressions end where the last of them does
 pub ends_last : (ns : List NextExpr) (e : Expr) (n : NextExpr) → slice_get ns (length ns - 1) ≡ Some n → exprs_end (exprs_from e ns) ≡ expr_end (shape n.expr)
 ends_last ns e n k = end_last ns (length ns - 1) e n (let h = slice_get_within ns (length ns - 1) n k in omega arith) k
+
+-- the end of a loop
+pub each_end : {X Y : Type 0} (f : X → List Y) (xs : List X) (i : ℕ) (outs all : List Y) → length xs ≤ i → outs ++ each f (drop i xs) ≡ all → outs ≡ all
+each_end f xs i outs all h so_far = sym (append-nil outs) ∙ ap (λ l. outs ++ each f l) (sym (drop_all i xs h)) ∙ so_far
+
+pub repeated_end : (ns : List NextIdent) (i : ℕ) (before : List (List ℕ)) (outs all : List Fault) → length ns ≤ i → outs ++ repeated_in before (rest_names (drop i ns)) ≡ all → outs ≡ all
+repeated_end ns i before outs all h so_far = sym (append-nil outs) ∙ ap (λ l. outs ++ repeated_in before (rest_names l)) (sym (drop_all i ns h)) ∙ so_far

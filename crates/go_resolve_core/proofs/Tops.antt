@@ -1,7 +1,7 @@
 -- Loops over the declarations of a file.
-use Rattle.std.proofs.Common.{◌≡◌, ℕ, ◌+◌, ◌<◌, Bool, true, false, List, [], ◌∷◌, ◌++◌, map, length, get_or, drop, refl, ap, ◌∙◌, arith}
+use Rattle.std.proofs.Common.{◌≡◌, ℕ, ◌+◌, ◌<◌, ◌≤◌, Bool, true, false, List, [], ◌∷◌, ◌++◌, map, length, get_or, drop, refl, sym, ap, ◌∙◌, arith}
 use Rattle.std.specs.Prelude.{if◌then◌else◌}
-use Rattle.std.proofs.lemmas.List.{append_assoc}
+use Rattle.std.proofs.lemmas.List.{append_assoc, append-nil, drop_all}
 use Rattle.go_subset_core.specs.declared.tree.TopDecl.{TopDecl}
 use Rattle.go_subset_core.specs.Trees.{DeclTree}
 use Rattle.go_subset_core.specs.Shapes.{top_of, decl_of}
@@ -47,3 +47,10 @@ module _ (ds : List TopDecl) (i : ℕ) (d : TopDecl) (h : i < length ds) (is : d
 pub tops_notes_end : (env : List (List Entry)) (in_main : Bool) (rs : List Bool) → tops_notes env in_main rs [] ≡ []
 tops_notes_end env in_main [] = refl
 tops_notes_end env in_main (r ∷ rs) = refl
+
+-- the end of the loop
+pub repeats_end : (ds : List TopDecl) (i : ℕ) (env : List (List Entry)) (outs all : List Bool) → length ds ≤ i → outs ++ repeats_of env (map top_of (drop i ds)) ≡ all → outs ≡ all
+repeats_end ds i env outs all h so_far = sym (append-nil outs) ∙ ap (λ l. outs ++ repeats_of env (map top_of l)) (sym (drop_all i ds h)) ∙ so_far
+
+pub env_tops_end : (ds : List TopDecl) (i : ℕ) (env all : List (List Entry)) → length ds ≤ i → env_tops env (map top_of (drop i ds)) ≡ all → env ≡ all
+env_tops_end ds i env all h so_far = ap (λ l. env_tops env (map top_of l)) (sym (drop_all i ds h)) ∙ so_far

@@ -1,8 +1,8 @@
 -- Facts on the walk over the statements of a block.
-use Rattle.std.proofs.Common.{◌≡◌, ℕ, ◌+◌, ◌<◌, Bool, true, false, List, [], ◌∷◌, ◌++◌, length, get_or, drop, refl, sym, ap, ◌∙◌, arith, Vec, Global}
+use Rattle.std.proofs.Common.{◌≡◌, ℕ, ◌+◌, ◌<◌, ◌≤◌, Bool, true, false, List, [], ◌∷◌, ◌++◌, length, get_or, drop, refl, sym, ap, ◌∙◌, arith, Vec, Global}
 use Rattle.std.specs.Prelude.{if◌then◌else◌, Result, Ok, Err, OnOk}
 use Rattle.std.specs.declared.alloc.AllocError.{AllocError}
-use Rattle.std.proofs.lemmas.List.{same_from_push, length-append, append_assoc}
+use Rattle.std.proofs.lemmas.List.{same_from_push, length-append, append_assoc, append-nil, drop_all}
 use mathlib.Core.Former.{Count}
 use Rattle.go_text_core.specs.declared.span.Span.{Span}
 use Rattle.go_tree_core.specs.declared.names.Ident.{Ident}
@@ -14,7 +14,7 @@ use Rattle.go_subset_core.specs.declared.tree.Stmt.TheVariants as stmt
 use Rattle.go_subset_core.specs.Trees as tree
 use Rattle.go_subset_core.specs.Trees.{StmtTree, Lines, Declare, Short, Assign, Return, Empty, More}
 use Rattle.go_subset_core.specs.Shapes.{shape_stmt, shape_row, lines_of, shape_exprs, shape_idents}
-use Rattle.go_scope_core.specs.Blocks.{innermost, with_innermost, is_taken, block_with}
+use Rattle.go_open_core.specs.Blocks.{innermost, with_innermost, is_taken, block_with}
 use Rattle.go_resolve_core.specs.declared.declared.Block as declared_block
 use Rattle.go_resolve_core.specs.declared.declared.DeclKind.{DeclKind}
 use Rattle.go_resolve_core.specs.declared.declared.DeclKind.TheVariants as kinds
@@ -116,3 +116,17 @@ module _ (env : List (List Entry)) (block : declared_block.Block) (ss : List Lin
 
   pub env_step : (env' : List (List Entry)) → env' ≡ env_after env block (shape_stmt s.stmt) → lines_env env' block (lines_of (drop (i + 1) ss)) ≡ lines_env env block (lines_of (drop i ss))
   env_step env' f = rw (f, first_is ss i s h is) refl
+
+-- the end of the loop
+module _ (env : List (List Entry)) (block : declared_block.Block) (ss : List Line) (i : ℕ) (h : length ss ≤ i) where
+  none_left : drop i ss ≡ []
+  none_left = drop_all i ss h
+
+  pub uses_end : (outs all : List Use) → outs ++ lines_uses env block (lines_of (drop i ss)) ≡ all → outs ≡ all
+  uses_end outs all so_far = sym (append-nil outs) ∙ ap (λ l. outs ++ lines_uses env block (lines_of l)) (sym none_left) ∙ so_far
+
+  pub notes_end : (outs all : List Fault) → outs ++ lines_notes env block (lines_of (drop i ss)) ≡ all → outs ≡ all
+  notes_end outs all so_far = sym (append-nil outs) ∙ ap (λ l. outs ++ lines_notes env block (lines_of l)) (sym none_left) ∙ so_far
+
+  pub env_end : (all : List (List Entry)) → lines_env env block (lines_of (drop i ss)) ≡ all → env ≡ all
+  env_end all so_far = ap (λ l. lines_env env block (lines_of l)) (sym none_left) ∙ so_far

@@ -1,7 +1,7 @@
 -- The open blocks with the declarations that the numbers stand for.
 use Rattle.std.specs.Prelude.{ℕ, ◌<◌, List, ◌∷◌, map, length, slice_index_or}
 use Rattle.std.specs.List.{AllByRecursion}
-use Rattle.go_scope_core.specs.declared.DeclId.{DeclId}
+use Rattle.go_open_core.specs.declared.DeclId.{DeclId}
 use Rattle.go_resolve_core.specs.declared.declared.Block.TheVariants.{Universe}
 use Rattle.go_resolve_core.specs.declared.declared.DeclKind.TheVariants.{Nil}
 use Rattle.go_resolve_core.specs.declared.declared.Declared.{Declared}

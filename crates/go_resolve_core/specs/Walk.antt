@@ -5,7 +5,7 @@ use Rattle.go_tree_core.specs.declared.names.Ident.{Ident}
 use Rattle.go_subset_core.specs.declared.occurrence.Occ.{Occ}
 use Rattle.go_subset_core.specs.Trees.{Separated, One, Then, StmtTree, Lines, Declare, Short, Assign, Return, Block, Empty, More, DeclTree, Value, Func, TopTree}
 use Rattle.go_subset_core.specs.Occurrences.{value_occs, exprs_occs, targets_occs, some_occs, type_occs}
-use Rattle.go_scope_core.specs.Blocks.{found_in, innermost, with_innermost, is_taken, block_with, is_new}
+use Rattle.go_open_core.specs.Blocks.{found_in, innermost, with_innermost, is_taken, block_with, is_new}
 use Rattle.go_resolve_core.specs.declared.declared.Block as declared_block
 use Rattle.go_resolve_core.specs.declared.declared.Block.TheVariants as block
 use Rattle.go_resolve_core.specs.declared.declared.DeclKind.{DeclKind}

@@ -1,11 +1,11 @@
 //! The open blocks with their declarations.
 ghost use Rattle.std.specs.Prelude.{◌≡◌, ℕ, ◌<◌, List, [], ◌∷◌, ◌++◌, length, map, IfOk, IfErr, OnOk, OnErr, not, if◌then◌else◌};
-ghost use Rattle.go_scope_core.specs.Blocks.{found_in, innermost, with_innermost, is_taken, block_with};
+ghost use Rattle.go_open_core.specs.Blocks.{found_in, innermost, with_innermost, is_taken, block_with};
 ghost use Rattle.go_resolve_core.specs.Universe.{universe};
 
 use crate::declared::Declared;
 use crate::universe::predeclared;
-use go_scope_core::{DeclId, Scopes};
+use go_open_core::{DeclId, OpenBlocks};
 use go_text_core::Rule;
 use std::alloc::{AllocError, Global};
 use std::marker::Model;
@@ -13,7 +13,7 @@ use std::marker::Model;
 /// The open blocks, from the universe block to the innermost, with the declaration of each name.
 #[derive(Drop)]
 pub struct Resolver {
-    scopes: Scopes,
+    scopes: OpenBlocks,
     table: Vec<Declared>,
 }
 
@@ -36,7 +36,7 @@ impl Resolver {
         ensures { result ≡ universe ∷ [] }
     {
         Resolver {
-            scopes: Scopes::new(alloc),
+            scopes: OpenBlocks::new(alloc),
             table: Vec::new(alloc),
         }
     }

@@ -1,14 +1,14 @@
 //! The names before `:=`.
 ghost use Rattle.std.specs.Prelude.{◌≡◌, ℕ, ◌<◌, List, [], ◌∷◌, ◌++◌, length, IfOk, OnOk, if◌then◌else◌};
 ghost use Rattle.go_subset_core.specs.Shapes.{shape_idents};
-ghost use Rattle.go_scope_core.specs.Blocks.{is_taken, innermost, with_innermost, block_with, is_new};
+ghost use Rattle.go_open_core.specs.Blocks.{is_taken, innermost, with_innermost, block_with, is_new};
 ghost use Rattle.go_resolve_core.specs.Walk.{env_with, idents, env_names, any_new_in, repeated_in, taken_note};
 
 use crate::declared::{Block, DeclKind, Fault};
 use crate::names::is_blank;
 use crate::resolver::Resolver;
 use crate::walk::{declare, fault};
-use go_scope_core::{DeclId, Scopes};
+use go_open_core::{DeclId, OpenBlocks};
 use go_text_core::Rule;
 use go_tree_core::{Ident, Idents};
 use std::alloc::{AllocError, Global};
@@ -48,10 +48,10 @@ pub fn declare_names(
 }
 
 // One open block without names.
-fn no_names(alloc: Global) -> Result<Scopes, AllocError>
+fn no_names(alloc: Global) -> Result<OpenBlocks, AllocError>
     ensures { IfOk result (λ seen. seen ≡ [] ∷ []) }
 {
-    let mut seen = Scopes::new(alloc);
+    let mut seen = OpenBlocks::new(alloc);
     match seen.enter() {
         Ok(()) => return Ok(seen),
         Err(_) => return Err(AllocError),
@@ -60,7 +60,7 @@ fn no_names(alloc: Global) -> Result<Scopes, AllocError>
 
 // A name that is repeated among those seen is a fault, and any other is seen from then on.
 fn note_if_repeated(
-    seen: &mut Scopes,
+    seen: &mut OpenBlocks,
     faults: &mut Vec<Fault>,
     ident: &Ident,
 ) -> Result<(), AllocError>

@@ -2,7 +2,7 @@
 ghost use Rattle.std.specs.Prelude.{◌≡◌};
 ghost use Rattle.std.specs.List.{list_any};
 ghost use Rattle.std.specs.Str.{bytes_eq};
-ghost use Rattle.go_scope_core.specs.Blocks.{in_block};
+ghost use Rattle.go_open_core.specs.Blocks.{in_block};
 ghost use Rattle.go_resolve_core.specs.Universe.{universe};
 
 use crate::declared::{Block, DeclKind, Declared};

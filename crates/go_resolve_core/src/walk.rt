@@ -4,7 +4,7 @@ ghost use Rattle.std.specs.Str.{bytes_eq};
 ghost use Rattle.go_text_core.specs.Text.{is_blank};
 ghost use Rattle.go_subset_core.specs.Occurrences.{occurrence, expr_occs, exprs_occs, target_occs, targets_occs, type_occs, value_occs, some_occs};
 ghost use Rattle.go_subset_core.specs.Shapes.{shape, shape_exprs, shape_some, shape_idents, shape_value, shape_stmt, lines_of};
-ghost use Rattle.go_scope_core.specs.Blocks.{is_taken, innermost, is_new};
+ghost use Rattle.go_open_core.specs.Blocks.{is_taken, innermost, is_new};
 ghost use Rattle.go_resolve_core.specs.Declarations.{expr_end, exprs_end, kind_of};
 ghost use Rattle.go_resolve_core.specs.Outcomes.{outcome_by, found_outcome};
 ghost use Rattle.go_resolve_core.specs.Faults.{fault_at};

@@ -113,6 +113,13 @@ remarked_part (Note c b) (Err e) = refl
 abbrev pub far_of : ℕ → List ℕ → Piece × ℕ → ℕ
 far_of start cs x = start + width (take x.1 cs)
 
+-- the place behind a piece, as the program has it
+pub turned : {X : Type 0} (f : List ℕ → ℕ → X) (at : ℕ) (cs front back : List ℕ) (n w : ℕ) → w ≡ width front → front ≡ take n cs → back ≡ drop n cs → f back (at + w) ≡ f (drop n cs) (at + width (take n cs))
+turned f at cs front back n w is first rest = ap (λ r. f r (at + w)) rest ∙ ap (λ w. f (drop n cs) (at + w)) (is ∙ ap width first)
+
+abbrev pub token_between : TokenKind → ℕ → ℕ → Token
+token_between kind start end = record { kind = kind; span = place_of start end }
+
 pub turn_space : (tokens : List Token) (last : Option Token) (cs : List ℕ) (start : ℕ) (x : Piece × ℕ) → 0 < length cs → piece_at cs ≡ Ok x → x.0 ≡ Space → with_front tokens (closed last (cut (drop x.1 cs) 0 (far_of start cs x))) ≡ with_front tokens (closed last (cut cs 0 start))
 turn_space tokens last cs start x some e s =
     let far = far_of start cs x in

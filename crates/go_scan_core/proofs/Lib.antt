@@ -1,6 +1,7 @@
 pub mod AnswerLemmas
 pub mod BodyLemmas
 pub mod CutLemmas
+pub mod EmptyLemmas
 pub mod EnclosedLemmas
 pub mod EscapeLemmas
 pub mod FrontLemmas

@@ -6,7 +6,7 @@ use crate::escape::escape;
 use go_text_core::Rule;
 
 /// A kind of lexeme with an opening and a closing.
-#[derive(Clone, Copy, Debug, PartialEq, Eq)]
+#[derive(Clone, Copy)]
 pub enum Enclosure {
     /// From `/*` to `*/`.
     General,
@@ -17,7 +17,7 @@ pub enum Enclosure {
 }
 
 /// What is wrong with what an opening begins.
-#[derive(Clone, Copy, Debug, PartialEq, Eq)]
+#[derive(Clone, Copy)]
 pub enum Flaw {
     /// A character that may stand nowhere, behind so many others.
     Stray(usize),
@@ -28,7 +28,7 @@ pub enum Flaw {
 }
 
 /// What stands next behind an opening.
-#[derive(Clone, Copy, Debug, PartialEq, Eq)]
+#[derive(Clone, Copy)]
 pub enum Item {
     /// So many characters of the inside.
     Characters(usize),

@@ -3,7 +3,7 @@ ghost use Rattle.std.specs.Prelude.{◌≡◌, ◌≤◌, ◌<◌, ◌^◌, ◌+
 ghost use Rattle.go_scan_core.specs.Escapes.{digits_at, simple_of, byte_read, scalar_read, escape_at};
 
 /// What a character or an escape of a string stands for.
-#[derive(Clone, Copy, Debug, PartialEq, Eq)]
+#[derive(Clone, Copy)]
 pub enum Meaning {
     /// One byte.
     Byte(u8),

@@ -5,7 +5,7 @@ ghost use Rattle.go_scan_core.specs.Front.{front_of};
 use go_text_core::is_letter;
 
 /// What begins at the front of a text.
-#[derive(Clone, Copy, Debug, PartialEq, Eq)]
+#[derive(Clone, Copy)]
 pub enum Front {
     /// The text is empty.
     Nothing,

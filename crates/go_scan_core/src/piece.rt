@@ -6,7 +6,7 @@ ghost use Rattle.std.specs.List.{sum_by};
 use crate::kind::{CommentKind, TokenKind};
 
 /// What a piece of a text is.
-#[derive(Clone, Copy, Debug, PartialEq, Eq)]
+#[derive(Clone, Copy)]
 pub enum Piece {
     /// A space, a tab or a carriage return.
     Space,

@@ -3,7 +3,7 @@ use Rattle.std.proofs.Common.{◌≡◌, ℕ, zero, suc, ◌+◌, ◌<◌, ◌�
 use Rattle.std.proofs.lemmas.List.{take_more, take_all, map-append}
 use Rattle.go_subset_core.specs.Narrowing.{both, each}
 
-both_none : {A B C : Type 0} (f : A → B → C) (a : Option A) → both f a None ≡ None
+pub both_none : {A B C : Type 0} (f : A → B → C) (a : Option A) → both f a None ≡ None
 both_none f None = refl
 both_none f (Some a) = refl
 
@@ -37,3 +37,11 @@ each_end f xs i r h so_far = ap (each f) (sym (take_all i xs h)) ∙ so_far
 pub each-map : {A B C : Type 0} (f : A → Option B) (g : C → A) (xs : List C) → each f (map g xs) ≡ each (λ x. f (g x)) xs
 each-map f g [] = refl
 each-map f g (x ∷ xs) = ap (both (λ y ys. y ∷ ys) (f (g x))) (each-map f g xs)
+
+-- one more turn of a loop that copies the elements
+pub take_push : {A : Type 0} (xs ys zs : List A) (i : ℕ) (x y : A) → i < length xs → x ≡ get_or xs i x → y ≡ x → ys ≡ take i xs → zs ≡ ys ++ y ∷ [] → zs ≡ take (i + 1) xs
+take_push xs ys zs i x y h is copied so_far pushed =
+    pushed
+    ∙ ap (λ l. l ++ y ∷ []) so_far
+    ∙ ap (λ l. take i xs ++ l ∷ []) (copied ∙ is)
+    ∙ sym (take_more xs i x h)

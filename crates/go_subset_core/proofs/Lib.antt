@@ -1,9 +1,5 @@
-pub mod Covering
 pub mod EachLemmas
 pub mod NarrowLemmas
-pub mod OccLemmas
-pub mod Order
-pub mod Seeking
 pub mod ShapeLemmas
 pub mod SignatureLemmas
 pub mod SubsetLemmas

@@ -1,8 +1,10 @@
 -- Narrowing of what a program keeps in lists.
-use Rattle.std.proofs.Common.{◌≡◌, ℕ, List, [], ◌∷◌, map, Option, Some, None, Vec, refl, sym, ap, ◌∙◌}
+use Rattle.std.proofs.Common.{◌≡◌, ℕ, true, false, is_some, List, [], ◌∷◌, map, Option, Some, None, Vec, refl, sym, ap, ◌∙◌}
 use Rattle.std.specs.Global.{Global}
 use Rattle.std.specs.Option.{option_map}
 use Rattle.go_text_core.specs.declared.span.Span.{Span}
+use Rattle.go_tree_core.specs.declared.names.Ident.{Ident}
+use Rattle.go_tree_core.specs.declared.names.NextIdent.{NextIdent}
 use Rattle.go_tree_core.specs.declared.exprs.Expr as wide_expr
 use Rattle.go_tree_core.specs.declared.exprs.NextExpr as wide_next
 use Rattle.go_tree_core.specs.declared.stmts.«Line» as wide_line
@@ -18,7 +20,7 @@ use Rattle.go_subset_core.specs.declared.tree.Stmt.TheVariants as stmt
 use Rattle.go_subset_core.proofs.ShapeLemmas.{shape_block}
 use Rattle.go_subset_core.specs.Trees.{ExprTree, Separated, One, Then, StmtTree, Lines, Block, Empty, More, TopTree}
 use Rattle.go_subset_core.specs.Shapes.{shape, exprs_from, shape_stmt, lines_of}
-use Rattle.go_subset_core.specs.Narrowing.{both, each, narrow, narrow_exprs, narrow_stmt, narrow_lines, narrow_top}
+use Rattle.go_subset_core.specs.Narrowing.{both, each, narrow, narrow_exprs, narrow_stmt, narrow_lines, narrow_top, unless_some}
 
 -- expressions
 
@@ -117,7 +119,22 @@ block_none text c first ls last r is lines none =
     ∙ ap (narrow_stmt text) (sym (wide_block first ls last))
     ∙ ap (λ c. narrow_stmt text (wide_shapes.shape_stmt c)) (sym is)
 
+-- names
+
+abbrev pub name_behind : Span → Ident → NextIdent
+name_behind comma x = record { comma = comma; ident = x }
+
 -- declarations
 
 abbrev pub narrow_decl_of : List ℕ → wide_top.TopDecl → Option TopTree
 narrow_decl_of text d = narrow_top text (wide_shapes.top_of d)
+
+-- functions
+
+pub a_receiver : {A B : Type 0} (r : Option A) (o : Option B) → true ≡ is_some r → unless_some r o ≡ None
+a_receiver None o h = cc
+a_receiver (Some x) o h = refl
+
+pub no_receiver : {A B : Type 0} (r : Option A) (o : Option B) → false ≡ is_some r → unless_some r o ≡ o
+no_receiver None o h = refl
+no_receiver (Some x) o h = cc

@@ -1,6 +1,5 @@
 pub mod Narrowing
 pub mod Occurrences
-pub mod Seeking
 pub mod Shapes
 pub mod Spelling
 pub mod Subset

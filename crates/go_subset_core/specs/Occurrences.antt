@@ -1,5 +1,5 @@
 -- The identifiers of a file that are used, in order of their places.
-use Rattle.std.specs.Prelude.{ℕ, ◌≤◌, ◌<◌, Bool, ◌&&◌, nat_le, nat_lt, List, [], ◌∷◌, ◌++◌, position, Option, Some, None, if◌then◌else◌}
+use Rattle.std.specs.Prelude.{List, [], ◌∷◌, ◌++◌, Option, Some, None, if◌then◌else◌}
 use Rattle.go_text_core.specs.Text.{is_blank}
 use Rattle.go_tree_core.specs.declared.names.Ident.{Ident}
 use Rattle.go_subset_core.specs.declared.tree.TypeExpr.{TypeExpr}
@@ -69,16 +69,3 @@ tops_occs (d ∷ ds) = decl_occs d.decl ++ tops_occs ds
 
 abbrev pub file_occs : FileTree → List Occ
 file_occs f = tops_occs f.decls
-
--- the place lies in the identifier
-abbrev pub covers : ℕ → Occ → Bool
-covers offset o = nat_le o.span.start offset && nat_lt offset o.span.end
-
--- the number of the occurrence that covers a place
-abbrev pub covering : ℕ → List Occ → Option ℕ
-covering offset os = position (covers offset) os
-
--- the identifiers follow one another between two offsets, and each takes some bytes
-abbrev pub Follow : ℕ → List Occ → ℕ → Type 0
-Follow low [] high = low ≤ high
-Follow low (o ∷ os) high = (low ≤ o.span.start) × (o.span.start < o.span.end) × Follow o.span.end os high

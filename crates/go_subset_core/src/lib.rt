@@ -11,13 +11,11 @@ mod laws;
 mod narrow;
 mod occurrence;
 mod plain;
-mod seek;
 mod tree;
 
 pub use laws::one_subset;
 pub use narrow::subset;
-pub use occurrence::{Occ, OccId, Role, occurrences};
-pub use seek::at;
+pub use occurrence::{Occ, Role};
 pub use tree::{
     Decl, Expr, Exprs, File, FuncDecl, Line, NextExpr, Stmt, TopDecl, TypeExpr, ValueDecl,
 };

@@ -1,6 +1,9 @@
 -- Lists whose elements have the same trees have the same tree.
-use Rattle.std.proofs.Common.{◌≡◌, List, [], ◌∷◌, map, refl, ap, sym, ◌∙◌}
+use Rattle.std.proofs.Common.{◌≡◌, ℕ, ◌+◌, ◌<◌, ◌≤◌, List, [], ◌∷◌, ◌++◌, length, get_or, take, map, refl, ap, sym, ◌∙◌}
+use Rattle.std.proofs.lemmas.List.{take_more, take_all, map_more, map-append}
 use Rattle.go_text_core.specs.declared.span.Span.{Span}
+use Rattle.go_tree_core.specs.declared.names.Ident.{Ident}
+use Rattle.go_tree_core.specs.declared.names.NextIdent.{NextIdent}
 use Rattle.go_tree_core.specs.declared.types.FieldLine.{FieldLine}
 use Rattle.go_tree_core.specs.declared.types.Fields.{Fields}
 use Rattle.go_tree_core.specs.declared.types.Fields.TheVariants as fields
@@ -10,9 +13,23 @@ use Rattle.go_tree_core.specs.declared.exprs.Expr.{Expr}
 use Rattle.go_tree_core.specs.declared.exprs.«Item» as declared_item
 use Rattle.go_tree_core.specs.declared.exprs.NextExpr.{NextExpr}
 use Rattle.go_tree_core.specs.declared.stmts.«Line» as declared_line
-use Rattle.go_tree_core.specs.Trees.{Separated, One, Then, FieldTrees, NoFields, NamedFields, EmbeddedField, MethodTrees, NoMethods, Method, ParamTrees, NoParams, Param, ExprTree, ItemTrees, NoItems, Item, Lines, NoLines, Line}
+use Rattle.go_tree_core.specs.Trees.{Separated, One, Then, FieldTrees, NoFields, NamedFields, EmbeddedField, MethodTrees, NoMethods, Method, ParamTrees, NoParams, Param, ExprTree, ItemTrees, NoItems, Item, Lines, NoLines, Line, DeclTree, TopTree}
 use Rattle.go_tree_core.specs.TypeShapes.{shape_names, shape_type, fields_before, fields_of, method_before, methods_of, params_of}
 use Rattle.go_tree_core.specs.Shapes.{shape, items_of, exprs_from, shape_stmt, lines_of}
+
+-- a loop that adds an equal element
+pub one_kept : {X : Type 0} (copies more xs : List X) (i : ℕ) (x y : X) → i < length xs → x ≡ get_or xs i x → more ≡ copies ++ y ∷ [] → y ≡ x → copies ≡ take i xs → more ≡ take (i + 1) xs
+one_kept copies more xs i x y lt is pushed same before =
+    pushed ∙ ap (λ l. l ++ y ∷ []) before ∙ ap (λ z. take i xs ++ z ∷ []) (same ∙ is) ∙ sym (take_more xs i x lt)
+
+-- a loop that adds an element with an equal tree
+module _ {X T : Type 0} (tree : X → T) where
+  pub one_copied : (copies more xs : List X) (i : ℕ) (x y : X) → i < length xs → x ≡ get_or xs i x → more ≡ copies ++ y ∷ [] → tree y ≡ tree x → map tree copies ≡ map tree (take i xs) → map tree more ≡ map tree (take (i + 1) xs)
+  one_copied copies more xs i x y lt is pushed same before =
+      ap (map tree) pushed ∙ map-append tree copies (y ∷ []) ∙ ap (λ l. l ++ tree y ∷ []) before ∙ ap (λ t. map tree (take i xs) ++ t ∷ []) (same ∙ ap tree is) ∙ sym (map_more tree xs i x lt)
+
+  pub all_copied : (copies items xs : List X) (i : ℕ) → items ≡ xs → length items ≤ i → map tree copies ≡ map tree (take i items) → map tree copies ≡ map tree xs
+  all_copied copies items xs i is h before = before ∙ ap (map tree) (take_all i items h ∙ is)
 
 -- the tree of a list from the trees of its elements
 module _ {X T : Type 0} (whole : List X → T) (before : T → T → T) (step : (x : X) (xs : List X) → whole (x ∷ xs) ≡ before (whole (x ∷ [])) (whole xs)) where
@@ -26,6 +43,11 @@ module _ {X T : Type 0} (whole : List X → T) (before : T → T → T) (step : 
 
   same_whole : (xs ys : List X) → map (λ x. whole (x ∷ [])) xs ≡ map (λ x. whole (x ∷ [])) ys → whole xs ≡ whole ys
   same_whole xs ys e = joined_is xs ∙ ap joined e ∙ sym (joined_is ys)
+
+-- names
+
+abbrev pub next_ident : Span → Ident → NextIdent
+next_ident comma x = record { comma = comma; ident = x }
 
 -- the lines of a struct type
 
@@ -110,3 +132,8 @@ lines_first (Line c s _) rest = Line c s rest
 
 pub same_lines : (ls ms : List declared_line.Line) → map line_tree ls ≡ map line_tree ms → lines_of ls ≡ lines_of ms
 same_lines = same_whole lines_of lines_first (λ l ls. refl)
+
+-- declarations of the package block
+
+abbrev pub top_tree : Span → DeclTree → TopTree
+top_tree semicolon d = record { decl = d; semicolon = semicolon }

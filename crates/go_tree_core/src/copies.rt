@@ -1,6 +1,8 @@
 //! Copies of names, types and expressions. The one error is want of memory.
+//!
+//! Lists and boxes are copied before enums: a failed copy drops what is there, and the drop of a list or a box is one call.
 
-ghost use Rattle.std.specs.Prelude.{◌≡◌, Option, IfOk};
+ghost use Rattle.std.specs.Prelude.{◌≡◌, [], ◌∷◌, ◌++◌, Option, IfOk, OnOk};
 ghost use Rattle.go_text_core.specs.declared.span.Span.{Span as TheSpan};
 ghost use Rattle.go_tree_core.specs.declared.names.TextLiteral.{TextLiteral as TheText};
 ghost use Rattle.go_tree_core.specs.Trees.{FieldTrees};
@@ -13,6 +15,21 @@ use crate::types::{
     FieldLine, Fields, MethodLine, Param, Params, Results, Signature, TypeExpr, TypeName,
 };
 use std::alloc::{AllocError, Global};
+
+/// Adds a copy to a list.
+pub(crate) fn add<T: Drop>(copies: &mut Vec<T>, copy: T) -> Result<(), AllocError>
+    ensures { OnOk result (copies.new.items ≡ copies.old.items ++ copy ∷ []) }
+{
+    copies.push(copy)?;
+    Ok(())
+}
+
+/// A copy in a box.
+pub(crate) fn boxed<T: Drop>(alloc: Global, copy: T) -> Result<Box<T>, AllocError>
+    ensures { IfOk result (λ x. x.value ≡ copy) }
+{
+    Ok(Box::new(alloc, copy)?)
+}
 
 /// A name that is spelled alike, with the same place.
 pub(crate) fn copy_ident(alloc: Global, ident: &Ident) -> Result<Ident, AllocError>
@@ -32,10 +49,13 @@ pub(crate) fn copy_idents(alloc: Global, idents: &Idents) -> Result<Idents, Allo
     let mut more = Vec::new(alloc);
     for next in &idents.more {
         let ident = copy_ident(alloc, &next.ident)?;
-        more.push(NextIdent {
-            comma: next.comma,
-            ident,
-        })?;
+        add(
+            &mut more,
+            NextIdent {
+                comma: next.comma,
+                ident,
+            },
+        )?;
     }
     Ok(Idents { first, more })
 }
@@ -92,11 +112,11 @@ pub(crate) fn copy_type(alloc: Global, type_expr: &TypeExpr) -> Result<TypeExpr,
         TypeExpr::Name(name) => Ok(TypeExpr::Name(copy_type_name(alloc, name)?)),
         TypeExpr::Pointer(star, inner) => {
             let inner = copy_type(alloc, inner)?;
-            Ok(TypeExpr::Pointer(*star, Box::new(alloc, inner)?))
+            Ok(TypeExpr::Pointer(*star, boxed(alloc, inner)?))
         }
         TypeExpr::Paren(open, inner, close) => {
             let inner = copy_type(alloc, inner)?;
-            Ok(TypeExpr::Paren(*open, Box::new(alloc, inner)?, *close))
+            Ok(TypeExpr::Paren(*open, boxed(alloc, inner)?, *close))
         }
         TypeExpr::Struct(keyword, open, lines, close) => {
             let lines = copy_field_lines(alloc, lines)?;
@@ -130,13 +150,16 @@ fn copy_field_lines(alloc: Global, lines: &Vec<FieldLine>) -> Result<Vec<FieldLi
 {
     let mut copies = Vec::new(alloc);
     for line in lines {
-        let fields = copy_fields(alloc, &line.fields)?;
         let tag = copy_tag(alloc, &line.tag)?;
-        copies.push(FieldLine {
-            fields,
-            tag,
-            semicolon: line.semicolon,
-        })?;
+        let fields = copy_fields(alloc, &line.fields)?;
+        add(
+            &mut copies,
+            FieldLine {
+                fields,
+                tag,
+                semicolon: line.semicolon,
+            },
+        )?;
     }
     Ok(copies)
 }
@@ -150,11 +173,14 @@ fn copy_methods(alloc: Global, methods: &Vec<MethodLine>) -> Result<Vec<MethodLi
     for method in methods {
         let name = copy_ident(alloc, &method.name)?;
         let signature = copy_signature(alloc, &method.signature)?;
-        copies.push(MethodLine {
-            name,
-            signature,
-            semicolon: method.semicolon,
-        })?;
+        add(
+            &mut copies,
+            MethodLine {
+                name,
+                signature,
+                semicolon: method.semicolon,
+            },
+        )?;
     }
     Ok(copies)
 }
@@ -183,7 +209,7 @@ fn copy_results(alloc: Global, results: &Results) -> Result<Results, AllocError>
         Results::Nothing => Ok(Results::Nothing),
         Results::Single(type_expr) => {
             let type_expr = copy_type(alloc, type_expr)?;
-            Ok(Results::Single(Box::new(alloc, type_expr)?))
+            Ok(Results::Single(boxed(alloc, type_expr)?))
         }
         Results::Listed(params) => {
             let entries = copy_params(alloc, &params.entries)?;
@@ -205,11 +231,14 @@ fn copy_params(alloc: Global, params: &Vec<Param>) -> Result<Vec<Param>, AllocEr
     for param in params {
         let names = copy_some_idents(alloc, &param.names)?;
         let type_expr = copy_type(alloc, &param.type_expr)?;
-        copies.push(Param {
-            names,
-            type_expr,
-            comma: param.comma,
-        })?;
+        add(
+            &mut copies,
+            Param {
+                names,
+                type_expr,
+                comma: param.comma,
+            },
+        )?;
     }
     Ok(copies)
 }
@@ -224,38 +253,45 @@ pub(crate) fn copy_expr(alloc: Global, expr: &Expr) -> Result<Expr, AllocError>
         Expr::Text(text) => Ok(Expr::Text(copy_text(alloc, text)?)),
         Expr::Name(ident) => Ok(Expr::Name(copy_ident(alloc, ident)?)),
         Expr::Paren(open, inner, close) => {
-            let inner = copy_expr(alloc, inner)?;
-            Ok(Expr::Paren(*open, Box::new(alloc, inner)?, *close))
+            Ok(Expr::Paren(*open, copy_boxed(alloc, inner)?, *close))
         }
         Expr::Unary(operator, span, inner) => {
-            let inner = copy_expr(alloc, inner)?;
-            Ok(Expr::Unary(*operator, *span, Box::new(alloc, inner)?))
+            Ok(Expr::Unary(*operator, *span, copy_boxed(alloc, inner)?))
         }
         Expr::Binary(left, operator, span, right) => {
-            let left = Box::new(alloc, copy_expr(alloc, left)?)?;
-            let right = Box::new(alloc, copy_expr(alloc, right)?)?;
+            let left = copy_boxed(alloc, left)?;
+            let right = copy_boxed(alloc, right)?;
             Ok(Expr::Binary(left, *operator, *span, right))
         }
         Expr::Select(left, dot, ident) => {
-            let left = Box::new(alloc, copy_expr(alloc, left)?)?;
+            let left = copy_boxed(alloc, left)?;
             Ok(Expr::Select(left, *dot, copy_ident(alloc, ident)?))
         }
         Expr::Call(callee, open, items, close) => {
-            let callee = Box::new(alloc, copy_expr(alloc, callee)?)?;
+            let callee = copy_boxed(alloc, callee)?;
             let items = copy_items(alloc, items)?;
             Ok(Expr::Call(callee, *open, items, *close))
         }
         Expr::Literal(name, open, items, close) => {
-            let name = copy_type_name(alloc, name)?;
             let items = copy_items(alloc, items)?;
+            let name = copy_type_name(alloc, name)?;
             Ok(Expr::Literal(name, *open, items, *close))
         }
         Expr::StructLiteral(type_expr, open, items, close) => {
-            let type_expr = copy_type(alloc, type_expr)?;
             let items = copy_items(alloc, items)?;
+            let type_expr = copy_type(alloc, type_expr)?;
             Ok(Expr::StructLiteral(type_expr, *open, items, *close))
         }
     }
+}
+
+// The same expression, in a box.
+#[cycle(exprs)]
+fn copy_boxed(alloc: Global, expr: &Expr) -> Result<Box<Expr>, AllocError>
+    ensures { IfOk result (λ x. shapes.shape x.value ≡ shapes.shape expr.now) }
+{
+    let copy = copy_expr(alloc, expr)?;
+    boxed(alloc, copy)
 }
 
 // The same key, where one stands.
@@ -280,11 +316,14 @@ fn copy_items(alloc: Global, items: &Vec<Item>) -> Result<Vec<Item>, AllocError>
     for item in items {
         let key = copy_key(alloc, &item.key)?;
         let value = copy_expr(alloc, &item.value)?;
-        copies.push(Item {
-            key,
-            value,
-            comma: item.comma,
-        })?;
+        add(
+            &mut copies,
+            Item {
+                key,
+                value,
+                comma: item.comma,
+            },
+        )?;
     }
     Ok(copies)
 }
@@ -296,10 +335,13 @@ pub(crate) fn copy_exprs(alloc: Global, exprs: &Exprs) -> Result<Exprs, AllocErr
     let mut more = Vec::new(alloc);
     for next in &exprs.more {
         let expr = copy_expr(alloc, &next.expr)?;
-        more.push(NextExpr {
-            comma: next.comma,
-            expr,
-        })?;
+        add(
+            &mut more,
+            NextExpr {
+                comma: next.comma,
+                expr,
+            },
+        )?;
     }
     let first = copy_expr(alloc, &exprs.first)?;
     Ok(Exprs { first, more })

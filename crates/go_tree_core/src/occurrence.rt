@@ -47,7 +47,7 @@ impl Role {
 }
 
 /// Where an expression stands, which says how it is used.
-#[derive(Clone, Copy, Debug, PartialEq, Eq)]
+#[derive(Clone, Copy)]
 pub(crate) enum Place {
     Type,
     Value,

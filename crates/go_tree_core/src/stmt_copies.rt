@@ -1,11 +1,14 @@
 //! Copies of declarations, statements and imports. The one error is want of memory.
+//!
+//! On the way out of a failed copy the compiler writes the drop of a small enum out in place, variant by variant, which is
+//! long to prove. So lists and boxes are copied first, and where an enum has to be dropped, `drop` is called by name.
 
-ghost use Rattle.std.specs.Prelude.{◌≡◌, IfOk, map};
+ghost use Rattle.std.specs.Prelude.{◌≡◌, IfOk, [], ◌∷◌, map};
 ghost use Rattle.go_tree_core.specs.Shapes as shapes;
 
 use crate::copies::{
-    copy_expr, copy_exprs, copy_ident, copy_idents, copy_signature, copy_text, copy_type,
-    copy_type_name,
+    add, boxed, copy_expr, copy_exprs, copy_ident, copy_idents, copy_signature, copy_text,
+    copy_type, copy_type_name,
 };
 use crate::decls::{
     TypeDecl, TypeLine, TypeSpec, TypeSpecs, ValueDecl, ValueLine, ValueSpec, ValueSpecs, Values,
@@ -66,10 +69,13 @@ fn copy_value_lines(alloc: Global, lines: &Vec<ValueLine>) -> Result<Vec<ValueLi
     let mut copies = Vec::new(alloc);
     for line in lines {
         let spec = copy_value_spec(alloc, &line.spec)?;
-        copies.push(ValueLine {
-            spec,
-            semicolon: line.semicolon,
-        })?;
+        add(
+            &mut copies,
+            ValueLine {
+                spec,
+                semicolon: line.semicolon,
+            },
+        )?;
     }
     Ok(copies)
 }
@@ -107,10 +113,13 @@ fn copy_type_lines(alloc: Global, lines: &Vec<TypeLine>) -> Result<Vec<TypeLine>
     let mut copies = Vec::new(alloc);
     for line in lines {
         let spec = copy_type_spec(alloc, &line.spec)?;
-        copies.push(TypeLine {
-            spec,
-            semicolon: line.semicolon,
-        })?;
+        add(
+            &mut copies,
+            TypeLine {
+                spec,
+                semicolon: line.semicolon,
+            },
+        )?;
     }
     Ok(copies)
 }
@@ -142,12 +151,23 @@ fn copy_simple(alloc: Global, simple: &Simple) -> Result<Simple, AllocError>
         }
         Simple::Assign(targets, assign, values) => {
             let targets = copy_exprs(alloc, targets)?;
-            Ok(Simple::Assign(targets, *assign, copy_exprs(alloc, values)?))
+            match copy_exprs(alloc, values) {
+                Ok(values) => Ok(Simple::Assign(targets, *assign, values)),
+                Err(error) => {
+                    drop(targets);
+                    Err(error)
+                }
+            }
         }
         Simple::Update(target, operator, span, value) => {
             let target = copy_expr(alloc, target)?;
-            let value = copy_expr(alloc, value)?;
-            Ok(Simple::Update(target, *operator, *span, value))
+            match copy_expr(alloc, value) {
+                Ok(value) => Ok(Simple::Update(target, *operator, *span, value)),
+                Err(error) => {
+                    drop(target);
+                    Err(error)
+                }
+            }
         }
         Simple::Define(names, define, values) => {
             let names = copy_idents(alloc, names)?;
@@ -204,8 +224,13 @@ fn copy_if_head(alloc: Global, head: &IfHead) -> Result<IfHead, AllocError>
     ensures { IfOk result (λ x. shapes.shape_if x ≡ shapes.shape_if head.now) }
 {
     let init = copy_init(alloc, &head.init)?;
-    let condition = copy_expr(alloc, &head.condition)?;
-    Ok(IfHead { init, condition })
+    match copy_expr(alloc, &head.condition) {
+        Ok(condition) => Ok(IfHead { init, condition }),
+        Err(error) => {
+            drop(init);
+            Err(error)
+        }
+    }
 }
 
 // The same head of a `for`.
@@ -244,8 +269,8 @@ fn copy_stmt(alloc: Global, stmt: &Stmt) -> Result<Stmt, AllocError>
         }
         Stmt::If(branch) => Ok(Stmt::If(copy_branch(alloc, branch)?)),
         Stmt::For(keyword, head, open, lines, close) => {
-            let head = copy_for_head(alloc, head)?;
             let lines = copy_lines(alloc, lines)?;
+            let head = copy_for_head(alloc, head)?;
             Ok(Stmt::For(*keyword, head, *open, lines, *close))
         }
     }
@@ -256,9 +281,9 @@ fn copy_stmt(alloc: Global, stmt: &Stmt) -> Result<Stmt, AllocError>
 fn copy_branch(alloc: Global, branch: &Branch) -> Result<Branch, AllocError>
     ensures { IfOk result (λ x. shapes.shape_branch x ≡ shapes.shape_branch branch.now) }
 {
-    let head = copy_if_head(alloc, &branch.head)?;
     let then = copy_lines(alloc, &branch.then)?;
     let otherwise = copy_otherwise(alloc, &branch.otherwise)?;
+    let head = copy_if_head(alloc, &branch.head)?;
     Ok(Branch {
         keyword: branch.keyword,
         head,
@@ -282,7 +307,7 @@ fn copy_otherwise(alloc: Global, otherwise: &Otherwise) -> Result<Otherwise, All
         }
         Otherwise::If(keyword, branch) => {
             let branch = copy_branch(alloc, branch)?;
-            Ok(Otherwise::If(*keyword, Box::new(alloc, branch)?))
+            Ok(Otherwise::If(*keyword, boxed(alloc, branch)?))
         }
     }
 }
@@ -294,13 +319,21 @@ fn copy_lines(alloc: Global, lines: &Vec<Line>) -> Result<Vec<Line>, AllocError>
 {
     let mut copies = Vec::new(alloc);
     for line in lines {
-        let stmt = copy_stmt(alloc, &line.stmt)?;
-        copies.push(Line {
-            stmt,
-            semicolon: line.semicolon,
-        })?;
+        add(&mut copies, copy_line(alloc, line)?)?;
     }
     Ok(copies)
+}
+
+// The same statement, and the semicolon behind it.
+#[cycle(stmts)]
+fn copy_line(alloc: Global, line: &Line) -> Result<Line, AllocError>
+    ensures { IfOk result (λ x. shapes.lines_of (x ∷ []) ≡ shapes.lines_of (line.now ∷ [])) }
+{
+    let stmt = copy_stmt(alloc, &line.stmt)?;
+    Ok(Line {
+        stmt,
+        semicolon: line.semicolon,
+    })
 }
 
 // The same name, where one stands.
@@ -338,10 +371,10 @@ fn copy_receiver(alloc: Global, receiver: &Option<Receiver>) -> Result<Option<Re
 fn copy_func(alloc: Global, func: &FuncDecl) -> Result<FuncDecl, AllocError>
     ensures { IfOk result (λ x. shapes.func_of x ≡ shapes.func_of func.now) }
 {
-    let receiver = copy_receiver(alloc, &func.receiver)?;
+    let body = copy_lines(alloc, &func.body)?;
     let name = copy_ident(alloc, &func.name)?;
     let signature = copy_signature(alloc, &func.signature)?;
-    let body = copy_lines(alloc, &func.body)?;
+    let receiver = copy_receiver(alloc, &func.receiver)?;
     Ok(FuncDecl {
         func: func.func,
         receiver,
@@ -371,10 +404,13 @@ pub(crate) fn copy_tops(alloc: Global, tops: &Vec<TopDecl>) -> Result<Vec<TopDec
     let mut copies = Vec::new(alloc);
     for top in tops {
         let decl = copy_decl(alloc, &top.decl)?;
-        copies.push(TopDecl {
-            decl,
-            semicolon: top.semicolon,
-        })?;
+        add(
+            &mut copies,
+            TopDecl {
+                decl,
+                semicolon: top.semicolon,
+            },
+        )?;
     }
     Ok(copies)
 }
@@ -401,10 +437,13 @@ fn copy_import_lines(alloc: Global, lines: &Vec<ImportLine>) -> Result<Vec<Impor
     let mut copies = Vec::new(alloc);
     for line in lines {
         let spec = copy_import_spec(alloc, &line.spec)?;
-        copies.push(ImportLine {
-            spec,
-            semicolon: line.semicolon,
-        })?;
+        add(
+            &mut copies,
+            ImportLine {
+                spec,
+                semicolon: line.semicolon,
+            },
+        )?;
     }
     Ok(copies)
 }
@@ -435,7 +474,7 @@ pub(crate) fn copy_imports(
 {
     let mut copies = Vec::new(alloc);
     for import in imports {
-        copies.push(copy_import(alloc, import)?)?;
+        add(&mut copies, copy_import(alloc, import)?)?;
     }
     Ok(copies)
 }

@@ -1,28 +1,25 @@
-use Rattle.std.proofs.Common.{arith, refl}
+use Rattle.std.proofs.Common.{arith, length, ◌∙◌}
 use Rattle.std.proofs.lemmas.Result.{err_from_is_err_and}
-use Rattle.go_parse_exprs.proofs.CodeExprLists.{exprs_start, exprs_start_fails, exprs_more, exprs_fails, exprs_end, next_shorter, high_after}
+use Rattle.go_tree_core.specs.Shapes.{shape}
+use Rattle.go_parse_exprs.proofs.CodeExprLists.{exprs_start_fails, exprs_first, first_shorter}
 use Rattle.go_parse_exprs.proofs.expr_list.exprs.Goals as goal
-
-pub turns-init : goal.turns-init
-turns-init c =
-    record { few = omega arith; low = c.in_ok-first.ensures.height.1; high = rw c.new-more.ensures.items c.in_ok-first.ensures.height.0; so_far = exprs_start _ _ _ _ _ _ c.new-more.ensures.items c.in_ok-first.ensures.tree }
-
-pub turns-smaller : goal.turns-smaller
-turns-smaller c = next_shorter _ _ _ _ _ c.in-Some.ensures c.in_ok-expr.ensures.tree
-
-pub turns-preserved : goal.turns-preserved
-turns-preserved c =
-    record { few = omega arith; low = omega (arith, c.in_ok-expr.ensures.height.1); high = high_after _ _ _ _ _ _ _ c.turns.invariant.high c.in_ok-expr.ensures.height.0 c.in_ok-push.ensures.items c.max-high.ensures; so_far = exprs_more _ _ _ _ _ _ _ _ _ _ c.turns.invariant.so_far c.in-Some.ensures c.in_ok-expr.ensures.tree refl c.in_ok-push.ensures.items }
 
 pub returns-in_err-first-clause-tree : goal.returns-in_err-first-clause-tree
 returns-in_err-first-clause-tree c =
     let p = err_from_is_err_and c.from_residual.result c.from_residual.ensures.1 in
     rw (p.1, p.2) (exprs_start_fails _ _ _ _ c.in_err-first.ensures.tree)
 
-pub returns-in_err-expr-clause-tree : goal.returns-in_err-expr-clause-tree
-returns-in_err-expr-clause-tree c =
-    let p = err_from_is_err_and c.from_residual-in_err-expr.result c.from_residual-in_err-expr.ensures.1 in
-    rw (p.1, p.2) (exprs_fails _ _ _ _ _ _ _ _ c.turns.invariant.so_far c.in-Some.ensures c.in_err-expr.ensures.tree)
+pub returns-in_err-more-clause-tree : goal.returns-in_err-more-clause-tree
+returns-in_err-more-clause-tree c =
+    let p = err_from_is_err_and c.from_residual-in_err-more.result c.from_residual-in_err-more.ensures.1 in
+    let less = first_shorter _ _ _ _ _ c.in_ok-first.ensures.tree in
+    rw (p.1, p.2, exprs_first c.args.budget c.args.header c.args.ahead c.in_ok-first.rest (shape c.in_ok-first.first) c.in_ok-first.ensures.tree) (c.in_err-more.ensures.tree c.in_ok-first.first (length c.args.ahead) less)
 
 pub returns-clause-tree : goal.returns-clause-tree
-returns-clause-tree c = exprs_end _ _ _ _ _ _ c.turns.invariant.so_far c.in_default.ensures
+returns-clause-tree c =
+    let less = first_shorter _ _ _ _ _ c.in_ok-first.ensures.tree in
+    exprs_first _ _ _ _ _ c.in_ok-first.ensures.tree ∙ c.in_ok-more.ensures.tree c.in_ok-first.first (length c.args.ahead) less
+
+pub returns-clause-height : goal.returns-clause-height
+returns-clause-height c =
+    (omega (arith, c.in_ok-first.ensures.height.0, c.in_ok-more.ensures.height.0 c.in_ok-first.first, c.max.ensures), omega (arith, c.in_ok-first.ensures.height.1, c.in_ok-more.ensures.height.1, c.max.ensures))

@@ -102,15 +102,15 @@ named-returns-clause-height t c =
     let high : c.max.result + 1 ≡ max 1 (items_height (items_of c.in_ok-all.all.items)) + 1 = omega (arith, c.in_ok-all.ensures.height.0) in
     (high ∙ literal_height c.in_ok-name.name c.in_ok-open.«open» c.in_ok-all.all c.in_ok-close.close, omega (arith, c.in_ok-all.ensures.height.1))
 
-pub one_step-returns-in_ok-new-in-Apply-clause-tree : goal.one_step-returns-in_ok-new-in-Apply-clause-tree
-one_step-returns-in_ok-new-in-Apply-clause-tree t c =
+pub one_step-returns-in_ok-close-in-Apply-clause-tree : goal.one_step-returns-in_ok-close-in-Apply-clause-tree
+one_step-returns-in_ok-close-in-Apply-clause-tree t c =
     call_is (expr_at c.args.inner) c.args.header (shape c.args.left) c.args.after c.args.span c.args.ahead _ _ _ c.in-Apply.is c.in_ok-all-in-Apply.ensures.tree c.in_ok-close-in-Apply.ensures
-    ∙ ap (λ e. Ok (e, c.in_ok-close-in-Apply.rest)) (call_shape c.in_ok-new-in-Apply.field-0 c.args.left c.args.span c.in_ok-all-in-Apply.all c.in_ok-close-in-Apply.close c.in_ok-new-in-Apply.ensures.ok)
+    ∙ ap (λ e. Ok (e, c.in_ok-close-in-Apply.rest)) (call_shape c.in_ok-left.left c.args.left c.args.span c.in_ok-all-in-Apply.all c.in_ok-close-in-Apply.close c.in_ok-left.ensures.ok)
 
-pub one_step-returns-in_ok-new-in-Apply-clause-height : goal.one_step-returns-in_ok-new-in-Apply-clause-height
-one_step-returns-in_ok-new-in-Apply-clause-height t c =
+pub one_step-returns-in_ok-close-in-Apply-clause-height : goal.one_step-returns-in_ok-close-in-Apply-clause-height
+one_step-returns-in_ok-close-in-Apply-clause-height t c =
     let high : c.max-in-Apply.result + 1 ≡ max (height (shape c.args.left)) (items_height (items_of c.in_ok-all-in-Apply.all.items)) + 1 = omega (arith, c.in_ok-all-in-Apply.ensures.height.0) in
-    (high ∙ call_height c.in_ok-new-in-Apply.field-0 c.args.left c.args.span c.in_ok-all-in-Apply.all c.in_ok-close-in-Apply.close c.in_ok-new-in-Apply.ensures.ok, omega (arith, c.in_ok-all-in-Apply.ensures.height.1), omega arith)
+    (high ∙ call_height c.in_ok-left.left c.args.left c.args.span c.in_ok-all-in-Apply.all c.in_ok-close-in-Apply.close c.in_ok-left.ensures.ok, omega (arith, c.in_ok-all-in-Apply.ensures.height.1), omega arith)
 
 pub struct_literal-returns-in_err-open-clause-tree : goal.struct_literal-returns-in_err-open-clause-tree
 struct_literal-returns-in_err-open-clause-tree t c =

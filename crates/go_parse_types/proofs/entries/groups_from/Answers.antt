@@ -1,11 +1,11 @@
-use Rattle.std.proofs.Common.{refl, rules, sym, map-id}
+use Rattle.std.proofs.Common.{rules, sym, map-id}
 use Rattle.std.proofs.lemmas.Iterator.Consumers.{YieldsList-turn, YieldsList-end}
 use Rattle.std.proofs.lemmas.Iterator.Adapters.{YieldsList-from_vec}
 use Rattle.go_parse_types.proofs.CodeEntries.{groups_push, groups_name, groups_all, groups_left, groups_stop, no_plain, no_comma}
 use Rattle.go_parse_types.proofs.entries.groups_from.Goals as goal
 
-pub turns-preserved-in_ok-push : goal.turns-preserved-in_ok-push
-turns-preserved-in_ok-push c = groups_push _ _ _ _ _ _ _ _ c.turns.invariant c.in-Some-name.is c.in_ok-group.ensures refl refl refl c.in_ok-push.ensures.items
+pub turns-preserved-in-Some-name : goal.turns-preserved-in-Some-name
+turns-preserved-in-Some-name c = groups_push _ _ _ _ _ _ _ c.turns.invariant c.in-Some-name.is c.in_ok-group.ensures.0 c.in_ok-group.ensures.1 c.in_ok-group.ensures.2 c.in_ok-push.ensures.items
 
 pub turns-preserved : goal.turns-preserved
 turns-preserved c = groups_name _ _ _ _ _ _ _ c.turns.invariant c.in_default.is c.in-Some-plain.ensures c.in-Some-comma.is c.in_ok-with_name.ensures

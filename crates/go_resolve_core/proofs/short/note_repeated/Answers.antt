@@ -1,5 +1,5 @@
 use Rattle.std.proofs.Common.{[], ◌∷◌, ◌++◌, ◌∙◌}
-use Rattle.go_resolve_core.proofs.Steps.{repeated_init, repeated_step, knows_step, knows_first}
+use Rattle.go_resolve_core.proofs.Steps.{repeated_init, repeated_end, repeated_step, knows_step, knows_first}
 use Rattle.go_resolve_core.proofs.short.note_repeated.Goals as goal
 
 pub loop-next-init : goal.loop-next-init
@@ -18,3 +18,6 @@ loop-next-preserved c =
       knows_step before c.loop-next.seen c.note_if_repeated-in-loop-next.new.seen x.name (record { 0 = 0 }) c.loop-next.invariant.1 c.in_ok-note_if_repeated-2.ensures.seen,
       repeated_step c.deref-next-items.result.now c.loop-next.next-index c.next-item.result c.loop-next-test.true c.next-item.is before c.loop-next.seen c.loop-next.faults.items c.note_if_repeated-in-loop-next.new.faults.items c.loop-next.invariant.1 c.in_ok-note_if_repeated-2.ensures.faults ∙ c.loop-next.invariant.2,
     )
+
+pub returns : goal.returns
+returns c = repeated_end c.deref-next-items.result.now c.loop-next.next-index c.loop-next.invariant.0 c.loop-next.faults.items _ c.loop-next-test.false c.loop-next.invariant.2

@@ -1,8 +1,9 @@
-use Rattle.std.proofs.Common.{◌++◌, length, arith, ap, sym, ◌∙◌}
+use Rattle.std.proofs.Common.{◌++◌, length, ap, sym, ◌∙◌}
 use Rattle.go_subset_core.specs.Shapes.{shape_stmt, lines_of}
-use Rattle.go_resolve_core.specs.Walk.{stmt_uses, stmt_notes, env_after, lines_uses, lines_notes}
+use Rattle.go_resolve_core.specs.Walk.{stmt_uses, stmt_notes, env_after, lines_uses, lines_notes, lines_env}
 use Rattle.go_resolve_core.specs.declared.declared.Block.TheVariants.{Within}
-use Rattle.go_resolve_core.proofs.Walks.{length-env_after, block_shape, left_block, inner_open, uses_step, notes_step, env_step, short_notes}
+use Rattle.go_resolve_core.proofs.Pushes.{still_open}
+use Rattle.go_resolve_core.proofs.Walks.{length-env_after, block_shape, left_block, inner_open, uses_step, notes_step, env_step, uses_end, notes_end, env_end, short_notes}
 use Rattle.go_resolve_core.proofs.walk.+walk.Goals as goal
 
 pub walk_stmt-returns-in-Short-clause-faults : goal.walk_stmt-returns-in-Short-clause-faults
@@ -32,10 +33,24 @@ pub walk_lines-loop-line-preserved : goal.walk_lines-loop-line-preserved
 walk_lines-loop-line-preserved t c =
     let items = c.deref-line-items.result.now in
     let env = c.loop-line.resolver in
-    let some = c.loop-line.invariant.some in
     record {
       used = uses_step env c.args.block items c.loop-line.line-index c.line-item.result c.loop-line-test.true c.line-item.is c.loop-line.uses.items c.walk_stmt.new.uses.items c.walk_stmt.new.resolver c.in_ok-walk_stmt.ensures.uses c.in_ok-walk_stmt.ensures.open ∙ c.loop-line.invariant.used;
       noted = notes_step env c.args.block items c.loop-line.line-index c.line-item.result c.loop-line-test.true c.line-item.is c.loop-line.faults.items c.walk_stmt.new.faults.items c.walk_stmt.new.resolver c.in_ok-walk_stmt.ensures.faults c.in_ok-walk_stmt.ensures.open ∙ c.loop-line.invariant.noted;
       opened = env_step env c.args.block items c.loop-line.line-index c.line-item.result c.loop-line-test.true c.line-item.is c.walk_stmt.new.resolver c.in_ok-walk_stmt.ensures.open ∙ c.loop-line.invariant.opened;
-      some = omega (arith, ap length c.in_ok-walk_stmt.ensures.open, length-env_after (shape_stmt c.line-item.result.stmt) env c.args.block);
+      some = still_open _ _ _ (ap length c.in_ok-walk_stmt.ensures.open) (length-env_after (shape_stmt c.line-item.result.stmt) env c.args.block) c.loop-line.invariant.some;
     }
+
+pub walk_lines-returns-clause-uses : goal.walk_lines-returns-clause-uses
+walk_lines-returns-clause-uses t c =
+    uses_end c.loop-line.resolver c.args.block c.deref-line-items.result.now c.loop-line.line-index c.loop-line-test.false c.loop-line.uses.items _ c.loop-line.invariant.used
+    ∙ ap (λ ls. c.args.uses.now.items ++ lines_uses c.args.resolver.now c.args.block (lines_of ls)) c.deref-line-items.ensures.value
+
+pub walk_lines-returns-clause-faults : goal.walk_lines-returns-clause-faults
+walk_lines-returns-clause-faults t c =
+    notes_end c.loop-line.resolver c.args.block c.deref-line-items.result.now c.loop-line.line-index c.loop-line-test.false c.loop-line.faults.items _ c.loop-line.invariant.noted
+    ∙ ap (λ ls. c.args.faults.now.items ++ lines_notes c.args.resolver.now c.args.block (lines_of ls)) c.deref-line-items.ensures.value
+
+pub walk_lines-returns-clause-open : goal.walk_lines-returns-clause-open
+walk_lines-returns-clause-open t c =
+    env_end c.loop-line.resolver c.args.block c.deref-line-items.result.now c.loop-line.line-index c.loop-line-test.false _ c.loop-line.invariant.opened
+    ∙ ap (λ ls. lines_env c.args.resolver.now c.args.block (lines_of ls)) c.deref-line-items.ensures.value

@@ -2,6 +2,7 @@ use Rattle.std.proofs.Common.{◌≡◌, ◌+◌, ◌<◌, length, drop, sym, ap
 use Rattle.std.proofs.lemmas.List.{length-drop}
 use Rattle.go_scan_core.specs.declared.enclosed.Flaw.TheVariants.{Stray}
 use Rattle.go_scan_core.specs.Enclosed.{behind, body}
+use Rattle.go_scan_core.proofs.EmptyLemmas.{filled, emptied}
 use Rattle.go_scan_core.proofs.BodyLemmas.{behind-behind, body_end, body_none, body_step, end_within, item_within}
 use Rattle.go_scan_core.proofs.enclosed.body_len.Goals as goal
 
@@ -27,7 +28,7 @@ loop-rest-preserved c =
 pub returns-in-End-clause-value : goal.returns-in-End-clause-value
 returns-in-End-clause-value c =
     let e = c.args.enclosure in
-    let some : 0 < length c.loop-rest.rest.now = grind arith in
+    let some = filled c.loop-rest.rest.now c.loop-rest-test.ensures in
     ap (λ n. Ok (c.loop-rest.count + n)) c.closing_len.ensures ∙ sym (ap (behind c.loop-rest.count) (body_end e c.loop-rest.rest.now _ some (sym c.next_item.ensures ∙ c.in-End.is))) ∙ c.loop-rest.invariant.answer
 
 pub returns-in-End-clause-within : goal.returns-in-End-clause-within
@@ -35,21 +36,21 @@ returns-in-End-clause-within c = omega (arith, end_within c.args.enclosure c.loo
 
 pub returns-in-Stray-clause-value : goal.returns-in-Stray-clause-value
 returns-in-Stray-clause-value c =
-    let some : 0 < length c.loop-rest.rest.now = grind arith in
+    let some = filled c.loop-rest.rest.now c.loop-rest-test.ensures in
     let none : c.loop-rest.count ≡ c.loop-rest.count + 0 = omega arith in
     ap (λ n. Err (Stray n)) none ∙ sym (ap (behind c.loop-rest.count) (body_end c.args.enclosure c.loop-rest.rest.now _ some (sym c.next_item.ensures ∙ c.in-Stray.is))) ∙ c.loop-rest.invariant.answer
 
 pub returns-in-Bad-clause-value : goal.returns-in-Bad-clause-value
 returns-in-Bad-clause-value c =
-    let some : 0 < length c.loop-rest.rest.now = grind arith in
+    let some = filled c.loop-rest.rest.now c.loop-rest-test.ensures in
     sym (ap (behind c.loop-rest.count) (body_end c.args.enclosure c.loop-rest.rest.now _ some (sym c.next_item.ensures ∙ c.in-Bad.is))) ∙ c.loop-rest.invariant.answer
 
 pub returns-in-Open-clause-value : goal.returns-in-Open-clause-value
 returns-in-Open-clause-value c =
-    let some : 0 < length c.loop-rest.rest.now = grind arith in
+    let some = filled c.loop-rest.rest.now c.loop-rest-test.ensures in
     sym (ap (behind c.loop-rest.count) (body_end c.args.enclosure c.loop-rest.rest.now _ some (sym c.next_item.ensures ∙ c.in-Open.is))) ∙ c.loop-rest.invariant.answer
 
 pub returns-clause-value : goal.returns-clause-value
 returns-clause-value c =
-    let none : length c.loop-rest.rest.now ≡ 0 = grind arith in
+    let none = emptied c.loop-rest.rest.now c.loop-rest-test.ensures in
     sym (ap (behind c.loop-rest.count) (body_none c.args.enclosure c.loop-rest.rest.now none)) ∙ c.loop-rest.invariant.answer

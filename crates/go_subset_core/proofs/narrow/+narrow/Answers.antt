@@ -1,7 +1,8 @@
 use Rattle.std.proofs.Common.{sym, ap, ◌∙◌, map, Some}
 use Rattle.std.specs.Option.{option_map}
-use Rattle.go_subset_core.specs.Shapes.{shape_stmt}
-use Rattle.go_subset_core.specs.Narrowing.{each}
+use Rattle.go_tree_core.specs.Shapes as wide_shapes
+use Rattle.go_subset_core.specs.Shapes.{shape_some, shape_value, shape_stmt}
+use Rattle.go_subset_core.specs.Narrowing.{each, narrow_stmt}
 use Rattle.go_subset_core.proofs.EachLemmas.{each_push, each_stop, each_end}
 use Rattle.go_subset_core.proofs.NarrowLemmas.{narrow_line, line_tree, lines_from, lines_each, lines_made, block_made, block_none}
 use Rattle.go_subset_core.proofs.narrow.+narrow.Goals as goal
@@ -31,3 +32,19 @@ narrow_stmt-returns-in_default-4 t c =
 pub narrow_stmt-returns-in-Some-3 : goal.narrow_stmt-returns-in-Some-3
 narrow_stmt-returns-in-Some-3 t c =
     block_made c.args.text.now c.args.stmt.now c.in-Block.open c.in-Block.lines c.in-Block.close c.in_ok-lines-in-Block.field-0 c.in-Some-3.lines c.in-Block.is c.in_ok-lines-in-Block.ensures c.in-Some-3.is
+
+pub narrow_stmt-returns-in_default-2 : goal.narrow_stmt-returns-in_default-2
+narrow_stmt-returns-in_default-2 t c =
+    sym (ap (λ s. narrow_stmt c.args.text.now (wide_shapes.shape_stmt s)) c.in-Declare.is ∙ ap (option_map _) (sym c.in_ok-value-in-Declare.ensures ∙ ap (option_map shape_value) c.in_default-2.is))
+
+pub narrow_stmt-returns-in-Some : goal.narrow_stmt-returns-in-Some
+narrow_stmt-returns-in-Some t c =
+    sym (ap (λ s. narrow_stmt c.args.text.now (wide_shapes.shape_stmt s)) c.in-Declare.is ∙ ap (option_map _) (sym c.in_ok-value-in-Declare.ensures ∙ ap (option_map shape_value) c.in-Some.is))
+
+pub narrow_stmt-returns-in_default-3 : goal.narrow_stmt-returns-in_default-3
+narrow_stmt-returns-in_default-3 t c =
+    sym (ap (λ s. narrow_stmt c.args.text.now (wide_shapes.shape_stmt s)) c.in-Return.is ∙ ap (option_map _) (sym c.in_ok-values-in-Return.ensures ∙ ap (option_map shape_some) c.in_default-3.is))
+
+pub narrow_stmt-returns-in-Some-2 : goal.narrow_stmt-returns-in-Some-2
+narrow_stmt-returns-in-Some-2 t c =
+    sym (ap (λ s. narrow_stmt c.args.text.now (wide_shapes.shape_stmt s)) c.in-Return.is ∙ ap (option_map _) (sym c.in_ok-values-in-Return.ensures ∙ ap (option_map shape_some) c.in-Some-2.is))

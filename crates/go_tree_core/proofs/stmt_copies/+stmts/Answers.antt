@@ -1,14 +1,16 @@
-use Rattle.std.proofs.Common.{arith, ap, sym, ◌∙◌}
-use Rattle.std.proofs.lemmas.Grind.{common_steps}
+use Rattle.std.proofs.Common.{ap, sym, ◌∙◌}
 use Rattle.go_tree_core.specs.declared.stmts.«Branch» as declared_branch
 use Rattle.go_tree_core.specs.Trees.{Block, For, Branch, ElseBlock}
 use Rattle.go_tree_core.specs.Shapes.{shape_stmt, shape_if, shape_for, shape_else, lines_of}
-use Rattle.go_tree_core.proofs.SameTrees.{same_lines}
+use Rattle.go_tree_core.proofs.SameTrees.{one_copied, all_copied, line_tree, same_lines}
 use Rattle.go_tree_core.proofs.ShapeLemmas.{shape_block, shape_loop, shape_else_block, shape_branched, branch_parts}
 use Rattle.go_tree_core.proofs.stmt_copies.+stmts.Goals as goal
 
+pub copy_lines-loop-line-preserved : goal.copy_lines-loop-line-preserved
+copy_lines-loop-line-preserved t c = one_copied line_tree _ _ _ _ _ _ c.loop-line-test.true c.line-item.is c.in_ok-add.ensures c.in_ok-copy_line.ensures c.loop-line.invariant
+
 pub copy_lines-returns : goal.copy_lines-returns
-copy_lines-returns t c = same_lines _ _ (grind (arith, common_steps))
+copy_lines-returns t c = same_lines _ _ (all_copied line_tree _ _ _ _ c.deref-line-items.ensures.value c.loop-line-test.false c.loop-line.invariant)
 
 pub copy_stmt-returns-in_ok-lines-in-Block : goal.copy_stmt-returns-in_ok-lines-in-Block
 copy_stmt-returns-in_ok-lines-in-Block t c =
@@ -17,8 +19,8 @@ copy_stmt-returns-in_ok-lines-in-Block t c =
     ∙ ap (λ l. Block w.«open» l w.close) c.in_ok-lines-in-Block.ensures
     ∙ sym (ap shape_stmt w.is ∙ shape_block w.«open» w.lines w.close)
 
-pub copy_stmt-returns-in_ok-lines-in-For : goal.copy_stmt-returns-in_ok-lines-in-For
-copy_stmt-returns-in_ok-lines-in-For t c =
+pub copy_stmt-returns-in_ok-head-in-For : goal.copy_stmt-returns-in_ok-head-in-For
+copy_stmt-returns-in_ok-head-in-For t c =
     let w = c.in-For in
     let ls = c.in_ok-lines-in-For.lines in
     shape_loop w.keyword c.in_ok-head-in-For.head w.«open» ls w.close

@@ -1,9 +1,10 @@
-use Rattle.std.proofs.Common.{Some, arith, ap, sym, ◌∙◌}
+use Rattle.std.proofs.Common.{Some, ap, sym, ◌∙◌}
 use Rattle.std.proofs.lemmas.List.{get_or_read}
 use Rattle.std.specs.Option.{option_map}
-use Rattle.go_scope_core.specs.Blocks.{found_in, or_else, in_block}
+use Rattle.go_open_core.specs.Blocks.{found_in, or_else, in_block}
 use Rattle.go_resolve_core.specs.Universe.{universe}
 use Rattle.go_resolve_core.specs.Env.{numbered, nothing}
+use Rattle.go_resolve_core.proofs.Pushes.{within_len}
 use Rattle.go_resolve_core.proofs.Envs.{found_in-blocks, numbers-found}
 use Rattle.go_resolve_core.proofs.resolver.Resolver.find.Goals as goal
 
@@ -15,8 +16,7 @@ returns-in-None c =
 
 pub index-requires : goal.index-requires
 index-requires c =
-    let within = numbers-found c.self.inside.table.items c.self.inside.scopes c.args.name.now c.in-Some.id c.self.invariant (sym c.find.ensures.value ∙ c.in-Some.is) in
-    omega (arith, within)
+    within_len c.self.inside.table c.in-Some.id.0 (numbers-found c.self.inside.table.items c.self.inside.scopes c.args.name.now c.in-Some.id c.self.invariant (sym c.find.ensures.value ∙ c.in-Some.is))
 
 pub returns-in-Some : goal.returns-in-Some
 returns-in-Some c =

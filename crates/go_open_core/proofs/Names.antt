@@ -1,0 +1,140 @@
+-- The names of blocks, each once.
+use Rattle.std.proofs.Common.{◌≡◌, ℕ, ◌+◌, ◌<◌, ◌≤◌, Bool, true, false, ◌||◌, List, [], ◌∷◌, ◌++◌, map, length, drop, get_or, Option, Some, None, cond, if◌then◌else◌, refl, sym, ap, ◌∙◌, subst, arith}
+use Rattle.std.specs.Prelude.{string_bytes, Contains, AllPairs, IsSome, is_some}
+use Rattle.std.specs.Str.{bytes_eq}
+use Rattle.std.specs.Cmp.{IsEquivalence}
+use Rattle.std.specs.List.{list_any}
+use Rattle.std.specs.Borrow.{Bor}
+use Rattle.std.specs.declared.string.String.{String}
+use Rattle.std.proofs.lemmas.Bool.{true≢false}
+use Rattle.std.proofs.lemmas.List.{drop_more, drop_all, map-append, get_or_default}
+use Rattle.std.proofs.lemmas.List.Quantifiers.{all_pairs_push}
+use Rattle.std.proofs.lemmas.Map.Views.{list_any-from_Contains, Contains-from_any}
+use Rattle.std.proofs.lemmas.Slice.Eq.{bytes_eq-Decides}
+use Rattle.go_open_core.specs.declared.DeclId.{DeclId}
+use Rattle.go_open_core.specs.Blocks.{found_in, in_block, or_else, names_in, names_of, is_listed, list_name, list_names}
+
+-- names behind references
+any_shown : (name : List ℕ) (xs : List (Bor (List ℕ))) → list_any (λ x. bytes_eq name x.now) xs ≡ is_listed (map (λ x. x.now) xs) name
+any_shown name [] = refl
+any_shown name (x ∷ xs) = ap (λ b. bytes_eq name x.now || b) (any_shown name xs)
+
+-- a set of them with one more
+pub shown_key : (xs : List (Bor (List ℕ))) (x : Bor (List ℕ)) → map (λ x. x.now) (if list_any (λ y. bytes_eq x.now y.now) xs then xs else xs ++ x ∷ []) ≡ list_name (map (λ x. x.now) xs) x.now
+shown_key xs x = by (list_any (λ y. bytes_eq x.now y.now) xs) ∙ ap (λ b. if b then map (λ x. x.now) xs else map (λ x. x.now) xs ++ x.now ∷ []) (any_shown x.now xs)
+  where
+    by : (b : Bool) → map (λ x. x.now) (if b then xs else xs ++ x ∷ []) ≡ (if b then map (λ x. x.now) xs else map (λ x. x.now) xs ++ x.now ∷ [])
+    by true = refl
+    by false = map-append (λ x. x.now) xs (x ∷ [])
+
+-- the names of a table
+pub names_in_table : {Y : Type 0} (es : List (String Y × DeclId)) → map string_bytes (map (λ e. e.0) es) ≡ names_in (map (λ e. (string_bytes e.0, e.1)) es)
+names_in_table [] = refl
+names_in_table (e ∷ es) = ap (λ l. string_bytes e.0 ∷ l) (names_in_table es)
+
+list_names-append : (s xs ys : List (List ℕ)) → list_names s (xs ++ ys) ≡ list_names (list_names s xs) ys
+list_names-append s [] ys = refl
+list_names-append s (x ∷ xs) ys = list_names-append (list_name s x) xs ys
+
+-- one block more
+pub names_step : {T : Type 0} (f : T → List (List ℕ × DeclId)) (ts : List T) (i : ℕ) (t : T) (s s' all : List (List ℕ)) → i < length ts → t ≡ get_or ts i t → s' ≡ list_names s (names_in (f t)) → list_names s (names_of (map f (drop i ts))) ≡ all → list_names s' (names_of (map f (drop (i + 1) ts))) ≡ all
+names_step f ts i t s s' all h is now left =
+    ap (λ l. list_names l (names_of (map f (drop (i + 1) ts)))) now
+    ∙ (sym (list_names-append s (names_in (f t)) (names_of (map f (drop (i + 1) ts))))
+    ∙ (ap (λ l. list_names s (names_of (map f l))) (ap (λ y. y ∷ drop (i + 1) ts) is ∙ sym (drop_more ts i t h)) ∙ left))
+
+-- the end of the loop
+pub names_end : {T : Type 0} (f : T → List (List ℕ × DeclId)) (ts : List T) (i : ℕ) (s all : List (List ℕ)) → length ts ≤ i → list_names s (names_of (map f (drop i ts))) ≡ all → s ≡ all
+names_end f ts i s all h left = ap (λ l. list_names s (names_of (map f l))) (sym (drop_all i ts h)) ∙ left
+
+or-none : (b : Bool) → b ≡ b || false
+or-none true = refl
+or-none false = refl
+
+or-assoc : (a b c : Bool) → (a || b) || c ≡ a || (b || c)
+or-assoc true b c = refl
+or-assoc false b c = refl
+
+or-swap : (a b : Bool) → a || b ≡ b || a
+or-swap true true = refl
+or-swap true false = refl
+or-swap false true = refl
+or-swap false false = refl
+
+listed-append : (xs ys : List (List ℕ)) (name : List ℕ) → is_listed (xs ++ ys) name ≡ is_listed xs name || is_listed ys name
+listed-append [] ys name = refl
+listed-append (x ∷ xs) ys name = ap (λ b. bytes_eq name x || b) (listed-append xs ys name) ∙ sym (or-assoc (bytes_eq name x) (is_listed xs name) (is_listed ys name))
+
+same_bytes : (x y : List ℕ) → bytes_eq x y ≡ true → x ≡ y
+same_bytes x y h = (bytes_eq-Decides x y).0 h
+
+pub bytes_equiv : IsEquivalence bytes_eq
+bytes_equiv = record {
+  refl = λ x. (bytes_eq-Decides x x).1 refl;
+  symm = λ x y. grind (arith, bytes_eq-Decides x y, bytes_eq-Decides y x);
+  congr = λ x y z h. ap (λ w. bytes_eq w z) (same_bytes x y h);
+}
+
+-- a name that is added again changes nothing
+listed-name : (s : List (List ℕ)) (m name : List ℕ) → is_listed (list_name s m) name ≡ is_listed s name || bytes_eq name m
+listed-name s m name = by (is_listed s m) refl
+  where
+    again : (b : Bool) → bytes_eq name m ≡ b → is_listed s m ≡ true → is_listed s name ≡ is_listed s name || b
+    again true e there = let n = ap (is_listed s) (same_bytes name m e) ∙ there in n ∙ sym (ap (λ b. b || true) n)
+    again false e there = or-none (is_listed s name)
+
+    by : (b : Bool) → is_listed s m ≡ b → is_listed (if b then s else s ++ m ∷ []) name ≡ is_listed s name || bytes_eq name m
+    by true there = again (bytes_eq name m) refl there
+    by false there = listed-append s (m ∷ []) name ∙ ap (λ b. is_listed s name || b) (sym (or-none (bytes_eq name m)))
+
+listed-names : (s ns : List (List ℕ)) (name : List ℕ) → is_listed (list_names s ns) name ≡ is_listed s name || is_listed ns name
+listed-names s [] name = or-none (is_listed s name)
+listed-names s (n ∷ ns) name =
+    listed-names (list_name s n) ns name
+    ∙ (ap (λ b. b || is_listed ns name) (listed-name s n name) ∙ or-assoc (is_listed s name) (bytes_eq name n) (is_listed ns name))
+
+listed-block : (block : List (List ℕ × DeclId)) (name : List ℕ) → is_listed (names_in block) name ≡ is_some (in_block block name)
+listed-block [] name = refl
+listed-block (e ∷ es) name = by (bytes_eq name e.0) (listed-block es name)
+  where
+    by : (b : Bool) → is_listed (names_in es) name ≡ is_some (in_block es name) → b || is_listed (names_in es) name ≡ is_some (cond b (Some e.1) (in_block es name))
+    by true h = refl
+    by false h = h
+
+listed-found : (blocks : List (List (List ℕ × DeclId))) (name : List ℕ) → is_listed (names_of blocks) name ≡ is_some (found_in blocks name)
+listed-found [] name = refl
+listed-found (block ∷ blocks) name =
+    listed-append (names_in block) (names_of blocks) name
+    ∙ (ap (λ b. b || is_listed (names_of blocks) name) (listed-block block name)
+    ∙ (ap (λ b. is_some (in_block block name) || b) (listed-found blocks name)
+    ∙ by (found_in blocks name) (in_block block name)))
+  where
+    by : (a b : Option DeclId) → is_some b || is_some a ≡ is_some (or_else a b)
+    by None None = refl
+    by None (Some x) = refl
+    by (Some x) None = refl
+    by (Some x) (Some y) = refl
+
+-- the names that are listed are those that are found
+pub names_found : (blocks : List (List (List ℕ × DeclId))) (listed : List (List ℕ)) (name : List ℕ) → listed ≡ list_names [] (names_of blocks) → (Contains listed name → IsSome (found_in blocks name)) × (IsSome (found_in blocks name) → Contains listed name)
+names_found blocks listed name e =
+    let same : is_listed listed name ≡ is_some (found_in blocks name) = ap (λ l. is_listed l name) e ∙ (listed-names [] (names_of blocks) name ∙ listed-found blocks name) in
+    (λ there. sym same ∙ list_any-from_Contains bytes_equiv name listed there, λ found. Contains-from_any same_bytes name listed (same ∙ found))
+
+-- no name is listed twice
+abbrev Apart : List (List ℕ) → Type 0
+Apart names = AllPairs (λ a b. ¬ (a ≡ b)) names
+
+apart-name : (s : List (List ℕ)) (name : List ℕ) → Apart s → Apart (list_name s name)
+apart-name s name h = by (is_listed s name) refl
+  where
+    by : (b : Bool) → is_listed s name ≡ b → Apart (if b then s else s ++ name ∷ [])
+    by true there = h
+    by false there = all_pairs_push (λ a b. ¬ (a ≡ b)) s name h (λ k d in_s same. true≢false (sym (list_any-from_Contains bytes_equiv name s (k, in_s, get_or_default s k name d in_s ∙ same)) ∙ there))
+
+apart-names : (s ns : List (List ℕ)) → Apart s → Apart (list_names s ns)
+apart-names s [] h = h
+apart-names s (n ∷ ns) h = apart-names (list_name s n) ns (apart-name s n h)
+
+pub names_once : (ns listed : List (List ℕ)) → listed ≡ list_names [] ns → Apart listed
+names_once ns listed e = let P : List (List ℕ) → Type 0 = Apart in subst P (sym e) (apart-names [] ns (λ i j d lt in_nil same. absurd (omega arith)))

@@ -1,0 +1,99 @@
+-- What a contract sees of the open blocks: a list of blocks, the outermost first, each a list of names with
+-- their declarations, in the order in which they were declared.
+use Rattle.std.specs.Prelude.{◌≡◌, ℕ, Bool, ◌&&◌, not, List, [], ◌∷◌, ◌++◌, map, All, Option, Some, None, is_some, string_bytes, if◌then◌else◌}
+use Rattle.std.specs.List.{list_any}
+use Rattle.std.specs.Str.{bytes_eq}
+use Rattle.std.specs.Map.{lookup}
+use Rattle.std.specs.declared.string.String.{String}
+use Rattle.indexmap.specs.IndexMap.{IndexMap}
+use Rattle.std.specs.Borrow.{Bor}
+use Rattle.go_text_core.specs.Text.{is_blank}
+use Rattle.go_open_core.specs.declared.DeclId.{DeclId}
+
+-- the declaration of a name in one block
+abbrev pub in_block : {X : Type 0} → List (List ℕ × X) → List ℕ → Option X
+in_block block name = lookup (bytes_eq name) block
+
+-- one of two, the first where it is there
+abbrev pub or_else : {A : Type 0} → Option A → Option A → Option A
+or_else (Some a) b = Some a
+or_else None b = b
+
+-- the innermost declaration of a name
+abbrev pub found_in : {X : Type 0} → List (List (List ℕ × X)) → List ℕ → Option X
+found_in [] name = None
+found_in (block ∷ blocks) name = or_else (found_in blocks name) (in_block block name)
+
+-- the innermost block, or none
+abbrev pub innermost : {X : Type 0} → List (List (List ℕ × X)) → List (List ℕ × X)
+innermost [] = []
+innermost (block ∷ []) = block
+innermost (block ∷ other ∷ blocks) = innermost (other ∷ blocks)
+
+-- the blocks, with another in place of the innermost
+abbrev pub with_innermost : {X : Type 0} → List (List (List ℕ × X)) → List (List ℕ × X) → List (List (List ℕ × X))
+with_innermost [] new = []
+with_innermost (block ∷ []) new = new ∷ []
+with_innermost (block ∷ other ∷ blocks) new = block ∷ with_innermost (other ∷ blocks) new
+
+-- whether a declaration of the name in the innermost block would be the second
+abbrev pub is_taken : {X : Type 0} → List (List (List ℕ × X)) → List ℕ → Bool
+is_taken blocks name = not (is_blank name) && is_some (in_block (innermost blocks) name)
+
+-- a block after a declaration in it
+abbrev pub block_with : {X : Type 0} → List (List ℕ × X) → List ℕ → X → List (List ℕ × X)
+block_with block name id = if is_blank name then block else block ++ (name, id) ∷ []
+
+-- the names of a table as a block
+abbrev pub block_of : {Y S : Type 0} → IndexMap (String Y) DeclId S → List (List ℕ × DeclId)
+block_of table = map (λ e. (string_bytes e.0, e.1)) table.entries
+
+-- the names of one block
+abbrev pub names_in : {X : Type 0} → List (List ℕ × X) → List (List ℕ)
+names_in block = map (λ e. e.0) block
+
+-- the names of all blocks, the outermost first, each block's in the order of their declarations
+abbrev pub names_of : {X : Type 0} → List (List (List ℕ × X)) → List (List ℕ)
+names_of [] = []
+names_of (block ∷ blocks) = names_in block ++ names_of blocks
+
+-- a name is new in a block where it is not blank and not declared there
+abbrev pub is_new : {X : Type 0} → List (List ℕ × X) → List ℕ → Bool
+is_new block name = not (is_blank name) && not (is_some (in_block block name))
+
+-- a block after the names of a short declaration, of which it gains those that are new
+abbrev pub block_after : {X : Type 0} → List (List ℕ × X) → List (List ℕ × X) → List (List ℕ × X)
+block_after block [] = block
+block_after block (n ∷ names) = block_after (if is_new block n.0 then block ++ n ∷ [] else block) names
+
+-- which names of a short declaration are new
+abbrev pub news_of : {X : Type 0} → List (List ℕ × X) → List (List ℕ × X) → List Bool
+news_of block [] = []
+news_of block (n ∷ names) = is_new block n.0 ∷ news_of (if is_new block n.0 then block ++ n ∷ [] else block) names
+
+-- the names of a short declaration, as bytes
+abbrev pub named : List (Bor (List ℕ) × DeclId) → List (List ℕ × DeclId)
+named names = map (λ n. (n.0.now, n.1)) names
+
+-- whether a name is among these
+abbrev pub is_listed : List (List ℕ) → List ℕ → Bool
+is_listed names name = list_any (bytes_eq name) names
+
+-- a list of names with one more, unless it is there
+abbrev pub list_name : List (List ℕ) → List ℕ → List (List ℕ)
+list_name listed name = if is_listed listed name then listed else listed ++ name ∷ []
+
+-- a list of names with more names, each once, at its first place
+abbrev pub list_names : List (List ℕ) → List (List ℕ) → List (List ℕ)
+list_names listed [] = listed
+list_names listed (name ∷ names) = list_names (list_name listed name) names
+
+-- no block of these has a declaration of the name
+abbrev pub NoneHas : {X : Type 0} → List (List (List ℕ × X)) → List ℕ → Type 0
+NoneHas blocks name = All (λ block. in_block block name ≡ None) blocks
+
+-- the innermost block that has a declaration of the name has this one
+abbrev pub IsInnermost : {X : Type 0} → List (List (List ℕ × X)) → List ℕ → X → Type 0
+IsInnermost {X} blocks name id =
+    (outer : List (List (List ℕ × X))) × (block : List (List ℕ × X)) × (inner : List (List (List ℕ × X)))
+    × (blocks ≡ outer ++ block ∷ inner) × (in_block block name ≡ Some id) × NoneHas inner name

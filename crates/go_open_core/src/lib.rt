@@ -1,0 +1,311 @@
+//! The open blocks at a place of a file, with the names that are declared in each.
+#![tactic(auto)]
+
+ghost use Rattle.std.specs.Prelude.{◌≡◌, ℕ, ◌+◌, ◌<◌, ◌≤◌, ◌⊎◌, [], ◌∷◌, ◌++◌, length, IfOk, IfErr, OnOk, OnErr, IfSome, IsSome, IsNone, true, false, None, Some, is_some, map, if◌then◌else◌, ◌↔◌, Contains, AllPairs, List, string_bytes};
+ghost use Rattle.std.specs.List.{list_any};
+ghost use Rattle.go_open_core.specs.Blocks.{found_in, innermost, with_innermost, is_taken, block_with, block_of, in_block, block_after, news_of, named, is_new, names_in, names_of, list_name, list_names, NoneHas, IsInnermost};
+ghost use Rattle.go_text_core.specs.Text.{is_blank};
+
+use go_text_core::Rule;
+use indexmap::{IndexMap, IndexSet};
+use std::alloc::Global;
+use std::marker::Model;
+
+/// The number of a declaration in a list that the caller keeps.
+#[derive(Clone, Copy, Debug, PartialEq, Eq)]
+pub struct DeclId(pub usize);
+
+/// The open blocks, from the outermost to the innermost.
+#[derive(Drop)]
+pub struct OpenBlocks {
+    blocks: Vec<IndexMap<String, DeclId>>,
+}
+
+impl Model for OpenBlocks {
+    ghost use Rattle.std.specs.Prelude.{ℕ, List, map};
+    ghost use Rattle.go_open_core.specs.declared.DeclId.{DeclId};
+
+    ghost Value = { List (List (List ℕ × DeclId)) };
+
+    ghost use Rattle.go_open_core.specs.Blocks.{block_of};
+
+    ghost view = { λ s. map block_of s.blocks.items };
+}
+
+// The declaration of a name in one block.
+fn find_in(block: &IndexMap<String, DeclId>, name: &str) -> Option<DeclId>
+    ensures { result ≡ in_block (block_of block.now) name.now }
+{
+    block.get(name).copied()
+}
+
+// The innermost declaration of a name in these blocks.
+fn find_among(blocks: &[IndexMap<String, DeclId>], name: &str) -> Option<DeclId>
+    ensures { result ≡ found_in (map block_of blocks.now) name.now }
+{
+    let mut i = blocks.len();
+    while i > 0 {
+        i -= 1;
+        if let Some(id) = find_in(&blocks[i], name) {
+            return Some(id);
+        }
+    }
+    None
+}
+
+// Declares a name in one block.
+fn declare_in(
+    block: &mut IndexMap<String, DeclId>,
+    alloc: Global,
+    name: &str,
+    id: DeclId,
+) -> Result<(), Rule>
+    requires { is_blank name.now ≡ false }
+    ensures ok { OnOk result ((in_block (block_of block.old) name.now ≡ None) × (block_of block.new ≡ block_of block.old ++ (name.now, id) ∷ [])) }
+    ensures err { IfErr result (λ rule. (block_of block.new ≡ block_of block.old) × ((rule ≡ Rule.M0) ⊎ ((rule ≡ Rule.B1) × (is_some (in_block (block_of block.old) name.now) ≡ true)))) }
+{
+    if block.contains_key(name) {
+        return Err(Rule::B1);
+    }
+    let Ok(key) = String::from_str(alloc, name) else {
+        return Err(Rule::M0);
+    };
+    match block.insert(key, id) {
+        Ok(_) => Ok(()),
+        Err(_) => Err(Rule::M0),
+    }
+}
+
+// Whether a declaration of the name in one block is the first.
+fn can_declare(block: &IndexMap<String, DeclId>, name: &str) -> bool
+    ensures { result ≡ is_new (block_of block.now) name.now }
+{
+    name != "_" && find_in(block, name).is_none()
+}
+
+// Declares a name in one block, if it is new there, and notes whether it is.
+fn declare_new(
+    block: &mut IndexMap<String, DeclId>,
+    alloc: Global,
+    news: &mut Vec<bool>,
+    name: &str,
+    id: DeclId,
+) -> Result<(), Rule>
+    ensures noted { OnOk result (news.new.items ≡ news.old.items ++ is_new (block_of block.old) name.now ∷ []) }
+    ensures block { OnOk result (block_of block.new ≡ (if is_new (block_of block.old) name.now then block_of block.old ++ (name.now, id) ∷ [] else block_of block.old)) }
+    ensures err { OnErr result (block_of block.new ≡ block_of block.old) }
+{
+    let is_new = can_declare(block, name);
+    if news.push(is_new).is_err() {
+        return Err(Rule::M0);
+    }
+    if is_new {
+        return declare_in(block, alloc, name, id);
+    }
+    Ok(())
+}
+
+fn any_new(news: &[bool]) -> bool
+    ensures { result ≡ list_any (λ b. b) news.now }
+{
+    news.iter().any(|is_new| *is_new)
+}
+
+// Declares those names in one block that are new there, and says which. After a refusal the block is as it was.
+fn declare_each(
+    block: &mut IndexMap<String, DeclId>,
+    alloc: Global,
+    names: &[(&str, DeclId)],
+) -> Result<Vec<bool>, Rule>
+    ensures ok { IfOk result (λ news. (news.items ≡ news_of (block_of block.old) (named names.now)) × (list_any (λ b. b) news.items ≡ true) × (block_of block.new ≡ block_after (block_of block.old) (named names.now))) }
+    ensures err { IfErr result (λ rule. (block_of block.new ≡ block_of block.old) × ((rule ≡ Rule.M0) ⊎ ((rule ≡ Rule.B4) × (list_any (λ b. b) (news_of (block_of block.old) (named names.now)) ≡ false)))) }
+{
+    let before = block.len();
+    let mut news = Vec::new(alloc);
+    for (name, id) in names {
+        if declare_new(block, alloc, &mut news, name, *id).is_err() {
+            block.truncate(before);
+            return Err(Rule::M0);
+        }
+    }
+    if any_new(news.as_slice()) {
+        return Ok(news);
+    }
+    Err(Rule::B4)
+}
+
+// A second table with the names and declarations of a block, in their order.
+fn copy_block(
+    alloc: Global,
+    block: &IndexMap<String, DeclId>,
+) -> Result<IndexMap<String, DeclId>, Rule>
+    ensures ok { IfOk result (λ copied. block_of copied ≡ block_of block.now) }
+    ensures err { IfErr result (λ rule. rule ≡ Rule.M0) }
+{
+    let mut copied = IndexMap::new(alloc);
+    for (name, id) in block {
+        copy_entry(&mut copied, alloc, name, *id)?;
+    }
+    Ok(copied)
+}
+
+// Copies one declaration of a block to the end of another.
+fn copy_entry(
+    copied: &mut IndexMap<String, DeclId>,
+    alloc: Global,
+    name: &String,
+    id: DeclId,
+) -> Result<(), Rule>
+    requires { in_block (block_of copied.old) (string_bytes name.now) ≡ None }
+    ensures ok { OnOk result (block_of copied.new ≡ block_of copied.old ++ (string_bytes name.now, id) ∷ []) }
+    ensures err { IfErr result (λ rule. rule ≡ Rule.M0) }
+{
+    let Ok(key) = String::from_str(alloc, name.as_str()) else {
+        return Err(Rule::M0);
+    };
+    match copied.insert(key, id) {
+        Ok(_) => Ok(()),
+        Err(_) => Err(Rule::M0),
+    }
+}
+
+// Adds a name, unless it is there.
+fn add_name<'a>(names: &mut IndexSet<&'a str>, name: &'a str) -> Result<(), Rule>
+    ensures ok { OnOk result (map (λ n. n.now) names.new.keys ≡ list_name (map (λ n. n.now) names.old.keys) name.now) }
+    ensures err { IfErr result (λ rule. rule ≡ Rule.M0) }
+{
+    match names.insert(name) {
+        Ok(_) => Ok(()),
+        Err(_) => Err(Rule::M0),
+    }
+}
+
+// Adds the names of a block, each unless it is there.
+fn add_names<'a>(
+    names: &mut IndexSet<&'a str>,
+    block: &'a IndexMap<String, DeclId>,
+) -> Result<(), Rule>
+    ensures ok { OnOk result (map (λ n. n.now) names.new.keys ≡ list_names (map (λ n. n.now) names.old.keys) (names_in (block_of block.now))) }
+    ensures err { IfErr result (λ rule. rule ≡ Rule.M0) }
+{
+    for name in block.keys() {
+        add_name(names, name.as_str())?;
+    }
+    Ok(())
+}
+
+// The names of a set, as a list.
+fn as_list<'a>(alloc: Global, names: &IndexSet<&'a str>) -> Result<Vec<&'a str>, Rule>
+    ensures ok { IfOk result (λ list. list.items ≡ names.now.keys) }
+    ensures err { IfErr result (λ rule. rule ≡ Rule.M0) }
+{
+    let mut list = Vec::new(alloc);
+    for name in names {
+        if list.push(*name).is_err() {
+            return Err(Rule::M0);
+        }
+    }
+    Ok(list)
+}
+
+impl OpenBlocks {
+    /// No open block.
+    pub fn new(alloc: Global) -> Self
+        ensures { result ≡ [] }
+    {
+        OpenBlocks {
+            blocks: Vec::new(alloc),
+        }
+    }
+
+    /// Opens a block inside the others. Errors: M0 where memory is wanting; the blocks are then as they were.
+    pub fn enter(&mut self) -> Result<(), Rule>
+        ensures ok { OnOk result (self.new ≡ self.old ++ [] ∷ []) }
+        ensures err { IfErr result (λ rule. (self.new ≡ self.old) × (rule ≡ Rule.M0)) }
+    {
+        let alloc = *self.blocks.allocator();
+        match self.blocks.push(IndexMap::new(alloc)) {
+            Ok(()) => Ok(()),
+            Err(_) => Err(Rule::M0),
+        }
+    }
+
+    /// Closes the innermost block. Takes no memory.
+    pub fn leave(&mut self)
+        requires { 0 < length self.old }
+        ensures { self.old ≡ self.new ++ innermost self.old ∷ [] }
+    {
+        let _ = self.blocks.pop();
+    }
+
+    /// Declares a name in the innermost block. The blank identifier binds nothing.
+    ///
+    /// Errors: B1 where the innermost block has a declaration of the name, M0 where memory is wanting.
+    /// The blocks are then as they were.
+    pub fn declare(&mut self, name: &str, id: DeclId) -> Result<(), Rule>
+        requires { 0 < length self.old }
+        ensures ok { OnOk result ((is_taken self.old name.now ≡ false) × (self.new ≡ with_innermost self.old (block_with (innermost self.old) name.now id))) }
+        ensures err { IfErr result (λ rule. (self.new ≡ self.old) × ((rule ≡ Rule.M0) ⊎ ((rule ≡ Rule.B1) × (is_taken self.old name.now ≡ true)))) }
+    {
+        if name == "_" {
+            return Ok(());
+        }
+        let alloc = *self.blocks.allocator();
+        let top = self.blocks.len() - 1;
+        declare_in(&mut self.blocks[top], alloc, name, id)
+    }
+
+    /// Declares the names of a short declaration that are new in the innermost block, and answers for each whether it is.
+    ///
+    /// The blank identifier is not new, nor is a name that stands a second time in the list.
+    /// Errors: B4 where no name is new, M0 where memory is wanting. The blocks are then as they were.
+    pub fn declare_short(&mut self, names: &[(&str, DeclId)]) -> Result<Vec<bool>, Rule>
+        requires { 0 < length self.old }
+        ensures ok { IfOk result (λ news. (news.items ≡ news_of (innermost self.old) (named names.now)) × (list_any (λ b. b) news.items ≡ true) × (self.new ≡ with_innermost self.old (block_after (innermost self.old) (named names.now)))) }
+        ensures err { IfErr result (λ rule. (self.new ≡ self.old) × ((rule ≡ Rule.M0) ⊎ ((rule ≡ Rule.B4) × (list_any (λ b. b) (news_of (innermost self.old) (named names.now)) ≡ false)))) }
+    {
+        let alloc = *self.blocks.allocator();
+        let top = self.blocks.len() - 1;
+        declare_each(&mut self.blocks[top], alloc, names)
+    }
+
+    /// The declaration of a name in the innermost block that has one, if any has. Takes no memory.
+    pub fn find(&self, name: &str) -> Option<DeclId>
+        ensures value { result ≡ found_in self.now name.now }
+        ensures innermost { IfSome result (λ id. IsInnermost self.now name.now id) }
+        ensures only { (id : DeclId) → IsInnermost self.now name.now id → result ≡ Some id }
+        ensures none { IsNone result → NoneHas self.now name.now }
+    {
+        find_among(self.blocks.as_slice(), name)
+    }
+
+    /// A second value with the same blocks. Errors: M0 where memory is wanting.
+    pub fn copy(&self, alloc: Global) -> Result<OpenBlocks, Rule>
+        ensures ok { IfOk result (λ s. s ≡ self.now) }
+        ensures err { IfErr result (λ rule. rule ≡ Rule.M0) }
+    {
+        let mut blocks = Vec::new(alloc);
+        for block in &self.blocks {
+            let copied = copy_block(alloc, block)?;
+            if blocks.push(copied).is_err() {
+                return Err(Rule::M0);
+            }
+        }
+        Ok(OpenBlocks { blocks })
+    }
+
+    /// The names that have a declaration in an open block, each once: those of the outermost block first,
+    /// and those of one block in the order of their declarations. Errors: M0 where memory is wanting.
+    pub fn names(&self, alloc: Global) -> Result<Vec<&str>, Rule>
+        ensures value { IfOk result (λ names. map (λ n. n.now) names.items ≡ list_names [] (names_of self.now)) }
+        ensures found { IfOk result (λ names. (name : List ℕ) → Contains (map (λ n. n.now) names.items) name ↔ IsSome (found_in self.now name)) }
+        ensures once { IfOk result (λ names. AllPairs (λ a b. ¬ (a ≡ b)) (map (λ n. n.now) names.items)) }
+        ensures err { IfErr result (λ rule. rule ≡ Rule.M0) }
+    {
+        let mut names = IndexSet::new(alloc);
+        for block in &self.blocks {
+            add_names(&mut names, block)?;
+        }
+        as_list(alloc, &names)
+    }
+}

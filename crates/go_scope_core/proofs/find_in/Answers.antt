@@ -1,6 +1,0 @@
-use Rattle.std.proofs.Common.{◌∙◌}
-use Rattle.go_scope_core.proofs.Tables.{in_table}
-use Rattle.go_scope_core.proofs.find_in.Goals as goal
-
-pub returns : goal.returns
-returns c = c.copied.ensures ∙ (c.get.ensures.value ∙ in_table c.args.name.now c.args.block.now)
