@@ -1,4 +1,10 @@
 //! What the layers answer to a text, in lines.
+use crate::archive::Archive;
+use crate::blocks::add_packages;
+use crate::paths::{add_import, add_module, add_overlap, add_path};
+use crate::plans::{add_plan, add_sources};
+use crate::scopes::add_scope;
+use crate::shapes::{Shape, shaped};
 use go_parse_core::{ParseError, Parsed, SynFault, parse};
 use go_scan_core::{
     CommentKind, ScanError, Token, TokenKind, comments, integer_value, scan, string_value,
@@ -150,6 +156,60 @@ fn add_report(out: &mut String, alloc: Global, bytes: &[u8]) -> Result<(), Alloc
     })
 }
 
+/// Whether a text has a tree.
+fn has_tree(alloc: Global, text: &str) -> Result<bool, AllocError> {
+    match parsed(alloc, text) {
+        Ok(_) => Ok(true),
+        Err(ParseError::Fault(_)) => Ok(false),
+        Err(ParseError::Memory) => Err(AllocError),
+    }
+}
+
+/// Adds how many of a text's beginnings have a tree, nothing and the whole text among them.
+fn add_prefixes(out: &mut String, alloc: Global, text: &str) -> Result<(), AllocError> {
+    let mut count = 0usize;
+    for end in 0..=text.len() {
+        // Inside a character there is no prefix.
+        if let Some(prefix) = text.get(..end) {
+            if has_tree(alloc, prefix)? {
+                count = count.saturating_add(1);
+            }
+        }
+    }
+    writeln!(out, "{count}")
+}
+
+/// Adds the counts of the plan of packages in a shape, as many as a text says.
+fn add_shaped(out: &mut String, alloc: Global, shape: Shape, text: &str) -> Result<(), AllocError> {
+    match text.trim().parse::<u32>() {
+        Ok(count) => add_plan(out, alloc, shaped(alloc, shape, count)?),
+        Err(_) => out.push_str("no number\n"),
+    }
+}
+
+/// Adds the answer of this kind, which is about paths or packages.
+fn add_package_answer(
+    out: &mut String,
+    alloc: Global,
+    kind: &str,
+    text: &str,
+) -> Result<(), AllocError> {
+    match kind {
+        "path" => add_path(out, alloc, text),
+        "module" => add_module(out, alloc, text),
+        "overlaps" => add_overlap(out, alloc, text),
+        "may_import" => add_import(out, alloc, text),
+        "packages" => add_packages(out, alloc, Archive::read(alloc, text)?),
+        "scope" => add_scope(out, alloc, text),
+        "plan" => add_plan(out, alloc, Archive::read(alloc, text)?),
+        "sources" => add_sources(out, alloc, Archive::read(alloc, text)?),
+        "chain" => add_shaped(out, alloc, Shape::Chain, text),
+        "ring" => add_shaped(out, alloc, Shape::Ring, text),
+        "complete" => add_shaped(out, alloc, Shape::Complete, text),
+        _ => out.push_str("no such kind\n"),
+    }
+}
+
 /// Adds the answer of this kind to a text.
 fn add_answer(out: &mut String, alloc: Global, kind: &str, text: &str) -> Result<(), ParseError> {
     match kind {
@@ -162,7 +222,8 @@ fn add_answer(out: &mut String, alloc: Global, kind: &str, text: &str) -> Result
         "typed" => add_tree(out, alloc, ("package a\nvar x ", "\n"), text),
         "uses" => add_uses(out, alloc, text),
         "places" => add_places(out, alloc, text),
-        _ => Ok(out.push_str("no such kind\n")?),
+        "prefixes" => Ok(add_prefixes(out, alloc, text)?),
+        _ => Ok(add_package_answer(out, alloc, kind, text)?),
     }
 }
 

@@ -1,11 +1,17 @@
 //! The program `govisd_probe`: what the layers of govisd answer.
 //!
 //! `govisd_probe KIND FILE..` writes for each file its name and the answer of this kind in lines, and
-//! `govisd_probe cases FILE..` the answers to the cases of each table. `tokens` and `parse` are kinds; the others
-//! are at the head of data/cases.txt.
+//! `govisd_probe cases FILE..` the answers to the cases of each table. `tokens`, `parse` and `plan` are kinds; the
+//! others are at the head of data/cases.txt.
 #![tactic(auto)]
 
 mod answers;
+mod archive;
+mod blocks;
+mod paths;
+mod plans;
+mod scopes;
+mod shapes;
 mod table;
 
 use answers::answer;

@@ -1,0 +1,7 @@
+use Rattle.std.proofs.Common.{◌≡◌, take}
+use Rattle.std.specs.List.{flat_map}
+use Rattle.go_block_core.specs.Bindings.{import_bound}
+use Rattle.go_block_core.proofs.binding.bindings.Given as goal
+
+abbrev pub invariant-loop-import : goal.invariant-loop-import
+invariant-loop-import l = l.bound.items ≡ flat_map import_bound (take l.import-index l.import-items)

@@ -1,0 +1,21 @@
+use Rattle.std.proofs.Common.{map, subst, sym}
+use Rattle.go_block_core.specs.Holding.{imports_in}
+use Rattle.go_block_core.specs.Naming.{AreImportsOf}
+use Rattle.go_block_core.proofs.ImportSteps.{file_more, files_done}
+use Rattle.go_block_core.proofs.NamingLemmas.{imports_in_order}
+use Rattle.go_block_core.proofs.naming.import_names.Goals as goal
+
+pub loop-file-preserved : goal.loop-file-preserved
+loop-file-preserved c = file_more c.args.workspace.now c.args.blocks.now c.args.number c.files-files.result.now c.loop-file.imports.items c.push.new.self.items c.loop-file.file c.index-files-file.result c.in_ok-of_file.of_file c.loop-file-test.true c.index-files-file.is c.loop-file.invariant c.in_ok-of_file.ensures c.in_ok-push.ensures.items
+
+pub new-requires : goal.new-requires
+new-requires c =
+    let imports = map imports_in c.loop-file.imports.items in
+    let done = files_done c.args.workspace.now c.packages-packages.result.now c.args.blocks.now c.args.number c.index-packages-number.result c.files-files.result.now c.loop-file.file imports c.requires.assembled c.packages-packages.ensures.packages c.index-packages-number.is c.files-files.ensures.files c.loop-file-test.false c.loop-file.invariant in
+    imports_in_order c.args.workspace.now c.args.number c.args.blocks.now imports c.packages-packages.ensures.well done
+
+pub returns : goal.returns
+returns c =
+    let imports = map imports_in c.loop-file.imports.items in
+    let done = files_done c.args.workspace.now c.packages-packages.result.now c.args.blocks.now c.args.number c.index-packages-number.result c.files-files.result.now c.loop-file.file imports c.requires.assembled c.packages-packages.ensures.packages c.index-packages-number.is c.files-files.ensures.files c.loop-file-test.false c.loop-file.invariant in
+    subst (AreImportsOf c.args.workspace.now c.args.number c.args.blocks.now) (sym c.new.ensures) done

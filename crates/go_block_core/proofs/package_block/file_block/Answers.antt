@@ -1,0 +1,18 @@
+use Rattle.std.proofs.Common.{◌++◌, sym, ap, ◌∙◌}
+use Rattle.go_block_core.specs.Tables.{table_of}
+use Rattle.go_block_core.specs.Holding.{with_bound}
+use Rattle.go_block_core.specs.Faults.{bound_faults_at}
+use Rattle.go_block_core.proofs.BlockLemmas.{faults_step, bound_step, bound_faults_step}
+use Rattle.go_block_core.proofs.package_block.file_block.Goals as goal
+
+pub loop-bound-preserved : goal.loop-bound-preserved
+loop-bound-preserved c =
+    let ns = c.deref-bound-items.result.now in
+    let i = c.loop-bound.bound-index in
+    let n = c.bound-item.result in
+    let before = c.loop-bound.invariant in
+    let names = table_of c.args.names.now in
+    let at = ap (λ b. bound_faults_at names c.args.file b n) before.0 in (
+      c.in_ok-add_bound.ensures.table ∙ (ap (λ b. with_bound b n) before.0 ∙ sym (bound_step ns i n c.loop-bound-test.true c.bound-item.is)),
+      faults_step c.args.faults.now.items _ _ _ _ _ before.1 (c.in_ok-add_bound.ensures.faults ∙ ap (λ fs. c.loop-bound.faults.items ++ fs) at) (bound_faults_step names c.args.file ns i n c.loop-bound-test.true c.bound-item.is),
+    )

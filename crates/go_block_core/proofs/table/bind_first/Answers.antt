@@ -1,0 +1,10 @@
+use Rattle.std.proofs.Common.{◌≡◌, false, is_some, sym, ap, ◌∙◌}
+use Rattle.go_block_core.specs.Tables.{table_of, has}
+use Rattle.go_block_core.proofs.TableLemmas.{table_of-insert}
+use Rattle.go_block_core.proofs.table.bind_first.Goals as goal
+
+-- the name is new, so it goes last
+pub returns-clause-table : goal.returns-clause-table
+returns-clause-table g c =
+    let absent : has (table_of c.args.table.now) c.args.name.now ≡ false = sym (ap is_some c.find.ensures) ∙ (sym c.is_some.ensures ∙ c.if-is_some.false) in
+    table_of-insert c.args.table.now c.insert.new.self c.in_ok-key.key c.args.name.now c.args.value c.in_ok-key.ensures.ok absent c.in_ok-insert.ensures.entries

@@ -1,0 +1,10 @@
+pub mod All
+pub mod Bindings
+pub mod Blocks
+pub mod Declarations
+pub mod Faults
+pub mod Holding
+pub mod Laws
+pub mod Naming
+pub mod Tables
+pub mod Words

@@ -1,0 +1,201 @@
+//! What the package block and the file blocks hold, and the faults in them.
+ghost use Rattle.std.specs.Prelude.{◌≡◌, ◌++◌, ◌∷◌, [], OnOk, IfOk, map};
+ghost use Rattle.go_block_core.specs.Tables.{table_of};
+ghost use Rattle.go_block_core.specs.Declarations.{binds, has_fixed_form};
+ghost use Rattle.go_block_core.specs.Faults.{fault_at, decl_faults_at, decl_faults, bound_faults_at, bound_faults, file_faults};
+ghost use Rattle.go_block_core.specs.Holding.{is_second, with_declared, declared_block, with_bound, bound_block, file_block, file_blocks, imports_in};
+ghost use Rattle.go_block_core.specs.Bindings.{file_bound, name_and_decl};
+
+use crate::binding::{Binding, Bound, bindings};
+use crate::decls::{DeclRef, Declared};
+use crate::fault::{BlockFault, BlockRule, add_fault_if};
+use crate::imports::{NamedDecl, NamedImport};
+use crate::table::{bind_first, find};
+use go_text_core::Name;
+use indexmap::IndexMap;
+use std::alloc::{AllocError, Global};
+
+/// Whether a declaration of this name binds it.
+fn binds(name: &str) -> bool
+    ensures { result ≡ binds name.now }
+{
+    name != "_" && name != "init"
+}
+
+/// Whether what has this name in the package block must be a function without parameters and results.
+fn has_fixed_form(is_main: bool, name: &str) -> bool
+    ensures { result ≡ has_fixed_form is_main name.now }
+{
+    name == "init" || (is_main && name == "main")
+}
+
+/// Binds the name of a declaration, unless the table has it, and answers whether the table had it.
+fn declare(
+    table: &mut IndexMap<String, DeclRef>,
+    alloc: Global,
+    declared: &Declared,
+) -> Result<bool, AllocError>
+    ensures second { IfOk result (λ second. second ≡ is_second (table_of table.old) declared.now) }
+    ensures table { OnOk result (table_of table.new ≡ with_declared (table_of table.old) declared.now) }
+{
+    let name = declared.name.as_str();
+    if binds(name) {
+        return bind_first(table, alloc, name, declared.decl);
+    }
+    Ok(false)
+}
+
+/// Declares a name in the package block.
+fn add_declared(
+    table: &mut IndexMap<String, DeclRef>,
+    alloc: Global,
+    is_main: bool,
+    declared: &Declared,
+    faults: &mut Vec<BlockFault>,
+) -> Result<(), AllocError>
+    ensures table { OnOk result (table_of table.new ≡ with_declared (table_of table.old) declared.now) }
+    ensures faults { OnOk result (faults.new.items ≡ faults.old.items ++ decl_faults_at is_main (table_of table.old) declared.now) }
+{
+    let is_second = declare(table, alloc, declared)?;
+    add_fault_if(faults, is_second, fault_of(declared.decl, BlockRule::B1))?;
+    let is_malformed = has_fixed_form(is_main, declared.name.as_str()) && !declared.is_procedure;
+    add_fault_if(faults, is_malformed, fault_of(declared.decl, BlockRule::B3))
+}
+
+/// A fault at a declaration.
+fn fault_of(decl: DeclRef, rule: BlockRule) -> BlockFault
+    ensures { result ≡ fault_at decl.file decl.at rule }
+{
+    BlockFault {
+        file: decl.file,
+        offset: decl.at,
+        rule,
+    }
+}
+
+/// The package block: of several declarations of one name the first. Adds the faults in it.
+pub(crate) fn package_block(
+    alloc: Global,
+    is_main: bool,
+    decls: &Vec<Declared>,
+    faults: &mut Vec<BlockFault>,
+) -> Result<IndexMap<String, DeclRef>, AllocError>
+    ensures table { IfOk result (λ table. table_of table ≡ declared_block [] decls.now.items) }
+    ensures faults { OnOk result (faults.new.items ≡ faults.old.items ++ decl_faults is_main [] decls.now.items) }
+{
+    let mut table = IndexMap::new(alloc);
+    for declared in decls {
+        add_declared(&mut table, alloc, is_main, declared, faults)?;
+    }
+    Ok(table)
+}
+
+/// Binds a name in a file block.
+fn add_bound(
+    table: &mut IndexMap<String, Binding>,
+    alloc: Global,
+    names: &IndexMap<String, DeclRef>,
+    file: usize,
+    bound: &Bound,
+    faults: &mut Vec<BlockFault>,
+) -> Result<(), AllocError>
+    ensures table { OnOk result (table_of table.new ≡ with_bound (table_of table.old) bound.now) }
+    ensures faults { OnOk result (faults.new.items ≡ faults.old.items ++ bound_faults_at (table_of names.now) file (table_of table.old) bound.now) }
+{
+    let name = bound.name.as_str();
+    let offset = bound.binding.at;
+    let is_second = bind_first(table, alloc, name, bound.binding)?;
+    let second = BlockFault {
+        file,
+        offset,
+        rule: BlockRule::B1,
+    };
+    add_fault_if(faults, is_second, second)?;
+    let is_hidden = find(names, name).is_some();
+    let hidden = BlockFault {
+        file,
+        offset,
+        rule: BlockRule::B2,
+    };
+    add_fault_if(faults, is_hidden, hidden)
+}
+
+/// What the imports of a file bind: of several bindings of one name the first. Adds the faults in it. The
+/// package block has these names.
+fn file_block(
+    alloc: Global,
+    names: &IndexMap<String, DeclRef>,
+    file: usize,
+    imports: &Vec<NamedImport>,
+    faults: &mut Vec<BlockFault>,
+) -> Result<IndexMap<String, Binding>, AllocError>
+    ensures table { IfOk result (λ table. table_of table ≡ file_block imports.now.items) }
+    ensures faults { OnOk result (faults.new.items ≡ faults.old.items ++ bound_faults (table_of names.now) file [] (file_bound imports.now.items)) }
+{
+    let all = bindings(alloc, imports)?;
+    let mut table = IndexMap::new(alloc);
+    for bound in &all {
+        add_bound(&mut table, alloc, names, file, bound, faults)?;
+    }
+    Ok(table)
+}
+
+/// The blocks of all files. Adds the faults in them.
+pub(crate) fn file_blocks(
+    alloc: Global,
+    names: &IndexMap<String, DeclRef>,
+    files: &Vec<Vec<NamedImport>>,
+    faults: &mut Vec<BlockFault>,
+) -> Result<Vec<IndexMap<String, Binding>>, AllocError>
+    ensures tables { IfOk result (λ tables. map table_of tables.items ≡ file_blocks (map imports_in files.now.items)) }
+    ensures faults { OnOk result (faults.new.items ≡ faults.old.items ++ file_faults (table_of names.now) 0 (map imports_in files.now.items)) }
+{
+    let mut tables = Vec::new(alloc);
+    for imports in files {
+        let table = file_block(alloc, names, tables.len(), imports, faults)?;
+        add_table(&mut tables, table)?;
+    }
+    Ok(tables)
+}
+
+/// Adds a table.
+fn add_table(
+    tables: &mut Vec<IndexMap<String, Binding>>,
+    table: IndexMap<String, Binding>,
+) -> Result<(), AllocError>
+    ensures { OnOk result (tables.new.items ≡ tables.old.items ++ table ∷ []) }
+{
+    tables.push(table)?;
+    Ok(())
+}
+
+/// Adds a name with its declaration.
+fn add_name(
+    names: &mut Vec<NamedDecl>,
+    alloc: Global,
+    name: &str,
+    decl: DeclRef,
+) -> Result<(), AllocError>
+    ensures { OnOk result (map name_and_decl names.new.items ≡ map name_and_decl names.old.items ++ (name.now, decl) ∷ []) }
+{
+    let named = NamedDecl {
+        name: Name::from_text(alloc, name)?,
+        decl,
+    };
+    names.push(named)?;
+    Ok(())
+}
+
+/// The names of a table with their declarations, in order.
+pub(crate) fn names_of(
+    alloc: Global,
+    table: &IndexMap<String, DeclRef>,
+) -> Result<Vec<NamedDecl>, AllocError>
+    ensures { IfOk result (λ names. map name_and_decl names.items ≡ table_of table.now) }
+{
+    let mut names = Vec::new(alloc);
+    for (name, decl) in table {
+        add_name(&mut names, alloc, name.as_str(), *decl)?;
+    }
+    Ok(names)
+}

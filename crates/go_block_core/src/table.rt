@@ -1,0 +1,63 @@
+//! Tables of names.
+ghost use Rattle.std.specs.Prelude.{◌≡◌, OnOk, IfOk, is_some, map};
+ghost use Rattle.go_block_core.specs.Tables.{table_of, in_block, has, with_first, names_in, without};
+
+use indexmap::IndexMap;
+use std::alloc::{AllocError, Global};
+
+/// What a table has at a name.
+pub(crate) fn find<V: Copy>(table: &IndexMap<String, V>, name: &str) -> Option<V>
+    ensures { result ≡ in_block (table_of table.now) name.now }
+{
+    table.get(name).copied()
+}
+
+/// Binds a name, unless the table has it, and answers whether the table had it.
+pub(crate) fn bind_first<V: Copy>(
+    table: &mut IndexMap<String, V>,
+    alloc: Global,
+    name: &str,
+    value: V,
+) -> Result<bool, AllocError>
+    ensures had { IfOk result (λ had. had ≡ has (table_of table.old) name.now) }
+    ensures table { OnOk result (table_of table.new ≡ with_first (table_of table.old) name.now value) }
+{
+    if find(table, name).is_some() {
+        return Ok(true);
+    }
+    let key = String::from_str(alloc, name)?;
+    table.insert(key, value)?;
+    Ok(false)
+}
+
+/// The names of a table, in order.
+pub(crate) fn names_in<'a, V>(
+    alloc: Global,
+    table: &'a IndexMap<String, V>,
+) -> Result<Vec<&'a str>, AllocError>
+    ensures { IfOk result (λ names. map (λ n. n.now) names.items ≡ names_in (table_of table.now)) }
+{
+    let mut names = Vec::with_capacity(alloc, table.len())?;
+    for (name, _) in table {
+        names.push(name.as_str())?;
+    }
+    Ok(names)
+}
+
+/// The names of a table that another table has not, in order.
+pub(crate) fn names_without<'a, V, W: Copy>(
+    alloc: Global,
+    table: &'a IndexMap<String, V>,
+    other: &IndexMap<String, W>,
+) -> Result<Vec<&'a str>, AllocError>
+    ensures { IfOk result (λ names. map (λ n. n.now) names.items ≡ names_in (without (table_of other.now) (table_of table.now))) }
+{
+    let mut names = Vec::new(alloc);
+    for (name, _) in table {
+        let name = name.as_str();
+        if find(other, name).is_none() {
+            names.push(name)?;
+        }
+    }
+    Ok(names)
+}

@@ -1,0 +1,4 @@
+pub mod Certificate
+pub mod Cycle
+pub mod Laws
+pub mod Search

@@ -1,0 +1,14 @@
+pub mod Additions
+pub mod Assemblies
+pub mod AssemblyLaws
+pub mod Keeping
+pub mod Numbers
+pub mod OneTarget
+pub mod OutcomeLaws
+pub mod Places
+pub mod PlanEdges
+pub mod PlanLemmas
+pub mod PlanOrder
+pub mod Reading
+pub mod Standings
+pub mod Zips

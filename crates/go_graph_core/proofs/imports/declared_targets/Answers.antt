@@ -1,0 +1,19 @@
+use Rattle.std.proofs.Common.{◌≡◌, ◌∙◌, sym, ap, subst, List, ℕ, take}
+use Rattle.std.specs.List.{AllZip, flat_map}
+use Rattle.std.proofs.lemmas.List.{take_all}
+use Rattle.std.proofs.lemmas.List.Folds.{flat_map-map}
+use Rattle.go_tree_core.specs.declared.files.ImportDecl.{ImportDecl}
+use Rattle.go_tree_core.specs.Trees.{ImportTree}
+use Rattle.go_tree_core.specs.Shapes.{import_of, shape_import_specs}
+use Rattle.go_graph_core.specs.Imports.{IsTarget, texts_in}
+use Rattle.go_graph_core.proofs.Additions.{zip_adds}
+use Rattle.go_graph_core.proofs.imports.declared_targets.Goals as goal
+
+pub loop-import-preserved : goal.loop-import-preserved
+loop-import-preserved c = zip_adds (IsTarget c.args.packages.now c.args.from.now) (λ (i : ImportDecl). texts_in (shape_import_specs i.specs)) c.deref-import-items.result.now c.loop-import.import-index c.import-item.result c.loop-import.targets.items c.add_targets.new.targets.items c.loop-import-test.true c.import-item.is c.loop-import.invariant c.in_ok-add_targets.ensures
+
+pub returns : goal.returns
+returns c =
+    let all : take c.loop-import.import-index c.deref-import-items.result.now ≡ c.args.imports.now.items = take_all c.loop-import.import-index c.deref-import-items.result.now c.loop-import-test.false ∙ c.deref-import-items.ensures.value in
+    let texts = flat_map-map (λ (i : ImportTree). texts_in i.specs) import_of c.args.imports.now.items in
+    subst (λ (l : List (List ℕ)). AllZip (IsTarget c.args.packages.now c.args.from.now) l c.loop-import.targets.items) (ap (flat_map (λ (i : ImportDecl). texts_in (shape_import_specs i.specs))) all ∙ sym texts) c.loop-import.invariant

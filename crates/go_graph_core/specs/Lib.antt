@@ -1,0 +1,10 @@
+pub mod Clauses
+pub mod ImportLaws
+pub mod Imports
+pub mod Packages
+pub mod Places
+pub mod Plans
+pub mod Sources
+pub mod Targets
+pub mod TreeCodes
+pub mod Workspaces

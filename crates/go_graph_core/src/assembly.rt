@@ -1,0 +1,149 @@
+//! Packages that are assembled from files.
+ghost use Rattle.std.specs.Prelude.{◌≡◌, ◌<◌, length, Some, slice_get, option_map, position};
+ghost use Rattle.go_tree_core.specs.Shapes.{file_of};
+ghost use Rattle.go_graph_core.specs.Clauses.{lacks_clause, is_named, is_other};
+ghost use Rattle.go_graph_core.specs.Packages.{IsAssembly, IsPackageName, IsAssembled, trees_of};
+
+use crate::source::SourceFile;
+use go_text_core::Rule;
+use go_tree_core::File;
+use std::marker::Model;
+
+/// Why files are no package.
+#[derive(Clone, Copy, Debug, PartialEq, Eq)]
+pub struct KFault {
+    /// K4 where a file has no tree, K3 where the name in a package clause is `_`, and K2 where it differs from
+    /// the first file's.
+    pub rule: Rule,
+    /// The number of the file in order of name, from 0.
+    pub file: usize,
+    /// The offset in bytes of the clause's name, and 0 at K4.
+    pub offset: usize,
+}
+
+/// A package: files with trees, and one name in all their package clauses. Contracts see it as the trees, each
+/// with the name of its file, in order.
+#[derive(Drop)]
+pub struct Package<'a> {
+    files: &'a [SourceFile],
+}
+
+impl<'a> Model for Package<'a> {
+    ghost use Rattle.go_graph_core.specs.Packages.{Trees, coded_trees, trees_of, IsAssembled};
+
+    ghost Value = { Trees };
+
+    ghost coded = { coded_trees };
+
+    ghost view = { λ p. trees_of p.files.now };
+
+    ghost invariant = { λ p. IsAssembled p.files.now };
+}
+
+impl<'a> Package<'a> {
+    /// The name of the package, which stands in each of its clauses.
+    pub fn name(&self) -> &str
+        ensures { IsPackageName self.now result.now }
+    {
+        let files = self.files;
+        match files[0].clause() {
+            Some(name) => name.name.as_str(),
+            None => unreachable!(),
+        }
+    }
+
+    /// The files of the package.
+    pub fn files(&self) -> &[SourceFile]
+        ensures files { trees_of result.now ≡ self.now }
+        ensures count { length result.now ≡ length self.now }
+        ensures well { IsAssembled result.now }
+    {
+        self.files
+    }
+
+    /// The name of a file, by its number.
+    pub fn file_name(&self, file: usize) -> &str
+        requires { file < length self.now }
+        ensures { option_map (λ t. t.0) (slice_get self.now file) ≡ Some result.now }
+    {
+        let files = self.files;
+        files[file].name()
+    }
+
+    /// The tree of a file, by the file's number.
+    pub fn tree(&self, file: usize) -> &File
+        requires { file < length self.now }
+        ensures { option_map (λ t. t.1) (slice_get self.now file) ≡ Some (file_of result.now) }
+    {
+        let files = self.files;
+        match files[file].tree() {
+            Ok(tree) => tree,
+            Err(_) => unreachable!(),
+        }
+    }
+}
+
+/// The first file without a tree.
+fn without_tree(files: &[SourceFile]) -> Option<usize>
+    ensures { result ≡ position lacks_clause files.now }
+{
+    files.iter().position(|file| file.clause().is_none())
+}
+
+/// The first file of this name.
+fn named(files: &[SourceFile], name: &str) -> Option<usize>
+    ensures { result ≡ position (is_named name.now) files.now }
+{
+    files.iter().position(|file| file.is_named(name))
+}
+
+/// The first file of another name than this.
+fn named_otherwise(files: &[SourceFile], name: &str) -> Option<usize>
+    ensures { result ≡ position (is_other name.now) files.now }
+{
+    files.iter().position(|file| !file.is_named(name))
+}
+
+/// Assembles a package from its files.
+///
+/// A package clause "begins each source file and defines the package to which the file belongs". Its name
+/// "must not be the blank identifier", and a set of files "sharing the same PackageName form the
+/// implementation of a package" (the Go specification, "Package clause").
+///
+/// # Errors
+///
+/// The first of these rules that a file breaks, at the first file that breaks it:
+///
+/// - `Rule::K4` where a file has no tree, at offset 0.
+/// - `Rule::K3` where the name in a clause is `_`, at that name.
+/// - `Rule::K2` where the name in a clause is not that of the first file, at that name.
+pub fn assemble(files: &[SourceFile]) -> Result<Package<'_>, KFault>
+    requires { 0 < length files.now }
+    ensures { IsAssembly files.now result }
+{
+    if let Some(file) = without_tree(files) {
+        return Err(KFault {
+            rule: Rule::K4,
+            file,
+            offset: 0,
+        });
+    }
+    if let Some(file) = named(files, "_") {
+        return Err(KFault {
+            rule: Rule::K3,
+            file,
+            offset: files[file].clause_offset(),
+        });
+    }
+    let Some(clause) = files[0].clause() else {
+        unreachable!()
+    };
+    if let Some(file) = named_otherwise(files, clause.name.as_str()) {
+        return Err(KFault {
+            rule: Rule::K2,
+            file,
+            offset: files[file].clause_offset(),
+        });
+    }
+    Ok(Package { files })
+}

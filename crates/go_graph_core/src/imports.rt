@@ -1,0 +1,242 @@
+//! Imports, and the packages that they name.
+ghost use Rattle.std.specs.Prelude.{IfOk, OnOk, MatchOption, map};
+ghost use Rattle.std.specs.List.{AllZip};
+ghost use Rattle.go_tree_core.specs.Shapes.{import_of, shape_import_specs};
+ghost use Rattle.go_graph_core.specs.Workspaces.{IsWorkspace};
+ghost use Rattle.go_path_core.specs.Path.{IsPath};
+ghost use Rattle.go_graph_core.specs.Imports.{imports_of, texts_in, texts_of, IsNumber, IsNowhere, IsTarget};
+ghost use Rattle.go_graph_core.specs.Targets.{IsStanding, HaveStandings, Adds, AreTargets, ArePackageTargets};
+
+use crate::assembly::assemble;
+use crate::source::SourceFile;
+use crate::workspace::{PackageSource, place};
+use go_path_core::{ImportPath, may_import};
+use go_text_core::Rule;
+use go_tree_core::{ImportDecl, ImportSpecs};
+use std::alloc::{AllocError, Global};
+use std::str;
+
+/// The place of an import in a workspace: three numbers from 0.
+#[derive(Clone, Copy, Debug, PartialEq, Eq)]
+pub struct ImportAt {
+    /// The number of the package, in byte order of path.
+    pub package: usize,
+    /// The number of the file in its package, in byte order of name.
+    pub file: usize,
+    /// The number of the import in its file, in order of place.
+    pub import: usize,
+}
+
+/// What an import comes to.
+#[derive(Clone, Copy, Debug, PartialEq, Eq)]
+pub enum ImportOutcome {
+    /// The package of this number.
+    Package(usize),
+    /// None, by the first rule that the import breaks.
+    Refused(Rule),
+}
+
+/// What a package is to those that import it.
+#[derive(Clone, Copy, Debug, PartialEq, Eq)]
+pub(crate) enum Standing {
+    /// Assembled, and of another name than `main`.
+    Library,
+    /// Assembled, and of the name `main`.
+    Main,
+    /// Not assembled.
+    Faulty,
+}
+
+/// What a package is to those that import it.
+fn standing_of(source: &PackageSource) -> Standing
+    ensures { IsStanding source.now result }
+{
+    match assemble(source.files()) {
+        Err(_) => Standing::Faulty,
+        Ok(assembled) => {
+            if assembled.name() == "main" {
+                Standing::Main
+            } else {
+                Standing::Library
+            }
+        }
+    }
+}
+
+/// What each package is to those that import it.
+pub(crate) fn standings(
+    alloc: Global,
+    packages: &[PackageSource],
+) -> Result<Vec<Standing>, AllocError>
+    ensures { IfOk result (λ standings. HaveStandings packages.now standings.items) }
+{
+    let mut standings = Vec::with_capacity(alloc, packages.len())?;
+    for source in packages {
+        standings.push(standing_of(source))?;
+    }
+    Ok(standings)
+}
+
+/// The number of the package of a path.
+fn number(packages: &[PackageSource], path: &ImportPath) -> Option<usize>
+    requires { IsWorkspace packages.now }
+    ensures number { MatchOption result (IsNowhere packages.now path.now) (IsNumber packages.now path.now) }
+    ensures path { IsPath path.now }
+{
+    place(packages, path).ok()
+}
+
+/// What an import of a path comes to, cycles left aside.
+fn path_target(
+    packages: &[PackageSource],
+    standings: &[Standing],
+    from: &ImportPath,
+    path: &ImportPath,
+) -> ImportOutcome
+    requires well { IsWorkspace packages.now }
+    requires standings { HaveStandings packages.now standings.now }
+    ensures { IsTarget packages.now from.now path.now result }
+{
+    let number = number(packages, path);
+    if !may_import(from, path) {
+        return ImportOutcome::Refused(Rule::I3);
+    }
+    let Some(number) = number else {
+        return ImportOutcome::Refused(Rule::I2);
+    };
+    match standings[number] {
+        Standing::Faulty => ImportOutcome::Refused(Rule::I6),
+        Standing::Main => ImportOutcome::Refused(Rule::I5),
+        Standing::Library => ImportOutcome::Package(number),
+    }
+}
+
+/// What an import of a text comes to, cycles left aside.
+fn target(
+    alloc: Global,
+    packages: &[PackageSource],
+    standings: &[Standing],
+    from: &ImportPath,
+    text: &[u8],
+) -> Result<ImportOutcome, AllocError>
+    requires well { IsWorkspace packages.now }
+    requires standings { HaveStandings packages.now standings.now }
+    ensures { IfOk result (IsTarget packages.now from.now text.now) }
+{
+    let Ok(text) = str::from_utf8(text) else {
+        return Ok(ImportOutcome::Refused(Rule::I1));
+    };
+    match ImportPath::read(alloc, text) {
+        Ok(path) => Ok(path_target(packages, standings, from, &path)),
+        Err(Rule::M0) => Err(AllocError),
+        Err(_) => Ok(ImportOutcome::Refused(Rule::I1)),
+    }
+}
+
+/// Adds what the imports of one declaration come to.
+fn add_targets(
+    targets: &mut Vec<ImportOutcome>,
+    alloc: Global,
+    packages: &[PackageSource],
+    standings: &[Standing],
+    from: &ImportPath,
+    specs: &ImportSpecs,
+) -> Result<(), AllocError>
+    requires well { IsWorkspace packages.now }
+    requires standings { HaveStandings packages.now standings.now }
+    ensures { OnOk result (Adds (IsTarget packages.now from.now) (texts_in (shape_import_specs specs.now)) targets.old.items targets.new.items) }
+{
+    match specs {
+        ImportSpecs::One(spec) => {
+            let text = spec.path.value.as_bytes();
+            targets.push(target(alloc, packages, standings, from, text)?)?;
+        }
+        ImportSpecs::Group(_, lines, _) => {
+            for line in lines {
+                let text = line.spec.path.value.as_bytes();
+                targets.push(target(alloc, packages, standings, from, text)?)?;
+            }
+        }
+    }
+    Ok(())
+}
+
+/// What the imports of declarations come to, in order.
+fn declared_targets(
+    alloc: Global,
+    packages: &[PackageSource],
+    standings: &[Standing],
+    from: &ImportPath,
+    imports: &Vec<ImportDecl>,
+) -> Result<Vec<ImportOutcome>, AllocError>
+    requires well { IsWorkspace packages.now }
+    requires standings { HaveStandings packages.now standings.now }
+    ensures { IfOk result (λ targets. AllZip (IsTarget packages.now from.now) (texts_of (map import_of imports.now.items)) targets.items) }
+{
+    let mut targets = Vec::new(alloc);
+    for import in imports {
+        add_targets(
+            &mut targets,
+            alloc,
+            packages,
+            standings,
+            from,
+            &import.specs,
+        )?;
+    }
+    Ok(targets)
+}
+
+/// What the imports of a file come to, in order.
+fn file_targets(
+    alloc: Global,
+    packages: &[PackageSource],
+    standings: &[Standing],
+    from: &ImportPath,
+    file: &SourceFile,
+) -> Result<Vec<ImportOutcome>, AllocError>
+    requires well { IsWorkspace packages.now }
+    requires standings { HaveStandings packages.now standings.now }
+    ensures { IfOk result (λ targets. AllZip (IsTarget packages.now from.now) (imports_of file.now) targets.items) }
+{
+    match file.tree() {
+        Ok(tree) => declared_targets(alloc, packages, standings, from, &tree.imports),
+        Err(_) => Ok(Vec::new(alloc)),
+    }
+}
+
+/// What the imports of a package come to, for each file.
+fn package_targets(
+    alloc: Global,
+    packages: &[PackageSource],
+    standings: &[Standing],
+    source: &PackageSource,
+) -> Result<Vec<Vec<ImportOutcome>>, AllocError>
+    requires well { IsWorkspace packages.now }
+    requires standings { HaveStandings packages.now standings.now }
+    ensures { IfOk result (λ targets. ArePackageTargets packages.now source.now targets.items) }
+{
+    let from = source.path();
+    let mut targets = Vec::new(alloc);
+    for file in source.files() {
+        targets.push(file_targets(alloc, packages, standings, from, file)?)?;
+    }
+    Ok(targets)
+}
+
+/// What all imports come to, cycles left aside, for each package and each file.
+pub(crate) fn targets(
+    alloc: Global,
+    packages: &[PackageSource],
+    standings: &[Standing],
+) -> Result<Vec<Vec<Vec<ImportOutcome>>>, AllocError>
+    requires well { IsWorkspace packages.now }
+    requires standings { HaveStandings packages.now standings.now }
+    ensures { IfOk result (λ targets. AreTargets packages.now targets.items) }
+{
+    let mut targets = Vec::with_capacity(alloc, packages.len())?;
+    for source in packages {
+        targets.push(package_targets(alloc, packages, standings, source)?)?;
+    }
+    Ok(targets)
+}

@@ -1,0 +1,22 @@
+//! From files to packages: a workspace of packages, and the assembly of the files of one.
+//!
+//! A package is "constructed from one or more source files that together declare constants, types, variables
+//! and functions belonging to the package" (the Go specification, "Packages"). Its files have one path, and
+//! one name in their package clauses.
+#![tactic(auto)]
+
+mod assembly;
+mod import_laws;
+mod imports;
+mod laws;
+mod planning;
+mod source;
+mod workspace;
+
+pub use assembly::{KFault, Package, assemble};
+pub use import_laws::{cycles_are_assembled, one_outcome, one_target};
+pub use imports::{ImportAt, ImportOutcome};
+pub use laws::one_assembly;
+pub use planning::{Plan, plan_imports};
+pub use source::SourceFile;
+pub use workspace::{PackageSource, Workspace};

@@ -1,0 +1,208 @@
+//! The import plan of a workspace: what each import comes to, and an order of the packages.
+ghost use Rattle.std.specs.Prelude.{◌≡◌, ◌++◌, IfOk, OnOk, length};
+ghost use Rattle.std.specs.List.{AllZip, flat_map, filter};
+ghost use Rattle.go_graph_core.specs.Plans.{IsPlan, outcome_at};
+ghost use Rattle.go_graph_core.specs.Targets.{IsSettled, AreSettled, AreAllSettled, edge_of, package_edges, edges_from, is_assembled};
+
+use crate::imports::{ImportAt, ImportOutcome, Standing, standings, targets};
+use crate::workspace::Workspace;
+use go_cycle_core::{Edge, Ranked, rank_and_order};
+use go_text_core::Rule;
+use std::alloc::{AllocError, Global};
+use std::marker::Model;
+
+/// Adds the edges of a file of a package.
+fn add_edges(
+    edges: &mut Vec<Edge>,
+    from: usize,
+    targets: &[ImportOutcome],
+) -> Result<(), AllocError>
+    ensures { OnOk result (edges.new.items ≡ edges.old.items ++ flat_map (edge_of from) targets.now) }
+{
+    for target in targets {
+        if let ImportOutcome::Package(to) = *target {
+            edges.push(Edge { from, to })?;
+        }
+    }
+    Ok(())
+}
+
+/// Adds the edges of a package.
+fn add_package_edges(
+    edges: &mut Vec<Edge>,
+    from: usize,
+    files: &[Vec<ImportOutcome>],
+) -> Result<(), AllocError>
+    ensures { OnOk result (edges.new.items ≡ edges.old.items ++ package_edges from files.now) }
+{
+    for targets in files {
+        add_edges(edges, from, targets)?;
+    }
+    Ok(())
+}
+
+/// The edges of all packages.
+fn edges(alloc: Global, targets: &[Vec<Vec<ImportOutcome>>]) -> Result<Vec<Edge>, AllocError>
+    ensures { IfOk result (λ edges. edges.items ≡ edges_from 0 targets.now) }
+{
+    let mut edges = Vec::new(alloc);
+    for (from, files) in targets.iter().enumerate() {
+        add_package_edges(&mut edges, from, files)?;
+    }
+    Ok(edges)
+}
+
+/// What an import comes to, where cycles count.
+fn settled(ranked: &Ranked, from: usize, target: ImportOutcome) -> ImportOutcome
+    ensures { IsSettled ranked.now.ranks from target result }
+{
+    match target {
+        ImportOutcome::Package(to) => {
+            if ranked.is_on_cycle(Edge { from, to }) {
+                ImportOutcome::Refused(Rule::I4)
+            } else {
+                ImportOutcome::Package(to)
+            }
+        }
+        ImportOutcome::Refused(rule) => ImportOutcome::Refused(rule),
+    }
+}
+
+/// What the imports of a file come to, where cycles count.
+fn file_outcomes(
+    alloc: Global,
+    ranked: &Ranked,
+    from: usize,
+    targets: &[ImportOutcome],
+) -> Result<Vec<ImportOutcome>, AllocError>
+    ensures { IfOk result (λ outcomes. AllZip (IsSettled ranked.now.ranks from) targets.now outcomes.items) }
+{
+    let mut outcomes = Vec::with_capacity(alloc, targets.len())?;
+    for target in targets {
+        outcomes.push(settled(ranked, from, *target))?;
+    }
+    Ok(outcomes)
+}
+
+/// What the imports of a package come to, where cycles count.
+fn package_outcomes(
+    alloc: Global,
+    ranked: &Ranked,
+    from: usize,
+    files: &[Vec<ImportOutcome>],
+) -> Result<Vec<Vec<ImportOutcome>>, AllocError>
+    ensures { IfOk result (λ outcomes. AreSettled ranked.now.ranks from files.now outcomes.items) }
+{
+    let mut outcomes = Vec::with_capacity(alloc, files.len())?;
+    for targets in files {
+        outcomes.push(file_outcomes(alloc, ranked, from, targets)?)?;
+    }
+    Ok(outcomes)
+}
+
+/// What all imports come to, where cycles count.
+fn outcomes(
+    alloc: Global,
+    ranked: &Ranked,
+    targets: &[Vec<Vec<ImportOutcome>>],
+) -> Result<Vec<Vec<Vec<ImportOutcome>>>, AllocError>
+    ensures { IfOk result (λ outcomes. AreAllSettled ranked.now.ranks targets.now outcomes.items) }
+{
+    let mut outcomes = Vec::with_capacity(alloc, targets.len())?;
+    for (from, files) in targets.iter().enumerate() {
+        outcomes.push(package_outcomes(alloc, ranked, from, files)?)?;
+    }
+    Ok(outcomes)
+}
+
+/// Whether a package is assembled.
+fn is_assembled(standings: &[Standing], number: usize) -> bool
+    ensures { result ≡ is_assembled standings.now number }
+{
+    match standings.get(number) {
+        Some(Standing::Library | Standing::Main) => true,
+        Some(Standing::Faulty) | None => false,
+    }
+}
+
+/// The assembled packages among these, in their order.
+fn assembled(
+    alloc: Global,
+    numbers: &[usize],
+    standings: &[Standing],
+) -> Result<Vec<usize>, AllocError>
+    ensures { IfOk result (λ order. order.items ≡ filter (is_assembled standings.now) numbers.now) }
+{
+    let mut order = Vec::new(alloc);
+    for number in numbers {
+        if is_assembled(standings, *number) {
+            order.push(*number)?;
+        }
+    }
+    Ok(order)
+}
+
+/// The import plan of a workspace. Contracts see it as the outcomes of the imports, by package, file and import,
+/// and the order.
+#[derive(Drop)]
+pub struct Plan {
+    outcomes: Vec<Vec<Vec<ImportOutcome>>>,
+    order: Vec<usize>,
+}
+
+impl Model for Plan {
+    ghost use Rattle.go_graph_core.specs.Plans.{PlanModel, plan_of, outcomes_shown};
+
+    ghost Value = { PlanModel };
+
+    ghost view = { λ p. plan_of (outcomes_shown p.outcomes.items) p.order.items };
+}
+
+impl Plan {
+    /// What the import at a place comes to: the package that it names, or the first of these rules that it breaks.
+    /// `None` where there is no import.
+    ///
+    /// - `Rule::I1` where its text is no path.
+    /// - `Rule::I3` where the package may not import the path.
+    /// - `Rule::I2` where there is no package of the path.
+    /// - `Rule::I6` where that package is not assembled.
+    /// - `Rule::I5` where its name is `main`.
+    /// - `Rule::I4` where the import lies on a cycle of imports that break none of these, or is of its own package.
+    pub fn outcome(&self, at: ImportAt) -> Option<ImportOutcome>
+        ensures { result ≡ outcome_at self.now.outcomes at }
+    {
+        let files = self.outcomes.get(at.package)?;
+        let imports = files.get(at.file)?;
+        imports.get(at.import).copied()
+    }
+
+    /// The numbers of the assembled packages, each once, behind those of the packages that its imports come to.
+    pub fn order(&self) -> &[usize]
+        ensures { result.now ≡ self.now.order }
+    {
+        self.order.as_slice()
+    }
+}
+
+/// Plans the imports of a workspace: what each comes to, and an order in which the packages can be built.
+///
+/// An import has "an ImportPath that specifies the package to be imported", and "it is illegal for a package to
+/// import itself, directly or indirectly" (the Go specification, "Import declarations"). A program is linked from
+/// "a single, unimported package called the main package" ("Program execution"). The imports of a package that is
+/// not assembled are planned as well: they lie on no cycle, and the package is not in the order.
+///
+/// # Errors
+///
+/// `AllocError` for want of memory.
+pub fn plan_imports(alloc: Global, workspace: &Workspace) -> Result<Plan, AllocError>
+    ensures { IfOk result (IsPlan workspace.now) }
+{
+    let packages = workspace.packages();
+    let standings = standings(alloc, packages)?;
+    let targets = targets(alloc, packages, &standings)?;
+    let edges = edges(alloc, &targets)?;
+    let ranked = rank_and_order(alloc, &edges, packages.len())?;
+    let outcomes = outcomes(alloc, &ranked, &targets)?;
+    let order = assembled(alloc, ranked.order(), &standings)?;
+    Ok(Plan { outcomes, order })
+}

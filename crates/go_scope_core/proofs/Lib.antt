@@ -1,0 +1,5 @@
+pub mod Blank
+pub mod Innermost
+pub mod LawLemmas
+pub mod Listed
+pub mod Lookups

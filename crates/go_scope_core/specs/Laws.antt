@@ -1,0 +1,58 @@
+-- Laws of what names denote.
+use Rattle.std.specs.Prelude.{◌≡◌, ℕ, ◌↔◌, List, [], ◌∷◌, ◌++◌, Option, Some, Any, IsSome, codes}
+use Rattle.go_block_core.specs.declared.decls.DeclRef.{DeclRef}
+use Rattle.go_block_core.specs.declared.binding.Binding.{Binding}
+use Rattle.go_block_core.specs.Blocks.{file_binding}
+use Rattle.go_open_core.specs.declared.DeclId.{DeclId}
+use Rattle.go_open_core.specs.Blocks.{in_block, found_in, innermost, with_innermost, block_with, block_after, NoneHas, IsInnermost}
+use Rattle.go_scope_core.specs.declared.scope.InScope.{InScope}
+use Rattle.go_scope_core.specs.declared.scope.InScope.TheVariants.{Package, File, Local}
+use Rattle.go_scope_core.specs.Models.{ScopesModel}
+use Rattle.go_scope_core.specs.Scopes.{scope_blocks}
+
+-- what a name denotes
+abbrev pub denotes : ScopesModel → List ℕ → Option InScope
+denotes s name = found_in (scope_blocks s) name
+
+-- what a name denotes is the declaration of it in the innermost open block that has one
+abbrev pub DenotesInnermost : Type 0
+DenotesInnermost = (s : ScopesModel) (name : List ℕ) (d : InScope) → (denotes s name ≡ Some d) ↔ IsInnermost (scope_blocks s) name d
+
+-- the innermost open block that has a declaration of a name has one
+abbrev pub DenotesOne : Type 0
+DenotesOne = (s : ScopesModel) (name : List ℕ) (d e : InScope) → IsInnermost (scope_blocks s) name d → IsInnermost (scope_blocks s) name e → d ≡ e
+
+-- a block has a declaration of this name
+abbrev pub Has : {X : Type 0} → List ℕ → List (List ℕ × X) → Type 0
+Has name block = IsSome (in_block block name)
+
+-- a name denotes the innermost declaration of it in these blocks
+abbrev pub DenotesLocal : ScopesModel → List ℕ → Type 0
+DenotesLocal s name = (id : DeclId) × IsInnermost s.open_blocks name id × (denotes s name ≡ Some (Local id))
+
+-- a name that an open block of the function has denotes the innermost declaration of it there
+abbrev pub LocalHides : Type 0
+LocalHides = (s : ScopesModel) (name : List ℕ) → Any (Has name) s.open_blocks → DenotesLocal s name
+
+-- a name of the package block that no open block of the function has denotes its declaration in the package block
+abbrev pub PackageNeverHidden : Type 0
+PackageNeverHidden = (s : ScopesModel) (name : List ℕ) (d : DeclRef) → NoneHas s.open_blocks name → in_block s.blocks.names name ≡ Some d → denotes s name ≡ Some (Package d)
+
+-- a name that no open block of the function has denotes the binding of it that holds in the file
+abbrev pub FileInside : Type 0
+FileInside = (s : ScopesModel) (name : List ℕ) (b : Binding) → NoneHas s.open_blocks name → file_binding s.blocks s.file name ≡ Some b → denotes s name ≡ Some (File b)
+
+-- the blank identifier
+abbrev pub blank : List ℕ
+blank = codes "_"
+
+-- no step from open blocks of a function leads to a block that has the blank identifier
+pub record KeepsBlankOut (open_blocks : List (List (List ℕ × DeclId))) : Type 0 where
+  pub enter : NoneHas (open_blocks ++ [] ∷ []) blank
+  pub leave : (outer : List (List (List ℕ × DeclId))) (top : List (List ℕ × DeclId)) → open_blocks ≡ outer ++ top ∷ [] → NoneHas outer blank
+  pub declare : (name : List ℕ) (id : DeclId) → NoneHas (with_innermost open_blocks (block_with (innermost open_blocks) name id)) blank
+  pub declare_short : (names : List (List ℕ × DeclId)) → NoneHas (with_innermost open_blocks (block_after (innermost open_blocks) names)) blank
+
+-- where no open block of a function has the blank identifier, none has it after a step
+abbrev pub BlankStaysOut : Type 0
+BlankStaysOut = (open_blocks : List (List (List ℕ × DeclId))) → NoneHas open_blocks blank → KeepsBlankOut open_blocks
