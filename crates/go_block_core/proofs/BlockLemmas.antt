@@ -6,7 +6,7 @@ use Rattle.std.specs.Global.{Global}
 use Rattle.std.specs.declared.string.String.{String}
 use Rattle.indexmap.specs.IndexMap.{IndexMap}
 use Rattle.go_block_core.specs.Tables.{table_of}
-use Rattle.go_tree_core.specs.Trees.{FileTree}
+use Rattle.go_tree_nodes.specs.Trees.{FileTree}
 use Rattle.go_graph_core.specs.Packages.{Trees, IsPackageName}
 use Rattle.go_block_core.specs.declared.decls.DeclRef.{DeclRef}
 use Rattle.go_block_core.specs.declared.decls.Declared.{Declared}
@@ -17,7 +17,7 @@ use Rattle.go_block_core.specs.declared.fault.BlockFault.{BlockFault}
 use Rattle.go_block_core.specs.Bindings.{file_bound}
 use Rattle.go_block_core.specs.Declarations.{is_main, main}
 use Rattle.go_block_core.specs.Holding.{with_declared, declared_block, with_bound, bound_block, file_block, file_blocks, imports_in}
-use Rattle.go_block_core.specs.Faults.{decl_faults_at, decl_faults, bound_faults_at, bound_faults, file_faults}
+use Rattle.go_block_core.specs.Faults.{fault_if, decl_faults_at, decl_faults, bound_faults_at, bound_faults, file_faults}
 
 -- one declaration more
 pub declared_more : (b : List (List ℕ × DeclRef)) (ds : List Declared) (d : Declared) → declared_block b (ds ++ d ∷ []) ≡ with_declared (declared_block b ds) d
@@ -58,6 +58,14 @@ main_of_name (t ∷ ts) name h = ap (λ n. bytes_eq n main) (sym (h.same 0 t (om
 
 pub faults_step : (first old new a at b : List BlockFault) → old ≡ first ++ a → new ≡ old ++ at → b ≡ a ++ at → new ≡ first ++ b
 faults_step first old new a at b old_is new_is b_is = new_is ∙ (ap (λ l. l ++ at) old_is ∙ (append_assoc first a at ∙ ap (λ l. first ++ l) (sym b_is)))
+
+-- the faults of two tests
+pub two_faults : (first mid new : List BlockFault) (f g : BlockFault) {is_f is_g f_holds g_holds : Bool} → is_f ≡ f_holds → is_g ≡ g_holds → mid ≡ first ++ fault_if is_f f → new ≡ mid ++ fault_if is_g g → new ≡ first ++ (fault_if f_holds f ++ fault_if g_holds g)
+two_faults first mid new f g {f_holds = f_holds} {g_holds = g_holds} same_f same_g mid_is new_is =
+    new_is
+    ∙ (ap (λ b. mid ++ fault_if b g) same_g
+    ∙ (ap (λ l. l ++ fault_if g_holds g) (mid_is ∙ ap (λ b. first ++ fault_if b f) same_f)
+    ∙ append_assoc first (fault_if f_holds f) (fault_if g_holds g)))
 
 pub declared_step : (ds : List Declared) (i : ℕ) (d : Declared) → i < length ds → d ≡ get_or ds i d → declared_block [] (take (i + 1) ds) ≡ with_declared (declared_block [] (take i ds)) d
 declared_step ds i d lt is =

@@ -1,23 +1,24 @@
 -- The declarations of what a program keeps in lists.
-use Rattle.std.proofs.Common.{◌≡◌, ℕ, ◌+◌, zero, suc, false, ◌&&◌, List, [], ◌∷◌, ◌++◌, map, length, take, refl, ap, sym, ◌∙◌, append-nil, append_assoc, arith}
+use Rattle.std.proofs.Common.{◌≡◌, ℕ, ◌+◌, ◌≤◌, zero, suc, false, ◌&&◌, List, [], ◌∷◌, ◌++◌, map, length, take, refl, ap, sym, ◌∙◌, append-nil, append_assoc, arith}
 use Rattle.std.specs.List.{flat_map}
 use Rattle.std.specs.Prelude.{Option, Some, option_map, slice_get, ◌==◌}
 use Rattle.std.proofs.lemmas.Bool.Decides.{nat_tests}
 use Rattle.go_text_core.specs.declared.span.Span.{Span}
-use Rattle.go_tree_core.specs.declared.names.Ident.{Ident}
-use Rattle.go_tree_core.specs.declared.names.NextIdent.{NextIdent}
-use Rattle.go_tree_core.specs.declared.types.Signature.{Signature, out-Signature}
-use Rattle.go_tree_core.specs.declared.types.Params.{Params, out-Params}
-use Rattle.go_tree_core.specs.declared.types.«Param» as declared_param
-use Rattle.go_tree_core.specs.declared.types.Results.TheVariants as results
-use Rattle.go_tree_core.specs.declared.files.TopDecl.{TopDecl}
-use Rattle.go_tree_core.specs.Trees.{FileTree}
-use Rattle.go_tree_core.specs.TypeShapes.{idents_from, params_of, shape_results, shape_signature}
-use Rattle.go_tree_core.specs.Shapes.{decl_of, top_of}
-use Rattle.go_tree_core.proofs.TypeShapes.{listed_parts, signature_parts}
+use Rattle.go_tree_nodes.specs.declared.names.Ident.{Ident}
+use Rattle.go_tree_nodes.specs.declared.names.NextIdent.{NextIdent}
+use Rattle.go_tree_nodes.specs.declared.types.Signature.{Signature, out-Signature}
+use Rattle.go_tree_nodes.specs.declared.types.Params.{Params, out-Params}
+use Rattle.go_tree_nodes.specs.declared.types.«Param» as declared_param
+use Rattle.go_tree_nodes.specs.declared.types.Results.TheVariants as results
+use Rattle.go_tree_nodes.specs.declared.files.TopDecl.{TopDecl}
+use Rattle.go_tree_nodes.specs.Trees.{FileTree}
+use Rattle.go_tree_nodes.specs.TypeShapes.{idents_from, params_of, shape_results, shape_signature}
+use Rattle.go_tree_nodes.specs.Shapes.{decl_of, top_of}
+use Rattle.go_tree_nodes.proofs.TypeShapes.{listed_parts, signature_parts}
 use Rattle.go_graph_core.specs.Packages.{Trees}
 use Rattle.go_block_core.specs.declared.decls.DeclKind.{DeclKind}
 use Rattle.go_block_core.specs.declared.decls.Declared.{Declared}
+use Rattle.go_block_core.proofs.Pieces.{all_pieces}
 use Rattle.go_block_core.specs.Declarations.{declared, declared_idents, group_declared, decl_declared, tops_declared, files_declared, without_params, without_results, is_procedure}
 
 -- what one identifier of a list declares
@@ -27,6 +28,15 @@ next_declared file kind n = declared file kind false n.ident ∷ []
 pub idents_list : (file : ℕ) (kind : DeclKind) (x : Ident) (ns : List NextIdent) → declared_idents file kind (idents_from x ns) ≡ declared file kind false x ∷ [] ++ flat_map (next_declared file kind) ns
 idents_list file kind x [] = refl
 idents_list file kind x (n ∷ ns) = ap (λ ds. declared file kind false x ∷ ds) (idents_list file kind n.ident ns)
+
+-- the identifiers behind the first are declared too
+pub idents_done : (file : ℕ) (kind : DeclKind) (x : Ident) (ns : List NextIdent) (front old all : List Declared) (items : List NextIdent) (i : ℕ) → old ≡ front ++ declared file kind false x ∷ [] → length items ≤ i → items ≡ ns → all ≡ old ++ flat_map (next_declared file kind) (take i items) → all ≡ front ++ declared_idents file kind (idents_from x ns)
+idents_done file kind x ns front old all items i first le is so_far =
+    let more = flat_map (next_declared file kind) ns in
+    all_pieces (next_declared file kind) old all items ns i le is so_far
+    ∙ (ap (λ ds. ds ++ more) first
+    ∙ (append_assoc front (declared file kind false x ∷ []) more
+    ∙ ap (λ ds. front ++ ds) (sym (idents_list file kind x ns))))
 
 pub group_list : {A B : Type 0} (f : A → List Declared) (shape : B → A × Option Span) (ls : List B) → group_declared f (map shape ls) ≡ flat_map (λ l. f (shape l).0) ls
 group_list f shape [] = refl

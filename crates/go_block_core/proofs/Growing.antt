@@ -1,9 +1,9 @@
 -- Blocks that are right stay right when more are made.
 use Rattle.std.proofs.Common.{◌≡◌, ℕ, suc, List, [], ◌∷◌, Option, Some}
 use Rattle.std.specs.Prelude.{slice_get}
-use Rattle.go_tree_core.specs.declared.files.ImportName.{ImportName}
-use Rattle.go_tree_core.specs.declared.files.ImportName.TheVariants as written
-use Rattle.go_tree_core.specs.Trees.{ImportSpecTree}
+use Rattle.go_tree_nodes.specs.declared.files.ImportName.{ImportName}
+use Rattle.go_tree_nodes.specs.declared.files.ImportName.TheVariants as written
+use Rattle.go_tree_nodes.specs.Trees.{ImportSpecTree}
 use Rattle.go_graph_core.specs.declared.imports.ImportOutcome.{ImportOutcome}
 use Rattle.go_graph_core.specs.declared.imports.ImportOutcome.TheVariants as outcomes
 use Rattle.go_graph_core.specs.Workspaces.{PackageModel}

@@ -1,9 +1,9 @@
 -- The steps of naming the imports of a package.
-use Rattle.std.proofs.Common.{◌≡◌, ℕ, ◌+◌, ◌<◌, ◌≤◌, Vec, Bor, List, [], ◌∷◌, ◌++◌, map, length, get_or, take, Option, MatchOption, sym, ap, subst, ◌∙◌, arith}
+use Rattle.std.proofs.Common.{◌≡◌, ℕ, ◌+◌, ◌<◌, ◌≤◌, Vec, Bor, List, [], ◌∷◌, ◌++◌, map, length, get_or, take, Option, MatchOption, slice_get, refl, sym, ap, subst, ◌∙◌, arith}
 use Rattle.std.specs.Global.{Global}
 use Rattle.std.proofs.lemmas.List.{map-append, length-map, get_or-map, take_all}
-use Rattle.std.proofs.lemmas.Option.{get_or_from_slice_get}
-use Rattle.go_tree_core.specs.declared.files.ImportSpec.{ImportSpec}
+use Rattle.std.proofs.lemmas.Option.{get_or_from_slice_get, slice_get_read}
+use Rattle.go_tree_nodes.specs.declared.files.ImportSpec.{ImportSpec}
 use Rattle.go_graph_core.specs.declared.imports.ImportAt.{ImportAt}
 use Rattle.go_graph_core.specs.declared.imports.ImportOutcome.{ImportOutcome}
 use Rattle.go_graph_core.specs.declared.imports.ImportOutcome.TheVariants as outcomes
@@ -17,7 +17,7 @@ use Rattle.go_graph_core.proofs.Zips.{numbered_more}
 use Rattle.go_block_core.specs.declared.imports.NamedImport.{NamedImport}
 use Rattle.go_block_core.specs.Blocks.{BlocksModel}
 use Rattle.go_block_core.specs.Holding.{imports_in}
-use Rattle.go_block_core.specs.Naming.{spec_shown, import_at, IsClauseOf, IsImportOf, AreSpecImports, AreFileImports, AreImportsOf}
+use Rattle.go_block_core.specs.Naming.{spec_shown, import_at, IsFileAt, IsClauseOf, IsImportOf, AreSpecImports, AreFileImports, AreImportsOf}
 
 -- what an import comes to is assembled
 package_found : (ps : List PackageModel) (at : ImportAt) (i : ℕ) → IsOutcome ps at (outcomes.Package i) → IsAssembledAt ps i
@@ -65,3 +65,9 @@ pub files_done : (ps packages : List PackageModel) (bs : List (Option BlocksMode
 files_done ps packages bs number p files n imports h same is of_package le each =
     let all : take n files ≡ h.1 = take_all n files le ∙ (of_package ∙ ap (λ (q : PackageModel). q.1) (sym (read_at ps packages number p h same is))) in
     record { path = h.0; files = h.1; numbered = h.2; each = subst (λ fs. AllNumbered (λ k t is. AreFileImports ps bs number k t is) 0 fs imports) all each }
+
+-- the file that is read at a number of an assembled package
+pub read_file : (ps packages : List PackageModel) (number : ℕ) (p : PackageModel) (files : List SourceModel) (file : ℕ) (s : SourceModel) → IsAssembledAt ps number → packages ≡ ps → p ≡ get_or packages number p → files ≡ p.1 → file < length files → s ≡ get_or files file s → IsFileAt ps number file s
+read_file ps packages number p files file s h same is of_package lt at =
+    let all : files ≡ h.1 = of_package ∙ ap (λ (q : PackageModel). q.1) (sym (read_at ps packages number p h same is)) in
+    record { path = h.0; files = h.1; numbered = h.2; in_files = ap (λ fs. slice_get fs file) (sym all) ∙ slice_get_read files (length files) file s refl lt at }

@@ -10,6 +10,7 @@ pub mod ImportSteps
 pub mod NamingLemmas
 pub mod OneBlocks
 pub mod OrderLaws
+pub mod Pieces
 pub mod PlaceLemmas
 pub mod Rising
 pub mod SortedOnce

@@ -5,9 +5,9 @@ use Rattle.std.specs.List.Sorted.{IsStrictlyIncreasing}
 use Rattle.std.proofs.lemmas.List.{map-append}
 use Rattle.std.proofs.lemmas.Option.{slice_get-map, slice_get-get_or, get_or_from_slice_get, slice_get_within}
 use Rattle.go_text_core.specs.declared.span.Span.{Span}
-use Rattle.go_tree_core.specs.Terminals.{Terminal}
-use Rattle.go_tree_core.specs.Trees.{FileTree, ImportTree, ImportSpecTree, Specs, Single, Group}
-use Rattle.go_tree_core.specs.Spelling.{spell_import, spell_specs_of, spell_specs, spell_imports, spell_file}
+use Rattle.go_tree_nodes.specs.Terminals.{Terminal}
+use Rattle.go_tree_nodes.specs.Trees.{FileTree, ImportTree, ImportSpecTree, Specs, Single, Group}
+use Rattle.go_tree_nodes.specs.Spelling.{spell_import, spell_specs_of, spell_specs, spell_imports, spell_file}
 use Rattle.go_parse_core.specs.declared.error.SynFault.{SynFault}
 use Rattle.go_graph_core.specs.declared.imports.ImportAt.{ImportAt}
 use Rattle.go_graph_core.specs.Sources.{SourceModel, IsContent, IsRead}

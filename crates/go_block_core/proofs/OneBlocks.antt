@@ -3,9 +3,9 @@ use Rattle.std.proofs.Common.{◌≡◌, ℕ, ◌+◌, suc, List, [], ◌∷◌,
 use Rattle.std.specs.Prelude.{slice_get, Contains}
 use Rattle.std.specs.Str.{chars}
 use Rattle.go_text_core.specs.Text.{exported}
-use Rattle.go_tree_core.specs.declared.files.ImportName.{ImportName}
-use Rattle.go_tree_core.specs.declared.files.ImportName.TheVariants as written
-use Rattle.go_tree_core.specs.Trees.{ImportSpecTree}
+use Rattle.go_tree_nodes.specs.declared.files.ImportName.{ImportName}
+use Rattle.go_tree_nodes.specs.declared.files.ImportName.TheVariants as written
+use Rattle.go_tree_nodes.specs.Trees.{ImportSpecTree}
 use Rattle.go_graph_core.specs.declared.imports.ImportAt.{ImportAt}
 use Rattle.go_graph_core.specs.declared.imports.ImportOutcome.{ImportOutcome}
 use Rattle.go_graph_core.specs.declared.imports.ImportOutcome.TheVariants as outcomes

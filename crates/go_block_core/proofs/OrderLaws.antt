@@ -7,11 +7,11 @@ use Rattle.std.proofs.lemmas.List.Kept.{AllPairs-cons, AllPairs-from_increasing}
 use Rattle.std.specs.Str.{chars}
 use Rattle.go_text_core.specs.declared.span.Span.{Span}
 use Rattle.go_text_core.specs.Text.{exported, is_blank}
-use Rattle.go_tree_core.specs.declared.names.Ident.{Ident}
-use Rattle.go_tree_core.specs.declared.files.Receiver.{Receiver}
-use Rattle.go_tree_core.specs.Terminals.{Terminal, InOrder}
-use Rattle.go_tree_core.specs.Trees.{Separated, One, Then, Specs, Single, Group, ValueSpecTree, TypeSpecTree, DeclTree, Value, Types, Func, TopTree, FileTree}
-use Rattle.go_tree_core.specs.Spelling.{spell_ident, spell_idents, spell_value_spec, spell_specs_of, spell_specs, spell_type_spec, spell_receiver, spell_decl, spell_tops, spell_file}
+use Rattle.go_tree_nodes.specs.declared.names.Ident.{Ident}
+use Rattle.go_tree_nodes.specs.declared.files.Receiver.{Receiver}
+use Rattle.go_tree_nodes.specs.Terminals.{Terminal, InOrder}
+use Rattle.go_tree_nodes.specs.Trees.{Separated, One, Then, Specs, Single, Group, ValueSpecTree, TypeSpecTree, DeclTree, Value, Types, Func, TopTree, FileTree}
+use Rattle.go_tree_nodes.specs.Spelling.{spell_ident, spell_idents, spell_value_spec, spell_specs_of, spell_specs, spell_type_spec, spell_receiver, spell_decl, spell_tops, spell_file}
 use Rattle.go_graph_core.specs.Packages.{Trees}
 use Rattle.go_block_core.specs.declared.decls.DeclKind.{DeclKind}
 use Rattle.go_block_core.specs.declared.decls.DeclKind.TheVariants as kinds

@@ -4,9 +4,9 @@ use Rattle.std.specs.Prelude.{slice_get}
 use Rattle.std.proofs.lemmas.List.{take_more, take_all}
 use Rattle.std.proofs.lemmas.List.Elements.{All-cons, All-append}
 use Rattle.std.proofs.lemmas.Option.{get_or_from_slice_get, slice_get_within}
-use Rattle.go_tree_core.specs.Spelling.{spell_file}
-use Rattle.go_tree_core.specs.Terminals.{InOrder}
-use Rattle.go_tree_core.specs.Trees.{FileTree}
+use Rattle.go_tree_nodes.specs.Spelling.{spell_file}
+use Rattle.go_tree_nodes.specs.Terminals.{InOrder}
+use Rattle.go_tree_nodes.specs.Trees.{FileTree}
 use Rattle.go_graph_core.specs.Packages.{Trees}
 use Rattle.go_block_core.specs.Laws.{ArePlaced}
 

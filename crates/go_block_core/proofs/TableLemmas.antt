@@ -1,5 +1,5 @@
 -- Tables of names, as blocks.
-use Rattle.std.proofs.Common.{◌≡◌, ℕ, Bool, true, false, not, List, [], ◌∷◌, ◌++◌, map, Option, Some, None, is_some, refl, sym, ap, ◌∙◌, cond}
+use Rattle.std.proofs.Common.{◌≡◌, ℕ, Bool, true, false, not, List, [], ◌∷◌, ◌++◌, map, Option, Some, None, is_some, refl, sym, ap, ◌∙◌, cond, Bor, append_assoc, append-nil}
 use Rattle.std.specs.Prelude.{string_bytes, slice_get}
 use Rattle.std.specs.String.{string_eq}
 use Rattle.std.specs.Str.{bytes_eq}
@@ -10,7 +10,7 @@ use Rattle.std.proofs.lemmas.Slice.Eq.{bytes_eq-Decides}
 use Rattle.std.proofs.lemmas.List.{map-append}
 use Rattle.indexmap.specs.IndexMap.{IndexMap, get, get_by, insert_entry}
 use Rattle.indexmap.proofs.CallerLemmas.{insert_entry-new}
-use Rattle.go_block_core.specs.Tables.{table_of, in_block, has, with_first, without}
+use Rattle.go_block_core.specs.Tables.{table_of, in_block, has, with_first, names_in, without}
 use Rattle.go_block_core.specs.declared.binding.Binding.{Binding}
 use Rattle.go_block_core.specs.Blocks.{BlocksModel, in_some, file_binding, if_block, held_in}
 
@@ -27,6 +27,9 @@ module _ {X : Type 0} where
   none_from_test None h = refl
   none_from_test (Some d) h = absurd (true≢false h)
 
+  pub table_of-empty : {Y S : Type 0} (table : IndexMap (String Y) X S) → table.entries ≡ [] → table_of table ≡ []
+  table_of-empty table none = ap (map (λ e. (string_bytes e.0, e.1))) none
+
   -- a new name goes last
   pub table_of-insert : {Y S : Type 0} (old new : IndexMap (String Y) X S) (key : String Y) (name : List ℕ) (x : X) → string_bytes key ≡ name → has (table_of old) name ≡ false → new.entries ≡ insert_entry string_eq old.entries key x → table_of new ≡ with_first (table_of old) name x
   table_of-insert old new key name x is_name absent e =
@@ -35,6 +38,27 @@ module _ {X : Type 0} where
       ∙ (map-append (λ e. (string_bytes e.0, e.1)) old.entries ((key, x) ∷ [])
       ∙ (ap (λ n. table_of old ++ (n, x) ∷ []) is_name
       ∙ sym (ap (λ b. cond b (table_of old) (table_of old ++ (name, x) ∷ [])) absent)))
+
+-- the names of a table, one after another
+
+-- one thing more is listed, of those that are left
+pub listed_more : {A : Type 0} (old new : List A) (x : A) (seen rest whole : List A) → new ≡ old ++ x ∷ [] → seen ≡ x ∷ rest → old ++ seen ≡ whole → new ++ rest ≡ whole
+listed_more old new x seen rest whole more step before =
+    ap (λ l. l ++ rest) more ∙ (append_assoc old (x ∷ []) rest ∙ (ap (λ l. old ++ l) (sym step) ∙ before))
+
+pub name_shown : (old new : List (Bor (List ℕ))) (shown : Bor (List ℕ)) (name : List ℕ) (seen rest whole : List (List ℕ)) → new ≡ old ++ shown ∷ [] → shown.now ≡ name → seen ≡ name ∷ rest → map (λ n. n.now) old ++ seen ≡ whole → map (λ n. n.now) new ++ rest ≡ whole
+name_shown old new shown name seen rest whole more is step before =
+    listed_more (map (λ n. n.now) old) (map (λ n. n.now) new) name seen rest whole
+    (ap (map (λ n. n.now)) more ∙ (map-append (λ n. n.now) old (shown ∷ []) ∙ ap (λ n. map (λ n. n.now) old ++ n ∷ []) is))
+    step before
+
+-- nothing is listed yet
+pub none_listed : {E : Type 0} (left : List E → List (List ℕ)) (shown : List (Bor (List ℕ))) (es all : List E) → shown ≡ [] → es ≡ all → map (λ n. n.now) shown ++ left es ≡ left all
+none_listed left shown es all none same = ap (λ ns. map (λ n. n.now) ns ++ left es) none ∙ ap left same
+
+-- nothing is left
+pub all_listed : {A : Type 0} (all seen whole : List A) → seen ≡ [] → all ++ seen ≡ whole → all ≡ whole
+all_listed all seen whole none before = sym (append-nil all) ∙ (ap (λ l. all ++ l) (sym none) ∙ before)
 
 -- what a block has at a name that another has not
 
@@ -60,6 +84,39 @@ module _ {X Z : Type 0} (other : List (List ℕ × Z)) (name : List ℕ) where
       kept_or_not (not (has other e.0)) name e (without other es)
       ∙ pick (bytes_eq name e.0) (has other e.0) (has other name) e.1 (in_block (without other es) name) (in_block es name)
       (λ same. ap (has other) (sym ((bytes_eq-Decides name e.0).0 same))) (in_without es)
+
+-- the names of a table that another block has not, one after another
+module _ {X Y Z : Type 0} (other : List (List ℕ × Z)) (shown : List (Bor (List ℕ))) (left rest : List (String Y × X)) (key : String Y) (x : X) (whole : List (List ℕ)) (step : left ≡ (key, x) ∷ rest) where
+  abbrev pub entry_of : String Y × X → List ℕ × X
+  entry_of e = (string_bytes e.0, e.1)
+
+  pub name_left_out : has other (string_bytes key) ≡ true → map (λ n. n.now) shown ++ names_in (without other (map entry_of left)) ≡ whole → map (λ n. n.now) shown ++ names_in (without other (map entry_of rest)) ≡ whole
+  name_left_out there before =
+      let behind = without other (map entry_of rest) in
+      let gone : names_in (without other (map entry_of left)) ≡ names_in behind = ap (λ es. names_in (without other (map entry_of es))) step ∙ ap (λ b. names_in (cond (not b) (entry_of (key, x) ∷ behind) behind)) there in
+      ap (λ ns. map (λ n. n.now) shown ++ ns) (sym gone) ∙ before
+
+  pub name_kept : has other (string_bytes key) ≡ false → (new : List (Bor (List ℕ))) (name : Bor (List ℕ)) → new ≡ shown ++ name ∷ [] → name.now ≡ string_bytes key → map (λ n. n.now) shown ++ names_in (without other (map entry_of left)) ≡ whole → map (λ n. n.now) new ++ names_in (without other (map entry_of rest)) ≡ whole
+  name_kept absent new name more is before =
+      let behind = without other (map entry_of rest) in
+      let next : names_in (without other (map entry_of left)) ≡ string_bytes key ∷ names_in behind = ap (λ es. names_in (without other (map entry_of es))) step ∙ ap (λ b. names_in (cond (not b) (entry_of (key, x) ∷ behind) behind)) absent in
+      name_shown shown new name (string_bytes key) _ _ _ more is next before
+
+-- what a look-up in a file answers
+
+module _ (b : BlocksModel) (file : ℕ) (name : List ℕ) where
+  pub hidden_binding : has b.names name ≡ true → None ≡ file_binding b file name
+  hidden_binding there = ap (λ gone. cond gone None (in_some (slice_get b.files file) name)) (sym there)
+
+  pub binding_in : (block : List (List ℕ × Binding)) → has b.names name ≡ false → slice_get b.files file ≡ Some block → in_block block name ≡ file_binding b file name
+  binding_in block absent at =
+      ap (λ gone. cond gone None (in_block block name)) (sym absent)
+      ∙ ap (λ o. cond (has b.names name) None (in_some o name)) (sym at)
+
+  pub binding_nowhere : slice_get b.files file ≡ None → None ≡ file_binding b file name
+  binding_nowhere at =
+      same_none (has b.names name)
+      ∙ ap (λ o. cond (has b.names name) None (in_some o name)) (sym at)
 
 in_if_block : (o : Option (List (List ℕ × Binding))) (name : List ℕ) → in_block (if_block o) name ≡ in_some o name
 in_if_block None name = refl

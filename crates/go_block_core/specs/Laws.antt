@@ -1,8 +1,8 @@
 -- Laws of what holds in blocks, and of the faults in them.
 use Rattle.std.specs.Prelude.{◌≡◌, ℕ, ◌<◌, ◌≤◌, map, AllPairs, Bool, true, false, ◌⊎◌, ◌↔◌, List, ◌∷◌, ◌++◌, Some, None, All, Any, Contains, slice_get}
 use Rattle.std.specs.List.Sorted.{IsStrictlyIncreasing}
-use Rattle.go_tree_core.specs.Spelling.{spell_file}
-use Rattle.go_tree_core.specs.Terminals.{InOrder}
+use Rattle.go_tree_nodes.specs.Spelling.{spell_file}
+use Rattle.go_tree_nodes.specs.Terminals.{InOrder}
 use Rattle.go_graph_core.specs.Packages.{Trees}
 use Rattle.go_block_core.specs.declared.decls.DeclRef.{DeclRef}
 use Rattle.go_block_core.specs.declared.decls.Declared.{Declared}

@@ -4,6 +4,7 @@ ghost use Rattle.go_block_core.specs.Bindings.{bound_as, target_of, own_bound, n
 
 use crate::decls::DeclRef;
 use crate::imports::{ImportForm, NamedDecl, NamedImport};
+use crate::lists::append;
 use crate::word::last_name;
 use go_graph_core::ImportOutcome;
 use go_text_core::{Name, Rule, is_exported};
@@ -49,8 +50,7 @@ fn add(
         name: Name::from_text(alloc, name)?,
         binding: Binding { at, target },
     };
-    bound.push(entry)?;
-    Ok(())
+    append(bound, entry)
 }
 
 /// Adds what an import without a name binds.

@@ -1,15 +1,16 @@
 //! The declarations of the package block.
 ghost use Rattle.std.specs.Prelude.{◌≡◌, ◌++◌, ◌∷◌, [], OnOk, IfOk, map};
-ghost use Rattle.go_tree_core.specs.TypeShapes.{shape_idents, shape_results, shape_signature};
-ghost use Rattle.go_tree_core.specs.Shapes.{shape_value, shape_type_decl, func_of, decl_of, top_of};
+ghost use Rattle.go_tree_nodes.specs.TypeShapes.{shape_idents, shape_results, shape_signature};
+ghost use Rattle.go_tree_nodes.specs.Shapes.{shape_value, shape_type_decl, decl_of, top_of};
 ghost use Rattle.go_block_core.specs.Laws.{ArePlaced};
-ghost use Rattle.go_block_core.specs.Declarations.{declared, declared_idents, value_declared, types_declared, func_declared, decl_declared, tops_declared, package_declared, kind_of, without_results, is_procedure};
+ghost use Rattle.go_block_core.specs.Declarations.{declared, declared_idents, value_declared, types_declared, decl_declared, tops_declared, package_declared, kind_of, without_results, is_procedure};
 
+use crate::lists::append;
 use go_graph_core::Package;
 use go_text_core::Name;
-use go_tree_core::{
-    Decl, FuncDecl, Ident, Idents, Results, Signature, TopDecl, TypeDecl, TypeSpecs, ValueDecl,
-    ValueKind, ValueSpecs,
+use go_tree_nodes::{
+    Decl, Ident, Idents, Results, Signature, TopDecl, TypeDecl, TypeSpecs, ValueDecl, ValueKind,
+    ValueSpecs,
 };
 use std::alloc::{AllocError, Global};
 
@@ -88,8 +89,7 @@ fn add(
         },
         is_procedure,
     };
-    decls.push(declared)?;
-    Ok(())
+    append(decls, declared)
 }
 
 /// Adds the declarations of some identifiers.
@@ -150,25 +150,7 @@ fn add_types(
     }
 }
 
-/// Adds a function. A method is not declared in the package block.
-fn add_func(
-    decls: &mut Vec<Declared>,
-    alloc: Global,
-    file: usize,
-    func: &FuncDecl,
-) -> Result<(), AllocError>
-    ensures { OnOk result (decls.new.items ≡ decls.old.items ++ func_declared file (func_of func.now)) }
-{
-    match &func.receiver {
-        Some(_) => Ok(()),
-        None => {
-            let is_procedure = is_procedure(&func.signature);
-            add(decls, alloc, file, DeclKind::Func, is_procedure, &func.name)
-        }
-    }
-}
-
-/// Adds what a declaration declares.
+/// Adds what a declaration declares. A method is not declared in the package block.
 fn add_decl(
     decls: &mut Vec<Declared>,
     alloc: Global,
@@ -180,7 +162,13 @@ fn add_decl(
     match decl {
         Decl::Value(value) => add_values(decls, alloc, file, value),
         Decl::Type(types) => add_types(decls, alloc, file, types),
-        Decl::Func(func) => add_func(decls, alloc, file, func),
+        Decl::Func(func) => {
+            if func.receiver.is_some() {
+                return Ok(());
+            }
+            let is_procedure = is_procedure(&func.signature);
+            add(decls, alloc, file, DeclKind::Func, is_procedure, &func.name)
+        }
     }
 }
 

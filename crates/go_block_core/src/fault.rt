@@ -1,6 +1,6 @@
 //! Faults of blocks.
 ghost use Rattle.std.specs.Prelude.{◌≡◌, ◌++◌, OnOk};
-ghost use Rattle.go_block_core.specs.Faults.{fault_if, rule_of};
+ghost use Rattle.go_block_core.specs.Faults.{fault_at, fault_if, rule_of};
 
 use go_text_core::Rule;
 use std::alloc::AllocError;
@@ -43,12 +43,14 @@ pub struct BlockFault {
 pub(crate) fn add_fault_if(
     faults: &mut Vec<BlockFault>,
     is_fault: bool,
-    fault: BlockFault,
+    file: usize,
+    offset: usize,
+    rule: BlockRule,
 ) -> Result<(), AllocError>
-    ensures { OnOk result (faults.new.items ≡ faults.old.items ++ fault_if is_fault fault) }
+    ensures { OnOk result (faults.new.items ≡ faults.old.items ++ fault_if is_fault (fault_at file offset rule)) }
 {
     if is_fault {
-        faults.push(fault)?;
+        faults.push(BlockFault { file, offset, rule })?;
     }
     Ok(())
 }

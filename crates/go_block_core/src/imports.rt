@@ -5,7 +5,7 @@ ghost use Rattle.go_block_core.specs.Holding.{imports_in, AreInOrder};
 use crate::decls::DeclRef;
 use go_graph_core::ImportOutcome;
 use go_text_core::Name;
-use go_tree_core::TextValue;
+use go_tree_nodes::TextValue;
 
 /// A name of a package block, and its declaration.
 #[derive(Drop)]

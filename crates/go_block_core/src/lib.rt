@@ -14,6 +14,7 @@ mod decls;
 mod fault;
 mod imports;
 mod laws;
+mod lists;
 mod making;
 mod naming;
 mod package_block;

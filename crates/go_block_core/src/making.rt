@@ -1,22 +1,34 @@
 //! The making of the blocks of a package.
-ghost use Rattle.std.specs.Prelude.{◌≡◌, IfOk, OnOk, AllPairs};
+ghost use Rattle.std.specs.Prelude.{◌≡◌, ◌++◌, [], IfOk, OnOk, AllPairs};
+ghost use Rattle.go_block_core.specs.Tables.{table_of};
 ghost use Rattle.go_block_core.specs.Declarations.{is_main, package_declared};
-ghost use Rattle.go_block_core.specs.Laws.{IsBefore};
+ghost use Rattle.go_block_core.specs.Laws.{IsBefore, ArePlaced};
+ghost use Rattle.go_block_core.specs.Faults.{decl_faults};
+ghost use Rattle.go_block_core.specs.Holding.{package_block};
 ghost use Rattle.go_block_core.specs.Blocks.{AreBlocks, HoldsEachOnce, imports_of};
 
 use crate::block::Blocks;
-use crate::decls::declarations;
+use crate::decls::{DeclRef, declarations};
 use crate::fault::BlockFault;
 use crate::imports::ImportNames;
 use crate::package_block::{file_blocks, package_block};
 use go_graph_core::Package;
+use indexmap::IndexMap;
 use std::alloc::{AllocError, Global};
 
-/// Whether a package is package main.
-fn is_main(package: &Package<'_>) -> bool
-    ensures { result ≡ is_main «package».now }
+/// The package block of a package. Adds the faults in it.
+fn declared_block(
+    alloc: Global,
+    package: &Package<'_>,
+    faults: &mut Vec<BlockFault>,
+) -> Result<IndexMap<String, DeclRef>, AllocError>
+    ensures table { IfOk result (λ table. table_of table ≡ package_block «package».now) }
+    ensures faults { OnOk result (faults.new.items ≡ faults.old.items ++ decl_faults (is_main «package».now) [] (package_declared «package».now)) }
+    ensures placed { OnOk result (ArePlaced «package».now) }
 {
-    package.name() == "main"
+    let is_main = package.name() == "main";
+    let decls = declarations(alloc, package)?;
+    package_block(alloc, is_main, &decls, faults)
 }
 
 /// Puts faults in order, each once.
@@ -48,10 +60,16 @@ pub fn blocks(
     ensures order { OnOk result (AllPairs IsBefore (package_declared «package».now)) }
 {
     let mut faults = Vec::new(alloc);
-    let decls = declarations(alloc, package)?;
-    let table = package_block(alloc, is_main(package), &decls, &mut faults)?;
-    let files = file_blocks(alloc, &table, &names.files, &mut faults)?;
-    in_order(&mut faults)?;
+    let table = declared_block(alloc, package, &mut faults)?;
+    // The table is let go by name: its drop is then one call.
+    let Ok(files) = file_blocks(alloc, &table, &names.files, &mut faults) else {
+        drop(table);
+        return Err(AllocError);
+    };
+    let Ok(()) = in_order(&mut faults) else {
+        drop(table);
+        return Err(AllocError);
+    };
     Ok(Blocks {
         package: table,
         files,

@@ -1,6 +1,6 @@
 //! The imports of a package, from the plan of its workspace.
 ghost use Rattle.std.specs.Prelude.{◌≡◌, ◌++◌, IfOk, OnOk, map};
-ghost use Rattle.go_tree_core.specs.Shapes.{import_of, shape_import_spec, shape_import_specs};
+ghost use Rattle.go_tree_nodes.specs.Shapes.{import_of, shape_import_spec, shape_import_specs};
 ghost use Rattle.go_graph_core.specs.Packages.{IsAssembled, IsNameOf};
 ghost use Rattle.go_graph_core.specs.Imports.{IsOutcome};
 ghost use Rattle.go_graph_core.specs.Plans.{IsPlan, IsAssembledAt};
@@ -9,9 +9,10 @@ ghost use Rattle.go_block_core.specs.Naming.{AreImportsOf, AreFileImports, AreSp
 
 use crate::block::Blocks;
 use crate::imports::{ImportForm, ImportNames, NamedDecl, NamedImport};
+use crate::lists::append;
 use go_graph_core::{ImportAt, ImportOutcome, PackageSource, Plan, SourceFile, Workspace};
 use go_text_core::Name;
-use go_tree_core::{ImportDecl, ImportName, ImportSpec, ImportSpecs};
+use go_tree_nodes::{ImportDecl, ImportName, ImportSpec, ImportSpecs};
 use std::alloc::{AllocError, Global};
 
 /// Adds the imports of a declaration.
@@ -22,13 +23,10 @@ fn add_specs<'a>(
     ensures { OnOk result (map spec_shown specs.new.items ≡ map spec_shown specs.old.items ++ specs_in (shape_import_specs declared.now)) }
 {
     match declared {
-        ImportSpecs::One(spec) => {
-            specs.push(spec)?;
-            Ok(())
-        }
+        ImportSpecs::One(spec) => append(specs, spec),
         ImportSpecs::Group(_, lines, _) => {
             for line in lines {
-                specs.push(&line.spec)?;
+                append(specs, &line.spec)?;
             }
             Ok(())
         }
@@ -137,10 +135,12 @@ fn named_import(
     let Some(outcome) = plan.outcome(at) else {
         unreachable!()
     };
+    // The text first: where memory is wanting for the form, one list is let go, and never a form with its names.
+    let text = spec.path.value.copy(alloc)?;
     let form = form_of(alloc, workspace, blocks, at, &spec.name, outcome)?;
     Ok(NamedImport {
         at: spec.path.span.start,
-        text: spec.path.value.copy(alloc)?,
+        text,
         outcome,
         form,
     })
@@ -169,7 +169,7 @@ fn named_imports(
             import,
         };
         let named = named_import(alloc, workspace, plan, blocks, at, specs[import])?;
-        imports.push(named)?;
+        append(&mut imports, named)?;
     }
     Ok(imports)
 }
@@ -231,7 +231,7 @@ pub fn import_names(
     let mut imports = Vec::with_capacity(alloc, files.len())?;
     for file in 0..files.len() {
         let of_file = file_imports(alloc, workspace, plan, blocks, number, file, &files[file])?;
-        imports.push(of_file)?;
+        append(&mut imports, of_file)?;
     }
     Ok(ImportNames::new(imports))
 }

@@ -1,8 +1,8 @@
 //! What the package block and the file blocks hold, and the faults in them.
-ghost use Rattle.std.specs.Prelude.{◌≡◌, ◌++◌, ◌∷◌, [], OnOk, IfOk, map};
+ghost use Rattle.std.specs.Prelude.{◌≡◌, ◌++◌, ◌∷◌, [], not, ◌&&◌, OnOk, IfOk, map};
 ghost use Rattle.go_block_core.specs.Tables.{table_of};
 ghost use Rattle.go_block_core.specs.Declarations.{binds, has_fixed_form};
-ghost use Rattle.go_block_core.specs.Faults.{fault_at, decl_faults_at, decl_faults, bound_faults_at, bound_faults, file_faults};
+ghost use Rattle.go_block_core.specs.Faults.{decl_faults_at, decl_faults, bound_faults_at, bound_faults, file_faults};
 ghost use Rattle.go_block_core.specs.Holding.{is_second, with_declared, declared_block, with_bound, bound_block, file_block, file_blocks, imports_in};
 ghost use Rattle.go_block_core.specs.Bindings.{file_bound, name_and_decl};
 
@@ -10,6 +10,7 @@ use crate::binding::{Binding, Bound, bindings};
 use crate::decls::{DeclRef, Declared};
 use crate::fault::{BlockFault, BlockRule, add_fault_if};
 use crate::imports::{NamedDecl, NamedImport};
+use crate::lists::append;
 use crate::table::{bind_first, find};
 use go_text_core::Name;
 use indexmap::IndexMap;
@@ -22,11 +23,12 @@ fn binds(name: &str) -> bool
     name != "_" && name != "init"
 }
 
-/// Whether what has this name in the package block must be a function without parameters and results.
-fn has_fixed_form(is_main: bool, name: &str) -> bool
-    ensures { result ≡ has_fixed_form is_main name.now }
+/// Whether a declaration must be a function without parameters and results, and is none.
+fn is_malformed(is_main: bool, declared: &Declared) -> bool
+    ensures { result ≡ (has_fixed_form is_main declared.now.name && not declared.now.is_procedure) }
 {
-    name == "init" || (is_main && name == "main")
+    let name = declared.name.as_str();
+    (name == "init" || (is_main && name == "main")) && !declared.is_procedure
 }
 
 /// Binds the name of a declaration, unless the table has it, and answers whether the table had it.
@@ -56,21 +58,11 @@ fn add_declared(
     ensures table { OnOk result (table_of table.new ≡ with_declared (table_of table.old) declared.now) }
     ensures faults { OnOk result (faults.new.items ≡ faults.old.items ++ decl_faults_at is_main (table_of table.old) declared.now) }
 {
+    let DeclRef { file, at, .. } = declared.decl;
     let is_second = declare(table, alloc, declared)?;
-    add_fault_if(faults, is_second, fault_of(declared.decl, BlockRule::B1))?;
-    let is_malformed = has_fixed_form(is_main, declared.name.as_str()) && !declared.is_procedure;
-    add_fault_if(faults, is_malformed, fault_of(declared.decl, BlockRule::B3))
-}
-
-/// A fault at a declaration.
-fn fault_of(decl: DeclRef, rule: BlockRule) -> BlockFault
-    ensures { result ≡ fault_at decl.file decl.at rule }
-{
-    BlockFault {
-        file: decl.file,
-        offset: decl.at,
-        rule,
-    }
+    add_fault_if(faults, is_second, file, at, BlockRule::B1)?;
+    let is_malformed = is_malformed(is_main, declared);
+    add_fault_if(faults, is_malformed, file, at, BlockRule::B3)
 }
 
 /// The package block: of several declarations of one name the first. Adds the faults in it.
@@ -85,7 +77,11 @@ pub(crate) fn package_block(
 {
     let mut table = IndexMap::new(alloc);
     for declared in decls {
-        add_declared(&mut table, alloc, is_main, declared, faults)?;
+        let Ok(()) = add_declared(&mut table, alloc, is_main, declared, faults) else {
+            // By name: the drop of a table is then one call.
+            drop(table);
+            return Err(AllocError);
+        };
     }
     Ok(table)
 }
@@ -103,21 +99,11 @@ fn add_bound(
     ensures faults { OnOk result (faults.new.items ≡ faults.old.items ++ bound_faults_at (table_of names.now) file (table_of table.old) bound.now) }
 {
     let name = bound.name.as_str();
-    let offset = bound.binding.at;
+    let at = bound.binding.at;
     let is_second = bind_first(table, alloc, name, bound.binding)?;
-    let second = BlockFault {
-        file,
-        offset,
-        rule: BlockRule::B1,
-    };
-    add_fault_if(faults, is_second, second)?;
+    add_fault_if(faults, is_second, file, at, BlockRule::B1)?;
     let is_hidden = find(names, name).is_some();
-    let hidden = BlockFault {
-        file,
-        offset,
-        rule: BlockRule::B2,
-    };
-    add_fault_if(faults, is_hidden, hidden)
+    add_fault_if(faults, is_hidden, file, at, BlockRule::B2)
 }
 
 /// What the imports of a file bind: of several bindings of one name the first. Adds the faults in it. The
@@ -135,7 +121,11 @@ fn file_block(
     let all = bindings(alloc, imports)?;
     let mut table = IndexMap::new(alloc);
     for bound in &all {
-        add_bound(&mut table, alloc, names, file, bound, faults)?;
+        let Ok(()) = add_bound(&mut table, alloc, names, file, bound, faults) else {
+            // By name: the drop of a table is then one call.
+            drop(table);
+            return Err(AllocError);
+        };
     }
     Ok(table)
 }
@@ -153,20 +143,9 @@ pub(crate) fn file_blocks(
     let mut tables = Vec::new(alloc);
     for imports in files {
         let table = file_block(alloc, names, tables.len(), imports, faults)?;
-        add_table(&mut tables, table)?;
+        append(&mut tables, table)?;
     }
     Ok(tables)
-}
-
-/// Adds a table.
-fn add_table(
-    tables: &mut Vec<IndexMap<String, Binding>>,
-    table: IndexMap<String, Binding>,
-) -> Result<(), AllocError>
-    ensures { OnOk result (tables.new.items ≡ tables.old.items ++ table ∷ []) }
-{
-    tables.push(table)?;
-    Ok(())
 }
 
 /// Adds a name with its declaration.
@@ -182,8 +161,7 @@ fn add_name(
         name: Name::from_text(alloc, name)?,
         decl,
     };
-    names.push(named)?;
-    Ok(())
+    append(names, named)
 }
 
 /// The names of a table with their declarations, in order.

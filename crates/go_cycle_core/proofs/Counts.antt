@@ -76,5 +76,5 @@ counts_push g n ranks new i r len eq all here v lt =
           let P : ℕ → Type 0 = λ k. IsReachCount g n v k in subst P (sym e) (all v (omega arith)))
     ])
 
-pub len_push : (ranks new : List ℕ) (i r : ℕ) → length ranks ≡ i → new ≡ ranks ++ r ∷ [] → length new ≡ i + 1
-len_push ranks new i r len eq = (let e : length new ≡ length (ranks ++ r ∷ []) = ap length eq in omega (arith, e, length-append ranks (r ∷ [])))
+pub len_push : {A : Type 0} (items new : List A) (i : ℕ) (item : A) → length items ≡ i → new ≡ items ++ item ∷ [] → length new ≡ i + 1
+len_push items new i item len eq = (let e : length new ≡ length (items ++ item ∷ []) = ap length eq in omega (arith, e, length-append items (item ∷ [])))

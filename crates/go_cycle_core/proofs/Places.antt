@@ -6,7 +6,7 @@ use Rattle.std.proofs.lemmas.List.{get_or-set_other, get_or-set_same, get_or-map
 use Rattle.std.proofs.lemmas.List.Elements.{Contains-get_or, Contains-append_left, Contains-push, Contains-push_cases, filter-append}
 use Rattle.std.proofs.lemmas.Bool.{cases_eq, cond-true, cond-false, eq-eqb, ne_eqb}
 use Rattle.go_cycle_core.specs.declared.edge.Edge.{Edge}
-use Rattle.go_cycle_core.specs.Search.{edge_at, row_at, AreRows}
+use Rattle.go_cycle_core.specs.Search.{edge_at, row_at, AreEmpty, AreRows}
 
 pub edge_there : (g : List Edge) (k : ℕ) → k < length g → Contains g (edge_at g k)
 edge_there g k lt = Contains-get_or g k (record { from = 0; to = 0 }) lt
@@ -80,6 +80,19 @@ in_row g rows are v k = (let P : List ℕ → Type 0 = λ l. AreIn g v (length g
 
 pub row_in_range : (g : List Edge) (rows : List (Vec ℕ Global)) (v : ℕ) → AreRows g rows → All (λ k. k < length g) (row_at rows v)
 row_in_range g rows v are k d lt = ((in_row g rows are v (get_or (row_at rows v) k d)).0 (Contains-get_or (row_at rows v) k d lt)).0
+
+-- rows with an empty one more
+push_empty : (rows : List (Vec ℕ Global)) (row : Vec ℕ Global) (v : ℕ) → row.items ≡ [] → row_at rows v ≡ [] → row_at (rows ++ row ∷ []) v ≡ []
+push_empty [] row zero e h = e
+push_empty [] row (suc v) e h = h
+push_empty (r ∷ rows) row zero e h = h
+push_empty (r ∷ rows) row (suc v) e h = push_empty rows row v e h
+
+pub empty_more : (rows new : List (Vec ℕ Global)) (row : Vec ℕ Global) → new ≡ rows ++ row ∷ [] → row.items ≡ [] → AreEmpty rows → AreEmpty new
+empty_more rows new row pushed e h v = ap (λ l. row_at l v) pushed ∙ push_empty rows row v e (h v)
+
+pub none_empty : (rows : List (Vec ℕ Global)) → rows ≡ [] → AreEmpty rows
+none_empty rows e v = ap (λ l. row_at l v) e
 
 -- rows, as far as the edges below a place have been put into them
 abbrev pub AreRowsTo : List Edge → ℕ → List (Vec ℕ Global) → Type 0

@@ -71,9 +71,12 @@ fn all_hold(edges: &[Edge], ranks: &[usize], roots: &[usize], out: &[bool], back
     requires back { length back.now ≡ length ranks.now }
     ensures { IsTrue result ↔ All (Holds ranks.now roots.now out.now back.now) edges.now }
 {
-    edges
-        .iter()
-        .all(|edge| holds_at(*edge, ranks, roots, out, back))
+    for edge in edges {
+        if !holds_at(*edge, ranks, roots, out, back) {
+            return false;
+        }
+    }
+    true
 }
 
 /// Whether the roots and places of a guess show that its ranks are right.

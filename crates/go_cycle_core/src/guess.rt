@@ -1,5 +1,5 @@
 //! A guess at the strongly connected components, in linear time. Nothing rests on it: `certify` checks it.
-ghost use Rattle.std.specs.Prelude.{◌≡◌, ◌↔◌, ◌++◌, IfOk, OnOk, IsTrue, true, false, length, map, slice_index, slice_index_or, slice_set};
+ghost use Rattle.std.specs.Prelude.{◌≡◌, ◌↔◌, IfOk, IsTrue, true, false, length, slice_index_or, slice_set};
 ghost use Rattle.go_cycle_core.specs.Cycle.{InRange};
 ghost use Rattle.go_cycle_core.specs.Search.{edge_at};
 
@@ -20,36 +20,19 @@ pub struct Guess {
     pub back: Vec<usize>,
 }
 
-// What a search does next: it enters a node, or leaves one with all that it leads to.
-#[derive(Clone, Copy)]
-enum Step {
-    Enter(usize),
-    Leave(usize),
+fn is_free(free: &[bool], node: usize) -> bool
+    ensures { result ≡ slice_index_or free.now node false }
+{
+    node < free.len() && free[node]
 }
 
-// The item at an index, 0 past the end.
-fn at(items: &[usize], index: usize) -> usize
-    ensures { result ≡ slice_index items.now index }
+// Enters a node, and answers whether it was free.
+fn take(free: &mut [bool], node: usize) -> bool
+    ensures set { free.new ≡ slice_set free.old node false }
+    ensures was { IsTrue result ↔ (slice_index_or free.old node false ≡ true) }
 {
-    if index < items.len() { items[index] } else { 0 }
-}
-
-// Writes an item, but not past the end.
-fn put(items: &mut [usize], index: usize, item: usize)
-    ensures { items.new ≡ slice_set items.old index item }
-{
-    if index < items.len() {
-        items[index] = item;
-    }
-}
-
-// Sets a mark, and answers whether it is new.
-fn mark(marks: &mut [bool], index: usize) -> bool
-    ensures set { marks.new ≡ slice_set marks.old index true }
-    ensures new { IsTrue result ↔ (slice_index_or marks.old index true ≡ false) }
-{
-    if index < marks.len() && !marks[index] {
-        marks[index] = true;
+    if node < free.len() && free[node] {
+        free[node] = false;
         true
     } else {
         false
@@ -67,103 +50,148 @@ fn end_at(edges: &[Edge], place: usize) -> usize
     }
 }
 
-// Stacks the ends of the edges at these places.
-fn enter_row(edges: &[Edge], row: &[usize], stack: &mut Vec<Step>) -> Result<(), AllocError>
-    ensures { OnOk result (stack.new.items ≡ stack.old.items ++ map (λ k. Step.Enter (edge_at edges.now k).to) row.now) }
+// Writes an item, but not past the end.
+fn put(items: &mut [usize], index: usize, item: usize)
+    ensures { items.new ≡ slice_set items.old index item }
 {
-    for place in row {
-        stack.push(Step::Enter(end_at(edges, *place)))?;
+    if index < items.len() {
+        items[index] = item;
     }
-    Ok(())
 }
 
-// The nodes in the order in which a search in depth leaves them. Each node is left once, and entered once for itself
-// and once for each edge to it.
-fn left_order(
-    alloc: Global,
-    edges: &[Edge],
-    rows: &[Vec<usize>],
-) -> Result<Vec<usize>, AllocError> {
-    let count = rows.len();
-    let mut seen = vec![in alloc; false; count]?;
-    let mut order = Vec::with_capacity(alloc, count)?;
-    let mut stack = Vec::with_capacity(alloc, count)?;
-    for node in 0..count {
-        stack.push(Step::Enter(node))?;
+// What a search does next: it follows the edge at a place, or leaves a node with all that it leads to.
+#[derive(Clone, Copy)]
+enum Step {
+    Follow(usize),
+    Leave(usize),
+}
+
+// A search in depth. It enters each node once.
+#[derive(Drop)]
+struct Search<'a> {
+    edges: &'a [Edge],
+    rows: &'a [Vec<usize>],
+    // Which nodes it has not entered.
+    free: Vec<bool>,
+    stack: Vec<Step>,
+    // The places of the edges along which it entered nodes, in turn.
+    places: Vec<usize>,
+    // The nodes that it left, in turn.
+    left: Vec<usize>,
+}
+
+impl<'a> Search<'a> {
+    fn new(
+        alloc: Global,
+        edges: &'a [Edge],
+        rows: &'a [Vec<usize>],
+    ) -> Result<Search<'a>, AllocError> {
+        let free = vec![in alloc; true; rows.len()]?;
+        Ok(Search {
+            edges,
+            rows,
+            free,
+            stack: Vec::new(alloc),
+            places: Vec::new(alloc),
+            left: Vec::new(alloc),
+        })
     }
-    let steps = edges.len().saturating_add(count).saturating_add(count);
-    for _ in 0..steps {
-        match stack.pop() {
-            Some(Step::Enter(node)) => {
-                if mark(&mut seen, node) {
-                    stack.push(Step::Leave(node))?;
-                    enter_row(edges, row_of(rows, node), &mut stack)?;
+
+    // Stacks the steps from a node that was entered: along the edges to free nodes.
+    fn stack_steps(&mut self, node: usize) -> Result<(), AllocError> {
+        self.stack.push(Step::Leave(node))?;
+        for place in row_of(self.rows, node) {
+            if is_free(&self.free, end_at(self.edges, *place)) {
+                self.stack.push(Step::Follow(*place))?;
+            }
+        }
+        Ok(())
+    }
+
+    fn take_step(&mut self, step: Step) -> Result<(), AllocError> {
+        match step {
+            Step::Follow(place) => {
+                let node = end_at(self.edges, place);
+                if take(&mut self.free, node) {
+                    self.places.push(place)?;
+                    self.stack_steps(node)?;
                 }
             }
-            Some(Step::Leave(node)) => order.push(node)?,
-            None => break,
+            Step::Leave(node) => self.left.push(node)?,
         }
+        Ok(())
     }
-    Ok(order)
+
+    // Enters a node that is free and the free nodes that it leads to.
+    fn descend(&mut self, start: usize) -> Result<(), AllocError> {
+        if take(&mut self.free, start) {
+            self.stack_steps(start)?;
+        }
+        let steps = self.edges.len().saturating_add(self.rows.len());
+        for _ in 0..steps {
+            let Some(step) = self.stack.pop() else {
+                break;
+            };
+            self.take_step(step)?;
+        }
+        Ok(())
+    }
 }
 
-// Takes the nodes that a root leads to, among those that are not seen yet, as its component.
-fn take_component(
+// The nodes, those that a search against the edges leaves last first, and the places of the edges against which it
+// entered them. Of each component it leaves the node last that it entered first.
+fn search_back(
     alloc: Global,
     edges: &[Edge],
-    rows: &[Vec<usize>],
-    seen: &mut [bool],
-    guess: &mut Guess,
-    root: usize,
-    rank: usize,
-) -> Result<(), AllocError>
-    ensures ranks { length guess.new.ranks.items ≡ length guess.old.ranks.items }
-    ensures roots { length guess.new.roots.items ≡ length guess.old.roots.items }
+    count: usize,
+) -> Result<(Vec<usize>, Vec<usize>), AllocError>
+    requires { InRange count edges.now }
 {
-    let mut stack = vec![in alloc; root]?;
-    for _ in 0..rows.len() {
-        let Some(node) = stack.pop() else {
-            break;
-        };
-        put(&mut guess.ranks, node, rank);
-        put(&mut guess.roots, node, root);
-        for place in row_of(rows, node) {
-            let end = end_at(edges, *place);
-            if mark(seen, end) {
-                guess.out.push(*place)?;
-                stack.push(end)?;
-            }
-        }
+    let back_edges = reversed_edges(alloc, edges)?;
+    let back_rows = rows_of(alloc, &back_edges, count)?;
+    let mut search = Search::new(alloc, &back_edges, &back_rows)?;
+    for turn in 0..count {
+        search.descend(count - 1 - turn)?;
+    }
+    search.left.reverse();
+    Ok((search.left, search.places))
+}
+
+// Takes what a root leads to, among the nodes that are free, as its component.
+fn take_component(
+    search: &mut Search<'_>,
+    ranks: &mut [usize],
+    roots: &mut [usize],
+    rank: usize,
+    root: usize,
+) -> Result<(), AllocError> {
+    let first = search.left.len();
+    search.descend(root)?;
+    for turn in first..search.left.len() {
+        let node = search.left[turn];
+        put(ranks, node, rank);
+        put(roots, node, root);
     }
     Ok(())
 }
 
-// Finds how the nodes of a component lead to its root.
-fn lead_back(
+// Takes the components of the nodes in this order, and answers the places of the edges along which it entered their
+// nodes.
+fn search_out(
     alloc: Global,
-    back_edges: &[Edge],
-    back_rows: &[Vec<usize>],
-    seen: &mut [bool],
-    guess: &mut Guess,
-    root: usize,
-) -> Result<(), AllocError>
-    ensures ranks { length guess.new.ranks.items ≡ length guess.old.ranks.items }
-    ensures roots { length guess.new.roots.items ≡ length guess.old.roots.items }
+    edges: &[Edge],
+    order: &[usize],
+    ranks: &mut [usize],
+    roots: &mut [usize],
+) -> Result<Vec<usize>, AllocError>
+    requires { InRange (length ranks.old) edges.now }
 {
-    let mut stack = vec![in alloc; root]?;
-    for _ in 0..back_rows.len() {
-        let Some(node) = stack.pop() else {
-            break;
-        };
-        for place in row_of(back_rows, node) {
-            let start = end_at(back_edges, *place);
-            if at(&guess.roots, start) == root && mark(seen, start) {
-                guess.back.push(*place)?;
-                stack.push(start)?;
-            }
-        }
+    let rows = rows_of(alloc, edges, ranks.len())?;
+    let mut search = Search::new(alloc, edges, &rows)?;
+    for (rank, root) in order.iter().enumerate() {
+        take_component(&mut search, ranks, roots, rank, *root)?;
     }
-    Ok(())
+    Ok(search.places)
 }
 
 /// Guesses ranks: the strongly connected components in an order in which no edge leads to a later one.
@@ -172,25 +200,14 @@ pub fn guess_components(alloc: Global, edges: &[Edge], count: usize) -> Result<G
     ensures ranks { IfOk result (λ guess. length guess.ranks.items ≡ count) }
     ensures roots { IfOk result (λ guess. length guess.roots.items ≡ count) }
 {
-    let rows = rows_of(alloc, edges, count)?;
-    let back_edges = reversed_edges(alloc, edges)?;
-    let back_rows = rows_of(alloc, &back_edges, count)?;
-    let mut order = left_order(alloc, &back_edges, &back_rows)?;
-    order.reverse();
-    let mut guess = Guess {
-        ranks: vec![in alloc; 0; count]?,
-        roots: vec![in alloc; 0; count]?,
-        out: Vec::new(alloc),
-        back: Vec::new(alloc),
-    };
-    let mut seen = vec![in alloc; false; count]?;
-    let mut led = vec![in alloc; false; count]?;
-    for (rank, root) in order.iter().enumerate() {
-        if mark(&mut seen, *root) {
-            take_component(alloc, edges, &rows, &mut seen, &mut guess, *root, rank)?;
-            mark(&mut led, *root);
-            lead_back(alloc, &back_edges, &back_rows, &mut led, &mut guess, *root)?;
-        }
-    }
-    Ok(guess)
+    let (order, back) = search_back(alloc, edges, count)?;
+    let mut ranks = vec![in alloc; 0; count]?;
+    let mut roots = vec![in alloc; 0; count]?;
+    let out = search_out(alloc, edges, &order, &mut ranks, &mut roots)?;
+    Ok(Guess {
+        ranks,
+        roots,
+        out,
+        back,
+    })
 }

@@ -1,5 +1,5 @@
 //! Ranks by what each node reaches.
-ghost use Rattle.std.specs.Prelude.{◌≡◌, ◌<◌, ℕ, All, IfOk, OnOk, length, slice_index_or, false};
+ghost use Rattle.std.specs.Prelude.{◌≡◌, ◌<◌, ℕ, All, IfOk, OnOk, count_by, length, slice_index_or, false};
 ghost use Rattle.go_cycle_core.specs.Cycle.{InRange, IsRanking};
 ghost use Rattle.go_cycle_core.specs.Search.{AreRows, IsReach, IsReachCount, IsVisited, MarksRow};
 
@@ -59,6 +59,19 @@ fn mark_reached(
     Ok(())
 }
 
+// How many marks stand.
+fn count_marks(marks: &[bool]) -> usize
+    ensures { result ≡ count_by (λ m. m) marks.now }
+{
+    let mut count = 0;
+    for mark in marks {
+        if *mark {
+            count += 1;
+        }
+    }
+    count
+}
+
 // How many nodes a node reaches.
 fn reached_count(
     alloc: Global,
@@ -73,7 +86,7 @@ fn reached_count(
 {
     let mut marks = vec![in alloc; false; rows.len()]?;
     mark_reached(alloc, edges, rows, &mut marks, start)?;
-    Ok(marks.iter().filter(|mark| **mark).count())
+    Ok(count_marks(&marks))
 }
 
 /// Ranks each node by how many it reaches.

@@ -1,6 +1,7 @@
 pub mod Additions
 pub mod Assemblies
 pub mod AssemblyLaws
+pub mod Faults
 pub mod Keeping
 pub mod Numbers
 pub mod OneTarget

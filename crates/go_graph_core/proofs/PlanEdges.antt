@@ -2,6 +2,7 @@
 use Rattle.std.proofs.Common.{◌≡◌, ℕ, ◌<◌, ◌+◌, inl, inr, List, [], ◌∷◌, ◌++◌, length, get_or, take, Some, slice_get, All, Vec, refl, sym, ◌∙◌, ap, subst, arith, zero, suc}
 use Rattle.std.specs.List.{Contains, flat_map, AllZip}
 use Rattle.std.proofs.lemmas.List.{take_more, length-take, append_assoc, append-nil}
+use Rattle.std.proofs.lemmas.Grind.{flat_map-append}
 use Rattle.std.proofs.lemmas.List.Elements.{Contains-append_left, Contains-append_right, Contains-append_cases, Contains-push_cases, Contains-get_or, All-weaker}
 use Rattle.std.proofs.lemmas.Option.{slice_get_within}
 use Rattle.go_cycle_core.specs.declared.edge.Edge.{Edge}
@@ -36,6 +37,15 @@ edges_more {S} xs i x lt at =
     let more : take (i + 1) xs ≡ take i xs ++ x ∷ [] = take_more xs i x lt ∙ ap (λ (z : Targets S). take i xs ++ z ∷ []) (sym at) in
     let n : 0 + length (take i xs) ≡ i = omega (arith, length-take i xs) in
     ap (edges_from 0) more ∙ (edges_append 0 (take i xs) x ∙ ap (λ m. edges_from 0 (take i xs) ++ package_edges m x.items) n)
+
+-- the edges of one more file
+pub file_edges_more : {S : Type 0} (from : ℕ) (fs : List (Files S)) (i : ℕ) (f : Files S) (start old new : List Edge) → i < length fs → f ≡ get_or fs i f → old ≡ start ++ package_edges from (take i fs) → new ≡ old ++ flat_map (edge_of from) f.items → new ≡ start ++ package_edges from (take (i + 1) fs)
+file_edges_more {S} from fs i f start old new lt at before e =
+    let more : take (i + 1) fs ≡ take i fs ++ f ∷ [] = take_more fs i f lt ∙ ap (λ (z : Files S). take i fs ++ z ∷ []) (sym at) in
+    let here : List Edge = flat_map (edge_of from) f.items in
+    let all : package_edges from (take (i + 1) fs) ≡ package_edges from (take i fs) ++ here =
+    ap (package_edges from) more ∙ (flat_map-append (λ (os : Files S). flat_map (edge_of from) os.items) (take i fs) (f ∷ []) ∙ ap (λ l. package_edges from (take i fs) ++ l) (append-nil here)) in
+    e ∙ (ap (λ (l : List Edge). l ++ here) before ∙ (append_assoc start (package_edges from (take i fs)) here ∙ ap (λ (l : List Edge). start ++ l) (sym all)))
 
 in_flat : {A B : Type 0} (g : A → List B) (xs : List A) (i : ℕ) (x : A) (y : B) → slice_get xs i ≡ Some x → Contains (g x) y → Contains (flat_map g xs) y
 in_flat g [] i x y e h = cc

@@ -1,12 +1,12 @@
 -- The order of a plan: the assembled packages, each once, behind those that its imports come to.
-use Rattle.std.proofs.Common.{◌≡◌, ◌≢◌, ℕ, ◌<◌, ◌↔◌, ◌⊎◌, inl, inr, Bool, true, false, cond, eqb, nat_eq, List, [], ◌∷◌, length, get_or, slice_index, Option, Some, None, slice_get, refl, sym, ◌∙◌, ap, subst, arith}
+use Rattle.std.proofs.Common.{◌≡◌, ◌≢◌, ℕ, ◌<◌, ◌+◌, ◌↔◌, ◌⊎◌, inl, inr, Bool, true, false, cond, eqb, nat_eq, List, [], ◌∷◌, ◌++◌, length, get_or, take, slice_index, Option, Some, None, slice_get, refl, sym, ◌∙◌, ap, subst, arith}
 use Rattle.std.specs.List.{Contains, filter, AllPairs, IsDistinct, range_with_len}
 use Rattle.std.specs.List.Sorted.{IsPermutation}
 use Rattle.std.proofs.lemmas.Bool.{cases_lt, ne_eqb}
 use Rattle.std.proofs.lemmas.Bool.Decides.{Decides-eqb}
 use Rattle.std.proofs.lemmas.Cmp.{nat_eq_equiv}
-use Rattle.std.proofs.lemmas.List.{get_or_default}
-use Rattle.std.proofs.lemmas.List.Elements.{All-contains, filter_passes, Contains-append_right, Contains-append_cases, Contains-push_cases}
+use Rattle.std.proofs.lemmas.List.{get_or_default, take_more, append-nil}
+use Rattle.std.proofs.lemmas.List.Elements.{All-contains, filter-append, filter_passes, Contains-append_right, Contains-append_cases, Contains-push_cases}
 use Rattle.std.proofs.lemmas.List.FromFn.{length-range_with_len, get_or-range_with_len}
 use Rattle.std.proofs.lemmas.List.Kept.{AllPairs-filter}
 use Rattle.std.proofs.lemmas.List.Sorted.{Contains-permutation}
@@ -113,3 +113,16 @@ order_after edges numbers p e after there off j k lj lk at_from at_to =
             absurd (off (inl loop))
       ]
     ]
+
+-- what a filter keeps of one number more: that number where it passes, and nothing more where it does not
+pub kept_more : {A : Type 0} (p : A → Bool) (xs : List A) (i : ℕ) (d : A) (old new : List A) → i < length xs → p (get_or xs i d) ≡ true → old ≡ filter p (take i xs) → new ≡ old ++ get_or xs i d ∷ [] → new ≡ filter p (take (i + 1) xs)
+kept_more {A} p xs i d old new lt passes before e =
+    e ∙ (ap (λ (l : List A). l ++ get_or xs i d ∷ []) before
+    ∙ sym (ap (filter p) (take_more xs i d lt)
+    ∙ (filter-append p (take i xs) (get_or xs i d ∷ []) ∙ ap (λ b. filter p (take i xs) ++ cond b (get_or xs i d ∷ []) []) passes)))
+
+pub passed_more : {A : Type 0} (p : A → Bool) (xs : List A) (i : ℕ) (d : A) (old : List A) → i < length xs → p (get_or xs i d) ≡ false → old ≡ filter p (take i xs) → old ≡ filter p (take (i + 1) xs)
+passed_more {A} p xs i d old lt fails before =
+    before
+    ∙ sym (ap (filter p) (take_more xs i d lt)
+    ∙ (filter-append p (take i xs) (get_or xs i d ∷ []) ∙ (ap (λ b. filter p (take i xs) ++ cond b (get_or xs i d ∷ []) []) fails ∙ append-nil (filter p (take i xs)))))

@@ -1,7 +1,7 @@
 -- Lists of which the items at each place are partners.
-use Rattle.std.proofs.Common.{◌≡◌, ℕ, ◌<◌, ◌+◌, List, [], ◌∷◌, ◌++◌, length, get_or, take, Some, slice_get, refl, sym, ◌∙◌, ap, subst, arith, zero, suc}
+use Rattle.std.proofs.Common.{◌≡◌, ◌≢◌, ℕ, ◌<◌, ◌≤◌, ◌+◌, set, List, [], ◌∷◌, ◌++◌, length, get_or, take, Some, slice_get, refl, sym, ◌∙◌, ap, subst, arith, zero, suc}
 use Rattle.std.specs.List.{AllZip}
-use Rattle.std.proofs.lemmas.List.{take_more, length-take}
+use Rattle.std.proofs.lemmas.List.{get_or_default, take_more, take_more_set, take_all, length-take, length-set, get_or-set_other}
 use Rattle.go_graph_core.specs.Targets.{AllNumbered}
 
 pub zip_append : {A B : Type 0} (R : A → B → Type 0) (xs more : List A) (ys others : List B) → AllZip R xs ys → AllZip R more others → AllZip R (xs ++ more) (ys ++ others)
@@ -19,6 +19,11 @@ zip_more {A} {B} R xs ys i x y lt at h r =
 -- the same at a place where another item stands for a missing one
 pub zip_more_at : {A B : Type 0} (R : A → B → Type 0) (xs : List A) (ys : List B) (i : ℕ) (d : A) (y : B) → i < length xs → AllZip R (take i xs) ys → R (get_or xs i d) y → AllZip R (take (i + 1) xs) (ys ++ y ∷ [])
 zip_more_at {A} {B} R xs ys i d y lt h r = subst (λ (l : List A). AllZip R l (ys ++ y ∷ [])) (sym (take_more xs i d lt)) (zip_append R (take i xs) (get_or xs i d ∷ []) ys (y ∷ []) h (r, tt))
+
+-- one more copy, of the item at a place
+pub copied_more : {A : Type 0} (xs : List A) (i : ℕ) (x y : A) (old new : List A) → i < length xs → x ≡ get_or xs i x → old ≡ take i xs → y ≡ x → new ≡ old ++ y ∷ [] → new ≡ take (i + 1) xs
+copied_more {A} xs i x y old new lt at before same e =
+    e ∙ (ap (λ (l : List A). l ++ y ∷ []) before ∙ (ap (λ (z : A). take i xs ++ z ∷ []) (same ∙ at) ∙ sym (take_more xs i x lt)))
 
 -- the partner at a place
 pub zip_at : {A B : Type 0} (R : A → B → Type 0) (xs : List A) (ys : List B) (i : ℕ) (x : A) → AllZip R xs ys → slice_get xs i ≡ Some x → (y : B) × (slice_get ys i ≡ Some y) × R x y
@@ -75,3 +80,43 @@ numbered_length R k [] [] h = refl
 numbered_length R k [] (y ∷ ys) h = absurd h
 numbered_length R k (x ∷ xs) [] h = absurd h
 numbered_length R k (x ∷ xs) (y ∷ ys) h = ap suc (numbered_length R (suc k) xs ys h.1)
+
+-- the items before this number have been made to partners of the old ones, and the others are the old ones
+abbrev pub ZipSoFar : {A : Type 0} → (A → A → Type 0) → List A → List A → ℕ → Type 0
+ZipSoFar {A} R old new i = (length new ≡ length old) × AllZip R (take i old) (take i new) × ((k : ℕ) (d : A) → i ≤ k → get_or new k d ≡ get_or old k d)
+
+abbrev pub NumberedSoFar : {A : Type 0} → (ℕ → A → A → Type 0) → List A → List A → ℕ → Type 0
+NumberedSoFar {A} R old new i = (length new ≡ length old) × AllNumbered R 0 (take i old) (take i new) × ((k : ℕ) (d : A) → i ≤ k → get_or new k d ≡ get_or old k d)
+
+others_stay : {A : Type 0} (old new : List A) (i : ℕ) (y : A) → ((k : ℕ) (d : A) → i ≤ k → get_or new k d ≡ get_or old k d) → (k : ℕ) (d : A) → i + 1 ≤ k → get_or (set new i y) k d ≡ get_or old k d
+others_stay old new i y rest k d up =
+    let other : k ≢ i = omega arith in
+    let behind : i ≤ k = omega arith in
+    get_or-set_other new i k y d other ∙ rest k d behind
+
+pub one_more_so_far : {A : Type 0} (R : A → A → Type 0) (old new : List A) (i : ℕ) (d y : A) → i < length old → ZipSoFar R old new i → R (get_or old i d) y → ZipSoFar R old (set new i y) (i + 1)
+one_more_so_far {A} R old new i d y lt h r =
+    let here : i < length new = omega (arith, lt, h.0) in (
+      length-set new i y ∙ h.0,
+      subst (λ (l : List A). AllZip R (take (i + 1) old) l) (sym (take_more_set new i y here)) (zip_more_at R old (take i new) i d y lt h.1 r),
+      others_stay old new i y h.2,
+    )
+
+pub one_more_numbered : {A : Type 0} (R : ℕ → A → A → Type 0) (old new : List A) (i : ℕ) (d y : A) → i < length old → NumberedSoFar R old new i → R i (get_or old i d) y → NumberedSoFar R old (set new i y) (i + 1)
+one_more_numbered {A} R old new i d y lt h r =
+    let here : i < length new = omega (arith, lt, h.0) in (
+      length-set new i y ∙ h.0,
+      subst (λ (l : List A). AllNumbered R 0 (take (i + 1) old) l) (sym (take_more_set new i y here)) (numbered_more R old (take i new) i (get_or old i d) y lt (get_or_default old i d (get_or old i d) lt) h.1 r),
+      others_stay old new i y h.2,
+    )
+
+-- all of them
+pub all_so_far : {A : Type 0} (R : A → A → Type 0) (old new : List A) (i : ℕ) → length old ≤ i → ZipSoFar R old new i → AllZip R old new
+all_so_far {A} R old new i end h =
+    let all : length new ≤ i = omega (arith, end, h.0) in
+    subst (λ (l : List A). AllZip R l new) (take_all i old end) (subst (λ (l : List A). AllZip R (take i old) l) (take_all i new all) h.1)
+
+pub all_numbered_so_far : {A : Type 0} (R : ℕ → A → A → Type 0) (old new : List A) (i : ℕ) → length old ≤ i → NumberedSoFar R old new i → AllNumbered R 0 old new
+all_numbered_so_far {A} R old new i end h =
+    let all : length new ≤ i = omega (arith, end, h.0) in
+    subst (λ (l : List A). AllNumbered R 0 l new) (take_all i old end) (subst (λ (l : List A). AllNumbered R 0 (take i old) l) (take_all i new all) h.1)

@@ -1,4 +1,5 @@
 pub mod Clauses
+pub mod Flaws
 pub mod ImportLaws
 pub mod Imports
 pub mod Packages

@@ -2,8 +2,8 @@
 use Rattle.std.specs.Prelude.{◌≡◌, ◌≢◌, ◌<◌, ◌⊎◌, ℕ, List, [], ◌∷◌, length, Result, Ok, Err, Some, None, All, slice_get, codes}
 use Rattle.std.specs.Coded.{Coded, coded×, coded_list, coded_ℕ}
 use Rattle.go_text_core.specs.declared.rule.Rule.TheVariants.{K2, K3, K4}
-use Rattle.go_tree_core.specs.declared.names.Ident.{Ident}
-use Rattle.go_tree_core.specs.Trees.{FileTree}
+use Rattle.go_tree_nodes.specs.declared.names.Ident.{Ident}
+use Rattle.go_tree_nodes.specs.Trees.{FileTree}
 use Rattle.go_parse_core.specs.declared.error.SynFault.{SynFault}
 use Rattle.go_graph_core.specs.declared.assembly.KFault.{KFault}
 use Rattle.go_graph_core.specs.Sources.{SourceModel, clause_of}

@@ -2,10 +2,10 @@
 use Rattle.std.specs.Prelude.{refl, ℕ, List, Result, Ok, Err, Option, Some, None}
 use Rattle.std.specs.Coded.{Coded, code_by, coded×, coded_list, coded_ℕ, coded_result}
 use denote.Ref.{Bor}
-use Rattle.go_tree_core.specs.declared.files.File.{File}
-use Rattle.go_tree_core.specs.declared.names.Ident.{Ident}
-use Rattle.go_tree_core.specs.Shapes.{file_of}
-use Rattle.go_tree_core.specs.Trees.{FileTree}
+use Rattle.go_tree_nodes.specs.declared.files.File.{File}
+use Rattle.go_tree_nodes.specs.declared.names.Ident.{Ident}
+use Rattle.go_tree_nodes.specs.Shapes.{file_of}
+use Rattle.go_tree_nodes.specs.Trees.{FileTree}
 use Rattle.go_parse_core.specs.declared.error.SynFault.{SynFault}
 use Rattle.go_parse_core.specs.contracts.error.SynFault as syn_fault
 use Rattle.go_parse_core.specs.Correct.{IsSynFault}

@@ -1,12 +1,13 @@
 //! Packages that are assembled from files.
-ghost use Rattle.std.specs.Prelude.{◌≡◌, ◌<◌, length, Some, slice_get, option_map, position};
-ghost use Rattle.go_tree_core.specs.Shapes.{file_of};
-ghost use Rattle.go_graph_core.specs.Clauses.{lacks_clause, is_named, is_other};
+ghost use Rattle.std.specs.Prelude.{◌≡◌, ◌<◌, length, Some, slice_get, option_map};
+ghost use Rattle.go_tree_nodes.specs.Shapes.{file_of};
+ghost use Rattle.go_graph_core.specs.Clauses.{has_name};
+ghost use Rattle.go_graph_core.specs.Flaws.{has_flaw, IsFirstFault};
 ghost use Rattle.go_graph_core.specs.Packages.{IsAssembly, IsPackageName, IsAssembled, trees_of};
 
 use crate::source::SourceFile;
 use go_text_core::Rule;
-use go_tree_core::File;
+use go_tree_nodes::{File, Ident};
 use std::marker::Model;
 
 /// Why files are no package.
@@ -83,25 +84,53 @@ impl<'a> Package<'a> {
     }
 }
 
-/// The first file without a tree.
-fn without_tree(files: &[SourceFile]) -> Option<usize>
-    ensures { result ≡ position lacks_clause files.now }
-{
-    files.iter().position(|file| file.clause().is_none())
+/// What may be wrong with the package clause of a file.
+#[derive(Clone, Copy)]
+enum Flaw<'a> {
+    /// There is none, since the file has no tree.
+    Missing,
+    /// Its name is this one.
+    Named(&'a str),
+    /// Its name is another than this.
+    NotNamed(&'a str),
 }
 
-/// The first file of this name.
-fn named(files: &[SourceFile], name: &str) -> Option<usize>
-    ensures { result ≡ position (is_named name.now) files.now }
+/// Whether a package clause has a flaw.
+fn has_flaw(clause: Option<&Ident>, flaw: Flaw<'_>) -> bool
+    ensures { result ≡ has_flaw flaw.entry (option_map (λ id. id.now) clause.entry) }
 {
-    files.iter().position(|file| file.is_named(name))
+    match flaw {
+        Flaw::Missing => clause.is_none(),
+        Flaw::Named(name) => is_named(clause, name),
+        Flaw::NotNamed(name) => !is_named(clause, name),
+    }
 }
 
-/// The first file of another name than this.
-fn named_otherwise(files: &[SourceFile], name: &str) -> Option<usize>
-    ensures { result ≡ position (is_other name.now) files.now }
+/// Whether there is a package clause, of this name.
+fn is_named(clause: Option<&Ident>, name: &str) -> bool
+    ensures { result ≡ has_name name.now (option_map (λ id. id.now) clause.entry) }
 {
-    files.iter().position(|file| !file.is_named(name))
+    match clause {
+        Some(clause) => clause.name.as_str() == name,
+        None => false,
+    }
+}
+
+/// The first file whose package clause has a flaw, as a fault by a rule.
+fn first_fault(files: &[SourceFile], flaw: Flaw<'_>, rule: Rule) -> Option<KFault>
+    ensures { IsFirstFault files.now flaw.entry rule result }
+{
+    for (file, source) in files.iter().enumerate() {
+        let clause = source.clause();
+        if has_flaw(clause, flaw) {
+            let offset = match clause {
+                Some(name) => name.span.start,
+                None => 0,
+            };
+            return Some(KFault { rule, file, offset });
+        }
+    }
+    None
 }
 
 /// Assembles a package from its files.
@@ -121,29 +150,17 @@ pub fn assemble(files: &[SourceFile]) -> Result<Package<'_>, KFault>
     requires { 0 < length files.now }
     ensures { IsAssembly files.now result }
 {
-    if let Some(file) = without_tree(files) {
-        return Err(KFault {
-            rule: Rule::K4,
-            file,
-            offset: 0,
-        });
+    if let Some(fault) = first_fault(files, Flaw::Missing, Rule::K4) {
+        return Err(fault);
     }
-    if let Some(file) = named(files, "_") {
-        return Err(KFault {
-            rule: Rule::K3,
-            file,
-            offset: files[file].clause_offset(),
-        });
+    if let Some(fault) = first_fault(files, Flaw::Named("_"), Rule::K3) {
+        return Err(fault);
     }
     let Some(clause) = files[0].clause() else {
         unreachable!()
     };
-    if let Some(file) = named_otherwise(files, clause.name.as_str()) {
-        return Err(KFault {
-            rule: Rule::K2,
-            file,
-            offset: files[file].clause_offset(),
-        });
+    if let Some(fault) = first_fault(files, Flaw::NotNamed(clause.name.as_str()), Rule::K2) {
+        return Err(fault);
     }
     Ok(Package { files })
 }

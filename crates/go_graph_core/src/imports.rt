@@ -1,10 +1,9 @@
 //! Imports, and the packages that they name.
-ghost use Rattle.std.specs.Prelude.{IfOk, OnOk, MatchOption, map};
+ghost use Rattle.std.specs.Prelude.{IfOk, OnOk};
 ghost use Rattle.std.specs.List.{AllZip};
-ghost use Rattle.go_tree_core.specs.Shapes.{import_of, shape_import_specs};
+ghost use Rattle.go_tree_nodes.specs.Shapes.{shape_import_specs};
 ghost use Rattle.go_graph_core.specs.Workspaces.{IsWorkspace};
-ghost use Rattle.go_path_core.specs.Path.{IsPath};
-ghost use Rattle.go_graph_core.specs.Imports.{imports_of, texts_in, texts_of, IsNumber, IsNowhere, IsTarget};
+ghost use Rattle.go_graph_core.specs.Imports.{imports_of, texts_in, IsTarget};
 ghost use Rattle.go_graph_core.specs.Targets.{IsStanding, HaveStandings, Adds, AreTargets, ArePackageTargets};
 
 use crate::assembly::assemble;
@@ -12,7 +11,7 @@ use crate::source::SourceFile;
 use crate::workspace::{PackageSource, place};
 use go_path_core::{ImportPath, may_import};
 use go_text_core::Rule;
-use go_tree_core::{ImportDecl, ImportSpecs};
+use go_tree_nodes::ImportSpecs;
 use std::alloc::{AllocError, Global};
 use std::str;
 
@@ -37,7 +36,7 @@ pub enum ImportOutcome {
 }
 
 /// What a package is to those that import it.
-#[derive(Clone, Copy, Debug, PartialEq, Eq)]
+#[derive(Clone, Copy)]
 pub(crate) enum Standing {
     /// Assembled, and of another name than `main`.
     Library,
@@ -77,15 +76,6 @@ pub(crate) fn standings(
     Ok(standings)
 }
 
-/// The number of the package of a path.
-fn number(packages: &[PackageSource], path: &ImportPath) -> Option<usize>
-    requires { IsWorkspace packages.now }
-    ensures number { MatchOption result (IsNowhere packages.now path.now) (IsNumber packages.now path.now) }
-    ensures path { IsPath path.now }
-{
-    place(packages, path).ok()
-}
-
 /// What an import of a path comes to, cycles left aside.
 fn path_target(
     packages: &[PackageSource],
@@ -97,11 +87,11 @@ fn path_target(
     requires standings { HaveStandings packages.now standings.now }
     ensures { IsTarget packages.now from.now path.now result }
 {
-    let number = number(packages, path);
+    let number = place(packages, path);
     if !may_import(from, path) {
         return ImportOutcome::Refused(Rule::I3);
     }
-    let Some(number) = number else {
+    let Ok(number) = number else {
         return ImportOutcome::Refused(Rule::I2);
     };
     match standings[number] {
@@ -161,32 +151,6 @@ fn add_targets(
     Ok(())
 }
 
-/// What the imports of declarations come to, in order.
-fn declared_targets(
-    alloc: Global,
-    packages: &[PackageSource],
-    standings: &[Standing],
-    from: &ImportPath,
-    imports: &Vec<ImportDecl>,
-) -> Result<Vec<ImportOutcome>, AllocError>
-    requires well { IsWorkspace packages.now }
-    requires standings { HaveStandings packages.now standings.now }
-    ensures { IfOk result (λ targets. AllZip (IsTarget packages.now from.now) (texts_of (map import_of imports.now.items)) targets.items) }
-{
-    let mut targets = Vec::new(alloc);
-    for import in imports {
-        add_targets(
-            &mut targets,
-            alloc,
-            packages,
-            standings,
-            from,
-            &import.specs,
-        )?;
-    }
-    Ok(targets)
-}
-
 /// What the imports of a file come to, in order.
 fn file_targets(
     alloc: Global,
@@ -199,10 +163,21 @@ fn file_targets(
     requires standings { HaveStandings packages.now standings.now }
     ensures { IfOk result (λ targets. AllZip (IsTarget packages.now from.now) (imports_of file.now) targets.items) }
 {
-    match file.tree() {
-        Ok(tree) => declared_targets(alloc, packages, standings, from, &tree.imports),
-        Err(_) => Ok(Vec::new(alloc)),
+    let mut targets = Vec::new(alloc);
+    let Ok(tree) = file.tree() else {
+        return Ok(targets);
+    };
+    for import in &tree.imports {
+        add_targets(
+            &mut targets,
+            alloc,
+            packages,
+            standings,
+            from,
+            &import.specs,
+        )?;
     }
+    Ok(targets)
 }
 
 /// What the imports of a package come to, for each file.

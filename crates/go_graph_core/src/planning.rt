@@ -68,51 +68,31 @@ fn settled(ranked: &Ranked, from: usize, target: ImportOutcome) -> ImportOutcome
     }
 }
 
-/// What the imports of a file come to, where cycles count.
-fn file_outcomes(
-    alloc: Global,
-    ranked: &Ranked,
-    from: usize,
-    targets: &[ImportOutcome],
-) -> Result<Vec<ImportOutcome>, AllocError>
-    ensures { IfOk result (λ outcomes. AllZip (IsSettled ranked.now.ranks from) targets.now outcomes.items) }
+/// Settles what the imports of a file come to, where cycles count.
+fn settle_file(ranked: &Ranked, from: usize, targets: &mut [ImportOutcome])
+    ensures { AllZip (IsSettled ranked.now.ranks from) targets.old targets.new }
 {
-    let mut outcomes = Vec::with_capacity(alloc, targets.len())?;
-    for target in targets {
-        outcomes.push(settled(ranked, from, *target))?;
+    for target in targets.iter_mut() {
+        *target = settled(ranked, from, *target);
     }
-    Ok(outcomes)
 }
 
-/// What the imports of a package come to, where cycles count.
-fn package_outcomes(
-    alloc: Global,
-    ranked: &Ranked,
-    from: usize,
-    files: &[Vec<ImportOutcome>],
-) -> Result<Vec<Vec<ImportOutcome>>, AllocError>
-    ensures { IfOk result (λ outcomes. AreSettled ranked.now.ranks from files.now outcomes.items) }
+/// Settles what the imports of a package come to, where cycles count.
+fn settle_package(ranked: &Ranked, from: usize, files: &mut [Vec<ImportOutcome>])
+    ensures { AreSettled ranked.now.ranks from files.old files.new }
 {
-    let mut outcomes = Vec::with_capacity(alloc, files.len())?;
-    for targets in files {
-        outcomes.push(file_outcomes(alloc, ranked, from, targets)?)?;
+    for targets in files.iter_mut() {
+        settle_file(ranked, from, targets);
     }
-    Ok(outcomes)
 }
 
-/// What all imports come to, where cycles count.
-fn outcomes(
-    alloc: Global,
-    ranked: &Ranked,
-    targets: &[Vec<Vec<ImportOutcome>>],
-) -> Result<Vec<Vec<Vec<ImportOutcome>>>, AllocError>
-    ensures { IfOk result (λ outcomes. AreAllSettled ranked.now.ranks targets.now outcomes.items) }
+/// Settles what all imports come to, where cycles count.
+fn settle(ranked: &Ranked, packages: &mut [Vec<Vec<ImportOutcome>>])
+    ensures { AreAllSettled ranked.now.ranks packages.old packages.new }
 {
-    let mut outcomes = Vec::with_capacity(alloc, targets.len())?;
-    for (from, files) in targets.iter().enumerate() {
-        outcomes.push(package_outcomes(alloc, ranked, from, files)?)?;
+    for from in 0..packages.len() {
+        settle_package(ranked, from, &mut packages[from]);
     }
-    Ok(outcomes)
 }
 
 /// Whether a package is assembled.
@@ -199,10 +179,10 @@ pub fn plan_imports(alloc: Global, workspace: &Workspace) -> Result<Plan, AllocE
 {
     let packages = workspace.packages();
     let standings = standings(alloc, packages)?;
-    let targets = targets(alloc, packages, &standings)?;
-    let edges = edges(alloc, &targets)?;
+    let mut outcomes = targets(alloc, packages, &standings)?;
+    let edges = edges(alloc, &outcomes)?;
     let ranked = rank_and_order(alloc, &edges, packages.len())?;
-    let outcomes = outcomes(alloc, &ranked, &targets)?;
     let order = assembled(alloc, ranked.order(), &standings)?;
+    settle(&ranked, &mut outcomes);
     Ok(Plan { outcomes, order })
 }

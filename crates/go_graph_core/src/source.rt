@@ -1,10 +1,10 @@
 //! Source files.
 ghost use Rattle.std.specs.Prelude.{◌≡◌, IfOk, string_bytes, option_map};
-ghost use Rattle.go_graph_core.specs.Clauses.{is_named, place_in};
 ghost use Rattle.go_graph_core.specs.Sources.{IsContent, IsRead, content_shown, clause_of};
 
 use go_parse_core::{ParseError, SynFault, parse};
-use go_tree_core::{File, Ident};
+use go_tree_core::copy;
+use go_tree_nodes::{File, Ident};
 use std::alloc::{AllocError, Global};
 use std::marker::Model;
 
@@ -41,15 +41,18 @@ impl SourceFile {
         ensures text { IfOk result (λ f. f.text ≡ string_bytes text) }
         ensures content { IfOk result IsRead }
     {
-        let tree = match parse(alloc, String::from_str(alloc, text.as_str())?) {
+        match parse(alloc, String::from_str(alloc, text.as_str())?) {
             Ok(parsed) => {
                 let (_, tree) = parsed.into_parts();
-                Ok(tree)
+                let tree = Ok(tree);
+                Ok(SourceFile { name, text, tree })
             }
-            Err(ParseError::Memory) => return Err(AllocError),
-            Err(ParseError::Fault(fault)) => Err(fault),
-        };
-        Ok(SourceFile { name, text, tree })
+            Err(ParseError::Memory) => Err(AllocError),
+            Err(ParseError::Fault(fault)) => {
+                let tree = Err(fault);
+                Ok(SourceFile { name, text, tree })
+            }
+        }
     }
 
     /// The file's name.
@@ -91,36 +94,21 @@ impl SourceFile {
         }
     }
 
-    /// Whether the name in the file's package clause is this one.
-    pub(crate) fn is_named(&self, name: &str) -> bool
-        ensures { result ≡ is_named name.now self.now }
-    {
-        match self.clause() {
-            Some(clause) => clause.name.as_str() == name,
-            None => false,
-        }
-    }
-
-    /// The offset in bytes of the name in the file's package clause, and 0 without one.
-    pub(crate) fn clause_offset(&self) -> usize
-        ensures { result ≡ place_in (clause_of self.now) }
-    {
-        match self.clause() {
-            Some(clause) => clause.span.start,
-            None => 0,
-        }
-    }
-
     /// An equal value. The one error is want of memory.
     pub fn copy(&self, alloc: Global) -> Result<SourceFile, AllocError>
         ensures { IfOk result (λ f. f ≡ self.now) }
     {
         let name = String::from_str(alloc, self.name.as_str())?;
         let text = String::from_str(alloc, self.text.as_str())?;
-        let tree = match &self.tree {
-            Ok(tree) => Ok(tree.copy(alloc)?),
-            Err(fault) => Err(*fault),
-        };
-        Ok(SourceFile { name, text, tree })
+        match &self.tree {
+            Ok(tree) => {
+                let tree = Ok(copy(alloc, tree)?);
+                Ok(SourceFile { name, text, tree })
+            }
+            Err(fault) => {
+                let tree = Err(*fault);
+                Ok(SourceFile { name, text, tree })
+            }
+        }
     }
 }

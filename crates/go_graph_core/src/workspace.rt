@@ -54,8 +54,11 @@ impl PackageSource {
     pub fn copy(&self, alloc: Global) -> Result<PackageSource, AllocError>
         ensures { IfOk result (λ p. p ≡ self.now) }
     {
+        let mut files = Vec::with_capacity(alloc, self.files.len())?;
+        for file in &self.files {
+            files.push(file.copy(alloc)?)?;
+        }
         let path = self.path.copy(alloc)?;
-        let files = copy_files(alloc, self.files.as_slice())?;
         Ok(PackageSource { path, files })
     }
 }
@@ -163,11 +166,17 @@ impl Workspace {
         Ok(())
     }
 
+    /// Gives back the memory of the packages. A crate that ends its workspaces by this call has no drops of trees of its own.
+    pub fn close(self) {}
+
     /// An equal value. The one error is want of memory.
     pub fn copy(&self, alloc: Global) -> Result<Workspace, AllocError>
         ensures { IfOk result (λ w. w ≡ self.now) }
     {
-        let packages = copy_packages(alloc, self.packages.as_slice())?;
+        let mut packages = Vec::with_capacity(alloc, self.packages.len())?;
+        for package in &self.packages {
+            packages.push(package.copy(alloc)?)?;
+        }
         Ok(Workspace { packages })
     }
 }
@@ -239,49 +248,15 @@ fn put_inside(packages: &mut Vec<PackageSource>, own: &Module, from: Vec<Package
     }
 }
 
-/// Reads files, in the order in which they are given.
-fn read_in_turn(alloc: Global, files: Vec<(String, String)>) -> Result<Vec<SourceFile>, AllocError>
-    ensures same { IfOk result (λ v. map (λ f. (f.name, f.text)) v.items ≡ given_files files.items) }
-    ensures contents { IfOk result (λ v. All IsRead v.items) }
-{
-    let mut sources = Vec::with_capacity(alloc, files.len())?;
-    for (name, text) in files {
-        sources.push(SourceFile::read(alloc, name, text)?)?;
-    }
-    Ok(sources)
-}
-
 /// Reads files, in byte order of name.
 fn read_files(alloc: Global, files: Vec<(String, String)>) -> Result<Vec<SourceFile>, AllocError>
     requires { HaveDistinctNames (given_files files.items) }
     ensures { IfOk result (λ v. AreReadFrom (given_files files.items) v.items) }
 {
-    let mut sources = read_in_turn(alloc, files)?;
+    let mut sources = Vec::with_capacity(alloc, files.len())?;
+    for (name, text) in files {
+        sources.push(SourceFile::read(alloc, name, text)?)?;
+    }
     sources.sort_unstable_by(|one, other| one.name().cmp(other.name()));
     Ok(sources)
-}
-
-/// Equal files.
-fn copy_files(alloc: Global, files: &[SourceFile]) -> Result<Vec<SourceFile>, AllocError>
-    ensures { IfOk result (λ v. v.items ≡ files.now) }
-{
-    let mut copies = Vec::with_capacity(alloc, files.len())?;
-    for file in files {
-        copies.push(file.copy(alloc)?)?;
-    }
-    Ok(copies)
-}
-
-/// Equal packages.
-fn copy_packages(
-    alloc: Global,
-    packages: &[PackageSource],
-) -> Result<Vec<PackageSource>, AllocError>
-    ensures { IfOk result (λ v. v.items ≡ packages.now) }
-{
-    let mut copies = Vec::with_capacity(alloc, packages.len())?;
-    for package in packages {
-        copies.push(package.copy(alloc)?)?;
-    }
-    Ok(copies)
 }

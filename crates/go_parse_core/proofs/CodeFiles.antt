@@ -2,10 +2,10 @@
 use Rattle.std.specs.Prelude.{◌==◌, map}
 use Rattle.std.proofs.Common.{◌≡◌, ℕ, zero, suc, ◌-◌, ◌<◌, ◌≤◌, true, false, List, [], ◌∷◌, ◌++◌, length, Result, Ok, Err, refl, sym, ap, ◌∙◌, arith}
 use Rattle.std.proofs.lemmas.Bool.Decides.{nat_tests}
-use Rattle.go_tree_core.specs.declared.files.TopDecl.{TopDecl}
-use Rattle.go_tree_core.specs.Terminals.{Terminal}
-use Rattle.go_tree_core.specs.Trees.{TopTree}
-use Rattle.go_tree_core.specs.Shapes.{top_of}
+use Rattle.go_tree_nodes.specs.declared.files.TopDecl.{TopDecl}
+use Rattle.go_tree_nodes.specs.Terminals.{Terminal}
+use Rattle.go_tree_nodes.specs.Trees.{TopTree}
+use Rattle.go_tree_nodes.specs.Shapes.{top_of}
 use Rattle.go_parse_types.specs.declared.stop.Stop.{Stop}
 use Rattle.go_parse_types.specs.Giving.{Fails}
 use Rattle.go_parse_types.specs.Marks.{Stuck, ◌>>=◌}

@@ -4,11 +4,11 @@ use Rattle.std.proofs.Common.{◌≡◌, ℕ, zero, suc, ◌-◌, ◌<◌, ◌�
 use Rattle.go_text_core.specs.declared.span.Span.{Span}
 use Rattle.go_scan_core.specs.declared.kind.Keyword.TheVariants as keyword
 use Rattle.go_scan_core.specs.declared.kind.Operator.TheVariants as operator
-use Rattle.go_tree_core.specs.declared.files.ImportDecl.{ImportDecl}
-use Rattle.go_tree_core.specs.Shapes.{import_of}
-use Rattle.go_tree_core.specs.Spelling.{spell_import, spell_specs}
-use Rattle.go_tree_core.specs.Terminals.{Terminal}
-use Rattle.go_tree_core.specs.Trees.{Specs, ImportSpecTree, ImportTree}
+use Rattle.go_tree_nodes.specs.declared.files.ImportDecl.{ImportDecl}
+use Rattle.go_tree_nodes.specs.Shapes.{import_of}
+use Rattle.go_tree_nodes.specs.Spelling.{spell_import, spell_specs}
+use Rattle.go_tree_nodes.specs.Terminals.{Terminal}
+use Rattle.go_tree_nodes.specs.Trees.{Specs, ImportSpecTree, ImportTree}
 use Rattle.go_parse_types.specs.declared.stop.Stop.{Stop}
 use Rattle.go_parse_types.specs.Giving.{Fails}
 use Rattle.go_parse_types.specs.Marks.{◌>>=◌, Reading, need, mark_at, word_at}

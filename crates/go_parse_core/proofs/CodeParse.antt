@@ -6,10 +6,10 @@ use Rattle.go_scan_core.specs.Cutting.{tokens_of}
 use Rattle.go_scan_core.specs.Texts.{IsFilled}
 use Rattle.go_scan_core.specs.Tokens as scanned
 use Rattle.go_tree_core.proofs.Order.{few_occs}
-use Rattle.go_tree_core.specs.Heights.{file_height}
-use Rattle.go_tree_core.specs.Spelling.{spell_file}
-use Rattle.go_tree_core.specs.Terminals.{Terminal, terminals, InOrder}
-use Rattle.go_tree_core.specs.Trees.{FileTree}
+use Rattle.go_tree_nodes.specs.Heights.{file_height}
+use Rattle.go_tree_nodes.specs.Spelling.{spell_file}
+use Rattle.go_tree_nodes.specs.Terminals.{Terminal, terminals, InOrder}
+use Rattle.go_tree_nodes.specs.Trees.{FileTree}
 use Rattle.go_parse_types.specs.declared.stop.Stop.{Stop}
 use Rattle.go_parse_types.specs.declared.stop.Stop.TheVariants as stop
 use Rattle.go_parse_types.specs.Giving.{Fails}

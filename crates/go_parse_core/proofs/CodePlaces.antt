@@ -12,7 +12,7 @@ use Rattle.go_scan_core.specs.declared.token.Token.{Token}
 use Rattle.go_scan_core.specs.Numbers.{integer_value_of}
 use Rattle.go_scan_core.specs.Texts.{IsFilled}
 use Rattle.go_scan_core.specs.Tokens as scanned
-use Rattle.go_tree_core.specs.Terminals.{Number, Stray, name_kind, number_kind, text_kind, kind_at, least_width_of, least_width, terminals, InOrder}
+use Rattle.go_tree_nodes.specs.Terminals.{Number, Stray, name_kind, number_kind, text_kind, kind_at, least_width_of, least_width, terminals, InOrder}
 
 operator_width : (o : Operator) → least_width_of o ≤ 1
 operator_width operator.Semicolon = omega arith

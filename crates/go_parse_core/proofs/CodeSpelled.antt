@@ -12,7 +12,7 @@ use Rattle.go_scan_core.specs.Numbers.{integer_value_of}
 use Rattle.go_scan_core.specs.Texts.{HasItsText, IsSpelled}
 use Rattle.go_scan_core.proofs.TextLemmas.{slice_of-token}
 use Rattle.go_scan_core.proofs.TokenLemmas.{tokens_have_texts}
-use Rattle.go_tree_core.specs.Terminals.{Number, Stray, name_kind, number_kind, text_kind, kind_at, terminal_of}
+use Rattle.go_tree_nodes.specs.Terminals.{Number, Stray, name_kind, number_kind, text_kind, kind_at, terminal_of}
 use Rattle.go_parse_core.specs.Names.{HasSpelling, HasNamesSpelled}
 
 number_reached : (n : ℕ) (b : Bool) → b ≡ true → (if b then Number n else Stray) ≡ Stray → ⊥

@@ -4,20 +4,20 @@ use Rattle.go_text_core.specs.declared.span.Span.{Span}
 use Rattle.go_scan_core.specs.declared.kind.Keyword.TheVariants as keyword
 use Rattle.go_scan_core.specs.declared.kind.Operator.{Operator}
 use Rattle.go_scan_core.specs.declared.kind.Operator.TheVariants as operator
-use Rattle.go_tree_core.specs.declared.names.Ident.{Ident}
-use Rattle.go_tree_core.specs.declared.names.TextLiteral.{TextLiteral}
-use Rattle.go_tree_core.specs.declared.types.TypeName.{TypeName}
-use Rattle.go_tree_core.specs.declared.types.TypeName.TheVariants as type_name
-use Rattle.go_tree_core.specs.declared.decls.ValueKind.{ValueKind}
-use Rattle.go_tree_core.specs.declared.decls.ValueKind.TheVariants as kinds
-use Rattle.go_tree_core.specs.declared.files.ImportName.{ImportName}
-use Rattle.go_tree_core.specs.declared.files.ImportName.TheVariants as import_name
-use Rattle.go_tree_core.specs.declared.files.Receiver.{Receiver}
-use Rattle.go_tree_core.specs.Terminals.{Terminal}
-use Rattle.go_tree_core.specs.Trees.{SignatureTree, Specs, FuncTree, DeclTree, Value, Types, Func, TopTree, ImportSpecTree, ImportTree, FileTree}
-use Rattle.go_tree_core.specs.Spelling.{mark, word, spell_ident, spell_text, spell_some, spell_type_name, spell_value_spec, spell_specs, keyword_of, spell_value, spell_type_spec, spell_lines, spell_signature, spell_receiver_name, spell_receiver, spell_decl, spell_tops, spell_import_name, spell_import, spell_imports, spell_file}
-use Rattle.go_tree_core.specs.Rules.{Wf_specs, Wf_decl, Wf_tops, Wf_imports}
-use Rattle.go_tree_core.specs.Heights.{specs_height, value_height, types_height, signature_height, lines_height, decl_height, tops_height, file_height}
+use Rattle.go_tree_nodes.specs.declared.names.Ident.{Ident}
+use Rattle.go_tree_nodes.specs.declared.names.TextLiteral.{TextLiteral}
+use Rattle.go_tree_nodes.specs.declared.types.TypeName.{TypeName}
+use Rattle.go_tree_nodes.specs.declared.types.TypeName.TheVariants as type_name
+use Rattle.go_tree_nodes.specs.declared.decls.ValueKind.{ValueKind}
+use Rattle.go_tree_nodes.specs.declared.decls.ValueKind.TheVariants as kinds
+use Rattle.go_tree_nodes.specs.declared.files.ImportName.{ImportName}
+use Rattle.go_tree_nodes.specs.declared.files.ImportName.TheVariants as import_name
+use Rattle.go_tree_nodes.specs.declared.files.Receiver.{Receiver}
+use Rattle.go_tree_nodes.specs.Terminals.{Terminal}
+use Rattle.go_tree_nodes.specs.Trees.{SignatureTree, Specs, FuncTree, DeclTree, Value, Types, Func, TopTree, ImportSpecTree, ImportTree, FileTree}
+use Rattle.go_tree_nodes.specs.Spelling.{mark, word, spell_ident, spell_text, spell_some, spell_type_name, spell_value_spec, spell_specs, keyword_of, spell_value, spell_type_spec, spell_lines, spell_signature, spell_receiver_name, spell_receiver, spell_decl, spell_tops, spell_import_name, spell_import, spell_imports, spell_file}
+use Rattle.go_tree_nodes.specs.Rules.{Wf_specs, Wf_decl, Wf_tops, Wf_imports}
+use Rattle.go_tree_nodes.specs.Heights.{specs_height, value_height, types_height, signature_height, lines_height, decl_height, tops_height, file_height}
 use Rattle.go_parse_types.specs.Marks.{Stuck, ◌>>=◌, Reading, need, mark_at, word_at, name_at}
 use Rattle.go_parse_types.specs.TypeReading.{type_at, signature_at}
 use Rattle.go_parse_types.proofs.Marks.{AgreesAt, bind_agrees, agrees_along}

@@ -3,14 +3,14 @@ use Rattle.std.proofs.Common.{◌≡◌, ℕ, zero, suc, ◌+◌, ◌<◌, ◌�
 use Rattle.go_text_core.specs.declared.span.Span.{Span}
 use Rattle.go_scan_core.specs.declared.kind.Keyword.TheVariants as keyword
 use Rattle.go_scan_core.specs.declared.kind.Operator.TheVariants as operator
-use Rattle.go_tree_core.specs.declared.names.Ident.{Ident}
-use Rattle.go_tree_core.specs.declared.decls.ValueKind.{ValueKind}
-use Rattle.go_tree_core.specs.declared.files.Receiver.{Receiver}
-use Rattle.go_tree_core.specs.Terminals.{Terminal}
-use Rattle.go_tree_core.specs.Trees.{FuncTree, DeclTree, Value, Types, Func, TopTree, ImportSpecTree, ImportTree, FileTree}
-use Rattle.go_tree_core.specs.Spelling.{mark, word, spell_ident, spell_text, spell_some, spell_type_name, spell_specs, spell_lines, spell_signature, spell_receiver_name, spell_receiver, spell_func, spell_decl, spell_tops, spell_import_name, spell_import, spell_imports, spell_file}
-use Rattle.go_tree_core.specs.Rules.{Wf_decl, Wf_tops, Wf_imports}
-use Rattle.go_tree_core.specs.Heights.{receiver_height, decl_height, tops_height, file_height}
+use Rattle.go_tree_nodes.specs.declared.names.Ident.{Ident}
+use Rattle.go_tree_nodes.specs.declared.decls.ValueKind.{ValueKind}
+use Rattle.go_tree_nodes.specs.declared.files.Receiver.{Receiver}
+use Rattle.go_tree_nodes.specs.Terminals.{Terminal}
+use Rattle.go_tree_nodes.specs.Trees.{FuncTree, DeclTree, Value, Types, Func, TopTree, ImportSpecTree, ImportTree, FileTree}
+use Rattle.go_tree_nodes.specs.Spelling.{mark, word, spell_ident, spell_text, spell_some, spell_type_name, spell_specs, spell_lines, spell_signature, spell_receiver_name, spell_receiver, spell_func, spell_decl, spell_tops, spell_import_name, spell_import, spell_imports, spell_file}
+use Rattle.go_tree_nodes.specs.Rules.{Wf_decl, Wf_tops, Wf_imports}
+use Rattle.go_tree_nodes.specs.Heights.{receiver_height, decl_height, tops_height, file_height}
 use Rattle.go_parse_types.specs.Marks.{Stuck, ◌>>=◌, Reading, Place, need, mark_at, word_at, name_at, text_at, some_mark}
 use Rattle.go_parse_types.specs.TypeReading.{type_name_at, type_at, signature_at}
 use Rattle.go_parse_types.proofs.Marks.{mark_was, word_was, name_was, text_was, some_mark_was, bind_ok}

@@ -1,6 +1,6 @@
 -- Trees with marks, and token lists that leave out semicolons, say the same.
 use Rattle.std.proofs.Common.{subst}
-use Rattle.go_tree_core.specs.Terminals.{terminals}
+use Rattle.go_tree_nodes.specs.Terminals.{terminals}
 use Rattle.go_parse_core.specs.LeftOut.{LeftOut, signs_file, Fills_file, MarkedIsWhole, WholeIsMarked, HasOneWholeTree}
 use Rattle.go_parse_core.proofs.LeftOutFiles.{file_shown, file_filled}
 use Rattle.go_parse_core.proofs.Meanings.{has_one_tree}

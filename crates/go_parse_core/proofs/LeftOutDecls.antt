@@ -3,14 +3,14 @@ use Rattle.std.proofs.Common.{ℕ, false, List, [], ◌∷◌, ◌++◌, Option,
 use Rattle.go_text_core.specs.declared.span.Span.{Span}
 use Rattle.go_scan_core.specs.declared.kind.Keyword.TheVariants as keyword
 use Rattle.go_scan_core.specs.declared.kind.Operator.TheVariants as operator
-use Rattle.go_tree_core.specs.declared.names.Ident.{Ident}
-use Rattle.go_tree_core.specs.declared.decls.ValueKind.{ValueKind}
-use Rattle.go_tree_core.specs.declared.decls.ValueKind.TheVariants as kinds
-use Rattle.go_tree_core.specs.Terminals.{Terminal}
-use Rattle.go_tree_core.specs.Trees.{Separated, TypeTree, ExprTree, ValueSpecTree, Specs, Single, Group, ValueTree, TypeSpecTree, TypeDeclTree}
-use Rattle.go_tree_core.specs.Spelling.{mark, word, spell_ident, spell_idents, spell_some_type, spell_values, spell_value_spec, spell_specs_of, spell_specs, keyword_of, spell_value, spell_type_spec, spell_types}
-use Rattle.go_tree_core.specs.Rules.{IsNothing, HasEnough, Wf_type, Wf_some_type, Wf_values, Wf_value_spec, Wf_group, Wf_specs, Wf_value, Wf_types}
-use Rattle.go_tree_core.specs.Heights.{type_height, some_type_height, values_height, value_spec_height, group_height, specs_height, value_height, types_height}
+use Rattle.go_tree_nodes.specs.declared.names.Ident.{Ident}
+use Rattle.go_tree_nodes.specs.declared.decls.ValueKind.{ValueKind}
+use Rattle.go_tree_nodes.specs.declared.decls.ValueKind.TheVariants as kinds
+use Rattle.go_tree_nodes.specs.Terminals.{Terminal}
+use Rattle.go_tree_nodes.specs.Trees.{Separated, TypeTree, ExprTree, ValueSpecTree, Specs, Single, Group, ValueTree, TypeSpecTree, TypeDeclTree}
+use Rattle.go_tree_nodes.specs.Spelling.{mark, word, spell_ident, spell_idents, spell_some_type, spell_values, spell_value_spec, spell_specs_of, spell_specs, keyword_of, spell_value, spell_type_spec, spell_types}
+use Rattle.go_tree_nodes.specs.Rules.{IsNothing, HasEnough, Wf_type, Wf_some_type, Wf_values, Wf_value_spec, Wf_group, Wf_specs, Wf_value, Wf_types}
+use Rattle.go_tree_nodes.specs.Heights.{type_height, some_type_height, values_height, value_spec_height, group_height, specs_height, value_height, types_height}
 use Rattle.go_parse_core.specs.LeftOut.{Sign, sure, Closes, sign_semicolon, signs_type, signs_some, signs_values, signs_value_spec, signs_group, signs_specs, signs_value, signs_type_spec, signs_types, Whole_type, Whole_some, Whole_values, Whole_value_spec, Whole_group, Whole_specs, Whole_value, Whole_type_spec, Whole_types, Fills_type, Fills_some, Fills_values, Fills_value_spec, Fills_group, Fills_specs, Fills_value, Fills_type_spec, Fills_types}
 use Rattle.go_parse_core.proofs.LeftOutParts.{Any, Opens, opens_along, opens_not, Splits, nothing, sure_then, one_then, both, maps, loose, join_nothing, join_both, join_sure, join_one, filled, filled_fills, filled_there, join_loose, Good, Filled, AnyLike, higher, both_high, in_parens, join_parens}
 use Rattle.go_parse_core.proofs.LeftOutTypes.{idents_open, type_split, type_fill}

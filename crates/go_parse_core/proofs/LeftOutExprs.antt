@@ -2,11 +2,11 @@
 use Rattle.std.proofs.Common.{◌≡◌, ℕ, ◌+◌, Bool, true, false, Option, Some, None, refl}
 use Rattle.go_scan_core.specs.declared.kind.Operator.{Operator}
 use Rattle.go_scan_core.specs.declared.kind.Operator.TheVariants as operator
-use Rattle.go_tree_core.specs.Terminals.{Number, terminal}
-use Rattle.go_tree_core.specs.Trees.{Separated, One, Then, ExprTree, ItemTrees, Integer, Text, Named, Paren, Unary, Binary, Select, Call, Literal, StructLiteral, NoItems, Item}
-use Rattle.go_tree_core.specs.Spelling.{mark, spell_ident, spell_text, spell_some, spell_type_name, spell_key, spell, spell_items, spell_exprs, spell_some_exprs}
-use Rattle.go_tree_core.specs.Rules.{rank_of, unary_rank, primary_rank, is_unary, Binds, IsLastItem, Wf, Wf_items, Wf_exprs, Wf_some_exprs}
-use Rattle.go_tree_core.specs.Heights.{height, items_height, exprs_height, some_exprs_height}
+use Rattle.go_tree_nodes.specs.Terminals.{Number, terminal}
+use Rattle.go_tree_nodes.specs.Trees.{Separated, One, Then, ExprTree, ItemTrees, Integer, Text, Named, Paren, Unary, Binary, Select, Call, Literal, StructLiteral, NoItems, Item}
+use Rattle.go_tree_nodes.specs.Spelling.{mark, spell_ident, spell_text, spell_some, spell_type_name, spell_key, spell, spell_items, spell_exprs, spell_some_exprs}
+use Rattle.go_tree_nodes.specs.Rules.{rank_of, unary_rank, primary_rank, is_unary, Binds, IsLastItem, Wf, Wf_items, Wf_exprs, Wf_some_exprs}
+use Rattle.go_tree_nodes.specs.Heights.{height, items_height, exprs_height, some_exprs_height}
 use Rattle.go_parse_core.specs.LeftOut.{sure, IsClosingMark, signs_some, signs_expr, signs_items, signs_exprs, signs_type, Whole_some, Whole_expr, Whole_items, Whole_exprs, Fills_some, Fills_expr, Fills_items, Fills_exprs}
 use Rattle.go_parse_core.proofs.LeftOutParts.{Any, Opens, opens_along, Splits, nothing, sure_then, one_then, both, maps, join_nothing, join_both, join_sure, join_one, Good, Filled, AnyLike, higher, both_high, kept_like, in_parens, in_braces, join_parens, join_braces}
 use Rattle.go_parse_core.proofs.LeftOutTypes.{type_name_opens, type_opens, type_split, type_fill}

@@ -4,14 +4,14 @@ use Rattle.std.proofs.lemmas.List.{append-nil}
 use Rattle.go_text_core.specs.declared.span.Span.{Span}
 use Rattle.go_scan_core.specs.declared.kind.Keyword.TheVariants as keyword
 use Rattle.go_scan_core.specs.declared.kind.Operator.TheVariants as operator
-use Rattle.go_tree_core.specs.declared.names.TextLiteral.{TextLiteral}
-use Rattle.go_tree_core.specs.declared.files.ImportName.{ImportName}
-use Rattle.go_tree_core.specs.declared.files.ImportName.TheVariants as import_name
-use Rattle.go_tree_core.specs.Terminals.{Terminal}
-use Rattle.go_tree_core.specs.Trees.{SignatureTree, Specs, Lines, FuncTree, DeclTree, Value, Types, Func, TopTree, ImportSpecTree, ImportTree, FileTree}
-use Rattle.go_tree_core.specs.Spelling.{mark, word, spell_ident, spell_text, spell_receiver, spell_decl, spell_tops, spell_import_name, spell_import, spell_imports, spell_file}
-use Rattle.go_tree_core.specs.Rules.{Wf_decl, Wf_tops, Wf_imports, Wf_file}
-use Rattle.go_tree_core.specs.Heights.{decl_height, tops_height, file_height}
+use Rattle.go_tree_nodes.specs.declared.names.TextLiteral.{TextLiteral}
+use Rattle.go_tree_nodes.specs.declared.files.ImportName.{ImportName}
+use Rattle.go_tree_nodes.specs.declared.files.ImportName.TheVariants as import_name
+use Rattle.go_tree_nodes.specs.Terminals.{Terminal}
+use Rattle.go_tree_nodes.specs.Trees.{SignatureTree, Specs, Lines, FuncTree, DeclTree, Value, Types, Func, TopTree, ImportSpecTree, ImportTree, FileTree}
+use Rattle.go_tree_nodes.specs.Spelling.{mark, word, spell_ident, spell_text, spell_receiver, spell_decl, spell_tops, spell_import_name, spell_import, spell_imports, spell_file}
+use Rattle.go_tree_nodes.specs.Rules.{Wf_decl, Wf_tops, Wf_imports, Wf_file}
+use Rattle.go_tree_nodes.specs.Heights.{decl_height, tops_height, file_height}
 use Rattle.go_parse_core.specs.LeftOut.{Sign, Loose, sure, Closes, LeftOut, signs_decl, signs_tops, signs_import, signs_imports, signs_file, Whole_decl, Whole_tops, Whole_import, Whole_imports, Whole_file, Fills_decl, Fills_tops, Fills_import, Fills_imports, Fills_file}
 use Rattle.go_parse_core.proofs.LeftOutParts.{Any, NoClose, Opens, opens_not, Splits, nothing, sures, sure_then, one_then, before, both, maps, kept_then, join_nothing, join_sures, join_both, join_sure, join_one, join_kept, Good, Filled, AnyLike, higher, both_high, in_braces, join_braces}
 use Rattle.go_parse_core.proofs.LeftOutTypes.{signature_split, signature_fill}

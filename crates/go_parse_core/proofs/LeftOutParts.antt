@@ -2,9 +2,9 @@
 use Rattle.std.proofs.Common.{◌≡◌, ℕ, ◌+◌, max, List, [], ◌∷◌, ◌++◌, Option, Some, None, refl, sym, ap, ◌∙◌, subst, inl, inr, append_assoc}
 use Rattle.go_text_core.specs.declared.span.Span.{Span}
 use Rattle.go_scan_core.specs.declared.kind.Operator.TheVariants as operator
-use Rattle.go_tree_core.specs.Terminals.{Terminal}
-use Rattle.go_tree_core.specs.Spelling.{mark, spell_some}
-use Rattle.go_tree_core.specs.Rules.{IsKept}
+use Rattle.go_tree_nodes.specs.Terminals.{Terminal}
+use Rattle.go_tree_nodes.specs.Spelling.{mark, spell_some}
+use Rattle.go_tree_nodes.specs.Rules.{IsKept}
 use Rattle.go_parse_core.specs.LeftOut.{Sign, Sure, Loose, sure, IsClosing, Closes, LeftOut, sign_semicolon, IsThere, Fills_semicolon}
 
 -- terminals that stand there for sure are the front of what is written

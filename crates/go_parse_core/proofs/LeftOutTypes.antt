@@ -3,13 +3,13 @@ use Rattle.std.proofs.Common.{◌≡◌, Bool, List, ◌++◌, Option, Some, Non
 use Rattle.go_text_core.specs.declared.span.Span.{Span}
 use Rattle.go_scan_core.specs.declared.kind.Keyword.TheVariants as keyword
 use Rattle.go_scan_core.specs.declared.kind.Operator.TheVariants as operator
-use Rattle.go_tree_core.specs.declared.names.Ident.{Ident}
-use Rattle.go_tree_core.specs.declared.types.TypeName.{TypeName}
-use Rattle.go_tree_core.specs.declared.types.TypeName.TheVariants as type_name
-use Rattle.go_tree_core.specs.Trees.{Separated, One, Then, TypeTree, FieldTrees, MethodTrees, SignatureTree, ResultTree, ParamTrees, NamedType, Pointer, ParenType, Struct, Interface, NoFields, NamedFields, EmbeddedField, NoMethods, Method, Signed, NoResult, OneResult, Results, NoParams, Param}
-use Rattle.go_tree_core.specs.Spelling.{mark, word, spell_ident, spell_idents, spell_some, spell_type_name, spell_tag, spell_names, spell_type, spell_fields, spell_methods, spell_signature, spell_result, spell_params}
-use Rattle.go_tree_core.specs.Rules.{IsLastField, IsLastMethod, IsLastParam, is_grouped, IsBare, IsStructType, Wf_type, Wf_fields, Wf_methods, Wf_signature, Wf_result, Wf_params}
-use Rattle.go_tree_core.specs.Heights.{type_height, fields_height, methods_height, signature_height, result_height, params_height}
+use Rattle.go_tree_nodes.specs.declared.names.Ident.{Ident}
+use Rattle.go_tree_nodes.specs.declared.types.TypeName.{TypeName}
+use Rattle.go_tree_nodes.specs.declared.types.TypeName.TheVariants as type_name
+use Rattle.go_tree_nodes.specs.Trees.{Separated, One, Then, TypeTree, FieldTrees, MethodTrees, SignatureTree, ResultTree, ParamTrees, NamedType, Pointer, ParenType, Struct, Interface, NoFields, NamedFields, EmbeddedField, NoMethods, Method, Signed, NoResult, OneResult, Results, NoParams, Param}
+use Rattle.go_tree_nodes.specs.Spelling.{mark, word, spell_ident, spell_idents, spell_some, spell_type_name, spell_tag, spell_names, spell_type, spell_fields, spell_methods, spell_signature, spell_result, spell_params}
+use Rattle.go_tree_nodes.specs.Rules.{IsLastField, IsLastMethod, IsLastParam, is_grouped, IsBare, IsStructType, Wf_type, Wf_fields, Wf_methods, Wf_signature, Wf_result, Wf_params}
+use Rattle.go_tree_nodes.specs.Heights.{type_height, fields_height, methods_height, signature_height, result_height, params_height}
 use Rattle.go_parse_core.specs.LeftOut.{Sign, sure, Closes, signs_type, signs_fields, signs_methods, signs_signature, signs_result, signs_params, sign_semicolon, Whole_type, Whole_fields, Whole_methods, Whole_signature, Whole_result, Whole_params, Fills_type, Fills_fields, Fills_methods, Fills_signature, Fills_result, Fills_params}
 use Rattle.go_parse_core.proofs.LeftOutParts.{Any, Opens, opens_along, opens_not, Splits, nothing, sures, sure_then, one_then, both, maps, loose, join_nothing, join_sures, join_both, join_sure, join_one, filled, filled_fills, filled_there, join_loose, Good, Filled, AnyLike, higher, both_high, kept_like, in_parens, in_braces, join_parens, join_braces}
 

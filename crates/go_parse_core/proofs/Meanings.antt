@@ -3,9 +3,9 @@ use Rattle.std.proofs.Common.{◌≡◌, ℕ, ◌+◌, ◌≤◌, List, Result, 
 use Rattle.go_scan_core.specs.declared.token.LexFault.{LexFault}
 use Rattle.go_scan_core.specs.declared.token.Token.{Token}
 use Rattle.go_scan_core.specs.Cutting.{tokens_of}
-use Rattle.go_tree_core.specs.Terminals.{Terminal, terminals}
-use Rattle.go_tree_core.specs.Trees.{FileTree}
-use Rattle.go_tree_core.specs.Heights.{file_height}
+use Rattle.go_tree_nodes.specs.Terminals.{Terminal, terminals}
+use Rattle.go_tree_nodes.specs.Trees.{FileTree}
+use Rattle.go_tree_nodes.specs.Heights.{file_height}
 use Rattle.go_parse_types.specs.Marks.{Stuck, Grammar, TooHigh}
 use Rattle.go_parse_core.specs.Correct.{IsTreeOf, HasTree, HasOneTree, HasNoTree, HasNoLowTree, max_height}
 use Rattle.go_parse_core.specs.FileReading.{file_at}

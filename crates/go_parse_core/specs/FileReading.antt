@@ -3,15 +3,15 @@ use Rattle.std.specs.Prelude.{ℕ, zero, suc, Bool, true, false, ◌||◌, List,
 use Rattle.go_text_core.specs.declared.span.Span.{Span}
 use Rattle.go_scan_core.specs.declared.kind.Keyword.TheVariants as keyword
 use Rattle.go_scan_core.specs.declared.kind.Operator.TheVariants as operator
-use Rattle.go_tree_core.specs.declared.names.Ident.{Ident}
-use Rattle.go_tree_core.specs.declared.names.TextLiteral.{TextLiteral}
-use Rattle.go_tree_core.specs.declared.types.TypeName.{TypeName}
-use Rattle.go_tree_core.specs.declared.decls.ValueKind.{ValueKind}
-use Rattle.go_tree_core.specs.declared.files.ImportName.{ImportName}
-use Rattle.go_tree_core.specs.declared.files.ImportName.TheVariants as import_name
-use Rattle.go_tree_core.specs.declared.files.Receiver.{Receiver}
-use Rattle.go_tree_core.specs.Terminals.{Terminal}
-use Rattle.go_tree_core.specs.Trees.{SignatureTree, FuncTree, DeclTree, Value, Types, Func, TopTree, ImportSpecTree, ImportTree, FileTree}
+use Rattle.go_tree_nodes.specs.declared.names.Ident.{Ident}
+use Rattle.go_tree_nodes.specs.declared.names.TextLiteral.{TextLiteral}
+use Rattle.go_tree_nodes.specs.declared.types.TypeName.{TypeName}
+use Rattle.go_tree_nodes.specs.declared.decls.ValueKind.{ValueKind}
+use Rattle.go_tree_nodes.specs.declared.files.ImportName.{ImportName}
+use Rattle.go_tree_nodes.specs.declared.files.ImportName.TheVariants as import_name
+use Rattle.go_tree_nodes.specs.declared.files.Receiver.{Receiver}
+use Rattle.go_tree_nodes.specs.Terminals.{Terminal}
+use Rattle.go_tree_nodes.specs.Trees.{SignatureTree, FuncTree, DeclTree, Value, Types, Func, TopTree, ImportSpecTree, ImportTree, FileTree}
 use Rattle.go_parse_types.specs.Marks.{Stuck, Grammar, ◌>>=◌, Reading, Place, need, mark_at, word_at, name_at, text_at, some_mark}
 use Rattle.go_parse_types.specs.TypeReading.{type_name_at, type_at, signature_at}
 use Rattle.go_parse_stmts.specs.StmtReading.{specs_at, value_at, value_word, types_at, Braced, braced, block_at}

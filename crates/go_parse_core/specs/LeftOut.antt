@@ -6,12 +6,12 @@ use Rattle.go_scan_core.specs.declared.kind.Operator.{Operator}
 use Rattle.go_scan_core.specs.declared.kind.Operator.TheVariants as operator
 use Rattle.go_scan_core.specs.declared.token.Token.{Token}
 use Rattle.go_scan_core.specs.Cutting.{tokens_of}
-use Rattle.go_tree_core.specs.declared.decls.ValueKind.{ValueKind}
-use Rattle.go_tree_core.specs.Terminals.{TerminalKind, Terminal, Number, Mark, terminal, terminals}
-use Rattle.go_tree_core.specs.Trees.{Separated, One, Then, TypeTree, FieldTrees, MethodTrees, SignatureTree, ResultTree, ParamTrees, NamedType, Pointer, ParenType, Struct, Interface, NoFields, NamedFields, EmbeddedField, NoMethods, Method, Signed, NoResult, OneResult, Results, NoParams, Param, ExprTree, ItemTrees, Integer, Text, Named, Paren, Unary, Binary, Select, Call, Literal, StructLiteral, NoItems, Item, ValueSpecTree, Specs, Single, Group, ValueTree, TypeSpecTree, TypeDeclTree, SimpleTree, Alone, Step, Assign, Update, Define, IfTree, ForTree, Forever, While, Clauses, StmtTree, BranchTree, ElseTree, Lines, Empty, Declare, Simple, Return, Break, Continue, Block, If, For, Branch, NoElse, ElseBlock, ElseIf, NoLines, Line, FuncTree, DeclTree, Value, Types, Func, TopTree, ImportSpecTree, ImportTree, FileTree}
-use Rattle.go_tree_core.specs.Spelling.{mark, word, spell_ident, spell_text, spell_idents, spell_some, spell_type_name, spell_tag, spell_names, spell_key, keyword_of, spell_receiver, spell_import}
-use Rattle.go_tree_core.specs.Rules.{rank_of, unary_rank, primary_rank, is_unary, is_step, is_update, IsKept, IsLastParam, IsLastItem, is_group, is_grouped, IsBare, Binds, MayHaveKey, IsFalse, IsStructType, HasEnough, IsPost}
-use Rattle.go_tree_core.specs.Heights.{file_height}
+use Rattle.go_tree_nodes.specs.declared.decls.ValueKind.{ValueKind}
+use Rattle.go_tree_nodes.specs.Terminals.{TerminalKind, Terminal, Number, Mark, terminal, terminals}
+use Rattle.go_tree_nodes.specs.Trees.{Separated, One, Then, TypeTree, FieldTrees, MethodTrees, SignatureTree, ResultTree, ParamTrees, NamedType, Pointer, ParenType, Struct, Interface, NoFields, NamedFields, EmbeddedField, NoMethods, Method, Signed, NoResult, OneResult, Results, NoParams, Param, ExprTree, ItemTrees, Integer, Text, Named, Paren, Unary, Binary, Select, Call, Literal, StructLiteral, NoItems, Item, ValueSpecTree, Specs, Single, Group, ValueTree, TypeSpecTree, TypeDeclTree, SimpleTree, Alone, Step, Assign, Update, Define, IfTree, ForTree, Forever, While, Clauses, StmtTree, BranchTree, ElseTree, Lines, Empty, Declare, Simple, Return, Break, Continue, Block, If, For, Branch, NoElse, ElseBlock, ElseIf, NoLines, Line, FuncTree, DeclTree, Value, Types, Func, TopTree, ImportSpecTree, ImportTree, FileTree}
+use Rattle.go_tree_nodes.specs.Spelling.{mark, word, spell_ident, spell_text, spell_idents, spell_some, spell_type_name, spell_tag, spell_names, spell_key, keyword_of, spell_receiver, spell_import}
+use Rattle.go_tree_nodes.specs.Rules.{rank_of, unary_rank, primary_rank, is_unary, is_step, is_update, IsKept, IsLastParam, IsLastItem, is_group, is_grouped, IsBare, Binds, MayHaveKey, IsFalse, IsStructType, HasEnough, IsPost}
+use Rattle.go_tree_nodes.specs.Heights.{file_height}
 use Rattle.go_parse_core.specs.Correct.{HasTree}
 
 -- what a tree writes: a terminal that stands there, or a semicolon that may be left out

@@ -3,7 +3,7 @@ use Rattle.std.specs.Prelude.{◌≡◌, ◌≢◌, ℕ, List, All, Ok}
 use Rattle.std.specs.Str.{IsUtf8}
 use Rattle.go_scan_core.specs.declared.token.Token.{Token}
 use Rattle.go_scan_core.specs.Cutting.{tokens_of}
-use Rattle.go_tree_core.specs.Terminals.{Terminal, Stray, terminals}
+use Rattle.go_tree_nodes.specs.Terminals.{Terminal, Stray, terminals}
 
 abbrev pub HasSpelling : Terminal → Type 0
 HasSpelling t = t.kind ≢ Stray

@@ -3,11 +3,11 @@ use Rattle.std.specs.Prelude.{◌≡◌, ◌≤◌, ◌^◌, ◌<◌, ℕ, List,
 use Rattle.go_scan_core.specs.declared.token.Comment.{Comment}
 use Rattle.go_scan_core.specs.Cutting.{comments_in}
 use Rattle.go_scan_core.specs.Tokens.{IsAnswerOf}
-use Rattle.go_tree_core.specs.Trees.{FileTree}
+use Rattle.go_tree_nodes.specs.Trees.{FileTree}
 use Rattle.go_tree_core.specs.Occurrences.{file_occs}
-use Rattle.go_tree_core.specs.Terminals.{InOrder}
-use Rattle.go_tree_core.specs.Heights.{file_height}
-use Rattle.go_tree_core.specs.Spelling.{spell_file}
+use Rattle.go_tree_nodes.specs.Terminals.{InOrder}
+use Rattle.go_tree_nodes.specs.Heights.{file_height}
+use Rattle.go_tree_nodes.specs.Spelling.{spell_file}
 use Rattle.go_parse_core.specs.declared.error.ParseError.{ParseError}
 use Rattle.go_parse_core.specs.declared.error.ParseError.TheVariants as errors
 use Rattle.go_parse_core.specs.Correct.{HasTree, IsSynFault, max_height}

@@ -1,8 +1,8 @@
 -- What the reading of a text answers, by its tree.
 use Rattle.std.specs.Prelude.{◌≡◌, ◌≤◌, ℕ, List, Result, Ok, Err}
 use Rattle.go_text_core.specs.declared.rule.Rule.TheVariants.{P1, P2}
-use Rattle.go_tree_core.specs.declared.files.File.{File}
-use Rattle.go_tree_core.specs.Shapes.{file_of}
+use Rattle.go_tree_nodes.specs.declared.files.File.{File}
+use Rattle.go_tree_nodes.specs.Shapes.{file_of}
 use Rattle.go_parse_core.specs.declared.error.ParseError.{ParseError}
 use Rattle.go_parse_core.specs.declared.error.ParseError.TheVariants as errors
 use Rattle.go_parse_types.specs.declared.stop.Stop.{Stop}

@@ -1,15 +1,15 @@
 //! Declarations of the package block, and files.
 ghost use Rattle.std.specs.Prelude.{◌≡◌, ◌<◌, ◌^◌, length, map};
-ghost use Rattle.go_tree_core.specs.Shapes.{decl_of, file_of, top_of};
+ghost use Rattle.go_tree_nodes.specs.Shapes.{decl_of, file_of, top_of};
 ghost use Rattle.go_parse_types.specs.Giving.{Gives};
 ghost use Rattle.go_parse_core.specs.FileReading.{decl_at, file_at, top_at, tops_go};
 
 use crate::funcs::func;
 use crate::imports::imports;
 use go_parse_stmts::{type_decl, value_decl, value_keyword};
-use go_parse_types::{Ahead, Stop};
+use go_parse_types::{Ahead, Stop, add};
 use go_scan_core::{Keyword, Operator};
-use go_tree_core::{Decl, File, TopDecl};
+use go_tree_nodes::{Decl, File, TopDecl};
 use std::alloc::Global;
 
 /// The declaration in front, whose parts are at most `budget` high.
@@ -38,8 +38,13 @@ fn top_decl<'a>(alloc: Global, ahead: Ahead<'a>, budget: u32) -> Result<(TopDecl
     ensures { Gives (λ x. (top_of x.0, x.1)) result (top_at budget ahead.entry) }
 {
     let (decl, rest) = decl(alloc, ahead, budget)?;
-    rest.need_mark(Operator::Semicolon)
-        .map(|(semicolon, rest)| (TopDecl { decl, semicolon }, rest))
+    match rest.need_mark(Operator::Semicolon) {
+        Ok((semicolon, rest)) => Ok((TopDecl { decl, semicolon }, rest)),
+        Err(stop) => {
+            drop(decl);
+            Err(stop)
+        }
+    }
 }
 
 /// The declarations that all the tokens make.
@@ -51,7 +56,7 @@ fn top_decls(alloc: Global, ahead: Ahead<'_>, budget: u32) -> Result<Vec<TopDecl
     let mut rest = ahead;
     'turns: while !rest.is_empty() {
         let (decl, after) = top_decl(alloc, rest, budget)?;
-        all.push(decl)?;
+        add(&mut all, decl)?;
         rest = after;
     }
     Ok(all)

@@ -1,7 +1,7 @@
 //! Functions and methods.
 ghost use Rattle.std.specs.Prelude.{◌≡◌, ◌<◌, ◌^◌, IfOk};
 ghost use Rattle.go_scan_core.specs.declared.kind.Operator.TheVariants as operator;
-ghost use Rattle.go_tree_core.specs.Shapes.{func_of};
+ghost use Rattle.go_tree_nodes.specs.Shapes.{func_of};
 ghost use Rattle.go_parse_types.specs.Giving.{Gives};
 ghost use Rattle.go_parse_types.specs.Marks.{mark_at, name_at};
 ghost use Rattle.go_parse_core.specs.FileReading as reading;
@@ -11,7 +11,7 @@ use go_parse_stmts::block;
 use go_parse_types::{Ahead, Stop, signature, type_name};
 use go_scan_core::Operator;
 use go_text_core::Span;
-use go_tree_core::{FuncDecl, Ident, Receiver};
+use go_tree_nodes::{FuncDecl, Ident, Receiver};
 use std::alloc::{AllocError, Global};
 
 /// Whether what stands behind the name of a receiver is in front.
@@ -48,16 +48,23 @@ fn receiver<'a>(
     let (star, rest) = rest.some_mark(Operator::Star);
     let (base, rest) = type_name(alloc, rest)?;
     let (comma, rest) = rest.some_mark(Operator::Comma);
-    let (close_paren, rest) = rest.need_mark(Operator::CloseParen)?;
-    let receiver = Receiver {
-        open_paren,
-        name,
-        star,
-        base,
-        comma,
-        close_paren,
-    };
-    Ok((receiver, rest))
+    match rest.need_mark(Operator::CloseParen) {
+        Ok((close_paren, rest)) => {
+            let receiver = Receiver {
+                open_paren,
+                name,
+                star,
+                base,
+                comma,
+                close_paren,
+            };
+            Ok((receiver, rest))
+        }
+        Err(stop) => {
+            drop((name, base));
+            Err(stop)
+        }
+    }
 }
 
 /// The receiver in front, if a parenthesis opens one.
@@ -83,17 +90,36 @@ pub fn func<'a>(
     ensures { Gives (λ x. (func_of x.0, x.1)) result (func_at budget func ahead.entry) }
 {
     let (receiver, rest) = some_receiver(alloc, ahead)?;
-    let (name, rest) = rest.need_name(alloc)?;
-    let (signature, rest) = signature(alloc, rest, budget)?;
-    let (open_brace, body, close_brace, rest) = block(alloc, rest, budget)?;
-    let decl = FuncDecl {
-        func,
-        receiver,
-        name,
-        signature,
-        open_brace,
-        body,
-        close_brace,
+    let (name, rest) = match rest.need_name(alloc) {
+        Ok(found) => found,
+        Err(stop) => {
+            drop(receiver);
+            return Err(stop);
+        }
     };
-    Ok((decl, rest))
+    let (signature, rest) = match signature(alloc, rest, budget) {
+        Ok(found) => found,
+        Err(stop) => {
+            drop((receiver, name));
+            return Err(stop);
+        }
+    };
+    match block(alloc, rest, budget) {
+        Ok((open_brace, body, close_brace, rest)) => {
+            let decl = FuncDecl {
+                func,
+                receiver,
+                name,
+                signature,
+                open_brace,
+                body,
+                close_brace,
+            };
+            Ok((decl, rest))
+        }
+        Err(stop) => {
+            drop((receiver, name, signature));
+            Err(stop)
+        }
+    }
 }

@@ -1,16 +1,16 @@
 //! Import declarations.
 ghost use Rattle.std.specs.Prelude.{◌≡◌, suc, length, map, IfOk};
 ghost use Rattle.go_scan_core.specs.declared.kind.Operator.TheVariants as operator;
-ghost use Rattle.go_tree_core.specs.Shapes.{import_of, shape_import_line, shape_import_spec, shape_import_specs};
+ghost use Rattle.go_tree_nodes.specs.Shapes.{import_of, shape_import_line, shape_import_spec, shape_import_specs};
 ghost use Rattle.go_parse_types.specs.EntryShapes.{list_all};
 ghost use Rattle.go_parse_types.specs.Giving.{Gives};
 ghost use Rattle.go_parse_types.specs.Marks.{mark_at};
 ghost use Rattle.go_parse_stmts.specs.StmtReading.{specs_at};
 ghost use Rattle.go_parse_core.specs.FileReading.{dotted_import, import_spec_at, imports_go};
 
-use go_parse_types::{Ahead, Stop};
+use go_parse_types::{Ahead, Stop, add};
 use go_scan_core::{Keyword, Operator};
-use go_tree_core::{ImportDecl, ImportLine, ImportName, ImportSpec, ImportSpecs};
+use go_tree_nodes::{ImportDecl, ImportLine, ImportName, ImportSpec, ImportSpecs};
 use std::alloc::{AllocError, Global};
 
 /// What stands before the path of an import: a dot, a name, or neither.
@@ -48,18 +48,15 @@ fn import_lines<'a>(alloc: Global, ahead: Ahead<'a>) -> Result<(Vec<ImportLine>,
         let Some((semicolon, after)) = behind.mark(Operator::Semicolon) else {
             // The last semicolon before the parenthesis may be left out.
             if behind.mark(Operator::CloseParen).is_none() {
+                drop(spec);
                 return Err(Stop::Grammar(behind.offset()));
             }
-            all.push(ImportLine {
-                spec,
-                semicolon: None,
-            })?;
+            let semicolon = None;
+            add(&mut all, ImportLine { spec, semicolon })?;
             return Ok((all, behind));
         };
-        all.push(ImportLine {
-            spec,
-            semicolon: Some(semicolon),
-        })?;
+        let semicolon = Some(semicolon);
+        add(&mut all, ImportLine { spec, semicolon })?;
         rest = after;
     }
     Ok((all, rest))
@@ -86,12 +83,19 @@ pub fn imports<'a>(alloc: Global, ahead: Ahead<'a>) -> Result<(Vec<ImportDecl>, 
     let mut rest = ahead;
     'turns: while let Some((keyword, after)) = rest.word(Keyword::Import) {
         let (specs, behind) = import_specs(alloc, after)?;
-        let (semicolon, after) = behind.need_mark(Operator::Semicolon)?;
-        all.push(ImportDecl {
+        let (semicolon, after) = match behind.need_mark(Operator::Semicolon) {
+            Ok(found) => found,
+            Err(stop) => {
+                drop(specs);
+                return Err(stop);
+            }
+        };
+        let decl = ImportDecl {
             keyword,
             specs,
             semicolon,
-        })?;
+        };
+        add(&mut all, decl)?;
         rest = after;
     }
     Ok((all, rest))

@@ -3,12 +3,12 @@ ghost use Rattle.std.specs.Prelude.{◌≡◌, ◌≤◌, ◌<◌, ◌^◌, ℕ,
 ghost use Rattle.go_scan_core.specs.Cutting.{comments_of};
 ghost use Rattle.go_scan_core.specs.Texts.{CommentHasItsText};
 ghost use Rattle.go_scan_core.specs.Tokens.{CommentsInOrder};
-ghost use Rattle.go_tree_core.specs.Heights.{file_height};
+ghost use Rattle.go_tree_nodes.specs.Heights.{file_height};
 ghost use Rattle.go_tree_core.specs.Occurrences.{file_occs};
-ghost use Rattle.go_tree_core.specs.Shapes.{file_of};
-ghost use Rattle.go_tree_core.specs.Spelling.{spell_file};
-ghost use Rattle.go_tree_core.specs.Terminals.{InOrder};
-ghost use Rattle.go_tree_core.specs.Trees.{FileTree};
+ghost use Rattle.go_tree_nodes.specs.Shapes.{file_of};
+ghost use Rattle.go_tree_nodes.specs.Spelling.{spell_file};
+ghost use Rattle.go_tree_nodes.specs.Terminals.{InOrder};
+ghost use Rattle.go_tree_nodes.specs.Trees.{FileTree};
 ghost use Rattle.go_parse_core.specs.Correct.{HasTree, max_height};
 ghost use Rattle.go_parse_core.specs.Parsing.{AreComments, Parses, IsParsedUnlessMemory};
 ghost use Rattle.go_parse_core.specs.Stopping.{IsErrorOf, IsTreeAnswer, IsTreeUnlessMemory};
@@ -18,7 +18,8 @@ use crate::file::file;
 use go_parse_types::{Ahead, Stop};
 use go_scan_core::{Comment, ScanError, comments, scan};
 use go_text_core::Rule;
-use go_tree_core::File;
+use go_tree_core::copy;
+use go_tree_nodes::File;
 use std::alloc::{AllocError, Global};
 use std::marker::Model;
 
@@ -39,7 +40,7 @@ impl Model for Parsed {
 
     ghost Value = { List ℕ };
 
-    ghost use Rattle.go_tree_core.specs.Shapes.{file_of};
+    ghost use Rattle.go_tree_nodes.specs.Shapes.{file_of};
     ghost use Rattle.go_parse_core.specs.Parsing.{IsParse};
 
     ghost view = { λ p. string_bytes p.text };
@@ -79,12 +80,16 @@ impl Parsed {
         (text, tree)
     }
 
+    /// Gives back the memory of the text and of its tree. A crate that ends its parsed texts by this call has no drops of trees of
+    /// its own.
+    pub fn close(self) {}
+
     /// An equal value. The one error is want of memory.
     pub fn copy(&self, alloc: Global) -> Result<Parsed, AllocError>
         ensures { IfOk result (λ p. p ≡ self.now) }
     {
         let text = String::from_str(alloc, self.text.as_str())?;
-        let tree = self.tree.copy(alloc)?;
+        let tree = copy(alloc, &self.tree)?;
         Ok(Parsed { text, tree })
     }
 

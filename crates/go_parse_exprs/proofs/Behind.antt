@@ -7,12 +7,12 @@ use Rattle.go_text_core.specs.declared.span.Span.{Span}
 use Rattle.go_scan_core.specs.contracts.kind.Operator as operator_contracts
 use Rattle.go_scan_core.specs.declared.kind.Operator.{Operator}
 use Rattle.go_scan_core.specs.declared.kind.Operator.TheVariants as operator
-use Rattle.go_tree_core.specs.declared.names.Ident.{Ident}
-use Rattle.go_tree_core.specs.declared.types.TypeName.TheVariants as type_name
-use Rattle.go_tree_core.specs.Terminals.{TerminalKind, Mark, Terminal}
-use Rattle.go_tree_core.specs.Trees.{ExprTree, Integer, Text, Named, Paren, Unary, Binary, Select, Call, Literal, StructLiteral}
-use Rattle.go_tree_core.specs.Spelling.{mark, spell_ident}
-use Rattle.go_tree_core.specs.Rules.{rank_of, unary_rank, primary_rank, is_unary, is_step, is_update, Binds, Wf}
+use Rattle.go_tree_nodes.specs.declared.names.Ident.{Ident}
+use Rattle.go_tree_nodes.specs.declared.types.TypeName.TheVariants as type_name
+use Rattle.go_tree_nodes.specs.Terminals.{TerminalKind, Mark, Terminal}
+use Rattle.go_tree_nodes.specs.Trees.{ExprTree, Integer, Text, Named, Paren, Unary, Binary, Select, Call, Literal, StructLiteral}
+use Rattle.go_tree_nodes.specs.Spelling.{mark, spell_ident}
+use Rattle.go_tree_nodes.specs.Rules.{rank_of, unary_rank, primary_rank, is_unary, is_step, is_update, Binds, Wf}
 use Rattle.go_parse_types.specs.Marks.{Place, same_operator, mark_at, mark_that_in, mark_that}
 use Rattle.go_parse_exprs.specs.ExprReading.{literal_dot, body_by, body_of, body_at, next_apply, next_pick, next_operate, binds_at, next_at}
 use Rattle.go_parse_types.proofs.Marks.{none_when, mark_not, mark_that_not}

@@ -4,11 +4,11 @@ use Rattle.std.proofs.lemmas.Bool.{lt-ltb, le-ltb, le-leb, lt-leb, cases_lt}
 use Rattle.go_text_core.specs.declared.span.Span.{Span}
 use Rattle.go_scan_core.specs.declared.kind.Operator.{Operator}
 use Rattle.go_scan_core.specs.declared.kind.Operator.TheVariants as operator
-use Rattle.go_tree_core.specs.Terminals.{Terminal}
-use Rattle.go_tree_core.specs.Trees.{ExprTree}
-use Rattle.go_tree_core.specs.Spelling.{mark}
-use Rattle.go_tree_core.specs.Rules.{rank_of}
-use Rattle.go_tree_core.specs.Heights.{height}
+use Rattle.go_tree_nodes.specs.Terminals.{Terminal}
+use Rattle.go_tree_nodes.specs.Trees.{ExprTree}
+use Rattle.go_tree_nodes.specs.Spelling.{mark}
+use Rattle.go_tree_nodes.specs.Rules.{rank_of}
+use Rattle.go_tree_nodes.specs.Heights.{height}
 use Rattle.go_parse_types.specs.Marks.{TooHigh, ◌>>=◌, Reading}
 use Rattle.go_parse_exprs.specs.ExprReading.{Inner, operand_at, Next, Operate, Pick, Apply, next_apply, next_pick, next_operate, binds_at, next_at, step, turn, chain, expr_at}
 use Rattle.go_parse_types.proofs.Marks.{mark_here, mark_that_here, mark_that_not, AgreesAt, bind_agrees, agrees_along}

@@ -2,13 +2,13 @@
 use Rattle.std.proofs.Common.{◌≡◌, ℕ, max, Bool, zero, suc, ◌-◌, ◌<◌, List, [], ◌∷◌, ◌++◌, length, Some, None, Ok, Err, refl, sym, ap, ◌∙◌, arith, length-append}
 use Rattle.go_text_core.specs.declared.span.Span.{Span}
 use Rattle.go_scan_core.specs.declared.kind.Operator.TheVariants as operator
-use Rattle.go_tree_core.specs.declared.exprs.Expr.{Expr}
-use Rattle.go_tree_core.specs.declared.exprs.NextExpr.{NextExpr}
-use Rattle.go_tree_core.specs.Terminals.{Terminal}
-use Rattle.go_tree_core.specs.Trees.{ExprTree, Separated, One, Then}
-use Rattle.go_tree_core.specs.Spelling.{spell}
-use Rattle.go_tree_core.specs.Heights.{height, exprs_height}
-use Rattle.go_tree_core.specs.Shapes.{shape, exprs_from}
+use Rattle.go_tree_nodes.specs.declared.exprs.Expr.{Expr}
+use Rattle.go_tree_nodes.specs.declared.exprs.NextExpr.{NextExpr}
+use Rattle.go_tree_nodes.specs.Terminals.{Terminal}
+use Rattle.go_tree_nodes.specs.Trees.{ExprTree, Separated, One, Then}
+use Rattle.go_tree_nodes.specs.Spelling.{spell}
+use Rattle.go_tree_nodes.specs.Heights.{height, exprs_height}
+use Rattle.go_tree_nodes.specs.Shapes.{shape, exprs_from}
 use Rattle.go_parse_types.specs.declared.stop.Stop.{Stop}
 use Rattle.go_parse_types.specs.Giving.{Fails}
 use Rattle.go_parse_types.specs.Marks.{Stuck, ◌>>=◌, Reading, mark_at}

@@ -6,24 +6,24 @@ use Rattle.go_text_core.specs.declared.span.Span.{Span}
 use Rattle.go_scan_core.specs.declared.kind.Keyword.TheVariants as keyword
 use Rattle.go_scan_core.specs.declared.kind.Operator.{Operator}
 use Rattle.go_scan_core.specs.declared.kind.Operator.TheVariants as operator
-use Rattle.go_tree_core.specs.declared.names.Ident.{Ident}
-use Rattle.go_tree_core.specs.declared.names.TextLiteral.{TextLiteral}
-use Rattle.go_tree_core.specs.declared.types.TypeName.{TypeName}
-use Rattle.go_tree_core.specs.declared.types.TypeName.TheVariants as type_name
-use Rattle.go_tree_core.specs.declared.exprs.«Item» as declared_item
-use Rattle.go_tree_core.specs.Terminals.{TerminalKind, Spelled, Number, Quoted, Word, Mark, Stray, Terminal}
-use Rattle.go_tree_core.specs.Trees.{ExprTree, ItemTrees, Item, Integer, Text, Named}
-use Rattle.go_tree_core.specs.Shapes.{shape, items_of}
-use Rattle.go_tree_core.specs.Heights.{height}
-use Rattle.go_tree_core.specs.Rules.{is_unary}
+use Rattle.go_tree_nodes.specs.declared.names.Ident.{Ident}
+use Rattle.go_tree_nodes.specs.declared.names.TextLiteral.{TextLiteral}
+use Rattle.go_tree_nodes.specs.declared.types.TypeName.{TypeName}
+use Rattle.go_tree_nodes.specs.declared.types.TypeName.TheVariants as type_name
+use Rattle.go_tree_nodes.specs.declared.exprs.«Item» as declared_item
+use Rattle.go_tree_nodes.specs.Terminals.{TerminalKind, Spelled, Number, Quoted, Word, Mark, Stray, Terminal}
+use Rattle.go_tree_nodes.specs.Trees.{TypeTree, ExprTree, ItemTrees, Item, Integer, Text, Named, Paren, Literal, StructLiteral}
+use Rattle.go_tree_nodes.specs.Shapes.{shape, items_of}
+use Rattle.go_tree_nodes.specs.Heights.{height}
+use Rattle.go_tree_nodes.specs.Rules.{is_unary}
 use Rattle.go_parse_types.specs.declared.stop.Stop.{Stop}
 use Rattle.go_parse_types.specs.EntryShapes.{list_all}
 use Rattle.go_parse_types.specs.Giving.{Fails}
 use Rattle.go_parse_types.specs.Marks.{Stuck, Grammar, TooHigh, ◌>>=◌, Reading, Place, need, mark_in, mark_at, word_in, word_at, name_in, name_at, number_in, number_at, text_in, text_at, mark_that_in, mark_that}
 use Rattle.go_parse_types.proofs.CodeSteps.{fails_along}
 use Rattle.go_parse_types.proofs.Marks.{need_ok}
-use Rattle.go_parse_exprs.specs.CodeShapes.{item_of, opens_member, opens_dot, opens_body}
-use Rattle.go_parse_exprs.specs.ExprReading.{Inner, as_items, item_at, items_at, close_by, literal_member, literal_dot, literal_name, body_by, body_of, body_at, literal_by, named_by, struct_literal, by_word, by_unary, by_paren, operand_in, operand_at, Next, next_at, step, expr_at}
+use Rattle.go_parse_exprs.specs.CodeShapes.{item_of, opens_member, opens_dot, opens_body, in_parens, ElementsTree, closed_by, opened_by, elements_at}
+use Rattle.go_parse_exprs.specs.ExprReading.{Inner, as_items, item_at, items_at, close_by, literal_member, literal_dot, literal_name, body_by, body_of, body_at, literal_by, named_by, struct_literal_by, struct_body, struct_literal, by_word, by_unary, by_paren, operand_in, operand_at, Next, next_at, step, expr_at}
 use Rattle.go_parse_exprs.proofs.Onward.{onward, from_err, from_first_err}
 
 -- what fails
@@ -108,6 +108,23 @@ pub operand_unary : (inner : Inner) (b : ℕ) (header : Bool) (ts : List Termina
 operand_unary inner b header [] number text name struct paren = refl
 operand_unary inner b header (t ∷ ts) number text name struct paren = in_unary inner b header t.kind t.span ts (t ∷ ts) number text name struct paren refl
 
+-- a parenthesis, by what stands inside it
+
+paren_inside : (inner : Inner) (first : Span) (ts : List Terminal) (t : ExprTree × List Terminal) → inner false 1 ts ≡ Ok t → in_parens inner first ts ≡ close_by first t.0 (mark_at operator.CloseParen t.1)
+paren_inside inner first ts t read = ap (λ r. r >>= λ x. close_by first x.0 (mark_at operator.CloseParen x.1)) read
+
+pub paren_fails : (inner : Inner) (first : Span) (ts : List Terminal) (e : Stop) → Fails e (inner false 1 ts) → Fails e (in_parens inner first ts)
+paren_fails inner first ts e failed =
+    bind_fails (inner false 1 ts) (λ x. close_by first x.0 (mark_at operator.CloseParen x.1)) (in_parens inner first ts) e refl failed
+
+pub paren_unclosed : (inner : Inner) (first : Span) (ts : List Terminal) (t : ExprTree × List Terminal) (e : Stop) → inner false 1 ts ≡ Ok t → Fails e (need (mark_at operator.CloseParen t.1)) → Fails e (in_parens inner first ts)
+paren_unclosed inner first ts t e read failed =
+    need_fails (mark_at operator.CloseParen t.1) (close_by first t.0) (in_parens inner first ts) e (paren_inside inner first ts t read) refl failed
+
+pub paren_is : (inner : Inner) (first : Span) (ts : List Terminal) (t : ExprTree × List Terminal) (last : Span × List Terminal) → inner false 1 ts ≡ Ok t → need (mark_at operator.CloseParen t.1) ≡ Ok last → in_parens inner first ts ≡ Ok (Paren first t.0 last.0, last.1)
+paren_is inner first ts t last read closed =
+    paren_inside inner first ts t read ∙ ap (close_by first t.0) (need_ok (mark_at operator.CloseParen t.1) last closed)
+
 -- the type's name and the opening brace of a literal
 
 no_brace : (n : TypeName) (m : Place) → is_some m ≡ false → body_by n m ≡ None
@@ -152,25 +169,6 @@ pub named_high : (inner : Inner) (b : ℕ) (header : Bool) (x : Ident) (ts : Lis
 named_high inner b header x ts e none =
     ap (λ b. named_by inner b x ts (body_at header x ts)) none ∙ ap (named_by inner 0 x ts) (body_some header x ts e).2
 
-pub brace_fails : (header : Bool) (x : Ident) (ts : List Terminal) (n : TypeName × List Terminal) (whole : Reading ExprTree) (e : Stop) → opens_body header ts ≡ true → n ≡ literal_name x ts → Fails e (need (mark_at operator.OpenBrace n.1)) → Fails e whole
-brace_fails header x ts n whole e opens is failed =
-    let s = body_some header x ts opens in
-    found_fails (mark_at operator.OpenBrace n.1) s.0 whole e (ap (λ (n : TypeName × List Terminal). mark_at operator.OpenBrace n.1) is ∙ s.1) failed
-
--- the elements of a literal and its closing brace
-abbrev pub literal_from : Inner → TypeName → Span → List Terminal → Reading ExprTree
-literal_from inner n first ts = items_at inner true operator.CloseBrace ts >>= λ y. literal_by n first y.0 (mark_at operator.CloseBrace y.1)
-
-pub named_goes : (inner : Inner) (b : ℕ) (header : Bool) (x : Ident) (ts : List Terminal) (n : TypeName × List Terminal) (first : Span × List Terminal) → opens_body header ts ≡ true → 0 < b → n ≡ literal_name x ts → need (mark_at operator.OpenBrace n.1) ≡ Ok first → named_by inner b x ts (body_at header x ts) ≡ literal_from inner n.0 first.0 first.1
-named_goes inner b header x ts n first opens some is at =
-    let s = body_some header x ts opens in
-    let here : mark_at operator.OpenBrace (literal_name x ts).1 ≡ Some first = ap (λ (n : TypeName × List Terminal). mark_at operator.OpenBrace n.1) (sym is) ∙ need_ok (mark_at operator.OpenBrace n.1) first at in
-    let same : s.0 ≡ first = cc (s.1, here) in
-    ap (named_by inner b x ts) s.2
-    ∙ ap (λ c. cond c (literal_from inner (literal_name x ts).0 s.0.0 s.0.1) (Err TooHigh)) (lt-ltb 0 b some)
-    ∙ ap (λ (s : Span × List Terminal). literal_from inner (literal_name x ts).0 s.0 s.1) same
-    ∙ ap (λ (n : TypeName × List Terminal). literal_from inner n.0 first.0 first.1) (sym is)
-
 -- arguments and elements
 
 pub items_are : (is : List declared_item.Item) → as_items (map item_of is) ≡ items_of is
@@ -181,6 +179,59 @@ pub items_found : (inner : Inner) (keyed : Bool) (close : Operator) (ts rest : L
 items_found inner keyed close ts rest is e =
     ap (λ r. r >>= λ x. Ok (as_items x.0, x.1)) e ∙ ap (λ l. Ok (l, rest)) (items_are is)
 
-pub items_fail : (inner : Inner) (keyed : Bool) (close : Operator) (ts : List Terminal) (go : ItemTrees × List Terminal → Reading ExprTree) (whole : Reading ExprTree) (e : Stop) → whole ≡ (items_at inner keyed close ts >>= go) → Fails e (list_all (item_at inner keyed) operator.Comma close ts) → Fails e whole
+pub items_fail : {Y : Type 0} (inner : Inner) (keyed : Bool) (close : Operator) (ts : List Terminal) (go : ItemTrees × List Terminal → Result Y Stuck) (whole : Result Y Stuck) (e : Stop) → whole ≡ (items_at inner keyed close ts >>= go) → Fails e (list_all (item_at inner keyed) operator.Comma close ts) → Fails e whole
 items_fail inner keyed close ts go whole e is failed =
     fails_along (list_all (item_at inner keyed) operator.Comma close ts) whole e (λ f g. is ∙ ap (λ r. (r >>= λ x. Ok (as_items x.0, x.1)) >>= go) g) failed
+
+-- the elements of a literal, with what they belong to
+
+abbrev pub literal_from : Inner → TypeName → Span → List Terminal → Reading ExprTree
+literal_from inner n first ts = items_at inner true operator.CloseBrace ts >>= λ y. literal_by n first y.0 (mark_at operator.CloseBrace y.1)
+
+closed_as : (r : Reading ItemTrees) (first : Span) (make : ElementsTree → ExprTree) (by : ItemTrees → Place → Reading ExprTree) → ((is : ItemTrees) → by is None ≡ Err Grammar) → ((is : ItemTrees) (last : Span × List Terminal) → by is (Some last) ≡ Ok (make (first, is, last.0), last.1)) → (r >>= λ y. by y.0 (mark_at operator.CloseBrace y.1)) ≡ ((r >>= λ y. closed_by first y.0 (mark_at operator.CloseBrace y.1)) >>= λ z. Ok (make z.0, z.1))
+closed_as (Err f) first make by none some = refl
+closed_as (Ok y) first make by none some = at (mark_at operator.CloseBrace y.1)
+  where
+    at : (o : Place) → by y.0 o ≡ (closed_by first y.0 o >>= λ z. Ok (make z.0, z.1))
+    at None = none y.0
+    at (Some last) = some y.0 last
+
+abbrev pub literal_with : TypeName → ElementsTree → ExprTree
+literal_with n z = Literal n z.0 z.1 z.2
+
+pub named_elements : (inner : Inner) (b : ℕ) (header : Bool) (x : Ident) (ts : List Terminal) (n : TypeName × List Terminal) → opens_body header ts ≡ true → 0 < b → n ≡ literal_name x ts → named_by inner b x ts (body_at header x ts) ≡ (elements_at inner n.1 >>= λ z. Ok (literal_with n.0 z.0, z.1))
+named_elements inner b header x ts n opens some is =
+    let s = body_some header x ts opens in
+    let first = s.0 in
+    let name = literal_name x ts in
+    ap (named_by inner b x ts) s.2
+    ∙ ap (λ c. cond c (literal_from inner name.0 first.0 first.1) (Err TooHigh)) (lt-ltb 0 b some)
+    ∙ closed_as (items_at inner true operator.CloseBrace first.1) first.0 (literal_with name.0) (literal_by name.0 first.0) (λ is. refl) (λ is last. refl)
+    ∙ ap (λ o. opened_by inner o >>= λ z. Ok (literal_with name.0 z.0, z.1)) (sym s.1)
+    ∙ ap (λ (n : TypeName × List Terminal). elements_at inner n.1 >>= λ z. Ok (literal_with n.0 z.0, z.1)) (sym is)
+
+abbrev pub struct_with : TypeTree → ElementsTree → ExprTree
+struct_with t z = StructLiteral t z.0 z.1 z.2
+
+pub struct_elements : (inner : Inner) (t : TypeTree) (o : Place) → struct_body inner t o ≡ (opened_by inner o >>= λ z. Ok (struct_with t z.0, z.1))
+struct_elements inner t None = refl
+struct_elements inner t (Some first) =
+    closed_as (items_at inner true operator.CloseBrace first.1) first.0 (struct_with t) (struct_literal_by t first.0) (λ is. refl) (λ is last. refl)
+
+pub elements_are : (inner : Inner) (ts behind : List Terminal) (first : Span × List Terminal) (is : ItemTrees) (last : Span × List Terminal) → need (mark_at operator.OpenBrace ts) ≡ Ok first → items_at inner true operator.CloseBrace first.1 ≡ Ok (is, behind) → need (mark_at operator.CloseBrace behind) ≡ Ok last → elements_at inner ts ≡ Ok ((first.0, is, last.0), last.1)
+elements_are inner ts behind first is last opened found closed =
+    ap (opened_by inner) (need_ok (mark_at operator.OpenBrace ts) first opened)
+    ∙ ap (λ r. r >>= λ y. closed_by first.0 y.0 (mark_at operator.CloseBrace y.1)) found
+    ∙ ap (closed_by first.0 is) (need_ok (mark_at operator.CloseBrace behind) last closed)
+
+pub elements_unopened : (inner : Inner) (ts : List Terminal) (e : Stop) → Fails e (need (mark_at operator.OpenBrace ts)) → Fails e (elements_at inner ts)
+elements_unopened inner ts e failed = need_fails (mark_at operator.OpenBrace ts) (opened_by inner) (elements_at inner ts) e refl refl failed
+
+pub elements_fail : (inner : Inner) (ts : List Terminal) (first : Span × List Terminal) (e : Stop) → need (mark_at operator.OpenBrace ts) ≡ Ok first → Fails e (list_all (item_at inner true) operator.Comma operator.CloseBrace first.1) → Fails e (elements_at inner ts)
+elements_fail inner ts first e opened failed =
+    items_fail inner true operator.CloseBrace first.1 (λ y. closed_by first.0 y.0 (mark_at operator.CloseBrace y.1)) (elements_at inner ts) e (ap (opened_by inner) (need_ok (mark_at operator.OpenBrace ts) first opened)) failed
+
+pub elements_unclosed : (inner : Inner) (ts behind : List Terminal) (first : Span × List Terminal) (is : ItemTrees) (e : Stop) → need (mark_at operator.OpenBrace ts) ≡ Ok first → items_at inner true operator.CloseBrace first.1 ≡ Ok (is, behind) → Fails e (need (mark_at operator.CloseBrace behind)) → Fails e (elements_at inner ts)
+elements_unclosed inner ts behind first is e opened found failed =
+    need_fails (mark_at operator.CloseBrace behind) (closed_by first.0 is) (elements_at inner ts) e
+    (ap (opened_by inner) (need_ok (mark_at operator.OpenBrace ts) first opened) ∙ ap (λ r. r >>= λ y. closed_by first.0 y.0 (mark_at operator.CloseBrace y.1)) found) refl failed

@@ -1,35 +1,38 @@
 -- What reading calls and literals gives, in the words of the program.
-use Rattle.std.proofs.Common.{◌≡◌, ℕ, zero, suc, ◌+◌, ◌-◌, ◌<◌, ◌≤◌, max, Bool, true, false, List, [], ◌∷◌, ◌++◌, map, Vec, Ok, refl, sym, ap, ◌∙◌, arith}
+use Rattle.std.proofs.Common.{◌≡◌, ℕ, zero, suc, ◌+◌, ◌-◌, ◌<◌, ◌≤◌, max, Bool, true, false, List, [], ◌∷◌, ◌++◌, map, Option, Some, None, Vec, Ok, Err, refl, sym, ap, ◌∙◌, arith}
 use Rattle.std.specs.Global.{Global, Box}
 use Rattle.go_text_core.specs.declared.span.Span.{Span}
 use Rattle.go_scan_core.specs.declared.kind.Keyword.TheVariants as keyword
+use Rattle.go_scan_core.specs.declared.kind.Operator.{Operator}
 use Rattle.go_scan_core.specs.declared.kind.Operator.TheVariants as operator
-use Rattle.go_tree_core.specs.declared.names.Ident.{Ident}
-use Rattle.go_tree_core.specs.declared.types.TypeName.{TypeName}
-use Rattle.go_tree_core.specs.declared.types.TypeExpr.{TypeExpr}
-use Rattle.go_tree_core.specs.declared.exprs.Expr.{Expr}
-use Rattle.go_tree_core.specs.declared.exprs.Expr.TheVariants as expr
-use Rattle.go_tree_core.specs.declared.exprs.«Item» as declared_item
-use Rattle.go_tree_core.specs.Terminals.{Terminal}
-use Rattle.go_tree_core.specs.Trees.{TypeTree, ExprTree, Call, Literal, StructLiteral}
-use Rattle.go_tree_core.specs.Spelling.{word}
-use Rattle.go_tree_core.specs.TypeShapes.{shape_type}
-use Rattle.go_tree_core.specs.Shapes.{shape, items_of}
-use Rattle.go_tree_core.specs.Heights.{type_height, height, items_height}
-use Rattle.go_tree_core.proofs.ShapeLemmas.{shape_call, shape_literal, shape_struct_literal}
+use Rattle.go_tree_nodes.specs.declared.names.Ident.{Ident}
+use Rattle.go_tree_nodes.specs.declared.types.TypeName.{TypeName}
+use Rattle.go_tree_nodes.specs.declared.types.TypeExpr.{TypeExpr}
+use Rattle.go_tree_nodes.specs.declared.exprs.Expr.{Expr}
+use Rattle.go_tree_nodes.specs.declared.exprs.Expr.TheVariants as expr
+use Rattle.go_tree_nodes.specs.declared.exprs.«Item» as declared_item
+use Rattle.go_tree_nodes.specs.declared.exprs.Key.{Key}
+use Rattle.go_tree_nodes.specs.Terminals.{Terminal}
+use Rattle.go_tree_nodes.specs.Trees.{TypeTree, ExprTree, Binary, Select, Call, Literal, StructLiteral}
+use Rattle.go_tree_nodes.specs.Rules.{rank_of}
+use Rattle.go_tree_nodes.specs.Spelling.{word}
+use Rattle.go_tree_nodes.specs.TypeShapes.{shape_type}
+use Rattle.go_tree_nodes.specs.Shapes.{shape, items_of}
+use Rattle.go_tree_nodes.specs.Heights.{type_height, height, items_height}
+use Rattle.go_tree_nodes.proofs.ShapeLemmas.{shape_call, shape_literal, shape_struct_literal}
 use Rattle.go_parse_types.specs.declared.stop.Stop.{Stop}
-use Rattle.go_parse_types.specs.EntryShapes.{list_all}
+use Rattle.go_parse_types.specs.EntryShapes.{list_all, with_mark, then_mark}
 use Rattle.go_parse_types.specs.Giving.{Fails}
-use Rattle.go_parse_types.specs.Marks.{◌>>=◌, need, mark_at}
+use Rattle.go_parse_types.specs.Marks.{◌>>=◌, Reading, need, mark_at, name_at, mark_or_end}
 use Rattle.go_parse_types.specs.TypeReading.{struct_at, type_at}
 use Rattle.go_parse_types.proofs.Marks.{need_ok}
 use Rattle.go_parse_types.proofs.Types.{type_sound}
 use Rattle.go_parse_exprs.specs.declared.after.After.{After}
 use Rattle.go_parse_exprs.specs.declared.after.After.TheVariants as after
-use Rattle.go_parse_exprs.specs.CodeShapes.{next_of, item_of, opens_body}
-use Rattle.go_parse_exprs.specs.ExprReading.{Inner, item_at, items_at, literal_name, body_at, literal_by, named_by, struct_literal_by, struct_body, struct_type, struct_literal, call_by, step}
+use Rattle.go_parse_exprs.specs.CodeShapes.{next_of, item_of, opens_body, key_from, some_key, ElementsTree, elements_at}
+use Rattle.go_parse_exprs.specs.ExprReading.{Inner, ItemTree, key_at, item_by, item_at, literal_name, body_at, named_by, struct_body, struct_type, struct_literal, call_by, step}
 use Rattle.go_parse_exprs.proofs.ExprFound.{struct_type_is}
-use Rattle.go_parse_exprs.proofs.CodeExprs.{need_fails, named_goes, items_found, items_fail}
+use Rattle.go_parse_exprs.proofs.CodeExprs.{bind_fails, need_fails, items_found, items_fail, literal_with, named_elements, struct_with, struct_elements}
 
 -- the height of one more item
 
@@ -40,7 +43,27 @@ items_push (j ∷ js) i = omega (arith, items_push js i)
 pub items_more : (is new : List declared_item.Item) (i : declared_item.Item) → new ≡ is ++ (i ∷ []) → items_height (items_of new) ≡ max (items_height (items_of is)) (height (shape i.value))
 items_more is new i e = ap (λ l. items_height (items_of l)) e ∙ items_push is i
 
+-- an operator and a selector, by what stands behind them
+
+pub operate_fails : (inner : Inner) (header : Bool) (t : ExprTree) (a : After) (o : Operator) (s : Span) (ts : List Terminal) (r : ℕ) (e : Stop) → a ≡ after.Operate o → r ≡ rank_of o → Fails e (inner header (r + 1) ts) → Fails e (step inner header t (next_of a s ts))
+operate_fails inner header t a o s ts r e operate rank failed =
+    bind_fails (inner header (r + 1) ts) (λ x. Ok (Binary t o s x.0, x.1)) (step inner header t (next_of a s ts)) e
+    (ap (λ a. step inner header t (next_of a s ts)) operate ∙ ap (λ r. inner header (r + 1) ts >>= λ x. Ok (Binary t o s x.0, x.1)) (sym rank)) failed
+
+pub pick_fails : (inner : Inner) (header : Bool) (t : ExprTree) (a : After) (s : Span) (ts : List Terminal) (e : Stop) → a ≡ after.Pick → Fails e (need (name_at ts)) → Fails e (step inner header t (next_of a s ts))
+pick_fails inner header t a s ts e pick failed =
+    bind_fails (need (name_at ts)) (λ x. Ok (Select t s x.0, x.1)) (step inner header t (next_of a s ts)) e (ap (λ a. step inner header t (next_of a s ts)) pick) failed
+
 -- a call, by its arguments
+
+pub call_fails : (inner : Inner) (header : Bool) (t : ExprTree) (a : After) (s : Span) (ts : List Terminal) (e : Stop) → a ≡ after.Apply → Fails e (list_all (item_at inner false) operator.Comma operator.CloseParen ts) → Fails e (step inner header t (next_of a s ts))
+call_fails inner header t a s ts e call failed =
+    items_fail inner false operator.CloseParen ts (λ x. call_by t s x.0 (mark_at operator.CloseParen x.1)) (step inner header t (next_of a s ts)) e (ap (λ a. step inner header t (next_of a s ts)) call) failed
+
+pub call_unclosed : (inner : Inner) (header : Bool) (t : ExprTree) (a : After) (s : Span) (ts rest : List Terminal) (is : List declared_item.Item) (e : Stop) → a ≡ after.Apply → list_all (item_at inner false) operator.Comma operator.CloseParen ts ≡ Ok (map item_of is, rest) → Fails e (need (mark_at operator.CloseParen rest)) → Fails e (step inner header t (next_of a s ts))
+call_unclosed inner header t a s ts rest is e call found failed =
+    need_fails (mark_at operator.CloseParen rest) (call_by t s (items_of is)) (step inner header t (next_of a s ts)) e
+    (ap (λ a. step inner header t (next_of a s ts)) call ∙ ap (λ r. r >>= λ x. call_by t s x.0 (mark_at operator.CloseParen x.1)) (items_found inner false operator.CloseParen ts rest is found)) refl failed
 
 pub call_is : (inner : Inner) (header : Bool) (t : ExprTree) (a : After) (s : Span) (ts rest : List Terminal) (is : List declared_item.Item) (last : Span × List Terminal) → a ≡ after.Apply → list_all (item_at inner false) operator.Comma operator.CloseParen ts ≡ Ok (map item_of is, rest) → need (mark_at operator.CloseParen rest) ≡ Ok last → step inner header t (next_of a s ts) ≡ Ok (Call t s (items_of is) last.0, last.1)
 call_is inner header t a s ts rest is last call found closed =
@@ -55,22 +78,48 @@ call_shape e x first is last held =
 pub call_height : (e : Box Expr) (x : Expr) (first : Span) (is : Vec declared_item.Item Global) (last : Span) → e.value ≡ x → max (height (shape x)) (items_height (items_of is.items)) + 1 ≡ height (shape (expr.Call e first is last))
 call_height e x first is last held = ap height (call_shape e x first is last held)
 
+-- an item, by its key, its value and the mark behind it
+
+item_from : (inner : Inner) (keyed : Bool) (ts : List Terminal) → item_at inner keyed ts ≡ (inner false 1 (some_key keyed ts).1 >>= λ x. Ok (((some_key keyed ts).0, x.0), x.1))
+item_from inner false ts = refl
+item_from inner true ts = by (key_at ts)
+  where
+    by : (o : Option (Key × List Terminal)) → item_by inner ts o ≡ (inner false 1 (key_from ts o).1 >>= λ x. Ok (((key_from ts o).0, x.0), x.1))
+    by None = refl
+    by (Some k) = refl
+
+item_keyed : (inner : Inner) (keyed : Bool) (close : Operator) (ts : List Terminal) (k : Option Key × List Terminal) → k ≡ some_key keyed ts → then_mark operator.Comma close (item_at inner keyed ts) ≡ (inner false 1 k.1 >>= λ x. with_mark (k.0, x.0) (mark_or_end operator.Comma close x.1))
+item_keyed inner keyed close ts k is =
+    ap (then_mark operator.Comma close) (item_from inner keyed ts)
+    ∙ fused (inner false 1 (some_key keyed ts).1) (some_key keyed ts).0
+    ∙ ap (λ (k : Option Key × List Terminal). inner false 1 k.1 >>= λ x. with_mark (k.0, x.0) (mark_or_end operator.Comma close x.1)) (sym is)
+  where
+    fused : (r : Reading ExprTree) (key : Option Key) → then_mark {A = ItemTree} operator.Comma close (r >>= λ x. Ok ((key, x.0), x.1)) ≡ (r >>= λ x. with_mark (key, x.0) (mark_or_end operator.Comma close x.1))
+    fused (Ok x) key = refl
+    fused (Err f) key = refl
+
+pub item_is : (inner : Inner) (keyed : Bool) (close : Operator) (ts : List Terminal) (k : Option Key × List Terminal) (t : ExprTree × List Terminal) (s : Option Span × List Terminal) → k ≡ some_key keyed ts → inner false 1 k.1 ≡ Ok t → mark_or_end operator.Comma close t.1 ≡ Ok s → then_mark operator.Comma close (item_at inner keyed ts) ≡ Ok (((k.0, t.0), s.0), s.1)
+item_is inner keyed close ts k t s is read ended =
+    item_keyed inner keyed close ts k is ∙ ap (λ r. r >>= λ x. with_mark (k.0, x.0) (mark_or_end operator.Comma close x.1)) read ∙ ap (with_mark (k.0, t.0)) ended
+
+pub item_fails : (inner : Inner) (keyed : Bool) (close : Operator) (ts : List Terminal) (k : Option Key × List Terminal) (e : Stop) → k ≡ some_key keyed ts → Fails e (inner false 1 k.1) → Fails e (then_mark operator.Comma close (item_at inner keyed ts))
+item_fails inner keyed close ts k e is failed =
+    bind_fails (inner false 1 k.1) (λ x. with_mark (k.0, x.0) (mark_or_end operator.Comma close x.1)) (then_mark operator.Comma close (item_at inner keyed ts)) e (item_keyed inner keyed close ts k is) failed
+
+pub item_unended : (inner : Inner) (keyed : Bool) (close : Operator) (ts : List Terminal) (k : Option Key × List Terminal) (t : ExprTree × List Terminal) (e : Stop) → k ≡ some_key keyed ts → inner false 1 k.1 ≡ Ok t → Fails e (mark_or_end operator.Comma close t.1) → Fails e (then_mark operator.Comma close (item_at inner keyed ts))
+item_unended inner keyed close ts k t e is read failed =
+    bind_fails (mark_or_end operator.Comma close t.1) (λ s. Ok (((k.0, t.0), s.0), s.1)) (then_mark operator.Comma close (item_at inner keyed ts)) e
+    (item_keyed inner keyed close ts k is ∙ ap (λ r. r >>= λ x. with_mark (k.0, x.0) (mark_or_end operator.Comma close x.1)) read) failed
+
 -- a literal of a type with a name, by its elements
 
-literal_elements : (inner : Inner) (b : ℕ) (header : Bool) (x : Ident) (ts : List Terminal) (n : TypeName × List Terminal) (first : Span × List Terminal) (is : List declared_item.Item) (rest : List Terminal) → opens_body header ts ≡ true → 0 < b → n ≡ literal_name x ts → need (mark_at operator.OpenBrace n.1) ≡ Ok first → list_all (item_at inner true) operator.Comma operator.CloseBrace first.1 ≡ Ok (map item_of is, rest) → named_by inner b x ts (body_at header x ts) ≡ literal_by n.0 first.0 (items_of is) (mark_at operator.CloseBrace rest)
-literal_elements inner b header x ts n first is rest opens some named at found =
-    named_goes inner b header x ts n first opens some named at
-    ∙ ap (λ r. r >>= λ y. literal_by n.0 first.0 y.0 (mark_at operator.CloseBrace y.1)) (items_found inner true operator.CloseBrace first.1 rest is found)
+pub literal_fails : (inner : Inner) (b : ℕ) (header : Bool) (x : Ident) (ts : List Terminal) (n : TypeName × List Terminal) (e : Stop) → opens_body header ts ≡ true → 0 < b → n ≡ literal_name x ts → Fails e (elements_at inner n.1) → Fails e (named_by inner b x ts (body_at header x ts))
+literal_fails inner b header x ts n e opens some named failed =
+    bind_fails (elements_at inner n.1) (λ z. Ok (literal_with n.0 z.0, z.1)) (named_by inner b x ts (body_at header x ts)) e (named_elements inner b header x ts n opens some named) failed
 
-pub literal_unclosed : (inner : Inner) (b : ℕ) (header : Bool) (x : Ident) (ts : List Terminal) (n : TypeName × List Terminal) (first : Span × List Terminal) (is : List declared_item.Item) (rest : List Terminal) (e : Stop) → opens_body header ts ≡ true → 0 < b → n ≡ literal_name x ts → need (mark_at operator.OpenBrace n.1) ≡ Ok first → list_all (item_at inner true) operator.Comma operator.CloseBrace first.1 ≡ Ok (map item_of is, rest) → Fails e (need (mark_at operator.CloseBrace rest)) → Fails e (named_by inner b x ts (body_at header x ts))
-literal_unclosed inner b header x ts n first is rest e opens some named at found failed =
-    need_fails (mark_at operator.CloseBrace rest) (literal_by n.0 first.0 (items_of is)) (named_by inner b x ts (body_at header x ts)) e
-    (literal_elements inner b header x ts n first is rest opens some named at found) refl failed
-
-pub literal_is : (inner : Inner) (b : ℕ) (header : Bool) (x : Ident) (ts : List Terminal) (n : TypeName × List Terminal) (first : Span × List Terminal) (is : List declared_item.Item) (rest : List Terminal) (last : Span × List Terminal) → opens_body header ts ≡ true → 0 < b → n ≡ literal_name x ts → need (mark_at operator.OpenBrace n.1) ≡ Ok first → list_all (item_at inner true) operator.Comma operator.CloseBrace first.1 ≡ Ok (map item_of is, rest) → need (mark_at operator.CloseBrace rest) ≡ Ok last → named_by inner b x ts (body_at header x ts) ≡ Ok (Literal n.0 first.0 (items_of is) last.0, last.1)
-literal_is inner b header x ts n first is rest last opens some named at found closed =
-    literal_elements inner b header x ts n first is rest opens some named at found
-    ∙ ap (literal_by n.0 first.0 (items_of is)) (need_ok (mark_at operator.CloseBrace rest) last closed)
+pub literal_is : (inner : Inner) (b : ℕ) (header : Bool) (x : Ident) (ts : List Terminal) (n : TypeName × List Terminal) (z : ElementsTree × List Terminal) → opens_body header ts ≡ true → 0 < b → n ≡ literal_name x ts → elements_at inner n.1 ≡ Ok z → named_by inner b x ts (body_at header x ts) ≡ Ok (literal_with n.0 z.0, z.1)
+literal_is inner b header x ts n z opens some named found =
+    named_elements inner b header x ts n opens some named ∙ ap (λ r. r >>= λ z. Ok (literal_with n.0 z.0, z.1)) found
 
 pub literal_height : (n : TypeName) (first : Span) (is : Vec declared_item.Item Global) (last : Span) → max 1 (items_height (items_of is.items)) + 1 ≡ height (shape (expr.Literal n first is last))
 literal_height n first is last = ap height (sym (shape_literal n first is last))
@@ -90,32 +139,21 @@ struct_typed : (inner : Inner) (b : ℕ) (k : Span) (ts : List Terminal) (t : Ty
 struct_typed inner b k ts t some read =
     ap (λ r. r >>= λ (t : TypeTree × List Terminal). struct_body inner t.0 (mark_at operator.OpenBrace t.1)) (struct_inner b k ts some ∙ read)
 
-pub struct_unopened : (inner : Inner) (b : ℕ) (k : Span) (ts : List Terminal) (t : TypeTree × List Terminal) (e : Stop) → 0 < b → struct_at (type_at (b - 1)) k ts ≡ Ok t → Fails e (need (mark_at operator.OpenBrace t.1)) → Fails e (struct_literal inner b k ts)
-struct_unopened inner b k ts t e some read failed =
-    need_fails (mark_at operator.OpenBrace t.1) (struct_body inner t.0) (struct_literal inner b k ts) e (struct_typed inner b k ts t some read) refl failed
+struct_read : (inner : Inner) (b : ℕ) (k : Span) (ts : List Terminal) (t : TypeTree × List Terminal) → 0 < b → struct_at (type_at (b - 1)) k ts ≡ Ok t → struct_literal inner b k ts ≡ (elements_at inner t.1 >>= λ z. Ok (struct_with t.0 z.0, z.1))
+struct_read inner b k ts t some read = struct_typed inner b k ts t some read ∙ struct_elements inner t.0 (mark_at operator.OpenBrace t.1)
 
-struct_opened : (inner : Inner) (b : ℕ) (k : Span) (ts : List Terminal) (t : TypeTree × List Terminal) (first : Span × List Terminal) → 0 < b → struct_at (type_at (b - 1)) k ts ≡ Ok t → need (mark_at operator.OpenBrace t.1) ≡ Ok first → struct_literal inner b k ts ≡ (items_at inner true operator.CloseBrace first.1 >>= λ y. struct_literal_by t.0 first.0 y.0 (mark_at operator.CloseBrace y.1))
-struct_opened inner b k ts t first some read at =
-    struct_typed inner b k ts t some read ∙ ap (struct_body inner t.0) (need_ok (mark_at operator.OpenBrace t.1) first at)
+pub struct_unread : (inner : Inner) (b : ℕ) (k : Span) (ts : List Terminal) (e : Stop) → 0 < b → Fails e (struct_at (type_at (b - 1)) k ts) → Fails e (struct_literal inner b k ts)
+struct_unread inner b k ts e some failed =
+    bind_fails (struct_at (type_at (b - 1)) k ts) (λ t. struct_body inner t.0 (mark_at operator.OpenBrace t.1)) (struct_literal inner b k ts) e
+    (ap (λ r. r >>= λ (t : TypeTree × List Terminal). struct_body inner t.0 (mark_at operator.OpenBrace t.1)) (struct_inner b k ts some)) failed
 
-pub struct_items_fail : (inner : Inner) (b : ℕ) (k : Span) (ts : List Terminal) (t : TypeTree × List Terminal) (first : Span × List Terminal) (e : Stop) → 0 < b → struct_at (type_at (b - 1)) k ts ≡ Ok t → need (mark_at operator.OpenBrace t.1) ≡ Ok first → Fails e (list_all (item_at inner true) operator.Comma operator.CloseBrace first.1) → Fails e (struct_literal inner b k ts)
-struct_items_fail inner b k ts t first e some read at failed =
-    items_fail inner true operator.CloseBrace first.1 (λ y. struct_literal_by t.0 first.0 y.0 (mark_at operator.CloseBrace y.1)) (struct_literal inner b k ts) e (struct_opened inner b k ts t first some read at) failed
+pub struct_fails : (inner : Inner) (b : ℕ) (k : Span) (ts : List Terminal) (t : TypeTree × List Terminal) (e : Stop) → 0 < b → struct_at (type_at (b - 1)) k ts ≡ Ok t → Fails e (elements_at inner t.1) → Fails e (struct_literal inner b k ts)
+struct_fails inner b k ts t e some read failed =
+    bind_fails (elements_at inner t.1) (λ z. Ok (struct_with t.0 z.0, z.1)) (struct_literal inner b k ts) e (struct_read inner b k ts t some read) failed
 
-struct_elements : (inner : Inner) (b : ℕ) (k : Span) (ts : List Terminal) (t : TypeTree × List Terminal) (first : Span × List Terminal) (is : List declared_item.Item) (rest : List Terminal) → 0 < b → struct_at (type_at (b - 1)) k ts ≡ Ok t → need (mark_at operator.OpenBrace t.1) ≡ Ok first → list_all (item_at inner true) operator.Comma operator.CloseBrace first.1 ≡ Ok (map item_of is, rest) → struct_literal inner b k ts ≡ struct_literal_by t.0 first.0 (items_of is) (mark_at operator.CloseBrace rest)
-struct_elements inner b k ts t first is rest some read at found =
-    struct_opened inner b k ts t first some read at
-    ∙ ap (λ r. r >>= λ y. struct_literal_by t.0 first.0 y.0 (mark_at operator.CloseBrace y.1)) (items_found inner true operator.CloseBrace first.1 rest is found)
-
-pub struct_unclosed : (inner : Inner) (b : ℕ) (k : Span) (ts : List Terminal) (t : TypeTree × List Terminal) (first : Span × List Terminal) (is : List declared_item.Item) (rest : List Terminal) (e : Stop) → 0 < b → struct_at (type_at (b - 1)) k ts ≡ Ok t → need (mark_at operator.OpenBrace t.1) ≡ Ok first → list_all (item_at inner true) operator.Comma operator.CloseBrace first.1 ≡ Ok (map item_of is, rest) → Fails e (need (mark_at operator.CloseBrace rest)) → Fails e (struct_literal inner b k ts)
-struct_unclosed inner b k ts t first is rest e some read at found failed =
-    need_fails (mark_at operator.CloseBrace rest) (struct_literal_by t.0 first.0 (items_of is)) (struct_literal inner b k ts) e
-    (struct_elements inner b k ts t first is rest some read at found) refl failed
-
-pub struct_is : (inner : Inner) (b : ℕ) (k : Span) (ts : List Terminal) (t : TypeTree × List Terminal) (first : Span × List Terminal) (is : List declared_item.Item) (rest : List Terminal) (last : Span × List Terminal) → 0 < b → struct_at (type_at (b - 1)) k ts ≡ Ok t → need (mark_at operator.OpenBrace t.1) ≡ Ok first → list_all (item_at inner true) operator.Comma operator.CloseBrace first.1 ≡ Ok (map item_of is, rest) → need (mark_at operator.CloseBrace rest) ≡ Ok last → struct_literal inner b k ts ≡ Ok (StructLiteral t.0 first.0 (items_of is) last.0, last.1)
-struct_is inner b k ts t first is rest last some read at found closed =
-    struct_elements inner b k ts t first is rest some read at found
-    ∙ ap (struct_literal_by t.0 first.0 (items_of is)) (need_ok (mark_at operator.CloseBrace rest) last closed)
+pub struct_is : (inner : Inner) (b : ℕ) (k : Span) (ts : List Terminal) (t : TypeTree × List Terminal) (z : ElementsTree × List Terminal) → 0 < b → struct_at (type_at (b - 1)) k ts ≡ Ok t → elements_at inner t.1 ≡ Ok z → struct_literal inner b k ts ≡ Ok (struct_with t.0 z.0, z.1)
+struct_is inner b k ts t z some read found =
+    struct_read inner b k ts t some read ∙ ap (λ r. r >>= λ z. Ok (struct_with t.0 z.0, z.1)) found
 
 pub struct_height : (t : TypeExpr) (first : Span) (is : Vec declared_item.Item Global) (last : Span) → max (type_height (shape_type t)) (items_height (items_of is.items)) + 1 ≡ height (shape (expr.StructLiteral t first is last))
 struct_height t first is last = ap height (sym (shape_struct_literal t first is last))

@@ -6,15 +6,15 @@ use Rattle.go_text_core.specs.declared.span.Span.{Span}
 use Rattle.go_scan_core.specs.declared.kind.Keyword.TheVariants as keyword
 use Rattle.go_scan_core.specs.declared.kind.Operator.{Operator}
 use Rattle.go_scan_core.specs.declared.kind.Operator.TheVariants as operator
-use Rattle.go_tree_core.specs.declared.names.Ident.{Ident}
-use Rattle.go_tree_core.specs.declared.types.TypeName.{TypeName}
-use Rattle.go_tree_core.specs.declared.types.TypeName.TheVariants as type_name
-use Rattle.go_tree_core.specs.declared.exprs.Key.{Key}
-use Rattle.go_tree_core.specs.Terminals.{Terminal}
-use Rattle.go_tree_core.specs.Trees.{TypeTree, FieldTrees, NamedType, Pointer, ParenType, Struct, Interface, ExprTree, ItemTrees, Integer, Text, Named, Paren, Unary, Binary, Select, Call, Literal, StructLiteral, NoItems, Item}
-use Rattle.go_tree_core.specs.Spelling.{mark, word, spell_ident, spell_type, spell_fields, spell_key, spell, spell_items}
-use Rattle.go_tree_core.specs.Rules.{rank_of, unary_rank, is_unary, MayHaveKey, Binds, Wf, Wf_items}
-use Rattle.go_tree_core.specs.Heights.{type_height, height, items_height, group_height}
+use Rattle.go_tree_nodes.specs.declared.names.Ident.{Ident}
+use Rattle.go_tree_nodes.specs.declared.types.TypeName.{TypeName}
+use Rattle.go_tree_nodes.specs.declared.types.TypeName.TheVariants as type_name
+use Rattle.go_tree_nodes.specs.declared.exprs.Key.{Key}
+use Rattle.go_tree_nodes.specs.Terminals.{Terminal}
+use Rattle.go_tree_nodes.specs.Trees.{TypeTree, FieldTrees, NamedType, Pointer, ParenType, Struct, Interface, ExprTree, ItemTrees, Integer, Text, Named, Paren, Unary, Binary, Select, Call, Literal, StructLiteral, NoItems, Item}
+use Rattle.go_tree_nodes.specs.Spelling.{mark, word, spell_ident, spell_type, spell_fields, spell_key, spell, spell_items}
+use Rattle.go_tree_nodes.specs.Rules.{rank_of, unary_rank, is_unary, MayHaveKey, Binds, Wf, Wf_items}
+use Rattle.go_tree_nodes.specs.Heights.{type_height, height, items_height, group_height}
 use Rattle.go_parse_types.specs.Marks.{TooHigh, ◌>>=◌, mark_at}
 use Rattle.go_parse_types.specs.TypeReading.{type_at}
 use Rattle.go_parse_exprs.specs.ExprReading.{Inner, ItemTree, item_by, item_at, as_items, items_at, close_by, literal_by, named_by, struct_literal_by, struct_body, struct_type, by_unary, by_paren, operand_at, Operate, Pick, Apply, call_by, expr_at}

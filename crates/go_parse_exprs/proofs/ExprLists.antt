@@ -5,13 +5,13 @@ use Rattle.go_scan_core.specs.declared.kind.Keyword.{Keyword}
 use Rattle.go_scan_core.specs.declared.kind.Keyword.TheVariants as keyword
 use Rattle.go_scan_core.specs.declared.kind.Operator.{Operator}
 use Rattle.go_scan_core.specs.declared.kind.Operator.TheVariants as operator
-use Rattle.go_tree_core.specs.declared.names.Ident.{Ident}
-use Rattle.go_tree_core.specs.declared.names.TextLiteral.{TextLiteral}
-use Rattle.go_tree_core.specs.Terminals.{Number, Terminal, terminal}
-use Rattle.go_tree_core.specs.Trees.{Separated, One, Then, ExprTree, Named}
-use Rattle.go_tree_core.specs.Spelling.{mark, word, spell_ident, spell_idents, spell_text, spell, spell_exprs}
-use Rattle.go_tree_core.specs.Rules.{is_unary, Wf_exprs}
-use Rattle.go_tree_core.specs.Heights.{height, exprs_height}
+use Rattle.go_tree_nodes.specs.declared.names.Ident.{Ident}
+use Rattle.go_tree_nodes.specs.declared.names.TextLiteral.{TextLiteral}
+use Rattle.go_tree_nodes.specs.Terminals.{Number, Terminal, terminal}
+use Rattle.go_tree_nodes.specs.Trees.{Separated, One, Then, ExprTree, Named}
+use Rattle.go_tree_nodes.specs.Spelling.{mark, word, spell_ident, spell_idents, spell_text, spell, spell_exprs}
+use Rattle.go_tree_nodes.specs.Rules.{is_unary, Wf_exprs}
+use Rattle.go_tree_nodes.specs.Heights.{height, exprs_height}
 use Rattle.go_parse_types.specs.Marks.{◌>>=◌, Reading, Place, same_operator, same_keyword, mark_at, word_at}
 use Rattle.go_parse_exprs.specs.ExprReading.{next_at, expr_at, exprs_by, exprs_go, exprs_at}
 use Rattle.go_parse_types.proofs.Marks.{mark_was, mark_not, word_not, AgreesAt, bind_agrees, agrees_along, bind_ok}

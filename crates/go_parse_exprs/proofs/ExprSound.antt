@@ -6,15 +6,15 @@ use Rattle.go_text_core.specs.declared.span.Span.{Span}
 use Rattle.go_scan_core.specs.declared.kind.Keyword.TheVariants as keyword
 use Rattle.go_scan_core.specs.declared.kind.Operator.{Operator}
 use Rattle.go_scan_core.specs.declared.kind.Operator.TheVariants as operator
-use Rattle.go_tree_core.specs.declared.names.Ident.{Ident}
-use Rattle.go_tree_core.specs.declared.types.TypeName.{TypeName}
-use Rattle.go_tree_core.specs.declared.types.TypeName.TheVariants as type_name
-use Rattle.go_tree_core.specs.declared.exprs.Key.{Key}
-use Rattle.go_tree_core.specs.Terminals.{TerminalKind, Spelled, Number, Quoted, Word, Mark, Stray, Terminal, terminal}
-use Rattle.go_tree_core.specs.Trees.{TypeTree, NamedType, Pointer, ParenType, Struct, Interface, ExprTree, ItemTrees, Integer, Text, Named, Paren, Unary, Binary, Select, Call, Literal, StructLiteral}
-use Rattle.go_tree_core.specs.Spelling.{mark, word, spell_ident, spell_type_name, spell_type, spell_key, spell, spell_items}
-use Rattle.go_tree_core.specs.Rules.{rank_of, unary_rank, primary_rank, is_unary, MayHaveKey, IsFalse, IsStructType, Binds, Wf, Wf_items}
-use Rattle.go_tree_core.specs.Heights.{height, items_height}
+use Rattle.go_tree_nodes.specs.declared.names.Ident.{Ident}
+use Rattle.go_tree_nodes.specs.declared.types.TypeName.{TypeName}
+use Rattle.go_tree_nodes.specs.declared.types.TypeName.TheVariants as type_name
+use Rattle.go_tree_nodes.specs.declared.exprs.Key.{Key}
+use Rattle.go_tree_nodes.specs.Terminals.{TerminalKind, Spelled, Number, Quoted, Word, Mark, Stray, Terminal, terminal}
+use Rattle.go_tree_nodes.specs.Trees.{TypeTree, NamedType, Pointer, ParenType, Struct, Interface, ExprTree, ItemTrees, Integer, Text, Named, Paren, Unary, Binary, Select, Call, Literal, StructLiteral}
+use Rattle.go_tree_nodes.specs.Spelling.{mark, word, spell_ident, spell_type_name, spell_type, spell_key, spell, spell_items}
+use Rattle.go_tree_nodes.specs.Rules.{rank_of, unary_rank, primary_rank, is_unary, MayHaveKey, IsFalse, IsStructType, Binds, Wf, Wf_items}
+use Rattle.go_tree_nodes.specs.Heights.{height, items_height}
 use Rattle.go_parse_types.specs.Marks.{Stuck, TooHigh, ◌>>=◌, Reading, Place, need, mark_at, word_at, name_at, mark_that, list_go}
 use Rattle.go_parse_exprs.specs.ExprReading.{Inner, ItemTree, key_by, key_of_name, key_at, item_by, item_at, as_items, items_at, close_by, literal_member, literal_dot, literal_name, Body, body_by, body_at, literal_by, named_by, struct_literal_by, struct_body, struct_type, by_word, by_unary, by_paren, operand_in, operand_at, Next, Operate, Pick, Apply, next_apply, next_pick, next_operate, binds_at, next_at, call_by, step, turn, chain, expr_at}
 use Rattle.go_parse_types.proofs.Marks.{none_when, mark_was, mark_here, word_was, name_was, mark_that_was, bind_ok, need_ok}

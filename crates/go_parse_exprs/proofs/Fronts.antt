@@ -5,14 +5,14 @@ use Rattle.go_scan_core.specs.declared.kind.Keyword.{Keyword}
 use Rattle.go_scan_core.specs.declared.kind.Keyword.TheVariants as keyword
 use Rattle.go_scan_core.specs.declared.kind.Operator.{Operator}
 use Rattle.go_scan_core.specs.declared.kind.Operator.TheVariants as operator
-use Rattle.go_tree_core.specs.declared.names.Ident.{Ident}
-use Rattle.go_tree_core.specs.declared.names.TextLiteral.{TextLiteral}
-use Rattle.go_tree_core.specs.declared.types.TypeName.TheVariants as type_name
-use Rattle.go_tree_core.specs.Terminals.{Number, Terminal, terminal}
-use Rattle.go_tree_core.specs.Trees.{NamedType, Pointer, ParenType, Struct, Interface, ExprTree, Integer, Text, Named, Paren, Unary, Binary, Select, Call, Literal, StructLiteral}
-use Rattle.go_tree_core.specs.Spelling.{mark, word, spell_ident, spell_text, spell_type_name, spell_type, spell, spell_items}
-use Rattle.go_tree_core.specs.Rules.{is_unary, Wf}
-use Rattle.go_tree_core.specs.Heights.{height}
+use Rattle.go_tree_nodes.specs.declared.names.Ident.{Ident}
+use Rattle.go_tree_nodes.specs.declared.names.TextLiteral.{TextLiteral}
+use Rattle.go_tree_nodes.specs.declared.types.TypeName.TheVariants as type_name
+use Rattle.go_tree_nodes.specs.Terminals.{Number, Terminal, terminal}
+use Rattle.go_tree_nodes.specs.Trees.{NamedType, Pointer, ParenType, Struct, Interface, ExprTree, Integer, Text, Named, Paren, Unary, Binary, Select, Call, Literal, StructLiteral}
+use Rattle.go_tree_nodes.specs.Spelling.{mark, word, spell_ident, spell_text, spell_type_name, spell_type, spell, spell_items}
+use Rattle.go_tree_nodes.specs.Rules.{is_unary, Wf}
+use Rattle.go_tree_nodes.specs.Heights.{height}
 use Rattle.go_parse_types.specs.Marks.{same_operator, same_keyword, mark_at, word_at}
 use Rattle.go_parse_exprs.specs.ExprReading.{key_by, key_at}
 use Rattle.go_parse_types.proofs.Marks.{mark_not, word_not}

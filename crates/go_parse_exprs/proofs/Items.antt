@@ -3,11 +3,11 @@ use Rattle.std.proofs.Common.{◌≡◌, ℕ, max, Bool, false, List, [], ◌∷
 use Rattle.go_text_core.specs.declared.span.Span.{Span}
 use Rattle.go_scan_core.specs.declared.kind.Operator.{Operator}
 use Rattle.go_scan_core.specs.declared.kind.Operator.TheVariants as operator
-use Rattle.go_tree_core.specs.Terminals.{Terminal}
-use Rattle.go_tree_core.specs.Trees.{ExprTree, ItemTrees, NoItems, Item}
-use Rattle.go_tree_core.specs.Spelling.{mark, spell_some, spell_key, spell, spell_items}
-use Rattle.go_tree_core.specs.Rules.{is_unary, IsNothing, IsKept, IsLastItem, MayHaveKey, Wf, Wf_items, Wf_group}
-use Rattle.go_tree_core.specs.Heights.{height, items_height, group_height}
+use Rattle.go_tree_nodes.specs.Terminals.{Terminal}
+use Rattle.go_tree_nodes.specs.Trees.{ExprTree, ItemTrees, NoItems, Item}
+use Rattle.go_tree_nodes.specs.Spelling.{mark, spell_some, spell_key, spell, spell_items}
+use Rattle.go_tree_nodes.specs.Rules.{is_unary, IsNothing, IsKept, IsLastItem, MayHaveKey, Wf, Wf_items, Wf_group}
+use Rattle.go_tree_nodes.specs.Heights.{height, items_height, group_height}
 use Rattle.go_parse_types.specs.Marks.{same_operator}
 use Rattle.go_parse_exprs.specs.ExprReading.{ItemTree, as_items}
 use Rattle.go_parse_types.proofs.Lists.{spell_list}

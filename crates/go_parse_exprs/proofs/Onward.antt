@@ -6,12 +6,12 @@ use Rattle.go_text_core.specs.declared.span.Span.{Span}
 use Rattle.go_scan_core.specs.declared.kind.Keyword.TheVariants as keyword
 use Rattle.go_scan_core.specs.declared.kind.Operator.{Operator}
 use Rattle.go_scan_core.specs.declared.kind.Operator.TheVariants as operator
-use Rattle.go_tree_core.specs.declared.names.Ident.{Ident}
-use Rattle.go_tree_core.specs.declared.types.TypeName.{TypeName}
-use Rattle.go_tree_core.specs.Terminals.{TerminalKind, Spelled, Number, Quoted, Word, Mark, Stray, Terminal}
-use Rattle.go_tree_core.specs.Trees.{TypeTree, ExprTree, ItemTrees, Integer, Text, Named, Paren, Unary, Binary, Select, Call, Literal, StructLiteral}
-use Rattle.go_tree_core.specs.Rules.{rank_of, unary_rank, is_unary}
-use Rattle.go_tree_core.specs.Heights.{height}
+use Rattle.go_tree_nodes.specs.declared.names.Ident.{Ident}
+use Rattle.go_tree_nodes.specs.declared.types.TypeName.{TypeName}
+use Rattle.go_tree_nodes.specs.Terminals.{TerminalKind, Spelled, Number, Quoted, Word, Mark, Stray, Terminal}
+use Rattle.go_tree_nodes.specs.Trees.{TypeTree, ExprTree, ItemTrees, Integer, Text, Named, Paren, Unary, Binary, Select, Call, Literal, StructLiteral}
+use Rattle.go_tree_nodes.specs.Rules.{rank_of, unary_rank, is_unary}
+use Rattle.go_tree_nodes.specs.Heights.{height}
 use Rattle.go_parse_types.specs.Marks.{Stuck, TooHigh, ◌>>=◌, Reading, Place, need, mark_at, word_at, name_at, mark_that}
 use Rattle.go_parse_exprs.specs.ExprReading.{Inner, items_at, close_by, Body, body_at, literal_by, named_by, struct_literal_by, struct_body, struct_type, struct_literal, by_word, by_unary, by_paren, operand_in, operand_at, Next, Operate, Pick, Apply, next_apply, next_pick, next_operate, binds_at, next_at, call_by, step, chain, expr_at}
 use Rattle.go_parse_types.proofs.Marks.{bind_ok}

@@ -1,21 +1,22 @@
 -- What values of the program stand for, before it is known what they belong to.
-use Rattle.std.specs.Prelude.{◌≡◌, ◌<◌, ℕ, max, Bool, true, false, List, length, Option, Some, None, Result, is_some}
+use Rattle.std.specs.Prelude.{◌≡◌, ◌<◌, ℕ, max, Bool, true, false, List, length, Option, Some, None, Result, Ok, Err, is_some}
 use Rattle.go_text_core.specs.declared.span.Span.{Span}
 use Rattle.go_scan_core.specs.declared.kind.Operator.TheVariants as operator
-use Rattle.go_tree_core.specs.declared.names.Ident.{Ident}
-use Rattle.go_tree_core.specs.declared.exprs.Expr.{Expr}
-use Rattle.go_tree_core.specs.declared.exprs.«Item» as declared_item
-use Rattle.go_tree_core.specs.declared.exprs.NextExpr.{NextExpr}
-use Rattle.go_tree_core.specs.Terminals.{Terminal}
-use Rattle.go_tree_core.specs.Trees.{ExprTree, Separated}
-use Rattle.go_tree_core.specs.Heights.{height, exprs_height}
-use Rattle.go_tree_core.specs.Shapes.{shape, exprs_from}
+use Rattle.go_tree_nodes.specs.declared.names.Ident.{Ident}
+use Rattle.go_tree_nodes.specs.declared.exprs.Expr.{Expr}
+use Rattle.go_tree_nodes.specs.declared.exprs.«Item» as declared_item
+use Rattle.go_tree_nodes.specs.declared.exprs.Key.{Key}
+use Rattle.go_tree_nodes.specs.declared.exprs.NextExpr.{NextExpr}
+use Rattle.go_tree_nodes.specs.Terminals.{Terminal}
+use Rattle.go_tree_nodes.specs.Trees.{ExprTree, ItemTrees, Separated}
+use Rattle.go_tree_nodes.specs.Heights.{height, exprs_height}
+use Rattle.go_tree_nodes.specs.Shapes.{shape, exprs_from}
 use Rattle.go_parse_types.specs.declared.stop.Stop.{Stop}
 use Rattle.go_parse_types.specs.Giving.{Gives}
-use Rattle.go_parse_types.specs.Marks.{◌>>=◌, Reading, Place, mark_at, name_at}
+use Rattle.go_parse_types.specs.Marks.{Grammar, ◌>>=◌, Reading, Place, mark_at, name_at}
 use Rattle.go_parse_exprs.specs.declared.after.After.{After}
 use Rattle.go_parse_exprs.specs.declared.after.After.TheVariants as after
-use Rattle.go_parse_exprs.specs.ExprReading.{Inner, ItemTree, close_by, Next, Operate, Pick, Apply, expr_at, exprs_by, exprs_go}
+use Rattle.go_parse_exprs.specs.ExprReading.{Inner, ItemTree, key_at, items_at, close_by, Next, Operate, Pick, Apply, expr_at, exprs_by, exprs_go}
 
 abbrev pub next_of : After → Span → List Terminal → Next
 next_of (after.Operate o) s rest = Operate o s rest
@@ -41,6 +42,30 @@ opens_dot ts (Some dot) = opens_member ts (name_at dot.1)
 abbrev pub opens_body : Bool → List Terminal → Bool
 opens_body true ts = false
 opens_body false ts = opens_dot ts (mark_at operator.Dot ts)
+
+-- the key in front, where there may be one and it stands there, with what is left
+abbrev pub key_from : List Terminal → Option (Key × List Terminal) → Option Key × List Terminal
+key_from ts None = (None, ts)
+key_from ts (Some k) = (Some k.0, k.1)
+
+abbrev pub some_key : Bool → List Terminal → Option Key × List Terminal
+some_key false ts = (None, ts)
+some_key true ts = key_from ts (key_at ts)
+
+-- the elements of a literal between the places of its braces
+abbrev pub ElementsTree : Type 0
+ElementsTree = Span × ItemTrees × Span
+
+abbrev pub closed_by : Span → ItemTrees → Place → Reading ElementsTree
+closed_by first is None = Err Grammar
+closed_by first is (Some last) = Ok ((first, is, last.0), last.1)
+
+abbrev pub opened_by : Inner → Place → Reading ElementsTree
+opened_by inner None = Err Grammar
+opened_by inner (Some first) = items_at inner true operator.CloseBrace first.1 >>= λ y. closed_by first.0 y.0 (mark_at operator.CloseBrace y.1)
+
+abbrev pub elements_at : Inner → List Terminal → Reading ElementsTree
+elements_at inner ts = opened_by inner (mark_at operator.OpenBrace ts)
 
 -- an expression and the closing parenthesis behind it
 abbrev pub in_parens : Inner → Span → List Terminal → Reading ExprTree

@@ -1,15 +1,15 @@
 //! Expressions with commas between them.
 ghost use Rattle.std.specs.Prelude.{◌≡◌, ◌≤◌, ◌<◌, ◌^◌, IfOk};
-ghost use Rattle.go_tree_core.specs.Shapes.{shape_exprs};
-ghost use Rattle.go_tree_core.specs.Heights.{exprs_height};
+ghost use Rattle.go_tree_nodes.specs.Shapes.{shape_exprs};
+ghost use Rattle.go_tree_nodes.specs.Heights.{exprs_height};
 ghost use Rattle.go_parse_types.specs.Giving.{Gives};
 ghost use Rattle.go_parse_exprs.specs.CodeShapes.{GivesBehind, HighBehind};
 ghost use Rattle.go_parse_exprs.specs.ExprReading.{exprs_at};
 
 use crate::expr_reader::expr;
-use go_parse_types::{Ahead, Stop};
+use go_parse_types::{Ahead, Stop, add};
 use go_scan_core::Operator;
-use go_tree_core::{Exprs, NextExpr};
+use go_tree_nodes::{Exprs, NextExpr};
 use std::alloc::Global;
 
 /// The expressions in front with commas between them, each at most `budget` high, in a header or not; with the
@@ -31,8 +31,14 @@ pub fn exprs<'a>(
     ensures height { IfOk result (λ x. (x.1 ≡ exprs_height (shape_exprs x.0)) × (x.1 ≤ budget)) }
 {
     let (first, high, rest) = expr(alloc, ahead, header, 1, budget)?;
-    let (more, more_high, rest) = next_exprs(alloc, rest, header, budget)?;
-    Ok((Exprs { first, more }, high.max(more_high), rest))
+    match next_exprs(alloc, rest, header, budget) {
+        Ok((more, more_high, rest)) => Ok((Exprs { first, more }, high.max(more_high), rest)),
+        Err(stop) => {
+            // By name: one call, where the end of the scope would take the tree apart kind by kind.
+            drop(first);
+            Err(stop)
+        }
+    }
 }
 
 /// The expressions in front with a comma before each, each at most `budget` high, in a header or not; with the height
@@ -52,7 +58,7 @@ fn next_exprs<'a>(
     let mut rest = ahead;
     'turns: while let Some((comma, after)) = rest.mark(Operator::Comma) {
         let (expr, expr_high, after) = expr(alloc, after, header, 1, budget)?;
-        more.push(NextExpr { comma, expr })?;
+        add(&mut more, NextExpr { comma, expr })?;
         high = high.max(expr_high);
         rest = after;
     }

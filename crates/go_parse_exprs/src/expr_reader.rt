@@ -1,10 +1,10 @@
 //! Expressions.
 ghost use Rattle.std.specs.Prelude.{◌≡◌, ◌≤◌, ◌<◌, ◌+◌, ◌^◌, map, IfOk};
 ghost use Rattle.go_scan_core.specs.declared.kind.Operator.TheVariants as operator;
-ghost use Rattle.go_tree_core.specs.Shapes.{shape, items_of};
-ghost use Rattle.go_tree_core.specs.Heights.{height, items_height};
-ghost use Rattle.go_tree_core.specs.Rules as rules;
-ghost use Rattle.go_parse_types.specs.EntryShapes.{list_all};
+ghost use Rattle.go_tree_nodes.specs.Shapes.{shape, items_of};
+ghost use Rattle.go_tree_nodes.specs.Heights.{height, items_height};
+ghost use Rattle.go_tree_nodes.specs.Rules as rules;
+ghost use Rattle.go_parse_types.specs.EntryShapes.{list_all, then_mark};
 ghost use Rattle.go_parse_types.specs.Giving.{Gives};
 ghost use Rattle.go_parse_types.specs.Marks.{mark_that};
 ghost use Rattle.go_parse_exprs.specs.CodeShapes as shapes;
@@ -15,11 +15,20 @@ ghost use Rattle.go_parse_exprs.specs.ExprReading.{item_at, body_at, named_by, b
 use crate::after::{After, next};
 use crate::literal::{key, literal_name, opens_body};
 use crate::operators::{prefix, rank};
-use go_parse_types::{Ahead, Stop, struct_type, type_height};
+use go_parse_types::{Ahead, Stop, add, boxed, struct_type, type_height};
 use go_scan_core::{Keyword, Operator};
 use go_text_core::Span;
-use go_tree_core::{Expr, Ident, Item, Key};
+use go_tree_nodes::{Expr, Ident, Item};
 use std::alloc::Global;
+
+/// The elements of a literal between the places of its braces, and the height of the highest.
+#[derive(Drop)]
+struct Body {
+    opening: Span,
+    all: Vec<Item>,
+    closing: Span,
+    high: u32,
+}
 
 /// An expression, how high it is, and what is behind it.
 type Found<'a> = Result<(Expr, u32, Ahead<'a>), Stop>;
@@ -44,6 +53,8 @@ pub fn expr<'a>(alloc: Global, ahead: Ahead<'a>, header: bool, least: u32, budge
     let (mut left, mut high, mut rest) = operand(alloc, ahead, header, budget - 1)?;
     'turns: while let Some((after, span, behind)) = next(&rest, least) {
         if high >= budget {
+            // By name: one call, where the end of the scope would take the tree apart kind by kind.
+            drop(left);
             return Err(Stop::TooHigh(rest.offset()));
         }
         let (new, new_high, behind) = one_step(
@@ -82,12 +93,15 @@ fn one_step<'a>(
     ensures height { IfOk result (λ x. (x.1 ≡ height (shape x.0)) × (x.1 ≤ inner + 1) × (high < x.1)) }
 {
     // In a box at once: where reading stops, a box is dropped in one step.
-    let left = Box::new(alloc, left)?;
+    let left = boxed(alloc, left)?;
     match after {
         After::Operate(op) => {
-            let (right, right_high, rest) = expr(alloc, ahead, header, rank(op) + 1, inner)?;
-            let whole = Expr::Binary(left, op, span, Box::new(alloc, right)?);
-            Ok((whole, high.max(right_high) + 1, rest))
+            let (right, right_high, rest) = boxed_expr(alloc, ahead, header, rank(op) + 1, inner)?;
+            Ok((
+                Expr::Binary(left, op, span, right),
+                high.max(right_high) + 1,
+                rest,
+            ))
         }
         After::Pick => {
             let (picked, rest) = ahead.need_name(alloc)?;
@@ -100,6 +114,23 @@ fn one_step<'a>(
             Ok((whole, high.max(items_high) + 1, rest))
         }
     }
+}
+
+/// An expression in front in a box, with its height.
+#[cycle(expressions)]
+fn boxed_expr<'a>(
+    alloc: Global,
+    ahead: Ahead<'a>,
+    header: bool,
+    least: u32,
+    budget: u32,
+) -> Result<(Box<Expr>, u32, Ahead<'a>), Stop>
+    requires { budget < 2 ^ 31 }
+    ensures tree { Gives (λ x. (shape x.0.value, x.2)) result (expr_at budget header least ahead.entry) }
+    ensures height { IfOk result (λ x. (x.1 ≡ height (shape x.0.value)) × (x.1 ≤ budget)) }
+{
+    let (expr, high, rest) = expr(alloc, ahead, header, least, budget)?;
+    Ok((boxed(alloc, expr)?, high, rest))
 }
 
 /// An operand, whose parts are at most `inner` high.
@@ -134,8 +165,7 @@ fn in_parens<'a>(alloc: Global, ahead: Ahead<'a>, opening: Span, inner: u32) -> 
     ensures tree { Gives (λ x. (shape x.0, x.2)) result (shapes.in_parens (expr_at inner) opening ahead.entry) }
     ensures height { IfOk result (λ x. (x.1 ≡ height (shape x.0)) × (x.1 ≤ inner + 1)) }
 {
-    let (inside, high, rest) = expr(alloc, ahead, false, 1, inner)?;
-    let inside = Box::new(alloc, inside)?;
+    let (inside, high, rest) = boxed_expr(alloc, ahead, false, 1, inner)?;
     let (close, rest) = rest.need_mark(Operator::CloseParen)?;
     Ok((Expr::Paren(opening, inside, close), high + 1, rest))
 }
@@ -150,9 +180,8 @@ fn unary<'a>(alloc: Global, ahead: Ahead<'a>, header: bool, inner: u32) -> Found
     let Some((op, span, rest)) = prefix(&ahead) else {
         return Err(Stop::Grammar(ahead.offset()));
     };
-    let (operand, high, rest) = expr(alloc, rest, header, 6, inner)?;
-    let whole = Expr::Unary(op, span, Box::new(alloc, operand)?);
-    Ok((whole, high + 1, rest))
+    let (operand, high, rest) = boxed_expr(alloc, rest, header, 6, inner)?;
+    Ok((Expr::Unary(op, span, operand), high + 1, rest))
 }
 
 /// What begins with the name `first`: the name, or a literal of that type.
@@ -169,10 +198,18 @@ fn named<'a>(alloc: Global, ahead: Ahead<'a>, first: Ident, header: bool, inner:
         return Err(Stop::TooHigh(ahead.offset()));
     }
     let (name, rest) = literal_name(alloc, first, ahead)?;
-    let (open, rest) = rest.need_mark(Operator::OpenBrace)?;
-    let (all, high, rest) = items(alloc, rest, true, Operator::CloseBrace, inner)?;
-    let (close, rest) = rest.need_mark(Operator::CloseBrace)?;
-    Ok((Expr::Literal(name, open, all, close), high.max(1) + 1, rest))
+    let (body, rest) = elements(alloc, rest, inner)?;
+    let Body {
+        opening,
+        all,
+        closing,
+        high,
+    } = body;
+    Ok((
+        Expr::Literal(name, opening, all, closing),
+        high.max(1) + 1,
+        rest,
+    ))
 }
 
 /// A literal of a struct type, behind `struct`.
@@ -186,35 +223,69 @@ fn struct_literal<'a>(alloc: Global, ahead: Ahead<'a>, keyword: Span, inner: u32
         return Err(Stop::TooHigh(ahead.offset()));
     }
     let (type_expr, rest) = struct_type(alloc, ahead, keyword, inner - 1)?;
-    let (open, rest) = rest.need_mark(Operator::OpenBrace)?;
-    let (all, high, rest) = items(alloc, rest, true, Operator::CloseBrace, inner)?;
-    let (close, rest) = rest.need_mark(Operator::CloseBrace)?;
-    let high = high.max(type_height(&type_expr)) + 1;
-    Ok((Expr::StructLiteral(type_expr, open, all, close), high, rest))
+    match elements(alloc, rest, inner) {
+        Ok((body, rest)) => {
+            let Body {
+                opening,
+                all,
+                closing,
+                high,
+            } = body;
+            let high = high.max(type_height(&type_expr)) + 1;
+            Ok((
+                Expr::StructLiteral(type_expr, opening, all, closing),
+                high,
+                rest,
+            ))
+        }
+        Err(stop) => {
+            drop(type_expr);
+            Err(stop)
+        }
+    }
 }
 
-/// An argument, or an element with its key if it has one.
+/// The elements of a literal between their braces, each at most `inner` high.
+#[cycle(expressions)]
+fn elements<'a>(alloc: Global, ahead: Ahead<'a>, inner: u32) -> Result<(Body, Ahead<'a>), Stop>
+    requires { inner < 2 ^ 31 }
+    ensures tree { Gives (λ x. ((x.0.opening, items_of x.0.all.items, x.0.closing), x.1)) result (shapes.elements_at (expr_at inner) ahead.entry) }
+    ensures height { IfOk result (λ x. (x.0.high ≡ items_height (items_of x.0.all.items)) × (x.0.high ≤ inner)) }
+{
+    let (opening, rest) = ahead.need_mark(Operator::OpenBrace)?;
+    let (all, high, rest) = items(alloc, rest, true, Operator::CloseBrace, inner)?;
+    let (closing, rest) = rest.need_mark(Operator::CloseBrace)?;
+    let body = Body {
+        opening,
+        all,
+        closing,
+        high,
+    };
+    Ok((body, rest))
+}
+
+/// An argument, or an element with its key if it has one; with its height, and the comma behind it.
 #[cycle(expressions)]
 fn item<'a>(
     alloc: Global,
     ahead: Ahead<'a>,
     keyed: bool,
+    close: Operator,
     inner: u32,
-) -> Result<(Option<Key>, Expr, u32, Ahead<'a>), Stop>
+) -> Result<(Item, u32, Ahead<'a>), Stop>
     requires { inner < 2 ^ 31 }
-    ensures tree { Gives (λ x. ((x.0, shape x.1), x.3)) result (item_at (expr_at inner) keyed ahead.entry) }
-    ensures height { IfOk result (λ x. (x.2 ≡ height (shape x.1)) × (x.2 ≤ inner)) }
+    ensures tree { Gives (λ x. (item_of x.0, x.2)) result (then_mark operator.Comma close (item_at (expr_at inner) keyed ahead.entry)) }
+    ensures height { IfOk result (λ x. (x.1 ≡ height (shape x.0.value)) × (x.1 ≤ inner)) }
 {
-    if !keyed {
-        let (value, high, rest) = expr(alloc, ahead, false, 1, inner)?;
-        return Ok((None, value, high, rest));
+    let (key, rest) = key(alloc, ahead, keyed)?;
+    let (value, high, rest) = expr(alloc, rest, false, 1, inner)?;
+    match rest.mark_or_end(Operator::Comma, close) {
+        Ok((comma, rest)) => Ok((Item { key, value, comma }, high, rest)),
+        Err(stop) => {
+            drop(value);
+            Err(stop)
+        }
     }
-    let Some((found, behind)) = key(alloc, &ahead)? else {
-        let (value, high, rest) = expr(alloc, ahead, false, 1, inner)?;
-        return Ok((None, value, high, rest));
-    };
-    let (value, high, rest) = expr(alloc, behind, false, 1, inner)?;
-    Ok((Some(found), value, high, rest))
 }
 
 /// The arguments or elements in front up to a closing mark, each at most `inner` high; with the height of the highest.
@@ -234,26 +305,10 @@ fn items<'a>(
     let mut high: u32 = 0;
     let mut rest = ahead;
     'turns: while rest.mark(close).is_none() {
-        let (key, value, value_high, behind) = item(alloc, rest, keyed, inner)?;
-        high = high.max(value_high);
-        let Some((comma, after)) = behind.mark(Operator::Comma) else {
-            // The last comma before the closing mark may be left out.
-            if behind.mark(close).is_none() {
-                return Err(Stop::Grammar(behind.offset()));
-            }
-            all.push(Item {
-                key,
-                value,
-                comma: None,
-            })?;
-            return Ok((all, high, behind));
-        };
-        all.push(Item {
-            key,
-            value,
-            comma: Some(comma),
-        })?;
-        rest = after;
+        let (item, item_high, behind) = item(alloc, rest, keyed, close, inner)?;
+        add(&mut all, item)?;
+        high = high.max(item_high);
+        rest = behind;
     }
     Ok((all, high, rest))
 }

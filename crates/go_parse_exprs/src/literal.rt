@@ -1,12 +1,11 @@
 //! The front of a composite literal, and the keys of its elements.
 ghost use Rattle.std.specs.Prelude.{◌≡◌, IfOk};
 ghost use Rattle.go_parse_exprs.specs.ExprReading as reading;
-ghost use Rattle.go_parse_exprs.specs.ExprReading.{key_at};
 ghost use Rattle.go_parse_exprs.specs.CodeShapes as shapes;
 
 use go_parse_types::Ahead;
 use go_scan_core::Operator;
-use go_tree_core::{Ident, Key, TypeName};
+use go_tree_nodes::{Ident, Key, TypeName};
 use std::alloc::{AllocError, Global};
 
 /// Whether an opening brace stands in front, or behind a dot and a name in front; in a header there is none.
@@ -46,19 +45,26 @@ pub fn literal_name<'a>(
     Ok((TypeName::Qualified(first, dot, name), rest))
 }
 
-/// The name and the colon in front, and what is behind them.
+/// The name and the colon in front, where there may be a key and these stand there; and what is behind them.
 ///
 /// # Errors
 ///
 /// [`AllocError`] where memory runs out.
-pub fn key<'a>(alloc: Global, ahead: &Ahead<'a>) -> Result<Option<(Key, Ahead<'a>)>, AllocError>
-    ensures { IfOk result (λ x. x ≡ key_at ahead.now) }
+pub fn key<'a>(
+    alloc: Global,
+    ahead: Ahead<'a>,
+    keyed: bool,
+) -> Result<(Option<Key>, Ahead<'a>), AllocError>
+    ensures { IfOk result (λ x. (x.0, x.1) ≡ shapes.some_key keyed ahead.entry) }
 {
+    if !keyed {
+        return Ok((None, ahead));
+    }
     let Some((name, rest)) = ahead.name(alloc)? else {
-        return Ok(None);
+        return Ok((None, ahead));
     };
     let Some((colon, rest)) = rest.mark(Operator::Colon) else {
-        return Ok(None);
+        return Ok((None, ahead));
     };
-    Ok(Some((Key { name, colon }, rest)))
+    Ok((Some(Key { name, colon }), rest))
 }

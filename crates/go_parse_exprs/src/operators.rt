@@ -1,6 +1,6 @@
 //! Operators in front.
 ghost use Rattle.std.specs.Prelude.{◌≡◌};
-ghost use Rattle.go_tree_core.specs.Rules as rules;
+ghost use Rattle.go_tree_nodes.specs.Rules as rules;
 ghost use Rattle.go_parse_types.specs.Marks.{mark_that};
 ghost use Rattle.go_parse_exprs.specs.ExprReading.{binds_at};
 

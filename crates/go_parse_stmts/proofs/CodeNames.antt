@@ -1,13 +1,13 @@
 -- The names that expressions are, from the middle of a list on.
 use Rattle.std.proofs.Common.{◌≡◌, ℕ, zero, suc, ◌<◌, length, get_or, arith, List, [], ◌∷◌, ◌++◌, Option, Some, None, refl, sym, ap, ◌∙◌}
 use Rattle.go_text_core.specs.declared.span.Span.{Span}
-use Rattle.go_tree_core.specs.declared.exprs.Expr.{Expr}
-use Rattle.go_tree_core.specs.declared.exprs.NextExpr.{NextExpr}
-use Rattle.go_tree_core.specs.declared.names.Ident.{Ident}
-use Rattle.go_tree_core.specs.declared.names.NextIdent.{NextIdent}
-use Rattle.go_tree_core.specs.Shapes.{shape, exprs_from}
-use Rattle.go_tree_core.specs.TypeShapes.{idents_from}
-use Rattle.go_tree_core.specs.Trees.{Then}
+use Rattle.go_tree_nodes.specs.declared.exprs.Expr.{Expr}
+use Rattle.go_tree_nodes.specs.declared.exprs.NextExpr.{NextExpr}
+use Rattle.go_tree_nodes.specs.declared.names.Ident.{Ident}
+use Rattle.go_tree_nodes.specs.declared.names.NextIdent.{NextIdent}
+use Rattle.go_tree_nodes.specs.Shapes.{shape, exprs_from}
+use Rattle.go_tree_nodes.specs.TypeShapes.{idents_from}
+use Rattle.go_tree_nodes.specs.Trees.{Then}
 use Rattle.go_parse_stmts.specs.StmtReading.{name_of, names_one, names_more, names_of}
 
 -- the expressions are these names, with commas in the same places

@@ -2,12 +2,12 @@
 use Rattle.std.proofs.Common.{◌≡◌, ℕ, zero, suc, ◌-◌, ◌<◌, true, false, List, [], ◌∷◌, length, Err, refl, ap, ◌∙◌, arith, cond}
 use Rattle.std.proofs.lemmas.Bool.{lt-ltb}
 use Rattle.std.specs.Prelude.{◌==◌}
-use Rattle.go_tree_core.specs.declared.exprs.Expr.{Expr}
-use Rattle.go_tree_core.specs.declared.exprs.NextExpr.{NextExpr}
-use Rattle.go_tree_core.specs.Terminals.{Terminal}
-use Rattle.go_tree_core.specs.Trees.{Separated, ExprTree}
-use Rattle.go_tree_core.specs.Heights.{exprs_height}
-use Rattle.go_tree_core.specs.Shapes.{exprs_from}
+use Rattle.go_tree_nodes.specs.declared.exprs.Expr.{Expr}
+use Rattle.go_tree_nodes.specs.declared.exprs.NextExpr.{NextExpr}
+use Rattle.go_tree_nodes.specs.Terminals.{Terminal}
+use Rattle.go_tree_nodes.specs.Trees.{Separated, ExprTree}
+use Rattle.go_tree_nodes.specs.Heights.{exprs_height}
+use Rattle.go_tree_nodes.specs.Shapes.{exprs_from}
 use Rattle.go_parse_types.specs.Marks.{Grammar, TooHigh, need}
 use Rattle.go_parse_stmts.specs.StmtReading.{single, simple_by, simple_from}
 

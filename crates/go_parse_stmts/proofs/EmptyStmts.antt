@@ -3,9 +3,9 @@ use Rattle.std.proofs.Common.{◌≡◌, ℕ, zero, suc, Bool, true, false, List
 use Rattle.go_text_core.specs.declared.span.Span.{Span}
 use Rattle.go_scan_core.specs.declared.kind.Keyword.TheVariants as keyword
 use Rattle.go_scan_core.specs.declared.kind.Operator.TheVariants as operator
-use Rattle.go_tree_core.specs.declared.decls.ValueKind.{ValueKind}
-use Rattle.go_tree_core.specs.Terminals.{Terminal}
-use Rattle.go_tree_core.specs.Trees.{ForTree, StmtTree, BranchTree, Lines, Empty, Declare, Simple, Return, Break, Continue, Block, If, For}
+use Rattle.go_tree_nodes.specs.declared.decls.ValueKind.{ValueKind}
+use Rattle.go_tree_nodes.specs.Terminals.{Terminal}
+use Rattle.go_tree_nodes.specs.Trees.{ForTree, StmtTree, BranchTree, Lines, Empty, Declare, Simple, Return, Break, Continue, Block, If, For}
 use Rattle.go_parse_types.specs.Marks.{◌>>=◌, Reading, Place, mark_at, word_at}
 use Rattle.go_parse_types.proofs.Marks.{bind_ok}
 use Rattle.go_parse_exprs.specs.ExprReading.{exprs_at}

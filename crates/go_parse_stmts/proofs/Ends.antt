@@ -4,12 +4,12 @@ use Rattle.go_text_core.specs.declared.span.Span.{Span}
 use Rattle.go_scan_core.specs.declared.kind.Keyword.TheVariants as keyword
 use Rattle.go_scan_core.specs.declared.kind.Operator.{Operator}
 use Rattle.go_scan_core.specs.declared.kind.Operator.TheVariants as operator
-use Rattle.go_tree_core.specs.declared.names.Ident.{Ident}
-use Rattle.go_tree_core.specs.declared.names.TextLiteral.{TextLiteral}
-use Rattle.go_tree_core.specs.Terminals.{Number, Terminal, terminal}
-use Rattle.go_tree_core.specs.Trees.{Separated, One, Then, ExprTree, SimpleTree, Alone, Step, Assign, Update, Define}
-use Rattle.go_tree_core.specs.Spelling.{mark, word, spell_ident, spell_text, spell, spell_exprs, spell_simple}
-use Rattle.go_tree_core.specs.Rules.{is_unary, is_step, is_update, Wf, Wf_exprs, Wf_simple}
+use Rattle.go_tree_nodes.specs.declared.names.Ident.{Ident}
+use Rattle.go_tree_nodes.specs.declared.names.TextLiteral.{TextLiteral}
+use Rattle.go_tree_nodes.specs.Terminals.{Number, Terminal, terminal}
+use Rattle.go_tree_nodes.specs.Trees.{Separated, One, Then, ExprTree, SimpleTree, Alone, Step, Assign, Update, Define}
+use Rattle.go_tree_nodes.specs.Spelling.{mark, word, spell_ident, spell_text, spell, spell_exprs, spell_simple}
+use Rattle.go_tree_nodes.specs.Rules.{is_unary, is_step, is_update, Wf, Wf_exprs, Wf_simple}
 use Rattle.go_parse_types.specs.Marks.{mark_at, word_at, mark_that}
 use Rattle.go_parse_types.specs.TypeReading.{begins_type}
 use Rattle.go_parse_types.proofs.Marks.{mark_not}

@@ -6,6 +6,7 @@ pub mod Heads
 pub mod StmtFound
 pub mod StmtSound
 pub mod CodeSpecs
+pub mod CodeLines
 pub mod CodeValues
 pub mod CodeNames
 pub mod CodeSimple

@@ -5,12 +5,12 @@ use Rattle.std.specs.Prelude.{nat_lt}
 use Rattle.go_text_core.specs.declared.span.Span.{Span}
 use Rattle.go_scan_core.specs.declared.kind.Operator.{Operator}
 use Rattle.go_scan_core.specs.declared.kind.Operator.TheVariants as operator
-use Rattle.go_tree_core.specs.declared.names.Ident.{Ident}
-use Rattle.go_tree_core.specs.Terminals.{Terminal}
-use Rattle.go_tree_core.specs.Trees.{Separated, One, Then, ExprTree, Named, SimpleTree, Alone, Step, Assign, Update, Define}
-use Rattle.go_tree_core.specs.Spelling.{mark, spell_idents, spell, spell_exprs, spell_simple}
-use Rattle.go_tree_core.specs.Rules.{is_step, is_update, Wf, Wf_exprs, Wf_simple}
-use Rattle.go_tree_core.specs.Heights.{height, exprs_height, simple_height}
+use Rattle.go_tree_nodes.specs.declared.names.Ident.{Ident}
+use Rattle.go_tree_nodes.specs.Terminals.{Terminal}
+use Rattle.go_tree_nodes.specs.Trees.{Separated, One, Then, ExprTree, Named, SimpleTree, Alone, Step, Assign, Update, Define}
+use Rattle.go_tree_nodes.specs.Spelling.{mark, spell_idents, spell, spell_exprs, spell_simple}
+use Rattle.go_tree_nodes.specs.Rules.{is_step, is_update, Wf, Wf_exprs, Wf_simple}
+use Rattle.go_tree_nodes.specs.Heights.{height, exprs_height, simple_height}
 use Rattle.go_parse_types.specs.Marks.{TooHigh, ◌>>=◌, Place, need, mark_at, mark_that}
 use Rattle.go_parse_exprs.specs.ExprReading.{expr_at, exprs_at}
 use Rattle.go_parse_stmts.specs.StmtReading.{single, name_of, names_then, names_one, names_more, names_of, alone_by, update_by, step_by, assign_by, define_by, simple_by, simple_at, simple_from}

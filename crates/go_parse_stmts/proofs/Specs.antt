@@ -2,11 +2,11 @@
 use Rattle.std.proofs.Common.{◌≡◌, ℕ, suc, ◌<◌, List, [], ◌∷◌, ◌++◌, length, Option, Some, None, Ok, refl, sym, ap, ◌∙◌, subst, inl, append_assoc, ◌≤◌, arith, length-append}
 use Rattle.go_text_core.specs.declared.span.Span.{Span}
 use Rattle.go_scan_core.specs.declared.kind.Operator.TheVariants as operator
-use Rattle.go_tree_core.specs.Terminals.{Terminal}
-use Rattle.go_tree_core.specs.Trees.{Specs, Single, Group}
-use Rattle.go_tree_core.specs.Spelling.{mark, spell_specs_of, spell_specs}
-use Rattle.go_tree_core.specs.Rules.{Wf_specs}
-use Rattle.go_tree_core.specs.Heights.{specs_height, group_height}
+use Rattle.go_tree_nodes.specs.Terminals.{Terminal}
+use Rattle.go_tree_nodes.specs.Trees.{Specs, Single, Group}
+use Rattle.go_tree_nodes.specs.Spelling.{mark, spell_specs_of, spell_specs}
+use Rattle.go_tree_nodes.specs.Rules.{Wf_specs}
+use Rattle.go_tree_nodes.specs.Heights.{specs_height, group_height}
 use Rattle.go_parse_types.specs.Marks.{◌>>=◌, Reading, Place, mark_at, list_go}
 use Rattle.go_parse_stmts.specs.StmtReading.{group_by, specs_by, specs_at}
 use Rattle.go_parse_types.proofs.Marks.{mark_was, bind_ok, AgreesAt, bind_agrees, agrees_along}

@@ -3,12 +3,12 @@ use Rattle.std.proofs.Common.{◌≡◌, ℕ, zero, suc, ◌+◌, ◌≤◌, Boo
 use Rattle.go_text_core.specs.declared.span.Span.{Span}
 use Rattle.go_scan_core.specs.declared.kind.Keyword.TheVariants as keyword
 use Rattle.go_scan_core.specs.declared.kind.Operator.TheVariants as operator
-use Rattle.go_tree_core.specs.declared.decls.ValueKind.{ValueKind}
-use Rattle.go_tree_core.specs.Terminals.{Terminal}
-use Rattle.go_tree_core.specs.Trees.{IfTree, ForTree, StmtTree, BranchTree, ElseTree, Lines, Empty, Declare, Simple, Return, Break, Continue, Block, If, For, Branch, NoElse, ElseBlock, ElseIf, NoLines, Line}
-use Rattle.go_tree_core.specs.Spelling.{mark, word, spell_if, spell_for, spell_stmt, spell_branch, spell_else, spell_lines}
-use Rattle.go_tree_core.specs.Rules.{MayEnd, Wf_stmt, Wf_branch, Wf_else, Wf_lines}
-use Rattle.go_tree_core.specs.Heights.{stmt_height, branch_height, else_height, lines_height}
+use Rattle.go_tree_nodes.specs.declared.decls.ValueKind.{ValueKind}
+use Rattle.go_tree_nodes.specs.Terminals.{Terminal}
+use Rattle.go_tree_nodes.specs.Trees.{IfTree, ForTree, StmtTree, BranchTree, ElseTree, Lines, Empty, Declare, Simple, Return, Break, Continue, Block, If, For, Branch, NoElse, ElseBlock, ElseIf, NoLines, Line}
+use Rattle.go_tree_nodes.specs.Spelling.{mark, word, spell_if, spell_for, spell_stmt, spell_branch, spell_else, spell_lines}
+use Rattle.go_tree_nodes.specs.Rules.{MayEnd, Wf_stmt, Wf_branch, Wf_else, Wf_lines}
+use Rattle.go_tree_nodes.specs.Heights.{stmt_height, branch_height, else_height, lines_height}
 use Rattle.go_parse_types.specs.Marks.{◌>>=◌, Reading, Place, need, mark_at, word_at}
 use Rattle.go_parse_exprs.specs.ExprReading.{exprs_at}
 use Rattle.go_parse_stmts.specs.StmtReading.{value_at, value_word, simple_at, if_at, for_at, ends_here, returned, Braced, close_braces, braced, else_if, else_block, else_by, branch_by, for_by, by_simple, as_block, by_block, by_for, by_if, by_continue, by_break, by_return, by_value, last_by, line_by, lines_by, lines_go, stmt_at, block_at, branch_at}

@@ -4,14 +4,14 @@ use Rattle.go_text_core.specs.declared.span.Span.{Span}
 use Rattle.go_scan_core.specs.declared.kind.Keyword.TheVariants as keyword
 use Rattle.go_scan_core.specs.declared.kind.Operator.{Operator}
 use Rattle.go_scan_core.specs.declared.kind.Operator.TheVariants as operator
-use Rattle.go_tree_core.specs.declared.names.Ident.{Ident}
-use Rattle.go_tree_core.specs.declared.decls.ValueKind.{ValueKind}
-use Rattle.go_tree_core.specs.declared.decls.ValueKind.TheVariants as kinds
-use Rattle.go_tree_core.specs.Terminals.{Terminal}
-use Rattle.go_tree_core.specs.Trees.{Separated, One, Then, TypeTree, ExprTree, ValueSpecTree, ValueTree, TypeSpecTree, TypeDeclTree}
-use Rattle.go_tree_core.specs.Spelling.{mark, word, spell_ident, spell_idents, spell_type, spell_exprs, spell_some_type, spell_values, spell_value_spec, spell_specs, keyword_of, spell_value, spell_type_spec, spell_types}
-use Rattle.go_tree_core.specs.Rules.{Wf_type, Wf_some_type, Wf_values, HasEnough, Wf_value_spec, Wf_value, Wf_types}
-use Rattle.go_tree_core.specs.Heights.{type_height, exprs_height, some_type_height, values_height, value_spec_height, specs_height, value_height, types_height}
+use Rattle.go_tree_nodes.specs.declared.names.Ident.{Ident}
+use Rattle.go_tree_nodes.specs.declared.decls.ValueKind.{ValueKind}
+use Rattle.go_tree_nodes.specs.declared.decls.ValueKind.TheVariants as kinds
+use Rattle.go_tree_nodes.specs.Terminals.{Terminal}
+use Rattle.go_tree_nodes.specs.Trees.{Separated, One, Then, TypeTree, ExprTree, ValueSpecTree, ValueTree, TypeSpecTree, TypeDeclTree}
+use Rattle.go_tree_nodes.specs.Spelling.{mark, word, spell_ident, spell_idents, spell_type, spell_exprs, spell_some_type, spell_values, spell_value_spec, spell_specs, keyword_of, spell_value, spell_type_spec, spell_types}
+use Rattle.go_tree_nodes.specs.Rules.{Wf_type, Wf_some_type, Wf_values, HasEnough, Wf_value_spec, Wf_value, Wf_types}
+use Rattle.go_tree_nodes.specs.Heights.{type_height, exprs_height, some_type_height, values_height, value_spec_height, specs_height, value_height, types_height}
 use Rattle.go_parse_types.specs.Marks.{Grammar, ◌>>=◌, Reading, Place, need, mark_at, word_at, name_at, idents_go}
 use Rattle.go_parse_types.specs.TypeReading.{begins_type, type_at}
 use Rattle.go_parse_exprs.specs.ExprReading.{exprs_at}

@@ -1,12 +1,25 @@
 -- Parts of statements, before it is known what they belong to.
 use Rattle.std.specs.Prelude.{ℕ, suc, true, List, length, Option, Some, None, Ok, Err, if◌then◌else◌}
 use Rattle.go_text_core.specs.declared.span.Span.{Span}
+use Rattle.go_scan_core.specs.declared.kind.Keyword.TheVariants as keyword
 use Rattle.go_scan_core.specs.declared.kind.Operator.TheVariants as operator
-use Rattle.go_tree_core.specs.Terminals.{Terminal}
-use Rattle.go_tree_core.specs.Trees.{ExprTree, SimpleTree, StmtTree, BranchTree, Lines}
-use Rattle.go_parse_types.specs.Marks.{Grammar, ◌>>=◌, Reading, Place, need, mark_at}
+use Rattle.go_tree_nodes.specs.Terminals.{Terminal}
+use Rattle.go_tree_nodes.specs.Trees.{Separated, ExprTree, SimpleTree, IfTree, StmtTree, BranchTree, ElseTree, Lines}
+use Rattle.go_parse_types.specs.Marks.{Grammar, ◌>>=◌, Reading, Place, need, mark_at, word_at}
 use Rattle.go_parse_exprs.specs.ExprReading.{expr_at}
-use Rattle.go_parse_stmts.specs.StmtReading.{is_define, post_first, branch_by, stmt_by, lines_go, stmt_at, block_at, branch_at}
+use Rattle.go_parse_stmts.specs.StmtReading.{simple_from, if_tree, is_define, post_first, Braced, braced, else_by, branch_by, stmt_by, lines_go, stmt_at, block_at, branch_at}
+
+-- the statement before the semicolon of an `if`, and the condition behind it
+
+abbrev pub init_by : SimpleTree → Place → Reading (Option SimpleTree × Span)
+init_by i None = Err Grammar
+init_by i (Some s) = Ok ((Some i, s.0), s.1)
+
+abbrev pub init_at : ℕ → Separated ExprTree → List Terminal → Reading (Option SimpleTree × Span)
+init_at b es ts = simple_from b true es ts >>= λ i. init_by i.0 (mark_at operator.Semicolon i.1)
+
+abbrev pub condition_at : ℕ → Option SimpleTree → Span → List Terminal → Reading IfTree
+condition_at b i s ts = expr_at b true 1 ts >>= λ t. Ok (if_tree (Some (i, s)) t.0, t.1)
 
 -- the condition between the semicolons of a `for`, if one stands there, and the second of them
 
@@ -29,9 +42,21 @@ post_by b ts None = post_first b ts >>= as_post
 abbrev pub post_at : ℕ → List Terminal → Reading (Option SimpleTree)
 post_at b ts = post_by b ts (mark_at operator.OpenBrace ts)
 
+-- the two semicolons of a `for`, from the first on, and what stands between and behind them
+abbrev pub clauses_at : ℕ → List Terminal → Reading (Span × Option ExprTree × Span × Option SimpleTree)
+clauses_at b ts = do
+  first ← need (mark_at operator.Semicolon ts)
+  test ← test_at b first.1
+  post ← post_at b test.1
+  Ok ((first.0, test.0.0, test.0.1, post.0), post.1)
+
 -- the statements up to a brace, each at most b high
 abbrev pub lines_above : ℕ → List Terminal → Reading Lines
 lines_above b ts = lines_go (stmt_at b) (suc (length ts)) ts
+
+-- the block of an `if` and what stands behind `else`
+abbrev pub branches_above : ℕ → List Terminal → Reading (Braced × ElseTree)
+branches_above b ts = braced (block_at b) ts >>= λ x. (else_by (block_at b) (branch_at b) x.1 (word_at keyword.Else x.1) >>= λ y. Ok ((x.0, y.0), y.1))
 
 -- a statement and an `if`, whose parts are at most b high
 abbrev pub stmt_above : ℕ → List Terminal → Reading StmtTree

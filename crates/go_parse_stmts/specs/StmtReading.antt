@@ -4,13 +4,13 @@ use Rattle.go_text_core.specs.declared.span.Span.{Span}
 use Rattle.go_scan_core.specs.declared.kind.Keyword.TheVariants as keyword
 use Rattle.go_scan_core.specs.declared.kind.Operator.{Operator}
 use Rattle.go_scan_core.specs.declared.kind.Operator.TheVariants as operator
-use Rattle.go_tree_core.specs.declared.names.Ident.{Ident}
-use Rattle.go_tree_core.specs.declared.decls.ValueKind.{ValueKind}
-use Rattle.go_tree_core.specs.declared.decls.ValueKind.TheVariants as value
-use Rattle.go_tree_core.specs.Terminals.{Terminal}
-use Rattle.go_tree_core.specs.Trees.{Separated, One, Then, TypeTree, ExprTree, Named, ValueSpecTree, Specs, Single, Group, ValueTree, TypeSpecTree, TypeDeclTree, SimpleTree, Alone, Step, Assign, Update, Define, IfTree, ForTree, Forever, While, Clauses, StmtTree, BranchTree, ElseTree, Lines, Empty, Declare, Simple, Return, Break, Continue, Block, If, For, Branch, NoElse, ElseBlock, ElseIf, NoLines, Line}
-use Rattle.go_tree_core.specs.Rules.{is_step, is_update}
-use Rattle.go_tree_core.specs.Heights.{exprs_height}
+use Rattle.go_tree_nodes.specs.declared.names.Ident.{Ident}
+use Rattle.go_tree_nodes.specs.declared.decls.ValueKind.{ValueKind}
+use Rattle.go_tree_nodes.specs.declared.decls.ValueKind.TheVariants as value
+use Rattle.go_tree_nodes.specs.Terminals.{Terminal}
+use Rattle.go_tree_nodes.specs.Trees.{Separated, One, Then, TypeTree, ExprTree, Named, ValueSpecTree, Specs, Single, Group, ValueTree, TypeSpecTree, TypeDeclTree, SimpleTree, Alone, Step, Assign, Update, Define, IfTree, ForTree, Forever, While, Clauses, StmtTree, BranchTree, ElseTree, Lines, Empty, Declare, Simple, Return, Break, Continue, Block, If, For, Branch, NoElse, ElseBlock, ElseIf, NoLines, Line}
+use Rattle.go_tree_nodes.specs.Rules.{is_step, is_update}
+use Rattle.go_tree_nodes.specs.Heights.{exprs_height}
 use Rattle.go_parse_types.specs.Marks.{Grammar, TooHigh, ◌>>=◌, Reading, Place, need, mark_at, word_at, name_at, mark_that, list_go, idents_go}
 use Rattle.go_parse_types.specs.TypeReading.{begins_type, type_at}
 use Rattle.go_parse_exprs.specs.ExprReading.{expr_at, exprs_at}

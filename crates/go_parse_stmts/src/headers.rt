@@ -1,9 +1,12 @@
 //! Headers of `if` and `for`.
+//!
+//! What was read is dropped by name where reading stops behind it. That is one call; a `?` writes out the tree's drop.
 ghost use Rattle.std.specs.Prelude.{◌≡◌, ◌<◌, ◌^◌};
-ghost use Rattle.go_tree_core.specs.Shapes.{shape_some_expr, shape_some_simple, shape_if, shape_for};
+ghost use Rattle.go_tree_nodes.specs.Heights.{exprs_height};
+ghost use Rattle.go_tree_nodes.specs.Shapes.{shape_exprs, shape_some_expr, shape_some_simple, shape_if, shape_for};
 ghost use Rattle.go_parse_types.specs.Giving.{Gives};
 ghost use Rattle.go_parse_types.specs.Marks.{mark_at};
-ghost use Rattle.go_parse_stmts.specs.CodeShapes.{test_at, post_at};
+ghost use Rattle.go_parse_stmts.specs.CodeShapes.{init_at, condition_at, test_at, post_at, clauses_at};
 ghost use Rattle.go_parse_stmts.specs.StmtReading.{if_at, for_at};
 ghost use Rattle.go_parse_stmts.specs.StmtReading as reading;
 ghost use Rattle.go_scan_core.specs.declared.kind.Operator.TheVariants as operator;
@@ -13,7 +16,7 @@ use go_parse_exprs::{expr, exprs};
 use go_parse_types::{Ahead, Stop};
 use go_scan_core::Operator;
 use go_text_core::Span;
-use go_tree_core::{Expr, ForHead, IfHead, InitPart, Simple};
+use go_tree_nodes::{Expr, Exprs, ForHead, IfHead, InitPart, Simple};
 use std::alloc::Global;
 
 /// What stands between `if` and its block, with parts at most `budget` high.
@@ -32,10 +35,8 @@ pub fn if_head<'a>(
     ensures { Gives (λ x. (shape_if x.0, x.1)) result (if_at budget ahead.entry) }
 {
     if let Some((semicolon, rest)) = ahead.mark(Operator::Semicolon) {
-        let (condition, _, rest) = expr(alloc, rest, true, 1, budget)?;
         let simple = None;
-        let init = Some(InitPart { simple, semicolon });
-        return Ok((IfHead { init, condition }, rest));
+        return condition(alloc, rest, InitPart { simple, semicolon }, budget);
     }
     let (front, height, rest) = exprs(alloc, ahead, true, budget)?;
     if rest.mark(Operator::OpenBrace).is_some() {
@@ -43,14 +44,56 @@ pub fn if_head<'a>(
         let init = None;
         return Ok((IfHead { init, condition }, rest));
     }
-    let (simple, rest) = header_simple(alloc, front, height, rest, budget)?;
-    let (semicolon, rest) = rest.need_mark(Operator::Semicolon)?;
-    let (condition, _, rest) = expr(alloc, rest, true, 1, budget)?;
-    let init = Some(InitPart {
-        simple: Some(simple),
-        semicolon,
-    });
-    Ok((IfHead { init, condition }, rest))
+    let (init, rest) = init_part(alloc, front, height, rest, budget)?;
+    condition(alloc, rest, init, budget)
+}
+
+/// The statement that begins with `front`, at most `budget` high, and the semicolon that has to stand behind it:
+/// `height` is how high `front` is.
+fn init_part<'a>(
+    alloc: Global,
+    front: Exprs,
+    height: u32,
+    ahead: Ahead<'a>,
+    budget: u32,
+) -> Result<(InitPart, Ahead<'a>), Stop>
+    requires few { budget < 2 ^ 31 }
+    requires high { height ≡ exprs_height (shape_exprs front) }
+    ensures { Gives (λ x. ((shape_some_simple x.0.simple, x.0.semicolon), x.1)) result (init_at budget (shape_exprs front) ahead.entry) }
+{
+    let (simple, rest) = header_simple(alloc, front, height, ahead, budget)?;
+    match rest.need_mark(Operator::Semicolon) {
+        Ok((semicolon, rest)) => {
+            let simple = Some(simple);
+            Ok((InitPart { simple, semicolon }, rest))
+        }
+        Err(stop) => {
+            drop(simple);
+            Err(stop)
+        }
+    }
+}
+
+/// The condition in front, at most `budget` high, behind `init`.
+fn condition<'a>(
+    alloc: Global,
+    ahead: Ahead<'a>,
+    init: InitPart,
+    budget: u32,
+) -> Result<(IfHead, Ahead<'a>), Stop>
+    requires { budget < 2 ^ 31 }
+    ensures { Gives (λ x. (shape_if x.0, x.1)) result (condition_at budget (shape_some_simple init.simple) init.semicolon ahead.entry) }
+{
+    match expr(alloc, ahead, true, 1, budget) {
+        Ok((condition, _, rest)) => {
+            let init = Some(init);
+            Ok((IfHead { init, condition }, rest))
+        }
+        Err(stop) => {
+            drop(init);
+            Err(stop)
+        }
+    }
 }
 
 /// The condition behind the first semicolon of a `for`, at most `budget` high, if one stands there, and the place of
@@ -67,8 +110,13 @@ fn test<'a>(
         return Ok((None, semicolon, rest));
     }
     let (test, _, rest) = expr(alloc, ahead, true, 1, budget)?;
-    rest.need_mark(Operator::Semicolon)
-        .map(|(semicolon, rest)| (Some(test), semicolon, rest))
+    match rest.need_mark(Operator::Semicolon) {
+        Ok((semicolon, rest)) => Ok((Some(test), semicolon, rest)),
+        Err(stop) => {
+            drop(test);
+            Err(stop)
+        }
+    }
 }
 
 /// The statement behind the second semicolon of a `for`, at most `budget` high, if one stands there. It is no short
@@ -87,13 +135,35 @@ fn post<'a>(
     let (front, height, rest) = exprs(alloc, ahead, true, budget)?;
     let (simple, rest) = header_simple(alloc, front, height, rest, budget)?;
     if let Simple::Define(..) = simple {
+        drop(simple);
         return Err(Stop::Grammar(rest.offset()));
     }
     Ok((Some(simple), rest))
 }
 
-/// What stands behind `init` in the head of a `for`, from the first semicolon on, with parts at most `budget` high.
+/// The places of the two semicolons of a `for`, from the first on, with the condition between them and the statement
+/// behind them where these stand, at most `budget` high.
 fn clauses<'a>(
+    alloc: Global,
+    ahead: Ahead<'a>,
+    budget: u32,
+) -> Result<(Span, Option<Expr>, Span, Option<Simple>, Ahead<'a>), Stop>
+    requires { budget < 2 ^ 31 }
+    ensures { Gives (λ x. ((x.0, shape_some_expr x.1, x.2, shape_some_simple x.3), x.4)) result (clauses_at budget ahead.entry) }
+{
+    let (first, rest) = ahead.need_mark(Operator::Semicolon)?;
+    let (test, second, rest) = test(alloc, rest, budget)?;
+    match post(alloc, rest, budget) {
+        Ok((post, rest)) => Ok((first, test, second, post, rest)),
+        Err(stop) => {
+            drop(test);
+            Err(stop)
+        }
+    }
+}
+
+/// What stands behind `init` in the head of a `for`, from the first semicolon on, with parts at most `budget` high.
+fn behind_init<'a>(
     alloc: Global,
     ahead: Ahead<'a>,
     init: Option<Simple>,
@@ -102,10 +172,15 @@ fn clauses<'a>(
     requires { budget < 2 ^ 31 }
     ensures { Gives (λ x. (shape_for x.0, x.1)) result (reading.for_clauses budget (shape_some_simple init) (mark_at operator.Semicolon ahead.entry)) }
 {
-    let (semicolon, rest) = ahead.need_mark(Operator::Semicolon)?;
-    let (test, second, rest) = test(alloc, rest, budget)?;
-    let (post, rest) = post(alloc, rest, budget)?;
-    Ok((ForHead::Clauses(init, semicolon, test, second, post), rest))
+    match clauses(alloc, ahead, budget) {
+        Ok((first, test, second, post, rest)) => {
+            Ok((ForHead::Clauses(init, first, test, second, post), rest))
+        }
+        Err(stop) => {
+            drop(init);
+            Err(stop)
+        }
+    }
 }
 
 /// What stands between `for` and its block, with parts at most `budget` high.
@@ -127,7 +202,7 @@ pub fn for_head<'a>(
         return Ok((ForHead::Forever, ahead));
     }
     if ahead.mark(Operator::Semicolon).is_some() {
-        return clauses(alloc, ahead, None, budget);
+        return behind_init(alloc, ahead, None, budget);
     }
     let (front, height, rest) = exprs(alloc, ahead, true, budget)?;
     if rest.mark(Operator::OpenBrace).is_some() {
@@ -135,5 +210,5 @@ pub fn for_head<'a>(
         return Ok((ForHead::While(condition), rest));
     }
     let (init, rest) = header_simple(alloc, front, height, rest, budget)?;
-    clauses(alloc, rest, Some(init), budget)
+    behind_init(alloc, rest, Some(init), budget)
 }

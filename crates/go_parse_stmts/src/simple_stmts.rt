@@ -1,10 +1,12 @@
 //! Simple statements.
+//!
+//! What was read is dropped by name where reading stops behind it. That is one call; a `?` writes out the tree's drop.
 ghost use Rattle.std.specs.Prelude.{◌≡◌, ◌<◌, ◌^◌, true, false, IfOk};
 ghost use Rattle.std.specs.Option.{option_map};
-ghost use Rattle.go_tree_core.specs.Heights.{exprs_height};
-ghost use Rattle.go_tree_core.specs.Rules as rules;
-ghost use Rattle.go_tree_core.specs.Shapes.{shape, shape_exprs, shape_simple};
-ghost use Rattle.go_tree_core.specs.TypeShapes.{shape_idents};
+ghost use Rattle.go_tree_nodes.specs.Heights.{exprs_height};
+ghost use Rattle.go_tree_nodes.specs.Rules as rules;
+ghost use Rattle.go_tree_nodes.specs.Shapes.{shape, shape_exprs, shape_simple};
+ghost use Rattle.go_tree_nodes.specs.TypeShapes.{shape_idents};
 ghost use Rattle.go_parse_types.specs.Giving.{Gives};
 ghost use Rattle.go_parse_types.specs.Marks as marks;
 ghost use Rattle.go_parse_types.specs.Marks.{mark_that};
@@ -12,10 +14,10 @@ ghost use Rattle.go_parse_stmts.specs.StmtReading as reading;
 ghost use Rattle.go_parse_stmts.specs.StmtReading.{name_of, names_of, step_by, simple_by, simple_at, simple_from};
 
 use go_parse_exprs::{expr, exprs};
-use go_parse_types::{Ahead, Stop};
+use go_parse_types::{Ahead, Stop, add};
 use go_scan_core::Operator;
 use go_text_core::Span;
-use go_tree_core::{Expr, Exprs, Ident, Idents, NextExpr, NextIdent, Simple};
+use go_tree_nodes::{Expr, Exprs, Ident, Idents, NextExpr, NextIdent, Simple};
 use std::alloc::{AllocError, Global};
 
 /// The name that an expression is.
@@ -24,7 +26,10 @@ fn name(expr: Expr) -> Option<Ident>
 {
     match expr {
         Expr::Name(name) => Some(name),
-        _ => None,
+        other => {
+            drop(other);
+            None
+        }
     }
 }
 
@@ -42,7 +47,7 @@ fn names(alloc: Global, exprs: Exprs) -> Result<Option<Idents>, AllocError>
         let Some(ident) = name(expr) else {
             return Ok(None);
         };
-        names.push(NextIdent { comma, ident })?;
+        add(&mut names, NextIdent { comma, ident })?;
     }
     Ok(Some(Idents { first, more: names }))
 }
@@ -55,11 +60,11 @@ fn names(alloc: Global, exprs: Exprs) -> Result<Option<Idents>, AllocError>
 pub fn single(exprs: Exprs, ahead: &Ahead<'_>) -> Result<Expr, Stop>
     ensures { Gives shape result (marks.need (reading.single (shape_exprs exprs))) }
 {
-    let Exprs { first, more } = exprs;
-    if !more.is_empty() {
+    if !exprs.more.is_empty() {
+        drop(exprs);
         return Err(Stop::Grammar(ahead.offset()));
     }
-    Ok(first)
+    Ok(exprs.first)
 }
 
 /// Whether an operator is `++` or `--`.
@@ -128,11 +133,16 @@ fn one_expr<'a>(
     if let Some((op, span, rest)) = step(&ahead) {
         return Ok((Simple::Step(target, op, span), rest));
     }
-    if let Some((op, span, rest)) = update(&ahead) {
-        let (value, _, rest) = expr(alloc, rest, header, 1, inner)?;
-        return Ok((Simple::Update(target, op, span, value), rest));
+    let Some((op, span, rest)) = update(&ahead) else {
+        return Ok((Simple::Expr(target), ahead));
+    };
+    match expr(alloc, rest, header, 1, inner) {
+        Ok((value, _, rest)) => Ok((Simple::Update(target, op, span, value), rest)),
+        Err(stop) => {
+            drop(target);
+            Err(stop)
+        }
     }
-    Ok((Simple::Expr(target), ahead))
 }
 
 /// The simple statement that begins with `front`, whose other parts are at most `inner` high.
@@ -153,11 +163,16 @@ fn simple_behind<'a>(
         let (values, _, rest) = exprs(alloc, rest, header, inner)?;
         return Ok((Simple::Define(names, define, values), rest));
     }
-    if let Some((assign, rest)) = ahead.mark(Operator::Assign) {
-        let (values, _, rest) = exprs(alloc, rest, header, inner)?;
-        return Ok((Simple::Assign(front, assign, values), rest));
+    let Some((assign, rest)) = ahead.mark(Operator::Assign) else {
+        return one_expr(alloc, front, ahead, header, inner);
+    };
+    match exprs(alloc, rest, header, inner) {
+        Ok((values, _, rest)) => Ok((Simple::Assign(front, assign, values), rest)),
+        Err(stop) => {
+            drop(front);
+            Err(stop)
+        }
     }
-    one_expr(alloc, front, ahead, header, inner)
 }
 
 /// The simple statement in front, outside a header, whose parts are at most `inner` high.
@@ -194,6 +209,7 @@ pub fn header_simple<'a>(
     ensures { Gives (λ x. (shape_simple x.0, x.1)) result (simple_from budget true (shape_exprs front) ahead.entry) }
 {
     if height >= budget {
+        drop(front);
         return Err(Stop::TooHigh(ahead.offset()));
     }
     simple_behind(alloc, front, ahead, true, budget - 1)

@@ -1,11 +1,13 @@
 //! Statements and blocks.
-ghost use Rattle.std.specs.Prelude.{◌≡◌, ◌<◌, ◌^◌};
+//!
+//! What was read is dropped by name where reading stops behind it. That is one call; a `?` writes out the tree's drop.
+ghost use Rattle.std.specs.Prelude.{◌≡◌, ◌<◌, ◌+◌, ◌^◌};
 ghost use Rattle.go_scan_core.specs.declared.kind.Keyword.TheVariants as keyword;
 ghost use Rattle.go_scan_core.specs.declared.kind.Operator.TheVariants as operator;
-ghost use Rattle.go_tree_core.specs.Shapes.{shape_stmt, shape_branch, shape_else, lines_of};
+ghost use Rattle.go_tree_nodes.specs.Shapes.{shape_stmt, shape_branch, shape_else, lines_of};
 ghost use Rattle.go_parse_types.specs.Giving.{Gives};
 ghost use Rattle.go_parse_types.specs.Marks.{mark_at, word_at};
-ghost use Rattle.go_parse_stmts.specs.CodeShapes.{lines_above, stmt_above, branch_above};
+ghost use Rattle.go_parse_stmts.specs.CodeShapes.{lines_above, stmt_above, branches_above, branch_above};
 ghost use Rattle.go_parse_stmts.specs.StmtReading as reading;
 ghost use Rattle.go_parse_stmts.specs.StmtReading.{braced, return_at, stmt_at, block_at, branch_at};
 
@@ -13,10 +15,10 @@ use crate::headers::{for_head, if_head};
 use crate::simple_stmts::simple;
 use crate::value_decls::{value_decl, value_keyword};
 use go_parse_exprs::exprs;
-use go_parse_types::{Ahead, Stop};
+use go_parse_types::{Ahead, Stop, add, boxed};
 use go_scan_core::{Keyword, Operator};
 use go_text_core::Span;
-use go_tree_core::{Branch, Line, Otherwise, Stmt};
+use go_tree_nodes::{Branch, Line, Otherwise, Stmt};
 use std::alloc::Global;
 
 /// What stands behind `return`, with values at most `inner` high.
@@ -36,26 +38,10 @@ fn return_stmt<'a>(
     Ok((Stmt::Return(keyword, Some(values)), rest))
 }
 
-/// The statement in front, at most `budget` high.
-#[cycle(statements)]
-fn statement<'a>(alloc: Global, ahead: Ahead<'a>, budget: u32) -> Result<(Stmt, Ahead<'a>), Stop>
-    requires { budget < 2 ^ 31 }
-    ensures { Gives (λ x. (shape_stmt x.0, x.1)) result (stmt_at budget ahead.entry) }
-{
-    if budget == 0 {
-        return Err(Stop::TooHigh(ahead.offset()));
-    }
-    statement_above(alloc, ahead, budget - 1)
-}
-
 /// The statement in front, whose parts are at most `inner` high.
 #[cycle(statements)]
-fn statement_above<'a>(
-    alloc: Global,
-    ahead: Ahead<'a>,
-    inner: u32,
-) -> Result<(Stmt, Ahead<'a>), Stop>
-    requires { inner < 2 ^ 31 }
+fn statement<'a>(alloc: Global, ahead: Ahead<'a>, inner: u32) -> Result<(Stmt, Ahead<'a>), Stop>
+    requires { inner + 1 < 2 ^ 31 }
     ensures { Gives (λ x. (shape_stmt x.0, x.1)) result (stmt_above inner ahead.entry) }
 {
     if let Some((kind, keyword, rest)) = value_keyword(&ahead) {
@@ -72,7 +58,7 @@ fn statement_above<'a>(
         return Ok((Stmt::Continue(keyword), rest));
     }
     if let Some((keyword, rest)) = ahead.word(Keyword::If) {
-        let (branch, rest) = branch_above(alloc, rest, keyword, inner)?;
+        let (branch, rest) = branch(alloc, rest, keyword, inner)?;
         return Ok((Stmt::If(branch), rest));
     }
     if let Some((keyword, rest)) = ahead.word(Keyword::For) {
@@ -88,11 +74,11 @@ fn without_keyword<'a>(
     ahead: Ahead<'a>,
     inner: u32,
 ) -> Result<(Stmt, Ahead<'a>), Stop>
-    requires { inner < 2 ^ 31 }
+    requires { inner + 1 < 2 ^ 31 }
     ensures { Gives (λ x. (shape_stmt x.0, x.1)) result (reading.by_block inner (lines_above inner) ahead.entry (mark_at operator.OpenBrace ahead.entry)) }
 {
     if ahead.mark(Operator::OpenBrace).is_some() {
-        let (open, lines, close, rest) = braces(alloc, ahead, inner)?;
+        let (open, lines, close, rest) = block(alloc, ahead, inner + 1)?;
         return Ok((Stmt::Block(open, lines, close), rest));
     }
     if ahead.mark(Operator::Semicolon).is_some() {
@@ -102,26 +88,9 @@ fn without_keyword<'a>(
     Ok((Stmt::Simple(simple), rest))
 }
 
-/// What stands behind `if`, at most `budget` high.
-#[cycle(statements)]
-fn branch<'a>(
-    alloc: Global,
-    ahead: Ahead<'a>,
-    keyword: Span,
-    budget: u32,
-) -> Result<(Branch, Ahead<'a>), Stop>
-    requires { budget < 2 ^ 31 }
-    ensures { Gives (λ x. (shape_branch x.0, x.1)) result (branch_at budget keyword ahead.entry) }
-{
-    if budget == 0 {
-        return Err(Stop::TooHigh(ahead.offset()));
-    }
-    branch_above(alloc, ahead, keyword, budget - 1)
-}
-
 /// What stands behind `if`, with parts at most `inner` high.
 #[cycle(statements)]
-fn branch_above<'a>(
+fn branch<'a>(
     alloc: Global,
     ahead: Ahead<'a>,
     keyword: Span,
@@ -131,17 +100,38 @@ fn branch_above<'a>(
     ensures { Gives (λ x. (shape_branch x.0, x.1)) result (branch_above inner keyword ahead.entry) }
 {
     let (head, rest) = if_head(alloc, ahead, inner)?;
-    let (open, then, close, rest) = block(alloc, rest, inner)?;
+    match branches(alloc, rest, inner) {
+        Ok((open, then, close, otherwise, rest)) => {
+            let branch = Branch {
+                keyword,
+                head,
+                open,
+                then,
+                close,
+                otherwise,
+            };
+            Ok((branch, rest))
+        }
+        Err(stop) => {
+            drop(head);
+            Err(stop)
+        }
+    }
+}
+
+/// What stands behind the head of an `if`: its block, and the `else` if it stands there, at most `inner` high.
+#[cycle(statements)]
+fn branches<'a>(
+    alloc: Global,
+    ahead: Ahead<'a>,
+    inner: u32,
+) -> Result<(Span, Vec<Line>, Span, Otherwise, Ahead<'a>), Stop>
+    requires { inner < 2 ^ 31 }
+    ensures { Gives (λ x. (((x.0, lines_of x.1.items, x.2), shape_else x.3), x.4)) result (branches_above inner ahead.entry) }
+{
+    let (open, then, close, rest) = block(alloc, ahead, inner)?;
     let (otherwise, rest) = otherwise(alloc, rest, inner)?;
-    let branch = Branch {
-        keyword,
-        head,
-        open,
-        then,
-        close,
-        otherwise,
-    };
-    Ok((branch, rest))
+    Ok((open, then, close, otherwise, rest))
 }
 
 /// The `else` in front if it stands there, and the block or the `if` behind it, at most `inner` high.
@@ -162,8 +152,11 @@ fn otherwise<'a>(
         return Ok((Otherwise::Block(keyword, open, lines, close), rest));
     }
     let (if_keyword, rest) = rest.need_word(Keyword::If)?;
-    let (branch, rest) = branch(alloc, rest, if_keyword, inner)?;
-    Ok((Otherwise::If(keyword, Box::new(alloc, branch)?), rest))
+    if inner == 0 {
+        return Err(Stop::TooHigh(rest.offset()));
+    }
+    let (branch, rest) = branch(alloc, rest, if_keyword, inner - 1)?;
+    Ok((Otherwise::If(keyword, boxed(alloc, branch)?), rest))
 }
 
 /// What stands behind `for`, with parts at most `inner` high.
@@ -178,8 +171,13 @@ fn for_stmt<'a>(
     ensures { Gives (λ x. (shape_stmt x.0, x.1)) result (reading.for_by inner (block_at inner) keyword ahead.entry) }
 {
     let (head, rest) = for_head(alloc, ahead, inner)?;
-    let (open, body, close, rest) = block(alloc, rest, inner)?;
-    Ok((Stmt::For(keyword, head, open, body, close), rest))
+    match block(alloc, rest, inner) {
+        Ok((open, body, close, rest)) => { Ok((Stmt::For(keyword, head, open, body, close), rest)) }
+        Err(stop) => {
+            drop(head);
+            Err(stop)
+        }
+    }
 }
 
 /// The block in front, at most `budget` high: the place of its opening brace, its statements, the place of its closing
@@ -199,25 +197,11 @@ pub fn block<'a>(
     requires { budget < 2 ^ 31 }
     ensures { Gives (λ x. ((x.0, lines_of x.1.items, x.2), x.3)) result (braced (block_at budget) ahead.entry) }
 {
+    let (open, rest) = ahead.need_mark(Operator::OpenBrace)?;
     if budget == 0 {
-        let (_, rest) = ahead.need_mark(Operator::OpenBrace)?;
         return Err(Stop::TooHigh(rest.offset()));
     }
-    braces(alloc, ahead, budget - 1)
-}
-
-/// The block in front, with statements at most `inner` high.
-#[cycle(statements)]
-fn braces<'a>(
-    alloc: Global,
-    ahead: Ahead<'a>,
-    inner: u32,
-) -> Result<(Span, Vec<Line>, Span, Ahead<'a>), Stop>
-    requires { inner < 2 ^ 31 }
-    ensures { Gives (λ x. ((x.0, lines_of x.1.items, x.2), x.3)) result (braced (lines_above inner) ahead.entry) }
-{
-    let (open, rest) = ahead.need_mark(Operator::OpenBrace)?;
-    let (all, rest) = lines(alloc, rest, inner)?;
+    let (all, rest) = lines(alloc, rest, budget - 1)?;
     let (close, rest) = rest.need_mark(Operator::CloseBrace)?;
     Ok((open, all, close, rest))
 }
@@ -231,23 +215,19 @@ fn lines<'a>(alloc: Global, ahead: Ahead<'a>, budget: u32) -> Result<(Vec<Line>,
     let mut all = Vec::new(alloc);
     let mut rest = ahead;
     'turns: while rest.mark(Operator::CloseBrace).is_none() {
-        let (stmt, behind) = statement(alloc, rest, budget)?;
-        let Some((semicolon, after)) = behind.mark(Operator::Semicolon) else {
+        if budget == 0 {
+            return Err(Stop::TooHigh(rest.offset()));
+        }
+        let (stmt, behind) = statement(alloc, rest, budget - 1)?;
+        // Into the list before what can fail: the drop of a list is one call.
+        let (semicolon, behind) = behind.some_mark(Operator::Semicolon);
+        add(&mut all, Line { stmt, semicolon })?;
+        if semicolon.is_none() {
             // The last semicolon before the brace may be left out.
-            if behind.mark(Operator::CloseBrace).is_none() {
-                return Err(Stop::Grammar(behind.offset()));
-            }
-            all.push(Line {
-                stmt,
-                semicolon: None,
-            })?;
+            behind.need_mark(Operator::CloseBrace)?;
             return Ok((all, behind));
-        };
-        all.push(Line {
-            stmt,
-            semicolon: Some(semicolon),
-        })?;
-        rest = after;
+        }
+        rest = behind;
     }
     Ok((all, rest))
 }

@@ -1,15 +1,15 @@
 //! Declarations of types.
 ghost use Rattle.std.specs.Prelude.{◌≡◌, map};
 ghost use Rattle.go_scan_core.specs.declared.kind.Operator.TheVariants as operator;
-ghost use Rattle.go_tree_core.specs.Shapes.{shape_type_spec, shape_type_line, shape_type_specs, shape_type_decl};
+ghost use Rattle.go_tree_nodes.specs.Shapes.{shape_type_spec, shape_type_line, shape_type_decl};
 ghost use Rattle.go_parse_types.specs.EntryShapes.{list_all};
 ghost use Rattle.go_parse_types.specs.Giving.{Gives};
-ghost use Rattle.go_parse_stmts.specs.StmtReading.{type_spec_at, specs_at, types_at};
+ghost use Rattle.go_parse_stmts.specs.StmtReading.{type_spec_at, types_at};
 
-use go_parse_types::{Ahead, Stop, type_expr};
+use go_parse_types::{Ahead, Stop, add, type_expr};
 use go_scan_core::Operator;
 use go_text_core::Span;
-use go_tree_core::{TypeDecl, TypeLine, TypeSpec, TypeSpecs};
+use go_tree_nodes::{TypeDecl, TypeLine, TypeSpec, TypeSpecs};
 use std::alloc::Global;
 
 /// The name in front and the type that it stands for, at most `budget` high.
@@ -37,41 +37,17 @@ fn type_lines<'a>(
     let mut rest = ahead;
     'turns: while rest.mark(Operator::CloseParen).is_none() {
         let (spec, behind) = type_spec(alloc, rest, budget)?;
-        let Some((semicolon, after)) = behind.mark(Operator::Semicolon) else {
+        // Into the list before what can fail: the drop of a list is one call.
+        let (semicolon, behind) = behind.some_mark(Operator::Semicolon);
+        add(&mut all, TypeLine { spec, semicolon })?;
+        if semicolon.is_none() {
             // The last semicolon before the parenthesis may be left out.
-            if behind.mark(Operator::CloseParen).is_none() {
-                return Err(Stop::Grammar(behind.offset()));
-            }
-            all.push(TypeLine {
-                spec,
-                semicolon: None,
-            })?;
+            behind.need_mark(Operator::CloseParen)?;
             return Ok((all, behind));
-        };
-        all.push(TypeLine {
-            spec,
-            semicolon: Some(semicolon),
-        })?;
-        rest = after;
+        }
+        rest = behind;
     }
     Ok((all, rest))
-}
-
-/// The specification in front, or those in the parentheses in front, with types at most `budget` high.
-fn type_specs<'a>(
-    alloc: Global,
-    ahead: Ahead<'a>,
-    budget: u32,
-) -> Result<(TypeSpecs, Ahead<'a>), Stop>
-    ensures { Gives (λ x. (shape_type_specs x.0, x.1)) result (specs_at (type_spec_at budget) ahead.entry) }
-{
-    let Some((open, rest)) = ahead.mark(Operator::OpenParen) else {
-        let (spec, rest) = type_spec(alloc, ahead, budget)?;
-        return Ok((TypeSpecs::One(spec), rest));
-    };
-    let (lines, rest) = type_lines(alloc, rest, budget)?;
-    let (close, rest) = rest.need_mark(Operator::CloseParen)?;
-    Ok((TypeSpecs::Group(open, lines, close), rest))
 }
 
 /// What stands behind `type` (the Go specification, "Type declarations"), with types at most `budget` high.
@@ -89,6 +65,13 @@ pub fn type_decl<'a>(
 ) -> Result<(TypeDecl, Ahead<'a>), Stop>
     ensures { Gives (λ x. (shape_type_decl x.0, x.1)) result (types_at budget keyword ahead.entry) }
 {
-    let (specs, rest) = type_specs(alloc, ahead, budget)?;
+    let Some((open, rest)) = ahead.mark(Operator::OpenParen) else {
+        let (spec, rest) = type_spec(alloc, ahead, budget)?;
+        let specs = TypeSpecs::One(spec);
+        return Ok((TypeDecl { keyword, specs }, rest));
+    };
+    let (lines, rest) = type_lines(alloc, rest, budget)?;
+    let (close, rest) = rest.need_mark(Operator::CloseParen)?;
+    let specs = TypeSpecs::Group(open, lines, close);
     Ok((TypeDecl { keyword, specs }, rest))
 }

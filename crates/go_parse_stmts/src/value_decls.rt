@@ -1,17 +1,19 @@
 //! Declarations of constants and variables.
+//!
+//! What was read is dropped by name where reading stops behind it. That is one call; a `?` writes out the tree's drop.
 ghost use Rattle.std.specs.Prelude.{◌≡◌, ◌<◌, ◌^◌, map};
 ghost use Rattle.go_scan_core.specs.declared.kind.Operator.TheVariants as operator;
-ghost use Rattle.go_tree_core.specs.Shapes.{shape_some_type, shape_values, shape_value_spec, shape_value_line, shape_value_specs, shape_value};
+ghost use Rattle.go_tree_nodes.specs.Shapes.{shape_some_type, shape_values, shape_value_spec, shape_value_line, shape_value};
 ghost use Rattle.go_parse_types.specs.EntryShapes.{list_all};
 ghost use Rattle.go_parse_types.specs.Giving.{Gives};
 ghost use Rattle.go_parse_types.specs.Marks.{mark_at};
-ghost use Rattle.go_parse_stmts.specs.StmtReading.{some_type_at, values_by, enough, value_spec_at, specs_at, value_at, value_word};
+ghost use Rattle.go_parse_stmts.specs.StmtReading.{some_type_at, values_by, enough, value_spec_at, value_at, value_word};
 
 use go_parse_exprs::exprs;
-use go_parse_types::{Ahead, Stop, idents, type_expr};
+use go_parse_types::{Ahead, Stop, add, idents, type_expr};
 use go_scan_core::{Keyword, Operator};
 use go_text_core::Span;
-use go_tree_core::{TypeExpr, ValueDecl, ValueKind, ValueLine, ValueSpec, ValueSpecs, Values};
+use go_tree_nodes::{TypeExpr, ValueDecl, ValueKind, ValueLine, ValueSpec, ValueSpecs, Values};
 use std::alloc::Global;
 
 /// `const` or `var` in front, its place, and what is behind it.
@@ -81,15 +83,23 @@ fn value_spec<'a>(
     let (names, rest) = idents(alloc, ahead)?;
     let (type_expr, rest) = some_type(alloc, rest, budget)?;
     if !is_enough(kind, &type_expr, &rest) {
+        drop(type_expr);
         return Err(Stop::Grammar(rest.offset()));
     }
-    let (values, rest) = some_values(alloc, rest, budget)?;
-    let spec = ValueSpec {
-        names,
-        type_expr,
-        values,
-    };
-    Ok((spec, rest))
+    match some_values(alloc, rest, budget) {
+        Ok((values, rest)) => {
+            let spec = ValueSpec {
+                names,
+                type_expr,
+                values,
+            };
+            Ok((spec, rest))
+        }
+        Err(stop) => {
+            drop(type_expr);
+            Err(stop)
+        }
+    }
 }
 
 /// The specifications in front up to a closing parenthesis, with types and values at most `budget` high.
@@ -106,43 +116,17 @@ fn value_lines<'a>(
     let mut rest = ahead;
     'turns: while rest.mark(Operator::CloseParen).is_none() {
         let (spec, behind) = value_spec(alloc, rest, kind, budget)?;
-        let Some((semicolon, after)) = behind.mark(Operator::Semicolon) else {
+        // Into the list before what can fail: the drop of a list is one call.
+        let (semicolon, behind) = behind.some_mark(Operator::Semicolon);
+        add(&mut all, ValueLine { spec, semicolon })?;
+        if semicolon.is_none() {
             // The last semicolon before the parenthesis may be left out.
-            if behind.mark(Operator::CloseParen).is_none() {
-                return Err(Stop::Grammar(behind.offset()));
-            }
-            all.push(ValueLine {
-                spec,
-                semicolon: None,
-            })?;
+            behind.need_mark(Operator::CloseParen)?;
             return Ok((all, behind));
-        };
-        all.push(ValueLine {
-            spec,
-            semicolon: Some(semicolon),
-        })?;
-        rest = after;
+        }
+        rest = behind;
     }
     Ok((all, rest))
-}
-
-/// The specification in front, or those in the parentheses in front, with types and values at most `budget` high.
-fn value_specs<'a>(
-    alloc: Global,
-    ahead: Ahead<'a>,
-    kind: ValueKind,
-    budget: u32,
-) -> Result<(ValueSpecs, Ahead<'a>), Stop>
-    requires { budget < 2 ^ 31 }
-    ensures { Gives (λ x. (shape_value_specs x.0, x.1)) result (specs_at (value_spec_at budget kind) ahead.entry) }
-{
-    let Some((open, rest)) = ahead.mark(Operator::OpenParen) else {
-        let (spec, rest) = value_spec(alloc, ahead, kind, budget)?;
-        return Ok((ValueSpecs::One(spec), rest));
-    };
-    let (lines, rest) = value_lines(alloc, rest, kind, budget)?;
-    let (close, rest) = rest.need_mark(Operator::CloseParen)?;
-    Ok((ValueSpecs::Group(open, lines, close), rest))
 }
 
 /// What stands behind `const` or `var` (the Go specification, "Constant declarations" and "Variable declarations"),
@@ -163,11 +147,21 @@ pub fn value_decl<'a>(
     requires { budget < 2 ^ 31 }
     ensures { Gives (λ x. (shape_value x.0, x.1)) result (value_at budget kind keyword ahead.entry) }
 {
-    let (specs, rest) = value_specs(alloc, ahead, kind, budget)?;
+    let Some((open, rest)) = ahead.mark(Operator::OpenParen) else {
+        let (spec, rest) = value_spec(alloc, ahead, kind, budget)?;
+        let decl = ValueDecl {
+            kind,
+            keyword,
+            specs: ValueSpecs::One(spec),
+        };
+        return Ok((decl, rest));
+    };
+    let (lines, rest) = value_lines(alloc, rest, kind, budget)?;
+    let (close, rest) = rest.need_mark(Operator::CloseParen)?;
     let decl = ValueDecl {
         kind,
         keyword,
-        specs,
+        specs: ValueSpecs::Group(open, lines, close),
     };
     Ok((decl, rest))
 }

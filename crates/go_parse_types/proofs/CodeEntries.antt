@@ -3,12 +3,12 @@ use Rattle.std.proofs.Common.{◌≡◌, ℕ, zero, suc, ◌<◌, true, false, L
 use Rattle.std.specs.Prelude.{is_some}
 use Rattle.std.specs.Option.{option_map}
 use Rattle.go_text_core.specs.declared.span.Span.{Span}
-use Rattle.go_tree_core.specs.declared.names.Ident.{Ident}
-use Rattle.go_tree_core.specs.declared.names.Idents.{Idents}
-use Rattle.go_tree_core.specs.declared.names.NextIdent.{NextIdent}
-use Rattle.go_tree_core.specs.declared.types.«Param» as declared_param
-use Rattle.go_tree_core.specs.Trees.{Separated, One, Then, TypeTree, ParamTrees, NoParams, Param}
-use Rattle.go_tree_core.specs.TypeShapes.{idents_from, shape_idents, shape_names, shape_type, params_of}
+use Rattle.go_tree_nodes.specs.declared.names.Ident.{Ident}
+use Rattle.go_tree_nodes.specs.declared.names.Idents.{Idents}
+use Rattle.go_tree_nodes.specs.declared.names.NextIdent.{NextIdent}
+use Rattle.go_tree_nodes.specs.declared.types.«Param» as declared_param
+use Rattle.go_tree_nodes.specs.Trees.{Separated, One, Then, TypeTree, ParamTrees, NoParams, Param}
+use Rattle.go_tree_nodes.specs.TypeShapes.{idents_from, shape_idents, shape_names, shape_type, params_of}
 use Rattle.go_parse_types.specs.declared.entries.Entry.{Entry}
 use Rattle.go_parse_types.specs.EntryShapes.{entry_of, last_behind, with_last}
 use Rattle.go_parse_types.specs.TypeReading.{EntryTree, has_name, as_types, group_one, group_more, plain_name, group_next, as_groups}

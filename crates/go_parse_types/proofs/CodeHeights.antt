@@ -2,17 +2,17 @@
 use Rattle.std.proofs.Common.{◌≡◌, ◌+◌, max, Vec, ap, ◌∙◌}
 use Rattle.std.specs.Global.{Global}
 use Rattle.go_text_core.specs.declared.span.Span.{Span}
-use Rattle.go_tree_core.specs.declared.types.TypeExpr.{TypeExpr}
-use Rattle.go_tree_core.specs.declared.types.TypeExpr.TheVariants as types
-use Rattle.go_tree_core.specs.declared.types.FieldLine.{FieldLine}
-use Rattle.go_tree_core.specs.declared.types.MethodLine.{MethodLine}
-use Rattle.go_tree_core.specs.declared.types.Signature.{Signature, out-Signature}
-use Rattle.go_tree_core.specs.declared.types.Results.{Results}
-use Rattle.go_tree_core.specs.declared.types.Results.TheVariants as results
-use Rattle.go_tree_core.specs.declared.types.Params.{Params, out-Params}
-use Rattle.go_tree_core.specs.Heights.{type_height, fields_height, methods_height, signature_height, result_height, params_height}
-use Rattle.go_tree_core.specs.TypeShapes.{shape_type, shape_signature, shape_results, fields_of, methods_of, params_of}
-use Rattle.go_tree_core.proofs.TypeShapes.{shape_struct, shape_interface, listed_parts, signature_parts}
+use Rattle.go_tree_nodes.specs.declared.types.TypeExpr.{TypeExpr}
+use Rattle.go_tree_nodes.specs.declared.types.TypeExpr.TheVariants as types
+use Rattle.go_tree_nodes.specs.declared.types.FieldLine.{FieldLine}
+use Rattle.go_tree_nodes.specs.declared.types.MethodLine.{MethodLine}
+use Rattle.go_tree_nodes.specs.declared.types.Signature.{Signature, out-Signature}
+use Rattle.go_tree_nodes.specs.declared.types.Results.{Results}
+use Rattle.go_tree_nodes.specs.declared.types.Results.TheVariants as results
+use Rattle.go_tree_nodes.specs.declared.types.Params.{Params, out-Params}
+use Rattle.go_tree_nodes.specs.Heights.{type_height, fields_height, methods_height, signature_height, result_height, params_height}
+use Rattle.go_tree_nodes.specs.TypeShapes.{shape_type, shape_signature, shape_results, fields_of, methods_of, params_of}
+use Rattle.go_tree_nodes.proofs.TypeShapes.{shape_struct, shape_interface, listed_parts, signature_parts}
 
 pub struct_high : (t : TypeExpr) (k first : Span) (ls : Vec FieldLine Global) (last : Span) → t ≡ types.Struct k first ls last → type_height (shape_type t) ≡ fields_height (fields_of ls.items) + 1
 struct_high t k first ls last is = ap (λ t. type_height (shape_type t)) is ∙ ap type_height (shape_struct k first ls last)

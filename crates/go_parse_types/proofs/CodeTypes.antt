@@ -2,21 +2,24 @@
 use Rattle.std.proofs.Common.{◌≡◌, ℕ, zero, suc, ◌-◌, ◌<◌, ◌≤◌, List, [], ◌∷◌, ◌++◌, map, length, Option, Some, Ok, Err, refl, sym, ap, ◌∙◌, arith, length-append}
 use Rattle.go_text_core.specs.declared.span.Span.{Span}
 use Rattle.go_scan_core.specs.declared.kind.Operator.TheVariants as operator
-use Rattle.go_tree_core.specs.declared.names.Ident.{Ident}
-use Rattle.go_tree_core.specs.declared.types.FieldLine.{FieldLine}
-use Rattle.go_tree_core.specs.declared.types.MethodLine.{MethodLine, MethodLine'}
-use Rattle.go_tree_core.specs.declared.names.TextLiteral.{TextLiteral}
-use Rattle.go_tree_core.specs.declared.types.Fields.{Fields}
-use Rattle.go_tree_core.specs.declared.types.Fields.TheVariants as declared_fields
-use Rattle.go_tree_core.specs.Terminals.{Terminal}
-use Rattle.go_tree_core.specs.Trees.{TypeTree, Struct, Interface, SignatureTree, Signed, ResultTree, Results, ParamTrees, FieldTrees, MethodTrees, Method}
-use Rattle.go_tree_core.specs.TypeShapes.{fields_before, fields_of, method_before, methods_of}
-use Rattle.go_parse_types.specs.EntryShapes.{list_all, line_tree, line_of, method_of}
-use Rattle.go_parse_types.specs.Marks.{TooHigh, ◌>>=◌, Reading, need, mark_at}
-use Rattle.go_parse_types.specs.TypeReading.{EntryTree, LineTree, with_line, entry_at, line_at, method_at, as_fields, as_methods, params_at, results_by, result_by, result_at, signature_at, struct_by, struct_at, interface_by, interface_at, type_by, type_at}
+use Rattle.go_tree_nodes.specs.declared.names.Ident.{Ident}
+use Rattle.go_tree_nodes.specs.declared.types.FieldLine.{FieldLine}
+use Rattle.go_tree_nodes.specs.declared.types.MethodLine.{MethodLine, MethodLine'}
+use Rattle.go_tree_nodes.specs.declared.names.TextLiteral.{TextLiteral}
+use Rattle.go_tree_nodes.specs.declared.types.Fields.{Fields}
+use Rattle.go_tree_nodes.specs.declared.types.Fields.TheVariants as declared_fields
+use Rattle.go_tree_nodes.specs.Terminals.{Terminal}
+use Rattle.go_tree_nodes.specs.Trees.{TypeTree, Struct, Interface, SignatureTree, Signed, ResultTree, Results, ParamTrees, FieldTrees, MethodTrees, Method}
+use Rattle.go_tree_nodes.specs.TypeShapes.{fields_before, fields_of, method_before, methods_of}
+use Rattle.go_parse_types.specs.declared.stop.Stop.{Stop}
+use Rattle.go_parse_types.specs.Giving.{Fails}
+use Rattle.go_parse_types.specs.EntryShapes.{list_all, with_mark, then_mark, listed_at, line_tree, line_of, method_of}
+use Rattle.go_parse_types.specs.Marks.{TooHigh, ◌>>=◌, Reading, need, mark_at, text_at, mark_or_end}
+use Rattle.go_parse_types.specs.TypeReading.{EntryTree, LineTree, tag_by, tagged, with_line, entry_at, line_at, method_at, as_fields, as_methods, params_at, results_by, result_at, signature_at, struct_by, struct_at, interface_by, interface_at, type_by, type_at}
 use Rattle.go_parse_types.proofs.Marks.{need_ok}
-use Rattle.go_parse_types.proofs.Params.{spell_entry, entry_sound}
-use Rattle.go_parse_types.proofs.TypeLines.{spell_line, line_sound, spell_method, method_sound}
+use Rattle.go_parse_types.proofs.CodeSteps.{fails_along}
+use Rattle.go_parse_types.proofs.Params.{spell_entry, entry_some, entry_sound}
+use Rattle.go_parse_types.proofs.TypeLines.{spell_line, line_some, line_sound, spell_method, method_some, method_sound}
 use Rattle.go_parse_types.proofs.Types.{type_sound}
 
 -- the budget's step
@@ -29,18 +32,35 @@ unfolding type_at
 type_more zero ts some = absurd (omega arith)
 type_more (suc b) ts some = let less : b ≡ suc b - 1 = omega arith in ap (λ m. type_by (type_at m) ts) less
 
--- no item leaves more than it was given
-pub entry_shorter : (b : ℕ) (ts after : List Terminal) (x : EntryTree) → entry_at (type_at b) ts ≡ Ok (x, after) → length after ≤ length ts
-entry_shorter b ts after x e =
-    omega (arith, ap length (entry_sound b (type_at b) (type_sound b) ts (x, after) e).spelled_as, length-append (spell_entry x) after)
+-- each item takes terminals
+pub entry_less : (b : ℕ) (ts after : List Terminal) (x : EntryTree) → entry_at (type_at b) ts ≡ Ok (x, after) → length after < length ts
+entry_less b ts after x e =
+    omega (arith, ap length (entry_sound b (type_at b) (type_sound b) ts (x, after) e).spelled_as, length-append (spell_entry x) after, entry_some x)
 
-pub line_shorter : (b : ℕ) (ts after : List Terminal) (x : LineTree) → line_at (type_at b) ts ≡ Ok (x, after) → length after ≤ length ts
-line_shorter b ts after x e =
-    omega (arith, ap length (line_sound b (type_at b) (type_sound b) ts (x, after) e).spelled_as, length-append (spell_line x) after)
+pub line_less : (b : ℕ) (ts after : List Terminal) (x : LineTree) → line_at (type_at b) ts ≡ Ok (x, after) → length after < length ts
+line_less b ts after x e =
+    omega (arith, ap length (line_sound b (type_at b) (type_sound b) ts (x, after) e).spelled_as, length-append (spell_line x) after, line_some x)
 
-pub method_shorter : (b : ℕ) (ts after : List Terminal) (x : Ident × SignatureTree) → method_at (type_at b) ts ≡ Ok (x, after) → length after ≤ length ts
-method_shorter b ts after x e =
-    omega (arith, ap length (method_sound b (type_at b) (type_sound b) ts (x, after) e).spelled_as, length-append (spell_method x) after)
+pub method_less : (b : ℕ) (ts after : List Terminal) (x : Ident × SignatureTree) → method_at (type_at b) ts ≡ Ok (x, after) → length after < length ts
+method_less b ts after x e =
+    omega (arith, ap length (method_sound b (type_at b) (type_sound b) ts (x, after) e).spelled_as, length-append (spell_method x) after, method_some x)
+
+-- a line, by its tag and the mark behind it
+pub line_marked : (line : Option TextLiteral → LineTree) (ts : List Terminal) → then_mark operator.Semicolon operator.CloseBrace (tagged line ts) ≡ (then_mark operator.Semicolon operator.CloseBrace (Ok (tag_by ts (text_at ts))) >>= λ y. Ok ((line y.0.0, y.0.1), y.1))
+line_marked line ts = by (mark_or_end operator.Semicolon operator.CloseBrace (tag_by ts (text_at ts)).1)
+  where
+    tag : Option TextLiteral
+    tag = (tag_by ts (text_at ts)).0
+
+    by : (r : Reading (Option Span)) → with_mark (line tag) r ≡ (with_mark tag r >>= λ y. Ok ((line y.0.0, y.0.1), y.1))
+    by (Ok s) = refl
+    by (Err e) = refl
+
+pub line_fails : (line : Option TextLiteral → LineTree) (ts : List Terminal) (e : Stop) → Fails e (then_mark operator.Semicolon operator.CloseBrace (Ok (tag_by ts (text_at ts)))) → Fails e (then_mark operator.Semicolon operator.CloseBrace (tagged line ts))
+line_fails line ts e failed =
+    let read : Reading (Option TextLiteral) = Ok (tag_by ts (text_at ts)) in
+    fails_along (then_mark operator.Semicolon operator.CloseBrace read) (then_mark operator.Semicolon operator.CloseBrace (tagged line ts)) e
+    (λ f g. line_marked line ts ∙ ap (λ r. r >>= λ y. Ok ((line y.0.0, y.0.1), y.1)) g) failed
 
 -- the lines that were read, as fields
 line_is : (f : Fields) (tag : Option TextLiteral) (s : Option Span) (rest : FieldTrees) → with_line (line_tree f tag) s rest ≡ fields_before f tag s rest
@@ -86,10 +106,9 @@ interface_is inner k first last ts inside behind after ms opened found closed =
     ∙ ap (interface_by k first (as_methods (map method_of ms))) (need_ok (mark_at operator.CloseBrace behind) (last, after) closed)
     ∙ ap (λ ms. Ok (Interface k first ms last, after)) (methods_are ms)
 
-pub listed_is : (inner : List Terminal → Reading TypeTree) (first last : Span) (ts inside behind after : List Terminal) (ps : ParamTrees) → Some (first, inside) ≡ mark_at operator.OpenParen ts → params_at inner inside ≡ Ok (ps, behind) → need (mark_at operator.CloseParen behind) ≡ Ok (last, after) → result_at inner ts ≡ Ok (Results first ps last, after)
-listed_is inner first last ts inside behind after ps opened found closed =
-    ap (result_by inner ts) (sym opened)
-    ∙ ap (λ r. r >>= λ p. results_by first p.0 (mark_at operator.CloseParen p.1)) found
+pub listed_is : (inner : List Terminal → Reading TypeTree) (first last : Span) (ts behind after : List Terminal) (ps : ParamTrees) → params_at inner ts ≡ Ok (ps, behind) → need (mark_at operator.CloseParen behind) ≡ Ok (last, after) → listed_at inner first ts ≡ Ok (Results first ps last, after)
+listed_is inner first last ts behind after ps found closed =
+    ap (λ r. r >>= λ p. results_by first p.0 (mark_at operator.CloseParen p.1)) found
     ∙ ap (results_by first ps) (need_ok (mark_at operator.CloseParen behind) (last, after) closed)
 
 pub signature_is : (inner : List Terminal → Reading TypeTree) (first last : Span) (ts inside behind after rest : List Terminal) (ps : ParamTrees) (r : ResultTree) → need (mark_at operator.OpenParen ts) ≡ Ok (first, inside) → params_at inner inside ≡ Ok (ps, behind) → need (mark_at operator.CloseParen behind) ≡ Ok (last, after) → result_at inner after ≡ Ok (r, rest) → signature_at inner ts ≡ Ok (Signed first ps last r, rest)

@@ -3,12 +3,12 @@ use Rattle.std.proofs.Common.{◌≡◌, ℕ, zero, suc, ◌+◌, ◌<◌, ◌�
 use Rattle.go_text_core.specs.declared.span.Span.{Span}
 use Rattle.go_scan_core.specs.declared.kind.Operator.{Operator}
 use Rattle.go_scan_core.specs.declared.kind.Operator.TheVariants as operator
-use Rattle.go_tree_core.specs.declared.names.Ident.{Ident}
-use Rattle.go_tree_core.specs.Terminals.{Terminal}
-use Rattle.go_tree_core.specs.Trees.{Separated, One, Then}
-use Rattle.go_tree_core.specs.Spelling.{mark, spell_ident, spell_idents, spell_some, spell_specs_of}
-use Rattle.go_tree_core.specs.Rules.{Wf_group}
-use Rattle.go_tree_core.specs.Heights.{group_height}
+use Rattle.go_tree_nodes.specs.declared.names.Ident.{Ident}
+use Rattle.go_tree_nodes.specs.Terminals.{Terminal}
+use Rattle.go_tree_nodes.specs.Trees.{Separated, One, Then}
+use Rattle.go_tree_nodes.specs.Spelling.{mark, spell_ident, spell_idents, spell_some, spell_specs_of}
+use Rattle.go_tree_nodes.specs.Rules.{Wf_group}
+use Rattle.go_tree_nodes.specs.Heights.{group_height}
 use Rattle.go_parse_types.specs.Marks.{◌>>=◌, Reading, Place, need, same_operator, mark_at, name_at, last_by, more_by, list_by, list_go, idents_more, idents_go}
 use Rattle.go_parse_types.proofs.Marks.{mark_was, mark_here, mark_not, name_was, bind_ok, need_ok, AgreesAt, bind_agrees, agrees_along}
 

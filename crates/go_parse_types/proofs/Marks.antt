@@ -6,10 +6,10 @@ use Rattle.go_scan_core.specs.contracts.kind.Keyword as keyword_contracts
 use Rattle.go_scan_core.specs.contracts.kind.Operator as operator_contracts
 use Rattle.go_scan_core.specs.declared.kind.Keyword.{Keyword}
 use Rattle.go_scan_core.specs.declared.kind.Operator.{Operator}
-use Rattle.go_tree_core.specs.declared.names.Ident.{Ident}
-use Rattle.go_tree_core.specs.declared.names.TextLiteral.{TextLiteral}
-use Rattle.go_tree_core.specs.Terminals.{TerminalKind, Spelled, Quoted, Word, Mark, Terminal, terminal}
-use Rattle.go_tree_core.specs.Spelling.{mark, word, spell_ident, spell_text, spell_some}
+use Rattle.go_tree_nodes.specs.declared.names.Ident.{Ident}
+use Rattle.go_tree_nodes.specs.declared.names.TextLiteral.{TextLiteral}
+use Rattle.go_tree_nodes.specs.Terminals.{TerminalKind, Spelled, Quoted, Word, Mark, Terminal, terminal}
+use Rattle.go_tree_nodes.specs.Spelling.{mark, word, spell_ident, spell_text, spell_some}
 use Rattle.go_parse_types.specs.Marks.{Stuck, TooHigh, ◌>>=◌, need, same_operator, same_keyword, mark_in, mark_at, word_in, word_at, name_in, name_at, text_in, text_at, passing, mark_that_in, mark_that, some_mark}
 
 pub some_when : {A : Type 0} (c : Bool) (p o : A) → cond c (Some p) None ≡ Some o → (c ≡ true) × (p ≡ o)

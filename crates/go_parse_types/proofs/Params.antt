@@ -2,13 +2,13 @@
 use Rattle.std.proofs.Common.{◌≡◌, ℕ, suc, ◌<◌, ◌≤◌, max, Bool, true, false, List, [], ◌∷◌, ◌++◌, length, Option, Some, None, Ok, refl, sym, ap, ◌∙◌, subst, arith, cond, inl}
 use Rattle.go_text_core.specs.declared.span.Span.{Span}
 use Rattle.go_scan_core.specs.declared.kind.Operator.TheVariants as operator
-use Rattle.go_tree_core.specs.declared.names.Ident.{Ident}
-use Rattle.go_tree_core.specs.declared.types.TypeName.TheVariants as type_name
-use Rattle.go_tree_core.specs.Terminals.{Terminal}
-use Rattle.go_tree_core.specs.Trees.{Separated, One, Then, TypeTree, NamedType, Pointer, ParenType, Struct, Interface, ParamTrees, NoParams, Param}
-use Rattle.go_tree_core.specs.Spelling.{mark, spell_ident, spell_idents, spell_some, spell_type, spell_params}
-use Rattle.go_tree_core.specs.Rules.{IsKept, IsNothing, IsLastParam, is_grouped, Wf_type, Wf_params, Wf_group}
-use Rattle.go_tree_core.specs.Heights.{type_height, params_height, group_height}
+use Rattle.go_tree_nodes.specs.declared.names.Ident.{Ident}
+use Rattle.go_tree_nodes.specs.declared.types.TypeName.TheVariants as type_name
+use Rattle.go_tree_nodes.specs.Terminals.{Terminal}
+use Rattle.go_tree_nodes.specs.Trees.{Separated, One, Then, TypeTree, NamedType, Pointer, ParenType, Struct, Interface, ParamTrees, NoParams, Param}
+use Rattle.go_tree_nodes.specs.Spelling.{mark, spell_ident, spell_idents, spell_some, spell_type, spell_params}
+use Rattle.go_tree_nodes.specs.Rules.{IsKept, IsNothing, IsLastParam, is_grouped, Wf_type, Wf_params, Wf_group}
+use Rattle.go_tree_nodes.specs.Heights.{type_height, params_height, group_height}
 use Rattle.go_parse_types.specs.Marks.{◌>>=◌, Reading, need, mark_at, name_at, list_go}
 use Rattle.go_parse_types.specs.TypeReading.{EntryTree, begins_type, entry_if, entry_by, entry_at, has_name, as_types, group_one, group_more, plain_name, group_next, as_groups, as_params, params_by, params_at}
 use Rattle.go_parse_types.proofs.Marks.{name_was, bind_ok, need_ok, AgreesAt, bind_agrees, agrees_along}
@@ -48,7 +48,7 @@ entry_opens : (e : EntryTree) (ts : List Terminal) → mark_at operator.ClosePar
 entry_opens (None, t) ts = type_no_mark operator.CloseParen refl refl t ts
 entry_opens (Some x, t) ts = refl
 
-entry_some : (e : EntryTree) → 0 < length (spell_entry e)
+pub entry_some : (e : EntryTree) → 0 < length (spell_entry e)
 entry_some (None, t) = spell_type_some t
 entry_some (Some x, t) = omega arith
 

@@ -2,11 +2,11 @@
 use Rattle.std.proofs.Common.{◌≡◌, ℕ, ◌<◌, ◌≤◌, max, Bool, true, false, List, [], ◌∷◌, ◌++◌, length, Some, None, Ok, refl, sym, ap, ◌∙◌, subst, arith, inl, append_assoc}
 use Rattle.go_text_core.specs.declared.span.Span.{Span}
 use Rattle.go_scan_core.specs.declared.kind.Operator.TheVariants as operator
-use Rattle.go_tree_core.specs.Terminals.{Terminal}
-use Rattle.go_tree_core.specs.Trees.{TypeTree, SignatureTree, ResultTree, ParamTrees, Signed, NoResult, OneResult, Results}
-use Rattle.go_tree_core.specs.Spelling.{mark, spell_type, spell_signature, spell_result, spell_params}
-use Rattle.go_tree_core.specs.Rules.{is_grouped, Wf_signature, Wf_result, Wf_params}
-use Rattle.go_tree_core.specs.Heights.{type_height, signature_height, result_height, params_height}
+use Rattle.go_tree_nodes.specs.Terminals.{Terminal}
+use Rattle.go_tree_nodes.specs.Trees.{TypeTree, SignatureTree, ResultTree, ParamTrees, Signed, NoResult, OneResult, Results}
+use Rattle.go_tree_nodes.specs.Spelling.{mark, spell_type, spell_signature, spell_result, spell_params}
+use Rattle.go_tree_nodes.specs.Rules.{is_grouped, Wf_signature, Wf_result, Wf_params}
+use Rattle.go_tree_nodes.specs.Heights.{type_height, signature_height, result_height, params_height}
 use Rattle.go_parse_types.specs.Marks.{◌>>=◌, Reading, Place, need, mark_at}
 use Rattle.go_parse_types.specs.TypeReading.{begins_type, params_at, results_by, one_result, result_by, result_at, signature_at}
 use Rattle.go_parse_types.proofs.Marks.{mark_was, bind_ok, need_ok, AgreesAt, bind_agrees, agrees_along}

@@ -4,14 +4,14 @@ use Rattle.go_text_core.specs.declared.span.Span.{Span}
 use Rattle.go_scan_core.specs.declared.kind.Keyword.TheVariants as keyword
 use Rattle.go_scan_core.specs.declared.kind.Operator.{Operator}
 use Rattle.go_scan_core.specs.declared.kind.Operator.TheVariants as operator
-use Rattle.go_tree_core.specs.declared.names.Ident.{Ident}
-use Rattle.go_tree_core.specs.declared.types.TypeName.{TypeName}
-use Rattle.go_tree_core.specs.declared.types.TypeName.TheVariants as type_name
-use Rattle.go_tree_core.specs.Terminals.{Terminal}
-use Rattle.go_tree_core.specs.Trees.{TypeTree, NamedType, Pointer, ParenType, Struct, Interface}
-use Rattle.go_tree_core.specs.Spelling.{mark, word, spell_ident, spell_type_name, spell_type, spell_fields, spell_methods}
-use Rattle.go_tree_core.specs.Rules.{IsBare, Wf_type}
-use Rattle.go_tree_core.specs.Heights.{type_height}
+use Rattle.go_tree_nodes.specs.declared.names.Ident.{Ident}
+use Rattle.go_tree_nodes.specs.declared.types.TypeName.{TypeName}
+use Rattle.go_tree_nodes.specs.declared.types.TypeName.TheVariants as type_name
+use Rattle.go_tree_nodes.specs.Terminals.{Terminal}
+use Rattle.go_tree_nodes.specs.Trees.{TypeTree, NamedType, Pointer, ParenType, Struct, Interface}
+use Rattle.go_tree_nodes.specs.Spelling.{mark, word, spell_ident, spell_type_name, spell_type, spell_fields, spell_methods}
+use Rattle.go_tree_nodes.specs.Rules.{IsBare, Wf_type}
+use Rattle.go_tree_nodes.specs.Heights.{type_height}
 use Rattle.go_parse_types.specs.Marks.{Reading, Place, need, same_operator, mark_at, name_at, text_at}
 use Rattle.go_parse_types.specs.TypeReading.{qualified, type_name_from, type_name_at, begins_type, ends_embedded}
 use Rattle.go_parse_types.proofs.Marks.{mark_was, mark_not, name_was, bind_ok, need_ok, AgreesAt}

@@ -2,15 +2,15 @@
 use Rattle.std.proofs.Common.{◌≡◌, ℕ, suc, ◌<◌, ◌≤◌, max, Bool, true, false, List, [], ◌∷◌, ◌++◌, length, Option, Some, None, Ok, refl, sym, ap, ◌∙◌, subst, arith, inl, append_assoc, length-append}
 use Rattle.go_text_core.specs.declared.span.Span.{Span}
 use Rattle.go_scan_core.specs.declared.kind.Operator.TheVariants as operator
-use Rattle.go_tree_core.specs.declared.names.Ident.{Ident}
-use Rattle.go_tree_core.specs.declared.names.TextLiteral.{TextLiteral}
-use Rattle.go_tree_core.specs.declared.types.TypeName.{TypeName}
-use Rattle.go_tree_core.specs.declared.types.TypeName.TheVariants as type_name
-use Rattle.go_tree_core.specs.Terminals.{Terminal}
-use Rattle.go_tree_core.specs.Trees.{Separated, One, Then, TypeTree, FieldTrees, MethodTrees, SignatureTree, NamedType, Pointer, ParenType, Struct, Interface, NoFields, NamedFields, EmbeddedField, NoMethods, Method}
-use Rattle.go_tree_core.specs.Spelling.{mark, spell_ident, spell_idents, spell_some, spell_type_name, spell_tag, spell_type, spell_fields, spell_methods, spell_signature}
-use Rattle.go_tree_core.specs.Rules.{IsKept, IsNothing, IsLastField, IsLastMethod, Wf_type, Wf_fields, Wf_methods, Wf_signature, Wf_group}
-use Rattle.go_tree_core.specs.Heights.{type_height, fields_height, methods_height, signature_height, group_height}
+use Rattle.go_tree_nodes.specs.declared.names.Ident.{Ident}
+use Rattle.go_tree_nodes.specs.declared.names.TextLiteral.{TextLiteral}
+use Rattle.go_tree_nodes.specs.declared.types.TypeName.{TypeName}
+use Rattle.go_tree_nodes.specs.declared.types.TypeName.TheVariants as type_name
+use Rattle.go_tree_nodes.specs.Terminals.{Terminal}
+use Rattle.go_tree_nodes.specs.Trees.{Separated, One, Then, TypeTree, FieldTrees, MethodTrees, SignatureTree, NamedType, Pointer, ParenType, Struct, Interface, NoFields, NamedFields, EmbeddedField, NoMethods, Method}
+use Rattle.go_tree_nodes.specs.Spelling.{mark, spell_ident, spell_idents, spell_some, spell_type_name, spell_tag, spell_type, spell_fields, spell_methods, spell_signature}
+use Rattle.go_tree_nodes.specs.Rules.{IsKept, IsNothing, IsLastField, IsLastMethod, Wf_type, Wf_fields, Wf_methods, Wf_signature, Wf_group}
+use Rattle.go_tree_nodes.specs.Heights.{type_height, fields_height, methods_height, signature_height, group_height}
 use Rattle.go_parse_types.specs.Marks.{◌>>=◌, Reading, Place, need, mark_at, name_at, text_at, list_go, idents_go}
 use Rattle.go_parse_types.specs.TypeReading.{tag_by, LineTree, NamedLine, EmbeddedLine, tagged, embedded_by, embedded, ends_embedded, named_line, line_of_name, line_by_name, line_by_star, line_at, as_fields, signature_at, method_at, as_methods}
 use Rattle.go_parse_types.proofs.Marks.{mark_was, name_was, text_was, bind_ok, need_ok, AgreesAt, bind_agrees, agrees_along}
@@ -99,7 +99,7 @@ line_opens (NamedLine (Then x comma more) t tag) ts = refl
 line_opens (EmbeddedLine (Some star) n tag) ts = refl
 line_opens (EmbeddedLine None n tag) ts = ap (mark_at operator.CloseBrace) (append_assoc (spell_type_name n) (spell_tag tag) ts) ∙ name_opens n (spell_tag tag ++ ts)
 
-line_some : (l : LineTree) → 0 < length (spell_line l)
+pub line_some : (l : LineTree) → 0 < length (spell_line l)
 line_some (NamedLine xs t tag) = omega (arith, idents_some xs, length-append (spell_idents xs) (spell_type t ++ spell_tag tag))
 line_some (EmbeddedLine star n tag) = omega (arith, type_name_some n, length-append (spell_some operator.Star star) (spell_type_name n ++ spell_tag tag), length-append (spell_type_name n) (spell_tag tag))
 
@@ -263,7 +263,7 @@ method_found b type finds m rest wf stops =
     bind_agrees (signature_at type (spell_signature m.1 ++ rest)) (m.1, rest) (λ y. Ok ((m.0, y.0), y.1)) (Ok (m, rest)) b h b h
     (signature_complete b type finds m.1 rest wf stops) (inl refl) (λ g. g)
 
-method_some : (m : MethodTree) → 0 < length (spell_method m)
+pub method_some : (m : MethodTree) → 0 < length (spell_method m)
 method_some m = omega arith
 
 method_item : (b : ℕ) (type : List Terminal → Reading TypeTree) → FindsTypes b type → (m : MethodTree) → Wf_method m → FoundItem MethodTree (method_at type) spell_method operator.Semicolon operator.CloseBrace b (method_height m) m

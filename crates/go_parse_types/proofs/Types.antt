@@ -3,13 +3,13 @@ use Rattle.std.proofs.Common.{◌≡◌, ℕ, zero, suc, ◌+◌, ◌<◌, ◌�
 use Rattle.go_text_core.specs.declared.span.Span.{Span}
 use Rattle.go_scan_core.specs.declared.kind.Keyword.TheVariants as keyword
 use Rattle.go_scan_core.specs.declared.kind.Operator.TheVariants as operator
-use Rattle.go_tree_core.specs.declared.types.TypeName.{TypeName}
-use Rattle.go_tree_core.specs.declared.types.TypeName.TheVariants as type_name
-use Rattle.go_tree_core.specs.Terminals.{Terminal}
-use Rattle.go_tree_core.specs.Trees.{TypeTree, NamedType, Pointer, ParenType, Struct, Interface, FieldTrees, MethodTrees, ParamTrees, SignatureTree}
-use Rattle.go_tree_core.specs.Spelling.{mark, word, spell_type_name, spell_type, spell_fields, spell_methods, spell_params, spell_signature}
-use Rattle.go_tree_core.specs.Rules.{is_grouped, Wf_type, Wf_fields, Wf_methods, Wf_params, Wf_signature}
-use Rattle.go_tree_core.specs.Heights.{type_height, fields_height, methods_height, params_height, signature_height}
+use Rattle.go_tree_nodes.specs.declared.types.TypeName.{TypeName}
+use Rattle.go_tree_nodes.specs.declared.types.TypeName.TheVariants as type_name
+use Rattle.go_tree_nodes.specs.Terminals.{Terminal}
+use Rattle.go_tree_nodes.specs.Trees.{TypeTree, NamedType, Pointer, ParenType, Struct, Interface, FieldTrees, MethodTrees, ParamTrees, SignatureTree}
+use Rattle.go_tree_nodes.specs.Spelling.{mark, word, spell_type_name, spell_type, spell_fields, spell_methods, spell_params, spell_signature}
+use Rattle.go_tree_nodes.specs.Rules.{is_grouped, Wf_type, Wf_fields, Wf_methods, Wf_params, Wf_signature}
+use Rattle.go_tree_nodes.specs.Heights.{type_height, fields_height, methods_height, params_height, signature_height}
 use Rattle.go_parse_types.specs.Marks.{◌>>=◌, Reading, Place, need, mark_at, word_at, list_go}
 use Rattle.go_parse_types.specs.TypeReading.{type_name_at, params_at, signature_at, line_at, method_at, as_fields, as_methods, struct_by, struct_at, interface_by, interface_at, named_at, by_interface, by_struct, paren_by, by_paren, by_star, type_by, type_at}
 use Rattle.go_parse_types.proofs.Marks.{mark_was, word_was, bind_ok, need_ok, AgreesAt, bind_agrees, agrees_along}

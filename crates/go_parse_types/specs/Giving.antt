@@ -1,6 +1,6 @@
 -- What a function of the parser answers, against what reading gives.
 use Rattle.std.specs.Prelude.{◌≡◌, ℕ, List, [], ◌∷◌, Result, Ok, Err}
-use Rattle.go_tree_core.specs.Terminals.{Terminal}
+use Rattle.go_tree_nodes.specs.Terminals.{Terminal}
 use Rattle.go_parse_types.specs.declared.stop.Stop.{Stop}
 use Rattle.go_parse_types.specs.declared.stop.Stop.TheVariants as stop
 use Rattle.go_parse_types.specs.Marks.{Stuck, Grammar, TooHigh}

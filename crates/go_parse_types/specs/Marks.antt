@@ -8,10 +8,10 @@ use Rattle.go_scan_core.specs.contracts.kind.Operator as operator_contracts
 use Rattle.go_scan_core.specs.declared.kind.Keyword.{Keyword}
 use Rattle.go_scan_core.specs.declared.kind.Operator.{Operator}
 use Rattle.go_scan_core.specs.declared.kind.Operator.TheVariants as operator
-use Rattle.go_tree_core.specs.declared.names.Ident.{Ident}
-use Rattle.go_tree_core.specs.declared.names.TextLiteral.{TextLiteral}
-use Rattle.go_tree_core.specs.Terminals.{TerminalKind, Spelled, Number, Quoted, Word, Mark, Terminal}
-use Rattle.go_tree_core.specs.Trees.{Separated, One, Then}
+use Rattle.go_tree_nodes.specs.declared.names.Ident.{Ident}
+use Rattle.go_tree_nodes.specs.declared.names.TextLiteral.{TextLiteral}
+use Rattle.go_tree_nodes.specs.Terminals.{TerminalKind, Spelled, Number, Quoted, Word, Mark, Terminal}
+use Rattle.go_tree_nodes.specs.Trees.{Separated, One, Then}
 
 -- why reading stops: the terminals are no such tree, or it would be too high
 pub data Stuck : Type 0 where
@@ -105,6 +105,18 @@ some_mark want ts = taken ts (mark_at want ts)
     taken : List Terminal → Place → Option Span × List Terminal
     taken ts None = (None, ts)
     taken ts (Some s) = (Some s.0, s.1)
+
+-- the mark between two items of a list, or none before the mark that closes it
+abbrev pub end_by : List Terminal → Place → Reading (Option Span)
+end_by ts None = Err Grammar
+end_by ts (Some close) = Ok (None, ts)
+
+abbrev pub mark_by : Operator → List Terminal → Place → Reading (Option Span)
+mark_by close ts None = end_by ts (mark_at close ts)
+mark_by close ts (Some s) = Ok (Some s.0, s.1)
+
+abbrev pub mark_or_end : Operator → Operator → List Terminal → Reading (Option Span)
+mark_or_end between close ts = mark_by close ts (mark_at between ts)
 
 -- lists up to a closing mark, each but the last with a mark behind it
 

@@ -7,13 +7,13 @@ ghost use Rattle.go_scan_core.specs.Values.{string_value_of};
 ghost use Rattle.go_parse_types.specs.Giving.{Gives, IsPlace};
 ghost use Rattle.go_parse_types.specs.Marks as marks;
 ghost use Rattle.go_parse_types.specs.Marks.{need, mark_at, word_at, name_at, number_at, text_at};
-ghost use Rattle.go_tree_core.specs.Terminals.{terminals};
+ghost use Rattle.go_tree_nodes.specs.Terminals.{terminals};
 ghost use Rattle.go_parse_types.specs.TypeReading as reading;
 
 use crate::stop::Stop;
 use go_scan_core::{Keyword, Operator, Token, TokenKind, integer_value, string_value};
 use go_text_core::{Name, Span};
-use go_tree_core::{Ident, TextLiteral, TextValue};
+use go_tree_nodes::{Ident, TextLiteral, TextValue};
 use std::alloc::{AllocError, Global};
 use std::marker::Model;
 
@@ -52,7 +52,7 @@ pub struct Ahead<'a> {
 
 impl<'a> Model for Ahead<'a> {
     ghost use Rattle.std.specs.Prelude.{List};
-    ghost use Rattle.go_tree_core.specs.Terminals.{Terminal, terminals};
+    ghost use Rattle.go_tree_nodes.specs.Terminals.{Terminal, terminals};
 
     ghost Value = { List Terminal };
 
@@ -235,6 +235,28 @@ impl<'a> Ahead<'a> {
         ensures { Gives (λ x. (x.0, x.1)) result (need (name_at self.now)) }
     {
         self.name(alloc)?.ok_or(Stop::Grammar(self.offset()))
+    }
+
+    /// The mark that has to stand in front between two items of a list, or none before the mark that closes the list;
+    /// and what is behind it.
+    ///
+    /// # Errors
+    ///
+    /// [`Stop::Grammar`] where neither stands there, with the offset in bytes of what does.
+    pub fn mark_or_end(
+        self,
+        between: Operator,
+        close: Operator,
+    ) -> Result<(Option<Span>, Ahead<'a>), Stop>
+        ensures { Gives (λ x. (x.0, x.1)) result (marks.mark_or_end between close self.entry) }
+    {
+        if let Some((span, rest)) = self.mark(between) {
+            return Ok((Some(span), rest));
+        }
+        if self.mark(close).is_none() {
+            return Err(Stop::Grammar(self.offset()));
+        }
+        Ok((None, self))
     }
 
     /// Whether a type may begin in front.

@@ -1,12 +1,12 @@
 //! Parameters from the entries of their list.
 ghost use Rattle.std.specs.Prelude.{◌≡◌, map, Some, IfOk};
 ghost use Rattle.std.specs.Option.{option_map};
-ghost use Rattle.go_tree_core.specs.TypeShapes.{shape_idents, shape_names, shape_type, params_of};
+ghost use Rattle.go_tree_nodes.specs.TypeShapes.{shape_idents, shape_names, shape_type, params_of};
 ghost use Rattle.go_parse_types.specs.EntryShapes.{entry_of, with_last};
 ghost use Rattle.go_parse_types.specs.TypeReading.{has_name, as_types, as_groups, as_params, plain_name};
 
 use go_text_core::Span;
-use go_tree_core::{Ident, Idents, NextIdent, Param, TypeExpr, TypeName};
+use go_tree_nodes::{Ident, Idents, NextIdent, Param, TypeExpr, TypeName};
 use std::alloc::{AllocError, Global};
 
 /// An entry of a parameter list: a type, or a name and a type, with the comma behind it where one stands.

@@ -1,10 +1,10 @@
 //! How high types are.
 ghost use Rattle.std.specs.Prelude.{◌≡◌, ◌<◌, ◌^◌};
-ghost use Rattle.go_tree_core.specs.Heights as heights;
-ghost use Rattle.go_tree_core.specs.TypeShapes.{shape_type, shape_signature, shape_results, fields_of, methods_of, params_of};
+ghost use Rattle.go_tree_nodes.specs.Heights as heights;
+ghost use Rattle.go_tree_nodes.specs.TypeShapes.{shape_type, shape_signature, shape_results, fields_of, methods_of, params_of};
 ghost use Rattle.go_parse_types.specs.EntryShapes.{field_height};
 
-use go_tree_core::{FieldLine, Fields, MethodLine, Param, Results, Signature, TypeExpr};
+use go_tree_nodes::{FieldLine, Fields, MethodLine, Param, Results, Signature, TypeExpr};
 
 /// How high a type is: the number of types on its longest path.
 #[cycle(heights)]

@@ -1,14 +1,16 @@
 //! Names with commas between them, and the names of types.
 ghost use Rattle.std.specs.Prelude.{◌≡◌, suc, length};
-ghost use Rattle.go_tree_core.specs.TypeShapes.{shape_idents};
+ghost use Rattle.go_tree_nodes.specs.TypeShapes.{shape_idents, shape_type};
+ghost use Rattle.go_parse_types.specs.EntryShapes.{named_by};
 ghost use Rattle.go_parse_types.specs.Giving.{Gives};
 ghost use Rattle.go_parse_types.specs.Marks.{idents_go};
 ghost use Rattle.go_parse_types.specs.TypeReading.{type_name_at};
 
 use crate::ahead::Ahead;
+use crate::keeping::add;
 use crate::stop::Stop;
 use go_scan_core::Operator;
-use go_tree_core::{Idents, NextIdent, TypeName};
+use go_tree_nodes::{Idents, NextIdent, TypeExpr, TypeName};
 use std::alloc::Global;
 
 /// The names in front with commas between them.
@@ -24,7 +26,7 @@ pub fn idents<'a>(alloc: Global, ahead: Ahead<'a>) -> Result<(Idents, Ahead<'a>)
     let mut more = Vec::new(alloc);
     'turns: while let Some((comma, after)) = rest.mark(Operator::Comma) {
         let (ident, after) = after.need_name(alloc)?;
-        more.push(NextIdent { comma, ident })?;
+        add(&mut more, NextIdent { comma, ident })?;
         rest = after;
     }
     Ok((Idents { first, more }, rest))
@@ -43,6 +45,19 @@ pub fn type_name<'a>(alloc: Global, ahead: Ahead<'a>) -> Result<(TypeName, Ahead
     let Some((dot, behind)) = rest.mark(Operator::Dot) else {
         return Ok((TypeName::Plain(first), rest));
     };
-    let (name, rest) = behind.need_name(alloc)?;
-    Ok((TypeName::Qualified(first, dot, name), rest))
+    behind.need_name(alloc).map(|(name, rest)| (TypeName::Qualified(first, dot, name), rest))
+}
+
+/// The name that a type is.
+pub fn name_of(type_expr: TypeExpr) -> Option<TypeName>
+    ensures { result ≡ named_by (shape_type type_expr) }
+{
+    match type_expr {
+        TypeExpr::Name(name) => Some(name),
+        other => {
+            // By name: one call, where the end of the scope would take the tree apart kind by kind.
+            drop(other);
+            None
+        }
+    }
 }

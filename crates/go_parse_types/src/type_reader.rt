@@ -1,8 +1,8 @@
 //! Types, parameters and signatures.
-ghost use Rattle.std.specs.Prelude.{◌≡◌, map, IfOk};
+ghost use Rattle.std.specs.Prelude.{◌≡◌, map, Ok};
 ghost use Rattle.go_scan_core.specs.declared.kind.Operator.TheVariants as operator;
-ghost use Rattle.go_tree_core.specs.TypeShapes.{shape_type, shape_signature, shape_results, params_of};
-ghost use Rattle.go_parse_types.specs.EntryShapes.{list_all, entry_of, line_tree, line_of, method_of};
+ghost use Rattle.go_tree_nodes.specs.TypeShapes.{shape_type, shape_signature, shape_results, params_of};
+ghost use Rattle.go_parse_types.specs.EntryShapes.{list_all, then_mark, typed_at, paren_at, listed_at, entry_of, line_tree, line_of, method_of};
 ghost use Rattle.go_parse_types.specs.Giving.{Gives};
 ghost use Rattle.go_parse_types.specs.Marks.{text_at};
 ghost use Rattle.go_parse_types.specs.TypeReading as reading;
@@ -10,14 +10,15 @@ ghost use Rattle.go_parse_types.specs.TypeReading.{type_at, type_by, entry_at, p
 
 use crate::ahead::Ahead;
 use crate::entries::{Entry, params_from};
-use crate::names::{idents, type_name};
+use crate::keeping::{add, boxed};
+use crate::names::{idents, name_of, type_name};
 use crate::stop::Stop;
 use go_scan_core::{Keyword, Operator};
 use go_text_core::Span;
-use go_tree_core::{
+use go_tree_nodes::{
     FieldLine, Fields, Ident, MethodLine, Param, Params, Results, Signature, TextLiteral, TypeExpr,
 };
-use std::alloc::{AllocError, Global};
+use std::alloc::Global;
 
 /// The type in front, at most `budget` high.
 ///
@@ -50,14 +51,11 @@ fn type_above<'a>(
     ensures { Gives (λ x. (shape_type x.0, x.1)) result (type_by (type_at inner) ahead.entry) }
 {
     if let Some((star, rest)) = ahead.mark(Operator::Star) {
-        let (target, rest) = type_expr(alloc, rest, inner)?;
-        return Ok((TypeExpr::Pointer(star, Box::new(alloc, target)?), rest));
+        let (target, rest) = boxed_type(alloc, rest, inner)?;
+        return Ok((TypeExpr::Pointer(star, target), rest));
     }
     if let Some((open, rest)) = ahead.mark(Operator::OpenParen) {
-        let (inside, rest) = type_expr(alloc, rest, inner)?;
-        let inside = Box::new(alloc, inside)?;
-        let (close, rest) = rest.need_mark(Operator::CloseParen)?;
-        return Ok((TypeExpr::Paren(open, inside, close), rest));
+        return in_parens(alloc, rest, open, inner);
     }
     if let Some((keyword, rest)) = ahead.word(Keyword::Struct) {
         return struct_type(alloc, rest, keyword, inner);
@@ -67,6 +65,34 @@ fn type_above<'a>(
     }
     let (name, rest) = type_name(alloc, ahead)?;
     Ok((TypeExpr::Name(name), rest))
+}
+
+/// The type in front in a box, at most `budget` high.
+#[cycle(types)]
+fn boxed_type<'a>(
+    alloc: Global,
+    ahead: Ahead<'a>,
+    budget: u32,
+) -> Result<(Box<TypeExpr>, Ahead<'a>), Stop>
+    ensures { Gives (λ x. (shape_type x.0.value, x.1)) result (type_at budget ahead.entry) }
+{
+    let (type_expr, rest) = type_expr(alloc, ahead, budget)?;
+    Ok((boxed(alloc, type_expr)?, rest))
+}
+
+/// A type and the closing parenthesis behind it.
+#[cycle(types)]
+fn in_parens<'a>(
+    alloc: Global,
+    ahead: Ahead<'a>,
+    open: Span,
+    inner: u32,
+) -> Result<(TypeExpr, Ahead<'a>), Stop>
+    ensures { Gives (λ x. (shape_type x.0, x.1)) result (paren_at (type_at inner) «open» ahead.entry) }
+{
+    let (inside, rest) = boxed_type(alloc, ahead, inner)?;
+    let (close, rest) = rest.need_mark(Operator::CloseParen)?;
+    Ok((TypeExpr::Paren(open, inside, close), rest))
 }
 
 /// What stands behind `struct`, with types at most `budget` high.
@@ -107,23 +133,45 @@ fn interface_type<'a>(
     Ok((TypeExpr::Interface(keyword, open, methods, close), rest))
 }
 
-/// The entry of a parameter list in front: a type, or a name and a type.
+/// The entry of a parameter list in front: a type, or a name and a type; with the comma behind it.
 #[cycle(types)]
-fn entry<'a>(
-    alloc: Global,
-    ahead: Ahead<'a>,
-    budget: u32,
-) -> Result<(Option<Ident>, TypeExpr, Ahead<'a>), Stop>
-    ensures { Gives (λ x. ((x.0, shape_type x.1), x.2)) result (entry_at (type_at budget) ahead.entry) }
+fn entry<'a>(alloc: Global, ahead: Ahead<'a>, budget: u32) -> Result<(Entry, Ahead<'a>), Stop>
+    ensures { Gives (λ x. (entry_of x.0, x.1)) result (then_mark operator.Comma operator.CloseParen (entry_at (type_at budget) ahead.entry)) }
 {
     if let Some((name, rest)) = ahead.name(alloc)? {
         if rest.begins_type() {
-            let (type_expr, rest) = type_expr(alloc, rest, budget)?;
-            return Ok((Some(name), type_expr, rest));
+            return entry_of_type(alloc, Some(name), rest, budget);
         }
     }
+    entry_of_type(alloc, None, ahead, budget)
+}
+
+/// The type in front as an entry, whose name is read; with the comma behind it.
+#[cycle(types)]
+fn entry_of_type<'a>(
+    alloc: Global,
+    name: Option<Ident>,
+    ahead: Ahead<'a>,
+    budget: u32,
+) -> Result<(Entry, Ahead<'a>), Stop>
+    ensures { Gives (λ x. (entry_of x.0, x.1)) result (then_mark operator.Comma operator.CloseParen (typed_at (type_at budget) name ahead.entry)) }
+{
     let (type_expr, rest) = type_expr(alloc, ahead, budget)?;
-    Ok((None, type_expr, rest))
+    match rest.mark_or_end(Operator::Comma, Operator::CloseParen) {
+        Ok((comma, rest)) => {
+            let entry = Entry {
+                name,
+                type_expr,
+                comma,
+            };
+            Ok((entry, rest))
+        }
+        Err(stop) => {
+            // By name: one call, where the end of the scope would take the tree apart kind by kind.
+            drop(type_expr);
+            Err(stop)
+        }
+    }
 }
 
 /// The entries in front up to a closing parenthesis.
@@ -138,25 +186,9 @@ fn entries<'a>(
     let mut all = Vec::new(alloc);
     let mut rest = ahead;
     'turns: while rest.mark(Operator::CloseParen).is_none() {
-        let (name, type_expr, behind) = entry(alloc, rest, budget)?;
-        let Some((comma, after)) = behind.mark(Operator::Comma) else {
-            // The last comma before the parenthesis may be left out.
-            if behind.mark(Operator::CloseParen).is_none() {
-                return Err(Stop::Grammar(behind.offset()));
-            }
-            all.push(Entry {
-                name,
-                type_expr,
-                comma: None,
-            })?;
-            return Ok((all, behind));
-        };
-        all.push(Entry {
-            name,
-            type_expr,
-            comma: Some(comma),
-        })?;
-        rest = after;
+        let (entry, behind) = entry(alloc, rest, budget)?;
+        add(&mut all, entry)?;
+        rest = behind;
     }
     Ok((all, rest))
 }
@@ -179,22 +211,33 @@ fn results<'a>(alloc: Global, ahead: Ahead<'a>, budget: u32) -> Result<(Results,
     ensures { Gives (λ x. (shape_results x.0, x.1)) result (result_at (type_at budget) ahead.entry) }
 {
     if let Some((open, rest)) = ahead.mark(Operator::OpenParen) {
-        let (entries, rest) = params(alloc, rest, budget)?;
-        let (close, rest) = rest.need_mark(Operator::CloseParen)?;
-        return Ok((
-            Results::Listed(Params {
-                open,
-                entries,
-                close,
-            }),
-            rest,
-        ));
+        return listed(alloc, rest, open, budget);
     }
     if !ahead.begins_type() {
         return Ok((Results::Nothing, ahead));
     }
-    let (type_expr, rest) = type_expr(alloc, ahead, budget)?;
-    Ok((Results::Single(Box::new(alloc, type_expr)?), rest))
+    let (single, rest) = boxed_type(alloc, ahead, budget)?;
+    Ok((Results::Single(single), rest))
+}
+
+/// The results of a list, behind its opening parenthesis.
+#[cycle(types)]
+fn listed<'a>(
+    alloc: Global,
+    ahead: Ahead<'a>,
+    open: Span,
+    budget: u32,
+) -> Result<(Results, Ahead<'a>), Stop>
+    ensures { Gives (λ x. (shape_results x.0, x.1)) result (listed_at (type_at budget) «open» ahead.entry) }
+{
+    let (entries, rest) = params(alloc, ahead, budget)?;
+    let (close, rest) = rest.need_mark(Operator::CloseParen)?;
+    let params = Params {
+        open,
+        entries,
+        close,
+    };
+    Ok((Results::Listed(params), rest))
 }
 
 /// The parameters and results in front, with types at most `budget` high.
@@ -224,57 +267,76 @@ pub fn signature<'a>(
     Ok((Signature { params, results }, rest))
 }
 
-/// The tag in front, if there is one.
-fn tag<'a>(alloc: Global, ahead: Ahead<'a>) -> Result<(Option<TextLiteral>, Ahead<'a>), AllocError>
-    ensures { IfOk result (λ x. (x.0, x.1) ≡ reading.tag_by ahead.entry (text_at ahead.entry)) }
+/// The tag in front, if there is one, and the semicolon behind it.
+fn line_end<'a>(
+    alloc: Global,
+    ahead: Ahead<'a>,
+) -> Result<(Option<TextLiteral>, Option<Span>, Ahead<'a>), Stop>
+    ensures { Gives (λ x. ((x.0, x.1), x.2)) result (then_mark operator.Semicolon operator.CloseBrace (Ok (reading.tag_by ahead.entry (text_at ahead.entry)))) }
 {
-    match ahead.text(alloc)? {
-        Some((tag, rest)) => Ok((Some(tag), rest)),
-        None => Ok((None, ahead)),
+    let (tag, rest) = match ahead.text(alloc)? {
+        Some((tag, rest)) => (Some(tag), rest),
+        None => (None, ahead),
+    };
+    rest.mark_or_end(Operator::Semicolon, Operator::CloseBrace)
+        .map(|(semicolon, rest)| (tag, semicolon, rest))
+}
+
+/// Fields that were read as a line, with the tag and the semicolon in front.
+fn field_line<'a>(
+    alloc: Global,
+    fields: Fields,
+    ahead: Ahead<'a>,
+) -> Result<(FieldLine, Ahead<'a>), Stop>
+    ensures { Gives (λ x. (line_of x.0, x.1)) result (then_mark operator.Semicolon operator.CloseBrace (reading.tagged (line_tree fields) ahead.entry)) }
+{
+    match line_end(alloc, ahead) {
+        Ok((tag, semicolon, rest)) => {
+            let line = FieldLine {
+                fields,
+                tag,
+                semicolon,
+            };
+            Ok((line, rest))
+        }
+        Err(stop) => {
+            drop(fields);
+            Err(stop)
+        }
     }
 }
 
-/// The embedded field in front, behind its star where it has one.
+/// The line of the embedded field in front, behind its star where it has one.
 #[cycle(types)]
 fn embedded<'a>(
     alloc: Global,
     ahead: Ahead<'a>,
     star: Option<Span>,
     budget: u32,
-) -> Result<(Fields, Option<TextLiteral>, Ahead<'a>), Stop>
-    ensures { Gives (λ x. (line_tree x.0 x.1, x.2)) result (reading.embedded (type_at budget) star ahead.entry) }
+) -> Result<(FieldLine, Ahead<'a>), Stop>
+    ensures { Gives (λ x. (line_of x.0, x.1)) result (then_mark operator.Semicolon operator.CloseBrace (reading.embedded (type_at budget) star ahead.entry)) }
 {
     let (type_expr, rest) = type_expr(alloc, ahead, budget)?;
-    let TypeExpr::Name(name) = type_expr else {
+    let Some(name) = name_of(type_expr) else {
         return Err(Stop::Grammar(rest.offset()));
     };
-    let (tag, rest) = tag(alloc, rest)?;
-    Ok((Fields::Embedded(star, name), tag, rest))
+    field_line(alloc, Fields::Embedded(star, name), rest)
 }
 
-/// The fields with names in front, and their type, at most `budget` high.
+/// The line in front of fields with names, and their type, at most `budget` high.
 #[cycle(types)]
-fn named<'a>(
-    alloc: Global,
-    ahead: Ahead<'a>,
-    budget: u32,
-) -> Result<(Fields, Option<TextLiteral>, Ahead<'a>), Stop>
-    ensures { Gives (λ x. (line_tree x.0 x.1, x.2)) result (reading.named_line (type_at budget) ahead.entry) }
+fn named<'a>(alloc: Global, ahead: Ahead<'a>, budget: u32) -> Result<(FieldLine, Ahead<'a>), Stop>
+    ensures { Gives (λ x. (line_of x.0, x.1)) result (then_mark operator.Semicolon operator.CloseBrace (reading.named_line (type_at budget) ahead.entry)) }
 {
     let (names, rest) = idents(alloc, ahead)?;
     let (type_expr, rest) = type_expr(alloc, rest, budget)?;
-    let (tag, rest) = tag(alloc, rest)?;
-    Ok((Fields::Named(names, type_expr), tag, rest))
+    field_line(alloc, Fields::Named(names, type_expr), rest)
 }
 
-/// The fields in front that one line declares, and their tag.
+/// The line of a struct type in front, with types at most `budget` high.
 #[cycle(types)]
-fn line<'a>(
-    alloc: Global,
-    ahead: Ahead<'a>,
-    budget: u32,
-) -> Result<(Fields, Option<TextLiteral>, Ahead<'a>), Stop>
-    ensures { Gives (λ x. (line_tree x.0 x.1, x.2)) result (line_at (type_at budget) ahead.entry) }
+fn line<'a>(alloc: Global, ahead: Ahead<'a>, budget: u32) -> Result<(FieldLine, Ahead<'a>), Stop>
+    ensures { Gives (λ x. (line_of x.0, x.1)) result (then_mark operator.Semicolon operator.CloseBrace (line_at (type_at budget) ahead.entry)) }
 {
     if let Some((star, rest)) = ahead.mark(Operator::Star) {
         return embedded(alloc, rest, Some(star), budget);
@@ -300,41 +362,34 @@ fn lines<'a>(
     let mut all = Vec::new(alloc);
     let mut rest = ahead;
     'turns: while rest.mark(Operator::CloseBrace).is_none() {
-        let (fields, tag, behind) = line(alloc, rest, budget)?;
-        let Some((semicolon, after)) = behind.mark(Operator::Semicolon) else {
-            // The last semicolon before the brace may be left out.
-            if behind.mark(Operator::CloseBrace).is_none() {
-                return Err(Stop::Grammar(behind.offset()));
-            }
-            all.push(FieldLine {
-                fields,
-                tag,
-                semicolon: None,
-            })?;
-            return Ok((all, behind));
-        };
-        all.push(FieldLine {
-            fields,
-            tag,
-            semicolon: Some(semicolon),
-        })?;
-        rest = after;
+        let (line, behind) = line(alloc, rest, budget)?;
+        add(&mut all, line)?;
+        rest = behind;
     }
     Ok((all, rest))
 }
 
-/// The method in front, with types at most `budget` high.
+/// The method in front with the semicolon behind it, with types at most `budget` high.
 #[cycle(types)]
-fn method<'a>(
-    alloc: Global,
-    ahead: Ahead<'a>,
-    budget: u32,
-) -> Result<(Ident, Signature, Ahead<'a>), Stop>
-    ensures { Gives (λ x. ((x.0, shape_signature x.1), x.2)) result (method_at (type_at budget) ahead.entry) }
+fn method<'a>(alloc: Global, ahead: Ahead<'a>, budget: u32) -> Result<(MethodLine, Ahead<'a>), Stop>
+    ensures { Gives (λ x. (method_of x.0, x.1)) result (then_mark operator.Semicolon operator.CloseBrace (method_at (type_at budget) ahead.entry)) }
 {
     let (name, rest) = ahead.need_name(alloc)?;
     let (signature, rest) = signature(alloc, rest, budget)?;
-    Ok((name, signature, rest))
+    match rest.mark_or_end(Operator::Semicolon, Operator::CloseBrace) {
+        Ok((semicolon, rest)) => {
+            let line = MethodLine {
+                name,
+                signature,
+                semicolon,
+            };
+            Ok((line, rest))
+        }
+        Err(stop) => {
+            drop(signature);
+            Err(stop)
+        }
+    }
 }
 
 /// The methods in front up to a closing brace, with types at most `budget` high.
@@ -349,25 +404,9 @@ fn methods<'a>(
     let mut all = Vec::new(alloc);
     let mut rest = ahead;
     'turns: while rest.mark(Operator::CloseBrace).is_none() {
-        let (name, signature, behind) = method(alloc, rest, budget)?;
-        let Some((semicolon, after)) = behind.mark(Operator::Semicolon) else {
-            // The last semicolon before the brace may be left out.
-            if behind.mark(Operator::CloseBrace).is_none() {
-                return Err(Stop::Grammar(behind.offset()));
-            }
-            all.push(MethodLine {
-                name,
-                signature,
-                semicolon: None,
-            })?;
-            return Ok((all, behind));
-        };
-        all.push(MethodLine {
-            name,
-            signature,
-            semicolon: Some(semicolon),
-        })?;
-        rest = after;
+        let (method, behind) = method(alloc, rest, budget)?;
+        add(&mut all, method)?;
+        rest = behind;
     }
     Ok((all, rest))
 }

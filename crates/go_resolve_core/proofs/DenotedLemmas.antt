@@ -7,7 +7,7 @@ use Rattle.std.specs.Str.{bytes_eq}
 use Rattle.std.proofs.lemmas.Bool.{lt-ltb, true≢false}
 use Rattle.std.proofs.lemmas.Slice.Eq.{bytes_eq-Decides}
 use Rattle.go_text_core.specs.Text.{is_blank}
-use Rattle.go_tree_core.specs.declared.names.Ident.{Ident}
+use Rattle.go_tree_nodes.specs.declared.names.Ident.{Ident}
 use Rattle.go_subset_core.specs.Trees as tree
 use Rattle.go_subset_core.specs.Trees.{Separated, StmtTree, Lines, Declare, Short, Assign, Return, Empty, More, DeclTree, Value, Func, TopTree, FileTree}
 use Rattle.go_resolve_core.specs.declared.declared.Block.{Block}

@@ -6,7 +6,7 @@ use Rattle.std.specs.Str.{bytes_eq}
 use Rattle.go_text_core.specs.Text.{is_blank}
 use Rattle.go_text_core.specs.declared.rule.Rule.{Rule}
 use Rattle.go_text_core.specs.declared.rule.Rule.TheVariants.{B1, B3, B4, K3}
-use Rattle.go_tree_core.specs.declared.names.Ident.{Ident}
+use Rattle.go_tree_nodes.specs.declared.names.Ident.{Ident}
 use Rattle.go_subset_core.specs.Trees as tree
 use Rattle.go_subset_core.specs.Trees.{Separated, One, Then, StmtTree, Lines, Declare, Short, Assign, Return, Empty, More, DeclTree, Value, Func, TopTree, FileTree}
 use Rattle.go_resolve_core.specs.declared.declared.Block.{Block}

@@ -9,7 +9,7 @@ use Rattle.std.proofs.lemmas.List.Elements.{filter-append}
 use Rattle.std.proofs.lemmas.List.Folds.{list_any-append}
 use Rattle.std.proofs.lemmas.Slice.Eq.{bytes_eq-Decides}
 use Rattle.go_text_core.specs.Text.{is_blank}
-use Rattle.go_tree_core.specs.declared.names.Ident.{Ident}
+use Rattle.go_tree_nodes.specs.declared.names.Ident.{Ident}
 use Rattle.go_subset_core.specs.Trees.{DeclTree, Value, Func, TopTree}
 use Rattle.go_open_core.specs.Blocks.{in_block, innermost, with_innermost}
 use Rattle.go_resolve_core.specs.declared.declared.Block.{Block}

@@ -3,10 +3,10 @@ use Rattle.std.proofs.Common.{ℕ, ◌+◌, ◌<◌, ◌≤◌, List, [], ◌∷
 use Rattle.std.proofs.lemmas.List.{append_assoc}
 use Rattle.go_text_core.specs.declared.span.Span.{Span}
 use Rattle.go_scan_core.specs.declared.kind.Operator.TheVariants as operator
-use Rattle.go_tree_core.specs.declared.names.Ident.{Ident}
+use Rattle.go_tree_nodes.specs.declared.names.Ident.{Ident}
 use Rattle.go_subset_core.specs.declared.tree.TypeExpr.{TypeExpr}
 use Rattle.go_subset_core.specs.declared.tree.TypeExpr.TheVariants as type_expr
-use Rattle.go_tree_core.specs.Terminals.{Terminal, terminal, Mark, InOrder}
+use Rattle.go_tree_nodes.specs.Terminals.{Terminal, terminal, Mark, InOrder}
 use Rattle.go_subset_core.specs.Trees.{ExprTree, Literal, Named, Paren, Binary, Separated, One, Then, ValueTree, StmtTree, Lines, Declare, Short, Assign, Return, Block, Empty, More, FuncTree, DeclTree, Value, Func, TopTree, FileTree}
 use Rattle.go_subset_core.specs.Spelling.{spell, spell_exprs, spell_idents, spell_some_type, spell_outcome, spell_value, spell_semicolon, spell_stmt, spell_lines, spell_func, spell_decl, spell_tops}
 use Rattle.go_resolve_core.specs.Declarations.{expr_end, exprs_end}

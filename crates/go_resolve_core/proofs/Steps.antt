@@ -9,10 +9,10 @@ use Rattle.std.proofs.lemmas.List.Folds.{list_any-append}
 use Rattle.std.proofs.lemmas.Slice.Eq.{bytes_eq-Decides}
 use Rattle.go_text_core.specs.Text.{is_blank}
 use Rattle.go_text_core.specs.declared.rule.Rule.TheVariants.{B1}
-use Rattle.go_tree_core.specs.declared.names.Ident.{Ident}
+use Rattle.go_tree_nodes.specs.declared.names.Ident.{Ident}
 use Rattle.go_subset_core.specs.declared.tree.Expr.{Expr}
 use Rattle.go_subset_core.specs.declared.tree.NextExpr.{NextExpr}
-use Rattle.go_tree_core.specs.declared.names.NextIdent.{NextIdent}
+use Rattle.go_tree_nodes.specs.declared.names.NextIdent.{NextIdent}
 use Rattle.go_subset_core.specs.Shapes.{shape, exprs_from, idents_from}
 use Rattle.go_subset_core.specs.Occurrences.{expr_occs, exprs_occs, target_occs, targets_occs}
 use Rattle.go_open_core.specs.declared.DeclId.{DeclId}

@@ -54,3 +54,13 @@ repeats_end ds i env outs all h so_far = sym (append-nil outs) ∙ ap (λ l. out
 
 pub env_tops_end : (ds : List TopDecl) (i : ℕ) (env all : List (List Entry)) → length ds ≤ i → env_tops env (map top_of (drop i ds)) ≡ all → env ≡ all
 env_tops_end ds i env all h so_far = ap (λ l. env_tops env (map top_of l)) (sym (drop_all i ds h)) ∙ so_far
+
+pub tops_uses_end : (ds : List TopDecl) (i : ℕ) (env : List (List Entry)) (outs all : List Use) → length ds ≤ i → outs ++ tops_uses env (map top_of (drop i ds)) ≡ all → outs ≡ all
+tops_uses_end ds i env outs all h so_far = sym (append-nil outs) ∙ ap (λ l. outs ++ tops_uses env (map top_of l)) (sym (drop_all i ds h)) ∙ so_far
+
+pub notes_end : (ds : List TopDecl) (rs : List Bool) (i : ℕ) (in_main : Bool) (env : List (List Entry)) (outs all : List Fault) → length ds ≤ i → outs ++ tops_notes env in_main (drop i rs) (map top_of (drop i ds)) ≡ all → outs ≡ all
+notes_end ds rs i in_main env outs all h so_far =
+    sym (append-nil outs)
+    ∙ ap (λ l. outs ++ l) (sym (tops_notes_end env in_main (drop i rs)))
+    ∙ ap (λ l. outs ++ tops_notes env in_main (drop i rs) (map top_of l)) (sym (drop_all i ds h))
+    ∙ so_far

@@ -5,8 +5,8 @@ use Rattle.std.specs.declared.alloc.AllocError.{AllocError}
 use Rattle.std.proofs.lemmas.List.{same_from_push, length-append, append_assoc, append-nil, drop_all}
 use mathlib.Core.Former.{Count}
 use Rattle.go_text_core.specs.declared.span.Span.{Span}
-use Rattle.go_tree_core.specs.declared.names.Ident.{Ident}
-use Rattle.go_tree_core.specs.declared.names.Idents.{Idents}
+use Rattle.go_tree_nodes.specs.declared.names.Ident.{Ident}
+use Rattle.go_tree_nodes.specs.declared.names.Idents.{Idents}
 use Rattle.go_subset_core.specs.declared.tree.Exprs.{Exprs}
 use Rattle.go_subset_core.specs.declared.tree.Line.{Line}
 use Rattle.go_subset_core.specs.declared.tree.Stmt.{Stmt, Block, Row_of-Line, end_of-Line, more_of-Line, items-the_row-Line, items_hidden-the_row-Line-0}
@@ -130,3 +130,10 @@ module _ (env : List (List Entry)) (block : declared_block.Block) (ss : List Lin
 
   pub env_end : (all : List (List Entry)) → lines_env env block (lines_of (drop i ss)) ≡ all → env ≡ all
   env_end all so_far = ap (λ l. lines_env env block (lines_of l)) (sym none_left) ∙ so_far
+
+-- the body of a function
+pub func_uses : (env inner : List (List Entry)) (block : declared_block.Block) (ls : Lines) (outs mid after types : List Use) → mid ≡ outs ++ types → inner ≡ env ++ [] ∷ [] → after ≡ mid ++ lines_uses inner block ls → after ≡ outs ++ (types ++ lines_uses (env ++ [] ∷ []) block ls)
+func_uses env inner block ls outs mid after types m i a = rw (a, m, i) (append_assoc outs types (lines_uses (env ++ [] ∷ []) block ls))
+
+pub func_notes : (env inner : List (List Entry)) (block : declared_block.Block) (ls : Lines) (outs after : List Fault) → inner ≡ env ++ [] ∷ [] → after ≡ outs ++ lines_notes inner block ls → after ≡ outs ++ lines_notes (env ++ [] ∷ []) block ls
+func_notes env inner block ls outs after i a = a ∙ ap (λ v. outs ++ lines_notes v block ls) i

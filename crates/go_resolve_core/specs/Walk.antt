@@ -1,7 +1,7 @@
 -- What a walk over a file with a stack of blocks answers. Private to the proof of the walk.
 use Rattle.std.specs.Prelude.{ℕ, Bool, false, ◌&&◌, ◌||◌, not, List, [], ◌∷◌, ◌++◌, map, if◌then◌else◌}
 use Rattle.go_text_core.specs.declared.rule.Rule.TheVariants.{B1, B4}
-use Rattle.go_tree_core.specs.declared.names.Ident.{Ident}
+use Rattle.go_tree_nodes.specs.declared.names.Ident.{Ident}
 use Rattle.go_subset_core.specs.declared.occurrence.Occ.{Occ}
 use Rattle.go_subset_core.specs.Trees.{Separated, One, Then, StmtTree, Lines, Declare, Short, Assign, Return, Block, Empty, More, DeclTree, Value, Func, TopTree}
 use Rattle.go_subset_core.specs.Occurrences.{value_occs, exprs_occs, targets_occs, some_occs, type_occs}

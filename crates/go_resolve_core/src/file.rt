@@ -1,9 +1,10 @@
 //! The package block, and the file.
-ghost use Rattle.std.specs.Prelude.{◌≡◌, ℕ, ◌<◌, List, [], ◌∷◌, ◌++◌, length, map, IfOk, OnOk};
+ghost use Rattle.std.specs.Prelude.{◌≡◌, ℕ, ◌<◌, List, [], ◌∷◌, ◌++◌, length, map, false, IfOk, OnOk};
 ghost use Rattle.go_subset_core.specs.Shapes.{decl_of, func_of, top_of, file_of};
 ghost use Rattle.go_subset_core.specs.Trees.{Func};
 ghost use Rattle.go_resolve_core.specs.Declarations.{decl_name, decl_kind};
 ghost use Rattle.go_resolve_core.specs.Faults.{is_procedure, procedure_fault, faults_of};
+ghost use Rattle.go_text_core.specs.Text.{is_blank};
 ghost use Rattle.go_resolve_core.specs.Outcomes.{uses_of};
 ghost use Rattle.go_resolve_core.specs.Placed.{IsPlaced};
 ghost use Rattle.go_resolve_core.specs.Walk.{is_repeated, repeats_of, env_decl, env_tops, name_notes, body_notes, decl_uses, tops_uses, tops_notes};
@@ -14,7 +15,7 @@ use crate::resolver::Resolver;
 use crate::walk::{declare, fault, value_kind, walk_lines, walk_type, walk_value};
 use go_subset_core::{Decl, File, FuncDecl, TopDecl};
 use go_text_core::Rule;
-use go_tree_core::Ident;
+use go_tree_nodes::Ident;
 use std::alloc::{AllocError, Global};
 
 fn name_of(decl: &Decl) -> &Ident
@@ -159,10 +160,39 @@ fn walk_decls(
     ensures faults { OnOk result (faults.new.items ≡ faults.old.items ++ tops_notes resolver.old in_main repeats.now (map top_of decls.now.items)) }
 {
     for i in 0..decls.len() {
-        note_name(faults, in_main, repeats[i], &decls[i].decl)?;
-        walk_decl(resolver, uses, faults, &decls[i].decl)?;
+        let decl = &decls[i].decl;
+        note_name(faults, in_main, repeats[i], decl)?;
+        walk_decl(resolver, uses, faults, decl)?;
     }
     Ok(())
+}
+
+// The declarations of a file that is not of the blank package.
+fn walk_file(
+    alloc: Global,
+    uses: &mut Vec<Use>,
+    faults: &mut Vec<Fault>,
+    file: &File,
+) -> Result<(), AllocError>
+    requires placed { IsPlaced (file_of file.now) }
+    requires named { is_blank file.now.name.name ≡ false }
+    requires no_uses { uses.old.items ≡ [] }
+    requires no_faults { faults.old.items ≡ [] }
+    ensures uses { OnOk result (uses.new.items ≡ uses_of (file_of file.now)) }
+    ensures faults { OnOk result (faults.new.items ≡ faults_of (file_of file.now)) }
+{
+    let mut resolver = Resolver::new(alloc);
+    resolver.enter()?;
+    let repeats = declare_decls(alloc, &mut resolver, &file.decls)?;
+    let in_main = is_main(&file.name);
+    walk_decls(
+        &mut resolver,
+        uses,
+        faults,
+        in_main,
+        repeats.as_slice(),
+        &file.decls,
+    )
 }
 
 /// What the identifiers of a file have, in order of their places, and the faults beside them, by
@@ -179,18 +209,6 @@ pub fn resolve(alloc: Global, file: &File) -> Result<Resolution, AllocError>
         faults.push(fault(&file.name, Rule::K3))?;
         return Ok(Resolution { uses, faults });
     }
-    let mut resolver = Resolver::new(alloc);
-    resolver.enter()?;
-    let repeats = declare_decls(alloc, &mut resolver, &file.decls)?;
-    let in_main = is_main(&file.name);
-    let repeats = repeats.as_slice();
-    walk_decls(
-        &mut resolver,
-        &mut uses,
-        &mut faults,
-        in_main,
-        repeats,
-        &file.decls,
-    )?;
+    walk_file(alloc, &mut uses, &mut faults, file)?;
     Ok(Resolution { uses, faults })
 }

@@ -4,7 +4,7 @@ ghost use Rattle.go_text_core.specs.Text.{is_blank};
 ghost use Rattle.go_resolve_core.specs.Declarations.{is_init};
 ghost use Rattle.go_resolve_core.specs.Faults.{is_main};
 
-use go_tree_core::Ident;
+use go_tree_nodes::Ident;
 
 /// The blank identifier `_`.
 pub fn is_blank(ident: &Ident) -> bool

@@ -10,7 +10,7 @@ use crate::resolver::Resolver;
 use crate::walk::{declare, fault};
 use go_open_core::{DeclId, OpenBlocks};
 use go_text_core::Rule;
-use go_tree_core::{Ident, Idents};
+use go_tree_nodes::{Ident, Idents};
 use std::alloc::{AllocError, Global};
 
 // A name before `:=`, and whether it is a new variable.

@@ -16,7 +16,7 @@ use crate::resolver::Resolver;
 use crate::short::{declare_names, note_repeated};
 use go_subset_core::{Expr, Exprs, Line, Role, Stmt, TypeExpr, ValueDecl};
 use go_text_core::Rule;
-use go_tree_core::{Ident, Idents, ValueKind};
+use go_tree_nodes::{Ident, Idents, ValueKind};
 use std::alloc::{AllocError, Global};
 
 fn value_outcome(declared: Declared) -> Outcome
@@ -109,7 +109,6 @@ fn walk_target(resolver: &Resolver, uses: &mut Vec<Use>, target: &Expr) -> Resul
     ensures { OnOk result (uses.new.items ≡ uses.old.items ++ map (use_in resolver.now) (target_occs (shape target.now))) }
 {
     match target {
-        Expr::Literal(_, _) => Ok(()),
         Expr::Name(ident) => {
             if is_blank(ident) {
                 return Ok(());
@@ -117,10 +116,7 @@ fn walk_target(resolver: &Resolver, uses: &mut Vec<Use>, target: &Expr) -> Resul
             note_use(resolver, uses, Role::Value, ident)
         }
         Expr::Paren(_, inner, _) => walk_target(resolver, uses, inner),
-        Expr::Binary(left, _, _, right) => {
-            walk_expr(resolver, uses, left)?;
-            walk_expr(resolver, uses, right)
-        }
+        _ => walk_expr(resolver, uses, target),
     }
 }
 

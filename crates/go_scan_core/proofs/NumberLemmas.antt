@@ -46,3 +46,32 @@ pub above_all : (radix : ℕ) (ds : List ℕ) (i value d : ℕ) → i < length d
 above_all radix ds i value d inside h v e above =
     let same : next_number radix value d ≡ number_in radix (take (i + 1) ds) = ap (λ x. next_number radix x d) v ∙ ap (next_number radix (number_in radix (take i ds))) e ∙ sym (number_in_more radix ds i inside) in
     stays_above (number_in radix (take (i + 1) ds)) (number_in radix ds) (sym (ap up_to_greatest same) ∙ above) (number_in-take-le radix (i + 1) ds h)
+
+-- one more character, and what is above the greatest then
+lt_true : (a b : ℕ) → a < b → nat_lt a b ≡ true
+lt_true a b h = grind (arith, nat_tests)
+
+lt_false : (a b : ℕ) → (a < b → ⊥) → nat_lt a b ≡ false
+lt_false a b h = grind (arith, nat_tests)
+
+pub next_is : (radix r value c m d e : ℕ) → digit_value c < radix → r ≡ radix → m ≡ value * r → d ≡ digit_value c → e ≡ d → m + e ≡ next_number radix value c
+next_is radix r value c m d e lt same product digit read =
+    let yes : nat_lt (digit_value c) radix ≡ true = lt_true (digit_value c) radix lt in
+    let times : value * r ≡ value * radix = ap (λ x. value * x) same in
+    let total : m + e ≡ value * radix + digit_value c = omega (arith, product, times, digit, read) in
+    total ∙ sym (ap (λ b. cond b (value * radix + digit_value c) value) yes)
+
+pub no_digit : (radix value c : ℕ) → (digit_value c < radix → ⊥) → value ≡ next_number radix value c
+no_digit radix value c h =
+    let no : nat_lt (digit_value c) radix ≡ false = lt_false (digit_value c) radix h in
+    sym (ap (λ b. cond b (value * radix + digit_value c) value) no)
+
+pub too_great : (n k : ℕ) → n ≤ k → 9223372036854775807 < n → None ≡ up_to_greatest k
+too_great n k le h =
+    let yes : nat_lt 9223372036854775807 k ≡ true = lt_true 9223372036854775807 k (omega (arith, le, h)) in
+    sym (ap (λ b. cond b None (Some k)) yes)
+
+pub not_too_great : (n k : ℕ) → n ≡ k → n ≤ 9223372036854775807 → Some n ≡ up_to_greatest k
+not_too_great n k e h =
+    let no : nat_lt 9223372036854775807 k ≡ false = lt_false 9223372036854775807 k (λ lt. omega (arith, e, h, lt)) in
+    ap Some e ∙ sym (ap (λ b. cond b None (Some k)) no)

@@ -1,5 +1,5 @@
 -- The names of a scope, each once.
-use Rattle.std.proofs.Common.{◌≡◌, ℕ, ◌+◌, ◌<◌, Bool, true, false, ◌||◌, List, [], ◌∷◌, ◌++◌, map, length, drop, get_or, Option, Some, None, refl, sym, ap, ◌∙◌, append_assoc, if◌then◌else◌}
+use Rattle.std.proofs.Common.{◌≡◌, ℕ, ◌+◌, ◌<◌, Bool, true, false, ◌||◌, List, [], ◌∷◌, ◌++◌, map, length, drop, get_or, Option, Some, None, refl, sym, ap, ◌∙◌, append_assoc, append-nil, if◌then◌else◌}
 use Rattle.std.specs.Prelude.{Contains, IsSome, is_some, option_map}
 use Rattle.std.specs.Str.{bytes_eq}
 use Rattle.std.specs.Borrow.{Bor}
@@ -26,6 +26,15 @@ pub names_step : (xs : List (Bor (List ℕ))) (i : ℕ) (x : Bor (List ℕ)) (s 
 names_step xs i x s s' all h now left =
     ap (λ l. list_names l (map (λ n. n.now) (drop (i + 1) xs))) now
     ∙ (ap (λ l. list_names s (map (λ n. n.now) l)) (sym (drop_more xs i x h)) ∙ left)
+
+-- one thing more is in the list, of those that are left
+pub listed_more : {A : Type 0} (old new : List A) (x : A) (left rest whole : List A) → new ≡ old ++ x ∷ [] → left ≡ x ∷ rest → old ++ left ≡ whole → new ++ rest ≡ whole
+listed_more old new x left rest whole more step before =
+    ap (λ l. l ++ rest) more ∙ (append_assoc old (x ∷ []) rest ∙ (ap (λ l. old ++ l) (sym step) ∙ before))
+
+-- nothing is left
+pub all_listed : {A : Type 0} (all left whole : List A) → left ≡ [] → all ++ left ≡ whole → all ≡ whole
+all_listed all left whole none before = sym (append-nil all) ∙ (ap (λ l. all ++ l) (sym none) ∙ before)
 
 -- a name that is listed stays listed
 stays : (s ns : List (List ℕ)) (name : List ℕ) → is_listed s name ≡ true → is_listed (list_names s ns) name ≡ true

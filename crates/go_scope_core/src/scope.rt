@@ -5,7 +5,7 @@ ghost use Rattle.go_open_core.specs.Blocks.{found_in, innermost, with_innermost,
 ghost use Rattle.go_scope_core.specs.Models.{scopes_model};
 ghost use Rattle.go_scope_core.specs.Scopes.{with_open, scope_blocks};
 
-use crate::names::{add_names, as_list};
+use crate::names::listed_names;
 use go_block_core::{Binding, Blocks, DeclRef};
 use go_open_core::{DeclId, OpenBlocks};
 use go_text_core::Rule;
@@ -142,18 +142,8 @@ impl<'a> Scopes<'a> {
         ensures once { IfOk result (λ names. AllPairs (λ a b. ¬ (a ≡ b)) (map (λ n. n.now) names.items)) }
         ensures err { IfErr result (λ rule. rule ≡ Rule.M0) }
     {
-        let mut names = IndexSet::new(alloc);
-        let Ok(of_package) = self.blocks.package_names(alloc) else {
-            return Err(Rule::M0);
-        };
-        add_names(&mut names, of_package.as_slice())?;
-        let Ok(of_file) = self.blocks.file_names(alloc, self.file) else {
-            return Err(Rule::M0);
-        };
-        add_names(&mut names, of_file.as_slice())?;
-        let of_function = self.open_blocks.names(alloc)?;
-        add_names(&mut names, of_function.as_slice())?;
-        as_list(alloc, &names)
+        let mut all = IndexSet::new(alloc);
+        listed_names(&mut all, alloc, self.blocks, self.file, &self.open_blocks)
     }
 
     /// A second value with the same blocks.

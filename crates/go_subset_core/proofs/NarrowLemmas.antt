@@ -1,18 +1,19 @@
 -- Narrowing of what a program keeps in lists.
-use Rattle.std.proofs.Common.{◌≡◌, ℕ, true, false, is_some, List, [], ◌∷◌, map, Option, Some, None, Vec, refl, sym, ap, ◌∙◌}
+use Rattle.std.specs.Prelude.{◌==◌}
+use Rattle.std.proofs.Common.{◌≡◌, ℕ, false, List, [], ◌∷◌, length, map, Option, Some, None, Vec, refl, sym, ap, ◌∙◌}
 use Rattle.std.specs.Global.{Global}
 use Rattle.std.specs.Option.{option_map}
 use Rattle.go_text_core.specs.declared.span.Span.{Span}
-use Rattle.go_tree_core.specs.declared.names.Ident.{Ident}
-use Rattle.go_tree_core.specs.declared.names.NextIdent.{NextIdent}
-use Rattle.go_tree_core.specs.declared.exprs.Expr as wide_expr
-use Rattle.go_tree_core.specs.declared.exprs.NextExpr as wide_next
-use Rattle.go_tree_core.specs.declared.stmts.«Line» as wide_line
-use Rattle.go_tree_core.specs.declared.files.TopDecl as wide_top
-use Rattle.go_tree_core.specs.declared.stmts.Stmt as wide_stmt
-use Rattle.go_tree_core.specs.declared.stmts.Stmt.TheVariants as wide_stmts
-use Rattle.go_tree_core.specs.Shapes as wide_shapes
-use Rattle.go_tree_core.proofs.ShapeLemmas.{shape_block as wide_block}
+use Rattle.go_tree_nodes.specs.declared.names.Ident.{Ident}
+use Rattle.go_tree_nodes.specs.declared.names.NextIdent.{NextIdent}
+use Rattle.go_tree_nodes.specs.declared.exprs.Expr as wide_expr
+use Rattle.go_tree_nodes.specs.declared.exprs.NextExpr as wide_next
+use Rattle.go_tree_nodes.specs.declared.stmts.«Line» as wide_line
+use Rattle.go_tree_nodes.specs.declared.files.TopDecl as wide_top
+use Rattle.go_tree_nodes.specs.declared.stmts.Stmt as wide_stmt
+use Rattle.go_tree_nodes.specs.declared.stmts.Stmt.TheVariants as wide_stmts
+use Rattle.go_tree_nodes.specs.Shapes as wide_shapes
+use Rattle.go_tree_nodes.proofs.ShapeLemmas.{shape_block as wide_block}
 use Rattle.go_subset_core.specs.declared.tree.Expr.{Expr}
 use Rattle.go_subset_core.specs.declared.tree.NextExpr.{NextExpr}
 use Rattle.go_subset_core.specs.declared.tree.Line.{Line}
@@ -20,7 +21,10 @@ use Rattle.go_subset_core.specs.declared.tree.Stmt.TheVariants as stmt
 use Rattle.go_subset_core.proofs.ShapeLemmas.{shape_block}
 use Rattle.go_subset_core.specs.Trees.{ExprTree, Separated, One, Then, StmtTree, Lines, Block, Empty, More, TopTree}
 use Rattle.go_subset_core.specs.Shapes.{shape, exprs_from, shape_stmt, lines_of}
-use Rattle.go_subset_core.specs.Narrowing.{both, each, narrow, narrow_exprs, narrow_stmt, narrow_lines, narrow_top, unless_some}
+use Rattle.go_tree_nodes.specs.TypeShapes.{idents_from}
+use Rattle.go_subset_core.specs.declared.narrow.Refusal.{Refusal}
+use Rattle.go_subset_core.specs.declared.narrow.Refusal.TheVariants as refusal
+use Rattle.go_subset_core.specs.Narrowing.{Refuses, both, each, narrow, narrow_exprs, narrow_stmt, narrow_lines, narrow_top, only}
 
 -- expressions
 
@@ -55,10 +59,6 @@ exprs_each text e (n ∷ ns) =
     by (Some a) (Some b) None = refl
     by (Some a) (Some b) (Some c) = refl
 
--- what a loop over the expressions behind the first has made
-abbrev pub ExprsSoFar : List ℕ → wide_expr.Expr → List wide_next.NextExpr → Expr → List NextExpr → Type 0
-ExprsSoFar text e ns first made = (narrow text (wide_shapes.shape e) ≡ Some (shape first)) × (each (narrow_next text) ns ≡ Some (map next_tree made))
-
 pub exprs_none : (text : List ℕ) (e : wide_expr.Expr) (ns : List wide_next.NextExpr) → narrow text (wide_shapes.shape e) ≡ None → narrow_exprs text (wide_shapes.exprs_from e ns) ≡ None
 exprs_none text e ns h = exprs_each text e ns ∙ ap (λ a. both separated a (each (narrow_next text) ns)) h
 
@@ -69,12 +69,17 @@ exprs_stop text e ns h = exprs_each text e ns ∙ ap (both separated (narrow tex
     by None = refl
     by (Some t) = refl
 
-pub exprs_all : (text : List ℕ) (e : wide_expr.Expr) (ns : List wide_next.NextExpr) (first : Expr) (made : List NextExpr) → ExprsSoFar text e ns first made → narrow_exprs text (wide_shapes.exprs_from e ns) ≡ Some (exprs_from first made)
-exprs_all text e ns first made h =
+pub exprs_all : (text : List ℕ) (e : wide_expr.Expr) (ns : List wide_next.NextExpr) (first : Expr) (made : List NextExpr) → narrow text (wide_shapes.shape e) ≡ Some (shape first) → each (narrow_next text) ns ≡ Some (map next_tree made) → narrow_exprs text (wide_shapes.exprs_from e ns) ≡ Some (exprs_from first made)
+exprs_all text e ns first made h more =
     exprs_each text e ns
-    ∙ ap (λ a. both separated a (each (narrow_next text) ns)) h.0
-    ∙ ap (both separated (Some (shape first))) h.1
+    ∙ ap (λ a. both separated a (each (narrow_next text) ns)) h
+    ∙ ap (both separated (Some (shape first))) more
     ∙ ap Some (separated_made first made)
+
+-- several expressions are no single one
+pub exprs_several : (e : wide_expr.Expr) (ns : List wide_next.NextExpr) → (length ns == 0) ≡ false → only (wide_shapes.exprs_from e ns) ≡ None
+exprs_several e [] many = cc
+exprs_several e (n ∷ ns) many = refl
 
 -- statements
 
@@ -104,37 +109,37 @@ lines_each text (l ∷ ls) =
     by (Some a) (Some r) = refl
 
 -- a block of lines that are inside, and one of lines of which one is outside
-pub block_made : (text : List ℕ) (c : wide_stmt.Stmt) (first : Span) (ls : Vec wide_line.Line Global) (last : Span) (r : Option (Vec Line Global)) (made : Vec Line Global) → c ≡ wide_stmts.Block first ls last → option_map (λ ls. lines_of ls.items) r ≡ narrow_lines text (wide_shapes.lines_of ls.items) → r ≡ Some made → Some (shape_stmt (stmt.Block first made last)) ≡ narrow_stmt text (wide_shapes.shape_stmt c)
-block_made text c first ls last r made is lines some =
-    ap Some (shape_block first made last)
-    ∙ ap (λ r. option_map (λ ls. Block first ls last) (option_map (λ ls. lines_of ls.items) r)) (sym some)
+pub block_made : (text : List ℕ) (c : wide_stmt.Stmt) (first : Span) (ls : Vec wide_line.Line Global) (last : Span) (made : Vec Line Global) → c ≡ wide_stmts.Block first ls last → narrow_lines text (wide_shapes.lines_of ls.items) ≡ Some (lines_of made.items) → narrow_stmt text (wide_shapes.shape_stmt c) ≡ Some (shape_stmt (stmt.Block first made last))
+block_made text c first ls last made is lines =
+    ap (λ c. narrow_stmt text (wide_shapes.shape_stmt c)) is
+    ∙ ap (narrow_stmt text) (wide_block first ls last)
     ∙ ap (option_map (λ ls. Block first ls last)) lines
-    ∙ ap (narrow_stmt text) (sym (wide_block first ls last))
-    ∙ ap (λ c. narrow_stmt text (wide_shapes.shape_stmt c)) (sym is)
+    ∙ ap Some (sym (shape_block first made last))
 
-pub block_none : (text : List ℕ) (c : wide_stmt.Stmt) (first : Span) (ls : Vec wide_line.Line Global) (last : Span) (r : Option (Vec Line Global)) → c ≡ wide_stmts.Block first ls last → option_map (λ ls. lines_of ls.items) r ≡ narrow_lines text (wide_shapes.lines_of ls.items) → r ≡ None → None ≡ narrow_stmt text (wide_shapes.shape_stmt c)
-block_none text c first ls last r is lines none =
-    ap (λ r. option_map (λ ls. Block first ls last) (option_map (λ ls. lines_of ls.items) r)) (sym none)
+pub block_none : (text : List ℕ) (c : wide_stmt.Stmt) (first : Span) (ls : Vec wide_line.Line Global) (last : Span) → c ≡ wide_stmts.Block first ls last → narrow_lines text (wide_shapes.lines_of ls.items) ≡ None → narrow_stmt text (wide_shapes.shape_stmt c) ≡ None
+block_none text c first ls last is lines =
+    ap (λ c. narrow_stmt text (wide_shapes.shape_stmt c)) is
+    ∙ ap (narrow_stmt text) (wide_block first ls last)
     ∙ ap (option_map (λ ls. Block first ls last)) lines
-    ∙ ap (narrow_stmt text) (sym (wide_block first ls last))
-    ∙ ap (λ c. narrow_stmt text (wide_shapes.shape_stmt c)) (sym is)
 
 -- names
 
 abbrev pub name_behind : Span → Ident → NextIdent
 name_behind comma x = record { comma = comma; ident = x }
 
+-- several names are no single one
+pub names_several : (x : Ident) (ns : List NextIdent) → (length ns == 0) ≡ false → only (idents_from x ns) ≡ None
+names_several x [] many = cc
+names_several x (n ∷ ns) many = refl
+
 -- declarations
 
 abbrev pub narrow_decl_of : List ℕ → wide_top.TopDecl → Option TopTree
 narrow_decl_of text d = narrow_top text (wide_shapes.top_of d)
 
--- functions
+-- refusals
 
-pub a_receiver : {A B : Type 0} (r : Option A) (o : Option B) → true ≡ is_some r → unless_some r o ≡ None
-a_receiver None o h = cc
-a_receiver (Some x) o h = refl
-
-pub no_receiver : {A B : Type 0} (r : Option A) (o : Option B) → false ≡ is_some r → unless_some r o ≡ o
-no_receiver None o h = refl
-no_receiver (Some x) o h = cc
+-- what is refused for a part of it
+pub refuses_along : {A B : Type 0} (t : Option A) (u : Option B) (e : Refusal) → (t ≡ None → u ≡ None) → Refuses e t → Refuses e u
+refuses_along t u refusal.Outside along h = along h
+refuses_along t u refusal.Memory along h = tt

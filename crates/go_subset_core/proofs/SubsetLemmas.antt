@@ -1,19 +1,16 @@
 -- Narrowing finds the one tree of the subset, where there is one.
 use Rattle.std.proofs.Common.{◌≡◌, ℕ, Bool, true, false, List, [], ◌∷◌, map, Option, Some, None, if◌then◌else◌, refl, sym, ap, ◌∙◌, subst, unwrap_or}
-use Rattle.std.specs.Prelude.{Result, Ok, Err, IfOk, IfSome, IfNone}
 use Rattle.std.specs.Option.{option_map}
 use Rattle.go_text_core.specs.declared.span.Span.{Span}
-use Rattle.go_tree_core.specs.declared.names.Ident.{Ident}
-use Rattle.go_tree_core.specs.declared.types.TypeName.TheVariants as type_name
-use Rattle.go_tree_core.specs.declared.decls.ValueKind.{ValueKind}
-use Rattle.go_tree_core.specs.declared.decls.ValueKind.TheVariants as kinds
-use Rattle.go_tree_core.specs.declared.files.Receiver.{Receiver}
-use Rattle.go_tree_core.specs.Trees as wide
+use Rattle.go_tree_nodes.specs.declared.names.Ident.{Ident}
+use Rattle.go_tree_nodes.specs.declared.types.TypeName.TheVariants as type_name
+use Rattle.go_tree_nodes.specs.declared.decls.ValueKind.{ValueKind}
+use Rattle.go_tree_nodes.specs.declared.decls.ValueKind.TheVariants as kinds
+use Rattle.go_tree_nodes.specs.declared.files.Receiver.{Receiver}
+use Rattle.go_tree_nodes.specs.Trees as wide
 use Rattle.go_subset_core.specs.declared.tree.TypeExpr.{TypeExpr}
 use Rattle.go_subset_core.specs.declared.tree.TypeExpr.TheVariants as type_expr
 use Rattle.go_subset_core.specs.Trees.{ExprTree, Literal, Named, Paren, Binary, Separated, One, Then, ValueTree, StmtTree, Lines, Declare, Short, Assign, Return, Block, Empty, More, FuncTree, DeclTree, Value, Func, TopTree, FileTree}
-use Rattle.go_subset_core.specs.declared.tree.File.{File}
-use Rattle.go_subset_core.specs.Shapes.{file_of}
 use Rattle.go_subset_core.specs.Widening.{widen, widen_exprs, widen_some, widen_type, widen_some_type, widen_value, widen_stmt, widen_lines, widen_result, widen_func, widen_decl, widen_top, widen_file}
 use Rattle.go_subset_core.specs.Subset.{is_plain, is_arithmetic, Inside, Inside_exprs, Inside_some, MayHaveType, Inside_value, Inside_stmt, Inside_lines, Inside_decl, Inside_tops, IsSubset, IsOutside, OneSubset}
 use Rattle.go_subset_core.specs.Narrowing.{both, each, only, narrow, narrow_exprs, narrow_some, narrow_type, narrow_some_type, narrow_values, value_tree, narrow_value_spec, narrow_specs, narrow_value, narrow_simple, narrow_stmt, narrow_lines, narrow_result, narrow_signature, func_tree, unless_some, narrow_func, narrow_decl, top_tree, narrow_top, file_tree, unless_any, narrow_file}
@@ -346,15 +343,3 @@ is_outside text f e = λ s h. let found = has_subset text f s h in cc
 
 pub one_subset : OneSubset
 one_subset text f a b h g = given (λ b. a ≡ b) a b (sym (has_subset text f a h) ∙ has_subset text f b g) refl
-
--- what the program answers
-
-pub subset_found : {E : Type 0} (text : List ℕ) (f : wide.FileTree) (r : Result (Option File) E) → IfOk r (λ s. option_map file_of s ≡ narrow_file text f) → IfOk r (λ s. IfSome s (λ s. IsSubset text f (file_of s)))
-subset_found text f (Ok None) h = tt
-subset_found text f (Ok (Some s)) h = is_subset text f (file_of s) (sym h)
-subset_found text f (Err e) h = tt
-
-pub subset_none : {E : Type 0} (text : List ℕ) (f : wide.FileTree) (r : Result (Option File) E) → IfOk r (λ s. option_map file_of s ≡ narrow_file text f) → IfOk r (λ s. IfNone s (IsOutside text f))
-subset_none text f (Ok None) h = is_outside text f (sym h)
-subset_none text f (Ok (Some s)) h = tt
-subset_none text f (Err e) h = tt

@@ -1,15 +1,17 @@
 -- The tree of the subset that a tree of the whole grammar is, if it is one.
-use Rattle.std.specs.Prelude.{ℕ, List, [], ◌∷◌, Option, Some, None, if◌then◌else◌}
+use Rattle.std.specs.Prelude.{◌≡◌, ℕ, List, [], ◌∷◌, Option, Some, None, Result, Ok, Err, if◌then◌else◌}
 use Rattle.std.specs.Option.{option_map, option_and_then}
 use Rattle.go_text_core.specs.declared.span.Span.{Span}
-use Rattle.go_tree_core.specs.declared.names.Ident.{Ident}
-use Rattle.go_tree_core.specs.declared.types.TypeName.{TypeName}
-use Rattle.go_tree_core.specs.declared.types.TypeName.TheVariants as type_name
-use Rattle.go_tree_core.specs.declared.decls.ValueKind.{ValueKind}
-use Rattle.go_tree_core.specs.declared.decls.ValueKind.TheVariants as kinds
-use Rattle.go_tree_core.specs.Trees as wide
+use Rattle.go_tree_nodes.specs.declared.names.Ident.{Ident}
+use Rattle.go_tree_nodes.specs.declared.types.TypeName.{TypeName}
+use Rattle.go_tree_nodes.specs.declared.types.TypeName.TheVariants as type_name
+use Rattle.go_tree_nodes.specs.declared.decls.ValueKind.{ValueKind}
+use Rattle.go_tree_nodes.specs.declared.decls.ValueKind.TheVariants as kinds
+use Rattle.go_tree_nodes.specs.Trees as wide
 use Rattle.go_subset_core.specs.declared.tree.TypeExpr.{TypeExpr}
 use Rattle.go_subset_core.specs.declared.tree.TypeExpr.TheVariants as type_expr
+use Rattle.go_subset_core.specs.declared.narrow.Refusal.{Refusal}
+use Rattle.go_subset_core.specs.declared.narrow.Refusal.TheVariants as refusal
 use Rattle.go_subset_core.specs.Trees.{ExprTree, Literal, Named, Paren, Binary, Separated, One, Then, ValueTree, StmtTree, Lines, Declare, Short, Assign, Return, Block, Empty, More, FuncTree, DeclTree, Value, Func, TopTree, FileTree}
 use Rattle.go_subset_core.specs.Subset.{is_plain, is_arithmetic}
 
@@ -136,3 +138,13 @@ unless_any (x ∷ xs) b = None
 -- a file with imports is outside
 abbrev pub narrow_file : List ℕ → wide.FileTree → Option FileTree
 narrow_file text f = unless_any f.imports (option_map (file_tree f) (each (narrow_top text) f.decls))
+
+-- a tree is refused where narrowing gives nothing, or where memory ran out
+abbrev pub Refuses : {B : Type 0} → Refusal → Option B → Type 0
+Refuses refusal.Outside t = t ≡ None
+Refuses refusal.Memory t = Unit {0}
+
+-- narrowing gives what the program returned, unless memory ran out
+abbrev pub Narrows : {A B : Type 0} → (A → B) → Result A Refusal → Option B → Type 0
+Narrows view (Ok x) t = t ≡ Some (view x)
+Narrows view (Err e) t = Refuses e t

@@ -1,7 +1,7 @@
 -- The identifiers of a file that are used, in order of their places.
 use Rattle.std.specs.Prelude.{List, [], ◌∷◌, ◌++◌, Option, Some, None, if◌then◌else◌}
 use Rattle.go_text_core.specs.Text.{is_blank}
-use Rattle.go_tree_core.specs.declared.names.Ident.{Ident}
+use Rattle.go_tree_nodes.specs.declared.names.Ident.{Ident}
 use Rattle.go_subset_core.specs.declared.tree.TypeExpr.{TypeExpr}
 use Rattle.go_subset_core.specs.declared.tree.TypeExpr.TheVariants as type_expr
 use Rattle.go_subset_core.specs.declared.occurrence.Role.{Role}

@@ -13,7 +13,7 @@ use Rattle.go_subset_core.specs.declared.tree.Decl as declared_decl
 use Rattle.go_subset_core.specs.declared.tree.Decl.TheVariants as decl
 use Rattle.go_subset_core.specs.declared.tree.TopDecl.{TopDecl}
 use Rattle.go_subset_core.specs.declared.tree.File.{File}
-pub use Rattle.go_tree_core.specs.TypeShapes.{idents_from, shape_idents}
+pub use Rattle.go_tree_nodes.specs.TypeShapes.{idents_from, shape_idents}
 use Rattle.go_subset_core.specs.Trees.{ExprTree, Literal, Named, Paren, Binary, Separated, One, Then, ValueTree, StmtTree, Lines, Declare, Short, Assign, Return, Block, Empty, More, FuncTree, DeclTree, Value, Func, TopTree, FileTree}
 
 abbrev pub shape : Expr → ExprTree

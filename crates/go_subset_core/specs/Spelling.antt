@@ -2,9 +2,9 @@
 use Rattle.std.specs.Prelude.{List, Option, map}
 use Rattle.go_text_core.specs.declared.span.Span.{Span}
 use Rattle.go_scan_core.specs.declared.kind.Operator.TheVariants as operator
-use Rattle.go_tree_core.specs.Terminals.{Terminal}
-pub use Rattle.go_tree_core.specs.Spelling.{spell_ident, spell_idents}
-use Rattle.go_tree_core.specs.Spelling as wide
+use Rattle.go_tree_nodes.specs.Terminals.{Terminal}
+pub use Rattle.go_tree_nodes.specs.Spelling.{spell_ident, spell_idents}
+use Rattle.go_tree_nodes.specs.Spelling as wide
 use Rattle.go_subset_core.specs.declared.tree.TypeExpr.{TypeExpr}
 use Rattle.go_subset_core.specs.Trees.{ExprTree, Separated, ValueTree, StmtTree, Lines, FuncTree, DeclTree, TopTree, FileTree}
 use Rattle.go_subset_core.specs.Widening.{widen, widen_exprs, widen_some_type, widen_value, widen_some, widen_stmt, widen_lines, widen_result, widen_func, widen_decl, widen_top, widen_file}

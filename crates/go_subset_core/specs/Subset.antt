@@ -6,10 +6,10 @@ use Rattle.std.specs.Option.{option_map_or}
 use Rattle.go_text_core.specs.declared.span.Span.{Span}
 use Rattle.go_text_core.specs.Slices.{slice_of}
 use Rattle.go_scan_core.specs.declared.kind.Operator.{Operator}
-use Rattle.go_tree_core.specs.declared.decls.ValueKind.{ValueKind}
-use Rattle.go_tree_core.specs.declared.decls.ValueKind.TheVariants as kinds
-use Rattle.go_tree_core.specs.Rules.{rank_of}
-use Rattle.go_tree_core.specs.Trees as wide
+use Rattle.go_tree_nodes.specs.declared.decls.ValueKind.{ValueKind}
+use Rattle.go_tree_nodes.specs.declared.decls.ValueKind.TheVariants as kinds
+use Rattle.go_tree_nodes.specs.Rules.{rank_of}
+use Rattle.go_tree_nodes.specs.Trees as wide
 use Rattle.go_subset_core.specs.declared.tree.TypeExpr.{TypeExpr}
 use Rattle.go_subset_core.specs.Trees.{ExprTree, Literal, Named, Paren, Binary, Separated, One, Then, ValueTree, StmtTree, Lines, Declare, Short, Assign, Return, Block, Empty, More, DeclTree, Value, Func, TopTree, FileTree}
 use Rattle.go_subset_core.specs.Widening.{widen_file}

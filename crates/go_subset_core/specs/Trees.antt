@@ -2,10 +2,10 @@
 use Rattle.std.specs.Prelude.{ℕ, List, Option}
 use Rattle.go_text_core.specs.declared.span.Span.{Span}
 use Rattle.go_scan_core.specs.declared.kind.Operator.{Operator}
-use Rattle.go_tree_core.specs.declared.names.Ident.{Ident}
-pub use Rattle.go_tree_core.specs.Trees.{Separated, One, Then}
+use Rattle.go_tree_nodes.specs.declared.names.Ident.{Ident}
+pub use Rattle.go_tree_nodes.specs.Trees.{Separated, One, Then}
 use Rattle.go_subset_core.specs.declared.tree.TypeExpr.{TypeExpr}
-use Rattle.go_tree_core.specs.declared.decls.ValueKind.{ValueKind}
+use Rattle.go_tree_nodes.specs.declared.decls.ValueKind.{ValueKind}
 
 -- an expression
 pub data ExprTree : Type 0 where

@@ -1,11 +1,11 @@
 //! The tree of the subset that a tree of the whole grammar is, if it is one.
 
-ghost use Rattle.std.specs.Prelude.{◌≡◌, IfOk, IfSome, IfNone, map};
+ghost use Rattle.std.specs.Prelude.{◌≡◌, ◌++◌, ◌∷◌, [], IfOk, IfSome, IfNone, OnOk, map};
 ghost use Rattle.std.specs.Option.{option_map};
-ghost use Rattle.go_tree_core.specs.TypeShapes.{shape_idents, shape_type, shape_results, shape_signature};
-ghost use Rattle.go_tree_core.specs.Shapes as wide_shapes;
+ghost use Rattle.go_tree_nodes.specs.TypeShapes.{shape_idents, shape_type, shape_results};
+ghost use Rattle.go_tree_nodes.specs.Shapes as wide_shapes;
 ghost use Rattle.go_subset_core.specs.Shapes.{shape, shape_exprs, shape_some, shape_value, shape_stmt, lines_of, func_of, decl_of, top_of, file_of};
-ghost use Rattle.go_subset_core.specs.Narrowing.{narrow, narrow_exprs, narrow_some, narrow_type_name, narrow_type, narrow_some_type, narrow_values, narrow_value_spec, narrow_value, narrow_simple, narrow_stmt, narrow_lines, narrow_result, narrow_signature, narrow_func, narrow_decl, narrow_top, narrow_file, each, only};
+ghost use Rattle.go_subset_core.specs.Narrowing.{Narrows, narrow, narrow_exprs, narrow_some, narrow_type, narrow_some_type, narrow_values, narrow_value, narrow_simple, narrow_stmt, narrow_lines, narrow_result, narrow_func, narrow_decl, narrow_top, narrow_file, each, only};
 ghost use Rattle.go_subset_core.specs.Subset.{IsSubset, IsOutside};
 
 use crate::plain::{is_arithmetic, is_plain};
@@ -13,9 +13,44 @@ use crate::tree::{
     Decl, Expr, Exprs, File, FuncDecl, Line, NextExpr, Stmt, TopDecl, TypeExpr, ValueDecl,
 };
 use go_text_core::Span;
-use go_tree_core as wide;
-use go_tree_core::{Ident, Idents, NextIdent, ValueKind};
+use go_tree_nodes as wide;
+use go_tree_nodes::{Ident, Idents, NextIdent, ValueKind};
 use std::alloc::{AllocError, Global};
+
+// Why a tree of the whole grammar gives none of the subset.
+#[derive(Drop)]
+pub(crate) enum Refusal {
+    // It is outside.
+    Outside,
+    // Memory ran out.
+    Memory,
+}
+
+impl From<AllocError> for Refusal {
+    ghost use Rattle.std.specs.Prelude.{◌≡◌};
+    ghost use Rattle.go_subset_core.specs.declared.narrow.Refusal.TheVariants.{Memory};
+
+    ghost from_gives = { λ _ e. e ≡ Memory };
+
+    fn from(_error: AllocError) -> Self {
+        Refusal::Memory
+    }
+}
+
+// Adds what was made to a list.
+fn add<T: Drop>(made: &mut Vec<T>, new: T) -> Result<(), AllocError>
+    ensures { OnOk result (made.new.items ≡ made.old.items ++ new ∷ []) }
+{
+    made.push(new)?;
+    Ok(())
+}
+
+// What was made, in a box.
+fn boxed<T: Drop>(alloc: Global, made: T) -> Result<Box<T>, AllocError>
+    ensures { IfOk result (λ x. x.value ≡ made) }
+{
+    Ok(Box::new(alloc, made)?)
+}
 
 fn copy_ident(alloc: Global, ident: &Ident) -> Result<Ident, AllocError>
     ensures { IfOk result (λ copy. copy ≡ ident.now) }
@@ -26,52 +61,41 @@ fn copy_ident(alloc: Global, ident: &Ident) -> Result<Ident, AllocError>
     })
 }
 
-// An expression of the subset, or none where it is outside.
-fn narrow_expr(alloc: Global, text: &str, expr: &wide::Expr) -> Result<Option<Expr>, AllocError>
-    ensures { IfOk result (λ e. option_map shape e ≡ narrow text.now (wide_shapes.shape expr.now)) }
+// An expression of the subset.
+fn narrow_expr(alloc: Global, text: &str, expr: &wide::Expr) -> Result<Expr, Refusal>
+    ensures { Narrows shape result (narrow text.now (wide_shapes.shape expr.now)) }
 {
     match expr {
         wide::Expr::Integer(value, span) if is_plain(text, *span) => {
-            Ok(Some(Expr::Literal(*value, *span)))
+            Ok(Expr::Literal(*value, *span))
         }
-        wide::Expr::Name(ident) => Ok(Some(Expr::Name(copy_ident(alloc, ident)?))),
+        wide::Expr::Name(ident) => Ok(Expr::Name(copy_ident(alloc, ident)?)),
         wide::Expr::Paren(first, inner, last) => {
-            let Some(inner) = narrow_expr(alloc, text, inner)? else {
-                return Ok(None);
-            };
-            Ok(Some(Expr::Paren(*first, Box::new(alloc, inner)?, *last)))
+            let inner = boxed(alloc, narrow_expr(alloc, text, inner)?)?;
+            Ok(Expr::Paren(*first, inner, *last))
         }
         wide::Expr::Binary(left, operator, span, right) if is_arithmetic(*operator) => {
-            let Some(left) = narrow_expr(alloc, text, left)? else {
-                return Ok(None);
-            };
-            let Some(right) = narrow_expr(alloc, text, right)? else {
-                return Ok(None);
-            };
-            let left = Box::new(alloc, left)?;
-            let right = Box::new(alloc, right)?;
-            Ok(Some(Expr::Binary(left, *operator, *span, right)))
+            let left = boxed(alloc, narrow_expr(alloc, text, left)?)?;
+            let right = boxed(alloc, narrow_expr(alloc, text, right)?)?;
+            Ok(Expr::Binary(left, *operator, *span, right))
         }
-        _ => Ok(None),
+        _ => Err(Refusal::Outside),
     }
 }
 
-// Expressions of the subset, or none where one of them is outside.
-fn narrow_exprs(alloc: Global, text: &str, exprs: &wide::Exprs) -> Result<Option<Exprs>, AllocError>
-    ensures { IfOk result (λ es. option_map shape_exprs es ≡ narrow_exprs text.now (wide_shapes.shape_exprs exprs.now)) }
+// Expressions of the subset.
+fn narrow_exprs(alloc: Global, text: &str, exprs: &wide::Exprs) -> Result<Exprs, Refusal>
+    ensures { Narrows shape_exprs result (narrow_exprs text.now (wide_shapes.shape_exprs exprs.now)) }
 {
-    let Some(first) = narrow_expr(alloc, text, &exprs.first)? else {
-        return Ok(None);
-    };
     let mut more = Vec::new(alloc);
     for next in &exprs.more {
-        let Some(expr) = narrow_expr(alloc, text, &next.expr)? else {
-            return Ok(None);
-        };
+        let expr = narrow_expr(alloc, text, &next.expr)?;
         let comma = next.comma;
-        more.push(NextExpr { comma, expr })?;
+        add(&mut more, NextExpr { comma, expr })?;
     }
-    Ok(Some(Exprs { first, more }))
+    // The first comes last, so that a refusal drops one list and no expression beside it.
+    let first = narrow_expr(alloc, text, &exprs.first)?;
+    Ok(Exprs { first, more })
 }
 
 // What is returned, where anything is.
@@ -79,40 +103,37 @@ fn narrow_some(
     alloc: Global,
     text: &str,
     exprs: &Option<wide::Exprs>,
-) -> Result<Option<Option<Exprs>>, AllocError>
-    ensures { IfOk result (λ es. option_map shape_some es ≡ narrow_some text.now (wide_shapes.shape_some_exprs exprs.now)) }
+) -> Result<Option<Exprs>, Refusal>
+    ensures { Narrows shape_some result (narrow_some text.now (wide_shapes.shape_some_exprs exprs.now)) }
 {
-    let Some(exprs) = exprs else {
-        return Ok(Some(None));
-    };
-    let Some(exprs) = narrow_exprs(alloc, text, exprs)? else {
-        return Ok(None);
-    };
-    Ok(Some(Some(exprs)))
+    match exprs {
+        None => Ok(None),
+        Some(exprs) => Ok(Some(narrow_exprs(alloc, text, exprs)?)),
+    }
 }
 
 fn copy_idents(alloc: Global, idents: &Idents) -> Result<Idents, AllocError>
     ensures { IfOk result (λ copy. shape_idents copy ≡ shape_idents idents.now) }
 {
-    let first = copy_ident(alloc, &idents.first)?;
     let mut more = Vec::new(alloc);
     for next in &idents.more {
         let ident = copy_ident(alloc, &next.ident)?;
         let comma = next.comma;
-        more.push(NextIdent { comma, ident })?;
+        add(&mut more, NextIdent { comma, ident })?;
     }
+    let first = copy_ident(alloc, &idents.first)?;
     Ok(Idents { first, more })
 }
 
-// The name of a type, or none where the type is another or has a package.
-fn narrow_type(alloc: Global, type_expr: &wide::TypeExpr) -> Result<Option<TypeExpr>, AllocError>
-    ensures { IfOk result (λ t. t ≡ narrow_type (shape_type type_expr.now)) }
+// A type that is a name without a package, where a type may stand.
+fn narrow_type(alloc: Global, type_expr: &wide::TypeExpr) -> Result<Option<TypeExpr>, Refusal>
+    ensures { Narrows (λ t. t) result (option_map Some (narrow_type (shape_type type_expr.now))) }
 {
     match type_expr {
         wide::TypeExpr::Name(wide::TypeName::Plain(ident)) => {
             Ok(Some(TypeExpr::Name(copy_ident(alloc, ident)?)))
         }
-        _ => Ok(None),
+        _ => Err(Refusal::Outside),
     }
 }
 
@@ -121,303 +142,200 @@ fn narrow_some_type(
     alloc: Global,
     kind: ValueKind,
     type_expr: &Option<wide::TypeExpr>,
-) -> Result<Option<Option<TypeExpr>>, AllocError>
-    ensures { IfOk result (λ t. t ≡ narrow_some_type kind (wide_shapes.shape_some_type type_expr.now)) }
+) -> Result<Option<TypeExpr>, Refusal>
+    ensures { Narrows (λ t. t) result (narrow_some_type kind (wide_shapes.shape_some_type type_expr.now)) }
 {
-    let Some(type_expr) = type_expr else {
-        return Ok(Some(None));
-    };
-    if kind == ValueKind::Const {
-        return Ok(None);
-    }
-    let Some(type_expr) = narrow_type(alloc, type_expr)? else {
-        return Ok(None);
-    };
-    Ok(Some(Some(type_expr)))
-}
-
-// The one name, or none where there are several.
-fn only_ident(idents: &Idents) -> Option<&Ident>
-    ensures { option_map (λ x. x.now) result ≡ only (shape_idents idents.now) }
-{
-    match idents.more.first() {
-        None => Some(&idents.first),
-        Some(_) => None,
+    match (kind, type_expr) {
+        (_, None) => Ok(None),
+        (ValueKind::Const, Some(_)) => Err(Refusal::Outside),
+        (ValueKind::Var, Some(type_expr)) => narrow_type(alloc, type_expr),
     }
 }
 
-// The one expression, or none where there are several.
-fn only_expr(exprs: &wide::Exprs) -> Option<&wide::Expr>
-    ensures { option_map (λ e. wide_shapes.shape e.now) result ≡ only (wide_shapes.shape_exprs exprs.now) }
+// The one name.
+fn only_ident(alloc: Global, idents: &Idents) -> Result<Ident, Refusal>
+    ensures { Narrows (λ x. x) result (only (shape_idents idents.now)) }
 {
-    match exprs.more.first() {
-        None => Some(&exprs.first),
-        Some(_) => None,
+    if !idents.more.is_empty() {
+        return Err(Refusal::Outside);
     }
+    Ok(copy_ident(alloc, &idents.first)?)
 }
 
-// The place of `=` and the one value behind it, or none where there is no value or there are several.
+// The place of `=` and the one value behind it.
 fn narrow_values(
     alloc: Global,
     text: &str,
     values: &Option<wide::Values>,
-) -> Result<Option<(Span, Expr)>, AllocError>
-    ensures { IfOk result (λ v. option_map (λ v. (v.0, shape v.1)) v ≡ narrow_values text.now (wide_shapes.shape_values values.now)) }
+) -> Result<(Span, Expr), Refusal>
+    ensures { Narrows (λ v. (v.0, shape v.1)) result (narrow_values text.now (wide_shapes.shape_values values.now)) }
 {
     let Some(values) = values else {
-        return Ok(None);
+        return Err(Refusal::Outside);
     };
-    let Some(value) = only_expr(&values.exprs) else {
-        return Ok(None);
-    };
-    let Some(value) = narrow_expr(alloc, text, value)? else {
-        return Ok(None);
-    };
-    Ok(Some((values.assign, value)))
+    if !values.exprs.more.is_empty() {
+        return Err(Refusal::Outside);
+    }
+    let value = narrow_expr(alloc, text, &values.exprs.first)?;
+    Ok((values.assign, value))
 }
 
 // A declaration of one constant or variable with its value.
-fn narrow_value_spec(
-    alloc: Global,
-    text: &str,
-    kind: ValueKind,
-    keyword: Span,
-    spec: &wide::ValueSpec,
-) -> Result<Option<ValueDecl>, AllocError>
-    ensures { IfOk result (λ v. option_map shape_value v ≡ narrow_value_spec text.now kind keyword (wide_shapes.shape_value_spec spec.now)) }
+fn narrow_value(alloc: Global, text: &str, value: &wide::ValueDecl) -> Result<ValueDecl, Refusal>
+    ensures { Narrows shape_value result (narrow_value text.now (wide_shapes.shape_value value.now)) }
 {
-    let Some(name) = only_ident(&spec.names) else {
-        return Ok(None);
+    let wide::ValueSpecs::One(spec) = &value.specs else {
+        return Err(Refusal::Outside);
     };
-    let Some(type_expr) = narrow_some_type(alloc, kind, &spec.type_expr)? else {
-        return Ok(None);
-    };
-    let Some((assign, value)) = narrow_values(alloc, text, &spec.values)? else {
-        return Ok(None);
-    };
-    let name = copy_ident(alloc, name)?;
-    Ok(Some(ValueDecl {
-        kind,
-        keyword,
+    let name = only_ident(alloc, &spec.names)?;
+    let type_expr = narrow_some_type(alloc, value.kind, &spec.type_expr)?;
+    let (assign, expr) = narrow_values(alloc, text, &spec.values)?;
+    Ok(ValueDecl {
+        kind: value.kind,
+        keyword: value.keyword,
         name,
         type_expr,
         assign,
-        value,
-    }))
-}
-
-fn narrow_value(
-    alloc: Global,
-    text: &str,
-    value: &wide::ValueDecl,
-) -> Result<Option<ValueDecl>, AllocError>
-    ensures { IfOk result (λ v. option_map shape_value v ≡ narrow_value text.now (wide_shapes.shape_value value.now)) }
-{
-    match &value.specs {
-        wide::ValueSpecs::One(spec) => {
-            narrow_value_spec(alloc, text, value.kind, value.keyword, spec)
-        }
-        wide::ValueSpecs::Group(_, _, _) => Ok(None),
-    }
+        value: expr,
+    })
 }
 
 // A short declaration or an assignment.
-fn narrow_simple(
-    alloc: Global,
-    text: &str,
-    simple: &wide::Simple,
-) -> Result<Option<Stmt>, AllocError>
-    ensures { IfOk result (λ s. option_map shape_stmt s ≡ narrow_simple text.now (wide_shapes.shape_simple simple.now)) }
+fn narrow_simple(alloc: Global, text: &str, simple: &wide::Simple) -> Result<Stmt, Refusal>
+    ensures { Narrows shape_stmt result (narrow_simple text.now (wide_shapes.shape_simple simple.now)) }
 {
     match simple {
         wide::Simple::Define(names, define, values) => {
-            let Some(values) = narrow_exprs(alloc, text, values)? else {
-                return Ok(None);
-            };
             let names = copy_idents(alloc, names)?;
-            Ok(Some(Stmt::Short(names, *define, values)))
+            let values = narrow_exprs(alloc, text, values)?;
+            Ok(Stmt::Short(names, *define, values))
         }
         wide::Simple::Assign(targets, assign, values) => {
-            let Some(targets) = narrow_exprs(alloc, text, targets)? else {
-                return Ok(None);
-            };
-            let Some(values) = narrow_exprs(alloc, text, values)? else {
-                return Ok(None);
-            };
-            Ok(Some(Stmt::Assign(targets, *assign, values)))
+            let targets = narrow_exprs(alloc, text, targets)?;
+            match narrow_exprs(alloc, text, values) {
+                Ok(values) => Ok(Stmt::Assign(targets, *assign, values)),
+                Err(refusal) => {
+                    drop(targets);
+                    Err(refusal)
+                }
+            }
         }
-        _ => Ok(None),
+        _ => Err(Refusal::Outside),
     }
 }
 
-// A statement of the subset, or none where it is outside.
+// A statement of the subset.
 #[cycle(narrow)]
-fn narrow_stmt(alloc: Global, text: &str, stmt: &wide::Stmt) -> Result<Option<Stmt>, AllocError>
-    ensures { IfOk result (λ s. option_map shape_stmt s ≡ narrow_stmt text.now (wide_shapes.shape_stmt stmt.now)) }
+fn narrow_stmt(alloc: Global, text: &str, stmt: &wide::Stmt) -> Result<Stmt, Refusal>
+    ensures { Narrows shape_stmt result (narrow_stmt text.now (wide_shapes.shape_stmt stmt.now)) }
 {
     match stmt {
-        wide::Stmt::Declare(value) => {
-            let Some(value) = narrow_value(alloc, text, value)? else {
-                return Ok(None);
-            };
-            Ok(Some(Stmt::Declare(value)))
-        }
+        wide::Stmt::Declare(value) => Ok(Stmt::Declare(narrow_value(alloc, text, value)?)),
         wide::Stmt::Simple(simple) => narrow_simple(alloc, text, simple),
         wide::Stmt::Return(keyword, values) => {
-            let Some(values) = narrow_some(alloc, text, values)? else {
-                return Ok(None);
-            };
-            Ok(Some(Stmt::Return(*keyword, values)))
+            Ok(Stmt::Return(*keyword, narrow_some(alloc, text, values)?))
         }
         wide::Stmt::Block(open, lines, close) => {
-            let Some(lines) = narrow_lines(alloc, text, lines)? else {
-                return Ok(None);
-            };
-            Ok(Some(Stmt::Block(*open, lines, *close)))
+            let lines = narrow_lines(alloc, text, lines)?;
+            Ok(Stmt::Block(*open, lines, *close))
         }
-        _ => Ok(None),
+        _ => Err(Refusal::Outside),
     }
 }
 
-// The statements of a block, or none where one of them is outside.
+// The statements of a block.
 #[cycle(narrow)]
-fn narrow_lines(
-    alloc: Global,
-    text: &str,
-    lines: &Vec<wide::Line>,
-) -> Result<Option<Vec<Line>>, AllocError>
-    ensures { IfOk result (λ ls. option_map (λ ls. lines_of ls.items) ls ≡ narrow_lines text.now (wide_shapes.lines_of lines.now.items)) }
+fn narrow_lines(alloc: Global, text: &str, lines: &Vec<wide::Line>) -> Result<Vec<Line>, Refusal>
+    ensures { Narrows (λ ls. lines_of ls.items) result (narrow_lines text.now (wide_shapes.lines_of lines.now.items)) }
 {
     let mut made = Vec::new(alloc);
     for line in lines {
-        let Some(stmt) = narrow_stmt(alloc, text, &line.stmt)? else {
-            return Ok(None);
-        };
+        let stmt = narrow_stmt(alloc, text, &line.stmt)?;
         let semicolon = line.semicolon;
-        made.push(Line { stmt, semicolon })?;
+        add(&mut made, Line { stmt, semicolon })?;
     }
-    Ok(Some(made))
+    Ok(made)
 }
 
-// The result of a function, where it has one, or none where it has several or one in parentheses.
-fn narrow_result(
-    alloc: Global,
-    results: &wide::Results,
-) -> Result<Option<Option<TypeExpr>>, AllocError>
-    ensures { IfOk result (λ t. t ≡ narrow_result (shape_results results.now)) }
+// The result of a function, where it has one. Several are outside, and so is one in parentheses.
+fn narrow_result(alloc: Global, results: &wide::Results) -> Result<Option<TypeExpr>, Refusal>
+    ensures { Narrows (λ t. t) result (narrow_result (shape_results results.now)) }
 {
     match results {
-        wide::Results::Nothing => Ok(Some(None)),
-        wide::Results::Single(type_expr) => {
-            let Some(type_expr) = narrow_type(alloc, type_expr)? else {
-                return Ok(None);
-            };
-            Ok(Some(Some(type_expr)))
-        }
-        wide::Results::Listed(_) => Ok(None),
+        wide::Results::Nothing => Ok(None),
+        wide::Results::Single(type_expr) => narrow_type(alloc, type_expr),
+        wide::Results::Listed(_) => Err(Refusal::Outside),
     }
 }
 
-// The places of the parentheses and the result behind them, or none where there are parameters.
-fn narrow_signature(
-    alloc: Global,
-    signature: &wide::Signature,
-) -> Result<Option<((Span, Span), Option<TypeExpr>)>, AllocError>
-    ensures { IfOk result (λ s. s ≡ narrow_signature (shape_signature signature.now)) }
-{
-    let params = &signature.params;
-    if params.entries.first().is_some() {
-        return Ok(None);
-    }
-    let Some(type_expr) = narrow_result(alloc, &signature.results)? else {
-        return Ok(None);
-    };
-    Ok(Some(((params.open, params.close), type_expr)))
-}
-
-// A function of the subset, or none where it is a method or outside.
-fn narrow_func(
-    alloc: Global,
-    text: &str,
-    func: &wide::FuncDecl,
-) -> Result<Option<FuncDecl>, AllocError>
-    ensures { IfOk result (λ f. option_map func_of f ≡ narrow_func text.now (wide_shapes.func_of func.now)) }
+// A function of the subset. A method is outside, and so is a function with parameters.
+fn narrow_func(alloc: Global, text: &str, func: &wide::FuncDecl) -> Result<FuncDecl, Refusal>
+    ensures { Narrows func_of result (narrow_func text.now (wide_shapes.func_of func.now)) }
 {
     if func.receiver.is_some() {
-        return Ok(None);
+        return Err(Refusal::Outside);
     }
-    let Some((parens, type_expr)) = narrow_signature(alloc, &func.signature)? else {
-        return Ok(None);
-    };
-    let Some(body) = narrow_lines(alloc, text, &func.body)? else {
-        return Ok(None);
-    };
-    Ok(Some(FuncDecl {
+    let params = &func.signature.params;
+    if !params.entries.is_empty() {
+        return Err(Refusal::Outside);
+    }
+    let name = copy_ident(alloc, &func.name)?;
+    let result = narrow_result(alloc, &func.signature.results)?;
+    let body = narrow_lines(alloc, text, &func.body)?;
+    Ok(FuncDecl {
         func: func.func,
-        name: copy_ident(alloc, &func.name)?,
-        open_paren: parens.0,
-        close_paren: parens.1,
-        result: type_expr,
+        name,
+        open_paren: params.open,
+        close_paren: params.close,
+        result,
         open_brace: func.open_brace,
         body,
         close_brace: func.close_brace,
-    }))
+    })
 }
 
-fn narrow_decl(alloc: Global, text: &str, decl: &wide::Decl) -> Result<Option<Decl>, AllocError>
-    ensures { IfOk result (λ d. option_map decl_of d ≡ narrow_decl text.now (wide_shapes.decl_of decl.now)) }
+fn narrow_decl(alloc: Global, text: &str, decl: &wide::Decl) -> Result<Decl, Refusal>
+    ensures { Narrows decl_of result (narrow_decl text.now (wide_shapes.decl_of decl.now)) }
 {
     match decl {
-        wide::Decl::Value(value) => {
-            let Some(value) = narrow_value(alloc, text, value)? else {
-                return Ok(None);
-            };
-            Ok(Some(Decl::Value(value)))
-        }
-        wide::Decl::Func(func) => {
-            let Some(func) = narrow_func(alloc, text, func)? else {
-                return Ok(None);
-            };
-            Ok(Some(Decl::Func(func)))
-        }
-        wide::Decl::Type(_) => Ok(None),
+        wide::Decl::Value(value) => Ok(Decl::Value(narrow_value(alloc, text, value)?)),
+        wide::Decl::Func(func) => Ok(Decl::Func(narrow_func(alloc, text, func)?)),
+        wide::Decl::Type(_) => Err(Refusal::Outside),
     }
 }
 
-// The declarations of the package block, or none where one of them is outside.
+// The declarations of the package block.
 fn narrow_tops(
     alloc: Global,
     text: &str,
     tops: &Vec<wide::TopDecl>,
-) -> Result<Option<Vec<TopDecl>>, AllocError>
-    ensures { IfOk result (λ ds. option_map (λ ds. map top_of ds.items) ds ≡ each (narrow_top text.now) (map wide_shapes.top_of tops.now.items)) }
+) -> Result<Vec<TopDecl>, Refusal>
+    ensures { Narrows (λ ds. map top_of ds.items) result (each (narrow_top text.now) (map wide_shapes.top_of tops.now.items)) }
 {
     let mut made = Vec::new(alloc);
     for top in tops {
-        let Some(decl) = narrow_decl(alloc, text, &top.decl)? else {
-            return Ok(None);
-        };
+        let decl = narrow_decl(alloc, text, &top.decl)?;
         let semicolon = top.semicolon;
-        made.push(TopDecl { decl, semicolon })?;
+        add(&mut made, TopDecl { decl, semicolon })?;
     }
-    Ok(Some(made))
+    Ok(made)
 }
 
-fn narrow_file(alloc: Global, text: &str, file: &wide::File) -> Result<Option<File>, AllocError>
-    ensures { IfOk result (λ s. option_map file_of s ≡ narrow_file text.now (wide_shapes.file_of file.now)) }
+// A file of the subset. One with imports is outside.
+fn narrow_file(alloc: Global, text: &str, file: &wide::File) -> Result<File, Refusal>
+    ensures { Narrows file_of result (narrow_file text.now (wide_shapes.file_of file.now)) }
 {
-    if file.imports.first().is_some() {
-        return Ok(None);
+    if !file.imports.is_empty() {
+        return Err(Refusal::Outside);
     }
-    let Some(decls) = narrow_tops(alloc, text, &file.decls)? else {
-        return Ok(None);
-    };
-    Ok(Some(File {
+    let name = copy_ident(alloc, &file.name)?;
+    let decls = narrow_tops(alloc, text, &file.decls)?;
+    Ok(File {
         clause: file.clause,
-        name: copy_ident(alloc, &file.name)?,
+        name,
         semicolon: file.semicolon,
         decls,
-    }))
+    })
 }
 
 /// The file of the subset that the file of a text is, or none where it is outside the subset.
@@ -427,5 +345,9 @@ pub fn subset(alloc: Global, text: &str, file: &wide::File) -> Result<Option<Fil
     ensures found { IfOk result (λ s. IfSome s (λ s. IsSubset text.now (wide_shapes.file_of file.now) (file_of s))) }
     ensures none { IfOk result (λ s. IfNone s (IsOutside text.now (wide_shapes.file_of file.now))) }
 {
-    narrow_file(alloc, text, file)
+    match narrow_file(alloc, text, file) {
+        Ok(file) => Ok(Some(file)),
+        Err(Refusal::Outside) => Ok(None),
+        Err(Refusal::Memory) => Err(AllocError),
+    }
 }

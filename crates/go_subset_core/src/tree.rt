@@ -1,7 +1,7 @@
 //! The tree of a file of the subset. Each token that the grammar writes keeps its span, and each name its spelling.
 use go_scan_core::Operator;
 use go_text_core::Span;
-use go_tree_core::{Ident, Idents, ValueKind};
+use go_tree_nodes::{Ident, Idents, ValueKind};
 
 /// An expression.
 #[derive(Drop)]

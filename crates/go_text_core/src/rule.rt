@@ -4,7 +4,7 @@ ghost use Rattle.std.specs.Prelude.{◌≡◌};
 use std::fmt;
 
 /// The number of a rule, as it is printed.
-#[derive(Clone, Copy, Debug, PartialEq, Eq)]
+#[derive(Clone, Copy, PartialEq, Eq)]
 pub enum Rule {
     /// A character that no token may have.
     L1,
@@ -176,6 +176,16 @@ pub enum Rule {
     V4,
 }
 
+// The numbers in the order of the rules.
+const NUMBERS: [&str; 84] = [
+    "L1", "L2", "L3", "P1", "P2", "K2", "K3", "K4", "I1", "I2", "I3", "I4", "I5", "I6", "I7", "B1",
+    "B2", "B3", "B4", "B5", "B6", "N1", "N2", "N3", "N4", "N5", "N6", "N7", "N8", "N9", "S1", "S2",
+    "S3", "S4", "S5", "S6", "S7", "S8", "F1", "F2", "F3", "F4", "F5", "F6", "F7", "F8", "C1", "C2",
+    "C3", "C4", "Y1", "Y2", "Y3", "Y4", "Y5", "Y6", "Y7", "Y8", "X1", "Q1", "Q2", "Q3", "Q4", "O1",
+    "O2", "O3", "O4", "O5", "E1", "E2", "E3", "E4", "E5", "H1", "H2", "Z1", "M0", "J1", "J2", "J3",
+    "V1", "V2", "V3", "V4",
+];
+
 impl Rule {
     ghost use Rattle.go_text_core.specs.Rules.{rule_number};
 
@@ -183,92 +193,7 @@ impl Rule {
     pub fn number(self) -> &'static str
         ensures { result.now ≡ rule_number self }
     {
-        match self {
-            Rule::L1 => "L1",
-            Rule::L2 => "L2",
-            Rule::L3 => "L3",
-            Rule::P1 => "P1",
-            Rule::P2 => "P2",
-            Rule::K2 => "K2",
-            Rule::K3 => "K3",
-            Rule::K4 => "K4",
-            Rule::I1 => "I1",
-            Rule::I2 => "I2",
-            Rule::I3 => "I3",
-            Rule::I4 => "I4",
-            Rule::I5 => "I5",
-            Rule::I6 => "I6",
-            Rule::I7 => "I7",
-            Rule::B1 => "B1",
-            Rule::B2 => "B2",
-            Rule::B3 => "B3",
-            Rule::B4 => "B4",
-            Rule::B5 => "B5",
-            Rule::B6 => "B6",
-            Rule::N1 => "N1",
-            Rule::N2 => "N2",
-            Rule::N3 => "N3",
-            Rule::N4 => "N4",
-            Rule::N5 => "N5",
-            Rule::N6 => "N6",
-            Rule::N7 => "N7",
-            Rule::N8 => "N8",
-            Rule::N9 => "N9",
-            Rule::S1 => "S1",
-            Rule::S2 => "S2",
-            Rule::S3 => "S3",
-            Rule::S4 => "S4",
-            Rule::S5 => "S5",
-            Rule::S6 => "S6",
-            Rule::S7 => "S7",
-            Rule::S8 => "S8",
-            Rule::F1 => "F1",
-            Rule::F2 => "F2",
-            Rule::F3 => "F3",
-            Rule::F4 => "F4",
-            Rule::F5 => "F5",
-            Rule::F6 => "F6",
-            Rule::F7 => "F7",
-            Rule::F8 => "F8",
-            Rule::C1 => "C1",
-            Rule::C2 => "C2",
-            Rule::C3 => "C3",
-            Rule::C4 => "C4",
-            Rule::Y1 => "Y1",
-            Rule::Y2 => "Y2",
-            Rule::Y3 => "Y3",
-            Rule::Y4 => "Y4",
-            Rule::Y5 => "Y5",
-            Rule::Y6 => "Y6",
-            Rule::Y7 => "Y7",
-            Rule::Y8 => "Y8",
-            Rule::X1 => "X1",
-            Rule::Q1 => "Q1",
-            Rule::Q2 => "Q2",
-            Rule::Q3 => "Q3",
-            Rule::Q4 => "Q4",
-            Rule::O1 => "O1",
-            Rule::O2 => "O2",
-            Rule::O3 => "O3",
-            Rule::O4 => "O4",
-            Rule::O5 => "O5",
-            Rule::E1 => "E1",
-            Rule::E2 => "E2",
-            Rule::E3 => "E3",
-            Rule::E4 => "E4",
-            Rule::E5 => "E5",
-            Rule::H1 => "H1",
-            Rule::H2 => "H2",
-            Rule::Z1 => "Z1",
-            Rule::M0 => "M0",
-            Rule::J1 => "J1",
-            Rule::J2 => "J2",
-            Rule::J3 => "J3",
-            Rule::V1 => "V1",
-            Rule::V2 => "V2",
-            Rule::V3 => "V3",
-            Rule::V4 => "V4",
-        }
+        NUMBERS[self as usize]
     }
 }
 
@@ -277,6 +202,18 @@ impl fmt::Display for Rule {
     ghost use Rattle.go_text_core.specs.Rules.{rule_number};
 
     ghost output = { λ r. Some (rule_number r) };
+
+    fn fmt<W: fmt::Write>(&self, f: &mut fmt::Formatter<W>) -> fmt::Result {
+        f.write_str(self.number())
+    }
+}
+
+// Each rule is named like its number.
+impl fmt::Debug for Rule {
+    ghost use Rattle.std.specs.Prelude.{Some};
+    ghost use Rattle.go_text_core.specs.Rules.{rule_number};
+
+    ghost debug_output = { λ r. Some (rule_number r) };
 
     fn fmt<W: fmt::Write>(&self, f: &mut fmt::Formatter<W>) -> fmt::Result {
         f.write_str(self.number())

@@ -2,6 +2,4 @@ pub mod Covering
 pub mod OccLemmas
 pub mod Order
 pub mod SameTrees
-pub mod ShapeLemmas
-pub mod TypeShapes
 pub mod Visits

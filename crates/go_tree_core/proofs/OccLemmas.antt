@@ -4,39 +4,39 @@ use Rattle.std.specs.Global.{Global, Box}
 use Rattle.std.specs.List.{flat_map}
 use Rattle.std.specs.Prelude.{Option}
 use Rattle.go_text_core.specs.declared.span.Span.{Span}
-use Rattle.go_tree_core.specs.declared.types.TypeName.{TypeName}
-use Rattle.go_tree_core.specs.declared.types.TypeExpr.{TypeExpr}
-use Rattle.go_tree_core.specs.declared.types.Signature.{Signature, out-Signature}
-use Rattle.go_tree_core.specs.declared.types.Results as declared_results
-use Rattle.go_tree_core.specs.declared.types.Results.TheVariants as results
-use Rattle.go_tree_core.specs.declared.types.Params.{Params, out-Params}
-use Rattle.go_tree_core.specs.declared.types.FieldLine.{FieldLine}
-use Rattle.go_tree_core.specs.declared.types.MethodLine.{MethodLine, MethodLine', out-MethodLine, is-MethodLine'}
-use Rattle.go_tree_core.specs.declared.types.Fields.TheVariants as fields
-use Rattle.go_tree_core.specs.declared.types.Fields.{Fields}
-use Rattle.go_tree_core.specs.declared.types.«Param» as declared_param
-use Rattle.go_tree_core.specs.declared.exprs.Expr.{Expr}
-use Rattle.go_tree_core.specs.declared.exprs.Expr.TheVariants as expr
-use Rattle.go_tree_core.specs.declared.exprs.«Item» as declared_item
-use Rattle.go_tree_core.specs.declared.exprs.NextExpr.{NextExpr}
-use Rattle.go_tree_core.specs.declared.stmts.ForHead.{ForHead}
-use Rattle.go_tree_core.specs.declared.stmts.Stmt.{Stmt}
-use Rattle.go_tree_core.specs.declared.stmts.Stmt.TheVariants as stmt
-use Rattle.go_tree_core.specs.declared.stmts.«Branch» as declared_branch
-use Rattle.go_tree_core.specs.declared.stmts.Otherwise.{Otherwise}
-use Rattle.go_tree_core.specs.declared.stmts.Otherwise.TheVariants as otherwise
-use Rattle.go_tree_core.specs.declared.stmts.«Line» as declared_line
-use Rattle.go_tree_core.specs.declared.files.TopDecl.{TopDecl}
-use Rattle.go_tree_core.specs.declared.files.ImportDecl.{ImportDecl}
+use Rattle.go_tree_nodes.specs.declared.types.TypeName.{TypeName}
+use Rattle.go_tree_nodes.specs.declared.types.TypeExpr.{TypeExpr}
+use Rattle.go_tree_nodes.specs.declared.types.Signature.{Signature, out-Signature}
+use Rattle.go_tree_nodes.specs.declared.types.Results as declared_results
+use Rattle.go_tree_nodes.specs.declared.types.Results.TheVariants as results
+use Rattle.go_tree_nodes.specs.declared.types.Params.{Params, out-Params}
+use Rattle.go_tree_nodes.specs.declared.types.FieldLine.{FieldLine}
+use Rattle.go_tree_nodes.specs.declared.types.MethodLine.{MethodLine, MethodLine', out-MethodLine, is-MethodLine'}
+use Rattle.go_tree_nodes.specs.declared.types.Fields.TheVariants as fields
+use Rattle.go_tree_nodes.specs.declared.types.Fields.{Fields}
+use Rattle.go_tree_nodes.specs.declared.types.«Param» as declared_param
+use Rattle.go_tree_nodes.specs.declared.exprs.Expr.{Expr}
+use Rattle.go_tree_nodes.specs.declared.exprs.Expr.TheVariants as expr
+use Rattle.go_tree_nodes.specs.declared.exprs.«Item» as declared_item
+use Rattle.go_tree_nodes.specs.declared.exprs.NextExpr.{NextExpr}
+use Rattle.go_tree_nodes.specs.declared.stmts.ForHead.{ForHead}
+use Rattle.go_tree_nodes.specs.declared.stmts.Stmt.{Stmt}
+use Rattle.go_tree_nodes.specs.declared.stmts.Stmt.TheVariants as stmt
+use Rattle.go_tree_nodes.specs.declared.stmts.«Branch» as declared_branch
+use Rattle.go_tree_nodes.specs.declared.stmts.Otherwise.{Otherwise}
+use Rattle.go_tree_nodes.specs.declared.stmts.Otherwise.TheVariants as otherwise
+use Rattle.go_tree_nodes.specs.declared.stmts.«Line» as declared_line
+use Rattle.go_tree_nodes.specs.declared.files.TopDecl.{TopDecl}
+use Rattle.go_tree_nodes.specs.declared.files.ImportDecl.{ImportDecl}
 use Rattle.go_tree_core.specs.declared.occurrence.Place.{Place}
 use Rattle.go_tree_core.specs.declared.occurrence.Place.TheVariants as place
 use Rattle.go_tree_core.specs.declared.occurrence.Occ.{Occ}
-use Rattle.go_tree_core.specs.Trees.{FieldTrees}
-use Rattle.go_tree_core.specs.TypeShapes.{shape_type, shape_signature, shape_results, fields_before, fields_of, methods_of, params_of}
-use Rattle.go_tree_core.specs.Shapes.{shape, items_of, exprs_from, shape_if, shape_for, shape_stmt, shape_branch, shape_else, lines_of, decl_of, top_of, import_of, shape_import_specs}
+use Rattle.go_tree_nodes.specs.Trees.{FieldTrees}
+use Rattle.go_tree_nodes.specs.TypeShapes.{shape_type, shape_signature, shape_results, fields_before, fields_of, methods_of, params_of}
+use Rattle.go_tree_nodes.specs.Shapes.{shape, items_of, exprs_from, shape_if, shape_for, shape_stmt, shape_branch, shape_else, lines_of, decl_of, top_of, import_of, shape_import_specs}
 use Rattle.go_tree_core.specs.Occurrences.{type_name_occs, type_occs, field_occs, fields_occs, signature_occs, result_occs, methods_occs, call_at, params_occs, key_occs, expr_occs, items_occs, exprs_occs, group_occs, specs_occs, import_occs, imports_occs, if_occs, for_occs, stmt_occs, branch_occs, else_occs, lines_occs, decl_occs, tops_occs}
-use Rattle.go_tree_core.proofs.TypeShapes.{listed_parts, signature_parts}
-use Rattle.go_tree_core.proofs.ShapeLemmas.{shape_call, shape_literal, shape_struct_literal, shape_block, shape_loop, shape_else_block, branch_parts}
+use Rattle.go_tree_nodes.proofs.TypeShapes.{listed_parts, signature_parts}
+use Rattle.go_tree_nodes.proofs.ShapeLemmas.{shape_call, shape_literal, shape_struct_literal, shape_block, shape_loop, shape_else_block, branch_parts}
 
 abbrev pub field_line_occs : FieldLine → List Occ
 field_line_occs l = field_occs l.fields

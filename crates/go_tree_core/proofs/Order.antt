@@ -2,31 +2,21 @@
 use Rattle.std.proofs.Common.{◌≡◌, ℕ, ◌+◌, ◌≤◌, Bool, true, false, List, [], ◌∷◌, ◌++◌, length, ◌<◌, Option, Some, None, refl, subst, append-nil, arith, if◌then◌else◌}
 use Rattle.go_text_core.specs.declared.span.Span.{Span}
 use Rattle.go_text_core.specs.Text.{is_blank}
-use Rattle.go_tree_core.specs.declared.names.Ident.{Ident}
-use Rattle.go_tree_core.specs.declared.types.TypeName.{TypeName}
-use Rattle.go_tree_core.specs.declared.types.TypeName.TheVariants as type_name
-use Rattle.go_tree_core.specs.declared.exprs.Key.{Key}
-use Rattle.go_tree_core.specs.declared.files.Receiver.{Receiver}
+use Rattle.go_tree_nodes.specs.declared.names.Ident.{Ident}
+use Rattle.go_tree_nodes.specs.declared.types.TypeName.{TypeName}
+use Rattle.go_tree_nodes.specs.declared.types.TypeName.TheVariants as type_name
+use Rattle.go_tree_nodes.specs.declared.exprs.Key.{Key}
+use Rattle.go_tree_nodes.specs.declared.files.Receiver.{Receiver}
 use Rattle.go_tree_core.specs.declared.occurrence.Role.{Role}
 use Rattle.go_tree_core.specs.declared.occurrence.Role.TheVariants as role
 use Rattle.go_tree_core.specs.declared.occurrence.Place.{Place}
 use Rattle.go_tree_core.specs.declared.occurrence.Place.TheVariants as place
 use Rattle.go_tree_core.specs.declared.occurrence.Occ.{Occ}
-use Rattle.go_tree_core.specs.Terminals.{Terminal, InOrder, least_width}
-use Rattle.go_tree_core.specs.Trees.{Separated, One, Then, TypeTree, FieldTrees, MethodTrees, SignatureTree, ResultTree, ParamTrees, NamedType, Pointer, ParenType, Struct, Interface, NoFields, NamedFields, EmbeddedField, NoMethods, Method, Signed, NoResult, OneResult, Results, NoParams, Param, ExprTree, ItemTrees, Integer, Text, Named, Paren, Unary, Binary, Select, Call, Literal, StructLiteral, NoItems, Item, ValueSpecTree, Specs, Single, Group, ValueTree, TypeSpecTree, TypeDeclTree, SimpleTree, Alone, Step, Assign, Update, Define, IfTree, ForTree, Forever, While, Clauses, StmtTree, BranchTree, ElseTree, Lines, Empty, Declare, Simple, Return, Break, Continue, Block, If, For, Branch, NoElse, ElseBlock, ElseIf, NoLines, Line, FuncTree, DeclTree, Value, Types, Func, TopTree, ImportSpecTree, ImportTree, FileTree}
-use Rattle.go_tree_core.specs.Spelling.{spell_ident, spell_type_name, spell_type, spell_fields, spell_methods, spell_signature, spell_result, spell_params, spell_key, spell, spell_items, spell_exprs, spell_some_type, spell_values, spell_value_spec, spell_specs_of, spell_specs, spell_value, spell_type_spec, spell_types, spell_simple, spell_some_simple, spell_some_expr, spell_init, spell_if, spell_for, spell_some_exprs, spell_stmt, spell_branch, spell_else, spell_lines, spell_receiver, spell_func, spell_decl, spell_tops, spell_import, spell_imports, spell_file}
+use Rattle.go_tree_nodes.specs.Terminals.{Terminal, InOrder, least_width}
+use Rattle.go_tree_nodes.specs.Trees.{Separated, One, Then, TypeTree, FieldTrees, MethodTrees, SignatureTree, ResultTree, ParamTrees, NamedType, Pointer, ParenType, Struct, Interface, NoFields, NamedFields, EmbeddedField, NoMethods, Method, Signed, NoResult, OneResult, Results, NoParams, Param, ExprTree, ItemTrees, Integer, Text, Named, Paren, Unary, Binary, Select, Call, Literal, StructLiteral, NoItems, Item, ValueSpecTree, Specs, Single, Group, ValueTree, TypeSpecTree, TypeDeclTree, SimpleTree, Alone, Step, Assign, Update, Define, IfTree, ForTree, Forever, While, Clauses, StmtTree, BranchTree, ElseTree, Lines, Empty, Declare, Simple, Return, Break, Continue, Block, If, For, Branch, NoElse, ElseBlock, ElseIf, NoLines, Line, FuncTree, DeclTree, Value, Types, Func, TopTree, ImportSpecTree, ImportTree, FileTree}
+use Rattle.go_tree_nodes.specs.Spelling.{spell_ident, spell_type_name, spell_type, spell_fields, spell_methods, spell_signature, spell_result, spell_params, spell_key, spell, spell_items, spell_exprs, spell_some_type, spell_values, spell_value_spec, spell_specs_of, spell_specs, spell_value, spell_type_spec, spell_types, spell_simple, spell_some_simple, spell_some_expr, spell_init, spell_if, spell_for, spell_some_exprs, spell_stmt, spell_branch, spell_else, spell_lines, spell_receiver, spell_func, spell_decl, spell_tops, spell_import, spell_imports, spell_file}
+use Rattle.go_tree_nodes.proofs.InOrder.{in_order_split, in_order_ends}
 use Rattle.go_tree_core.specs.Occurrences.{occurrence, type_name_occs, type_occs, fields_occs, methods_occs, signature_occs, result_occs, params_occs, named_occs, inside, under, key_occs, expr_occs, items_occs, exprs_occs, some_expr_occs, some_exprs_occs, some_type_occs, values_occs, value_spec_occs, group_occs, specs_occs, value_occs, type_spec_occs, type_decl_occs, simple_occs, some_simple_occs, init_occs, if_occs, for_occs, stmt_occs, branch_occs, else_occs, lines_occs, receiver_occs, func_occs, decl_occs, tops_occs, import_occs, imports_occs, file_occs, Follow}
-
--- what is in order, and what is behind it
-pub in_order_split : (ts us : List Terminal) (low high : ℕ) → InOrder low (ts ++ us) high → (middle : ℕ) × (InOrder low ts middle × InOrder middle us high)
-in_order_split [] us low high h = (low, (omega arith, h))
-in_order_split (t ∷ ts) us low high h =
-    let rest = in_order_split ts us t.span.end high h.2 in
-    (rest.0, ((h.0, h.1, rest.1.0), rest.1.1))
-
-pub in_order_ends : (ts : List Terminal) (low high : ℕ) → InOrder low ts high → low ≤ high
-in_order_ends [] low high h = h
-in_order_ends (t ∷ ts) low high h = let rest = in_order_ends ts t.span.end high h.2 in omega (arith, h.0, h.1)
 
 follow_lower : (os : List Occ) (low lower high : ℕ) → lower ≤ low → Follow low os high → Follow lower os high
 follow_lower [] low lower high l h = omega arith

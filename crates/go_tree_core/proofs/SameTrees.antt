@@ -1,26 +1,31 @@
 -- Lists whose elements have the same trees have the same tree.
-use Rattle.std.proofs.Common.{◌≡◌, ℕ, ◌+◌, ◌<◌, ◌≤◌, List, [], ◌∷◌, ◌++◌, length, get_or, take, map, refl, ap, sym, ◌∙◌}
+use Rattle.std.proofs.Common.{◌≡◌, ℕ, ◌+◌, ◌<◌, ◌≤◌, List, [], ◌∷◌, ◌++◌, length, get_or, take, map, Ok, refl, ap, sym, ◌∙◌, subst}
+use Rattle.std.specs.Prelude.{IfOk}
+use Rattle.std.specs.declared.result.Result.{Result}
 use Rattle.std.proofs.lemmas.List.{take_more, take_all, map_more, map-append}
 use Rattle.go_text_core.specs.declared.span.Span.{Span}
-use Rattle.go_tree_core.specs.declared.names.Ident.{Ident}
-use Rattle.go_tree_core.specs.declared.names.NextIdent.{NextIdent}
-use Rattle.go_tree_core.specs.declared.types.FieldLine.{FieldLine}
-use Rattle.go_tree_core.specs.declared.types.Fields.{Fields}
-use Rattle.go_tree_core.specs.declared.types.Fields.TheVariants as fields
-use Rattle.go_tree_core.specs.declared.types.MethodLine.{MethodLine, MethodLine'}
-use Rattle.go_tree_core.specs.declared.types.«Param» as declared_param
-use Rattle.go_tree_core.specs.declared.exprs.Expr.{Expr}
-use Rattle.go_tree_core.specs.declared.exprs.«Item» as declared_item
-use Rattle.go_tree_core.specs.declared.exprs.NextExpr.{NextExpr}
-use Rattle.go_tree_core.specs.declared.stmts.«Line» as declared_line
-use Rattle.go_tree_core.specs.Trees.{Separated, One, Then, FieldTrees, NoFields, NamedFields, EmbeddedField, MethodTrees, NoMethods, Method, ParamTrees, NoParams, Param, ExprTree, ItemTrees, NoItems, Item, Lines, NoLines, Line, DeclTree, TopTree}
-use Rattle.go_tree_core.specs.TypeShapes.{shape_names, shape_type, fields_before, fields_of, method_before, methods_of, params_of}
-use Rattle.go_tree_core.specs.Shapes.{shape, items_of, exprs_from, shape_stmt, lines_of}
+use Rattle.go_tree_nodes.specs.declared.names.Ident.{Ident}
+use Rattle.go_tree_nodes.specs.declared.names.NextIdent.{NextIdent}
+use Rattle.go_tree_nodes.specs.declared.types.FieldLine.{FieldLine}
+use Rattle.go_tree_nodes.specs.declared.types.Fields.{Fields}
+use Rattle.go_tree_nodes.specs.declared.types.Fields.TheVariants as fields
+use Rattle.go_tree_nodes.specs.declared.types.MethodLine.{MethodLine, MethodLine'}
+use Rattle.go_tree_nodes.specs.declared.types.«Param» as declared_param
+use Rattle.go_tree_nodes.specs.declared.exprs.Expr.{Expr}
+use Rattle.go_tree_nodes.specs.declared.exprs.«Item» as declared_item
+use Rattle.go_tree_nodes.specs.declared.exprs.NextExpr.{NextExpr}
+use Rattle.go_tree_nodes.specs.declared.stmts.«Line» as declared_line
+use Rattle.go_tree_nodes.specs.Trees.{Separated, One, Then, FieldTrees, NoFields, NamedFields, EmbeddedField, MethodTrees, NoMethods, Method, ParamTrees, NoParams, Param, ExprTree, ItemTrees, NoItems, Item, Lines, NoLines, Line, DeclTree, TopTree}
+use Rattle.go_tree_nodes.specs.TypeShapes.{shape_names, shape_type, fields_before, fields_of, method_before, methods_of, params_of}
+use Rattle.go_tree_nodes.specs.Shapes.{shape, items_of, exprs_from, shape_stmt, lines_of}
 
 -- a loop that adds an equal element
 pub one_kept : {X : Type 0} (copies more xs : List X) (i : ℕ) (x y : X) → i < length xs → x ≡ get_or xs i x → more ≡ copies ++ y ∷ [] → y ≡ x → copies ≡ take i xs → more ≡ take (i + 1) xs
 one_kept copies more xs i x y lt is pushed same before =
     pushed ∙ ap (λ l. l ++ y ∷ []) before ∙ ap (λ z. take i xs ++ z ∷ []) (same ∙ is) ∙ sym (take_more xs i x lt)
+
+pub all_kept : {X : Type 0} (copies items xs : List X) (i : ℕ) → items ≡ xs → length items ≤ i → copies ≡ take i items → copies ≡ xs
+all_kept copies items xs i is h before = before ∙ take_all i items h ∙ is
 
 -- a loop that adds an element with an equal tree
 module _ {X T : Type 0} (tree : X → T) where
@@ -30,6 +35,10 @@ module _ {X T : Type 0} (tree : X → T) where
 
   pub all_copied : (copies items xs : List X) (i : ℕ) → items ≡ xs → length items ≤ i → map tree copies ≡ map tree (take i items) → map tree copies ≡ map tree xs
   all_copied copies items xs i is h before = before ∙ ap (map tree) (take_all i items h ∙ is)
+
+-- what holds of a copy where one was made
+pub of_made : {X E : Type 0} (P : X → Type 0) (r : Result X E) (x : X) → r ≡ Ok x → IfOk r P → P x
+of_made P r x e h = subst (λ r. IfOk r P) e h
 
 -- the tree of a list from the trees of its elements
 module _ {X T : Type 0} (whole : List X → T) (before : T → T → T) (step : (x : X) (xs : List X) → whole (x ∷ xs) ≡ before (whole (x ∷ [])) (whole xs)) where

@@ -1,7 +1,5 @@
 -- Walks over what is kept in lists.
-use Rattle.std.proofs.Common.{◌≡◌, ℕ, ◌+◌, ◌<◌, ◌≤◌, List, ◌++◌, length, get_or, take, Ok, Err, sym, ap, ◌∙◌, subst, append_assoc, arith}
-use Rattle.std.specs.Prelude.{OnOk}
-use Rattle.std.specs.declared.result.Result.{Result}
+use Rattle.std.proofs.Common.{◌≡◌, ℕ, ◌+◌, ◌<◌, ◌≤◌, List, ◌++◌, length, get_or, take, sym, ap, ◌∙◌, subst, append_assoc, arith}
 use Rattle.std.specs.List.{flat_map}
 use Rattle.std.proofs.lemmas.Grind.{common_steps}
 use Rattle.go_tree_core.specs.declared.occurrence.Occ.{Occ}
@@ -14,13 +12,12 @@ all_taken f xs i h = grind (arith, common_steps)
 
 module _ {V : Type 0} (Sees : V → List Occ → V → Type 0) where
   -- the same occurrences, written otherwise
-  pub sees_same : {S E : Type 0} (r : Result S E) (a b : V) (os ps : List Occ) → ps ≡ os → OnOk r (Sees a os b) → OnOk r (Sees a ps b)
-  sees_same r a b os ps same seen = subst (λ os. OnOk r (Sees a os b)) (sym same) seen
+  pub sees_same : (a b : V) (os ps : List Occ) → ps ≡ os → Sees a os b → Sees a ps b
+  sees_same a b os ps same seen = subst (λ os. Sees a os b) (sym same) seen
 
-  -- two visits, the second of which may end early
-  pub sees_both : ((a b c : V) (xs ys : List Occ) → Sees a xs b → Sees b ys c → Sees a (xs ++ ys) c) → {S E : Type 0} (r : Result S E) (a b c : V) (xs ys os : List Occ) → os ≡ xs ++ ys → Sees a xs b → OnOk r (Sees b ys c) → OnOk r (Sees a os c)
-  sees_both more (Ok x) a b c xs ys os same first second = subst (λ os. Sees a os c) (sym same) (more a b c xs ys first second)
-  sees_both more (Err e) a b c xs ys os same first second = second
+  -- two visits
+  pub sees_both : ((a b c : V) (xs ys : List Occ) → Sees a xs b → Sees b ys c → Sees a (xs ++ ys) c) → (a b c : V) (xs ys os : List Occ) → os ≡ xs ++ ys → Sees a xs b → Sees b ys c → Sees a os c
+  sees_both more a b c xs ys os same first second = subst (λ os. Sees a os c) (sym same) (more a b c xs ys first second)
 
   module _ {X : Type 0} (f : X → List Occ) where
     -- one turn of a loop, behind what was visited before the loop

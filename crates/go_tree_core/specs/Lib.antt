@@ -1,9 +1,2 @@
-pub mod Heights
 pub mod Occurrences
-pub mod Rules
 pub mod Seeking
-pub mod Shapes
-pub mod Spelling
-pub mod Terminals
-pub mod Trees
-pub mod TypeShapes

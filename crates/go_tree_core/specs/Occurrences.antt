@@ -4,13 +4,13 @@ use Rattle.go_text_core.specs.declared.span.Span.{Span}
 use Rattle.go_text_core.specs.Text.{is_blank}
 use Rattle.go_scan_core.specs.declared.kind.Operator.{Operator}
 use Rattle.go_scan_core.specs.declared.kind.Operator.TheVariants as operator
-use Rattle.go_tree_core.specs.declared.names.Ident.{Ident}
-use Rattle.go_tree_core.specs.declared.types.TypeName.{TypeName}
-use Rattle.go_tree_core.specs.declared.types.TypeName.TheVariants as type_name
-use Rattle.go_tree_core.specs.declared.types.Fields.{Fields}
-use Rattle.go_tree_core.specs.declared.types.Fields.TheVariants as fields
-use Rattle.go_tree_core.specs.declared.exprs.Key.{Key}
-use Rattle.go_tree_core.specs.declared.files.Receiver.{Receiver}
+use Rattle.go_tree_nodes.specs.declared.names.Ident.{Ident}
+use Rattle.go_tree_nodes.specs.declared.types.TypeName.{TypeName}
+use Rattle.go_tree_nodes.specs.declared.types.TypeName.TheVariants as type_name
+use Rattle.go_tree_nodes.specs.declared.types.Fields.{Fields}
+use Rattle.go_tree_nodes.specs.declared.types.Fields.TheVariants as fields
+use Rattle.go_tree_nodes.specs.declared.exprs.Key.{Key}
+use Rattle.go_tree_nodes.specs.declared.files.Receiver.{Receiver}
 use Rattle.go_tree_core.specs.declared.occurrence.Usage.{Usage}
 use Rattle.go_tree_core.specs.declared.occurrence.Usage.TheVariants as usage
 use Rattle.go_tree_core.specs.declared.occurrence.Role.{Role}
@@ -18,8 +18,8 @@ use Rattle.go_tree_core.specs.declared.occurrence.Role.TheVariants as role
 use Rattle.go_tree_core.specs.declared.occurrence.Place.{Place}
 use Rattle.go_tree_core.specs.declared.occurrence.Place.TheVariants as place
 use Rattle.go_tree_core.specs.declared.occurrence.Occ.{Occ}
-use Rattle.go_tree_core.specs.TypeShapes.{shape_type}
-use Rattle.go_tree_core.specs.Trees.{Separated, One, Then, TypeTree, FieldTrees, MethodTrees, SignatureTree, ResultTree, ParamTrees, NamedType, Pointer, ParenType, Struct, Interface, NoFields, NamedFields, EmbeddedField, NoMethods, Method, Signed, NoResult, OneResult, Results, NoParams, Param, ExprTree, ItemTrees, Integer, Text, Named, Paren, Unary, Binary, Select, Call, Literal, StructLiteral, NoItems, Item, ValueSpecTree, Specs, Single, Group, ValueTree, TypeSpecTree, TypeDeclTree, SimpleTree, Alone, Step, Assign, Update, Define, IfTree, ForTree, Forever, While, Clauses, StmtTree, BranchTree, ElseTree, Lines, Empty, Declare, Simple, Return, Break, Continue, Block, If, For, Branch, NoElse, ElseBlock, ElseIf, NoLines, Line, FuncTree, DeclTree, Value, Types, Func, TopTree, ImportSpecTree, ImportTree, FileTree}
+use Rattle.go_tree_nodes.specs.TypeShapes.{shape_type}
+use Rattle.go_tree_nodes.specs.Trees.{Separated, One, Then, TypeTree, FieldTrees, MethodTrees, SignatureTree, ResultTree, ParamTrees, NamedType, Pointer, ParenType, Struct, Interface, NoFields, NamedFields, EmbeddedField, NoMethods, Method, Signed, NoResult, OneResult, Results, NoParams, Param, ExprTree, ItemTrees, Integer, Text, Named, Paren, Unary, Binary, Select, Call, Literal, StructLiteral, NoItems, Item, ValueSpecTree, Specs, Single, Group, ValueTree, TypeSpecTree, TypeDeclTree, SimpleTree, Alone, Step, Assign, Update, Define, IfTree, ForTree, Forever, While, Clauses, StmtTree, BranchTree, ElseTree, Lines, Empty, Declare, Simple, Return, Break, Continue, Block, If, For, Branch, NoElse, ElseBlock, ElseIf, NoLines, Line, FuncTree, DeclTree, Value, Types, Func, TopTree, ImportSpecTree, ImportTree, FileTree}
 
 -- what stands here, and how it is spelled
 abbrev pub occ_at : Role → List ℕ → Span → Occ

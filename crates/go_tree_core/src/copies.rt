@@ -1,20 +1,34 @@
 //! Copies of names, types and expressions. The one error is want of memory.
 //!
-//! Lists and boxes are copied before enums: a failed copy drops what is there, and the drop of a list or a box is one call.
+//! Where memory runs out, what has been copied is dropped. The drop of an enum is written out in place, variant by variant, which
+//! is long to prove. So parts of a tree are copied by [`both`], which drops either, or lists and boxes before enums: their drop is
+//! one call.
 
 ghost use Rattle.std.specs.Prelude.{◌≡◌, [], ◌∷◌, ◌++◌, Option, IfOk, OnOk};
 ghost use Rattle.go_text_core.specs.declared.span.Span.{Span as TheSpan};
-ghost use Rattle.go_tree_core.specs.declared.names.TextLiteral.{TextLiteral as TheText};
-ghost use Rattle.go_tree_core.specs.Trees.{FieldTrees};
-ghost use Rattle.go_tree_core.specs.TypeShapes as type_shapes;
-ghost use Rattle.go_tree_core.specs.Shapes as shapes;
+ghost use Rattle.go_tree_nodes.specs.declared.names.TextLiteral.{TextLiteral as TheText};
+ghost use Rattle.go_tree_nodes.specs.Trees.{FieldTrees};
+ghost use Rattle.go_tree_nodes.specs.TypeShapes as type_shapes;
+ghost use Rattle.go_tree_nodes.specs.Shapes as shapes;
 
-use crate::exprs::{Expr, Exprs, Item, Key, NextExpr};
-use crate::names::{Ident, Idents, NextIdent, TextLiteral};
-use crate::types::{
-    FieldLine, Fields, MethodLine, Param, Params, Results, Signature, TypeExpr, TypeName,
+use go_tree_nodes::{
+    Expr, Exprs, FieldLine, Fields, Ident, Idents, Item, Key, MethodLine, NextExpr, NextIdent,
+    Param, Params, Results, Signature, TextLiteral, TypeExpr, TypeName,
 };
 use std::alloc::{AllocError, Global};
+
+/// The copy that was made, or the end of the function where memory ran out. A `?` is two calls of generic functions, and a proof
+/// writes out the tree's type for each.
+macro_rules! copied {
+    ($copy:expr) => {
+        match $copy {
+            Ok(copy) => copy,
+            Err(error) => return Err(error),
+        }
+    };
+}
+
+pub(crate) use copied;
 
 /// Adds a copy to a list.
 pub(crate) fn add<T: Drop>(copies: &mut Vec<T>, copy: T) -> Result<(), AllocError>
@@ -22,6 +36,16 @@ pub(crate) fn add<T: Drop>(copies: &mut Vec<T>, copy: T) -> Result<(), AllocErro
 {
     copies.push(copy)?;
     Ok(())
+}
+
+/// Two copies. Where there was no memory for one, the other is dropped.
+pub(crate) fn both<A: Drop, B: Drop>(
+    first: Result<A, AllocError>,
+    second: Result<B, AllocError>,
+) -> Result<(A, B), AllocError>
+    ensures { IfOk result (λ x. (first ≡ Ok x.0) × (second ≡ Ok x.1)) }
+{
+    Ok((first?, second?))
 }
 
 /// A copy in a box.
@@ -36,7 +60,7 @@ pub(crate) fn copy_ident(alloc: Global, ident: &Ident) -> Result<Ident, AllocErr
     ensures { IfOk result (λ x. x ≡ ident.now) }
 {
     Ok(Ident {
-        name: ident.name.copy(alloc)?,
+        name: copied!(ident.name.copy(alloc)),
         span: ident.span,
     })
 }
@@ -45,17 +69,17 @@ pub(crate) fn copy_ident(alloc: Global, ident: &Ident) -> Result<Ident, AllocErr
 pub(crate) fn copy_idents(alloc: Global, idents: &Idents) -> Result<Idents, AllocError>
     ensures { IfOk result (λ x. type_shapes.shape_idents x ≡ type_shapes.shape_idents idents.now) }
 {
-    let first = copy_ident(alloc, &idents.first)?;
+    let first = copied!(copy_ident(alloc, &idents.first));
     let mut more = Vec::new(alloc);
     for next in &idents.more {
-        let ident = copy_ident(alloc, &next.ident)?;
-        add(
+        let ident = copied!(copy_ident(alloc, &next.ident));
+        copied!(add(
             &mut more,
             NextIdent {
                 comma: next.comma,
                 ident,
             },
-        )?;
+        ));
     }
     Ok(Idents { first, more })
 }
@@ -66,7 +90,7 @@ fn copy_some_idents(alloc: Global, idents: &Option<Idents>) -> Result<Option<Ide
 {
     match idents {
         None => Ok(None),
-        Some(idents) => Ok(Some(copy_idents(alloc, idents)?)),
+        Some(idents) => Ok(Some(copied!(copy_idents(alloc, idents)))),
     }
 }
 
@@ -75,7 +99,7 @@ pub(crate) fn copy_text(alloc: Global, text: &TextLiteral) -> Result<TextLiteral
     ensures { IfOk result (λ x. x ≡ text.now) }
 {
     Ok(TextLiteral {
-        value: text.value.copy(alloc)?,
+        value: copied!(text.value.copy(alloc)),
         span: text.span,
     })
 }
@@ -86,7 +110,7 @@ fn copy_tag(alloc: Global, tag: &Option<TextLiteral>) -> Result<Option<TextLiter
 {
     match tag {
         None => Ok(None),
-        Some(text) => Ok(Some(copy_text(alloc, text)?)),
+        Some(text) => Ok(Some(copied!(copy_text(alloc, text)))),
     }
 }
 
@@ -95,10 +119,11 @@ pub(crate) fn copy_type_name(alloc: Global, name: &TypeName) -> Result<TypeName,
     ensures { IfOk result (λ x. x ≡ name.now) }
 {
     match name {
-        TypeName::Plain(ident) => Ok(TypeName::Plain(copy_ident(alloc, ident)?)),
+        TypeName::Plain(ident) => Ok(TypeName::Plain(copied!(copy_ident(alloc, ident)))),
         TypeName::Qualified(package, dot, ident) => {
-            let package = copy_ident(alloc, package)?;
-            Ok(TypeName::Qualified(package, *dot, copy_ident(alloc, ident)?))
+            let package = copy_ident(alloc, package);
+            let (package, ident) = copied!(both(package, copy_ident(alloc, ident)));
+            Ok(TypeName::Qualified(package, *dot, ident))
         }
     }
 }
@@ -109,24 +134,31 @@ pub(crate) fn copy_type(alloc: Global, type_expr: &TypeExpr) -> Result<TypeExpr,
     ensures { IfOk result (λ x. type_shapes.shape_type x ≡ type_shapes.shape_type type_expr.now) }
 {
     match type_expr {
-        TypeExpr::Name(name) => Ok(TypeExpr::Name(copy_type_name(alloc, name)?)),
+        TypeExpr::Name(name) => Ok(TypeExpr::Name(copied!(copy_type_name(alloc, name)))),
         TypeExpr::Pointer(star, inner) => {
-            let inner = copy_type(alloc, inner)?;
-            Ok(TypeExpr::Pointer(*star, boxed(alloc, inner)?))
+            Ok(TypeExpr::Pointer(*star, copied!(copy_boxed_type(alloc, inner))))
         }
         TypeExpr::Paren(open, inner, close) => {
-            let inner = copy_type(alloc, inner)?;
-            Ok(TypeExpr::Paren(*open, boxed(alloc, inner)?, *close))
+            Ok(TypeExpr::Paren(*open, copied!(copy_boxed_type(alloc, inner)), *close))
         }
         TypeExpr::Struct(keyword, open, lines, close) => {
-            let lines = copy_field_lines(alloc, lines)?;
+            let lines = copied!(copy_field_lines(alloc, lines));
             Ok(TypeExpr::Struct(*keyword, *open, lines, *close))
         }
         TypeExpr::Interface(keyword, open, methods, close) => {
-            let methods = copy_methods(alloc, methods)?;
+            let methods = copied!(copy_methods(alloc, methods));
             Ok(TypeExpr::Interface(*keyword, *open, methods, *close))
         }
     }
+}
+
+// The same type, in a box.
+#[cycle(types)]
+fn copy_boxed_type(alloc: Global, type_expr: &Box<TypeExpr>) -> Result<Box<TypeExpr>, AllocError>
+    ensures { IfOk result (λ x. type_shapes.shape_type x.value ≡ type_shapes.shape_type type_expr.now.value) }
+{
+    let copy = copied!(copy_type(alloc, type_expr));
+    boxed(alloc, copy)
 }
 
 // The same fields of one line.
@@ -136,10 +168,14 @@ fn copy_fields(alloc: Global, fields: &Fields) -> Result<Fields, AllocError>
 {
     match fields {
         Fields::Named(names, type_expr) => {
-            let names = copy_idents(alloc, names)?;
-            Ok(Fields::Named(names, copy_type(alloc, type_expr)?))
+            let names = copy_idents(alloc, names);
+            let (names, type_expr) = copied!(both(names, copy_type(alloc, type_expr)));
+            Ok(Fields::Named(names, type_expr))
         }
-        Fields::Embedded(star, name) => Ok(Fields::Embedded(*star, copy_type_name(alloc, name)?)),
+        Fields::Embedded(star, name) => {
+            let name = copied!(copy_type_name(alloc, name));
+            Ok(Fields::Embedded(*star, name))
+        }
     }
 }
 
@@ -150,16 +186,16 @@ fn copy_field_lines(alloc: Global, lines: &Vec<FieldLine>) -> Result<Vec<FieldLi
 {
     let mut copies = Vec::new(alloc);
     for line in lines {
-        let tag = copy_tag(alloc, &line.tag)?;
-        let fields = copy_fields(alloc, &line.fields)?;
-        add(
+        let tag = copy_tag(alloc, &line.tag);
+        let (tag, fields) = copied!(both(tag, copy_fields(alloc, &line.fields)));
+        copied!(add(
             &mut copies,
             FieldLine {
                 fields,
                 tag,
                 semicolon: line.semicolon,
             },
-        )?;
+        ));
     }
     Ok(copies)
 }
@@ -171,16 +207,16 @@ fn copy_methods(alloc: Global, methods: &Vec<MethodLine>) -> Result<Vec<MethodLi
 {
     let mut copies = Vec::new(alloc);
     for method in methods {
-        let name = copy_ident(alloc, &method.name)?;
-        let signature = copy_signature(alloc, &method.signature)?;
-        add(
+        let name = copy_ident(alloc, &method.name);
+        let (name, signature) = copied!(both(name, copy_signature(alloc, &method.signature)));
+        copied!(add(
             &mut copies,
             MethodLine {
                 name,
                 signature,
                 semicolon: method.semicolon,
             },
-        )?;
+        ));
     }
     Ok(copies)
 }
@@ -190,8 +226,8 @@ fn copy_methods(alloc: Global, methods: &Vec<MethodLine>) -> Result<Vec<MethodLi
 pub(crate) fn copy_signature(alloc: Global, signature: &Signature) -> Result<Signature, AllocError>
     ensures { IfOk result (λ x. type_shapes.shape_signature x ≡ type_shapes.shape_signature signature.now) }
 {
-    let entries = copy_params(alloc, &signature.params.entries)?;
-    let results = copy_results(alloc, &signature.results)?;
+    let entries = copy_params(alloc, &signature.params.entries);
+    let (entries, results) = copied!(both(entries, copy_results(alloc, &signature.results)));
     let params = Params {
         open: signature.params.open,
         entries,
@@ -208,11 +244,10 @@ fn copy_results(alloc: Global, results: &Results) -> Result<Results, AllocError>
     match results {
         Results::Nothing => Ok(Results::Nothing),
         Results::Single(type_expr) => {
-            let type_expr = copy_type(alloc, type_expr)?;
-            Ok(Results::Single(boxed(alloc, type_expr)?))
+            Ok(Results::Single(copied!(copy_boxed_type(alloc, type_expr))))
         }
         Results::Listed(params) => {
-            let entries = copy_params(alloc, &params.entries)?;
+            let entries = copied!(copy_params(alloc, &params.entries));
             Ok(Results::Listed(Params {
                 open: params.open,
                 entries,
@@ -229,16 +264,16 @@ fn copy_params(alloc: Global, params: &Vec<Param>) -> Result<Vec<Param>, AllocEr
 {
     let mut copies = Vec::new(alloc);
     for param in params {
-        let names = copy_some_idents(alloc, &param.names)?;
-        let type_expr = copy_type(alloc, &param.type_expr)?;
-        add(
+        let names = copy_some_idents(alloc, &param.names);
+        let (names, type_expr) = copied!(both(names, copy_type(alloc, &param.type_expr)));
+        copied!(add(
             &mut copies,
             Param {
                 names,
                 type_expr,
                 comma: param.comma,
             },
-        )?;
+        ));
     }
     Ok(copies)
 }
@@ -250,36 +285,35 @@ pub(crate) fn copy_expr(alloc: Global, expr: &Expr) -> Result<Expr, AllocError>
 {
     match expr {
         Expr::Integer(value, span) => Ok(Expr::Integer(*value, *span)),
-        Expr::Text(text) => Ok(Expr::Text(copy_text(alloc, text)?)),
-        Expr::Name(ident) => Ok(Expr::Name(copy_ident(alloc, ident)?)),
+        Expr::Text(text) => Ok(Expr::Text(copied!(copy_text(alloc, text)))),
+        Expr::Name(ident) => Ok(Expr::Name(copied!(copy_ident(alloc, ident)))),
         Expr::Paren(open, inner, close) => {
-            Ok(Expr::Paren(*open, copy_boxed(alloc, inner)?, *close))
+            Ok(Expr::Paren(*open, copied!(copy_boxed(alloc, inner)), *close))
         }
         Expr::Unary(operator, span, inner) => {
-            Ok(Expr::Unary(*operator, *span, copy_boxed(alloc, inner)?))
+            Ok(Expr::Unary(*operator, *span, copied!(copy_boxed(alloc, inner))))
         }
         Expr::Binary(left, operator, span, right) => {
-            let left = copy_boxed(alloc, left)?;
-            let right = copy_boxed(alloc, right)?;
+            let (left, right) = copied!(both(copy_boxed(alloc, left), copy_boxed(alloc, right)));
             Ok(Expr::Binary(left, *operator, *span, right))
         }
         Expr::Select(left, dot, ident) => {
-            let left = copy_boxed(alloc, left)?;
-            Ok(Expr::Select(left, *dot, copy_ident(alloc, ident)?))
+            let (left, ident) = copied!(both(copy_boxed(alloc, left), copy_ident(alloc, ident)));
+            Ok(Expr::Select(left, *dot, ident))
         }
         Expr::Call(callee, open, items, close) => {
-            let callee = copy_boxed(alloc, callee)?;
-            let items = copy_items(alloc, items)?;
+            let callee = copy_boxed(alloc, callee);
+            let (callee, items) = copied!(both(callee, copy_items(alloc, items)));
             Ok(Expr::Call(callee, *open, items, *close))
         }
         Expr::Literal(name, open, items, close) => {
-            let items = copy_items(alloc, items)?;
-            let name = copy_type_name(alloc, name)?;
+            let name = copy_type_name(alloc, name);
+            let (name, items) = copied!(both(name, copy_items(alloc, items)));
             Ok(Expr::Literal(name, *open, items, *close))
         }
         Expr::StructLiteral(type_expr, open, items, close) => {
-            let items = copy_items(alloc, items)?;
-            let type_expr = copy_type(alloc, type_expr)?;
+            let type_expr = copy_type(alloc, type_expr);
+            let (type_expr, items) = copied!(both(type_expr, copy_items(alloc, items)));
             Ok(Expr::StructLiteral(type_expr, *open, items, *close))
         }
     }
@@ -287,10 +321,10 @@ pub(crate) fn copy_expr(alloc: Global, expr: &Expr) -> Result<Expr, AllocError>
 
 // The same expression, in a box.
 #[cycle(exprs)]
-fn copy_boxed(alloc: Global, expr: &Expr) -> Result<Box<Expr>, AllocError>
-    ensures { IfOk result (λ x. shapes.shape x.value ≡ shapes.shape expr.now) }
+fn copy_boxed(alloc: Global, expr: &Box<Expr>) -> Result<Box<Expr>, AllocError>
+    ensures { IfOk result (λ x. shapes.shape x.value ≡ shapes.shape expr.now.value) }
 {
-    let copy = copy_expr(alloc, expr)?;
+    let copy = copied!(copy_expr(alloc, expr));
     boxed(alloc, copy)
 }
 
@@ -301,7 +335,7 @@ fn copy_key(alloc: Global, key: &Option<Key>) -> Result<Option<Key>, AllocError>
     match key {
         None => Ok(None),
         Some(key) => Ok(Some(Key {
-            name: copy_ident(alloc, &key.name)?,
+            name: copied!(copy_ident(alloc, &key.name)),
             colon: key.colon,
         })),
     }
@@ -314,16 +348,15 @@ fn copy_items(alloc: Global, items: &Vec<Item>) -> Result<Vec<Item>, AllocError>
 {
     let mut copies = Vec::new(alloc);
     for item in items {
-        let key = copy_key(alloc, &item.key)?;
-        let value = copy_expr(alloc, &item.value)?;
-        add(
+        let (key, value) = copied!(both(copy_key(alloc, &item.key), copy_expr(alloc, &item.value)));
+        copied!(add(
             &mut copies,
             Item {
                 key,
                 value,
                 comma: item.comma,
             },
-        )?;
+        ));
     }
     Ok(copies)
 }
@@ -334,15 +367,15 @@ pub(crate) fn copy_exprs(alloc: Global, exprs: &Exprs) -> Result<Exprs, AllocErr
 {
     let mut more = Vec::new(alloc);
     for next in &exprs.more {
-        let expr = copy_expr(alloc, &next.expr)?;
-        add(
+        let expr = copied!(copy_expr(alloc, &next.expr));
+        copied!(add(
             &mut more,
             NextExpr {
                 comma: next.comma,
                 expr,
             },
-        )?;
+        ));
     }
-    let first = copy_expr(alloc, &exprs.first)?;
+    let first = copied!(copy_expr(alloc, &exprs.first));
     Ok(Exprs { first, more })
 }

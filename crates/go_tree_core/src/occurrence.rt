@@ -2,8 +2,8 @@
 ghost use Rattle.std.specs.Prelude.{◌≡◌};
 ghost use Rattle.go_tree_core.specs.Occurrences.{is_identifier};
 
-use crate::names::TextValue;
 use go_text_core::Span;
+use go_tree_nodes::TextValue;
 
 /// How a selector as a whole is used.
 #[derive(Clone, Copy, Debug, PartialEq, Eq)]

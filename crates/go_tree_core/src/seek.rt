@@ -3,18 +3,17 @@
 ghost use Rattle.std.specs.Prelude.{◌≡◌, ℕ, ◌+◌, ◌<◌, ◌^◌, length, IfSome, IsNone, Some};
 ghost use Rattle.std.specs.List.{fold};
 ghost use Rattle.std.specs.Option.{option_map};
-ghost use Rattle.go_tree_core.specs.Shapes.{file_of};
-ghost use Rattle.go_tree_core.specs.Spelling.{spell_file};
-ghost use Rattle.go_tree_core.specs.Terminals.{InOrder};
+ghost use Rattle.go_tree_nodes.specs.Shapes.{file_of};
+ghost use Rattle.go_tree_nodes.specs.Spelling.{spell_file};
+ghost use Rattle.go_tree_nodes.specs.Terminals.{InOrder};
 ghost use Rattle.go_tree_core.specs.Occurrences.{file_occs, covering};
 ghost use Rattle.go_tree_core.specs.Seeking.{CoversAt, NoneCovers, sought_next};
 
 use crate::file_occurrences::visit_file;
-use crate::files::File;
 use crate::occurrence::{OccId, Role};
 use crate::visitor::Visitor;
 use go_text_core::Span;
-use std::convert::Infallible;
+use go_tree_nodes::File;
 
 // What a search for the identifier that covers an offset has come to.
 #[derive(Clone, Copy)]
@@ -33,8 +32,6 @@ struct Seeker {
 }
 
 impl Visitor for Seeker {
-    type Stop = Infallible;
-
     ghost Sees = { λ a os b. (b.offset ≡ a.offset) × (b.sought ≡ fold (sought_next a.offset) a.sought os) };
 
     ghost use Rattle.std.proofs.Common.{refl, ap, sym, ◌∙◌};
@@ -45,7 +42,7 @@ impl Visitor for Seeker {
     ghost sees_more = { λ a b c xs ys first second. (second.0 ∙ first.0, second.1 ∙ ap (λ offset. fold (sought_next offset) b.sought ys) first.0 ∙ ap (λ s. fold (sought_next a.offset) s ys) first.1 ∙ sym (fold-append (sought_next a.offset) a.sought xs ys)) };
 
     // A file in memory has fewer occurrences than a `usize` counts.
-    fn visit(&mut self, role: Role, _: &[u8], span: Span) -> Result<(), Infallible> {
+    fn visit(&mut self, role: Role, _: &[u8], span: Span) {
         if let Sought::Passed(passed) = self.sought {
             if role.is_identifier() && span.start <= self.offset && self.offset < span.end {
                 self.sought = Sought::Found(passed);
@@ -53,7 +50,6 @@ impl Visitor for Seeker {
                 self.sought = Sought::Passed(passed.saturating_add(1));
             }
         }
-        Ok(())
     }
 }
 
@@ -66,22 +62,13 @@ pub fn at(file: &File, offset: usize) -> Option<OccId>
     ensures none { IsNone result → NoneCovers offset (file_occs (file_of file.now)) }
     ensures only { (high i : ℕ) → InOrder 0 (spell_file (file_of file.now)) high → CoversAt offset (file_occs (file_of file.now)) i → result ≡ Some (record { 0 = i }) }
 {
-    match seek_file(file, offset) {
-        Sought::Found(number) => Some(OccId(number)),
-        Sought::Passed(_) => None,
-    }
-}
-
-// The search in a whole file.
-fn seek_file(file: &File, offset: usize) -> Sought
-    ensures { result ≡ fold (sought_next offset) (Sought.Passed 0) (file_occs (file_of file.now)) }
-{
     let mut seeker = Seeker {
         offset,
         sought: Sought::Passed(0),
     };
-    match visit_file(&mut seeker, file) {
-        Ok(()) => seeker.sought,
-        Err(never) => match never {},
+    visit_file(&mut seeker, file);
+    match seeker.sought {
+        Sought::Found(number) => Some(OccId(number)),
+        Sought::Passed(_) => None,
     }
 }

@@ -1,25 +1,19 @@
 //! Copies of declarations, statements and imports. The one error is want of memory.
-//!
-//! On the way out of a failed copy the compiler writes the drop of a small enum out in place, variant by variant, which is
-//! long to prove. So lists and boxes are copied first, and where an enum has to be dropped, `drop` is called by name.
 
-ghost use Rattle.std.specs.Prelude.{◌≡◌, IfOk, [], ◌∷◌, map};
-ghost use Rattle.go_tree_core.specs.Shapes as shapes;
+ghost use Rattle.std.specs.Prelude.{◌≡◌, [], ◌∷◌, ◌++◌, IfOk, OnOk, map};
+ghost use Rattle.go_tree_nodes.specs.declared.stmts.«Line».{Line as TheLine};
+ghost use Rattle.go_tree_nodes.specs.Shapes as shapes;
 
 use crate::copies::{
-    add, boxed, copy_expr, copy_exprs, copy_ident, copy_idents, copy_signature, copy_text,
-    copy_type, copy_type_name,
+    add, both, boxed, copied, copy_expr, copy_exprs, copy_ident, copy_idents, copy_signature,
+    copy_text, copy_type, copy_type_name,
 };
-use crate::decls::{
-    TypeDecl, TypeLine, TypeSpec, TypeSpecs, ValueDecl, ValueLine, ValueSpec, ValueSpecs, Values,
+use go_tree_nodes::{
+    Branch, Decl, Expr, Exprs, ForHead, FuncDecl, Ident, IfHead, ImportDecl, ImportLine,
+    ImportName, ImportSpec, ImportSpecs, InitPart, Line, Otherwise, Receiver, Simple, Stmt,
+    TopDecl, TypeDecl, TypeExpr, TypeLine, TypeSpec, TypeSpecs, ValueDecl, ValueLine, ValueSpec,
+    ValueSpecs, Values,
 };
-use crate::exprs::{Expr, Exprs};
-use crate::files::{
-    Decl, FuncDecl, ImportDecl, ImportLine, ImportName, ImportSpec, ImportSpecs, Receiver, TopDecl,
-};
-use crate::names::Ident;
-use crate::stmts::{Branch, ForHead, IfHead, InitPart, Line, Otherwise, Simple, Stmt};
-use crate::types::TypeExpr;
 use std::alloc::{AllocError, Global};
 
 // The same type, where one is written.
@@ -31,7 +25,7 @@ fn copy_some_type(
 {
     match type_expr {
         None => Ok(None),
-        Some(type_expr) => Ok(Some(copy_type(alloc, type_expr)?)),
+        Some(type_expr) => Ok(Some(copied!(copy_type(alloc, type_expr)))),
     }
 }
 
@@ -43,7 +37,7 @@ fn copy_values(alloc: Global, values: &Option<Values>) -> Result<Option<Values>,
         None => Ok(None),
         Some(values) => Ok(Some(Values {
             assign: values.assign,
-            exprs: copy_exprs(alloc, &values.exprs)?,
+            exprs: copied!(copy_exprs(alloc, &values.exprs)),
         })),
     }
 }
@@ -52,9 +46,10 @@ fn copy_values(alloc: Global, values: &Option<Values>) -> Result<Option<Values>,
 fn copy_value_spec(alloc: Global, spec: &ValueSpec) -> Result<ValueSpec, AllocError>
     ensures { IfOk result (λ x. shapes.shape_value_spec x ≡ shapes.shape_value_spec spec.now) }
 {
-    let names = copy_idents(alloc, &spec.names)?;
-    let type_expr = copy_some_type(alloc, &spec.type_expr)?;
-    let values = copy_values(alloc, &spec.values)?;
+    let names = copy_idents(alloc, &spec.names);
+    let type_expr = copy_some_type(alloc, &spec.type_expr);
+    let values = copy_values(alloc, &spec.values);
+    let (names, (type_expr, values)) = copied!(both(names, both(type_expr, values)));
     Ok(ValueSpec {
         names,
         type_expr,
@@ -68,14 +63,14 @@ fn copy_value_lines(alloc: Global, lines: &Vec<ValueLine>) -> Result<Vec<ValueLi
 {
     let mut copies = Vec::new(alloc);
     for line in lines {
-        let spec = copy_value_spec(alloc, &line.spec)?;
-        add(
+        let spec = copied!(copy_value_spec(alloc, &line.spec));
+        copied!(add(
             &mut copies,
             ValueLine {
                 spec,
                 semicolon: line.semicolon,
             },
-        )?;
+        ));
     }
     Ok(copies)
 }
@@ -85,9 +80,9 @@ fn copy_value(alloc: Global, value: &ValueDecl) -> Result<ValueDecl, AllocError>
     ensures { IfOk result (λ x. shapes.shape_value x ≡ shapes.shape_value value.now) }
 {
     let specs = match &value.specs {
-        ValueSpecs::One(spec) => ValueSpecs::One(copy_value_spec(alloc, spec)?),
+        ValueSpecs::One(spec) => ValueSpecs::One(copied!(copy_value_spec(alloc, spec))),
         ValueSpecs::Group(open, lines, close) => {
-            ValueSpecs::Group(*open, copy_value_lines(alloc, lines)?, *close)
+            ValueSpecs::Group(*open, copied!(copy_value_lines(alloc, lines)), *close)
         }
     };
     Ok(ValueDecl {
@@ -101,8 +96,8 @@ fn copy_value(alloc: Global, value: &ValueDecl) -> Result<ValueDecl, AllocError>
 fn copy_type_spec(alloc: Global, spec: &TypeSpec) -> Result<TypeSpec, AllocError>
     ensures { IfOk result (λ x. shapes.shape_type_spec x ≡ shapes.shape_type_spec spec.now) }
 {
-    let name = copy_ident(alloc, &spec.name)?;
-    let type_expr = copy_type(alloc, &spec.type_expr)?;
+    let name = copy_ident(alloc, &spec.name);
+    let (name, type_expr) = copied!(both(name, copy_type(alloc, &spec.type_expr)));
     Ok(TypeSpec { name, type_expr })
 }
 
@@ -112,14 +107,14 @@ fn copy_type_lines(alloc: Global, lines: &Vec<TypeLine>) -> Result<Vec<TypeLine>
 {
     let mut copies = Vec::new(alloc);
     for line in lines {
-        let spec = copy_type_spec(alloc, &line.spec)?;
-        add(
+        let spec = copied!(copy_type_spec(alloc, &line.spec));
+        copied!(add(
             &mut copies,
             TypeLine {
                 spec,
                 semicolon: line.semicolon,
             },
-        )?;
+        ));
     }
     Ok(copies)
 }
@@ -129,9 +124,9 @@ fn copy_type_decl(alloc: Global, types: &TypeDecl) -> Result<TypeDecl, AllocErro
     ensures { IfOk result (λ x. shapes.shape_type_decl x ≡ shapes.shape_type_decl types.now) }
 {
     let specs = match &types.specs {
-        TypeSpecs::One(spec) => TypeSpecs::One(copy_type_spec(alloc, spec)?),
+        TypeSpecs::One(spec) => TypeSpecs::One(copied!(copy_type_spec(alloc, spec))),
         TypeSpecs::Group(open, lines, close) => {
-            TypeSpecs::Group(*open, copy_type_lines(alloc, lines)?, *close)
+            TypeSpecs::Group(*open, copied!(copy_type_lines(alloc, lines)), *close)
         }
     };
     Ok(TypeDecl {
@@ -145,33 +140,27 @@ fn copy_simple(alloc: Global, simple: &Simple) -> Result<Simple, AllocError>
     ensures { IfOk result (λ x. shapes.shape_simple x ≡ shapes.shape_simple simple.now) }
 {
     match simple {
-        Simple::Expr(expr) => Ok(Simple::Expr(copy_expr(alloc, expr)?)),
+        Simple::Expr(expr) => Ok(Simple::Expr(copied!(copy_expr(alloc, expr)))),
         Simple::Step(expr, operator, span) => {
-            Ok(Simple::Step(copy_expr(alloc, expr)?, *operator, *span))
+            Ok(Simple::Step(copied!(copy_expr(alloc, expr)), *operator, *span))
         }
         Simple::Assign(targets, assign, values) => {
-            let targets = copy_exprs(alloc, targets)?;
-            match copy_exprs(alloc, values) {
-                Ok(values) => Ok(Simple::Assign(targets, *assign, values)),
-                Err(error) => {
-                    drop(targets);
-                    Err(error)
-                }
-            }
+            let (targets, values) = copied!(both(
+                copy_exprs(alloc, targets),
+                copy_exprs(alloc, values)
+            ));
+            Ok(Simple::Assign(targets, *assign, values))
         }
         Simple::Update(target, operator, span, value) => {
-            let target = copy_expr(alloc, target)?;
-            match copy_expr(alloc, value) {
-                Ok(value) => Ok(Simple::Update(target, *operator, *span, value)),
-                Err(error) => {
-                    drop(target);
-                    Err(error)
-                }
-            }
+            let (target, value) = copied!(both(copy_expr(alloc, target), copy_expr(alloc, value)));
+            Ok(Simple::Update(target, *operator, *span, value))
         }
         Simple::Define(names, define, values) => {
-            let names = copy_idents(alloc, names)?;
-            Ok(Simple::Define(names, *define, copy_exprs(alloc, values)?))
+            let (names, values) = copied!(both(
+                copy_idents(alloc, names),
+                copy_exprs(alloc, values)
+            ));
+            Ok(Simple::Define(names, *define, values))
         }
     }
 }
@@ -182,7 +171,7 @@ fn copy_some_simple(alloc: Global, simple: &Option<Simple>) -> Result<Option<Sim
 {
     match simple {
         None => Ok(None),
-        Some(simple) => Ok(Some(copy_simple(alloc, simple)?)),
+        Some(simple) => Ok(Some(copied!(copy_simple(alloc, simple)))),
     }
 }
 
@@ -192,7 +181,7 @@ fn copy_some_expr(alloc: Global, expr: &Option<Expr>) -> Result<Option<Expr>, Al
 {
     match expr {
         None => Ok(None),
-        Some(expr) => Ok(Some(copy_expr(alloc, expr)?)),
+        Some(expr) => Ok(Some(copied!(copy_expr(alloc, expr)))),
     }
 }
 
@@ -202,7 +191,7 @@ fn copy_some_exprs(alloc: Global, exprs: &Option<Exprs>) -> Result<Option<Exprs>
 {
     match exprs {
         None => Ok(None),
-        Some(exprs) => Ok(Some(copy_exprs(alloc, exprs)?)),
+        Some(exprs) => Ok(Some(copied!(copy_exprs(alloc, exprs)))),
     }
 }
 
@@ -213,7 +202,7 @@ fn copy_init(alloc: Global, init: &Option<InitPart>) -> Result<Option<InitPart>,
     match init {
         None => Ok(None),
         Some(init) => Ok(Some(InitPart {
-            simple: copy_some_simple(alloc, &init.simple)?,
+            simple: copied!(copy_some_simple(alloc, &init.simple)),
             semicolon: init.semicolon,
         })),
     }
@@ -223,14 +212,9 @@ fn copy_init(alloc: Global, init: &Option<InitPart>) -> Result<Option<InitPart>,
 fn copy_if_head(alloc: Global, head: &IfHead) -> Result<IfHead, AllocError>
     ensures { IfOk result (λ x. shapes.shape_if x ≡ shapes.shape_if head.now) }
 {
-    let init = copy_init(alloc, &head.init)?;
-    match copy_expr(alloc, &head.condition) {
-        Ok(condition) => Ok(IfHead { init, condition }),
-        Err(error) => {
-            drop(init);
-            Err(error)
-        }
-    }
+    let init = copy_init(alloc, &head.init);
+    let (init, condition) = copied!(both(init, copy_expr(alloc, &head.condition)));
+    Ok(IfHead { init, condition })
 }
 
 // The same head of a `for`.
@@ -239,11 +223,12 @@ fn copy_for_head(alloc: Global, head: &ForHead) -> Result<ForHead, AllocError>
 {
     match head {
         ForHead::Forever => Ok(ForHead::Forever),
-        ForHead::While(condition) => Ok(ForHead::While(copy_expr(alloc, condition)?)),
+        ForHead::While(condition) => Ok(ForHead::While(copied!(copy_expr(alloc, condition)))),
         ForHead::Clauses(init, first, condition, second, post) => {
-            let init = copy_some_simple(alloc, init)?;
-            let condition = copy_some_expr(alloc, condition)?;
-            let post = copy_some_simple(alloc, post)?;
+            let init = copy_some_simple(alloc, init);
+            let condition = copy_some_expr(alloc, condition);
+            let post = copy_some_simple(alloc, post);
+            let (init, (condition, post)) = copied!(both(init, both(condition, post)));
             Ok(ForHead::Clauses(init, *first, condition, *second, post))
         }
     }
@@ -256,21 +241,21 @@ fn copy_stmt(alloc: Global, stmt: &Stmt) -> Result<Stmt, AllocError>
 {
     match stmt {
         Stmt::Empty => Ok(Stmt::Empty),
-        Stmt::Declare(value) => Ok(Stmt::Declare(copy_value(alloc, value)?)),
-        Stmt::Simple(simple) => Ok(Stmt::Simple(copy_simple(alloc, simple)?)),
+        Stmt::Declare(value) => Ok(Stmt::Declare(copied!(copy_value(alloc, value)))),
+        Stmt::Simple(simple) => Ok(Stmt::Simple(copied!(copy_simple(alloc, simple)))),
         Stmt::Return(keyword, exprs) => {
-            Ok(Stmt::Return(*keyword, copy_some_exprs(alloc, exprs)?))
+            Ok(Stmt::Return(*keyword, copied!(copy_some_exprs(alloc, exprs))))
         }
         Stmt::Break(keyword) => Ok(Stmt::Break(*keyword)),
         Stmt::Continue(keyword) => Ok(Stmt::Continue(*keyword)),
         Stmt::Block(open, lines, close) => {
-            let lines = copy_lines(alloc, lines)?;
+            let lines = copied!(copy_lines(alloc, lines));
             Ok(Stmt::Block(*open, lines, *close))
         }
-        Stmt::If(branch) => Ok(Stmt::If(copy_branch(alloc, branch)?)),
+        Stmt::If(branch) => Ok(Stmt::If(copied!(copy_branch(alloc, branch)))),
         Stmt::For(keyword, head, open, lines, close) => {
-            let lines = copy_lines(alloc, lines)?;
-            let head = copy_for_head(alloc, head)?;
+            let lines = copied!(copy_lines(alloc, lines));
+            let head = copied!(copy_for_head(alloc, head));
             Ok(Stmt::For(*keyword, head, *open, lines, *close))
         }
     }
@@ -281,9 +266,10 @@ fn copy_stmt(alloc: Global, stmt: &Stmt) -> Result<Stmt, AllocError>
 fn copy_branch(alloc: Global, branch: &Branch) -> Result<Branch, AllocError>
     ensures { IfOk result (λ x. shapes.shape_branch x ≡ shapes.shape_branch branch.now) }
 {
-    let then = copy_lines(alloc, &branch.then)?;
-    let otherwise = copy_otherwise(alloc, &branch.otherwise)?;
-    let head = copy_if_head(alloc, &branch.head)?;
+    let then = copy_lines(alloc, &branch.then);
+    let otherwise = copy_otherwise(alloc, &branch.otherwise);
+    let head = copy_if_head(alloc, &branch.head);
+    let (head, (then, otherwise)) = copied!(both(head, both(then, otherwise)));
     Ok(Branch {
         keyword: branch.keyword,
         head,
@@ -302,12 +288,12 @@ fn copy_otherwise(alloc: Global, otherwise: &Otherwise) -> Result<Otherwise, All
     match otherwise {
         Otherwise::Nothing => Ok(Otherwise::Nothing),
         Otherwise::Block(keyword, open, lines, close) => {
-            let lines = copy_lines(alloc, lines)?;
+            let lines = copied!(copy_lines(alloc, lines));
             Ok(Otherwise::Block(*keyword, *open, lines, *close))
         }
         Otherwise::If(keyword, branch) => {
-            let branch = copy_branch(alloc, branch)?;
-            Ok(Otherwise::If(*keyword, boxed(alloc, branch)?))
+            let branch = copied!(copy_branch(alloc, branch));
+            Ok(Otherwise::If(*keyword, copied!(boxed(alloc, branch))))
         }
     }
 }
@@ -319,21 +305,25 @@ fn copy_lines(alloc: Global, lines: &Vec<Line>) -> Result<Vec<Line>, AllocError>
 {
     let mut copies = Vec::new(alloc);
     for line in lines {
-        add(&mut copies, copy_line(alloc, line)?)?;
+        copied!(add_line(alloc, line, &mut copies));
     }
     Ok(copies)
 }
 
-// The same statement, and the semicolon behind it.
+// Adds the same statement, and the semicolon behind it.
 #[cycle(stmts)]
-fn copy_line(alloc: Global, line: &Line) -> Result<Line, AllocError>
-    ensures { IfOk result (λ x. shapes.lines_of (x ∷ []) ≡ shapes.lines_of (line.now ∷ [])) }
+fn add_line(alloc: Global, line: &Line, copies: &mut Vec<Line>) -> Result<(), AllocError>
+    ensures { OnOk result ((x : TheLine) × (copies.new.items ≡ copies.old.items ++ x ∷ []) × (shapes.lines_of (x ∷ []) ≡ shapes.lines_of (line.now ∷ []))) }
 {
-    let stmt = copy_stmt(alloc, &line.stmt)?;
-    Ok(Line {
-        stmt,
-        semicolon: line.semicolon,
-    })
+    let stmt = copied!(copy_stmt(alloc, &line.stmt));
+    copied!(add(
+        copies,
+        Line {
+            stmt,
+            semicolon: line.semicolon,
+        },
+    ));
+    Ok(())
 }
 
 // The same name, where one stands.
@@ -342,7 +332,7 @@ fn copy_some_ident(alloc: Global, ident: &Option<Ident>) -> Result<Option<Ident>
 {
     match ident {
         None => Ok(None),
-        Some(ident) => Ok(Some(copy_ident(alloc, ident)?)),
+        Some(ident) => Ok(Some(copied!(copy_ident(alloc, ident)))),
     }
 }
 
@@ -353,8 +343,8 @@ fn copy_receiver(alloc: Global, receiver: &Option<Receiver>) -> Result<Option<Re
     match receiver {
         None => Ok(None),
         Some(receiver) => {
-            let name = copy_some_ident(alloc, &receiver.name)?;
-            let base = copy_type_name(alloc, &receiver.base)?;
+            let name = copy_some_ident(alloc, &receiver.name);
+            let (name, base) = copied!(both(name, copy_type_name(alloc, &receiver.base)));
             Ok(Some(Receiver {
                 open_paren: receiver.open_paren,
                 name,
@@ -371,10 +361,11 @@ fn copy_receiver(alloc: Global, receiver: &Option<Receiver>) -> Result<Option<Re
 fn copy_func(alloc: Global, func: &FuncDecl) -> Result<FuncDecl, AllocError>
     ensures { IfOk result (λ x. shapes.func_of x ≡ shapes.func_of func.now) }
 {
-    let body = copy_lines(alloc, &func.body)?;
-    let name = copy_ident(alloc, &func.name)?;
-    let signature = copy_signature(alloc, &func.signature)?;
-    let receiver = copy_receiver(alloc, &func.receiver)?;
+    let body = copied!(copy_lines(alloc, &func.body));
+    let name = copy_ident(alloc, &func.name);
+    let signature = copy_signature(alloc, &func.signature);
+    let receiver = copy_receiver(alloc, &func.receiver);
+    let (name, (signature, receiver)) = copied!(both(name, both(signature, receiver)));
     Ok(FuncDecl {
         func: func.func,
         receiver,
@@ -391,9 +382,9 @@ fn copy_decl(alloc: Global, decl: &Decl) -> Result<Decl, AllocError>
     ensures { IfOk result (λ x. shapes.decl_of x ≡ shapes.decl_of decl.now) }
 {
     match decl {
-        Decl::Value(value) => Ok(Decl::Value(copy_value(alloc, value)?)),
-        Decl::Type(types) => Ok(Decl::Type(copy_type_decl(alloc, types)?)),
-        Decl::Func(func) => Ok(Decl::Func(copy_func(alloc, func)?)),
+        Decl::Value(value) => Ok(Decl::Value(copied!(copy_value(alloc, value)))),
+        Decl::Type(types) => Ok(Decl::Type(copied!(copy_type_decl(alloc, types)))),
+        Decl::Func(func) => Ok(Decl::Func(copied!(copy_func(alloc, func)))),
     }
 }
 
@@ -403,14 +394,14 @@ pub(crate) fn copy_tops(alloc: Global, tops: &Vec<TopDecl>) -> Result<Vec<TopDec
 {
     let mut copies = Vec::new(alloc);
     for top in tops {
-        let decl = copy_decl(alloc, &top.decl)?;
-        add(
+        let decl = copied!(copy_decl(alloc, &top.decl));
+        copied!(add(
             &mut copies,
             TopDecl {
                 decl,
                 semicolon: top.semicolon,
             },
-        )?;
+        ));
     }
     Ok(copies)
 }
@@ -421,12 +412,12 @@ fn copy_import_spec(alloc: Global, spec: &ImportSpec) -> Result<ImportSpec, Allo
 {
     let name = match &spec.name {
         ImportName::Own => ImportName::Own,
-        ImportName::Named(ident) => ImportName::Named(copy_ident(alloc, ident)?),
+        ImportName::Named(ident) => ImportName::Named(copied!(copy_ident(alloc, ident))),
         ImportName::Dot(dot) => ImportName::Dot(*dot),
     };
     Ok(ImportSpec {
         name,
-        path: copy_text(alloc, &spec.path)?,
+        path: copied!(copy_text(alloc, &spec.path)),
     })
 }
 
@@ -436,14 +427,14 @@ fn copy_import_lines(alloc: Global, lines: &Vec<ImportLine>) -> Result<Vec<Impor
 {
     let mut copies = Vec::new(alloc);
     for line in lines {
-        let spec = copy_import_spec(alloc, &line.spec)?;
-        add(
+        let spec = copied!(copy_import_spec(alloc, &line.spec));
+        copied!(add(
             &mut copies,
             ImportLine {
                 spec,
                 semicolon: line.semicolon,
             },
-        )?;
+        ));
     }
     Ok(copies)
 }
@@ -453,9 +444,9 @@ fn copy_import(alloc: Global, import: &ImportDecl) -> Result<ImportDecl, AllocEr
     ensures { IfOk result (λ x. shapes.import_of x ≡ shapes.import_of import.now) }
 {
     let specs = match &import.specs {
-        ImportSpecs::One(spec) => ImportSpecs::One(copy_import_spec(alloc, spec)?),
+        ImportSpecs::One(spec) => ImportSpecs::One(copied!(copy_import_spec(alloc, spec))),
         ImportSpecs::Group(open, lines, close) => {
-            ImportSpecs::Group(*open, copy_import_lines(alloc, lines)?, *close)
+            ImportSpecs::Group(*open, copied!(copy_import_lines(alloc, lines)), *close)
         }
     };
     Ok(ImportDecl {
@@ -474,7 +465,7 @@ pub(crate) fn copy_imports(
 {
     let mut copies = Vec::new(alloc);
     for import in imports {
-        add(&mut copies, copy_import(alloc, import)?)?;
+        copied!(add(&mut copies, copied!(copy_import(alloc, import))));
     }
     Ok(copies)
 }

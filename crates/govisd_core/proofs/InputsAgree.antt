@@ -7,7 +7,7 @@ use Rattle.go_parse_core.specs.Correct.{HasOneTree}
 use Rattle.go_subset_core.specs.Subset.{OneSubset, Inside_file, IsOutside}
 use Rattle.go_subset_core.specs.Trees.{FileTree}
 use Rattle.go_subset_core.specs.Widening.{widen_file}
-use Rattle.go_tree_core.specs.Trees as wide
+use Rattle.go_tree_nodes.specs.Trees as wide
 use Rattle.govisd_core.specs.Reports.{TooLong, NoText, BadToken, NoTree, TooHigh, Outside, Whole, OneInput, max_bytes}
 
 not_both : {A : Type 0} (n : ℕ) → max_bytes < n → n ≤ max_bytes → A

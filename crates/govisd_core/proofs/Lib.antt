@@ -1,4 +1,5 @@
 pub mod InputLemmas
 pub mod InputsAgree
+pub mod LineLemmas
 pub mod OutputLemmas
 pub mod ReportLemmas

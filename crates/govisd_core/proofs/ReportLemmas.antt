@@ -5,10 +5,10 @@ use Rattle.std.specs.Str.{IsUtf8}
 use Rattle.std.specs.Io.KnownBytes.{Appends}
 use Rattle.std.specs.List.{list_all}
 use Rattle.go_text_core.specs.declared.rule.Rule.TheVariants.{E3, L1, X1}
-use Rattle.go_tree_core.specs.Trees as wide
-use Rattle.go_tree_core.specs.Heights.{file_height}
-use Rattle.go_tree_core.specs.Spelling.{spell_file}
-use Rattle.go_tree_core.specs.Terminals.{InOrder}
+use Rattle.go_tree_nodes.specs.Trees as wide
+use Rattle.go_tree_nodes.specs.Heights.{file_height}
+use Rattle.go_tree_nodes.specs.Spelling.{spell_file}
+use Rattle.go_tree_nodes.specs.Terminals.{InOrder}
 use Rattle.go_subset_core.specs.declared.tree.File.{File}
 use Rattle.go_subset_core.specs.Shapes.{file_of}
 use Rattle.go_resolve_core.specs.Placed.{IsPlaced}

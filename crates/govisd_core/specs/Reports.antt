@@ -7,8 +7,8 @@ use Rattle.go_text_core.specs.declared.rule.Rule.TheVariants.{E3, L1, P1, P2, X1
 use Rattle.go_scan_core.specs.declared.token.LexFault.{LexFault}
 use Rattle.go_scan_core.specs.declared.token.Token.{Token}
 use Rattle.go_scan_core.specs.Cutting.{tokens_of}
-use Rattle.go_tree_core.specs.Trees as wide
-use Rattle.go_tree_core.specs.Heights.{file_height}
+use Rattle.go_tree_nodes.specs.Trees as wide
+use Rattle.go_tree_nodes.specs.Heights.{file_height}
 use Rattle.go_subset_core.specs.Trees.{FileTree}
 use Rattle.go_subset_core.specs.Widening.{widen_file}
 use Rattle.go_subset_core.specs.Subset.{Inside_file, IsOutside}

@@ -51,7 +51,10 @@ fn file_report(alloc: Global, parsed: &Parsed) -> Result<Report, AllocError>
     let Some(file) = subset(alloc, parsed.text(), parsed.tree())? else {
         return fault_report(alloc, 0, Rule::X1);
     };
-    let resolution = resolve(alloc, &file)?;
+    let resolved = resolve(alloc, &file);
+    // Dropped here once, and not at each error below.
+    drop(file);
+    let resolution = resolved?;
     let text = resolution_lines(alloc, parsed.text().as_bytes(), &resolution)?;
     Ok(Report {
         text,
@@ -65,7 +68,11 @@ fn text_report(alloc: Global, text: String) -> Result<Report, AllocError>
     ensures { IfOk result (λ r. IsReport (string_bytes text) r.clean r.text.items) }
 {
     match parse(alloc, text) {
-        Ok(parsed) => file_report(alloc, &parsed),
+        Ok(parsed) => {
+            let report = file_report(alloc, &parsed);
+            parsed.close();
+            report
+        }
         Err(ParseError::Memory) => Err(AllocError),
         Err(ParseError::Fault(fault)) => fault_report(alloc, fault.offset, fault.rule),
     }

@@ -8,16 +8,42 @@
 mod answers;
 mod archive;
 mod blocks;
+mod lines;
+mod packages;
 mod paths;
 mod plans;
+mod runs;
 mod scopes;
 mod shapes;
 mod table;
+mod tokens;
+mod trees;
+mod words;
 
-use answers::answer;
+use answers::add_answer;
+use lines::Lines;
+use std::alloc::{AllocError, Global};
 use std::process::ExitCode;
 use std::{env, fs, io};
-use table::report;
+use table::add_table;
+
+/// What is answered to the bytes of a file.
+fn answer(alloc: Global, kind: &str, bytes: &[u8]) -> Result<String, AllocError> {
+    let mut out = Lines::new(alloc);
+    if kind == "cases" {
+        add_table(&mut out, alloc, bytes);
+    } else {
+        add_answer(&mut out, alloc, kind, bytes);
+    }
+    out.finish()
+}
+
+/// Writes what is answered to a file.
+fn show(rt: &HostRuntime, kind: &str, file: &str) -> io::Result<()> {
+    let bytes = fs::read(rt, file)?;
+    let lines = answer(rt.alloc(), kind, bytes.as_slice())?;
+    print!(rt; "file {file}\n{lines}")
+}
 
 /// Writes what the words of the command line ask for, and tells whether they ask for something.
 fn run(rt: &HostRuntime, words: &[String]) -> io::Result<bool> {
@@ -25,12 +51,7 @@ fn run(rt: &HostRuntime, words: &[String]) -> io::Result<bool> {
         return Ok(false);
     };
     for file in files {
-        let lines = if kind.as_str() == "cases" {
-            report(rt.alloc(), fs::read_to_string(rt, file.as_str())?.as_str())?
-        } else {
-            answer(rt.alloc(), kind.as_str(), fs::read(rt, file.as_str())?)?
-        };
-        print!(rt; "file {file}\n{lines}")?;
+        show(rt, kind.as_str(), file.as_str())?;
     }
     Ok(!files.is_empty())
 }

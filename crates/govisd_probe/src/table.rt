@@ -1,8 +1,8 @@
 //! A table of cases: what is asked, of which texts.
-use crate::answers::answer;
-use go_scan_core::{Operator, ScanError, Token, TokenKind, integer_value, scan, string_value};
-use std::alloc::{AllocError, Global};
-use std::mem;
+use crate::answers::add_answer;
+use crate::lines::Lines;
+use go_scan_core::{Operator, Token, TokenKind, integer_value, scan, string_value};
+use std::alloc::Global;
 
 /// A case, as far as it is read.
 #[derive(Drop)]
@@ -16,15 +16,6 @@ struct Case<'a> {
 }
 
 impl<'a> Case<'a> {
-    fn new(alloc: Global) -> Self {
-        Case {
-            kind: "",
-            name: "",
-            times: 1,
-            bytes: Vec::new(alloc),
-        }
-    }
-
     /// Takes the kind, or the name behind it.
     fn take_word(&mut self, word: &'a str) {
         if self.kind.is_empty() {
@@ -35,65 +26,98 @@ impl<'a> Case<'a> {
     }
 
     /// Takes a piece of the text, as often as was said.
-    fn take_piece(&mut self, piece: &[u8]) -> Result<(), AllocError> {
+    fn take_piece(&mut self, out: &mut Lines, piece: &[u8]) {
         for _turn in 0..self.times {
-            self.bytes.extend_from_slice(piece)?;
+            if self.bytes.extend_from_slice(piece).is_err() {
+                out.cut();
+            }
         }
         self.times = 1;
-        Ok(())
+    }
+
+    /// Takes the piece of the text that a literal stands for.
+    fn take_literal(&mut self, out: &mut Lines, alloc: Global, literal: &str) {
+        match string_value(alloc, literal) {
+            Ok(piece) => self.take_piece(out, piece.as_slice()),
+            Err(_) => out.cut(),
+        }
     }
 
     /// Adds the answer to the text, with commas between its lines, and begins the next text.
-    fn answer(&mut self, report: &mut String, alloc: Global, end: &str) -> Result<(), AllocError> {
-        let bytes = mem::replace(&mut self.bytes, Vec::new(alloc));
-        let answer = answer(alloc, self.kind, bytes)?;
-        for (i, line) in answer.as_str().lines().enumerate() {
-            report.push_str(if i == 0 { " " } else { ", " })?;
-            report.push_str(line)?;
+    fn answer(&mut self, out: &mut Lines, alloc: Global) {
+        let mut lines = Lines::new(alloc);
+        add_answer(&mut lines, alloc, self.kind, self.bytes.as_slice());
+        self.bytes.clear();
+        match lines.finish() {
+            Ok(lines) => add_in_line(out, lines.as_str()),
+            Err(_) => out.cut(),
         }
-        report.push_str(end)
+    }
+
+    /// Takes a mark.
+    fn take_mark(&mut self, out: &mut Lines, alloc: Global, mark: Operator) {
+        match mark {
+            Operator::Colon => {
+                out.add(self.name);
+                out.add_char(':');
+            }
+            Operator::Comma => {
+                self.answer(out, alloc);
+                out.add(" |");
+            }
+            Operator::Semicolon => {
+                self.answer(out, alloc);
+                out.end();
+                self.kind = "";
+            }
+            _ => {}
+        }
+    }
+
+    /// Takes a token.
+    fn take(&mut self, out: &mut Lines, alloc: Global, kind: TokenKind, spelled: &'a str) {
+        match kind {
+            TokenKind::Identifier => self.take_word(spelled),
+            TokenKind::Integer => self.times = integer_value(spelled).unwrap_or(1),
+            TokenKind::String => self.take_literal(out, alloc, spelled),
+            TokenKind::Operator(mark) => self.take_mark(out, alloc, mark),
+            TokenKind::Keyword(_) => {}
+        }
     }
 }
 
-/// Adds the answers of the cases that the tokens write.
-fn add_cases(
-    report: &mut String,
-    alloc: Global,
-    table: &str,
-    tokens: &[Token],
-) -> Result<(), AllocError> {
-    let mut case = Case::new(alloc);
+/// Adds lines as one, with commas between them.
+fn add_in_line(out: &mut Lines, lines: &str) {
+    for (i, line) in lines.lines().enumerate() {
+        out.add(if i == 0 { " " } else { ", " });
+        out.add(line);
+    }
+}
+
+/// Adds the answers of the cases that the tokens of a table write.
+fn add_cases(out: &mut Lines, alloc: Global, table: &str, tokens: &[Token]) {
+    let mut case = Case {
+        kind: "",
+        name: "",
+        times: 1,
+        bytes: Vec::new(alloc),
+    };
     for token in tokens {
         let spelled = token.span.slice(table).unwrap_or("");
-        match token.kind {
-            TokenKind::Identifier => case.take_word(spelled),
-            TokenKind::Integer => case.times = integer_value(spelled).unwrap_or(1),
-            TokenKind::String => case.take_piece(string_value(alloc, spelled)?.as_slice())?,
-            TokenKind::Operator(Operator::Colon) => {
-                report.push_str(case.name)?;
-                report.push_str(":")?;
-            }
-            TokenKind::Operator(Operator::Comma) => case.answer(report, alloc, " |")?,
-            TokenKind::Operator(Operator::Semicolon) => {
-                case.answer(report, alloc, "\n")?;
-                case = Case::new(alloc);
-            }
-            TokenKind::Keyword(_) | TokenKind::Operator(_) => {}
-        }
+        case.take(out, alloc, token.kind, spelled);
     }
-    Ok(())
 }
 
-/// The answers of the cases of a table, a line for each.
+/// Adds the answers of the cases of a table, a line for each.
 ///
 /// A case is written in Go's tokens, as `kind name: "text", "text"`. A text is string literals, one behind the
 /// other, and `3*"a"` stands for `"aaa"`. The line of its answers has the name, and ` | ` between two answers.
-pub fn report(alloc: Global, table: &str) -> Result<String, AllocError> {
-    let mut report = String::new(alloc);
+pub fn add_table(out: &mut Lines, alloc: Global, bytes: &[u8]) {
+    let Ok(table) = str::from_utf8(bytes) else {
+        return out.add_line("no text");
+    };
     match scan(alloc, table) {
-        Ok(tokens) => add_cases(&mut report, alloc, table, tokens.as_slice())?,
-        Err(ScanError::Memory) => return Err(AllocError),
-        Err(ScanError::Fault(_)) => report.push_str("no table\n")?,
+        Ok(tokens) => add_cases(out, alloc, table, tokens.as_slice()),
+        Err(_) => out.add_line("no table"),
     }
-    Ok(report)
 }

@@ -1,4 +1,5 @@
-use Rattle.std.proofs.Common.{sym, subst}
+use Rattle.std.proofs.Common.{length, sym, ap, subst, arith}
+use Rattle.std.proofs.lemmas.Option.{slice_get_within}
 use Rattle.std.proofs.lemmas.Result.{IfOk-weaker}
 use Rattle.go_graph_core.specs.Packages.{IsAssembled}
 use Rattle.go_graph_core.proofs.OneTarget.{not_faulty}
@@ -6,6 +7,14 @@ use Rattle.go_block_core.specs.Blocks.{imports_of}
 use Rattle.go_block_core.proofs.AllLemmas.{blocks_made}
 use Rattle.go_block_core.proofs.ImportSteps.{read_is_assembled}
 use Rattle.go_block_core.proofs.all.blocks_at.Goals as goal
+
+pub import_names-requires : goal.import_names-requires
+import_names-requires c = record { planned = c.requires.planned; assembled = c.requires.assembled; made = c.requires.made }
+
+pub bounds-packages-number : goal.bounds-packages-number
+bounds-packages-number c =
+    let here = c.requires.assembled in
+    omega (arith, slice_get_within c.args.workspace.now c.args.number (here.0, here.1) here.2, ap length c.packages-packages.ensures.packages)
 
 -- the files of an assembled package assemble
 pub unreachable-requires : goal.unreachable-requires

@@ -1,6 +1,6 @@
 use Rattle.std.proofs.Common.{◌≡◌, ◌++◌, take}
 use Rattle.std.specs.List.{flat_map}
-use Rattle.go_tree_core.specs.Shapes.{shape_value_line}
+use Rattle.go_tree_nodes.specs.Shapes.{shape_value_line}
 use Rattle.go_block_core.specs.Declarations.{spec_declared}
 use Rattle.go_block_core.proofs.decls.add_values.Given as goal
 

@@ -1,11 +1,12 @@
-use Rattle.std.proofs.Common.{◌≡◌, ap, sym, subst, ◌∙◌, slice_get, Some, Ok, Err, arith}
+use Rattle.std.proofs.Common.{◌≡◌, ◌≤◌, ◌++◌, length, ap, sym, subst, ◌∙◌, slice_get, Some, Ok, Err, arith}
 use Rattle.std.specs.Option.{option_map}
-use Rattle.std.proofs.lemmas.Grind.{common_steps}
+use Rattle.std.proofs.lemmas.List.{take_all}
 use Rattle.std.proofs.lemmas.Option.{slice_get-get_or}
 use Rattle.go_parse_core.specs.Parsing.{IsParse}
-use Rattle.go_tree_core.specs.Shapes.{file_of}
+use Rattle.go_tree_nodes.specs.Shapes.{file_of}
 use Rattle.go_graph_core.specs.Sources.{IsContent}
 use Rattle.go_graph_core.proofs.Assemblies.{has_tree_at, tree_at}
+use Rattle.go_block_core.specs.Declarations.{files_declared, tops_declared}
 use Rattle.go_block_core.proofs.DeclLemmas.{next_file}
 use Rattle.go_block_core.proofs.PlaceLemmas.{none_placed, placed_step, all_placed}
 use Rattle.go_block_core.proofs.decls.declarations.Goals as goal
@@ -31,9 +32,14 @@ loop-file-preserved c =
     let parse : IsParse s.text f = subst (IsContent s.text) (sym c.in-Ok.ensures.value) c.tree.ensures.content in
     let e = next_file c.args.«package».now i f (ap (option_map (λ t. t.1)) here) in
     record {
-      decls = grind (arith, common_steps, e);
+      decls = c.in_ok-add_tops-in-Ok.ensures ∙ (ap (λ ds. ds ++ tops_declared i f.decls) c.loop-file.invariant.decls ∙ sym e);
       placed = placed_step c.args.«package».now i (s.name, f) _ here parse.placed c.loop-file.invariant.placed;
     }
+
+pub returns-clause-decls : goal.returns-clause-decls
+returns-clause-decls c =
+    let le : length c.args.«package».now ≤ c.loop-file.file = omega (arith, c.files-files.ensures.count, c.loop-file-test.false) in
+    c.loop-file.invariant.decls ∙ ap (files_declared 0) (take_all c.loop-file.file c.args.«package».now le)
 
 pub returns-clause-placed : goal.returns-clause-placed
 returns-clause-placed c = all_placed c.args.«package».now c.loop-file.file (omega arith) c.loop-file.invariant.placed

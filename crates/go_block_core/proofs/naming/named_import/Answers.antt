@@ -1,5 +1,5 @@
 use Rattle.std.proofs.Common.{refl, sym, ◌∙◌, Some, None}
-use Rattle.go_tree_core.specs.Shapes.{shape_import_spec}
+use Rattle.go_tree_nodes.specs.Shapes.{shape_import_spec}
 use Rattle.go_graph_core.specs.Imports.{IsOutcome}
 use Rattle.go_block_core.proofs.ImportSteps.{planned_outcome}
 use Rattle.go_block_core.proofs.NamingLemmas.{outcome_there}
@@ -15,3 +15,8 @@ form_of-requires-clause-made c =
     let ps = c.args.workspace.now in
     let here : IsOutcome ps c.args.at c.in-Some.outcome = planned_outcome ps c.args.plan.now c.args.at (Some c.in-Some.outcome) c.requires.planned (sym c.in-Some.is ∙ c.outcome.ensures) in
     c.requires.made c.args.at (shape_import_spec c.args.spec.now) c.in-Some.outcome refl c.requires.there here
+
+pub returns : goal.returns
+returns c =
+    let here : IsOutcome c.args.workspace.now c.args.at c.in-Some.outcome = planned_outcome c.args.workspace.now c.args.plan.now c.args.at (Some c.in-Some.outcome) c.requires.planned (sym c.in-Some.is ∙ c.outcome.ensures) in
+    record { place = refl; text = c.in_ok-text.ensures; outcome = here; form = c.in_ok-form.ensures }

@@ -1,8 +1,14 @@
-use Rattle.std.proofs.Common.{sym, subst}
+use Rattle.std.proofs.Common.{length, sym, ap, subst, arith}
+use Rattle.std.proofs.lemmas.Option.{slice_get_within}
 use Rattle.std.proofs.lemmas.Result.{IfOk-weaker}
 use Rattle.go_block_core.specs.Naming.{IsOwnName}
 use Rattle.go_block_core.proofs.ImportSteps.{found_at, read_is_assembled, read_clause}
 use Rattle.go_block_core.proofs.naming.own_name.Goals as goal
+
+pub bounds-packages-number : goal.bounds-packages-number
+bounds-packages-number c =
+    let here = found_at c.args.workspace.now c.args.at c.args.outcome c.in-Package.number c.requires c.in-Package.is in
+    omega (arith, slice_get_within c.args.workspace.now c.in-Package.number (here.0, here.1) here.2, ap length c.packages-packages.ensures.packages)
 
 pub clause_name-requires : goal.clause_name-requires
 clause_name-requires c =

@@ -1,7 +1,17 @@
-use Rattle.std.proofs.Common.{◌≡◌, false, is_some, sym, ap, ◌∙◌}
+use Rattle.std.proofs.Common.{◌≡◌, true, false, cond, ◌++◌, [], ◌∷◌, is_some, sym, ap, ◌∙◌}
 use Rattle.go_block_core.specs.Tables.{table_of, has}
 use Rattle.go_block_core.proofs.TableLemmas.{table_of-insert}
 use Rattle.go_block_core.proofs.table.bind_first.Goals as goal
+
+-- the table has the name, and stays as it is
+pub returns-then-is_some : goal.returns-then-is_some
+returns-then-is_some g c =
+    let table = table_of c.args.table.now in
+    let there : has table c.args.name.now ≡ true = sym (ap is_some c.find.ensures) ∙ sym c.if-is_some.ensures in
+    record { had = sym there; table = sym (ap (λ b. cond b table (table ++ (c.args.name.now, c.args.value) ∷ [])) there) }
+
+pub returns-clause-had : goal.returns-clause-had
+returns-clause-had g c = sym (sym (ap is_some c.find.ensures) ∙ (sym c.is_some.ensures ∙ c.if-is_some.false))
 
 -- the name is new, so it goes last
 pub returns-clause-table : goal.returns-clause-table

@@ -1,10 +1,13 @@
-use Rattle.std.proofs.Common.{List, subst, sym, ◌∙◌}
-use Rattle.go_cycle_core.specs.declared.edge.Edge.{Edge}
-use Rattle.go_cycle_core.specs.Cycle.{InRange}
-use Rattle.go_cycle_core.proofs.Walks.{reversed_in_range}
+use Rattle.std.proofs.Common.{length, ap, ◌∙◌}
+use Rattle.std.proofs.lemmas.List.{take_at}
 use Rattle.go_cycle_core.proofs.guess.guess_components.Goals as goal
 
-pub rows_of-requires-2 : goal.rows_of-requires-2
-rows_of-requires-2 c =
-    let P : List Edge → Type 0 = λ l. InRange c.args.count l in
-    subst P (sym (c.deref.ensures.value ∙ c.in_ok-back_edges.ensures)) (reversed_in_range c.args.edges.now c.args.count c.requires)
+pub returns-clause-ranks : goal.returns-clause-ranks
+returns-clause-ranks c =
+    let kept = c.search_out.auto.ranks ∙ c.deref_mut.ensures.len in
+    ap length (take_at c.search_out.new.ranks _ _ kept) ∙ (kept ∙ c.in_ok-ranks.ensures.len)
+
+pub returns-clause-roots : goal.returns-clause-roots
+returns-clause-roots c =
+    let kept = c.search_out.auto.roots ∙ c.deref_mut-2.ensures.len in
+    ap length (take_at c.search_out.new.roots _ _ kept) ∙ (kept ∙ c.in_ok-roots.ensures.len)

@@ -1,7 +1,7 @@
 use Rattle.std.proofs.Common.{◌≡◌, ◌∙◌, sym, ap, subst, List, ℕ, map, take}
 use Rattle.std.proofs.lemmas.List.{take_all}
-use Rattle.go_tree_core.specs.declared.files.ImportLine.{ImportLine}
-use Rattle.go_tree_core.specs.Shapes.{shape_import_specs}
+use Rattle.go_tree_nodes.specs.declared.files.ImportLine.{ImportLine}
+use Rattle.go_tree_nodes.specs.Shapes.{shape_import_specs}
 use Rattle.go_graph_core.specs.Imports.{IsTarget, texts_in}
 use Rattle.go_graph_core.specs.Targets.{Adds}
 use Rattle.go_graph_core.proofs.Additions.{adds_more, group_texts}

@@ -1,5 +1,5 @@
 use Rattle.std.proofs.Common.{take, map}
-use Rattle.go_tree_core.specs.declared.files.ImportLine.{ImportLine}
+use Rattle.go_tree_nodes.specs.declared.files.ImportLine.{ImportLine}
 use Rattle.go_graph_core.specs.Imports.{IsTarget}
 use Rattle.go_graph_core.specs.Targets.{Adds}
 use Rattle.go_graph_core.proofs.imports.add_targets.Given as goal

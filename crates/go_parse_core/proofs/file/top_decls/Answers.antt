@@ -16,7 +16,7 @@ turns-smaller c = top_shorter _ _ _ c.in_ok-decl.ensures
 
 pub turns-preserved : goal.turns-preserved
 turns-preserved c =
-    tops_more _ _ _ _ _ _ _ c.turns.invariant c.turns-test.ensures c.in_ok-decl.ensures c.in_ok-push.ensures.items
+    tops_more _ _ _ _ _ _ _ c.turns.invariant c.turns-test.ensures c.in_ok-decl.ensures c.in_ok-add.ensures
 
 pub returns : goal.returns
 returns c = tops_end _ _ _ _ c.turns.invariant c.turns-test.ensures

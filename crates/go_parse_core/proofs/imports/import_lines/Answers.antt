@@ -1,6 +1,6 @@
 use Rattle.std.proofs.lemmas.Result.{err_from_is_err_and}
 use Rattle.go_scan_core.specs.declared.kind.Operator.TheVariants as operator
-use Rattle.go_tree_core.specs.Shapes.{shape_import_line}
+use Rattle.go_tree_nodes.specs.Shapes.{shape_import_line}
 use Rattle.go_parse_types.proofs.CodeLists.{list_more, list_turn_shorter, list_fails, list_end, list_missing, list_last}
 use Rattle.go_parse_types.proofs.CodeSteps.{none_of, some_of}
 use Rattle.go_parse_types.proofs.CodeTypes.{pushed}
@@ -19,14 +19,14 @@ returns-then-is_none c =
 pub returns-in_default : goal.returns-in_default
 returns-in_default c =
     let end = some_of _ _ c.if-is_none.ensures c.mark-in_default.ensures in
-    list_last _ _ _ _ _ _ _ _ _ _ _ c.turns.invariant (none_of _ _ c.turns-test.ensures c.mark.ensures) c.in_ok-spec.ensures c.in_default.ensures end.1 (pushed shape_import_line _ _ _ c.in_ok-push.ensures.items)
+    list_last _ _ _ _ _ _ _ _ _ _ _ c.turns.invariant (none_of _ _ c.turns-test.ensures c.mark.ensures) c.in_ok-spec.ensures c.in_default.ensures end.1 (pushed shape_import_line _ _ _ c.in_ok-add.ensures)
 
 pub turns-smaller : goal.turns-smaller
 turns-smaller c = list_turn_shorter operator.Semicolon _ _ _ (import_spec_shorter _ _ c.in_ok-spec.ensures) c.in-Some.ensures
 
 pub turns-preserved : goal.turns-preserved
 turns-preserved c =
-    list_more _ _ _ _ _ _ _ _ _ _ _ c.turns.invariant (none_of _ _ c.turns-test.ensures c.mark.ensures) c.in_ok-spec.ensures (import_spec_shorter _ _ c.in_ok-spec.ensures) c.in-Some.ensures (pushed shape_import_line _ _ _ c.in_ok-push-2.ensures.items)
+    list_more _ _ _ _ _ _ _ _ _ _ _ c.turns.invariant (none_of _ _ c.turns-test.ensures c.mark.ensures) c.in_ok-spec.ensures (import_spec_shorter _ _ c.in_ok-spec.ensures) c.in-Some.ensures (pushed shape_import_line _ _ _ c.in_ok-add-2.ensures)
 
 pub returns : goal.returns
 returns c =

@@ -11,17 +11,15 @@ returns-in_err-specs c =
     let p = err_from_is_err_and c.from_residual.result c.from_residual.ensures.1 in
     rw (p.1, p.2) (specs_fails _ _ _ _ _ c.turns.invariant c.in-Some.ensures c.in_err-specs.ensures)
 
-pub returns-in_err-semicolon : goal.returns-in_err-semicolon
-returns-in_err-semicolon c =
-    let p = err_from_is_err_and c.from_residual-in_err-semicolon.result c.from_residual-in_err-semicolon.ensures.1 in
-    rw (p.1, p.2) (semicolon_fails _ _ _ _ _ _ c.turns.invariant c.in-Some.ensures c.in_ok-specs.ensures c.in_err-semicolon.ensures)
+pub returns-in-Err : goal.returns-in-Err
+returns-in-Err c = semicolon_fails _ _ _ _ _ _ c.turns.invariant c.in-Some.ensures c.in_ok-specs.ensures c.in-Err.ensures
 
 pub turns-smaller : goal.turns-smaller
-turns-smaller c = turn_shorter _ _ _ _ c.in-Some.ensures c.in_ok-specs.ensures c.in_ok-semicolon.ensures
+turns-smaller c = turn_shorter _ _ _ _ c.in-Some.ensures c.in_ok-specs.ensures c.in-Ok.ensures
 
 pub turns-preserved : goal.turns-preserved
 turns-preserved c =
-    imports_more _ _ _ _ _ _ _ _ c.turns.invariant c.in-Some.ensures c.in_ok-specs.ensures c.in_ok-semicolon.ensures refl c.in_ok-push.ensures.items
+    imports_more _ _ _ _ _ _ _ _ c.turns.invariant c.in-Some.ensures c.in_ok-specs.ensures c.in-Ok.ensures refl c.in_ok-add.ensures
 
 pub returns : goal.returns
 returns c = imports_end _ _ _ c.turns.invariant c.in_default.ensures

@@ -1,5 +1,5 @@
 use Rattle.std.proofs.Common.{arith, sym, ap, ◌∙◌}
-use Rattle.go_tree_core.specs.Terminals.{terminals}
+use Rattle.go_tree_nodes.specs.Terminals.{terminals}
 use Rattle.go_parse_core.specs.FileReading.{file_at}
 use Rattle.go_parse_core.proofs.CodeParse.{parsed, refused, refused_only, fails_at}
 use Rattle.go_parse_core.proofs.parsed.tree_of.Goals as goal

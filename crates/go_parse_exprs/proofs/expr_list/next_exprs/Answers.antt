@@ -12,7 +12,7 @@ turns-smaller c = next_shorter _ _ _ _ _ c.in-Some.ensures c.in_ok-expr.ensures.
 
 pub turns-preserved : goal.turns-preserved
 turns-preserved c =
-    record { few = omega arith; low = omega (arith, c.in_ok-expr.ensures.height.1); high = λ first. high_after _ _ _ _ _ _ _ (c.turns.invariant.high first) c.in_ok-expr.ensures.height.0 c.in_ok-push.ensures.items c.max-high.ensures; so_far = λ first turns some. exprs_more _ _ _ _ _ _ _ _ _ _ (c.turns.invariant.so_far first turns some) c.in-Some.ensures c.in_ok-expr.ensures.tree refl c.in_ok-push.ensures.items }
+    record { few = omega arith; low = omega (arith, c.in_ok-expr.ensures.height.1); high = λ first. high_after _ _ _ _ _ _ _ (c.turns.invariant.high first) c.in_ok-expr.ensures.height.0 c.in_ok-add.ensures c.max-high.ensures; so_far = λ first turns some. exprs_more _ _ _ _ _ _ _ _ _ _ (c.turns.invariant.so_far first turns some) c.in-Some.ensures c.in_ok-expr.ensures.tree refl c.in_ok-add.ensures }
 
 pub returns-in_err-expr-clause-tree : goal.returns-in_err-expr-clause-tree
 returns-in_err-expr-clause-tree c first turns some =

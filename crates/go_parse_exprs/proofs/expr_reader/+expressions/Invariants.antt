@@ -1,7 +1,7 @@
 use Rattle.std.proofs.Common.{◌≡◌, ◌≤◌, ◌<◌, ◌+◌, ◌-◌, ◌*◌, ◌^◌, length, map}
 use Rattle.go_scan_core.specs.declared.kind.Operator.TheVariants as operator
-use Rattle.go_tree_core.specs.Shapes.{shape, items_of}
-use Rattle.go_tree_core.specs.Heights.{height, items_height}
+use Rattle.go_tree_nodes.specs.Shapes.{shape, items_of}
+use Rattle.go_tree_nodes.specs.Heights.{height, items_height}
 use Rattle.go_parse_types.proofs.CodeLists.{ListSoFar}
 use Rattle.go_parse_exprs.specs.CodeShapes.{item_of}
 use Rattle.go_parse_exprs.specs.ExprReading.{ItemTree, item_at, expr_at}
@@ -9,31 +9,37 @@ use Rattle.go_parse_exprs.proofs.Onward.{onward}
 use Rattle.go_parse_exprs.proofs.expr_reader.+expressions.Given as goal
 
 abbrev pub decreases-expr : goal.decreases-expr
-decreases-expr l = 10 * l.budget
+decreases-expr l = 12 * l.budget
 
 abbrev pub decreases-one_step : goal.decreases-one_step
-decreases-one_step l = 10 * l.inner + 9
+decreases-one_step l = 12 * l.inner + 9
 
 abbrev pub decreases-operand : goal.decreases-operand
-decreases-operand l = 10 * l.inner + 9
+decreases-operand l = 12 * l.inner + 9
+
+abbrev pub decreases-boxed_expr : goal.decreases-boxed_expr
+decreases-boxed_expr l = 12 * l.budget + 1
+
+abbrev pub decreases-elements : goal.decreases-elements
+decreases-elements l = 12 * l.inner + 4
 
 abbrev pub decreases-in_parens : goal.decreases-in_parens
-decreases-in_parens l = 10 * l.inner + 1
+decreases-in_parens l = 12 * l.inner + 2
 
 abbrev pub decreases-unary : goal.decreases-unary
-decreases-unary l = 10 * l.inner + 1
+decreases-unary l = 12 * l.inner + 2
 
 abbrev pub decreases-named : goal.decreases-named
-decreases-named l = 10 * l.inner + 8
+decreases-named l = 12 * l.inner + 8
 
 abbrev pub decreases-struct_literal : goal.decreases-struct_literal
-decreases-struct_literal l = 10 * l.inner + 8
+decreases-struct_literal l = 12 * l.inner + 8
 
 abbrev pub decreases-item : goal.decreases-item
-decreases-item l = 10 * l.inner + 1
+decreases-item l = 12 * l.inner + 1
 
 abbrev pub decreases-items : goal.decreases-items
-decreases-items l = 10 * l.inner + 2
+decreases-items l = 12 * l.inner + 3
 
 abbrev pub invariant-expr-turns : goal.invariant-expr-turns
 invariant-expr-turns l = record {

@@ -1,5 +1,5 @@
 use Rattle.std.proofs.Common.{arith}
-use Rattle.go_tree_core.specs.Shapes.{shape_exprs}
+use Rattle.go_tree_nodes.specs.Shapes.{shape_exprs}
 use Rattle.go_parse_stmts.proofs.CodeSimple.{from_more}
 use Rattle.go_parse_stmts.proofs.simple_stmts.header_simple.Goals as goal
 

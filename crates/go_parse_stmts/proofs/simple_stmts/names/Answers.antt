@@ -11,7 +11,7 @@ pub turns-init : goal.turns-init
 turns-init c = rw c.new-names.ensures.items (sym c.in-Some.ensures)
 
 pub turns-preserved : goal.turns-preserved
-turns-preserved c = rw c.in_ok-push.ensures.items (names_push _ _ _ _ _ _ c.turns.invariant refl (sym c.in-Some-name.ensures))
+turns-preserved c = rw c.in_ok-add.ensures (names_push _ _ _ _ _ _ c.turns.invariant refl (sym c.in-Some-name.ensures))
 
 pub returns-in_default-name : goal.returns-in_default-name
 returns-in_default-name c =

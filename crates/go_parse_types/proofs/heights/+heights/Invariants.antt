@@ -1,6 +1,6 @@
 use Rattle.std.proofs.Common.{◌≡◌, ◌<◌, ◌+◌, ◌*◌, ◌^◌, max, drop}
-use Rattle.go_tree_core.specs.Heights as heights
-use Rattle.go_tree_core.specs.TypeShapes.{shape_type, shape_signature, shape_results, fields_of, methods_of, params_of}
+use Rattle.go_tree_nodes.specs.Heights as heights
+use Rattle.go_tree_nodes.specs.TypeShapes.{shape_type, shape_signature, shape_results, fields_of, methods_of, params_of}
 use Rattle.go_parse_types.specs.EntryShapes.{field_height}
 use Rattle.go_parse_types.proofs.heights.+heights.Given as goal
 

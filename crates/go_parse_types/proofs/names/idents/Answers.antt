@@ -10,7 +10,7 @@ pub turns-smaller : goal.turns-smaller
 turns-smaller c = idents_turn_shorter _ _ _ _ c.in-Some.ensures c.in_ok-ident.ensures
 
 pub turns-preserved : goal.turns-preserved
-turns-preserved c = idents_push _ _ _ _ _ _ _ _ c.turns.invariant c.in-Some.ensures c.in_ok-ident.ensures refl c.in_ok-push.ensures.items
+turns-preserved c = idents_push _ _ _ _ _ _ _ _ c.turns.invariant c.in-Some.ensures c.in_ok-ident.ensures refl c.in_ok-add.ensures
 
 pub returns-in_err-first : goal.returns-in_err-first
 returns-in_err-first c =

@@ -1,56 +1,68 @@
 use Rattle.std.proofs.Common.{◌+◌, ◌*◌, length, map}
 use Rattle.go_scan_core.specs.declared.kind.Operator.TheVariants as operator
-use Rattle.go_tree_core.specs.declared.names.Ident.{Ident}
-use Rattle.go_tree_core.specs.Trees.{SignatureTree}
+use Rattle.go_tree_nodes.specs.declared.names.Ident.{Ident}
+use Rattle.go_tree_nodes.specs.Trees.{SignatureTree}
 use Rattle.go_parse_types.specs.EntryShapes.{entry_of, line_of, method_of}
 use Rattle.go_parse_types.specs.TypeReading.{type_at, EntryTree, entry_at, LineTree, line_at, method_at}
 use Rattle.go_parse_types.proofs.CodeLists.{ListSoFar}
 use Rattle.go_parse_types.proofs.type_reader.+types.Given as goal
 
 abbrev pub decreases-type_expr : goal.decreases-type_expr
-decreases-type_expr l = 10 * l.budget
+decreases-type_expr l = 12 * l.budget
 
 abbrev pub decreases-type_above : goal.decreases-type_above
-decreases-type_above l = 10 * l.inner + 9
+decreases-type_above l = 12 * l.inner + 11
 
 abbrev pub decreases-struct_type : goal.decreases-struct_type
-decreases-struct_type l = 10 * l.budget + 8
+decreases-struct_type l = 12 * l.budget + 10
 
 abbrev pub decreases-interface_type : goal.decreases-interface_type
-decreases-interface_type l = 10 * l.budget + 8
+decreases-interface_type l = 12 * l.budget + 10
+
+abbrev pub decreases-boxed_type : goal.decreases-boxed_type
+decreases-boxed_type l = 12 * l.budget + 1
+
+abbrev pub decreases-in_parens : goal.decreases-in_parens
+decreases-in_parens l = 12 * l.inner + 2
+
+abbrev pub decreases-entry_of_type : goal.decreases-entry_of_type
+decreases-entry_of_type l = 12 * l.budget + 1
 
 abbrev pub decreases-entry : goal.decreases-entry
-decreases-entry l = 10 * l.budget + 1
+decreases-entry l = 12 * l.budget + 2
 
 abbrev pub decreases-entries : goal.decreases-entries
-decreases-entries l = 10 * l.budget + 2
+decreases-entries l = 12 * l.budget + 3
 
 abbrev pub decreases-params : goal.decreases-params
-decreases-params l = 10 * l.budget + 3
+decreases-params l = 12 * l.budget + 4
+
+abbrev pub decreases-listed : goal.decreases-listed
+decreases-listed l = 12 * l.budget + 5
 
 abbrev pub decreases-results : goal.decreases-results
-decreases-results l = 10 * l.budget + 4
+decreases-results l = 12 * l.budget + 6
 
 abbrev pub decreases-signature : goal.decreases-signature
-decreases-signature l = 10 * l.budget + 5
+decreases-signature l = 12 * l.budget + 7
 
 abbrev pub decreases-method : goal.decreases-method
-decreases-method l = 10 * l.budget + 6
+decreases-method l = 12 * l.budget + 8
 
 abbrev pub decreases-methods : goal.decreases-methods
-decreases-methods l = 10 * l.budget + 7
+decreases-methods l = 12 * l.budget + 9
 
 abbrev pub decreases-embedded : goal.decreases-embedded
-decreases-embedded l = 10 * l.budget + 1
+decreases-embedded l = 12 * l.budget + 1
 
 abbrev pub decreases-named : goal.decreases-named
-decreases-named l = 10 * l.budget + 1
+decreases-named l = 12 * l.budget + 1
 
 abbrev pub decreases-line : goal.decreases-line
-decreases-line l = 10 * l.budget + 2
+decreases-line l = 12 * l.budget + 2
 
 abbrev pub decreases-lines : goal.decreases-lines
-decreases-lines l = 10 * l.budget + 3
+decreases-lines l = 12 * l.budget + 3
 
 abbrev pub invariant-entries-turns : goal.invariant-entries-turns
 invariant-entries-turns l = ListSoFar EntryTree (entry_at (type_at l.budget)) operator.Comma operator.CloseParen l.fn.ahead (map entry_of l.all.items) l.rest

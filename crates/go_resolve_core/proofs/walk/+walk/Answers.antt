@@ -1,4 +1,6 @@
-use Rattle.std.proofs.Common.{◌++◌, length, ap, sym, ◌∙◌}
+use Rattle.std.proofs.Common.{◌≡◌, ◌++◌, length, ap, sym, subst, ◌∙◌}
+use Rattle.std.specs.Prelude.{OnOk}
+use Rattle.go_subset_core.specs.declared.tree.Stmt.{Stmt}
 use Rattle.go_subset_core.specs.Shapes.{shape_stmt, lines_of}
 use Rattle.go_resolve_core.specs.Walk.{stmt_uses, stmt_notes, env_after, lines_uses, lines_notes, lines_env}
 use Rattle.go_resolve_core.specs.declared.declared.Block.TheVariants.{Within}
@@ -54,3 +56,28 @@ pub walk_lines-returns-clause-open : goal.walk_lines-returns-clause-open
 walk_lines-returns-clause-open t c =
     env_end c.loop-line.resolver c.args.block c.deref-line-items.result.now c.loop-line.line-index c.loop-line-test.false _ c.loop-line.invariant.opened
     ∙ ap (λ ls. lines_env c.args.resolver.now c.args.block (lines_of ls)) c.deref-line-items.ensures.value
+
+pub walk_stmt-returns-in-Declare-clause-uses : goal.walk_stmt-returns-in-Declare-clause-uses
+walk_stmt-returns-in-Declare-clause-uses t c =
+    let P : Stmt → Type 0 = λ s. OnOk c.walk_declare.result (c.walk_declare.new.uses.items ≡ c.args.uses.now.items ++ stmt_uses c.args.resolver.now (shape_stmt s)) in
+    subst P (sym c.in-Declare.is) c.walk_declare.ensures.uses
+
+pub walk_stmt-returns-in-Declare-clause-faults : goal.walk_stmt-returns-in-Declare-clause-faults
+walk_stmt-returns-in-Declare-clause-faults t c =
+    let P : Stmt → Type 0 = λ s. OnOk c.walk_declare.result (c.walk_declare.new.faults.items ≡ c.args.faults.now.items ++ stmt_notes c.args.resolver.now c.args.block (shape_stmt s)) in
+    subst P (sym c.in-Declare.is) c.walk_declare.ensures.faults
+
+pub walk_stmt-returns-in-Declare-clause-open : goal.walk_stmt-returns-in-Declare-clause-open
+walk_stmt-returns-in-Declare-clause-open t c =
+    let P : Stmt → Type 0 = λ s. OnOk c.walk_declare.result (c.walk_declare.new.resolver ≡ env_after c.args.resolver.now c.args.block (shape_stmt s)) in
+    subst P (sym c.in-Declare.is) c.walk_declare.ensures.open
+
+pub walk_stmt-returns-in-Short-clause-uses : goal.walk_stmt-returns-in-Short-clause-uses
+walk_stmt-returns-in-Short-clause-uses t c =
+    let P : Stmt → Type 0 = λ s. OnOk c.walk_short.result (c.walk_short.new.uses.items ≡ c.args.uses.now.items ++ stmt_uses c.args.resolver.now (shape_stmt s)) in
+    subst P (sym c.in-Short.is) c.walk_short.ensures.uses
+
+pub walk_stmt-returns-in-Short-clause-open : goal.walk_stmt-returns-in-Short-clause-open
+walk_stmt-returns-in-Short-clause-open t c =
+    let P : Stmt → Type 0 = λ s. OnOk c.walk_short.result (c.walk_short.new.resolver ≡ env_after c.args.resolver.now c.args.block (shape_stmt s)) in
+    subst P (sym c.in-Short.is) c.walk_short.ensures.open

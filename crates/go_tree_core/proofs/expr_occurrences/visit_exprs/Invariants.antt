@@ -1,6 +1,6 @@
 use Rattle.std.proofs.Common.{◌++◌, take}
 use Rattle.std.specs.List.{flat_map}
-use Rattle.go_tree_core.specs.Shapes.{shape}
+use Rattle.go_tree_nodes.specs.Shapes.{shape}
 use Rattle.go_tree_core.specs.Occurrences.{expr_occs}
 use Rattle.go_tree_core.proofs.OccLemmas.{next_occs}
 use Rattle.go_tree_core.proofs.expr_occurrences.visit_exprs.Given as goal

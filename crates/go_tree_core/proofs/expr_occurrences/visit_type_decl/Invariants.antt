@@ -1,6 +1,6 @@
 use Rattle.std.proofs.Common.{take}
 use Rattle.std.specs.List.{flat_map}
-use Rattle.go_tree_core.specs.Shapes.{shape_type_spec}
+use Rattle.go_tree_nodes.specs.Shapes.{shape_type_spec}
 use Rattle.go_tree_core.specs.Occurrences.{type_spec_occs}
 use Rattle.go_tree_core.proofs.expr_occurrences.visit_type_decl.Given as goal
 

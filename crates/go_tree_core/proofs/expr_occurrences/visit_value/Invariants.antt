@@ -1,6 +1,6 @@
 use Rattle.std.proofs.Common.{take}
 use Rattle.std.specs.List.{flat_map}
-use Rattle.go_tree_core.specs.Shapes.{shape_value_spec}
+use Rattle.go_tree_nodes.specs.Shapes.{shape_value_spec}
 use Rattle.go_tree_core.specs.Occurrences.{value_spec_occs}
 use Rattle.go_tree_core.proofs.expr_occurrences.visit_value.Given as goal
 

@@ -1,7 +1,7 @@
 use Rattle.std.proofs.Common.{◌≡◌, List, arith, sym, subst}
 use Rattle.std.proofs.lemmas.Grind.{common_steps}
 use Rattle.go_tree_core.specs.declared.occurrence.Occ.{Occ}
-use Rattle.go_tree_core.specs.Shapes.{file_of}
+use Rattle.go_tree_nodes.specs.Shapes.{file_of}
 use Rattle.go_tree_core.specs.Occurrences.{file_occs, Follow}
 use Rattle.go_tree_core.proofs.Order.{occs_follow}
 use Rattle.go_tree_core.proofs.file_occurrences.occurrences.Goals as goal

@@ -1,6 +1,6 @@
 use Rattle.std.proofs.Common.{take}
 use Rattle.std.specs.List.{flat_map}
-use Rattle.go_tree_core.specs.Shapes.{shape_import_spec}
+use Rattle.go_tree_nodes.specs.Shapes.{shape_import_spec}
 use Rattle.go_tree_core.specs.Occurrences.{import_occs}
 use Rattle.go_tree_core.proofs.file_occurrences.visit_import_specs.Given as goal
 

@@ -1,5 +1,5 @@
 use Rattle.std.proofs.Common.{◌≡◌, map, take}
-use Rattle.go_tree_core.specs.Shapes.{shape_import_line}
+use Rattle.go_tree_nodes.specs.Shapes.{shape_import_line}
 use Rattle.go_tree_core.proofs.stmt_copies.copy_import_lines.Given as goal
 
 abbrev pub invariant-loop-line : goal.invariant-loop-line

@@ -1,5 +1,5 @@
 use Rattle.std.proofs.Common.{◌≡◌, map, take}
-use Rattle.go_tree_core.specs.Shapes.{import_of}
+use Rattle.go_tree_nodes.specs.Shapes.{import_of}
 use Rattle.go_tree_core.proofs.stmt_copies.copy_imports.Given as goal
 
 abbrev pub invariant-loop-import : goal.invariant-loop-import

@@ -1,5 +1,5 @@
 use Rattle.std.proofs.Common.{◌≡◌, map, take}
-use Rattle.go_tree_core.specs.Shapes.{top_of}
+use Rattle.go_tree_nodes.specs.Shapes.{top_of}
 use Rattle.go_tree_core.proofs.stmt_copies.copy_tops.Given as goal
 
 abbrev pub invariant-loop-top : goal.invariant-loop-top

@@ -1,11 +1,11 @@
 use Rattle.std.proofs.Common.{◌≡◌}
-use Rattle.go_tree_core.specs.Shapes as wide_shapes
+use Rattle.go_tree_nodes.specs.Shapes as wide_shapes
 use Rattle.go_subset_core.specs.Shapes.{file_of}
 use Rattle.govisd_core.proofs.ReportLemmas.{whole_report, outside_reports, part_of, none_of, part_placed}
 use Rattle.govisd_core.proofs.run.file_report.Goals as goal
 
-pub resolve-requires : goal.resolve-requires
-resolve-requires c =
+pub resolve-resolved-requires : goal.resolve-resolved-requires
+resolve-resolved-requires c =
     let tree = wide_shapes.file_of c.tree.result.now in
     let part = part_of c.text.result.now c.args.parsed.now tree c.in_ok-file.field-0 c.in-Some.file c.in-Some.is c.text.ensures c.in_ok-file.ensures.found in
     record { placed = part_placed c.args.parsed.now tree (file_of c.in-Some.file) part c.tree.ensures.placed }

@@ -1,0 +1,97 @@
+-- Rows of items and lines, as lists of them.
+use Rattle.std.proofs.Common.{◌≡◌, Vec, refl, ap, ◌∙◌}
+use Rattle.std.specs.Global.{Global, Box}
+use mathlib.Core.Former.{Count}
+use Rattle.go_text_core.specs.declared.span.Span.{Span}
+use Rattle.go_tree_nodes.specs.declared.types.TypeName.{TypeName}
+use Rattle.go_tree_nodes.specs.declared.types.TypeExpr.{TypeExpr}
+use Rattle.go_tree_nodes.specs.declared.exprs.Expr.{Expr, Row_of-Item, end_of-Item, more_of-Item, items-the_row-Item, items_hidden-the_row-Item-0}
+use Rattle.go_tree_nodes.specs.declared.exprs.Expr.TheVariants as expr
+use Rattle.go_tree_nodes.specs.declared.exprs.«Item» as declared_item
+use Rattle.go_tree_nodes.specs.declared.stmts.IfHead.{IfHead}
+use Rattle.go_tree_nodes.specs.declared.stmts.ForHead.{ForHead}
+use Rattle.go_tree_nodes.specs.declared.stmts.Stmt.{Stmt, Row_of-Line, end_of-Line, more_of-Line, items-the_row-Line, items_hidden-the_row-Line-0}
+use Rattle.go_tree_nodes.specs.declared.stmts.Stmt.TheVariants as stmt
+use Rattle.go_tree_nodes.specs.declared.stmts.«Branch» as declared_branch
+use Rattle.go_tree_nodes.specs.declared.stmts.Otherwise.{Otherwise}
+use Rattle.go_tree_nodes.specs.declared.stmts.Otherwise.TheBlock.{hidden-the_row-Line-0}
+use Rattle.go_tree_nodes.specs.declared.stmts.Otherwise.TheVariants as otherwise
+use Rattle.go_tree_nodes.specs.declared.stmts.«Line» as declared_line
+use Rattle.go_tree_nodes.specs.Trees.{Call, Literal, StructLiteral, Item, Block, For, Branch, ElseBlock, Line}
+use Rattle.go_tree_nodes.specs.TypeShapes.{shape_type}
+use Rattle.go_tree_nodes.specs.Shapes.{shape, shape_items, items_of, shape_if, shape_for, shape_stmt, shape_branch, shape_else, shape_row, lines_of}
+
+-- the items of a row are those of its list
+pub row_items : (n : _) (row : Row_of-Item n) → shape_items row ≡ items_of (items-the_row-Item n row)
+row_items n end_of-Item = refl
+row_items n (more_of-Item key e comma rest) = ap (Item key (shape e) comma) (row_items _ rest)
+
+-- the row of a call or a literal
+abbrev items_row : Expr → (n : Count) × Row_of-Item n
+items_row (expr.Call' _ e first _ row last) = (_, row)
+items_row (expr.Literal' n first _ row last) = (_, row)
+items_row (expr.StructLiteral' t first _ row last) = (_, row)
+items_row _ = (_, end_of-Item)
+
+-- the tree of a call is that of the list of its arguments
+pub shape_call : (e : Box Expr) (first : Span) (is : Vec declared_item.Item Global) (last : Span) → shape (expr.Call e first is last) ≡ Call (shape e.value) first (items_of is.items) last
+shape_call e first is last =
+    let row = items_row (expr.Call e first is last) in
+    ap (λ l. Call (shape e.value) first l last) (row_items row.0 row.1 ∙ ap items_of (items_hidden-the_row-Item-0 is))
+
+-- the tree of a literal is that of the list of its elements
+pub shape_literal : (n : TypeName) (first : Span) (is : Vec declared_item.Item Global) (last : Span) → shape (expr.Literal n first is last) ≡ Literal n first (items_of is.items) last
+shape_literal n first is last =
+    let row = items_row (expr.Literal n first is last) in
+    ap (λ l. Literal n first l last) (row_items row.0 row.1 ∙ ap items_of (items_hidden-the_row-Item-0 is))
+
+pub shape_struct_literal : (t : TypeExpr) (first : Span) (is : Vec declared_item.Item Global) (last : Span) → shape (expr.StructLiteral t first is last) ≡ StructLiteral (shape_type t) first (items_of is.items) last
+shape_struct_literal t first is last =
+    let row = items_row (expr.StructLiteral t first is last) in
+    ap (λ l. StructLiteral (shape_type t) first l last) (row_items row.0 row.1 ∙ ap items_of (items_hidden-the_row-Item-0 is))
+
+-- the lines of a row are those of its list
+pub row_lines : (n : _) (row : Row_of-Line n) → shape_row row ≡ lines_of (items-the_row-Line n row)
+row_lines n end_of-Line = refl
+row_lines n (more_of-Line s semicolon rest) = ap (Line (shape_stmt s) semicolon) (row_lines _ rest)
+
+-- the row of a block or a loop
+abbrev stmt_row : Stmt → (n : Count) × Row_of-Line n
+stmt_row (stmt.Block' first _ row last) = (_, row)
+stmt_row (stmt.For' k head first _ row last) = (_, row)
+stmt_row _ = (_, end_of-Line)
+
+-- the tree of a block is that of the list of its lines
+pub shape_block : (first : Span) (ls : Vec declared_line.Line Global) (last : Span) → shape_stmt (stmt.Block first ls last) ≡ Block first (lines_of ls.items) last
+shape_block first ls last =
+    let row = stmt_row (stmt.Block first ls last) in
+    ap (λ l. Block first l last) (row_lines row.0 row.1 ∙ ap lines_of (items_hidden-the_row-Line-0 ls))
+
+-- the tree of a loop is that of the list of its lines
+pub shape_loop : (k : Span) (head : ForHead) (first : Span) (ls : Vec declared_line.Line Global) (last : Span) → shape_stmt (stmt.For k head first ls last) ≡ For k (shape_for head) first (lines_of ls.items) last
+shape_loop k head first ls last =
+    let row = stmt_row (stmt.For k head first ls last) in
+    ap (λ l. For k (shape_for head) first l last) (row_lines row.0 row.1 ∙ ap lines_of (items_hidden-the_row-Line-0 ls))
+
+-- the row of a block behind `else`
+abbrev else_row : Otherwise → (n : Count) × Row_of-Line n
+else_row (otherwise.Block' k first _ row last) = (_, row)
+else_row _ = (_, end_of-Line)
+
+pub shape_else_block : (k first : Span) (ls : Vec declared_line.Line Global) (last : Span) → shape_else (otherwise.Block k first ls last) ≡ ElseBlock k first (lines_of ls.items) last
+shape_else_block k first ls last =
+    let row = else_row (otherwise.Block k first ls last) in
+    ap (λ l. ElseBlock k first l last) (row_lines row.0 row.1 ∙ ap lines_of (items_hidden-the_row-Line-0 ls))
+
+-- the tree of an `if` is that of the list of its lines
+pub shape_branched : (k : Span) (head : IfHead) (first : Span) (ls : Vec declared_line.Line Global) (last : Span) (other : Otherwise) → shape_branch (declared_branch.roll-Branch (record { keyword = k; head = head; «open» = first; «then» = ls; close = last; otherwise = other })) ≡ Branch k (shape_if head) first (lines_of ls.items) last (shape_else other)
+shape_branched k head first ls last other =
+    ap shape_branch (declared_branch.rolls-Branch' (record { keyword = k; head = head; «open» = first; «then» = ls; close = last; otherwise = other }))
+    ∙ ap (λ l. Branch k (shape_if head) first l last (shape_else other)) (row_lines _ (hidden-the_row-Line-0 ls) ∙ ap lines_of (items_hidden-the_row-Line-0 ls))
+
+-- the tree of an `if` that the program takes apart, by its fields
+pub branch_parts : (b : declared_branch.Branch) → shape_branch b ≡ Branch (declared_branch.out-Branch b).keyword (shape_if (declared_branch.out-Branch b).head) (declared_branch.out-Branch b).«open» (lines_of (declared_branch.out-Branch b).«then».items) (declared_branch.out-Branch b).close (shape_else (declared_branch.out-Branch b).otherwise)
+branch_parts b =
+    let o = declared_branch.out-Branch b in
+    ap shape_branch (declared_branch.is-Branch' b)
+    ∙ ap (λ l. Branch o.keyword (shape_if o.head) o.«open» l o.close (shape_else o.otherwise)) (row_lines _ (hidden-the_row-Line-0 o.«then») ∙ ap lines_of (items_hidden-the_row-Line-0 o.«then»))
