@@ -1,5 +1,4 @@
 pub mod Covering
 pub mod OccLemmas
 pub mod Order
-pub mod SameTrees
 pub mod Visits

@@ -1,0 +1,6 @@
+use Rattle.std.proofs.Common.{◌≡◌, map, take}
+use Rattle.go_tree_copies.proofs.SameTrees.{item_tree}
+use Rattle.go_tree_copies.proofs.copies.+exprs.Given as goal
+
+abbrev pub invariant-copy_items-loop-item : goal.invariant-copy_items-loop-item
+invariant-copy_items-loop-item l = map item_tree l.copies.items ≡ map item_tree (take l.item-index l.item-items)

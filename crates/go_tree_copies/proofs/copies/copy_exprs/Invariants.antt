@@ -1,0 +1,6 @@
+use Rattle.std.proofs.Common.{◌≡◌, map, take}
+use Rattle.go_tree_copies.proofs.SameTrees.{next_expr}
+use Rattle.go_tree_copies.proofs.copies.copy_exprs.Given as goal
+
+abbrev pub invariant-loop-next : goal.invariant-loop-next
+invariant-loop-next l = map next_expr l.more.items ≡ map next_expr (take l.next-index l.next-items)

@@ -1,0 +1,6 @@
+use Rattle.std.proofs.Common.{◌≡◌, map, take}
+use Rattle.go_tree_copies.proofs.SameTrees.{line_tree}
+use Rattle.go_tree_copies.proofs.stmt_copies.+stmts.Given as goal
+
+abbrev pub invariant-copy_lines-loop-line : goal.invariant-copy_lines-loop-line
+invariant-copy_lines-loop-line l = map line_tree l.copies.items ≡ map line_tree (take l.line-index l.line-items)

@@ -1,0 +1,6 @@
+use Rattle.std.proofs.Common.{◌≡◌, map, take}
+use Rattle.go_tree_nodes.specs.Shapes.{shape_type_line}
+use Rattle.go_tree_copies.proofs.stmt_copies.copy_type_lines.Given as goal
+
+abbrev pub invariant-loop-line : goal.invariant-loop-line
+invariant-loop-line l = map shape_type_line l.copies.items ≡ map shape_type_line (take l.line-index l.line-items)

@@ -1,6 +1,0 @@
-use Rattle.std.proofs.Common.{◌≡◌, map, take}
-use Rattle.go_tree_core.proofs.SameTrees.{line_tree}
-use Rattle.go_tree_core.proofs.stmt_copies.+stmts.Given as goal
-
-abbrev pub invariant-copy_lines-loop-line : goal.invariant-copy_lines-loop-line
-invariant-copy_lines-loop-line l = map line_tree l.copies.items ≡ map line_tree (take l.line-index l.line-items)

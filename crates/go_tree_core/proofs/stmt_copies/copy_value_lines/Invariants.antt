@@ -1,6 +1,0 @@
-use Rattle.std.proofs.Common.{◌≡◌, map, take}
-use Rattle.go_tree_nodes.specs.Shapes.{shape_value_line}
-use Rattle.go_tree_core.proofs.stmt_copies.copy_value_lines.Given as goal
-
-abbrev pub invariant-loop-line : goal.invariant-loop-line
-invariant-loop-line l = map shape_value_line l.copies.items ≡ map shape_value_line (take l.line-index l.line-items)
