@@ -124,6 +124,15 @@ def one_core():
     return f"on core {core} alone"
 
 
+def verdict(missed, wrong):
+    """Prints the aims that were missed and the bounds that do not hold, and gives the status."""
+    for it in missed:
+        print(f"AIM MISSED: {it}")
+    for it in wrong:
+        print(f"FAILED: {it}")
+    return 1 if wrong else 0
+
+
 def main():
     arguments = argparse.ArgumentParser()
     arguments.add_argument("question", choices=QUESTIONS)
@@ -150,11 +159,7 @@ def main():
             wrong.append(f"{shape}: twice the text takes {growth:.2f} times the time, more than {MOST_GROWTH}")
     print(f"twice the text, times the time: {', '.join(growths)} (at most {MOST_GROWTH})")
     print(f"best of {RUNS} runs, {where}; at most {question.seconds} s and {question.megabytes:.0f} MB")
-    for it in missed:
-        print(f"AIM MISSED: {it}")
-    for it in wrong:
-        print(f"FAILED: {it}")
-    return 1 if wrong else 0
+    return verdict(missed, wrong)
 
 
 if __name__ == "__main__":

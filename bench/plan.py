@@ -7,7 +7,7 @@ import subprocess
 import sys
 import time
 
-from measure import one_core, peak
+from measure import one_core, peak, verdict
 from workspaces import FORMS, SIZES, archive, module
 
 RUNS = 5
@@ -176,11 +176,7 @@ def main():
     print(f"from start to end, {SIZES[-1]:,} packages: {'; '.join(elapsed)}")
     print(f"seconds of the processor, best of {RUNS} runs (go list: one), {where}", end="; ")
     print(f"at most {MOST_SECONDS} s of planning and {MOST_MEGABYTES:.0f} MB")
-    for it in missed:
-        print(f"AIM MISSED: {it}")
-    for it in wrong:
-        print(f"FAILED: {it}")
-    return 1 if wrong else 0
+    return verdict(missed, wrong)
 
 
 if __name__ == "__main__":
