@@ -13,8 +13,8 @@ bench=$(dirname -- "$(readlink -f -- "$0")")
 mkdir -p "$out" || exit 2
 gofront=$("$bench/go_peer.sh" gofront) || exit 2
 if [ $# -eq 0 ]; then
-    python3 "$bench/generate.py" bench "$out/files" || exit 2
-    python3 "$bench/generate.py" small "$out/small" || exit 2
+    python3 -B "$bench/generate.py" bench "$out/files" || exit 2
+    python3 -B "$bench/generate.py" small "$out/small" || exit 2
     set -- "$out"/files/*.go "$bench"/../examples/*.go "$out"/small/*.go
 fi
-exec python3 "$bench/agree.py" --govisd "$govisd" --gofront "$gofront" "$@"
+exec python3 -B "$bench/agree.py" --govisd "$govisd" --gofront "$gofront" "$@"

@@ -1,16 +1,17 @@
 #!/bin/sh
-# Measures `govisd_probe parse` on files of 1 MB over the whole grammar, beside go/scanner and go/parser, and checks
-# that the times and the memory are within bounds. README.md beside this file says what is measured.
+# Measures the parser beside go/scanner and go/parser: `govisd_probe parse` on files of 1 MB over the whole grammar, and
+# `govisd_probe sources` on workspaces of up to 4,096 packages, whose trees are all held at once. Checks that the times and the
+# memory are within bounds. README.md beside this file says what is measured.
 #
 #     bench/parse.sh                     the program crates/govisd_probe/out/govisd_probe
 #     GOVISD_PROBE=FILE bench/parse.sh   another program
 #
-# Status 0 where all bounds hold, 1 where not, 2 where nothing could be measured.
+# Status 0 where all bounds hold, 1 where not, 2 where something could not be measured.
 set -u
 
 bench=$(dirname -- "$(readlink -f -- "$0")")
 . "$bench/probe.sh"
-python3 "$bench/generate.py" parse "$out/parsed" || exit 2
+python3 -B "$bench/generate.py" parse "$out/parsed" && python3 -B "$bench/workspaces.py" held "$out/workspaces" || exit 2
 gofront=$("$bench/go_peer.sh" gofront) || gofront=
 
 # The status of the program tells nothing of faults.
@@ -21,4 +22,13 @@ fi
 
 set --
 [ -z "$gofront" ] || set -- --gofront "$gofront"
-exec python3 "$bench/measure.py" parse --govisd "$probe" "$@" --files "$out/parsed"
+python3 -B "$bench/measure.py" parse --govisd "$probe" "$@" --files "$out/parsed"
+parsed=$?
+echo
+python3 -B "$bench/held.py" --probe "$probe" "$@" --files "$out/workspaces"
+held=$?
+if [ $parsed -eq 1 ] || [ $held -eq 1 ]; then
+    exit 1
+fi
+[ $parsed -ne 0 ] && exit $parsed
+exit $held

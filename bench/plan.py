@@ -101,7 +101,8 @@ class Sample:
 
     def faults(self):
         name = f"{self.form} {self.count:,}"
-        for asked, wanted in (self.sources, {"packages": self.count, "files": self.count}), (self.plan, self.wanted()):
+        held = {"packages": self.count, "files": self.count, "trees": self.count}
+        for asked, wanted in (self.sources, held), (self.plan, self.wanted()):
             kind = asked.words[1]
             if asked.statuses != {0}:
                 yield f"{name}: {kind} ended with status {sorted(asked.statuses)}"

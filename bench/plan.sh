@@ -11,7 +11,7 @@ set -u
 
 bench=$(dirname -- "$(readlink -f -- "$0")")
 . "$bench/probe.sh"
-python3 -B "$bench/workspaces.py" "$out/workspaces" || exit 2
+python3 -B "$bench/workspaces.py" plan "$out/workspaces" || exit 2
 go=
 [ -n "${WITHOUT_GO:-}" ] || go=$("$bench/go_command.sh") || go=
 

@@ -10,12 +10,12 @@ set -u
 
 bench=$(dirname -- "$(readlink -f -- "$0")")
 . "$bench/program.sh"
-mkdir -p "$out" && python3 "$bench/generate.py" bench "$out/files" || exit 2
+mkdir -p "$out" && python3 -B "$bench/generate.py" bench "$out/files" || exit 2
 gofront=$("$bench/go_peer.sh" gofront) || gofront=
 
 set --
 [ -z "$gofront" ] || set -- --gofront "$gofront"
-python3 "$bench/measure.py" resolve --govisd "$govisd" "$@" --files "$out/files"
+python3 -B "$bench/measure.py" resolve --govisd "$govisd" "$@" --files "$out/files"
 measured=$?
 [ -n "$gofront" ] || exit $measured
 echo

@@ -1,7 +1,7 @@
 #!/usr/bin/env python3
-"""Writes workspaces of many packages with many imports. The same arguments give the same bytes.
+"""Writes workspaces of many packages. The same arguments give the same bytes.
 
-usage: workspaces.py FOLDER
+usage: workspaces.py plan FOLDER
 
 writes into the folder, for 1,024, 2,048 and 4,096 packages with 60 imports each:
     spread_N.txtar   an archive in which each package imports 60 of higher number, or as many as there are, so that no
@@ -9,15 +9,24 @@ writes into the folder, for 1,024, 2,048 and 4,096 packages with 60 imports each
     ring_N.txtar     the same, and each package imports the next one too, the last the first, so that every import lies
                      on a cycle
     module_N/        the packages of spread_N.txtar as a module on disk; one that is there is kept
+
+usage: workspaces.py held FOLDER
+
+writes into the folder, for 2,048 and 4,096 packages:
+    held_N.txtar     an archive in which each package is a file of 5 KB, as a person would write it (programs.py); one that
+                     is there, and newer than these scripts, is kept
 """
 import os
 import sys
 
+import programs
 from generate import Numbers
 
 MODULE = "ex.com/m"
 SIZES = (1024, 2048, 4096)
 IMPORTS = 60
+HELD = (2048, 4096)
+FILE_BYTES = 5120  # the most that a file of such a workspace has
 
 
 def spread(count):
@@ -75,15 +84,51 @@ def write_module(folder, workspace):
     write(last, f"module {MODULE}\n\ngo 1.19\n")
 
 
-def main(folder):
-    os.makedirs(folder, exist_ok=True)
+def imported(numbers, package):
+    """Paths of up to three packages of lower number, in order."""
+    others = sorted({numbers.below(package) for _ in range(numbers.below(4))} if package else ())
+    return [f"{MODULE}/{name_of(other)}" for other in others]
+
+
+def name_of(package):
+    return f"{programs.WORDS[package % len(programs.WORDS)]}{package}"
+
+
+def held_file(package):
+    """The place and the text of the one file of a package."""
+    numbers, name = Numbers(package), name_of(package)
+    return f"-- {MODULE}/{name}/{name}.go --\n{programs.program(numbers, name, imported(numbers, package), FILE_BYTES)}"
+
+
+def write_held(folder):
+    files = [archive(folder, "held", count) for count in HELD]
+    scripts = [__file__, programs.__file__, sys.modules["generate"].__file__]
+    newest = max(os.path.getmtime(script) for script in scripts)
+    if all(os.path.exists(file) and os.path.getmtime(file) > newest for file in files):
+        return
+    texts = [held_file(package) for package in range(max(HELD))]
+    for file, count in zip(files, HELD):
+        write(file, "".join(texts[:count]))
+
+
+def write_planned(folder):
     for count in SIZES:
         for form, workspace in FORMS.items():
             write_archive(archive(folder, form, count), workspace(count))
         write_module(module(folder, count), spread(count))
 
 
-if __name__ == "__main__":
-    if len(sys.argv) != 2:
+def main(what, folder):
+    os.makedirs(folder, exist_ok=True)
+    if what == "held":
+        write_held(folder)
+    elif what == "plan":
+        write_planned(folder)
+    else:
         sys.exit(__doc__)
-    main(sys.argv[1])
+
+
+if __name__ == "__main__":
+    if len(sys.argv) != 3:
+        sys.exit(__doc__)
+    main(*sys.argv[1:])

@@ -5,20 +5,14 @@
 #     bench/wrong_bodies.sh            of all crates
 #     bench/wrong_bodies.sh CRATE ..   of these
 #
-# Status 0 where each is refused.
-set -eu
+# What was tried before on the same sources is not tried again, so a run that was stopped goes on where it stopped. README.md
+# beside this file says where the results are kept. Status 0 where each edit is refused, 1 where not, 2 where nothing could be tried.
+set -u
 
 bench=$(dirname -- "$(readlink -f -- "$0")")
-root=$(dirname -- "$bench")
-room=$(mktemp -d)
-trap 'rm -rf "$room"' EXIT
-git -C "$root" ls-files -z HANDLES crates.txt crates | (cd "$root" && xargs -0 cp --parents -t "$room")
-git init -q "$room"
-rm -f "$room"/crates/*/must-fail/*.edit
-[ $# -gt 0 ] || set -- $(ls "$bench/wrong_bodies")
-for crate; do
-    mkdir -p "$room/crates/$crate/must-fail"
-    cp "$bench/wrong_bodies/$crate"/*.edit "$room/crates/$crate/must-fail/"
-done
-cd "$room"
-rt must-fail "$@"
+out=${BENCH_OUT:-$bench/out}
+command -v rt >/dev/null 2>&1 || {
+    echo 'wrong_bodies.sh: the command rt is not on the PATH' >&2
+    exit 2
+}
+exec python3 -B "$bench/wrong_bodies.py" --out "$out" "$@"

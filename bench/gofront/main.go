@@ -1,6 +1,7 @@
 // Gofront reads one Go file on standard input and tells by go/types what each identifier that is used
 // denotes: the peer of `govisd resolve`, in its format as far as go/types answers. With the argument `parse` it
-// only parses the file, by go/parser: the peer of `govisd_probe parse`.
+// only parses the file, by go/parser: the peer of `govisd_probe parse`. With `sources FILE` it parses all files of an
+// archive, holds their trees, and counts them: the peer of `govisd_probe sources`.
 //
 // Each line is OFFSET ROLE TEXT ANSWER. ROLE is type or value. ANSWER is universe.NAME,
 // local/in.go:OFFSET, or ? where go/types finds no declaration. Errors go to standard error, but that a
@@ -9,6 +10,7 @@ package main
 
 import (
 	"bufio"
+	"bytes"
 	"fmt"
 	"go/ast"
 	"go/parser"
@@ -16,8 +18,11 @@ import (
 	"go/types"
 	"io"
 	"os"
+	"path"
+	"runtime"
 	"sort"
 	"strconv"
+	"strings"
 )
 
 // A use is an identifier that is used, and how.
@@ -169,7 +174,68 @@ func parse(files *token.FileSet) (*ast.File, error) {
 	return parser.ParseFile(files, "in.go", text, parser.SkipObjectResolution)
 }
 
+// A member is a file of an archive.
+type member struct {
+	place string
+	text  []byte
+}
+
+// members cuts an archive at its lines `-- PLACE --`.
+func members(archive []byte) []member {
+	var found []member
+	start := 0
+	for at := 0; at < len(archive); {
+		end := len(archive)
+		if n := bytes.IndexByte(archive[at:], '\n'); n >= 0 {
+			end = at + n + 1
+		}
+		line := strings.TrimSpace(string(archive[at:end]))
+		if strings.HasPrefix(line, "-- ") && strings.HasSuffix(line, " --") {
+			if len(found) > 0 {
+				found[len(found)-1].text = archive[start:at]
+			}
+			found = append(found, member{place: strings.TrimSpace(line[2 : len(line)-2])})
+			start = end
+		}
+		at = end
+	}
+	if len(found) > 0 {
+		found[len(found)-1].text = archive[start:]
+	}
+	return found
+}
+
+// sources parses the files of an archive, holds their trees, and tells how many packages, files and trees there are.
+func sources(name string) error {
+	archive, err := os.ReadFile(name)
+	if err != nil {
+		return err
+	}
+	files := token.NewFileSet()
+	packages := make(map[string]bool)
+	var trees []*ast.File
+	for _, m := range members(archive) {
+		tree, err := parser.ParseFile(files, m.place, m.text, parser.SkipObjectResolution)
+		if err != nil {
+			return err
+		}
+		packages[path.Dir(m.place)] = true
+		trees = append(trees, tree)
+	}
+	fmt.Printf("packages %d files %d trees %d\n", len(packages), len(trees), len(trees))
+	runtime.KeepAlive(archive)
+	runtime.KeepAlive(trees)
+	return nil
+}
+
 func run() int {
+	if len(os.Args) == 3 && os.Args[1] == "sources" {
+		if err := sources(os.Args[2]); err != nil {
+			fmt.Fprintln(os.Stderr, err)
+			return 1
+		}
+		return 0
+	}
 	files := token.NewFileSet()
 	file, err := parse(files)
 	if err != nil {

@@ -17,7 +17,7 @@ use Rattle.go_graph_core.specs.Packages.{Trees, trees_of, IsAssembled}
 use Rattle.go_graph_core.specs.Workspaces.{PackageModel}
 use Rattle.go_graph_core.specs.Imports.{IsOutcome}
 use Rattle.go_graph_core.specs.Plans.{PlanModel, IsPlan, IsAssembledAt}
-use Rattle.go_graph_core.specs.Targets.{AllNumbered}
+use Rattle.go_graph_core.specs.Lists.{AllNumbered}
 use Rattle.go_block_core.specs.declared.imports.NamedImport.{NamedImport}
 use Rattle.go_block_core.specs.Blocks.{BlocksModel, AreBlocks}
 use Rattle.go_block_core.specs.Naming.{AreImportsOf, HasBlocks, HasOutcomeBlocks, HasDotBlocks, HaveBlocks}

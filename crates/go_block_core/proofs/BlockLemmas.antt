@@ -9,22 +9,23 @@ use Rattle.go_block_core.specs.Tables.{table_of}
 use Rattle.go_tree_nodes.specs.Trees.{FileTree}
 use Rattle.go_graph_core.specs.Packages.{Trees, IsPackageName}
 use Rattle.go_block_core.specs.declared.decls.DeclRef.{DeclRef}
-use Rattle.go_block_core.specs.declared.decls.Declared.{Declared}
+use Rattle.go_block_core.specs.declared.decls.Declaration.{Declaration}
 use Rattle.go_block_core.specs.declared.binding.Binding.{Binding}
 use Rattle.go_block_core.specs.declared.binding.Bound.{Bound}
 use Rattle.go_block_core.specs.declared.imports.NamedImport.{NamedImport}
 use Rattle.go_block_core.specs.declared.fault.BlockFault.{BlockFault}
 use Rattle.go_block_core.specs.Bindings.{file_bound}
-use Rattle.go_block_core.specs.Declarations.{is_main, main}
+use Rattle.go_graph_core.specs.Imports.{main}
+use Rattle.go_block_core.specs.Declarations.{is_main_package}
 use Rattle.go_block_core.specs.Holding.{with_declared, declared_block, with_bound, bound_block, file_block, file_blocks, imports_in}
 use Rattle.go_block_core.specs.Faults.{fault_if, decl_faults_at, decl_faults, bound_faults_at, bound_faults, file_faults}
 
 -- one declaration more
-pub declared_more : (b : List (List ℕ × DeclRef)) (ds : List Declared) (d : Declared) → declared_block b (ds ++ d ∷ []) ≡ with_declared (declared_block b ds) d
+pub declared_more : (b : List (List ℕ × DeclRef)) (ds : List Declaration) (d : Declaration) → declared_block b (ds ++ d ∷ []) ≡ with_declared (declared_block b ds) d
 declared_more b [] d = refl
 declared_more b (e ∷ ds) d = declared_more (with_declared b e) ds d
 
-pub decl_faults_more : (main : Bool) (b : List (List ℕ × DeclRef)) (ds : List Declared) (d : Declared) → decl_faults main b (ds ++ d ∷ []) ≡ decl_faults main b ds ++ decl_faults_at main (declared_block b ds) d
+pub decl_faults_more : (main : Bool) (b : List (List ℕ × DeclRef)) (ds : List Declaration) (d : Declaration) → decl_faults main b (ds ++ d ∷ []) ≡ decl_faults main b ds ++ decl_faults_at main (declared_block b ds) d
 decl_faults_more main b [] d = append-nil (decl_faults_at main b d)
 decl_faults_more main b (e ∷ ds) d =
     ap (λ fs. decl_faults_at main b e ++ fs) (decl_faults_more main (with_declared b e) ds d)
@@ -50,7 +51,7 @@ file_faults_more names file (g ∷ fs) f =
     ∙ ap (λ i. (bound_faults names file [] (file_bound g) ++ file_faults names (file + 1) fs) ++ bound_faults names i [] (file_bound f)) (let e : file + 1 + length fs ≡ file + suc (length fs) = omega arith in e)
 
 -- the name in the first clause is that of the package
-pub main_of_name : (ts : Trees) (name : List ℕ) → IsPackageName ts name → bytes_eq name main ≡ is_main ts
+pub main_of_name : (ts : Trees) (name : List ℕ) → IsPackageName ts name → bytes_eq name main ≡ is_main_package ts
 main_of_name [] name h = absurd (let l : 0 < length {A = List ℕ × FileTree} [] = h.some in omega arith)
 main_of_name (t ∷ ts) name h = ap (λ n. bytes_eq n main) (sym (h.same 0 t (omega arith)))
 
@@ -67,11 +68,11 @@ two_faults first mid new f g {f_holds = f_holds} {g_holds = g_holds} same_f same
     ∙ (ap (λ l. l ++ fault_if g_holds g) (mid_is ∙ ap (λ b. first ++ fault_if b f) same_f)
     ∙ append_assoc first (fault_if f_holds f) (fault_if g_holds g)))
 
-pub declared_step : (ds : List Declared) (i : ℕ) (d : Declared) → i < length ds → d ≡ get_or ds i d → declared_block [] (take (i + 1) ds) ≡ with_declared (declared_block [] (take i ds)) d
+pub declared_step : (ds : List Declaration) (i : ℕ) (d : Declaration) → i < length ds → d ≡ get_or ds i d → declared_block [] (take (i + 1) ds) ≡ with_declared (declared_block [] (take i ds)) d
 declared_step ds i d lt is =
     ap (declared_block []) (take_more ds i d lt) ∙ (declared_more [] (take i ds) (get_or ds i d) ∙ ap (with_declared (declared_block [] (take i ds))) (sym is))
 
-pub decl_faults_step : (main : Bool) (ds : List Declared) (i : ℕ) (d : Declared) → i < length ds → d ≡ get_or ds i d → decl_faults main [] (take (i + 1) ds) ≡ decl_faults main [] (take i ds) ++ decl_faults_at main (declared_block [] (take i ds)) d
+pub decl_faults_step : (main : Bool) (ds : List Declaration) (i : ℕ) (d : Declaration) → i < length ds → d ≡ get_or ds i d → decl_faults main [] (take (i + 1) ds) ≡ decl_faults main [] (take i ds) ++ decl_faults_at main (declared_block [] (take i ds)) d
 decl_faults_step main ds i d lt is =
     ap (decl_faults main []) (take_more ds i d lt) ∙ (decl_faults_more main [] (take i ds) (get_or ds i d) ∙ ap (λ x. decl_faults main [] (take i ds) ++ decl_faults_at main (declared_block [] (take i ds)) x) (sym is))
 

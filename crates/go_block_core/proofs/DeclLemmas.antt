@@ -17,33 +17,33 @@ use Rattle.go_tree_nodes.specs.Shapes.{decl_of, top_of}
 use Rattle.go_tree_nodes.proofs.TypeShapes.{listed_parts, signature_parts}
 use Rattle.go_graph_core.specs.Packages.{Trees}
 use Rattle.go_block_core.specs.declared.decls.DeclKind.{DeclKind}
-use Rattle.go_block_core.specs.declared.decls.Declared.{Declared}
+use Rattle.go_block_core.specs.declared.decls.Declaration.{Declaration}
 use Rattle.go_block_core.proofs.Pieces.{all_pieces}
-use Rattle.go_block_core.specs.Declarations.{declared, declared_idents, group_declared, decl_declared, tops_declared, files_declared, without_params, without_results, is_procedure}
+use Rattle.go_block_core.specs.Declarations.{declaration, declared_idents, group_declared, decl_declared, tops_declared, files_declared, without_params, without_results, is_procedure}
 
 -- what one identifier of a list declares
-abbrev pub next_declared : ℕ → DeclKind → NextIdent → List Declared
-next_declared file kind n = declared file kind false n.ident ∷ []
+abbrev pub next_declared : ℕ → DeclKind → NextIdent → List Declaration
+next_declared file kind n = declaration file kind false n.ident ∷ []
 
-pub idents_list : (file : ℕ) (kind : DeclKind) (x : Ident) (ns : List NextIdent) → declared_idents file kind (idents_from x ns) ≡ declared file kind false x ∷ [] ++ flat_map (next_declared file kind) ns
+pub idents_list : (file : ℕ) (kind : DeclKind) (x : Ident) (ns : List NextIdent) → declared_idents file kind (idents_from x ns) ≡ declaration file kind false x ∷ [] ++ flat_map (next_declared file kind) ns
 idents_list file kind x [] = refl
-idents_list file kind x (n ∷ ns) = ap (λ ds. declared file kind false x ∷ ds) (idents_list file kind n.ident ns)
+idents_list file kind x (n ∷ ns) = ap (λ ds. declaration file kind false x ∷ ds) (idents_list file kind n.ident ns)
 
 -- the identifiers behind the first are declared too
-pub idents_done : (file : ℕ) (kind : DeclKind) (x : Ident) (ns : List NextIdent) (front old all : List Declared) (items : List NextIdent) (i : ℕ) → old ≡ front ++ declared file kind false x ∷ [] → length items ≤ i → items ≡ ns → all ≡ old ++ flat_map (next_declared file kind) (take i items) → all ≡ front ++ declared_idents file kind (idents_from x ns)
+pub idents_done : (file : ℕ) (kind : DeclKind) (x : Ident) (ns : List NextIdent) (front old all : List Declaration) (items : List NextIdent) (i : ℕ) → old ≡ front ++ declaration file kind false x ∷ [] → length items ≤ i → items ≡ ns → all ≡ old ++ flat_map (next_declared file kind) (take i items) → all ≡ front ++ declared_idents file kind (idents_from x ns)
 idents_done file kind x ns front old all items i first le is so_far =
     let more = flat_map (next_declared file kind) ns in
     all_pieces (next_declared file kind) old all items ns i le is so_far
     ∙ (ap (λ ds. ds ++ more) first
-    ∙ (append_assoc front (declared file kind false x ∷ []) more
+    ∙ (append_assoc front (declaration file kind false x ∷ []) more
     ∙ ap (λ ds. front ++ ds) (sym (idents_list file kind x ns))))
 
-pub group_list : {A B : Type 0} (f : A → List Declared) (shape : B → A × Option Span) (ls : List B) → group_declared f (map shape ls) ≡ flat_map (λ l. f (shape l).0) ls
+pub group_list : {A B : Type 0} (f : A → List Declaration) (shape : B → A × Option Span) (ls : List B) → group_declared f (map shape ls) ≡ flat_map (λ l. f (shape l).0) ls
 group_list f shape [] = refl
 group_list f shape (l ∷ ls) = ap (λ ds. f (shape l).0 ++ ds) (group_list f shape ls)
 
 -- what one declaration of a file declares
-abbrev pub top_declared : ℕ → TopDecl → List Declared
+abbrev pub top_declared : ℕ → TopDecl → List Declaration
 top_declared file t = decl_declared file (decl_of t.decl)
 
 pub tops_list : (file : ℕ) (ts : List TopDecl) → tops_declared file (map top_of ts) ≡ flat_map (top_declared file) ts

@@ -3,15 +3,15 @@ use Rattle.std.proofs.Common.{◌≡◌, ℕ, ◌+◌, ◌<◌, zero, suc, Bool,
 use Rattle.std.specs.Prelude.{Any, Contains, slice_get}
 use Rattle.std.proofs.lemmas.List.Elements.{Contains-append_left, Contains-append_right, Contains-append_cases}
 use Rattle.go_block_core.specs.declared.decls.DeclRef.{DeclRef}
-use Rattle.go_block_core.specs.declared.decls.Declared.{Declared}
+use Rattle.go_block_core.specs.declared.decls.Declaration.{Declaration}
 use Rattle.go_block_core.specs.declared.binding.Binding.{Binding}
 use Rattle.go_block_core.specs.declared.binding.Bound.{Bound}
 use Rattle.go_block_core.specs.declared.imports.NamedImport.{NamedImport}
 use Rattle.go_block_core.specs.declared.fault.BlockRule.TheVariants.{B1, B2, B3}
 use Rattle.go_block_core.specs.declared.fault.BlockFault.{BlockFault}
 use Rattle.go_block_core.specs.Bindings.{file_bound}
-use Rattle.go_block_core.specs.Declarations.{binds, has_fixed_form, package_declared, is_main}
-use Rattle.go_block_core.specs.Faults.{fault_at, fault_if, decl_faults_at, decl_faults, bound_faults_at, bound_faults, file_faults}
+use Rattle.go_block_core.specs.Declarations.{is_bindable, has_fixed_form, package_declared, is_main_package}
+use Rattle.go_block_core.specs.Faults.{block_fault, fault_if, decl_faults_at, decl_faults, bound_faults_at, bound_faults, file_faults}
 use Rattle.go_block_core.specs.Holding.{with_declared, declared_block, with_bound, bound_block, package_block}
 use Rattle.go_block_core.specs.Laws.{Declares, Names, IsSecondDecl, IsMalformed, IsSecondBinding, IsHidden, FaultsAreThese}
 use Rattle.go_block_core.specs.Tables.{has}
@@ -64,45 +64,45 @@ module _ {T : Type 0} where
 
 -- declarations
 
-decl_found : (main : Bool) (b : List (List ℕ × DeclRef)) (ds : List Declared) (f : BlockFault) → Contains (decl_faults main b ds) f → FoundAt ds (λ before d. Contains (decl_faults_at main (declared_block b before) d) f)
+decl_found : (main : Bool) (b : List (List ℕ × DeclRef)) (ds : List Declaration) (f : BlockFault) → Contains (decl_faults main b ds) f → FoundAt ds (λ before d. Contains (decl_faults_at main (declared_block b before) d) f)
 decl_found main b [] f h = absurd (let lt : h.0 < 0 = h.1 in omega arith)
 decl_found main b (d ∷ ds) f h = ⊎_elim
     (found_first d ds (λ before e. Contains (decl_faults_at main (declared_block b before) e) f))
     (λ c. found_later d ds (λ before e. Contains (decl_faults_at main (declared_block b before) e) f) (decl_found main (with_declared b d) ds f c))
     (Contains-append_cases (decl_faults_at main b d) (decl_faults main (with_declared b d) ds) f h)
 
-decl_put : (main : Bool) (b : List (List ℕ × DeclRef)) (before : List Declared) (d : Declared) (after : List Declared) (f : BlockFault) → Contains (decl_faults_at main (declared_block b before) d) f → Contains (decl_faults main b (before ++ d ∷ after)) f
+decl_put : (main : Bool) (b : List (List ℕ × DeclRef)) (before : List Declaration) (d : Declaration) (after : List Declaration) (f : BlockFault) → Contains (decl_faults_at main (declared_block b before) d) f → Contains (decl_faults main b (before ++ d ∷ after)) f
 decl_put main b [] d after f h = Contains-append_left (decl_faults_at main b d) (decl_faults main (with_declared b d) after) f h
 decl_put main b (e ∷ es) d after f h = Contains-append_right (decl_faults_at main b e) (decl_faults main (with_declared b e) (es ++ d ∷ after)) f (decl_put main (with_declared b e) es d after f h)
 
-pub any_declared : (ds : List Declared) (q : List ℕ) → has (declared_block [] ds) q ≡ true → Any (Declares q) ds
+pub any_declared : (ds : List Declaration) (q : List ℕ) → has (declared_block [] ds) q ≡ true → Any (Declares q) ds
 any_declared ds q h = some_any (declares q) (λ d. d.decl) (Declares q) (declares_yes q) (declares_back q) ds (sym (ap is_some (in_declared [] ds q)) ∙ h)
 
-pub has_declared : (ds : List Declared) (q : List ℕ) → Any (Declares q) ds → has (declared_block [] ds) q ≡ true
+pub has_declared : (ds : List Declaration) (q : List ℕ) → Any (Declares q) ds → has (declared_block [] ds) q ≡ true
 has_declared ds q h = ap is_some (in_declared [] ds q) ∙ any_some (declares q) (λ d. d.decl) (Declares q) (declares_yes q) (declares_back q) ds h
 
-decl_meaning : (main : Bool) (ds : List Declared) (f : BlockFault) → Contains (decl_faults main [] ds) f → IsSecondDecl ds f ⊎ IsMalformed main ds f
+decl_meaning : (main : Bool) (ds : List Declaration) (f : BlockFault) → Contains (decl_faults main [] ds) f → IsSecondDecl ds f ⊎ IsMalformed main ds f
 decl_meaning main ds f h =
     let r = decl_found main [] ds f h in
     let d = r.here in
     ⊎_elim
-    (λ p. (let parts = both (binds d.name) (has (declared_block [] r.before) d.name) p.0 in inl (record { before = r.before; decl = d; after = r.after; split = r.split; binds_name = parts.0; earlier = any_declared r.before d.name parts.1; fault = p.1 })))
+    (λ p. (let parts = both (is_bindable d.name) (has (declared_block [] r.before) d.name) p.0 in inl (record { before = r.before; decl = d; after = r.after; split = r.split; binds_name = parts.0; earlier = any_declared r.before d.name parts.1; fault = p.1 })))
     (λ p. (let parts = both (has_fixed_form main d.name) (not d.is_procedure) p.0 in inr (record { decl = d; among = among_split ds r.before d r.after r.split; fixed = parts.0; other = no_from_not d.is_procedure parts.1; fault = p.1 })))
-    (one_of_two (binds d.name && has (declared_block [] r.before) d.name) (has_fixed_form main d.name && not d.is_procedure) (fault_at d.decl.file d.decl.at B1) (fault_at d.decl.file d.decl.at B3) f r.holds)
+    (one_of_two (is_bindable d.name && has (declared_block [] r.before) d.name) (has_fixed_form main d.name && not d.is_procedure) (block_fault d.decl.file d.decl.at B1) (block_fault d.decl.file d.decl.at B3) f r.holds)
 
-second_decl_stands : (main : Bool) (ds : List Declared) (f : BlockFault) → IsSecondDecl ds f → Contains (decl_faults main [] ds) f
+second_decl_stands : (main : Bool) (ds : List Declaration) (f : BlockFault) → IsSecondDecl ds f → Contains (decl_faults main [] ds) f
 second_decl_stands main ds f s =
     let d = s.decl in
     let is_second = ap (λ b. b && has (declared_block [] s.before) d.name) s.binds_name ∙ has_declared s.before d.name s.earlier in
-    subst (λ l. Contains (decl_faults main [] l) f) (sym s.split) (decl_put main [] s.before d s.after f (Contains-append_left (fault_if (binds d.name && has (declared_block [] s.before) d.name) (fault_at d.decl.file d.decl.at B1)) (fault_if (has_fixed_form main d.name && not d.is_procedure) (fault_at d.decl.file d.decl.at B3)) f (in_if _ _ f is_second s.fault)))
+    subst (λ l. Contains (decl_faults main [] l) f) (sym s.split) (decl_put main [] s.before d s.after f (Contains-append_left (fault_if (is_bindable d.name && has (declared_block [] s.before) d.name) (block_fault d.decl.file d.decl.at B1)) (fault_if (has_fixed_form main d.name && not d.is_procedure) (block_fault d.decl.file d.decl.at B3)) f (in_if _ _ f is_second s.fault)))
 
-malformed_stands : (main : Bool) (ds : List Declared) (f : BlockFault) → IsMalformed main ds f → Contains (decl_faults main [] ds) f
+malformed_stands : (main : Bool) (ds : List Declaration) (f : BlockFault) → IsMalformed main ds f → Contains (decl_faults main [] ds) f
 malformed_stands main ds f s =
     let r = split_at ds s.among.0 s.decl s.among.1 s.among.2 in
     let d = s.decl in
     let split : ds ≡ r.before ++ d ∷ r.after = r.split ∙ ap (λ x. r.before ++ x ∷ r.after) r.holds in
     let is_malformed = ap (λ b. b && not d.is_procedure) s.fixed ∙ ap not s.other in
-    subst (λ l. Contains (decl_faults main [] l) f) (sym split) (decl_put main [] r.before d r.after f (Contains-append_right (fault_if (binds d.name && has (declared_block [] r.before) d.name) (fault_at d.decl.file d.decl.at B1)) (fault_if (has_fixed_form main d.name && not d.is_procedure) (fault_at d.decl.file d.decl.at B3)) f (in_if _ _ f is_malformed s.fault)))
+    subst (λ l. Contains (decl_faults main [] l) f) (sym split) (decl_put main [] r.before d r.after f (Contains-append_right (fault_if (is_bindable d.name && has (declared_block [] r.before) d.name) (block_fault d.decl.file d.decl.at B1)) (fault_if (has_fixed_form main d.name && not d.is_procedure) (block_fault d.decl.file d.decl.at B3)) f (in_if _ _ f is_malformed s.fault)))
 
 -- bindings
 
@@ -150,7 +150,7 @@ any_bound ns q h = some_any (names q) (λ n. n.binding) (Names q) (names_yes q) 
 has_bound : (ns : List Bound) (q : List ℕ) → Any (Names q) ns → has (bound_block [] ns) q ≡ true
 has_bound ns q h = ap is_some (in_bound [] ns q) ∙ any_some (names q) (λ n. n.binding) (Names q) (names_yes q) (names_back q) ns h
 
-bound_meaning : (ds : List Declared) (files : List (List NamedImport)) (f : BlockFault) → Contains (file_faults (declared_block [] ds) 0 files) f → IsSecondBinding files f ⊎ IsHidden ds files f
+bound_meaning : (ds : List Declaration) (files : List (List NamedImport)) (f : BlockFault) → Contains (file_faults (declared_block [] ds) 0 files) f → IsSecondBinding files f ⊎ IsHidden ds files f
 bound_meaning ds files f h =
     let block = declared_block [] ds in
     let i = file_found block 0 files f h in
@@ -159,37 +159,37 @@ bound_meaning ds files f h =
     ⊎_elim
     (λ p. inl (record { number = i.number; imports = i.imports; file = i.file; before = r.before; bound = n; after = r.after; split = r.split; earlier = any_bound r.before n.name p.0; fault = p.1 }))
     (λ p. inr (record { number = i.number; imports = i.imports; file = i.file; bound = n; among = among_split (file_bound i.imports) r.before n r.after r.split; of_package = any_declared ds n.name p.0; fault = p.1 }))
-    (one_of_two (has (bound_block [] r.before) n.name) (has block n.name) (fault_at i.number n.binding.at B1) (fault_at i.number n.binding.at B2) f r.holds)
+    (one_of_two (has (bound_block [] r.before) n.name) (has block n.name) (block_fault i.number n.binding.at B1) (block_fault i.number n.binding.at B2) f r.holds)
 
-second_binding_stands : (ds : List Declared) (files : List (List NamedImport)) (f : BlockFault) → IsSecondBinding files f → Contains (file_faults (declared_block [] ds) 0 files) f
+second_binding_stands : (ds : List Declaration) (files : List (List NamedImport)) (f : BlockFault) → IsSecondBinding files f → Contains (file_faults (declared_block [] ds) 0 files) f
 second_binding_stands ds files f s =
     let block = declared_block [] ds in
     let n = s.bound in
-    let here : Contains (bound_faults block s.number [] (file_bound s.imports)) f = subst (λ l. Contains (bound_faults block s.number [] l) f) (sym s.split) (bound_put block s.number [] s.before n s.after f (Contains-append_left (fault_if (has (bound_block [] s.before) n.name) (fault_at s.number n.binding.at B1)) (fault_if (has block n.name) (fault_at s.number n.binding.at B2)) f (in_if _ _ f (has_bound s.before n.name s.earlier) s.fault))) in
+    let here : Contains (bound_faults block s.number [] (file_bound s.imports)) f = subst (λ l. Contains (bound_faults block s.number [] l) f) (sym s.split) (bound_put block s.number [] s.before n s.after f (Contains-append_left (fault_if (has (bound_block [] s.before) n.name) (block_fault s.number n.binding.at B1)) (fault_if (has block n.name) (block_fault s.number n.binding.at B2)) f (in_if _ _ f (has_bound s.before n.name s.earlier) s.fault))) in
     file_put block 0 files s.number s.imports f s.file (let e : s.number ≡ 0 + s.number = omega arith in subst (λ k. Contains (bound_faults block k [] (file_bound s.imports)) f) e here)
 
-hidden_stands : (ds : List Declared) (files : List (List NamedImport)) (f : BlockFault) → IsHidden ds files f → Contains (file_faults (declared_block [] ds) 0 files) f
+hidden_stands : (ds : List Declaration) (files : List (List NamedImport)) (f : BlockFault) → IsHidden ds files f → Contains (file_faults (declared_block [] ds) 0 files) f
 hidden_stands ds files f s =
     let block = declared_block [] ds in
     let n = s.bound in
     let r = split_at (file_bound s.imports) s.among.0 n s.among.1 s.among.2 in
     let split : file_bound s.imports ≡ r.before ++ n ∷ r.after = r.split ∙ ap (λ x. r.before ++ x ∷ r.after) r.holds in
-    let here : Contains (bound_faults block s.number [] (file_bound s.imports)) f = subst (λ l. Contains (bound_faults block s.number [] l) f) (sym split) (bound_put block s.number [] r.before n r.after f (Contains-append_right (fault_if (has (bound_block [] r.before) n.name) (fault_at s.number n.binding.at B1)) (fault_if (has block n.name) (fault_at s.number n.binding.at B2)) f (in_if _ _ f (has_declared ds n.name s.of_package) s.fault))) in
+    let here : Contains (bound_faults block s.number [] (file_bound s.imports)) f = subst (λ l. Contains (bound_faults block s.number [] l) f) (sym split) (bound_put block s.number [] r.before n r.after f (Contains-append_right (fault_if (has (bound_block [] r.before) n.name) (block_fault s.number n.binding.at B1)) (fault_if (has block n.name) (block_fault s.number n.binding.at B2)) f (in_if _ _ f (has_declared ds n.name s.of_package) s.fault))) in
     file_put block 0 files s.number s.imports f s.file (let e : s.number ≡ 0 + s.number = omega arith in subst (λ k. Contains (bound_faults block k [] (file_bound s.imports)) f) e here)
 
 pub faults_are_these : FaultsAreThese
 faults_are_these trees files f =
     let ds = package_declared trees in
-    let of_decls = decl_faults (is_main trees) [] ds in
+    let of_decls = decl_faults (is_main_package trees) [] ds in
     let of_files = file_faults (package_block trees) 0 files in (
       λ h. ⊎_elim
-          (λ c. ⊎_elim inl (λ m. inr (inl m)) (decl_meaning (is_main trees) ds f c))
+          (λ c. ⊎_elim inl (λ m. inr (inl m)) (decl_meaning (is_main_package trees) ds f c))
           (λ c. ⊎_elim (λ s. inr (inr (inl s))) (λ s. inr (inr (inr s))) (bound_meaning ds files f c))
           (Contains-append_cases of_decls of_files f h),
       λ h. ⊎_elim
-          (λ s. Contains-append_left of_decls of_files f (second_decl_stands (is_main trees) ds f s))
+          (λ s. Contains-append_left of_decls of_files f (second_decl_stands (is_main_package trees) ds f s))
           (⊎_elim
-          (λ s. Contains-append_left of_decls of_files f (malformed_stands (is_main trees) ds f s))
+          (λ s. Contains-append_left of_decls of_files f (malformed_stands (is_main_package trees) ds f s))
           (⊎_elim
           (λ s. Contains-append_right of_decls of_files f (second_binding_stands ds files f s))
           (λ s. Contains-append_right of_decls of_files f (hidden_stands ds files f s))))

@@ -13,7 +13,7 @@ use Rattle.go_block_core.specs.contracts.fault.BlockRulePartialEq.TheImpl as rul
 use Rattle.go_block_core.specs.contracts.fault.BlockFaultOrd.TheImpl as fault_ord
 use Rattle.go_block_core.specs.contracts.fault.BlockFaultPartialEq.TheImpl as fault_eq
 use Rattle.go_block_core.specs.contracts.fault.BlockFaultOrd.TheImpl.Laws as laws
-use Rattle.go_block_core.specs.Faults.{fault_at, fault_cmp, rank}
+use Rattle.go_block_core.specs.Faults.{block_fault, fault_cmp, rank}
 
 pub fault_total : IsTotalOrder fault_cmp
 fault_total = then_total (on_total (λ f. f.file) nat_cmp_total) (then_total (on_total (λ f. f.offset) nat_cmp_total) (on_total (λ f. rank f.rule) nat_cmp_total))
@@ -69,6 +69,6 @@ pub same_means : (x y : BlockFault) → same x y ≡ true → x ≡ y
 same_means x y h =
     let parts = both _ _ h in
     let rest = both _ _ parts.1 in
-    ap (λ f. fault_at f x.offset x.rule) (eqb-true x.file y.file parts.0)
-    ∙ (ap (λ o. fault_at y.file o x.rule) (eqb-true x.offset y.offset rest.0)
-    ∙ ap (λ r. fault_at y.file y.offset r) (rule_means x.rule y.rule rest.1))
+    ap (λ f. block_fault f x.offset x.rule) (eqb-true x.file y.file parts.0)
+    ∙ (ap (λ o. block_fault y.file o x.rule) (eqb-true x.offset y.offset rest.0)
+    ∙ ap (λ r. block_fault y.file y.offset r) (rule_means x.rule y.rule rest.1))

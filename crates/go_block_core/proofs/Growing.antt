@@ -3,11 +3,12 @@ use Rattle.std.proofs.Common.{◌≡◌, ℕ, suc, List, [], ◌∷◌, Option, 
 use Rattle.std.specs.Prelude.{slice_get}
 use Rattle.go_tree_nodes.specs.declared.files.ImportName.{ImportName}
 use Rattle.go_tree_nodes.specs.declared.files.ImportName.TheVariants as written
+use Rattle.go_tree_nodes.specs.Terminals.{value_of}
 use Rattle.go_tree_nodes.specs.Trees.{ImportSpecTree}
 use Rattle.go_graph_core.specs.declared.imports.ImportOutcome.{ImportOutcome}
 use Rattle.go_graph_core.specs.declared.imports.ImportOutcome.TheVariants as outcomes
 use Rattle.go_graph_core.specs.Workspaces.{PackageModel}
-use Rattle.go_graph_core.specs.Targets.{AllNumbered}
+use Rattle.go_graph_core.specs.Lists.{AllNumbered}
 use Rattle.go_block_core.specs.declared.imports.ImportForm.{ImportForm}
 use Rattle.go_block_core.specs.declared.imports.NamedDecl.{NamedDecl}
 use Rattle.go_block_core.specs.declared.imports.NamedImport.{NamedImport}
@@ -30,15 +31,15 @@ module _ (ps : List PackageModel) (bs cs : List (Option BlocksModel)) (grows : G
   dot_names (outcomes.Package number) names h = record { blocks = h.blocks; there = grows number h.blocks h.there; same = h.same }
   dot_names (outcomes.Refused rule) names h = h
 
-  form : (name : ImportName) (o : ImportOutcome) (f : ImportForm) → IsForm ps bs name o f → IsForm ps cs name o f
-  form written.Own o f h = h
-  form (written.Named id) o f h = h
-  form (written.Dot dot) o f h = (h.0, h.1, dot_names o h.0.items h.2)
+  form : (text : List ℕ) (name : ImportName) (o : ImportOutcome) (f : ImportForm) → IsForm ps bs text name o f → IsForm ps cs text name o f
+  form text written.Own o f h = h
+  form text (written.Named id) o f h = h
+  form text (written.Dot dot) o f h = (h.0, h.1, dot_names o h.0.items h.2)
 
   imports_grow : (number file : ℕ) (specs : List ImportSpecTree) (is : List NamedImport) → AreSpecImports ps bs number file specs is → AreSpecImports ps cs number file specs is
   imports_grow number file specs is h =
       numbered_weaker (λ n spec i. IsImportOf ps bs (import_at number file n) spec i) (λ n spec i. IsImportOf ps cs (import_at number file n) spec i)
-      (λ n spec i r. record { place = r.place; text = r.text; outcome = r.outcome; form = form spec.name i.outcome i.form r.form })
+      (λ n spec i r. record { place = r.place; outcome = r.outcome; form = form (value_of spec.path) spec.name i.outcome i.form r.form })
       0 specs is h
 
   pub blocks_grow : (number : ℕ) (b : BlocksModel) → AreBlocksAt ps bs number b → AreBlocksAt ps cs number b

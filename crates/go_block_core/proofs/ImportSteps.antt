@@ -12,12 +12,13 @@ use Rattle.go_graph_core.specs.Packages.{IsAssembled, IsNameOf}
 use Rattle.go_graph_core.specs.Workspaces.{PackageModel}
 use Rattle.go_graph_core.specs.Imports.{IsNoImport, IsOutcome}
 use Rattle.go_graph_core.specs.Plans.{PlanModel, IsPlan, IsAssembledAt, outcome_at}
-use Rattle.go_graph_core.specs.Targets.{AllNumbered}
+use Rattle.go_graph_core.specs.Lists.{AllNumbered}
 use Rattle.go_graph_core.proofs.Zips.{numbered_more}
 use Rattle.go_block_core.specs.declared.imports.NamedImport.{NamedImport}
 use Rattle.go_block_core.specs.Blocks.{BlocksModel}
 use Rattle.go_block_core.specs.Holding.{imports_in}
-use Rattle.go_block_core.specs.Naming.{spec_shown, import_at, IsFileAt, IsClauseOf, IsImportOf, AreSpecImports, AreFileImports, AreImportsOf}
+use Rattle.go_block_core.specs.Naming.{import_at, IsFileAt, IsClauseOf, IsImportOf, AreSpecImports, AreFileImports, AreImportsOf}
+use Rattle.go_block_core.specs.mirrors.Shown.{spec_shown}
 
 -- what an import comes to is assembled
 package_found : (ps : List PackageModel) (at : ImportAt) (i : ℕ) → IsOutcome ps at (outcomes.Package i) → IsAssembledAt ps i

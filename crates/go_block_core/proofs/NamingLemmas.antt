@@ -5,19 +5,19 @@ use Rattle.std.specs.List.Sorted.{IsStrictlyIncreasing}
 use Rattle.std.proofs.lemmas.List.{map-append}
 use Rattle.std.proofs.lemmas.Option.{slice_get-map, slice_get-get_or, get_or_from_slice_get, slice_get_within}
 use Rattle.go_text_core.specs.declared.span.Span.{Span}
-use Rattle.go_tree_nodes.specs.Terminals.{Terminal}
+use Rattle.go_tree_nodes.specs.Terminals.{Terminal, value_of}
 use Rattle.go_tree_nodes.specs.Trees.{FileTree, ImportTree, ImportSpecTree, Specs, Single, Group}
 use Rattle.go_tree_nodes.specs.Spelling.{spell_import, spell_specs_of, spell_specs, spell_imports, spell_file}
 use Rattle.go_parse_core.specs.declared.error.SynFault.{SynFault}
 use Rattle.go_graph_core.specs.declared.imports.ImportAt.{ImportAt}
 use Rattle.go_graph_core.specs.Sources.{SourceModel, IsContent, IsRead}
 use Rattle.go_graph_core.specs.Workspaces.{PackageModel, IsPackage, IsWorkspace}
-use Rattle.go_graph_core.specs.Imports.{IsImport, IsNoImport, texts_in, texts_of, imports_in}
-use Rattle.go_graph_core.specs.Targets.{AllNumbered}
+use Rattle.go_graph_core.specs.Imports.{IsImport, IsNoImport, texts_in, texts_of, content_texts}
+use Rattle.go_graph_core.specs.Lists.{AllNumbered}
 use Rattle.go_graph_core.proofs.Zips.{numbered_back}
 use Rattle.go_block_core.specs.declared.imports.NamedImport.{NamedImport}
 use Rattle.go_block_core.specs.Blocks.{BlocksModel}
-use Rattle.go_block_core.specs.Holding.{AreInOrder}
+use Rattle.go_block_core.specs.Holding.{AreImportsInOrder}
 use Rattle.go_block_core.specs.Naming.{specs_in, specs_of, content_specs, file_specs, import_at, IsSpecAt, TextsAgree, IsImportOf, AreSpecImports, AreFileImports, AreImportsOf}
 use Rattle.go_block_core.proofs.Rising.{Rises, Gives, rises_increasing, gives_none, gives_skip, gives_one, gives_both, gives_first, gives_second}
 
@@ -27,13 +27,13 @@ holds_at P xs i x all at = subst P (get_or_from_slice_get xs i x x at) (all i x 
 
 -- the text of an import
 abbrev pub text_of : ImportSpecTree → List ℕ
-text_of spec = spec.path.value
+text_of spec = value_of spec.path
 
 -- the texts of the imports are those that the plan reads
 
-group_texts : (is : List (ImportSpecTree × Option Span)) → map (λ i. i.0.path.value) is ≡ map text_of (map (λ i. i.0) is)
+group_texts : (is : List (ImportSpecTree × Option Span)) → map (λ i. value_of i.0.path) is ≡ map text_of (map (λ i. i.0) is)
 group_texts [] = refl
-group_texts (i ∷ is) = ap (λ ts. i.0.path.value ∷ ts) (group_texts is)
+group_texts (i ∷ is) = ap (λ ts. value_of i.0.path ∷ ts) (group_texts is)
 
 in_texts : (s : Specs ImportSpecTree) → texts_in s ≡ map text_of (specs_in s)
 in_texts (Single i) = refl
@@ -46,25 +46,25 @@ same_texts (i ∷ is) =
     ∙ (ap (λ ts. map text_of (specs_in i.specs) ++ ts) (same_texts is)
     ∙ sym (map-append text_of (specs_in i.specs) (specs_of is)))
 
-content_texts : (c : Result FileTree SynFault) → imports_in c ≡ map text_of (content_specs c)
-content_texts (Ok f) = same_texts f.imports
-content_texts (Err fault) = refl
+texts_of_content : (c : Result FileTree SynFault) → content_texts c ≡ map text_of (content_specs c)
+texts_of_content (Ok f) = same_texts f.imports
+texts_of_content (Err fault) = refl
 
 -- the import at a place has its text
-pub import_of_spec : (ps : List PackageModel) (at : ImportAt) (spec : ImportSpecTree) (h : IsSpecAt ps at spec) → IsImport ps at h.of_file.path spec.path.value
+pub import_of_spec : (ps : List PackageModel) (at : ImportAt) (spec : ImportSpecTree) (h : IsSpecAt ps at spec) → IsImport ps at h.of_file.path (value_of spec.path)
 import_of_spec ps at spec h = record {
   files = h.of_file.files;
   file = h.file;
   numbered = h.of_file.numbered;
   in_files = h.of_file.in_files;
   in_file =
-      ap (λ ts. slice_get ts at.import) (content_texts h.file.content)
+      ap (λ ts. slice_get ts at.import) (texts_of_content h.file.content)
       ∙ (slice_get-map text_of (file_specs h.file) at.import ∙ ap (option_map text_of) h.in_file);
 }
 
 -- there is an outcome where an import is written
 pub outcome_there : (ps : List PackageModel) (at : ImportAt) (spec : ImportSpecTree) → IsSpecAt ps at spec → IsNoImport ps at → ⊥
-outcome_there ps at spec h none = none h.of_file.path spec.path.value (import_of_spec ps at spec h)
+outcome_there ps at spec h none = none h.of_file.path (value_of spec.path) (import_of_spec ps at spec h)
 
 -- the imports of a file stand in order of place
 
@@ -120,7 +120,7 @@ file_in_order ps bs number file text (Ok f) is read h =
     let rise = (file_gives f).rise 0 (length text) read.placed in
     rises_increasing AnyNamed named_place is 0 (length text) (named_rise ps bs number file 0 (specs_of f.imports) is 0 (length text) h rise)
 
-pub imports_in_order : (ps : List PackageModel) (number : ℕ) (bs : List (Option BlocksModel)) (imports : List (List NamedImport)) → IsWorkspace ps → AreImportsOf ps number bs imports → AreInOrder imports
+pub imports_in_order : (ps : List PackageModel) (number : ℕ) (bs : List (Option BlocksModel)) (imports : List (List NamedImport)) → IsWorkspace ps → AreImportsOf ps number bs imports → AreImportsInOrder imports
 imports_in_order ps number bs imports well h = λ k d lt.
     let back = numbered_back (λ file s is. AreFileImports ps bs number file s is) 0 h.files imports k (get_or imports k d) h.each (slice_get-get_or imports k d lt) in
     let s : SourceModel = back.0 in

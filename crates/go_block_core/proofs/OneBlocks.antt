@@ -5,6 +5,7 @@ use Rattle.std.specs.Str.{chars}
 use Rattle.go_text_core.specs.Text.{exported}
 use Rattle.go_tree_nodes.specs.declared.files.ImportName.{ImportName}
 use Rattle.go_tree_nodes.specs.declared.files.ImportName.TheVariants as written
+use Rattle.go_tree_nodes.specs.Terminals.{value_of}
 use Rattle.go_tree_nodes.specs.Trees.{ImportSpecTree}
 use Rattle.go_graph_core.specs.declared.imports.ImportAt.{ImportAt}
 use Rattle.go_graph_core.specs.declared.imports.ImportOutcome.{ImportOutcome}
@@ -13,7 +14,7 @@ use Rattle.go_graph_core.specs.Sources.{SourceModel}
 use Rattle.go_graph_core.specs.Packages.{IsNameOf, trees_of}
 use Rattle.go_graph_core.specs.Workspaces.{PackageModel, IsWorkspace}
 use Rattle.go_graph_core.specs.Imports.{IsNumbered}
-use Rattle.go_graph_core.specs.Targets.{AllNumbered}
+use Rattle.go_graph_core.specs.Lists.{AllNumbered}
 use Rattle.go_graph_core.proofs.Assemblies.{one_name}
 use Rattle.go_graph_core.proofs.OutcomeLaws.{has_one_outcome}
 use Rattle.go_graph_core.proofs.Zips.{numbered_back}
@@ -21,15 +22,16 @@ use Rattle.go_block_core.specs.declared.binding.Bound.{Bound}
 use Rattle.go_block_core.specs.declared.binding.Target.TheVariants as targets
 use Rattle.go_block_core.specs.declared.decls.DeclRef.{DeclRef}
 use Rattle.go_block_core.specs.declared.imports.ImportForm.{ImportForm}
+use Rattle.go_block_core.specs.declared.imports.ImportForm.TheVariants as forms
 use Rattle.go_block_core.specs.declared.imports.NamedDecl.{NamedDecl}
 use Rattle.go_block_core.specs.declared.imports.NamedImport.{NamedImport}
-use Rattle.go_block_core.specs.Bindings.{bound_as, name_and_decl, exported_bound, all_exported, own_bound, dot_bound, form_bound, import_bound, file_bound}
+use Rattle.go_block_core.specs.Bindings.{bound_as, name_and_decl, exported_bound, all_exported, dot_bound, form_bound, import_bound, file_bound}
 use Rattle.go_block_core.specs.Holding.{package_block, bound_block, file_blocks}
 use Rattle.go_block_core.specs.Blocks.{BlocksModel, blocks_model}
 use Rattle.go_block_core.specs.Naming.{IsOwnName, AreDotNames, IsForm, IsImportOf, AreFileImports, AreImportsOf, import_at, file_specs}
 use Rattle.go_block_core.specs.All.{AreBlocksAt, IsEntry, AreAllBlocks, OneBlocks}
 use Rattle.go_block_core.specs.declared.fault.BlockFault.{BlockFault}
-use Rattle.go_block_core.specs.Declarations.{is_main, package_declared}
+use Rattle.go_block_core.specs.Declarations.{is_main_package, package_declared}
 use Rattle.go_block_core.specs.Faults.{fault_cmp, decl_faults, bound_faults, file_faults, all_faults}
 use Rattle.go_block_core.proofs.FaultLemmas.{fault_total}
 use Rattle.go_block_core.proofs.SortedOnce.{same_sorted}
@@ -70,28 +72,27 @@ module _ (ps : List PackageModel) (bs cs : List (Option BlocksModel)) (well : Is
       let at_c = numbered_back (λ number p o. IsEntry ps cs number p o) 0 ps cs i (Some c) all_cs y in
       same_names (0 + i) b c at_b.2.1 at_c.2.1
 
-  same_own : (at : ℕ) (text n m : List ℕ) (o : ImportOutcome) → IsOwnName ps o n → IsOwnName ps o m → own_bound at text n o ≡ own_bound at text m o
-  same_own at text n m (outcomes.Package number) x y =
-      let files = same_files ps number x.path y.path x.files y.files x.numbered y.numbered in
-      ap (λ name. own_bound at text name (outcomes.Package number)) (one_name y.files n m (subst (IsNameOf n) files x.named) y.named)
-  same_own at text n m (outcomes.Refused rule) x y = refl
+  same_own : (text : List ℕ) (n m : Option (List ℕ)) (o : ImportOutcome) → IsOwnName ps text o n → IsOwnName ps text o m → n ≡ m
+  same_own text n m (outcomes.Package number) x y =
+      let files = same_files ps number x.2.path y.2.path x.2.files y.2.files x.2.numbered y.2.numbered in
+      x.1 ∙ (ap Some (one_name y.2.files x.0 y.0 (subst (IsNameOf x.0) files x.2.named) y.2.named) ∙ sym y.1)
+  same_own text n m (outcomes.Refused rule) x y = x ∙ sym y
 
   same_dot : (at : ℕ) (ns ms : List NamedDecl) (o : ImportOutcome) → AreDotNames bs o ns → AreDotNames cs o ms → dot_bound at ns o ≡ dot_bound at ms o
   same_dot at ns ms (outcomes.Package number) x y = same_exported at number ns ms (x.same ∙ (names_at number x.blocks y.blocks x.there y.there ∙ sym y.same))
   same_dot at ns ms (outcomes.Refused rule) x y = refl
 
-  same_form : (at : ℕ) (text : List ℕ) (name : ImportName) (o : ImportOutcome) (f g : ImportForm) → IsForm ps bs name o f → IsForm ps cs name o g → form_bound at text o f ≡ form_bound at text o g
-  same_form at text written.Own o f g x y = ap (form_bound at text o) x.1 ∙ (same_own at text x.0 y.0 o x.2 y.2 ∙ ap (form_bound at text o) (sym y.1))
-  same_form at text (written.Named id) o f g x y = ap (form_bound at text o) (x ∙ sym y)
-  same_form at text (written.Dot dot) o f g x y = ap (form_bound at text o) x.1 ∙ (same_dot at x.0.items y.0.items o x.2 y.2 ∙ ap (form_bound at text o) (sym y.1))
+  same_form : (at : ℕ) (text : List ℕ) (name : ImportName) (o : ImportOutcome) (f g : ImportForm) → IsForm ps bs text name o f → IsForm ps cs text name o g → form_bound at o f ≡ form_bound at o g
+  same_form at text written.Own o f g x y = ap (form_bound at o) (x.1 ∙ (ap forms.Own (same_own text x.0 y.0 o x.2 y.2) ∙ sym y.1))
+  same_form at text (written.Named id) o f g x y = ap (form_bound at o) (x ∙ sym y)
+  same_form at text (written.Dot dot) o f g x y = ap (form_bound at o) x.1 ∙ (same_dot at x.0.items y.0.items o x.2 y.2 ∙ ap (form_bound at o) (sym y.1))
 
   same_import : (at : ImportAt) (spec : ImportSpecTree) (i j : NamedImport) → IsImportOf ps bs at spec i → IsImportOf ps cs at spec j → import_bound i ≡ import_bound j
   same_import at spec i j x y =
       let outcome : j.outcome ≡ i.outcome = has_one_outcome ps at j.outcome i.outcome well y.outcome x.outcome in
       let place : i.at ≡ j.at = x.place ∙ sym y.place in
-      let text : i.text ≡ j.text = x.text ∙ sym y.text in
-      same_form i.at i.text spec.name i.outcome i.form j.form x.form (subst (λ o. IsForm ps cs spec.name o j.form) outcome y.form)
-      ∙ (ap (λ n. form_bound n i.text i.outcome j.form) place ∙ (ap (λ t. form_bound j.at t i.outcome j.form) text ∙ ap (λ o. form_bound j.at j.text o j.form) (sym outcome)))
+      same_form i.at (value_of spec.path) spec.name i.outcome i.form j.form x.form (subst (λ o. IsForm ps cs (value_of spec.path) spec.name o j.form) outcome y.form)
+      ∙ (ap (λ n. form_bound n i.outcome j.form) place ∙ ap (λ o. form_bound j.at o j.form) (sym outcome))
 
   same_specs : (number file k : ℕ) (specs : List ImportSpecTree) (is js : List NamedImport) → AllNumbered (λ n spec i. IsImportOf ps bs (import_at number file n) spec i) k specs is → AllNumbered (λ n spec i. IsImportOf ps cs (import_at number file n) spec i) k specs js → file_bound is ≡ file_bound js
   same_specs number file k [] [] [] x y = refl
@@ -127,7 +128,7 @@ module _ (ps : List PackageModel) (bs cs : List (Option BlocksModel)) (well : Is
       let names = package_block (trees_of y.files) in
       let bound = same_bound i x.imports y.imports x.named y.named in
       ap (λ fs. all_faults (trees_of fs) x.imports) (same_files ps i x.path y.path x.files y.files x.numbered y.numbered)
-      ∙ ap (λ l. decl_faults (is_main (trees_of y.files)) [] (package_declared (trees_of y.files)) ++ l)
+      ∙ ap (λ l. decl_faults (is_main_package (trees_of y.files)) [] (package_declared (trees_of y.files)) ++ l)
       (faults_from names 0 x.imports ∙ (ap (faults_of names 0) bound ∙ sym (faults_from names 0 y.imports)))
 
   same_blocks : (i : ℕ) (b c : BlocksModel) → AreBlocksAt ps bs i b → AreBlocksAt ps cs i c → b ≡ c

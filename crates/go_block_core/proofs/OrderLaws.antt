@@ -15,7 +15,7 @@ use Rattle.go_tree_nodes.specs.Spelling.{spell_ident, spell_idents, spell_value_
 use Rattle.go_graph_core.specs.Packages.{Trees}
 use Rattle.go_block_core.specs.declared.decls.DeclKind.{DeclKind}
 use Rattle.go_block_core.specs.declared.decls.DeclKind.TheVariants as kinds
-use Rattle.go_block_core.specs.declared.decls.Declared.{Declared}
+use Rattle.go_block_core.specs.declared.decls.Declaration.{Declaration}
 use Rattle.go_block_core.specs.declared.binding.Bound.{Bound}
 use Rattle.go_block_core.specs.declared.binding.Target.{Target}
 use Rattle.go_block_core.specs.declared.imports.ImportForm.{ImportForm}
@@ -24,10 +24,9 @@ use Rattle.go_graph_core.specs.declared.imports.ImportOutcome.{ImportOutcome}
 use Rattle.go_graph_core.specs.declared.imports.ImportOutcome.TheVariants as outcomes
 use Rattle.go_block_core.specs.declared.imports.NamedDecl.{NamedDecl}
 use Rattle.go_block_core.specs.declared.imports.NamedImport.{NamedImport}
-use Rattle.go_block_core.specs.Words.{last_name}
-use Rattle.go_block_core.specs.Bindings.{bound_as, bound_if, target_of, own_bound, exported_bound, all_exported, dot_bound, form_bound, import_bound, file_bound}
-use Rattle.go_block_core.specs.Declarations.{declared, declared_idents, group_declared, specs_declared, kind_of, spec_declared, type_declared, is_procedure, unless_method, decl_declared, tops_declared, files_declared}
-use Rattle.go_block_core.specs.Laws.{IsBefore, ArePlaced, DeclarationsInOrder, BindingsInOrder}
+use Rattle.go_block_core.specs.Bindings.{bound_as, bound_if, target_of, exported_bound, all_exported, dot_bound, form_bound, import_bound, file_bound}
+use Rattle.go_block_core.specs.Declarations.{declaration, declared_idents, group_declared, specs_declared, kind_of, spec_declared, type_declared, is_procedure, unless_method, decl_declared, tops_declared, files_declared}
+use Rattle.go_block_core.specs.Laws.{StandsBefore, ArePlaced, DeclarationsInOrder, BindingsInOrder}
 use Rattle.go_block_core.proofs.Rising.{Rises, Gives, gives_none, gives_skip, gives_one, gives_both, gives_first, gives_second}
 
 -- pairs of lists that are put together
@@ -40,19 +39,19 @@ module _ {T : Type 0} (R : T → T → Type 0) where
       (pairs_append xs ys (λ i j d low high. p (suc i) (suc j) d (omega arith) (omega arith)) q (λ k d lt. cross (suc k) d (omega arith)))
 
 -- tokens in order give the declarations of a file in order
-abbrev InFile : ℕ → Declared → Type 0
+abbrev InFile : ℕ → Declaration → Type 0
 InFile file d = d.decl.file ≡ file
 
-abbrev place : Declared → ℕ
+abbrev place : Declaration → ℕ
 place d = d.decl.at
 
-abbrev DeclaredRise : ℕ → ℕ → List Declared → ℕ → Type 0
+abbrev DeclaredRise : ℕ → ℕ → List Declaration → ℕ → Type 0
 DeclaredRise file low ds high = Rises (InFile file) place low ds high
 
-abbrev GivesIn : ℕ → List Terminal → List Declared → Type 0
+abbrev GivesIn : ℕ → List Terminal → List Declaration → Type 0
 GivesIn file ts ds = Gives (InFile file) place ts ds
 
-gives_name : {file : ℕ} {kind : DeclKind} {p : Bool} {x : Ident} {ts : List Terminal} {ds : List Declared} → GivesIn file ts ds → GivesIn file (spell_ident x ∷ ts) (declared file kind p x ∷ ds)
+gives_name : {file : ℕ} {kind : DeclKind} {p : Bool} {x : Ident} {ts : List Terminal} {ds : List Declaration} → GivesIn file ts ds → GivesIn file (spell_ident x ∷ ts) (declaration file kind p x ∷ ds)
 gives_name m = gives_one refl refl refl m
 
 idents_give : (file : ℕ) (kind : DeclKind) (xs : Separated Ident) → GivesIn file (spell_idents xs) (declared_idents file kind xs)
@@ -62,18 +61,18 @@ idents_give file kind (Then x comma xs) = gives_name (gives_skip (idents_give fi
 spec_gives : (file : ℕ) (kind : DeclKind) (v : ValueSpecTree) → GivesIn file (spell_value_spec v) (spec_declared file kind v)
 spec_gives file kind v = gives_first _ (idents_give file kind v.names)
 
-group_gives : {A : Type 0} (file : ℕ) (f : A → List Terminal) (g : A → List Declared) → ((x : A) → GivesIn file (f x) (g x)) → (xs : List (A × Option Span)) → GivesIn file (spell_specs_of f xs) (group_declared g xs)
+group_gives : {A : Type 0} (file : ℕ) (f : A → List Terminal) (g : A → List Declaration) → ((x : A) → GivesIn file (f x) (g x)) → (xs : List (A × Option Span)) → GivesIn file (spell_specs_of f xs) (group_declared g xs)
 group_gives file f g each [] = gives_none
 group_gives file f g each (x ∷ xs) = gives_both (each x.0) (gives_second _ (group_gives file f g each xs))
 
-specs_give : {A : Type 0} (file : ℕ) (f : A → List Terminal) (g : A → List Declared) → ((x : A) → GivesIn file (f x) (g x)) → (s : Specs A) → GivesIn file (spell_specs f s) (specs_declared g s)
+specs_give : {A : Type 0} (file : ℕ) (f : A → List Terminal) (g : A → List Declaration) → ((x : A) → GivesIn file (f x) (g x)) → (s : Specs A) → GivesIn file (spell_specs f s) (specs_declared g s)
 specs_give file f g each (Single x) = each x
 specs_give file f g each (Group first xs last) = gives_skip (gives_first _ (group_gives file f g each xs))
 
 type_gives : (file : ℕ) (t : TypeSpecTree) → GivesIn file (spell_type_spec t) (type_declared file t)
 type_gives file t = gives_name gives_none
 
-unless_gives : (file : ℕ) (r : Option Receiver) (p : Bool) (x : Ident) (rest : List Terminal) → GivesIn file (spell_receiver r ++ (spell_ident x ∷ rest)) (unless_method r (declared file kinds.Func p x))
+unless_gives : (file : ℕ) (r : Option Receiver) (p : Bool) (x : Ident) (rest : List Terminal) → GivesIn file (spell_receiver r ++ (spell_ident x ∷ rest)) (unless_method r (declaration file kinds.Func p x))
 unless_gives file None p x rest = gives_name gives_none
 unless_gives file (Some r) p x rest = gives_none
 
@@ -91,16 +90,16 @@ file_rises file f high h =
     let m : GivesIn file (spell_file f) (tops_declared file f.decls) = gives_skip (gives_skip (gives_skip (gives_second _ (tops_give file f.decls)))) in
     m.rise 0 high h
 
-rises_all : (file low : ℕ) (ds : List Declared) (high : ℕ) → DeclaredRise file low ds high → All (λ d. (d.decl.file ≡ file) × (low ≤ d.decl.at)) ds
+rises_all : (file low : ℕ) (ds : List Declaration) (high : ℕ) → DeclaredRise file low ds high → All (λ d. (d.decl.file ≡ file) × (low ≤ d.decl.at)) ds
 rises_all file low [] high h = λ k e lt. absurd (omega arith)
 rises_all file low (d ∷ ds) high h =
     All-cons (λ e. (e.decl.file ≡ file) × (low ≤ e.decl.at)) d ds (h.0, h.1)
     (λ k e lt. (let r = rises_all file (d.decl.at + 1) ds high h.2 k e lt in (r.0, omega (arith, r.1, h.1))))
 
-rises_pairs : (file low : ℕ) (ds : List Declared) (high : ℕ) → DeclaredRise file low ds high → AllPairs IsBefore ds
+rises_pairs : (file low : ℕ) (ds : List Declaration) (high : ℕ) → DeclaredRise file low ds high → AllPairs StandsBefore ds
 rises_pairs file low [] high h = λ i j e low high. absurd (omega arith)
 rises_pairs file low (d ∷ ds) high h =
-    AllPairs-cons IsBefore d ds
+    AllPairs-cons StandsBefore d ds
     (λ k e lt. (let r = rises_all file (d.decl.at + 1) ds high h.2 k e lt in inr (subst (λ n. d.decl.file ≡ n) (sym r.0) h.0, omega (arith, r.1))))
     (rises_pairs file (d.decl.at + 1) ds high h.2)
 
@@ -112,13 +111,13 @@ files_all first (t ∷ ts) h =
     (λ k e lt. (let r = rises_all first 0 (tops_declared first t.1.decls) placed.0 (file_rises first t.1 placed.0 placed.1) k e lt in omega (arith, r.0)))
     (λ k e lt. (let r = files_all (first + 1) ts (λ i d l. h (suc i) d (omega arith)) k e lt in omega (arith, r)))
 
-files_pairs : (first : ℕ) (ts : Trees) → ArePlaced ts → AllPairs IsBefore (files_declared first ts)
+files_pairs : (first : ℕ) (ts : Trees) → ArePlaced ts → AllPairs StandsBefore (files_declared first ts)
 files_pairs first [] h = λ i j e low high. absurd (omega arith)
 files_pairs first (t ∷ ts) h =
     let placed = h 0 t (omega arith) in
     let rest : ArePlaced ts = λ i d l. h (suc i) d (omega arith) in
     let rises = file_rises first t.1 placed.0 placed.1 in
-    pairs_append IsBefore (tops_declared first t.1.decls) (files_declared (first + 1) ts)
+    pairs_append StandsBefore (tops_declared first t.1.decls) (files_declared (first + 1) ts)
     (rises_pairs first 0 (tops_declared first t.1.decls) placed.0 rises)
     (files_pairs (first + 1) ts rest)
     (λ k e lt. λ j d l. (let r = rises_all first 0 (tops_declared first t.1.decls) placed.0 rises k e lt in let s = files_all (first + 1) ts rest j d l in inl (omega (arith, r.0, s))))
@@ -156,18 +155,14 @@ exported_at : (at number : ℕ) (ns : List NamedDecl) → AreAt at (all_exported
 exported_at at number [] = no_binding at
 exported_at at number (n ∷ ns) = All-append (λ b. b.binding.at ≡ at) (exported_bound at number n) (all_exported at number ns) (where_at at n.name _ (exported (chars n.name))) (exported_at at number ns)
 
-own_at : (at : ℕ) (text name : List ℕ) (o : ImportOutcome) → AreAt at (own_bound at text name o)
-own_at at text name (outcomes.Package number) = one_binding at name _
-own_at at text name (outcomes.Refused rule) = if_binding at (last_name text) _
-
 dot_at : (at : ℕ) (ns : List NamedDecl) (o : ImportOutcome) → AreAt at (dot_bound at ns o)
 dot_at at ns (outcomes.Package number) = exported_at at number ns
 dot_at at ns (outcomes.Refused rule) = no_binding at
 
-form_at : (at : ℕ) (text : List ℕ) (o : ImportOutcome) (f : ImportForm) → AreAt at (form_bound at text o f)
-form_at at text o (forms.Own name) = own_at at text name o
-form_at at text o (forms.Named name) = unless_at at name (target_of o) (is_blank name)
-form_at at text o (forms.Dot ns) = dot_at at ns.items o
+form_at : (at : ℕ) (o : ImportOutcome) (f : ImportForm) → AreAt at (form_bound at o f)
+form_at at o (forms.Own name) = if_binding at name (target_of o)
+form_at at o (forms.Named name) = unless_at at name (target_of o) (is_blank name)
+form_at at o (forms.Dot ns) = dot_at at ns.items o
 
 -- all bindings of later imports stand at or behind a place that is before these
 later_at : (low : ℕ) (is : List NamedImport) → All (λ i. low ≤ i.at) is → All (λ b. low ≤ b.binding.at) (file_bound is)
@@ -175,13 +170,13 @@ later_at low [] h = λ k e lt. absurd (omega arith)
 later_at low (i ∷ is) h =
     let here = h 0 i (omega arith) in
     All-append (λ b. low ≤ b.binding.at) (import_bound i) (file_bound is)
-    (λ k e lt. (let r = form_at i.at i.text i.outcome i.form k e lt in omega (arith, r, here)))
+    (λ k e lt. (let r = form_at i.at i.outcome i.form k e lt in omega (arith, r, here)))
     (later_at low is (λ k e lt. h (suc k) e (omega arith)))
 
 pairs_of_imports : (is : List NamedImport) → AllPairs (λ i j. i.at < j.at) is → AllPairs IsNotBehind (file_bound is)
 pairs_of_imports [] h = λ i j e low high. absurd (omega arith)
 pairs_of_imports (i ∷ is) h =
-    let here = form_at i.at i.text i.outcome i.form in
+    let here = form_at i.at i.outcome i.form in
     pairs_append IsNotBehind (import_bound i) (file_bound is)
     (λ a b e low high. (let r = here a e (omega arith) in let s = here b e high in omega (arith, r, s)))
     (pairs_of_imports is (λ a b e low high. h (suc a) (suc b) e (omega arith) (omega arith)))

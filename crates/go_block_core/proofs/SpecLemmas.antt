@@ -5,7 +5,7 @@ use Rattle.go_tree_nodes.specs.declared.files.ImportLine.{ImportLine}
 use Rattle.go_tree_nodes.specs.declared.files.ImportSpec.{ImportSpec}
 use Rattle.go_tree_nodes.specs.Shapes.{shape_import_spec, shape_import_line}
 use Rattle.go_tree_nodes.specs.Trees.{ImportSpecTree}
-use Rattle.go_block_core.specs.Naming.{spec_shown}
+use Rattle.go_block_core.specs.mirrors.Shown.{spec_shown}
 
 -- the import of a line
 abbrev pub line_spec : ImportLine → ImportSpecTree

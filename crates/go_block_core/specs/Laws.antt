@@ -5,7 +5,7 @@ use Rattle.go_tree_nodes.specs.Spelling.{spell_file}
 use Rattle.go_tree_nodes.specs.Terminals.{InOrder}
 use Rattle.go_graph_core.specs.Packages.{Trees}
 use Rattle.go_block_core.specs.declared.decls.DeclRef.{DeclRef}
-use Rattle.go_block_core.specs.declared.decls.Declared.{Declared}
+use Rattle.go_block_core.specs.declared.decls.Declaration.{Declaration}
 use Rattle.go_block_core.specs.declared.binding.Binding.{Binding}
 use Rattle.go_block_core.specs.declared.binding.Bound.{Bound}
 use Rattle.go_block_core.specs.declared.imports.NamedImport.{NamedImport}
@@ -13,8 +13,8 @@ use Rattle.go_block_core.specs.declared.fault.BlockRule.TheVariants.{B1, B2, B3}
 use Rattle.go_block_core.specs.declared.fault.BlockFault.{BlockFault}
 use Rattle.go_block_core.specs.Bindings.{file_bound}
 use Rattle.go_block_core.specs.Blocks.{BlocksModel, file_binding}
-use Rattle.go_block_core.specs.Declarations.{package_declared, binds, has_fixed_form, is_main}
-use Rattle.go_block_core.specs.Faults.{fault_at, all_faults}
+use Rattle.go_block_core.specs.Declarations.{package_declared, is_bindable, has_fixed_form, is_main_package}
+use Rattle.go_block_core.specs.Faults.{block_fault, all_faults}
 use Rattle.go_block_core.specs.Holding.{package_block, file_block}
 use Rattle.go_block_core.specs.Tables.{in_block}
 
@@ -29,8 +29,8 @@ pub record IsFirstOf {T V : Type 0} (P : T → Type 0) (value : T → V) (xs : L
   pub is : value first ≡ v
 
 -- a declaration binds this name
-abbrev pub Declares : List ℕ → Declared → Type 0
-Declares name d = (binds d.name ≡ true) × (name ≡ d.name)
+abbrev pub Declares : List ℕ → Declaration → Type 0
+Declares name d = (is_bindable d.name ≡ true) × (name ≡ d.name)
 
 -- a binding is of this name
 abbrev pub Names : List ℕ → Bound → Type 0
@@ -59,22 +59,22 @@ abbrev pub FileAnswers : Type 0
 FileAnswers = (b : BlocksModel) (file : ℕ) (name : List ℕ) (x : Binding) → (file_binding b file name ≡ Some x) ↔ ((in_block b.names name ≡ None) × HasBinding b.files file name x)
 
 -- B1: a declaration of a name that an earlier one binds
-pub record IsSecondDecl (ds : List Declared) (f : BlockFault) : Type 0 where
-  pub before : List Declared
-  pub decl : Declared
-  pub after : List Declared
+pub record IsSecondDecl (ds : List Declaration) (f : BlockFault) : Type 0 where
+  pub before : List Declaration
+  pub decl : Declaration
+  pub after : List Declaration
   pub split : ds ≡ before ++ decl ∷ after
-  pub binds_name : binds decl.name ≡ true
+  pub binds_name : is_bindable decl.name ≡ true
   pub earlier : Any (Declares decl.name) before
-  pub fault : f ≡ fault_at decl.decl.file decl.decl.at B1
+  pub fault : f ≡ block_fault decl.decl.file decl.decl.at B1
 
 -- B3: what must be a function without parameters and results, and is none
-pub record IsMalformed (main : Bool) (ds : List Declared) (f : BlockFault) : Type 0 where
-  pub decl : Declared
+pub record IsMalformed (main : Bool) (ds : List Declaration) (f : BlockFault) : Type 0 where
+  pub decl : Declaration
   pub among : Contains ds decl
   pub fixed : has_fixed_form main decl.name ≡ true
   pub other : decl.is_procedure ≡ false
-  pub fault : f ≡ fault_at decl.decl.file decl.decl.at B3
+  pub fault : f ≡ block_fault decl.decl.file decl.decl.at B3
 
 -- B1: a binding of a name that an earlier one of the file binds
 pub record IsSecondBinding (files : List (List NamedImport)) (f : BlockFault) : Type 0 where
@@ -86,23 +86,23 @@ pub record IsSecondBinding (files : List (List NamedImport)) (f : BlockFault) : 
   pub after : List Bound
   pub split : file_bound imports ≡ before ++ bound ∷ after
   pub earlier : Any (Names bound.name) before
-  pub fault : f ≡ fault_at number bound.binding.at B1
+  pub fault : f ≡ block_fault number bound.binding.at B1
 
 -- B2: a binding of a name that the package block has
-pub record IsHidden (ds : List Declared) (files : List (List NamedImport)) (f : BlockFault) : Type 0 where
+pub record IsHidden (ds : List Declaration) (files : List (List NamedImport)) (f : BlockFault) : Type 0 where
   pub number : ℕ
   pub imports : List NamedImport
   pub file : slice_get files number ≡ Some imports
   pub bound : Bound
   pub among : Contains (file_bound imports) bound
   pub of_package : Any (Declares bound.name) ds
-  pub fault : f ≡ fault_at number bound.binding.at B2
+  pub fault : f ≡ block_fault number bound.binding.at B2
 
 -- the faults in the blocks of a package
 abbrev pub IsBlockFault : Trees → List (List NamedImport) → BlockFault → Type 0
 IsBlockFault trees files f =
     IsSecondDecl (package_declared trees) f
-    ⊎ (IsMalformed (is_main trees) (package_declared trees) f
+    ⊎ (IsMalformed (is_main_package trees) (package_declared trees) f
     ⊎ (IsSecondBinding files f
     ⊎ IsHidden (package_declared trees) files f))
 
@@ -111,8 +111,8 @@ abbrev pub FaultsAreThese : Type 0
 FaultsAreThese = (trees : Trees) (files : List (List NamedImport)) (f : BlockFault) → Contains (all_faults trees files) f ↔ IsBlockFault trees files f
 
 -- a declaration stands before another: in an earlier file, or earlier in the same
-abbrev pub IsBefore : Declared → Declared → Type 0
-IsBefore d e = (d.decl.file < e.decl.file) ⊎ ((d.decl.file ≡ e.decl.file) × (d.decl.at < e.decl.at))
+abbrev pub StandsBefore : Declaration → Declaration → Type 0
+StandsBefore d e = (d.decl.file < e.decl.file) ⊎ ((d.decl.file ≡ e.decl.file) × (d.decl.at < e.decl.at))
 
 -- the tokens of each file's tree follow one another, as those of a text do
 abbrev pub ArePlaced : Trees → Type 0
@@ -120,7 +120,7 @@ ArePlaced trees = All (λ t. (high : ℕ) × InOrder 0 (spell_file t.1) high) tr
 
 -- the list of declarations is in order of file and offset, so that the first of a name is the first by these
 abbrev pub DeclarationsInOrder : Type 0
-DeclarationsInOrder = (trees : Trees) → ArePlaced trees → AllPairs IsBefore (package_declared trees)
+DeclarationsInOrder = (trees : Trees) → ArePlaced trees → AllPairs StandsBefore (package_declared trees)
 
 -- the list of bindings is in order of place, so that the first of a name is the first by place
 abbrev pub BindingsInOrder : Type 0

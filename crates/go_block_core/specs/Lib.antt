@@ -8,3 +8,4 @@ pub mod Laws
 pub mod Naming
 pub mod Tables
 pub mod Words
+pub mod mirrors

@@ -5,10 +5,10 @@ ghost use Rattle.go_block_core.specs.Naming.{HaveBlocks};
 ghost use Rattle.go_block_core.specs.All.{AreBlocksAt, AreAllBlocks};
 
 use crate::block::Blocks;
-use crate::lists::append;
 use crate::making::blocks;
 use crate::naming::import_names;
 use go_graph_core::{Plan, Workspace, assemble};
+use go_parse_types::add;
 use std::alloc::{AllocError, Global};
 
 /// No blocks, for this number of packages.
@@ -17,7 +17,7 @@ fn no_blocks(alloc: Global, count: usize) -> Result<Vec<Option<Blocks>>, AllocEr
 {
     let mut all = Vec::with_capacity(alloc, count)?;
     for _package in 0..count {
-        append(&mut all, None)?;
+        add(&mut all, None)?;
     }
     Ok(all)
 }

@@ -1,12 +1,11 @@
 //! The names that imports bind in the block of their file.
-ghost use Rattle.std.specs.Prelude.{◌≡◌, ◌++◌, ◌∷◌, [], OnOk, IfOk};
-ghost use Rattle.go_block_core.specs.Bindings.{bound_as, target_of, own_bound, named_bound, exported_bound, dot_bound, import_bound, file_bound};
+ghost use Rattle.std.specs.Prelude.{◌≡◌, ◌++◌, ◌∷◌, [], OnOk, IfOk, option_map};
+ghost use Rattle.go_block_core.specs.Bindings.{bound_as, target_of, bound_if, named_bound, exported_bound, dot_bound, import_bound, file_bound};
 
 use crate::decls::DeclRef;
 use crate::imports::{ImportForm, NamedDecl, NamedImport};
-use crate::lists::append;
-use crate::word::last_name;
 use go_graph_core::ImportOutcome;
+use go_parse_types::add;
 use go_text_core::{Name, Rule, is_exported};
 use std::alloc::{AllocError, Global};
 
@@ -37,44 +36,20 @@ pub(crate) struct Bound {
 }
 
 /// Adds a binding.
-fn add(
+fn add_binding(
     bound: &mut Vec<Bound>,
     alloc: Global,
-    name: &str,
+    name: &Name,
     at: usize,
     target: Target,
 ) -> Result<(), AllocError>
     ensures { OnOk result (bound.new.items ≡ bound.old.items ++ bound_as at name.now target ∷ []) }
 {
     let entry = Bound {
-        name: Name::from_text(alloc, name)?,
+        name: name.copy(alloc)?,
         binding: Binding { at, target },
     };
-    append(bound, entry)
-}
-
-/// Adds what an import without a name binds.
-fn add_own(
-    bound: &mut Vec<Bound>,
-    alloc: Global,
-    name: &Name,
-    import: &NamedImport,
-) -> Result<(), AllocError>
-    ensures { OnOk result (bound.new.items ≡ bound.old.items ++ own_bound import.now.at import.now.text name.now import.now.outcome) }
-{
-    match import.outcome {
-        ImportOutcome::Package(number) => add(
-            bound,
-            alloc,
-            name.as_str(),
-            import.at,
-            Target::Package(number),
-        ),
-        ImportOutcome::Refused(rule) => match last_name(alloc, import.text.as_bytes())? {
-            None => Ok(()),
-            Some(name) => add(bound, alloc, name, import.at, Target::Refused(rule)),
-        },
-    }
+    add(bound, entry)
 }
 
 /// What the name of an import denotes.
@@ -87,6 +62,21 @@ fn target_of(outcome: ImportOutcome) -> Target
     }
 }
 
+/// Adds what an import without a name binds: its own name, if it has one.
+fn add_own(
+    bound: &mut Vec<Bound>,
+    alloc: Global,
+    name: Option<&Name>,
+    import: &NamedImport,
+) -> Result<(), AllocError>
+    ensures { OnOk result (bound.new.items ≡ bound.old.items ++ bound_if import.now.at (option_map (λ n. n.now) name.entry) (target_of import.now.outcome)) }
+{
+    match name {
+        Some(name) => add_binding(bound, alloc, name, import.at, target_of(import.outcome)),
+        None => Ok(()),
+    }
+}
+
 /// Adds what an import under another name binds.
 fn add_named(
     bound: &mut Vec<Bound>,
@@ -96,11 +86,10 @@ fn add_named(
 ) -> Result<(), AllocError>
     ensures { OnOk result (bound.new.items ≡ bound.old.items ++ named_bound import.now.at name.now import.now.outcome) }
 {
-    let name = name.as_str();
-    if name == "_" {
+    if name.as_str() == "_" {
         return Ok(());
     }
-    add(bound, alloc, name, import.at, target_of(import.outcome))
+    add_binding(bound, alloc, name, import.at, target_of(import.outcome))
 }
 
 /// Adds a name of a package's block, if it is exported.
@@ -113,9 +102,9 @@ fn add_exported(
 ) -> Result<(), AllocError>
     ensures { OnOk result (bound.new.items ≡ bound.old.items ++ exported_bound at number named.now) }
 {
-    let name = named.name.as_str();
-    if is_exported(name) {
-        return add(bound, alloc, name, at, Target::Exported(number, named.decl));
+    if is_exported(named.name.as_str()) {
+        let target = Target::Exported(number, named.decl);
+        return add_binding(bound, alloc, &named.name, at, target);
     }
     Ok(())
 }
@@ -142,7 +131,7 @@ fn add_import(bound: &mut Vec<Bound>, alloc: Global, import: &NamedImport) -> Re
     ensures { OnOk result (bound.new.items ≡ bound.old.items ++ import_bound import.now) }
 {
     match &import.form {
-        ImportForm::Own(name) => add_own(bound, alloc, name, import),
+        ImportForm::Own(name) => add_own(bound, alloc, name.as_ref(), import),
         ImportForm::Named(name) => add_named(bound, alloc, name, import),
         ImportForm::Dot(names) => add_dot(bound, alloc, names, import),
     }

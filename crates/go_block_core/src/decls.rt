@@ -3,10 +3,10 @@ ghost use Rattle.std.specs.Prelude.{◌≡◌, ◌++◌, ◌∷◌, [], OnOk, If
 ghost use Rattle.go_tree_nodes.specs.TypeShapes.{shape_idents, shape_results, shape_signature};
 ghost use Rattle.go_tree_nodes.specs.Shapes.{shape_value, shape_type_decl, decl_of, top_of};
 ghost use Rattle.go_block_core.specs.Laws.{ArePlaced};
-ghost use Rattle.go_block_core.specs.Declarations.{declared, declared_idents, value_declared, types_declared, decl_declared, tops_declared, package_declared, kind_of, without_results, is_procedure};
+ghost use Rattle.go_block_core.specs.Declarations.{declaration, declared_idents, value_declared, types_declared, decl_declared, tops_declared, package_declared, kind_of, without_results, is_procedure};
 
-use crate::lists::append;
 use go_graph_core::Package;
+use go_parse_types::add;
 use go_text_core::Name;
 use go_tree_nodes::{
     Decl, Ident, Idents, Results, Signature, TopDecl, TypeDecl, TypeSpecs, ValueDecl, ValueKind,
@@ -35,7 +35,7 @@ pub struct DeclRef {
 
 /// A declaration with its name, and whether it is a function without parameters and results.
 #[derive(Drop)]
-pub(crate) struct Declared {
+pub(crate) struct Declaration {
     pub(crate) name: Name,
     pub(crate) decl: DeclRef,
     pub(crate) is_procedure: bool,
@@ -70,31 +70,31 @@ fn is_procedure(signature: &Signature) -> bool
 }
 
 /// Adds the declaration of an identifier.
-fn add(
-    decls: &mut Vec<Declared>,
+fn add_ident(
+    decls: &mut Vec<Declaration>,
     alloc: Global,
     file: usize,
     kind: DeclKind,
     is_procedure: bool,
     ident: &Ident,
 ) -> Result<(), AllocError>
-    ensures { OnOk result (decls.new.items ≡ decls.old.items ++ declared file kind is_procedure ident.now ∷ []) }
+    ensures { OnOk result (decls.new.items ≡ decls.old.items ++ declaration file kind is_procedure ident.now ∷ []) }
 {
-    let declared = Declared {
+    let declared = Declaration {
         name: ident.name.copy(alloc)?,
         decl: DeclRef {
             file,
-            at: ident.span.start,
+            at: ident.span.start as usize,
             kind,
         },
         is_procedure,
     };
-    append(decls, declared)
+    add(decls, declared)
 }
 
 /// Adds the declarations of some identifiers.
 fn add_idents(
-    decls: &mut Vec<Declared>,
+    decls: &mut Vec<Declaration>,
     alloc: Global,
     file: usize,
     kind: DeclKind,
@@ -102,16 +102,16 @@ fn add_idents(
 ) -> Result<(), AllocError>
     ensures { OnOk result (decls.new.items ≡ decls.old.items ++ declared_idents file kind (shape_idents idents.now)) }
 {
-    add(decls, alloc, file, kind, false, &idents.first)?;
+    add_ident(decls, alloc, file, kind, false, &idents.first)?;
     for next in &idents.more {
-        add(decls, alloc, file, kind, false, &next.ident)?;
+        add_ident(decls, alloc, file, kind, false, &next.ident)?;
     }
     Ok(())
 }
 
 /// Adds what a declaration of constants or variables declares.
 fn add_values(
-    decls: &mut Vec<Declared>,
+    decls: &mut Vec<Declaration>,
     alloc: Global,
     file: usize,
     value: &ValueDecl,
@@ -132,7 +132,7 @@ fn add_values(
 
 /// Adds what a declaration of types declares.
 fn add_types(
-    decls: &mut Vec<Declared>,
+    decls: &mut Vec<Declaration>,
     alloc: Global,
     file: usize,
     types: &TypeDecl,
@@ -140,10 +140,10 @@ fn add_types(
     ensures { OnOk result (decls.new.items ≡ decls.old.items ++ types_declared file (shape_type_decl types.now)) }
 {
     match &types.specs {
-        TypeSpecs::One(spec) => add(decls, alloc, file, DeclKind::Type, false, &spec.name),
+        TypeSpecs::One(spec) => add_ident(decls, alloc, file, DeclKind::Type, false, &spec.name),
         TypeSpecs::Group(_, lines, _) => {
             for line in lines {
-                add(decls, alloc, file, DeclKind::Type, false, &line.spec.name)?;
+                add_ident(decls, alloc, file, DeclKind::Type, false, &line.spec.name)?;
             }
             Ok(())
         }
@@ -152,7 +152,7 @@ fn add_types(
 
 /// Adds what a declaration declares. A method is not declared in the package block.
 fn add_decl(
-    decls: &mut Vec<Declared>,
+    decls: &mut Vec<Declaration>,
     alloc: Global,
     file: usize,
     decl: &Decl,
@@ -167,14 +167,14 @@ fn add_decl(
                 return Ok(());
             }
             let is_procedure = is_procedure(&func.signature);
-            add(decls, alloc, file, DeclKind::Func, is_procedure, &func.name)
+            add_ident(decls, alloc, file, DeclKind::Func, is_procedure, &func.name)
         }
     }
 }
 
 /// Adds what the declarations of a file declare.
 fn add_tops(
-    decls: &mut Vec<Declared>,
+    decls: &mut Vec<Declaration>,
     alloc: Global,
     file: usize,
     tops: &Vec<TopDecl>,
@@ -191,7 +191,7 @@ fn add_tops(
 pub(crate) fn declarations(
     alloc: Global,
     package: &Package<'_>,
-) -> Result<Vec<Declared>, AllocError>
+) -> Result<Vec<Declaration>, AllocError>
     ensures decls { IfOk result (λ decls. decls.items ≡ package_declared «package».now) }
     // The tokens of each tree follow one another in its text.
     ensures placed { OnOk result (ArePlaced «package».now) }

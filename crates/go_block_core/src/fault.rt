@@ -1,6 +1,6 @@
 //! Faults of blocks.
 ghost use Rattle.std.specs.Prelude.{◌≡◌, ◌++◌, OnOk};
-ghost use Rattle.go_block_core.specs.Faults.{fault_at, fault_if, rule_of};
+ghost use Rattle.go_block_core.specs.Faults.{block_fault, fault_if, rule_of};
 
 use go_text_core::Rule;
 use std::alloc::AllocError;
@@ -47,7 +47,7 @@ pub(crate) fn add_fault_if(
     offset: usize,
     rule: BlockRule,
 ) -> Result<(), AllocError>
-    ensures { OnOk result (faults.new.items ≡ faults.old.items ++ fault_if is_fault (fault_at file offset rule)) }
+    ensures { OnOk result (faults.new.items ≡ faults.old.items ++ fault_if is_fault (block_fault file offset rule)) }
 {
     if is_fault {
         faults.push(BlockFault { file, offset, rule })?;

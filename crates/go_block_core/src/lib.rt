@@ -14,7 +14,6 @@ mod decls;
 mod fault;
 mod imports;
 mod laws;
-mod lists;
 mod making;
 mod naming;
 mod package_block;
@@ -26,7 +25,7 @@ pub use binding::{Binding, Target};
 pub use block::Blocks;
 pub use decls::{DeclKind, DeclRef};
 pub use fault::{BlockFault, BlockRule};
-pub use imports::{ImportForm, ImportNames, NamedDecl, NamedImport};
+pub use imports::{ImportNames, NamedDecl};
 pub use laws::{
     bindings_are_in_order, declarations_are_in_order, faults_are_these, file_answers_its_own,
     file_has_the_first, import_texts_agree, one_blocks, package_has_the_first,

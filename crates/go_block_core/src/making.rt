@@ -1,8 +1,8 @@
 //! The making of the blocks of a package.
 ghost use Rattle.std.specs.Prelude.{◌≡◌, ◌++◌, [], IfOk, OnOk, AllPairs};
 ghost use Rattle.go_block_core.specs.Tables.{table_of};
-ghost use Rattle.go_block_core.specs.Declarations.{is_main, package_declared};
-ghost use Rattle.go_block_core.specs.Laws.{IsBefore, ArePlaced};
+ghost use Rattle.go_block_core.specs.Declarations.{is_main_package, package_declared};
+ghost use Rattle.go_block_core.specs.Laws.{StandsBefore, ArePlaced};
 ghost use Rattle.go_block_core.specs.Faults.{decl_faults};
 ghost use Rattle.go_block_core.specs.Holding.{package_block};
 ghost use Rattle.go_block_core.specs.Blocks.{AreBlocks, HoldsEachOnce, imports_of};
@@ -23,7 +23,7 @@ fn declared_block(
     faults: &mut Vec<BlockFault>,
 ) -> Result<IndexMap<String, DeclRef>, AllocError>
     ensures table { IfOk result (λ table. table_of table ≡ package_block «package».now) }
-    ensures faults { OnOk result (faults.new.items ≡ faults.old.items ++ decl_faults (is_main «package».now) [] (package_declared «package».now)) }
+    ensures faults { OnOk result (faults.new.items ≡ faults.old.items ++ decl_faults (is_main_package «package».now) [] (package_declared «package».now)) }
     ensures placed { OnOk result (ArePlaced «package».now) }
 {
     let is_main = package.name() == "main";
@@ -57,7 +57,7 @@ pub fn blocks(
 ) -> Result<Blocks, AllocError>
     ensures blocks { IfOk result (AreBlocks «package».now (imports_of names.now)) }
     // The first declaration of a name in this list is the first by file and offset.
-    ensures order { OnOk result (AllPairs IsBefore (package_declared «package».now)) }
+    ensures order { OnOk result (AllPairs StandsBefore (package_declared «package».now)) }
 {
     let mut faults = Vec::new(alloc);
     let table = declared_block(alloc, package, &mut faults)?;

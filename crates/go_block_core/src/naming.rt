@@ -1,18 +1,21 @@
 //! The imports of a package, from the plan of its workspace.
 ghost use Rattle.std.specs.Prelude.{◌≡◌, ◌++◌, IfOk, OnOk, map};
 ghost use Rattle.go_tree_nodes.specs.Shapes.{import_of, shape_import_spec, shape_import_specs};
+ghost use Rattle.go_tree_nodes.specs.Terminals.{value_of};
 ghost use Rattle.go_graph_core.specs.Packages.{IsAssembled, IsNameOf};
 ghost use Rattle.go_graph_core.specs.Imports.{IsOutcome};
 ghost use Rattle.go_graph_core.specs.Plans.{IsPlan, IsAssembledAt};
 ghost use Rattle.go_block_core.specs.Blocks.{imports_of};
-ghost use Rattle.go_block_core.specs.Naming.{AreImportsOf, AreFileImports, AreSpecImports, IsImportOf, IsFileAt, IsSpecAt, AreSpecsAt, IsForm, IsOwnName, AreDotNames, HaveBlocks, HasDotBlocks, HasOutcomeBlocks, spec_shown, specs_in, specs_of};
+ghost use Rattle.go_block_core.specs.Naming.{AreImportsOf, AreFileImports, AreSpecImports, IsImportOf, IsFileAt, IsSpecAt, IsForm, IsOwnName, AreDotNames, HaveBlocks, HasDotBlocks, HasOutcomeBlocks, specs_in, specs_of};
+ghost use Rattle.go_block_core.specs.mirrors.Shown.{AreSpecsAt, spec_shown};
 
 use crate::block::Blocks;
 use crate::imports::{ImportForm, ImportNames, NamedDecl, NamedImport};
-use crate::lists::append;
+use crate::word::refused_name;
 use go_graph_core::{ImportAt, ImportOutcome, PackageSource, Plan, SourceFile, Workspace};
+use go_parse_types::add;
 use go_text_core::Name;
-use go_tree_nodes::{ImportDecl, ImportName, ImportSpec, ImportSpecs};
+use go_tree_nodes::{ImportDecl, ImportName, ImportSpec, ImportSpecs, TextLiteral};
 use std::alloc::{AllocError, Global};
 
 /// Adds the imports of a declaration.
@@ -23,10 +26,10 @@ fn add_specs<'a>(
     ensures { OnOk result (map spec_shown specs.new.items ≡ map spec_shown specs.old.items ++ specs_in (shape_import_specs declared.now)) }
 {
     match declared {
-        ImportSpecs::One(spec) => append(specs, spec),
+        ImportSpecs::One(spec) => add(specs, spec),
         ImportSpecs::Group(_, lines, _) => {
             for line in lines {
-                append(specs, &line.spec)?;
+                add(specs, &line.spec)?;
             }
             Ok(())
         }
@@ -59,23 +62,25 @@ fn clause_name(source: &PackageSource) -> &Name
     }
 }
 
-/// The name of an import at a place that is written without one: that in the clause of the package that it comes
-/// to. A refused import has an empty one.
+/// The name of an import of this path that is written without one: that in the clause of the package that it comes
+/// to. A refused import has what its path ends with, if that may be a name.
 fn own_name(
     alloc: Global,
     workspace: &Workspace,
     at: ImportAt,
+    path: &TextLiteral,
     outcome: ImportOutcome,
-) -> Result<Name, AllocError>
+) -> Result<Option<Name>, AllocError>
     requires { IsOutcome workspace.now at outcome }
-    ensures { IfOk result (λ name. IsOwnName workspace.now outcome name) }
+    ensures { IfOk result (λ name. IsOwnName workspace.now (value_of path.now) outcome name) }
 {
     match outcome {
         ImportOutcome::Package(number) => {
             let packages = workspace.packages();
-            clause_name(&packages[number]).copy(alloc)
+            let name = clause_name(&packages[number]).copy(alloc)?;
+            Ok(Some(name))
         }
-        ImportOutcome::Refused(_) => Ok(Name::new(String::new(alloc))),
+        ImportOutcome::Refused(_) => refused_name(alloc, path),
     }
 }
 
@@ -98,21 +103,24 @@ fn dot_names(
     }
 }
 
-/// The form of the import at a place, with this name before its string.
+/// The form of the import at a place, which is written so.
 fn form_of(
     alloc: Global,
     workspace: &Workspace,
     blocks: &[Option<Blocks>],
     at: ImportAt,
-    name: &ImportName,
+    spec: &ImportSpec,
     outcome: ImportOutcome,
 ) -> Result<ImportForm, AllocError>
     requires come { IsOutcome workspace.now at outcome }
-    requires made { HasDotBlocks blocks.now name.now outcome }
-    ensures { IfOk result (λ form. IsForm workspace.now blocks.now name.now outcome form) }
+    requires made { HasDotBlocks blocks.now spec.now.name outcome }
+    ensures { IfOk result (λ form. IsForm workspace.now blocks.now (value_of spec.now.path) spec.now.name outcome form) }
 {
-    match name {
-        ImportName::Own => Ok(ImportForm::Own(own_name(alloc, workspace, at, outcome)?)),
+    match &spec.name {
+        ImportName::Own => {
+            let name = own_name(alloc, workspace, at, &spec.path, outcome)?;
+            Ok(ImportForm::Own(name))
+        }
         ImportName::Named(ident) => Ok(ImportForm::Named(ident.name.copy(alloc)?)),
         ImportName::Dot(_) => Ok(ImportForm::Dot(dot_names(alloc, blocks, outcome)?)),
     }
@@ -135,12 +143,9 @@ fn named_import(
     let Some(outcome) = plan.outcome(at) else {
         unreachable!()
     };
-    // The text first: where memory is wanting for the form, one list is let go, and never a form with its names.
-    let text = spec.path.value.copy(alloc)?;
-    let form = form_of(alloc, workspace, blocks, at, &spec.name, outcome)?;
+    let form = form_of(alloc, workspace, blocks, at, spec, outcome)?;
     Ok(NamedImport {
-        at: spec.path.span.start,
-        text,
+        at: spec.path.span.start as usize,
         outcome,
         form,
     })
@@ -169,7 +174,7 @@ fn named_imports(
             import,
         };
         let named = named_import(alloc, workspace, plan, blocks, at, specs[import])?;
-        append(&mut imports, named)?;
+        add(&mut imports, named)?;
     }
     Ok(imports)
 }
@@ -231,7 +236,7 @@ pub fn import_names(
     let mut imports = Vec::with_capacity(alloc, files.len())?;
     for file in 0..files.len() {
         let of_file = file_imports(alloc, workspace, plan, blocks, number, file, &files[file])?;
-        append(&mut imports, of_file)?;
+        add(&mut imports, of_file)?;
     }
     Ok(ImportNames::new(imports))
 }

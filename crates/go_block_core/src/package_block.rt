@@ -1,30 +1,30 @@
 //! What the package block and the file blocks hold, and the faults in them.
 ghost use Rattle.std.specs.Prelude.{◌≡◌, ◌++◌, ◌∷◌, [], not, ◌&&◌, OnOk, IfOk, map};
 ghost use Rattle.go_block_core.specs.Tables.{table_of};
-ghost use Rattle.go_block_core.specs.Declarations.{binds, has_fixed_form};
+ghost use Rattle.go_block_core.specs.Declarations.{is_bindable, has_fixed_form};
 ghost use Rattle.go_block_core.specs.Faults.{decl_faults_at, decl_faults, bound_faults_at, bound_faults, file_faults};
 ghost use Rattle.go_block_core.specs.Holding.{is_second, with_declared, declared_block, with_bound, bound_block, file_block, file_blocks, imports_in};
 ghost use Rattle.go_block_core.specs.Bindings.{file_bound, name_and_decl};
 
 use crate::binding::{Binding, Bound, bindings};
-use crate::decls::{DeclRef, Declared};
+use crate::decls::{DeclRef, Declaration};
 use crate::fault::{BlockFault, BlockRule, add_fault_if};
 use crate::imports::{NamedDecl, NamedImport};
-use crate::lists::append;
 use crate::table::{bind_first, find};
+use go_parse_types::add;
 use go_text_core::Name;
 use indexmap::IndexMap;
 use std::alloc::{AllocError, Global};
 
 /// Whether a declaration of this name binds it.
-fn binds(name: &str) -> bool
-    ensures { result ≡ binds name.now }
+fn is_bindable(name: &str) -> bool
+    ensures { result ≡ is_bindable name.now }
 {
     name != "_" && name != "init"
 }
 
 /// Whether a declaration must be a function without parameters and results, and is none.
-fn is_malformed(is_main: bool, declared: &Declared) -> bool
+fn is_malformed(is_main: bool, declared: &Declaration) -> bool
     ensures { result ≡ (has_fixed_form is_main declared.now.name && not declared.now.is_procedure) }
 {
     let name = declared.name.as_str();
@@ -35,13 +35,13 @@ fn is_malformed(is_main: bool, declared: &Declared) -> bool
 fn declare(
     table: &mut IndexMap<String, DeclRef>,
     alloc: Global,
-    declared: &Declared,
+    declared: &Declaration,
 ) -> Result<bool, AllocError>
     ensures second { IfOk result (λ second. second ≡ is_second (table_of table.old) declared.now) }
     ensures table { OnOk result (table_of table.new ≡ with_declared (table_of table.old) declared.now) }
 {
     let name = declared.name.as_str();
-    if binds(name) {
+    if is_bindable(name) {
         return bind_first(table, alloc, name, declared.decl);
     }
     Ok(false)
@@ -52,7 +52,7 @@ fn add_declared(
     table: &mut IndexMap<String, DeclRef>,
     alloc: Global,
     is_main: bool,
-    declared: &Declared,
+    declared: &Declaration,
     faults: &mut Vec<BlockFault>,
 ) -> Result<(), AllocError>
     ensures table { OnOk result (table_of table.new ≡ with_declared (table_of table.old) declared.now) }
@@ -69,7 +69,7 @@ fn add_declared(
 pub(crate) fn package_block(
     alloc: Global,
     is_main: bool,
-    decls: &Vec<Declared>,
+    decls: &Vec<Declaration>,
     faults: &mut Vec<BlockFault>,
 ) -> Result<IndexMap<String, DeclRef>, AllocError>
     ensures table { IfOk result (λ table. table_of table ≡ declared_block [] decls.now.items) }
@@ -143,13 +143,13 @@ pub(crate) fn file_blocks(
     let mut tables = Vec::new(alloc);
     for imports in files {
         let table = file_block(alloc, names, tables.len(), imports, faults)?;
-        append(&mut tables, table)?;
+        add(&mut tables, table)?;
     }
     Ok(tables)
 }
 
 /// Adds a name with its declaration.
-fn add_name(
+fn add_entry(
     names: &mut Vec<NamedDecl>,
     alloc: Global,
     name: &str,
@@ -161,7 +161,7 @@ fn add_name(
         name: Name::from_text(alloc, name)?,
         decl,
     };
-    append(names, named)
+    add(names, named)
 }
 
 /// The names of a table with their declarations, in order.
@@ -173,7 +173,7 @@ pub(crate) fn names_of(
 {
     let mut names = Vec::new(alloc);
     for (name, decl) in table {
-        add_name(&mut names, alloc, name.as_str(), *decl)?;
+        add_entry(&mut names, alloc, name.as_str(), *decl)?;
     }
     Ok(names)
 }

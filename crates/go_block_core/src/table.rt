@@ -2,7 +2,7 @@
 ghost use Rattle.std.specs.Prelude.{◌≡◌, OnOk, IfOk, is_some, map};
 ghost use Rattle.go_block_core.specs.Tables.{table_of, in_block, has, with_first, names_in, without};
 
-use crate::lists::append;
+use go_parse_types::add;
 use indexmap::IndexMap;
 use std::alloc::{AllocError, Global};
 
@@ -40,7 +40,7 @@ pub(crate) fn names_in<'a, V>(
 {
     let mut names = Vec::with_capacity(alloc, table.len())?;
     for (name, _) in table {
-        append(&mut names, name.as_str())?;
+        add(&mut names, name.as_str())?;
     }
     Ok(names)
 }
@@ -57,7 +57,7 @@ pub(crate) fn names_without<'a, V, W: Copy>(
     for (name, _) in table {
         let name = name.as_str();
         if find(other, name).is_none() {
-            append(&mut names, name)?;
+            add(&mut names, name)?;
         }
     }
     Ok(names)

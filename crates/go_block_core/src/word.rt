@@ -1,12 +1,15 @@
-//! The name of a refused import.
+//! The name of a refused import that is written without one.
 ghost use Rattle.std.specs.Prelude.{◌≡◌, IfOk};
 ghost use Rattle.std.specs.Str.{chars};
 ghost use Rattle.std.specs.List.{list_all};
-ghost use Rattle.go_scan_core.specs.Reading.{letter_or_digit};
-ghost use Rattle.go_block_core.specs.Words.{begins_with_letter, is_keyword, identifier, last_element, as_text, is_name, last_name, text_shown};
+ghost use Rattle.go_scan_core.specs.Characters.{letter_or_digit};
+ghost use Rattle.go_tree_nodes.specs.Terminals.{value_of};
+ghost use Rattle.go_block_core.specs.Words.{begins_with_letter, is_keyword, identifier, last_element, as_text, is_name, last_name};
+ghost use Rattle.go_block_core.specs.mirrors.Shown.{text_shown};
 
 use go_scan_core::KEYWORDS;
-use go_text_core::{is_digit, is_letter};
+use go_text_core::{Name, is_digit, is_letter};
+use go_tree_nodes::TextLiteral;
 use std::alloc::{AllocError, Global};
 use std::str;
 
@@ -78,7 +81,7 @@ fn is_name(alloc: Global, text: &str) -> Result<bool, AllocError>
 }
 
 /// The last element of a text, where it is an identifier other than `_`.
-pub(crate) fn last_name(alloc: Global, text: &[u8]) -> Result<Option<&str>, AllocError>
+fn last_name(alloc: Global, text: &[u8]) -> Result<Option<&str>, AllocError>
     ensures { IfOk result (λ name. text_shown name ≡ last_name text.now) }
 {
     let Some(element) = as_text(last_element(text)) else {
@@ -88,4 +91,15 @@ pub(crate) fn last_name(alloc: Global, text: &[u8]) -> Result<Option<&str>, Allo
         return Ok(Some(element));
     }
     Ok(None)
+}
+
+/// The name of a refused import of this path: the last element of the path, where that is an identifier other than `_`.
+pub(crate) fn refused_name(alloc: Global, path: &TextLiteral) -> Result<Option<Name>, AllocError>
+    ensures { IfOk result (λ name. name ≡ last_name (value_of path.now)) }
+{
+    let text = path.value(alloc)?;
+    match last_name(alloc, &text)? {
+        Some(name) => Ok(Some(Name::from_text(alloc, name)?)),
+        None => Ok(None),
+    }
 }

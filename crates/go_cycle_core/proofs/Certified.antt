@@ -5,9 +5,9 @@ use Rattle.std.proofs.lemmas.Bool.{and_parts, or_cases, cond_both, cases_lt, eqb
 use Rattle.std.proofs.lemmas.List.{get_or-replicate, get_or_past, length-replicate}
 use Rattle.std.proofs.lemmas.List.Elements.{All-contains}
 use Rattle.go_cycle_core.specs.declared.edge.Edge.{Edge}
-use Rattle.go_cycle_core.specs.Certificate.{is_linked, marks_after, marks_after_place, marks_along, Holds, IsCertificate}
+use Rattle.go_cycle_core.specs.mirrors.Certificate.{is_linked, marks_after, marks_after_place, marks_along, Holds, IsCertificate}
 use Rattle.go_cycle_core.specs.Cycle.{Reaches, IsRanking, reversed}
-use Rattle.go_cycle_core.specs.Search.{edge_at, IsMarked}
+use Rattle.go_cycle_core.specs.mirrors.Search.{edge_at, IsMarked}
 use Rattle.go_cycle_core.proofs.Marks.{marked_after}
 use Rattle.go_cycle_core.proofs.Places.{edge_there}
 use Rattle.go_cycle_core.proofs.Walks.{reaches_itself, reaches_on, reaches_end, reaches_other_way, leads_back, falls_along}

@@ -7,7 +7,7 @@ use Rattle.std.proofs.lemmas.List.Sums.{sum_by-cons}
 use Rattle.std.proofs.lemmas.Bool.{cases_eq}
 use Rattle.go_cycle_core.specs.declared.edge.Edge.{Edge}
 use Rattle.go_cycle_core.specs.Cycle.{InRange, IsRanking}
-use Rattle.go_cycle_core.specs.Search.{IsReachCount}
+use Rattle.go_cycle_core.specs.mirrors.Search.{IsReachCount}
 use Rattle.go_cycle_core.proofs.Walks.{reaches_itself, reaches_on, reaches_end, leads_back}
 
 bit_le : (x y : Bool) → (x ≡ true → y ≡ true) → cond x 1 0 ≤ cond y 1 0

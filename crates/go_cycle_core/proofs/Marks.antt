@@ -8,7 +8,7 @@ use Rattle.std.proofs.lemmas.List.Sums.{sum_by-set}
 use Rattle.std.proofs.lemmas.Bool.{cases_eq}
 use Rattle.go_cycle_core.specs.declared.edge.Edge.{Edge}
 use Rattle.go_cycle_core.specs.Cycle.{Leads, Reaches}
-use Rattle.go_cycle_core.specs.Search.{edge_at, row_at, AreRows, IsMarked, IsReach, IsVisited, MarksRow}
+use Rattle.go_cycle_core.specs.mirrors.Search.{edge_at, row_at, AreRows, IsMarked, IsReach, IsVisited, MarksRow}
 use Rattle.go_cycle_core.proofs.Places.{edge_there, edge_found, none_in, in_row}
 use Rattle.go_cycle_core.proofs.Walks.{reaches_itself, reaches_on, reaches_end}
 

@@ -6,7 +6,7 @@ use Rattle.std.proofs.lemmas.List.{get_or-set_other, get_or-set_same, get_or-map
 use Rattle.std.proofs.lemmas.List.Elements.{Contains-get_or, Contains-append_left, Contains-push, Contains-push_cases, filter-append}
 use Rattle.std.proofs.lemmas.Bool.{cases_eq, cond-true, cond-false, eq-eqb, ne_eqb}
 use Rattle.go_cycle_core.specs.declared.edge.Edge.{Edge}
-use Rattle.go_cycle_core.specs.Search.{edge_at, row_at, AreEmpty, AreRows}
+use Rattle.go_cycle_core.specs.mirrors.Search.{edge_at, row_at, AreEmpty, AreRows}
 
 pub edge_there : (g : List Edge) (k : ℕ) → k < length g → Contains g (edge_at g k)
 edge_there g k lt = Contains-get_or g k (record { from = 0; to = 0 }) lt

@@ -1,4 +1,3 @@
-pub mod Certificate
 pub mod Cycle
 pub mod Laws
-pub mod Search
+pub mod mirrors

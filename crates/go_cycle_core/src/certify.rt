@@ -1,6 +1,6 @@
 //! The check of a guess.
 ghost use Rattle.std.specs.Prelude.{◌≡◌, ◌<◌, ◌↔◌, IfOk, IsTrue, All, length};
-ghost use Rattle.go_cycle_core.specs.Certificate.{Holds, IsCertificate, is_linked, marks_after, marks_along};
+ghost use Rattle.go_cycle_core.specs.mirrors.Certificate.{Holds, IsCertificate, is_linked, marks_after, marks_along};
 ghost use Rattle.go_cycle_core.specs.Cycle.{InRange, IsRanking};
 
 use crate::edge::{Edge, reversed_edges};

@@ -1,7 +1,7 @@
 //! A guess at the strongly connected components, in linear time. Nothing rests on it: `certify` checks it.
 ghost use Rattle.std.specs.Prelude.{◌≡◌, ◌↔◌, IfOk, IsTrue, true, false, length, slice_index_or, slice_set};
 ghost use Rattle.go_cycle_core.specs.Cycle.{InRange};
-ghost use Rattle.go_cycle_core.specs.Search.{edge_at};
+ghost use Rattle.go_cycle_core.specs.mirrors.Search.{edge_at};
 
 use crate::edge::{Edge, reversed_edges};
 use crate::rows::{row_of, rows_of};

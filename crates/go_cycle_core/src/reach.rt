@@ -1,7 +1,7 @@
 //! Ranks by what each node reaches.
 ghost use Rattle.std.specs.Prelude.{◌≡◌, ◌<◌, ℕ, All, IfOk, OnOk, count_by, length, slice_index_or, false};
 ghost use Rattle.go_cycle_core.specs.Cycle.{InRange, IsRanking};
-ghost use Rattle.go_cycle_core.specs.Search.{AreRows, IsReach, IsReachCount, IsVisited, MarksRow};
+ghost use Rattle.go_cycle_core.specs.mirrors.Search.{AreRows, IsReach, IsReachCount, IsVisited, MarksRow};
 
 use crate::edge::Edge;
 use crate::rows::{row_of, rows_of};

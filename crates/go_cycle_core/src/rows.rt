@@ -1,7 +1,7 @@
 //! The edges of each node.
 ghost use Rattle.std.specs.Prelude.{◌≡◌, IfOk, length};
 ghost use Rattle.go_cycle_core.specs.Cycle.{InRange};
-ghost use Rattle.go_cycle_core.specs.Search.{AreEmpty, AreRows, row_at};
+ghost use Rattle.go_cycle_core.specs.mirrors.Search.{AreEmpty, AreRows, row_at};
 
 use crate::edge::Edge;
 use std::alloc::{AllocError, Global};

@@ -3,9 +3,10 @@ use Rattle.std.proofs.Common.{◌≡◌, ℕ, ◌<◌, ◌+◌, List, [], ◌∷
 use Rattle.std.specs.List.{AllZip, flat_map}
 use Rattle.std.proofs.lemmas.List.{take_more, append_assoc, flat_map_more}
 use Rattle.go_tree_nodes.specs.declared.files.ImportLine.{ImportLine}
+use Rattle.go_tree_nodes.specs.Terminals.{value_of}
 use Rattle.go_tree_nodes.specs.Shapes.{shape_import_line}
 use Rattle.go_graph_core.specs.declared.imports.ImportOutcome.{ImportOutcome}
-use Rattle.go_graph_core.specs.Targets.{Adds}
+use Rattle.go_graph_core.specs.mirrors.Targets.{Adds}
 use Rattle.go_graph_core.proofs.Zips.{zip_append}
 
 map_append : {A B : Type 0} (f : A → B) (xs ys : List A) → map f (xs ++ ys) ≡ map f xs ++ map f ys
@@ -28,6 +29,6 @@ zip_adds {A} R g xs i x cur new lt at h added =
     subst (λ (l : List ImportOutcome). AllZip R (flat_map g (take (i + 1) xs)) l) (sym added.1) (subst (λ (l : List (List ℕ)). AllZip R l (cur ++ added.0)) texts (zip_append R (flat_map g (take i xs)) (g x) cur added.0 h added.2))
 
 -- the texts of imports in parentheses
-pub group_texts : (lines : List ImportLine) → map (λ i. i.0.path.value) (map shape_import_line lines) ≡ map (λ (i : ImportLine). i.spec.path.value) lines
+pub group_texts : (lines : List ImportLine) → map (λ i. value_of i.0.path) (map shape_import_line lines) ≡ map (λ (i : ImportLine). value_of i.spec.path) lines
 group_texts [] = refl
-group_texts (i ∷ is) = ap (λ l. i.spec.path.value ∷ l) (group_texts is)
+group_texts (i ∷ is) = ap (λ l. value_of i.spec.path ∷ l) (group_texts is)

@@ -14,7 +14,7 @@ use Rattle.go_tree_nodes.specs.declared.names.Ident.{Ident}
 use Rattle.go_tree_nodes.specs.Trees.{FileTree}
 use Rattle.go_parse_core.specs.declared.error.SynFault.{SynFault}
 use Rattle.go_graph_core.specs.Sources.{SourceModel, source, clause_of, clause_in}
-use Rattle.go_graph_core.specs.Clauses.{has_none, has_name, place_in, lacks_clause, is_named, is_other}
+use Rattle.go_graph_core.specs.mirrors.Clauses.{has_none, clause_has_name, place_in, lacks_clause, is_named, is_other}
 use Rattle.go_graph_core.specs.Packages.{Trees, trees_of, HasNoClause, IsBlankAt, IsBlank, blank, DiffersAt, Differs, IsFirst, AllHaveTrees, NoneIsBlank, IsNameOf, IsK4, IsK3, IsK2, IsAssembled, IsPackageName}
 
 pub two : (b : Bool) → (b ≡ true) ⊎ (b ≡ false)
@@ -58,19 +58,19 @@ pub has_clause : (o : Option Ident) → has_none o ≡ false → (id : Ident) ×
 has_clause None h = cc
 has_clause (Some id) h = (id, refl)
 
-pub named-true : (name : List ℕ) (o : Option Ident) → has_name name o ≡ true → (id : Ident) × (o ≡ Some id) × (id.name ≡ name) × (place_in o ≡ id.span.start)
+pub named-true : (name : List ℕ) (o : Option Ident) → clause_has_name name o ≡ true → (id : Ident) × (o ≡ Some id) × (id.name ≡ name) × (place_in o ≡ id.span.start)
 named-true name None h = cc
 named-true name (Some id) h = (id, refl, (bytes_eq-Decides id.name name).0 h, refl)
 
-pub named-false : (name : List ℕ) (o : Option Ident) (id : Ident) → has_name name o ≡ false → o ≡ Some id → id.name ≡ name → ⊥
+pub named-false : (name : List ℕ) (o : Option Ident) (id : Ident) → clause_has_name name o ≡ false → o ≡ Some id → id.name ≡ name → ⊥
 named-false name None id h e same = cc
 named-false name (Some x) id h e same =
     let here : x.name ≡ name = ap (λ (o : Option Ident). elim o [ None ↦ x.name | Some y ↦ y.name ]) e ∙ same in
-    (let yes : has_name name (Some x) ≡ true = (bytes_eq-Decides x.name name).1 here in cc)
+    (let yes : clause_has_name name (Some x) ≡ true = (bytes_eq-Decides x.name name).1 here in cc)
 
 -- a clause that is not of this name is of another
-pub other-true : (name : List ℕ) (o : Option Ident) (id : Ident) → o ≡ Some id → not (has_name name o) ≡ true → id.name ≢ name
-other-true name o id e h = elim (two (has_name name o)) [
+pub other-true : (name : List ℕ) (o : Option Ident) (id : Ident) → o ≡ Some id → not (clause_has_name name o) ≡ true → id.name ≢ name
+other-true name o id e h = elim (two (clause_has_name name o)) [
   | inl y ↦ (let f : false ≡ true = sym (ap not y) ∙ h in cc)
   | inr n ↦ named-false name o id n e
 ]
@@ -182,10 +182,7 @@ as_many (s ∷ ss) all =
     let has = tree_of s (All-head (λ x. HasNoClause x → ⊥) s ss all) in
     ap length (one_more s ss has.0 has.1) ∙ ap suc (as_many ss (All-tail (λ x. HasNoClause x → ⊥) s ss all))
 
--- a file's number is below the number of files where it is below that of trees
-pub in_files : (files : List SourceModel) (trees : Trees) (i : ℕ) → AllHaveTrees files → trees_of files ≡ trees → i < length trees → i < length files
-in_files files trees i all view lt = subst (λ n. i < n) (sym (ap length view) ∙ as_many files all) lt
-
+-- the tree of a file, among the trees of all
 pub tree_at : (files : List SourceModel) (i : ℕ) (s : SourceModel) (f : FileTree) → AllHaveTrees files → slice_get files i ≡ Some s → s.content ≡ Ok f → slice_get (trees_of files) i ≡ Some (s.name, f)
 tree_at [] i s f all at e = cc
 tree_at (x ∷ xs) zero s f all at e =

@@ -6,7 +6,7 @@ use lib.Dec.{ltb}
 use Rattle.go_text_core.specs.declared.rule.Rule.TheVariants.{K2, K3, K4}
 use Rattle.go_graph_core.specs.declared.assembly.KFault.{KFault}
 use Rattle.go_graph_core.specs.Sources.{SourceModel, clause_of}
-use Rattle.go_graph_core.specs.Clauses.{place_in, lacks_clause, is_named, is_other}
+use Rattle.go_graph_core.specs.mirrors.Clauses.{place_in, lacks_clause, is_named, is_other}
 use Rattle.go_graph_core.specs.Packages.{Trees, trees_of, HasNoClause, IsBlankAt, IsBlank, blank, DiffersAt, Differs, IsFirst, AllHaveTrees, NoneIsBlank, IsNameOf, IsK4, IsK3, IsK2, IsAssembled, IsAssembly, HasAssembly, HasNoOtherAssembly}
 use Rattle.go_graph_core.proofs.Assemblies.{none_passes, has_clause, all_at, k4_of, k3_of, k2_of, assembled_of, name_of_first, one_name}
 

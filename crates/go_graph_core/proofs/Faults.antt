@@ -7,19 +7,19 @@ use Rattle.std.proofs.lemmas.Option.{slice_get-get_or, get_or_from_slice_get}
 use Rattle.std.proofs.lemmas.Bool.{ltb-true, ltb-false, lt-ltb}
 use lib.Dec.{ltb}
 use Rattle.go_text_core.specs.declared.rule.Rule.TheVariants.{K2, K3, K4}
-use Rattle.go_graph_core.specs.declared.assembly.Flaw.{Flaw}
+use Rattle.go_graph_core.specs.declared.assembly.ClauseFlaw.{ClauseFlaw}
 use Rattle.go_graph_core.specs.declared.assembly.KFault.{KFault}
 use Rattle.go_graph_core.specs.Sources.{SourceModel, clause_of}
-use Rattle.go_graph_core.specs.Clauses.{place_in, lacks_clause, is_named, is_other}
-use Rattle.go_graph_core.specs.Flaws.{is_flawed}
+use Rattle.go_graph_core.specs.mirrors.Clauses.{place_in, lacks_clause, is_named, is_other}
+use Rattle.go_graph_core.specs.mirrors.Flaws.{is_flawed}
 use Rattle.go_graph_core.specs.Packages.{blank, IsNameOf, IsK2, IsK3, IsK4}
 use Rattle.go_graph_core.proofs.Assemblies.{two, lacks-true, k2_of, k3_of, k4_of}
 
 -- no file before this number has the flaw
-abbrev pub NoneBefore : Flaw → List SourceModel → ℕ → Type 0
+abbrev pub NoneBefore : ClauseFlaw → List SourceModel → ℕ → Type 0
 NoneBefore flaw files i = (k : ℕ) (d : SourceModel) → k < i → is_flawed flaw (get_or files k d) ≡ false
 
-pub none_more : (flaw : Flaw) (files : List SourceModel) (i : ℕ) (s : SourceModel) → i < length files → s ≡ get_or files i s → NoneBefore flaw files i → is_flawed flaw s ≡ false → NoneBefore flaw files (i + 1)
+pub none_more : (flaw : ClauseFlaw) (files : List SourceModel) (i : ℕ) (s : SourceModel) → i < length files → s ≡ get_or files i s → NoneBefore flaw files i → is_flawed flaw s ≡ false → NoneBefore flaw files (i + 1)
 none_more flaw files i s lt is before fine k d up = elim (two (ltb k i)) [
   | inl e ↦ before k d (ltb-true k i e)
   | inr e ↦
@@ -29,12 +29,12 @@ none_more flaw files i s lt is before fine k d up = elim (two (ltb k i)) [
       subst (λ n. is_flawed flaw (get_or files n d) ≡ false) same (subst (λ x. is_flawed flaw x ≡ false) (sym (get_or_from_slice_get files i s d at)) fine)
 ]
 
-pub first_here : (flaw : Flaw) (files : List SourceModel) (i : ℕ) (s : SourceModel) → i < length files → s ≡ get_or files i s → NoneBefore flaw files i → is_flawed flaw s ≡ true → position (is_flawed flaw) files ≡ Some i
+pub first_here : (flaw : ClauseFlaw) (files : List SourceModel) (i : ℕ) (s : SourceModel) → i < length files → s ≡ get_or files i s → NoneBefore flaw files i → is_flawed flaw s ≡ true → position (is_flawed flaw) files ≡ Some i
 first_here flaw files i s lt is before has =
     let at : position_or_len (is_flawed flaw) files ≡ i = position_or_len_is (is_flawed flaw) files i s (omega (arith, lt)) (λ k up. before k s up) (λ _. subst (λ x. is_flawed flaw x ≡ true) is has) in
     ap (λ n. cond (ltb n (length files)) (Some n) None) at ∙ ap (λ b. cond b (Some i) None) (lt-ltb i (length files) lt)
 
-pub first_nowhere : (flaw : Flaw) (files : List SourceModel) (i : ℕ) (d : SourceModel) → length files ≤ i → NoneBefore flaw files i → position (is_flawed flaw) files ≡ None
+pub first_nowhere : (flaw : ClauseFlaw) (files : List SourceModel) (i : ℕ) (d : SourceModel) → length files ≤ i → NoneBefore flaw files i → position (is_flawed flaw) files ≡ None
 first_nowhere flaw files i d all before = elim (two (ltb (position_or_len (is_flawed flaw) files) (length files))) [
   | inl e ↦
       let found : position (is_flawed flaw) files ≡ Some (position_or_len (is_flawed flaw) files) = ap (λ b. cond b (Some (position_or_len (is_flawed flaw) files)) None) e in

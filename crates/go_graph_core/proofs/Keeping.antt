@@ -23,7 +23,7 @@ use Rattle.std.specs.declared.string.String.{String}
 use lib.Dec.{eqb}
 use Rattle.go_path_core.specs.Path.{elements, IsPath, IsPrefix}
 use Rattle.go_graph_core.specs.Sources.{SourceModel}
-use Rattle.go_graph_core.specs.Workspaces.{PackageModel, by_bytes, files_at, IsWorkspace, IsPackage, AreReadFrom, given_files, Puts, begins, is_inside, inside, outside, put_all, replaced, Replaces}
+use Rattle.go_graph_core.specs.Workspaces.{PackageModel, by_bytes, files_at, IsWorkspace, IsPackage, AreReadFrom, given_files, Puts, begins, is_path_inside, packages_inside, packages_outside, put_all, replaced, Replaces}
 use Rattle.go_graph_core.proofs.Places.{IsOrdered, turned, equal_texts, same_text}
 
 two : (b : Bool) → (b ≡ true) ⊎ (b ≡ false)
@@ -140,8 +140,8 @@ well_removed t ps well = record { order = ordered_remove t ps well.order; packag
 
 pub well_replaced : (own : List ℕ) (old from : List PackageModel) → IsWorkspace old → IsWorkspace from → IsWorkspace (replaced own old from)
 well_replaced own old from one other = record {
-  order = ordered_all (outside own old) (inside own from) (ordered_filter _ old one.order);
-  packages = all_all IsPackage (outside own old) (inside own from) (all_filter IsPackage _ old one.packages) (all_filter IsPackage _ from other.packages);
+  order = ordered_all (packages_outside own old) (packages_inside own from) (ordered_filter _ old one.order);
+  packages = all_all IsPackage (packages_outside own old) (packages_inside own from) (all_filter IsPackage _ old one.packages) (all_filter IsPackage _ from other.packages);
 }
 
 -- look-ups
@@ -189,11 +189,11 @@ found_removed ps q a ordered =
     equal_order : (x : List ℕ) → is_at (by_bytes q) x ≡ true → by_bytes q x ≡ Equal
     equal_order x h = ap (λ k. by_bytes q k) (sym (is_same q x h)) ∙ same_text q
 
-pub found_inside : (own a : List ℕ) (ps : List PackageModel) → files_at (inside own ps) a ≡ cond (is_inside own a) (files_at ps a) None
-found_inside own a ps = lookup-filter-keys (is_at (by_bytes a)) (is_inside own) (is_inside own a) (λ k h. ap (is_inside own) (sym (is_same a k h))) ps
+pub found_inside : (own a : List ℕ) (ps : List PackageModel) → files_at (packages_inside own ps) a ≡ cond (is_path_inside own a) (files_at ps a) None
+found_inside own a ps = lookup-filter-keys (is_at (by_bytes a)) (is_path_inside own) (is_path_inside own a) (λ k h. ap (is_path_inside own) (sym (is_same a k h))) ps
 
-pub found_outside : (own a : List ℕ) (ps : List PackageModel) → files_at (outside own ps) a ≡ cond (not (is_inside own a)) (files_at ps a) None
-found_outside own a ps = lookup-filter-keys (is_at (by_bytes a)) (λ k. not (is_inside own k)) (not (is_inside own a)) (λ k h. ap (λ x. not (is_inside own x)) (sym (is_same a k h))) ps
+pub found_outside : (own a : List ℕ) (ps : List PackageModel) → files_at (packages_outside own ps) a ≡ cond (not (is_path_inside own a)) (files_at ps a) None
+found_outside own a ps = lookup-filter-keys (is_at (by_bytes a)) (λ k. not (is_path_inside own k)) (not (is_path_inside own a)) (λ k h. ap (λ x. not (is_path_inside own x)) (sym (is_same a k h))) ps
 
 -- no path of those behind the first is the first
 none_behind : (p : PackageModel) (ps : List PackageModel) (a : List ℕ) → IsOrdered (p ∷ ps) → a ≡ p.0 → files_at ps a ≡ None
@@ -231,8 +231,8 @@ begins-Decides (e ∷ a) (x ∷ q) =
       (λ h. let parts = same_start e x a q h in and_from (bytes_eq e x) (begins a q) ((bytes_eq-Decides e x).1 parts.0) (rest.1 parts.1)),
     )
 
-pub tests_inside : (own path : List ℕ) (b : Bool) → (b ≡ true → IsPrefix (elements own) (elements path)) → (IsPrefix (elements own) (elements path) → b ≡ true) → b ≡ is_inside own path
-tests_inside own path b to from = both_ways b (is_inside own path) (λ h. (begins-Decides (elements own) (elements path)).1 (to h)) (λ h. from ((begins-Decides (elements own) (elements path)).0 h))
+pub tests_inside : (own path : List ℕ) (b : Bool) → (b ≡ true → IsPrefix (elements own) (elements path)) → (IsPrefix (elements own) (elements path) → b ≡ true) → b ≡ is_path_inside own path
+tests_inside own path b to from = both_ways b (is_path_inside own path) (λ h. (begins-Decides (elements own) (elements path)).1 (to h)) (λ h. from ((begins-Decides (elements own) (elements path)).0 h))
 
 -- what put and replace say
 
@@ -259,8 +259,8 @@ put_some old path given new (f ∷ fs) read some e = record {
 pub replaces : (own : List ℕ) (old from new : List PackageModel) → IsOrdered from → new ≡ replaced own old from → Replaces own old from new
 replaces own old from new ordered e = record {
   packages = e;
-  here = λ path pre. let test : is_inside own path ≡ true = (begins-Decides (elements own) (elements path)).1 pre in found path true test;
-  others = λ path never. found path false (elim (two (is_inside own path)) [
+  here = λ path pre. let test : is_path_inside own path ≡ true = (begins-Decides (elements own) (elements path)).1 pre in found path true test;
+  others = λ path never. found path false (elim (two (is_path_inside own path)) [
     | inl y ↦ absurd (never ((begins-Decides (elements own) (elements path)).0 y))
     | inr n ↦ n
   ]);
@@ -271,12 +271,12 @@ replaces own old from new ordered e = record {
     settled true (Some v) other = refl
     settled false one other = refl
 
-    found : (path : List ℕ) (b : Bool) → is_inside own path ≡ b → files_at new path ≡ cond b (files_at from path) (files_at old path)
+    found : (path : List ℕ) (b : Bool) → is_path_inside own path ≡ b → files_at new path ≡ cond b (files_at from path) (files_at old path)
     found path b test =
         ap (λ l. files_at l path) e
-        ∙ (found_all (outside own old) (inside own from) path (ordered_filter _ from ordered)
+        ∙ (found_all (packages_outside own old) (packages_inside own from) path (ordered_filter _ from ordered)
         ∙ ((λ i. here_or (found_inside own path from i) (found_outside own path old i))
-        ∙ (settled (is_inside own path) (files_at from path) (files_at old path)
+        ∙ (settled (is_path_inside own path) (files_at from path) (files_at old path)
         ∙ ap (λ t. cond t (files_at from path) (files_at old path)) test)))
 
 -- as many files as are given
@@ -286,16 +286,16 @@ some_read given (f ∷ fs) read some = omega arith
 
 -- one package of those that are put in turn
 
-pub put_one : (own : List ℕ) (now new : List PackageModel) (p : PackageModel) (rest all target : List PackageModel) → all ≡ p ∷ rest → is_inside own p.0 ≡ true → new ≡ insert_entry by_bytes now p.0 p.1 → put_all now (inside own all) ≡ target → put_all new (inside own rest) ≡ target
+pub put_one : (own : List ℕ) (now new : List PackageModel) (p : PackageModel) (rest all target : List PackageModel) → all ≡ p ∷ rest → is_path_inside own p.0 ≡ true → new ≡ insert_entry by_bytes now p.0 p.1 → put_all now (packages_inside own all) ≡ target → put_all new (packages_inside own rest) ≡ target
 put_one own now new p rest all target are test e h =
-    ap (λ l. put_all l (inside own rest)) e
-    ∙ (sym (ap (λ b. put_all now (cond b (p ∷ inside own rest) (inside own rest))) test)
-    ∙ (sym (ap (λ l. put_all now (inside own l)) are) ∙ h))
+    ap (λ l. put_all l (packages_inside own rest)) e
+    ∙ (sym (ap (λ b. put_all now (cond b (p ∷ packages_inside own rest) (packages_inside own rest))) test)
+    ∙ (sym (ap (λ l. put_all now (packages_inside own l)) are) ∙ h))
 
-pub passed_over : (own : List ℕ) (now : List PackageModel) (p : PackageModel) (rest all target : List PackageModel) → all ≡ p ∷ rest → is_inside own p.0 ≡ false → put_all now (inside own all) ≡ target → put_all now (inside own rest) ≡ target
+pub passed_over : (own : List ℕ) (now : List PackageModel) (p : PackageModel) (rest all target : List PackageModel) → all ≡ p ∷ rest → is_path_inside own p.0 ≡ false → put_all now (packages_inside own all) ≡ target → put_all now (packages_inside own rest) ≡ target
 passed_over own now p rest all target are test h =
-    sym (ap (λ b. put_all now (cond b (p ∷ inside own rest) (inside own rest))) test)
-    ∙ (sym (ap (λ l. put_all now (inside own l)) are) ∙ h)
+    sym (ap (λ b. put_all now (cond b (p ∷ packages_inside own rest) (packages_inside own rest))) test)
+    ∙ (sym (ap (λ l. put_all now (packages_inside own l)) are) ∙ h)
 
 -- no files are given where none are counted
 pub none_given : {Y Z : Type 0} (files : List (String Y × String Z)) → length files ≡ 0 → given_files files ≡ []

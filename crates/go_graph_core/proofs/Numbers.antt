@@ -15,9 +15,13 @@ use Rattle.std.proofs.lemmas.Str.{IsUtf8-from_ascii}
 use Rattle.go_path_core.specs.Path.{elements, IsPath, IsElement, IsPathByte}
 use Rattle.go_graph_core.specs.Sources.{SourceModel}
 use Rattle.go_graph_core.specs.Workspaces.{PackageModel, by_bytes, IsWorkspace}
-use Rattle.go_graph_core.specs.Places.{IsPlace}
-use Rattle.go_graph_core.specs.Imports.{IsNumber, IsNowhere}
+use Rattle.go_graph_core.specs.mirrors.Positions.{IsPosition}
+use Rattle.go_graph_core.specs.Imports.{IsNumbered, IsNowhere}
 use Rattle.go_graph_core.proofs.Places.{same_text}
+
+-- the package of the path has this number
+abbrev pub IsNumber : List PackageModel → List ℕ → ℕ → Type 0
+IsNumber ps path i = (files : List SourceModel) × IsNumbered ps path i files
 
 -- the paths before a place are less than those behind it
 rising : (ps : List PackageModel) (i j : ℕ) (d : PackageModel) → IsWorkspace ps → i < j → j < length ps → by_bytes (get_or ps i d).0 (get_or ps j d).0 ≡ Less
@@ -40,7 +44,7 @@ one_number ps path i j f g well a b lt =
     let no : Less ≡ Equal = sym here ∙ same in cc
 
 -- the number of a path's package, where it stands
-pub number_of_place : (ps : List PackageModel) (path : List ℕ) (r : Result ℕ ℕ) → IsPlace ps path r → MatchOption (result_ok r) (IsNowhere ps path) (IsNumber ps path)
+pub number_of_place : (ps : List PackageModel) (path : List ℕ) (r : Result ℕ ℕ) → IsPosition ps path r → MatchOption (result_ok r) (IsNowhere ps path) (IsNumber ps path)
 number_of_place ps path (Ok i) (p, at, same) = (p.1, at ∙ ap (λ (q : List ℕ). Some (q, p.1)) same)
 number_of_place ps path (Err i) (le, before, behind) = λ j files at.
     let d : PackageModel = (path, files) in

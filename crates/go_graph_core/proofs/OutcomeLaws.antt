@@ -18,7 +18,7 @@ use Rattle.go_graph_core.specs.declared.imports.ImportOutcome.TheVariants.{Packa
 use Rattle.go_graph_core.specs.Sources.{SourceModel}
 use Rattle.go_graph_core.specs.Packages.{Trees, IsAssembly, IsAssembled, IsNameOf}
 use Rattle.go_graph_core.specs.Workspaces.{PackageModel, IsPackage, IsWorkspace}
-use Rattle.go_graph_core.specs.Imports.{AreFaulty, AreMain, AreLibrary, IsNumbered, IsNowhere, IsAllowed, IsTarget, IsImport, IsJudged, IsEdge, LiesOnCycle, imports_of, edge, main}
+use Rattle.go_graph_core.specs.Imports.{AreFaulty, AreMain, AreLibrary, IsNumbered, IsNowhere, IsAllowed, IsTarget, IsImport, IsJudged, IsEdge, LiesOnCycle, import_texts, edge, main}
 use Rattle.go_graph_core.specs.Plans.{IsAssembledAt}
 use Rattle.go_graph_core.specs.ImportLaws.{HasTarget, HasNoOtherTarget, HasOneOutcome, CyclesAreAssembled}
 use Rattle.go_graph_core.proofs.AssemblyLaws.{has_assembly}
@@ -33,7 +33,7 @@ same_import ps at q text r other a b =
     let pair : ◌≡◌ {A = PackageModel} (q, a.files) (r, b.files) = (let k : ◌≡◌ {A = Option PackageModel} (Some (q, a.files)) (Some (r, b.files)) = sym a.numbered ∙ b.numbered in cc) in
     let files : a.files ≡ b.files = ap (λ (p : PackageModel). p.1) pair in
     let file : a.file ≡ b.file = (let k : Some a.file ≡ Some b.file = sym a.in_files ∙ (ap (λ fs. slice_get fs at.file) files ∙ b.in_files) in cc) in
-    let words : text ≡ other = (let k : Some text ≡ Some other = sym a.in_file ∙ (ap (λ s. slice_get (imports_of s) at.import) file ∙ b.in_file) in cc) in
+    let words : text ≡ other = (let k : Some text ≡ Some other = sym a.in_file ∙ (ap (λ s. slice_get (import_texts s) at.import) file ∙ b.in_file) in cc) in
     (ap (λ (p : PackageModel). p.0) pair, words)
 
 -- a target that is a package is no rule

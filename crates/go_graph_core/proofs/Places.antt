@@ -14,7 +14,7 @@ use Rattle.std.proofs.lemmas.Map.Keys.{sorted_head, sorted_tail, Less-from_sorte
 use Rattle.std.proofs.lemmas.Map.Text.{is_eq-slice_cmp}
 use Rattle.std.proofs.lemmas.Option.{slice_get-get_or, get_or_from_slice_get}
 use Rattle.std.proofs.lemmas.Slice.Eq.{bytes_eq-Decides}
-use Rattle.go_graph_core.specs.Places.{IsPlace}
+use Rattle.go_graph_core.specs.mirrors.Positions.{IsPosition}
 use Rattle.go_graph_core.specs.Sources.{SourceModel}
 use Rattle.go_graph_core.specs.Workspaces.{PackageModel, by_bytes, files_at, IsWorkspace}
 
@@ -77,7 +77,7 @@ told_in_turn ps q ordered i j d up lt = elim (two (ltb i j)) [
 
 -- what a search says
 
-pub place_of : (ps : List PackageModel) (q : List ℕ) (r : Result ℕ ℕ) (d : PackageModel) → IsOrdered ps → IsSearchInRange r (length ps) → IsBinarySearchResult (λ p. by_bytes p.0 q) ps r → IsPlace ps q r
+pub place_of : (ps : List PackageModel) (q : List ℕ) (r : Result ℕ ℕ) (d : PackageModel) → IsOrdered ps → IsSearchInRange r (length ps) → IsBinarySearchResult (λ p. by_bytes p.0 q) ps r → IsPosition ps q r
 place_of ps q (Ok i) d ordered within found = (get_or ps i d, slice_get-get_or ps i d within, equal_texts _ q (found d))
 place_of ps q (Err i) d ordered within found = (let cut = found (told_in_turn ps q ordered) in (within, cut.0, cut.1))
 

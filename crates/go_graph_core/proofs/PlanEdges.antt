@@ -13,8 +13,8 @@ use Rattle.go_graph_core.specs.declared.imports.ImportOutcome.{ImportOutcome}
 use Rattle.go_graph_core.specs.declared.imports.ImportOutcome.TheVariants.{Package, Refused}
 use Rattle.go_graph_core.specs.Sources.{SourceModel}
 use Rattle.go_graph_core.specs.Workspaces.{PackageModel, IsWorkspace}
-use Rattle.go_graph_core.specs.Imports.{IsTarget, IsImport, IsEdge, LiesOnCycle, imports_of, edge}
-use Rattle.go_graph_core.specs.Targets.{AreTargets, ArePackageTargets, edge_of, package_edges, edges_from}
+use Rattle.go_graph_core.specs.Imports.{IsTarget, IsImport, IsEdge, LiesOnCycle, import_texts, edge}
+use Rattle.go_graph_core.specs.mirrors.Targets.{AreTargets, ArePackageTargets, edge_of, package_edges, edges_from}
 use Rattle.go_graph_core.proofs.OneTarget.{one_target}
 use Rattle.go_graph_core.proofs.Zips.{zip_at, zip_back}
 
@@ -116,8 +116,8 @@ edge_from {S} k (q ∷ ts) e h = elim (Contains-append_cases (package_edges k q.
 pub import_back : {S : Type 0} (ps : List PackageModel) (ts : List (Targets S)) (at : ImportAt) (p : Targets S) (f : Files S) (o : ImportOutcome) → AreTargets ps ts → slice_get ts at.«package» ≡ Some p → slice_get p.items at.file ≡ Some f → slice_get f.items at.import ≡ Some o → (q : List ℕ) × (text : List ℕ) × IsImport ps at q text × IsTarget ps q text o
 import_back {S} ps ts at p f o are x y z =
     let one = zip_back (λ (m : PackageModel) (os : Targets S). ArePackageTargets ps m os.items) ps ts at.«package» p are x in
-    let two = zip_back (λ (s : SourceModel) (os : Files S). AllZip (IsTarget ps one.0.0) (imports_of s) os.items) one.0.1 p.items at.file f one.2 y in
-    let three = zip_back (IsTarget ps one.0.0) (imports_of two.0) f.items at.import o two.2 z in
+    let two = zip_back (λ (s : SourceModel) (os : Files S). AllZip (IsTarget ps one.0.0) (import_texts s) os.items) one.0.1 p.items at.file f one.2 y in
+    let three = zip_back (IsTarget ps one.0.0) (import_texts two.0) f.items at.import o two.2 z in
     (one.0.0, three.0, record { files = one.0.1; file = two.0; numbered = one.1; in_files = two.1; in_file = three.1 }, three.2)
 
 -- the place of an import among the targets
@@ -133,8 +133,8 @@ pub record Placed {S : Type 0} (ps : List PackageModel) (ts : List (Targets S)) 
 pub import_on : {S : Type 0} (ps : List PackageModel) (ts : List (Targets S)) (at : ImportAt) (q text : List ℕ) → AreTargets ps ts → IsImport ps at q text → Placed ps ts at q text
 import_on {S} ps ts at q text are there =
     let one = zip_at (λ (m : PackageModel) (os : Targets S). ArePackageTargets ps m os.items) ps ts at.«package» (q, there.files) are there.numbered in
-    let two = zip_at (λ (s : SourceModel) (os : Files S). AllZip (IsTarget ps q) (imports_of s) os.items) there.files one.0.items at.file there.file one.2 there.in_files in
-    let three = zip_at (IsTarget ps q) (imports_of there.file) two.0.items at.import text two.2 there.in_file in
+    let two = zip_at (λ (s : SourceModel) (os : Files S). AllZip (IsTarget ps q) (import_texts s) os.items) there.files one.0.items at.file there.file one.2 there.in_files in
+    let three = zip_at (IsTarget ps q) (import_texts there.file) two.0.items at.import text two.2 there.in_file in
     record { p = one.0; f = two.0; o = three.0; in_all = one.1; in_files = two.1; in_file = three.1; target = three.2 }
 
 -- each edge of the targets is an edge of the packages

@@ -11,7 +11,7 @@ use Rattle.go_graph_core.specs.declared.imports.ImportOutcome.TheVariants.{Packa
 use Rattle.go_graph_core.specs.declared.imports.Standing.{Standing}
 use Rattle.go_graph_core.specs.Workspaces.{PackageModel, IsWorkspace}
 use Rattle.go_graph_core.specs.Imports.{IsTarget, IsNoImport, IsJudged, IsOutcome, IsEdge, edge}
-use Rattle.go_graph_core.specs.Targets.{HaveStandings, AreTargets, AreSettled, AreAllSettled, IsSettled, edges_from, is_assembled}
+use Rattle.go_graph_core.specs.mirrors.Targets.{HaveStandings, AreTargets, AreSettled, AreAllSettled, IsSettled, edges_from, is_assembled}
 use Rattle.go_graph_core.specs.Plans.{IsPlan, plan_of, outcome_at, outcomes_shown}
 use Rattle.go_graph_core.proofs.PlanEdges.{edge_at, import_back, import_on, has_edge, on_cycle, from_cycle}
 use Rattle.go_graph_core.proofs.PlanOrder.{order_once, order_each, order_after}

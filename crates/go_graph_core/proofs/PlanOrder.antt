@@ -20,7 +20,7 @@ use Rattle.go_graph_core.specs.declared.imports.Standing.TheVariants.{Library, M
 use Rattle.go_graph_core.specs.Sources.{SourceModel}
 use Rattle.go_graph_core.specs.Packages.{IsAssembled}
 use Rattle.go_graph_core.specs.Workspaces.{PackageModel}
-use Rattle.go_graph_core.specs.Targets.{IsStanding, HaveStandings, is_sound, is_assembled}
+use Rattle.go_graph_core.specs.mirrors.Targets.{IsStanding, HaveStandings, is_sound, is_assembled}
 use Rattle.go_graph_core.specs.Plans.{IsAssembledAt}
 use Rattle.go_graph_core.proofs.OneTarget.{not_faulty}
 use Rattle.go_graph_core.proofs.Zips.{zip_at, zip_back}

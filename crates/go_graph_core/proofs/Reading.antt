@@ -17,7 +17,7 @@ use Rattle.std.proofs.lemmas.Map.Keys.{sorted_from_all_adjacent, apart_from_dist
 use Rattle.std.proofs.lemmas.Slice.Eq.{bytes_eq-Decides}
 use Rattle.go_text_core.specs.declared.rule.Rule.TheVariants.{K4}
 use Rattle.go_graph_core.specs.Sources.{SourceModel, source, IsRead}
-use Rattle.go_graph_core.specs.Workspaces.{by_bytes, names_of, given_files, HaveDistinctNames, AreReadFrom}
+use Rattle.go_graph_core.specs.Workspaces.{by_bytes, names_of_files, given_files, HaveDistinctNames, AreReadFrom}
 use Rattle.go_graph_core.proofs.Places.{turned, equal_texts}
 
 abbrev pub name_and_text : SourceModel → List ℕ × List ℕ
@@ -66,32 +66,32 @@ weak = record {
 nobody : SourceModel
 nobody = source [] [] (Err (record { rule = K4; offset = 0 }))
 
-name_at : (fs : List SourceModel) (k : ℕ) (d : SourceModel) → get_or (names_of fs) k d.name ≡ (get_or fs k d).name
+name_at : (fs : List SourceModel) (k : ℕ) (d : SourceModel) → get_or (names_of_files fs) k d.name ≡ (get_or fs k d).name
 name_at [] k d = refl
 name_at (f ∷ fs) zero d = refl
 name_at (f ∷ fs) (suc k) d = name_at fs k d
 
-as_many_names : (fs : List SourceModel) → length (names_of fs) ≡ length fs
+as_many_names : (fs : List SourceModel) → length (names_of_files fs) ≡ length fs
 as_many_names [] = refl
 as_many_names (f ∷ fs) = ap suc (as_many_names fs)
 
-pub rising : (fs : List SourceModel) → IsSortedBy by_name fs → IsDistinct bytes_eq (names_of fs) → IsStrictlySortedBy by_bytes (names_of fs)
-rising fs sorted distinct = sorted_from_all_adjacent nat_list_cmp_total (names_of fs) nobody.name (λ k lt. next k lt (by_bytes (get_or (names_of fs) k nobody.name) (get_or (names_of fs) (k + 1) nobody.name)) refl)
+pub rising : (fs : List SourceModel) → IsSortedBy by_name fs → IsDistinct bytes_eq (names_of_files fs) → IsStrictlySortedBy by_bytes (names_of_files fs)
+rising fs sorted distinct = sorted_from_all_adjacent nat_list_cmp_total (names_of_files fs) nobody.name (λ k lt. next k lt (by_bytes (get_or (names_of_files fs) k nobody.name) (get_or (names_of_files fs) (k + 1) nobody.name)) refl)
   where
-    next : (k : ℕ) → k + 1 < length (names_of fs) → (o : Ordering) → by_bytes (get_or (names_of fs) k nobody.name) (get_or (names_of fs) (k + 1) nobody.name) ≡ o → by_bytes (get_or (names_of fs) k nobody.name) (get_or (names_of fs) (k + 1) nobody.name) ≡ Less
+    next : (k : ℕ) → k + 1 < length (names_of_files fs) → (o : Ordering) → by_bytes (get_or (names_of_files fs) k nobody.name) (get_or (names_of_files fs) (k + 1) nobody.name) ≡ o → by_bytes (get_or (names_of_files fs) k nobody.name) (get_or (names_of_files fs) (k + 1) nobody.name) ≡ Less
     next k lt Less e = e
     next k lt Equal e =
-        let apart = apart_from_distinct bytes_eq (names_of fs) k (k + 1) nobody.name distinct (omega arith) lt in
-        let same = (bytes_eq-Decides (get_or (names_of fs) k nobody.name) (get_or (names_of fs) (k + 1) nobody.name)).1 (equal_texts (get_or (names_of fs) k nobody.name) (get_or (names_of fs) (k + 1) nobody.name) e) in
+        let apart = apart_from_distinct bytes_eq (names_of_files fs) k (k + 1) nobody.name distinct (omega arith) lt in
+        let same = (bytes_eq-Decides (get_or (names_of_files fs) k nobody.name) (get_or (names_of_files fs) (k + 1) nobody.name)).1 (equal_texts (get_or (names_of_files fs) k nobody.name) (get_or (names_of_files fs) (k + 1) nobody.name) e) in
         let t : true ≡ false = sym same ∙ apart in cc
     next k lt Greater e =
         let there : k + 1 < length fs = subst (λ n. k + 1 < n) (as_many_names fs) lt in
         let not_less : is_lt (by_bytes (get_or fs (k + 1) nobody).name (get_or fs k nobody).name) ≡ false = sorted k nobody (omega arith) there in
-        let less : by_bytes (get_or (names_of fs) (k + 1) nobody.name) (get_or (names_of fs) k nobody.name) ≡ Less = turned (get_or (names_of fs) k nobody.name) (get_or (names_of fs) (k + 1) nobody.name) Greater e in
-        let same : is_lt (by_bytes (get_or (names_of fs) (k + 1) nobody.name) (get_or (names_of fs) k nobody.name)) ≡ false = (λ i. is_lt (by_bytes (name_at fs (k + 1) nobody i) (name_at fs k nobody i))) ∙ not_less in
+        let less : by_bytes (get_or (names_of_files fs) (k + 1) nobody.name) (get_or (names_of_files fs) k nobody.name) ≡ Less = turned (get_or (names_of_files fs) k nobody.name) (get_or (names_of_files fs) (k + 1) nobody.name) Greater e in
+        let same : is_lt (by_bytes (get_or (names_of_files fs) (k + 1) nobody.name) (get_or (names_of_files fs) k nobody.name)) ≡ false = (λ i. is_lt (by_bytes (name_at fs (k + 1) nobody i) (name_at fs k nobody i))) ∙ not_less in
         let t : true ≡ false = sym (ap is_lt less) ∙ same in cc
 
-names_again : (fs : List SourceModel) → keys_of (map name_and_text fs) ≡ names_of fs
+names_again : (fs : List SourceModel) → keys_of (map name_and_text fs) ≡ names_of_files fs
 names_again [] = refl
 names_again (f ∷ fs) = ap (λ l. f.name ∷ l) (names_again fs)
 
@@ -102,5 +102,5 @@ flips x y = both_ways (bytes_eq x y) (bytes_eq y x) (λ h. (bytes_eq-Decides y x
 pub are_read : (given : List (List ℕ × List ℕ)) (turn fs : List SourceModel) → HaveDistinctNames given → map name_and_text turn ≡ given → All IsRead turn → IsPermutation turn fs → IsSortedBy by_name fs → AreReadFrom given fs
 are_read given turn fs distinct same read moved sorted =
     let permuted : IsPermutation given (map name_and_text fs) = subst (λ l. IsPermutation l (map name_and_text fs)) same (IsPermutation-map name_and_text turn fs moved) in
-    let names : IsDistinct bytes_eq (names_of fs) = subst (IsDistinct bytes_eq) (names_again fs) (IsDistinct-IsPermutation bytes_eq flips (keys_of given) (keys_of (map name_and_text fs)) (IsPermutation-map (λ p. p.0) given (map name_and_text fs) permuted) distinct) in
+    let names : IsDistinct bytes_eq (names_of_files fs) = subst (IsDistinct bytes_eq) (names_again fs) (IsDistinct-IsPermutation bytes_eq flips (keys_of given) (keys_of (map name_and_text fs)) (IsPermutation-map (λ p. p.0) given (map name_and_text fs) permuted) distinct) in
     record { order = rising fs sorted names; same = permuted; contents = All-permutation IsRead turn fs moved read }

@@ -7,7 +7,7 @@ use Rattle.std.proofs.lemmas.Option.{get_or_from_slice_get, slice_get_within}
 use Rattle.go_graph_core.specs.declared.imports.Standing.{Standing}
 use Rattle.go_graph_core.specs.Workspaces.{PackageModel}
 use Rattle.go_graph_core.specs.Imports.{IsNumbered}
-use Rattle.go_graph_core.specs.Targets.{IsStanding, HaveStandings}
+use Rattle.go_graph_core.specs.mirrors.Targets.{IsStanding, HaveStandings}
 use Rattle.go_graph_core.proofs.Assemblies.{tree_of, one_more}
 use Rattle.go_graph_core.proofs.Zips.{zip_at, zip_length}
 

@@ -2,7 +2,7 @@
 use Rattle.std.proofs.Common.{◌≡◌, ◌≢◌, ℕ, ◌<◌, ◌≤◌, ◌+◌, set, List, [], ◌∷◌, ◌++◌, length, get_or, take, Some, slice_get, refl, sym, ◌∙◌, ap, subst, arith, zero, suc}
 use Rattle.std.specs.List.{AllZip}
 use Rattle.std.proofs.lemmas.List.{get_or_default, take_more, take_more_set, take_all, length-take, length-set, get_or-set_other}
-use Rattle.go_graph_core.specs.Targets.{AllNumbered}
+use Rattle.go_graph_core.specs.Lists.{AllNumbered}
 
 pub zip_append : {A B : Type 0} (R : A → B → Type 0) (xs more : List A) (ys others : List B) → AllZip R xs ys → AllZip R more others → AllZip R (xs ++ more) (ys ++ others)
 zip_append R [] more [] others h k = k

@@ -1,11 +1,8 @@
-pub mod Clauses
-pub mod Flaws
 pub mod ImportLaws
 pub mod Imports
+pub mod Lists
 pub mod Packages
-pub mod Places
 pub mod Plans
 pub mod Sources
-pub mod Targets
-pub mod TreeCodes
 pub mod Workspaces
+pub mod mirrors

@@ -7,7 +7,7 @@ use Rattle.go_tree_nodes.specs.Trees.{FileTree}
 use Rattle.go_parse_core.specs.declared.error.SynFault.{SynFault}
 use Rattle.go_graph_core.specs.declared.assembly.KFault.{KFault}
 use Rattle.go_graph_core.specs.Sources.{SourceModel, clause_of}
-use Rattle.go_graph_core.specs.TreeCodes.{coded_file}
+use Rattle.go_tree_nodes.specs.codes.TreeCodes.{coded_file}
 
 -- the trees of a package's files, each with the name of its file
 abbrev pub Trees : Type 0

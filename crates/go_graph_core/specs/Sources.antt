@@ -10,7 +10,7 @@ use Rattle.go_parse_core.specs.declared.error.SynFault.{SynFault}
 use Rattle.go_parse_core.specs.contracts.error.SynFault as syn_fault
 use Rattle.go_parse_core.specs.Correct.{IsSynFault}
 use Rattle.go_parse_core.specs.Parsing.{IsParse}
-use Rattle.go_graph_core.specs.TreeCodes.{coded_file}
+use Rattle.go_tree_nodes.specs.codes.TreeCodes.{coded_file}
 
 -- the tree is that of the text, or this is why the text has none
 abbrev pub IsContent : List ℕ → Result FileTree SynFault → Type 0

@@ -26,14 +26,14 @@ abbrev pub by_bytes : List ℕ → List ℕ → Ordering
 by_bytes = slice_cmp nat_cmp
 
 -- the names of files
-abbrev pub names_of : List SourceModel → List (List ℕ)
-names_of fs = map (λ f. f.name) fs
+abbrev pub names_of_files : List SourceModel → List (List ℕ)
+names_of_files fs = map (λ f. f.name) fs
 
 -- a package of a workspace: a path, and at least one file, in order of name, no two of one name
 pub record IsPackage (p : PackageModel) : Type 0 where
   pub path : IsPath p.0
   pub some : 0 < length p.1
-  pub order : IsStrictlySortedBy by_bytes (names_of p.1)
+  pub order : IsStrictlySortedBy by_bytes (names_of_files p.1)
   pub contents : All IsRead p.1
 
 -- the packages of a workspace: in order of path, no two of one path
@@ -55,7 +55,7 @@ HaveDistinctNames given = IsDistinct bytes_eq (keys_of given)
 
 -- the files of these names and texts, in order of name
 pub record AreReadFrom (given : List (List ℕ × List ℕ)) (fs : List SourceModel) : Type 0 where
-  pub order : IsStrictlySortedBy by_bytes (names_of fs)
+  pub order : IsStrictlySortedBy by_bytes (names_of_files fs)
   pub same : IsPermutation given (map (λ f. (f.name, f.text)) fs)
   pub contents : All IsRead fs
 
@@ -84,15 +84,15 @@ begins (e ∷ a) [] = false
 begins (e ∷ a) (x ∷ q) = bytes_eq e x && begins a q
 
 -- whether a path is the module's or lies below it
-abbrev pub is_inside : List ℕ → List ℕ → Bool
-is_inside own path = begins (elements own) (elements path)
+abbrev pub is_path_inside : List ℕ → List ℕ → Bool
+is_path_inside own path = begins (elements own) (elements path)
 
 -- the packages inside a module, and those outside it
-abbrev pub inside : List ℕ → List PackageModel → List PackageModel
-inside own ps = filter (λ p. is_inside own p.0) ps
+abbrev pub packages_inside : List ℕ → List PackageModel → List PackageModel
+packages_inside own ps = filter (λ p. is_path_inside own p.0) ps
 
-abbrev pub outside : List ℕ → List PackageModel → List PackageModel
-outside own ps = filter (λ p. not (is_inside own p.0)) ps
+abbrev pub packages_outside : List ℕ → List PackageModel → List PackageModel
+packages_outside own ps = filter (λ p. not (is_path_inside own p.0)) ps
 
 -- packages, each put into its place among others
 abbrev pub put_all : List PackageModel → List PackageModel → List PackageModel
@@ -100,7 +100,7 @@ put_all base ps = fold (λ old p. insert_entry by_bytes old p.0 p.1) base ps
 
 -- the packages with those of a module taken from another workspace
 abbrev pub replaced : List ℕ → List PackageModel → List PackageModel → List PackageModel
-replaced own old from = put_all (outside own old) (inside own from)
+replaced own old from = put_all (packages_outside own old) (packages_inside own from)
 
 -- inside the module stands what the one has, and elsewhere what the other has
 pub record Replaces (own : List ℕ) (old from new : List PackageModel) : Type 0 where

@@ -1,13 +1,12 @@
 //! Packages that are assembled from files.
-ghost use Rattle.std.specs.Prelude.{◌≡◌, ◌<◌, length, Some, slice_get, option_map};
-ghost use Rattle.go_tree_nodes.specs.Shapes.{file_of};
-ghost use Rattle.go_graph_core.specs.Clauses.{has_name};
-ghost use Rattle.go_graph_core.specs.Flaws.{has_flaw, IsFirstFault};
+ghost use Rattle.std.specs.Prelude.{◌≡◌, ◌<◌, length, option_map};
+ghost use Rattle.go_graph_core.specs.mirrors.Clauses.{clause_has_name};
+ghost use Rattle.go_graph_core.specs.mirrors.Flaws.{has_flaw, IsFirstFault};
 ghost use Rattle.go_graph_core.specs.Packages.{IsAssembly, IsPackageName, IsAssembled, trees_of};
 
 use crate::source::SourceFile;
 use go_text_core::Rule;
-use go_tree_nodes::{File, Ident};
+use go_tree_nodes::Ident;
 use std::marker::Model;
 
 /// Why files are no package.
@@ -61,32 +60,11 @@ impl<'a> Package<'a> {
     {
         self.files
     }
-
-    /// The name of a file, by its number.
-    pub fn file_name(&self, file: usize) -> &str
-        requires { file < length self.now }
-        ensures { option_map (λ t. t.0) (slice_get self.now file) ≡ Some result.now }
-    {
-        let files = self.files;
-        files[file].name()
-    }
-
-    /// The tree of a file, by the file's number.
-    pub fn tree(&self, file: usize) -> &File
-        requires { file < length self.now }
-        ensures { option_map (λ t. t.1) (slice_get self.now file) ≡ Some (file_of result.now) }
-    {
-        let files = self.files;
-        match files[file].tree() {
-            Ok(tree) => tree,
-            Err(_) => unreachable!(),
-        }
-    }
 }
 
 /// What may be wrong with the package clause of a file.
 #[derive(Clone, Copy)]
-enum Flaw<'a> {
+enum ClauseFlaw<'a> {
     /// There is none, since the file has no tree.
     Missing,
     /// Its name is this one.
@@ -96,19 +74,19 @@ enum Flaw<'a> {
 }
 
 /// Whether a package clause has a flaw.
-fn has_flaw(clause: Option<&Ident>, flaw: Flaw<'_>) -> bool
+fn has_flaw(clause: Option<&Ident>, flaw: ClauseFlaw<'_>) -> bool
     ensures { result ≡ has_flaw flaw.entry (option_map (λ id. id.now) clause.entry) }
 {
     match flaw {
-        Flaw::Missing => clause.is_none(),
-        Flaw::Named(name) => is_named(clause, name),
-        Flaw::NotNamed(name) => !is_named(clause, name),
+        ClauseFlaw::Missing => clause.is_none(),
+        ClauseFlaw::Named(name) => is_named(clause, name),
+        ClauseFlaw::NotNamed(name) => !is_named(clause, name),
     }
 }
 
 /// Whether there is a package clause, of this name.
 fn is_named(clause: Option<&Ident>, name: &str) -> bool
-    ensures { result ≡ has_name name.now (option_map (λ id. id.now) clause.entry) }
+    ensures { result ≡ clause_has_name name.now (option_map (λ id. id.now) clause.entry) }
 {
     match clause {
         Some(clause) => clause.name.as_str() == name,
@@ -117,14 +95,14 @@ fn is_named(clause: Option<&Ident>, name: &str) -> bool
 }
 
 /// The first file whose package clause has a flaw, as a fault by a rule.
-fn first_fault(files: &[SourceFile], flaw: Flaw<'_>, rule: Rule) -> Option<KFault>
+fn first_fault(files: &[SourceFile], flaw: ClauseFlaw<'_>, rule: Rule) -> Option<KFault>
     ensures { IsFirstFault files.now flaw.entry rule result }
 {
     for (file, source) in files.iter().enumerate() {
         let clause = source.clause();
         if has_flaw(clause, flaw) {
             let offset = match clause {
-                Some(name) => name.span.start,
+                Some(name) => name.span.start as usize,
                 None => 0,
             };
             return Some(KFault { rule, file, offset });
@@ -150,16 +128,16 @@ pub fn assemble(files: &[SourceFile]) -> Result<Package<'_>, KFault>
     requires { 0 < length files.now }
     ensures { IsAssembly files.now result }
 {
-    if let Some(fault) = first_fault(files, Flaw::Missing, Rule::K4) {
+    if let Some(fault) = first_fault(files, ClauseFlaw::Missing, Rule::K4) {
         return Err(fault);
     }
-    if let Some(fault) = first_fault(files, Flaw::Named("_"), Rule::K3) {
+    if let Some(fault) = first_fault(files, ClauseFlaw::Named("_"), Rule::K3) {
         return Err(fault);
     }
     let Some(clause) = files[0].clause() else {
         unreachable!()
     };
-    if let Some(fault) = first_fault(files, Flaw::NotNamed(clause.name.as_str()), Rule::K2) {
+    if let Some(fault) = first_fault(files, ClauseFlaw::NotNamed(clause.name.as_str()), Rule::K2) {
         return Err(fault);
     }
     Ok(Package { files })

@@ -1,17 +1,20 @@
 //! Imports, and the packages that they name.
-ghost use Rattle.std.specs.Prelude.{IfOk, OnOk};
+ghost use Rattle.std.specs.Prelude.{IfOk, OnOk, OnErr};
 ghost use Rattle.std.specs.List.{AllZip};
 ghost use Rattle.go_tree_nodes.specs.Shapes.{shape_import_specs};
+ghost use Rattle.go_tree_nodes.specs.Terminals.{value_of};
+ghost use Rattle.go_path_core.specs.Path.{IsPath};
 ghost use Rattle.go_graph_core.specs.Workspaces.{IsWorkspace};
-ghost use Rattle.go_graph_core.specs.Imports.{imports_of, texts_in, IsTarget};
-ghost use Rattle.go_graph_core.specs.Targets.{IsStanding, HaveStandings, Adds, AreTargets, ArePackageTargets};
+ghost use Rattle.go_graph_core.specs.Imports.{import_texts, texts_in, IsTarget};
+ghost use Rattle.go_graph_core.specs.mirrors.Targets.{IsStanding, HaveStandings, Adds, AreTargets, ArePackageTargets};
 
 use crate::assembly::assemble;
 use crate::source::SourceFile;
-use crate::workspace::{PackageSource, place};
+use crate::workspace::{PackageSource, position_of};
+use go_parse_types::add;
 use go_path_core::{ImportPath, may_import};
 use go_text_core::Rule;
-use go_tree_nodes::ImportSpecs;
+use go_tree_nodes::{ImportSpec, ImportSpecs};
 use std::alloc::{AllocError, Global};
 use std::str;
 
@@ -87,7 +90,7 @@ fn path_target(
     requires standings { HaveStandings packages.now standings.now }
     ensures { IsTarget packages.now from.now path.now result }
 {
-    let number = place(packages, path);
+    let number = position_of(packages, path);
     if !may_import(from, path) {
         return ImportOutcome::Refused(Rule::I3);
     }
@@ -111,7 +114,9 @@ fn target(
 ) -> Result<ImportOutcome, AllocError>
     requires well { IsWorkspace packages.now }
     requires standings { HaveStandings packages.now standings.now }
-    ensures { IfOk result (IsTarget packages.now from.now text.now) }
+    ensures target { IfOk result (IsTarget packages.now from.now text.now) }
+    // A text that is no path needs no memory.
+    ensures memory { OnErr result (IsPath text.now) }
 {
     let Ok(text) = str::from_utf8(text) else {
         return Ok(ImportOutcome::Refused(Rule::I1));
@@ -121,6 +126,22 @@ fn target(
         Err(Rule::M0) => Err(AllocError),
         Err(_) => Ok(ImportOutcome::Refused(Rule::I1)),
     }
+}
+
+/// What an import comes to, cycles left aside.
+fn spec_target(
+    alloc: Global,
+    packages: &[PackageSource],
+    standings: &[Standing],
+    from: &ImportPath,
+    spec: &ImportSpec,
+) -> Result<ImportOutcome, AllocError>
+    requires well { IsWorkspace packages.now }
+    requires standings { HaveStandings packages.now standings.now }
+    ensures { IfOk result (IsTarget packages.now from.now (value_of spec.now.path)) }
+{
+    let text = spec.path.value(alloc)?;
+    target(alloc, packages, standings, from, &text)
 }
 
 /// Adds what the imports of one declaration come to.
@@ -138,13 +159,12 @@ fn add_targets(
 {
     match specs {
         ImportSpecs::One(spec) => {
-            let text = spec.path.value.as_bytes();
-            targets.push(target(alloc, packages, standings, from, text)?)?;
+            targets.push(spec_target(alloc, packages, standings, from, spec)?)?;
         }
         ImportSpecs::Group(_, lines, _) => {
+            targets.reserve(lines.len())?;
             for line in lines {
-                let text = line.spec.path.value.as_bytes();
-                targets.push(target(alloc, packages, standings, from, text)?)?;
+                targets.push(spec_target(alloc, packages, standings, from, &line.spec)?)?;
             }
         }
     }
@@ -161,7 +181,7 @@ fn file_targets(
 ) -> Result<Vec<ImportOutcome>, AllocError>
     requires well { IsWorkspace packages.now }
     requires standings { HaveStandings packages.now standings.now }
-    ensures { IfOk result (λ targets. AllZip (IsTarget packages.now from.now) (imports_of file.now) targets.items) }
+    ensures { IfOk result (λ targets. AllZip (IsTarget packages.now from.now) (import_texts file.now) targets.items) }
 {
     let mut targets = Vec::new(alloc);
     let Ok(tree) = file.tree() else {
@@ -192,9 +212,12 @@ fn package_targets(
     ensures { IfOk result (λ targets. ArePackageTargets packages.now source.now targets.items) }
 {
     let from = source.path();
-    let mut targets = Vec::new(alloc);
+    let mut targets = Vec::with_capacity(alloc, source.files().len())?;
     for file in source.files() {
-        targets.push(file_targets(alloc, packages, standings, from, file)?)?;
+        add(
+            &mut targets,
+            file_targets(alloc, packages, standings, from, file)?,
+        )?;
     }
     Ok(targets)
 }
@@ -211,7 +234,10 @@ pub(crate) fn targets(
 {
     let mut targets = Vec::with_capacity(alloc, packages.len())?;
     for source in packages {
-        targets.push(package_targets(alloc, packages, standings, source)?)?;
+        add(
+            &mut targets,
+            package_targets(alloc, packages, standings, source)?,
+        )?;
     }
     Ok(targets)
 }

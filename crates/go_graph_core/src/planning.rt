@@ -2,7 +2,7 @@
 ghost use Rattle.std.specs.Prelude.{◌≡◌, ◌++◌, IfOk, OnOk, length};
 ghost use Rattle.std.specs.List.{AllZip, flat_map, filter};
 ghost use Rattle.go_graph_core.specs.Plans.{IsPlan, outcome_at};
-ghost use Rattle.go_graph_core.specs.Targets.{IsSettled, AreSettled, AreAllSettled, edge_of, package_edges, edges_from, is_assembled};
+ghost use Rattle.go_graph_core.specs.mirrors.Targets.{IsSettled, AreSettled, AreAllSettled, edge_of, package_edges, edges_from, is_assembled};
 
 use crate::imports::{ImportAt, ImportOutcome, Standing, standings, targets};
 use crate::workspace::Workspace;
@@ -113,7 +113,7 @@ fn assembled(
 ) -> Result<Vec<usize>, AllocError>
     ensures { IfOk result (λ order. order.items ≡ filter (is_assembled standings.now) numbers.now) }
 {
-    let mut order = Vec::new(alloc);
+    let mut order = Vec::with_capacity(alloc, numbers.len())?;
     for number in numbers {
         if is_assembled(standings, *number) {
             order.push(*number)?;

@@ -2,7 +2,7 @@
 ghost use Rattle.std.specs.Prelude.{◌≡◌, IfOk, string_bytes, option_map};
 ghost use Rattle.go_graph_core.specs.Sources.{IsContent, IsRead, content_shown, clause_of};
 
-use go_parse_core::{ParseError, SynFault, parse};
+use go_parse_core::{ParseError, SynFault, tree_of};
 use go_tree_core::copy;
 use go_tree_nodes::{File, Ident};
 use std::alloc::{AllocError, Global};
@@ -36,23 +36,19 @@ impl SourceFile {
     /// # Errors
     ///
     /// `AllocError` for want of memory. A text without a tree is no error here: see [`SourceFile::tree`].
-    pub fn read(alloc: Global, name: String, text: String) -> Result<SourceFile, AllocError>
+    pub(crate) fn read(alloc: Global, name: String, text: String) -> Result<SourceFile, AllocError>
         ensures name { IfOk result (λ f. f.name ≡ string_bytes name) }
         ensures text { IfOk result (λ f. f.text ≡ string_bytes text) }
         ensures content { IfOk result IsRead }
     {
-        match parse(alloc, String::from_str(alloc, text.as_str())?) {
-            Ok(parsed) => {
-                let (_, tree) = parsed.into_parts();
-                let tree = Ok(tree);
-                Ok(SourceFile { name, text, tree })
-            }
-            Err(ParseError::Memory) => Err(AllocError),
-            Err(ParseError::Fault(fault)) => {
-                let tree = Err(fault);
-                Ok(SourceFile { name, text, tree })
-            }
-        }
+        let tree = match tree_of(alloc, text.as_str()) {
+            Ok(tree) => Ok(tree),
+            Err(ParseError::Memory) => return Err(AllocError),
+            Err(ParseError::Fault(fault)) => Err(fault),
+        };
+        let mut text = text;
+        text.shrink_to_fit();
+        Ok(SourceFile { name, text, tree })
     }
 
     /// The file's name.
@@ -73,7 +69,7 @@ impl SourceFile {
     ///
     /// # Errors
     ///
-    /// The text's fault, as [`parse`] answers it.
+    /// The text's fault, as [`tree_of`] answers it.
     pub fn tree(&self) -> Result<&File, SynFault>
         ensures value { content_shown result ≡ self.now.content }
         ensures content { IsContent self.now.text self.now.content }
@@ -95,7 +91,7 @@ impl SourceFile {
     }
 
     /// An equal value. The one error is want of memory.
-    pub fn copy(&self, alloc: Global) -> Result<SourceFile, AllocError>
+    pub(crate) fn copy(&self, alloc: Global) -> Result<SourceFile, AllocError>
         ensures { IfOk result (λ f. f ≡ self.now) }
     {
         let name = String::from_str(alloc, self.name.as_str())?;

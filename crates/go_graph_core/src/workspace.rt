@@ -3,12 +3,13 @@ ghost use Rattle.std.specs.Prelude.{◌≡◌, ◌≤◌, ◌+◌, [], map, All,
 ghost use Rattle.std.specs.BTreeMap.{insert_entry, is_at};
 ghost use Rattle.std.specs.List.Sorted.{IsStrictlySortedBy};
 ghost use Rattle.std.specs.Map.{keys_of, remove_entry};
-ghost use Rattle.go_graph_core.specs.Places.{IsPlace};
+ghost use Rattle.go_graph_core.specs.mirrors.Positions.{IsPosition};
 ghost use Rattle.go_graph_core.specs.Sources.{IsRead};
-ghost use Rattle.go_graph_core.specs.Workspaces.{by_bytes, IsWorkspace, IsPackage, HaveDistinctNames, given_files, AreReadFrom, Puts, Replaces, files_at, files_shown, put_all, inside, is_inside};
+ghost use Rattle.go_graph_core.specs.Workspaces.{by_bytes, IsWorkspace, IsPackage, HaveDistinctNames, given_files, AreReadFrom, Puts, Replaces, files_at, files_shown, put_all, packages_inside, is_path_inside};
 ghost use Rattle.go_path_core.specs.Path.{IsPath};
 
 use crate::source::SourceFile;
+use go_parse_types::add;
 use go_path_core::{ImportPath, Module};
 use go_text_core::Rule;
 use std::alloc::{AllocError, Global};
@@ -51,12 +52,12 @@ impl PackageSource {
     }
 
     /// An equal value. The one error is want of memory.
-    pub fn copy(&self, alloc: Global) -> Result<PackageSource, AllocError>
+    pub(crate) fn copy(&self, alloc: Global) -> Result<PackageSource, AllocError>
         ensures { IfOk result (λ p. p ≡ self.now) }
     {
         let mut files = Vec::with_capacity(alloc, self.files.len())?;
         for file in &self.files {
-            files.push(file.copy(alloc)?)?;
+            add(&mut files, file.copy(alloc)?)?;
         }
         let path = self.path.copy(alloc)?;
         Ok(PackageSource { path, files })
@@ -105,7 +106,7 @@ impl Workspace {
     pub fn files(&self, path: &ImportPath) -> Option<&[SourceFile]>
         ensures { files_shown result ≡ files_at self.now path.now }
     {
-        match place(self.packages.as_slice(), path) {
+        match position_of(self.packages.as_slice(), path) {
             Ok(at) => {
                 let package = &self.packages[at];
                 Some(package.files())
@@ -134,7 +135,7 @@ impl Workspace {
             remove_package(&mut self.packages, path);
             return Ok(());
         }
-        let at = place(self.packages.as_slice(), path);
+        let at = position_of(self.packages.as_slice(), path);
         let Ok(files) = read_files(alloc, files) else {
             return Err(Rule::M0);
         };
@@ -166,7 +167,8 @@ impl Workspace {
         Ok(())
     }
 
-    /// Gives back the memory of the packages. A crate that ends its workspaces by this call has no drops of trees of its own.
+    /// Ends the workspace, as its drop does, and promises nothing: no answer may rest on it. A crate that ends its
+    /// workspaces by this call proves no drops of trees of its own.
     pub fn close(self) {}
 
     /// An equal value. The one error is want of memory.
@@ -175,16 +177,16 @@ impl Workspace {
     {
         let mut packages = Vec::with_capacity(alloc, self.packages.len())?;
         for package in &self.packages {
-            packages.push(package.copy(alloc)?)?;
+            add(&mut packages, package.copy(alloc)?)?;
         }
         Ok(Workspace { packages })
     }
 }
 
 /// Where the package of a path stands among packages in order, or where it would stand.
-pub(crate) fn place(packages: &[PackageSource], path: &ImportPath) -> Result<usize, usize>
+pub(crate) fn position_of(packages: &[PackageSource], path: &ImportPath) -> Result<usize, usize>
     requires { IsStrictlySortedBy by_bytes (keys_of packages.now) }
-    ensures place { IsPlace packages.now path.now result }
+    ensures position { IsPosition packages.now path.now result }
     ensures path { IsPath path.now }
 {
     let path = path.as_str();
@@ -198,7 +200,7 @@ fn put_at(
     source: PackageSource,
 ) -> Result<(), AllocError>
     requires order { IsStrictlySortedBy by_bytes (keys_of packages.old.items) }
-    requires place { IsPlace packages.old.items source.0 at }
+    requires position { IsPosition packages.old.items source.0 at }
     ensures ok { OnOk result (packages.new.items ≡ insert_entry by_bytes packages.old.items source.0 source.1) }
     ensures err { OnErr result (packages.new.items ≡ packages.old.items) }
     ensures len { vec_len packages.new ≤ vec_len packages.old + 1 }
@@ -217,7 +219,7 @@ fn remove_package(packages: &mut Vec<PackageSource>, path: &ImportPath)
     requires { IsStrictlySortedBy by_bytes (keys_of packages.old.items) }
     ensures { packages.new.items ≡ remove_entry (is_at (by_bytes path.now)) packages.old.items }
 {
-    let Ok(at) = place(packages.as_slice(), path) else {
+    let Ok(at) = position_of(packages.as_slice(), path) else {
         return;
     };
     packages.remove(at);
@@ -225,7 +227,7 @@ fn remove_package(packages: &mut Vec<PackageSource>, path: &ImportPath)
 
 /// Whether a package lies inside a module.
 fn lies_inside(package: &PackageSource, own: &Module) -> bool
-    ensures { result ≡ is_inside own.now «package».now.0 }
+    ensures { result ≡ is_path_inside own.now «package».now.0 }
 {
     own.contains(package.path())
 }
@@ -234,11 +236,11 @@ fn lies_inside(package: &PackageSource, own: &Module) -> bool
 fn put_inside(packages: &mut Vec<PackageSource>, own: &Module, from: Vec<PackageSource>)
     requires order { IsStrictlySortedBy by_bytes (keys_of packages.old.items) }
     requires room { vec_len packages.old + vec_len from ≤ vec_capacity packages.old }
-    ensures { packages.new.items ≡ put_all packages.old.items (inside own.now from.items) }
+    ensures { packages.new.items ≡ put_all packages.old.items (packages_inside own.now from.items) }
 {
     for package in from {
         if lies_inside(&package, own) {
-            let at = place(packages.as_slice(), package.path());
+            let at = position_of(packages.as_slice(), package.path());
             match put_at(packages, at, package) {
                 Ok(()) => {}
                 // There is room for each of them.
@@ -255,7 +257,7 @@ fn read_files(alloc: Global, files: Vec<(String, String)>) -> Result<Vec<SourceF
 {
     let mut sources = Vec::with_capacity(alloc, files.len())?;
     for (name, text) in files {
-        sources.push(SourceFile::read(alloc, name, text)?)?;
+        add(&mut sources, SourceFile::read(alloc, name, text)?)?;
     }
     sources.sort_unstable_by(|one, other| one.name().cmp(other.name()));
     Ok(sources)

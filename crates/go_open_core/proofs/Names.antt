@@ -11,8 +11,7 @@ use Rattle.std.proofs.lemmas.List.{drop_more, drop_all, map-append, get_or_defau
 use Rattle.std.proofs.lemmas.List.Quantifiers.{all_pairs_push}
 use Rattle.std.proofs.lemmas.Map.Views.{list_any-from_Contains, Contains-from_any}
 use Rattle.std.proofs.lemmas.Slice.Eq.{bytes_eq-Decides}
-use Rattle.go_open_core.specs.declared.DeclId.{DeclId}
-use Rattle.go_open_core.specs.Blocks.{found_in, in_block, or_else, names_in, names_of, is_listed, list_name, list_names}
+use Rattle.go_open_core.specs.Blocks.{found_in, in_block, or_else, names_in, all_names, is_listed, list_name, list_names}
 
 -- names behind references
 any_shown : (name : List ℕ) (xs : List (Bor (List ℕ))) → list_any (λ x. bytes_eq name x.now) xs ≡ is_listed (map (λ x. x.now) xs) name
@@ -28,24 +27,30 @@ shown_key xs x = by (list_any (λ y. bytes_eq x.now y.now) xs) ∙ ap (λ b. if 
     by false = map-append (λ x. x.now) xs (x ∷ [])
 
 -- the names of a table
-pub names_in_table : {Y : Type 0} (es : List (String Y × DeclId)) → map string_bytes (map (λ e. e.0) es) ≡ names_in (map (λ e. (string_bytes e.0, e.1)) es)
+pub names_in_table : {Y X : Type 0} (es : List (String Y × X)) → map string_bytes (map (λ e. e.0) es) ≡ names_in (map (λ e. (string_bytes e.0, e.1)) es)
 names_in_table [] = refl
 names_in_table (e ∷ es) = ap (λ l. string_bytes e.0 ∷ l) (names_in_table es)
 
-list_names-append : (s xs ys : List (List ℕ)) → list_names s (xs ++ ys) ≡ list_names (list_names s xs) ys
+pub list_names-append : (s xs ys : List (List ℕ)) → list_names s (xs ++ ys) ≡ list_names (list_names s xs) ys
 list_names-append s [] ys = refl
 list_names-append s (x ∷ xs) ys = list_names-append (list_name s x) xs ys
 
+-- one name more
+pub name_step : (xs : List (Bor (List ℕ))) (i : ℕ) (x : Bor (List ℕ)) (s s' all : List (List ℕ)) → i < length xs → s' ≡ list_name s (get_or xs i x).now → list_names s (map (λ n. n.now) (drop i xs)) ≡ all → list_names s' (map (λ n. n.now) (drop (i + 1) xs)) ≡ all
+name_step xs i x s s' all h now left =
+    ap (λ l. list_names l (map (λ n. n.now) (drop (i + 1) xs))) now
+    ∙ (ap (λ l. list_names s (map (λ n. n.now) l)) (sym (drop_more xs i x h)) ∙ left)
+
 -- one block more
-pub names_step : {T : Type 0} (f : T → List (List ℕ × DeclId)) (ts : List T) (i : ℕ) (t : T) (s s' all : List (List ℕ)) → i < length ts → t ≡ get_or ts i t → s' ≡ list_names s (names_in (f t)) → list_names s (names_of (map f (drop i ts))) ≡ all → list_names s' (names_of (map f (drop (i + 1) ts))) ≡ all
+pub names_step : {T X : Type 0} (f : T → List (List ℕ × X)) (ts : List T) (i : ℕ) (t : T) (s s' all : List (List ℕ)) → i < length ts → t ≡ get_or ts i t → s' ≡ list_names s (names_in (f t)) → list_names s (all_names (map f (drop i ts))) ≡ all → list_names s' (all_names (map f (drop (i + 1) ts))) ≡ all
 names_step f ts i t s s' all h is now left =
-    ap (λ l. list_names l (names_of (map f (drop (i + 1) ts)))) now
-    ∙ (sym (list_names-append s (names_in (f t)) (names_of (map f (drop (i + 1) ts))))
-    ∙ (ap (λ l. list_names s (names_of (map f l))) (ap (λ y. y ∷ drop (i + 1) ts) is ∙ sym (drop_more ts i t h)) ∙ left))
+    ap (λ l. list_names l (all_names (map f (drop (i + 1) ts)))) now
+    ∙ (sym (list_names-append s (names_in (f t)) (all_names (map f (drop (i + 1) ts))))
+    ∙ (ap (λ l. list_names s (all_names (map f l))) (ap (λ y. y ∷ drop (i + 1) ts) is ∙ sym (drop_more ts i t h)) ∙ left))
 
 -- the end of the loop
-pub names_end : {T : Type 0} (f : T → List (List ℕ × DeclId)) (ts : List T) (i : ℕ) (s all : List (List ℕ)) → length ts ≤ i → list_names s (names_of (map f (drop i ts))) ≡ all → s ≡ all
-names_end f ts i s all h left = ap (λ l. list_names s (names_of (map f l))) (sym (drop_all i ts h)) ∙ left
+pub names_end : {T X : Type 0} (f : T → List (List ℕ × X)) (ts : List T) (i : ℕ) (s all : List (List ℕ)) → length ts ≤ i → list_names s (all_names (map f (drop i ts))) ≡ all → s ≡ all
+names_end f ts i s all h left = ap (λ l. list_names s (all_names (map f l))) (sym (drop_all i ts h)) ∙ left
 
 or-none : (b : Bool) → b ≡ b || false
 or-none true = refl
@@ -93,7 +98,7 @@ listed-names s (n ∷ ns) name =
     listed-names (list_name s n) ns name
     ∙ (ap (λ b. b || is_listed ns name) (listed-name s n name) ∙ or-assoc (is_listed s name) (bytes_eq name n) (is_listed ns name))
 
-listed-block : (block : List (List ℕ × DeclId)) (name : List ℕ) → is_listed (names_in block) name ≡ is_some (in_block block name)
+listed-block : {X : Type 0} (block : List (List ℕ × X)) (name : List ℕ) → is_listed (names_in block) name ≡ is_some (in_block block name)
 listed-block [] name = refl
 listed-block (e ∷ es) name = by (bytes_eq name e.0) (listed-block es name)
   where
@@ -101,24 +106,24 @@ listed-block (e ∷ es) name = by (bytes_eq name e.0) (listed-block es name)
     by true h = refl
     by false h = h
 
-listed-found : (blocks : List (List (List ℕ × DeclId))) (name : List ℕ) → is_listed (names_of blocks) name ≡ is_some (found_in blocks name)
+listed-found : {X : Type 0} (blocks : List (List (List ℕ × X))) (name : List ℕ) → is_listed (all_names blocks) name ≡ is_some (found_in blocks name)
 listed-found [] name = refl
-listed-found (block ∷ blocks) name =
-    listed-append (names_in block) (names_of blocks) name
-    ∙ (ap (λ b. b || is_listed (names_of blocks) name) (listed-block block name)
+listed-found {X} (block ∷ blocks) name =
+    listed-append (names_in block) (all_names blocks) name
+    ∙ (ap (λ b. b || is_listed (all_names blocks) name) (listed-block block name)
     ∙ (ap (λ b. is_some (in_block block name) || b) (listed-found blocks name)
     ∙ by (found_in blocks name) (in_block block name)))
   where
-    by : (a b : Option DeclId) → is_some b || is_some a ≡ is_some (or_else a b)
+    by : (a b : Option X) → is_some b || is_some a ≡ is_some (or_else a b)
     by None None = refl
     by None (Some x) = refl
     by (Some x) None = refl
     by (Some x) (Some y) = refl
 
 -- the names that are listed are those that are found
-pub names_found : (blocks : List (List (List ℕ × DeclId))) (listed : List (List ℕ)) (name : List ℕ) → listed ≡ list_names [] (names_of blocks) → (Contains listed name → IsSome (found_in blocks name)) × (IsSome (found_in blocks name) → Contains listed name)
+pub names_found : {X : Type 0} (blocks : List (List (List ℕ × X))) (listed : List (List ℕ)) (name : List ℕ) → listed ≡ list_names [] (all_names blocks) → (Contains listed name → IsSome (found_in blocks name)) × (IsSome (found_in blocks name) → Contains listed name)
 names_found blocks listed name e =
-    let same : is_listed listed name ≡ is_some (found_in blocks name) = ap (λ l. is_listed l name) e ∙ (listed-names [] (names_of blocks) name ∙ listed-found blocks name) in
+    let same : is_listed listed name ≡ is_some (found_in blocks name) = ap (λ l. is_listed l name) e ∙ (listed-names [] (all_names blocks) name ∙ listed-found blocks name) in
     (λ there. sym same ∙ list_any-from_Contains bytes_equiv name listed there, λ found. Contains-from_any same_bytes name listed (same ∙ found))
 
 -- no name is listed twice

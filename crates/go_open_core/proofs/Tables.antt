@@ -142,8 +142,10 @@ take-block_after (m ∷ names) block n h =
     by true rest = rest (block ++ m ∷ []) (omega (arith, length-append block (m ∷ []))) ∙ take-append-le n block (m ∷ []) h
     by false rest = rest block h
 
-pub taken_err : (b : List (List ℕ × DeclId)) (old : List (List (List ℕ × DeclId))) (name : List ℕ) {P Q : Type 0} → b ≡ innermost old → is_blank name ≡ false → P ⊎ (Q × (is_some (in_block b name) ≡ true)) → P ⊎ (Q × (is_taken old name ≡ true))
-taken_err b old name top plain = ⊎_elim inl (λ q. inr (q.0, ap (λ t. not t && is_some (in_block (innermost old) name)) plain ∙ (ap (λ x. is_some (in_block x name)) (sym top) ∙ q.1)))
+pub taken_err : (b : List (List ℕ × DeclId)) (old : List (List (List ℕ × DeclId))) (name : List ℕ) {P Q : Type 0} → b ≡ innermost old → is_blank name ≡ false → (P × (is_some (in_block b name) ≡ false)) ⊎ (Q × (is_some (in_block b name) ≡ true)) → (P × (is_taken old name ≡ false)) ⊎ (Q × (is_taken old name ≡ true))
+taken_err b old name top plain =
+    let same : is_taken old name ≡ is_some (in_block b name) = ap (λ t. not t && is_some (in_block (innermost old) name)) plain ∙ ap (λ x. is_some (in_block x name)) (sym top) in
+    ⊎_elim (λ p. inl (p.0, same ∙ p.1)) (λ q. inr (q.0, same ∙ q.1))
 
 pub on_ok_at : {T E P : Type 0} (r : Result T E) → is_err r ≡ false → OnOk r P → P
 on_ok_at (Ok x) h p = p

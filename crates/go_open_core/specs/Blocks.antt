@@ -45,7 +45,7 @@ abbrev pub block_with : {X : Type 0} → List (List ℕ × X) → List ℕ → X
 block_with block name id = if is_blank name then block else block ++ (name, id) ∷ []
 
 -- the names of a table as a block
-abbrev pub block_of : {Y S : Type 0} → IndexMap (String Y) DeclId S → List (List ℕ × DeclId)
+abbrev pub block_of : {Y S X : Type 0} → IndexMap (String Y) X S → List (List ℕ × X)
 block_of table = map (λ e. (string_bytes e.0, e.1)) table.entries
 
 -- the names of one block
@@ -53,9 +53,9 @@ abbrev pub names_in : {X : Type 0} → List (List ℕ × X) → List (List ℕ)
 names_in block = map (λ e. e.0) block
 
 -- the names of all blocks, the outermost first, each block's in the order of their declarations
-abbrev pub names_of : {X : Type 0} → List (List (List ℕ × X)) → List (List ℕ)
-names_of [] = []
-names_of (block ∷ blocks) = names_in block ++ names_of blocks
+abbrev pub all_names : {X : Type 0} → List (List (List ℕ × X)) → List (List ℕ)
+all_names [] = []
+all_names (block ∷ blocks) = names_in block ++ all_names blocks
 
 -- a name is new in a block where it is not blank and not declared there
 abbrev pub is_new : {X : Type 0} → List (List ℕ × X) → List ℕ → Bool

@@ -1,13 +1,16 @@
 //! The open blocks at a place of a file, with the names that are declared in each.
 #![tactic(auto)]
 
-ghost use Rattle.std.specs.Prelude.{◌≡◌, ℕ, ◌+◌, ◌<◌, ◌≤◌, ◌⊎◌, [], ◌∷◌, ◌++◌, length, IfOk, IfErr, OnOk, OnErr, IfSome, IsSome, IsNone, true, false, None, Some, is_some, map, if◌then◌else◌, ◌↔◌, Contains, AllPairs, List, string_bytes};
+mod name_list;
+
+ghost use Rattle.std.specs.Prelude.{◌≡◌, ℕ, ◌+◌, ◌<◌, ◌≤◌, ◌⊎◌, [], ◌∷◌, ◌++◌, length, IfOk, IfErr, OnOk, OnErr, IfSome, IsSome, IsNone, IsOk, true, false, None, Some, is_some, map, if◌then◌else◌, ◌↔◌, Contains, AllPairs, List};
 ghost use Rattle.std.specs.List.{list_any};
-ghost use Rattle.go_open_core.specs.Blocks.{found_in, innermost, with_innermost, is_taken, block_with, block_of, in_block, block_after, news_of, named, is_new, names_in, names_of, list_name, list_names, NoneHas, IsInnermost};
+ghost use Rattle.go_open_core.specs.Blocks.{found_in, innermost, with_innermost, is_taken, block_with, block_of, in_block, block_after, news_of, named, is_new, names_in, all_names, list_names, NoneHas, IsInnermost};
 ghost use Rattle.go_text_core.specs.Text.{is_blank};
 
 use go_text_core::Rule;
-use indexmap::{IndexMap, IndexSet};
+use indexmap::IndexMap;
+pub use name_list::NameList;
 use std::alloc::Global;
 use std::marker::Model;
 
@@ -53,20 +56,17 @@ fn find_among(blocks: &[IndexMap<String, DeclId>], name: &str) -> Option<DeclId>
     None
 }
 
-// Declares a name in one block.
-fn declare_in(
+// Adds a declaration to a block that has none of the name. Errors: M0; the block is then as it was.
+fn add_decl(
     block: &mut IndexMap<String, DeclId>,
     alloc: Global,
     name: &str,
     id: DeclId,
 ) -> Result<(), Rule>
-    requires { is_blank name.now ≡ false }
-    ensures ok { OnOk result ((in_block (block_of block.old) name.now ≡ None) × (block_of block.new ≡ block_of block.old ++ (name.now, id) ∷ [])) }
-    ensures err { IfErr result (λ rule. (block_of block.new ≡ block_of block.old) × ((rule ≡ Rule.M0) ⊎ ((rule ≡ Rule.B1) × (is_some (in_block (block_of block.old) name.now) ≡ true)))) }
+    requires { in_block (block_of block.old) name.now ≡ None }
+    ensures ok { OnOk result (block_of block.new ≡ block_of block.old ++ (name.now, id) ∷ []) }
+    ensures err { IfErr result (λ rule. (block_of block.new ≡ block_of block.old) × (rule ≡ Rule.M0)) }
 {
-    if block.contains_key(name) {
-        return Err(Rule::B1);
-    }
     let Ok(key) = String::from_str(alloc, name) else {
         return Err(Rule::M0);
     };
@@ -76,11 +76,39 @@ fn declare_in(
     }
 }
 
+// Declares a name in one block. Takes memory only where the block has no declaration of the name.
+fn declare_in(
+    block: &mut IndexMap<String, DeclId>,
+    alloc: Global,
+    name: &str,
+    id: DeclId,
+) -> Result<(), Rule>
+    ensures ok { OnOk result ((in_block (block_of block.old) name.now ≡ None) × (block_of block.new ≡ block_of block.old ++ (name.now, id) ∷ [])) }
+    ensures err { IfErr result (λ rule. (block_of block.new ≡ block_of block.old) × (((rule ≡ Rule.M0) × (is_some (in_block (block_of block.old) name.now) ≡ false)) ⊎ ((rule ≡ Rule.B1) × (is_some (in_block (block_of block.old) name.now) ≡ true)))) }
+{
+    if find_in(block, name).is_some() {
+        return Err(Rule::B1);
+    }
+    add_decl(block, alloc, name, id)
+}
+
 // Whether a declaration of the name in one block is the first.
 fn can_declare(block: &IndexMap<String, DeclId>, name: &str) -> bool
     ensures { result ≡ is_new (block_of block.now) name.now }
 {
     name != "_" && find_in(block, name).is_none()
+}
+
+// Whether one of these names is new in a block.
+fn can_declare_any(block: &IndexMap<String, DeclId>, names: &[(&str, DeclId)]) -> bool
+    ensures { result ≡ list_any (λ b. b) (news_of (block_of block.now) (named names.now)) }
+{
+    for (name, _) in names {
+        if can_declare(block, name) {
+            return true;
+        }
+    }
+    false
 }
 
 // Declares a name in one block, if it is new there, and notes whether it is.
@@ -100,26 +128,24 @@ fn declare_new(
         return Err(Rule::M0);
     }
     if is_new {
-        return declare_in(block, alloc, name, id);
+        return add_decl(block, alloc, name, id);
     }
     Ok(())
 }
 
-fn any_new(news: &[bool]) -> bool
-    ensures { result ≡ list_any (λ b. b) news.now }
-{
-    news.iter().any(|is_new| *is_new)
-}
-
-// Declares those names in one block that are new there, and says which. After a refusal the block is as it was.
+// Declares those names in one block that are new there, and says which. Takes memory only where one is new. After a
+// refusal the block is as it was.
 fn declare_each(
     block: &mut IndexMap<String, DeclId>,
     alloc: Global,
     names: &[(&str, DeclId)],
 ) -> Result<Vec<bool>, Rule>
     ensures ok { IfOk result (λ news. (news.items ≡ news_of (block_of block.old) (named names.now)) × (list_any (λ b. b) news.items ≡ true) × (block_of block.new ≡ block_after (block_of block.old) (named names.now))) }
-    ensures err { IfErr result (λ rule. (block_of block.new ≡ block_of block.old) × ((rule ≡ Rule.M0) ⊎ ((rule ≡ Rule.B4) × (list_any (λ b. b) (news_of (block_of block.old) (named names.now)) ≡ false)))) }
+    ensures err { IfErr result (λ rule. (block_of block.new ≡ block_of block.old) × (((rule ≡ Rule.M0) × (list_any (λ b. b) (news_of (block_of block.old) (named names.now)) ≡ true)) ⊎ ((rule ≡ Rule.B4) × (list_any (λ b. b) (news_of (block_of block.old) (named names.now)) ≡ false)))) }
 {
+    if !can_declare_any(block, names) {
+        return Err(Rule::B4);
+    }
     let before = block.len();
     let mut news = Vec::new(alloc);
     for (name, id) in names {
@@ -128,10 +154,7 @@ fn declare_each(
             return Err(Rule::M0);
         }
     }
-    if any_new(news.as_slice()) {
-        return Ok(news);
-    }
-    Err(Rule::B4)
+    Ok(news)
 }
 
 // A second table with the names and declarations of a block, in their order.
@@ -144,68 +167,23 @@ fn copy_block(
 {
     let mut copied = IndexMap::new(alloc);
     for (name, id) in block {
-        copy_entry(&mut copied, alloc, name, *id)?;
+        add_decl(&mut copied, alloc, name.as_str(), *id)?;
     }
     Ok(copied)
 }
 
-// Copies one declaration of a block to the end of another.
-fn copy_entry(
-    copied: &mut IndexMap<String, DeclId>,
-    alloc: Global,
-    name: &String,
-    id: DeclId,
-) -> Result<(), Rule>
-    requires { in_block (block_of copied.old) (string_bytes name.now) ≡ None }
-    ensures ok { OnOk result (block_of copied.new ≡ block_of copied.old ++ (string_bytes name.now, id) ∷ []) }
-    ensures err { IfErr result (λ rule. rule ≡ Rule.M0) }
-{
-    let Ok(key) = String::from_str(alloc, name.as_str()) else {
-        return Err(Rule::M0);
-    };
-    match copied.insert(key, id) {
-        Ok(_) => Ok(()),
-        Err(_) => Err(Rule::M0),
-    }
-}
-
-// Adds a name, unless it is there.
-fn add_name<'a>(names: &mut IndexSet<&'a str>, name: &'a str) -> Result<(), Rule>
-    ensures ok { OnOk result (map (λ n. n.now) names.new.keys ≡ list_name (map (λ n. n.now) names.old.keys) name.now) }
-    ensures err { IfErr result (λ rule. rule ≡ Rule.M0) }
-{
-    match names.insert(name) {
-        Ok(_) => Ok(()),
-        Err(_) => Err(Rule::M0),
-    }
-}
-
-// Adds the names of a block, each unless it is there.
-fn add_names<'a>(
-    names: &mut IndexSet<&'a str>,
+// Adds the names of a block to others, each unless it is there.
+fn add_block_names<'a>(
+    names: &mut NameList<'a>,
     block: &'a IndexMap<String, DeclId>,
 ) -> Result<(), Rule>
-    ensures ok { OnOk result (map (λ n. n.now) names.new.keys ≡ list_names (map (λ n. n.now) names.old.keys) (names_in (block_of block.now))) }
+    ensures ok { OnOk result (names.new ≡ list_names names.old (names_in (block_of block.now))) }
     ensures err { IfErr result (λ rule. rule ≡ Rule.M0) }
 {
     for name in block.keys() {
-        add_name(names, name.as_str())?;
+        names.add(name.as_str())?;
     }
     Ok(())
-}
-
-// The names of a set, as a list.
-fn as_list<'a>(alloc: Global, names: &IndexSet<&'a str>) -> Result<Vec<&'a str>, Rule>
-    ensures ok { IfOk result (λ list. list.items ≡ names.now.keys) }
-    ensures err { IfErr result (λ rule. rule ≡ Rule.M0) }
-{
-    let mut list = Vec::new(alloc);
-    for name in names {
-        if list.push(*name).is_err() {
-            return Err(Rule::M0);
-        }
-    }
-    Ok(list)
 }
 
 impl OpenBlocks {
@@ -238,14 +216,25 @@ impl OpenBlocks {
         let _ = self.blocks.pop();
     }
 
+    /// Whether the innermost block has a declaration of the name, so that another would be the second. The blank
+    /// identifier has none. Takes no memory.
+    pub fn is_taken(&self, name: &str) -> bool
+        requires { 0 < length self.now }
+        ensures { result ≡ is_taken self.now name.now }
+    {
+        let top = self.blocks.len() - 1;
+        name != "_" && find_in(&self.blocks[top], name).is_some()
+    }
+
     /// Declares a name in the innermost block. The blank identifier binds nothing.
     ///
-    /// Errors: B1 where the innermost block has a declaration of the name, M0 where memory is wanting.
-    /// The blocks are then as they were.
+    /// Errors: B1 where the innermost block has a declaration of the name, and otherwise M0 where memory is wanting.
+    /// The blocks are then as they were. The blank identifier has no error.
     pub fn declare(&mut self, name: &str, id: DeclId) -> Result<(), Rule>
         requires { 0 < length self.old }
         ensures ok { OnOk result ((is_taken self.old name.now ≡ false) × (self.new ≡ with_innermost self.old (block_with (innermost self.old) name.now id))) }
-        ensures err { IfErr result (λ rule. (self.new ≡ self.old) × ((rule ≡ Rule.M0) ⊎ ((rule ≡ Rule.B1) × (is_taken self.old name.now ≡ true)))) }
+        ensures err { IfErr result (λ rule. (self.new ≡ self.old) × (((rule ≡ Rule.M0) × (is_taken self.old name.now ≡ false)) ⊎ ((rule ≡ Rule.B1) × (is_taken self.old name.now ≡ true)))) }
+        ensures blank { is_blank name.now ≡ true → IsOk result }
     {
         if name == "_" {
             return Ok(());
@@ -258,11 +247,11 @@ impl OpenBlocks {
     /// Declares the names of a short declaration that are new in the innermost block, and answers for each whether it is.
     ///
     /// The blank identifier is not new, nor is a name that stands a second time in the list.
-    /// Errors: B4 where no name is new, M0 where memory is wanting. The blocks are then as they were.
+    /// Errors: B4 where no name is new, and otherwise M0 where memory is wanting. The blocks are then as they were.
     pub fn declare_short(&mut self, names: &[(&str, DeclId)]) -> Result<Vec<bool>, Rule>
         requires { 0 < length self.old }
         ensures ok { IfOk result (λ news. (news.items ≡ news_of (innermost self.old) (named names.now)) × (list_any (λ b. b) news.items ≡ true) × (self.new ≡ with_innermost self.old (block_after (innermost self.old) (named names.now)))) }
-        ensures err { IfErr result (λ rule. (self.new ≡ self.old) × ((rule ≡ Rule.M0) ⊎ ((rule ≡ Rule.B4) × (list_any (λ b. b) (news_of (innermost self.old) (named names.now)) ≡ false)))) }
+        ensures err { IfErr result (λ rule. (self.new ≡ self.old) × (((rule ≡ Rule.M0) × (list_any (λ b. b) (news_of (innermost self.old) (named names.now)) ≡ true)) ⊎ ((rule ≡ Rule.B4) × (list_any (λ b. b) (news_of (innermost self.old) (named names.now)) ≡ false)))) }
     {
         let alloc = *self.blocks.allocator();
         let top = self.blocks.len() - 1;
@@ -297,15 +286,15 @@ impl OpenBlocks {
     /// The names that have a declaration in an open block, each once: those of the outermost block first,
     /// and those of one block in the order of their declarations. Errors: M0 where memory is wanting.
     pub fn names(&self, alloc: Global) -> Result<Vec<&str>, Rule>
-        ensures value { IfOk result (λ names. map (λ n. n.now) names.items ≡ list_names [] (names_of self.now)) }
+        ensures value { IfOk result (λ names. map (λ n. n.now) names.items ≡ list_names [] (all_names self.now)) }
         ensures found { IfOk result (λ names. (name : List ℕ) → Contains (map (λ n. n.now) names.items) name ↔ IsSome (found_in self.now name)) }
         ensures once { IfOk result (λ names. AllPairs (λ a b. ¬ (a ≡ b)) (map (λ n. n.now) names.items)) }
         ensures err { IfErr result (λ rule. rule ≡ Rule.M0) }
     {
-        let mut names = IndexSet::new(alloc);
+        let mut names = NameList::new(alloc);
         for block in &self.blocks {
-            add_names(&mut names, block)?;
+            add_block_names(&mut names, block)?;
         }
-        as_list(alloc, &names)
+        names.to_list(alloc)
     }
 }

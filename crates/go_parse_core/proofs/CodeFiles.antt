@@ -7,10 +7,10 @@ use Rattle.go_tree_nodes.specs.Terminals.{Terminal}
 use Rattle.go_tree_nodes.specs.Trees.{TopTree}
 use Rattle.go_tree_nodes.specs.Shapes.{top_of}
 use Rattle.go_parse_types.specs.declared.stop.Stop.{Stop}
-use Rattle.go_parse_types.specs.Giving.{Fails}
-use Rattle.go_parse_types.specs.Marks.{Stuck, ◌>>=◌}
+use Rattle.go_parse_types.specs.mirrors.Giving.{Fails}
+use Rattle.go_parse_types.specs.mirrors.Marks.{Stuck, ◌>>=◌}
 use Rattle.go_parse_types.proofs.CodeSteps.{fails_along}
-use Rattle.go_parse_core.specs.FileReading.{top_at, tops_go}
+use Rattle.go_parse_core.specs.mirrors.FileReading.{top_at, tops_go}
 use Rattle.go_parse_core.proofs.FileFound.{tops_turn}
 use Rattle.go_parse_core.proofs.FileSound.{top_shorter}
 

@@ -10,13 +10,13 @@ use Rattle.go_tree_nodes.specs.Spelling.{spell_import, spell_specs}
 use Rattle.go_tree_nodes.specs.Terminals.{Terminal}
 use Rattle.go_tree_nodes.specs.Trees.{Specs, ImportSpecTree, ImportTree}
 use Rattle.go_parse_types.specs.declared.stop.Stop.{Stop}
-use Rattle.go_parse_types.specs.Giving.{Fails}
-use Rattle.go_parse_types.specs.Marks.{◌>>=◌, Reading, need, mark_at, word_at}
+use Rattle.go_parse_types.specs.mirrors.Giving.{Fails}
+use Rattle.go_parse_types.specs.mirrors.Marks.{◌>>=◌, Reading, need, mark_at, keyword_at}
 use Rattle.go_parse_types.proofs.CodeSteps.{fails_along}
 use Rattle.go_parse_types.proofs.Marks.{mark_shorter, need_ok, word_shorter}
-use Rattle.go_parse_stmts.specs.StmtReading.{specs_at}
+use Rattle.go_parse_stmts.specs.mirrors.StmtReading.{specs_at}
 use Rattle.go_parse_stmts.proofs.Specs.{specs_sound}
-use Rattle.go_parse_core.specs.FileReading.{import_spec_at, imports_by, imports_go}
+use Rattle.go_parse_core.specs.mirrors.FileReading.{import_spec_at, imports_by, imports_go}
 use Rattle.go_parse_core.proofs.FileSound.{import_spec_sound}
 
 -- an import that is read takes no more than there is
@@ -28,7 +28,7 @@ specs_shorter ts x e =
     let r = specs_sound ImportSpecTree import_spec_at spell_import (λ i. 0) (λ i. Unit {0}) 0 import_spec_sound ts x e in
     omega (arith, ap length r.spelled_as, length-append (spell_specs spell_import x.0) x.1)
 
-pub turn_shorter : (rest : List Terminal) (k : Span × List Terminal) (xs : Specs ImportSpecTree × List Terminal) (s : Span × List Terminal) → Some k ≡ word_at keyword.Import rest → specs_at import_spec_at k.1 ≡ Ok xs → need (mark_at operator.Semicolon xs.1) ≡ Ok s → length s.1 < length rest
+pub turn_shorter : (rest : List Terminal) (k : Span × List Terminal) (xs : Specs ImportSpecTree × List Terminal) (s : Span × List Terminal) → Some k ≡ keyword_at keyword.Import rest → specs_at import_spec_at k.1 ≡ Ok xs → need (mark_at operator.Semicolon xs.1) ≡ Ok s → length s.1 < length rest
 turn_shorter rest k xs s at e d =
     omega (arith, word_shorter keyword.Import rest k (sym at), specs_shorter k.1 xs e, mark_shorter operator.Semicolon xs.1 s (need_ok _ s d))
 
@@ -69,19 +69,19 @@ behind_semicolon n k xs s = imports_go n s.1 >>= λ rest. Ok (import_tree k xs s
 abbrev behind_specs : ℕ → Span → Specs ImportSpecTree × List Terminal → Imports
 behind_specs n k xs = need (mark_at operator.Semicolon xs.1) >>= behind_semicolon n k xs.0
 
-turn_is : (n : ℕ) (rest : List Terminal) (k : Span × List Terminal) → 0 < n → Some k ≡ word_at keyword.Import rest → imports_go n rest ≡ (specs_at import_spec_at k.1 >>= behind_specs (n - 1) k.0)
+turn_is : (n : ℕ) (rest : List Terminal) (k : Span × List Terminal) → 0 < n → Some k ≡ keyword_at keyword.Import rest → imports_go n rest ≡ (specs_at import_spec_at k.1 >>= behind_specs (n - 1) k.0)
 unfolding imports_go
 turn_is zero rest k some at = absurd (omega arith)
 turn_is (suc n) rest k some at =
     let less : n ≡ suc n - 1 = omega arith in
     ap (imports_by (imports_go n) rest) (sym at) ∙ ap (λ m. specs_at import_spec_at k.1 >>= behind_specs m k.0) less
 
-turn_end : (n : ℕ) (rest : List Terminal) → 0 < n → None ≡ word_at keyword.Import rest → imports_go n rest ≡ Ok ([], rest)
+turn_end : (n : ℕ) (rest : List Terminal) → 0 < n → None ≡ keyword_at keyword.Import rest → imports_go n rest ≡ Ok ([], rest)
 unfolding imports_go
 turn_end zero rest some at = absurd (omega arith)
 turn_end (suc n) rest some at = ap (imports_by (imports_go n) rest) (sym at)
 
-pub imports_more : (ts : List Terminal) (done new : List ImportDecl) (rest : List Terminal) (k : Span × List Terminal) (xs : Specs ImportSpecTree × List Terminal) (s : Span × List Terminal) (d : ImportDecl) → ImportsSoFar ts done rest → Some k ≡ word_at keyword.Import rest → specs_at import_spec_at k.1 ≡ Ok xs → need (mark_at operator.Semicolon xs.1) ≡ Ok s → import_of d ≡ import_tree k.0 xs.0 s.0 → new ≡ done ++ (d ∷ []) → ImportsSoFar ts new s.1
+pub imports_more : (ts : List Terminal) (done new : List ImportDecl) (rest : List Terminal) (k : Span × List Terminal) (xs : Specs ImportSpecTree × List Terminal) (s : Span × List Terminal) (d : ImportDecl) → ImportsSoFar ts done rest → Some k ≡ keyword_at keyword.Import rest → specs_at import_spec_at k.1 ≡ Ok xs → need (mark_at operator.Semicolon xs.1) ≡ Ok s → import_of d ≡ import_tree k.0 xs.0 s.0 → new ≡ done ++ (d ∷ []) → ImportsSoFar ts new s.1
 imports_more ts done new rest k xs s d so at e f made is =
     let less = turn_shorter rest k xs s at e f in
     let n = so.turns in
@@ -94,18 +94,18 @@ imports_more ts done new rest k xs s d so at e f made is =
     fuse (Err e) = refl
     fuse (Ok x) = ap (λ l. Ok (l, x.1)) (sym (map_push done d x.0) ∙ ap (λ n. map import_of n ++ x.0) (sym is))
 
-pub specs_fails : (ts : List Terminal) (done : List ImportDecl) (rest : List Terminal) (k : Span × List Terminal) (e : Stop) → ImportsSoFar ts done rest → Some k ≡ word_at keyword.Import rest → Fails e (specs_at import_spec_at k.1) → Fails e (imports_go (suc (length ts)) ts)
+pub specs_fails : (ts : List Terminal) (done : List ImportDecl) (rest : List Terminal) (k : Span × List Terminal) (e : Stop) → ImportsSoFar ts done rest → Some k ≡ keyword_at keyword.Import rest → Fails e (specs_at import_spec_at k.1) → Fails e (imports_go (suc (length ts)) ts)
 specs_fails ts done rest k e so at failed =
     let n = so.turns in
     let some : 0 < n = omega (arith, so.enough) in
     fails_along (specs_at import_spec_at k.1) (imports_go (suc (length ts)) ts) e (λ f g. so.same ∙ ap (with_imports (map import_of done)) (turn_is n rest k some at ∙ ap (λ r. r >>= behind_specs (n - 1) k.0) g)) failed
 
-pub semicolon_fails : (ts : List Terminal) (done : List ImportDecl) (rest : List Terminal) (k : Span × List Terminal) (xs : Specs ImportSpecTree × List Terminal) (e : Stop) → ImportsSoFar ts done rest → Some k ≡ word_at keyword.Import rest → specs_at import_spec_at k.1 ≡ Ok xs → Fails e (need (mark_at operator.Semicolon xs.1)) → Fails e (imports_go (suc (length ts)) ts)
+pub semicolon_fails : (ts : List Terminal) (done : List ImportDecl) (rest : List Terminal) (k : Span × List Terminal) (xs : Specs ImportSpecTree × List Terminal) (e : Stop) → ImportsSoFar ts done rest → Some k ≡ keyword_at keyword.Import rest → specs_at import_spec_at k.1 ≡ Ok xs → Fails e (need (mark_at operator.Semicolon xs.1)) → Fails e (imports_go (suc (length ts)) ts)
 semicolon_fails ts done rest k xs e so at read failed =
     let n = so.turns in
     let some : 0 < n = omega (arith, so.enough) in
     fails_along (need (mark_at operator.Semicolon xs.1)) (imports_go (suc (length ts)) ts) e (λ f g. so.same ∙ ap (with_imports (map import_of done)) (turn_is n rest k some at ∙ ap (λ r. r >>= behind_specs (n - 1) k.0) read ∙ ap (λ r. r >>= behind_semicolon (n - 1) k.0 xs.0) g)) failed
 
-pub imports_end : (ts : List Terminal) (done : List ImportDecl) (rest : List Terminal) → ImportsSoFar ts done rest → None ≡ word_at keyword.Import rest → imports_go (suc (length ts)) ts ≡ Ok (map import_of done, rest)
+pub imports_end : (ts : List Terminal) (done : List ImportDecl) (rest : List Terminal) → ImportsSoFar ts done rest → None ≡ keyword_at keyword.Import rest → imports_go (suc (length ts)) ts ≡ Ok (map import_of done, rest)
 imports_end ts done rest so at =
     so.same ∙ ap (with_imports (map import_of done)) (turn_end so.turns rest (omega (arith, so.enough)) at) ∙ ap (λ l. Ok (l, rest)) (map_end (map import_of done))

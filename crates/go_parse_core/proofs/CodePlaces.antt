@@ -42,7 +42,7 @@ kind_width text s (token.Keyword k) (inl h) = omega arith
 kind_width text s (token.Operator o) (inl h) = omega (arith, operator_width o)
 kind_width text s k (inr h) = let P : TokenKind → Type 0 = λ k. s.start + least_width (kind_at text s k) ≤ s.end in subst P (sym h.0) (omega (arith, h.1))
 
-pub terminals_in_order : (text : List ℕ) (ts : List Token) (low high : ℕ) → scanned.InOrder low ts high → All IsFilled ts → InOrder low (terminals text ts) high
+pub terminals_in_order : (text : List ℕ) (ts : List Token) (low high : ℕ) → scanned.TokensInOrder low ts high → All IsFilled ts → InOrder low (terminals text ts) high
 terminals_in_order text [] low high order filled = order
 terminals_in_order text (t ∷ ts) low high order filled =
     (order.0, kind_width text t.span t.kind (All-head IsFilled t ts filled), terminals_in_order text ts t.span.end high order.2 (All-tail IsFilled t ts filled))

@@ -18,17 +18,17 @@ use Rattle.go_tree_nodes.specs.Trees.{SignatureTree, Specs, FuncTree, DeclTree, 
 use Rattle.go_tree_nodes.specs.Spelling.{mark, word, spell_ident, spell_text, spell_some, spell_type_name, spell_value_spec, spell_specs, keyword_of, spell_value, spell_type_spec, spell_lines, spell_signature, spell_receiver_name, spell_receiver, spell_decl, spell_tops, spell_import_name, spell_import, spell_imports, spell_file}
 use Rattle.go_tree_nodes.specs.Rules.{Wf_specs, Wf_decl, Wf_tops, Wf_imports}
 use Rattle.go_tree_nodes.specs.Heights.{specs_height, value_height, types_height, signature_height, lines_height, decl_height, tops_height, file_height}
-use Rattle.go_parse_types.specs.Marks.{Stuck, ◌>>=◌, Reading, need, mark_at, word_at, name_at}
-use Rattle.go_parse_types.specs.TypeReading.{type_at, signature_at}
+use Rattle.go_parse_types.specs.mirrors.Marks.{Stuck, ◌>>=◌, Reading, need, mark_at, keyword_at, name_at}
+use Rattle.go_parse_types.specs.mirrors.TypeReading.{type_at, signature_at}
 use Rattle.go_parse_types.proofs.Marks.{AgreesAt, bind_agrees, agrees_along}
 use Rattle.go_parse_types.proofs.Types.{type_signature_complete}
-use Rattle.go_parse_stmts.specs.StmtReading.{specs_at, value_at, types_at, Braced, braced, block_at}
+use Rattle.go_parse_stmts.specs.mirrors.StmtReading.{specs_at, value_at, types_at, Braced, braced, block_at}
 use Rattle.go_parse_stmts.proofs.Ends.{Ends, ends_semicolon}
 use Rattle.go_parse_stmts.proofs.Specs.{FoundSpec, specs_complete}
 use Rattle.go_parse_stmts.proofs.Values.{value_complete, types_complete, value_word_here}
 use Rattle.go_parse_stmts.proofs.StmtFound.{block_complete}
 use Rattle.go_parse_core.specs.Correct.{IsTreeOf}
-use Rattle.go_parse_core.specs.FileReading.{import_spec, import_spec_at, imports_by, imports_go, receiver, receiver_at, receiver_by, func_tree, func_at, by_values, decl_at, top_at, tops_go, file_at}
+use Rattle.go_parse_core.specs.mirrors.FileReading.{import_spec, import_spec_at, imports_by, imports_go, receiver, receiver_at, receiver_by, func_tree, func_at, by_values, decl_at, top_at, tops_go, file_at}
 
 -- Imports.
 
@@ -56,7 +56,7 @@ import_specs_found xs rest wf =
     record { grouped = λ i w. record { before_mark = λ s ts. inl (import_spec_found i (mark operator.Semicolon s ∷ ts)); before_end = λ z ts. inl (import_spec_found i (mark operator.CloseParen z ∷ ts)); opens = import_no_mark i operator.CloseParen (λ s ts. refl) }; alone = λ i w. inl (import_spec_found i rest); some = λ i. omega (arith, length-append (spell_import_name i.name) (spell_text i.path ∷ [])); no_group = λ i. import_no_mark i operator.OpenParen (λ s ts. refl) } in
     elim (specs_complete ImportSpecTree import_spec_at spell_import b high (λ s. Unit {0}) rest found xs wf) [ inl e ↦ e | inr g ↦ absurd (omega (arith, g.1)) ]
 
-imports_found : (is : List ImportTree) (turns : ℕ) (rest : List Terminal) → Wf_imports is → word_at keyword.Import rest ≡ None → length is < turns → imports_go turns (spell_imports is ++ rest) ≡ Ok (is, rest)
+imports_found : (is : List ImportTree) (turns : ℕ) (rest : List Terminal) → Wf_imports is → keyword_at keyword.Import rest ≡ None → length is < turns → imports_go turns (spell_imports is ++ rest) ≡ Ok (is, rest)
 unfolding imports_go
 imports_found is zero rest wf free enough = absurd (omega arith)
 imports_found [] (suc turns) rest wf free enough = ap (imports_by (imports_go turns) rest) free
@@ -177,16 +177,16 @@ tops_le [] = omega arith
 tops_le (d ∷ ds) = omega (arith, tops_le ds, length-append (spell_decl d.decl) (mark operator.Semicolon d.semicolon ∷ spell_tops ds))
 
 -- no declaration begins as an import
-decl_no_import : (d : DeclTree) (ts : List Terminal) → word_at keyword.Import (spell_decl d ++ ts) ≡ None
+decl_no_import : (d : DeclTree) (ts : List Terminal) → keyword_at keyword.Import (spell_decl d ++ ts) ≡ None
 decl_no_import (Types t) ts = refl
 decl_no_import (Func f) ts = refl
 decl_no_import (Value v) ts = of v.kind
   where
-    of : (kind : ValueKind) → word_at keyword.Import (word (keyword_of kind) v.keyword ∷ (spell_specs spell_value_spec v.specs ++ ts)) ≡ None
+    of : (kind : ValueKind) → keyword_at keyword.Import (word (keyword_of kind) v.keyword ∷ (spell_specs spell_value_spec v.specs ++ ts)) ≡ None
     of kinds.Const = refl
     of kinds.Var = refl
 
-tops_no_import : (ds : List TopTree) → word_at keyword.Import (spell_tops ds) ≡ None
+tops_no_import : (ds : List TopTree) → keyword_at keyword.Import (spell_tops ds) ≡ None
 tops_no_import [] = refl
 tops_no_import (d ∷ ds) = decl_no_import d.decl (mark operator.Semicolon d.semicolon ∷ spell_tops ds)
 

@@ -11,18 +11,18 @@ use Rattle.go_tree_nodes.specs.Trees.{FuncTree, DeclTree, Value, Types, Func, To
 use Rattle.go_tree_nodes.specs.Spelling.{mark, word, spell_ident, spell_text, spell_some, spell_type_name, spell_specs, spell_lines, spell_signature, spell_receiver_name, spell_receiver, spell_func, spell_decl, spell_tops, spell_import_name, spell_import, spell_imports, spell_file}
 use Rattle.go_tree_nodes.specs.Rules.{Wf_decl, Wf_tops, Wf_imports}
 use Rattle.go_tree_nodes.specs.Heights.{receiver_height, decl_height, tops_height, file_height}
-use Rattle.go_parse_types.specs.Marks.{Stuck, ◌>>=◌, Reading, Place, need, mark_at, word_at, name_at, text_at, some_mark}
-use Rattle.go_parse_types.specs.TypeReading.{type_name_at, type_at, signature_at}
+use Rattle.go_parse_types.specs.mirrors.Marks.{Stuck, ◌>>=◌, Reading, MarkAhead, need, mark_at, keyword_at, name_at, text_at, some_mark}
+use Rattle.go_parse_types.specs.mirrors.TypeReading.{type_name_at, type_at, signature_at}
 use Rattle.go_parse_types.proofs.Marks.{mark_was, word_was, name_was, text_was, some_mark_was, bind_ok}
 use Rattle.go_parse_types.proofs.Lists.{ReadsItem, ItemsRead}
 use Rattle.go_parse_types.proofs.TypeFacts.{type_name_sound}
 use Rattle.go_parse_types.proofs.Types.{type_signature_sound}
-use Rattle.go_parse_stmts.specs.StmtReading.{specs_at, value_at, value_word, types_at, braced, block_at}
+use Rattle.go_parse_stmts.specs.mirrors.StmtReading.{specs_at, value_at, value_word, types_at, braced, block_at}
 use Rattle.go_parse_stmts.proofs.Specs.{specs_sound}
 use Rattle.go_parse_stmts.proofs.Values.{value_sound, types_sound, value_word_was}
 use Rattle.go_parse_stmts.proofs.StmtSound.{block_reads, block_sound}
 use Rattle.go_parse_core.specs.Correct.{IsTreeOf}
-use Rattle.go_parse_core.specs.FileReading.{import_spec, named_import, dotted_import, import_spec_at, imports_by, imports_go, is_receiver_name, named_receiver, receiver_name, receiver, receiver_at, receiver_by, func_tree, func_at, by_func, by_types, by_values, decl_at, top_at, tops_go, file_at}
+use Rattle.go_parse_core.specs.mirrors.FileReading.{import_spec, named_import, dotted_import, import_spec_at, imports_by, imports_go, is_receiver_name, named_receiver, receiver_name, receiver, receiver_at, receiver_by, func_tree, func_at, by_func, by_types, by_values, decl_at, top_at, tops_go, file_at}
 
 need_then : {A B : Type 0} (o : Option A) (f : A → Result B Stuck) (y : B) → (need o >>= f) ≡ Ok y → (x : A) × (o ≡ Some x) × (f x ≡ Ok y)
 need_then (Some x) f y e = (x, refl, e)
@@ -40,7 +40,7 @@ named_was : (ts : List Terminal) (m : Option (Ident × List Terminal)) → name_
 named_was ts None at = refl
 named_was ts (Some x) at = name_was ts x at
 
-dotted_was : (ts : List Terminal) (m : Place) → mark_at operator.Dot ts ≡ m → ts ≡ spell_import_name (dotted_import ts m).0 ++ (dotted_import ts m).1
+dotted_was : (ts : List Terminal) (m : MarkAhead) → mark_at operator.Dot ts ≡ m → ts ≡ spell_import_name (dotted_import ts m).0 ++ (dotted_import ts m).1
 dotted_was ts None at = named_was ts (name_at ts) refl
 dotted_was ts (Some dot) at = mark_was operator.Dot ts dot at
 
@@ -57,7 +57,7 @@ pub record ReadsImports (ts : List Terminal) (x : List ImportTree × List Termin
   pub spelled : ts ≡ spell_imports x.0 ++ x.1
   pub wf : Wf_imports x.0
 
-imports_by_reads : (more : List Terminal → Reading (List ImportTree)) → ((ts : List Terminal) (y : List ImportTree × List Terminal) → more ts ≡ Ok y → ReadsImports ts y) → (ts : List Terminal) (m : Place) → word_at keyword.Import ts ≡ m → (y : List ImportTree × List Terminal) → imports_by more ts m ≡ Ok y → ReadsImports ts y
+imports_by_reads : (more : List Terminal → Reading (List ImportTree)) → ((ts : List Terminal) (y : List ImportTree × List Terminal) → more ts ≡ Ok y → ReadsImports ts y) → (ts : List Terminal) (m : MarkAhead) → keyword_at keyword.Import ts ≡ m → (y : List ImportTree × List Terminal) → imports_by more ts m ≡ Ok y → ReadsImports ts y
 imports_by_reads more ih ts None at y e =
     let same : ([], ts) ≡ y = cc in
     subst (ReadsImports ts) same (record { spelled = refl; wf = tt })
@@ -77,7 +77,7 @@ imports_by_reads more ih ts (Some k) at y e =
 pub imports_sound : (turns : ℕ) (ts : List Terminal) (y : List ImportTree × List Terminal) → imports_go turns ts ≡ Ok y → ReadsImports ts y
 unfolding imports_go
 imports_sound zero ts y e = cc
-imports_sound (suc turns) ts y e = imports_by_reads (imports_go turns) (imports_sound turns) ts (word_at keyword.Import ts) refl y e
+imports_sound (suc turns) ts y e = imports_by_reads (imports_go turns) (imports_sound turns) ts (keyword_at keyword.Import ts) refl y e
 
 -- Functions.
 
@@ -109,7 +109,7 @@ receiver_sound first ts y e =
     let path : ts ≡ (a ++ (s ++ (t ++ (c ++ (last ∷ []))))) ++ rest = receiver_name_was ts (name_at ts) refl ∙ ap (λ l. a ++ l) from_star ∙ sym (append_assoc a (s ++ (t ++ (c ++ (last ∷ [])))) rest) in
     subst (λ (y : Receiver × List Terminal). mark operator.OpenParen first ∷ ts ≡ spell_receiver (Some y.0) ++ y.1) (ok_is made y close.2) (ap (λ l. mark operator.OpenParen first ∷ l) path)
 
-receiver_by_was : (ts : List Terminal) (m : Place) → mark_at operator.OpenParen ts ≡ m → (y : Option Receiver × List Terminal) → receiver_by ts m ≡ Ok y → ts ≡ spell_receiver y.0 ++ y.1
+receiver_by_was : (ts : List Terminal) (m : MarkAhead) → mark_at operator.OpenParen ts ≡ m → (y : Option Receiver × List Terminal) → receiver_by ts m ≡ Ok y → ts ≡ spell_receiver y.0 ++ y.1
 receiver_by_was ts None at y e =
     let same : (None, ts) ≡ y = cc in
     subst (λ (y : Option Receiver × List Terminal). ts ≡ spell_receiver y.0 ++ y.1) same refl
@@ -150,7 +150,7 @@ func_sound b func ts y e =
 abbrev pub ReadsDecl : ℕ → List Terminal → DeclTree × List Terminal → Type 0
 ReadsDecl b ts x = ReadsItem DeclTree spell_decl decl_height Wf_decl (b + 1) ts x
 
-by_func_reads : (b : ℕ) (ts : List Terminal) (m : Place) → word_at keyword.Func ts ≡ m → (y : DeclTree × List Terminal) → by_func b m ≡ Ok y → ReadsDecl b ts y
+by_func_reads : (b : ℕ) (ts : List Terminal) (m : MarkAhead) → keyword_at keyword.Func ts ≡ m → (y : DeclTree × List Terminal) → by_func b m ≡ Ok y → ReadsDecl b ts y
 by_func_reads b ts None at y e = cc
 by_func_reads b ts (Some k) at y e =
     let w = bind_ok (func_at b k.0 k.1) (λ x. Ok (Func x.0, x.1)) y e in
@@ -158,8 +158,8 @@ by_func_reads b ts (Some k) at y e =
     let same : (Func w.0.0, w.0.1) ≡ y = cc (w.2) in
     subst (ReadsDecl b ts) same (record { spelled_as = word_was keyword.Func ts k at ∙ r.spelled_as; wf = r.wf; low = r.low })
 
-by_types_reads : (b : ℕ) (ts : List Terminal) (m : Place) → word_at keyword.«Type» ts ≡ m → (y : DeclTree × List Terminal) → by_types b ts m ≡ Ok y → ReadsDecl b ts y
-by_types_reads b ts None at y e = by_func_reads b ts (word_at keyword.Func ts) refl y e
+by_types_reads : (b : ℕ) (ts : List Terminal) (m : MarkAhead) → keyword_at keyword.«Type» ts ≡ m → (y : DeclTree × List Terminal) → by_types b ts m ≡ Ok y → ReadsDecl b ts y
+by_types_reads b ts None at y e = by_func_reads b ts (keyword_at keyword.Func ts) refl y e
 by_types_reads b ts (Some k) at y e =
     let w = bind_ok (types_at b k.0 k.1) (λ x. Ok (Types x.0, x.1)) y e in
     let r = types_sound b k.0 k.1 w.0 w.1 in
@@ -167,7 +167,7 @@ by_types_reads b ts (Some k) at y e =
     subst (ReadsDecl b ts) same (record { spelled_as = word_was keyword.«Type» ts k at ∙ r.spelled_as; wf = r.wf; low = omega (arith, r.low) })
 
 by_values_reads : (b : ℕ) (ts : List Terminal) (v : Option (ValueKind × Span × List Terminal)) → value_word ts ≡ v → (y : DeclTree × List Terminal) → by_values b ts v ≡ Ok y → ReadsDecl b ts y
-by_values_reads b ts None at y e = by_types_reads b ts (word_at keyword.«Type» ts) refl y e
+by_values_reads b ts None at y e = by_types_reads b ts (keyword_at keyword.«Type» ts) refl y e
 by_values_reads b ts (Some v) at y e =
     let w = bind_ok (value_at b v.0 v.1 v.2) (λ x. Ok (Value x.0, x.1)) y e in
     let r = value_sound b v.0 v.1 v.2 w.0 w.1 in
@@ -222,7 +222,7 @@ tops_sound b (suc turns) (t ∷ ts) ds e =
 pub file_sound : (b : ℕ) (ts : List Terminal) (f : FileTree) → file_at b ts ≡ Ok f → IsTreeOf f ts × (file_height f ≤ b + 1)
 unfolding file_at
 file_sound b ts f e =
-    let p = need_then (word_at keyword.Package ts) _ f e in
+    let p = need_then (keyword_at keyword.Package ts) _ f e in
     let x = need_then (name_at p.0.1) _ f p.2 in
     let s = need_then (mark_at operator.Semicolon x.0.1) _ f x.2 in
     let is = bind_ok (imports_go (suc (length s.0.1)) s.0.1) _ f s.2 in

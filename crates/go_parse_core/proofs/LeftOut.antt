@@ -9,11 +9,11 @@ pub marked_is_whole : MarkedIsWhole
 marked_is_whole text m has =
     let q = file_filled m has.tree.wf in
     let left : LeftOut (signs_file q.tree) (terminals text has.tokens) = subst (LeftOut (signs_file q.tree)) has.tree.spelled q.left_out in
-    (q.tree, record { tokens = has.tokens; scanned = has.scanned; whole = q.whole; left_out = left }, q.fills, q.high)
+    (q.tree, record { tokens = has.tokens; scanned = has.scanned; wf = q.wf; full = q.full; left_out = left }, q.fills, q.high)
 
 pub whole_is_marked : WholeIsMarked
 whole_is_marked text f has =
-    let q = file_shown f has.whole (terminals text has.tokens) has.left_out in
+    let q = file_shown f has.wf has.full (terminals text has.tokens) has.left_out in
     (q.tree, record { tokens = has.tokens; scanned = has.scanned; tree = record { wf = q.good.wf; spelled = q.spelled } }, q.good.fills, q.good.high)
 
 pub has_one_whole_tree : HasOneWholeTree

@@ -5,7 +5,7 @@ use Rattle.go_scan_core.specs.declared.kind.Operator.TheVariants as operator
 use Rattle.go_tree_nodes.specs.Terminals.{Terminal}
 use Rattle.go_tree_nodes.specs.Spelling.{mark, spell_some}
 use Rattle.go_tree_nodes.specs.Rules.{IsKept}
-use Rattle.go_parse_core.specs.LeftOut.{Sign, Sure, Loose, sure, IsClosing, Closes, LeftOut, sign_semicolon, IsThere, Fills_semicolon}
+use Rattle.go_parse_core.specs.LeftOut.{Sign, Sure, Loose, sure, IsClosing, Closes, LeftOut, sign_semicolon, Fills_semicolon}
 
 -- terminals that stand there for sure are the front of what is written
 
@@ -197,9 +197,13 @@ pub filled_fills : (s : Option Span) → Fills_semicolon s (filled s)
 filled_fills None = tt
 filled_fills (Some s) = refl
 
-pub filled_there : (s : Option Span) → IsThere (filled s)
-filled_there None = tt
-filled_there (Some s) = tt
+pub filled_full : (s : Option Span) → Fills_semicolon (filled s) (filled s)
+filled_full None = refl
+filled_full (Some s) = refl
+
+pub filled_kept : (Last : Type 0) (s : Option Span) → IsKept (filled s) Last
+filled_kept Last None = tt
+filled_kept Last (Some s) = tt
 
 -- a semicolon that is left out behind the last of a list, then the rest of the list
 pub join_loose : {ss : List Sign} {ts : List Terminal} (s : Option Span) (Last : Type 0) → IsKept s Last → (Last → (more : List Sign) → Closes more → Closes (ss ++ more)) → Joins Closes ss ts → Joins Closes (sign_semicolon (filled s) ++ ss) (spell_some operator.Semicolon s ++ ts)
@@ -214,10 +218,11 @@ pub record Good {A : Type 0} (Fills : A → A → Type 0) (Wf : A → Type 0) (h
   pub high : height m ≡ height f
   pub like : Like f m
 
-pub record Filled {A : Type 0} (P : List Sign → Type 0) (signs_of : A → List Sign) (spell_of : A → List Terminal) (Fills : A → A → Type 0) (Whole : A → Type 0) (height : A → ℕ) (Like : A → A → Type 0) (m : A) : Type 0 where
+pub record Filled {A : Type 0} (P : List Sign → Type 0) (signs_of : A → List Sign) (spell_of : A → List Terminal) (Fills : A → A → Type 0) (Wf : A → Type 0) (height : A → ℕ) (Like : A → A → Type 0) (m : A) : Type 0 where
   pub tree : A
   pub fills : Fills m tree
-  pub whole : Whole tree
+  pub full : Fills tree tree
+  pub wf : Wf tree
   pub high : height tree ≡ height m
   pub like : Like m tree
   pub joins : Joins P (signs_of tree) (spell_of m)

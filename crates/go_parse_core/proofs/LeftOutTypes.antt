@@ -10,8 +10,8 @@ use Rattle.go_tree_nodes.specs.Trees.{Separated, One, Then, TypeTree, FieldTrees
 use Rattle.go_tree_nodes.specs.Spelling.{mark, word, spell_ident, spell_idents, spell_some, spell_type_name, spell_tag, spell_names, spell_type, spell_fields, spell_methods, spell_signature, spell_result, spell_params}
 use Rattle.go_tree_nodes.specs.Rules.{IsLastField, IsLastMethod, IsLastParam, is_grouped, IsBare, IsStructType, Wf_type, Wf_fields, Wf_methods, Wf_signature, Wf_result, Wf_params}
 use Rattle.go_tree_nodes.specs.Heights.{type_height, fields_height, methods_height, signature_height, result_height, params_height}
-use Rattle.go_parse_core.specs.LeftOut.{Sign, sure, Closes, signs_type, signs_fields, signs_methods, signs_signature, signs_result, signs_params, sign_semicolon, Whole_type, Whole_fields, Whole_methods, Whole_signature, Whole_result, Whole_params, Fills_type, Fills_fields, Fills_methods, Fills_signature, Fills_result, Fills_params}
-use Rattle.go_parse_core.proofs.LeftOutParts.{Any, Opens, opens_along, opens_not, Splits, nothing, sures, sure_then, one_then, both, maps, loose, join_nothing, join_sures, join_both, join_sure, join_one, filled, filled_fills, filled_there, join_loose, Good, Filled, AnyLike, higher, both_high, kept_like, in_parens, in_braces, join_parens, join_braces}
+use Rattle.go_parse_core.specs.LeftOut.{Sign, sure, Closes, signs_type, signs_fields, signs_methods, signs_signature, signs_result, signs_params, sign_semicolon, Fills_type, Fills_fields, Fills_methods, Fills_signature, Fills_result, Fills_params}
+use Rattle.go_parse_core.proofs.LeftOutParts.{Any, Opens, opens_along, opens_not, Splits, nothing, sures, sure_then, one_then, both, maps, loose, join_nothing, join_sures, join_both, join_sure, join_one, filled, filled_fills, filled_kept, filled_full, join_loose, Good, Filled, AnyLike, higher, both_high, kept_like, in_parens, in_braces, join_parens, join_braces}
 
 -- what a type begins with
 
@@ -94,97 +94,98 @@ abbrev GoodParams : Bool → ParamTrees → ParamTrees → Type 0
 GoodParams groups = Good Fills_params (Wf_params groups) params_height ParamsLike
 
 mutual
-  pub type_split : (t : TypeTree) → Whole_type t → Splits Any (signs_type t) TypeTree spell_type (GoodType t)
-  type_split (NamedType n) whole =
+  pub type_split : (t : TypeTree) → Wf_type t → Fills_type t t → Splits Any (signs_type t) TypeTree spell_type (GoodType t)
+  type_split (NamedType n) whole full =
       maps (sures (spell_type_name n)) (λ x. NamedType n) (λ x. refl) (λ x g. record { fills = refl; wf = tt; high = refl; like = (λ y. y, λ y. y) })
-  type_split (Pointer star t) whole =
-      maps (one_then (mark operator.Star star) (type_split t whole)) (λ x. Pointer star x) (λ x. refl)
+  type_split (Pointer star t) whole full =
+      maps (one_then (mark operator.Star star) (type_split t whole full.1)) (λ x. Pointer star x) (λ x. refl)
       (λ x g. record { fills = (refl, g.fills); wf = g.wf; high = higher g.high; like = (λ y. y, λ y. y) })
-  type_split (ParenType first t last) whole =
-      maps (in_parens first last (type_split t whole) (λ more. tt))
+  type_split (ParenType first t last) whole full =
+      maps (in_parens first last (type_split t whole full.1) (λ more. tt))
       (λ x. ParenType first x last) (λ x. refl)
       (λ x g. record { fills = (refl, g.fills, refl); wf = g.wf; high = higher g.high; like = (λ y. y, λ y. y) })
-  type_split (Struct k first fs last) whole =
-      maps (one_then (word keyword.Struct k) (in_braces first last (fields_split fs whole) (λ more. tt)))
+  type_split (Struct k first fs last) whole full =
+      maps (one_then (word keyword.Struct k) (in_braces first last (fields_split fs whole full.2) (λ more. tt)))
       (λ x. Struct k first x last) (λ x. refl)
       (λ x g. record { fills = (refl, refl, g.fills, refl); wf = g.wf; high = higher g.high; like = (λ y. y, λ y. y) })
-  type_split (Interface k first ms last) whole =
-      maps (one_then (word keyword.Interface k) (in_braces first last (methods_split ms whole) (λ more. tt)))
+  type_split (Interface k first ms last) whole full =
+      maps (one_then (word keyword.Interface k) (in_braces first last (methods_split ms whole full.2) (λ more. tt)))
       (λ x. Interface k first x last) (λ x. refl)
       (λ x g. record { fills = (refl, refl, g.fills, refl); wf = g.wf; high = higher g.high; like = (λ y. y, λ y. y) })
 
-  fields_split : (fs : FieldTrees) → Whole_fields fs → Splits Closes (signs_fields fs) FieldTrees spell_fields (GoodFields fs)
-  fields_split NoFields whole = maps nothing (λ x. NoFields) (λ x. refl) (λ x g. record { fills = tt; wf = tt; high = refl; like = λ y. y })
-  fields_split (NamedFields xs t tag None rest) whole = absurd whole.1
-  fields_split (NamedFields xs t tag (Some s) rest) whole =
-      maps (sure_then (spell_idents xs) (both (type_split t whole.0) (sure_then (spell_tag tag) (loose s (IsLastField rest) IsLastField (fields_last rest) (λ x g. g.like) (fields_split rest whole.2)))))
+  fields_split : (fs : FieldTrees) → Wf_fields fs → Fills_fields fs fs → Splits Closes (signs_fields fs) FieldTrees spell_fields (GoodFields fs)
+  fields_split NoFields whole full = maps nothing (λ x. NoFields) (λ x. refl) (λ x g. record { fills = tt; wf = tt; high = refl; like = λ y. y })
+  fields_split (NamedFields xs t tag None rest) whole full = absurd full.3
+  fields_split (NamedFields xs t tag (Some s) rest) whole full =
+      maps (sure_then (spell_idents xs) (both (type_split t whole.0 full.1) (sure_then (spell_tag tag) (loose s (IsLastField rest) IsLastField (fields_last rest) (λ x g. g.like) (fields_split rest whole.2 full.4)))))
       (λ x. NamedFields xs x.0 tag x.1.0 x.1.1) (λ x. refl)
       (λ x g. record { fills = (refl, g.0.fills, refl, g.1.fills, g.1.rest.fills); wf = (g.0.wf, g.1.kept, g.1.rest.wf); high = both_high g.0.high g.1.rest.high; like = λ y. y })
-  fields_split (EmbeddedField star n tag None rest) whole = absurd whole.0
-  fields_split (EmbeddedField star n tag (Some s) rest) whole =
-      maps (sure_then (spell_some operator.Star star) (sure_then (spell_type_name n) (sure_then (spell_tag tag) (loose s (IsLastField rest) IsLastField (fields_last rest) (λ x g. g.like) (fields_split rest whole.1)))))
+  fields_split (EmbeddedField star n tag None rest) whole full = absurd full.3
+  fields_split (EmbeddedField star n tag (Some s) rest) whole full =
+      maps (sure_then (spell_some operator.Star star) (sure_then (spell_type_name n) (sure_then (spell_tag tag) (loose s (IsLastField rest) IsLastField (fields_last rest) (λ x g. g.like) (fields_split rest whole.1 full.4)))))
       (λ x. EmbeddedField star n tag x.0 x.1) (λ x. refl)
       (λ x g. record { fills = (refl, refl, refl, g.fills, g.rest.fills); wf = (g.kept, g.rest.wf); high = both_high refl g.rest.high; like = λ y. y })
 
-  methods_split : (ms : MethodTrees) → Whole_methods ms → Splits Closes (signs_methods ms) MethodTrees spell_methods (GoodMethods ms)
-  methods_split NoMethods whole = maps nothing (λ x. NoMethods) (λ x. refl) (λ x g. record { fills = tt; wf = tt; high = refl; like = λ y. y })
-  methods_split (Method x signature None rest) whole = absurd whole.1
-  methods_split (Method n signature (Some s) rest) whole =
-      maps (one_then (spell_ident n) (both (signature_split signature whole.0) (loose s (IsLastMethod rest) IsLastMethod (methods_last rest) (λ x g. g.like) (methods_split rest whole.2))))
+  methods_split : (ms : MethodTrees) → Wf_methods ms → Fills_methods ms ms → Splits Closes (signs_methods ms) MethodTrees spell_methods (GoodMethods ms)
+  methods_split NoMethods whole full = maps nothing (λ x. NoMethods) (λ x. refl) (λ x g. record { fills = tt; wf = tt; high = refl; like = λ y. y })
+  methods_split (Method x signature None rest) whole full = absurd full.2
+  methods_split (Method n signature (Some s) rest) whole full =
+      maps (one_then (spell_ident n) (both (signature_split signature whole.0 full.1) (loose s (IsLastMethod rest) IsLastMethod (methods_last rest) (λ x g. g.like) (methods_split rest whole.2 full.3))))
       (λ x. Method n x.0 x.1.0 x.1.1) (λ x. refl)
       (λ x g. record { fills = (refl, g.0.fills, g.1.fills, g.1.rest.fills); wf = (g.0.wf, g.1.kept, g.1.rest.wf); high = both_high g.0.high g.1.rest.high; like = λ y. y })
 
-  pub signature_split : (g : SignatureTree) → Whole_signature g → Splits Any (signs_signature g) SignatureTree spell_signature (GoodSignature g)
-  signature_split (Signed first params last result) whole =
-      maps (one_then (mark operator.OpenParen first) (both (params_split (is_grouped params) params whole.0) (one_then (mark operator.CloseParen last) (result_split result whole.1))))
+  pub signature_split : (g : SignatureTree) → Wf_signature g → Fills_signature g g → Splits Any (signs_signature g) SignatureTree spell_signature (GoodSignature g)
+  signature_split (Signed first params last result) whole full =
+      maps (one_then (mark operator.OpenParen first) (both (params_split (is_grouped params) params whole.0 full.1) (one_then (mark operator.CloseParen last) (result_split result whole.1 full.3))))
       (λ x. Signed first x.0 last x.1) (λ x. refl)
       (λ x g. record { fills = (refl, g.0.fills, refl, g.1.fills); wf = (subst (λ b. Wf_params b x.0) g.0.like.1 g.0.wf, g.1.wf); high = both_high g.0.high g.1.high; like = tt })
 
-  result_split : (r : ResultTree) → Whole_result r → Splits Any (signs_result r) ResultTree spell_result (GoodResult r)
-  result_split NoResult whole = maps nothing (λ x. NoResult) (λ x. refl) (λ x g. record { fills = tt; wf = tt; high = refl; like = tt })
-  result_split (OneResult t) whole =
-      maps (type_split t whole.0) (λ x. OneResult x) (λ x. refl) (λ x g. record { fills = g.fills; wf = (g.wf, g.like.0 whole.1); high = g.high; like = tt })
-  result_split (Results first params last) whole =
-      maps (in_parens first last (params_split (is_grouped params) params whole) (λ more. tt))
+  result_split : (r : ResultTree) → Wf_result r → Fills_result r r → Splits Any (signs_result r) ResultTree spell_result (GoodResult r)
+  result_split NoResult whole full = maps nothing (λ x. NoResult) (λ x. refl) (λ x g. record { fills = tt; wf = tt; high = refl; like = tt })
+  result_split (OneResult t) whole full =
+      maps (type_split t whole.0 full) (λ x. OneResult x) (λ x. refl) (λ x g. record { fills = g.fills; wf = (g.wf, g.like.0 whole.1); high = g.high; like = tt })
+  result_split (Results first params last) whole full =
+      maps (in_parens first last (params_split (is_grouped params) params whole full.1) (λ more. tt))
       (λ x. Results first x last) (λ x. refl)
       (λ x g. record { fills = (refl, g.fills, refl); wf = subst (λ b. Wf_params b x) g.like.1 g.wf; high = g.high; like = tt })
 
-  params_split : (groups : Bool) (ps : ParamTrees) → Whole_params groups ps → Splits Any (signs_params ps) ParamTrees spell_params (GoodParams groups ps)
-  params_split groups NoParams whole = maps nothing (λ x. NoParams) (λ x. refl) (λ x g. record { fills = tt; wf = tt; high = refl; like = (λ y. y, refl) })
-  params_split groups (Param xs t comma rest) whole =
-      maps (sure_then (spell_names xs) (both (type_split t whole.1) (sure_then (spell_some operator.Comma comma) (params_split groups rest whole.3))))
+  params_split : (groups : Bool) (ps : ParamTrees) → Wf_params groups ps → Fills_params ps ps → Splits Any (signs_params ps) ParamTrees spell_params (GoodParams groups ps)
+  params_split groups NoParams whole full = maps nothing (λ x. NoParams) (λ x. refl) (λ x g. record { fills = tt; wf = tt; high = refl; like = (λ y. y, refl) })
+  params_split groups (Param xs t comma rest) whole full =
+      maps (sure_then (spell_names xs) (both (type_split t whole.1 full.1) (sure_then (spell_some operator.Comma comma) (params_split groups rest whole.3 full.3))))
       (λ x. Param xs x.0 comma x.1) (λ x. refl)
       (λ x g. record { fills = (refl, g.0.fills, refl, g.1.fills); wf = (whole.0, g.0.wf, kept_like comma g.1.like.0 whole.2, g.1.wf); high = both_high g.0.high g.1.high; like = (λ y. y, refl) })
 
 -- from marked types to whole ones
 
 abbrev pub FilledType : TypeTree → Type 0
-FilledType = Filled Any signs_type spell_type Fills_type Whole_type type_height TypesLike
+FilledType = Filled Any signs_type spell_type Fills_type Wf_type type_height TypesLike
 
 abbrev FilledFields : FieldTrees → Type 0
-FilledFields = Filled Closes signs_fields spell_fields Fills_fields Whole_fields fields_height FieldsLike
+FilledFields = Filled Closes signs_fields spell_fields Fills_fields Wf_fields fields_height FieldsLike
 
 abbrev FilledMethods : MethodTrees → Type 0
-FilledMethods = Filled Closes signs_methods spell_methods Fills_methods Whole_methods methods_height MethodsLike
+FilledMethods = Filled Closes signs_methods spell_methods Fills_methods Wf_methods methods_height MethodsLike
 
 abbrev pub FilledSignature : SignatureTree → Type 0
-FilledSignature = Filled Any signs_signature spell_signature Fills_signature Whole_signature signature_height AnyLike
+FilledSignature = Filled Any signs_signature spell_signature Fills_signature Wf_signature signature_height AnyLike
 
 abbrev FilledResult : ResultTree → Type 0
-FilledResult = Filled Any signs_result spell_result Fills_result Whole_result result_height AnyLike
+FilledResult = Filled Any signs_result spell_result Fills_result Wf_result result_height AnyLike
 
 abbrev FilledParams : Bool → ParamTrees → Type 0
-FilledParams groups = Filled Any signs_params spell_params Fills_params (Whole_params groups) params_height ParamsLike
+FilledParams groups = Filled Any signs_params spell_params Fills_params (Wf_params groups) params_height ParamsLike
 
 mutual
   pub type_fill : (t : TypeTree) → Wf_type t → FilledType t
-  type_fill (NamedType n) wf = record { tree = NamedType n; fills = refl; whole = tt; high = refl; like = (λ y. y, λ y. y); joins = join_sures (spell_type_name n) }
+  type_fill (NamedType n) wf = record { tree = NamedType n; fills = refl; full = refl; wf = tt; high = refl; like = (λ y. y, λ y. y); joins = join_sures (spell_type_name n) }
   type_fill (Pointer star t) wf =
       let q = type_fill t wf in
       record {
         tree = Pointer star q.tree;
         fills = (refl, q.fills);
-        whole = q.whole;
+        full = (refl, q.full);
+        wf = q.wf;
         high = higher q.high;
         like = (λ y. y, λ y. y);
         joins = join_one (mark operator.Star star) q.joins;
@@ -194,7 +195,8 @@ mutual
       record {
         tree = ParenType first q.tree last;
         fills = (refl, q.fills, refl);
-        whole = q.whole;
+        full = (refl, q.full, refl);
+        wf = q.wf;
         high = higher q.high;
         like = (λ y. y, λ y. y);
         joins = join_parens first last q.joins (λ more. tt);
@@ -204,7 +206,8 @@ mutual
       record {
         tree = Struct k first q.tree last;
         fills = (refl, refl, q.fills, refl);
-        whole = q.whole;
+        full = (refl, refl, q.full, refl);
+        wf = q.wf;
         high = higher q.high;
         like = (λ y. y, λ y. y);
         joins = join_one (word keyword.Struct k) (join_braces first last q.joins (λ more. tt));
@@ -214,21 +217,23 @@ mutual
       record {
         tree = Interface k first q.tree last;
         fills = (refl, refl, q.fills, refl);
-        whole = q.whole;
+        full = (refl, refl, q.full, refl);
+        wf = q.wf;
         high = higher q.high;
         like = (λ y. y, λ y. y);
         joins = join_one (word keyword.Interface k) (join_braces first last q.joins (λ more. tt));
       }
 
   fields_fill : (fs : FieldTrees) → Wf_fields fs → FilledFields fs
-  fields_fill NoFields wf = record { tree = NoFields; fills = tt; whole = tt; high = refl; like = λ y. y; joins = join_nothing }
+  fields_fill NoFields wf = record { tree = NoFields; fills = tt; full = tt; wf = tt; high = refl; like = λ y. y; joins = join_nothing }
   fields_fill (NamedFields xs t tag s rest) wf =
       let q = type_fill t wf.0 in
       let r = fields_fill rest wf.2 in
       record {
         tree = NamedFields xs q.tree tag (filled s) r.tree;
         fills = (refl, q.fills, refl, filled_fills s, r.fills);
-        whole = (q.whole, filled_there s, r.whole);
+        full = (refl, q.full, refl, filled_full s, r.full);
+        wf = (q.wf, filled_kept (IsLastField r.tree) s, r.wf);
         high = both_high q.high r.high;
         like = λ y. y;
         joins = join_sure (spell_idents xs) (join_both q.joins (join_sure (spell_tag tag) (join_loose s (IsLastField rest) wf.1 (λ last. fields_end r.tree (r.like last)) r.joins)));
@@ -238,21 +243,23 @@ mutual
       record {
         tree = EmbeddedField star n tag (filled s) r.tree;
         fills = (refl, refl, refl, filled_fills s, r.fills);
-        whole = (filled_there s, r.whole);
+        full = (refl, refl, refl, filled_full s, r.full);
+        wf = (filled_kept (IsLastField r.tree) s, r.wf);
         high = both_high refl r.high;
         like = λ y. y;
         joins = join_sure (spell_some operator.Star star) (join_sure (spell_type_name n) (join_sure (spell_tag tag) (join_loose s (IsLastField rest) wf.0 (λ last. fields_end r.tree (r.like last)) r.joins)));
       }
 
   methods_fill : (ms : MethodTrees) → Wf_methods ms → FilledMethods ms
-  methods_fill NoMethods wf = record { tree = NoMethods; fills = tt; whole = tt; high = refl; like = λ y. y; joins = join_nothing }
+  methods_fill NoMethods wf = record { tree = NoMethods; fills = tt; full = tt; wf = tt; high = refl; like = λ y. y; joins = join_nothing }
   methods_fill (Method x signature s rest) wf =
       let q = signature_fill signature wf.0 in
       let r = methods_fill rest wf.2 in
       record {
         tree = Method x q.tree (filled s) r.tree;
         fills = (refl, q.fills, filled_fills s, r.fills);
-        whole = (q.whole, filled_there s, r.whole);
+        full = (refl, q.full, filled_full s, r.full);
+        wf = (q.wf, filled_kept (IsLastMethod r.tree) s, r.wf);
         high = both_high q.high r.high;
         like = λ y. y;
         joins = join_one (spell_ident x) (join_both q.joins (join_loose s (IsLastMethod rest) wf.1 (λ last. methods_end r.tree (r.like last)) r.joins));
@@ -265,37 +272,40 @@ mutual
       record {
         tree = Signed first q.tree last r.tree;
         fills = (refl, q.fills, refl, r.fills);
-        whole = (subst (λ b. Whole_params b q.tree) q.like.1 q.whole, r.whole);
+        full = (refl, q.full, refl, r.full);
+        wf = (subst (λ b. Wf_params b q.tree) q.like.1 q.wf, r.wf);
         high = both_high q.high r.high;
         like = tt;
         joins = join_one (mark operator.OpenParen first) (join_both q.joins (join_one (mark operator.CloseParen last) r.joins));
       }
 
   result_fill : (r : ResultTree) → Wf_result r → FilledResult r
-  result_fill NoResult wf = record { tree = NoResult; fills = tt; whole = tt; high = refl; like = tt; joins = join_nothing }
+  result_fill NoResult wf = record { tree = NoResult; fills = tt; full = tt; wf = tt; high = refl; like = tt; joins = join_nothing }
   result_fill (OneResult t) wf =
       let q = type_fill t wf.0 in
-      record { tree = OneResult q.tree; fills = q.fills; whole = (q.whole, q.like.0 wf.1); high = q.high; like = tt; joins = q.joins }
+      record { tree = OneResult q.tree; fills = q.fills; full = q.full; wf = (q.wf, q.like.0 wf.1); high = q.high; like = tt; joins = q.joins }
   result_fill (Results first params last) wf =
       let q = params_fill (is_grouped params) params wf in
       record {
         tree = Results first q.tree last;
         fills = (refl, q.fills, refl);
-        whole = subst (λ b. Whole_params b q.tree) q.like.1 q.whole;
+        full = (refl, q.full, refl);
+        wf = subst (λ b. Wf_params b q.tree) q.like.1 q.wf;
         high = q.high;
         like = tt;
         joins = join_parens first last q.joins (λ more. tt);
       }
 
   params_fill : (groups : Bool) (ps : ParamTrees) → Wf_params groups ps → FilledParams groups ps
-  params_fill groups NoParams wf = record { tree = NoParams; fills = tt; whole = tt; high = refl; like = (λ y. y, refl); joins = join_nothing }
+  params_fill groups NoParams wf = record { tree = NoParams; fills = tt; full = tt; wf = tt; high = refl; like = (λ y. y, refl); joins = join_nothing }
   params_fill groups (Param xs t comma rest) wf =
       let q = type_fill t wf.1 in
       let r = params_fill groups rest wf.3 in
       record {
         tree = Param xs q.tree comma r.tree;
         fills = (refl, q.fills, refl, r.fills);
-        whole = (wf.0, q.whole, kept_like comma r.like.0 wf.2, r.whole);
+        full = (refl, q.full, refl, r.full);
+        wf = (wf.0, q.wf, kept_like comma r.like.0 wf.2, r.wf);
         high = both_high q.high r.high;
         like = (λ y. y, refl);
         joins = join_sure (spell_names xs) (join_both q.joins (join_sure (spell_some operator.Comma comma) r.joins));

@@ -13,3 +13,4 @@ pub mod LeftOutFiles
 pub mod LeftOutParts
 pub mod LeftOutStmts
 pub mod LeftOutTypes
+pub mod OccurrencesSpelled

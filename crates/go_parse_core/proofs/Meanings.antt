@@ -2,13 +2,14 @@
 use Rattle.std.proofs.Common.{◌≡◌, ℕ, ◌+◌, ◌≤◌, List, Result, Ok, Err, subst, arith, inl, inr}
 use Rattle.go_scan_core.specs.declared.token.LexFault.{LexFault}
 use Rattle.go_scan_core.specs.declared.token.Token.{Token}
-use Rattle.go_scan_core.specs.Cutting.{tokens_of}
+use Rattle.go_scan_core.specs.Tokens.{IsAnswer}
+use Rattle.go_scan_core.proofs.Answered.{one_list, not_both}
 use Rattle.go_tree_nodes.specs.Terminals.{Terminal, terminals}
 use Rattle.go_tree_nodes.specs.Trees.{FileTree}
 use Rattle.go_tree_nodes.specs.Heights.{file_height}
-use Rattle.go_parse_types.specs.Marks.{Stuck, Grammar, TooHigh}
+use Rattle.go_parse_types.specs.mirrors.Marks.{Stuck, Grammar, TooHigh}
 use Rattle.go_parse_core.specs.Correct.{IsTreeOf, HasTree, HasOneTree, HasNoTree, HasNoLowTree, max_height}
-use Rattle.go_parse_core.specs.FileReading.{file_at}
+use Rattle.go_parse_core.specs.mirrors.FileReading.{file_at}
 use Rattle.go_parse_core.proofs.FileFound.{file_complete}
 use Rattle.go_parse_core.proofs.FileSound.{file_sound}
 
@@ -41,27 +42,27 @@ too_high_means b ts e f is low =
     elim (file_complete b ts f is) [ inl d ↦ ok_not_err f TooHigh (file_at b ts) d e | inr h ↦ absurd (omega (arith, h.1)) ]
 
 -- a tree of a text is one of the terminals of its tokens
-pub tree_of_tokens : (text : List ℕ) (tokens : List Token) (f : FileTree) → tokens_of text ≡ Ok tokens → HasTree text f → IsTreeOf f (terminals text tokens)
+pub tree_of_tokens : (text : List ℕ) (tokens : List Token) (f : FileTree) → IsAnswer text (Ok tokens) → HasTree text f → IsTreeOf f (terminals text tokens)
 tree_of_tokens text tokens f scanned has =
-    subst (λ ts. IsTreeOf f (terminals text ts)) (same_ok has.tokens tokens (tokens_of text) has.scanned scanned) has.tree
+    subst (λ ts. IsTreeOf f (terminals text ts)) (one_list text has.tokens tokens has.scanned scanned) has.tree
 
 -- a text has at most one tree
 pub has_one_tree : HasOneTree
 has_one_tree text f g has it = one_tree_of (terminals text it.tokens) f g (tree_of_tokens text it.tokens f it.scanned has) it.tree
 
 -- a text without tokens has no tree
-pub no_tokens : (text : List ℕ) (fault : LexFault) → tokens_of text ≡ Err fault → HasNoTree text
-no_tokens text fault e f has = ok_not_err has.tokens fault (tokens_of text) has.scanned e
+pub no_tokens : (text : List ℕ) (fault : LexFault) → IsAnswer text (Err fault) → HasNoTree text
+no_tokens text fault refused f has = not_both text has.tokens fault has.scanned refused
 
 -- what a text that is refused lacks
-pub no_tree : (text : List ℕ) (tokens : List Token) → tokens_of text ≡ Ok tokens → file_at 199 (terminals text tokens) ≡ Err Grammar → HasNoTree text
+pub no_tree : (text : List ℕ) (tokens : List Token) → IsAnswer text (Ok tokens) → file_at 199 (terminals text tokens) ≡ Err Grammar → HasNoTree text
 no_tree text tokens scanned e f has = grammar_means 199 (terminals text tokens) e f (tree_of_tokens text tokens f scanned has)
 
-pub no_low_tree : (text : List ℕ) (tokens : List Token) → tokens_of text ≡ Ok tokens → file_at 199 (terminals text tokens) ≡ Err TooHigh → HasNoLowTree text
+pub no_low_tree : (text : List ℕ) (tokens : List Token) → IsAnswer text (Ok tokens) → file_at 199 (terminals text tokens) ≡ Err TooHigh → HasNoLowTree text
 no_low_tree text tokens scanned e f has low = too_high_means 199 (terminals text tokens) e f (tree_of_tokens text tokens f scanned has) low
 
 -- a tree that is read is that of the text, and low enough
-pub found : (text : List ℕ) (tokens : List Token) (f : FileTree) → tokens_of text ≡ Ok tokens → file_at 199 (terminals text tokens) ≡ Ok f → HasTree text f × (file_height f ≤ max_height)
+pub found : (text : List ℕ) (tokens : List Token) (f : FileTree) → IsAnswer text (Ok tokens) → file_at 199 (terminals text tokens) ≡ Ok f → HasTree text f × (file_height f ≤ max_height)
 found text tokens f scanned e =
     let w = file_sound 199 (terminals text tokens) f e in
     (record { tokens = tokens; scanned = scanned; tree = w.0 }, w.1)

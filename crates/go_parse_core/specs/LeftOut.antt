@@ -1,16 +1,15 @@
 -- Trees that write all their semicolons, and texts that leave out some before a closing mark.
-use Rattle.std.specs.Prelude.{◌≡◌, ◌⊎◌, ℕ, ◌+◌, ◌<◌, Bool, true, false, List, [], ◌∷◌, ◌++◌, Option, Some, None, Ok}
+use Rattle.std.specs.Prelude.{◌≡◌, ◌⊎◌, ℕ, Bool, true, false, List, [], ◌∷◌, ◌++◌, Option, Some, None, Ok}
 use Rattle.go_text_core.specs.declared.span.Span.{Span}
 use Rattle.go_scan_core.specs.declared.kind.Keyword.TheVariants as keyword
 use Rattle.go_scan_core.specs.declared.kind.Operator.{Operator}
 use Rattle.go_scan_core.specs.declared.kind.Operator.TheVariants as operator
 use Rattle.go_scan_core.specs.declared.token.Token.{Token}
-use Rattle.go_scan_core.specs.Cutting.{tokens_of}
-use Rattle.go_tree_nodes.specs.declared.decls.ValueKind.{ValueKind}
+use Rattle.go_scan_core.specs.Tokens.{IsAnswer}
 use Rattle.go_tree_nodes.specs.Terminals.{TerminalKind, Terminal, Number, Mark, terminal, terminals}
 use Rattle.go_tree_nodes.specs.Trees.{Separated, One, Then, TypeTree, FieldTrees, MethodTrees, SignatureTree, ResultTree, ParamTrees, NamedType, Pointer, ParenType, Struct, Interface, NoFields, NamedFields, EmbeddedField, NoMethods, Method, Signed, NoResult, OneResult, Results, NoParams, Param, ExprTree, ItemTrees, Integer, Text, Named, Paren, Unary, Binary, Select, Call, Literal, StructLiteral, NoItems, Item, ValueSpecTree, Specs, Single, Group, ValueTree, TypeSpecTree, TypeDeclTree, SimpleTree, Alone, Step, Assign, Update, Define, IfTree, ForTree, Forever, While, Clauses, StmtTree, BranchTree, ElseTree, Lines, Empty, Declare, Simple, Return, Break, Continue, Block, If, For, Branch, NoElse, ElseBlock, ElseIf, NoLines, Line, FuncTree, DeclTree, Value, Types, Func, TopTree, ImportSpecTree, ImportTree, FileTree}
 use Rattle.go_tree_nodes.specs.Spelling.{mark, word, spell_ident, spell_text, spell_idents, spell_some, spell_type_name, spell_tag, spell_names, spell_key, keyword_of, spell_receiver, spell_import}
-use Rattle.go_tree_nodes.specs.Rules.{rank_of, unary_rank, primary_rank, is_unary, is_step, is_update, IsKept, IsLastParam, IsLastItem, is_group, is_grouped, IsBare, Binds, MayHaveKey, IsFalse, IsStructType, HasEnough, IsPost}
+use Rattle.go_tree_nodes.specs.Rules.{Wf_file}
 use Rattle.go_tree_nodes.specs.Heights.{file_height}
 use Rattle.go_parse_core.specs.Correct.{HasTree}
 
@@ -215,162 +214,6 @@ signs_imports (i ∷ is) = (Sure (word keyword.Import i.keyword) ∷ signs_specs
 abbrev pub signs_file : FileTree → List Sign
 signs_file f = Sure (word keyword.Package f.clause) ∷ (Sure (spell_ident f.name) ∷ (Loose (mark operator.Semicolon f.semicolon) ∷ (signs_imports f.imports ++ signs_tops f.decls)))
 
--- which trees respect the rules of the grammar, with a semicolon behind each line of a list
-
-abbrev pub IsThere : Option Span → Type 0
-IsThere (Some s) = Unit {0}
-IsThere None = ⊥
-
--- types
-
-abbrev mutual
-  pub Whole_type : TypeTree → Type 0
-  Whole_type (NamedType n) = Unit {0}
-  Whole_type (Pointer star t) = Whole_type t
-  Whole_type (ParenType first t last) = Whole_type t
-  Whole_type (Struct k first fs last) = Whole_fields fs
-  Whole_type (Interface k first ms last) = Whole_methods ms
-
-  pub Whole_fields : FieldTrees → Type 0
-  Whole_fields NoFields = Unit {0}
-  Whole_fields (NamedFields xs t tag s rest) = Whole_type t × IsThere s × Whole_fields rest
-  Whole_fields (EmbeddedField star n tag s rest) = IsThere s × Whole_fields rest
-
-  pub Whole_methods : MethodTrees → Type 0
-  Whole_methods NoMethods = Unit {0}
-  Whole_methods (Method x signature s rest) = Whole_signature signature × IsThere s × Whole_methods rest
-
-  pub Whole_signature : SignatureTree → Type 0
-  Whole_signature (Signed first params last result) = Whole_params (is_grouped params) params × Whole_result result
-
-  pub Whole_result : ResultTree → Type 0
-  Whole_result NoResult = Unit {0}
-  Whole_result (OneResult t) = Whole_type t × IsBare t
-  Whole_result (Results first params last) = Whole_params (is_grouped params) params
-
-  pub Whole_params : Bool → ParamTrees → Type 0
-  Whole_params groups NoParams = Unit {0}
-  Whole_params groups (Param xs t comma rest) = (is_group xs ≡ groups) × Whole_type t × IsKept comma (IsLastParam rest) × Whole_params groups rest
-
--- what is there is whole
-abbrev pub Whole_some : {A : Type 0} → (A → Type 0) → Option A → Type 0
-Whole_some P None = Unit {0}
-Whole_some P (Some x) = P x
-
--- expressions, in a header or outside of one
-
-abbrev mutual
-  pub Whole_expr : Bool → ExprTree → Type 0
-  Whole_expr header (Integer n span) = Unit {0}
-  Whole_expr header (Text t) = Unit {0}
-  Whole_expr header (Named x) = Unit {0}
-  Whole_expr header (Paren first t last) = Whole_expr false t
-  Whole_expr header (Unary op span t) = (is_unary op ≡ true) × Whole_expr header t × Binds unary_rank t
-  Whole_expr header (Binary a op span b) = (0 < rank_of op) × Whole_expr header a × Binds (rank_of op) a × Whole_expr header b × Binds (rank_of op + 1) b
-  Whole_expr header (Select t dot x) = Whole_expr header t × Binds primary_rank t
-  Whole_expr header (Call t first is last) = Whole_expr header t × Binds primary_rank t × Whole_items false is
-  Whole_expr header (Literal n first is last) = IsFalse header × Whole_items true is
-  Whole_expr header (StructLiteral t first is last) = IsStructType t × Whole_type t × Whole_items true is
-
-  pub Whole_items : Bool → ItemTrees → Type 0
-  Whole_items keyed NoItems = Unit {0}
-  Whole_items keyed (Item key t comma rest) = MayHaveKey keyed key × Whole_expr false t × IsKept comma (IsLastItem rest) × Whole_items keyed rest
-
-abbrev pub Whole_exprs : Bool → Separated ExprTree → Type 0
-Whole_exprs header (One t) = Whole_expr header t
-Whole_exprs header (Then t comma more) = Whole_expr header t × Whole_exprs header more
-
--- declarations
-
-abbrev pub Whole_values : Span × Separated ExprTree → Type 0
-Whole_values v = Whole_exprs false v.1
-
-abbrev pub Whole_value_spec : ValueKind → ValueSpecTree → Type 0
-Whole_value_spec kind v = HasEnough kind v.type_expr v.values × Whole_some Whole_type v.type_expr × Whole_some Whole_values v.values
-
-abbrev pub Whole_group : {A : Type 0} → (A → Type 0) → List (A × Option Span) → Type 0
-Whole_group P [] = Unit {0}
-Whole_group P (x ∷ xs) = P x.0 × IsThere x.1 × Whole_group P xs
-
-abbrev pub Whole_specs : {A : Type 0} → (A → Type 0) → Specs A → Type 0
-Whole_specs P (Single x) = P x
-Whole_specs P (Group first xs last) = Whole_group P xs
-
-abbrev pub Whole_value : ValueTree → Type 0
-Whole_value v = Whole_specs (Whole_value_spec v.kind) v.specs
-
-abbrev pub Whole_type_spec : TypeSpecTree → Type 0
-Whole_type_spec t = Whole_type t.type_expr
-
-abbrev pub Whole_types : TypeDeclTree → Type 0
-Whole_types t = Whole_specs Whole_type_spec t.specs
-
--- statements
-
-abbrev pub Whole_simple : Bool → SimpleTree → Type 0
-Whole_simple header (Alone t) = Whole_expr header t
-Whole_simple header (Step t op span) = (is_step op ≡ true) × Whole_expr header t
-Whole_simple header (Assign ts span es) = Whole_exprs header ts × Whole_exprs header es
-Whole_simple header (Update t op span e) = (is_update op ≡ true) × Whole_expr header t × Whole_expr header e
-Whole_simple header (Define xs span es) = Whole_exprs header es
-
-abbrev pub Whole_init : Option (Option SimpleTree × Span) → Type 0
-Whole_init None = Unit {0}
-Whole_init (Some i) = Whole_some (Whole_simple true) i.0
-
-abbrev pub Whole_if : IfTree → Type 0
-Whole_if h = Whole_init h.init × Whole_expr true h.condition
-
-abbrev pub Whole_for : ForTree → Type 0
-Whole_for Forever = Unit {0}
-Whole_for (While t) = Whole_expr true t
-Whole_for (Clauses init a test b post) = Whole_some (Whole_simple true) init × Whole_some (Whole_expr true) test × Whole_some (Whole_simple true) post × IsPost post
-
-abbrev mutual
-  pub Whole_stmt : StmtTree → Type 0
-  Whole_stmt Empty = Unit {0}
-  Whole_stmt (Declare v) = Whole_value v
-  Whole_stmt (Simple s) = Whole_simple false s
-  Whole_stmt (Return s es) = Whole_some (Whole_exprs false) es
-  Whole_stmt (Break s) = Unit {0}
-  Whole_stmt (Continue s) = Unit {0}
-  Whole_stmt (Block first ls last) = Whole_lines ls
-  Whole_stmt (If b) = Whole_branch b
-  Whole_stmt (For k head first ls last) = Whole_for head × Whole_lines ls
-
-  pub Whole_branch : BranchTree → Type 0
-  Whole_branch (Branch k head first ls last otherwise) = Whole_if head × Whole_lines ls × Whole_else otherwise
-
-  pub Whole_else : ElseTree → Type 0
-  Whole_else NoElse = Unit {0}
-  Whole_else (ElseBlock k first ls last) = Whole_lines ls
-  Whole_else (ElseIf k b) = Whole_branch b
-
-  pub Whole_lines : Lines → Type 0
-  Whole_lines NoLines = Unit {0}
-  Whole_lines (Line c s rest) = Whole_stmt c × IsThere s × Whole_lines rest
-
--- files
-
-abbrev pub Whole_decl : DeclTree → Type 0
-Whole_decl (Value v) = Whole_value v
-Whole_decl (Types t) = Whole_types t
-Whole_decl (Func f) = Whole_signature f.signature × Whole_lines f.body
-
-abbrev pub Whole_tops : List TopTree → Type 0
-Whole_tops [] = Unit {0}
-Whole_tops (d ∷ ds) = Whole_decl d.decl × Whole_tops ds
-
-abbrev pub Whole_import : ImportSpecTree → Type 0
-Whole_import i = Unit {0}
-
-abbrev pub Whole_imports : List ImportTree → Type 0
-Whole_imports [] = Unit {0}
-Whole_imports (i ∷ is) = Whole_specs Whole_import i.specs × Whole_imports is
-
-abbrev pub Whole_file : FileTree → Type 0
-Whole_file f = Whole_imports f.imports × Whole_tops f.decls
-
 -- the second tree is the first, with a semicolon wherever the first has none
 
 abbrev pub Fills_semicolon : Option Span → Option Span → Type 0
@@ -549,11 +392,17 @@ Fills_imports _ _ = ⊥
 abbrev pub Fills_file : FileTree → FileTree → Type 0
 Fills_file m f = (m.clause ≡ f.clause) × (m.name ≡ f.name) × (m.semicolon ≡ f.semicolon) × Fills_imports m.imports f.imports × Fills_tops m.decls f.decls
 
--- the tokens of the text are what this tree writes, with some semicolons left out before a closing mark
+-- a tree has a semicolon wherever one may stand: to fill it changes nothing
+abbrev pub IsFull : FileTree → Type 0
+IsFull f = Fills_file f f
+
+-- the tree respects the rules of the grammar and has all its semicolons, and the tokens of the text are what it writes, with some
+-- semicolons left out before a closing mark
 pub record HasWholeTree (text : List ℕ) (f : FileTree) : Type 0 where
   pub tokens : List Token
-  pub scanned : tokens_of text ≡ Ok tokens
-  pub whole : Whole_file f
+  pub scanned : IsAnswer text (Ok tokens)
+  pub wf : Wf_file f
+  pub full : IsFull f
   pub left_out : LeftOut (signs_file f) (terminals text tokens)
 
 -- a tree of a text can be filled to one that writes all its semicolons, and is as high

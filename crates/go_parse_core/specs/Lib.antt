@@ -1,6 +1,6 @@
 pub mod Correct
-pub mod FileReading
 pub mod LeftOut
 pub mod Names
 pub mod Parsing
-pub mod Stopping
+pub mod Refusing
+pub mod mirrors

@@ -3,6 +3,8 @@ use Rattle.std.specs.Prelude.{◌≡◌, ◌≤◌, ◌^◌, ◌<◌, ℕ, List,
 use Rattle.go_scan_core.specs.declared.token.Comment.{Comment}
 use Rattle.go_scan_core.specs.Cutting.{comments_in}
 use Rattle.go_scan_core.specs.Tokens.{IsAnswerOf}
+use Rattle.go_tree_nodes.specs.declared.files.File.{File}
+use Rattle.go_tree_nodes.specs.Shapes.{file_of}
 use Rattle.go_tree_nodes.specs.Trees.{FileTree}
 use Rattle.go_tree_core.specs.Occurrences.{file_occs}
 use Rattle.go_tree_nodes.specs.Terminals.{InOrder}
@@ -34,3 +36,15 @@ IsParsedUnlessMemory (Err (errors.Fault fault)) = ⊥
 -- the comments of a text, in the words of the lexical grammar
 abbrev pub AreComments : List ℕ → List Comment → Type 0
 AreComments text cs = IsAnswerOf comments_in text (Ok cs)
+
+-- the tree is that of the text, or this is why the text is refused
+abbrev pub IsTreeAnswer : List ℕ → Result File ParseError → Type 0
+IsTreeAnswer text (Ok tree) = IsParse text (file_of tree)
+IsTreeAnswer text (Err errors.Memory) = Unit {0}
+IsTreeAnswer text (Err (errors.Fault fault)) = IsSynFault text fault
+
+-- no fault
+abbrev pub IsTreeUnlessMemory : Result File ParseError → Type 0
+IsTreeUnlessMemory (Ok tree) = Unit {0}
+IsTreeUnlessMemory (Err errors.Memory) = Unit {0}
+IsTreeUnlessMemory (Err (errors.Fault fault)) = ⊥

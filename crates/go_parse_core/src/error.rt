@@ -6,8 +6,8 @@ use std::alloc::AllocError;
 /// A fault of a text, and where it stands.
 #[derive(Clone, Copy, Debug, PartialEq, Eq)]
 pub struct SynFault {
-    /// L1, L2 or L3 where the text cannot be cut into tokens, P1 where its tokens have no tree, and P2 where
-    /// they have none of height 200 or less.
+    /// L1, L2 or L3 where the text cannot be cut into tokens; P1 where the parser stops at a token that has no place there, and P2
+    /// where it stops at something that would be higher than 200.
     pub rule: Rule,
     /// The offset in bytes of the place that cannot be cut, or of the token where the parser stopped, or of
     /// the text's end where it stopped behind the last token.

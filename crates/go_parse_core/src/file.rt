@@ -1,19 +1,19 @@
 //! Declarations of the package block, and files.
 ghost use Rattle.std.specs.Prelude.{◌≡◌, ◌<◌, ◌^◌, length, map};
 ghost use Rattle.go_tree_nodes.specs.Shapes.{decl_of, file_of, top_of};
-ghost use Rattle.go_parse_types.specs.Giving.{Gives};
-ghost use Rattle.go_parse_core.specs.FileReading.{decl_at, file_at, top_at, tops_go};
+ghost use Rattle.go_parse_types.specs.mirrors.Giving.{Gives};
+ghost use Rattle.go_parse_core.specs.mirrors.FileReading.{decl_at, file_at, top_at, tops_go};
 
 use crate::funcs::func;
 use crate::imports::imports;
 use go_parse_stmts::{type_decl, value_decl, value_keyword};
-use go_parse_types::{Ahead, Stop, add};
+use go_parse_types::{Ahead, Stop, add, fitted};
 use go_scan_core::{Keyword, Operator};
 use go_tree_nodes::{Decl, File, TopDecl};
 use std::alloc::Global;
 
 /// The declaration in front, whose parts are at most `budget` high.
-#[tactic(auto, unfolding(crate::specs::FileReading::decl_at))]
+#[tactic(auto, unfolding(crate::specs::mirrors::FileReading::decl_at))]
 fn decl<'a>(alloc: Global, ahead: Ahead<'a>, budget: u32) -> Result<(Decl, Ahead<'a>), Stop>
     requires { budget < 2 ^ 31 }
     ensures { Gives (λ x. (decl_of x.0, x.1)) result (decl_at budget ahead.entry) }
@@ -32,7 +32,7 @@ fn decl<'a>(alloc: Global, ahead: Ahead<'a>, budget: u32) -> Result<(Decl, Ahead
 }
 
 /// The declaration in front with its semicolon.
-#[tactic(auto, unfolding(crate::specs::FileReading::top_at))]
+#[tactic(auto, unfolding(crate::specs::mirrors::FileReading::top_at))]
 fn top_decl<'a>(alloc: Global, ahead: Ahead<'a>, budget: u32) -> Result<(TopDecl, Ahead<'a>), Stop>
     requires { budget < 2 ^ 31 }
     ensures { Gives (λ x. (top_of x.0, x.1)) result (top_at budget ahead.entry) }
@@ -59,11 +59,11 @@ fn top_decls(alloc: Global, ahead: Ahead<'_>, budget: u32) -> Result<Vec<TopDecl
         add(&mut all, decl)?;
         rest = after;
     }
-    Ok(all)
+    Ok(fitted(all))
 }
 
 /// The file that all the tokens make, whose declarations are at most one higher than `budget`.
-#[tactic(auto, unfolding(crate::specs::FileReading::file_at))]
+#[tactic(auto, unfolding(crate::specs::mirrors::FileReading::file_at))]
 pub fn file(alloc: Global, ahead: Ahead<'_>, budget: u32) -> Result<File, Stop>
     requires { budget < 2 ^ 31 }
     ensures { Gives file_of result (file_at budget ahead.entry) }

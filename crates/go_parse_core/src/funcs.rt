@@ -2,10 +2,10 @@
 ghost use Rattle.std.specs.Prelude.{◌≡◌, ◌<◌, ◌^◌, IfOk};
 ghost use Rattle.go_scan_core.specs.declared.kind.Operator.TheVariants as operator;
 ghost use Rattle.go_tree_nodes.specs.Shapes.{func_of};
-ghost use Rattle.go_parse_types.specs.Giving.{Gives};
-ghost use Rattle.go_parse_types.specs.Marks.{mark_at, name_at};
-ghost use Rattle.go_parse_core.specs.FileReading as reading;
-ghost use Rattle.go_parse_core.specs.FileReading.{func_at, is_receiver_name, receiver_at, receiver_by};
+ghost use Rattle.go_parse_types.specs.mirrors.Giving.{Gives};
+ghost use Rattle.go_parse_types.specs.mirrors.Marks.{mark_at, name_at};
+ghost use Rattle.go_parse_core.specs.mirrors.FileReading as reading;
+ghost use Rattle.go_parse_core.specs.mirrors.FileReading.{func_at, is_receiver_name, receiver_at, receiver_by};
 
 use go_parse_stmts::block;
 use go_parse_types::{Ahead, Stop, signature, type_name};
@@ -79,7 +79,7 @@ fn some_receiver<'a>(alloc: Global, ahead: Ahead<'a>) -> Result<(Option<Receiver
 }
 
 /// What stands behind `func`, with types and a body at most `budget` high.
-#[tactic(auto, unfolding(crate::specs::FileReading::func_at))]
+#[tactic(auto, unfolding(crate::specs::mirrors::FileReading::func_at))]
 pub fn func<'a>(
     alloc: Global,
     ahead: Ahead<'a>,

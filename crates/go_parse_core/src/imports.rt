@@ -2,13 +2,13 @@
 ghost use Rattle.std.specs.Prelude.{◌≡◌, suc, length, map, IfOk};
 ghost use Rattle.go_scan_core.specs.declared.kind.Operator.TheVariants as operator;
 ghost use Rattle.go_tree_nodes.specs.Shapes.{import_of, shape_import_line, shape_import_spec, shape_import_specs};
-ghost use Rattle.go_parse_types.specs.EntryShapes.{list_all};
-ghost use Rattle.go_parse_types.specs.Giving.{Gives};
-ghost use Rattle.go_parse_types.specs.Marks.{mark_at};
-ghost use Rattle.go_parse_stmts.specs.StmtReading.{specs_at};
-ghost use Rattle.go_parse_core.specs.FileReading.{dotted_import, import_spec_at, imports_go};
+ghost use Rattle.go_parse_types.specs.mirrors.EntryShapes.{list_all};
+ghost use Rattle.go_parse_types.specs.mirrors.Giving.{Gives};
+ghost use Rattle.go_parse_types.specs.mirrors.Marks.{mark_at};
+ghost use Rattle.go_parse_stmts.specs.mirrors.StmtReading.{specs_at};
+ghost use Rattle.go_parse_core.specs.mirrors.FileReading.{dotted_import, import_spec_at, imports_go};
 
-use go_parse_types::{Ahead, Stop, add};
+use go_parse_types::{Ahead, Stop, add, fitted};
 use go_scan_core::{Keyword, Operator};
 use go_tree_nodes::{ImportDecl, ImportLine, ImportName, ImportSpec, ImportSpecs};
 use std::alloc::{AllocError, Global};
@@ -53,13 +53,13 @@ fn import_lines<'a>(alloc: Global, ahead: Ahead<'a>) -> Result<(Vec<ImportLine>,
             }
             let semicolon = None;
             add(&mut all, ImportLine { spec, semicolon })?;
-            return Ok((all, behind));
+            return Ok((fitted(all), behind));
         };
         let semicolon = Some(semicolon);
         add(&mut all, ImportLine { spec, semicolon })?;
         rest = after;
     }
-    Ok((all, rest))
+    Ok((fitted(all), rest))
 }
 
 /// What stands behind `import`: one import, or several in parentheses.
@@ -98,5 +98,5 @@ pub fn imports<'a>(alloc: Global, ahead: Ahead<'a>) -> Result<(Vec<ImportDecl>, 
         add(&mut all, decl)?;
         rest = after;
     }
-    Ok((all, rest))
+    Ok((fitted(all), rest))
 }

@@ -6,17 +6,24 @@
 //! text leaves it out.
 ghost use Rattle.go_parse_core.specs.Correct.{HasOneTree};
 ghost use Rattle.go_parse_core.specs.LeftOut.{HasOneWholeTree, MarkedIsWhole, WholeIsMarked};
-ghost use Rattle.go_parse_core.specs.Names.{HasNamesSpelled};
+ghost use Rattle.go_parse_core.specs.Names.{HasNamesSpelled, HasOccurrencesSpelled};
 
 /// A law, with nothing to run: a text has at most one tree.
 pub fn one_tree()
     ensures { HasOneTree }
 {}
 
-/// A law, with nothing to run: each name and each literal among the tokens of a text in UTF-8 is a piece of
-/// the text, and each integer literal is at most 2^63 - 1, so that a tree can write it.
+/// A law, with nothing to run: each name and each string literal among the tokens of a text in UTF-8 is spelled as the text
+/// has it at its place, quotes included, and each integer literal has the value of the digits at its place, at most 2^63 - 1, so that
+/// a tree can write it.
 pub fn names_spelled()
     ensures { HasNamesSpelled }
+{}
+
+/// A law, with nothing to run: each identifier and each import among the occurrences of the tree of a text is spelled as the
+/// text has it at its place, an import with its quotes.
+pub fn occurrences_spelled()
+    ensures { HasOccurrencesSpelled }
 {}
 
 /// A law, with nothing to run: a tree of a text can be filled to a whole tree of the text, with a semicolon

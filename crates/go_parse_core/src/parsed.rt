@@ -10,8 +10,9 @@ ghost use Rattle.go_tree_nodes.specs.Spelling.{spell_file};
 ghost use Rattle.go_tree_nodes.specs.Terminals.{InOrder};
 ghost use Rattle.go_tree_nodes.specs.Trees.{FileTree};
 ghost use Rattle.go_parse_core.specs.Correct.{HasTree, max_height};
-ghost use Rattle.go_parse_core.specs.Parsing.{AreComments, Parses, IsParsedUnlessMemory};
-ghost use Rattle.go_parse_core.specs.Stopping.{IsErrorOf, IsTreeAnswer, IsTreeUnlessMemory};
+ghost use Rattle.go_parse_core.specs.Parsing.{AreComments, Parses, IsParsedUnlessMemory, IsTreeAnswer, IsTreeUnlessMemory};
+ghost use Rattle.go_parse_core.specs.Refusing.{IsRefusedAsRead, IsTooHighUnlessMemory, IsTreeRefused, IsTreeTooHigh};
+ghost use Rattle.go_parse_core.specs.mirrors.Stopping.{IsErrorOf};
 
 use crate::error::{ParseError, SynFault};
 use crate::file::file;
@@ -67,21 +68,8 @@ impl Parsed {
         &self.tree
     }
 
-    /// The text, as it was given, and its tree.
-    pub fn into_parts(self) -> (String, File)
-        ensures text { string_bytes result.0 ≡ self }
-        ensures found { HasTree self (file_of result.1) }
-        ensures low { file_height (file_of result.1) ≤ max_height }
-        // The tokens that the tree writes follow one another in the text.
-        ensures placed { InOrder 0 (spell_file (file_of result.1)) (length self) }
-        ensures few { length (file_occs (file_of result.1)) < 2 ^ 64 }
-    {
-        let Parsed { text, tree } = self;
-        (text, tree)
-    }
-
-    /// Gives back the memory of the text and of its tree. A crate that ends its parsed texts by this call has no drops of trees of
-    /// its own.
+    /// Lets the text and its tree go, as `drop` does. It promises nothing: nothing may rest on it, not even that the memory is free
+    /// behind it. A crate that ends its parsed texts by this call has no drops of trees of its own.
     pub fn close(self) {}
 
     /// An equal value. The one error is want of memory.
@@ -127,10 +115,16 @@ fn error_of(stop: Stop, len: usize) -> ParseError
     }
 }
 
-/// The tree of a text, whose tokens follow one another.
-fn tree_of(alloc: Global, text: &str) -> Result<File, ParseError>
+/// The tree of a text that is lent, where [`parse`] keeps the text. For all else, and for the errors, see there.
+///
+/// # Errors
+///
+/// Those of [`parse`].
+pub fn tree_of(alloc: Global, text: &str) -> Result<File, ParseError>
     ensures answer { IsTreeAnswer text.now result }
     ensures only { (f : FileTree) → HasTree text.now f → file_height f ≤ max_height → IsTreeUnlessMemory result }
+    ensures high { (f : FileTree) → HasTree text.now f → max_height < file_height f → IsTreeTooHigh result }
+    ensures read { IsTreeRefused text.now result }
 {
     let len = text.len();
     let tokens = match scan(alloc, text) {
@@ -160,12 +154,18 @@ fn tree_of(alloc: Global, text: &str) -> Result<File, ParseError>
 /// - [`ParseError::Memory`] where memory runs out.
 /// - [`ParseError::Fault`] with the rule L1, L2 or L3 and the offset of the first fault of the tokens, as
 ///   [`scan`] answers it.
-/// - [`ParseError::Fault`] with the rule P1 where the tokens have no tree of any height, and P2 where they
-///   have none of height 200 or less. The offset is that of the token where the parser stopped, or that of
-///   the text's end where it stopped behind the last token.
+/// - [`ParseError::Fault`] with the rule P2 where the tokens have a tree that is higher than 200. Tokens that have no tree of
+///   any height are read from the left: the rule is P1 where a token comes first that has no place there, and P2 where
+///   something comes first that would be higher than 200. The offset is that of the token where the parser stopped, or
+///   that of the text's end where it stopped behind the last token.
 pub fn parse(alloc: Global, text: String) -> Result<Parsed, ParseError>
     ensures answer { Parses (string_bytes text) result }
+    // A text with a tree of height 200 or less is parsed.
     ensures only { (f : FileTree) → HasTree (string_bytes text) f → file_height f ≤ max_height → IsParsedUnlessMemory result }
+    // A text with a higher tree has P2.
+    ensures high { (f : FileTree) → HasTree (string_bytes text) f → max_height < file_height f → IsTooHighUnlessMemory result }
+    // A text without a tree has P1 or P2 as the reading of its tokens stops.
+    ensures read { IsRefusedAsRead (string_bytes text) result }
 {
     let tree = tree_of(alloc, text.as_str())?;
     Ok(Parsed { text, tree })

@@ -13,8 +13,8 @@ use Rattle.go_tree_nodes.specs.Terminals.{TerminalKind, Mark, Terminal}
 use Rattle.go_tree_nodes.specs.Trees.{ExprTree, Integer, Text, Named, Paren, Unary, Binary, Select, Call, Literal, StructLiteral}
 use Rattle.go_tree_nodes.specs.Spelling.{mark, spell_ident}
 use Rattle.go_tree_nodes.specs.Rules.{rank_of, unary_rank, primary_rank, is_unary, is_step, is_update, Binds, Wf}
-use Rattle.go_parse_types.specs.Marks.{Place, same_operator, mark_at, mark_that_in, mark_that}
-use Rattle.go_parse_exprs.specs.ExprReading.{literal_dot, body_by, body_of, body_at, next_apply, next_pick, next_operate, binds_at, next_at}
+use Rattle.go_parse_types.specs.mirrors.Marks.{MarkAhead, same_operator, mark_at, mark_that_in, mark_that}
+use Rattle.go_parse_exprs.specs.mirrors.ExprReading.{literal_dot, body_by, body_behind, body_at, next_apply, next_pick, next_operate, has_rank, next_at}
 use Rattle.go_parse_types.proofs.Marks.{none_when, mark_not, mark_that_not}
 
 -- ranks
@@ -95,11 +95,11 @@ primary_binds least (StructLiteral x f is z) h = tt
 
 -- what stands in front
 
-apply_free : (p : Place) → next_apply p ≡ None → p ≡ None
+apply_free : (p : MarkAhead) → next_apply p ≡ None → p ≡ None
 apply_free None e = refl
 apply_free (Some p) e = cc
 
-pick_free : (ts : List Terminal) (p : Place) → next_pick ts p ≡ None → (p ≡ None) × (mark_at operator.OpenParen ts ≡ None)
+pick_free : (ts : List Terminal) (p : MarkAhead) → next_pick ts p ≡ None → (p ≡ None) × (mark_at operator.OpenParen ts ≡ None)
 pick_free ts None e = (refl, apply_free (mark_at operator.OpenParen ts) e)
 pick_free ts (Some p) e = cc
 
@@ -110,11 +110,11 @@ operate_free ts None e =
 operate_free ts (Some o) e = cc
 
 -- where nothing goes on, there is no operator, no dot and no opening parenthesis
-pub next_free : (least : ℕ) (ts : List Terminal) → next_at least ts ≡ None → (mark_that (binds_at least) ts ≡ None) × (mark_at operator.Dot ts ≡ None) × (mark_at operator.OpenParen ts ≡ None)
-next_free least ts e = operate_free ts (mark_that (binds_at least) ts) e
+pub next_free : (least : ℕ) (ts : List Terminal) → next_at least ts ≡ None → (mark_that (has_rank least) ts ≡ None) × (mark_at operator.Dot ts ≡ None) × (mark_at operator.OpenParen ts ≡ None)
+next_free least ts e = operate_free ts (mark_that (has_rank least) ts) e
 
 -- and the other way round
-pub next_none : (least : ℕ) (ts : List Terminal) → mark_that (binds_at least) ts ≡ None → mark_at operator.Dot ts ≡ None → mark_at operator.OpenParen ts ≡ None → next_at least ts ≡ None
+pub next_none : (least : ℕ) (ts : List Terminal) → mark_that (has_rank least) ts ≡ None → mark_at operator.Dot ts ≡ None → mark_at operator.OpenParen ts ≡ None → next_at least ts ≡ None
 next_none least ts ranked dot paren = ap (next_operate ts) ranked ∙ ap (next_pick ts) dot ∙ ap next_apply paren
 
 -- no brace of a literal stands in front
@@ -141,7 +141,7 @@ Behind header _ ts = Unit {0}
 -- a mark that is no operator, no dot, no opening parenthesis and no opening brace stops each expression
 pub stops_mark : (header : Bool) (o : Operator) (s : Span) (ts : List Terminal) → rank_of o ≡ 0 → same_operator o operator.Dot ≡ false → same_operator o operator.OpenParen ≡ false → same_operator o operator.OpenBrace ≡ false → Stops header 1 (mark o s ∷ ts)
 stops_mark header o s ts none dot paren brace =
-    (next_none 1 (mark o s ∷ ts) (mark_that_not (binds_at 1) o s ts (lt-leb _ _ (omega (arith, none)))) (mark_not operator.Dot o s ts dot) (mark_not operator.OpenParen o s ts paren), no_brace header (mark o s ∷ ts) (mark_not operator.OpenBrace o s ts brace))
+    (next_none 1 (mark o s ∷ ts) (mark_that_not (has_rank 1) o s ts (lt-leb _ _ (omega (arith, none)))) (mark_not operator.Dot o s ts dot) (mark_not operator.OpenParen o s ts paren), no_brace header (mark o s ∷ ts) (mark_not operator.OpenBrace o s ts brace))
 
 -- so do `++`, `--` and an operator with `=`
 
@@ -181,14 +181,14 @@ pub stops_block : (s : Span) (ts : List Terminal) → Stops true 1 (mark operato
 stops_block s ts = (refl, tt)
 
 -- operators that bind stronger are fewer
-that_more : (m n : ℕ) (ts : List Terminal) → m ≤ n → mark_that (binds_at m) ts ≡ None → mark_that (binds_at n) ts ≡ None
+that_more : (m n : ℕ) (ts : List Terminal) → m ≤ n → mark_that (has_rank m) ts ≡ None → mark_that (has_rank n) ts ≡ None
 that_more m n [] le e = refl
 that_more m n (t ∷ ts) le e = at t.kind e
   where
-    at : (k : TerminalKind) → mark_that_in (binds_at m) k t.span ts ≡ None → mark_that_in (binds_at n) k t.span ts ≡ None
+    at : (k : TerminalKind) → mark_that_in (has_rank m) k t.span ts ≡ None → mark_that_in (has_rank n) k t.span ts ≡ None
     at (Mark o) e =
         let less = leb-false m (rank_of o) (none_when (nat_le m (rank_of o)) (o, t.span, ts) e) in
-        mark_that_not (binds_at n) o t.span ts (lt-leb n (rank_of o) (omega (arith, less)))
+        mark_that_not (has_rank n) o t.span ts (lt-leb n (rank_of o) (omega (arith, less)))
     at _ e = refl
 
 pub next_more : (m n : ℕ) (ts : List Terminal) → m ≤ n → next_at m ts ≡ None → next_at n ts ≡ None
@@ -202,7 +202,7 @@ stops_more header m n ts le h = (next_more m n ts le h.0, h.1)
 -- a name that neither a dot nor a brace follows is no type of a literal
 named_alone : (header : Bool) (x : Ident) (ts : List Terminal) → mark_at operator.Dot ts ≡ None → NoBrace header ts → body_at header x ts ≡ None
 named_alone true x ts dot brace = refl
-named_alone false x ts dot brace = ap (λ m. body_of (literal_dot x ts m)) dot ∙ ap (body_by (type_name.Plain x)) brace
+named_alone false x ts dot brace = ap (λ m. body_behind (literal_dot x ts m)) dot ∙ ap (body_by (type_name.Plain x)) brace
 
 pub stops_behind : (header : Bool) (least : ℕ) (t : ExprTree) (ts : List Terminal) → Binds least t → Stops header least ts → Behind header t ts
 stops_behind header least (Integer n s) ts b h = tt
@@ -219,7 +219,7 @@ stops_behind header least (StructLiteral n f is z) ts b h = tt
 -- a weaker operator stops
 stops_operator : (header : Bool) (least : ℕ) (o : Operator) (s : Span) (ts : List Terminal) → 0 < rank_of o → rank_of o < least → Stops header least (mark o s ∷ ts)
 stops_operator header least o s ts some less =
-    (next_none least (mark o s ∷ ts) (mark_that_not (binds_at least) o s ts (lt-leb least (rank_of o) less)) (mark_not operator.Dot o s ts (not_ranked o operator.Dot some refl)) (mark_not operator.OpenParen o s ts (not_ranked o operator.OpenParen some refl)), no_brace header (mark o s ∷ ts) (mark_not operator.OpenBrace o s ts (not_ranked o operator.OpenBrace some refl)))
+    (next_none least (mark o s ∷ ts) (mark_that_not (has_rank least) o s ts (lt-leb least (rank_of o) less)) (mark_not operator.Dot o s ts (not_ranked o operator.Dot some refl)) (mark_not operator.OpenParen o s ts (not_ranked o operator.OpenParen some refl)), no_brace header (mark o s ∷ ts) (mark_not operator.OpenBrace o s ts (not_ranked o operator.OpenBrace some refl)))
 
 -- what a binary operator may follow
 pub operator_behind : (header : Bool) (o : Operator) (s : Span) (ts : List Terminal) (t : ExprTree) → 0 < rank_of o → Binds (rank_of o) t → Behind header t (mark o s ∷ ts)

@@ -9,23 +9,23 @@ use Rattle.go_tree_nodes.specs.Trees.{ExprTree}
 use Rattle.go_tree_nodes.specs.Spelling.{mark}
 use Rattle.go_tree_nodes.specs.Rules.{rank_of}
 use Rattle.go_tree_nodes.specs.Heights.{height}
-use Rattle.go_parse_types.specs.Marks.{TooHigh, ◌>>=◌, Reading}
-use Rattle.go_parse_exprs.specs.ExprReading.{Inner, operand_at, Next, Operate, Pick, Apply, next_apply, next_pick, next_operate, binds_at, next_at, step, turn, chain, expr_at}
+use Rattle.go_parse_types.specs.mirrors.Marks.{TooHigh, ◌>>=◌, Reading}
+use Rattle.go_parse_exprs.specs.mirrors.ExprReading.{Inner, operand_at, Next, Operate, Pick, Apply, next_apply, next_pick, next_operate, has_rank, next_at, step, turn, chain, expr_at}
 use Rattle.go_parse_types.proofs.Marks.{mark_here, mark_that_here, mark_that_not, AgreesAt, bind_agrees, agrees_along}
 
 -- what comes next, by the mark in front
 
 pub next_operator : (least : ℕ) (o : Operator) (s : Span) (ts : List Terminal) → least ≤ rank_of o → next_at least (mark o s ∷ ts) ≡ Some (Operate o s ts)
-next_operator least o s ts h = ap (next_operate (mark o s ∷ ts)) (mark_that_here (binds_at least) o s ts (le-leb _ _ h))
+next_operator least o s ts h = ap (next_operate (mark o s ∷ ts)) (mark_that_here (has_rank least) o s ts (le-leb _ _ h))
 
 pub next_dot : (least : ℕ) (s : Span) (ts : List Terminal) → 0 < least → next_at least (mark operator.Dot s ∷ ts) ≡ Some (Pick s ts)
 next_dot least s ts some =
-    ap (next_operate (mark operator.Dot s ∷ ts)) (mark_that_not (binds_at least) operator.Dot s ts (lt-leb _ _ some))
+    ap (next_operate (mark operator.Dot s ∷ ts)) (mark_that_not (has_rank least) operator.Dot s ts (lt-leb _ _ some))
     ∙ ap (next_pick (mark operator.Dot s ∷ ts)) (mark_here operator.Dot s ts)
 
 pub next_open : (least : ℕ) (s : Span) (ts : List Terminal) → 0 < least → next_at least (mark operator.OpenParen s ∷ ts) ≡ Some (Apply s ts)
 next_open least s ts some =
-    ap (next_operate (mark operator.OpenParen s ∷ ts)) (mark_that_not (binds_at least) operator.OpenParen s ts (lt-leb _ _ some))
+    ap (next_operate (mark operator.OpenParen s ∷ ts)) (mark_that_not (has_rank least) operator.OpenParen s ts (lt-leb _ _ some))
     ∙ ap next_apply (mark_here operator.OpenParen s ts)
 
 -- one turn of a chain

@@ -10,10 +10,10 @@ use Rattle.go_tree_nodes.specs.Spelling.{spell}
 use Rattle.go_tree_nodes.specs.Heights.{height, exprs_height}
 use Rattle.go_tree_nodes.specs.Shapes.{shape, exprs_from}
 use Rattle.go_parse_types.specs.declared.stop.Stop.{Stop}
-use Rattle.go_parse_types.specs.Giving.{Fails}
-use Rattle.go_parse_types.specs.Marks.{Stuck, ◌>>=◌, Reading, mark_at}
-use Rattle.go_parse_exprs.specs.CodeShapes.{on_from}
-use Rattle.go_parse_exprs.specs.ExprReading.{expr_at, exprs_by, exprs_go, exprs_at}
+use Rattle.go_parse_types.specs.mirrors.Giving.{Fails}
+use Rattle.go_parse_types.specs.mirrors.Marks.{Stuck, ◌>>=◌, Reading, mark_at}
+use Rattle.go_parse_exprs.specs.mirrors.CodeShapes.{on_from}
+use Rattle.go_parse_exprs.specs.mirrors.ExprReading.{expr_at, exprs_by, exprs_go, exprs_at}
 use Rattle.go_parse_types.proofs.Marks.{mark_shorter}
 use Rattle.go_parse_exprs.proofs.Fronts.{spell_some}
 use Rattle.go_parse_exprs.proofs.ExprSound.{expr_sound}

@@ -1,6 +1,6 @@
 -- What reading calls and literals gives, in the words of the program.
-use Rattle.std.proofs.Common.{◌≡◌, ℕ, zero, suc, ◌+◌, ◌-◌, ◌<◌, ◌≤◌, max, Bool, true, false, List, [], ◌∷◌, ◌++◌, map, Option, Some, None, Vec, Ok, Err, refl, sym, ap, ◌∙◌, arith}
-use Rattle.std.specs.Global.{Global, Box}
+use Rattle.std.proofs.Common.{◌≡◌, ℕ, zero, suc, ◌+◌, ◌-◌, ◌<◌, ◌≤◌, max, Bool, true, false, List, [], ◌∷◌, ◌++◌, Option, Some, None, Vec, Ok, Err, refl, sym, ap, ◌∙◌, arith}
+use Rattle.std.specs.Global.{Global}
 use Rattle.go_text_core.specs.declared.span.Span.{Span}
 use Rattle.go_scan_core.specs.declared.kind.Keyword.TheVariants as keyword
 use Rattle.go_scan_core.specs.declared.kind.Operator.{Operator}
@@ -9,30 +9,29 @@ use Rattle.go_tree_nodes.specs.declared.names.Ident.{Ident}
 use Rattle.go_tree_nodes.specs.declared.types.TypeName.{TypeName}
 use Rattle.go_tree_nodes.specs.declared.types.TypeExpr.{TypeExpr}
 use Rattle.go_tree_nodes.specs.declared.exprs.Expr.{Expr}
-use Rattle.go_tree_nodes.specs.declared.exprs.Expr.TheVariants as expr
+use Rattle.go_tree_nodes.specs.declared.exprs.CallExpr.{CallExpr, roll-CallExpr}
+use Rattle.go_tree_nodes.specs.declared.exprs.LiteralExpr.{LiteralExpr, roll-LiteralExpr}
+use Rattle.go_tree_nodes.specs.declared.exprs.StructLiteralExpr.{StructLiteralExpr, roll-StructLiteralExpr}
 use Rattle.go_tree_nodes.specs.declared.exprs.«Item» as declared_item
 use Rattle.go_tree_nodes.specs.declared.exprs.Key.{Key}
 use Rattle.go_tree_nodes.specs.Terminals.{Terminal}
-use Rattle.go_tree_nodes.specs.Trees.{TypeTree, ExprTree, Binary, Select, Call, Literal, StructLiteral}
+use Rattle.go_tree_nodes.specs.Trees.{TypeTree, ExprTree, Binary, Call, Literal, StructLiteral}
 use Rattle.go_tree_nodes.specs.Rules.{rank_of}
 use Rattle.go_tree_nodes.specs.Spelling.{word}
 use Rattle.go_tree_nodes.specs.TypeShapes.{shape_type}
-use Rattle.go_tree_nodes.specs.Shapes.{shape, items_of}
+use Rattle.go_tree_nodes.specs.Shapes.{shape, shape_call, shape_literal, shape_struct_literal, items_of}
+use Rattle.go_tree_nodes.proofs.ShapeLemmas.{shape_called, shape_literal_made, shape_struct_literal_made}
 use Rattle.go_tree_nodes.specs.Heights.{type_height, height, items_height}
-use Rattle.go_tree_nodes.proofs.ShapeLemmas.{shape_call, shape_literal, shape_struct_literal}
 use Rattle.go_parse_types.specs.declared.stop.Stop.{Stop}
-use Rattle.go_parse_types.specs.EntryShapes.{list_all, with_mark, then_mark}
-use Rattle.go_parse_types.specs.Giving.{Fails}
-use Rattle.go_parse_types.specs.Marks.{◌>>=◌, Reading, need, mark_at, name_at, mark_or_end}
-use Rattle.go_parse_types.specs.TypeReading.{struct_at, type_at}
-use Rattle.go_parse_types.proofs.Marks.{need_ok}
+use Rattle.go_parse_types.specs.mirrors.EntryShapes.{with_mark, then_mark}
+use Rattle.go_parse_types.specs.mirrors.Giving.{Fails}
+use Rattle.go_parse_types.specs.mirrors.Marks.{◌>>=◌, Reading, mark_at, mark_or_end}
+use Rattle.go_parse_types.specs.mirrors.TypeReading.{struct_at, type_at}
 use Rattle.go_parse_types.proofs.Types.{type_sound}
-use Rattle.go_parse_exprs.specs.declared.after.After.{After}
-use Rattle.go_parse_exprs.specs.declared.after.After.TheVariants as after
-use Rattle.go_parse_exprs.specs.CodeShapes.{next_of, item_of, opens_body, key_from, some_key, ElementsTree, elements_at}
-use Rattle.go_parse_exprs.specs.ExprReading.{Inner, ItemTree, key_at, item_by, item_at, literal_name, body_at, named_by, struct_body, struct_type, struct_literal, call_by, step}
+use Rattle.go_parse_exprs.specs.mirrors.CodeShapes.{opens_body, key_from, some_key, ClosedTree, closed_at, applied_at, ElementsTree, elements_at}
+use Rattle.go_parse_exprs.specs.mirrors.ExprReading.{Inner, ItemTree, key_at, item_by, item_ahead, items_at, Operate, Apply, literal_name, body_at, named_by, struct_body, struct_type, struct_literal, call_by, step}
 use Rattle.go_parse_exprs.proofs.ExprFound.{struct_type_is}
-use Rattle.go_parse_exprs.proofs.CodeExprs.{bind_fails, need_fails, items_found, items_fail, literal_with, named_elements, struct_with, struct_elements}
+use Rattle.go_parse_exprs.proofs.CodeExprs.{bind_fails, closed_as, literal_with, named_elements, struct_with, struct_elements}
 
 -- the height of one more item
 
@@ -43,44 +42,29 @@ items_push (j ∷ js) i = omega (arith, items_push js i)
 pub items_more : (is new : List declared_item.Item) (i : declared_item.Item) → new ≡ is ++ (i ∷ []) → items_height (items_of new) ≡ max (items_height (items_of is)) (height (shape i.value))
 items_more is new i e = ap (λ l. items_height (items_of l)) e ∙ items_push is i
 
--- an operator and a selector, by what stands behind them
+-- an operator, by the operand behind it
 
-pub operate_fails : (inner : Inner) (header : Bool) (t : ExprTree) (a : After) (o : Operator) (s : Span) (ts : List Terminal) (r : ℕ) (e : Stop) → a ≡ after.Operate o → r ≡ rank_of o → Fails e (inner header (r + 1) ts) → Fails e (step inner header t (next_of a s ts))
-operate_fails inner header t a o s ts r e operate rank failed =
-    bind_fails (inner header (r + 1) ts) (λ x. Ok (Binary t o s x.0, x.1)) (step inner header t (next_of a s ts)) e
-    (ap (λ a. step inner header t (next_of a s ts)) operate ∙ ap (λ r. inner header (r + 1) ts >>= λ x. Ok (Binary t o s x.0, x.1)) (sym rank)) failed
-
-pub pick_fails : (inner : Inner) (header : Bool) (t : ExprTree) (a : After) (s : Span) (ts : List Terminal) (e : Stop) → a ≡ after.Pick → Fails e (need (name_at ts)) → Fails e (step inner header t (next_of a s ts))
-pick_fails inner header t a s ts e pick failed =
-    bind_fails (need (name_at ts)) (λ x. Ok (Select t s x.0, x.1)) (step inner header t (next_of a s ts)) e (ap (λ a. step inner header t (next_of a s ts)) pick) failed
+pub binary_fails : (inner : Inner) (header : Bool) (t : ExprTree) (o : Operator) (s : Span) (ts : List Terminal) (r : ℕ) (e : Stop) → r ≡ rank_of o → Fails e (inner header (r + 1) ts) → Fails e (step inner header t (Operate o s ts))
+binary_fails inner header t o s ts r e rank failed =
+    bind_fails (inner header (r + 1) ts) (λ x. Ok (Binary t o s x.0, x.1)) (step inner header t (Operate o s ts)) e
+    (ap (λ r. inner header (r + 1) ts >>= λ x. Ok (Binary t o s x.0, x.1)) (sym rank)) failed
 
 -- a call, by its arguments
 
-pub call_fails : (inner : Inner) (header : Bool) (t : ExprTree) (a : After) (s : Span) (ts : List Terminal) (e : Stop) → a ≡ after.Apply → Fails e (list_all (item_at inner false) operator.Comma operator.CloseParen ts) → Fails e (step inner header t (next_of a s ts))
-call_fails inner header t a s ts e call failed =
-    items_fail inner false operator.CloseParen ts (λ x. call_by t s x.0 (mark_at operator.CloseParen x.1)) (step inner header t (next_of a s ts)) e (ap (λ a. step inner header t (next_of a s ts)) call) failed
+pub applied : (inner : Inner) (header : Bool) (t : ExprTree) (s : Span) (ts : List Terminal) → step inner header t (Apply s ts) ≡ applied_at inner t s ts
+applied inner header t s ts =
+    closed_as (items_at inner false operator.CloseParen ts) operator.CloseParen (λ z. Call t s z.0 z.1) (call_by t s) (λ is. refl) (λ is last. refl)
 
-pub call_unclosed : (inner : Inner) (header : Bool) (t : ExprTree) (a : After) (s : Span) (ts rest : List Terminal) (is : List declared_item.Item) (e : Stop) → a ≡ after.Apply → list_all (item_at inner false) operator.Comma operator.CloseParen ts ≡ Ok (map item_of is, rest) → Fails e (need (mark_at operator.CloseParen rest)) → Fails e (step inner header t (next_of a s ts))
-call_unclosed inner header t a s ts rest is e call found failed =
-    need_fails (mark_at operator.CloseParen rest) (call_by t s (items_of is)) (step inner header t (next_of a s ts)) e
-    (ap (λ a. step inner header t (next_of a s ts)) call ∙ ap (λ r. r >>= λ x. call_by t s x.0 (mark_at operator.CloseParen x.1)) (items_found inner false operator.CloseParen ts rest is found)) refl failed
+pub call_fails : (inner : Inner) (t : ExprTree) (s : Span) (ts : List Terminal) (e : Stop) → Fails e (closed_at inner false operator.CloseParen ts) → Fails e (applied_at inner t s ts)
+call_fails inner t s ts e failed =
+    bind_fails (closed_at inner false operator.CloseParen ts) (λ x. Ok (Call t s x.0.0 x.0.1, x.1)) (applied_at inner t s ts) e refl failed
 
-pub call_is : (inner : Inner) (header : Bool) (t : ExprTree) (a : After) (s : Span) (ts rest : List Terminal) (is : List declared_item.Item) (last : Span × List Terminal) → a ≡ after.Apply → list_all (item_at inner false) operator.Comma operator.CloseParen ts ≡ Ok (map item_of is, rest) → need (mark_at operator.CloseParen rest) ≡ Ok last → step inner header t (next_of a s ts) ≡ Ok (Call t s (items_of is) last.0, last.1)
-call_is inner header t a s ts rest is last call found closed =
-    ap (λ a. step inner header t (next_of a s ts)) call
-    ∙ ap (λ r. r >>= λ x. call_by t s x.0 (mark_at operator.CloseParen x.1)) (items_found inner false operator.CloseParen ts rest is found)
-    ∙ ap (call_by t s (items_of is)) (need_ok (mark_at operator.CloseParen rest) last closed)
-
-pub call_shape : (e : Box Expr) (x : Expr) (first : Span) (is : Vec declared_item.Item Global) (last : Span) → e.value ≡ x → Call (shape x) first (items_of is.items) last ≡ shape (expr.Call e first is last)
-call_shape e x first is last held =
-    ap (λ t. Call (shape t) first (items_of is.items) last) (sym held) ∙ sym (shape_call e first is last)
-
-pub call_height : (e : Box Expr) (x : Expr) (first : Span) (is : Vec declared_item.Item Global) (last : Span) → e.value ≡ x → max (height (shape x)) (items_height (items_of is.items)) + 1 ≡ height (shape (expr.Call e first is last))
-call_height e x first is last held = ap height (call_shape e x first is last held)
+pub call_is : (inner : Inner) (t : ExprTree) (s : Span) (ts : List Terminal) (x : ClosedTree × List Terminal) → closed_at inner false operator.CloseParen ts ≡ Ok x → applied_at inner t s ts ≡ Ok (Call t s x.0.0 x.0.1, x.1)
+call_is inner t s ts x found = ap (λ r. r >>= λ x. Ok (Call t s x.0.0 x.0.1, x.1)) found
 
 -- an item, by its key, its value and the mark behind it
 
-item_from : (inner : Inner) (keyed : Bool) (ts : List Terminal) → item_at inner keyed ts ≡ (inner false 1 (some_key keyed ts).1 >>= λ x. Ok (((some_key keyed ts).0, x.0), x.1))
+item_from : (inner : Inner) (keyed : Bool) (ts : List Terminal) → item_ahead inner keyed ts ≡ (inner false 1 (some_key keyed ts).1 >>= λ x. Ok (((some_key keyed ts).0, x.0), x.1))
 item_from inner false ts = refl
 item_from inner true ts = by (key_at ts)
   where
@@ -88,7 +72,7 @@ item_from inner true ts = by (key_at ts)
     by None = refl
     by (Some k) = refl
 
-item_keyed : (inner : Inner) (keyed : Bool) (close : Operator) (ts : List Terminal) (k : Option Key × List Terminal) → k ≡ some_key keyed ts → then_mark operator.Comma close (item_at inner keyed ts) ≡ (inner false 1 k.1 >>= λ x. with_mark (k.0, x.0) (mark_or_end operator.Comma close x.1))
+item_keyed : (inner : Inner) (keyed : Bool) (close : Operator) (ts : List Terminal) (k : Option Key × List Terminal) → k ≡ some_key keyed ts → then_mark operator.Comma close (item_ahead inner keyed ts) ≡ (inner false 1 k.1 >>= λ x. with_mark (k.0, x.0) (mark_or_end operator.Comma close x.1))
 item_keyed inner keyed close ts k is =
     ap (then_mark operator.Comma close) (item_from inner keyed ts)
     ∙ fused (inner false 1 (some_key keyed ts).1) (some_key keyed ts).0
@@ -98,17 +82,17 @@ item_keyed inner keyed close ts k is =
     fused (Ok x) key = refl
     fused (Err f) key = refl
 
-pub item_is : (inner : Inner) (keyed : Bool) (close : Operator) (ts : List Terminal) (k : Option Key × List Terminal) (t : ExprTree × List Terminal) (s : Option Span × List Terminal) → k ≡ some_key keyed ts → inner false 1 k.1 ≡ Ok t → mark_or_end operator.Comma close t.1 ≡ Ok s → then_mark operator.Comma close (item_at inner keyed ts) ≡ Ok (((k.0, t.0), s.0), s.1)
+pub item_is : (inner : Inner) (keyed : Bool) (close : Operator) (ts : List Terminal) (k : Option Key × List Terminal) (t : ExprTree × List Terminal) (s : Option Span × List Terminal) → k ≡ some_key keyed ts → inner false 1 k.1 ≡ Ok t → mark_or_end operator.Comma close t.1 ≡ Ok s → then_mark operator.Comma close (item_ahead inner keyed ts) ≡ Ok (((k.0, t.0), s.0), s.1)
 item_is inner keyed close ts k t s is read ended =
     item_keyed inner keyed close ts k is ∙ ap (λ r. r >>= λ x. with_mark (k.0, x.0) (mark_or_end operator.Comma close x.1)) read ∙ ap (with_mark (k.0, t.0)) ended
 
-pub item_fails : (inner : Inner) (keyed : Bool) (close : Operator) (ts : List Terminal) (k : Option Key × List Terminal) (e : Stop) → k ≡ some_key keyed ts → Fails e (inner false 1 k.1) → Fails e (then_mark operator.Comma close (item_at inner keyed ts))
+pub item_fails : (inner : Inner) (keyed : Bool) (close : Operator) (ts : List Terminal) (k : Option Key × List Terminal) (e : Stop) → k ≡ some_key keyed ts → Fails e (inner false 1 k.1) → Fails e (then_mark operator.Comma close (item_ahead inner keyed ts))
 item_fails inner keyed close ts k e is failed =
-    bind_fails (inner false 1 k.1) (λ x. with_mark (k.0, x.0) (mark_or_end operator.Comma close x.1)) (then_mark operator.Comma close (item_at inner keyed ts)) e (item_keyed inner keyed close ts k is) failed
+    bind_fails (inner false 1 k.1) (λ x. with_mark (k.0, x.0) (mark_or_end operator.Comma close x.1)) (then_mark operator.Comma close (item_ahead inner keyed ts)) e (item_keyed inner keyed close ts k is) failed
 
-pub item_unended : (inner : Inner) (keyed : Bool) (close : Operator) (ts : List Terminal) (k : Option Key × List Terminal) (t : ExprTree × List Terminal) (e : Stop) → k ≡ some_key keyed ts → inner false 1 k.1 ≡ Ok t → Fails e (mark_or_end operator.Comma close t.1) → Fails e (then_mark operator.Comma close (item_at inner keyed ts))
+pub item_unended : (inner : Inner) (keyed : Bool) (close : Operator) (ts : List Terminal) (k : Option Key × List Terminal) (t : ExprTree × List Terminal) (e : Stop) → k ≡ some_key keyed ts → inner false 1 k.1 ≡ Ok t → Fails e (mark_or_end operator.Comma close t.1) → Fails e (then_mark operator.Comma close (item_ahead inner keyed ts))
 item_unended inner keyed close ts k t e is read failed =
-    bind_fails (mark_or_end operator.Comma close t.1) (λ s. Ok (((k.0, t.0), s.0), s.1)) (then_mark operator.Comma close (item_at inner keyed ts)) e
+    bind_fails (mark_or_end operator.Comma close t.1) (λ s. Ok (((k.0, t.0), s.0), s.1)) (then_mark operator.Comma close (item_ahead inner keyed ts)) e
     (item_keyed inner keyed close ts k is ∙ ap (λ r. r >>= λ x. with_mark (k.0, x.0) (mark_or_end operator.Comma close x.1)) read) failed
 
 -- a literal of a type with a name, by its elements
@@ -120,9 +104,6 @@ literal_fails inner b header x ts n e opens some named failed =
 pub literal_is : (inner : Inner) (b : ℕ) (header : Bool) (x : Ident) (ts : List Terminal) (n : TypeName × List Terminal) (z : ElementsTree × List Terminal) → opens_body header ts ≡ true → 0 < b → n ≡ literal_name x ts → elements_at inner n.1 ≡ Ok z → named_by inner b x ts (body_at header x ts) ≡ Ok (literal_with n.0 z.0, z.1)
 literal_is inner b header x ts n z opens some named found =
     named_elements inner b header x ts n opens some named ∙ ap (λ r. r >>= λ z. Ok (literal_with n.0 z.0, z.1)) found
-
-pub literal_height : (n : TypeName) (first : Span) (is : Vec declared_item.Item Global) (last : Span) → max 1 (items_height (items_of is.items)) + 1 ≡ height (shape (expr.Literal n first is last))
-literal_height n first is last = ap height (sym (shape_literal n first is last))
 
 -- a literal of a struct type, by its type and its elements
 
@@ -155,5 +136,13 @@ pub struct_is : (inner : Inner) (b : ℕ) (k : Span) (ts : List Terminal) (t : T
 struct_is inner b k ts t z some read found =
     struct_read inner b k ts t some read ∙ ap (λ r. r >>= λ z. Ok (struct_with t.0 z.0, z.1)) found
 
-pub struct_height : (t : TypeExpr) (first : Span) (is : Vec declared_item.Item Global) (last : Span) → max (type_height (shape_type t)) (items_height (items_of is.items)) + 1 ≡ height (shape (expr.StructLiteral t first is last))
-struct_height t first is last = ap height (sym (shape_struct_literal t first is last))
+-- the trees of what is built
+
+pub called : (c : CallExpr) (callee : Expr) (first : Span) (is : Vec declared_item.Item Global) (last : Span) → c ≡ roll-CallExpr (record { callee = callee; «open» = first; args = is; close = last }) → Call (shape callee) first (items_of is.items) last ≡ shape_call c
+called c callee first is last made = sym (ap shape_call made ∙ shape_called callee first is last)
+
+pub literal_built : (l : LiteralExpr) (n : TypeName) (first : Span) (is : Vec declared_item.Item Global) (last : Span) → l ≡ roll-LiteralExpr (record { type_name = n; «open» = first; elements = is; close = last }) → Literal n first (items_of is.items) last ≡ shape_literal l
+literal_built l n first is last made = sym (ap shape_literal made ∙ shape_literal_made n first is last)
+
+pub struct_built : (l : StructLiteralExpr) (t : TypeExpr) (first : Span) (is : Vec declared_item.Item Global) (last : Span) → l ≡ roll-StructLiteralExpr (record { type_expr = t; «open» = first; elements = is; close = last }) → StructLiteral (shape_type t) first (items_of is.items) last ≡ shape_struct_literal l
+struct_built l t first is last made = sym (ap shape_struct_literal made ∙ shape_struct_literal_made t first is last)

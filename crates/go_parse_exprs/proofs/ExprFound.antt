@@ -15,9 +15,9 @@ use Rattle.go_tree_nodes.specs.Trees.{TypeTree, FieldTrees, NamedType, Pointer, 
 use Rattle.go_tree_nodes.specs.Spelling.{mark, word, spell_ident, spell_type, spell_fields, spell_key, spell, spell_items}
 use Rattle.go_tree_nodes.specs.Rules.{rank_of, unary_rank, is_unary, MayHaveKey, Binds, Wf, Wf_items}
 use Rattle.go_tree_nodes.specs.Heights.{type_height, height, items_height, group_height}
-use Rattle.go_parse_types.specs.Marks.{TooHigh, ◌>>=◌, mark_at}
-use Rattle.go_parse_types.specs.TypeReading.{type_at}
-use Rattle.go_parse_exprs.specs.ExprReading.{Inner, ItemTree, item_by, item_at, as_items, items_at, close_by, literal_by, named_by, struct_literal_by, struct_body, struct_type, by_unary, by_paren, operand_at, Operate, Pick, Apply, call_by, expr_at}
+use Rattle.go_parse_types.specs.mirrors.Marks.{TooHigh, ◌>>=◌, mark_at}
+use Rattle.go_parse_types.specs.mirrors.TypeReading.{type_at}
+use Rattle.go_parse_exprs.specs.mirrors.ExprReading.{Inner, ItemTree, item_by, item_ahead, as_items, items_at, close_by, literal_by, named_by, struct_literal_by, struct_body, struct_type, by_unary, operand_by_paren, operand_at, Operate, Pick, Apply, call_by, expr_at}
 use Rattle.go_parse_types.proofs.Marks.{mark_not, mark_that_here, AgreesAt, bind_agrees, agrees_along}
 use Rattle.go_parse_types.proofs.Lists.{spell_list, FoundItem, list_complete}
 use Rattle.go_parse_types.proofs.Types.{type_complete}
@@ -36,9 +36,9 @@ Found t = (b : ℕ) (header : Bool) (least : ℕ) (rest : List Terminal) → 0 <
 
 found_from : (t : ExprTree) → Leads t → Found t
 unfolding expr_at
-found_from t leads zero header least rest some wf binds stops = inr (refl, height_some t)
-found_from t leads (suc b) header least rest some wf binds stops =
-    let lead = leads b header least rest some wf binds (stops_behind header least t rest binds stops) in
+found_from t leads zero header least rest some wf ranked stops = inr (refl, height_some t)
+found_from t leads (suc b) header least rest some wf ranked stops =
+    let lead = leads b header least rest some wf ranked (stops_behind header least t rest ranked stops) in
     elim lead.agrees [
       | inl e ↦ inl (e ∙ chain_stops (expr_at b) header (suc b) least lead.turns t rest stops.0)
       | inr g ↦ inr g
@@ -49,7 +49,7 @@ found_one : (t : ExprTree) → Found t → (b : ℕ) (header : Bool) (rest : Lis
 found_one t found b header rest wf stops = found b header 1 rest (omega arith) wf (binds_one header t wf) stops
 
 -- an item with or without a key
-item_found : (t : ExprTree) → Found t → (key : Option Key) (keyed : Bool) (b : ℕ) (rest : List Terminal) → MayHaveKey keyed key → Wf false t → Stops false 1 rest → mark_at operator.Colon rest ≡ None → AgreesAt (item_at (expr_at b) keyed (spell_item (key, t) ++ rest)) (Ok ((key, t), rest)) b (height t)
+item_found : (t : ExprTree) → Found t → (key : Option Key) (keyed : Bool) (b : ℕ) (rest : List Terminal) → MayHaveKey keyed key → Wf false t → Stops false 1 rest → mark_at operator.Colon rest ≡ None → AgreesAt (item_ahead (expr_at b) keyed (spell_item (key, t) ++ rest)) (Ok ((key, t), rest)) b (height t)
 item_found t found None false b rest may wf stops free =
     bind_agrees (expr_at b false 1 (spell t ++ rest)) (t, rest) (λ x. Ok ((None, x.0), x.1)) (Ok ((None, t), rest)) b (height t) b (height t) (found_one t found b false rest wf stops) (inl refl) (λ h. h)
 item_found t found None true b rest may wf stops free =
@@ -63,7 +63,7 @@ item_opens : (close : Operator) → Closes close → (key : Option Key) (t : Exp
 item_opens close closes None t ts wf = expr_no_mark close closes.paren closes.unary false t ts wf
 item_opens close closes (Some k) t ts wf = refl
 
-each_found : (close : Operator) → Closes close → (keyed : Bool) (b : ℕ) (x : ItemTree) → Wf_item keyed x × Found x.1 → FoundItem ItemTree (item_at (expr_at b) keyed) spell_item operator.Comma close b (item_height x) x
+each_found : (close : Operator) → Closes close → (keyed : Bool) (b : ℕ) (x : ItemTree) → Wf_item keyed x × Found x.1 → FoundItem ItemTree (item_ahead (expr_at b) keyed) spell_item operator.Comma close b (item_height x) x
 each_found close closes keyed b x h =
     record {
       before_mark = λ s ts. item_found x.1 h.1 x.0 keyed b (mark operator.Comma s ∷ ts) h.0.0 h.0.1 (refl, refl) refl;
@@ -83,7 +83,7 @@ items_from is each b keyed close closes z rest wf =
     let same = list_as_items is in
     let spelled : spell_items is ≡ spell_list spell_item operator.Comma xs = sym (list_spelled_items xs ∙ ap spell_items same) in
     let high : group_height item_height xs ≡ items_height is = list_items_height xs ∙ ap items_height same in
-    let list = list_complete ItemTree (item_at (expr_at b) keyed) spell_item operator.Comma close b item_height (λ x. Wf_item keyed x × Found x.1) closes.comma (each_found close closes keyed b) item_some xs z rest (items_wf_list Found keyed is wf each) in
+    let list = list_complete ItemTree (item_ahead (expr_at b) keyed) spell_item operator.Comma close b item_height (λ x. Wf_item keyed x × Found x.1) closes.comma (each_found close closes keyed b) item_some xs z rest (items_wf_list Found keyed is wf each) in
     agrees_along _ _ _ b (items_height is) (ap (λ l. items_at (expr_at b) keyed close (l ++ end)) spelled)
     (bind_agrees _ (xs, end) (λ x. Ok (as_items x.0, x.1)) (Ok (is, end)) b (group_height item_height xs) b (items_height is) list (inl (ap (λ i. Ok (i, end)) same)) (λ h. omega (arith, high)))
 
@@ -95,14 +95,14 @@ items_closed is each b keyed close closes z rest wf =
 
 -- each form of an expression
 integer_leads : (n : ℕ) (s : Span) → Leads (Integer n s)
-integer_leads n s b header least rest some wf binds behind = leads_operand b header least (Integer n s) _ rest (inl refl)
+integer_leads n s b header least rest some wf ranked behind = leads_operand b header least (Integer n s) _ rest (inl refl)
 
 named_leads : (x : Ident) → Leads (Named x)
-named_leads x b header least rest some wf binds behind =
+named_leads x b header least rest some wf ranked behind =
     leads_operand b header least (Named x) _ rest (inl (ap (named_by (expr_at b) b x rest) behind))
 
 paren_leads : (first last : Span) (t : ExprTree) → Found t → Leads (Paren first t last)
-paren_leads first last t found b header least rest some wf binds behind =
+paren_leads first last t found b header least rest some wf ranked behind =
     let end = mark operator.CloseParen last in
     leads_operand b header least (Paren first t last) _ rest
     (agrees_along _ _ _ (suc b) (height t + 1) (ap (λ ts. expr_at b false 1 ts >>= λ x. close_by first x.0 (mark_at operator.CloseParen x.1)) (append_assoc (spell t) (end ∷ []) rest))
@@ -110,31 +110,31 @@ paren_leads first last t found b header least rest some wf binds behind =
 
 unary_read : (inner : Inner) (b : ℕ) (header : Bool) (op : Operator) (s : Span) (ts : List Terminal) → is_unary op ≡ true → operand_at inner b header (mark op s ∷ ts) ≡ (inner header unary_rank ts >>= λ x. Ok (Unary op s x.0, x.1))
 unary_read inner b header op s ts is =
-    ap (by_paren inner header (mark op s ∷ ts)) (mark_not operator.OpenParen op s ts (not_unary op operator.OpenParen is refl))
+    ap (operand_by_paren inner header (mark op s ∷ ts)) (mark_not operator.OpenParen op s ts (not_unary op operator.OpenParen is refl))
     ∙ ap (by_unary inner header) (mark_that_here is_unary op s ts is)
 
 unary_leads : (op : Operator) (s : Span) (t : ExprTree) → Found t → Leads (Unary op s t)
-unary_leads op s t found b header least rest some wf binds behind =
+unary_leads op s t found b header least rest some wf ranked behind =
     leads_operand b header least (Unary op s t) _ rest
     (agrees_along _ _ _ (suc b) (height t + 1) (unary_read (expr_at b) b header op s (spell t ++ rest) wf.0)
     (bind_agrees (expr_at b header unary_rank (spell t ++ rest)) (t, rest) (λ x. Ok (Unary op s x.0, x.1)) (Ok (Unary op s t, rest)) b (height t) (suc b) (height t + 1) (found b header unary_rank rest (omega arith) wf.1 wf.2 behind) (inl refl) (λ h. omega arith)))
 
 binary_leads : (a : ExprTree) (op : Operator) (s : Span) (r : ExprTree) → Leads a → Found r → Leads (Binary a op s r)
-binary_leads a op s r leads found b header least rest some wf binds behind =
+binary_leads a op s r leads found b header least rest some wf ranked behind =
     let ts = mark op s ∷ (spell r ++ rest) in
-    let lead = subst (λ l. LeadsAt b header least a ts (expr_at (suc b) header least l)) (sym (append_assoc (spell a) (mark op s ∷ spell r) rest)) (leads b header least ts some wf.1 (binds_fewer least (rank_of op) a binds wf.2) (operator_behind header op s (spell r ++ rest) a wf.0 wf.2)) in
-    leads_step b header least a (Binary a op s r) ts rest (Operate op s (spell r ++ rest)) _ lead (next_operator least op s (spell r ++ rest) binds)
+    let lead = subst (λ l. LeadsAt b header least a ts (expr_at (suc b) header least l)) (sym (append_assoc (spell a) (mark op s ∷ spell r) rest)) (leads b header least ts some wf.1 (binds_fewer least (rank_of op) a ranked wf.2) (operator_behind header op s (spell r ++ rest) a wf.0 wf.2)) in
+    leads_step b header least a (Binary a op s r) ts rest (Operate op s (spell r ++ rest)) _ lead (next_operator least op s (spell r ++ rest) ranked)
     (bind_agrees (expr_at b header (rank_of op + 1) (spell r ++ rest)) (r, rest) (λ x. Ok (Binary a op s x.0, x.1)) (Ok (Binary a op s r, rest)) b (height r) (suc b) (height (Binary a op s r)) (found b header (rank_of op + 1) rest (omega arith) wf.3 wf.4 behind) (inl refl) (λ h. omega arith))
     (omega arith)
 
 select_leads : (t : ExprTree) (dot : Span) (x : Ident) → Leads t → Leads (Select t dot x)
-select_leads t dot x leads b header least rest some wf binds behind =
+select_leads t dot x leads b header least rest some wf ranked behind =
     let ts = mark operator.Dot dot ∷ (spell_ident x ∷ rest) in
     let lead = subst (λ l. LeadsAt b header least t ts (expr_at (suc b) header least l)) (sym (append_assoc (spell t) (mark operator.Dot dot ∷ (spell_ident x ∷ [])) rest)) (leads b header least ts some wf.0 (primary_binds least t wf.1) (dot_behind header dot x rest t wf.1 behind)) in
     leads_step b header least t (Select t dot x) ts rest (Pick dot (spell_ident x ∷ rest)) _ lead (next_dot least dot (spell_ident x ∷ rest) some) (inl refl) (omega arith)
 
 call_leads : (t : ExprTree) (first : Span) (is : ItemTrees) (last : Span) → Leads t → Each Found is → Leads (Call t first is last)
-call_leads t first is last leads each b header least rest some wf binds behind =
+call_leads t first is last leads each b header least rest some wf ranked behind =
     let tail = spell_items is ++ mark operator.CloseParen last ∷ [] in
     let ts = mark operator.OpenParen first ∷ (tail ++ rest) in
     let new = Call t first is last in
@@ -144,8 +144,8 @@ call_leads t first is last leads each b header least rest some wf binds behind =
     (omega arith)
 
 literal_leads : (n : TypeName) (first : Span) (is : ItemTrees) (last : Span) → Each Found is → Leads (Literal n first is last)
-literal_leads n first is last each b true least rest some wf binds behind = absurd wf.0
-literal_leads n first is last each b false least rest some wf binds behind =
+literal_leads n first is last each b true least rest some wf ranked behind = absurd wf.0
+literal_leads n first is last each b false least rest some wf ranked behind =
     let tail = spell_items is ++ mark operator.CloseBrace last ∷ [] in
     let new = Literal n first is last in
     let go = items_at (expr_at b) true operator.CloseBrace (tail ++ rest) >>= λ y. literal_by n first y.0 (mark_at operator.CloseBrace y.1) in
@@ -169,7 +169,7 @@ struct_type_is zero k ts = refl
 struct_type_is (suc b) k ts = refl
 
 struct_leads : (k a : Span) (fs : FieldTrees) (z first : Span) (is : ItemTrees) (last : Span) → Each Found is → Leads (StructLiteral (Struct k a fs z) first is last)
-struct_leads k a fs z first is last each b header least rest some wf binds behind =
+struct_leads k a fs z first is last each b header least rest some wf ranked behind =
     let t = Struct k a fs z in
     let new = StructLiteral t first is last in
     let tail = spell_items is ++ mark operator.CloseBrace last ∷ [] in
@@ -185,16 +185,16 @@ struct_leads k a fs z first is last each b header least rest some wf binds behin
     (bind_agrees (type_at b (spell_type t ++ ts)) (t, ts) go (Ok (new, rest)) b (type_height t) (suc b) (height new) (type_complete t b ts wf.1 refl) body (λ h. omega arith)))
 
 struct_literal_leads : (t : TypeTree) (first : Span) (is : ItemTrees) (last : Span) → Each Found is → Leads (StructLiteral t first is last)
-struct_literal_leads (Struct k a fs z) first is last each b header least rest some wf binds behind = struct_leads k a fs z first is last each b header least rest some wf binds behind
-struct_literal_leads (NamedType n) first is last each b header least rest some wf binds behind = absurd wf.0
-struct_literal_leads (Pointer star t) first is last each b header least rest some wf binds behind = absurd wf.0
-struct_literal_leads (ParenType a t z) first is last each b header least rest some wf binds behind = absurd wf.0
-struct_literal_leads (Interface k a ms z) first is last each b header least rest some wf binds behind = absurd wf.0
+struct_literal_leads (Struct k a fs z) first is last each b header least rest some wf ranked behind = struct_leads k a fs z first is last each b header least rest some wf ranked behind
+struct_literal_leads (NamedType n) first is last each b header least rest some wf ranked behind = absurd wf.0
+struct_literal_leads (Pointer star t) first is last each b header least rest some wf ranked behind = absurd wf.0
+struct_literal_leads (ParenType a t z) first is last each b header least rest some wf ranked behind = absurd wf.0
+struct_literal_leads (Interface k a ms z) first is last each b header least rest some wf ranked behind = absurd wf.0
 
 mutual
   pub leads_all : (t : ExprTree) → Leads t
   leads_all (Integer n s) = integer_leads n s
-  leads_all (Text x) = λ b header least rest some wf binds behind. leads_operand b header least (Text x) _ rest (inl refl)
+  leads_all (Text x) = λ b header least rest some wf ranked behind. leads_operand b header least (Text x) _ rest (inl refl)
   leads_all (Named x) = named_leads x
   leads_all (Paren first t last) = paren_leads first last t (found_from t (leads_all t))
   leads_all (Unary op s t) = unary_leads op s t (found_from t (leads_all t))

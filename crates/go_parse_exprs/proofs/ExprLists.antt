@@ -12,8 +12,8 @@ use Rattle.go_tree_nodes.specs.Trees.{Separated, One, Then, ExprTree, Named}
 use Rattle.go_tree_nodes.specs.Spelling.{mark, word, spell_ident, spell_idents, spell_text, spell, spell_exprs}
 use Rattle.go_tree_nodes.specs.Rules.{is_unary, Wf_exprs}
 use Rattle.go_tree_nodes.specs.Heights.{height, exprs_height}
-use Rattle.go_parse_types.specs.Marks.{◌>>=◌, Reading, Place, same_operator, same_keyword, mark_at, word_at}
-use Rattle.go_parse_exprs.specs.ExprReading.{next_at, expr_at, exprs_by, exprs_go, exprs_at}
+use Rattle.go_parse_types.specs.mirrors.Marks.{◌>>=◌, Reading, MarkAhead, same_operator, same_keyword, mark_at, keyword_at}
+use Rattle.go_parse_exprs.specs.mirrors.ExprReading.{next_at, expr_at, exprs_by, exprs_go, exprs_at}
 use Rattle.go_parse_types.proofs.Marks.{mark_was, mark_not, word_not, AgreesAt, bind_agrees, agrees_along, bind_ok}
 use Rattle.go_parse_exprs.proofs.Behind.{not_unary, Stops, stops_mark}
 use Rattle.go_parse_exprs.proofs.Fronts.{first_of, spell_some, height_some}
@@ -62,7 +62,7 @@ pub record ReadsExprs (b : ℕ) (header : Bool) (ts : List Terminal) (x : Separa
   pub stops : next_at 1 x.1 ≡ None
   pub no_comma : mark_at operator.Comma x.1 ≡ None
 
-exprs_by_reads : (b : ℕ) (header : Bool) (more : List Terminal → Reading (Separated ExprTree)) → ((ts : List Terminal) (x : Separated ExprTree × List Terminal) → more ts ≡ Ok x → ReadsExprs b header ts x) → (ts : List Terminal) (y : ExprTree × List Terminal) → ReadsExpr b header ts y → (p : Place) → mark_at operator.Comma y.1 ≡ p → (x : Separated ExprTree × List Terminal) → exprs_by more y.0 y.1 p ≡ Ok x → ReadsExprs b header ts x
+exprs_by_reads : (b : ℕ) (header : Bool) (more : List Terminal → Reading (Separated ExprTree)) → ((ts : List Terminal) (x : Separated ExprTree × List Terminal) → more ts ≡ Ok x → ReadsExprs b header ts x) → (ts : List Terminal) (y : ExprTree × List Terminal) → ReadsExpr b header ts y → (p : MarkAhead) → mark_at operator.Comma y.1 ≡ p → (x : Separated ExprTree × List Terminal) → exprs_by more y.0 y.1 p ≡ Ok x → ReadsExprs b header ts x
 exprs_by_reads b header more ih ts y r None at x e =
     let same : (One y.0, y.1) ≡ x = cc in
     subst (ReadsExprs b header ts) same (record { spelled = r.spelled; wf = r.wf; low = r.low; stops = r.stops; no_comma = at })
@@ -91,9 +91,9 @@ exprs_first_of P number text name paren unary struct header (One t) rest wf = fi
 exprs_first_of P number text name paren unary struct header (Then t comma more) rest wf =
     subst P (sym (append_assoc (spell t) (mark operator.Comma comma ∷ spell_exprs more) rest)) (first_of P number text name paren unary struct header t (mark operator.Comma comma ∷ (spell_exprs more ++ rest)) wf.0)
 
-pub exprs_no_word : (k : Keyword) → same_keyword keyword.Struct k ≡ false → (header : Bool) (es : Separated ExprTree) (rest : List Terminal) → Wf_exprs header es → word_at k (spell_exprs es ++ rest) ≡ None
+pub exprs_no_word : (k : Keyword) → same_keyword keyword.Struct k ≡ false → (header : Bool) (es : Separated ExprTree) (rest : List Terminal) → Wf_exprs header es → keyword_at k (spell_exprs es ++ rest) ≡ None
 exprs_no_word k other header es rest wf =
-    exprs_first_of (λ ts. word_at k ts ≡ None) (λ n s ts. refl) (λ t ts. refl) (λ x ts. refl) (λ s ts. refl) (λ o s ts is. refl) (λ s ts. word_not k keyword.Struct s ts other) header es rest wf
+    exprs_first_of (λ ts. keyword_at k ts ≡ None) (λ n s ts. refl) (λ t ts. refl) (λ x ts. refl) (λ s ts. refl) (λ o s ts is. refl) (λ s ts. word_not k keyword.Struct s ts other) header es rest wf
 
 pub exprs_no_mark : (o : Operator) → same_operator operator.OpenParen o ≡ false → is_unary o ≡ false → (header : Bool) (es : Separated ExprTree) (rest : List Terminal) → Wf_exprs header es → mark_at o (spell_exprs es ++ rest) ≡ None
 exprs_no_mark o other binary header es rest wf =

@@ -13,8 +13,8 @@ use Rattle.go_tree_nodes.specs.Trees.{NamedType, Pointer, ParenType, Struct, Int
 use Rattle.go_tree_nodes.specs.Spelling.{mark, word, spell_ident, spell_text, spell_type_name, spell_type, spell, spell_items}
 use Rattle.go_tree_nodes.specs.Rules.{is_unary, Wf}
 use Rattle.go_tree_nodes.specs.Heights.{height}
-use Rattle.go_parse_types.specs.Marks.{same_operator, same_keyword, mark_at, word_at}
-use Rattle.go_parse_exprs.specs.ExprReading.{key_by, key_at}
+use Rattle.go_parse_types.specs.mirrors.Marks.{same_operator, same_keyword, mark_at, keyword_at}
+use Rattle.go_parse_exprs.specs.mirrors.ExprReading.{key_by, key_at}
 use Rattle.go_parse_types.proofs.Marks.{mark_not, word_not}
 use Rattle.go_parse_exprs.proofs.Behind.{not_ranked, not_unary}
 
@@ -41,9 +41,9 @@ first_of P number text name paren unary struct header (StructLiteral (ParenType 
 first_of P number text name paren unary struct header (StructLiteral (Interface k a ms z) first items last) rest wf = absurd wf.0
 
 -- with no keyword but `struct`
-pub expr_no_word : (k : Keyword) → same_keyword keyword.Struct k ≡ false → (header : Bool) (t : ExprTree) (rest : List Terminal) → Wf header t → word_at k (spell t ++ rest) ≡ None
+pub expr_no_word : (k : Keyword) → same_keyword keyword.Struct k ≡ false → (header : Bool) (t : ExprTree) (rest : List Terminal) → Wf header t → keyword_at k (spell t ++ rest) ≡ None
 expr_no_word k other header t rest wf =
-    first_of (λ ts. word_at k ts ≡ None) (λ n s ts. refl) (λ t ts. refl) (λ x ts. refl) (λ s ts. refl) (λ o s ts is. refl) (λ s ts. word_not k keyword.Struct s ts other) header t rest wf
+    first_of (λ ts. keyword_at k ts ≡ None) (λ n s ts. refl) (λ t ts. refl) (λ x ts. refl) (λ s ts. refl) (λ o s ts is. refl) (λ s ts. word_not k keyword.Struct s ts other) header t rest wf
 
 -- with no mark but an opening parenthesis or a unary operator
 pub expr_no_mark : (o : Operator) → same_operator operator.OpenParen o ≡ false → is_unary o ≡ false → (header : Bool) (t : ExprTree) (rest : List Terminal) → Wf header t → mark_at o (spell t ++ rest) ≡ None

@@ -8,8 +8,8 @@ use Rattle.go_tree_nodes.specs.Trees.{ExprTree, ItemTrees, NoItems, Item}
 use Rattle.go_tree_nodes.specs.Spelling.{mark, spell_some, spell_key, spell, spell_items}
 use Rattle.go_tree_nodes.specs.Rules.{is_unary, IsNothing, IsKept, IsLastItem, MayHaveKey, Wf, Wf_items, Wf_group}
 use Rattle.go_tree_nodes.specs.Heights.{height, items_height, group_height}
-use Rattle.go_parse_types.specs.Marks.{same_operator}
-use Rattle.go_parse_exprs.specs.ExprReading.{ItemTree, as_items}
+use Rattle.go_parse_types.specs.mirrors.Marks.{same_operator}
+use Rattle.go_parse_exprs.specs.mirrors.ExprReading.{ItemTree, as_items}
 use Rattle.go_parse_types.proofs.Lists.{spell_list}
 use Rattle.go_parse_exprs.proofs.Behind.{Stops}
 

@@ -12,8 +12,8 @@ use Rattle.go_tree_nodes.specs.Terminals.{TerminalKind, Spelled, Number, Quoted,
 use Rattle.go_tree_nodes.specs.Trees.{TypeTree, ExprTree, ItemTrees, Integer, Text, Named, Paren, Unary, Binary, Select, Call, Literal, StructLiteral}
 use Rattle.go_tree_nodes.specs.Rules.{rank_of, unary_rank, is_unary}
 use Rattle.go_tree_nodes.specs.Heights.{height}
-use Rattle.go_parse_types.specs.Marks.{Stuck, TooHigh, ◌>>=◌, Reading, Place, need, mark_at, word_at, name_at, mark_that}
-use Rattle.go_parse_exprs.specs.ExprReading.{Inner, items_at, close_by, Body, body_at, literal_by, named_by, struct_literal_by, struct_body, struct_type, struct_literal, by_word, by_unary, by_paren, operand_in, operand_at, Next, Operate, Pick, Apply, next_apply, next_pick, next_operate, binds_at, next_at, call_by, step, chain, expr_at}
+use Rattle.go_parse_types.specs.mirrors.Marks.{Stuck, TooHigh, ◌>>=◌, Reading, MarkAhead, need, mark_at, keyword_at, name_at, mark_that}
+use Rattle.go_parse_exprs.specs.mirrors.ExprReading.{Inner, items_at, close_by, Body, body_at, literal_by, named_by, struct_literal_by, struct_body, struct_type, struct_literal, by_word, by_unary, operand_by_paren, operand_in, operand_at, Next, Operate, Pick, Apply, next_apply, next_pick, next_operate, has_rank, next_at, call_by, step, chain, expr_at}
 use Rattle.go_parse_types.proofs.Marks.{bind_ok}
 use Rattle.go_parse_exprs.proofs.Chains.{chain_goes, chain_high, chain_stops}
 
@@ -45,12 +45,12 @@ onward b header least left ts = chain (expr_at b) header (suc b) least (suc b - 
 abbrev IsFirst : ExprTree × List Terminal → Type 0
 IsFirst x = lefts x.0 ≡ 0
 
-close_first : (s : Span) (t : ExprTree) (m : Place) (x : ExprTree × List Terminal) → close_by s t m ≡ Ok x → IsFirst x
+close_first : (s : Span) (t : ExprTree) (m : MarkAhead) (x : ExprTree × List Terminal) → close_by s t m ≡ Ok x → IsFirst x
 close_first s t None x e = cc
 close_first s t (Some c) x e =
     let same : (Paren s t c.0, c.1) ≡ x = cc in subst IsFirst same refl
 
-literal_first : (n : TypeName) (first : Span) (is : ItemTrees) (m : Place) (x : ExprTree × List Terminal) → literal_by n first is m ≡ Ok x → IsFirst x
+literal_first : (n : TypeName) (first : Span) (is : ItemTrees) (m : MarkAhead) (x : ExprTree × List Terminal) → literal_by n first is m ≡ Ok x → IsFirst x
 literal_first n first is None x e = cc
 literal_first n first is (Some z) x e =
     let same : (Literal n first is z.0, z.1) ≡ x = cc in subst IsFirst same refl
@@ -67,18 +67,18 @@ named_first inner b n ts (Some t) x e =
     let w = bind_ok (items_at inner true operator.CloseBrace t.2) go x (ok_of (nat_lt 0 b) (items_at inner true operator.CloseBrace t.2 >>= go) x e) in
     literal_first t.0 t.1 w.0.0 (mark_at operator.CloseBrace w.0.1) x w.2
 
-struct_literal_first : (t : TypeTree) (first : Span) (is : ItemTrees) (m : Place) (x : ExprTree × List Terminal) → struct_literal_by t first is m ≡ Ok x → IsFirst x
+struct_literal_first : (t : TypeTree) (first : Span) (is : ItemTrees) (m : MarkAhead) (x : ExprTree × List Terminal) → struct_literal_by t first is m ≡ Ok x → IsFirst x
 struct_literal_first t first is None x e = cc
 struct_literal_first t first is (Some z) x e =
     let same : (StructLiteral t first is z.0, z.1) ≡ x = cc in subst IsFirst same refl
 
-struct_body_first : (inner : Inner) (t : TypeTree) (m : Place) (x : ExprTree × List Terminal) → struct_body inner t m ≡ Ok x → IsFirst x
+struct_body_first : (inner : Inner) (t : TypeTree) (m : MarkAhead) (x : ExprTree × List Terminal) → struct_body inner t m ≡ Ok x → IsFirst x
 struct_body_first inner t None x e = cc
 struct_body_first inner t (Some first) x e =
     let w = bind_ok (items_at inner true operator.CloseBrace first.1) (λ y. struct_literal_by t first.0 y.0 (mark_at operator.CloseBrace y.1)) x e in
     struct_literal_first t first.0 w.0.0 (mark_at operator.CloseBrace w.0.1) x w.2
 
-word_first : (inner : Inner) (b : ℕ) (m : Place) (x : ExprTree × List Terminal) → by_word inner b m ≡ Ok x → IsFirst x
+word_first : (inner : Inner) (b : ℕ) (m : MarkAhead) (x : ExprTree × List Terminal) → by_word inner b m ≡ Ok x → IsFirst x
 word_first inner b None x e = cc
 word_first inner b (Some k) x e =
     let w = bind_ok (struct_type b k.0 k.1) (λ t. struct_body inner t.0 (mark_at operator.OpenBrace t.1)) x e in
@@ -90,7 +90,7 @@ unary_first inner header (Some o) x e =
     let w = bind_ok (inner header unary_rank o.2) (λ x. Ok (Unary o.0 o.1 x.0, x.1)) x e in
     let same : (Unary o.0 o.1 w.0.0, w.0.1) ≡ x = cc (w.2) in subst IsFirst same refl
 
-paren_first : (inner : Inner) (header : Bool) (ts : List Terminal) (m : Place) (x : ExprTree × List Terminal) → by_paren inner header ts m ≡ Ok x → IsFirst x
+paren_first : (inner : Inner) (header : Bool) (ts : List Terminal) (m : MarkAhead) (x : ExprTree × List Terminal) → operand_by_paren inner header ts m ≡ Ok x → IsFirst x
 paren_first inner header ts None x e = unary_first inner header (mark_that is_unary ts) x e
 paren_first inner header ts (Some first) x e =
     let w = bind_ok (inner false 1 first.1) (λ y. close_by first.0 y.0 (mark_at operator.CloseParen y.1)) x e in
@@ -100,9 +100,9 @@ operand_in_first : (inner : Inner) (b : ℕ) (header : Bool) (k : TerminalKind) 
 operand_in_first inner b header (Number n) s rest ts x e =
     let same : (Integer n s, rest) ≡ x = cc in subst IsFirst same refl
 operand_in_first inner b header (Quoted v) s rest ts x e =
-    let same : (Text (record { value = v; span = s }), rest) ≡ x = cc in subst IsFirst same refl
+    let same : (Text (record { spelled = v; span = s }), rest) ≡ x = cc in subst IsFirst same refl
 operand_in_first inner b header (Spelled n) s rest ts x e = named_first inner b (record { name = n; span = s }) rest (body_at header (record { name = n; span = s }) rest) x e
-operand_in_first inner b header (Word k) s rest ts x e = word_first inner b (word_at keyword.Struct ts) x e
+operand_in_first inner b header (Word k) s rest ts x e = word_first inner b (keyword_at keyword.Struct ts) x e
 operand_in_first inner b header (Mark o) s rest ts x e = paren_first inner header ts (mark_at operator.OpenParen ts) x e
 operand_in_first inner b header Stray s rest ts x e = cc
 
@@ -127,7 +127,7 @@ starts b header least ts = starts_by b header least (operand_at (expr_at b) b he
 abbrev IsStep : ExprTree → ExprTree × List Terminal → Type 0
 IsStep t x = lefts x.0 ≡ lefts t + 1
 
-call_steps : (t : ExprTree) (s : Span) (is : ItemTrees) (m : Place) (x : ExprTree × List Terminal) → call_by t s is m ≡ Ok x → IsStep t x
+call_steps : (t : ExprTree) (s : Span) (is : ItemTrees) (m : MarkAhead) (x : ExprTree × List Terminal) → call_by t s is m ≡ Ok x → IsStep t x
 call_steps t s is None x e = cc
 call_steps t s is (Some z) x e =
     let same : (Call t s is z.0, z.1) ≡ x = cc in subst (IsStep t) same refl
@@ -175,16 +175,16 @@ onward_stops b header least t ts ahead = chain_stops (expr_at b) header (suc b) 
 
 -- what comes next, by what is in front
 
-pub ahead_operator : (least : ℕ) (ts : List Terminal) (o : Operator × Span × List Terminal) → Some o ≡ mark_that (binds_at least) ts → next_at least ts ≡ Some (Operate o.0 o.1 o.2)
+pub ahead_operator : (least : ℕ) (ts : List Terminal) (o : Operator × Span × List Terminal) → Some o ≡ mark_that (has_rank least) ts → next_at least ts ≡ Some (Operate o.0 o.1 o.2)
 ahead_operator least ts o at = ap (next_operate ts) (sym at)
 
-pub ahead_dot : (least : ℕ) (ts : List Terminal) (m : Span × List Terminal) → None ≡ mark_that (binds_at least) ts → Some m ≡ mark_at operator.Dot ts → next_at least ts ≡ Some (Pick m.0 m.1)
+pub ahead_dot : (least : ℕ) (ts : List Terminal) (m : Span × List Terminal) → None ≡ mark_that (has_rank least) ts → Some m ≡ mark_at operator.Dot ts → next_at least ts ≡ Some (Pick m.0 m.1)
 ahead_dot least ts m free at = ap (next_operate ts) (sym free) ∙ ap (next_pick ts) (sym at)
 
-pub ahead_open : (least : ℕ) (ts : List Terminal) (m : Span × List Terminal) → None ≡ mark_that (binds_at least) ts → None ≡ mark_at operator.Dot ts → Some m ≡ mark_at operator.OpenParen ts → next_at least ts ≡ Some (Apply m.0 m.1)
+pub ahead_open : (least : ℕ) (ts : List Terminal) (m : Span × List Terminal) → None ≡ mark_that (has_rank least) ts → None ≡ mark_at operator.Dot ts → Some m ≡ mark_at operator.OpenParen ts → next_at least ts ≡ Some (Apply m.0 m.1)
 ahead_open least ts m free dot at = ap (next_operate ts) (sym free) ∙ ap (next_pick ts) (sym dot) ∙ ap next_apply (sym at)
 
-pub ahead_none : (least : ℕ) (ts : List Terminal) → None ≡ mark_that (binds_at least) ts → None ≡ mark_at operator.Dot ts → None ≡ mark_at operator.OpenParen ts → next_at least ts ≡ None
+pub ahead_none : (least : ℕ) (ts : List Terminal) → None ≡ mark_that (has_rank least) ts → None ≡ mark_at operator.Dot ts → None ≡ mark_at operator.OpenParen ts → next_at least ts ≡ None
 ahead_none least ts free dot at = ap (next_operate ts) (sym free) ∙ ap (next_pick ts) (sym dot) ∙ ap next_apply (sym at)
 
 -- a call whose arguments are read, and closed

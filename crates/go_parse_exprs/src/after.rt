@@ -1,8 +1,8 @@
 //! What comes behind an operand.
-ghost use Rattle.std.specs.Prelude.{◌≡◌};
+ghost use Rattle.std.specs.Prelude.{◌≡◌, ◌<◌};
 ghost use Rattle.std.specs.Option.{option_map};
-ghost use Rattle.go_parse_exprs.specs.ExprReading.{next_at};
-ghost use Rattle.go_parse_exprs.specs.CodeShapes.{next_of};
+ghost use Rattle.go_parse_exprs.specs.mirrors.ExprReading.{next_at};
+ghost use Rattle.go_parse_exprs.specs.mirrors.CodeShapes.{next_of};
 
 use crate::operators::infix;
 use go_parse_types::Ahead;
@@ -20,8 +20,10 @@ pub enum After {
     Apply,
 }
 
-/// What comes behind an operand if it binds as strongly as `least`: its kind, its place, and what is behind it.
+/// What comes behind an operand, of binary operators only those that have at least the rank `least`: its kind, its
+/// place, and what is behind it. No operator has the rank 0.
 pub fn next<'a>(ahead: &Ahead<'a>, least: u32) -> Option<(After, Span, Ahead<'a>)>
+    requires { 0 < least }
     ensures { option_map (λ x. next_of x.0 x.1 x.2) result ≡ next_at least ahead.now }
 {
     if let Some((op, span, rest)) = infix(ahead, least) {

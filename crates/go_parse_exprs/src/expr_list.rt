@@ -2,12 +2,12 @@
 ghost use Rattle.std.specs.Prelude.{◌≡◌, ◌≤◌, ◌<◌, ◌^◌, IfOk};
 ghost use Rattle.go_tree_nodes.specs.Shapes.{shape_exprs};
 ghost use Rattle.go_tree_nodes.specs.Heights.{exprs_height};
-ghost use Rattle.go_parse_types.specs.Giving.{Gives};
-ghost use Rattle.go_parse_exprs.specs.CodeShapes.{GivesBehind, HighBehind};
-ghost use Rattle.go_parse_exprs.specs.ExprReading.{exprs_at};
+ghost use Rattle.go_parse_types.specs.mirrors.Giving.{Gives};
+ghost use Rattle.go_parse_exprs.specs.mirrors.CodeShapes.{GivesBehind, HighBehind};
+ghost use Rattle.go_parse_exprs.specs.mirrors.ExprReading.{exprs_at};
 
 use crate::expr_reader::expr;
-use go_parse_types::{Ahead, Stop, add};
+use go_parse_types::{Ahead, Stop, add, fitted};
 use go_scan_core::Operator;
 use go_tree_nodes::{Exprs, NextExpr};
 use std::alloc::Global;
@@ -30,7 +30,7 @@ pub fn exprs<'a>(
     ensures tree { Gives (λ x. (shape_exprs x.0, x.2)) result (exprs_at budget header ahead.entry) }
     ensures height { IfOk result (λ x. (x.1 ≡ exprs_height (shape_exprs x.0)) × (x.1 ≤ budget)) }
 {
-    let (first, high, rest) = expr(alloc, ahead, header, 1, budget)?;
+    let (first, high, rest) = expr(alloc, ahead, header, budget)?;
     match next_exprs(alloc, rest, header, budget) {
         Ok((more, more_high, rest)) => Ok((Exprs { first, more }, high.max(more_high), rest)),
         Err(stop) => {
@@ -57,10 +57,10 @@ fn next_exprs<'a>(
     let mut high: u32 = 0;
     let mut rest = ahead;
     'turns: while let Some((comma, after)) = rest.mark(Operator::Comma) {
-        let (expr, expr_high, after) = expr(alloc, after, header, 1, budget)?;
+        let (expr, expr_high, after) = expr(alloc, after, header, budget)?;
         add(&mut more, NextExpr { comma, expr })?;
         high = high.max(expr_high);
         rest = after;
     }
-    Ok((more, high, rest))
+    Ok((fitted(more), high, rest))
 }

@@ -4,46 +4,63 @@ ghost use Rattle.go_scan_core.specs.declared.kind.Operator.TheVariants as operat
 ghost use Rattle.go_tree_nodes.specs.Shapes.{shape, items_of};
 ghost use Rattle.go_tree_nodes.specs.Heights.{height, items_height};
 ghost use Rattle.go_tree_nodes.specs.Rules as rules;
-ghost use Rattle.go_parse_types.specs.EntryShapes.{list_all, then_mark};
-ghost use Rattle.go_parse_types.specs.Giving.{Gives};
-ghost use Rattle.go_parse_types.specs.Marks.{mark_that};
-ghost use Rattle.go_parse_exprs.specs.CodeShapes as shapes;
-ghost use Rattle.go_parse_exprs.specs.CodeShapes.{next_of, item_of};
-ghost use Rattle.go_parse_exprs.specs.ExprReading as reading;
-ghost use Rattle.go_parse_exprs.specs.ExprReading.{item_at, body_at, named_by, by_unary, operand_at, step, expr_at};
+ghost use Rattle.go_parse_types.specs.mirrors.EntryShapes.{list_all, then_mark};
+ghost use Rattle.go_parse_types.specs.mirrors.Giving.{Gives};
+ghost use Rattle.go_parse_types.specs.mirrors.Marks.{mark_that};
+ghost use Rattle.go_parse_exprs.specs.mirrors.CodeShapes as shapes;
+ghost use Rattle.go_parse_exprs.specs.mirrors.CodeShapes.{next_of, item_of};
+ghost use Rattle.go_parse_exprs.specs.mirrors.ExprReading as reading;
+ghost use Rattle.go_parse_exprs.specs.mirrors.ExprReading.{item_ahead, body_at, named_by, by_unary, operand_at, Operate, Apply, step, expr_at};
 
 use crate::after::{After, next};
 use crate::literal::{key, literal_name, opens_body};
-use crate::operators::{prefix, rank};
-use go_parse_types::{Ahead, Stop, add, boxed, struct_type, type_height};
+use crate::operators::{LOWEST, UNARY, prefix, rank};
+use go_parse_types::{Ahead, Stop, add, boxed, fitted, struct_type, type_height};
 use go_scan_core::{Keyword, Operator};
 use go_text_core::Span;
-use go_tree_nodes::{Expr, Ident, Item};
+use go_tree_nodes::{
+    BinaryExpr, CallExpr, Expr, Ident, Item, LiteralExpr, SelectExpr, StructLiteralExpr,
+};
 use std::alloc::Global;
 
-/// The elements of a literal between the places of its braces, and the height of the highest.
+/// Arguments or elements, the place of the closing mark behind them, and the height of the highest.
 #[derive(Drop)]
-struct Body {
-    opening: Span,
+struct ClosedItems {
     all: Vec<Item>,
-    closing: Span,
+    close: Span,
     high: u32,
 }
 
 /// An expression, how high it is, and what is behind it.
-type Found<'a> = Result<(Expr, u32, Ahead<'a>), Stop>;
+type ReadExpr<'a> = Result<(Expr, u32, Ahead<'a>), Stop>;
 
-/// The longest expression in front whose operators bind as strongly as `least`, at most `budget` high, in a header
-/// or not; with its height.
+/// The longest expression in front, at most `budget` high, in a header or not; with its height.
 ///
 /// # Errors
 ///
 /// [`Stop::Grammar`] where none stands there, with the offset in bytes of the first token that is no part of one;
 /// [`Stop::TooHigh`] where it would be too high, with the offset in bytes of what is too deep inside it; and
 /// [`Stop::Memory`] where memory runs out.
-#[cycle(expressions)]
-pub fn expr<'a>(alloc: Global, ahead: Ahead<'a>, header: bool, least: u32, budget: u32) -> Found<'a>
+pub fn expr<'a>(alloc: Global, ahead: Ahead<'a>, header: bool, budget: u32) -> ReadExpr<'a>
     requires { budget < 2 ^ 31 }
+    ensures tree { Gives (λ x. (shape x.0, x.2)) result (expr_at budget header 1 ahead.entry) }
+    ensures height { IfOk result (λ x. (x.1 ≡ height (shape x.0)) × (x.1 ≤ budget)) }
+{
+    ranked_expr(alloc, ahead, header, LOWEST, budget)
+}
+
+/// The longest expression in front whose operators have at least the rank `least`, at most `budget` high, in a header
+/// or not; with its height. No operator has the rank 0.
+#[cycle(expressions)]
+fn ranked_expr<'a>(
+    alloc: Global,
+    ahead: Ahead<'a>,
+    header: bool,
+    least: u32,
+    budget: u32,
+) -> ReadExpr<'a>
+    requires few { budget < 2 ^ 31 }
+    requires rank { 0 < least }
     ensures tree { Gives (λ x. (shape x.0, x.2)) result (expr_at budget header least ahead.entry) }
     ensures height { IfOk result (λ x. (x.1 ≡ height (shape x.0)) × (x.1 ≤ budget)) }
 {
@@ -85,38 +102,121 @@ fn one_step<'a>(
     ahead: Ahead<'a>,
     header: bool,
     inner: u32,
-) -> Found<'a>
+) -> ReadExpr<'a>
     requires room { inner < 2 ^ 31 }
     requires high { high ≡ height (shape left) }
     requires low { high ≤ inner }
     ensures tree { Gives (λ x. (shape x.0, x.2)) result (step (expr_at inner) header (shape left) (next_of after span ahead.entry)) }
     ensures height { IfOk result (λ x. (x.1 ≡ height (shape x.0)) × (x.1 ≤ inner + 1) × (high < x.1)) }
 {
-    // In a box at once: where reading stops, a box is dropped in one step.
-    let left = boxed(alloc, left)?;
     match after {
-        After::Operate(op) => {
-            let (right, right_high, rest) = boxed_expr(alloc, ahead, header, rank(op) + 1, inner)?;
-            Ok((
-                Expr::Binary(left, op, span, right),
-                high.max(right_high) + 1,
-                rest,
-            ))
+        After::Operate(op) => binary(alloc, left, high, op, span, ahead, header, inner),
+        After::Pick => selected(alloc, left, high, span, ahead),
+        After::Apply => call(alloc, left, high, span, ahead, inner),
+    }
+}
+
+/// A binary operator with its place `span` between `left` and the operand in front.
+#[cycle(expressions)]
+fn binary<'a>(
+    alloc: Global,
+    left: Expr,
+    high: u32,
+    operator: Operator,
+    span: Span,
+    ahead: Ahead<'a>,
+    header: bool,
+    inner: u32,
+) -> ReadExpr<'a>
+    requires room { inner < 2 ^ 31 }
+    requires high { high ≡ height (shape left) }
+    requires low { high ≤ inner }
+    ensures tree { Gives (λ x. (shape x.0, x.2)) result (step (expr_at inner) header (shape left) (Operate «operator» span ahead.entry)) }
+    ensures height { IfOk result (λ x. (x.1 ≡ height (shape x.0)) × (x.1 ≤ inner + 1) × (high < x.1)) }
+{
+    match ranked_expr(alloc, ahead, header, rank(operator) + 1, inner) {
+        Ok((right, right_high, rest)) => {
+            let whole = boxed(
+                alloc,
+                BinaryExpr {
+                    left,
+                    operator,
+                    span,
+                    right,
+                },
+            )?;
+            Ok((Expr::Binary(whole), high.max(right_high) + 1, rest))
         }
-        After::Pick => {
-            let (picked, rest) = ahead.need_name(alloc)?;
-            Ok((Expr::Select(left, span, picked), high + 1, rest))
-        }
-        After::Apply => {
-            let (all, items_high, rest) = items(alloc, ahead, false, Operator::CloseParen, inner)?;
-            let (close, rest) = rest.need_mark(Operator::CloseParen)?;
-            let whole = Expr::Call(left, span, all, close);
-            Ok((whole, high.max(items_high) + 1, rest))
+        Err(stop) => {
+            drop(left);
+            Err(stop)
         }
     }
 }
 
-/// An expression in front in a box, with its height.
+/// The name in front as a selector behind `operand` and its dot.
+fn selected<'a>(
+    alloc: Global,
+    operand: Expr,
+    high: u32,
+    dot: Span,
+    ahead: Ahead<'a>,
+) -> ReadExpr<'a>
+    requires room { high < 2 ^ 31 }
+    requires high { high ≡ height (shape operand) }
+    ensures tree { Gives (λ x. (shape x.0, x.2)) result (shapes.selected_at (shape operand) dot ahead.entry) }
+    ensures height { IfOk result (λ x. (x.1 ≡ height (shape x.0)) × (x.1 ≡ high + 1)) }
+{
+    match ahead.need_name(alloc) {
+        Ok((name, rest)) => {
+            let whole = boxed(alloc, SelectExpr { operand, dot, name })?;
+            Ok((Expr::Select(whole), high + 1, rest))
+        }
+        Err(stop) => {
+            drop(operand);
+            Err(stop)
+        }
+    }
+}
+
+/// The arguments in front as a call of `callee`, behind its opening parenthesis.
+#[cycle(expressions)]
+fn call<'a>(
+    alloc: Global,
+    callee: Expr,
+    high: u32,
+    open: Span,
+    ahead: Ahead<'a>,
+    inner: u32,
+) -> ReadExpr<'a>
+    requires room { inner < 2 ^ 31 }
+    requires high { high ≡ height (shape callee) }
+    requires low { high ≤ inner }
+    ensures tree { Gives (λ x. (shape x.0, x.2)) result (shapes.applied_at (expr_at inner) (shape callee) «open» ahead.entry) }
+    ensures height { IfOk result (λ x. (x.1 ≡ height (shape x.0)) × (x.1 ≤ inner + 1) × (high < x.1)) }
+{
+    match closed_items(alloc, ahead, false, Operator::CloseParen, inner) {
+        Ok((items, rest)) => {
+            let high = high.max(items.high) + 1;
+            let whole = boxed(
+                alloc,
+                CallExpr {
+                    callee,
+                    open,
+                    args: items.all,
+                    close: items.close,
+                },
+            )?;
+            Ok((Expr::Call(whole), high, rest))
+        }
+        Err(stop) => {
+            drop(callee);
+            Err(stop)
+        }
+    }
+}
+
+/// The longest expression in front whose operators have at least the rank `least`, in a box, with its height.
 #[cycle(expressions)]
 fn boxed_expr<'a>(
     alloc: Global,
@@ -125,17 +225,18 @@ fn boxed_expr<'a>(
     least: u32,
     budget: u32,
 ) -> Result<(Box<Expr>, u32, Ahead<'a>), Stop>
-    requires { budget < 2 ^ 31 }
+    requires few { budget < 2 ^ 31 }
+    requires rank { 0 < least }
     ensures tree { Gives (λ x. (shape x.0.value, x.2)) result (expr_at budget header least ahead.entry) }
     ensures height { IfOk result (λ x. (x.1 ≡ height (shape x.0.value)) × (x.1 ≤ budget)) }
 {
-    let (expr, high, rest) = expr(alloc, ahead, header, least, budget)?;
+    let (expr, high, rest) = ranked_expr(alloc, ahead, header, least, budget)?;
     Ok((boxed(alloc, expr)?, high, rest))
 }
 
 /// An operand, whose parts are at most `inner` high.
 #[cycle(expressions)]
-fn operand<'a>(alloc: Global, ahead: Ahead<'a>, header: bool, inner: u32) -> Found<'a>
+fn operand<'a>(alloc: Global, ahead: Ahead<'a>, header: bool, inner: u32) -> ReadExpr<'a>
     requires { inner < 2 ^ 31 }
     ensures tree { Gives (λ x. (shape x.0, x.2)) result (operand_at (expr_at inner) inner header ahead.entry) }
     ensures height { IfOk result (λ x. (x.1 ≡ height (shape x.0)) × (x.1 ≤ inner + 1)) }
@@ -160,19 +261,19 @@ fn operand<'a>(alloc: Global, ahead: Ahead<'a>, header: bool, inner: u32) -> Fou
 
 /// An expression and the closing parenthesis behind it.
 #[cycle(expressions)]
-fn in_parens<'a>(alloc: Global, ahead: Ahead<'a>, opening: Span, inner: u32) -> Found<'a>
+fn in_parens<'a>(alloc: Global, ahead: Ahead<'a>, opening: Span, inner: u32) -> ReadExpr<'a>
     requires { inner < 2 ^ 31 }
     ensures tree { Gives (λ x. (shape x.0, x.2)) result (shapes.in_parens (expr_at inner) opening ahead.entry) }
     ensures height { IfOk result (λ x. (x.1 ≡ height (shape x.0)) × (x.1 ≤ inner + 1)) }
 {
-    let (inside, high, rest) = boxed_expr(alloc, ahead, false, 1, inner)?;
+    let (inside, high, rest) = boxed_expr(alloc, ahead, false, LOWEST, inner)?;
     let (close, rest) = rest.need_mark(Operator::CloseParen)?;
     Ok((Expr::Paren(opening, inside, close), high + 1, rest))
 }
 
 /// A unary operator and its operand.
 #[cycle(expressions)]
-fn unary<'a>(alloc: Global, ahead: Ahead<'a>, header: bool, inner: u32) -> Found<'a>
+fn unary<'a>(alloc: Global, ahead: Ahead<'a>, header: bool, inner: u32) -> ReadExpr<'a>
     requires { inner < 2 ^ 31 }
     ensures tree { Gives (λ x. (shape x.0, x.2)) result (by_unary (expr_at inner) header (mark_that rules.is_unary ahead.entry)) }
     ensures height { IfOk result (λ x. (x.1 ≡ height (shape x.0)) × (x.1 ≤ inner + 1)) }
@@ -180,13 +281,19 @@ fn unary<'a>(alloc: Global, ahead: Ahead<'a>, header: bool, inner: u32) -> Found
     let Some((op, span, rest)) = prefix(&ahead) else {
         return Err(Stop::Grammar(ahead.offset()));
     };
-    let (operand, high, rest) = boxed_expr(alloc, rest, header, 6, inner)?;
+    let (operand, high, rest) = boxed_expr(alloc, rest, header, UNARY, inner)?;
     Ok((Expr::Unary(op, span, operand), high + 1, rest))
 }
 
 /// What begins with the name `first`: the name, or a literal of that type.
 #[cycle(expressions)]
-fn named<'a>(alloc: Global, ahead: Ahead<'a>, first: Ident, header: bool, inner: u32) -> Found<'a>
+fn named<'a>(
+    alloc: Global,
+    ahead: Ahead<'a>,
+    first: Ident,
+    header: bool,
+    inner: u32,
+) -> ReadExpr<'a>
     requires { inner < 2 ^ 31 }
     ensures tree { Gives (λ x. (shape x.0, x.2)) result (named_by (expr_at inner) inner first ahead.entry (body_at header first ahead.entry)) }
     ensures height { IfOk result (λ x. (x.1 ≡ height (shape x.0)) × (x.1 ≤ inner + 1)) }
@@ -197,24 +304,24 @@ fn named<'a>(alloc: Global, ahead: Ahead<'a>, first: Ident, header: bool, inner:
     if inner == 0 {
         return Err(Stop::TooHigh(ahead.offset()));
     }
-    let (name, rest) = literal_name(alloc, first, ahead)?;
-    let (body, rest) = elements(alloc, rest, inner)?;
-    let Body {
-        opening,
-        all,
-        closing,
-        high,
-    } = body;
-    Ok((
-        Expr::Literal(name, opening, all, closing),
-        high.max(1) + 1,
-        rest,
-    ))
+    let (type_name, rest) = literal_name(alloc, first, ahead)?;
+    let (open, body, rest) = elements(alloc, rest, inner)?;
+    let high = body.high.max(1) + 1;
+    let literal = boxed(
+        alloc,
+        LiteralExpr {
+            type_name,
+            open,
+            elements: body.all,
+            close: body.close,
+        },
+    )?;
+    Ok((Expr::Literal(literal), high, rest))
 }
 
 /// A literal of a struct type, behind `struct`.
 #[cycle(expressions)]
-fn struct_literal<'a>(alloc: Global, ahead: Ahead<'a>, keyword: Span, inner: u32) -> Found<'a>
+fn struct_literal<'a>(alloc: Global, ahead: Ahead<'a>, keyword: Span, inner: u32) -> ReadExpr<'a>
     requires { inner < 2 ^ 31 }
     ensures tree { Gives (λ x. (shape x.0, x.2)) result (reading.struct_literal (expr_at inner) inner keyword ahead.entry) }
     ensures height { IfOk result (λ x. (x.1 ≡ height (shape x.0)) × (x.1 ≤ inner + 1)) }
@@ -224,19 +331,18 @@ fn struct_literal<'a>(alloc: Global, ahead: Ahead<'a>, keyword: Span, inner: u32
     }
     let (type_expr, rest) = struct_type(alloc, ahead, keyword, inner - 1)?;
     match elements(alloc, rest, inner) {
-        Ok((body, rest)) => {
-            let Body {
-                opening,
-                all,
-                closing,
-                high,
-            } = body;
-            let high = high.max(type_height(&type_expr)) + 1;
-            Ok((
-                Expr::StructLiteral(type_expr, opening, all, closing),
-                high,
-                rest,
-            ))
+        Ok((open, body, rest)) => {
+            let high = body.high.max(type_height(&type_expr)) + 1;
+            let literal = boxed(
+                alloc,
+                StructLiteralExpr {
+                    type_expr,
+                    open,
+                    elements: body.all,
+                    close: body.close,
+                },
+            )?;
+            Ok((Expr::StructLiteral(literal), high, rest))
         }
         Err(stop) => {
             drop(type_expr);
@@ -245,23 +351,38 @@ fn struct_literal<'a>(alloc: Global, ahead: Ahead<'a>, keyword: Span, inner: u32
     }
 }
 
-/// The elements of a literal between their braces, each at most `inner` high.
+/// The elements of a literal behind the place of their opening brace, each at most `inner` high.
 #[cycle(expressions)]
-fn elements<'a>(alloc: Global, ahead: Ahead<'a>, inner: u32) -> Result<(Body, Ahead<'a>), Stop>
+fn elements<'a>(
+    alloc: Global,
+    ahead: Ahead<'a>,
+    inner: u32,
+) -> Result<(Span, ClosedItems, Ahead<'a>), Stop>
     requires { inner < 2 ^ 31 }
-    ensures tree { Gives (λ x. ((x.0.opening, items_of x.0.all.items, x.0.closing), x.1)) result (shapes.elements_at (expr_at inner) ahead.entry) }
+    ensures tree { Gives (λ x. ((x.0, items_of x.1.all.items, x.1.close), x.2)) result (shapes.elements_at (expr_at inner) ahead.entry) }
+    ensures height { IfOk result (λ x. (x.1.high ≡ items_height (items_of x.1.all.items)) × (x.1.high ≤ inner)) }
+{
+    let (open, rest) = ahead.need_mark(Operator::OpenBrace)?;
+    let (items, rest) = closed_items(alloc, rest, true, Operator::CloseBrace, inner)?;
+    Ok((open, items, rest))
+}
+
+/// The arguments or elements in front and the closing mark behind them, each at most `inner` high.
+#[cycle(expressions)]
+fn closed_items<'a>(
+    alloc: Global,
+    ahead: Ahead<'a>,
+    keyed: bool,
+    close: Operator,
+    inner: u32,
+) -> Result<(ClosedItems, Ahead<'a>), Stop>
+    requires { inner < 2 ^ 31 }
+    ensures tree { Gives (λ x. ((items_of x.0.all.items, x.0.close), x.1)) result (shapes.closed_at (expr_at inner) keyed close ahead.entry) }
     ensures height { IfOk result (λ x. (x.0.high ≡ items_height (items_of x.0.all.items)) × (x.0.high ≤ inner)) }
 {
-    let (opening, rest) = ahead.need_mark(Operator::OpenBrace)?;
-    let (all, high, rest) = items(alloc, rest, true, Operator::CloseBrace, inner)?;
-    let (closing, rest) = rest.need_mark(Operator::CloseBrace)?;
-    let body = Body {
-        opening,
-        all,
-        closing,
-        high,
-    };
-    Ok((body, rest))
+    let (all, high, rest) = items(alloc, ahead, keyed, close, inner)?;
+    let (close, rest) = rest.need_mark(close)?;
+    Ok((ClosedItems { all, close, high }, rest))
 }
 
 /// An argument, or an element with its key if it has one; with its height, and the comma behind it.
@@ -274,11 +395,11 @@ fn item<'a>(
     inner: u32,
 ) -> Result<(Item, u32, Ahead<'a>), Stop>
     requires { inner < 2 ^ 31 }
-    ensures tree { Gives (λ x. (item_of x.0, x.2)) result (then_mark operator.Comma close (item_at (expr_at inner) keyed ahead.entry)) }
+    ensures tree { Gives (λ x. (item_of x.0, x.2)) result (then_mark operator.Comma close (item_ahead (expr_at inner) keyed ahead.entry)) }
     ensures height { IfOk result (λ x. (x.1 ≡ height (shape x.0.value)) × (x.1 ≤ inner)) }
 {
     let (key, rest) = key(alloc, ahead, keyed)?;
-    let (value, high, rest) = expr(alloc, rest, false, 1, inner)?;
+    let (value, high, rest) = ranked_expr(alloc, rest, false, LOWEST, inner)?;
     match rest.mark_or_end(Operator::Comma, close) {
         Ok((comma, rest)) => Ok((Item { key, value, comma }, high, rest)),
         Err(stop) => {
@@ -298,7 +419,7 @@ fn items<'a>(
     inner: u32,
 ) -> Result<(Vec<Item>, u32, Ahead<'a>), Stop>
     requires { inner < 2 ^ 31 }
-    ensures tree { Gives (λ x. (map item_of x.0.items, x.2)) result (list_all (item_at (expr_at inner) keyed) operator.Comma close ahead.entry) }
+    ensures tree { Gives (λ x. (map item_of x.0.items, x.2)) result (list_all (item_ahead (expr_at inner) keyed) operator.Comma close ahead.entry) }
     ensures height { IfOk result (λ x. (x.1 ≡ items_height (items_of x.0.items)) × (x.1 ≤ inner)) }
 {
     let mut all = Vec::new(alloc);
@@ -310,5 +431,5 @@ fn items<'a>(
         high = high.max(item_high);
         rest = behind;
     }
-    Ok((all, high, rest))
+    Ok((fitted(all), high, rest))
 }

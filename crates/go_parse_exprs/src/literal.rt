@@ -1,9 +1,10 @@
 //! The front of a composite literal, and the keys of its elements.
 ghost use Rattle.std.specs.Prelude.{◌≡◌, IfOk};
-ghost use Rattle.go_parse_exprs.specs.ExprReading as reading;
-ghost use Rattle.go_parse_exprs.specs.CodeShapes as shapes;
+ghost use Rattle.go_tree_nodes.specs.Shapes.{key_of};
+ghost use Rattle.go_parse_exprs.specs.mirrors.ExprReading as reading;
+ghost use Rattle.go_parse_exprs.specs.mirrors.CodeShapes as shapes;
 
-use go_parse_types::Ahead;
+use go_parse_types::{Ahead, boxed};
 use go_scan_core::Operator;
 use go_tree_nodes::{Ident, Key, TypeName};
 use std::alloc::{AllocError, Global};
@@ -54,8 +55,8 @@ pub fn key<'a>(
     alloc: Global,
     ahead: Ahead<'a>,
     keyed: bool,
-) -> Result<(Option<Key>, Ahead<'a>), AllocError>
-    ensures { IfOk result (λ x. (x.0, x.1) ≡ shapes.some_key keyed ahead.entry) }
+) -> Result<(Option<Box<Key>>, Ahead<'a>), AllocError>
+    ensures { IfOk result (λ x. (key_of x.0, x.1) ≡ shapes.some_key keyed ahead.entry) }
 {
     if !keyed {
         return Ok((None, ahead));
@@ -66,5 +67,6 @@ pub fn key<'a>(
     let Some((colon, rest)) = rest.mark(Operator::Colon) else {
         return Ok((None, ahead));
     };
-    Ok((Some(Key { name, colon }), rest))
+    let key = boxed(alloc, Key { name, colon })?;
+    Ok((Some(key), rest))
 }

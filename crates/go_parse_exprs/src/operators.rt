@@ -1,14 +1,20 @@
 //! Operators in front.
-ghost use Rattle.std.specs.Prelude.{◌≡◌};
+ghost use Rattle.std.specs.Prelude.{◌≡◌, ◌<◌};
 ghost use Rattle.go_tree_nodes.specs.Rules as rules;
-ghost use Rattle.go_parse_types.specs.Marks.{mark_that};
-ghost use Rattle.go_parse_exprs.specs.ExprReading.{binds_at};
+ghost use Rattle.go_parse_types.specs.mirrors.Marks.{mark_that};
+ghost use Rattle.go_parse_exprs.specs.mirrors.ExprReading.{has_rank};
 
 use go_parse_types::Ahead;
 use go_scan_core::Operator;
 use go_text_core::Span;
 
-/// How strongly an operator binds its operands; 0 for what is no binary operator.
+/// The rank of the operators that bind most weakly.
+pub const LOWEST: u32 = 1;
+
+/// The rank of unary operators, above that of each binary one.
+pub const UNARY: u32 = 6;
+
+/// The rank of an operator: how strongly it binds its operands; 0 for what is no binary operator.
 pub fn rank(op: Operator) -> u32
     ensures { result ≡ rules.rank_of op }
 {
@@ -48,9 +54,10 @@ fn is_unary(op: Operator) -> bool
     )
 }
 
-/// The operator in front if it binds as strongly as `least`, and what is behind it.
+/// The binary operator in front if it has at least the rank `least`, and what is behind it. No operator has the rank 0.
 pub fn infix<'a>(ahead: &Ahead<'a>, least: u32) -> Option<(Operator, Span, Ahead<'a>)>
-    ensures { result ≡ mark_that (binds_at least) ahead.now }
+    requires { 0 < least }
+    ensures { result ≡ mark_that (has_rank least) ahead.now }
 {
     let (op, span, rest) = ahead.any_mark()?;
     if rank(op) >= least {

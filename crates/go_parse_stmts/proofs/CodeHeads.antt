@@ -5,13 +5,13 @@ use Rattle.go_scan_core.specs.declared.kind.Operator.TheVariants as operator
 use Rattle.go_tree_nodes.specs.Terminals.{Terminal}
 use Rattle.go_tree_nodes.specs.Trees.{Separated, ExprTree, SimpleTree, IfTree, ForTree, Clauses}
 use Rattle.go_parse_types.specs.declared.stop.Stop.{Stop}
-use Rattle.go_parse_types.specs.Giving.{Fails}
-use Rattle.go_parse_types.specs.Marks.{Grammar, ◌>>=◌, Reading, Place, need, mark_at}
+use Rattle.go_parse_types.specs.mirrors.Giving.{Fails}
+use Rattle.go_parse_types.specs.mirrors.Marks.{Grammar, ◌>>=◌, Reading, MarkAhead, need, mark_at}
 use Rattle.go_parse_types.proofs.CodeSteps.{fails_along}
-use Rattle.go_parse_exprs.specs.ExprReading.{expr_at, exprs_at}
-use Rattle.go_parse_stmts.specs.StmtReading as reading
-use Rattle.go_parse_stmts.specs.StmtReading.{simple_from, if_init, if_from, if_first, if_at, is_define, post_first, for_post, for_second, for_test, for_clauses, for_from, for_begins, for_first, for_at}
-use Rattle.go_parse_stmts.specs.CodeShapes.{init_by, init_at, condition_at, test_by, test_at, as_post, post_by, post_at, clauses_at}
+use Rattle.go_parse_exprs.specs.mirrors.ExprReading.{expr_at, exprs_at}
+use Rattle.go_parse_stmts.specs.mirrors.StmtReading as reading
+use Rattle.go_parse_stmts.specs.mirrors.StmtReading.{simple_from, if_init, if_from, if_first, if_at, is_define, post_first, for_post, for_second, for_test, for_clauses, for_from, for_begins, for_first, for_at}
+use Rattle.go_parse_stmts.specs.mirrors.CodeShapes.{init_by, init_at, condition_at, test_by, test_at, as_post, post_by, post_at, clauses_at}
 
 -- the parts of a `for`, put together
 abbrev with_post : Option SimpleTree → Span → Option ExprTree → Span → Option SimpleTree × List Terminal → Reading ForTree
@@ -28,14 +28,14 @@ post_last : (init : Option SimpleTree) (a : Span) (test : Option ExprTree) (b : 
 post_last init a test b (Err e) = refl
 post_last init a test b (Ok x) = post_whole init a test b x (is_define x.0)
 
-post_is : (n : ℕ) (init : Option SimpleTree) (a : Span) (test : Option ExprTree) (b : Span) (ts : List Terminal) (m : Place) → for_post n init a test b ts m ≡ (post_by n ts m >>= with_post init a test b)
+post_is : (n : ℕ) (init : Option SimpleTree) (a : Span) (test : Option ExprTree) (b : Span) (ts : List Terminal) (m : MarkAhead) → for_post n init a test b ts m ≡ (post_by n ts m >>= with_post init a test b)
 post_is n init a test b ts (Some brace) = refl
 post_is n init a test b ts None = post_last init a test b (post_first n ts)
 
 abbrev tested : ExprTree × List Terminal → Reading (Option ExprTree × Span)
 tested t = need (mark_at operator.Semicolon t.1) >>= λ s. Ok ((Some t.0, s.0), s.1)
 
-second_is : (n : ℕ) (init : Option SimpleTree) (a : Span) (t : ExprTree) (m : Place) → for_second n init a (Some t) m ≡ (need m >>= (λ (s : Span × List Terminal). Ok ((Some t, s.0), s.1)) >>= with_test n init a)
+second_is : (n : ℕ) (init : Option SimpleTree) (a : Span) (t : ExprTree) (m : MarkAhead) → for_second n init a (Some t) m ≡ (need m >>= (λ (s : Span × List Terminal). Ok ((Some t, s.0), s.1)) >>= with_test n init a)
 second_is n init a t None = refl
 second_is n init a t (Some b) = post_is n init a (Some t) b.0 b.1 (mark_at operator.OpenBrace b.1)
 
@@ -43,7 +43,7 @@ from_test : (n : ℕ) (init : Option SimpleTree) (a : Span) (r : Reading ExprTre
 from_test n init a (Err e) = refl
 from_test n init a (Ok t) = second_is n init a t.0 (mark_at operator.Semicolon t.1)
 
-test_is : (n : ℕ) (init : Option SimpleTree) (a : Span) (ts : List Terminal) (m : Place) → for_test n init a ts m ≡ (test_by n ts m >>= with_test n init a)
+test_is : (n : ℕ) (init : Option SimpleTree) (a : Span) (ts : List Terminal) (m : MarkAhead) → for_test n init a ts m ≡ (test_by n ts m >>= with_test n init a)
 test_is n init a ts (Some b) = post_is n init a None b.0 b.1 (mark_at operator.OpenBrace b.1)
 test_is n init a ts None = from_test n init a (expr_at n true 1 ts)
 
@@ -66,7 +66,7 @@ tests n init a (Ok t) = posted init a t (post_at n t.1)
 pub clauses_whole : (n : ℕ) (init : Option SimpleTree) (ts : List Terminal) → for_clauses n init (mark_at operator.Semicolon ts) ≡ (clauses_at n ts >>= with_clauses init)
 clauses_whole n init ts = from (mark_at operator.Semicolon ts)
   where
-    from : (m : Place) → for_clauses n init m ≡ (need m >>= (λ (a : Span × List Terminal). (test_at n a.1 >>= λ t. (post_at n t.1 >>= as_clauses a.0 t))) >>= with_clauses init)
+    from : (m : MarkAhead) → for_clauses n init m ≡ (need m >>= (λ (a : Span × List Terminal). (test_at n a.1 >>= λ t. (post_at n t.1 >>= as_clauses a.0 t))) >>= with_clauses init)
     from None = refl
     from (Some a) = test_is n init a.0 a.1 (mark_at operator.Semicolon a.1) ∙ tests n init a.0 (test_at n a.1)
 
@@ -82,7 +82,7 @@ clauses_fail n init ts e failed =
 abbrev behind_init : ℕ → (Option SimpleTree × Span) × List Terminal → Reading IfTree
 behind_init b x = condition_at b x.0.0 x.0.1 x.1
 
-init_whole : (b : ℕ) (i : SimpleTree) (m : Place) → if_init b i m ≡ (init_by i m >>= behind_init b)
+init_whole : (b : ℕ) (i : SimpleTree) (m : MarkAhead) → if_init b i m ≡ (init_by i m >>= behind_init b)
 init_whole b i None = refl
 init_whole b i (Some s) = refl
 

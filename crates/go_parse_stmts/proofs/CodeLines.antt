@@ -6,9 +6,9 @@ use Rattle.go_scan_core.specs.declared.kind.Operator.{Operator}
 use Rattle.go_scan_core.specs.declared.kind.Operator.TheVariants as operator
 use Rattle.go_tree_nodes.specs.Terminals.{Terminal}
 use Rattle.go_parse_types.specs.declared.stop.Stop.{Stop}
-use Rattle.go_parse_types.specs.EntryShapes.{list_all}
-use Rattle.go_parse_types.specs.Giving.{Fails}
-use Rattle.go_parse_types.specs.Marks.{Stuck, Grammar, Reading, Place, need, mark_at, some_mark}
+use Rattle.go_parse_types.specs.mirrors.EntryShapes.{list_all}
+use Rattle.go_parse_types.specs.mirrors.Giving.{Fails}
+use Rattle.go_parse_types.specs.mirrors.Marks.{Stuck, Grammar, Reading, MarkAhead, need, mark_at, some_mark}
 use Rattle.go_parse_types.proofs.Marks.{some_mark_none, some_mark_some, need_ok}
 use Rattle.go_parse_types.proofs.CodeLists.{ListSoFar, list_more, list_turn_shorter, list_missing, list_last}
 use Rattle.go_parse_types.proofs.CodeSteps.{fails_along}
@@ -32,7 +32,7 @@ some_unmarked (Some t) s e none = cc
 pub marked : (want : Operator) (ts : List Terminal) (o : Option Span) (rest : List Terminal) → (o, rest) ≡ some_mark want ts → is_some o ≡ true → Marked want ts o rest
 marked want ts o rest e some = by (mark_at want ts) refl
   where
-    by : (p : Place) → mark_at want ts ≡ p → Marked want ts o rest
+    by : (p : MarkAhead) → mark_at want ts ≡ p → Marked want ts o rest
     by None at =
         let same : (o, rest) ≡ (None, ts) = e ∙ some_mark_none want ts at in
         absurd (none_marked o (ap (λ (x : Option Span × List Terminal). x.0) same) some)
@@ -48,7 +48,7 @@ pub record Unmarked (want : Operator) (ts : List Terminal) (o : Option Span) (re
 pub unmarked : (want : Operator) (ts : List Terminal) (o : Option Span) (rest : List Terminal) → (o, rest) ≡ some_mark want ts → is_some o ≡ false → Unmarked want ts o rest
 unmarked want ts o rest e none = by (mark_at want ts) refl
   where
-    by : (p : Place) → mark_at want ts ≡ p → Unmarked want ts o rest
+    by : (p : MarkAhead) → mark_at want ts ≡ p → Unmarked want ts o rest
     by None at =
         let same : (o, rest) ≡ (None, ts) = e ∙ some_mark_none want ts at in
         record { free = sym at; found = ap (λ (x : Option Span × List Terminal). x.0) same; behind = ap (λ (x : Option Span × List Terminal). x.1) same }
@@ -58,7 +58,7 @@ unmarked want ts o rest e none = by (mark_at want ts) refl
 
 -- the closing mark that has to stand in front does not
 
-pub missing : (m : Place) (f : Stuck) → need m ≡ Err f → (None ≡ m) × (f ≡ Grammar)
+pub missing : (m : MarkAhead) (f : Stuck) → need m ≡ Err f → (None ≡ m) × (f ≡ Grammar)
 missing None f e = (refl, cc)
 missing (Some x) f e = cc
 

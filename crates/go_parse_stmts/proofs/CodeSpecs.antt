@@ -6,7 +6,7 @@ use Rattle.go_tree_nodes.specs.Trees.{ValueSpecTree, TypeSpecTree}
 use Rattle.go_tree_nodes.specs.Spelling.{spell_value_spec, spell_type_spec}
 use Rattle.go_tree_nodes.specs.Rules.{Wf_type, Wf_value_spec}
 use Rattle.go_tree_nodes.specs.Heights.{type_height, value_spec_height}
-use Rattle.go_parse_stmts.specs.StmtReading.{value_spec_at, type_spec_at}
+use Rattle.go_parse_stmts.specs.mirrors.StmtReading.{value_spec_at, type_spec_at}
 use Rattle.go_parse_stmts.proofs.Specs.{reads_no_longer}
 use Rattle.go_parse_stmts.proofs.Values.{value_spec_sound, type_spec_sound}
 

@@ -7,15 +7,15 @@ use Rattle.go_scan_core.specs.declared.kind.Operator.TheVariants as operator
 use Rattle.go_tree_nodes.specs.declared.stmts.«Line» as declared_line
 use Rattle.go_tree_nodes.specs.declared.decls.ValueKind.{ValueKind}
 use Rattle.go_tree_nodes.specs.Terminals.{Terminal}
-use Rattle.go_tree_nodes.specs.Trees.{ValueTree, IfTree, ForTree, StmtTree, BranchTree, ElseTree, Lines, Empty, Declare, Break, Continue, Block, If, For, Branch, ElseBlock, ElseIf, NoLines, Line}
+use Rattle.go_tree_nodes.specs.Trees.{IfTree, ForTree, StmtTree, BranchTree, ElseTree, Lines, Empty, Break, Continue, Block, If, For, Branch, ElseBlock, ElseIf, NoLines, Line}
 use Rattle.go_tree_nodes.specs.Shapes.{shape_stmt, lines_front, lines_of}
 use Rattle.go_parse_types.specs.declared.stop.Stop.{Stop}
-use Rattle.go_parse_types.specs.Giving.{Fails}
-use Rattle.go_parse_types.specs.Marks.{Stuck, Grammar, TooHigh, ◌>>=◌, Reading, Place, need, mark_at, word_at, some_mark}
+use Rattle.go_parse_types.specs.mirrors.Giving.{Fails}
+use Rattle.go_parse_types.specs.mirrors.Marks.{Stuck, Grammar, TooHigh, ◌>>=◌, Reading, MarkAhead, need, mark_at, keyword_at, some_mark}
 use Rattle.go_parse_types.proofs.Marks.{mark_shorter, need_ok}
 use Rattle.go_parse_types.proofs.CodeSteps.{fails_along}
-use Rattle.go_parse_stmts.specs.StmtReading.{value_at, value_word, return_at, if_at, for_at, by_for, by_if, by_continue, by_break, by_return, by_value, Braced, else_if, else_block, else_by, for_by, as_block, by_block, last_by, line_by, lines_by, lines_go, close_braces, braced, stmt_at, block_at, branch_at}
-use Rattle.go_parse_stmts.specs.CodeShapes.{lines_above, stmt_above, branches_above, branch_above}
+use Rattle.go_parse_stmts.specs.mirrors.StmtReading.{value_word, return_at, if_at, for_at, by_for, by_if, by_continue, by_break, by_return, by_value, Braced, else_if, else_block, else_by, for_by, as_block, by_block, last_by, line_by, lines_by, lines_go, close_braces, braced, stmt_at, block_at, branch_at}
+use Rattle.go_parse_stmts.specs.mirrors.CodeShapes.{declare_at, lines_above, stmt_above, branches_above, branch_above}
 use Rattle.go_parse_stmts.proofs.StmtSound.{stmt_no_longer}
 use Rattle.go_parse_stmts.proofs.EmptyStmts.{stmt_kept}
 use Rattle.go_parse_stmts.proofs.CodeLines.{marked, unmarked, missing, turn_shorter}
@@ -179,7 +179,7 @@ pub block_open : (n : ℕ) (ts rest after : List Terminal) (first : Span) (ls : 
 block_open n ts rest after first ls e opened some found failed =
     fails_along (need (mark_at operator.CloseBrace after)) (braced (block_at n) ts) e (λ f g. block_opened n ts rest first opened some ∙ ap (λ r. r >>= closed first) found ∙ unclosed (mark_at operator.CloseBrace after) f g) failed
   where
-    unclosed : (m : Place) (f : Stuck) → need m ≡ Err f → close_braces first ls m ≡ Err f
+    unclosed : (m : MarkAhead) (f : Stuck) → need m ≡ Err f → close_braces first ls m ≡ Err f
     unclosed None f g = cc
     unclosed (Some last) f g = cc
 
@@ -189,55 +189,44 @@ block_closed n ts rest after behind first last ls opened some found ended =
 
 -- a statement by its first word
 
-declared_whole : (b : ℕ) (ts : List Terminal) (v : ValueKind × Span × List Terminal) → Some v ≡ value_word ts → stmt_above b ts ≡ (value_at b v.0 v.1 v.2 >>= λ x. Ok (Declare x.0, x.1))
-declared_whole b ts v at = ap (by_value b (lines_above b) (block_at b) (branch_at b) ts) (sym at)
+pub declared_is : (b : ℕ) (ts : List Terminal) (v : ValueKind × Span × List Terminal) → Some v ≡ value_word ts → stmt_above b ts ≡ declare_at b v.0 v.1 v.2
+declared_is b ts v at = ap (by_value b (lines_above b) (block_at b) (branch_at b) ts) (sym at)
 
-pub declared_is : (b : ℕ) (ts after : List Terminal) (v : ValueKind × Span × List Terminal) (d : ValueTree) → Some v ≡ value_word ts → value_at b v.0 v.1 v.2 ≡ Ok (d, after) → stmt_above b ts ≡ Ok (Declare d, after)
-declared_is b ts after v d at found = declared_whole b ts v at ∙ ap (λ r. r >>= λ (x : ValueTree × List Terminal). Ok (Declare x.0, x.1)) found
-
-pub declared_fails : (b : ℕ) (ts : List Terminal) (v : ValueKind × Span × List Terminal) (e : Stop) → Some v ≡ value_word ts → Fails e (value_at b v.0 v.1 v.2) → Fails e (stmt_above b ts)
-declared_fails b ts v e at failed =
-    fails_along (value_at b v.0 v.1 v.2) (stmt_above b ts) e (λ f g. declared_whole b ts v at ∙ ap (λ r. r >>= λ (x : ValueTree × List Terminal). Ok (Declare x.0, x.1)) g) failed
-
-no_value : (b : ℕ) (ts : List Terminal) → None ≡ value_word ts → stmt_above b ts ≡ by_return b (lines_above b) (block_at b) (branch_at b) ts (word_at keyword.Return ts)
+no_value : (b : ℕ) (ts : List Terminal) → None ≡ value_word ts → stmt_above b ts ≡ by_return b (lines_above b) (block_at b) (branch_at b) ts (keyword_at keyword.Return ts)
 no_value b ts at = ap (by_value b (lines_above b) (block_at b) (branch_at b) ts) (sym at)
 
-pub returned_is : (b : ℕ) (ts : List Terminal) (s : Span × List Terminal) → None ≡ value_word ts → Some s ≡ word_at keyword.Return ts → stmt_above b ts ≡ return_at b s.0 s.1
+pub returned_is : (b : ℕ) (ts : List Terminal) (s : Span × List Terminal) → None ≡ value_word ts → Some s ≡ keyword_at keyword.Return ts → stmt_above b ts ≡ return_at b s.0 s.1
 returned_is b ts s v at = no_value b ts v ∙ ap (by_return b (lines_above b) (block_at b) (branch_at b) ts) (sym at)
 
-no_return : (b : ℕ) (ts : List Terminal) → None ≡ value_word ts → None ≡ word_at keyword.Return ts → stmt_above b ts ≡ by_break b (lines_above b) (block_at b) (branch_at b) ts (word_at keyword.Break ts)
+no_return : (b : ℕ) (ts : List Terminal) → None ≡ value_word ts → None ≡ keyword_at keyword.Return ts → stmt_above b ts ≡ by_break b (lines_above b) (block_at b) (branch_at b) ts (keyword_at keyword.Break ts)
 no_return b ts v r = no_value b ts v ∙ ap (by_return b (lines_above b) (block_at b) (branch_at b) ts) (sym r)
 
-pub broken_is : (b : ℕ) (ts : List Terminal) (s : Span × List Terminal) → None ≡ value_word ts → None ≡ word_at keyword.Return ts → Some s ≡ word_at keyword.Break ts → stmt_above b ts ≡ Ok (Break s.0, s.1)
+pub broken_is : (b : ℕ) (ts : List Terminal) (s : Span × List Terminal) → None ≡ value_word ts → None ≡ keyword_at keyword.Return ts → Some s ≡ keyword_at keyword.Break ts → stmt_above b ts ≡ Ok (Break s.0, s.1)
 broken_is b ts s v r at = no_return b ts v r ∙ ap (by_break b (lines_above b) (block_at b) (branch_at b) ts) (sym at)
 
-no_break : (b : ℕ) (ts : List Terminal) → None ≡ value_word ts → None ≡ word_at keyword.Return ts → None ≡ word_at keyword.Break ts → stmt_above b ts ≡ by_continue b (lines_above b) (block_at b) (branch_at b) ts (word_at keyword.Continue ts)
+no_break : (b : ℕ) (ts : List Terminal) → None ≡ value_word ts → None ≡ keyword_at keyword.Return ts → None ≡ keyword_at keyword.Break ts → stmt_above b ts ≡ by_continue b (lines_above b) (block_at b) (branch_at b) ts (keyword_at keyword.Continue ts)
 no_break b ts v r q = no_return b ts v r ∙ ap (by_break b (lines_above b) (block_at b) (branch_at b) ts) (sym q)
 
-pub continued_is : (b : ℕ) (ts : List Terminal) (s : Span × List Terminal) → None ≡ value_word ts → None ≡ word_at keyword.Return ts → None ≡ word_at keyword.Break ts → Some s ≡ word_at keyword.Continue ts → stmt_above b ts ≡ Ok (Continue s.0, s.1)
+pub continued_is : (b : ℕ) (ts : List Terminal) (s : Span × List Terminal) → None ≡ value_word ts → None ≡ keyword_at keyword.Return ts → None ≡ keyword_at keyword.Break ts → Some s ≡ keyword_at keyword.Continue ts → stmt_above b ts ≡ Ok (Continue s.0, s.1)
 continued_is b ts s v r q at = no_break b ts v r q ∙ ap (by_continue b (lines_above b) (block_at b) (branch_at b) ts) (sym at)
 
-no_continue : (b : ℕ) (ts : List Terminal) → None ≡ value_word ts → None ≡ word_at keyword.Return ts → None ≡ word_at keyword.Break ts → None ≡ word_at keyword.Continue ts → stmt_above b ts ≡ by_if b (lines_above b) (block_at b) (branch_at b) ts (word_at keyword.If ts)
+no_continue : (b : ℕ) (ts : List Terminal) → None ≡ value_word ts → None ≡ keyword_at keyword.Return ts → None ≡ keyword_at keyword.Break ts → None ≡ keyword_at keyword.Continue ts → stmt_above b ts ≡ by_if b (lines_above b) (block_at b) (branch_at b) ts (keyword_at keyword.If ts)
 no_continue b ts v r q c = no_break b ts v r q ∙ ap (by_continue b (lines_above b) (block_at b) (branch_at b) ts) (sym c)
 
-if_whole : (b : ℕ) (ts : List Terminal) (s : Span × List Terminal) → None ≡ value_word ts → None ≡ word_at keyword.Return ts → None ≡ word_at keyword.Break ts → None ≡ word_at keyword.Continue ts → Some s ≡ word_at keyword.If ts → stmt_above b ts ≡ (branch_above b s.0 s.1 >>= λ x. Ok (If x.0, x.1))
+if_whole : (b : ℕ) (ts : List Terminal) (s : Span × List Terminal) → None ≡ value_word ts → None ≡ keyword_at keyword.Return ts → None ≡ keyword_at keyword.Break ts → None ≡ keyword_at keyword.Continue ts → Some s ≡ keyword_at keyword.If ts → stmt_above b ts ≡ (branch_above b s.0 s.1 >>= λ x. Ok (If x.0, x.1))
 if_whole b ts s v r q c at = no_continue b ts v r q c ∙ ap (by_if b (lines_above b) (block_at b) (branch_at b) ts) (sym at)
 
-no_if : (b : ℕ) (ts : List Terminal) → None ≡ value_word ts → None ≡ word_at keyword.Return ts → None ≡ word_at keyword.Break ts → None ≡ word_at keyword.Continue ts → None ≡ word_at keyword.If ts → stmt_above b ts ≡ by_for b (lines_above b) (block_at b) ts (word_at keyword.For ts)
+no_if : (b : ℕ) (ts : List Terminal) → None ≡ value_word ts → None ≡ keyword_at keyword.Return ts → None ≡ keyword_at keyword.Break ts → None ≡ keyword_at keyword.Continue ts → None ≡ keyword_at keyword.If ts → stmt_above b ts ≡ by_for b (lines_above b) (block_at b) ts (keyword_at keyword.For ts)
 no_if b ts v r q c i = no_continue b ts v r q c ∙ ap (by_if b (lines_above b) (block_at b) (branch_at b) ts) (sym i)
 
-pub loop_is : (b : ℕ) (ts : List Terminal) (s : Span × List Terminal) → None ≡ value_word ts → None ≡ word_at keyword.Return ts → None ≡ word_at keyword.Break ts → None ≡ word_at keyword.Continue ts → None ≡ word_at keyword.If ts → Some s ≡ word_at keyword.For ts → stmt_above b ts ≡ for_by b (block_at b) s.0 s.1
+pub loop_is : (b : ℕ) (ts : List Terminal) (s : Span × List Terminal) → None ≡ value_word ts → None ≡ keyword_at keyword.Return ts → None ≡ keyword_at keyword.Break ts → None ≡ keyword_at keyword.Continue ts → None ≡ keyword_at keyword.If ts → Some s ≡ keyword_at keyword.For ts → stmt_above b ts ≡ for_by b (block_at b) s.0 s.1
 loop_is b ts s v r q c i at = no_if b ts v r q c i ∙ ap (by_for b (lines_above b) (block_at b) ts) (sym at)
 
-pub plain_is : (b : ℕ) (ts : List Terminal) → None ≡ value_word ts → None ≡ word_at keyword.Return ts → None ≡ word_at keyword.Break ts → None ≡ word_at keyword.Continue ts → None ≡ word_at keyword.If ts → None ≡ word_at keyword.For ts → stmt_above b ts ≡ by_block b (lines_above b) ts (mark_at operator.OpenBrace ts)
+pub plain_is : (b : ℕ) (ts : List Terminal) → None ≡ value_word ts → None ≡ keyword_at keyword.Return ts → None ≡ keyword_at keyword.Break ts → None ≡ keyword_at keyword.Continue ts → None ≡ keyword_at keyword.If ts → None ≡ keyword_at keyword.For ts → stmt_above b ts ≡ by_block b (lines_above b) ts (mark_at operator.OpenBrace ts)
 plain_is b ts v r q c i f = no_if b ts v r q c i ∙ ap (by_for b (lines_above b) (block_at b) ts) (sym f)
 
-pub if_is : (b : ℕ) (ts after : List Terminal) (s : Span × List Terminal) (t : BranchTree) → None ≡ value_word ts → None ≡ word_at keyword.Return ts → None ≡ word_at keyword.Break ts → None ≡ word_at keyword.Continue ts → Some s ≡ word_at keyword.If ts → branch_above b s.0 s.1 ≡ Ok (t, after) → stmt_above b ts ≡ Ok (If t, after)
+pub if_is : (b : ℕ) (ts after : List Terminal) (s : Span × List Terminal) (t : BranchTree) → None ≡ value_word ts → None ≡ keyword_at keyword.Return ts → None ≡ keyword_at keyword.Break ts → None ≡ keyword_at keyword.Continue ts → Some s ≡ keyword_at keyword.If ts → branch_above b s.0 s.1 ≡ Ok (t, after) → stmt_above b ts ≡ Ok (If t, after)
 if_is b ts after s t v r q c at found = if_whole b ts s v r q c at ∙ ap (λ r. r >>= λ (x : BranchTree × List Terminal). Ok (If x.0, x.1)) found
-
-pub if_fails : (b : ℕ) (ts : List Terminal) (s : Span × List Terminal) (e : Stop) → None ≡ value_word ts → None ≡ word_at keyword.Return ts → None ≡ word_at keyword.Break ts → None ≡ word_at keyword.Continue ts → Some s ≡ word_at keyword.If ts → Fails e (branch_above b s.0 s.1) → Fails e (stmt_above b ts)
-if_fails b ts s e v r q c at failed =
-    fails_along (branch_above b s.0 s.1) (stmt_above b ts) e (λ f g. if_whole b ts s v r q c at ∙ ap (λ r. r >>= λ (x : BranchTree × List Terminal). Ok (If x.0, x.1)) g) failed
 
 -- a block, a loop, what stands behind `else`, and an `if`, from their parts
 
@@ -256,26 +245,26 @@ for_is b k ts behind after head first last ls header found =
     let made : ForTree → Braced × List Terminal → Reading StmtTree = λ head x. Ok (For k head x.0.0 x.0.1 x.0.2, x.1) in
     ap (λ r. r >>= λ (head : ForTree × List Terminal). (braced (block_at b) head.1 >>= made head.0)) header ∙ ap (λ r. r >>= made head) found
 
-pub else_is : (b : ℕ) (k : Span) (ts behind after : List Terminal) (first last : Span) (ls : Lines) (m : Span × List Terminal) → Some (k, behind) ≡ word_at keyword.Else ts → mark_at operator.OpenBrace behind ≡ Some m → braced (block_at b) behind ≡ Ok ((first, ls, last), after) → else_by (block_at b) (branch_at b) ts (word_at keyword.Else ts) ≡ Ok (ElseBlock k first ls last, after)
+pub else_is : (b : ℕ) (k : Span) (ts behind after : List Terminal) (first last : Span) (ls : Lines) (m : Span × List Terminal) → Some (k, behind) ≡ keyword_at keyword.Else ts → mark_at operator.OpenBrace behind ≡ Some m → braced (block_at b) behind ≡ Ok ((first, ls, last), after) → else_by (block_at b) (branch_at b) ts (keyword_at keyword.Else ts) ≡ Ok (ElseBlock k first ls last, after)
 else_is b k ts behind after first last ls m word brace found =
     ap (else_by (block_at b) (branch_at b) ts) (sym word) ∙ ap (else_block (block_at b) k (branch_at b) behind) brace ∙ ap (λ r. r >>= λ (x : Braced × List Terminal). Ok (ElseBlock k x.0.0 x.0.1 x.0.2, x.1)) found
 
 abbrev otherwise_at : ℕ → List Terminal → Reading ElseTree
-otherwise_at b ts = else_by (block_at b) (branch_at b) ts (word_at keyword.Else ts)
+otherwise_at b ts = else_by (block_at b) (branch_at b) ts (keyword_at keyword.Else ts)
 
-else_if_whole : (b : ℕ) (k i : Span) (ts behind inside : List Terminal) → Some (k, behind) ≡ word_at keyword.Else ts → None ≡ mark_at operator.OpenBrace behind → need (word_at keyword.If behind) ≡ Ok (i, inside) → otherwise_at b ts ≡ (branch_at b i inside >>= λ x. Ok (ElseIf k x.0, x.1))
+else_if_whole : (b : ℕ) (k i : Span) (ts behind inside : List Terminal) → Some (k, behind) ≡ keyword_at keyword.Else ts → None ≡ mark_at operator.OpenBrace behind → need (keyword_at keyword.If behind) ≡ Ok (i, inside) → otherwise_at b ts ≡ (branch_at b i inside >>= λ x. Ok (ElseIf k x.0, x.1))
 else_if_whole b k i ts behind inside word free found =
-    ap (else_by (block_at b) (branch_at b) ts) (sym word) ∙ ap (else_block (block_at b) k (branch_at b) behind) (sym free) ∙ ap (else_if k (branch_at b)) (need_ok (word_at keyword.If behind) (i, inside) found)
+    ap (else_by (block_at b) (branch_at b) ts) (sym word) ∙ ap (else_block (block_at b) k (branch_at b) behind) (sym free) ∙ ap (else_if k (branch_at b)) (need_ok (keyword_at keyword.If behind) (i, inside) found)
 
-pub else_if_too_high : (b : ℕ) (k i : Span) (ts behind inside : List Terminal) → Some (k, behind) ≡ word_at keyword.Else ts → None ≡ mark_at operator.OpenBrace behind → need (word_at keyword.If behind) ≡ Ok (i, inside) → b ≡ 0 → else_by (block_at b) (branch_at b) ts (word_at keyword.Else ts) ≡ Err TooHigh
+pub else_if_too_high : (b : ℕ) (k i : Span) (ts behind inside : List Terminal) → Some (k, behind) ≡ keyword_at keyword.Else ts → None ≡ mark_at operator.OpenBrace behind → need (keyword_at keyword.If behind) ≡ Ok (i, inside) → b ≡ 0 → else_by (block_at b) (branch_at b) ts (keyword_at keyword.Else ts) ≡ Err TooHigh
 else_if_too_high b k i ts behind inside word free found e =
     else_if_whole b k i ts behind inside word free found ∙ ap (λ r. r >>= λ (x : BranchTree × List Terminal). Ok (ElseIf k x.0, x.1)) (branch_zero b i inside e)
 
-pub else_if_fails : (b : ℕ) (k i : Span) (ts behind inside : List Terminal) (e : Stop) → Some (k, behind) ≡ word_at keyword.Else ts → None ≡ mark_at operator.OpenBrace behind → need (word_at keyword.If behind) ≡ Ok (i, inside) → 0 < b → Fails e (branch_above (b - 1) i inside) → Fails e (else_by (block_at b) (branch_at b) ts (word_at keyword.Else ts))
+pub else_if_fails : (b : ℕ) (k i : Span) (ts behind inside : List Terminal) (e : Stop) → Some (k, behind) ≡ keyword_at keyword.Else ts → None ≡ mark_at operator.OpenBrace behind → need (keyword_at keyword.If behind) ≡ Ok (i, inside) → 0 < b → Fails e (branch_above (b - 1) i inside) → Fails e (else_by (block_at b) (branch_at b) ts (keyword_at keyword.Else ts))
 else_if_fails b k i ts behind inside e word free found some failed =
     fails_along (branch_above (b - 1) i inside) (otherwise_at b ts) e (λ f g. else_if_whole b k i ts behind inside word free found ∙ ap (λ r. r >>= λ (x : BranchTree × List Terminal). Ok (ElseIf k x.0, x.1)) (branch_more b i inside some ∙ g)) failed
 
-pub else_if_is : (b : ℕ) (k i : Span) (ts behind inside after : List Terminal) (t : BranchTree) → Some (k, behind) ≡ word_at keyword.Else ts → None ≡ mark_at operator.OpenBrace behind → need (word_at keyword.If behind) ≡ Ok (i, inside) → 0 < b → branch_above (b - 1) i inside ≡ Ok (t, after) → else_by (block_at b) (branch_at b) ts (word_at keyword.Else ts) ≡ Ok (ElseIf k t, after)
+pub else_if_is : (b : ℕ) (k i : Span) (ts behind inside after : List Terminal) (t : BranchTree) → Some (k, behind) ≡ keyword_at keyword.Else ts → None ≡ mark_at operator.OpenBrace behind → need (keyword_at keyword.If behind) ≡ Ok (i, inside) → 0 < b → branch_above (b - 1) i inside ≡ Ok (t, after) → else_by (block_at b) (branch_at b) ts (keyword_at keyword.Else ts) ≡ Ok (ElseIf k t, after)
 else_if_is b k i ts behind inside after t word free found some e =
     else_if_whole b k i ts behind inside word free found ∙ ap (λ r. r >>= λ (x : BranchTree × List Terminal). Ok (ElseIf k x.0, x.1)) (branch_more b i inside some ∙ e)
 

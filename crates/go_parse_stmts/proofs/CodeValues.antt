@@ -8,11 +8,11 @@ use Rattle.go_tree_nodes.specs.declared.decls.ValueKind.TheVariants as kinds
 use Rattle.go_tree_nodes.specs.Terminals.{Terminal}
 use Rattle.go_tree_nodes.specs.Trees.{Separated, TypeTree, ExprTree, ValueSpecTree}
 use Rattle.go_parse_types.specs.declared.stop.Stop.{Stop}
-use Rattle.go_parse_types.specs.Giving.{Fails}
-use Rattle.go_parse_types.specs.Marks.{Grammar, ◌>>=◌, Reading, Place, mark_at, idents_go}
+use Rattle.go_parse_types.specs.mirrors.Giving.{Fails}
+use Rattle.go_parse_types.specs.mirrors.Marks.{Grammar, ◌>>=◌, Reading, MarkAhead, mark_at, idents_go}
 use Rattle.go_parse_types.proofs.CodeSteps.{fails_along}
-use Rattle.go_parse_exprs.specs.ExprReading.{exprs_at}
-use Rattle.go_parse_stmts.specs.StmtReading.{some_type_at, values_by, enough, value_spec, value_spec_by, value_spec_at}
+use Rattle.go_parse_exprs.specs.mirrors.ExprReading.{exprs_at}
+use Rattle.go_parse_stmts.specs.mirrors.StmtReading.{some_type_at, values_by, enough, value_spec, value_spec_by, value_spec_at}
 
 abbrev Values : Type 0
 Values = Option (Span × Separated ExprTree)
@@ -37,10 +37,10 @@ some_enough kinds.Var None b = refl
 some_enough kinds.Var (Some t) b = refl
 
 -- what follows a type
-abbrev values_from : ℕ → ValueKind → Separated Ident → Option TypeTree → List Terminal → Place → Reading ValueSpecTree
+abbrev values_from : ℕ → ValueKind → Separated Ident → Option TypeTree → List Terminal → MarkAhead → Reading ValueSpecTree
 values_from b kind xs t ts m = values_by b ts m >>= value_spec_by kind xs t
 
-missing : (b : ℕ) (kind : ValueKind) (xs : Separated Ident) (t : Option TypeTree) (ts : List Terminal) (m : Place) → enough kind t m ≡ false → values_from b kind xs t ts m ≡ Err Grammar
+missing : (b : ℕ) (kind : ValueKind) (xs : Separated Ident) (t : Option TypeTree) (ts : List Terminal) (m : MarkAhead) → enough kind t m ≡ false → values_from b kind xs t ts m ≡ Err Grammar
 missing b kind xs t ts None few =
     ap (λ c. cond c (Ok (value_spec xs t None, ts)) (Err Grammar)) (enough_none (Span × Separated ExprTree) (Span × List Terminal) kind t ∙ few)
 missing b kind xs t ts (Some a) few = let all = some_enough kind t a in cc
@@ -48,7 +48,7 @@ missing b kind xs t ts (Some a) few = let all = some_enough kind t a in cc
 abbrev valued : Span → Separated ExprTree × List Terminal → Reading Values
 valued s es = Ok (Some (s, es.0), es.1)
 
-found : (b : ℕ) (kind : ValueKind) (xs : Separated Ident) (t : Option TypeTree) (ts after : List Terminal) (m : Place) (vs : Values) → enough kind t m ≡ true → values_by b ts m ≡ Ok (vs, after) → values_from b kind xs t ts m ≡ Ok (value_spec xs t vs, after)
+found : (b : ℕ) (kind : ValueKind) (xs : Separated Ident) (t : Option TypeTree) (ts after : List Terminal) (m : MarkAhead) (vs : Values) → enough kind t m ≡ true → values_by b ts m ≡ Ok (vs, after) → values_from b kind xs t ts m ≡ Ok (value_spec xs t vs, after)
 found b kind xs t ts after None vs all e =
     let both : (vs, after) ≡ (None, ts) = cc in
     let v : vs ≡ None = ap (λ (x : Values × List Terminal). x.0) both in

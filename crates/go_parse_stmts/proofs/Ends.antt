@@ -10,13 +10,13 @@ use Rattle.go_tree_nodes.specs.Terminals.{Number, Terminal, terminal}
 use Rattle.go_tree_nodes.specs.Trees.{Separated, One, Then, ExprTree, SimpleTree, Alone, Step, Assign, Update, Define}
 use Rattle.go_tree_nodes.specs.Spelling.{mark, word, spell_ident, spell_text, spell, spell_exprs, spell_simple}
 use Rattle.go_tree_nodes.specs.Rules.{is_unary, is_step, is_update, Wf, Wf_exprs, Wf_simple}
-use Rattle.go_parse_types.specs.Marks.{mark_at, word_at, mark_that}
-use Rattle.go_parse_types.specs.TypeReading.{begins_type}
+use Rattle.go_parse_types.specs.mirrors.Marks.{mark_at, keyword_at, mark_that}
+use Rattle.go_parse_types.specs.mirrors.TypeReading.{begins_type}
 use Rattle.go_parse_types.proofs.Marks.{mark_not}
 use Rattle.go_parse_exprs.proofs.Behind.{not_same, not_unary, Stops, stops_mark, stops_step, stops_update, stops_block}
 use Rattle.go_parse_exprs.proofs.Fronts.{first_of}
 use Rattle.go_parse_exprs.proofs.ExprLists.{StopsList, exprs_first_of}
-use Rattle.go_parse_stmts.specs.StmtReading.{value_word}
+use Rattle.go_parse_stmts.specs.mirrors.StmtReading.{value_word}
 
 -- nothing of this goes on with a type, an expression, a list of them or a simple statement, and no `else` does with an `if`
 pub record Ends (header : Bool) (ts : List Terminal) : Type 0 where
@@ -27,7 +27,7 @@ pub record Ends (header : Bool) (ts : List Terminal) : Type 0 where
   pub assign : mark_at operator.Assign ts ≡ None
   pub step : mark_that is_step ts ≡ None
   pub update : mark_that is_update ts ≡ None
-  pub otherwise : word_at keyword.Else ts ≡ None
+  pub otherwise : keyword_at keyword.Else ts ≡ None
 
 pub ends_semicolon : (header : Bool) (s : Span) (ts : List Terminal) → Ends header (mark operator.Semicolon s ∷ ts)
 ends_semicolon header s ts =
@@ -93,11 +93,11 @@ pub record Begins (ts : List Terminal) : Type 0 where
   pub no_block : mark_at operator.OpenBrace ts ≡ None
   pub no_brace : mark_at operator.CloseBrace ts ≡ None
   pub no_value : value_word ts ≡ None
-  pub no_return : word_at keyword.Return ts ≡ None
-  pub no_break : word_at keyword.Break ts ≡ None
-  pub no_continue : word_at keyword.Continue ts ≡ None
-  pub no_if : word_at keyword.If ts ≡ None
-  pub no_for : word_at keyword.For ts ≡ None
+  pub no_return : keyword_at keyword.Return ts ≡ None
+  pub no_break : keyword_at keyword.Break ts ≡ None
+  pub no_continue : keyword_at keyword.Continue ts ≡ None
+  pub no_if : keyword_at keyword.If ts ≡ None
+  pub no_for : keyword_at keyword.For ts ≡ None
 
 number_begins : (n : ℕ) (s : Span) (ts : List Terminal) → Begins (terminal (Number n) s ∷ ts)
 number_begins n s ts = record { no_semicolon = refl; no_block = refl; no_brace = refl; no_value = refl; no_return = refl; no_break = refl; no_continue = refl; no_if = refl; no_for = refl }

@@ -7,9 +7,9 @@ use Rattle.go_tree_nodes.specs.Trees.{Separated, One, ExprTree, SimpleTree, Alon
 use Rattle.go_tree_nodes.specs.Spelling.{mark, spell, spell_simple, spell_some_simple, spell_some_expr, spell_init, spell_if, spell_for}
 use Rattle.go_tree_nodes.specs.Rules.{Wf, Wf_some_simple, Wf_some_expr, Wf_init, Wf_if, IsPost, Wf_for}
 use Rattle.go_tree_nodes.specs.Heights.{height, exprs_height, simple_height, some_simple_height, some_expr_height, init_height, if_height, for_height}
-use Rattle.go_parse_types.specs.Marks.{Grammar, Reading, Place, need, mark_at}
-use Rattle.go_parse_exprs.specs.ExprReading.{expr_at, exprs_at}
-use Rattle.go_parse_stmts.specs.StmtReading.{single, simple_from, if_tree, if_init, if_from, if_first, if_at, is_define, post_by, post_first, for_post, for_second, for_test, for_clauses, for_from, for_begins, for_first, for_at}
+use Rattle.go_parse_types.specs.mirrors.Marks.{Grammar, Reading, MarkAhead, need, mark_at}
+use Rattle.go_parse_exprs.specs.mirrors.ExprReading.{expr_at, exprs_at}
+use Rattle.go_parse_stmts.specs.mirrors.StmtReading.{single, simple_from, if_tree, if_init, if_from, if_first, if_at, is_define, post_by, post_first, for_post, for_second, for_test, for_clauses, for_from, for_begins, for_first, for_at}
 use Rattle.go_parse_types.proofs.Marks.{mark_was, bind_ok, need_ok, AgreesAt, bind_agrees, agrees_along}
 use Rattle.go_parse_types.proofs.Lists.{ReadsItem}
 use Rattle.go_parse_exprs.proofs.ExprFound.{expr_complete}
@@ -141,7 +141,7 @@ ReadsIf b ts x = ReadsItem IfTree spell_if if_height Wf_if b ts x
 abbrev pub ReadsFor : ℕ → List Terminal → ForTree × List Terminal → Type 0
 ReadsFor b ts x = ReadsItem ForTree spell_for for_height Wf_for b ts x
 
-if_init_reads : (b : ℕ) (ts : List Terminal) (c : SimpleTree × List Terminal) → ReadsSimple b true ts c → (m : Place) → mark_at operator.Semicolon c.1 ≡ m → (y : IfTree × List Terminal) → if_init b c.0 m ≡ Ok y → ReadsIf b ts y
+if_init_reads : (b : ℕ) (ts : List Terminal) (c : SimpleTree × List Terminal) → ReadsSimple b true ts c → (m : MarkAhead) → mark_at operator.Semicolon c.1 ≡ m → (y : IfTree × List Terminal) → if_init b c.0 m ≡ Ok y → ReadsIf b ts y
 if_init_reads b ts c r None at y e = cc
 if_init_reads b ts c r (Some s) at y e =
     let w = bind_ok (expr_at b true 1 s.1) (λ t. Ok (if_tree (Some (Some c.0, s.0)) t.0, t.1)) y e in
@@ -152,7 +152,7 @@ if_init_reads b ts c r (Some s) at y e =
     r.spelled_as ∙ ap (λ l. spell_simple c.0 ++ l) (mark_was operator.Semicolon c.1 s at ∙ ap (λ l. semicolon ∷ l) q.spelled) ∙ sym (append_assoc (spell_simple c.0) (semicolon ∷ []) (spell w.0.0 ++ w.0.1)) ∙ sym (append_assoc (spell_simple c.0 ++ (semicolon ∷ [])) (spell w.0.0) w.0.1) in
     subst (ReadsIf b ts) same (record { spelled_as = path; wf = (r.wf, q.wf); low = omega (arith, r.low, q.low) })
 
-if_from_reads : (b : ℕ) (ts : List Terminal) (x : Separated ExprTree × List Terminal) → ReadsFront b true ts x → (m : Place) → mark_at operator.OpenBrace x.1 ≡ m → (y : IfTree × List Terminal) → if_from b x.0 x.1 m ≡ Ok y → ReadsIf b ts y
+if_from_reads : (b : ℕ) (ts : List Terminal) (x : Separated ExprTree × List Terminal) → ReadsFront b true ts x → (m : MarkAhead) → mark_at operator.OpenBrace x.1 ≡ m → (y : IfTree × List Terminal) → if_from b x.0 x.1 m ≡ Ok y → ReadsIf b ts y
 if_from_reads b ts x r None at y e =
     let w = bind_ok (simple_from b true x.0 x.1) (λ i. if_init b i.0 (mark_at operator.Semicolon i.1)) y e in
     if_init_reads b ts w.0 (from_sound b true ts x r w.0 w.1) (mark_at operator.Semicolon w.0.1) refl y w.2
@@ -162,7 +162,7 @@ if_from_reads b ts x r (Some a) at y e =
     let same : (if_tree None w.0, x.1) ≡ y = cc (w.2) in
     subst (ReadsIf b ts) same (record { spelled_as = q.spelled_as; wf = (tt, q.wf); low = omega (arith, q.low) })
 
-if_first_reads : (b : ℕ) (ts : List Terminal) (m : Place) → mark_at operator.Semicolon ts ≡ m → (y : IfTree × List Terminal) → if_first b ts m ≡ Ok y → ReadsIf b ts y
+if_first_reads : (b : ℕ) (ts : List Terminal) (m : MarkAhead) → mark_at operator.Semicolon ts ≡ m → (y : IfTree × List Terminal) → if_first b ts m ≡ Ok y → ReadsIf b ts y
 if_first_reads b ts None at y e =
     let w = bind_ok (exprs_at b true ts) (λ x. if_from b x.0 x.1 (mark_at operator.OpenBrace x.1)) y e in
     if_from_reads b ts w.0 (front_sound b true ts w.0 w.1) (mark_at operator.OpenBrace w.0.1) refl y w.2
@@ -211,7 +211,7 @@ post_if n init s test z ts c r false bad y e =
     let same : (Clauses init s test z (Some c.0), c.1) ≡ y = cc in
     subst (ReadsPost n init s test z ts) same (record { post = Some c.0; is = refl; spelled = r.spelled_as; wp = r.wf; may = no_define c.0 bad; low = r.low })
 
-post_sound : (n : ℕ) (init : Option SimpleTree) (s : Span) (test : Option ExprTree) (z : Span) (ts : List Terminal) (m : Place) (y : ForTree × List Terminal) → for_post n init s test z ts m ≡ Ok y → ReadsPost n init s test z ts y
+post_sound : (n : ℕ) (init : Option SimpleTree) (s : Span) (test : Option ExprTree) (z : Span) (ts : List Terminal) (m : MarkAhead) (y : ForTree × List Terminal) → for_post n init s test z ts m ≡ Ok y → ReadsPost n init s test z ts y
 post_sound n init s test z ts (Some a) y e =
     let same : (Clauses init s test z None, ts) ≡ y = cc in
     subst (ReadsPost n init s test z ts) same (record { post = None; is = refl; spelled = refl; wp = tt; may = tt; low = omega arith })
@@ -221,21 +221,21 @@ post_sound n init s test z ts None y e =
     let r = from_sound n true ts w.0 (front_sound n true ts w.0 w.1) c.0 w.2 in
     post_if n init s test z ts c.0 r (is_define c.0.0) refl y c.2
 
-second_sound : (n : ℕ) (init : Option SimpleTree) (s : Span) (test : Option ExprTree) → Wf_some_expr test → some_expr_height test ≤ n → (ts more : List Terminal) → ts ≡ spell_some_expr test ++ more → (m : Place) → mark_at operator.Semicolon more ≡ m → (y : ForTree × List Terminal) → for_second n init s test m ≡ Ok y → ReadsClauses n init s ts y
+second_sound : (n : ℕ) (init : Option SimpleTree) (s : Span) (test : Option ExprTree) → Wf_some_expr test → some_expr_height test ≤ n → (ts more : List Terminal) → ts ≡ spell_some_expr test ++ more → (m : MarkAhead) → mark_at operator.Semicolon more ≡ m → (y : ForTree × List Terminal) → for_second n init s test m ≡ Ok y → ReadsClauses n init s ts y
 second_sound n init s test wt low ts more is None at y e = cc
 second_sound n init s test wt low ts more is (Some z) at y e =
     let r = post_sound n init s test z.0 z.1 (mark_at operator.OpenBrace z.1) y e in
     let path : ts ≡ behind_init test z.0 r.post y.1 = is ∙ ap (λ l. spell_some_expr test ++ l) (mark_was operator.Semicolon more z at ∙ ap (λ l. mark operator.Semicolon z.0 ∷ l) r.spelled) in
     record { test = test; z = z.0; post = r.post; is = r.is; spelled = path; wt = wt; wp = r.wp; may = r.may; low_test = low; low_post = r.low }
 
-test_sound : (n : ℕ) (init : Option SimpleTree) (s : Span) (ts : List Terminal) (m : Place) → mark_at operator.Semicolon ts ≡ m → (y : ForTree × List Terminal) → for_test n init s ts m ≡ Ok y → ReadsClauses n init s ts y
+test_sound : (n : ℕ) (init : Option SimpleTree) (s : Span) (ts : List Terminal) (m : MarkAhead) → mark_at operator.Semicolon ts ≡ m → (y : ForTree × List Terminal) → for_test n init s ts m ≡ Ok y → ReadsClauses n init s ts y
 test_sound n init s ts (Some z) at y e = second_sound n init s None tt (omega arith) ts ts refl (Some z) at y e
 test_sound n init s ts None at y e =
     let t = bind_ok (expr_at n true 1 ts) (λ t. for_second n init s (Some t.0) (mark_at operator.Semicolon t.1)) y e in
     let r = expr_sound n true ts t.0 t.1 in
     second_sound n init s (Some t.0.0) r.wf r.low ts t.0.1 r.spelled (mark_at operator.Semicolon t.0.1) refl y t.2
 
-clauses_sound : (n : ℕ) (init : Option SimpleTree) → Wf_some_simple init → some_simple_height init ≤ n → (ts more : List Terminal) → ts ≡ spell_some_simple init ++ more → (m : Place) → mark_at operator.Semicolon more ≡ m → (y : ForTree × List Terminal) → for_clauses n init m ≡ Ok y → ReadsFor n ts y
+clauses_sound : (n : ℕ) (init : Option SimpleTree) → Wf_some_simple init → some_simple_height init ≤ n → (ts more : List Terminal) → ts ≡ spell_some_simple init ++ more → (m : MarkAhead) → mark_at operator.Semicolon more ≡ m → (y : ForTree × List Terminal) → for_clauses n init m ≡ Ok y → ReadsFor n ts y
 clauses_sound n init wi low ts more is None at y e = cc
 clauses_sound n init wi low ts more is (Some s) at y e =
     let r = test_sound n init s.0 s.1 (mark_at operator.Semicolon s.1) refl y e in
@@ -246,7 +246,7 @@ clauses_sound n init wi low ts more is (Some s) at y e =
     is ∙ ap (λ l. spell_some_simple init ++ l) (mark_was operator.Semicolon more s at ∙ ap (λ l. semicolon ∷ l) (r.spelled ∙ sym (behind_assoc r.test r.z r.post y.1))) ∙ sym (append_assoc (spell_some_simple init) (semicolon ∷ tail) y.1) in
     subst (λ f. ReadsFor n ts (f, y.1)) r.is (record { spelled_as = path; wf = (wi, r.wt, r.wp, r.may); low = omega (arith, low, r.low_test, r.low_post) })
 
-for_from_reads : (n : ℕ) (ts : List Terminal) (x : Separated ExprTree × List Terminal) → ReadsFront n true ts x → (m : Place) → mark_at operator.OpenBrace x.1 ≡ m → (y : ForTree × List Terminal) → for_from n x.0 x.1 m ≡ Ok y → ReadsFor n ts y
+for_from_reads : (n : ℕ) (ts : List Terminal) (x : Separated ExprTree × List Terminal) → ReadsFront n true ts x → (m : MarkAhead) → mark_at operator.OpenBrace x.1 ≡ m → (y : ForTree × List Terminal) → for_from n x.0 x.1 m ≡ Ok y → ReadsFor n ts y
 for_from_reads n ts x r None at y e =
     let c = bind_ok (simple_from n true x.0 x.1) (λ i. for_clauses n (Some i.0) (mark_at operator.Semicolon i.1)) y e in
     let q = from_sound n true ts x r c.0 c.1 in
@@ -257,13 +257,13 @@ for_from_reads n ts x r (Some a) at y e =
     let same : (While w.0, x.1) ≡ y = cc (w.2) in
     subst (ReadsFor n ts) same (record { spelled_as = q.spelled_as; wf = q.wf; low = q.low })
 
-for_begins_reads : (n : ℕ) (ts : List Terminal) (m : Place) → mark_at operator.Semicolon ts ≡ m → (y : ForTree × List Terminal) → for_begins n ts m ≡ Ok y → ReadsFor n ts y
+for_begins_reads : (n : ℕ) (ts : List Terminal) (m : MarkAhead) → mark_at operator.Semicolon ts ≡ m → (y : ForTree × List Terminal) → for_begins n ts m ≡ Ok y → ReadsFor n ts y
 for_begins_reads n ts (Some s) at y e = clauses_sound n None tt (omega arith) ts ts refl (Some s) at y e
 for_begins_reads n ts None at y e =
     let w = bind_ok (exprs_at n true ts) (λ x. for_from n x.0 x.1 (mark_at operator.OpenBrace x.1)) y e in
     for_from_reads n ts w.0 (front_sound n true ts w.0 w.1) (mark_at operator.OpenBrace w.0.1) refl y w.2
 
-for_first_reads : (n : ℕ) (ts : List Terminal) (m : Place) (y : ForTree × List Terminal) → for_first n ts m ≡ Ok y → ReadsFor n ts y
+for_first_reads : (n : ℕ) (ts : List Terminal) (m : MarkAhead) (y : ForTree × List Terminal) → for_first n ts m ≡ Ok y → ReadsFor n ts y
 for_first_reads n ts (Some a) y e =
     let same : (Forever, ts) ≡ y = cc in
     subst (ReadsFor n ts) same (record { spelled_as = refl; wf = tt; low = omega arith })

@@ -11,9 +11,9 @@ use Rattle.go_tree_nodes.specs.Trees.{Separated, One, Then, ExprTree, Named, Sim
 use Rattle.go_tree_nodes.specs.Spelling.{mark, spell_idents, spell, spell_exprs, spell_simple}
 use Rattle.go_tree_nodes.specs.Rules.{is_step, is_update, Wf, Wf_exprs, Wf_simple}
 use Rattle.go_tree_nodes.specs.Heights.{height, exprs_height, simple_height}
-use Rattle.go_parse_types.specs.Marks.{TooHigh, ◌>>=◌, Place, need, mark_at, mark_that}
-use Rattle.go_parse_exprs.specs.ExprReading.{expr_at, exprs_at}
-use Rattle.go_parse_stmts.specs.StmtReading.{single, name_of, names_then, names_one, names_more, names_of, alone_by, update_by, step_by, assign_by, define_by, simple_by, simple_at, simple_from}
+use Rattle.go_parse_types.specs.mirrors.Marks.{TooHigh, ◌>>=◌, MarkAhead, need, mark_at, mark_that}
+use Rattle.go_parse_exprs.specs.mirrors.ExprReading.{expr_at, exprs_at}
+use Rattle.go_parse_stmts.specs.mirrors.StmtReading.{single, name_of, names_then, names_one, names_more, names_of, alone_by, update_by, step_by, assign_by, define_by, simple_by, simple_at, simple_from}
 use Rattle.go_parse_types.proofs.Marks.{mark_was, mark_that_was, bind_ok, need_ok, AgreesAt, bind_agrees, agrees_along}
 use Rattle.go_parse_types.proofs.Lists.{ReadsItem}
 use Rattle.go_parse_exprs.proofs.ExprFound.{expr_complete}
@@ -192,7 +192,7 @@ step_reads b header ts x r (Some o) at y e =
     let path : ts ≡ (spell w.0 ++ (sign ∷ [])) ++ o.2 = q.spelled_as ∙ ap (λ l. spell w.0 ++ l) m.0 ∙ sym (append_assoc (spell w.0) (sign ∷ []) o.2) in
     subst (ReadsSimple (suc b) header ts) same (record { spelled_as = path; wf = (m.1, q.wf); low = omega (arith, q.low) })
 
-assign_reads : (b : ℕ) (header : Bool) (ts : List Terminal) (x : Separated ExprTree × List Terminal) → ReadsFront b header ts x → (m : Place) → mark_at operator.Assign x.1 ≡ m → (y : SimpleTree × List Terminal) → assign_by b header x.0 x.1 m ≡ Ok y → ReadsSimple (suc b) header ts y
+assign_reads : (b : ℕ) (header : Bool) (ts : List Terminal) (x : Separated ExprTree × List Terminal) → ReadsFront b header ts x → (m : MarkAhead) → mark_at operator.Assign x.1 ≡ m → (y : SimpleTree × List Terminal) → assign_by b header x.0 x.1 m ≡ Ok y → ReadsSimple (suc b) header ts y
 assign_reads b header ts x r None at y e = step_reads b header ts x r (mark_that is_step x.1) refl y e
 assign_reads b header ts x r (Some s) at y e =
     let w = bind_ok (exprs_at b header s.1) (λ z. Ok (Assign x.0 s.0 z.0, z.1)) y e in
@@ -202,7 +202,7 @@ assign_reads b header ts x r (Some s) at y e =
     let path : ts ≡ (spell_exprs x.0 ++ (sign ∷ spell_exprs w.0.0)) ++ w.0.1 = r.spelled_as ∙ ap (λ l. spell_exprs x.0 ++ l) (mark_was operator.Assign x.1 s at ∙ ap (λ l. sign ∷ l) q.spelled) ∙ sym (append_assoc (spell_exprs x.0) (sign ∷ spell_exprs w.0.0) w.0.1) in
     subst (ReadsSimple (suc b) header ts) same (record { spelled_as = path; wf = (r.wf, q.wf); low = omega (arith, r.low, q.low) })
 
-define_reads : (b : ℕ) (header : Bool) (ts : List Terminal) (x : Separated ExprTree × List Terminal) → ReadsFront b header ts x → (m : Place) → mark_at operator.Define x.1 ≡ m → (y : SimpleTree × List Terminal) → define_by b header x.0 x.1 m ≡ Ok y → ReadsSimple (suc b) header ts y
+define_reads : (b : ℕ) (header : Bool) (ts : List Terminal) (x : Separated ExprTree × List Terminal) → ReadsFront b header ts x → (m : MarkAhead) → mark_at operator.Define x.1 ≡ m → (y : SimpleTree × List Terminal) → define_by b header x.0 x.1 m ≡ Ok y → ReadsSimple (suc b) header ts y
 define_reads b header ts x r None at y e = assign_reads b header ts x r (mark_at operator.Assign x.1) refl y e
 define_reads b header ts x r (Some s) at y e =
     let n = bind_ok (need (names_of x.0)) (λ xs. (exprs_at b header s.1 >>= λ z. Ok (Define xs s.0 z.0, z.1))) y e in

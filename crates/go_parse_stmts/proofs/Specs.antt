@@ -7,8 +7,8 @@ use Rattle.go_tree_nodes.specs.Trees.{Specs, Single, Group}
 use Rattle.go_tree_nodes.specs.Spelling.{mark, spell_specs_of, spell_specs}
 use Rattle.go_tree_nodes.specs.Rules.{Wf_specs}
 use Rattle.go_tree_nodes.specs.Heights.{specs_height, group_height}
-use Rattle.go_parse_types.specs.Marks.{◌>>=◌, Reading, Place, mark_at, list_go}
-use Rattle.go_parse_stmts.specs.StmtReading.{group_by, specs_by, specs_at}
+use Rattle.go_parse_types.specs.mirrors.Marks.{◌>>=◌, Reading, MarkAhead, mark_at, list_go}
+use Rattle.go_parse_stmts.specs.mirrors.StmtReading.{group_by, specs_by, specs_at}
 use Rattle.go_parse_types.proofs.Marks.{mark_was, bind_ok, AgreesAt, bind_agrees, agrees_along}
 use Rattle.go_parse_types.proofs.Lists.{spell_list, list_spelled, FoundItem, list_complete, ReadsItem, ItemsRead, ReadsList, list_sound}
 
@@ -39,7 +39,7 @@ specs_complete A spec spelled b high P rest found (Group first xs last) wf =
 pub reads_no_longer : (A : Type 0) (spelled : A → List Terminal) (high : A → ℕ) (P : A → Type 0) (b : ℕ) (ts : List Terminal) (x : A × List Terminal) → ReadsItem A spelled high P b ts x → length x.1 ≤ length ts
 reads_no_longer A spelled high P b ts x r = omega (arith, ap length r.spelled_as, length-append (spelled x.0) x.1)
 
-group_reads : (A : Type 0) (spelled : A → List Terminal) (high : A → ℕ) (P : A → Type 0) (b : ℕ) (first : Span) (ts : List Terminal) (x : List (A × Option Span) × List Terminal) → ReadsList A spelled operator.Semicolon high P b ts x → (m : Place) → mark_at operator.CloseParen x.1 ≡ m → (y : Specs A × List Terminal) → group_by first x.0 m ≡ Ok y → ReadsItem (Specs A) (spell_specs spelled) (specs_height high) (Wf_specs P) b (mark operator.OpenParen first ∷ ts) y
+group_reads : (A : Type 0) (spelled : A → List Terminal) (high : A → ℕ) (P : A → Type 0) (b : ℕ) (first : Span) (ts : List Terminal) (x : List (A × Option Span) × List Terminal) → ReadsList A spelled operator.Semicolon high P b ts x → (m : MarkAhead) → mark_at operator.CloseParen x.1 ≡ m → (y : Specs A × List Terminal) → group_by first x.0 m ≡ Ok y → ReadsItem (Specs A) (spell_specs spelled) (specs_height high) (Wf_specs P) b (mark operator.OpenParen first ∷ ts) y
 group_reads A spelled high P b first ts x r None at y e = cc
 group_reads A spelled high P b first ts x r (Some z) at y e =
     let same : (Group first x.0 z.0, z.1) ≡ y = cc in
@@ -49,7 +49,7 @@ group_reads A spelled high P b first ts x r (Some z) at y e =
     r.spelled_as ∙ ap (λ l. l ++ x.1) (list_spelled spelled x.0) ∙ ap (λ l. spell_specs_of spelled x.0 ++ l) (mark_was operator.CloseParen x.1 z at) ∙ sym (append_assoc (spell_specs_of spelled x.0) (close ∷ []) z.1) in
     subst (ReadsItem (Specs A) (spell_specs spelled) (specs_height high) (Wf_specs P) b (front ∷ ts)) same (record { spelled_as = ap (λ l. front ∷ l) path; wf = r.wf; low = r.low })
 
-specs_by_reads : (A : Type 0) (spec : List Terminal → Reading A) (spelled : A → List Terminal) (high : A → ℕ) (P : A → Type 0) (b : ℕ) → ItemsRead A spelled high P b spec → (ts : List Terminal) (m : Place) → mark_at operator.OpenParen ts ≡ m → (y : Specs A × List Terminal) → specs_by spec ts m ≡ Ok y → ReadsItem (Specs A) (spell_specs spelled) (specs_height high) (Wf_specs P) b ts y
+specs_by_reads : (A : Type 0) (spec : List Terminal → Reading A) (spelled : A → List Terminal) (high : A → ℕ) (P : A → Type 0) (b : ℕ) → ItemsRead A spelled high P b spec → (ts : List Terminal) (m : MarkAhead) → mark_at operator.OpenParen ts ≡ m → (y : Specs A × List Terminal) → specs_by spec ts m ≡ Ok y → ReadsItem (Specs A) (spell_specs spelled) (specs_height high) (Wf_specs P) b ts y
 specs_by_reads A spec spelled high P b ih ts None at y e =
     let w = bind_ok (spec ts) (λ x. Ok (Single x.0, x.1)) y e in
     let r = ih ts w.0 w.1 in

@@ -9,9 +9,9 @@ use Rattle.go_tree_nodes.specs.Trees.{Separated, ExprTree, ValueTree, SimpleTree
 use Rattle.go_tree_nodes.specs.Spelling.{mark, spell_some, spell_value_spec, spell_specs, spell_exprs, spell_value, spell_simple, spell_if, spell_for, spell_stmt, spell_else, spell_lines}
 use Rattle.go_tree_nodes.specs.Rules.{MayEnd, Wf_stmt, Wf_branch, Wf_else, Wf_lines}
 use Rattle.go_tree_nodes.specs.Heights.{exprs_height, value_height, simple_height, if_height, for_height, stmt_height, branch_height, else_height, lines_height}
-use Rattle.go_parse_types.specs.Marks.{◌>>=◌, Reading, Place, mark_at, word_at}
-use Rattle.go_parse_exprs.specs.ExprReading.{exprs_at}
-use Rattle.go_parse_stmts.specs.StmtReading.{value_at, simple_at, if_at, for_at, ends_here, returned, Braced, close_braces, braced, else_by, by_simple, as_block, by_block, by_for, by_if, by_continue, by_break, by_return, by_value, last_by, line_by, lines_by, lines_go, stmt_at, block_at, branch_at}
+use Rattle.go_parse_types.specs.mirrors.Marks.{◌>>=◌, Reading, MarkAhead, mark_at, keyword_at}
+use Rattle.go_parse_exprs.specs.mirrors.ExprReading.{exprs_at}
+use Rattle.go_parse_stmts.specs.mirrors.StmtReading.{value_at, simple_at, if_at, for_at, ends_here, returned, Braced, close_braces, braced, else_by, by_simple, as_block, by_block, by_for, by_if, by_continue, by_break, by_return, by_value, last_by, line_by, lines_by, lines_go, stmt_at, block_at, branch_at}
 use Rattle.go_parse_types.proofs.Marks.{mark_was, AgreesAt, bind_agrees, agrees_along}
 use Rattle.go_parse_exprs.proofs.ExprLists.{exprs_complete}
 use Rattle.go_parse_stmts.proofs.Ends.{Ends, ends_semicolon, ends_brace, exprs_begin, simple_begins}
@@ -51,7 +51,7 @@ last_found (For k h a ls e) z after may = refl
 semicolon_in_front : (P : List Terminal → Type 0) → ((s : Span) (ts : List Terminal) → P (mark operator.Semicolon s ∷ ts)) → (ts : List Terminal) → is_some (mark_at operator.Semicolon ts) ≡ true → P ts
 semicolon_in_front P each ts h = by (mark_at operator.Semicolon ts) refl h
   where
-    by : (m : Place) → mark_at operator.Semicolon ts ≡ m → is_some m ≡ true → P ts
+    by : (m : MarkAhead) → mark_at operator.Semicolon ts ≡ m → is_some m ≡ true → P ts
     by None at h = cc
     by (Some m) at h = subst P (sym (mark_was operator.Semicolon ts m at)) (each m.0 m.1)
 
@@ -98,7 +98,7 @@ abbrev pub FoundBranch : BranchTree → Type 0
 FoundBranch t = (b : ℕ) (rest : List Terminal) → Wf_branch t → Ends false rest → AgreesAt (branch_at b (if_of t) (behind_if t ++ rest)) (Ok (t, rest)) b (branch_height t)
 
 abbrev pub FoundElse : ElseTree → Type 0
-FoundElse e = (b : ℕ) (rest : List Terminal) → Wf_else e → Ends false rest → AgreesAt (else_by (block_at b) (branch_at b) (spell_else e ++ rest) (word_at keyword.Else (spell_else e ++ rest))) (Ok (e, rest)) b (else_height e)
+FoundElse e = (b : ℕ) (rest : List Terminal) → Wf_else e → Ends false rest → AgreesAt (else_by (block_at b) (branch_at b) (spell_else e ++ rest) (keyword_at keyword.Else (spell_else e ++ rest))) (Ok (e, rest)) b (else_height e)
 
 -- the statements of a block that is the statement, by reading with this budget
 abbrev lines_in : ℕ → List Terminal → Reading Lines
@@ -249,14 +249,14 @@ branch_found k head first ls last otherwise lines rest_found (suc b) rest wf end
     let h = branch_height t in
     let is = append_assoc (spell_if head) (mark operator.OpenBrace first ∷ (spell_lines ls ++ (brace ∷ spell_else otherwise))) rest ∙ ap (λ l. spell_if head ++ (mark operator.OpenBrace first ∷ l)) (append_assoc (spell_lines ls) (brace ∷ spell_else otherwise) rest) in
     let made : IfTree → Braced → ElseTree × List Terminal → Reading BranchTree = λ head x e. Ok (Branch k head x.0 x.1 x.2 e.0, e.1) in
-    let more = λ (head : IfTree) (x : Braced × List Terminal). (else_by (block_at b) (branch_at b) x.1 (word_at keyword.Else x.1) >>= made head x.0) in
+    let more = λ (head : IfTree) (x : Braced × List Terminal). (else_by (block_at b) (branch_at b) x.1 (keyword_at keyword.Else x.1) >>= made head x.0) in
     let go = λ (head : IfTree × List Terminal). (braced (block_at b) head.1 >>= more head.0) in
     agrees_along _ _ _ (suc b) h (ap (λ ts. if_at b ts >>= go) is)
     (bind_agrees (if_at b (spell_if head ++ body)) (head, body) go goal b (if_height head) (suc b) h
     (if_complete head b first (spell_lines ls ++ (brace ∷ tail)) wf.0)
     (bind_agrees (braced (block_at b) body) ((first, ls, last), tail) (more head) goal b (lines_height ls + 1) (suc b) h
     (braced_found (block_at b) ls first last b (lines_height ls + 1) tail (block_found ls lines b last tail wf.1))
-    (bind_agrees (else_by (block_at b) (branch_at b) tail (word_at keyword.Else tail)) (otherwise, rest) (made head (first, ls, last)) goal b (else_height otherwise) (suc b) h
+    (bind_agrees (else_by (block_at b) (branch_at b) tail (keyword_at keyword.Else tail)) (otherwise, rest) (made head (first, ls, last)) goal b (else_height otherwise) (suc b) h
     (rest_found b rest wf.2 ends) (inl refl) (λ g. omega arith))
     (λ g. omega arith))
     (λ g. omega arith))

@@ -9,9 +9,9 @@ use Rattle.go_tree_nodes.specs.Trees.{IfTree, ForTree, StmtTree, BranchTree, Els
 use Rattle.go_tree_nodes.specs.Spelling.{mark, word, spell_if, spell_for, spell_stmt, spell_branch, spell_else, spell_lines}
 use Rattle.go_tree_nodes.specs.Rules.{MayEnd, Wf_stmt, Wf_branch, Wf_else, Wf_lines}
 use Rattle.go_tree_nodes.specs.Heights.{stmt_height, branch_height, else_height, lines_height}
-use Rattle.go_parse_types.specs.Marks.{◌>>=◌, Reading, Place, need, mark_at, word_at}
-use Rattle.go_parse_exprs.specs.ExprReading.{exprs_at}
-use Rattle.go_parse_stmts.specs.StmtReading.{value_at, value_word, simple_at, if_at, for_at, ends_here, returned, Braced, close_braces, braced, else_if, else_block, else_by, branch_by, for_by, by_simple, as_block, by_block, by_for, by_if, by_continue, by_break, by_return, by_value, last_by, line_by, lines_by, lines_go, stmt_at, block_at, branch_at}
+use Rattle.go_parse_types.specs.mirrors.Marks.{◌>>=◌, Reading, MarkAhead, need, mark_at, keyword_at}
+use Rattle.go_parse_exprs.specs.mirrors.ExprReading.{exprs_at}
+use Rattle.go_parse_stmts.specs.mirrors.StmtReading.{value_at, value_word, simple_at, if_at, for_at, ends_here, returned, Braced, close_braces, braced, else_if, else_block, else_by, branch_by, for_by, by_simple, as_block, by_block, by_for, by_if, by_continue, by_break, by_return, by_value, last_by, line_by, lines_by, lines_go, stmt_at, block_at, branch_at}
 use Rattle.go_parse_types.proofs.Marks.{mark_was, word_was, bind_ok, need_ok}
 use Rattle.go_parse_types.proofs.Lists.{ReadsItem}
 use Rattle.go_parse_exprs.proofs.ExprLists.{exprs_sound}
@@ -56,7 +56,7 @@ BranchesRead b branch = (k : Span) (ts : List Terminal) (x : BranchTree × List 
 
 -- Braces.
 
-close_reads : (b : ℕ) (first : Span) (ts : List Terminal) (x : Lines × List Terminal) → ReadsLines b ts x → (m : Place) → mark_at operator.CloseBrace x.1 ≡ m → (y : Braced × List Terminal) → close_braces first x.0 m ≡ Ok y → ReadsBraced b (mark operator.OpenBrace first ∷ ts) y × (y.0.1 ≡ x.0)
+close_reads : (b : ℕ) (first : Span) (ts : List Terminal) (x : Lines × List Terminal) → ReadsLines b ts x → (m : MarkAhead) → mark_at operator.CloseBrace x.1 ≡ m → (y : Braced × List Terminal) → close_braces first x.0 m ≡ Ok y → ReadsBraced b (mark operator.OpenBrace first ∷ ts) y × (y.0.1 ≡ x.0)
 close_reads b first ts x r None at y e = cc
 close_reads b first ts x r (Some z) at y e =
     let same : ((first, x.0, z.0), z.1) ≡ y = cc in
@@ -83,7 +83,7 @@ block_reads b block ih ts y e =
 
 -- Branches.
 
-else_if_reads : (b : ℕ) (branch : Span → List Terminal → Reading BranchTree) → BranchesRead b branch → (k : Span) (ts : List Terminal) (m : Place) → word_at keyword.If ts ≡ m → (y : ElseTree × List Terminal) → else_if k branch m ≡ Ok y → ReadsElse b (word keyword.Else k ∷ ts) y
+else_if_reads : (b : ℕ) (branch : Span → List Terminal → Reading BranchTree) → BranchesRead b branch → (k : Span) (ts : List Terminal) (m : MarkAhead) → keyword_at keyword.If ts ≡ m → (y : ElseTree × List Terminal) → else_if k branch m ≡ Ok y → ReadsElse b (word keyword.Else k ∷ ts) y
 else_if_reads b branch ih k ts None at y e = cc
 else_if_reads b branch ih k ts (Some i) at y e =
     let w = bind_ok (branch i.0 i.1) (λ x. Ok (ElseIf k x.0, x.1)) y e in
@@ -92,8 +92,8 @@ else_if_reads b branch ih k ts (Some i) at y e =
     let front = word keyword.Else k in
     subst (ReadsElse b (front ∷ ts)) same (record { spelled_as = ap (λ l. front ∷ l) (word_was keyword.If ts i at ∙ r.spelled_as); wf = r.wf; low = r.low })
 
-else_block_reads : (b : ℕ) (block : List Terminal → Reading Lines) → BlocksRead b block → (branch : Span → List Terminal → Reading BranchTree) → BranchesRead b branch → (k : Span) (ts : List Terminal) (m : Place) → (y : ElseTree × List Terminal) → else_block block k branch ts m ≡ Ok y → ReadsElse b (word keyword.Else k ∷ ts) y
-else_block_reads b block blocks branch ih k ts None y e = else_if_reads b branch ih k ts (word_at keyword.If ts) refl y e
+else_block_reads : (b : ℕ) (block : List Terminal → Reading Lines) → BlocksRead b block → (branch : Span → List Terminal → Reading BranchTree) → BranchesRead b branch → (k : Span) (ts : List Terminal) (m : MarkAhead) → (y : ElseTree × List Terminal) → else_block block k branch ts m ≡ Ok y → ReadsElse b (word keyword.Else k ∷ ts) y
+else_block_reads b block blocks branch ih k ts None y e = else_if_reads b branch ih k ts (keyword_at keyword.If ts) refl y e
 else_block_reads b block blocks branch ih k ts (Some a) y e =
     let w = bind_ok (braced block ts) (λ x. Ok (ElseBlock k x.0.0 x.0.1 x.0.2, x.1)) y e in
     let r = block_reads b block blocks ts w.0 w.1 in
@@ -101,7 +101,7 @@ else_block_reads b block blocks branch ih k ts (Some a) y e =
     let front = word keyword.Else k in
     subst (ReadsElse b (front ∷ ts)) same (record { spelled_as = ap (λ l. front ∷ l) r.0.spelled_as; wf = r.0.wf; low = r.1 })
 
-else_reads : (b : ℕ) (block : List Terminal → Reading Lines) → BlocksRead b block → (branch : Span → List Terminal → Reading BranchTree) → BranchesRead b branch → (ts : List Terminal) (m : Place) → word_at keyword.Else ts ≡ m → (y : ElseTree × List Terminal) → else_by block branch ts m ≡ Ok y → ReadsElse b ts y
+else_reads : (b : ℕ) (block : List Terminal → Reading Lines) → BlocksRead b block → (branch : Span → List Terminal → Reading BranchTree) → BranchesRead b branch → (ts : List Terminal) (m : MarkAhead) → keyword_at keyword.Else ts ≡ m → (y : ElseTree × List Terminal) → else_by block branch ts m ≡ Ok y → ReadsElse b ts y
 else_reads b block blocks branch ih ts None at y e =
     let same : (NoElse, ts) ≡ y = cc in
     subst (ReadsElse b ts) same (record { spelled_as = refl; wf = tt; low = omega arith })
@@ -111,13 +111,13 @@ else_reads b block blocks branch ih ts (Some k) at y e =
 branch_reads : (b : ℕ) (block : List Terminal → Reading Lines) → BlocksRead b block → (branch : Span → List Terminal → Reading BranchTree) → BranchesRead b branch → (k : Span) (ts : List Terminal) (y : BranchTree × List Terminal) → branch_by b block branch k ts ≡ Ok y → ReadsBranch (suc b) k ts y
 branch_reads b block blocks branch ih k ts y e =
     let made : IfTree → Braced → ElseTree × List Terminal → Reading BranchTree = λ head x e. Ok (Branch k head x.0 x.1 x.2 e.0, e.1) in
-    let more = λ (head : IfTree) (x : Braced × List Terminal). (else_by block branch x.1 (word_at keyword.Else x.1) >>= made head x.0) in
+    let more = λ (head : IfTree) (x : Braced × List Terminal). (else_by block branch x.1 (keyword_at keyword.Else x.1) >>= made head x.0) in
     let h = bind_ok (if_at b ts) (λ head. braced block head.1 >>= more head.0) y e in
     let x = bind_ok (braced block h.0.1) (more h.0.0) y h.2 in
-    let o = bind_ok (else_by block branch x.0.1 (word_at keyword.Else x.0.1)) (made h.0.0 x.0.0) y x.2 in
+    let o = bind_ok (else_by block branch x.0.1 (keyword_at keyword.Else x.0.1)) (made h.0.0 x.0.0) y x.2 in
     let p = if_sound b ts h.0 h.1 in
     let q = block_reads b block blocks h.0.1 x.0 x.1 in
-    let r = else_reads b block blocks branch ih x.0.1 (word_at keyword.Else x.0.1) refl o.0 o.1 in
+    let r = else_reads b block blocks branch ih x.0.1 (keyword_at keyword.Else x.0.1) refl o.0 o.1 in
     let first = mark operator.OpenBrace x.0.0.0 in
     let last = mark operator.CloseBrace x.0.0.2 in
     let lines = spell_lines x.0.0.1 in
@@ -142,7 +142,7 @@ for_reads b block blocks k ts y e =
     let path : ts ≡ (spell_for h.0.0 ++ spell_braced x.0.0) ++ x.0.1 = p.spelled_as ∙ ap (λ l. spell_for h.0.0 ++ l) q.0.spelled_as ∙ sym (append_assoc (spell_for h.0.0) (spell_braced x.0.0) x.0.1) in
     subst (ReadsStmt (suc b) (word keyword.For k ∷ ts)) same (record { spelled_as = ap (λ l. word keyword.For k ∷ l) path; wf = (p.wf, q.0.wf); low = omega (arith, p.low, q.1) })
 
-by_simple_reads : (b : ℕ) (ts : List Terminal) (m : Place) (y : StmtTree × List Terminal) → by_simple b ts m ≡ Ok y → ReadsStmt (suc b) ts y
+by_simple_reads : (b : ℕ) (ts : List Terminal) (m : MarkAhead) (y : StmtTree × List Terminal) → by_simple b ts m ≡ Ok y → ReadsStmt (suc b) ts y
 by_simple_reads b ts (Some s) y e =
     let same : (Empty, ts) ≡ y = cc in
     subst (ReadsStmt (suc b) ts) same (record { spelled_as = refl; wf = tt; low = omega arith })
@@ -152,7 +152,7 @@ by_simple_reads b ts None y e =
     let same : (Simple w.0.0, w.0.1) ≡ y = cc (w.2) in
     subst (ReadsStmt (suc b) ts) same (record { spelled_as = r.spelled_as; wf = r.wf; low = r.low })
 
-by_block_reads : (b : ℕ) (lines : List Terminal → Reading Lines) → LinesRead b lines → (ts : List Terminal) (m : Place) (y : StmtTree × List Terminal) → by_block b lines ts m ≡ Ok y → ReadsStmt (suc b) ts y
+by_block_reads : (b : ℕ) (lines : List Terminal → Reading Lines) → LinesRead b lines → (ts : List Terminal) (m : MarkAhead) (y : StmtTree × List Terminal) → by_block b lines ts m ≡ Ok y → ReadsStmt (suc b) ts y
 by_block_reads b lines ih ts None y e = by_simple_reads b ts (mark_at operator.Semicolon ts) y e
 by_block_reads b lines ih ts (Some a) y e =
     let w = bind_ok (braced lines ts) as_block y e in
@@ -166,27 +166,27 @@ record Parts (b : ℕ) (lines block : List Terminal → Reading Lines) (branch :
   pub blocks_read : BlocksRead b block
   pub branches_read : BranchesRead b branch
 
-by_for_reads : (b : ℕ) (lines block : List Terminal → Reading Lines) (branch : Span → List Terminal → Reading BranchTree) → Parts b lines block branch → (ts : List Terminal) (m : Place) → word_at keyword.For ts ≡ m → (y : StmtTree × List Terminal) → by_for b lines block ts m ≡ Ok y → ReadsStmt (suc b) ts y
+by_for_reads : (b : ℕ) (lines block : List Terminal → Reading Lines) (branch : Span → List Terminal → Reading BranchTree) → Parts b lines block branch → (ts : List Terminal) (m : MarkAhead) → keyword_at keyword.For ts ≡ m → (y : StmtTree × List Terminal) → by_for b lines block ts m ≡ Ok y → ReadsStmt (suc b) ts y
 by_for_reads b lines block branch ps ts None at y e = by_block_reads b lines ps.lines_read ts (mark_at operator.OpenBrace ts) y e
 by_for_reads b lines block branch ps ts (Some k) at y e =
     subst (λ ts. ReadsStmt (suc b) ts y) (sym (word_was keyword.For ts k at)) (for_reads b block ps.blocks_read k.0 k.1 y e)
 
-by_if_reads : (b : ℕ) (lines block : List Terminal → Reading Lines) (branch : Span → List Terminal → Reading BranchTree) → Parts b lines block branch → (ts : List Terminal) (m : Place) → word_at keyword.If ts ≡ m → (y : StmtTree × List Terminal) → by_if b lines block branch ts m ≡ Ok y → ReadsStmt (suc b) ts y
-by_if_reads b lines block branch ps ts None at y e = by_for_reads b lines block branch ps ts (word_at keyword.For ts) refl y e
+by_if_reads : (b : ℕ) (lines block : List Terminal → Reading Lines) (branch : Span → List Terminal → Reading BranchTree) → Parts b lines block branch → (ts : List Terminal) (m : MarkAhead) → keyword_at keyword.If ts ≡ m → (y : StmtTree × List Terminal) → by_if b lines block branch ts m ≡ Ok y → ReadsStmt (suc b) ts y
+by_if_reads b lines block branch ps ts None at y e = by_for_reads b lines block branch ps ts (keyword_at keyword.For ts) refl y e
 by_if_reads b lines block branch ps ts (Some k) at y e =
     let w = bind_ok (branch_by b block branch k.0 k.1) (λ x. Ok (If x.0, x.1)) y e in
     let r = branch_reads b block ps.blocks_read branch ps.branches_read k.0 k.1 w.0 w.1 in
     let same : (If w.0.0, w.0.1) ≡ y = cc (w.2) in
     subst (ReadsStmt (suc b) ts) same (record { spelled_as = word_was keyword.If ts k at ∙ r.spelled_as; wf = r.wf; low = r.low })
 
-by_continue_reads : (b : ℕ) (lines block : List Terminal → Reading Lines) (branch : Span → List Terminal → Reading BranchTree) → Parts b lines block branch → (ts : List Terminal) (m : Place) → word_at keyword.Continue ts ≡ m → (y : StmtTree × List Terminal) → by_continue b lines block branch ts m ≡ Ok y → ReadsStmt (suc b) ts y
-by_continue_reads b lines block branch ps ts None at y e = by_if_reads b lines block branch ps ts (word_at keyword.If ts) refl y e
+by_continue_reads : (b : ℕ) (lines block : List Terminal → Reading Lines) (branch : Span → List Terminal → Reading BranchTree) → Parts b lines block branch → (ts : List Terminal) (m : MarkAhead) → keyword_at keyword.Continue ts ≡ m → (y : StmtTree × List Terminal) → by_continue b lines block branch ts m ≡ Ok y → ReadsStmt (suc b) ts y
+by_continue_reads b lines block branch ps ts None at y e = by_if_reads b lines block branch ps ts (keyword_at keyword.If ts) refl y e
 by_continue_reads b lines block branch ps ts (Some k) at y e =
     let same : (Continue k.0, k.1) ≡ y = cc in
     subst (ReadsStmt (suc b) ts) same (record { spelled_as = word_was keyword.Continue ts k at; wf = tt; low = omega arith })
 
-by_break_reads : (b : ℕ) (lines block : List Terminal → Reading Lines) (branch : Span → List Terminal → Reading BranchTree) → Parts b lines block branch → (ts : List Terminal) (m : Place) → word_at keyword.Break ts ≡ m → (y : StmtTree × List Terminal) → by_break b lines block branch ts m ≡ Ok y → ReadsStmt (suc b) ts y
-by_break_reads b lines block branch ps ts None at y e = by_continue_reads b lines block branch ps ts (word_at keyword.Continue ts) refl y e
+by_break_reads : (b : ℕ) (lines block : List Terminal → Reading Lines) (branch : Span → List Terminal → Reading BranchTree) → Parts b lines block branch → (ts : List Terminal) (m : MarkAhead) → keyword_at keyword.Break ts ≡ m → (y : StmtTree × List Terminal) → by_break b lines block branch ts m ≡ Ok y → ReadsStmt (suc b) ts y
+by_break_reads b lines block branch ps ts None at y e = by_continue_reads b lines block branch ps ts (keyword_at keyword.Continue ts) refl y e
 by_break_reads b lines block branch ps ts (Some k) at y e =
     let same : (Break k.0, k.1) ≡ y = cc in
     subst (ReadsStmt (suc b) ts) same (record { spelled_as = word_was keyword.Break ts k at; wf = tt; low = omega arith })
@@ -201,13 +201,13 @@ return_reads b s ts false y e =
     let same : (Return s (Some w.0.0), w.0.1) ≡ y = cc (w.2) in
     subst (ReadsStmt (suc b) (word keyword.Return s ∷ ts)) same (record { spelled_as = ap (λ l. word keyword.Return s ∷ l) r.spelled; wf = r.wf; low = omega (arith, r.low) })
 
-by_return_reads : (b : ℕ) (lines block : List Terminal → Reading Lines) (branch : Span → List Terminal → Reading BranchTree) → Parts b lines block branch → (ts : List Terminal) (m : Place) → word_at keyword.Return ts ≡ m → (y : StmtTree × List Terminal) → by_return b lines block branch ts m ≡ Ok y → ReadsStmt (suc b) ts y
-by_return_reads b lines block branch ps ts None at y e = by_break_reads b lines block branch ps ts (word_at keyword.Break ts) refl y e
+by_return_reads : (b : ℕ) (lines block : List Terminal → Reading Lines) (branch : Span → List Terminal → Reading BranchTree) → Parts b lines block branch → (ts : List Terminal) (m : MarkAhead) → keyword_at keyword.Return ts ≡ m → (y : StmtTree × List Terminal) → by_return b lines block branch ts m ≡ Ok y → ReadsStmt (suc b) ts y
+by_return_reads b lines block branch ps ts None at y e = by_break_reads b lines block branch ps ts (keyword_at keyword.Break ts) refl y e
 by_return_reads b lines block branch ps ts (Some s) at y e =
     subst (λ ts. ReadsStmt (suc b) ts y) (sym (word_was keyword.Return ts s at)) (return_reads b s.0 s.1 (ends_here s.1) y e)
 
 by_value_reads : (b : ℕ) (lines block : List Terminal → Reading Lines) (branch : Span → List Terminal → Reading BranchTree) → Parts b lines block branch → (ts : List Terminal) (v : Option (ValueKind × Span × List Terminal)) → value_word ts ≡ v → (y : StmtTree × List Terminal) → by_value b lines block branch ts v ≡ Ok y → ReadsStmt (suc b) ts y
-by_value_reads b lines block branch ps ts None at y e = by_return_reads b lines block branch ps ts (word_at keyword.Return ts) refl y e
+by_value_reads b lines block branch ps ts None at y e = by_return_reads b lines block branch ps ts (keyword_at keyword.Return ts) refl y e
 by_value_reads b lines block branch ps ts (Some v) at y e =
     let w = bind_ok (value_at b v.0 v.1 v.2) (λ x. Ok (Declare x.0, x.1)) y e in
     let r = value_sound b v.0 v.1 v.2 w.0 w.1 in
@@ -220,7 +220,7 @@ last_reads : (b : ℕ) (c : StmtTree) (ts rest : List Terminal) → ReadsStmt b 
 last_reads b c ts rest r may y same =
     subst (ReadsLines b ts) same (record { spelled_as = r.spelled_as ∙ sym (append_assoc (spell_stmt c) [] rest); wf = (r.wf, may, tt); low = omega (arith, r.low) })
 
-last_was : (c : StmtTree) (rest : List Terminal) (m : Place) (y : Lines × List Terminal) → last_by c rest m ≡ Ok y → MayEnd c NoLines × ((Line c None NoLines, rest) ≡ y)
+last_was : (c : StmtTree) (rest : List Terminal) (m : MarkAhead) (y : Lines × List Terminal) → last_by c rest m ≡ Ok y → MayEnd c NoLines × ((Line c None NoLines, rest) ≡ y)
 last_was Empty rest m y e = cc
 last_was (Declare v) rest (Some z) y e = (tt, cc)
 last_was (Simple s) rest (Some z) y e = (tt, cc)
@@ -232,7 +232,7 @@ last_was (If t) rest (Some z) y e = (tt, cc)
 last_was (For k h a ls l) rest (Some z) y e = (tt, cc)
 last_was _ rest None y e = cc
 
-line_reads : (b : ℕ) (more : List Terminal → Reading Lines) → LinesRead b more → (c : StmtTree) (ts rest : List Terminal) → ReadsStmt b ts (c, rest) → (m : Place) → mark_at operator.Semicolon rest ≡ m → (y : Lines × List Terminal) → line_by more c rest m ≡ Ok y → ReadsLines b ts y
+line_reads : (b : ℕ) (more : List Terminal → Reading Lines) → LinesRead b more → (c : StmtTree) (ts rest : List Terminal) → ReadsStmt b ts (c, rest) → (m : MarkAhead) → mark_at operator.Semicolon rest ≡ m → (y : Lines × List Terminal) → line_by more c rest m ≡ Ok y → ReadsLines b ts y
 line_reads b more ih c ts rest r None at y e =
     let w = last_was c rest (mark_at operator.CloseBrace rest) y e in
     last_reads b c ts rest r w.0 y w.1
@@ -244,7 +244,7 @@ line_reads b more ih c ts rest r (Some s) at y e =
     let path : ts ≡ (spell_stmt c ++ (semicolon ∷ spell_lines w.0.0)) ++ w.0.1 = r.spelled_as ∙ ap (λ l. spell_stmt c ++ l) (mark_was operator.Semicolon rest s at ∙ ap (λ l. semicolon ∷ l) q.spelled_as) ∙ sym (append_assoc (spell_stmt c) (semicolon ∷ spell_lines w.0.0) w.0.1) in
     subst (ReadsLines b ts) same (record { spelled_as = path; wf = (r.wf, tt, q.wf); low = omega (arith, r.low, q.low) })
 
-lines_by_reads : (b : ℕ) (stmt : List Terminal → Reading StmtTree) → StmtsRead b stmt → (more : List Terminal → Reading Lines) → LinesRead b more → (ts : List Terminal) (m : Place) (y : Lines × List Terminal) → lines_by stmt more ts m ≡ Ok y → ReadsLines b ts y
+lines_by_reads : (b : ℕ) (stmt : List Terminal → Reading StmtTree) → StmtsRead b stmt → (more : List Terminal → Reading Lines) → LinesRead b more → (ts : List Terminal) (m : MarkAhead) (y : Lines × List Terminal) → lines_by stmt more ts m ≡ Ok y → ReadsLines b ts y
 lines_by_reads b stmt ih more next ts (Some z) y e =
     let same : (NoLines, ts) ≡ y = cc in
     subst (ReadsLines b ts) same (record { spelled_as = refl; wf = tt; low = omega arith })

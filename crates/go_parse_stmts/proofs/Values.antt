@@ -12,10 +12,10 @@ use Rattle.go_tree_nodes.specs.Trees.{Separated, One, Then, TypeTree, ExprTree, 
 use Rattle.go_tree_nodes.specs.Spelling.{mark, word, spell_ident, spell_idents, spell_type, spell_exprs, spell_some_type, spell_values, spell_value_spec, spell_specs, keyword_of, spell_value, spell_type_spec, spell_types}
 use Rattle.go_tree_nodes.specs.Rules.{Wf_type, Wf_some_type, Wf_values, HasEnough, Wf_value_spec, Wf_value, Wf_types}
 use Rattle.go_tree_nodes.specs.Heights.{type_height, exprs_height, some_type_height, values_height, value_spec_height, specs_height, value_height, types_height}
-use Rattle.go_parse_types.specs.Marks.{Grammar, ◌>>=◌, Reading, Place, need, mark_at, word_at, name_at, idents_go}
-use Rattle.go_parse_types.specs.TypeReading.{begins_type, type_at}
-use Rattle.go_parse_exprs.specs.ExprReading.{exprs_at}
-use Rattle.go_parse_stmts.specs.StmtReading.{specs_at, type_if, some_type_at, values_by, enough, value_spec, value_spec_by, value_spec_at, value_decl, value_at, value_var, value_const, value_word, type_spec, type_spec_at, type_decl, types_at}
+use Rattle.go_parse_types.specs.mirrors.Marks.{Grammar, ◌>>=◌, Reading, MarkAhead, need, mark_at, keyword_at, name_at, idents_go}
+use Rattle.go_parse_types.specs.mirrors.TypeReading.{begins_type, type_at}
+use Rattle.go_parse_exprs.specs.mirrors.ExprReading.{exprs_at}
+use Rattle.go_parse_stmts.specs.mirrors.StmtReading.{specs_at, type_if, some_type_at, values_by, enough, value_spec, value_spec_by, value_spec_at, value_decl, value_at, value_var, value_const, value_word, type_spec, type_spec_at, type_decl, types_at}
 use Rattle.go_parse_types.proofs.Marks.{mark_was, word_was, name_was, bind_ok, need_ok, AgreesAt, bind_agrees, agrees_along}
 use Rattle.go_parse_types.proofs.Lists.{ReadsItem, ItemsRead, idents_some, idents_complete, idents_sound}
 use Rattle.go_parse_types.proofs.TypeFacts.{type_no_mark, type_begins}
@@ -145,7 +145,7 @@ type_if_reads b ts true x e =
     let same : (Some w.0.0, w.0.1) ≡ x = cc (w.2) in
     subst (ReadsItem (Option TypeTree) spell_some_type some_type_height Wf_some_type b ts) same (record { spelled_as = r.spelled; wf = r.wf; low = r.low })
 
-values_by_reads : (b : ℕ) (ts : List Terminal) (m : Place) → mark_at operator.Assign ts ≡ m → (x : Option (Span × Separated ExprTree) × List Terminal) → values_by b ts m ≡ Ok x → ReadsItem (Option (Span × Separated ExprTree)) spell_values values_height Wf_values b ts x
+values_by_reads : (b : ℕ) (ts : List Terminal) (m : MarkAhead) → mark_at operator.Assign ts ≡ m → (x : Option (Span × Separated ExprTree) × List Terminal) → values_by b ts m ≡ Ok x → ReadsItem (Option (Span × Separated ExprTree)) spell_values values_height Wf_values b ts x
 values_by_reads b ts None at x e =
     let same : (None, ts) ≡ x = cc in
     subst (ReadsItem (Option (Span × Separated ExprTree)) spell_values values_height Wf_values b ts) same (record { spelled_as = refl; wf = tt; low = omega arith })
@@ -208,17 +208,17 @@ value_word_here v rest = of_kind v.kind
     of_kind kinds.Const = refl
     of_kind kinds.Var = refl
 
-var_was : (ts : List Terminal) (p : Place) → word_at keyword.Var ts ≡ p → (w : ValueKind × Span × List Terminal) → value_var p ≡ Some w → ts ≡ word (keyword_of w.0) w.1 ∷ w.2
+var_was : (ts : List Terminal) (p : MarkAhead) → keyword_at keyword.Var ts ≡ p → (w : ValueKind × Span × List Terminal) → value_var p ≡ Some w → ts ≡ word (keyword_of w.0) w.1 ∷ w.2
 var_was ts None at w e = cc
 var_was ts (Some s) at w e =
     let same : (kinds.Var, s.0, s.1) ≡ w = cc in
     word_was keyword.Var ts s at ∙ ap (λ (w : ValueKind × Span × List Terminal). word (keyword_of w.0) w.1 ∷ w.2) same
 
-const_was : (ts : List Terminal) (p : Place) → word_at keyword.Const ts ≡ p → (w : ValueKind × Span × List Terminal) → value_const ts p ≡ Some w → ts ≡ word (keyword_of w.0) w.1 ∷ w.2
-const_was ts None at w e = var_was ts (word_at keyword.Var ts) refl w e
+const_was : (ts : List Terminal) (p : MarkAhead) → keyword_at keyword.Const ts ≡ p → (w : ValueKind × Span × List Terminal) → value_const ts p ≡ Some w → ts ≡ word (keyword_of w.0) w.1 ∷ w.2
+const_was ts None at w e = var_was ts (keyword_at keyword.Var ts) refl w e
 const_was ts (Some s) at w e =
     let same : (kinds.Const, s.0, s.1) ≡ w = cc in
     word_was keyword.Const ts s at ∙ ap (λ (w : ValueKind × Span × List Terminal). word (keyword_of w.0) w.1 ∷ w.2) same
 
 pub value_word_was : (ts : List Terminal) (w : ValueKind × Span × List Terminal) → value_word ts ≡ Some w → ts ≡ word (keyword_of w.0) w.1 ∷ w.2
-value_word_was ts w e = const_was ts (word_at keyword.Const ts) refl w e
+value_word_was ts w e = const_was ts (keyword_at keyword.Const ts) refl w e

@@ -4,11 +4,11 @@
 ghost use Rattle.std.specs.Prelude.{◌≡◌, ◌<◌, ◌^◌};
 ghost use Rattle.go_tree_nodes.specs.Heights.{exprs_height};
 ghost use Rattle.go_tree_nodes.specs.Shapes.{shape_exprs, shape_some_expr, shape_some_simple, shape_if, shape_for};
-ghost use Rattle.go_parse_types.specs.Giving.{Gives};
-ghost use Rattle.go_parse_types.specs.Marks.{mark_at};
-ghost use Rattle.go_parse_stmts.specs.CodeShapes.{init_at, condition_at, test_at, post_at, clauses_at};
-ghost use Rattle.go_parse_stmts.specs.StmtReading.{if_at, for_at};
-ghost use Rattle.go_parse_stmts.specs.StmtReading as reading;
+ghost use Rattle.go_parse_types.specs.mirrors.Giving.{Gives};
+ghost use Rattle.go_parse_types.specs.mirrors.Marks.{mark_at};
+ghost use Rattle.go_parse_stmts.specs.mirrors.CodeShapes.{init_at, condition_at, test_at, post_at, clauses_at};
+ghost use Rattle.go_parse_stmts.specs.mirrors.StmtReading.{if_at, for_at};
+ghost use Rattle.go_parse_stmts.specs.mirrors.StmtReading as reading;
 ghost use Rattle.go_scan_core.specs.declared.kind.Operator.TheVariants as operator;
 
 use crate::simple_stmts::{header_simple, single};
@@ -84,7 +84,7 @@ fn condition<'a>(
     requires { budget < 2 ^ 31 }
     ensures { Gives (λ x. (shape_if x.0, x.1)) result (condition_at budget (shape_some_simple init.simple) init.semicolon ahead.entry) }
 {
-    match expr(alloc, ahead, true, 1, budget) {
+    match expr(alloc, ahead, true, budget) {
         Ok((condition, _, rest)) => {
             let init = Some(init);
             Ok((IfHead { init, condition }, rest))
@@ -109,7 +109,7 @@ fn test<'a>(
     if let Some((semicolon, rest)) = ahead.mark(Operator::Semicolon) {
         return Ok((None, semicolon, rest));
     }
-    let (test, _, rest) = expr(alloc, ahead, true, 1, budget)?;
+    let (test, _, rest) = expr(alloc, ahead, true, budget)?;
     match rest.need_mark(Operator::Semicolon) {
         Ok((semicolon, rest)) => Ok((Some(test), semicolon, rest)),
         Err(stop) => {

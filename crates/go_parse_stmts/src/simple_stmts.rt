@@ -7,17 +7,19 @@ ghost use Rattle.go_tree_nodes.specs.Heights.{exprs_height};
 ghost use Rattle.go_tree_nodes.specs.Rules as rules;
 ghost use Rattle.go_tree_nodes.specs.Shapes.{shape, shape_exprs, shape_simple};
 ghost use Rattle.go_tree_nodes.specs.TypeShapes.{shape_idents};
-ghost use Rattle.go_parse_types.specs.Giving.{Gives};
-ghost use Rattle.go_parse_types.specs.Marks as marks;
-ghost use Rattle.go_parse_types.specs.Marks.{mark_that};
-ghost use Rattle.go_parse_stmts.specs.StmtReading as reading;
-ghost use Rattle.go_parse_stmts.specs.StmtReading.{name_of, names_of, step_by, simple_by, simple_at, simple_from};
+ghost use Rattle.go_parse_types.specs.mirrors.Giving.{Gives, NeverMemory};
+ghost use Rattle.go_parse_types.specs.mirrors.Marks as marks;
+ghost use Rattle.go_parse_types.specs.mirrors.Marks.{mark_that};
+ghost use Rattle.go_parse_stmts.specs.mirrors.StmtReading as reading;
+ghost use Rattle.go_parse_stmts.specs.mirrors.StmtReading.{name_of, names_of, step_by, simple_by, simple_at, simple_from};
 
 use go_parse_exprs::{expr, exprs};
-use go_parse_types::{Ahead, Stop, add};
+use go_parse_types::{Ahead, Stop, add, boxed, fitted};
 use go_scan_core::Operator;
 use go_text_core::Span;
-use go_tree_nodes::{Expr, Exprs, Ident, Idents, NextExpr, NextIdent, Simple};
+use go_tree_nodes::{
+    Assignment, Definition, Expr, Exprs, Ident, Idents, NextExpr, NextIdent, Simple, Update,
+};
 use std::alloc::{AllocError, Global};
 
 /// The name that an expression is.
@@ -49,7 +51,8 @@ fn names(alloc: Global, exprs: Exprs) -> Result<Option<Idents>, AllocError>
         };
         add(&mut names, NextIdent { comma, ident })?;
     }
-    Ok(Some(Idents { first, more: names }))
+    let more = fitted(names);
+    Ok(Some(Idents { first, more }))
 }
 
 /// The one expression that stands before `ahead`.
@@ -58,7 +61,8 @@ fn names(alloc: Global, exprs: Exprs) -> Result<Option<Idents>, AllocError>
 ///
 /// [`Stop::Grammar`] where there are several, with the offset in bytes of what stands behind them.
 pub fn single(exprs: Exprs, ahead: &Ahead<'_>) -> Result<Expr, Stop>
-    ensures { Gives shape result (marks.need (reading.single (shape_exprs exprs))) }
+    ensures value { Gives shape result (marks.need (reading.single (shape_exprs exprs))) }
+    ensures surely { NeverMemory result }
 {
     if !exprs.more.is_empty() {
         drop(exprs);
@@ -131,13 +135,21 @@ fn one_expr<'a>(
 {
     let target = single(front, &ahead)?;
     if let Some((op, span, rest)) = step(&ahead) {
-        return Ok((Simple::Step(target, op, span), rest));
+        return Ok((Simple::Step(boxed(alloc, target)?, op, span), rest));
     }
-    let Some((op, span, rest)) = update(&ahead) else {
+    let Some((operator, span, rest)) = update(&ahead) else {
         return Ok((Simple::Expr(target), ahead));
     };
-    match expr(alloc, rest, header, 1, inner) {
-        Ok((value, _, rest)) => Ok((Simple::Update(target, op, span, value), rest)),
+    match expr(alloc, rest, header, inner) {
+        Ok((value, _, rest)) => {
+            let update = Update {
+                target,
+                operator,
+                span,
+                value,
+            };
+            Ok((Simple::Update(boxed(alloc, update)?), rest))
+        }
         Err(stop) => {
             drop(target);
             Err(stop)
@@ -161,13 +173,25 @@ fn simple_behind<'a>(
             return Err(Stop::Grammar(ahead.offset()));
         };
         let (values, _, rest) = exprs(alloc, rest, header, inner)?;
-        return Ok((Simple::Define(names, define, values), rest));
+        let definition = Definition {
+            names,
+            define,
+            values,
+        };
+        return Ok((Simple::Define(boxed(alloc, definition)?), rest));
     }
     let Some((assign, rest)) = ahead.mark(Operator::Assign) else {
         return one_expr(alloc, front, ahead, header, inner);
     };
     match exprs(alloc, rest, header, inner) {
-        Ok((values, _, rest)) => Ok((Simple::Assign(front, assign, values), rest)),
+        Ok((values, _, rest)) => {
+            let assignment = Assignment {
+                targets: front,
+                assign,
+                values,
+            };
+            Ok((Simple::Assign(boxed(alloc, assignment)?), rest))
+        }
         Err(stop) => {
             drop(front);
             Err(stop)

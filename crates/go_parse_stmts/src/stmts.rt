@@ -5,21 +5,36 @@ ghost use Rattle.std.specs.Prelude.{◌≡◌, ◌<◌, ◌+◌, ◌^◌};
 ghost use Rattle.go_scan_core.specs.declared.kind.Keyword.TheVariants as keyword;
 ghost use Rattle.go_scan_core.specs.declared.kind.Operator.TheVariants as operator;
 ghost use Rattle.go_tree_nodes.specs.Shapes.{shape_stmt, shape_branch, shape_else, lines_of};
-ghost use Rattle.go_parse_types.specs.Giving.{Gives};
-ghost use Rattle.go_parse_types.specs.Marks.{mark_at, word_at};
-ghost use Rattle.go_parse_stmts.specs.CodeShapes.{lines_above, stmt_above, branches_above, branch_above};
-ghost use Rattle.go_parse_stmts.specs.StmtReading as reading;
-ghost use Rattle.go_parse_stmts.specs.StmtReading.{braced, return_at, stmt_at, block_at, branch_at};
+ghost use Rattle.go_parse_types.specs.mirrors.Giving.{Gives};
+ghost use Rattle.go_parse_types.specs.mirrors.Marks.{mark_at, keyword_at};
+ghost use Rattle.go_parse_stmts.specs.mirrors.CodeShapes.{declare_at, lines_above, stmt_above, branches_above, branch_above};
+ghost use Rattle.go_parse_stmts.specs.mirrors.StmtReading as reading;
+ghost use Rattle.go_parse_stmts.specs.mirrors.StmtReading.{braced, return_at, stmt_at, block_at, branch_at};
 
 use crate::headers::{for_head, if_head};
 use crate::simple_stmts::simple;
 use crate::value_decls::{value_decl, value_keyword};
 use go_parse_exprs::exprs;
-use go_parse_types::{Ahead, Stop, add, boxed};
+use go_parse_types::{Ahead, Stop, add, boxed, fitted};
 use go_scan_core::{Keyword, Operator};
 use go_text_core::Span;
-use go_tree_nodes::{Branch, Line, Otherwise, Stmt};
+use go_tree_nodes::{Branch, Line, Loop, Otherwise, Stmt, ValueKind};
 use std::alloc::Global;
+
+/// What stands behind `const` or `var`, with types and values at most `inner` high.
+fn declaration<'a>(
+    alloc: Global,
+    ahead: Ahead<'a>,
+    kind: ValueKind,
+    keyword: Span,
+    inner: u32,
+) -> Result<(Stmt, Ahead<'a>), Stop>
+    requires { inner < 2 ^ 31 }
+    ensures { Gives (λ x. (shape_stmt x.0, x.1)) result (declare_at inner kind keyword ahead.entry) }
+{
+    let (decl, rest) = value_decl(alloc, ahead, kind, keyword, inner)?;
+    Ok((Stmt::Declare(boxed(alloc, decl)?), rest))
+}
 
 /// What stands behind `return`, with values at most `inner` high.
 fn return_stmt<'a>(
@@ -35,7 +50,7 @@ fn return_stmt<'a>(
         return Ok((Stmt::Return(keyword, None), ahead));
     }
     let (values, _, rest) = exprs(alloc, ahead, false, inner)?;
-    Ok((Stmt::Return(keyword, Some(values)), rest))
+    Ok((Stmt::Return(keyword, Some(boxed(alloc, values)?)), rest))
 }
 
 /// The statement in front, whose parts are at most `inner` high.
@@ -45,8 +60,7 @@ fn statement<'a>(alloc: Global, ahead: Ahead<'a>, inner: u32) -> Result<(Stmt, A
     ensures { Gives (λ x. (shape_stmt x.0, x.1)) result (stmt_above inner ahead.entry) }
 {
     if let Some((kind, keyword, rest)) = value_keyword(&ahead) {
-        let (decl, rest) = value_decl(alloc, rest, kind, keyword, inner)?;
-        return Ok((Stmt::Declare(decl), rest));
+        return declaration(alloc, rest, kind, keyword, inner);
     }
     if let Some((keyword, rest)) = ahead.word(Keyword::Return) {
         return return_stmt(alloc, rest, keyword, inner);
@@ -95,9 +109,9 @@ fn branch<'a>(
     ahead: Ahead<'a>,
     keyword: Span,
     inner: u32,
-) -> Result<(Branch, Ahead<'a>), Stop>
+) -> Result<(Box<Branch>, Ahead<'a>), Stop>
     requires { inner < 2 ^ 31 }
-    ensures { Gives (λ x. (shape_branch x.0, x.1)) result (branch_above inner keyword ahead.entry) }
+    ensures { Gives (λ x. (shape_branch x.0.value, x.1)) result (branch_above inner keyword ahead.entry) }
 {
     let (head, rest) = if_head(alloc, ahead, inner)?;
     match branches(alloc, rest, inner) {
@@ -110,7 +124,7 @@ fn branch<'a>(
                 close,
                 otherwise,
             };
-            Ok((branch, rest))
+            Ok((boxed(alloc, branch)?, rest))
         }
         Err(stop) => {
             drop(head);
@@ -142,7 +156,7 @@ fn otherwise<'a>(
     inner: u32,
 ) -> Result<(Otherwise, Ahead<'a>), Stop>
     requires { inner < 2 ^ 31 }
-    ensures { Gives (λ x. (shape_else x.0, x.1)) result (reading.else_by (block_at inner) (branch_at inner) ahead.entry (word_at keyword.Else ahead.entry)) }
+    ensures { Gives (λ x. (shape_else x.0, x.1)) result (reading.else_by (block_at inner) (branch_at inner) ahead.entry (keyword_at keyword.Else ahead.entry)) }
 {
     let Some((keyword, rest)) = ahead.word(Keyword::Else) else {
         return Ok((Otherwise::Nothing, ahead));
@@ -156,7 +170,7 @@ fn otherwise<'a>(
         return Err(Stop::TooHigh(rest.offset()));
     }
     let (branch, rest) = branch(alloc, rest, if_keyword, inner - 1)?;
-    Ok((Otherwise::If(keyword, boxed(alloc, branch)?), rest))
+    Ok((Otherwise::If(keyword, branch), rest))
 }
 
 /// What stands behind `for`, with parts at most `inner` high.
@@ -172,7 +186,16 @@ fn for_stmt<'a>(
 {
     let (head, rest) = for_head(alloc, ahead, inner)?;
     match block(alloc, rest, inner) {
-        Ok((open, body, close, rest)) => { Ok((Stmt::For(keyword, head, open, body, close), rest)) }
+        Ok((open, body, close, rest)) => {
+            let whole = Loop {
+                keyword,
+                head,
+                open,
+                body,
+                close,
+            };
+            Ok((Stmt::For(boxed(alloc, whole)?), rest))
+        }
         Err(stop) => {
             drop(head);
             Err(stop)
@@ -225,9 +248,9 @@ fn lines<'a>(alloc: Global, ahead: Ahead<'a>, budget: u32) -> Result<(Vec<Line>,
         if semicolon.is_none() {
             // The last semicolon before the brace may be left out.
             behind.need_mark(Operator::CloseBrace)?;
-            return Ok((all, behind));
+            return Ok((fitted(all), behind));
         }
         rest = behind;
     }
-    Ok((all, rest))
+    Ok((fitted(all), rest))
 }

@@ -2,11 +2,11 @@
 ghost use Rattle.std.specs.Prelude.{◌≡◌, map};
 ghost use Rattle.go_scan_core.specs.declared.kind.Operator.TheVariants as operator;
 ghost use Rattle.go_tree_nodes.specs.Shapes.{shape_type_spec, shape_type_line, shape_type_decl};
-ghost use Rattle.go_parse_types.specs.EntryShapes.{list_all};
-ghost use Rattle.go_parse_types.specs.Giving.{Gives};
-ghost use Rattle.go_parse_stmts.specs.StmtReading.{type_spec_at, types_at};
+ghost use Rattle.go_parse_types.specs.mirrors.EntryShapes.{list_all};
+ghost use Rattle.go_parse_types.specs.mirrors.Giving.{Gives};
+ghost use Rattle.go_parse_stmts.specs.mirrors.StmtReading.{type_spec_at, types_at};
 
-use go_parse_types::{Ahead, Stop, add, type_expr};
+use go_parse_types::{Ahead, Stop, add, fitted, type_expr};
 use go_scan_core::Operator;
 use go_text_core::Span;
 use go_tree_nodes::{TypeDecl, TypeLine, TypeSpec, TypeSpecs};
@@ -43,11 +43,11 @@ fn type_lines<'a>(
         if semicolon.is_none() {
             // The last semicolon before the parenthesis may be left out.
             behind.need_mark(Operator::CloseParen)?;
-            return Ok((all, behind));
+            return Ok((fitted(all), behind));
         }
         rest = behind;
     }
-    Ok((all, rest))
+    Ok((fitted(all), rest))
 }
 
 /// What stands behind `type` (the Go specification, "Type declarations"), with types at most `budget` high.

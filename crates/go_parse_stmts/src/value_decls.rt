@@ -4,13 +4,13 @@
 ghost use Rattle.std.specs.Prelude.{◌≡◌, ◌<◌, ◌^◌, map};
 ghost use Rattle.go_scan_core.specs.declared.kind.Operator.TheVariants as operator;
 ghost use Rattle.go_tree_nodes.specs.Shapes.{shape_some_type, shape_values, shape_value_spec, shape_value_line, shape_value};
-ghost use Rattle.go_parse_types.specs.EntryShapes.{list_all};
-ghost use Rattle.go_parse_types.specs.Giving.{Gives};
-ghost use Rattle.go_parse_types.specs.Marks.{mark_at};
-ghost use Rattle.go_parse_stmts.specs.StmtReading.{some_type_at, values_by, enough, value_spec_at, value_at, value_word};
+ghost use Rattle.go_parse_types.specs.mirrors.EntryShapes.{list_all};
+ghost use Rattle.go_parse_types.specs.mirrors.Giving.{Gives};
+ghost use Rattle.go_parse_types.specs.mirrors.Marks.{mark_at};
+ghost use Rattle.go_parse_stmts.specs.mirrors.StmtReading.{some_type_at, values_by, enough, value_spec_at, value_at, value_word};
 
 use go_parse_exprs::exprs;
-use go_parse_types::{Ahead, Stop, add, idents, type_expr};
+use go_parse_types::{Ahead, Stop, add, fitted, idents, type_expr};
 use go_scan_core::{Keyword, Operator};
 use go_text_core::Span;
 use go_tree_nodes::{TypeExpr, ValueDecl, ValueKind, ValueLine, ValueSpec, ValueSpecs, Values};
@@ -122,11 +122,11 @@ fn value_lines<'a>(
         if semicolon.is_none() {
             // The last semicolon before the parenthesis may be left out.
             behind.need_mark(Operator::CloseParen)?;
-            return Ok((all, behind));
+            return Ok((fitted(all), behind));
         }
         rest = behind;
     }
-    Ok((all, rest))
+    Ok((fitted(all), rest))
 }
 
 /// What stands behind `const` or `var` (the Go specification, "Constant declarations" and "Variable declarations"),

@@ -1,5 +1,6 @@
 -- What the entries of a parameter list are, from the middle on.
-use Rattle.std.proofs.Common.{◌≡◌, ℕ, zero, suc, ◌<◌, true, false, List, [], ◌∷◌, ◌++◌, map, length, drop, get_or, Option, Some, None, refl, sym, ap, ◌∙◌, arith}
+use Rattle.std.proofs.Common.{◌≡◌, ℕ, zero, suc, ◌<◌, true, false, List, [], ◌∷◌, ◌++◌, map, length, drop, get_or, Option, Some, None, refl, sym, ap, ◌∙◌, arith, append_assoc, append-nil}
+use Rattle.std.proofs.lemmas.List.{map-append}
 use Rattle.std.specs.Prelude.{is_some}
 use Rattle.std.specs.Option.{option_map}
 use Rattle.go_text_core.specs.declared.span.Span.{Span}
@@ -10,8 +11,8 @@ use Rattle.go_tree_nodes.specs.declared.types.«Param» as declared_param
 use Rattle.go_tree_nodes.specs.Trees.{Separated, One, Then, TypeTree, ParamTrees, NoParams, Param}
 use Rattle.go_tree_nodes.specs.TypeShapes.{idents_from, shape_idents, shape_names, shape_type, params_of}
 use Rattle.go_parse_types.specs.declared.entries.Entry.{Entry}
-use Rattle.go_parse_types.specs.EntryShapes.{entry_of, last_behind, with_last}
-use Rattle.go_parse_types.specs.TypeReading.{EntryTree, has_name, as_types, group_one, group_more, plain_name, group_next, as_groups}
+use Rattle.go_parse_types.specs.mirrors.EntryShapes.{entry_of, last_behind, with_last}
+use Rattle.go_parse_types.specs.mirrors.TypeReading.{EntryTree, has_name, as_types, group_one, group_more, plain_name, group_next, as_groups}
 
 abbrev Entries : Type 0
 Entries = List (EntryTree × Option Span)
@@ -42,13 +43,8 @@ before_all : (ps : List declared_param.Param) → params_before ps NoParams ≡ 
 before_all [] = refl
 before_all (p ∷ ps) = ap (Param (shape_names p.names) (shape_type p.type_expr) p.comma) (before_all ps)
 
-map_append : (xs : List Entry) (x : Entry) (more : Entries) → map entry_of (xs ++ (x ∷ [])) ++ more ≡ map entry_of xs ++ (entry_of x ∷ more)
-map_append [] x more = refl
-map_append (y ∷ xs) x more = ap (λ l. entry_of y ∷ l) (map_append xs x more)
-
-append_nil : (xs : Entries) → xs ++ [] ≡ xs
-append_nil [] = refl
-append_nil (x ∷ xs) = ap (λ l. x ∷ l) (append_nil xs)
+entries_push : (xs : List Entry) (x : Entry) (more : Entries) → map entry_of (xs ++ (x ∷ [])) ++ more ≡ map entry_of xs ++ (entry_of x ∷ more)
+entries_push xs x more = ap (λ l. l ++ more) (map-append entry_of xs (x ∷ [])) ∙ append_assoc (map entry_of xs) (entry_of x ∷ []) more
 
 -- the entries so far are these parameters, as types
 pub record TypesSoFar (done : List Entry) (ps : List declared_param.Param) : Type 0 where
@@ -60,7 +56,7 @@ types_start ps none = record { same = λ more. ap (λ ps. params_before ps (as_t
 pub types_push : (done : List Entry) (ps new : List declared_param.Param) (x : Entry) (p : declared_param.Param) → TypesSoFar done ps → p.names ≡ None → p.type_expr ≡ x.type_expr → p.comma ≡ x.comma → new ≡ ps ++ (p ∷ []) → TypesSoFar (done ++ (x ∷ [])) new
 types_push done ps new x p so none type comma is =
     record {
-      same = λ more. ap as_types (map_append done x more) ∙ so.same (entry_of x ∷ more)
+      same = λ more. ap as_types (entries_push done x more) ∙ so.same (entry_of x ∷ more)
           ∙ ap (λ t. params_before ps (Param None (shape_type t) x.comma (as_types more))) (sym type)
           ∙ ap (λ c. params_before ps (Param None (shape_type p.type_expr) c (as_types more))) (sym comma)
           ∙ ap (λ n. params_before ps (Param (shape_names n) (shape_type p.type_expr) p.comma (as_types more))) (sym none)
@@ -68,7 +64,7 @@ types_push done ps new x p so none type comma is =
     }
 
 pub types_all : (done : List Entry) (ps : List declared_param.Param) → TypesSoFar done ps → params_of ps ≡ as_types (map entry_of done)
-types_all done ps so = sym (ap as_types (sym (append_nil (map entry_of done))) ∙ so.same [] ∙ before_all ps)
+types_all done ps so = sym (ap as_types (sym (append-nil (map entry_of done))) ∙ so.same [] ∙ before_all ps)
 
 -- names in front of groups
 abbrev names_before : Separated Ident → Span → Option ParamTrees → Option ParamTrees
@@ -121,7 +117,7 @@ pub groups_push : (done : List Entry) (ps new : List declared_param.Param) (name
 groups_push done ps new names e x p so named joined type comma is =
     let n = option_map (λ (n : Idents × Span). (shape_idents n.0, n.1)) names in
     record {
-      same = λ more. ap as_groups (map_append done e more) ∙ so.same (entry_of e ∷ more)
+      same = λ more. ap as_groups (entries_push done e more) ∙ so.same (entry_of e ∷ more)
           ∙ ap (λ m. front ps (behind n (as_groups (((m, shape_type e.type_expr), e.comma) ∷ more)))) named
           ∙ ap (λ t. front ps (behind n (group_one x (shape_type t) e.comma (as_groups more)))) (sym type)
           ∙ ap (λ c. front ps (behind n (group_one x (shape_type p.type_expr) c (as_groups more)))) (sym comma)
@@ -137,7 +133,7 @@ pub groups_name : (done : List Entry) (ps : List declared_param.Param) (names : 
 groups_name done ps names e x group comma so unnamed plain closed joined =
     let n = option_map (λ (n : Idents × Span). (shape_idents n.0, n.1)) names in
     record {
-      same = λ more. ap as_groups (map_append done e more) ∙ so.same (entry_of e ∷ more)
+      same = λ more. ap as_groups (entries_push done e more) ∙ so.same (entry_of e ∷ more)
           ∙ ap (λ m. front ps (behind n (as_groups (((m, shape_type e.type_expr), e.comma) ∷ more)))) unnamed
           ∙ ap (λ p. front ps (behind n (group_next p e.comma (as_groups more)))) (sym plain)
           ∙ ap (λ c. front ps (behind n (group_next (Some x) c (as_groups more)))) closed
@@ -148,12 +144,12 @@ groups_name done ps names e x group comma so unnamed plain closed joined =
 pub groups_all : (done : List Entry) (ps : List declared_param.Param) (names : Option (Idents × Span)) → GroupsSoFar done ps names → is_some names ≡ false → Some (params_of ps) ≡ as_groups (map entry_of done)
 groups_all done ps (Some n) so none = cc
 groups_all done ps None so none =
-    sym (ap as_groups (sym (append_nil (map entry_of done))) ∙ so.same [] ∙ ap Some (before_all ps))
+    sym (ap as_groups (sym (append-nil (map entry_of done))) ∙ so.same [] ∙ ap Some (before_all ps))
 
 pub groups_left : (done : List Entry) (ps : List declared_param.Param) (names : Option (Idents × Span)) → GroupsSoFar done ps names → is_some names ≡ true → None ≡ as_groups (map entry_of done)
 groups_left done ps None so some = cc
 groups_left done ps (Some n) so some =
-    sym (ap as_groups (sym (append_nil (map entry_of done))) ∙ so.same [] ∙ ap (front ps) (names_end (shape_idents n.0) n.1))
+    sym (ap as_groups (sym (append-nil (map entry_of done))) ∙ so.same [] ∙ ap (front ps) (names_end (shape_idents n.0) n.1))
 
 -- where one of the entries belongs to no group
 one_none : (e : Entry) → (name : Option Ident) → e.name ≡ name → (o : Option ParamTrees) → o ≡ None → (es : Entries) → as_groups es ≡ o → as_groups (entry_of e ∷ es) ≡ None

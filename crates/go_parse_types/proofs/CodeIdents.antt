@@ -8,8 +8,8 @@ use Rattle.go_tree_nodes.specs.Terminals.{Terminal}
 use Rattle.go_tree_nodes.specs.Trees.{Separated, One, Then}
 use Rattle.go_tree_nodes.specs.TypeShapes.{idents_from}
 use Rattle.go_parse_types.specs.declared.stop.Stop.{Stop}
-use Rattle.go_parse_types.specs.Giving.{Fails}
-use Rattle.go_parse_types.specs.Marks.{Stuck, ◌>>=◌, Reading, need, mark_at, name_at, idents_more, idents_go}
+use Rattle.go_parse_types.specs.mirrors.Giving.{Fails}
+use Rattle.go_parse_types.specs.mirrors.Marks.{Stuck, ◌>>=◌, Reading, need, mark_at, name_at, idents_more, idents_go}
 use Rattle.go_parse_types.proofs.Marks.{need_ok, mark_shorter, name_shorter}
 use Rattle.go_parse_types.proofs.CodeSteps.{fails_along}
 

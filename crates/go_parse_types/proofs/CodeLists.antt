@@ -1,12 +1,12 @@
 -- What reading a list gives from the middle on.
-use Rattle.std.proofs.Common.{◌≡◌, ℕ, zero, suc, ◌-◌, ◌<◌, ◌≤◌, List, [], ◌∷◌, ◌++◌, length, Option, Some, None, Ok, Err, refl, sym, ap, ◌∙◌, subst, arith, append_assoc}
+use Rattle.std.proofs.Common.{◌≡◌, ℕ, zero, suc, ◌-◌, ◌<◌, ◌≤◌, List, [], ◌∷◌, ◌++◌, length, Option, Some, None, Ok, Err, refl, sym, ap, ◌∙◌, subst, arith, append_assoc, append-nil}
 use Rattle.go_text_core.specs.declared.span.Span.{Span}
 use Rattle.go_scan_core.specs.declared.kind.Operator.{Operator}
 use Rattle.go_tree_nodes.specs.Terminals.{Terminal}
 use Rattle.go_parse_types.specs.declared.stop.Stop.{Stop}
-use Rattle.go_parse_types.specs.EntryShapes.{list_all, with_mark, then_mark}
-use Rattle.go_parse_types.specs.Giving.{Fails}
-use Rattle.go_parse_types.specs.Marks.{Stuck, Grammar, ◌>>=◌, Reading, Place, mark_at, end_by, mark_by, mark_or_end, last_by, more_by, list_by, list_go}
+use Rattle.go_parse_types.specs.mirrors.EntryShapes.{list_all, with_mark, then_mark}
+use Rattle.go_parse_types.specs.mirrors.Giving.{Fails}
+use Rattle.go_parse_types.specs.mirrors.Marks.{Stuck, Grammar, ◌>>=◌, Reading, MarkAhead, mark_at, end_by, mark_by, mark_or_end, last_by, more_by, list_by, list_go}
 use Rattle.go_parse_types.proofs.Marks.{mark_shorter, bind_ok}
 use Rattle.go_parse_types.proofs.CodeSteps.{fails_along}
 
@@ -67,13 +67,9 @@ pub list_fails : (A : Type 0) (item : List Terminal → Reading A) (between clos
 list_fails A item between close ts done rest e so free failed =
     fails_along (item rest) (list_all item between close ts) e (λ f g. so.same ∙ ap (with_front done) (turn_err A item between close so.turns rest f (omega (arith, so.enough)) free g)) failed
 
-append_nil : {B : Type 0} (xs : List B) → xs ++ [] ≡ xs
-append_nil [] = refl
-append_nil (x ∷ xs) = ap (λ l. x ∷ l) (append_nil xs)
-
 pub list_end : (A : Type 0) (item : List Terminal → Reading A) (between close : Operator) (ts : List Terminal) (done : List (A × Option Span)) (rest : List Terminal) (m : Span × List Terminal) → ListSoFar A item between close ts done rest → mark_at close rest ≡ Some m → list_all item between close ts ≡ Ok (done, rest)
 list_end A item between close ts done rest m so at =
-    so.same ∙ ap (with_front done) (turn_end A item between close so.turns rest m (omega (arith, so.enough)) at) ∙ ap (λ l. Ok (l, rest)) (append_nil done)
+    so.same ∙ ap (with_front done) (turn_end A item between close so.turns rest m (omega (arith, so.enough)) at) ∙ ap (λ l. Ok (l, rest)) (append-nil done)
 
 pub list_missing : (A : Type 0) (item : List Terminal → Reading A) (between close : Operator) (ts : List Terminal) (done : List (A × Option Span)) (rest after : List Terminal) (x : A) → ListSoFar A item between close ts done rest → None ≡ mark_at close rest → item rest ≡ Ok (x, after) → None ≡ mark_at between after → None ≡ mark_at close after → list_all item between close ts ≡ Err Grammar
 list_missing A item between close ts done rest after x so free e at closed =
@@ -87,11 +83,11 @@ list_last A item between close ts done new rest after x m so free e at closed is
 
 -- the same, where an item is read with the mark behind it
 
-end_left : (close : Operator) (ts : List Terminal) (o : Place) (s : Option Span × List Terminal) → end_by ts o ≡ Ok s → (None, ts) ≡ s
+end_left : (close : Operator) (ts : List Terminal) (o : MarkAhead) (s : Option Span × List Terminal) → end_by ts o ≡ Ok s → (None, ts) ≡ s
 end_left close ts None s e = cc
 end_left close ts (Some z) s e = cc
 
-mark_left : (close : Operator) (ts : List Terminal) (between : Operator) (o : Place) (s : Option Span × List Terminal) → mark_at between ts ≡ o → mark_by close ts o ≡ Ok s → length s.1 ≤ length ts
+mark_left : (close : Operator) (ts : List Terminal) (between : Operator) (o : MarkAhead) (s : Option Span × List Terminal) → mark_at between ts ≡ o → mark_by close ts o ≡ Ok s → length s.1 ≤ length ts
 mark_left close ts between None s at e = omega (arith, ap (λ (s : Option Span × List Terminal). length s.1) (end_left close ts (mark_at close ts) s e))
 mark_left close ts between (Some m) s at e =
     let same : (Some m.0, m.1) ≡ s = cc in
@@ -110,13 +106,13 @@ then_mark_ok A between close (Ok y) x e =
     let same : ((y.0, w.0.0), w.0.1) ≡ x = cc (w.2) in
     subst (ReadBefore A between close (Ok y)) same (record { mid = y.1; item = refl; mark = w.1 })
 
-step_end : (A : Type 0) (item : List Terminal → Reading A) (between close : Operator) (k : ℕ) (mid : List Terminal) (y : A) → 0 < k → (o : Place) → mark_at close mid ≡ o → (s : Option Span × List Terminal) → end_by mid o ≡ Ok s → last_by y mid o ≡ (list_go item between close k s.1 >>= λ z. Ok ((y, s.0) ∷ z.0, z.1))
+step_end : (A : Type 0) (item : List Terminal → Reading A) (between close : Operator) (k : ℕ) (mid : List Terminal) (y : A) → 0 < k → (o : MarkAhead) → mark_at close mid ≡ o → (s : Option Span × List Terminal) → end_by mid o ≡ Ok s → last_by y mid o ≡ (list_go item between close k s.1 >>= λ z. Ok ((y, s.0) ∷ z.0, z.1))
 step_end A item between close k mid y some None at s e = cc
 step_end A item between close k mid y some (Some m) at s e =
     let same : (None, mid) ≡ s = cc in
     ap (λ r. r >>= λ z. Ok ((y, None) ∷ z.0, z.1)) (sym (turn_end A item between close k mid m some at)) ∙ ap (λ (s : Option Span × List Terminal). list_go item between close k s.1 >>= λ z. Ok ((y, s.0) ∷ z.0, z.1)) same
 
-step_go : (A : Type 0) (item : List Terminal → Reading A) (between close : Operator) (k : ℕ) (mid : List Terminal) (y : A) → 0 < k → (o : Place) → (s : Option Span × List Terminal) → mark_by close mid o ≡ Ok s → more_by (list_go item between close k) close y mid o ≡ (list_go item between close k s.1 >>= λ z. Ok ((y, s.0) ∷ z.0, z.1))
+step_go : (A : Type 0) (item : List Terminal → Reading A) (between close : Operator) (k : ℕ) (mid : List Terminal) (y : A) → 0 < k → (o : MarkAhead) → (s : Option Span × List Terminal) → mark_by close mid o ≡ Ok s → more_by (list_go item between close k) close y mid o ≡ (list_go item between close k s.1 >>= λ z. Ok ((y, s.0) ∷ z.0, z.1))
 step_go A item between close k mid y some None s e = step_end A item between close k mid y some (mark_at close mid) refl s e
 step_go A item between close k mid y some (Some m) s e =
     let same : (Some m.0, m.1) ≡ s = cc in
@@ -148,11 +144,11 @@ step_err A item between close k rest f some free e = by (item rest) refl e
     go : List Terminal → Reading (List (A × Option Span))
     go = list_go item between close (k - 1)
 
-    ends : (y : A) (mid : List Terminal) (o : Place) → with_mark y (end_by mid o) ≡ Err f → last_by y mid o ≡ Err f
+    ends : (y : A) (mid : List Terminal) (o : MarkAhead) → with_mark y (end_by mid o) ≡ Err f → last_by y mid o ≡ Err f
     ends y mid None e = let same : Grammar ≡ f = cc in ap Err same
     ends y mid (Some z) e = cc
 
-    goes : (y : A) (mid : List Terminal) (o : Place) → with_mark y (mark_by close mid o) ≡ Err f → more_by go close y mid o ≡ Err f
+    goes : (y : A) (mid : List Terminal) (o : MarkAhead) → with_mark y (mark_by close mid o) ≡ Err f → more_by go close y mid o ≡ Err f
     goes y mid None e = ends y mid (mark_at close mid) e
     goes y mid (Some m) e = cc
 

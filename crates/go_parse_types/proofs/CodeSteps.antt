@@ -3,8 +3,8 @@ use Rattle.std.proofs.Common.{◌≡◌, true, false, Option, Some, None, Result
 use Rattle.std.specs.Prelude.{is_some}
 use Rattle.go_parse_types.specs.declared.stop.Stop.{Stop}
 use Rattle.go_parse_types.specs.declared.stop.Stop.TheVariants as stop
-use Rattle.go_parse_types.specs.Giving.{Fails}
-use Rattle.go_parse_types.specs.Marks.{Stuck, Grammar, TooHigh}
+use Rattle.go_parse_types.specs.mirrors.Giving.{Fails}
+use Rattle.go_parse_types.specs.mirrors.Marks.{Stuck, Grammar, TooHigh}
 
 -- what fails with a part of it, fails for the same reason
 pub fails_along : {X Y : Type 0} (r : Result X Stuck) (s : Result Y Stuck) (e : Stop) → ((f : Stuck) → r ≡ Err f → s ≡ Err f) → Fails e r → Fails e s

@@ -1,5 +1,6 @@
 -- What reading types gives, in the words of the program.
-use Rattle.std.proofs.Common.{◌≡◌, ℕ, zero, suc, ◌-◌, ◌<◌, ◌≤◌, List, [], ◌∷◌, ◌++◌, map, length, Option, Some, Ok, Err, refl, sym, ap, ◌∙◌, arith, length-append}
+use Rattle.std.proofs.Common.{◌≡◌, ℕ, zero, suc, ◌-◌, ◌<◌, List, [], ◌∷◌, ◌++◌, map, length, Option, Ok, Err, refl, ap, ◌∙◌, arith, length-append}
+use Rattle.std.proofs.lemmas.List.{map-append}
 use Rattle.go_text_core.specs.declared.span.Span.{Span}
 use Rattle.go_scan_core.specs.declared.kind.Operator.TheVariants as operator
 use Rattle.go_tree_nodes.specs.declared.names.Ident.{Ident}
@@ -12,10 +13,10 @@ use Rattle.go_tree_nodes.specs.Terminals.{Terminal}
 use Rattle.go_tree_nodes.specs.Trees.{TypeTree, Struct, Interface, SignatureTree, Signed, ResultTree, Results, ParamTrees, FieldTrees, MethodTrees, Method}
 use Rattle.go_tree_nodes.specs.TypeShapes.{fields_before, fields_of, method_before, methods_of}
 use Rattle.go_parse_types.specs.declared.stop.Stop.{Stop}
-use Rattle.go_parse_types.specs.Giving.{Fails}
-use Rattle.go_parse_types.specs.EntryShapes.{list_all, with_mark, then_mark, listed_at, line_tree, line_of, method_of}
-use Rattle.go_parse_types.specs.Marks.{TooHigh, ◌>>=◌, Reading, need, mark_at, text_at, mark_or_end}
-use Rattle.go_parse_types.specs.TypeReading.{EntryTree, LineTree, tag_by, tagged, with_line, entry_at, line_at, method_at, as_fields, as_methods, params_at, results_by, result_at, signature_at, struct_by, struct_at, interface_by, interface_at, type_by, type_at}
+use Rattle.go_parse_types.specs.mirrors.Giving.{Fails}
+use Rattle.go_parse_types.specs.mirrors.EntryShapes.{list_all, with_mark, then_mark, listed_at, line_tree, line_of, method_of}
+use Rattle.go_parse_types.specs.mirrors.Marks.{TooHigh, ◌>>=◌, Reading, need, mark_at, text_at, mark_or_end}
+use Rattle.go_parse_types.specs.mirrors.TypeReading.{EntryTree, LineTree, tag_by, tagged, with_line, entry_at, line_at, method_at, as_fields, as_methods, params_at, results_by, result_at, signature_at, struct_by, struct_at, interface_by, interface_at, type_by, type_at}
 use Rattle.go_parse_types.proofs.Marks.{need_ok}
 use Rattle.go_parse_types.proofs.CodeSteps.{fails_along}
 use Rattle.go_parse_types.proofs.Params.{spell_entry, entry_some, entry_sound}
@@ -81,12 +82,8 @@ methods_are [] = refl
 methods_are (m ∷ ms) = method_is m (as_methods (map method_of ms)) ∙ ap (method_before m) (methods_are ms)
 
 -- one more, seen through a function
-map_last : {A B : Type 0} (f : A → B) (xs : List A) (x : A) → map f (xs ++ (x ∷ [])) ≡ map f xs ++ (f x ∷ [])
-map_last f [] x = refl
-map_last f (y ∷ ys) x = ap (λ l. f y ∷ l) (map_last f ys x)
-
 pub pushed : {A B : Type 0} (f : A → B) (xs new : List A) (x : A) → new ≡ xs ++ (x ∷ []) → map f new ≡ map f xs ++ (f x ∷ [])
-pushed f xs new x is = ap (map f) is ∙ map_last f xs x
+pushed f xs new x is = ap (map f) is ∙ map-append f xs (x ∷ [])
 
 -- a struct type, an interface type, results and a signature, from their parts
 

@@ -9,7 +9,7 @@ use Rattle.go_tree_nodes.specs.Trees.{Separated, One, Then}
 use Rattle.go_tree_nodes.specs.Spelling.{mark, spell_ident, spell_idents, spell_some, spell_specs_of}
 use Rattle.go_tree_nodes.specs.Rules.{Wf_group}
 use Rattle.go_tree_nodes.specs.Heights.{group_height}
-use Rattle.go_parse_types.specs.Marks.{◌>>=◌, Reading, Place, need, same_operator, mark_at, name_at, last_by, more_by, list_by, list_go, idents_more, idents_go}
+use Rattle.go_parse_types.specs.mirrors.Marks.{◌>>=◌, Reading, MarkAhead, need, same_operator, mark_at, name_at, last_by, more_by, list_by, list_go, idents_more, idents_go}
 use Rattle.go_parse_types.proofs.Marks.{mark_was, mark_here, mark_not, name_was, bind_ok, need_ok, AgreesAt, bind_agrees, agrees_along}
 
 -- what a list writes
@@ -96,13 +96,13 @@ ItemsRead A spelled high P b item = (ts : List Terminal) (x : A × List Terminal
 abbrev pub ListsRead : (A : Type 0) → (A → List Terminal) → Operator → (A → ℕ) → (A → Type 0) → ℕ → (List Terminal → Reading (List (A × Option Span))) → Type 0
 ListsRead A spelled between high P b list = (ts : List Terminal) (x : List (A × Option Span) × List Terminal) → list ts ≡ Ok x → ReadsList A spelled between high P b ts x
 
-last_reads : (A : Type 0) (spelled : A → List Terminal) (between : Operator) (high : A → ℕ) (P : A → Type 0) (b : ℕ) (ts : List Terminal) (x : A × List Terminal) → ReadsItem A spelled high P b ts x → (m : Place) (y : List (A × Option Span) × List Terminal) → last_by x.0 x.1 m ≡ Ok y → ReadsList A spelled between high P b ts y
+last_reads : (A : Type 0) (spelled : A → List Terminal) (between : Operator) (high : A → ℕ) (P : A → Type 0) (b : ℕ) (ts : List Terminal) (x : A × List Terminal) → ReadsItem A spelled high P b ts x → (m : MarkAhead) (y : List (A × Option Span) × List Terminal) → last_by x.0 x.1 m ≡ Ok y → ReadsList A spelled between high P b ts y
 last_reads A spelled between high P b ts x r None y e = cc
 last_reads A spelled between high P b ts x r (Some z) y e =
     let same : ((x.0, None) ∷ [], x.1) ≡ y = cc in
     subst (ReadsList A spelled between high P b ts) same (record { spelled_as = r.spelled_as ∙ sym (append_assoc (spelled x.0) [] x.1); wf = (r.wf, tt, tt); low = omega (arith, r.low) })
 
-more_reads : (A : Type 0) (spelled : A → List Terminal) (between close : Operator) (high : A → ℕ) (P : A → Type 0) (b : ℕ) (more : List Terminal → Reading (List (A × Option Span))) → ListsRead A spelled between high P b more → (ts : List Terminal) (x : A × List Terminal) → ReadsItem A spelled high P b ts x → (m : Place) → mark_at between x.1 ≡ m → (y : List (A × Option Span) × List Terminal) → more_by more close x.0 x.1 m ≡ Ok y → ReadsList A spelled between high P b ts y
+more_reads : (A : Type 0) (spelled : A → List Terminal) (between close : Operator) (high : A → ℕ) (P : A → Type 0) (b : ℕ) (more : List Terminal → Reading (List (A × Option Span))) → ListsRead A spelled between high P b more → (ts : List Terminal) (x : A × List Terminal) → ReadsItem A spelled high P b ts x → (m : MarkAhead) → mark_at between x.1 ≡ m → (y : List (A × Option Span) × List Terminal) → more_by more close x.0 x.1 m ≡ Ok y → ReadsList A spelled between high P b ts y
 more_reads A spelled between close high P b more ih ts x r None at y e = last_reads A spelled between high P b ts x r (mark_at close x.1) y e
 more_reads A spelled between close high P b more ih ts x r (Some s) at y e =
     let w = bind_ok (more s.1) (λ y. Ok ((x.0, Some s.0) ∷ y.0, y.1)) y e in
@@ -113,7 +113,7 @@ more_reads A spelled between close high P b more ih ts x r (Some s) at y e =
     r.spelled_as ∙ ap (λ l. spelled x.0 ++ l) (mark_was between x.1 s at ∙ ap (λ l. front ∷ l) q.spelled_as) ∙ sym (append_assoc (spelled x.0) (front ∷ spell_list spelled between w.0.0) w.0.1) in
     subst (ReadsList A spelled between high P b ts) same (record { spelled_as = path; wf = (r.wf, tt, q.wf); low = omega (arith, r.low, q.low) })
 
-list_by_reads : (A : Type 0) (item : List Terminal → Reading A) (spelled : A → List Terminal) (between close : Operator) (high : A → ℕ) (P : A → Type 0) (b : ℕ) → ItemsRead A spelled high P b item → (more : List Terminal → Reading (List (A × Option Span))) → ListsRead A spelled between high P b more → (ts : List Terminal) (m : Place) (y : List (A × Option Span) × List Terminal) → list_by item more between close ts m ≡ Ok y → ReadsList A spelled between high P b ts y
+list_by_reads : (A : Type 0) (item : List Terminal → Reading A) (spelled : A → List Terminal) (between close : Operator) (high : A → ℕ) (P : A → Type 0) (b : ℕ) → ItemsRead A spelled high P b item → (more : List Terminal → Reading (List (A × Option Span))) → ListsRead A spelled between high P b more → (ts : List Terminal) (m : MarkAhead) (y : List (A × Option Span) × List Terminal) → list_by item more between close ts m ≡ Ok y → ReadsList A spelled between high P b ts y
 list_by_reads A item spelled between close high P b ih more next ts (Some z) y e =
     let same : ([], ts) ≡ y = cc in
     subst (ReadsList A spelled between high P b ts) same (record { spelled_as = refl; wf = tt; low = omega arith })
@@ -157,7 +157,7 @@ pub record ReadsIdents (ts : List Terminal) (x : Separated Ident × List Termina
   pub spelled : ts ≡ spell_idents x.0 ++ x.1
   pub stops : mark_at operator.Comma x.1 ≡ None
 
-idents_more_reads : (more : List Terminal → Reading (Separated Ident)) → ((ts : List Terminal) (x : Separated Ident × List Terminal) → more ts ≡ Ok x → ReadsIdents ts x) → (ts : List Terminal) (x : Ident × List Terminal) → ts ≡ spell_ident x.0 ∷ x.1 → (m : Place) → mark_at operator.Comma x.1 ≡ m → (y : Separated Ident × List Terminal) → idents_more more x.0 x.1 m ≡ Ok y → ReadsIdents ts y
+idents_more_reads : (more : List Terminal → Reading (Separated Ident)) → ((ts : List Terminal) (x : Separated Ident × List Terminal) → more ts ≡ Ok x → ReadsIdents ts x) → (ts : List Terminal) (x : Ident × List Terminal) → ts ≡ spell_ident x.0 ∷ x.1 → (m : MarkAhead) → mark_at operator.Comma x.1 ≡ m → (y : Separated Ident × List Terminal) → idents_more more x.0 x.1 m ≡ Ok y → ReadsIdents ts y
 idents_more_reads more ih ts x is None at y e =
     let same : (One x.0, x.1) ≡ y = cc in
     subst (ReadsIdents ts) same (record { spelled = is; stops = at })

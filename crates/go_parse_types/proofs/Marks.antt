@@ -10,7 +10,7 @@ use Rattle.go_tree_nodes.specs.declared.names.Ident.{Ident}
 use Rattle.go_tree_nodes.specs.declared.names.TextLiteral.{TextLiteral}
 use Rattle.go_tree_nodes.specs.Terminals.{TerminalKind, Spelled, Quoted, Word, Mark, Terminal, terminal}
 use Rattle.go_tree_nodes.specs.Spelling.{mark, word, spell_ident, spell_text, spell_some}
-use Rattle.go_parse_types.specs.Marks.{Stuck, TooHigh, ◌>>=◌, need, same_operator, same_keyword, mark_in, mark_at, word_in, word_at, name_in, name_at, text_in, text_at, passing, mark_that_in, mark_that, some_mark}
+use Rattle.go_parse_types.specs.mirrors.Marks.{Stuck, TooHigh, ◌>>=◌, need, same_operator, same_keyword, mark_in, mark_at, keyword_in, keyword_at, name_in, name_at, text_in, text_at, passing, mark_that_in, mark_that, some_mark}
 
 pub some_when : {A : Type 0} (c : Bool) (p o : A) → cond c (Some p) None ≡ Some o → (c ≡ true) × (p ≡ o)
 some_when true p o e = (refl, cc)
@@ -44,7 +44,7 @@ mark_not want found s ts h = ap (λ c. cond c (Some (s, ts)) None) h
 pub mark_shorter : (want : Operator) (ts : List Terminal) (m : Span × List Terminal) → mark_at want ts ≡ Some m → length m.1 < length ts
 mark_shorter want ts m e = omega (arith, ap length (mark_was want ts m e))
 
-word_in_was : (want : Keyword) (k : TerminalKind) (s : Span) (ts : List Terminal) (m : Span × List Terminal) → word_in want k s ts ≡ Some m → terminal k s ∷ ts ≡ word want m.0 ∷ m.1
+word_in_was : (want : Keyword) (k : TerminalKind) (s : Span) (ts : List Terminal) (m : Span × List Terminal) → keyword_in want k s ts ≡ Some m → terminal k s ∷ ts ≡ word want m.0 ∷ m.1
 word_in_was want (Word found) s ts m e =
     let w = some_when (same_keyword found want) (s, ts) m e in
     let is : found ≡ want = same_true keyword_contracts.the_type (search rules) found want w.0 in
@@ -52,20 +52,20 @@ word_in_was want (Word found) s ts m e =
 word_in_was want _ s ts m e = cc
 
 -- a keyword that is found is in front
-pub word_was : (want : Keyword) (ts : List Terminal) (m : Span × List Terminal) → word_at want ts ≡ Some m → ts ≡ word want m.0 ∷ m.1
+pub word_was : (want : Keyword) (ts : List Terminal) (m : Span × List Terminal) → keyword_at want ts ≡ Some m → ts ≡ word want m.0 ∷ m.1
 word_was want [] m e = cc
 word_was want (t ∷ ts) m e = word_in_was want t.kind t.span ts m e
 
 -- a keyword in front is found
-pub word_here : (want : Keyword) (s : Span) (ts : List Terminal) → word_at want (word want s ∷ ts) ≡ Some (s, ts)
+pub word_here : (want : Keyword) (s : Span) (ts : List Terminal) → keyword_at want (word want s ∷ ts) ≡ Some (s, ts)
 word_here want s ts = ap (λ c. cond c (Some (s, ts)) None) (true_same keyword_contracts.the_type want want refl)
 
 -- and no other
-pub word_not : (want found : Keyword) (s : Span) (ts : List Terminal) → same_keyword found want ≡ false → word_at want (word found s ∷ ts) ≡ None
+pub word_not : (want found : Keyword) (s : Span) (ts : List Terminal) → same_keyword found want ≡ false → keyword_at want (word found s ∷ ts) ≡ None
 word_not want found s ts h = ap (λ c. cond c (Some (s, ts)) None) h
 
 -- a keyword takes a terminal
-pub word_shorter : (want : Keyword) (ts : List Terminal) (m : Span × List Terminal) → word_at want ts ≡ Some m → length m.1 < length ts
+pub word_shorter : (want : Keyword) (ts : List Terminal) (m : Span × List Terminal) → keyword_at want ts ≡ Some m → length m.1 < length ts
 word_shorter want ts m e = omega (arith, ap length (word_was want ts m e))
 
 name_in_was : (k : TerminalKind) (s : Span) (ts : List Terminal) (m : Ident × List Terminal) → name_in k s ts ≡ Some m → terminal k s ∷ ts ≡ spell_ident m.0 ∷ m.1
@@ -87,8 +87,8 @@ pub name_shorter : (ts : List Terminal) (m : Ident × List Terminal) → name_at
 name_shorter ts m e = omega (arith, ap length (name_was ts m e))
 
 text_in_was : (k : TerminalKind) (s : Span) (ts : List Terminal) (m : TextLiteral × List Terminal) → text_in k s ts ≡ Some m → terminal k s ∷ ts ≡ spell_text m.0 ∷ m.1
-text_in_was (Quoted value) s ts m e =
-    let same : (record { value = value; span = s }, ts) ≡ m = cc in ap (λ (m : TextLiteral × List Terminal). spell_text m.0 ∷ m.1) same
+text_in_was (Quoted spelled) s ts m e =
+    let same : (record { spelled = spelled; span = s }, ts) ≡ m = cc in ap (λ (m : TextLiteral × List Terminal). spell_text m.0 ∷ m.1) same
 text_in_was _ s ts m e = cc
 
 -- a string literal that is found is in front

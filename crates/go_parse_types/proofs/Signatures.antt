@@ -7,8 +7,8 @@ use Rattle.go_tree_nodes.specs.Trees.{TypeTree, SignatureTree, ResultTree, Param
 use Rattle.go_tree_nodes.specs.Spelling.{mark, spell_type, spell_signature, spell_result, spell_params}
 use Rattle.go_tree_nodes.specs.Rules.{is_grouped, Wf_signature, Wf_result, Wf_params}
 use Rattle.go_tree_nodes.specs.Heights.{type_height, signature_height, result_height, params_height}
-use Rattle.go_parse_types.specs.Marks.{◌>>=◌, Reading, Place, need, mark_at}
-use Rattle.go_parse_types.specs.TypeReading.{begins_type, params_at, results_by, one_result, result_by, result_at, signature_at}
+use Rattle.go_parse_types.specs.mirrors.Marks.{◌>>=◌, Reading, MarkAhead, need, mark_at}
+use Rattle.go_parse_types.specs.mirrors.TypeReading.{begins_type, params_at, results_by, one_result, result_by, result_at, signature_at}
 use Rattle.go_parse_types.proofs.Marks.{mark_was, bind_ok, need_ok, AgreesAt, bind_agrees, agrees_along}
 use Rattle.go_parse_types.proofs.TypeFacts.{FindsTypes, ReadsTypes, type_begins, bare_no_paren, no_paren_bare, begins_no_paren}
 use Rattle.go_parse_types.proofs.Params.{params_complete, params_sound}
@@ -72,7 +72,7 @@ one_reads b type reads ts free true y e =
     let same : (OneResult w.0.0, w.0.1) ≡ y = cc (w.2) in
     subst (ReadsResult b ts) same (record { spelled = r.spelled; wf = (r.wf, no_paren_bare w.0.0 w.0.1 (ap (mark_at operator.OpenParen) (sym r.spelled) ∙ free)); low = r.low })
 
-results_read : (b : ℕ) (first : Span) (ts : List Terminal) (ps : ParamTrees) (rest : List Terminal) → ts ≡ spell_params ps ++ rest → Wf_params (is_grouped ps) ps → params_height ps ≤ b → (m : Place) → mark_at operator.CloseParen rest ≡ m → (y : ResultTree × List Terminal) → results_by first ps m ≡ Ok y → ReadsResult b (mark operator.OpenParen first ∷ ts) y
+results_read : (b : ℕ) (first : Span) (ts : List Terminal) (ps : ParamTrees) (rest : List Terminal) → ts ≡ spell_params ps ++ rest → Wf_params (is_grouped ps) ps → params_height ps ≤ b → (m : MarkAhead) → mark_at operator.CloseParen rest ≡ m → (y : ResultTree × List Terminal) → results_by first ps m ≡ Ok y → ReadsResult b (mark operator.OpenParen first ∷ ts) y
 results_read b first ts ps rest is wf low None at y e = cc
 results_read b first ts ps rest is wf low (Some z) at y e =
     let same : (Results first ps z.0, z.1) ≡ y = cc in
@@ -81,7 +81,7 @@ results_read b first ts ps rest is wf low (Some z) at y e =
     let path : ts ≡ (spell_params ps ++ (close ∷ [])) ++ z.1 = is ∙ ap (λ l. spell_params ps ++ l) (mark_was operator.CloseParen rest z at) ∙ sym (append_assoc (spell_params ps) (close ∷ []) z.1) in
     subst (ReadsResult b (front ∷ ts)) same (record { spelled = ap (λ l. front ∷ l) path; wf = wf; low = low })
 
-result_by_reads : (b : ℕ) (type : List Terminal → Reading TypeTree) → ReadsTypes b type → (ts : List Terminal) (m : Place) → mark_at operator.OpenParen ts ≡ m → (y : ResultTree × List Terminal) → result_by type ts m ≡ Ok y → ReadsResult b ts y
+result_by_reads : (b : ℕ) (type : List Terminal → Reading TypeTree) → ReadsTypes b type → (ts : List Terminal) (m : MarkAhead) → mark_at operator.OpenParen ts ≡ m → (y : ResultTree × List Terminal) → result_by type ts m ≡ Ok y → ReadsResult b ts y
 result_by_reads b type reads ts None at y e = one_reads b type reads ts at (begins_type ts) y e
 result_by_reads b type reads ts (Some first) at y e =
     let w = bind_ok (params_at type first.1) (λ p. results_by first.0 p.0 (mark_at operator.CloseParen p.1)) y e in

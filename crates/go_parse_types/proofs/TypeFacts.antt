@@ -12,8 +12,8 @@ use Rattle.go_tree_nodes.specs.Trees.{TypeTree, NamedType, Pointer, ParenType, S
 use Rattle.go_tree_nodes.specs.Spelling.{mark, word, spell_ident, spell_type_name, spell_type, spell_fields, spell_methods}
 use Rattle.go_tree_nodes.specs.Rules.{IsBare, Wf_type}
 use Rattle.go_tree_nodes.specs.Heights.{type_height}
-use Rattle.go_parse_types.specs.Marks.{Reading, Place, need, same_operator, mark_at, name_at, text_at}
-use Rattle.go_parse_types.specs.TypeReading.{qualified, type_name_from, type_name_at, begins_type, ends_embedded}
+use Rattle.go_parse_types.specs.mirrors.Marks.{Reading, MarkAhead, need, same_operator, mark_at, name_at, text_at}
+use Rattle.go_parse_types.specs.mirrors.TypeReading.{qualified, type_name_from, type_name_at, begins_type, ends_embedded}
 use Rattle.go_parse_types.proofs.Marks.{mark_was, mark_not, name_was, bind_ok, need_ok, AgreesAt}
 
 -- what a function has to find that reads types as high as b
@@ -74,7 +74,7 @@ no_paren_bare (Interface k first ms last) rest e = tt
 pub begins_no_paren : (ts : List Terminal) → begins_type ts ≡ false → mark_at operator.OpenParen ts ≡ None
 begins_no_paren ts h = by (mark_at operator.OpenParen ts) refl
   where
-    by : (m : Place) → mark_at operator.OpenParen ts ≡ m → mark_at operator.OpenParen ts ≡ None
+    by : (m : MarkAhead) → mark_at operator.OpenParen ts ≡ m → mark_at operator.OpenParen ts ≡ None
     by None at = at
     by (Some m) at = let wrong : false ≡ true = sym h ∙ ap begins_type (mark_was operator.OpenParen ts m at) in cc (wrong)
 
@@ -107,7 +107,7 @@ qualified_was x dot rest (Some n) at y e =
     let same : (type_name.Qualified x dot n.0, n.1) ≡ y = cc in
     ap (λ l. spell_ident x ∷ (mark operator.Dot dot ∷ l)) (name_was rest n at) ∙ ap (λ (y : TypeName × List Terminal). spell_type_name y.0 ++ y.1) same
 
-name_from_was : (x : Ident) (rest : List Terminal) (m : Place) → mark_at operator.Dot rest ≡ m → (y : TypeName × List Terminal) → type_name_from x rest m ≡ Ok y → spell_ident x ∷ rest ≡ spell_type_name y.0 ++ y.1
+name_from_was : (x : Ident) (rest : List Terminal) (m : MarkAhead) → mark_at operator.Dot rest ≡ m → (y : TypeName × List Terminal) → type_name_from x rest m ≡ Ok y → spell_ident x ∷ rest ≡ spell_type_name y.0 ++ y.1
 name_from_was x rest None at y e =
     let same : (type_name.Plain x, rest) ≡ y = cc in ap (λ (y : TypeName × List Terminal). spell_type_name y.0 ++ y.1) same
 name_from_was x rest (Some dot) at y e =

@@ -11,8 +11,8 @@ use Rattle.go_tree_nodes.specs.Trees.{Separated, One, Then, TypeTree, FieldTrees
 use Rattle.go_tree_nodes.specs.Spelling.{mark, spell_ident, spell_idents, spell_some, spell_type_name, spell_tag, spell_type, spell_fields, spell_methods, spell_signature}
 use Rattle.go_tree_nodes.specs.Rules.{IsKept, IsNothing, IsLastField, IsLastMethod, Wf_type, Wf_fields, Wf_methods, Wf_signature, Wf_group}
 use Rattle.go_tree_nodes.specs.Heights.{type_height, fields_height, methods_height, signature_height, group_height}
-use Rattle.go_parse_types.specs.Marks.{◌>>=◌, Reading, Place, need, mark_at, name_at, text_at, list_go, idents_go}
-use Rattle.go_parse_types.specs.TypeReading.{tag_by, LineTree, NamedLine, EmbeddedLine, tagged, embedded_by, embedded, ends_embedded, named_line, line_of_name, line_by_name, line_by_star, line_at, as_fields, signature_at, method_at, as_methods}
+use Rattle.go_parse_types.specs.mirrors.Marks.{◌>>=◌, Reading, MarkAhead, need, mark_at, name_at, text_at, list_go, idents_go}
+use Rattle.go_parse_types.specs.mirrors.TypeReading.{tag_by, LineTree, NamedLine, EmbeddedLine, tagged, embedded_by, embedded, ends_embedded, named_line, line_of_name, line_by_name, line_by_star, line_at, as_fields, signature_at, method_at, as_methods}
 use Rattle.go_parse_types.proofs.Marks.{mark_was, name_was, text_was, bind_ok, need_ok, AgreesAt, bind_agrees, agrees_along}
 use Rattle.go_parse_types.proofs.Lists.{spell_list, FoundItem, list_complete, ReadsItem, list_sound, idents_complete, idents_sound, idents_some}
 use Rattle.go_parse_types.proofs.TypeFacts.{FindsTypes, ReadsTypes, type_no_mark, type_goes_on, type_name_some}
@@ -219,7 +219,7 @@ line_by_name_reads : (b : ℕ) (type : List Terminal → Reading TypeTree) → R
 line_by_name_reads b type reads ts None y e = cc
 line_by_name_reads b type reads ts (Some x) y e = line_of_name_reads b type reads ts (ends_embedded x.1) y e
 
-line_by_star_reads : (b : ℕ) (type : List Terminal → Reading TypeTree) → ReadsTypes b type → (ts : List Terminal) (m : Place) → mark_at operator.Star ts ≡ m → (y : LineTree × List Terminal) → line_by_star type ts m ≡ Ok y → LineReads b ts y
+line_by_star_reads : (b : ℕ) (type : List Terminal → Reading TypeTree) → ReadsTypes b type → (ts : List Terminal) (m : MarkAhead) → mark_at operator.Star ts ≡ m → (y : LineTree × List Terminal) → line_by_star type ts m ≡ Ok y → LineReads b ts y
 line_by_star_reads b type reads ts None at y e = line_by_name_reads b type reads ts (name_at ts) y e
 line_by_star_reads b type reads ts (Some star) at y e =
     subst (λ ts. LineReads b ts y) (sym (mark_was operator.Star ts star at)) (embedded_reads b type reads (Some star.0) star.1 y e)

@@ -10,8 +10,8 @@ use Rattle.go_tree_nodes.specs.Trees.{TypeTree, NamedType, Pointer, ParenType, S
 use Rattle.go_tree_nodes.specs.Spelling.{mark, word, spell_type_name, spell_type, spell_fields, spell_methods, spell_params, spell_signature}
 use Rattle.go_tree_nodes.specs.Rules.{is_grouped, Wf_type, Wf_fields, Wf_methods, Wf_params, Wf_signature}
 use Rattle.go_tree_nodes.specs.Heights.{type_height, fields_height, methods_height, params_height, signature_height}
-use Rattle.go_parse_types.specs.Marks.{◌>>=◌, Reading, Place, need, mark_at, word_at, list_go}
-use Rattle.go_parse_types.specs.TypeReading.{type_name_at, params_at, signature_at, line_at, method_at, as_fields, as_methods, struct_by, struct_at, interface_by, interface_at, named_at, by_interface, by_struct, paren_by, by_paren, by_star, type_by, type_at}
+use Rattle.go_parse_types.specs.mirrors.Marks.{◌>>=◌, Reading, MarkAhead, need, mark_at, keyword_at, list_go}
+use Rattle.go_parse_types.specs.mirrors.TypeReading.{type_name_at, params_at, signature_at, line_at, method_at, as_fields, as_methods, struct_by, struct_at, interface_by, interface_at, named_at, by_interface, by_struct, paren_by, by_paren, by_star, type_by, type_at}
 use Rattle.go_parse_types.proofs.Marks.{mark_was, word_was, bind_ok, need_ok, AgreesAt, bind_agrees, agrees_along}
 use Rattle.go_parse_types.proofs.TypeFacts.{FindsTypes, ReadsType, ReadsTypes, spell_type_some, type_height_some, type_name_complete, type_name_sound}
 use Rattle.go_parse_types.proofs.Params.{params_complete, ReadsParams, params_sound}
@@ -85,7 +85,7 @@ named_reads b ts y e =
     let same : (NamedType w.0.0, w.0.1) ≡ y = cc (w.2) in
     subst (ReadsType (suc b) ts) same (record { spelled = type_name_sound ts w.0 w.1; wf = tt; low = omega arith })
 
-interface_by_reads : (b : ℕ) (k first : Span) (ts : List Terminal) (ms : MethodTrees) (rest : List Terminal) → ts ≡ spell_methods ms ++ rest → Wf_methods ms → methods_height ms ≤ b → (m : Place) → mark_at operator.CloseBrace rest ≡ m → (y : TypeTree × List Terminal) → interface_by k first ms m ≡ Ok y → ReadsType (suc b) (word keyword.Interface k ∷ (mark operator.OpenBrace first ∷ ts)) y
+interface_by_reads : (b : ℕ) (k first : Span) (ts : List Terminal) (ms : MethodTrees) (rest : List Terminal) → ts ≡ spell_methods ms ++ rest → Wf_methods ms → methods_height ms ≤ b → (m : MarkAhead) → mark_at operator.CloseBrace rest ≡ m → (y : TypeTree × List Terminal) → interface_by k first ms m ≡ Ok y → ReadsType (suc b) (word keyword.Interface k ∷ (mark operator.OpenBrace first ∷ ts)) y
 interface_by_reads b k first ts ms rest is wf low None at y e = cc
 interface_by_reads b k first ts ms rest is wf low (Some z) at y e =
     let same : (Interface k first ms z.0, z.1) ≡ y = cc in
@@ -102,7 +102,7 @@ interface_reads b inner reads k ts y e =
     subst (λ ts. ReadsType (suc b) (word keyword.Interface k ∷ ts) y) (sym (mark_was operator.OpenBrace ts first (need_ok (mark_at operator.OpenBrace ts) first v.1)))
     (interface_by_reads b k first.0 first.1 (as_methods w.0.0) w.0.1 r.spelled r.wf r.low (mark_at operator.CloseBrace w.0.1) refl y w.2)
 
-struct_by_reads : (b : ℕ) (k first : Span) (ts : List Terminal) (fs : FieldTrees) (rest : List Terminal) → ts ≡ spell_fields fs ++ rest → Wf_fields fs → fields_height fs ≤ b → (m : Place) → mark_at operator.CloseBrace rest ≡ m → (y : TypeTree × List Terminal) → struct_by k first fs m ≡ Ok y → ReadsType (suc b) (word keyword.Struct k ∷ (mark operator.OpenBrace first ∷ ts)) y
+struct_by_reads : (b : ℕ) (k first : Span) (ts : List Terminal) (fs : FieldTrees) (rest : List Terminal) → ts ≡ spell_fields fs ++ rest → Wf_fields fs → fields_height fs ≤ b → (m : MarkAhead) → mark_at operator.CloseBrace rest ≡ m → (y : TypeTree × List Terminal) → struct_by k first fs m ≡ Ok y → ReadsType (suc b) (word keyword.Struct k ∷ (mark operator.OpenBrace first ∷ ts)) y
 struct_by_reads b k first ts fs rest is wf low None at y e = cc
 struct_by_reads b k first ts fs rest is wf low (Some z) at y e =
     let same : (Struct k first fs z.0, z.1) ≡ y = cc in
@@ -119,7 +119,7 @@ struct_reads b inner reads k ts y e =
     subst (λ ts. ReadsType (suc b) (word keyword.Struct k ∷ ts) y) (sym (mark_was operator.OpenBrace ts first (need_ok (mark_at operator.OpenBrace ts) first v.1)))
     (struct_by_reads b k first.0 first.1 (as_fields w.0.0) w.0.1 r.spelled r.wf r.low (mark_at operator.CloseBrace w.0.1) refl y w.2)
 
-paren_by_reads : (b : ℕ) (first : Span) (ts : List Terminal) (t : TypeTree × List Terminal) → ReadsType b ts t → (m : Place) → mark_at operator.CloseParen t.1 ≡ m → (y : TypeTree × List Terminal) → paren_by first t.0 m ≡ Ok y → ReadsType (suc b) (mark operator.OpenParen first ∷ ts) y
+paren_by_reads : (b : ℕ) (first : Span) (ts : List Terminal) (t : TypeTree × List Terminal) → ReadsType b ts t → (m : MarkAhead) → mark_at operator.CloseParen t.1 ≡ m → (y : TypeTree × List Terminal) → paren_by first t.0 m ≡ Ok y → ReadsType (suc b) (mark operator.OpenParen first ∷ ts) y
 paren_by_reads b first ts t r None at y e = cc
 paren_by_reads b first ts t r (Some z) at y e =
     let same : (ParenType first t.0 z.0, z.1) ≡ y = cc in
@@ -128,23 +128,23 @@ paren_by_reads b first ts t r (Some z) at y e =
     let path : ts ≡ (spell_type t.0 ++ (close ∷ [])) ++ z.1 = r.spelled ∙ ap (λ l. spell_type t.0 ++ l) (mark_was operator.CloseParen t.1 z at) ∙ sym (append_assoc (spell_type t.0) (close ∷ []) z.1) in
     subst (ReadsType (suc b) (front ∷ ts)) same (record { spelled = ap (λ l. front ∷ l) path; wf = r.wf; low = omega (arith, r.low) })
 
-by_interface_reads : (b : ℕ) (inner : List Terminal → Reading TypeTree) → ReadsTypes b inner → (ts : List Terminal) (m : Place) → word_at keyword.Interface ts ≡ m → (y : TypeTree × List Terminal) → by_interface inner ts m ≡ Ok y → ReadsType (suc b) ts y
+by_interface_reads : (b : ℕ) (inner : List Terminal → Reading TypeTree) → ReadsTypes b inner → (ts : List Terminal) (m : MarkAhead) → keyword_at keyword.Interface ts ≡ m → (y : TypeTree × List Terminal) → by_interface inner ts m ≡ Ok y → ReadsType (suc b) ts y
 by_interface_reads b inner reads ts None at y e = named_reads b ts y e
 by_interface_reads b inner reads ts (Some k) at y e =
     subst (λ ts. ReadsType (suc b) ts y) (sym (word_was keyword.Interface ts k at)) (interface_reads b inner reads k.0 k.1 y e)
 
-by_struct_reads : (b : ℕ) (inner : List Terminal → Reading TypeTree) → ReadsTypes b inner → (ts : List Terminal) (m : Place) → word_at keyword.Struct ts ≡ m → (y : TypeTree × List Terminal) → by_struct inner ts m ≡ Ok y → ReadsType (suc b) ts y
-by_struct_reads b inner reads ts None at y e = by_interface_reads b inner reads ts (word_at keyword.Interface ts) refl y e
+by_struct_reads : (b : ℕ) (inner : List Terminal → Reading TypeTree) → ReadsTypes b inner → (ts : List Terminal) (m : MarkAhead) → keyword_at keyword.Struct ts ≡ m → (y : TypeTree × List Terminal) → by_struct inner ts m ≡ Ok y → ReadsType (suc b) ts y
+by_struct_reads b inner reads ts None at y e = by_interface_reads b inner reads ts (keyword_at keyword.Interface ts) refl y e
 by_struct_reads b inner reads ts (Some k) at y e =
     subst (λ ts. ReadsType (suc b) ts y) (sym (word_was keyword.Struct ts k at)) (struct_reads b inner reads k.0 k.1 y e)
 
-by_paren_reads : (b : ℕ) (inner : List Terminal → Reading TypeTree) → ReadsTypes b inner → (ts : List Terminal) (m : Place) → mark_at operator.OpenParen ts ≡ m → (y : TypeTree × List Terminal) → by_paren inner ts m ≡ Ok y → ReadsType (suc b) ts y
-by_paren_reads b inner reads ts None at y e = by_struct_reads b inner reads ts (word_at keyword.Struct ts) refl y e
+by_paren_reads : (b : ℕ) (inner : List Terminal → Reading TypeTree) → ReadsTypes b inner → (ts : List Terminal) (m : MarkAhead) → mark_at operator.OpenParen ts ≡ m → (y : TypeTree × List Terminal) → by_paren inner ts m ≡ Ok y → ReadsType (suc b) ts y
+by_paren_reads b inner reads ts None at y e = by_struct_reads b inner reads ts (keyword_at keyword.Struct ts) refl y e
 by_paren_reads b inner reads ts (Some first) at y e =
     let w = bind_ok (inner first.1) (λ t. paren_by first.0 t.0 (mark_at operator.CloseParen t.1)) y e in
     subst (λ ts. ReadsType (suc b) ts y) (sym (mark_was operator.OpenParen ts first at)) (paren_by_reads b first.0 first.1 w.0 (reads first.1 w.0 w.1) (mark_at operator.CloseParen w.0.1) refl y w.2)
 
-by_star_reads : (b : ℕ) (inner : List Terminal → Reading TypeTree) → ReadsTypes b inner → (ts : List Terminal) (m : Place) → mark_at operator.Star ts ≡ m → (y : TypeTree × List Terminal) → by_star inner ts m ≡ Ok y → ReadsType (suc b) ts y
+by_star_reads : (b : ℕ) (inner : List Terminal → Reading TypeTree) → ReadsTypes b inner → (ts : List Terminal) (m : MarkAhead) → mark_at operator.Star ts ≡ m → (y : TypeTree × List Terminal) → by_star inner ts m ≡ Ok y → ReadsType (suc b) ts y
 by_star_reads b inner reads ts None at y e = by_paren_reads b inner reads ts (mark_at operator.OpenParen ts) refl y e
 by_star_reads b inner reads ts (Some star) at y e =
     let w = bind_ok (inner star.1) (λ t. Ok (Pointer star.0 t.0, t.1)) y e in

@@ -1,19 +1,17 @@
 //! The tokens ahead of the parser.
-ghost use Rattle.std.specs.Prelude.{◌≡◌, ◌==◌, IfOk, length, true};
+ghost use Rattle.std.specs.Prelude.{◌≡◌, ◌==◌, IfOk, length, true, is_some};
 ghost use Rattle.std.specs.Option.{option_map};
-ghost use Rattle.std.specs.Str.{chars};
 ghost use Rattle.go_text_core.specs.Slices.{slice_of};
-ghost use Rattle.go_scan_core.specs.Values.{string_value_of};
-ghost use Rattle.go_parse_types.specs.Giving.{Gives, IsPlace};
-ghost use Rattle.go_parse_types.specs.Marks as marks;
-ghost use Rattle.go_parse_types.specs.Marks.{need, mark_at, word_at, name_at, number_at, text_at};
+ghost use Rattle.go_parse_types.specs.mirrors.Giving.{Gives, IsOffset, NeverMemory};
+ghost use Rattle.go_parse_types.specs.mirrors.Marks as marks;
+ghost use Rattle.go_parse_types.specs.mirrors.Marks.{need, mark_at, keyword_at, name_at, number_at, text_at};
 ghost use Rattle.go_tree_nodes.specs.Terminals.{terminals};
-ghost use Rattle.go_parse_types.specs.TypeReading as reading;
+ghost use Rattle.go_parse_types.specs.mirrors.TypeReading as reading;
 
 use crate::stop::Stop;
-use go_scan_core::{Keyword, Operator, Token, TokenKind, integer_value, string_value};
+use go_scan_core::{Keyword, Operator, Token, TokenKind, integer_value};
 use go_text_core::{Name, Span};
-use go_tree_nodes::{Ident, TextLiteral, TextValue};
+use go_tree_nodes::{Ident, TextLiteral};
 use std::alloc::{AllocError, Global};
 use std::marker::Model;
 
@@ -32,11 +30,11 @@ fn ident(alloc: Global, text: &str, span: Span) -> Result<Option<Ident>, AllocEr
 
 /// The string literal that stands at a place of a text.
 fn text_literal(alloc: Global, text: &str, span: Span) -> Result<Option<TextLiteral>, AllocError>
-    ensures { IfOk result (λ x. x ≡ option_map (λ spelled. record { value = string_value_of (chars spelled); span = span }) (slice_of text.now span)) }
+    ensures { IfOk result (λ x. x ≡ option_map (λ spelled. record { spelled = spelled; span = span }) (slice_of text.now span)) }
 {
     match span.slice(text) {
         Some(spelled) => Ok(Some(TextLiteral {
-            value: TextValue::new(string_value(alloc, spelled)?),
+            spelled: Name::from_text(alloc, spelled)?,
             span,
         })),
         None => Ok(None),
@@ -69,10 +67,10 @@ impl<'a> Ahead<'a> {
 
     /// The offset in bytes of the token in front, or of the end of the text.
     pub fn offset(&self) -> usize
-        ensures { IsPlace result self.now }
+        ensures { IsOffset result self.now }
     {
         match self.tokens.first() {
-            Some(first) => first.span.start,
+            Some(first) => first.span.start as usize,
             None => self.text.len(),
         }
     }
@@ -120,7 +118,7 @@ impl<'a> Ahead<'a> {
 
     /// The keyword in front, and what is behind it.
     pub fn word(&self, want: Keyword) -> Option<(Span, Ahead<'a>)>
-        ensures { result ≡ word_at want self.now }
+        ensures { result ≡ keyword_at want self.now }
     {
         let (first, rest) = self.tokens.split_first()?;
         match first.kind {
@@ -209,7 +207,8 @@ impl<'a> Ahead<'a> {
     ///
     /// [`Stop::Grammar`] where it does not, with the offset in bytes of what stands there.
     pub fn need_mark(&self, want: Operator) -> Result<(Span, Ahead<'a>), Stop>
-        ensures { Gives (λ x. (x.0, x.1)) result (need (mark_at want self.now)) }
+        ensures value { Gives (λ x. (x.0, x.1)) result (need (mark_at want self.now)) }
+        ensures surely { NeverMemory result }
     {
         self.mark(want).ok_or(Stop::Grammar(self.offset()))
     }
@@ -220,7 +219,8 @@ impl<'a> Ahead<'a> {
     ///
     /// [`Stop::Grammar`] where it does not, with the offset in bytes of what stands there.
     pub fn need_word(&self, want: Keyword) -> Result<(Span, Ahead<'a>), Stop>
-        ensures { Gives (λ x. (x.0, x.1)) result (need (word_at want self.now)) }
+        ensures value { Gives (λ x. (x.0, x.1)) result (need (keyword_at want self.now)) }
+        ensures surely { NeverMemory result }
     {
         self.word(want).ok_or(Stop::Grammar(self.offset()))
     }
@@ -248,7 +248,8 @@ impl<'a> Ahead<'a> {
         between: Operator,
         close: Operator,
     ) -> Result<(Option<Span>, Ahead<'a>), Stop>
-        ensures { Gives (λ x. (x.0, x.1)) result (marks.mark_or_end between close self.entry) }
+        ensures value { Gives (λ x. (x.0, x.1)) result (marks.mark_or_end between close self.entry) }
+        ensures surely { NeverMemory result }
     {
         if let Some((span, rest)) = self.mark(between) {
             return Ok((Some(span), rest));
@@ -270,19 +271,26 @@ impl<'a> Ahead<'a> {
             || self.word(Keyword::Interface).is_some()
     }
 
-    /// Whether what may stand behind an embedded field is in front.
-    ///
-    /// # Errors
-    ///
-    /// [`AllocError`] where memory runs out.
-    pub fn ends_embedded(&self, alloc: Global) -> Result<bool, AllocError>
-        ensures { IfOk result (λ x. x ≡ reading.ends_embedded self.now) }
+    /// Whether a string literal is in front.
+    fn begins_text(&self) -> bool
+        ensures { result ≡ is_some (text_at self.now) }
     {
-        Ok(
-            self.mark(Operator::Dot).is_some()
-                || self.text(alloc)?.is_some()
-                || self.mark(Operator::Semicolon).is_some()
-                || self.mark(Operator::CloseBrace).is_some(),
-        )
+        let Some(first) = self.tokens.first() else {
+            return false;
+        };
+        match first.kind {
+            TokenKind::String => first.span.slice(self.text).is_some(),
+            _ => false,
+        }
+    }
+
+    /// Whether what may stand behind an embedded field is in front.
+    pub fn ends_embedded(&self) -> bool
+        ensures { result ≡ reading.ends_embedded self.now }
+    {
+        self.mark(Operator::Dot).is_some()
+            || self.begins_text()
+            || self.mark(Operator::Semicolon).is_some()
+            || self.mark(Operator::CloseBrace).is_some()
     }
 }

@@ -2,9 +2,10 @@
 ghost use Rattle.std.specs.Prelude.{◌≡◌, map, Some, IfOk};
 ghost use Rattle.std.specs.Option.{option_map};
 ghost use Rattle.go_tree_nodes.specs.TypeShapes.{shape_idents, shape_names, shape_type, params_of};
-ghost use Rattle.go_parse_types.specs.EntryShapes.{entry_of, with_last};
-ghost use Rattle.go_parse_types.specs.TypeReading.{has_name, as_types, as_groups, as_params, plain_name};
+ghost use Rattle.go_parse_types.specs.mirrors.EntryShapes.{entry_of, with_last};
+ghost use Rattle.go_parse_types.specs.mirrors.TypeReading.{has_name, as_types, as_groups, as_params, plain_name};
 
+use crate::keeping::{add, fitted};
 use go_text_core::Span;
 use go_tree_nodes::{Ident, Idents, NextIdent, Param, TypeExpr, TypeName};
 use std::alloc::{AllocError, Global};
@@ -33,13 +34,21 @@ fn is_named(entries: &[Entry]) -> bool
 fn types_from(alloc: Global, entries: Vec<Entry>) -> Result<Vec<Param>, AllocError>
     ensures { IfOk result (λ x. params_of x.items ≡ as_types (map entry_of entries.items)) }
 {
-    let mut params = Vec::new(alloc);
+    let mut params = Vec::with_capacity(alloc, entries.len())?;
     'turns: for entry in entries {
-        params.push(Param {
+        let Entry {
+            name,
+            type_expr,
+            comma,
+        } = entry;
+        // By name: one call, where the end of the scope would take the name apart kind by kind.
+        drop(name);
+        let param = Param {
             names: None,
-            type_expr: entry.type_expr,
-            comma: entry.comma,
-        })?;
+            type_expr,
+            comma,
+        };
+        add(&mut params, param)?;
     }
     Ok(params)
 }
@@ -54,7 +63,7 @@ fn with_name(
 {
     match names {
         Some((mut names, comma)) => {
-            names.more.push(NextIdent { comma, ident: name })?;
+            add(&mut names.more, NextIdent { comma, ident: name })?;
             Ok(names)
         }
         None => Ok(Idents {
@@ -84,7 +93,11 @@ fn group(
 ) -> Result<Param, AllocError>
     ensures { IfOk result (λ x. (shape_names x.names ≡ Some (with_last (option_map (λ n. (shape_idents n.0, n.1)) names) name)) × (x.type_expr ≡ type_expr) × (x.comma ≡ comma)) }
 {
-    let names = with_name(alloc, names, name)?;
+    let Idents { first, more } = with_name(alloc, names, name)?;
+    let names = Idents {
+        first,
+        more: fitted(more),
+    };
     Ok(Param {
         names: Some(names),
         type_expr,
@@ -106,7 +119,7 @@ fn groups_from(alloc: Global, entries: Vec<Entry>) -> Result<Option<Vec<Param>>,
             comma,
         } = entry;
         if let Some(name) = name {
-            params.push(group(alloc, names, name, type_expr, comma)?)?;
+            add(&mut params, group(alloc, names, name, type_expr, comma)?)?;
             names = None;
         } else {
             let Some(name) = plain(type_expr) else {
@@ -121,7 +134,7 @@ fn groups_from(alloc: Global, entries: Vec<Entry>) -> Result<Option<Vec<Param>>,
     if names.is_some() {
         return Ok(None);
     }
-    Ok(Some(params))
+    Ok(Some(fitted(params)))
 }
 
 /// The parameters that entries are, or none where they are no parameters.

@@ -2,7 +2,7 @@
 ghost use Rattle.std.specs.Prelude.{◌≡◌, ◌<◌, ◌^◌};
 ghost use Rattle.go_tree_nodes.specs.Heights as heights;
 ghost use Rattle.go_tree_nodes.specs.TypeShapes.{shape_type, shape_signature, shape_results, fields_of, methods_of, params_of};
-ghost use Rattle.go_parse_types.specs.EntryShapes.{field_height};
+ghost use Rattle.go_parse_types.specs.mirrors.EntryShapes.{field_height};
 
 use go_tree_nodes::{FieldLine, Fields, MethodLine, Param, Results, Signature, TypeExpr};
 

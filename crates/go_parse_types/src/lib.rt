@@ -11,7 +11,7 @@ mod type_reader;
 
 pub use ahead::Ahead;
 pub use heights::type_height;
-pub use keeping::{add, boxed};
+pub use keeping::{add, boxed, fitted};
 pub use names::{idents, type_name};
 pub use stop::Stop;
 pub use type_reader::{signature, struct_type, type_expr};

@@ -1,13 +1,13 @@
 //! Names with commas between them, and the names of types.
 ghost use Rattle.std.specs.Prelude.{◌≡◌, suc, length};
 ghost use Rattle.go_tree_nodes.specs.TypeShapes.{shape_idents, shape_type};
-ghost use Rattle.go_parse_types.specs.EntryShapes.{named_by};
-ghost use Rattle.go_parse_types.specs.Giving.{Gives};
-ghost use Rattle.go_parse_types.specs.Marks.{idents_go};
-ghost use Rattle.go_parse_types.specs.TypeReading.{type_name_at};
+ghost use Rattle.go_parse_types.specs.mirrors.EntryShapes.{type_name_of};
+ghost use Rattle.go_parse_types.specs.mirrors.Giving.{Gives};
+ghost use Rattle.go_parse_types.specs.mirrors.Marks.{idents_go};
+ghost use Rattle.go_parse_types.specs.mirrors.TypeReading.{type_name_at};
 
 use crate::ahead::Ahead;
-use crate::keeping::add;
+use crate::keeping::{add, fitted};
 use crate::stop::Stop;
 use go_scan_core::Operator;
 use go_tree_nodes::{Idents, NextIdent, TypeExpr, TypeName};
@@ -29,6 +29,7 @@ pub fn idents<'a>(alloc: Global, ahead: Ahead<'a>) -> Result<(Idents, Ahead<'a>)
         add(&mut more, NextIdent { comma, ident })?;
         rest = after;
     }
+    let more = fitted(more);
     Ok((Idents { first, more }, rest))
 }
 
@@ -50,7 +51,7 @@ pub fn type_name<'a>(alloc: Global, ahead: Ahead<'a>) -> Result<(TypeName, Ahead
 
 /// The name that a type is.
 pub fn name_of(type_expr: TypeExpr) -> Option<TypeName>
-    ensures { result ≡ named_by (shape_type type_expr) }
+    ensures { result ≡ type_name_of (shape_type type_expr) }
 {
     match type_expr {
         TypeExpr::Name(name) => Some(name),

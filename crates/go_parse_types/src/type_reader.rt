@@ -2,15 +2,15 @@
 ghost use Rattle.std.specs.Prelude.{◌≡◌, map, Ok};
 ghost use Rattle.go_scan_core.specs.declared.kind.Operator.TheVariants as operator;
 ghost use Rattle.go_tree_nodes.specs.TypeShapes.{shape_type, shape_signature, shape_results, params_of};
-ghost use Rattle.go_parse_types.specs.EntryShapes.{list_all, then_mark, typed_at, paren_at, listed_at, entry_of, line_tree, line_of, method_of};
-ghost use Rattle.go_parse_types.specs.Giving.{Gives};
-ghost use Rattle.go_parse_types.specs.Marks.{text_at};
-ghost use Rattle.go_parse_types.specs.TypeReading as reading;
-ghost use Rattle.go_parse_types.specs.TypeReading.{type_at, type_by, entry_at, params_at, result_at, signature_at, line_at, method_at};
+ghost use Rattle.go_parse_types.specs.mirrors.EntryShapes.{list_all, then_mark, typed_at, paren_at, listed_at, entry_of, line_tree, line_of, method_of};
+ghost use Rattle.go_parse_types.specs.mirrors.Giving.{Gives};
+ghost use Rattle.go_parse_types.specs.mirrors.Marks.{text_at};
+ghost use Rattle.go_parse_types.specs.mirrors.TypeReading as reading;
+ghost use Rattle.go_parse_types.specs.mirrors.TypeReading.{type_at, type_by, entry_at, params_at, result_at, signature_at, line_at, method_at};
 
 use crate::ahead::Ahead;
 use crate::entries::{Entry, params_from};
-use crate::keeping::{add, boxed};
+use crate::keeping::{add, boxed, fitted};
 use crate::names::{idents, name_of, type_name};
 use crate::stop::Stop;
 use go_scan_core::{Keyword, Operator};
@@ -344,7 +344,7 @@ fn line<'a>(alloc: Global, ahead: Ahead<'a>, budget: u32) -> Result<(FieldLine, 
     let Some(behind) = ahead.behind_name() else {
         return Err(Stop::Grammar(ahead.offset()));
     };
-    if behind.ends_embedded(alloc)? {
+    if behind.ends_embedded() {
         return embedded(alloc, ahead, None, budget);
     }
     named(alloc, ahead, budget)
@@ -366,7 +366,7 @@ fn lines<'a>(
         add(&mut all, line)?;
         rest = behind;
     }
-    Ok((all, rest))
+    Ok((fitted(all), rest))
 }
 
 /// The method in front with the semicolon behind it, with types at most `budget` high.
@@ -408,5 +408,5 @@ fn methods<'a>(
         add(&mut all, method)?;
         rest = behind;
     }
-    Ok((all, rest))
+    Ok((fitted(all), rest))
 }

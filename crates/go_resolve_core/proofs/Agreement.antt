@@ -22,7 +22,7 @@ use Rattle.go_resolve_core.specs.Declarations.{expr_end, exprs_end, entry, decla
 use Rattle.go_resolve_core.specs.Faults as fault
 use Rattle.go_resolve_core.specs.Faults.{second_fault, any_new, first_of, fault_at, repeated_fault, repeated_faults, short_faults, stmt_faults, lines_faults}
 use Rattle.go_resolve_core.specs.Outcomes.{use_of}
-use Rattle.go_resolve_core.specs.Walk.{use_in, env_with, idents, env_names, any_new_in, repeated_in, taken_note, new_note, env_after, stmt_uses, stmt_notes, lines_uses, lines_notes}
+use Rattle.go_resolve_core.specs.mirrors.Walk.{use_in, env_with, idents, env_names, any_new_in, repeated_in, taken_note, new_note, env_after, stmt_uses, stmt_notes, lines_uses, lines_notes}
 use Rattle.go_resolve_core.proofs.Each.{Each, each-weaker, each-append, or_false}
 use Rattle.go_resolve_core.proofs.Found.{Nested}
 use Rattle.go_resolve_core.proofs.Placed.{IsWithin, AreWithin, IsTypeWithin, AreSomeWithin, AreInTurn, IsStmtPlaced, AreLinesPlaced, stmt_end, some_end}

@@ -20,7 +20,7 @@ use Rattle.go_resolve_core.specs.Universe.{universe}
 use Rattle.go_resolve_core.specs.Declarations.{entry, declares, expr_end, exprs_end, kind_of, body_of, is_init, decl_kind, decl_name, decl_declares, decl_locals, stmt_declares, lines_declare, tops_declare, tops_locals, file_declares}
 use Rattle.go_resolve_core.specs.Denoted.{IsAmong, IsInScope, Denotes, InnermostIsDenoted, OneIsDenoted}
 use Rattle.go_resolve_core.specs.Placed.{IsPlaced}
-use Rattle.go_resolve_core.specs.Walk.{idents}
+use Rattle.go_resolve_core.specs.mirrors.Walk.{idents}
 use Rattle.go_resolve_core.proofs.Each.{Each, each-weaker, each-append}
 use Rattle.go_resolve_core.proofs.Placed.{AreInTurn, IsStmtPlaced, AreLinesPlaced, IsDeclPlaced, AreDeclsPlaced, stmt_end, decl_end, file_placed}
 use Rattle.go_resolve_core.proofs.Parts.{IsLocal, names_declare, names_are, stmt_ends, stmt_parts, lines_parts}

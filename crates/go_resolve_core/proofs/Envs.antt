@@ -148,6 +148,25 @@ left_env table old new env v h e =
 pub found_in-blocks : (table : List Declared) (scopes : List Numbers) (n : List ℕ) → found_in (blocks_of table scopes) n ≡ or_else (option_map (numbered table) (found_in scopes n)) (in_block universe n)
 found_in-blocks table scopes n = ap (λ o. or_else o (in_block universe n)) (found_in-env table scopes n)
 
+-- the table after a push that was made
+pub pushed : (table new : List Declared) (d : Declared) (made failed : Bool) → new ≡ (if made then table ++ d ∷ [] else table) → made ≡ not failed → failed ≡ false → new ≡ table ++ d ∷ []
+pushed table new d made failed items other passed = items ∙ ap (λ b. if b then table ++ d ∷ [] else table) (other ∙ ap not passed)
+
+-- and after one for which there was no room
+pub not_pushed : (table new : List Declared) (d : Declared) (made failed : Bool) → new ≡ (if made then table ++ d ∷ [] else table) → made ≡ not failed → failed ≡ true → new ≡ table
+not_pushed table new d made failed items other passed = items ∙ ap (λ b. if b then table ++ d ∷ [] else table) (other ∙ ap not passed)
+
+-- whether a name is taken, as the open blocks were asked
+pub taken_as : (table : List Declared) (scopes : List Numbers) (env : List (List (List ℕ × Declared))) → blocks_of table scopes ≡ env → 1 < length env → (n : List ℕ) (asked b : Bool) → asked ≡ is_taken scopes n → asked ≡ b → is_taken env n ≡ b
+taken_as table scopes env v o n asked b answer is =
+    let some : 0 < length scopes = scopes_open table scopes env v o in
+    let within : 0 < length (env_of table scopes) = omega (arith, length-env table scopes) in
+    ap (λ x. is_taken x n) (sym v)
+    ∙ ap (λ x. not (is_blank n) && is_some (in_block x n)) (innermost-inside universe (env_of table scopes) within)
+    ∙ is_taken-env table scopes n
+    ∙ sym answer
+    ∙ is
+
 module _ (table table' : List Declared) (scopes scopes' : List Numbers) (d : Declared) (env : List (List (List ℕ × Declared))) (grown : table' ≡ table ++ d ∷ []) (h : AreNumbers table scopes) (v : blocks_of table scopes ≡ env) where
   -- a longer table under the same blocks
   pub kept_numbers : scopes' ≡ scopes → AreNumbers table' scopes'
@@ -155,11 +174,6 @@ module _ (table table' : List Declared) (scopes scopes' : List Numbers) (d : Dec
 
   pub kept_env : scopes' ≡ scopes → blocks_of table' scopes' ≡ env
   kept_env e = rw (grown, e) (ap (λ l. universe ∷ l) (env_of-grow table d scopes h) ∙ v)
-
-  pub taken_is : 0 < length scopes → (n : List ℕ) (b : Bool) → is_taken scopes n ≡ b → is_taken env n ≡ b
-  taken_is o n b e =
-      let within : 0 < length (env_of table scopes) = omega (arith, length-env table scopes) in
-      ap (λ x. is_taken x n) (sym v) ∙ (ap (λ x. not (is_blank n) && is_some (in_block x n)) (innermost-inside universe (env_of table scopes) within) ∙ (is_taken-env table scopes n ∙ e))
 
   pub new_numbers : (n : List ℕ) (id : DeclId) → id.0 ≡ length table → scopes' ≡ with_innermost scopes (block_with (innermost scopes) n id) → AreNumbers table' scopes'
   new_numbers n id k e =

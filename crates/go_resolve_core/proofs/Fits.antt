@@ -16,7 +16,7 @@ use Rattle.go_resolve_core.specs.declared.declared.Declared.{Declared}
 use Rattle.go_resolve_core.specs.declared.declared.Use.{Use}
 use Rattle.go_resolve_core.specs.Binding.{Entry, same_block, region_has, is_second, shown}
 use Rattle.go_resolve_core.specs.Outcomes.{outcome_by, use_of}
-use Rattle.go_resolve_core.specs.Walk.{use_in}
+use Rattle.go_resolve_core.specs.mirrors.Walk.{use_in}
 use Rattle.go_resolve_core.proofs.Each.{Each, each-weaker, each-append, filter-none, any-none, any-same, and_false, or_false}
 use Rattle.go_resolve_core.proofs.Found.{flat, with_name, IsStrictly, IsSingle, Nested, binds_found}
 use Rattle.go_resolve_core.proofs.Parts.{IsLocal, opens, IsPart, region-before, region-after, region-in, apart_by_open, apart_by_open_before, same_block-self}

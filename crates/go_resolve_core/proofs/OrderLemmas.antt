@@ -16,7 +16,7 @@ use Rattle.go_resolve_core.specs.Binding.{Entry, is_second}
 use Rattle.go_resolve_core.specs.Declarations.{entry, expr_end, exprs_end, kind_of, body_of, is_init, decl_kind, decl_name, file_declares}
 use Rattle.go_resolve_core.specs.Faults.{fault_at, any_new, repeated_fault, repeated_faults, short_faults, stmt_faults, lines_faults, is_procedure, is_main, name_faults, body_faults, tops_faults}
 use Rattle.go_resolve_core.specs.Order.{IsBefore, AreInOrder, FaultsInOrder}
-use Rattle.go_resolve_core.specs.Walk.{idents, new_note}
+use Rattle.go_resolve_core.specs.mirrors.Walk.{idents, new_note}
 use Rattle.go_resolve_core.proofs.Placed.{AreInTurn, IsStmtPlaced, AreLinesPlaced, IsDeclPlaced, AreDeclsPlaced, stmt_end, decl_end, file_placed}
 use Rattle.go_resolve_core.proofs.Parts.{turn_ends, stmt_ends, lines_ends}
 use Rattle.go_resolve_core.proofs.Package.{decl_at}

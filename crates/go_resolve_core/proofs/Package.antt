@@ -17,7 +17,7 @@ use Rattle.go_resolve_core.specs.declared.declared.Block.TheVariants.{Universe, 
 use Rattle.go_resolve_core.specs.Binding.{Entry, same_block, is_second}
 use Rattle.go_resolve_core.specs.Universe.{universe}
 use Rattle.go_resolve_core.specs.Declarations.{entry, is_init, decl_kind, decl_name, decl_declares, tops_declare}
-use Rattle.go_resolve_core.specs.Walk.{env_decl, env_tops}
+use Rattle.go_resolve_core.specs.mirrors.Walk.{env_decl, env_tops}
 use Rattle.go_resolve_core.proofs.Each.{Each, each-weaker, each-append, any-none, any-same, and_false, or_false}
 use Rattle.go_resolve_core.proofs.Found.{IsSingle, with_name}
 use Rattle.go_resolve_core.proofs.Parts.{IsLocal, lines_ends}

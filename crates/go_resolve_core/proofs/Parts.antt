@@ -13,7 +13,7 @@ use Rattle.go_resolve_core.specs.declared.declared.DeclKind.{DeclKind}
 use Rattle.go_resolve_core.specs.declared.declared.DeclKind.TheVariants.{Var}
 use Rattle.go_resolve_core.specs.Binding.{Entry, same_block, region_has}
 use Rattle.go_resolve_core.specs.Declarations.{expr_end, exprs_end, entry, declares, kind_of, idents_declare, stmt_declares, lines_declare}
-use Rattle.go_resolve_core.specs.Walk.{idents}
+use Rattle.go_resolve_core.specs.mirrors.Walk.{idents}
 use Rattle.go_resolve_core.proofs.Each.{Each, each-weaker, each-append, and_false}
 use Rattle.go_resolve_core.proofs.Placed.{AreInTurn, IsStmtPlaced, AreLinesPlaced, stmt_end}
 

@@ -10,7 +10,7 @@ use Rattle.go_tree_nodes.specs.Terminals.{Terminal, terminal, Mark, InOrder}
 use Rattle.go_subset_core.specs.Trees.{ExprTree, Literal, Named, Paren, Binary, Separated, One, Then, ValueTree, StmtTree, Lines, Declare, Short, Assign, Return, Block, Empty, More, FuncTree, DeclTree, Value, Func, TopTree, FileTree}
 use Rattle.go_subset_core.specs.Spelling.{spell, spell_exprs, spell_idents, spell_some_type, spell_outcome, spell_value, spell_semicolon, spell_stmt, spell_lines, spell_func, spell_decl, spell_tops}
 use Rattle.go_resolve_core.specs.Declarations.{expr_end, exprs_end}
-use Rattle.go_resolve_core.specs.Walk.{idents}
+use Rattle.go_resolve_core.specs.mirrors.Walk.{idents}
 use Rattle.go_resolve_core.specs.Placed.{IsPlaced}
 
 -- the names of an expression lie between two places

@@ -25,7 +25,7 @@ use Rattle.go_resolve_core.specs.declared.declared.Use.{Use}
 use Rattle.go_resolve_core.specs.Binding.{Entry}
 use Rattle.go_resolve_core.specs.Declarations.{declared, expr_end, exprs_end}
 use Rattle.go_resolve_core.specs.Faults.{fault_at, first_of, repeated_fault}
-use Rattle.go_resolve_core.specs.Walk.{use_in, env_with, idents, env_names, any_new_in, repeated_in, taken_note}
+use Rattle.go_resolve_core.specs.mirrors.Walk.{use_in, env_with, idents, env_names, any_new_in, repeated_in, taken_note}
 use Rattle.go_resolve_core.proofs.Pushes.{innermost_with, some_push, length-with_innermost, with_same}
 
 -- the parts of a list's elements, one after another

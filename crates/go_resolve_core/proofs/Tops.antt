@@ -10,7 +10,7 @@ use Rattle.go_resolve_core.specs.declared.declared.Use.{Use}
 use Rattle.go_resolve_core.specs.declared.declared.Fault.{Fault}
 use Rattle.go_resolve_core.specs.Binding.{Entry}
 use Rattle.go_resolve_core.specs.Declarations.{is_init, decl_kind, decl_name}
-use Rattle.go_resolve_core.specs.Walk.{env_with, env_decl, env_tops, is_repeated, repeats_of, name_notes, body_notes, decl_uses, tops_uses, tops_notes}
+use Rattle.go_resolve_core.specs.mirrors.Walk.{env_with, env_decl, env_tops, is_repeated, repeats_of, name_notes, body_notes, decl_uses, tops_uses, tops_notes}
 use Rattle.go_resolve_core.proofs.Steps.{first_is, length-env_with}
 
 pub length-env_decl : (env : List (List Entry)) (d : DeclTree) → length (env_decl env d) ≡ length env

@@ -22,7 +22,7 @@ use Rattle.go_resolve_core.specs.declared.declared.Use.{Use}
 use Rattle.go_resolve_core.specs.declared.declared.Fault.{Fault}
 use Rattle.go_resolve_core.specs.Binding.{Entry}
 use Rattle.go_resolve_core.specs.Declarations.{declared, expr_end, exprs_end, kind_of}
-use Rattle.go_resolve_core.specs.Walk.{env_with, idents, env_names, any_new_in, new_note, repeated_in, env_after, stmt_uses, stmt_notes, lines_uses, lines_notes, lines_env}
+use Rattle.go_resolve_core.specs.mirrors.Walk.{env_with, idents, env_names, any_new_in, new_note, repeated_in, env_after, stmt_uses, stmt_notes, lines_uses, lines_notes, lines_env}
 use Rattle.go_resolve_core.proofs.Steps.{first_is, length-env_with, first_of-idents}
 
 length-env_names : (xs : List Ident) (env : List (List Entry)) (block : declared_block.Block) (from : ℕ) → length (env_names env block from xs) ≡ length env

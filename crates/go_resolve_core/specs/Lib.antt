@@ -7,4 +7,4 @@ pub mod Order
 pub mod Outcomes
 pub mod Placed
 pub mod Universe
-pub mod Walk
+pub mod mirrors

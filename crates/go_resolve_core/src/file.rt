@@ -1,5 +1,5 @@
 //! The package block, and the file.
-ghost use Rattle.std.specs.Prelude.{◌≡◌, ℕ, ◌<◌, List, [], ◌∷◌, ◌++◌, length, map, false, IfOk, OnOk};
+ghost use Rattle.std.specs.Prelude.{◌≡◌, ℕ, ◌<◌, List, [], ◌∷◌, ◌++◌, length, map, false, IfOk, OnOk, OnErr};
 ghost use Rattle.go_subset_core.specs.Shapes.{decl_of, func_of, top_of, file_of};
 ghost use Rattle.go_subset_core.specs.Trees.{Func};
 ghost use Rattle.go_resolve_core.specs.Declarations.{decl_name, decl_kind};
@@ -7,7 +7,7 @@ ghost use Rattle.go_resolve_core.specs.Faults.{is_procedure, procedure_fault, fa
 ghost use Rattle.go_text_core.specs.Text.{is_blank};
 ghost use Rattle.go_resolve_core.specs.Outcomes.{uses_of};
 ghost use Rattle.go_resolve_core.specs.Placed.{IsPlaced};
-ghost use Rattle.go_resolve_core.specs.Walk.{is_repeated, repeats_of, env_decl, env_tops, name_notes, body_notes, decl_uses, tops_uses, tops_notes};
+ghost use Rattle.go_resolve_core.specs.mirrors.Walk.{is_repeated, repeats_of, env_decl, env_tops, name_notes, body_notes, decl_uses, tops_uses, tops_notes};
 
 use crate::declared::{Block, DeclKind, Fault, Resolution, Use};
 use crate::names::{is_blank, is_init, is_main};
@@ -46,11 +46,13 @@ fn is_procedure(decl: &Decl) -> bool
     }
 }
 
-// Declares the name of a declaration in the package block, and says whether the block has it already.
+// Declares the name of a declaration in the package block, and says whether the block has it already. An error is
+// want of memory, and comes only where it has not.
 fn declare_decl(resolver: &mut Resolver, decl: &Decl) -> Result<bool, AllocError>
     requires { 1 < length resolver.old }
     ensures repeated { IfOk result (λ repeated. repeated ≡ is_repeated resolver.old (decl_of decl.now)) }
     ensures open { OnOk result (resolver.new ≡ env_decl resolver.old (decl_of decl.now)) }
+    ensures memory { OnErr result (is_repeated resolver.old (decl_of decl.now) ≡ false) }
 {
     let name = name_of(decl);
     if is_init(name) {
@@ -122,7 +124,10 @@ fn walk_func(
 {
     walk_type(resolver, uses, &func.result)?;
     resolver.enter()?;
-    let block = Block::Within(func.open_brace.start, func.close_brace.start);
+    let block = Block::Within(
+        func.open_brace.start as usize,
+        func.close_brace.start as usize,
+    );
     walk_lines(resolver, uses, faults, block, &func.body)?;
     resolver.leave();
     Ok(())

@@ -1,12 +1,11 @@
 //! The open blocks with their declarations.
-ghost use Rattle.std.specs.Prelude.{◌≡◌, ℕ, ◌<◌, List, [], ◌∷◌, ◌++◌, length, map, IfOk, IfErr, OnOk, OnErr, not, if◌then◌else◌};
+ghost use Rattle.std.specs.Prelude.{◌≡◌, ℕ, ◌<◌, List, [], ◌∷◌, ◌++◌, length, map, false, IfOk, IfErr, OnOk, OnErr, not, if◌then◌else◌};
 ghost use Rattle.go_open_core.specs.Blocks.{found_in, innermost, with_innermost, is_taken, block_with};
 ghost use Rattle.go_resolve_core.specs.Universe.{universe};
 
 use crate::declared::Declared;
 use crate::universe::predeclared;
 use go_open_core::{DeclId, OpenBlocks};
-use go_text_core::Rule;
 use std::alloc::{AllocError, Global};
 use std::marker::Model;
 
@@ -61,20 +60,23 @@ impl Resolver {
     }
 
     /// Declares a name in the innermost block, if it is the first there or blank, and says whether it is.
-    /// An error is want of memory.
+    /// An error is want of memory, and comes only where it is.
     pub fn declare(&mut self, name: &str, declared: Declared) -> Result<bool, AllocError>
         requires { 1 < length self.old }
         ensures first { IfOk result (λ first. first ≡ not (is_taken self.old name.now)) }
         ensures ok { OnOk result (self.new ≡ (if is_taken self.old name.now then self.old else with_innermost self.old (block_with (innermost self.old) name.now declared))) }
         ensures err { OnErr result (self.new ≡ self.old) }
+        ensures memory { OnErr result (is_taken self.old name.now ≡ false) }
     {
+        if self.scopes.is_taken(name) {
+            return Ok(false);
+        }
         let id = DeclId(self.table.len());
         if self.table.push(declared).is_err() {
             return Err(AllocError);
         }
         match self.scopes.declare(name, id) {
             Ok(()) => return Ok(true),
-            Err(Rule::B1) => return Ok(false),
             Err(_) => return Err(AllocError),
         }
     }

@@ -1,8 +1,8 @@
 //! The names before `:=`.
-ghost use Rattle.std.specs.Prelude.{◌≡◌, ℕ, ◌<◌, List, [], ◌∷◌, ◌++◌, length, IfOk, OnOk, if◌then◌else◌};
+ghost use Rattle.std.specs.Prelude.{◌≡◌, ℕ, ◌<◌, List, [], ◌∷◌, ◌++◌, length, false, IfOk, OnOk, OnErr, if◌then◌else◌};
 ghost use Rattle.go_subset_core.specs.Shapes.{shape_idents};
 ghost use Rattle.go_open_core.specs.Blocks.{is_taken, innermost, with_innermost, block_with, is_new};
-ghost use Rattle.go_resolve_core.specs.Walk.{env_with, idents, env_names, any_new_in, repeated_in, taken_note};
+ghost use Rattle.go_resolve_core.specs.mirrors.Walk.{env_with, idents, env_names, any_new_in, repeated_in, taken_note};
 
 use crate::declared::{Block, DeclKind, Fault};
 use crate::names::is_blank;
@@ -13,7 +13,8 @@ use go_text_core::Rule;
 use go_tree_nodes::{Ident, Idents};
 use std::alloc::{AllocError, Global};
 
-// A name before `:=`, and whether it is a new variable.
+// A name before `:=`, and whether it is a new variable. An error is want of memory, and comes only where the block
+// does not have the name.
 fn declare_new(
     resolver: &mut Resolver,
     block: Block,
@@ -23,6 +24,7 @@ fn declare_new(
     requires { 1 < length resolver.old }
     ensures news { IfOk result (λ is_new_name. is_new_name ≡ is_new (innermost resolver.old) ident.now.name) }
     ensures open { OnOk result (resolver.new ≡ env_with resolver.old DeclKind.Var block from ident.now) }
+    ensures memory { OnErr result (is_taken resolver.old ident.now.name ≡ false) }
 {
     let is_first = declare(resolver, DeclKind::Var, block, from, ident)?;
     Ok(is_first && !is_blank(ident))

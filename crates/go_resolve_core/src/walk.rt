@@ -1,5 +1,5 @@
 //! The walk over expressions and statements.
-ghost use Rattle.std.specs.Prelude.{◌≡◌, ℕ, ◌<◌, List, [], ◌∷◌, ◌++◌, length, map, not, IfOk, OnOk, Some};
+ghost use Rattle.std.specs.Prelude.{◌≡◌, ℕ, ◌<◌, List, [], ◌∷◌, ◌++◌, length, map, not, false, IfOk, OnOk, OnErr, Some};
 ghost use Rattle.std.specs.Str.{bytes_eq};
 ghost use Rattle.go_text_core.specs.Text.{is_blank};
 ghost use Rattle.go_subset_core.specs.Occurrences.{occurrence, expr_occs, exprs_occs, target_occs, targets_occs, type_occs, value_occs, some_occs};
@@ -8,7 +8,7 @@ ghost use Rattle.go_open_core.specs.Blocks.{is_taken, innermost, is_new};
 ghost use Rattle.go_resolve_core.specs.Declarations.{expr_end, exprs_end, kind_of};
 ghost use Rattle.go_resolve_core.specs.Outcomes.{outcome_by, found_outcome};
 ghost use Rattle.go_resolve_core.specs.Faults.{fault_at};
-ghost use Rattle.go_resolve_core.specs.Walk.{use_in, env_with, idents, env_names, any_new_in, repeated_in, taken_note, new_note, env_after, stmt_uses, stmt_notes, lines_uses, lines_notes, lines_env};
+ghost use Rattle.go_resolve_core.specs.mirrors.Walk.{use_in, env_with, idents, env_names, any_new_in, repeated_in, taken_note, new_note, env_after, stmt_uses, stmt_notes, lines_uses, lines_notes, lines_env};
 
 use crate::declared::{Block, DeclKind, Declared, Fault, Outcome, Use};
 use crate::names::is_blank;
@@ -161,9 +161,9 @@ fn end_of(expr: &Expr) -> usize
     ensures { result ≡ expr_end (shape expr.now) }
 {
     match expr {
-        Expr::Literal(_, span) => span.end,
-        Expr::Name(ident) => ident.span.end,
-        Expr::Paren(_, _, last) => last.end,
+        Expr::Literal(_, span) => span.end as usize,
+        Expr::Name(ident) => ident.span.end as usize,
+        Expr::Paren(_, _, last) => last.end as usize,
         Expr::Binary(_, _, _, right) => end_of(right),
     }
 }
@@ -189,6 +189,8 @@ pub fn value_kind(kind: ValueKind) -> DeclKind
 }
 
 /// Declares a name in the innermost block, if it is the first there or blank, and says whether it is.
+///
+/// An error is want of memory, and comes only where it is.
 pub fn declare(
     resolver: &mut Resolver,
     kind: DeclKind,
@@ -199,10 +201,11 @@ pub fn declare(
     requires { 1 < length resolver.old }
     ensures first { IfOk result (λ first. first ≡ not (is_taken resolver.old ident.now.name)) }
     ensures open { OnOk result (resolver.new ≡ env_with resolver.old kind block from ident.now) }
+    ensures memory { OnErr result (is_taken resolver.old ident.now.name ≡ false) }
 {
     let declared = Declared {
         kind,
-        at: ident.span.start,
+        at: ident.span.start as usize,
         from,
         block,
     };
@@ -214,7 +217,7 @@ pub fn fault(ident: &Ident, rule: Rule) -> Fault
     ensures { result ≡ fault_at ident.now rule }
 {
     Fault {
-        offset: ident.span.start,
+        offset: ident.span.start as usize,
         rule,
     }
 }
@@ -289,7 +292,7 @@ fn walk_stmt(
                 resolver,
                 uses,
                 faults,
-                Block::Within(first.start, last.start),
+                Block::Within(first.start as usize, last.start as usize),
                 lines,
             )?;
             resolver.leave();

@@ -3,13 +3,14 @@ use Rattle.std.proofs.Common.{◌≡◌, ℕ, zero, suc, ◌+◌, ◌-◌, ◌<�
 use Rattle.go_scan_core.specs.declared.enclosed.Enclosure.{Enclosure}
 use Rattle.go_scan_core.specs.declared.enclosed.Enclosure.TheVariants.{General, Quoted, Raw}
 use Rattle.go_scan_core.specs.declared.enclosed.Flaw.{Flaw}
-use Rattle.go_scan_core.specs.declared.enclosed.Flaw.TheVariants.{Stray, Bad, Open}
+use Rattle.go_scan_core.specs.declared.enclosed.Flaw.TheVariants.{Forbidden, Bad, Open}
 use Rattle.go_scan_core.specs.declared.enclosed.Item.{Item}
 use Rattle.go_scan_core.specs.declared.enclosed.Item.TheVariants as items
 use Rattle.go_scan_core.specs.declared.escape.Meaning.{Meaning}
-use Rattle.go_scan_core.specs.Front.{first_passes, is_stray}
+use Rattle.go_scan_core.specs.Characters.{first_passes, is_forbidden}
+use Rattle.go_scan_core.specs.Enclosed.{closing}
+use Rattle.go_scan_core.specs.mirrors.Enclosed.{behind, body, body_next, escape_item, item_at, one_more}
 use Rattle.go_scan_core.specs.Escapes.{escape_at}
-use Rattle.go_scan_core.specs.Enclosed.{behind, body, body_next, closing, escape_item, item_at, one_more}
 use Rattle.go_scan_core.proofs.FrontLemmas.{and_true, chosen}
 use Rattle.go_scan_core.proofs.EscapeLemmas.{escape_within}
 
@@ -29,17 +30,17 @@ item_within General [] n h = cc
 item_within Quoted [] n h = cc
 item_within Raw [] n h = cc
 item_within General (c ∷ cs) n h =
-    elim (chosen (is_stray c) items.Stray _ (items.Characters n) h) [
+    elim (chosen (is_forbidden c) items.Forbidden _ (items.Characters n) h) [
       | inl a ↦ cc
       | inr a ↦ elim (chosen ((c == 42) && first_passes (λ d. d == 47) cs) items.End (items.Characters 1) (items.Characters n) a.1) [ inl b ↦ cc | inr b ↦ one_fits c cs n (cc) ]
     ]
 item_within Raw (c ∷ cs) n h =
-    elim (chosen (is_stray c) items.Stray _ (items.Characters n) h) [
+    elim (chosen (is_forbidden c) items.Forbidden _ (items.Characters n) h) [
       | inl a ↦ cc
       | inr a ↦ elim (chosen (c == 96) items.End (items.Characters 1) (items.Characters n) a.1) [ inl b ↦ cc | inr b ↦ one_fits c cs n (cc) ]
     ]
 item_within Quoted (c ∷ cs) n h =
-    elim (chosen (is_stray c) items.Stray _ (items.Characters n) h) [
+    elim (chosen (is_forbidden c) items.Forbidden _ (items.Characters n) h) [
       | inl a ↦ cc
       | inr a ↦ elim (chosen (c == 34) items.End _ (items.Characters n) a.1) [
         | inl b ↦ cc
@@ -66,7 +67,7 @@ end_within Raw [] h = cc
 end_within Raw (c ∷ cs) h = omega arith
 end_within Quoted (c ∷ cs) h = omega arith
 end_within General (c ∷ cs) h =
-    elim (chosen (is_stray c) items.Stray _ items.End h) [
+    elim (chosen (is_forbidden c) items.Forbidden _ items.End h) [
       | inl a ↦ cc
       | inr a ↦ elim (chosen ((c == 42) && first_passes (λ d. d == 47) cs) items.End (items.Characters 1) items.End a.1) [ inl b ↦ more cs (and_true _ _ b.0).1 | inr b ↦ cc ]
     ]
@@ -77,19 +78,19 @@ end_within General (c ∷ cs) h =
 
 pub behind-behind : (j k : ℕ) (r : Result ℕ Flaw) → behind j (behind k r) ≡ behind (j + k) r
 behind-behind j k (Ok n) = ap Ok (omega arith)
-behind-behind j k (Err (Stray n)) = ap (λ m. Err (Stray m)) (omega arith)
+behind-behind j k (Err (Forbidden n)) = ap (λ m. Err (Forbidden m)) (omega arith)
 behind-behind j k (Err Bad) = refl
 behind-behind j k (Err Open) = refl
 
 pub behind-zero : (r : Result ℕ Flaw) → behind 0 r ≡ r
 behind-zero (Ok n) = ap Ok (omega arith)
-behind-zero (Err (Stray n)) = ap (λ m. Err (Stray m)) (omega arith)
+behind-zero (Err (Forbidden n)) = ap (λ m. Err (Forbidden m)) (omega arith)
 behind-zero (Err Bad) = refl
 behind-zero (Err Open) = refl
 
 one_more-behind : (k : ℕ) (r : Result ℕ Flaw) → one_more (behind k r) ≡ behind (suc k) r
 one_more-behind k (Ok n) = ap Ok (omega arith)
-one_more-behind k (Err (Stray n)) = ap (λ m. Err (Stray m)) (omega arith)
+one_more-behind k (Err (Forbidden n)) = ap (λ m. Err (Forbidden m)) (omega arith)
 one_more-behind k (Err Bad) = refl
 one_more-behind k (Err Open) = refl
 

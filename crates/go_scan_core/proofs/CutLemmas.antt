@@ -10,14 +10,15 @@ use Rattle.go_scan_core.specs.declared.piece.Piece.TheVariants.{Space, LineEnd, 
 use Rattle.go_scan_core.specs.declared.token.Comment.{Comment}
 use Rattle.go_scan_core.specs.declared.token.LexFault.{LexFault}
 use Rattle.go_scan_core.specs.declared.token.Token.{Token}
-use Rattle.go_scan_core.specs.Front.{first_passes}
-use Rattle.go_scan_core.specs.Reading.{piece_at}
+use Rattle.go_scan_core.specs.Characters.{first_passes}
+use Rattle.go_scan_core.specs.Parts.{Break, Gap, Note, Part, Word, comments_in, holds_line_end, span_between, semicolon_after, width}
+use Rattle.go_scan_core.specs.mirrors.Cutting.{close, closed, cut, cut_next, part_of, remarked, with_front}
+use Rattle.go_scan_core.specs.mirrors.Reading.{piece_at}
 use Rattle.std.specs.Prelude.{encode_utf8, encode_utf8_all}
 use Rattle.std.specs.Str.{chars, IsUtf8}
 use borrow.Author.Tests.{tests}
 use Rattle.std.proofs.lemmas.Str.{length-encode, encodes-chars}
 use Rattle.std.proofs.lemmas.List.{append-nil, append_assoc, length-append}
-use Rattle.go_scan_core.specs.Cutting.{Part, Gap, Break, Word, Note, close, closed, comments_in, holds_line_end, remarked, semicolon_after, part_of, place_of, with_front, cut, cut_next, width}
 use Rattle.go_scan_core.proofs.PieceLemmas.{IsSound, piece_sound}
 
 -- a piece is not empty and lies in the text
@@ -42,7 +43,7 @@ cut-skip (c ∷ cs) (suc skip) start h =
     cut-skip cs skip (start + len_utf8 c) (omega arith) ∙ ap (cut (drop skip cs) 0) e
 
 -- a piece at the front, and the pieces behind it
-pub cut_step : (cs : List ℕ) (start : ℕ) (x : Piece × ℕ) → 0 < length cs → piece_at cs ≡ Ok x → cut cs 0 start ≡ with_front (part_of x.0 (place_of start (start + width (take x.1 cs))) (take x.1 cs) ∷ []) (cut (drop x.1 cs) 0 (start + width (take x.1 cs)))
+pub cut_step : (cs : List ℕ) (start : ℕ) (x : Piece × ℕ) → 0 < length cs → piece_at cs ≡ Ok x → cut cs 0 start ≡ with_front (part_of x.0 (span_between start (start + width (take x.1 cs))) (take x.1 cs) ∷ []) (cut (drop x.1 cs) 0 (start + width (take x.1 cs)))
 cut_step [] start x some e = absurd (omega arith)
 cut_step (c ∷ cs) start (k, zero) some e = absurd (let h = piece_within (c ∷ cs) (k, zero) some e in omega arith)
 cut_step (c ∷ cs) start (k, suc n) some e = unfold cut in
@@ -52,7 +53,7 @@ cut_step (c ∷ cs) start (k, suc n) some e = unfold cut in
     let rest : cut cs (suc n - 1) (start + len_utf8 c) ≡ cut (drop n cs) 0 (start + width (c ∷ take n cs)) =
     ap (λ m. cut cs m (start + len_utf8 c)) skip ∙ cut-skip cs n (start + len_utf8 c) (omega arith) ∙ ap (cut (drop n cs) 0) far in
     ap (λ r. cut_next r start (c ∷ cs) (λ m. cut cs m (start + len_utf8 c))) e
-    ∙ ap (with_front (part_of k (place_of start (start + width (c ∷ take n cs))) (c ∷ take n cs) ∷ [])) rest
+    ∙ ap (with_front (part_of k (span_between start (start + width (c ∷ take n cs))) (c ∷ take n cs) ∷ [])) rest
 
 -- a fault at the front
 pub cut_fault : (cs : List ℕ) (start : ℕ) (x : Rule × ℕ) → 0 < length cs → piece_at cs ≡ Err x → cut cs 0 start ≡ Err (record { rule = x.0; offset = start + width (take x.1 cs) })
@@ -64,7 +65,7 @@ with_front-with_front xs ys (Ok zs) = ap Ok (sym (append_assoc xs ys zs))
 with_front-with_front xs ys (Err e) = refl
 
 -- one part more
-closed_gap : (last : Option Token) (r : Result (List Part) LexFault) → closed last (with_front (Gap ∷ []) r) ≡ closed last r
+pub closed_gap : (last : Option Token) (r : Result (List Part) LexFault) → closed last (with_front (Gap ∷ []) r) ≡ closed last r
 unfolding close
 closed_gap last (Ok ps) = refl
 closed_gap last (Err e) = refl
@@ -79,7 +80,7 @@ unfolding close
 closed_word t last (Ok ps) = refl
 closed_word t last (Err e) = refl
 
-with_none : {X E : Type 0} (r : Result (List X) E) → r ≡ with_front [] r
+pub with_none : {X E : Type 0} (r : Result (List X) E) → r ≡ with_front [] r
 with_none (Ok xs) = refl
 with_none (Err e) = refl
 
@@ -97,7 +98,7 @@ comments_of_part Break = []
 comments_of_part (Word t) = []
 comments_of_part (Note c b) = c ∷ []
 
-remarked_part : (p : Part) (r : Result (List Part) LexFault) → remarked (with_front (p ∷ []) r) ≡ with_front (comments_of_part p) (remarked r)
+pub remarked_part : (p : Part) (r : Result (List Part) LexFault) → remarked (with_front (p ∷ []) r) ≡ with_front (comments_of_part p) (remarked r)
 unfolding comments_in
 remarked_part Gap (Ok ps) = refl
 remarked_part Break (Ok ps) = refl
@@ -118,42 +119,42 @@ pub turned : {X : Type 0} (f : List ℕ → ℕ → X) (at : ℕ) (cs front back
 turned f at cs front back n w is first rest = ap (λ r. f r (at + w)) rest ∙ ap (λ w. f (drop n cs) (at + w)) (is ∙ ap width first)
 
 abbrev pub token_between : TokenKind → ℕ → ℕ → Token
-token_between kind start end = record { kind = kind; span = place_of start end }
+token_between kind start end = record { kind = kind; span = span_between start end }
 
 pub turn_space : (tokens : List Token) (last : Option Token) (cs : List ℕ) (start : ℕ) (x : Piece × ℕ) → 0 < length cs → piece_at cs ≡ Ok x → x.0 ≡ Space → with_front tokens (closed last (cut (drop x.1 cs) 0 (far_of start cs x))) ≡ with_front tokens (closed last (cut cs 0 start))
 turn_space tokens last cs start x some e s =
     let far = far_of start cs x in
     let rest = cut (drop x.1 cs) 0 far in
-    ap (with_front tokens) (sym (ap (closed last) (cut_step cs start x some e ∙ ap (λ p. with_front (part_of p (place_of start far) (take x.1 cs) ∷ []) rest) s) ∙ closed_gap last rest))
+    ap (with_front tokens) (sym (ap (closed last) (cut_step cs start x some e ∙ ap (λ p. with_front (part_of p (span_between start far) (take x.1 cs) ∷ []) rest) s) ∙ closed_gap last rest))
 
 pub turn_line : (tokens : List Token) (last : Option Token) (cs : List ℕ) (start : ℕ) (x : Piece × ℕ) → 0 < length cs → piece_at cs ≡ Ok x → x.0 ≡ LineEnd → with_front (tokens ++ semicolon_after last) (closed None (cut (drop x.1 cs) 0 (far_of start cs x))) ≡ with_front tokens (closed last (cut cs 0 start))
 turn_line tokens last cs start x some e s =
     let far = far_of start cs x in
     let rest = cut (drop x.1 cs) 0 far in
-    sym (with_front-with_front tokens (semicolon_after last) (closed None rest)) ∙ ap (with_front tokens) (sym (ap (closed last) (cut_step cs start x some e ∙ ap (λ p. with_front (part_of p (place_of start far) (take x.1 cs) ∷ []) rest) s) ∙ closed_break last rest))
+    sym (with_front-with_front tokens (semicolon_after last) (closed None rest)) ∙ ap (with_front tokens) (sym (ap (closed last) (cut_step cs start x some e ∙ ap (λ p. with_front (part_of p (span_between start far) (take x.1 cs) ∷ []) rest) s) ∙ closed_break last rest))
 
-pub turn_word : (tokens : List Token) (last : Option Token) (cs : List ℕ) (start : ℕ) (x : Piece × ℕ) (kind : TokenKind) → 0 < length cs → piece_at cs ≡ Ok x → x.0 ≡ Lexeme kind → with_front (tokens ++ record { kind = kind; span = place_of start (far_of start cs x) } ∷ []) (closed (Some (record { kind = kind; span = place_of start (far_of start cs x) })) (cut (drop x.1 cs) 0 (far_of start cs x))) ≡ with_front tokens (closed last (cut cs 0 start))
+pub turn_word : (tokens : List Token) (last : Option Token) (cs : List ℕ) (start : ℕ) (x : Piece × ℕ) (kind : TokenKind) → 0 < length cs → piece_at cs ≡ Ok x → x.0 ≡ Lexeme kind → with_front (tokens ++ record { kind = kind; span = span_between start (far_of start cs x) } ∷ []) (closed (Some (record { kind = kind; span = span_between start (far_of start cs x) })) (cut (drop x.1 cs) 0 (far_of start cs x))) ≡ with_front tokens (closed last (cut cs 0 start))
 turn_word tokens last cs start x kind some e s =
     let far = far_of start cs x in
     let rest = cut (drop x.1 cs) 0 far in
-    let t : Token = record { kind = kind; span = place_of start far } in
-    sym (with_front-with_front tokens (t ∷ []) (closed (Some t) rest)) ∙ ap (with_front tokens) (sym (ap (closed last) (cut_step cs start x some e ∙ ap (λ p. with_front (part_of p (place_of start far) (take x.1 cs) ∷ []) rest) s) ∙ closed_word t last rest))
+    let t : Token = record { kind = kind; span = span_between start far } in
+    sym (with_front-with_front tokens (t ∷ []) (closed (Some t) rest)) ∙ ap (with_front tokens) (sym (ap (closed last) (cut_step cs start x some e ∙ ap (λ p. with_front (part_of p (span_between start far) (take x.1 cs) ∷ []) rest) s) ∙ closed_word t last rest))
 
 pub turn_note : (tokens : List Token) (last : Option Token) (cs : List ℕ) (start : ℕ) (x : Piece × ℕ) (kind : CommentKind) → 0 < length cs → piece_at cs ≡ Ok x → x.0 ≡ Remark kind → with_front (tokens ++ cond (holds_line_end (take x.1 cs)) (semicolon_after last) []) (closed (cond (holds_line_end (take x.1 cs)) None last) (cut (drop x.1 cs) 0 (far_of start cs x))) ≡ with_front tokens (closed last (cut cs 0 start))
 turn_note tokens last cs start x kind some e s =
     let far = far_of start cs x in
     let rest = cut (drop x.1 cs) 0 far in
     let b = holds_line_end (take x.1 cs) in
-    let c : Comment = record { kind = kind; span = place_of start far } in
-    sym (with_front-with_front tokens (cond b (semicolon_after last) []) (closed (cond b None last) rest)) ∙ ap (with_front tokens) (sym (ap (closed last) (cut_step cs start x some e ∙ ap (λ p. with_front (part_of p (place_of start far) (take x.1 cs) ∷ []) rest) s) ∙ closed_note c b last rest))
+    let c : Comment = record { kind = kind; span = span_between start far } in
+    sym (with_front-with_front tokens (cond b (semicolon_after last) []) (closed (cond b None last) rest)) ∙ ap (with_front tokens) (sym (ap (closed last) (cut_step cs start x some e ∙ ap (λ p. with_front (part_of p (span_between start far) (take x.1 cs) ∷ []) rest) s) ∙ closed_note c b last rest))
 
 -- the comments of a turn
-pub turn_comments : (comments : List Comment) (cs : List ℕ) (start : ℕ) (x : Piece × ℕ) (p : Part) → 0 < length cs → piece_at cs ≡ Ok x → part_of x.0 (place_of start (far_of start cs x)) (take x.1 cs) ≡ p → with_front (comments ++ comments_of_part p) (remarked (cut (drop x.1 cs) 0 (far_of start cs x))) ≡ with_front comments (remarked (cut cs 0 start))
+pub turn_comments : (comments : List Comment) (cs : List ℕ) (start : ℕ) (x : Piece × ℕ) (p : Part) → 0 < length cs → piece_at cs ≡ Ok x → part_of x.0 (span_between start (far_of start cs x)) (take x.1 cs) ≡ p → with_front (comments ++ comments_of_part p) (remarked (cut (drop x.1 cs) 0 (far_of start cs x))) ≡ with_front comments (remarked (cut cs 0 start))
 turn_comments comments cs start x p some e s =
     let rest = cut (drop x.1 cs) 0 (far_of start cs x) in
     sym (with_front-with_front comments (comments_of_part p) (remarked rest)) ∙ ap (with_front comments) (sym (ap remarked (cut_step cs start x some e ∙ ap (λ q. with_front (q ∷ []) rest) s) ∙ remarked_part p rest))
 
-pub turn_no_comments : (comments : List Comment) (cs : List ℕ) (start : ℕ) (x : Piece × ℕ) (p : Part) → 0 < length cs → piece_at cs ≡ Ok x → part_of x.0 (place_of start (far_of start cs x)) (take x.1 cs) ≡ p → comments_of_part p ≡ [] → with_front comments (remarked (cut (drop x.1 cs) 0 (far_of start cs x))) ≡ with_front comments (remarked (cut cs 0 start))
+pub turn_no_comments : (comments : List Comment) (cs : List ℕ) (start : ℕ) (x : Piece × ℕ) (p : Part) → 0 < length cs → piece_at cs ≡ Ok x → part_of x.0 (span_between start (far_of start cs x)) (take x.1 cs) ≡ p → comments_of_part p ≡ [] → with_front comments (remarked (cut (drop x.1 cs) 0 (far_of start cs x))) ≡ with_front comments (remarked (cut cs 0 start))
 turn_no_comments comments cs start x p some e s none =
     let rest = cut (drop x.1 cs) 0 (far_of start cs x) in
     ap (with_front comments) (with_none (remarked rest) ∙ ap (λ q. with_front q (remarked rest)) (sym none) ∙ sym (ap remarked (cut_step cs start x some e ∙ ap (λ q. with_front (q ∷ []) rest) s) ∙ remarked_part p rest))

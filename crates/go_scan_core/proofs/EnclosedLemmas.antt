@@ -6,16 +6,18 @@ use Rattle.go_text_core.specs.declared.rule.Rule.TheVariants.{L1, L2, L3}
 use Rattle.go_scan_core.specs.declared.enclosed.Enclosure.{Enclosure}
 use Rattle.go_scan_core.specs.declared.enclosed.Enclosure.TheVariants.{General, Quoted, Raw}
 use Rattle.go_scan_core.specs.declared.enclosed.Flaw.{Flaw}
-use Rattle.go_scan_core.specs.declared.enclosed.Flaw.TheVariants.{Stray, Bad, Open}
+use Rattle.go_scan_core.specs.declared.enclosed.Flaw.TheVariants.{Forbidden, Bad, Open}
 use Rattle.go_scan_core.specs.declared.enclosed.Item.{Item}
 use Rattle.go_scan_core.specs.declared.enclosed.Item.TheVariants as items
 use Rattle.go_scan_core.specs.declared.escape.Meaning.{Meaning}
-use Rattle.go_scan_core.specs.Front.{first_passes, is_stray}
+use Rattle.go_scan_core.specs.Characters.{first_passes, is_forbidden}
+use Rattle.go_scan_core.specs.Enclosed.{closing, opening}
+use Rattle.go_scan_core.specs.mirrors.Enclosed.{behind, body, enclosed_at, escape_item, item_at, placed}
 use Rattle.go_scan_core.specs.Escapes.{escape_at}
-use Rattle.go_scan_core.specs.Enclosed.{behind, body, closing, enclosed_at, escape_item, item_at, opening, placed}
 use Rattle.go_scan_core.specs.Tokens.{AreItems, IsBadEscape, IsEnclosed, IsEscape, IsFlawed, IsItem, IsOpen, is_special, joined}
 use Rattle.go_scan_core.proofs.FrontLemmas.{and_true, chosen, or_false, same_number}
 use Rattle.go_scan_core.proofs.EscapeLemmas.{escape_longer, escape_shorter, escape_within}
+use Rattle.go_scan_core.proofs.EscapedLemmas.{escape_read, escape_words}
 use Rattle.go_scan_core.proofs.BodyLemmas.{behind-behind, behind-zero, body_end, body_none, body_step, item_within}
 
 -- ---- an item is read whole
@@ -23,20 +25,20 @@ use Rattle.go_scan_core.proofs.BodyLemmas.{behind-behind, behind-zero, body_end,
 plain_item : (c : ℕ) (rest : List ℕ) → is_special c ≡ false → item_at Quoted (c ∷ rest) ≡ items.Characters 1
 unfolding item_at
 plain_item c rest h =
-    let a = or_false (is_stray c || (c == 34) || (c == 10)) (c == 92) h in
-    let b = or_false (is_stray c || (c == 34)) (c == 10) a.0 in
-    let d = or_false (is_stray c) (c == 34) b.0 in
+    let a = or_false (is_forbidden c || (c == 34) || (c == 10)) (c == 92) h in
+    let b = or_false (is_forbidden c || (c == 34)) (c == 10) a.0 in
+    let d = or_false (is_forbidden c) (c == 34) b.0 in
     rw (d.0, d.1, b.1, a.1) refl
 
 escaped_item : (cs : List ℕ) (r : Option (Meaning × ℕ)) → escape_at cs ≡ r → item_at Quoted (92 ∷ cs) ≡ escape_item r
 unfolding item_at
 escaped_item cs r e = ap escape_item e
 
-raw_whole : (c : ℕ) (rest : List ℕ) → is_stray c ≡ false → (c == 96) ≡ false → item_at Raw (c ∷ rest) ≡ items.Characters 1
+raw_whole : (c : ℕ) (rest : List ℕ) → is_forbidden c ≡ false → (c == 96) ≡ false → item_at Raw (c ∷ rest) ≡ items.Characters 1
 unfolding item_at
 raw_whole c rest h g = rw (h, g) refl
 
-comment_whole : (c : ℕ) (rest : List ℕ) → is_stray c ≡ false → ((c == 42) && first_passes (λ d. d == 47) rest) ≡ false → item_at General (c ∷ rest) ≡ items.Characters 1
+comment_whole : (c : ℕ) (rest : List ℕ) → is_forbidden c ≡ false → ((c == 42) && first_passes (λ d. d == 47) rest) ≡ false → item_at General (c ∷ rest) ≡ items.Characters 1
 unfolding item_at
 comment_whole c rest h g = rw (h, g) refl
 
@@ -46,7 +48,8 @@ item_whole Raw w rest h = ap (λ x. item_at Raw (x ++ rest)) h.1 ∙ raw_whole h
 item_whole Quoted w rest h = elim h [
   | inl plain ↦ ap (λ x. item_at Quoted (x ++ rest)) plain.1 ∙ plain_item plain.0 rest plain.2 ∙ ap (λ n. items.Characters n) (sym (ap length plain.1))
   | inr whole ↦ (let count : length whole.0 + 1 ≡ length w = omega (arith, ap length whole.1) in
-      ap (λ x. item_at Quoted (x ++ rest)) whole.1 ∙ escaped_item (whole.0 ++ rest) (Some (whole.2.0, length whole.0)) (escape_longer whole.0 rest (whole.2.0, length whole.0) whole.2.1) ∙ ap (λ n. items.Characters n) count)
+      let read = escape_read whole.0 whole.2 in
+      ap (λ x. item_at Quoted (x ++ rest)) whole.1 ∙ escaped_item (whole.0 ++ rest) (Some (read.0, length whole.0)) (escape_longer whole.0 rest (read.0, length whole.0) read.1) ∙ ap (λ n. items.Characters n) count)
 ]
 
 -- items and what stands behind them
@@ -71,7 +74,7 @@ escaped_part cs (Some x) n e h =
     let more : suc x.1 ≡ n = (let plus : x.1 + 1 ≡ n = cc in omega arith) in
     let count : length (take x.1 cs) ≡ x.1 = length-take-le x.1 cs (escape_within cs x e) in
     let P : ℕ → Type 0 = λ m. IsItem Quoted (take m (92 ∷ cs)) (drop m (92 ∷ cs)) in
-    subst P more (inr (take x.1 cs, refl, (x.0, escape_shorter cs x e ∙ ap (λ k. Some (x.0, k)) (sym count))))
+    subst P more (inr (take x.1 cs, refl, escape_words (take x.1 cs) x.0 (escape_shorter cs x e ∙ ap (λ k. Some (x.0, k)) (sym count))))
 
 pub item_part : (e : Enclosure) (cs : List ℕ) (n : ℕ) → item_at e cs ≡ items.Characters n → IsItem e (take n cs) (drop n cs)
 unfolding item_at
@@ -79,7 +82,7 @@ item_part General [] n h = cc
 item_part Quoted [] n h = cc
 item_part Raw [] n h = cc
 item_part General (c ∷ cs) n h =
-    elim (chosen (is_stray c) items.Stray _ (items.Characters n) h) [
+    elim (chosen (is_forbidden c) items.Forbidden _ (items.Characters n) h) [
       | inl a ↦ cc
       | inr a ↦ elim (chosen ((c == 42) && first_passes (λ d. d == 47) cs) items.End (items.Characters 1) (items.Characters n) a.1) [
         | inl b ↦ cc
@@ -87,7 +90,7 @@ item_part General (c ∷ cs) n h =
       ]
     ]
 item_part Raw (c ∷ cs) n h =
-    elim (chosen (is_stray c) items.Stray _ (items.Characters n) h) [
+    elim (chosen (is_forbidden c) items.Forbidden _ (items.Characters n) h) [
       | inl a ↦ cc
       | inr a ↦ elim (chosen (c == 96) items.End (items.Characters 1) (items.Characters n) a.1) [
         | inl b ↦ cc
@@ -95,7 +98,7 @@ item_part Raw (c ∷ cs) n h =
       ]
     ]
 item_part Quoted (c ∷ cs) n h =
-    elim (chosen (is_stray c) items.Stray _ (items.Characters n) h) [
+    elim (chosen (is_forbidden c) items.Forbidden _ (items.Characters n) h) [
       | inl a ↦ cc
       | inr a ↦ elim (chosen (c == 34) items.End _ (items.Characters n) a.1) [
         | inl b ↦ cc
@@ -115,10 +118,10 @@ no_escape : (cs : List ℕ) (r : Option (Meaning × ℕ)) → ((w after : List �
 no_escape cs None h e = e
 no_escape cs (Some x) h e =
     let count : length (take x.1 cs) ≡ x.1 = length-take-le x.1 cs (escape_within cs x e) in
-    absurd (h (take x.1 cs) (drop x.1 cs) (sym (take-append-drop x.1 cs)) (x.0, escape_shorter cs x e ∙ ap (λ k. Some (x.0, k)) (sym count)))
+    absurd (h (take x.1 cs) (drop x.1 cs) (sym (take-append-drop x.1 cs)) (escape_words (take x.1 cs) x.0 (escape_shorter cs x e ∙ ap (λ k. Some (x.0, k)) (sym count))))
 
 no_whole_escape : (cs : List ℕ) → escape_at cs ≡ None → (w after : List ℕ) → cs ≡ w ++ after → IsEscape w → ⊥
-no_whole_escape cs none w after split whole = nothing (whole.0, length w) (sym (escape_longer w after (whole.0, length w) whole.1) ∙ ap escape_at (sym split) ∙ none)
+no_whole_escape cs none w after split whole = let read = escape_read w whole in nothing (read.0, length w) (sym (escape_longer w after (read.0, length w) read.1) ∙ ap escape_at (sym split) ∙ none)
   where
     nothing : (x : Meaning × ℕ) → Some x ≡ None → ⊥
     nothing x e = cc
@@ -137,15 +140,15 @@ closing_some Raw rest = omega arith
 pub closing_ends : (e : Enclosure) (rest : List ℕ) → body e (closing e ++ rest) 0 ≡ Ok (length (closing e))
 closing_ends e rest = body_end e (closing e ++ rest) items.End (closing_some e rest) (closing_item e rest)
 
-stray_item : (e : Enclosure) (c : ℕ) (rest : List ℕ) → is_stray c ≡ true → item_at e (c ∷ rest) ≡ items.Stray
+forbidden_item : (e : Enclosure) (c : ℕ) (rest : List ℕ) → is_forbidden c ≡ true → item_at e (c ∷ rest) ≡ items.Forbidden
 unfolding item_at
-stray_item General c rest h = rw h refl
-stray_item Quoted c rest h = rw h refl
-stray_item Raw c rest h = rw h refl
+forbidden_item General c rest h = rw h refl
+forbidden_item Quoted c rest h = rw h refl
+forbidden_item Raw c rest h = rw h refl
 
-pub stray_ends : (e : Enclosure) (rest : List ℕ) → first_passes is_stray rest ≡ true → body e rest 0 ≡ Err (Stray 0)
-stray_ends e [] h = cc
-stray_ends e (c ∷ rest) h = body_end e (c ∷ rest) items.Stray (omega arith) (stray_item e c rest h)
+pub forbidden_ends : (e : Enclosure) (rest : List ℕ) → first_passes is_forbidden rest ≡ true → body e rest 0 ≡ Err (Forbidden 0)
+forbidden_ends e [] h = cc
+forbidden_ends e (c ∷ rest) h = body_end e (c ∷ rest) items.Forbidden (omega arith) (forbidden_item e c rest h)
 
 newline_item : (rest : List ℕ) → item_at Quoted (10 ∷ rest) ≡ items.Open
 unfolding item_at
@@ -220,7 +223,7 @@ flawed_complete e rule before cs h =
     let front = opening e ++ joined ws in
     elim h.4 [
       | inl stray ↦ (
-        read_to_end e ws h.1 cs (Err (Stray 0)) h.2 h.3 (stray_ends e h.1 stray.2) ∙ ap (λ n. Err (L1, n)) (omega (arith, ap length stray.1, length-append (opening e) (joined ws))) ∙ ap (λ x. Err (x, length before)) (sym stray.0),
+        read_to_end e ws h.1 cs (Err (Forbidden 0)) h.2 h.3 (forbidden_ends e h.1 stray.2) ∙ ap (λ n. Err (L1, n)) (omega (arith, ap length stray.1, length-append (opening e) (joined ws))) ∙ ap (λ x. Err (x, length before)) (sym stray.0),
         (h.1, h.2 ∙ sym (append_assoc (opening e) (joined ws) h.1) ∙ ap (λ x. x ++ h.1) (sym stray.1)),
       )
       | inr other ↦ elim other [
@@ -240,7 +243,7 @@ flawed_complete e rule before cs h =
 abbrev Stops : Enclosure → List ℕ → Item → Type 0
 Stops e rest (items.Characters n) = Unit {0}
 Stops e rest items.End = (after : List ℕ) × (rest ≡ closing e ++ after)
-Stops e rest items.Stray = first_passes is_stray rest ≡ true
+Stops e rest items.Forbidden = first_passes is_forbidden rest ≡ true
 Stops e rest items.Bad = IsBadEscape e rest
 Stops e rest items.Open = IsOpen e rest
 
@@ -263,19 +266,19 @@ item_stops Quoted [] i h = subst (Stops Quoted []) h (inl refl)
 item_stops Raw [] i h = subst (Stops Raw []) h (inl refl)
 item_stops General (c ∷ cs) i h =
     let S : Item → Type 0 = Stops General (c ∷ cs) in
-    elim (chosen (is_stray c) items.Stray _ i h) [
+    elim (chosen (is_forbidden c) items.Forbidden _ i h) [
       | inl a ↦ subst S a.1 a.0
       | inr a ↦ elim (chosen ((c == 42) && first_passes (λ d. d == 47) cs) items.End (items.Characters 1) i a.1) [ inl b ↦ subst S b.1 (comment_closing c cs b.0) | inr b ↦ subst S b.1 tt ]
     ]
 item_stops Raw (c ∷ cs) i h =
     let S : Item → Type 0 = Stops Raw (c ∷ cs) in
-    elim (chosen (is_stray c) items.Stray _ i h) [
+    elim (chosen (is_forbidden c) items.Forbidden _ i h) [
       | inl a ↦ subst S a.1 a.0
       | inr a ↦ elim (chosen (c == 96) items.End (items.Characters 1) i a.1) [ inl b ↦ subst S b.1 (cs, ap (λ x. x ∷ cs) (same_number c 96 b.0)) | inr b ↦ subst S b.1 tt ]
     ]
 item_stops Quoted (c ∷ cs) i h =
     let S : Item → Type 0 = Stops Quoted (c ∷ cs) in
-    elim (chosen (is_stray c) items.Stray _ i h) [
+    elim (chosen (is_forbidden c) items.Forbidden _ i h) [
       | inl a ↦ subst S a.1 a.0
       | inr a ↦ elim (chosen (c == 34) items.End _ i a.1) [
         | inl b ↦ subst S b.1 (cs, ap (λ x. x ∷ cs) (same_number c 34 b.0))
@@ -319,7 +322,7 @@ front_here e n known cs (items.Characters k) h a =
       stops = more.stops;
     }
 front_here e n known cs items.End h a = record { inner = []; rest = cs; stop = items.End; split = refl; items = tt; at = a; stops = tt }
-front_here e n known cs items.Stray h a = record { inner = []; rest = cs; stop = items.Stray; split = refl; items = tt; at = a; stops = tt }
+front_here e n known cs items.Forbidden h a = record { inner = []; rest = cs; stop = items.Forbidden; split = refl; items = tt; at = a; stops = tt }
 front_here e n known cs items.Bad h a = record { inner = []; rest = cs; stop = items.Bad; split = refl; items = tt; at = a; stops = tt }
 front_here e n known cs items.Open h a = record { inner = []; rest = cs; stop = items.Open; split = refl; items = tt; at = a; stops = tt }
 
@@ -358,12 +361,12 @@ found_stop e cs ws rest items.End split a s h =
     let ends : body e rest 0 ≡ Ok (length (closing e)) = ap (λ x. body e x 0) h.1 ∙ closing_ends e h.0 in
     subst (Found e cs) (sym (read_to_end e ws rest cs (Ok (length (closing e))) split a ends))
     ((ws, sym taken, items_shorter e ws (closing e) h.0 (closing_length e) here), omega (arith, closing_length e), omega (arith, ap length all, length-append w h.0))
-found_stop e cs ws rest items.Stray split a s h =
+found_stop e cs ws rest items.Forbidden split a s h =
     let w = opening e ++ joined ws in
     let n = length (opening e) + (length (joined ws) + 0) in
     let count : n ≡ length w = omega (arith, length-append (opening e) (joined ws)) in
     let all : cs ≡ w ++ rest = split ∙ sym (append_assoc (opening e) (joined ws) rest) in
-    subst (Found e cs) (sym (read_to_end e ws rest cs (Err (Stray 0)) split a (stray_ends e rest h)))
+    subst (Found e cs) (sym (read_to_end e ws rest cs (Err (Forbidden 0)) split a (forbidden_ends e rest h)))
     ((ws, rest, split, a, inl (refl, ap (take n) all ∙ take_front w rest n count, h)), omega (arith, ap length all, length-append w rest))
 found_stop e cs ws rest items.Bad split a s h =
     subst (Found e cs) (sym (read_to_end e ws rest cs (Err Bad) split a (bad_ends e rest h)))

@@ -88,11 +88,11 @@ digits_shorter (c ∷ cs) limit radix (suc n) v w (suc m) h e = next_same (v * r
 abbrev Read : Type 0
 Read = Meaning × ℕ
 
-byte_is : (n : ℕ) (r : Option ℕ) (x : Read) → byte_read n r ≡ Some x → (n ≡ x.1) × ((w : ℕ) × (r ≡ Some w))
+pub byte_is : (n : ℕ) (r : Option ℕ) (x : Read) → byte_read n r ≡ Some x → (n ≡ x.1) × ((w : ℕ) × (r ≡ Some w))
 byte_is n None x e = cc
 byte_is n (Some w) x e = (let same : (Byte w, n) ≡ x = cc in ap (λ y. y.1) same, (w, refl))
 
-scalar_is : (n : ℕ) (r : Option ℕ) (x : Read) → scalar_read n r ≡ Some x → (n ≡ x.1) × ((w : ℕ) × (r ≡ Some w))
+pub scalar_is : (n : ℕ) (r : Option ℕ) (x : Read) → scalar_read n r ≡ Some x → (n ≡ x.1) × ((w : ℕ) × (r ≡ Some w))
 scalar_is n None x e = cc
 scalar_is n (Some w) x e = elim (chosen (nat_lt w 55296 || nat_lt 57343 w) (Some (Char w, n)) None (Some x) e) [ inl h ↦ (let same : (Char w, n) ≡ x = cc in ap (λ y. y.1) same, (w, refl)) | inr h ↦ cc ]
 
@@ -105,7 +105,7 @@ scalar_same n None s x h e = cc
 scalar_same n (Some w) s x h e = rw (h w refl) e
 
 -- an escape: one of a letter, or another
-simple_is : (o : Option ℕ) (r : Option Read) (x : Read) → simple_or o r ≡ Some x → ((o ≡ None) × (r ≡ Some x)) ⊎ ((b : ℕ) × (o ≡ Some b) × ((Byte b, 1) ≡ x))
+pub simple_is : (o : Option ℕ) (r : Option Read) (x : Read) → simple_or o r ≡ Some x → ((o ≡ None) × (r ≡ Some x)) ⊎ ((b : ℕ) × (o ≡ Some b) × ((Byte b, 1) ≡ x))
 simple_is None r x e = inl (refl, e)
 simple_is (Some b) r x e = inr (b, refl, cc)
 

@@ -13,8 +13,10 @@ use Rattle.go_scan_core.specs.declared.kind.Operator.{Operator}
 use Rattle.go_scan_core.specs.declared.kind.Operator.TheVariants.{ShiftLeftAssign, ShiftRightAssign, AndNotAssign, Ellipsis, ShiftLeft, ShiftRight, AndNot, PlusAssign, MinusAssign, StarAssign, SlashAssign, PercentAssign, AndAssign, OrAssign, CaretAssign, LogicalAnd, LogicalOr, Arrow, Increment, Decrement, Equal, NotEqual, LessEqual, GreaterEqual, Define, Plus, Minus, Star, Slash, Percent, And, Or, Caret, Less, Greater, Assign, Not, Tilde, OpenParen, OpenBracket, OpenBrace, Comma, Dot, CloseParen, CloseBracket, CloseBrace, Semicolon, Colon}
 use Rattle.go_scan_core.specs.declared.front.Front.{Front}
 use Rattle.go_scan_core.specs.declared.front.Front.TheVariants as fronts
-use Rattle.go_scan_core.specs.Front.{first_passes, front_of, is_blank}
-use Rattle.go_scan_core.specs.Reading.{in_line, letter_or_digit, keyword_of, operator_of}
+use Rattle.go_scan_core.specs.Characters.{first_passes, in_line, is_space, letter_or_digit}
+use Rattle.go_scan_core.specs.mirrors.Front.{front_of}
+use Rattle.go_scan_core.specs.mirrors.Reading.{keyword_spelled, longest_operator}
+use Rattle.go_scan_core.specs.Tokens.{BeginsComment, BeginsRefused}
 use Rattle.go_scan_core.specs.Spelling.{keyword_spelling, operator_spelling}
 
 pub true_or_false : (b : Bool) → (b ≡ true) ⊎ (b ≡ false)
@@ -49,7 +51,7 @@ chosen false x y z e = inr (refl, e)
 
 -- a first character of operators
 abbrev pub is_mark : ℕ → Bool
-is_mark c = not (is_blank c || (c == 10) || (c == 34) || (c == 96) || letter c || is_ascii_digit c)
+is_mark c = not (is_space c || (c == 10) || (c == 34) || (c == 96) || letter c || is_ascii_digit c)
 
 -- operators begin with marks, fit on a line and are short
 pub operator_marks : (o : Operator) → (first_passes is_mark (operator_spelling o) && list_all in_line (operator_spelling o) && nat_le (length (operator_spelling o)) 3) ≡ true
@@ -132,8 +134,8 @@ keyword_letters «Type» = refl
 keyword_letters Var = refl
 
 -- each spelling reads as what it spells
-pub keyword_again : (k : Keyword) → keyword_of (keyword_spelling k) ≡ Some k
-unfolding keyword_of keyword_spelling
+pub keyword_again : (k : Keyword) → keyword_spelled (keyword_spelling k) ≡ Some k
+unfolding keyword_spelled keyword_spelling
 keyword_again Break = refl
 keyword_again Case = refl
 keyword_again Chan = refl
@@ -160,8 +162,8 @@ keyword_again Switch = refl
 keyword_again «Type» = refl
 keyword_again Var = refl
 
-pub operator_again : (o : Operator) → operator_of (operator_spelling o) ≡ Some o
-unfolding operator_of operator_spelling
+pub operator_again : (o : Operator) → longest_operator (operator_spelling o) ≡ Some o
+unfolding longest_operator operator_spelling
 operator_again ShiftLeftAssign = refl
 operator_again ShiftRightAssign = refl
 operator_again AndNotAssign = refl
@@ -215,13 +217,13 @@ operator_again Colon = refl
 
 abbrev pub Says : Front → List ℕ → Type 0
 Says fronts.Nothing cs = cs ≡ []
-Says fronts.Blank cs = first_passes is_blank cs ≡ true
+Says fronts.Space cs = first_passes is_space cs ≡ true
 Says fronts.LineEnd cs = (rest : List ℕ) × (cs ≡ 10 ∷ rest)
 Says fronts.Quote cs = (rest : List ℕ) × (cs ≡ 34 ∷ rest)
 Says fronts.Backquote cs = (rest : List ℕ) × (cs ≡ 96 ∷ rest)
 Says fronts.LineComment cs = (rest : List ℕ) × (cs ≡ 47 ∷ 47 ∷ rest)
 Says fronts.GeneralComment cs = (rest : List ℕ) × (cs ≡ 47 ∷ 42 ∷ rest)
-Says fronts.Refused cs = 0 < length cs
+Says fronts.Refused cs = BeginsRefused cs
 Says fronts.Letter cs = first_passes letter cs ≡ true
 Says fronts.Digit cs = first_passes is_ascii_digit cs ≡ true
 Says fronts.Other cs = 0 < length cs
@@ -237,12 +239,15 @@ two c d e (x ∷ cs) h =
     let second : x ≡ e = same_number x e both.1 in
     (cs, cc)
 
+dotted : (c : ℕ) (cs : List ℕ) → ((c == 46) && first_passes is_ascii_digit cs) ≡ true → (rest : List ℕ) × (c ∷ cs ≡ 46 ∷ rest) × (first_passes is_ascii_digit rest ≡ true)
+dotted c cs h = let both = and_true (c == 46) (first_passes is_ascii_digit cs) h in (cs, ap (λ x. x ∷ cs) (same_number c 46 both.0), both.1)
+
 pub front_says : (cs : List ℕ) (f : Front) → front_of cs ≡ f → Says f cs
 unfolding front_of
 front_says [] f e = subst (λ g. Says g []) e refl
 front_says (c ∷ cs) f e =
     let by : (g : Front) → g ≡ f → Says g (c ∷ cs) → Says f (c ∷ cs) = λ g same h. subst (λ x. Says x (c ∷ cs)) same h in
-    elim (chosen (is_blank c) _ _ f e) [
+    elim (chosen (is_space c) _ _ f e) [
       | inl a ↦ by _ a.1 a.0
       | inr a ↦
           elim (chosen (c == 10) _ _ f a.1) [
@@ -255,7 +260,7 @@ front_says (c ∷ cs) f e =
                         | inl g ↦ by _ g.1 (starts c 96 cs g.0)
                         | inr g ↦
                             elim (chosen (c == 39) _ _ f g.1) [
-                              | inl h ↦ by _ h.1 (omega arith)
+                              | inl h ↦ by _ h.1 (inl (starts c 39 cs h.0))
                               | inr h ↦
                                   elim (chosen ((c == 47) && first_passes (λ d. d == 47) cs) _ _ f h.1) [
                                     | inl i ↦ by _ i.1 (two c 47 47 cs i.0)
@@ -264,7 +269,7 @@ front_says (c ∷ cs) f e =
                                           | inl j ↦ by _ j.1 (two c 47 42 cs j.0)
                                           | inr j ↦
                                               elim (chosen ((c == 46) && first_passes is_ascii_digit cs) _ _ f j.1) [
-                                                | inl k ↦ by _ k.1 (omega arith)
+                                                | inl k ↦ by _ k.1 (inr (dotted c cs k.0))
                                                 | inr k ↦
                                                     elim (chosen (letter c) _ _ f k.1) [
                                                       | inl l ↦ by _ l.1 l.0
@@ -321,10 +326,10 @@ pub digit_front : (cs : List ℕ) → first_passes is_ascii_digit cs ≡ true �
 digit_front [] h = cc
 digit_front (c ∷ cs) h = from_range (λ d. front_of (d ∷ cs) ≡ fronts.Digit) 10 48 c (ten cs) (grind (arith, nat_tests)) (grind (arith, nat_tests))
 
-pub blank_front : (cs : List ℕ) → first_passes is_blank cs ≡ true → front_of cs ≡ fronts.Blank
+pub space_front : (cs : List ℕ) → first_passes is_space cs ≡ true → front_of cs ≡ fronts.Space
 unfolding front_of
-blank_front [] h = cc
-blank_front (c ∷ cs) h = rw h refl
+space_front [] h = cc
+space_front (c ∷ cs) h = rw h refl
 
 pub newline_front : (cs : List ℕ) → front_of (10 ∷ cs) ≡ fronts.LineEnd
 unfolding front_of
@@ -346,6 +351,27 @@ pub general_front : (cs : List ℕ) → front_of (47 ∷ 42 ∷ cs) ≡ fronts.G
 unfolding front_of
 general_front cs = refl
 
+rune_front : (cs : List ℕ) → front_of (39 ∷ cs) ≡ fronts.Refused
+unfolding front_of
+rune_front cs = refl
+
+fraction_front : (cs : List ℕ) → first_passes is_ascii_digit cs ≡ true → front_of (46 ∷ cs) ≡ fronts.Refused
+unfolding front_of
+fraction_front cs h = rw h refl
+
+pub refused_front : (cs : List ℕ) → BeginsRefused cs → front_of cs ≡ fronts.Refused
+refused_front cs h = elim h [ inl rune ↦ ap front_of rune.1 ∙ rune_front rune.0 | inr fraction ↦ ap front_of fraction.1 ∙ fraction_front fraction.0 fraction.2 ]
+
+-- where no front is known, no comment, rune or fraction begins
+pub other_begins : (cs : List ℕ) → front_of cs ≡ fronts.Other → (BeginsComment cs → ⊥) × (BeginsRefused cs → ⊥)
+other_begins cs g = (
+  λ h. elim h [
+    | inl line ↦ (let no : fronts.Other ≡ fronts.LineComment = sym g ∙ ap front_of line.1 ∙ line_front line.0 in cc)
+    | inr general ↦ (let no : fronts.Other ≡ fronts.GeneralComment = sym g ∙ ap front_of general.1 ∙ general_front general.0 in cc)
+  ],
+  λ h. let no : fronts.Other ≡ fronts.Refused = sym g ∙ refused_front cs h in cc,
+)
+
 -- where an operator may stand
 abbrev pub marks : Front → Bool
 marks fronts.LineComment = true
@@ -358,11 +384,11 @@ pub mark_front : (cs : List ℕ) → first_passes is_mark cs ≡ true → marks 
 unfolding front_of
 mark_front [] h = cc
 mark_front (c ∷ cs) h =
-    let a = or_false (is_blank c || (c == 10) || (c == 34) || (c == 96) || letter c) (is_ascii_digit c) (not_true _ h) in
-    let b = or_false (is_blank c || (c == 10) || (c == 34) || (c == 96)) (letter c) a.0 in
-    let d = or_false (is_blank c || (c == 10) || (c == 34)) (c == 96) b.0 in
-    let f = or_false (is_blank c || (c == 10)) (c == 34) d.0 in
-    let g = or_false (is_blank c) (c == 10) f.0 in
+    let a = or_false (is_space c || (c == 10) || (c == 34) || (c == 96) || letter c) (is_ascii_digit c) (not_true _ h) in
+    let b = or_false (is_space c || (c == 10) || (c == 34) || (c == 96)) (letter c) a.0 in
+    let d = or_false (is_space c || (c == 10) || (c == 34)) (c == 96) b.0 in
+    let f = or_false (is_space c || (c == 10)) (c == 34) d.0 in
+    let g = or_false (is_space c) (c == 10) f.0 in
     rw (g.0, g.1, f.1, d.1, b.1, a.1) (rest (c == 39) ((c == 47) && first_passes (λ d. d == 47) cs) ((c == 47) && first_passes (λ d. d == 42) cs) ((c == 46) && first_passes is_ascii_digit cs))
   where
     rest : (p q r s : Bool) → marks (cond p fronts.Refused (cond q fronts.LineComment (cond r fronts.GeneralComment (cond s fronts.Refused fronts.Other)))) ≡ true
@@ -371,3 +397,17 @@ mark_front (c ∷ cs) h =
     rest false false true s = refl
     rest false false false true = refl
     rest false false false false = refl
+
+-- an operator stands where no comment, rune or fraction begins
+pub mark_other : (cs : List ℕ) (f : Front) → front_of cs ≡ f → marks f ≡ true → (BeginsComment cs → ⊥) → (BeginsRefused cs → ⊥) → front_of cs ≡ fronts.Other
+mark_other cs fronts.Nothing g m a b = cc
+mark_other cs fronts.Space g m a b = cc
+mark_other cs fronts.LineEnd g m a b = cc
+mark_other cs fronts.Quote g m a b = cc
+mark_other cs fronts.Backquote g m a b = cc
+mark_other cs fronts.LineComment g m a b = absurd (a (inl (front_says cs fronts.LineComment g)))
+mark_other cs fronts.GeneralComment g m a b = absurd (a (inr (front_says cs fronts.GeneralComment g)))
+mark_other cs fronts.Refused g m a b = absurd (b (front_says cs fronts.Refused g))
+mark_other cs fronts.Letter g m a b = cc
+mark_other cs fronts.Digit g m a b = cc
+mark_other cs fronts.Other g m a b = g

@@ -13,9 +13,10 @@ use Rattle.go_scan_core.specs.declared.kind.Keyword.{Keyword}
 use Rattle.go_scan_core.specs.declared.kind.Operator.{Operator}
 use Rattle.go_scan_core.specs.declared.kind.TheConstants.{KEYWORDS, OPERATORS}
 use Rattle.go_scan_core.specs.Spelling.{keyword_spelling, operator_spelling}
-use Rattle.go_scan_core.specs.Front.{first_passes}
-use Rattle.go_scan_core.specs.Numbers.{based_len, digits_run, first_digit, is_in_run, named_radix, number_len, radix_letter, zero_len}
-use Rattle.go_scan_core.specs.Reading.{in_line, keyword_of, letter_or_digit, operator_of, word_kind}
+use Rattle.go_scan_core.specs.Characters.{first_passes, in_line, letter_or_digit}
+use Rattle.go_scan_core.specs.Numbers.{first_digit, is_in_run, radix_letter}
+use Rattle.go_scan_core.specs.mirrors.Numbers.{based_len, digits_run, named_radix, number_len, zero_len}
+use Rattle.go_scan_core.specs.mirrors.Reading.{keyword_spelled, longest_operator, word_kind}
 use Rattle.go_scan_core.specs.Tokens.{IsInteger, IsLexeme, IsRun, IsWord}
 use Rattle.go_scan_core.proofs.FrontLemmas.{and_true, chosen, is_mark, keyword_again, keyword_letters, operator_again, operator_marks, or_true, same_number, true_or_false}
 
@@ -69,17 +70,17 @@ pub first_joined : (p q : ℕ → Bool) (v after : List ℕ) → first_passes q 
 first_joined p q [] after h = cc
 first_joined p q (c ∷ v) after h = refl
 
-pub word_lexeme : (w : List ℕ) (r : Option Keyword) → IsWord w → keyword_of w ≡ r → IsLexeme (word_kind r) w
-unfolding keyword_of
-word_lexeme w None word e = (word, λ k same. let no : Some k ≡ None = sym (keyword_again k) ∙ ap keyword_of (sym same) ∙ e in cc)
+pub word_lexeme : (w : List ℕ) (r : Option Keyword) → IsWord w → keyword_spelled w ≡ r → IsLexeme (word_kind r) w
+unfolding keyword_spelled
+word_lexeme w None word e = (word, λ k same. let no : Some k ≡ None = sym (keyword_again k) ∙ ap keyword_spelled (sym same) ∙ e in cc)
 word_lexeme w (Some k) word e = (bytes_eq-Decides w (keyword_spelling k)).0 (find_passes (λ j. bytes_eq w (keyword_spelling j)) KEYWORDS k e)
 
 pub word_sound : (cs : List ℕ) → first_passes letter cs ≡ true → IsWord (take (prefix_len letter_or_digit cs) cs)
 word_sound cs h = record { first = first_taken letter (prefix_len letter_or_digit cs) cs (word_within cs h).0 ∙ h; all = all_taken letter_or_digit cs }
 
 -- a word's kind is read from its spelling
-pub identifier_again : (w : List ℕ) (r : Option Keyword) → ((k : Keyword) → w ≡ keyword_spelling k → ⊥) → keyword_of w ≡ r → keyword_of w ≡ None
-unfolding keyword_of
+pub identifier_again : (w : List ℕ) (r : Option Keyword) → ((k : Keyword) → w ≡ keyword_spelling k → ⊥) → keyword_spelled w ≡ r → keyword_spelled w ≡ None
+unfolding keyword_spelled
 identifier_again w None h e = e
 identifier_again w (Some k) h e = absurd (h k ((bytes_eq-Decides w (keyword_spelling k)).0 (find_passes (λ j. bytes_eq w (keyword_spelling j)) KEYWORDS k e)))
 
@@ -242,8 +243,8 @@ integer_first v after h = elim h [
 -- ---- operators
 
 -- an operator that is found stands at the front
-pub operator_stands : (cs : List ℕ) (o : Operator) → operator_of cs ≡ Some o → cs ≡ operator_spelling o ++ drop (length (operator_spelling o)) cs
-unfolding operator_of
+pub operator_stands : (cs : List ℕ) (o : Operator) → longest_operator cs ≡ Some o → cs ≡ operator_spelling o ++ drop (length (operator_spelling o)) cs
+unfolding longest_operator
 operator_stands cs o e =
     (starts_is Decides-eqb cs (operator_spelling o) (starts_with nat_eq cs (operator_spelling o)) refl).0 (find_passes (λ p. starts_with nat_eq cs (operator_spelling p)) OPERATORS o e)
 
@@ -271,7 +272,7 @@ found_in p [] o e = cc
 found_in p (x ∷ xs) o e = elim (chosen (p x) (Some x) (find p xs) (Some o) e) [ inl h ↦ inl (cc) | inr h ↦ inr (found_in p xs o h.1) ]
 
 pub every_operator : (o : Operator) → In o OPERATORS
-unfolding operator_of
+unfolding longest_operator
 every_operator o = found_in (λ p. starts_with nat_eq (operator_spelling o) (operator_spelling p)) OPERATORS o (operator_again o)
 
 not_longer : (n : ℕ) (xs : List Operator) (o : Operator) → none_longer n xs ≡ true → In o xs → spelled o ≤ n
@@ -303,7 +304,7 @@ none_passes p (x ∷ xs) q e i h = elim (chosen (p x) (Some x) (find p xs) None 
 pub stands : (cs v after : List ℕ) (q : Operator) → cs ≡ v ++ after → v ≡ operator_spelling q → starts_with nat_eq cs (operator_spelling q) ≡ true
 stands cs v after q e l = (starts_is Decides-eqb cs (operator_spelling q) (starts_with nat_eq cs (operator_spelling q)) refl).1 after (e ∙ ap (λ x. x ++ after) l)
 
-pub operator_taken : (cs : List ℕ) (o : Operator) → operator_of cs ≡ Some o → take (spelled o) cs ≡ operator_spelling o
+pub operator_taken : (cs : List ℕ) (o : Operator) → longest_operator cs ≡ Some o → take (spelled o) cs ≡ operator_spelling o
 operator_taken cs o f = (starts_front cs (operator_spelling o) (operator_stands cs o f))
   where
     starts_front : (cs w : List ℕ) → cs ≡ w ++ drop (length w) cs → take (length w) cs ≡ w
@@ -316,12 +317,12 @@ operator_taken cs o f = (starts_front cs (operator_spelling o) (operator_stands 
             front [] rest = refl
             front (c ∷ w) rest = ap (λ x. c ∷ x) (front w rest)
 
-pub operator_longest : (cs : List ℕ) (o q : Operator) (v after : List ℕ) → operator_of cs ≡ Some o → cs ≡ v ++ after → v ≡ operator_spelling q → length v ≤ spelled o
-unfolding operator_of
+pub operator_longest : (cs : List ℕ) (o q : Operator) (v after : List ℕ) → longest_operator cs ≡ Some o → cs ≡ v ++ after → v ≡ operator_spelling q → length v ≤ spelled o
+unfolding longest_operator
 operator_longest cs o q v after f e l = omega (arith, ap length l, first_is_longest (λ p. starts_with nat_eq cs (operator_spelling p)) OPERATORS o q descending_operators f (every_operator q) (stands cs v after q e l))
 
-pub no_operator : (cs : List ℕ) (q : Operator) (v after : List ℕ) → operator_of cs ≡ None → cs ≡ v ++ after → v ≡ operator_spelling q → ⊥
-unfolding operator_of
+pub no_operator : (cs : List ℕ) (q : Operator) (v after : List ℕ) → longest_operator cs ≡ None → cs ≡ v ++ after → v ≡ operator_spelling q → ⊥
+unfolding longest_operator
 no_operator cs q v after f e l = none_passes (λ p. starts_with nat_eq cs (operator_spelling p)) OPERATORS q f (every_operator q) (stands cs v after q e l)
 
 -- operators begin with marks, fit on a line and are short

@@ -14,7 +14,7 @@ next_grows radix n c h = elim (nat_lt (digit_value c) radix) as (λ b. n ≤ con
     times : (radix n : ℕ) → 1 ≤ radix → n ≤ n * radix + digit_value c
     times radix n h = omega (arith, mul-le-mul_left n h)
 
-grows : (radix n : ℕ) (ds : List ℕ) → 1 ≤ radix → n ≤ fold (next_number radix) n ds
+pub grows : (radix n : ℕ) (ds : List ℕ) → 1 ≤ radix → n ≤ fold (next_number radix) n ds
 grows radix n [] h = omega arith
 grows radix n (d ∷ ds) h = omega (arith, next_grows radix n d h, grows radix (next_number radix n d) ds h)
 

@@ -1,5 +1,5 @@
 -- The piece that is read at the front is the one that the grammar says, and so is the fault.
-use Rattle.std.proofs.Common.{◌≡◌, ℕ, suc, ◌<◌, ◌≤◌, Bool, true, false, ◌||◌, ◌⊎◌, inl, inr, List, [], ◌∷◌, ◌++◌, length, take, drop, Option, Some, None, Result, Ok, Err, nat_lt, refl, sym, ap, ◌∙◌, subst, arith}
+use Rattle.std.proofs.Common.{◌≡◌, ℕ, suc, ◌<◌, ◌≤◌, Bool, true, false, ◌==◌, ◌||◌, ◌⊎◌, inl, inr, List, [], ◌∷◌, ◌++◌, length, take, drop, Option, Some, None, Result, Ok, Err, nat_lt, refl, sym, ap, ◌∙◌, subst, arith}
 use Rattle.std.specs.List.{AllByRecursion, prefix_len}
 use Rattle.std.proofs.lemmas.Bool.Decides.{nat_tests}
 use Rattle.std.proofs.lemmas.List.{length-append, length-take-le, take-append-drop}
@@ -19,12 +19,15 @@ use Rattle.go_scan_core.specs.declared.kind.TokenKind.TheVariants as kinds
 use Rattle.go_scan_core.specs.declared.piece.Piece.{Piece}
 use Rattle.go_scan_core.specs.declared.piece.Piece.TheVariants.{Space, LineEnd, Lexeme, Remark}
 use Rattle.go_scan_core.specs.Spelling.{operator_spelling}
-use Rattle.go_scan_core.specs.Front.{first_passes, front_of, is_blank}
-use Rattle.go_scan_core.specs.Numbers.{integer_value_of, number_len}
-use Rattle.go_scan_core.specs.Enclosed.{enclosed_at, opening}
-use Rattle.go_scan_core.specs.Reading.{continues, in_line, keyword_of, letter_or_digit, number_at, operator_at, operator_of, operator_read, piece_at, piece_by, piece_from, word_at, word_kind}
-use Rattle.go_scan_core.specs.Tokens.{IsAnyLexeme, IsBadNumber, IsComment, IsEnclosed, IsFault, IsGood, IsInteger, IsLexeme, IsLongest, IsWord, joined}
-use Rattle.go_scan_core.proofs.FrontLemmas.{backquote_front, digit_front, front_says, general_front, letter_front, line_front, mark_front, marks, or_false, or_true, quote_front}
+use Rattle.go_scan_core.specs.Characters.{continues, first_passes, in_line, is_space, letter_or_digit}
+use Rattle.go_scan_core.specs.Enclosed.{opening}
+use Rattle.go_scan_core.specs.Numbers.{integer_value_of}
+use Rattle.go_scan_core.specs.mirrors.Enclosed.{enclosed_at}
+use Rattle.go_scan_core.specs.mirrors.Front.{front_of}
+use Rattle.go_scan_core.specs.mirrors.Numbers.{number_len}
+use Rattle.go_scan_core.specs.mirrors.Reading.{keyword_spelled, integer_at, operator_at, longest_operator, operator_read, piece_at, piece_by, piece_from, identifier_at, word_kind}
+use Rattle.go_scan_core.specs.Tokens.{BeginsComment, BeginsRefused, IsAnyLexeme, IsBadNumber, IsComment, IsEnclosed, IsFault, IsGood, IsInteger, IsLexeme, IsLongest, BeginsNothing, IsWord, joined}
+use Rattle.go_scan_core.proofs.FrontLemmas.{backquote_front, space_front, digit_front, front_says, general_front, letter_front, line_front, mark_front, mark_other, marks, newline_front, or_false, or_true, other_begins, quote_front, same_number, true_or_false}
 use Rattle.go_scan_core.proofs.EnclosedLemmas.{Found, enclosed_complete, enclosed_sound}
 use Rattle.go_scan_core.proofs.LexemeLemmas.{FitsMark, all_prefix, all_taken, first_joined, integer_first, keyword_word, no_operator, number_longest, number_sound, operator_fits, operator_longest, operator_some, operator_stands, operator_taken, spelled, word_lexeme, word_sound, word_within}
 
@@ -64,7 +67,7 @@ general_starts v after h = let i = enclosed_front General v after h in ap front_
 -- an operator may stand at four fronts
 mark_allowed : (o : Operator) (v : List ℕ) (f : Front) → v ≡ operator_spelling o → FitsMark v → marks f ≡ true → Allowed f v
 mark_allowed o v fronts.Nothing l fit m = cc
-mark_allowed o v fronts.Blank l fit m = cc
+mark_allowed o v fronts.Space l fit m = cc
 mark_allowed o v fronts.LineEnd l fit m = cc
 mark_allowed o v fronts.Quote l fit m = cc
 mark_allowed o v fronts.Backquote l fit m = cc
@@ -120,7 +123,7 @@ enclosed_most e cs n r v after split h = equal (length v) n (enclosed_at e (v ++
 
 -- what is read at the front as a piece
 abbrev pub IsRead : Piece → List ℕ → List ℕ → Type 0
-IsRead Space w rest = (c : ℕ) × (w ≡ c ∷ []) × (is_blank c ≡ true)
+IsRead Space w rest = (c : ℕ) × (w ≡ c ∷ []) × (is_space c ≡ true)
 IsRead LineEnd w rest = w ≡ 10 ∷ []
 IsRead (Lexeme kind) w rest = IsLexeme kind w × IsLongest w rest × IsGood kind w rest
 IsRead (Remark kind) w rest = IsComment kind w × IsLongest w rest
@@ -134,14 +137,14 @@ word_good : (r : Option Keyword) (w rest : List ℕ) → IsGood (word_kind r) w 
 word_good None w rest = tt
 word_good (Some k) w rest = tt
 
-letter_sound : (cs : List ℕ) → front_of cs ≡ fronts.Letter → IsSound cs (Ok (word_at cs))
-unfolding word_at
+letter_sound : (cs : List ℕ) → front_of cs ≡ fronts.Letter → IsSound cs (Ok (identifier_at cs))
+unfolding identifier_at
 letter_sound cs g =
     let n = prefix_len letter_or_digit cs in
     let w = take n cs in
     let h : first_passes letter cs ≡ true = front_says cs fronts.Letter g in
     let inside = word_within cs h in
-    ((word_lexeme w (keyword_of w) (word_sound cs h) refl, take_longest n cs fronts.Letter inside.1 g (λ v after e word. rw e (all_prefix letter_or_digit v after word.all)), word_good (keyword_of w) w (drop n cs)), inside.0, inside.1)
+    ((word_lexeme w (keyword_spelled w) (word_sound cs h) refl, take_longest n cs fronts.Letter inside.1 g (λ v after e word. rw e (all_prefix letter_or_digit v after word.all)), word_good (keyword_spelled w) w (drop n cs)), inside.0, inside.1)
 
 pub good_number : (w rest : List ℕ) → (first_passes continues rest || nat_lt 9223372036854775807 (integer_value_of w)) ≡ false → IsBadNumber w rest → ⊥
 good_number w rest h bad =
@@ -169,8 +172,8 @@ number_test cs = first_passes continues (drop (number_len cs) cs) || nat_lt 9223
 pub digit_longest : (cs : List ℕ) → front_of cs ≡ fronts.Digit → IsLongest (take (number_len cs) cs) (drop (number_len cs) cs)
 digit_longest cs g = take_longest (number_len cs) cs fronts.Digit (number_sound cs (front_says cs fronts.Digit g)).2 g (λ v after e h. rw e (number_longest v after h))
 
-digit_sound : (cs : List ℕ) (b : Bool) → front_of cs ≡ fronts.Digit → number_test cs ≡ b → IsSound cs (number_at cs)
-unfolding number_at number_test
+digit_sound : (cs : List ℕ) (b : Bool) → front_of cs ≡ fronts.Digit → number_test cs ≡ b → IsSound cs (integer_at cs)
+unfolding integer_at number_test
 digit_sound cs true g t =
     let n = number_len cs in
     let number = number_sound cs (front_says cs fronts.Digit g) in
@@ -227,19 +230,78 @@ line_sound cs g =
             let P : ℕ → Type 0 = λ n. IsComment remarks.Line (take n (47 ∷ 47 ∷ rest)) × (0 < n) in
             subst P count ((take m rest, refl, all_taken in_line rest), omega arith)
 
-other_sound : (cs : List ℕ) (r : Option Operator) → front_of cs ≡ fronts.Other → operator_of cs ≡ r → IsSound cs (operator_read r)
-other_sound cs None g e = (inl (refl, refl, record { other = g; no_lexeme = λ v after split any. (let o = any_allowed v after cs fronts.Other split g any in no_operator cs o.0 v after e split o.1) }), omega arith)
+good_operator : (cs : List ℕ) → front_of cs ≡ fronts.Other → ¬ (BeginsComment cs) × ¬ (BeginsRefused cs)
+good_operator cs g = other_begins cs g
+
+other_some : (cs : List ℕ) → front_of cs ≡ fronts.Other → 0 < length cs
+other_some cs g = front_says cs fronts.Other g
+
+-- no such character is first at another front
+not_first : (p : ℕ → Bool) (cs : List ℕ) (f : Front) → front_of cs ≡ fronts.Other → (f ≡ fronts.Other → ⊥) → (first_passes p cs ≡ true → front_of cs ≡ f) → first_passes p cs ≡ false
+not_first p cs f g other is = elim (true_or_false (first_passes p cs)) [ inl h ↦ absurd (other (sym (is h) ∙ g)) | inr h ↦ h ]
+
+newline_first : (cs : List ℕ) → first_passes (λ c. c == 10) cs ≡ true → front_of cs ≡ fronts.LineEnd
+newline_first [] h = cc
+newline_first (c ∷ cs) h = ap (λ x. front_of (x ∷ cs)) (same_number c 10 h) ∙ newline_front cs
+
+no_enclosure : (e : Enclosure) (cs inside : List ℕ) → front_of cs ≡ fronts.Other → cs ≡ opening e ++ inside → ⊥
+no_enclosure General cs inside g split = let no : fronts.Other ≡ fronts.GeneralComment = sym g ∙ ap front_of split ∙ general_front inside in cc
+no_enclosure Quoted cs inside g split = let no : fronts.Other ≡ fronts.Quote = sym g ∙ ap front_of split ∙ quote_front inside in cc
+no_enclosure Raw cs inside g split = let no : fronts.Other ≡ fronts.Backquote = sym g ∙ ap front_of split ∙ backquote_front inside in cc
+
+-- a front that is none of the others, where no lexeme begins
+nothing_begins : (cs : List ℕ) → front_of cs ≡ fronts.Other → ((v after : List ℕ) → cs ≡ v ++ after → IsAnyLexeme v → ⊥) → BeginsNothing cs
+nothing_begins cs g none = record {
+  some = other_some cs g;
+  no_space = not_first is_space cs fronts.Space g (λ e. cc) (space_front cs);
+  no_line_end = not_first (λ c. c == 10) cs fronts.LineEnd g (λ e. cc) (newline_first cs);
+  no_opening = λ e inside split. no_enclosure e cs inside g split;
+  no_refused = (other_begins cs g).1;
+  no_lexeme = none;
+}
+
+word_here : (cs : List ℕ) → first_passes letter cs ≡ true → IsAnyLexeme (take (prefix_len letter_or_digit cs) cs)
+word_here cs h = let w = take (prefix_len letter_or_digit cs) cs in inl (word_kind (keyword_spelled w), word_lexeme w (keyword_spelled w) (word_sound cs h) refl)
+
+line_begun : (cs rest : List ℕ) → cs ≡ 47 ∷ 47 ∷ rest → BeginsNothing cs → ⊥
+line_begun cs rest e stray = stray.no_lexeme (47 ∷ 47 ∷ []) rest e (inr (remarks.Line, ([], refl, tt)))
+
+fails : (cs : List ℕ) (p : ℕ → Bool) → first_passes p cs ≡ true → first_passes p cs ≡ false → ⊥
+fails cs p a b = let no : true ≡ false = sym a ∙ b in cc
+
+-- what begins nothing has no other front
+pub nothing_front : (cs : List ℕ) (f : Front) → BeginsNothing cs → front_of cs ≡ f → f ≡ fronts.Other
+nothing_front cs fronts.Nothing stray g = absurd (let none = ap length (front_says cs fronts.Nothing g) in let some = stray.some in omega arith)
+nothing_front cs fronts.Space stray g = absurd (fails cs is_space (front_says cs fronts.Space g) stray.no_space)
+nothing_front cs fronts.LineEnd stray g = let says = front_says cs fronts.LineEnd g in absurd (fails cs (λ c. c == 10) (ap (first_passes (λ c. c == 10)) says.1) stray.no_line_end)
+nothing_front cs fronts.Quote stray g = let says = front_says cs fronts.Quote g in absurd (stray.no_opening Quoted says.0 says.1)
+nothing_front cs fronts.Backquote stray g = let says = front_says cs fronts.Backquote g in absurd (stray.no_opening Raw says.0 says.1)
+nothing_front cs fronts.LineComment stray g = let says = front_says cs fronts.LineComment g in absurd (line_begun cs says.0 says.1 stray)
+nothing_front cs fronts.GeneralComment stray g = let says = front_says cs fronts.GeneralComment g in absurd (stray.no_opening General says.0 says.1)
+nothing_front cs fronts.Refused stray g = absurd (stray.no_refused (front_says cs fronts.Refused g))
+nothing_front cs fronts.Letter stray g = absurd (stray.no_lexeme (take (prefix_len letter_or_digit cs) cs) (drop (prefix_len letter_or_digit cs) cs) (sym (take-append-drop (prefix_len letter_or_digit cs) cs)) (word_here cs (front_says cs fronts.Letter g)))
+nothing_front cs fronts.Digit stray g = absurd (stray.no_lexeme (take (number_len cs) cs) (drop (number_len cs) cs) (sym (take-append-drop (number_len cs) cs)) (inl (kinds.Integer, (number_sound cs (front_says cs fronts.Digit g)).0)))
+nothing_front cs fronts.Other stray g = refl
+
+-- an operator that stands well has no other front
+pub operator_front : (o : Operator) (w rest : List ℕ) → w ≡ operator_spelling o → IsGood (kinds.Operator o) w rest → front_of (w ++ rest) ≡ fronts.Other
+operator_front o w rest h good =
+    let fit : FitsMark w = subst FitsMark (sym h) (operator_fits o) in
+    mark_other (w ++ rest) (front_of (w ++ rest)) refl (mark_front (w ++ rest) (first_mark _ w rest fit.0)) good.0 good.1
+
+other_sound : (cs : List ℕ) (r : Option Operator) → front_of cs ≡ fronts.Other → longest_operator cs ≡ r → IsSound cs (operator_read r)
+other_sound cs None g e = (inl (refl, refl, nothing_begins cs g (λ v after split any. (let o = any_allowed v after cs fronts.Other split g any in no_operator cs o.0 v after e split o.1))), omega arith)
 other_sound cs (Some o) g e =
     let n = spelled o in
     let inside : n ≤ length cs = omega (arith, ap length (operator_stands cs o e), length-append (operator_spelling o) (drop n cs)) in
-    ((operator_taken cs o e, take_longest n cs fronts.Other inside g (λ v after split h. operator_longest cs o h.0 v after e split h.1), ap front_of (take-append-drop n cs) ∙ g), operator_some o, inside)
+    ((operator_taken cs o e, take_longest n cs fronts.Other inside g (λ v after split h. operator_longest cs o h.0 v after e split h.1), good_operator (take n cs ++ drop n cs) (ap front_of (take-append-drop n cs) ∙ g)), operator_some o, inside)
 
 front_sound : (cs : List ℕ) (f : Front) → 0 < length cs → front_of cs ≡ f → IsSound cs (piece_by f cs)
 unfolding operator_at
 front_sound cs fronts.Nothing some g = absurd (let none = ap length (front_says cs fronts.Nothing g) in omega arith)
-front_sound cs fronts.Blank some g = blank cs (front_says cs fronts.Blank g)
+front_sound cs fronts.Space some g = blank cs (front_says cs fronts.Space g)
   where
-    blank : (cs : List ℕ) → first_passes is_blank cs ≡ true → IsSound cs (Ok (Space, 1))
+    blank : (cs : List ℕ) → first_passes is_space cs ≡ true → IsSound cs (Ok (Space, 1))
     blank [] h = cc
     blank (c ∷ cs) h = ((c, refl, h), omega arith, omega arith)
 front_sound cs fronts.LineEnd some g = let says = front_says cs fronts.LineEnd g in subst (λ x. IsSound x (Ok (LineEnd, 1))) (sym says.1) (refl, omega arith, omega arith)
@@ -247,10 +309,10 @@ front_sound cs fronts.Quote some g = quote_sound cs g
 front_sound cs fronts.Backquote some g = backquote_sound cs g
 front_sound cs fronts.LineComment some g = line_sound cs g
 front_sound cs fronts.GeneralComment some g = general_sound cs g
-front_sound cs fronts.Refused some g = (inr (inl (refl, refl, inl g)), omega arith)
+front_sound cs fronts.Refused some g = (inr (inl (refl, refl, inl (front_says cs fronts.Refused g))), omega arith)
 front_sound cs fronts.Letter some g = letter_sound cs g
 front_sound cs fronts.Digit some g = digit_sound cs (number_test cs) g refl
-front_sound cs fronts.Other some g = other_sound cs (operator_of cs) g refl
+front_sound cs fronts.Other some g = other_sound cs (longest_operator cs) g refl
 
 -- what is read at the front is what the grammar says
 pub piece_sound : (cs : List ℕ) → 0 < length cs → IsSound cs (piece_at cs)

@@ -12,8 +12,9 @@ use Rattle.go_text_core.specs.Slices.{slice_of}
 use Rattle.go_text_core.specs.declared.span.Span.{Span}
 use Rattle.go_scan_core.specs.declared.kind.TokenKind.{TokenKind}
 use Rattle.go_scan_core.specs.declared.token.Token.{Token}
-use Rattle.go_scan_core.specs.Front.{first_passes}
-use Rattle.go_scan_core.specs.Cutting.{Part, Gap, Break, Word, Note, close, comments_in, ends_statement, place_of, semicolon_after, semicolon_behind, width}
+use Rattle.go_scan_core.specs.Characters.{first_passes}
+use Rattle.go_scan_core.specs.Parts.{Break, Gap, Note, Part, Word, comments_in, ends_statement, span_between, semicolon_after, semicolon_behind, width}
+use Rattle.go_scan_core.specs.mirrors.Cutting.{close}
 use Rattle.go_scan_core.specs.Tokens.{AreParts, IsAnswer, IsAnswerFrom, IsAnswerOf, IsComment, IsGood, IsLexeme, tokens_by_line}
 use Rattle.go_scan_core.specs.Texts.{CommentHasItsText, HasItsText, IsEncodedComment, IsFilled, IsSpelled}
 use Rattle.go_scan_core.proofs.AnswerLemmas.{tokens_by_line-close}
@@ -70,13 +71,13 @@ slice_between text front w rest start end bytes place far =
     let behind : drop start text ≡ w ++ rest = ap (drop start) bytes ∙ ap (λ n. drop n (front ++ (w ++ rest))) place ∙ drop_front front (w ++ rest) in
     ap (λ n. take n (drop start text)) size ∙ ap (take (length w)) behind ∙ take_front w rest
 
-is_slice : (text bytes : List ℕ) (start end : ℕ) → start ≤ end → is_boundary_of text start ≡ true → is_boundary_of text end ≡ true → slice_range text start end ≡ bytes → slice_of text (place_of start end) ≡ Some bytes
+is_slice : (text bytes : List ℕ) (start end : ℕ) → start ≤ end → is_boundary_of text start ≡ true → is_boundary_of text end ≡ true → slice_range text start end ≡ bytes → slice_of text (span_between start end) ≡ Some bytes
 is_slice text bytes start end order low high same =
     let ordered : nat_le start end ≡ true = grind (arith, nat_tests) in
     rw (ordered, low, high) (ap Some same)
 
 -- the characters at this byte are what a span of their width covers
-slice_here : (text w rest : List ℕ) (start : ℕ) → Begins text (w ++ rest) start → slice_of text (place_of start (start + width w)) ≡ Some (encode_utf8_all w)
+slice_here : (text w rest : List ℕ) (start : ℕ) → Begins text (w ++ rest) start → slice_of text (span_between start (start + width w)) ≡ Some (encode_utf8_all w)
 slice_here text w rest start b =
     let far = onward text w rest start b in
     let cut = slice_between text b.front (encode_utf8_all w) (encode_utf8_all rest) start (start + width w) (b.bytes ∙ ap (λ x. b.front ++ x) (encodes-append w rest)) b.place (omega (arith, width-encodes w)) in
@@ -85,7 +86,7 @@ slice_here text w rest start b =
 from_slice : (text bytes : List ℕ) (t : Token) → slice_of text t.span ≡ Some bytes → IsSpelled t.kind bytes → HasItsText text t
 from_slice text bytes t e h = subst (λ o. MatchOption o ⊥ (IsSpelled t.kind)) (sym e) h
 
-word_text : (text w rest : List ℕ) (start : ℕ) (t : Token) → Begins text (w ++ rest) start → IsLexeme t.kind w → IsGood t.kind w rest → t.span ≡ place_of start (start + width w) → HasItsText text t
+word_text : (text w rest : List ℕ) (start : ℕ) (t : Token) → Begins text (w ++ rest) start → IsLexeme t.kind w → IsGood t.kind w rest → t.span ≡ span_between start (start + width w) → HasItsText text t
 word_text text w rest start t b lexeme good place = from_slice text (encode_utf8_all w) t (ap (slice_of text) place ∙ slice_here text w rest start b) (inl (w, lexeme, refl, lexeme_in_reach t.kind w rest lexeme good))
 
 -- an inserted semicolon covers nothing, where characters begin
@@ -213,7 +214,7 @@ filled_by_text text t h =
 
 -- ---- comments
 
-comment_text : (text w rest : List ℕ) (start : ℕ) (c : Comment) → Begins text (w ++ rest) start → IsComment c.kind w → c.span ≡ place_of start (start + width w) → CommentHasItsText text c
+comment_text : (text w rest : List ℕ) (start : ℕ) (c : Comment) → Begins text (w ++ rest) start → IsComment c.kind w → c.span ≡ span_between start (start + width w) → CommentHasItsText text c
 comment_text text w rest start c b comment place = subst (λ o. MatchOption o ⊥ (IsEncodedComment c.kind)) (sym (ap (slice_of text) place ∙ slice_here text w rest start b)) (w, comment, refl)
 
 abbrev AllComments : List ℕ → List Comment → Type 0

@@ -6,9 +6,10 @@ use Rattle.std.proofs.lemmas.List.Elements.{All-weaker}
 use Rattle.go_scan_core.specs.declared.token.Comment.{Comment}
 use Rattle.go_scan_core.specs.declared.token.Token.{Token}
 use Rattle.go_scan_core.specs.declared.token.LexFault.{LexFault}
-use Rattle.go_scan_core.specs.Cutting.{comments_in, comments_of, tokens_of}
+use Rattle.go_scan_core.specs.Cutting.{comments_of, tokens_of}
+use Rattle.go_scan_core.specs.Parts.{comments_in}
 use Rattle.go_scan_core.specs.Texts.{CommentHasItsText, HasItsText, IsFilled}
-use Rattle.go_scan_core.specs.Tokens.{CommentsInOrder, InOrder, IsAnswer, IsAnswerOf}
+use Rattle.go_scan_core.specs.Tokens.{CommentsInOrder, TokensInOrder, IsAnswer, IsAnswerOf}
 use Rattle.go_scan_core.proofs.AnswerLemmas.{answer_is_computed, comments_are_computed}
 use Rattle.go_scan_core.proofs.OrderLemmas.{text_comments_order, text_order}
 use Rattle.go_scan_core.proofs.TextLemmas.{filled_by_text, text_comments, text_texts}
@@ -17,7 +18,7 @@ answer_of : (text : List ℕ) (r : Result (List Token) LexFault) → tokens_of t
 answer_of text r e = subst (IsAnswer text) e (answer_is_computed text)
 
 -- they follow one another
-pub tokens_in_order : (text : List ℕ) (ts : List Token) → IsUtf8 text → tokens_of text ≡ Ok ts → InOrder 0 ts (length text)
+pub tokens_in_order : (text : List ℕ) (ts : List Token) → IsUtf8 text → tokens_of text ≡ Ok ts → TokensInOrder 0 ts (length text)
 tokens_in_order text ts u e = text_order text ts u (answer_of text (Ok ts) e)
 
 -- each covers its spelling

@@ -1,10 +1,12 @@
+pub mod Answered
+pub mod Characters
 pub mod Cutting
 pub mod Enclosed
 pub mod Escapes
-pub mod Front
 pub mod Numbers
-pub mod Reading
+pub mod Parts
 pub mod Spelling
 pub mod Texts
 pub mod Tokens
 pub mod Values
+pub mod mirrors

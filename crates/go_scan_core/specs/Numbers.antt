@@ -1,5 +1,5 @@
--- Integer literals: how many characters they have, and the numbers that they write.
-use Rattle.std.specs.Prelude.{ℕ, ◌+◌, ◌*◌, Bool, false, ◌==◌, ◌||◌, ◌&&◌, nat_lt, if◌then◌else◌, List, [], ◌∷◌, drop, fold, Option, Some, None}
+-- Digits and integer literals, and the numbers that they write.
+use Rattle.std.specs.Prelude.{false, ℕ, ◌+◌, ◌*◌, Bool, ◌==◌, ◌||◌, ◌&&◌, nat_lt, if◌then◌else◌, List, [], ◌∷◌, fold, Option, Some, None}
 use Rattle.std.specs.Char.{digit_value}
 
 abbrev pub first_digit : ℕ → List ℕ → Bool
@@ -10,30 +10,9 @@ first_digit radix (c ∷ cs) = nat_lt (digit_value c) radix
 abbrev pub is_in_run : ℕ → ℕ → List ℕ → Bool
 is_in_run radix c cs = nat_lt (digit_value c) radix || ((c == 95) && first_digit radix cs)
 
--- how many characters are digits, or a `_` before one
-abbrev pub digits_run : ℕ → List ℕ → ℕ
-digits_run radix [] = 0
-digits_run radix (c ∷ cs) = if is_in_run radix c cs then 1 + digits_run radix cs else 0
-
 -- the radix that the letter behind a first 0 names: x, X, b, B, o or O
 abbrev pub radix_letter : ℕ → Option ℕ
 radix_letter c = if (c == 120) || (c == 88) then Some 16 else (if (c == 98) || (c == 66) then Some 2 else (if (c == 111) || (c == 79) then Some 8 else None))
-
-abbrev pub named_radix : List ℕ → Option ℕ
-named_radix [] = None
-named_radix (c ∷ cs) = radix_letter c
-
-abbrev pub based_len : Option ℕ → List ℕ → ℕ
-based_len None cs = 1 + digits_run 8 cs
-based_len (Some radix) cs = if digits_run radix (drop 1 cs) == 0 then 1 else 2 + digits_run radix (drop 1 cs)
-
--- how many characters the literal has whose first 0 stands before this text
-unfoldable pub zero_len : List ℕ → ℕ
-zero_len cs = based_len (named_radix cs) cs
-
-unfoldable pub number_len : List ℕ → ℕ
-number_len [] = 0
-number_len (c ∷ cs) = if c == 48 then zero_len cs else 1 + digits_run 10 cs
 
 -- the number behind one more character: what is no digit changes nothing
 abbrev pub next_number : ℕ → ℕ → ℕ → ℕ
@@ -52,7 +31,8 @@ abbrev pub radix_of : List ℕ → ℕ
 radix_of [] = 10
 radix_of (c ∷ cs) = if c == 48 then zero_radix cs else 10
 
--- the number that a literal writes
+-- the number that a literal writes, and of any other text the one that its digits write: base 16, 2
+-- or 8 by what it begins with, 10 otherwise; what is no digit of the base is passed over
 abbrev pub integer_value_of : List ℕ → ℕ
 integer_value_of cs = number_in (radix_of cs) cs
 

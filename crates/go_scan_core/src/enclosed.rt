@@ -1,6 +1,7 @@
 //! Strings and general comments: what stands between an opening and a closing.
 ghost use Rattle.std.specs.Prelude.{◌≡◌, ◌≤◌, ◌+◌, length};
-ghost use Rattle.go_scan_core.specs.Enclosed.{CountsWithin, raw_item, comment_item, quoted_item, item_at, body, enclosed_at, opening, closing};
+ghost use Rattle.go_scan_core.specs.Enclosed.{closing, opening};
+ghost use Rattle.go_scan_core.specs.mirrors.Enclosed.{CountsWithin, body, comment_item, enclosed_at, item_at, quoted_item, raw_item};
 
 use crate::escape::escape;
 use go_text_core::Rule;
@@ -20,7 +21,7 @@ pub enum Enclosure {
 #[derive(Clone, Copy)]
 pub enum Flaw {
     /// A character that may stand nowhere, behind so many others.
-    Stray(usize),
+    Forbidden(usize),
     /// A backslash with no escape behind it.
     Bad,
     /// No closing.
@@ -35,7 +36,7 @@ pub enum Item {
     /// The closing.
     End,
     /// A character that may stand nowhere.
-    Stray,
+    Forbidden,
     /// A backslash with no escape behind it.
     Bad,
     /// No closing any more.
@@ -70,7 +71,7 @@ fn comment_item(text: &[char]) -> Item
 {
     match text {
         [] => Item::Open,
-        ['\0' | '\u{feff}', ..] => Item::Stray,
+        ['\0' | '\u{feff}', ..] => Item::Forbidden,
         ['*', '/', ..] => Item::End,
         _ => Item::Characters(1),
     }
@@ -82,7 +83,7 @@ fn raw_item(text: &[char]) -> Item
 {
     match text {
         [] => Item::Open,
-        ['\0' | '\u{feff}', ..] => Item::Stray,
+        ['\0' | '\u{feff}', ..] => Item::Forbidden,
         ['`', ..] => Item::End,
         _ => Item::Characters(1),
     }
@@ -94,7 +95,7 @@ fn quoted_item(text: &[char]) -> Item
 {
     match text {
         [] => Item::Open,
-        ['\0' | '\u{feff}', ..] => Item::Stray,
+        ['\0' | '\u{feff}', ..] => Item::Forbidden,
         ['"', ..] => Item::End,
         ['\n', ..] => Item::Open,
         ['\\', rest @ ..] => match escape(rest) {
@@ -106,7 +107,7 @@ fn quoted_item(text: &[char]) -> Item
 }
 
 /// What stands next behind the opening.
-#[tactic(auto, unfolding(crate::specs::Enclosed::item_at))]
+#[tactic(auto, unfolding(crate::specs::mirrors::Enclosed::item_at))]
 fn next_item(enclosure: Enclosure, text: &[char]) -> Item
     ensures { result ≡ item_at enclosure text.now }
 {
@@ -132,7 +133,7 @@ fn body_len(enclosure: Enclosure, text: &[char]) -> Result<usize, Flaw>
                 count += len;
             }
             Item::End => return Ok(count + enclosure.closing_len()),
-            Item::Stray => return Err(Flaw::Stray(count)),
+            Item::Forbidden => return Err(Flaw::Forbidden(count)),
             Item::Bad => return Err(Flaw::Bad),
             Item::Open => return Err(Flaw::Open),
         }
@@ -142,7 +143,7 @@ fn body_len(enclosure: Enclosure, text: &[char]) -> Result<usize, Flaw>
 
 /// How many characters the lexeme at the front has, which begins with the opening, or the rule that
 /// it breaks and how many characters stand before the place of the fault.
-#[tactic(auto, unfolding(crate::specs::Enclosed::enclosed_at))]
+#[tactic(auto, unfolding(crate::specs::mirrors::Enclosed::enclosed_at))]
 pub fn enclosed_len(enclosure: Enclosure, text: &[char]) -> Result<usize, (Rule, usize)>
     requires { length (opening enclosure) ≤ length text.now }
     ensures { result ≡ enclosed_at enclosure text.now }
@@ -151,7 +152,7 @@ pub fn enclosed_len(enclosure: Enclosure, text: &[char]) -> Result<usize, (Rule,
     let (_, inside) = text.split_at(front);
     match body_len(enclosure, inside) {
         Ok(len) => Ok(front + len),
-        Err(Flaw::Stray(len)) => Err((Rule::L1, front + len)),
+        Err(Flaw::Forbidden(len)) => Err((Rule::L1, front + len)),
         Err(Flaw::Bad) => Err((Rule::L3, 0)),
         Err(Flaw::Open) => Err((Rule::L2, 0)),
     }

@@ -1,6 +1,6 @@
 //! What begins at the front of a text.
 ghost use Rattle.std.specs.Prelude.{◌≡◌};
-ghost use Rattle.go_scan_core.specs.Front.{front_of};
+ghost use Rattle.go_scan_core.specs.mirrors.Front.{front_of};
 
 use go_text_core::is_letter;
 
@@ -10,7 +10,7 @@ pub enum Front {
     /// The text is empty.
     Nothing,
     /// A space, a tab or a carriage return.
-    Blank,
+    Space,
     /// The end of a line.
     LineEnd,
     /// `"`
@@ -32,13 +32,13 @@ pub enum Front {
 }
 
 /// What begins at the front.
-#[tactic(auto, unfolding(crate::specs::Front::front_of))]
+#[tactic(auto, unfolding(crate::specs::mirrors::Front::front_of))]
 pub fn front_at(text: &[char]) -> Front
     ensures { result ≡ front_of text.now }
 {
     match text {
         [] => Front::Nothing,
-        [' ' | '\t' | '\r', ..] => Front::Blank,
+        [' ' | '\t' | '\r', ..] => Front::Space,
         ['\n', ..] => Front::LineEnd,
         ['"', ..] => Front::Quote,
         ['`', ..] => Front::Backquote,

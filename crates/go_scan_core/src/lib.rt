@@ -5,6 +5,7 @@
 //! the ends of lines. Runes, fractions and imaginary numbers are faults where they begin.
 #![tactic(auto)]
 
+mod candidates;
 mod enclosed;
 mod escape;
 mod front;
@@ -18,7 +19,7 @@ mod token;
 mod value;
 
 pub use kind::{CommentKind, KEYWORDS, Keyword, OPERATORS, Operator, TokenKind};
-pub use laws::one_answer;
+pub use laws::{comments_are_the_answer, one_answer, one_list_of_comments, tokens_are_the_answer};
 pub use scanner::{comments, scan};
 pub use token::{Comment, LexFault, ScanError, Token};
 pub use value::{integer_value, string_value};

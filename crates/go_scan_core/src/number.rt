@@ -1,6 +1,7 @@
 //! Integer literals, and the numbers that they write.
 ghost use Rattle.std.specs.Prelude.{◌≡◌, ◌≤◌, ◌+◌, length, IfSome};
-ghost use Rattle.go_scan_core.specs.Numbers.{digits_run, first_digit, named_radix, zero_len, number_len, next_number, up_to_greatest, number_in, radix_of, integer_value_of};
+ghost use Rattle.go_scan_core.specs.Numbers.{first_digit, integer_value_of, next_number, number_in, radix_of, up_to_greatest};
+ghost use Rattle.go_scan_core.specs.mirrors.Numbers.{digits_run, named_radix, number_len, zero_len};
 
 /// The greatest integer literal.
 const GREATEST: u64 = 9223372036854775807;
@@ -49,7 +50,7 @@ fn radix_named(text: &[char]) -> Option<u32>
 }
 
 /// How many characters the integer literal has whose first 0 stands before this text.
-#[tactic(auto, unfolding(crate::specs::Numbers::zero_len))]
+#[tactic(auto, unfolding(crate::specs::mirrors::Numbers::zero_len))]
 fn zero_width(text: &[char]) -> usize
     ensures value { result ≡ zero_len text.now }
     ensures within { result ≤ 1 + length text.now }
@@ -63,7 +64,7 @@ fn zero_width(text: &[char]) -> usize
 }
 
 /// How many characters the integer literal at the front has.
-#[tactic(auto, unfolding(crate::specs::Numbers::number_len))]
+#[tactic(auto, unfolding(crate::specs::mirrors::Numbers::number_len))]
 pub fn number_width(text: &[char]) -> usize
     ensures value { result ≡ number_len text.now }
     ensures within { result ≤ length text.now }

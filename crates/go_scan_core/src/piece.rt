@@ -1,7 +1,7 @@
 //! The pieces of a text: white space, ends of lines, lexemes and comments.
 ghost use Rattle.std.specs.Prelude.{◌≡◌, ◌^◌, ◌<◌};
-ghost use Rattle.std.specs.Char.{len_utf8};
-ghost use Rattle.std.specs.List.{sum_by};
+ghost use Rattle.std.specs.Char.{is_ascii, len_utf8};
+ghost use Rattle.std.specs.List.{list_all, sum_by};
 
 use crate::kind::{CommentKind, TokenKind};
 
@@ -18,10 +18,21 @@ pub enum Piece {
     Remark(CommentKind),
 }
 
+/// Whether each of the characters is one of ASCII.
+fn are_ascii(text: &[char]) -> bool
+    ensures { result ≡ list_all is_ascii text.now }
+{
+    text.iter().all(|c| c.is_ascii())
+}
+
 /// How many bytes characters take.
-pub fn width(text: &[char]) -> usize
-    requires { sum_by len_utf8 text.now < 2 ^ 64 }
+pub fn width(text: &[char]) -> u32
+    requires { sum_by len_utf8 text.now < 2 ^ 32 }
     ensures { result ≡ sum_by len_utf8 text.now }
 {
-    text.iter().map(|c| c.len_utf8()).sum()
+    if are_ascii(text) {
+        return text.len() as u32;
+    }
+    let bytes: usize = text.iter().map(|c| c.len_utf8()).sum();
+    bytes as u32
 }

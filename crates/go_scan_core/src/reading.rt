@@ -1,14 +1,17 @@
 //! What the front of a text reads as: a piece and its characters, or a fault.
-ghost use Rattle.std.specs.Prelude.{◌≡◌, ◌≤◌, nat_eq, length};
+ghost use Rattle.std.specs.Prelude.{◌≡◌, ◌≤◌, nat_eq, find, length};
 ghost use Rattle.std.specs.List.{prefix_len, starts_with};
-ghost use Rattle.go_scan_core.specs.Enclosed.{enclosed_at, opening};
-ghost use Rattle.go_scan_core.specs.Spelling.{operator_spelling};
-ghost use Rattle.go_scan_core.specs.Front.{first_passes};
-ghost use Rattle.go_scan_core.specs.Reading.{letter_or_digit, continues, keyword_of, word_at, number_at, operator_of, operator_at, in_line, piece_from, piece_at};
+ghost use Rattle.std.specs.Str.{bytes_eq};
+ghost use Rattle.go_scan_core.specs.Characters.{continues, first_passes, in_line, letter_or_digit};
+ghost use Rattle.go_scan_core.specs.Enclosed.{opening};
+ghost use Rattle.go_scan_core.specs.mirrors.Enclosed.{enclosed_at};
+ghost use Rattle.go_scan_core.specs.mirrors.Reading.{keyword_spelled, integer_at, operator_at, longest_operator, piece_at, piece_from, identifier_at};
+ghost use Rattle.go_scan_core.specs.Spelling.{keyword_spelling, operator_spelling};
 
+use crate::candidates::{keywords_with, operators_with};
 use crate::enclosed::{Enclosure, enclosed_len};
 use crate::front::{Front, front_at};
-use crate::kind::{CommentKind, KEYWORDS, Keyword, OPERATORS, Operator, TokenKind};
+use crate::kind::{CommentKind, Keyword, Operator, TokenKind};
 use crate::number::{literal_value, number_width};
 use crate::piece::Piece;
 use go_text_core::{Rule, is_digit, is_letter};
@@ -27,12 +30,21 @@ fn word_len(text: &[char]) -> usize
     text.iter().take_while(|c| is_letter_or_digit(**c)).count()
 }
 
-/// The keyword that is spelled so, if there is one.
-#[tactic(auto, unfolding(crate::specs::Reading::keyword_of))]
-fn keyword(word: &[char]) -> Option<Keyword>
-    ensures { result ≡ keyword_of word.now }
+/// The one of the keywords that is spelled so, if there is one.
+fn keyword_among(keywords: &[Keyword], word: &[char]) -> Option<Keyword>
+    ensures { result ≡ find (λ k. bytes_eq word.now (keyword_spelling k)) keywords.now }
 {
-    KEYWORDS.iter().copied().find(|k| word == k.spelling())
+    keywords.iter().copied().find(|k| word == k.spelling())
+}
+
+/// The keyword that is spelled so, if there is one.
+fn keyword(word: &[char]) -> Option<Keyword>
+    ensures { result ≡ keyword_spelled word.now }
+{
+    match word {
+        [first, ..] => keyword_among(keywords_with(*first), word),
+        [] => None,
+    }
 }
 
 /// Whether the operator stands at the front.
@@ -42,18 +54,27 @@ fn begins(text: &[char], operator: Operator) -> bool
     text.starts_with(operator.spelling())
 }
 
-/// The longest operator at the front, if there is one.
-#[tactic(auto, unfolding(crate::specs::Reading::operator_of))]
-fn operator(text: &[char]) -> Option<Operator>
-    ensures { result ≡ operator_of text.now }
+/// The first of the operators that stands at the front, if there is one.
+fn operator_among(operators: &[Operator], text: &[char]) -> Option<Operator>
+    ensures { result ≡ find (λ o. starts_with nat_eq text.now (operator_spelling o)) operators.now }
 {
-    OPERATORS.iter().copied().find(|o| begins(text, *o))
+    operators.iter().copied().find(|o| begins(text, *o))
+}
+
+/// The longest operator at the front, if there is one.
+fn operator(text: &[char]) -> Option<Operator>
+    ensures { result ≡ longest_operator text.now }
+{
+    match text {
+        [first, ..] => operator_among(operators_with(*first), text),
+        [] => None,
+    }
 }
 
 /// The identifier or keyword at the front, where a letter is first.
-#[tactic(auto, unfolding(crate::specs::Reading::word_at))]
+#[tactic(auto, unfolding(crate::specs::mirrors::Reading::identifier_at))]
 fn word(text: &[char]) -> (Piece, usize)
-    ensures { result ≡ word_at text.now }
+    ensures { result ≡ identifier_at text.now }
 {
     let len = word_len(text);
     let kind = match keyword(&text[..len]) {
@@ -74,9 +95,9 @@ fn may_not_follow(text: &[char]) -> bool
 }
 
 /// The integer literal at the front, where a digit is first.
-#[tactic(auto, unfolding(crate::specs::Reading::number_at))]
+#[tactic(auto, unfolding(crate::specs::mirrors::Reading::integer_at))]
 fn number(text: &[char]) -> Result<(Piece, usize), (Rule, usize)>
-    ensures { result ≡ number_at text.now }
+    ensures { result ≡ integer_at text.now }
 {
     let len = number_width(text);
     let (digits, rest) = text.split_at(len);
@@ -109,7 +130,7 @@ fn line_len(text: &[char]) -> usize
 }
 
 /// The operator or punctuation mark at the front.
-#[tactic(auto, unfolding(crate::specs::Reading::operator_at))]
+#[tactic(auto, unfolding(crate::specs::mirrors::Reading::operator_at))]
 fn mark(text: &[char]) -> Result<(Piece, usize), (Rule, usize)>
     ensures { result ≡ operator_at text.now }
 {
@@ -121,14 +142,14 @@ fn mark(text: &[char]) -> Result<(Piece, usize), (Rule, usize)>
 
 /// The piece at the front and its number of characters, or the rule that the front breaks and the
 /// number of characters before the place of the fault.
-#[tactic(auto, unfolding(crate::specs::Reading::piece_at))]
+#[tactic(auto, unfolding(crate::specs::mirrors::Reading::piece_at))]
 pub fn front_piece(text: &[char]) -> Result<(Piece, usize), (Rule, usize)>
     ensures { result ≡ piece_at text.now }
 {
     let string = Piece::Lexeme(TokenKind::String);
     match front_at(text) {
         Front::Nothing => Err((Rule::L1, 0)),
-        Front::Blank => Ok((Piece::Space, 1)),
+        Front::Space => Ok((Piece::Space, 1)),
         Front::LineEnd => Ok((Piece::LineEnd, 1)),
         Front::Quote => enclosed(Enclosure::Quoted, string, text),
         Front::Backquote => enclosed(Enclosure::Raw, string, text),

@@ -1,10 +1,13 @@
 //! From a text to its tokens and comments.
-ghost use Rattle.std.specs.Prelude.{◌≡◌, ℕ, ◌+◌, ◌^◌, ◌<◌, ◌≤◌, [], ◌++◌, ◌==◌, if◌then◌else◌, None, length, take, All, OnOk, IfOk};
+ghost use Rattle.std.specs.Prelude.{◌≡◌, ℕ, ◌+◌, ◌^◌, ◌<◌, ◌≤◌, [], ◌++◌, ◌==◌, if◌then◌else◌, None, length, take, drop, All, OnOk, IfOk};
+ghost use Rattle.std.specs.List.{prefix_len};
 ghost use Rattle.std.specs.Str.{chars};
-ghost use Rattle.go_scan_core.specs.Front.{first_passes};
-ghost use Rattle.go_scan_core.specs.Cutting.{ends_statement, semicolon_after, semicolon_behind, fault_of, holds_line_end, width, cut, closed, remarked, parts_of, tokens_of, comments_of, Answers, AnswersBy};
+ghost use Rattle.go_scan_core.specs.Characters.{first_passes, is_space};
+ghost use Rattle.go_scan_core.specs.Cutting.{Answers, AnswersBy, comments_of, tokens_of};
+ghost use Rattle.go_scan_core.specs.Parts.{ends_statement, holds_line_end, semicolon_after, semicolon_behind, width};
+ghost use Rattle.go_scan_core.specs.mirrors.Cutting.{closed, cut, fault_of, parts_of, remarked};
 ghost use Rattle.go_scan_core.specs.Texts.{CommentHasItsText, HasItsText, IsFilled};
-ghost use Rattle.go_scan_core.specs.Tokens.{CommentsInOrder, FindsComments, Scans, InOrder};
+ghost use Rattle.go_scan_core.specs.Tokens.{CommentsInOrder, FindsComments, Scans, TokensInOrder};
 
 use crate::kind::{Keyword, Operator, TokenKind};
 use crate::piece::{Piece, width};
@@ -12,6 +15,9 @@ use crate::reading::front_piece;
 use crate::token::{Comment, LexFault, ScanError, Token};
 use go_text_core::{Rule, Span};
 use std::alloc::{AllocError, Global};
+
+// The most bytes of a text that is scanned: the offsets of spans have 32 bits.
+const GREATEST_LENGTH: usize = 4294967295;
 
 /// Whether the end of a line behind such a token stands for a semicolon.
 fn is_ending(kind: TokenKind) -> bool
@@ -78,25 +84,46 @@ fn holds_line_end(text: &[char]) -> bool
 }
 
 /// The fault behind so many characters of a text that begins at the byte `start`.
-fn fault_behind(text: &[char], start: usize, rule: Rule, len: usize) -> LexFault
+fn fault_behind(text: &[char], start: u32, rule: Rule, len: usize) -> LexFault
     requires inside { len ≤ length text.now }
-    requires fits { start + width text.now < 2 ^ 64 }
+    requires fits { start + width text.now < 2 ^ 32 }
     ensures { result ≡ fault_of rule (start + width (take len text.now)) }
 {
     let (sound, _) = text.split_at(len);
     LexFault {
         rule,
-        offset: start + width(sound),
+        offset: (start + width(sound)) as usize,
     }
+}
+
+/// How many white-space characters stand at the front.
+fn space_len(text: &[char]) -> usize
+    ensures { result ≡ prefix_len is_space text.now }
+{
+    text.iter()
+        .take_while(|c| matches!(**c, ' ' | '\t' | '\r'))
+        .count()
+}
+
+/// What stands behind the white space at the front of a text that begins at the byte `start`, and
+/// the byte where it begins.
+fn behind_spaces(text: &[char], start: u32) -> (&[char], u32)
+    requires { start + width text.now < 2 ^ 32 }
+    ensures rest { result.0.now ≡ drop (prefix_len is_space text.now) text.now }
+    ensures place { result.1 ≡ start + prefix_len is_space text.now }
+{
+    let count = space_len(text);
+    let (_, rest) = text.split_at(count);
+    (rest, start + count as u32)
 }
 
 /// The tokens and the comments of the characters that begin at the byte `start`.
 fn read_characters(
     alloc: Global,
     text: &[char],
-    start: usize,
+    start: u32,
 ) -> Result<(Vec<Token>, Vec<Comment>), ScanError>
-    requires { start + width text.now < 2 ^ 64 }
+    requires { start + width text.now < 2 ^ 32 }
     ensures tokens { AnswersBy (λ v. v.0.items) result (closed None (cut text.now 0 start)) }
     ensures comments { AnswersBy (λ v. v.1.items) result (remarked (cut text.now 0 start)) }
 {
@@ -112,6 +139,7 @@ fn read_characters(
         };
         let (front, others) = rest.split_at(len);
         let end = at + width(front);
+        let (behind, next) = behind_spaces(others, end);
         let span = Span { start: at, end };
         match piece {
             Piece::Space => {}
@@ -129,8 +157,8 @@ fn read_characters(
                 last = end_line_if(&mut tokens, last, holds_line_end(front))?;
             }
         }
-        at = end;
-        rest = others;
+        at = next;
+        rest = behind;
     }
     end_line(&mut tokens, last)?;
     Ok((tokens, comments))
@@ -139,9 +167,8 @@ fn read_characters(
 /// The characters of a text.
 pub fn characters_of(alloc: Global, text: &str) -> Result<Vec<char>, AllocError>
     ensures items { IfOk result (λ v. v.items ≡ chars text.now) }
-    ensures size { width (chars text.now) < 2 ^ 64 }
+    ensures size { width (chars text.now) ≡ length text.now }
 {
-    let _size = text.len();
     text.chars().collect(alloc)
 }
 
@@ -153,11 +180,14 @@ fn has_mark(text: &[char]) -> bool
 }
 
 /// The tokens and the comments of a text, behind a byte order mark at its start.
-#[tactic(auto, unfolding(crate::specs::Cutting::parts_of))]
+#[tactic(auto, unfolding(crate::specs::mirrors::Cutting::parts_of))]
 fn read(alloc: Global, text: &str) -> Result<(Vec<Token>, Vec<Comment>), ScanError>
     ensures tokens { AnswersBy (λ v. v.0.items) result (tokens_of text.now) }
     ensures comments { AnswersBy (λ v. v.1.items) result (comments_of text.now) }
 {
+    if text.len() > GREATEST_LENGTH {
+        return Err(ScanError::Memory);
+    }
     let characters = characters_of(alloc, text)?;
     if has_mark(&characters) {
         read_characters(alloc, &characters[1..], 3)
@@ -202,7 +232,7 @@ fn comments_alone(alloc: Global, text: &str) -> Result<Vec<Comment>, ScanError>
 pub fn scan(alloc: Global, text: &str) -> Result<Vec<Token>, ScanError>
     ensures answer { Scans text.now result }
     ensures value { Answers result (tokens_of text.now) }
-    ensures spans { IfOk result (λ v. InOrder 0 v.items (length text.now)) }
+    ensures spans { IfOk result (λ v. TokensInOrder 0 v.items (length text.now)) }
     ensures slices { IfOk result (λ v. All (HasItsText text.now) v.items) }
     ensures filled { IfOk result (λ v. All IsFilled v.items) }
 {

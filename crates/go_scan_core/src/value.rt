@@ -1,7 +1,7 @@
 //! The values of literals.
 ghost use Rattle.std.specs.Prelude.{◌≡◌, ◌≤◌, ◌++◌, length, encode_utf8, IfOk, OnOk};
 ghost use Rattle.std.specs.Str.{chars};
-ghost use Rattle.go_scan_core.specs.Numbers.{number_in, radix_of, up_to_greatest, integer_value_of};
+ghost use Rattle.go_scan_core.specs.Numbers.{integer_value_of, number_in, radix_of, up_to_greatest};
 ghost use Rattle.go_scan_core.specs.Values.{but_last, meaning_bytes, meaning_at, quoted_value, raw_bytes, raw_value, string_value_of};
 
 use crate::escape::{Meaning, escape};
@@ -40,6 +40,12 @@ fn number_of_bytes(text: &[u8], radix: u32) -> Option<u64>
 }
 
 /// The number that an integer literal writes, where it is no greater than 2^63 - 1.
+///
+/// Each text has an answer: its base is 16 where it begins with `0x` or `0X`, 2 where it begins with
+/// `0b` or `0B`, otherwise 8 where it begins with `0`, and 10 where not. The number is the one that
+/// its digits of that base write, in their order; any other character is passed over, wherever it
+/// stands. So a text without such a digit, as the empty one, has the number 0, and where the text is
+/// an integer literal what is passed over are the letter of its base and each `_`.
 pub fn integer_value(spelled: &str) -> Option<u64>
     ensures { result ≡ up_to_greatest (integer_value_of spelled.now) }
 {

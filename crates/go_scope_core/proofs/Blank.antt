@@ -7,7 +7,8 @@ use Rattle.std.proofs.lemmas.Slice.Eq.{bytes_eq-Decides}
 use Rattle.go_text_core.specs.Text.{is_blank}
 use Rattle.go_open_core.specs.declared.DeclId.{DeclId}
 use Rattle.go_open_core.specs.Blocks.{in_block, innermost, with_innermost, block_with, block_after, is_new, NoneHas}
-use Rattle.go_scope_core.specs.Laws.{blank, BlankStaysOut}
+use Rattle.go_graph_core.specs.Packages.{blank}
+use Rattle.go_scope_core.specs.Laws.{BlankStaysOut}
 
 abbrev Lacks : List (List ℕ × DeclId) → Type 0
 Lacks block = in_block block blank ≡ None

@@ -9,7 +9,7 @@ use Rattle.go_open_core.specs.declared.DeclId.{DeclId}
 use Rattle.go_open_core.specs.Blocks.{in_block, found_in}
 use Rattle.go_scope_core.specs.Scopes.{scope_blocks}
 use Rattle.go_scope_core.specs.Laws.{DenotesInnermost, DenotesOne, DenotesLocal, LocalHides, PackageNeverHidden, FileInside}
-use Rattle.go_scope_core.proofs.Innermost.{found_innermost, innermost_found, found_none, none_found}
+use Rattle.go_open_core.proofs.Innermost.{found_innermost, innermost_found, found_none, none_found}
 use Rattle.go_scope_core.proofs.Lookups.{by_parts, in_scope}
 
 pub denotes_innermost : DenotesInnermost

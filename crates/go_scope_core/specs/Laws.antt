@@ -1,8 +1,9 @@
 -- Laws of what names denote.
-use Rattle.std.specs.Prelude.{◌≡◌, ℕ, ◌↔◌, List, [], ◌∷◌, ◌++◌, Option, Some, Any, IsSome, codes}
+use Rattle.std.specs.Prelude.{◌≡◌, ℕ, ◌↔◌, List, [], ◌∷◌, ◌++◌, Option, Some, Any, IsSome}
 use Rattle.go_block_core.specs.declared.decls.DeclRef.{DeclRef}
 use Rattle.go_block_core.specs.declared.binding.Binding.{Binding}
 use Rattle.go_block_core.specs.Blocks.{file_binding}
+use Rattle.go_graph_core.specs.Packages.{blank}
 use Rattle.go_open_core.specs.declared.DeclId.{DeclId}
 use Rattle.go_open_core.specs.Blocks.{in_block, found_in, innermost, with_innermost, block_with, block_after, NoneHas, IsInnermost}
 use Rattle.go_scope_core.specs.declared.scope.InScope.{InScope}
@@ -41,10 +42,6 @@ PackageNeverHidden = (s : ScopesModel) (name : List ℕ) (d : DeclRef) → NoneH
 -- a name that no open block of the function has denotes the binding of it that holds in the file
 abbrev pub FileInside : Type 0
 FileInside = (s : ScopesModel) (name : List ℕ) (b : Binding) → NoneHas s.open_blocks name → file_binding s.blocks s.file name ≡ Some b → denotes s name ≡ Some (File b)
-
--- the blank identifier
-abbrev pub blank : List ℕ
-blank = codes "_"
 
 -- no step from open blocks of a function leads to a block that has the blank identifier
 pub record KeepsBlankOut (open_blocks : List (List (List ℕ × DeclId))) : Type 0 where

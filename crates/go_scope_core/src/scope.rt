@@ -1,15 +1,15 @@
 //! The blocks that are open at a place of a file.
-ghost use Rattle.std.specs.Prelude.{◌≡◌, ℕ, ◌<◌, ◌⊎◌, [], ◌∷◌, ◌++◌, length, map, IfOk, IfErr, OnOk, IfSome, IsSome, IsNone, true, false, List, ◌↔◌, Contains, AllPairs};
+ghost use Rattle.std.specs.Prelude.{◌≡◌, ℕ, ◌<◌, ◌⊎◌, [], ◌∷◌, ◌++◌, length, map, IfOk, IfErr, OnOk, IfSome, IsSome, IsNone, IsOk, true, false, List, ◌↔◌, Contains, AllPairs};
 ghost use Rattle.std.specs.List.{list_any};
-ghost use Rattle.go_open_core.specs.Blocks.{found_in, innermost, with_innermost, is_taken, block_with, block_after, news_of, named, names_of, list_names, NoneHas, IsInnermost};
+ghost use Rattle.go_open_core.specs.Blocks.{found_in, innermost, with_innermost, is_taken, block_with, block_after, news_of, named, all_names, list_names, NoneHas, IsInnermost};
+ghost use Rattle.go_text_core.specs.Text.{is_blank};
 ghost use Rattle.go_scope_core.specs.Models.{scopes_model};
 ghost use Rattle.go_scope_core.specs.Scopes.{with_open, scope_blocks};
 
 use crate::names::listed_names;
 use go_block_core::{Binding, Blocks, DeclRef};
-use go_open_core::{DeclId, OpenBlocks};
+use go_open_core::{DeclId, NameList, OpenBlocks};
 use go_text_core::Rule;
-use indexmap::IndexSet;
 use std::alloc::Global;
 use std::marker::Model;
 
@@ -84,12 +84,13 @@ impl<'a> Scopes<'a> {
     ///
     /// # Errors
     ///
-    /// B1 where the innermost block has a declaration of the name, M0 where memory is wanting. The blocks are
-    /// then as they were.
+    /// B1 where the innermost block has a declaration of the name, and otherwise M0 where memory is wanting. The
+    /// blocks are then as they were. The blank identifier has no error.
     pub fn declare(&mut self, name: &str, id: DeclId) -> Result<(), Rule>
         requires { 0 < length self.old.open_blocks }
         ensures ok { OnOk result ((is_taken self.old.open_blocks name.now ≡ false) × (self.new ≡ with_open self.old (with_innermost self.old.open_blocks (block_with (innermost self.old.open_blocks) name.now id)))) }
-        ensures err { IfErr result (λ rule. (self.new ≡ self.old) × ((rule ≡ Rule.M0) ⊎ ((rule ≡ Rule.B1) × (is_taken self.old.open_blocks name.now ≡ true)))) }
+        ensures err { IfErr result (λ rule. (self.new ≡ self.old) × (((rule ≡ Rule.M0) × (is_taken self.old.open_blocks name.now ≡ false)) ⊎ ((rule ≡ Rule.B1) × (is_taken self.old.open_blocks name.now ≡ true)))) }
+        ensures blank { is_blank name.now ≡ true → IsOk result }
     {
         self.open_blocks.declare(name, id)
     }
@@ -101,11 +102,11 @@ impl<'a> Scopes<'a> {
     ///
     /// # Errors
     ///
-    /// B4 where no name is new, M0 where memory is wanting. The blocks are then as they were.
+    /// B4 where no name is new, and otherwise M0 where memory is wanting. The blocks are then as they were.
     pub fn declare_short(&mut self, names: &[(&str, DeclId)]) -> Result<Vec<bool>, Rule>
         requires { 0 < length self.old.open_blocks }
         ensures ok { IfOk result (λ news. (news.items ≡ news_of (innermost self.old.open_blocks) (named names.now)) × (list_any (λ b. b) news.items ≡ true) × (self.new ≡ with_open self.old (with_innermost self.old.open_blocks (block_after (innermost self.old.open_blocks) (named names.now))))) }
-        ensures err { IfErr result (λ rule. (self.new ≡ self.old) × ((rule ≡ Rule.M0) ⊎ ((rule ≡ Rule.B4) × (list_any (λ b. b) (news_of (innermost self.old.open_blocks) (named names.now)) ≡ false)))) }
+        ensures err { IfErr result (λ rule. (self.new ≡ self.old) × (((rule ≡ Rule.M0) × (list_any (λ b. b) (news_of (innermost self.old.open_blocks) (named names.now)) ≡ true)) ⊎ ((rule ≡ Rule.B4) × (list_any (λ b. b) (news_of (innermost self.old.open_blocks) (named names.now)) ≡ false)))) }
     {
         self.open_blocks.declare_short(names)
     }
@@ -137,12 +138,12 @@ impl<'a> Scopes<'a> {
     ///
     /// M0 where memory is wanting.
     pub fn names(&self, alloc: Global) -> Result<Vec<&str>, Rule>
-        ensures value { IfOk result (λ names. map (λ n. n.now) names.items ≡ list_names [] (names_of (scope_blocks self.now))) }
+        ensures value { IfOk result (λ names. map (λ n. n.now) names.items ≡ list_names [] (all_names (scope_blocks self.now))) }
         ensures found { IfOk result (λ names. (name : List ℕ) → Contains (map (λ n. n.now) names.items) name ↔ IsSome (found_in (scope_blocks self.now) name)) }
         ensures once { IfOk result (λ names. AllPairs (λ a b. ¬ (a ≡ b)) (map (λ n. n.now) names.items)) }
         ensures err { IfErr result (λ rule. rule ≡ Rule.M0) }
     {
-        let mut all = IndexSet::new(alloc);
+        let mut all = NameList::new(alloc);
         listed_names(&mut all, alloc, self.blocks, self.file, &self.open_blocks)
     }
 

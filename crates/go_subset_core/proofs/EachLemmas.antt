@@ -1,7 +1,7 @@
 -- What the elements of a list give, one after the other.
 use Rattle.std.proofs.Common.{◌≡◌, ℕ, zero, suc, ◌+◌, ◌<◌, ◌≤◌, List, [], ◌∷◌, ◌++◌, length, get_or, take, map, Option, Some, None, refl, sym, ap, ◌∙◌, arith}
 use Rattle.std.proofs.lemmas.List.{take_more, take_all, map-append}
-use Rattle.go_subset_core.specs.Narrowing.{both, each}
+use Rattle.go_subset_core.specs.mirrors.Narrowing.{both, each}
 
 pub both_none : {A B C : Type 0} (f : A → B → C) (a : Option A) → both f a None ≡ None
 both_none f None = refl

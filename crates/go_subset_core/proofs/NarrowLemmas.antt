@@ -24,7 +24,7 @@ use Rattle.go_subset_core.specs.Shapes.{shape, exprs_from, shape_stmt, lines_of}
 use Rattle.go_tree_nodes.specs.TypeShapes.{idents_from}
 use Rattle.go_subset_core.specs.declared.narrow.Refusal.{Refusal}
 use Rattle.go_subset_core.specs.declared.narrow.Refusal.TheVariants as refusal
-use Rattle.go_subset_core.specs.Narrowing.{Refuses, both, each, narrow, narrow_exprs, narrow_stmt, narrow_lines, narrow_top, only}
+use Rattle.go_subset_core.specs.mirrors.Narrowing.{Refuses, both, each, narrow, narrow_exprs, narrow_stmt, narrow_lines, narrow_top, only}
 
 -- expressions
 

@@ -15,7 +15,7 @@ use Rattle.go_tree_nodes.specs.TypeShapes.{params_of, shape_results}
 use Rattle.go_tree_nodes.proofs.TypeShapes.{signature_parts}
 use Rattle.go_subset_core.specs.declared.tree.TypeExpr.{TypeExpr}
 use Rattle.go_subset_core.specs.Trees.{FuncTree, Lines}
-use Rattle.go_subset_core.specs.Narrowing.{both, func_tree, narrow_func, narrow_lines, narrow_result, narrow_signature, unless_some}
+use Rattle.go_subset_core.specs.mirrors.Narrowing.{both, func_tree, narrow_func, narrow_lines, narrow_result, narrow_signature, unless_some}
 
 -- the parameters of a function, and the tree of what it returns
 abbrev pub params : FuncDecl → Params

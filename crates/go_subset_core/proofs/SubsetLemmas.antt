@@ -13,7 +13,7 @@ use Rattle.go_subset_core.specs.declared.tree.TypeExpr.TheVariants as type_expr
 use Rattle.go_subset_core.specs.Trees.{ExprTree, Literal, Named, Paren, Binary, Separated, One, Then, ValueTree, StmtTree, Lines, Declare, Short, Assign, Return, Block, Empty, More, FuncTree, DeclTree, Value, Func, TopTree, FileTree}
 use Rattle.go_subset_core.specs.Widening.{widen, widen_exprs, widen_some, widen_type, widen_some_type, widen_value, widen_stmt, widen_lines, widen_result, widen_func, widen_decl, widen_top, widen_file}
 use Rattle.go_subset_core.specs.Subset.{is_plain, is_arithmetic, Inside, Inside_exprs, Inside_some, MayHaveType, Inside_value, Inside_stmt, Inside_lines, Inside_decl, Inside_tops, IsSubset, IsOutside, OneSubset}
-use Rattle.go_subset_core.specs.Narrowing.{both, each, only, narrow, narrow_exprs, narrow_some, narrow_type, narrow_some_type, narrow_values, value_tree, narrow_value_spec, narrow_specs, narrow_value, narrow_simple, narrow_stmt, narrow_lines, narrow_result, narrow_signature, func_tree, unless_some, narrow_func, narrow_decl, top_tree, narrow_top, file_tree, unless_any, narrow_file}
+use Rattle.go_subset_core.specs.mirrors.Narrowing.{both, each, only, narrow, narrow_exprs, narrow_some, narrow_type, narrow_some_type, narrow_values, value_tree, narrow_value_spec, narrow_specs, narrow_value, narrow_simple, narrow_stmt, narrow_lines, narrow_result, narrow_signature, func_tree, unless_some, narrow_func, narrow_decl, top_tree, narrow_top, file_tree, unless_any, narrow_file}
 
 -- what is given is what was found
 

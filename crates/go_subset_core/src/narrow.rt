@@ -5,7 +5,7 @@ ghost use Rattle.std.specs.Option.{option_map};
 ghost use Rattle.go_tree_nodes.specs.TypeShapes.{shape_idents, shape_type, shape_results};
 ghost use Rattle.go_tree_nodes.specs.Shapes as wide_shapes;
 ghost use Rattle.go_subset_core.specs.Shapes.{shape, shape_exprs, shape_some, shape_value, shape_stmt, lines_of, func_of, decl_of, top_of, file_of};
-ghost use Rattle.go_subset_core.specs.Narrowing.{Narrows, narrow, narrow_exprs, narrow_some, narrow_type, narrow_some_type, narrow_values, narrow_value, narrow_simple, narrow_stmt, narrow_lines, narrow_result, narrow_func, narrow_decl, narrow_top, narrow_file, each, only};
+ghost use Rattle.go_subset_core.specs.mirrors.Narrowing.{Narrows, narrow, narrow_exprs, narrow_some, narrow_type, narrow_some_type, narrow_values, narrow_value, narrow_simple, narrow_stmt, narrow_lines, narrow_result, narrow_func, narrow_decl, narrow_top, narrow_file, each, only};
 ghost use Rattle.go_subset_core.specs.Subset.{IsSubset, IsOutside};
 
 use crate::plain::{is_arithmetic, is_plain};
@@ -62,6 +62,7 @@ fn copy_ident(alloc: Global, ident: &Ident) -> Result<Ident, AllocError>
 }
 
 // An expression of the subset.
+#[tactic(auto, using(crate::proofs::OutsideLemmas::call_outside, crate::proofs::OutsideLemmas::literal_outside, crate::proofs::OutsideLemmas::struct_literal_outside))]
 fn narrow_expr(alloc: Global, text: &str, expr: &wide::Expr) -> Result<Expr, Refusal>
     ensures { Narrows shape result (narrow text.now (wide_shapes.shape expr.now)) }
 {
@@ -74,10 +75,10 @@ fn narrow_expr(alloc: Global, text: &str, expr: &wide::Expr) -> Result<Expr, Ref
             let inner = boxed(alloc, narrow_expr(alloc, text, inner)?)?;
             Ok(Expr::Paren(*first, inner, *last))
         }
-        wide::Expr::Binary(left, operator, span, right) if is_arithmetic(*operator) => {
-            let left = boxed(alloc, narrow_expr(alloc, text, left)?)?;
-            let right = boxed(alloc, narrow_expr(alloc, text, right)?)?;
-            Ok(Expr::Binary(left, *operator, *span, right))
+        wide::Expr::Binary(binary) if is_arithmetic(binary.operator) => {
+            let left = boxed(alloc, narrow_expr(alloc, text, &binary.left)?)?;
+            let right = boxed(alloc, narrow_expr(alloc, text, &binary.right)?)?;
+            Ok(Expr::Binary(left, binary.operator, binary.span, right))
         }
         _ => Err(Refusal::Outside),
     }
@@ -102,7 +103,7 @@ fn narrow_exprs(alloc: Global, text: &str, exprs: &wide::Exprs) -> Result<Exprs,
 fn narrow_some(
     alloc: Global,
     text: &str,
-    exprs: &Option<wide::Exprs>,
+    exprs: &Option<Box<wide::Exprs>>,
 ) -> Result<Option<Exprs>, Refusal>
     ensures { Narrows shape_some result (narrow_some text.now (wide_shapes.shape_some_exprs exprs.now)) }
 {
@@ -205,15 +206,15 @@ fn narrow_simple(alloc: Global, text: &str, simple: &wide::Simple) -> Result<Stm
     ensures { Narrows shape_stmt result (narrow_simple text.now (wide_shapes.shape_simple simple.now)) }
 {
     match simple {
-        wide::Simple::Define(names, define, values) => {
-            let names = copy_idents(alloc, names)?;
-            let values = narrow_exprs(alloc, text, values)?;
-            Ok(Stmt::Short(names, *define, values))
+        wide::Simple::Define(definition) => {
+            let names = copy_idents(alloc, &definition.names)?;
+            let values = narrow_exprs(alloc, text, &definition.values)?;
+            Ok(Stmt::Short(names, definition.define, values))
         }
-        wide::Simple::Assign(targets, assign, values) => {
-            let targets = narrow_exprs(alloc, text, targets)?;
-            match narrow_exprs(alloc, text, values) {
-                Ok(values) => Ok(Stmt::Assign(targets, *assign, values)),
+        wide::Simple::Assign(assignment) => {
+            let targets = narrow_exprs(alloc, text, &assignment.targets)?;
+            match narrow_exprs(alloc, text, &assignment.values) {
+                Ok(values) => Ok(Stmt::Assign(targets, assignment.assign, values)),
                 Err(refusal) => {
                     drop(targets);
                     Err(refusal)
@@ -225,6 +226,7 @@ fn narrow_simple(alloc: Global, text: &str, simple: &wide::Simple) -> Result<Stm
 }
 
 // A statement of the subset.
+#[tactic(auto, using(crate::proofs::OutsideLemmas::loop_outside))]
 #[cycle(narrow)]
 fn narrow_stmt(alloc: Global, text: &str, stmt: &wide::Stmt) -> Result<Stmt, Refusal>
     ensures { Narrows shape_stmt result (narrow_stmt text.now (wide_shapes.shape_stmt stmt.now)) }
@@ -239,7 +241,11 @@ fn narrow_stmt(alloc: Global, text: &str, stmt: &wide::Stmt) -> Result<Stmt, Ref
             let lines = narrow_lines(alloc, text, lines)?;
             Ok(Stmt::Block(*open, lines, *close))
         }
-        _ => Err(Refusal::Outside),
+        wide::Stmt::Empty
+        | wide::Stmt::Break(_)
+        | wide::Stmt::Continue(_)
+        | wide::Stmt::If(_)
+        | wide::Stmt::For(_) => Err(Refusal::Outside),
     }
 }
 

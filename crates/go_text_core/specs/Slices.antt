@@ -1,5 +1,5 @@
 -- The piece of a text that a span covers.
-use Rattle.std.specs.Prelude.{ℕ, Bool, ◌&&◌, nat_le, List, slice_range, Option, Some, None, if◌then◌else◌}
+use Rattle.std.specs.Prelude.{ℕ, ◌&&◌, nat_le, List, slice_range, Option, Some, None, if◌then◌else◌}
 use Rattle.go_text_core.specs.declared.span.Span.{Span}
 use Rattle.go_text_core.specs.Boundaries.{is_boundary_of}
 

@@ -17,25 +17,34 @@ pub use span::Span;
 use unicode::properties::{GeneralCategory, GeneralCategoryGroup};
 
 /// Whether a character is a letter: `_` or of the categories Lu, Ll, Lt, Lm, Lo.
-#[tactic(auto, unfolding(crate::specs::Text::letter))]
+#[tactic(auto, using(crate::proofs::Ascii::ascii_letter), unfolding(crate::specs::Text::letter))]
 pub fn is_letter(c: char) -> bool
     ensures { result ≡ letter c }
 {
-    c == '_' || GeneralCategoryGroup::Letter.contains(GeneralCategory::for_char(c))
+    if c.is_ascii() {
+        return c.is_ascii_alphabetic() || c == '_';
+    }
+    GeneralCategoryGroup::Letter.contains(GeneralCategory::for_char(c))
 }
 
 /// Whether a character is a digit of identifiers: of the category Nd.
-#[tactic(auto, unfolding(crate::specs::Text::digit))]
+#[tactic(auto, using(crate::proofs::Ascii::ascii_digit), unfolding(crate::specs::Text::digit))]
 pub fn is_digit(c: char) -> bool
     ensures { result ≡ digit c }
 {
+    if c.is_ascii() {
+        return c.is_ascii_digit();
+    }
     GeneralCategory::for_char(c) == GeneralCategory::DecimalNumber
 }
 
-#[tactic(auto, unfolding(crate::specs::Text::uppercase))]
+#[tactic(auto, using(crate::proofs::Ascii::ascii_uppercase), unfolding(crate::specs::Text::uppercase))]
 fn is_uppercase(c: char) -> bool
     ensures { result ≡ uppercase c }
 {
+    if c.is_ascii() {
+        return c.is_ascii_uppercase();
+    }
     GeneralCategory::for_char(c) == GeneralCategory::UppercaseLetter
 }
 

@@ -1,58 +1,97 @@
 //! The spelling of a name.
-ghost use Rattle.std.specs.Prelude.{◌≡◌, IfOk, string_bytes};
+ghost use Rattle.std.specs.Prelude.{◌≡◌, ◌≤◌, length, take, IfOk};
+ghost use Rattle.std.specs.Str.{IsUtf8};
+ghost use Rattle.go_text_core.specs.declared.name.TheConstants.{SHORT};
 
 use std::alloc::{AllocError, Global};
 use std::marker::Model;
+use std::str::from_utf8_unchecked;
 
-/// How a name is spelled. Contracts see it as its bytes.
+/// The greatest number of bytes of a name that takes no memory of its own.
+const SHORT: usize = 14;
+
+/// Where the bytes of a name are: beside their number where they are few, and otherwise in a text of their own.
 #[derive(Drop)]
-pub struct Name {
-    spelled: String,
+enum Form {
+    Short(u8, [u8; SHORT]),
+    Long(Box<String>),
 }
 
+/// How a name is spelled. Contracts see it as its bytes. It is 16 bytes large, since trees keep many names, and
+/// takes no memory beside where it has at most 14 bytes, as most names have.
+#[derive(Drop)]
+pub struct Name {
+    form: Form,
+}
+
+const _: () = prove!(size_of::<Name>() == 16);
+
 impl Model for Name {
-    ghost use Rattle.std.specs.Prelude.{List, ℕ, string_bytes};
+    ghost use Rattle.std.specs.Prelude.{List, ℕ};
 
     ghost Value = { List ℕ };
 
-    ghost view = { λ n. string_bytes n.spelled };
+    ghost use Rattle.go_text_core.specs.Names.{bytes_of, HoldsText};
+
+    ghost view = { λ n. bytes_of n.form };
+
+    ghost invariant = { λ n. HoldsText n.form };
+}
+
+/// The bytes of a text of at most 14 bytes, with zeros behind them.
+fn short_bytes(text: &str) -> [u8; SHORT]
+    requires { length text.now ≤ SHORT }
+    ensures { take (length text.now) result ≡ text.now }
+{
+    let mut bytes = [0; SHORT];
+    bytes[..text.len()].copy_from_slice(text.as_bytes());
+    bytes
+}
+
+/// The text of these bytes.
+fn text_of(len: u8, bytes: &[u8; SHORT]) -> &str
+    requires range { len ≤ SHORT }
+    requires utf8 { IsUtf8 (take len bytes.now) }
+    ensures { result.now ≡ take len bytes.now }
+{
+    unsafe { from_utf8_unchecked(&bytes[..len as usize]) }
 }
 
 impl Name {
-    /// The name that is spelled so.
-    pub fn new(spelled: String) -> Name
-        ensures { result ≡ string_bytes spelled }
-    {
-        Name { spelled }
-    }
-
-    /// The name that is spelled as a piece of a text.
+    /// The name that is spelled as a piece of a text. Takes memory for a piece of more than 14 bytes alone.
+    ///
+    /// # Errors
+    ///
+    /// An `AllocError` where memory is wanting.
     pub fn from_text(alloc: Global, spelled: &str) -> Result<Name, AllocError>
         ensures { IfOk result (λ n. n ≡ spelled.now) }
     {
-        Ok(Name {
-            spelled: String::from_str(alloc, spelled)?,
-        })
+        let form = if spelled.len() <= SHORT {
+            Form::Short(spelled.len() as u8, short_bytes(spelled))
+        } else {
+            Form::Long(Box::new(alloc, String::from_str(alloc, spelled)?)?)
+        };
+        Ok(Name { form })
     }
 
     /// The spelling.
     pub fn as_str(&self) -> &str
         ensures { result.now ≡ self.now }
     {
-        self.spelled.as_str()
-    }
-
-    /// The spelling, without a copy.
-    pub fn into_string(self) -> String
-        ensures { string_bytes result ≡ self }
-    {
-        self.spelled
+        match &self.form {
+            Form::Short(len, bytes) => text_of(*len, bytes),
+            Form::Long(text) => text.as_str(),
+        }
     }
 
     /// A second name that is spelled alike.
+    ///
+    /// # Errors
+    ///
+    /// An `AllocError` where memory is wanting.
     pub fn copy(&self, alloc: Global) -> Result<Name, AllocError>
         ensures { IfOk result (λ n. n ≡ self.now) }
     {
-        Name::from_text(alloc, self.spelled.as_str())
+        Name::from_text(alloc, self.as_str())
     }
 }

@@ -1,6 +1,7 @@
 -- Lists whose elements have the same trees have the same tree.
-use Rattle.std.proofs.Common.{◌≡◌, ℕ, ◌+◌, ◌<◌, ◌≤◌, List, [], ◌∷◌, ◌++◌, length, get_or, take, map, Ok, refl, ap, sym, ◌∙◌, subst}
+use Rattle.std.proofs.Common.{◌≡◌, ℕ, ◌+◌, ◌<◌, ◌≤◌, List, [], ◌∷◌, ◌++◌, length, get_or, take, map, Ok, Err, refl, ap, sym, ◌∙◌, subst}
 use Rattle.std.specs.Prelude.{IfOk}
+use Rattle.std.specs.Global.{Box}
 use Rattle.std.specs.declared.result.Result.{Result}
 use Rattle.std.proofs.lemmas.List.{take_more, take_all, map_more, map-append}
 use Rattle.go_text_core.specs.declared.span.Span.{Span}
@@ -17,7 +18,7 @@ use Rattle.go_tree_nodes.specs.declared.exprs.NextExpr.{NextExpr}
 use Rattle.go_tree_nodes.specs.declared.stmts.«Line» as declared_line
 use Rattle.go_tree_nodes.specs.Trees.{Separated, One, Then, FieldTrees, NoFields, NamedFields, EmbeddedField, MethodTrees, NoMethods, Method, ParamTrees, NoParams, Param, ExprTree, ItemTrees, NoItems, Item, Lines, NoLines, Line, DeclTree, TopTree}
 use Rattle.go_tree_nodes.specs.TypeShapes.{shape_names, shape_type, fields_before, fields_of, method_before, methods_of, params_of}
-use Rattle.go_tree_nodes.specs.Shapes.{shape, items_of, exprs_from, shape_stmt, lines_of}
+use Rattle.go_tree_nodes.specs.Shapes.{key_of, shape, items_of, exprs_from, shape_stmt, lines_of}
 
 -- a loop that adds an equal element
 pub one_kept : {X : Type 0} (copies more xs : List X) (i : ℕ) (x y : X) → i < length xs → x ≡ get_or xs i x → more ≡ copies ++ y ∷ [] → y ≡ x → copies ≡ take i xs → more ≡ take (i + 1) xs
@@ -39,6 +40,11 @@ module _ {X T : Type 0} (tree : X → T) where
 -- what holds of a copy where one was made
 pub of_made : {X E : Type 0} (P : X → Type 0) (r : Result X E) (x : X) → r ≡ Ok x → IfOk r P → P x
 of_made P r x e h = subst (λ r. IfOk r P) e h
+
+-- what is put into a box, where there was memory for one
+pub of_boxed : {X E T : Type 0} (tree : X → T) (t : T) (x : X) (r : Result (Box X) E) → IfOk r (λ b. b.value ≡ x) → tree x ≡ t → IfOk r (λ b. tree b.value ≡ t)
+of_boxed tree t x (Ok b) same e = ap tree same ∙ e
+of_boxed tree t x (Err error) same e = same
 
 -- the tree of a list from the trees of its elements
 module _ {X T : Type 0} (whole : List X → T) (before : T → T → T) (step : (x : X) (xs : List X) → whole (x ∷ xs) ≡ before (whole (x ∷ [])) (whole xs)) where
@@ -105,7 +111,7 @@ same_params = same_whole params_of params_first (λ p ps. refl)
 -- arguments and elements
 
 abbrev pub item_tree : declared_item.Item → ItemTrees
-item_tree i = Item i.key (shape i.value) i.comma NoItems
+item_tree i = Item (key_of i.key) (shape i.value) i.comma NoItems
 
 abbrev items_first : ItemTrees → ItemTrees → ItemTrees
 items_first NoItems rest = rest

@@ -7,13 +7,14 @@
 ghost use Rattle.std.specs.Prelude.{◌≡◌, [], ◌∷◌, ◌++◌, Option, IfOk, OnOk};
 ghost use Rattle.go_text_core.specs.declared.span.Span.{Span as TheSpan};
 ghost use Rattle.go_tree_nodes.specs.declared.names.TextLiteral.{TextLiteral as TheText};
-ghost use Rattle.go_tree_nodes.specs.Trees.{FieldTrees};
+ghost use Rattle.go_tree_nodes.specs.Trees.{FieldTrees, Binary, Select};
 ghost use Rattle.go_tree_nodes.specs.TypeShapes as type_shapes;
 ghost use Rattle.go_tree_nodes.specs.Shapes as shapes;
 
 use go_tree_nodes::{
-    Expr, Exprs, FieldLine, Fields, Ident, Idents, Item, Key, MethodLine, NextExpr, NextIdent,
-    Param, Params, Results, Signature, TextLiteral, TypeExpr, TypeName,
+    BinaryExpr, CallExpr, Expr, Exprs, FieldLine, Fields, Ident, Idents, Item, Key, LiteralExpr,
+    MethodLine, NextExpr, NextIdent, Param, Params, Results, SelectExpr, Signature,
+    StructLiteralExpr, TextLiteral, TypeExpr, TypeName,
 };
 use std::alloc::{AllocError, Global};
 
@@ -99,7 +100,7 @@ pub(crate) fn copy_text(alloc: Global, text: &TextLiteral) -> Result<TextLiteral
     ensures { IfOk result (λ x. x ≡ text.now) }
 {
     Ok(TextLiteral {
-        value: copied!(text.value.copy(alloc)),
+        spelled: copied!(text.spelled.copy(alloc)),
         span: text.span,
     })
 }
@@ -293,51 +294,131 @@ pub(crate) fn copy_expr(alloc: Global, expr: &Expr) -> Result<Expr, AllocError>
         Expr::Unary(operator, span, inner) => {
             Ok(Expr::Unary(*operator, *span, copied!(copy_boxed(alloc, inner))))
         }
-        Expr::Binary(left, operator, span, right) => {
-            let (left, right) = copied!(both(copy_boxed(alloc, left), copy_boxed(alloc, right)));
-            Ok(Expr::Binary(left, *operator, *span, right))
-        }
-        Expr::Select(left, dot, ident) => {
-            let (left, ident) = copied!(both(copy_boxed(alloc, left), copy_ident(alloc, ident)));
-            Ok(Expr::Select(left, *dot, ident))
-        }
-        Expr::Call(callee, open, items, close) => {
-            let callee = copy_boxed(alloc, callee);
-            let (callee, items) = copied!(both(callee, copy_items(alloc, items)));
-            Ok(Expr::Call(callee, *open, items, *close))
-        }
-        Expr::Literal(name, open, items, close) => {
-            let name = copy_type_name(alloc, name);
-            let (name, items) = copied!(both(name, copy_items(alloc, items)));
-            Ok(Expr::Literal(name, *open, items, *close))
-        }
-        Expr::StructLiteral(type_expr, open, items, close) => {
-            let type_expr = copy_type(alloc, type_expr);
-            let (type_expr, items) = copied!(both(type_expr, copy_items(alloc, items)));
-            Ok(Expr::StructLiteral(type_expr, *open, items, *close))
+        Expr::Binary(binary) => Ok(Expr::Binary(copied!(copy_binary(alloc, binary)))),
+        Expr::Select(select) => Ok(Expr::Select(copied!(copy_select(alloc, select)))),
+        Expr::Call(call) => Ok(Expr::Call(copied!(copy_call(alloc, call)))),
+        Expr::Literal(literal) => Ok(Expr::Literal(copied!(copy_literal(alloc, literal)))),
+        Expr::StructLiteral(literal) => {
+            Ok(Expr::StructLiteral(copied!(copy_struct_literal(alloc, literal))))
         }
     }
 }
 
-// The same expression, in a box.
+/// The same expression, in a box.
 #[cycle(exprs)]
-fn copy_boxed(alloc: Global, expr: &Box<Expr>) -> Result<Box<Expr>, AllocError>
+pub(crate) fn copy_boxed(alloc: Global, expr: &Box<Expr>) -> Result<Box<Expr>, AllocError>
     ensures { IfOk result (λ x. shapes.shape x.value ≡ shapes.shape expr.now.value) }
 {
     let copy = copied!(copy_expr(alloc, expr));
     boxed(alloc, copy)
 }
 
+// The same operator between the same operands.
+#[cycle(exprs)]
+fn copy_binary(alloc: Global, binary: &BinaryExpr) -> Result<Box<BinaryExpr>, AllocError>
+    ensures { IfOk result (λ x. Binary (shapes.shape x.value.left) x.value.operator x.value.span (shapes.shape x.value.right) ≡ Binary (shapes.shape binary.now.left) binary.now.operator binary.now.span (shapes.shape binary.now.right)) }
+{
+    let left = copy_expr(alloc, &binary.left);
+    let (left, right) = copied!(both(left, copy_expr(alloc, &binary.right)));
+    boxed(
+        alloc,
+        BinaryExpr {
+            left,
+            operator: binary.operator,
+            span: binary.span,
+            right,
+        },
+    )
+}
+
+// The same selector.
+#[cycle(exprs)]
+fn copy_select(alloc: Global, select: &SelectExpr) -> Result<Box<SelectExpr>, AllocError>
+    ensures { IfOk result (λ x. Select (shapes.shape x.value.operand) x.value.dot x.value.name ≡ Select (shapes.shape select.now.operand) select.now.dot select.now.name) }
+{
+    let name = copy_ident(alloc, &select.name);
+    let (name, operand) = copied!(both(name, copy_expr(alloc, &select.operand)));
+    boxed(
+        alloc,
+        SelectExpr {
+            operand,
+            dot: select.dot,
+            name,
+        },
+    )
+}
+
+// The same call.
+#[cycle(exprs)]
+fn copy_call(alloc: Global, call: &CallExpr) -> Result<Box<CallExpr>, AllocError>
+    ensures { IfOk result (λ x. shapes.shape_call x.value ≡ shapes.shape_call call.now) }
+{
+    let args = copy_items(alloc, &call.args);
+    let (args, callee) = copied!(both(args, copy_expr(alloc, &call.callee)));
+    boxed(
+        alloc,
+        CallExpr {
+            callee,
+            open: call.open,
+            args,
+            close: call.close,
+        },
+    )
+}
+
+// The same literal of a named type.
+#[cycle(exprs)]
+fn copy_literal(alloc: Global, literal: &LiteralExpr) -> Result<Box<LiteralExpr>, AllocError>
+    ensures { IfOk result (λ x. shapes.shape_literal x.value ≡ shapes.shape_literal literal.now) }
+{
+    let type_name = copy_type_name(alloc, &literal.type_name);
+    let (type_name, elements) = copied!(both(type_name, copy_items(alloc, &literal.elements)));
+    boxed(
+        alloc,
+        LiteralExpr {
+            type_name,
+            open: literal.open,
+            elements,
+            close: literal.close,
+        },
+    )
+}
+
+// The same literal of a struct type that is written out.
+#[cycle(exprs)]
+fn copy_struct_literal(
+    alloc: Global,
+    literal: &StructLiteralExpr,
+) -> Result<Box<StructLiteralExpr>, AllocError>
+    ensures { IfOk result (λ x. shapes.shape_struct_literal x.value ≡ shapes.shape_struct_literal literal.now) }
+{
+    let type_expr = copy_type(alloc, &literal.type_expr);
+    let (type_expr, elements) = copied!(both(type_expr, copy_items(alloc, &literal.elements)));
+    boxed(
+        alloc,
+        StructLiteralExpr {
+            type_expr,
+            open: literal.open,
+            elements,
+            close: literal.close,
+        },
+    )
+}
+
 // The same key, where one stands.
-fn copy_key(alloc: Global, key: &Option<Key>) -> Result<Option<Key>, AllocError>
-    ensures { IfOk result (λ x. x ≡ key.now) }
+fn copy_key(alloc: Global, key: &Option<Box<Key>>) -> Result<Option<Box<Key>>, AllocError>
+    ensures { IfOk result (λ x. shapes.key_of x ≡ shapes.key_of key.now) }
 {
     match key {
         None => Ok(None),
-        Some(key) => Ok(Some(Key {
-            name: copied!(copy_ident(alloc, &key.name)),
-            colon: key.colon,
-        })),
+        Some(key) => {
+            let name = copied!(copy_ident(alloc, &key.name));
+            let copy = Key {
+                name,
+                colon: key.colon,
+            };
+            Ok(Some(copied!(boxed(alloc, copy))))
+        }
     }
 }
 

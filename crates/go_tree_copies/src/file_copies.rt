@@ -7,7 +7,7 @@ use crate::stmt_copies::{copy_imports, copy_tops};
 use go_tree_nodes::File;
 use std::alloc::{AllocError, Global};
 
-/// A second file with the same tree: each place, name, value and tag is the same.
+/// A second file with the same tree: each place, name, literal and tag is the same.
 ///
 /// # Errors
 ///
@@ -27,7 +27,8 @@ pub fn copy(alloc: Global, file: &File) -> Result<File, AllocError>
     })
 }
 
-/// Gives back the memory of a file. A crate that ends its trees by this call has no drops of their nodes of its own.
+/// Lets a file go, as `drop` does. It promises nothing: nothing may rest on it, not even that the memory is free behind it.
+/// A crate that ends its trees by this call has no drops of their nodes of its own.
 pub fn close(file: File) {
     drop(file);
 }

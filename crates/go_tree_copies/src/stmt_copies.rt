@@ -3,16 +3,18 @@
 ghost use Rattle.std.specs.Prelude.{◌≡◌, [], ◌∷◌, ◌++◌, IfOk, OnOk, map};
 ghost use Rattle.go_tree_nodes.specs.declared.stmts.«Line».{Line as TheLine};
 ghost use Rattle.go_tree_nodes.specs.Shapes as shapes;
+ghost use Rattle.go_tree_nodes.specs.Trees as trees;
+ghost use Rattle.go_tree_nodes.specs.TypeShapes.{shape_idents};
 
 use crate::copies::{
-    add, both, boxed, copied, copy_expr, copy_exprs, copy_ident, copy_idents, copy_signature,
-    copy_text, copy_type, copy_type_name,
+    add, both, boxed, copied, copy_boxed, copy_expr, copy_exprs, copy_ident, copy_idents,
+    copy_signature, copy_text, copy_type, copy_type_name,
 };
 use go_tree_nodes::{
-    Branch, Decl, Expr, Exprs, ForHead, FuncDecl, Ident, IfHead, ImportDecl, ImportLine,
-    ImportName, ImportSpec, ImportSpecs, InitPart, Line, Otherwise, Receiver, Simple, Stmt,
-    TopDecl, TypeDecl, TypeExpr, TypeLine, TypeSpec, TypeSpecs, ValueDecl, ValueLine, ValueSpec,
-    ValueSpecs, Values,
+    Assignment, Branch, Decl, Definition, Expr, Exprs, ForHead, FuncDecl, Ident, IfHead,
+    ImportDecl, ImportLine, ImportName, ImportSpec, ImportSpecs, InitPart, Line, Loop, Otherwise,
+    Receiver, Simple, Stmt, TopDecl, TypeDecl, TypeExpr, TypeLine, TypeSpec, TypeSpecs, Update,
+    ValueDecl, ValueLine, ValueSpec, ValueSpecs, Values,
 };
 use std::alloc::{AllocError, Global};
 
@@ -135,6 +137,55 @@ fn copy_type_decl(alloc: Global, types: &TypeDecl) -> Result<TypeDecl, AllocErro
     })
 }
 
+// The same assignment.
+fn copy_assignment(alloc: Global, assignment: &Assignment) -> Result<Box<Assignment>, AllocError>
+    ensures { IfOk result (λ x. trees.Assign (shapes.shape_exprs x.value.targets) x.value.assign (shapes.shape_exprs x.value.values) ≡ trees.Assign (shapes.shape_exprs assignment.now.targets) assignment.now.assign (shapes.shape_exprs assignment.now.values)) }
+{
+    let targets = copy_exprs(alloc, &assignment.targets);
+    let (targets, values) = copied!(both(targets, copy_exprs(alloc, &assignment.values)));
+    boxed(
+        alloc,
+        Assignment {
+            targets,
+            assign: assignment.assign,
+            values,
+        },
+    )
+}
+
+// The same assignment by an operator.
+fn copy_update(alloc: Global, update: &Update) -> Result<Box<Update>, AllocError>
+    ensures { IfOk result (λ x. trees.Update (shapes.shape x.value.target) x.value.operator x.value.span (shapes.shape x.value.value) ≡ trees.Update (shapes.shape update.now.target) update.now.operator update.now.span (shapes.shape update.now.value)) }
+{
+    let target = copy_expr(alloc, &update.target);
+    let (target, value) = copied!(both(target, copy_expr(alloc, &update.value)));
+    boxed(
+        alloc,
+        Update {
+            target,
+            operator: update.operator,
+            span: update.span,
+            value,
+        },
+    )
+}
+
+// The same definition of names.
+fn copy_definition(alloc: Global, definition: &Definition) -> Result<Box<Definition>, AllocError>
+    ensures { IfOk result (λ x. trees.Define (shape_idents x.value.names) x.value.define (shapes.shape_exprs x.value.values) ≡ trees.Define (shape_idents definition.now.names) definition.now.define (shapes.shape_exprs definition.now.values)) }
+{
+    let names = copy_idents(alloc, &definition.names);
+    let (names, values) = copied!(both(names, copy_exprs(alloc, &definition.values)));
+    boxed(
+        alloc,
+        Definition {
+            names,
+            define: definition.define,
+            values,
+        },
+    )
+}
+
 // The same statement, which may stand in a header.
 fn copy_simple(alloc: Global, simple: &Simple) -> Result<Simple, AllocError>
     ensures { IfOk result (λ x. shapes.shape_simple x ≡ shapes.shape_simple simple.now) }
@@ -142,25 +193,14 @@ fn copy_simple(alloc: Global, simple: &Simple) -> Result<Simple, AllocError>
     match simple {
         Simple::Expr(expr) => Ok(Simple::Expr(copied!(copy_expr(alloc, expr)))),
         Simple::Step(expr, operator, span) => {
-            Ok(Simple::Step(copied!(copy_expr(alloc, expr)), *operator, *span))
+            Ok(Simple::Step(copied!(copy_boxed(alloc, expr)), *operator, *span))
         }
-        Simple::Assign(targets, assign, values) => {
-            let (targets, values) = copied!(both(
-                copy_exprs(alloc, targets),
-                copy_exprs(alloc, values)
-            ));
-            Ok(Simple::Assign(targets, *assign, values))
+        Simple::Assign(assignment) => {
+            Ok(Simple::Assign(copied!(copy_assignment(alloc, assignment))))
         }
-        Simple::Update(target, operator, span, value) => {
-            let (target, value) = copied!(both(copy_expr(alloc, target), copy_expr(alloc, value)));
-            Ok(Simple::Update(target, *operator, *span, value))
-        }
-        Simple::Define(names, define, values) => {
-            let (names, values) = copied!(both(
-                copy_idents(alloc, names),
-                copy_exprs(alloc, values)
-            ));
-            Ok(Simple::Define(names, *define, values))
+        Simple::Update(update) => Ok(Simple::Update(copied!(copy_update(alloc, update)))),
+        Simple::Define(definition) => {
+            Ok(Simple::Define(copied!(copy_definition(alloc, definition))))
         }
     }
 }
@@ -186,12 +226,18 @@ fn copy_some_expr(alloc: Global, expr: &Option<Expr>) -> Result<Option<Expr>, Al
 }
 
 // The same expressions, where some stand.
-fn copy_some_exprs(alloc: Global, exprs: &Option<Exprs>) -> Result<Option<Exprs>, AllocError>
+fn copy_some_exprs(
+    alloc: Global,
+    exprs: &Option<Box<Exprs>>,
+) -> Result<Option<Box<Exprs>>, AllocError>
     ensures { IfOk result (λ x. shapes.shape_some_exprs x ≡ shapes.shape_some_exprs exprs.now) }
 {
     match exprs {
         None => Ok(None),
-        Some(exprs) => Ok(Some(copied!(copy_exprs(alloc, exprs)))),
+        Some(exprs) => {
+            let copy = copied!(copy_exprs(alloc, exprs));
+            Ok(Some(copied!(boxed(alloc, copy))))
+        }
     }
 }
 
@@ -241,7 +287,10 @@ fn copy_stmt(alloc: Global, stmt: &Stmt) -> Result<Stmt, AllocError>
 {
     match stmt {
         Stmt::Empty => Ok(Stmt::Empty),
-        Stmt::Declare(value) => Ok(Stmt::Declare(copied!(copy_value(alloc, value)))),
+        Stmt::Declare(value) => {
+            let value = copied!(copy_value(alloc, value));
+            Ok(Stmt::Declare(copied!(boxed(alloc, value))))
+        }
         Stmt::Simple(simple) => Ok(Stmt::Simple(copied!(copy_simple(alloc, simple)))),
         Stmt::Return(keyword, exprs) => {
             Ok(Stmt::Return(*keyword, copied!(copy_some_exprs(alloc, exprs))))
@@ -253,31 +302,49 @@ fn copy_stmt(alloc: Global, stmt: &Stmt) -> Result<Stmt, AllocError>
             Ok(Stmt::Block(*open, lines, *close))
         }
         Stmt::If(branch) => Ok(Stmt::If(copied!(copy_branch(alloc, branch)))),
-        Stmt::For(keyword, head, open, lines, close) => {
-            let lines = copied!(copy_lines(alloc, lines));
-            let head = copied!(copy_for_head(alloc, head));
-            Ok(Stmt::For(*keyword, head, *open, lines, *close))
-        }
+        Stmt::For(turns) => Ok(Stmt::For(copied!(copy_loop(alloc, turns)))),
     }
+}
+
+// The same `for`.
+#[cycle(stmts)]
+fn copy_loop(alloc: Global, turns: &Loop) -> Result<Box<Loop>, AllocError>
+    ensures { IfOk result (λ x. shapes.shape_loop x.value ≡ shapes.shape_loop turns.now) }
+{
+    let body = copy_lines(alloc, &turns.body);
+    let (body, head) = copied!(both(body, copy_for_head(alloc, &turns.head)));
+    boxed(
+        alloc,
+        Loop {
+            keyword: turns.keyword,
+            head,
+            open: turns.open,
+            body,
+            close: turns.close,
+        },
+    )
 }
 
 // The same `if`.
 #[cycle(stmts)]
-fn copy_branch(alloc: Global, branch: &Branch) -> Result<Branch, AllocError>
-    ensures { IfOk result (λ x. shapes.shape_branch x ≡ shapes.shape_branch branch.now) }
+fn copy_branch(alloc: Global, branch: &Branch) -> Result<Box<Branch>, AllocError>
+    ensures { IfOk result (λ x. shapes.shape_branch x.value ≡ shapes.shape_branch branch.now) }
 {
     let then = copy_lines(alloc, &branch.then);
     let otherwise = copy_otherwise(alloc, &branch.otherwise);
     let head = copy_if_head(alloc, &branch.head);
     let (head, (then, otherwise)) = copied!(both(head, both(then, otherwise)));
-    Ok(Branch {
-        keyword: branch.keyword,
-        head,
-        open: branch.open,
-        then,
-        close: branch.close,
-        otherwise,
-    })
+    boxed(
+        alloc,
+        Branch {
+            keyword: branch.keyword,
+            head,
+            open: branch.open,
+            then,
+            close: branch.close,
+            otherwise,
+        },
+    )
 }
 
 // The same of what stands behind the block of an `if`.
@@ -292,8 +359,7 @@ fn copy_otherwise(alloc: Global, otherwise: &Otherwise) -> Result<Otherwise, All
             Ok(Otherwise::Block(*keyword, *open, lines, *close))
         }
         Otherwise::If(keyword, branch) => {
-            let branch = copied!(copy_branch(alloc, branch));
-            Ok(Otherwise::If(*keyword, copied!(boxed(alloc, branch))))
+            Ok(Otherwise::If(*keyword, copied!(copy_branch(alloc, branch))))
         }
     }
 }

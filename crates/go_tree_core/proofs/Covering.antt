@@ -7,8 +7,8 @@ use Rattle.std.proofs.lemmas.List.Quantifiers.{position-Some}
 use Rattle.go_tree_core.specs.declared.occurrence.Occ.{Occ}
 use Rattle.go_tree_core.specs.declared.seek.Sought.{Sought}
 use Rattle.go_tree_core.specs.declared.seek.Sought.TheVariants.{Found, Passed}
-use Rattle.go_tree_core.specs.Occurrences.{covers, covering, Follow}
-use Rattle.go_tree_core.specs.Seeking.{Covers, CoversAt, NoneCovers, counted, sought_next}
+use Rattle.go_tree_core.specs.Occurrences.{covers, covering, Covers, CoversAt, NoneCovers, Follow}
+use Rattle.go_tree_core.specs.mirrors.Seeking.{counted, sought_next}
 
 covers-true : (offset : ℕ) (o : Occ) → covers offset o ≡ true → Covers offset o
 covers-true offset o h = grind (arith, nat_tests)

@@ -1,4 +1,6 @@
 pub mod Covering
 pub mod OccLemmas
 pub mod Order
+pub mod Pieces
+pub mod Telling
 pub mod Visits

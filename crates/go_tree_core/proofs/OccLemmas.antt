@@ -4,8 +4,6 @@ use Rattle.std.specs.Global.{Global, Box}
 use Rattle.std.specs.List.{flat_map}
 use Rattle.std.specs.Prelude.{Option}
 use Rattle.go_text_core.specs.declared.span.Span.{Span}
-use Rattle.go_tree_nodes.specs.declared.types.TypeName.{TypeName}
-use Rattle.go_tree_nodes.specs.declared.types.TypeExpr.{TypeExpr}
 use Rattle.go_tree_nodes.specs.declared.types.Signature.{Signature, out-Signature}
 use Rattle.go_tree_nodes.specs.declared.types.Results as declared_results
 use Rattle.go_tree_nodes.specs.declared.types.Results.TheVariants as results
@@ -17,9 +15,12 @@ use Rattle.go_tree_nodes.specs.declared.types.Fields.{Fields}
 use Rattle.go_tree_nodes.specs.declared.types.«Param» as declared_param
 use Rattle.go_tree_nodes.specs.declared.exprs.Expr.{Expr}
 use Rattle.go_tree_nodes.specs.declared.exprs.Expr.TheVariants as expr
+use Rattle.go_tree_nodes.specs.declared.exprs.CallExpr.{CallExpr, out-CallExpr}
+use Rattle.go_tree_nodes.specs.declared.exprs.LiteralExpr.{LiteralExpr, out-LiteralExpr}
+use Rattle.go_tree_nodes.specs.declared.exprs.StructLiteralExpr.{StructLiteralExpr, out-StructLiteralExpr}
 use Rattle.go_tree_nodes.specs.declared.exprs.«Item» as declared_item
 use Rattle.go_tree_nodes.specs.declared.exprs.NextExpr.{NextExpr}
-use Rattle.go_tree_nodes.specs.declared.stmts.ForHead.{ForHead}
+use Rattle.go_tree_nodes.specs.declared.stmts.Loop.{Loop, out-Loop}
 use Rattle.go_tree_nodes.specs.declared.stmts.Stmt.{Stmt}
 use Rattle.go_tree_nodes.specs.declared.stmts.Stmt.TheVariants as stmt
 use Rattle.go_tree_nodes.specs.declared.stmts.«Branch» as declared_branch
@@ -28,15 +29,15 @@ use Rattle.go_tree_nodes.specs.declared.stmts.Otherwise.TheVariants as otherwise
 use Rattle.go_tree_nodes.specs.declared.stmts.«Line» as declared_line
 use Rattle.go_tree_nodes.specs.declared.files.TopDecl.{TopDecl}
 use Rattle.go_tree_nodes.specs.declared.files.ImportDecl.{ImportDecl}
-use Rattle.go_tree_core.specs.declared.occurrence.Place.{Place}
-use Rattle.go_tree_core.specs.declared.occurrence.Place.TheVariants as place
+use Rattle.go_tree_core.specs.declared.occurrence.Context.{Context}
+use Rattle.go_tree_core.specs.declared.occurrence.Context.TheVariants as context
 use Rattle.go_tree_core.specs.declared.occurrence.Occ.{Occ}
 use Rattle.go_tree_nodes.specs.Trees.{FieldTrees}
 use Rattle.go_tree_nodes.specs.TypeShapes.{shape_type, shape_signature, shape_results, fields_before, fields_of, methods_of, params_of}
-use Rattle.go_tree_nodes.specs.Shapes.{shape, items_of, exprs_from, shape_if, shape_for, shape_stmt, shape_branch, shape_else, lines_of, decl_of, top_of, import_of, shape_import_specs}
+use Rattle.go_tree_nodes.specs.Shapes.{key_of, shape, items_of, exprs_from, shape_if, shape_for, shape_stmt, shape_branch, shape_else, lines_of, decl_of, top_of, import_of, shape_import_specs}
 use Rattle.go_tree_core.specs.Occurrences.{type_name_occs, type_occs, field_occs, fields_occs, signature_occs, result_occs, methods_occs, call_at, params_occs, key_occs, expr_occs, items_occs, exprs_occs, group_occs, specs_occs, import_occs, imports_occs, if_occs, for_occs, stmt_occs, branch_occs, else_occs, lines_occs, decl_occs, tops_occs}
 use Rattle.go_tree_nodes.proofs.TypeShapes.{listed_parts, signature_parts}
-use Rattle.go_tree_nodes.proofs.ShapeLemmas.{shape_call, shape_literal, shape_struct_literal, shape_block, shape_loop, shape_else_block, branch_parts}
+use Rattle.go_tree_nodes.proofs.ShapeLemmas.{call_parts, literal_parts, struct_literal_parts, shape_block, loop_parts, shape_else_block, branch_parts}
 
 abbrev pub field_line_occs : FieldLine → List Occ
 field_line_occs l = field_occs l.fields
@@ -48,9 +49,9 @@ abbrev pub param_occs : declared_param.Param → List Occ
 param_occs p = type_occs (shape_type p.type_expr)
 
 abbrev pub item_occs : declared_item.Item → List Occ
-item_occs i = key_occs i.key ++ expr_occs place.«Value» (shape i.value)
+item_occs i = key_occs (key_of i.key) ++ expr_occs context.«Value» (shape i.value)
 
-abbrev pub next_occs : Place → NextExpr → List Occ
+abbrev pub next_occs : Context → NextExpr → List Occ
 next_occs p n = expr_occs p (shape n.expr)
 
 abbrev pub line_occs : declared_line.Line → List Occ
@@ -83,9 +84,9 @@ params_occs_list (p ∷ ps) = ap (λ os. param_occs p ++ os) (params_occs_list p
 
 pub items_occs_list : (is : List declared_item.Item) → items_occs (items_of is) ≡ flat_map item_occs is
 items_occs_list [] = refl
-items_occs_list (i ∷ is) = ap (λ os. key_occs i.key ++ (expr_occs place.«Value» (shape i.value) ++ os)) (items_occs_list is) ∙ sym (append_assoc (key_occs i.key) (expr_occs place.«Value» (shape i.value)) (flat_map item_occs is))
+items_occs_list (i ∷ is) = ap (λ os. key_occs (key_of i.key) ++ (expr_occs context.«Value» (shape i.value) ++ os)) (items_occs_list is) ∙ sym (append_assoc (key_occs (key_of i.key)) (expr_occs context.«Value» (shape i.value)) (flat_map item_occs is))
 
-pub exprs_occs_list : (p : Place) (e : Expr) (ns : List NextExpr) → exprs_occs p (exprs_from e ns) ≡ expr_occs p (shape e) ++ flat_map (next_occs p) ns
+pub exprs_occs_list : (p : Context) (e : Expr) (ns : List NextExpr) → exprs_occs p (exprs_from e ns) ≡ expr_occs p (shape e) ++ flat_map (next_occs p) ns
 exprs_occs_list p e [] = simp append-nil
 exprs_occs_list p e (n ∷ ns) = ap (λ l. expr_occs p (shape e) ++ l) (exprs_occs_list p n.expr ns)
 
@@ -114,20 +115,20 @@ signature_has s = ap signature_occs (signature_parts s)
 pub listed_has : (r : declared_results.Results) (p : Params) → r ≡ results.Listed p → result_occs (shape_results r) ≡ params_occs (params_of (out-Params p).entries.items)
 listed_has r p is = ap (λ r. result_occs (shape_results r)) is ∙ ap result_occs (listed_parts p)
 
-pub call_has : (p : Place) (t : Expr) (e : Box Expr) (first : Span) (is : Vec declared_item.Item Global) (last : Span) → t ≡ expr.Call e first is last → expr_occs p (shape t) ≡ expr_occs place.Callee (shape e.value) ++ (call_at first ∷ items_occs (items_of is.items))
-call_has p t e first is last same = ap (λ t. expr_occs p (shape t)) same ∙ ap (expr_occs p) (shape_call e first is last)
+pub call_has : (p : Context) (t : Expr) (c : Box CallExpr) → t ≡ expr.Call c → expr_occs p (shape t) ≡ expr_occs context.Callee (shape (out-CallExpr c.value).callee) ++ (call_at (out-CallExpr c.value).«open» ∷ items_occs (items_of (out-CallExpr c.value).args.items))
+call_has p t c same = ap (λ t. expr_occs p (shape t)) same ∙ ap (expr_occs p) (call_parts c.value)
 
-pub literal_has : (p : Place) (t : Expr) (n : TypeName) (first : Span) (is : Vec declared_item.Item Global) (last : Span) → t ≡ expr.Literal n first is last → expr_occs p (shape t) ≡ type_name_occs n ++ items_occs (items_of is.items)
-literal_has p t n first is last same = ap (λ t. expr_occs p (shape t)) same ∙ ap (expr_occs p) (shape_literal n first is last)
+pub literal_has : (p : Context) (t : Expr) (l : Box LiteralExpr) → t ≡ expr.Literal l → expr_occs p (shape t) ≡ type_name_occs (out-LiteralExpr l.value).type_name ++ items_occs (items_of (out-LiteralExpr l.value).elements.items)
+literal_has p t l same = ap (λ t. expr_occs p (shape t)) same ∙ ap (expr_occs p) (literal_parts l.value)
 
-pub struct_literal_has : (p : Place) (t : Expr) (n : TypeExpr) (first : Span) (is : Vec declared_item.Item Global) (last : Span) → t ≡ expr.StructLiteral n first is last → expr_occs p (shape t) ≡ type_occs (shape_type n) ++ items_occs (items_of is.items)
-struct_literal_has p t n first is last same = ap (λ t. expr_occs p (shape t)) same ∙ ap (expr_occs p) (shape_struct_literal n first is last)
+pub struct_literal_has : (p : Context) (t : Expr) (l : Box StructLiteralExpr) → t ≡ expr.StructLiteral l → expr_occs p (shape t) ≡ type_occs (shape_type (out-StructLiteralExpr l.value).type_expr) ++ items_occs (items_of (out-StructLiteralExpr l.value).elements.items)
+struct_literal_has p t l same = ap (λ t. expr_occs p (shape t)) same ∙ ap (expr_occs p) (struct_literal_parts l.value)
 
 pub block_has : (s : Stmt) (first : Span) (ls : Vec declared_line.Line Global) (last : Span) → s ≡ stmt.Block first ls last → stmt_occs (shape_stmt s) ≡ lines_occs (lines_of ls.items)
 block_has s first ls last same = ap (λ s. stmt_occs (shape_stmt s)) same ∙ ap stmt_occs (shape_block first ls last)
 
-pub loop_has : (s : Stmt) (k : Span) (head : ForHead) (first : Span) (ls : Vec declared_line.Line Global) (last : Span) → s ≡ stmt.For k head first ls last → stmt_occs (shape_stmt s) ≡ for_occs (shape_for head) ++ lines_occs (lines_of ls.items)
-loop_has s k head first ls last same = ap (λ s. stmt_occs (shape_stmt s)) same ∙ ap stmt_occs (shape_loop k head first ls last)
+pub loop_has : (s : Stmt) (l : Box Loop) → s ≡ stmt.For l → stmt_occs (shape_stmt s) ≡ for_occs (shape_for (out-Loop l.value).head) ++ lines_occs (lines_of (out-Loop l.value).body.items)
+loop_has s l same = ap (λ s. stmt_occs (shape_stmt s)) same ∙ ap stmt_occs (loop_parts l.value)
 
 pub else_has : (o : Otherwise) (k first : Span) (ls : Vec declared_line.Line Global) (last : Span) → o ≡ otherwise.Block k first ls last → else_occs (shape_else o) ≡ lines_occs (lines_of ls.items)
 else_has o k first ls last same = ap (λ o. else_occs (shape_else o)) same ∙ ap else_occs (shape_else_block k first ls last)

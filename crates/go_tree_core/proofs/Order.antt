@@ -9,8 +9,8 @@ use Rattle.go_tree_nodes.specs.declared.exprs.Key.{Key}
 use Rattle.go_tree_nodes.specs.declared.files.Receiver.{Receiver}
 use Rattle.go_tree_core.specs.declared.occurrence.Role.{Role}
 use Rattle.go_tree_core.specs.declared.occurrence.Role.TheVariants as role
-use Rattle.go_tree_core.specs.declared.occurrence.Place.{Place}
-use Rattle.go_tree_core.specs.declared.occurrence.Place.TheVariants as place
+use Rattle.go_tree_core.specs.declared.occurrence.Context.{Context}
+use Rattle.go_tree_core.specs.declared.occurrence.Context.TheVariants as context
 use Rattle.go_tree_core.specs.declared.occurrence.Occ.{Occ}
 use Rattle.go_tree_nodes.specs.Terminals.{Terminal, InOrder, least_width}
 use Rattle.go_tree_nodes.specs.Trees.{Separated, One, Then, TypeTree, FieldTrees, MethodTrees, SignatureTree, ResultTree, ParamTrees, NamedType, Pointer, ParenType, Struct, Interface, NoFields, NamedFields, EmbeddedField, NoMethods, Method, Signed, NoResult, OneResult, Results, NoParams, Param, ExprTree, ItemTrees, Integer, Text, Named, Paren, Unary, Binary, Select, Call, Literal, StructLiteral, NoItems, Item, ValueSpecTree, Specs, Single, Group, ValueTree, TypeSpecTree, TypeDeclTree, SimpleTree, Alone, Step, Assign, Update, Define, IfTree, ForTree, Forever, While, Clauses, StmtTree, BranchTree, ElseTree, Lines, Empty, Declare, Simple, Return, Break, Continue, Block, If, For, Branch, NoElse, ElseBlock, ElseIf, NoLines, Line, FuncTree, DeclTree, Value, Types, Func, TopTree, ImportSpecTree, ImportTree, FileTree}
@@ -108,41 +108,41 @@ unless_blank : (x : Ident) (b : Bool) → Makes (spell (Named x)) (if b then [] 
 unless_blank x true = makes_none
 unless_blank x false = makes_one
 
-named_makes : (p : Place) (x : Ident) → Makes (spell (Named x)) (named_occs p x)
-named_makes place.«Type» x = makes_one
-named_makes place.«Value» x = makes_one
-named_makes place.Callee x = makes_one
-named_makes place.BeforeDot x = makes_one
-named_makes place.Target x = unless_blank x (is_blank x.name)
+named_makes : (p : Context) (x : Ident) → Makes (spell (Named x)) (named_occs p x)
+named_makes context.«Type» x = makes_one
+named_makes context.«Value» x = makes_one
+named_makes context.Callee x = makes_one
+named_makes context.BeforeDot x = makes_one
+named_makes context.Target x = unless_blank x (is_blank x.name)
 
 mutual
-  expr_makes : (p : Place) (t : ExprTree) → Makes (spell t) (expr_occs p t)
+  expr_makes : (p : Context) (t : ExprTree) → Makes (spell t) (expr_occs p t)
   expr_makes p (Integer n span) = makes_none
   expr_makes p (Text t) = makes_none
   expr_makes p (Named x) = named_makes p x
   expr_makes p (Paren first t last) = makes_skip (makes_first _ (expr_makes (inside p) t))
   expr_makes p (Unary op span t) = makes_skip (expr_makes (under op p) t)
-  expr_makes p (Binary a op span b) = makes_both (expr_makes place.«Value» a) (makes_skip (expr_makes place.«Value» b))
-  expr_makes p (Select t dot x) = makes_both (expr_makes place.BeforeDot t) (makes_skip makes_one)
-  expr_makes p (Call t first items last) = makes_both (expr_makes place.Callee t) (makes_own refl refl (makes_first _ (items_makes items)))
+  expr_makes p (Binary a op span b) = makes_both (expr_makes context.«Value» a) (makes_skip (expr_makes context.«Value» b))
+  expr_makes p (Select t dot x) = makes_both (expr_makes context.BeforeDot t) (makes_skip makes_one)
+  expr_makes p (Call t first items last) = makes_both (expr_makes context.Callee t) (makes_own refl refl (makes_first _ (items_makes items)))
   expr_makes p (Literal n first items last) = makes_both (type_name_makes n) (makes_skip (makes_first _ (items_makes items)))
   expr_makes p (StructLiteral t first items last) = makes_both (type_makes t) (makes_skip (makes_first _ (items_makes items)))
 
   items_makes : (is : ItemTrees) → Makes (spell_items is) (items_occs is)
   items_makes NoItems = makes_none
-  items_makes (Item key t comma rest) = makes_both (key_makes key) (makes_both (expr_makes place.«Value» t) (makes_second _ (items_makes rest)))
+  items_makes (Item key t comma rest) = makes_both (key_makes key) (makes_both (expr_makes context.«Value» t) (makes_second _ (items_makes rest)))
 
-exprs_makes : (p : Place) (es : Separated ExprTree) → Makes (spell_exprs es) (exprs_occs p es)
+exprs_makes : (p : Context) (es : Separated ExprTree) → Makes (spell_exprs es) (exprs_occs p es)
 exprs_makes p (One t) = expr_makes p t
 exprs_makes p (Then t comma more) = makes_both (expr_makes p t) (makes_skip (exprs_makes p more))
 
 some_expr_makes : (t : Option ExprTree) → Makes (spell_some_expr t) (some_expr_occs t)
 some_expr_makes None = makes_none
-some_expr_makes (Some t) = expr_makes place.«Value» t
+some_expr_makes (Some t) = expr_makes context.«Value» t
 
 some_exprs_makes : (es : Option (Separated ExprTree)) → Makes (spell_some_exprs es) (some_exprs_occs es)
 some_exprs_makes None = makes_none
-some_exprs_makes (Some es) = exprs_makes place.«Value» es
+some_exprs_makes (Some es) = exprs_makes context.«Value» es
 
 some_type_makes : (t : Option TypeTree) → Makes (spell_some_type t) (some_type_occs t)
 some_type_makes None = makes_none
@@ -150,7 +150,7 @@ some_type_makes (Some t) = type_makes t
 
 values_makes : (v : Option (Span × Separated ExprTree)) → Makes (spell_values v) (values_occs v)
 values_makes None = makes_none
-values_makes (Some v) = makes_skip (exprs_makes place.«Value» v.1)
+values_makes (Some v) = makes_skip (exprs_makes context.«Value» v.1)
 
 value_spec_makes : (v : ValueSpecTree) → Makes (spell_value_spec v) (value_spec_occs v)
 value_spec_makes v = makes_second _ (makes_both (some_type_makes v.type_expr) (values_makes v.values))
@@ -173,11 +173,11 @@ type_decl_makes : (t : TypeDeclTree) → Makes (spell_types t) (type_decl_occs t
 type_decl_makes t = makes_skip (specs_makes spell_type_spec type_spec_occs type_spec_makes t.specs)
 
 simple_makes : (s : SimpleTree) → Makes (spell_simple s) (simple_occs s)
-simple_makes (Alone t) = expr_makes place.«Value» t
-simple_makes (Step t op span) = makes_first _ (expr_makes place.«Value» t)
-simple_makes (Assign ts span es) = makes_both (exprs_makes place.Target ts) (makes_skip (exprs_makes place.«Value» es))
-simple_makes (Update t op span e) = makes_both (expr_makes place.«Value» t) (makes_skip (expr_makes place.«Value» e))
-simple_makes (Define xs span es) = makes_second _ (makes_skip (exprs_makes place.«Value» es))
+simple_makes (Alone t) = expr_makes context.«Value» t
+simple_makes (Step t op span) = makes_first _ (expr_makes context.«Value» t)
+simple_makes (Assign ts span es) = makes_both (exprs_makes context.Target ts) (makes_skip (exprs_makes context.«Value» es))
+simple_makes (Update t op span e) = makes_both (expr_makes context.«Value» t) (makes_skip (expr_makes context.«Value» e))
+simple_makes (Define xs span es) = makes_second _ (makes_skip (exprs_makes context.«Value» es))
 
 some_simple_makes : (s : Option SimpleTree) → Makes (spell_some_simple s) (some_simple_occs s)
 some_simple_makes None = makes_none
@@ -188,11 +188,11 @@ init_makes None = makes_none
 init_makes (Some i) = makes_first _ (some_simple_makes i.0)
 
 if_makes : (h : IfTree) → Makes (spell_if h) (if_occs h)
-if_makes h = makes_both (init_makes h.init) (expr_makes place.«Value» h.condition)
+if_makes h = makes_both (init_makes h.init) (expr_makes context.«Value» h.condition)
 
 for_makes : (h : ForTree) → Makes (spell_for h) (for_occs h)
 for_makes Forever = makes_none
-for_makes (While t) = expr_makes place.«Value» t
+for_makes (While t) = expr_makes context.«Value» t
 for_makes (Clauses init a test b post) = makes_both (some_simple_makes init) (makes_skip (makes_both (some_expr_makes test) (makes_skip (some_simple_makes post))))
 
 mutual

@@ -15,6 +15,10 @@ module _ {V : Type 0} (Sees : V → List Occ → V → Type 0) where
   pub sees_same : (a b : V) (os ps : List Occ) → ps ≡ os → Sees a os b → Sees a ps b
   sees_same a b os ps same seen = subst (λ os. Sees a os b) (sym same) seen
 
+  -- what a visit saw of a value, told of an equal value
+  pub sees_at : {X : Type 0} (f : X → List Occ) (a b : V) (x y : X) → x ≡ y → Sees a (f x) b → Sees a (f y) b
+  sees_at f a b x y same seen = subst (λ x. Sees a (f x) b) same seen
+
   -- two visits
   pub sees_both : ((a b c : V) (xs ys : List Occ) → Sees a xs b → Sees b ys c → Sees a (xs ++ ys) c) → (a b c : V) (xs ys os : List Occ) → os ≡ xs ++ ys → Sees a xs b → Sees b ys c → Sees a os c
   sees_both more a b c xs ys os same first second = subst (λ os. Sees a os c) (sym same) (more a b c xs ys first second)

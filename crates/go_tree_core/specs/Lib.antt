@@ -1,2 +1,4 @@
+pub mod Laws
+pub mod Names
 pub mod Occurrences
-pub mod Seeking
+pub mod mirrors

@@ -1,5 +1,5 @@
 -- The identifiers of a file that are used, its imports and its calls, in order of their places.
-use Rattle.std.specs.Prelude.{ℕ, ◌≤◌, ◌<◌, Bool, true, false, ◌&&◌, nat_le, nat_lt, List, [], ◌∷◌, ◌++◌, position, Option, Some, None, if◌then◌else◌}
+use Rattle.std.specs.Prelude.{◌≡◌, ℕ, ◌≤◌, ◌<◌, Bool, true, false, ◌&&◌, nat_le, nat_lt, List, [], ◌∷◌, ◌++◌, length, position, All, HoldsAt, Option, Some, None, if◌then◌else◌}
 use Rattle.go_text_core.specs.declared.span.Span.{Span}
 use Rattle.go_text_core.specs.Text.{is_blank}
 use Rattle.go_scan_core.specs.declared.kind.Operator.{Operator}
@@ -15,8 +15,8 @@ use Rattle.go_tree_core.specs.declared.occurrence.Usage.{Usage}
 use Rattle.go_tree_core.specs.declared.occurrence.Usage.TheVariants as usage
 use Rattle.go_tree_core.specs.declared.occurrence.Role.{Role}
 use Rattle.go_tree_core.specs.declared.occurrence.Role.TheVariants as role
-use Rattle.go_tree_core.specs.declared.occurrence.Place.{Place}
-use Rattle.go_tree_core.specs.declared.occurrence.Place.TheVariants as place
+use Rattle.go_tree_core.specs.declared.occurrence.Context.{Context}
+use Rattle.go_tree_core.specs.declared.occurrence.Context.TheVariants as context
 use Rattle.go_tree_core.specs.declared.occurrence.Occ.{Occ}
 use Rattle.go_tree_nodes.specs.TypeShapes.{shape_type}
 use Rattle.go_tree_nodes.specs.Trees.{Separated, One, Then, TypeTree, FieldTrees, MethodTrees, SignatureTree, ResultTree, ParamTrees, NamedType, Pointer, ParenType, Struct, Interface, NoFields, NamedFields, EmbeddedField, NoMethods, Method, Signed, NoResult, OneResult, Results, NoParams, Param, ExprTree, ItemTrees, Integer, Text, Named, Paren, Unary, Binary, Select, Call, Literal, StructLiteral, NoItems, Item, ValueSpecTree, Specs, Single, Group, ValueTree, TypeSpecTree, TypeDeclTree, SimpleTree, Alone, Step, Assign, Update, Define, IfTree, ForTree, Forever, While, Clauses, StmtTree, BranchTree, ElseTree, Lines, Empty, Declare, Simple, Return, Break, Continue, Block, If, For, Branch, NoElse, ElseBlock, ElseIf, NoLines, Line, FuncTree, DeclTree, Value, Types, Func, TopTree, ImportSpecTree, ImportTree, FileTree}
@@ -75,75 +75,75 @@ field_occs (fields.Embedded star n) = type_name_occs n
 
 -- expressions
 
--- a name at a place: the blank identifier as a target of an assignment is no occurrence
-abbrev pub named_occs : Place → Ident → List Occ
-named_occs place.«Type» x = occurrence role.«Type» x ∷ []
-named_occs place.«Value» x = occurrence role.«Value» x ∷ []
-named_occs place.Callee x = occurrence role.Callee x ∷ []
-named_occs place.BeforeDot x = occurrence role.Qualifier x ∷ []
-named_occs place.Target x = if is_blank x.name then [] else occurrence role.«Value» x ∷ []
+-- a name in a context: the blank identifier as a target of an assignment is no occurrence
+abbrev pub named_occs : Context → Ident → List Occ
+named_occs context.«Type» x = occurrence role.«Type» x ∷ []
+named_occs context.«Value» x = occurrence role.«Value» x ∷ []
+named_occs context.Callee x = occurrence role.Callee x ∷ []
+named_occs context.BeforeDot x = occurrence role.Qualifier x ∷ []
+named_occs context.Target x = if is_blank x.name then [] else occurrence role.«Value» x ∷ []
 
--- the place of what stands in parentheses: a name in them is no qualifier
-abbrev pub inside : Place → Place
-inside place.«Type» = place.«Type»
-inside place.«Value» = place.«Value»
-inside place.Callee = place.Callee
-inside place.BeforeDot = place.«Value»
-inside place.Target = place.Target
+-- the context of what stands in parentheses: a name in them is no qualifier
+abbrev pub inside : Context → Context
+inside context.«Type» = context.«Type»
+inside context.«Value» = context.«Value»
+inside context.Callee = context.Callee
+inside context.BeforeDot = context.«Value»
+inside context.Target = context.Target
 
--- the place of what stands behind a star
-abbrev pub pointed : Place → Place
-pointed place.«Type» = place.«Type»
-pointed place.«Value» = place.«Value»
-pointed place.Callee = place.«Type»
-pointed place.BeforeDot = place.«Value»
-pointed place.Target = place.«Value»
+-- the context of what stands behind a star
+abbrev pub pointed : Context → Context
+pointed context.«Type» = context.«Type»
+pointed context.«Value» = context.«Value»
+pointed context.Callee = context.«Type»
+pointed context.BeforeDot = context.«Value»
+pointed context.Target = context.«Value»
 
--- the place of what stands behind a unary operator
-abbrev pub under : Operator → Place → Place
+-- the context of what stands behind a unary operator
+abbrev pub under : Operator → Context → Context
 under operator.Star p = pointed p
-under _ p = place.«Value»
+under _ p = context.«Value»
 
 -- how a selector as a whole is used
-abbrev pub whole : Place → Usage
-whole place.«Type» = usage.«Type»
-whole place.«Value» = usage.«Value»
-whole place.Callee = usage.Callee
-whole place.BeforeDot = usage.«Value»
-whole place.Target = usage.«Value»
+abbrev pub whole : Context → Usage
+whole context.«Type» = usage.«Type»
+whole context.«Value» = usage.«Value»
+whole context.Callee = usage.Callee
+whole context.BeforeDot = usage.«Value»
+whole context.Target = usage.«Value»
 
 abbrev pub key_occs : Option Key → List Occ
 key_occs None = []
 key_occs (Some k) = occurrence role.Key k.name ∷ []
 
 abbrev mutual
-  pub expr_occs : Place → ExprTree → List Occ
+  pub expr_occs : Context → ExprTree → List Occ
   expr_occs p (Integer n span) = []
   expr_occs p (Text t) = []
   expr_occs p (Named x) = named_occs p x
   expr_occs p (Paren first t last) = expr_occs (inside p) t
   expr_occs p (Unary op span t) = expr_occs (under op p) t
-  expr_occs p (Binary a op span b) = expr_occs place.«Value» a ++ expr_occs place.«Value» b
-  expr_occs p (Select t dot x) = expr_occs place.BeforeDot t ++ occurrence (role.Selector (whole p)) x ∷ []
-  expr_occs p (Call t first items last) = expr_occs place.Callee t ++ (call_at first ∷ items_occs items)
+  expr_occs p (Binary a op span b) = expr_occs context.«Value» a ++ expr_occs context.«Value» b
+  expr_occs p (Select t dot x) = expr_occs context.BeforeDot t ++ occurrence (role.Selector (whole p)) x ∷ []
+  expr_occs p (Call t first items last) = expr_occs context.Callee t ++ (call_at first ∷ items_occs items)
   expr_occs p (Literal n first items last) = type_name_occs n ++ items_occs items
   expr_occs p (StructLiteral t first items last) = type_occs t ++ items_occs items
 
   pub items_occs : ItemTrees → List Occ
   items_occs NoItems = []
-  items_occs (Item key t comma rest) = key_occs key ++ (expr_occs place.«Value» t ++ items_occs rest)
+  items_occs (Item key t comma rest) = key_occs key ++ (expr_occs context.«Value» t ++ items_occs rest)
 
-abbrev pub exprs_occs : Place → Separated ExprTree → List Occ
+abbrev pub exprs_occs : Context → Separated ExprTree → List Occ
 exprs_occs p (One t) = expr_occs p t
 exprs_occs p (Then t comma more) = expr_occs p t ++ exprs_occs p more
 
 abbrev pub some_expr_occs : Option ExprTree → List Occ
 some_expr_occs None = []
-some_expr_occs (Some t) = expr_occs place.«Value» t
+some_expr_occs (Some t) = expr_occs context.«Value» t
 
 abbrev pub some_exprs_occs : Option (Separated ExprTree) → List Occ
 some_exprs_occs None = []
-some_exprs_occs (Some es) = exprs_occs place.«Value» es
+some_exprs_occs (Some es) = exprs_occs context.«Value» es
 
 -- declarations: the names that they declare are no occurrences
 
@@ -153,7 +153,7 @@ some_type_occs (Some t) = type_occs t
 
 abbrev pub values_occs : Option (Span × Separated ExprTree) → List Occ
 values_occs None = []
-values_occs (Some v) = exprs_occs place.«Value» v.1
+values_occs (Some v) = exprs_occs context.«Value» v.1
 
 abbrev pub value_spec_occs : ValueSpecTree → List Occ
 value_spec_occs v = some_type_occs v.type_expr ++ values_occs v.values
@@ -178,11 +178,11 @@ type_decl_occs t = specs_occs type_spec_occs t.specs
 -- statements: the names before `:=` are no occurrences, those before `++`, `--` or an operator with `=` are
 
 abbrev pub simple_occs : SimpleTree → List Occ
-simple_occs (Alone t) = expr_occs place.«Value» t
-simple_occs (Step t op span) = expr_occs place.«Value» t
-simple_occs (Assign ts span es) = exprs_occs place.Target ts ++ exprs_occs place.«Value» es
-simple_occs (Update t op span e) = expr_occs place.«Value» t ++ expr_occs place.«Value» e
-simple_occs (Define xs span es) = exprs_occs place.«Value» es
+simple_occs (Alone t) = expr_occs context.«Value» t
+simple_occs (Step t op span) = expr_occs context.«Value» t
+simple_occs (Assign ts span es) = exprs_occs context.Target ts ++ exprs_occs context.«Value» es
+simple_occs (Update t op span e) = expr_occs context.«Value» t ++ expr_occs context.«Value» e
+simple_occs (Define xs span es) = exprs_occs context.«Value» es
 
 abbrev pub some_simple_occs : Option SimpleTree → List Occ
 some_simple_occs None = []
@@ -193,11 +193,11 @@ init_occs None = []
 init_occs (Some i) = some_simple_occs i.0
 
 abbrev pub if_occs : IfTree → List Occ
-if_occs h = init_occs h.init ++ expr_occs place.«Value» h.condition
+if_occs h = init_occs h.init ++ expr_occs context.«Value» h.condition
 
 abbrev pub for_occs : ForTree → List Occ
 for_occs Forever = []
-for_occs (While t) = expr_occs place.«Value» t
+for_occs (While t) = expr_occs context.«Value» t
 for_occs (Clauses init a test b post) = some_simple_occs init ++ (some_expr_occs test ++ some_simple_occs post)
 
 abbrev mutual
@@ -242,9 +242,9 @@ abbrev pub tops_occs : List TopTree → List Occ
 tops_occs [] = []
 tops_occs (d ∷ ds) = decl_occs d.decl ++ tops_occs ds
 
--- an import stands at its string, and is spelled as the string's value
+-- an import stands at its string, and is spelled as the string is, with its quotes and escapes
 abbrev pub import_occs : ImportSpecTree → List Occ
-import_occs i = record { role = role.Import; spelling = i.path.value; span = i.path.span } ∷ []
+import_occs i = occ_at role.Import i.path.spelled i.path.span ∷ []
 
 abbrev pub imports_occs : List ImportTree → List Occ
 imports_occs [] = []
@@ -266,6 +266,18 @@ covers offset o = is_identifier o.role && (nat_le o.span.start offset && nat_lt 
 -- the number of the occurrence that covers a place
 abbrev pub covering : ℕ → List Occ → Option ℕ
 covering offset os = position (covers offset) os
+
+-- the occurrence is an identifier, and the place lies in it
+abbrev pub Covers : ℕ → Occ → Type 0
+Covers offset o = (is_identifier o.role ≡ true) × (o.span.start ≤ offset) × (offset < o.span.end)
+
+-- the occurrence with this number covers the place
+abbrev pub CoversAt : ℕ → List Occ → ℕ → Type 0
+CoversAt offset os i = (i < length os) × HoldsAt (Covers offset) os i
+
+-- no occurrence covers the place
+abbrev pub NoneCovers : ℕ → List Occ → Type 0
+NoneCovers offset os = All (λ o. ¬ Covers offset o) os
 
 -- the occurrences follow one another between two offsets, and each takes some bytes
 abbrev pub Follow : ℕ → List Occ → ℕ → Type 0

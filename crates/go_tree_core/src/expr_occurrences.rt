@@ -3,9 +3,8 @@
 ghost use Rattle.std.specs.Prelude.{◌≡◌};
 ghost use Rattle.go_tree_nodes.specs.Shapes as shapes;
 ghost use Rattle.go_tree_core.specs.Occurrences as occurrences;
-ghost use Rattle.go_tree_core.specs.declared.occurrence.Place.TheVariants as places;
 
-use crate::occurrence::{Place, Role, Usage};
+use crate::occurrence::{Context, Role, Usage};
 use crate::type_occurrences::{visit_type, visit_type_name};
 use crate::visitor::{Visitor, visit_call, visit_ident};
 use go_scan_core::Operator;
@@ -14,54 +13,54 @@ use go_tree_nodes::{
     Values,
 };
 
-// The place of what stands in parentheses.
-fn inside(place: Place) -> Place
-    ensures { result ≡ occurrences.inside place }
+// The context of what stands in parentheses.
+fn inside(context: Context) -> Context
+    ensures { result ≡ occurrences.inside context }
 {
-    match place {
-        Place::BeforeDot => Place::Value,
-        Place::Type => Place::Type,
-        Place::Value => Place::Value,
-        Place::Callee => Place::Callee,
-        Place::Target => Place::Target,
+    match context {
+        Context::BeforeDot => Context::Value,
+        Context::Type => Context::Type,
+        Context::Value => Context::Value,
+        Context::Callee => Context::Callee,
+        Context::Target => Context::Target,
     }
 }
 
-// The place of what stands behind a unary operator.
-fn under(operator: Operator, place: Place) -> Place
-    ensures { result ≡ occurrences.under operator place }
+// The context of what stands behind a unary operator.
+fn under(operator: Operator, context: Context) -> Context
+    ensures { result ≡ occurrences.under operator context }
 {
     if matches!(operator, Operator::Star) {
-        match place {
-            Place::Type | Place::Callee => Place::Type,
-            Place::Value | Place::BeforeDot | Place::Target => Place::Value,
+        match context {
+            Context::Type | Context::Callee => Context::Type,
+            Context::Value | Context::BeforeDot | Context::Target => Context::Value,
         }
     } else {
-        Place::Value
+        Context::Value
     }
 }
 
 // How a selector as a whole is used.
-fn whole(place: Place) -> Usage
-    ensures { result ≡ occurrences.whole place }
+fn whole(context: Context) -> Usage
+    ensures { result ≡ occurrences.whole context }
 {
-    match place {
-        Place::Type => Usage::Type,
-        Place::Callee => Usage::Callee,
-        Place::Value | Place::BeforeDot | Place::Target => Usage::Value,
+    match context {
+        Context::Type => Usage::Type,
+        Context::Callee => Usage::Callee,
+        Context::Value | Context::BeforeDot | Context::Target => Usage::Value,
     }
 }
 
-// Visits the occurrence of a name at a place.
-fn visit_named<V: Visitor>(visitor: &mut V, place: Place, ident: &Ident)
-    ensures { V.Sees visitor.old (occurrences.named_occs place ident.now) visitor.new }
+// Visits the occurrence of a name in a context.
+fn visit_named<V: Visitor>(visitor: &mut V, context: Context, ident: &Ident)
+    ensures { V.Sees visitor.old (occurrences.named_occs context ident.now) visitor.new }
 {
-    match place {
-        Place::Type => visit_ident(visitor, Role::Type, ident),
-        Place::Value => visit_ident(visitor, Role::Value, ident),
-        Place::Callee => visit_ident(visitor, Role::Callee, ident),
-        Place::BeforeDot => visit_ident(visitor, Role::Qualifier, ident),
-        Place::Target => {
+    match context {
+        Context::Type => visit_ident(visitor, Role::Type, ident),
+        Context::Value => visit_ident(visitor, Role::Value, ident),
+        Context::Callee => visit_ident(visitor, Role::Callee, ident),
+        Context::BeforeDot => visit_ident(visitor, Role::Qualifier, ident),
+        Context::Target => {
             if ident.name.as_str() != "_" {
                 visit_ident(visitor, Role::Value, ident);
             }
@@ -69,52 +68,44 @@ fn visit_named<V: Visitor>(visitor: &mut V, place: Place, ident: &Ident)
     }
 }
 
-/// Visits the occurrences of an expression at a place.
+/// Visits the occurrences of an expression in a context.
 #[cycle(visit)]
-pub(crate) fn visit_expr<V: Visitor>(visitor: &mut V, place: Place, expr: &Expr)
-    ensures { V.Sees visitor.old (occurrences.expr_occs place (shapes.shape expr.now)) visitor.new }
+pub(crate) fn visit_expr<V: Visitor>(visitor: &mut V, context: Context, expr: &Expr)
+    ensures { V.Sees visitor.old (occurrences.expr_occs context (shapes.shape expr.now)) visitor.new }
 {
     match expr {
         Expr::Integer(_, _) => {}
         Expr::Text(_) => {}
-        Expr::Name(ident) => visit_named(visitor, place, ident),
-        Expr::Paren(_, inner, _) => visit_boxed(visitor, inside(place), inner),
-        Expr::Unary(operator, _, inner) => visit_boxed(visitor, under(*operator, place), inner),
-        Expr::Binary(left, _, _, right) => {
-            visit_boxed(visitor, Place::Value, left);
-            visit_boxed(visitor, Place::Value, right);
+        Expr::Name(ident) => visit_named(visitor, context, ident),
+        Expr::Paren(_, inner, _) => visit_expr(visitor, inside(context), inner),
+        Expr::Unary(operator, _, inner) => visit_expr(visitor, under(*operator, context), inner),
+        Expr::Binary(binary) => {
+            visit_expr(visitor, Context::Value, &binary.left);
+            visit_expr(visitor, Context::Value, &binary.right);
         }
-        Expr::Select(left, _, ident) => {
-            visit_boxed(visitor, Place::BeforeDot, left);
-            visit_ident(visitor, Role::Selector(whole(place)), ident);
+        Expr::Select(select) => {
+            visit_expr(visitor, Context::BeforeDot, &select.operand);
+            visit_ident(visitor, Role::Selector(whole(context)), &select.name);
         }
-        Expr::Call(callee, open, items, _) => {
-            visit_boxed(visitor, Place::Callee, callee);
-            visit_call(visitor, *open);
-            visit_items(visitor, items);
+        Expr::Call(call) => {
+            visit_expr(visitor, Context::Callee, &call.callee);
+            visit_call(visitor, call.open);
+            visit_items(visitor, &call.args);
         }
-        Expr::Literal(name, _, items, _) => {
-            visit_type_name(visitor, name);
-            visit_items(visitor, items);
+        Expr::Literal(literal) => {
+            visit_type_name(visitor, &literal.type_name);
+            visit_items(visitor, &literal.elements);
         }
-        Expr::StructLiteral(type_expr, _, items, _) => {
-            visit_type(visitor, type_expr);
-            visit_items(visitor, items);
+        Expr::StructLiteral(literal) => {
+            visit_type(visitor, &literal.type_expr);
+            visit_items(visitor, &literal.elements);
         }
     }
 }
 
-// Visits the occurrences of an expression in a box.
-#[cycle(visit)]
-fn visit_boxed<V: Visitor>(visitor: &mut V, place: Place, expr: &Box<Expr>)
-    ensures { V.Sees visitor.old (occurrences.expr_occs place (shapes.shape expr.now.value)) visitor.new }
-{
-    visit_expr(visitor, place, expr);
-}
-
 // Visits the occurrence of a key, where one stands.
-fn visit_key<V: Visitor>(visitor: &mut V, key: &Option<Key>)
-    ensures { V.Sees visitor.old (occurrences.key_occs key.now) visitor.new }
+fn visit_key<V: Visitor>(visitor: &mut V, key: &Option<Box<Key>>)
+    ensures { V.Sees visitor.old (occurrences.key_occs (shapes.key_of key.now)) visitor.new }
 {
     match key {
         None => {}
@@ -129,17 +120,17 @@ fn visit_items<V: Visitor>(visitor: &mut V, items: &Vec<Item>)
 {
     for item in items {
         visit_key(visitor, &item.key);
-        visit_expr(visitor, Place::Value, &item.value);
+        visit_expr(visitor, Context::Value, &item.value);
     }
 }
 
 /// Visits the occurrences of expressions with commas between them.
-pub(crate) fn visit_exprs<V: Visitor>(visitor: &mut V, place: Place, exprs: &Exprs)
-    ensures { V.Sees visitor.old (occurrences.exprs_occs place (shapes.shape_exprs exprs.now)) visitor.new }
+pub(crate) fn visit_exprs<V: Visitor>(visitor: &mut V, context: Context, exprs: &Exprs)
+    ensures { V.Sees visitor.old (occurrences.exprs_occs context (shapes.shape_exprs exprs.now)) visitor.new }
 {
-    visit_expr(visitor, place, &exprs.first);
+    visit_expr(visitor, context, &exprs.first);
     for next in &exprs.more {
-        visit_expr(visitor, place, &next.expr);
+        visit_expr(visitor, context, &next.expr);
     }
 }
 
@@ -159,7 +150,7 @@ fn visit_values<V: Visitor>(visitor: &mut V, values: &Option<Values>)
 {
     match values {
         None => {}
-        Some(values) => visit_exprs(visitor, Place::Value, &values.exprs),
+        Some(values) => visit_exprs(visitor, Context::Value, &values.exprs),
     }
 }
 

@@ -11,16 +11,17 @@ use crate::occurrence::{Occ, Role};
 use crate::stmt_occurrences::visit_lines;
 use crate::type_occurrences::{visit_signature, visit_type_name};
 use crate::visitor::Visitor;
-use go_text_core::Span;
-use go_tree_nodes::{
-    Decl, File, FuncDecl, ImportDecl, ImportSpec, ImportSpecs, Receiver, TextValue, TopDecl,
-};
+use go_text_core::{Name, Span};
+use go_tree_nodes::{Decl, File, FuncDecl, ImportDecl, ImportSpec, ImportSpecs, Receiver, TopDecl};
 use std::alloc::{AllocError, Global};
 
 /// The identifiers of a file that are used, its imports and its calls, each once, in order of their places.
 ///
 /// The names that a declaration declares, the package's name and blank targets of assignments are none.
-/// The one error is want of memory.
+///
+/// # Errors
+///
+/// [`AllocError`] where memory runs out.
 pub fn occurrences(alloc: Global, file: &File) -> Result<Vec<Occ>, AllocError>
     ensures value { IfOk result (λ os. os.items ≡ file_occs (file_of file.now)) }
     ensures ordered { IfOk result (λ os. (high : ℕ) → InOrder 0 (spell_file (file_of file.now)) high → Follow 0 os.items high) }
@@ -46,13 +47,13 @@ struct Collector {
 
 impl Collector {
     // Adds an occurrence.
-    fn add(&mut self, role: Role, spelling: &[u8], span: Span) -> Result<(), AllocError>
+    fn add(&mut self, role: Role, spelling: &str, span: Span) -> Result<(), AllocError>
         ensures { OnOk result (self.new.occs.items ≡ self.old.occs.items ++ occ_at role spelling.now span ∷ []) }
     {
-        let bytes = Vec::from_slice(self.alloc, spelling)?;
+        let spelling = Name::from_text(self.alloc, spelling)?;
         self.occs.push(Occ {
             role,
-            spelling: TextValue::new(bytes),
+            spelling,
             span,
         })?;
         Ok(())
@@ -68,7 +69,7 @@ impl Visitor for Collector {
 
     ghost sees_more = { λ a b c xs ys first second ok. ((first (second ok).0).0, (second ok).1 ∙ ap (λ os. os ++ ys) (first (second ok).0).1 ∙ append_assoc a.occs.items xs ys) };
 
-    fn visit(&mut self, role: Role, spelling: &[u8], span: Span) {
+    fn visit(&mut self, role: Role, spelling: &str, span: Span) {
         if self.outcome.is_ok() {
             self.outcome = self.add(role, spelling, span);
         }
@@ -87,7 +88,7 @@ pub(crate) fn visit_file<V: Visitor>(visitor: &mut V, file: &File)
 fn visit_import<V: Visitor>(visitor: &mut V, spec: &ImportSpec)
     ensures { V.Sees visitor.old (import_occs (shape_import_spec spec.now)) visitor.new }
 {
-    visitor.visit(Role::Import, spec.path.value.as_bytes(), spec.path.span);
+    visitor.visit(Role::Import, spec.path.spelled.as_str(), spec.path.span);
 }
 
 // Visits the imports of one declaration.

@@ -4,6 +4,7 @@
 
 mod expr_occurrences;
 mod file_occurrences;
+mod laws;
 mod occurrence;
 mod seek;
 mod stmt_occurrences;
@@ -13,11 +14,16 @@ mod visitor;
 pub use file_occurrences::occurrences;
 pub use go_tree_copies::{close, copy};
 pub use go_tree_nodes::{
-    Branch, Decl, Expr, Exprs, FieldLine, Fields, File, ForHead, FuncDecl, Ident, Idents, IfHead,
-    ImportDecl, ImportLine, ImportName, ImportSpec, ImportSpecs, InitPart, Item, Key, Line,
-    MethodLine, NextExpr, NextIdent, Otherwise, Param, Params, Receiver, Results, Signature,
-    Simple, Stmt, TextLiteral, TextValue, TopDecl, TypeDecl, TypeExpr, TypeLine, TypeName,
-    TypeSpec, TypeSpecs, ValueDecl, ValueKind, ValueLine, ValueSpec, ValueSpecs, Values,
+    Assignment, BinaryExpr, Branch, CallExpr, Decl, Definition, Expr, Exprs, FieldLine, Fields,
+    File, ForHead, FuncDecl, Ident, Idents, IfHead, ImportDecl, ImportLine, ImportName, ImportSpec,
+    ImportSpecs, InitPart, Item, Key, Line, LiteralExpr, Loop, MethodLine, NextExpr, NextIdent,
+    Otherwise, Param, Params, Receiver, Results, SelectExpr, Signature, Simple, Stmt,
+    StructLiteralExpr, TextLiteral, TopDecl, TypeDecl, TypeExpr, TypeLine, TypeName, TypeSpec,
+    TypeSpecs, Update, ValueDecl, ValueKind, ValueLine, ValueSpec, ValueSpecs, Values,
+};
+pub use laws::{
+    calls_are_occurrences, imports_are_occurrences, names_are_used_or_declared,
+    occurrences_are_written,
 };
 pub use occurrence::{Occ, OccId, Role, Usage};
 pub use seek::at;

@@ -2,8 +2,7 @@
 ghost use Rattle.std.specs.Prelude.{◌≡◌};
 ghost use Rattle.go_tree_core.specs.Occurrences.{is_identifier};
 
-use go_text_core::Span;
-use go_tree_nodes::TextValue;
+use go_text_core::{Name, Span};
 
 /// How a selector as a whole is used.
 #[derive(Clone, Copy, Debug, PartialEq, Eq)]
@@ -48,7 +47,7 @@ impl Role {
 
 /// Where an expression stands, which says how it is used.
 #[derive(Clone, Copy)]
-pub(crate) enum Place {
+pub(crate) enum Context {
     Type,
     Value,
     Callee,
@@ -56,12 +55,12 @@ pub(crate) enum Place {
     Target,
 }
 
-/// An occurrence: what it is, its spelling, and where it stands. An import is spelled as its string's value,
-/// a call as `(`.
+/// An occurrence: what it is, its spelling, and where it stands. An import is spelled as its string stands in the text, with its
+/// quotes and escapes, a call as `(`.
 #[derive(Drop)]
 pub struct Occ {
     pub role: Role,
-    pub spelling: TextValue,
+    pub spelling: Name,
     pub span: Span,
 }
 

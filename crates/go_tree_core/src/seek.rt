@@ -6,8 +6,8 @@ ghost use Rattle.std.specs.Option.{option_map};
 ghost use Rattle.go_tree_nodes.specs.Shapes.{file_of};
 ghost use Rattle.go_tree_nodes.specs.Spelling.{spell_file};
 ghost use Rattle.go_tree_nodes.specs.Terminals.{InOrder};
-ghost use Rattle.go_tree_core.specs.Occurrences.{file_occs, covering};
-ghost use Rattle.go_tree_core.specs.Seeking.{CoversAt, NoneCovers, sought_next};
+ghost use Rattle.go_tree_core.specs.Occurrences.{file_occs, covering, CoversAt, NoneCovers};
+ghost use Rattle.go_tree_core.specs.mirrors.Seeking.{sought_next};
 
 use crate::file_occurrences::visit_file;
 use crate::occurrence::{OccId, Role};
@@ -42,9 +42,12 @@ impl Visitor for Seeker {
     ghost sees_more = { λ a b c xs ys first second. (second.0 ∙ first.0, second.1 ∙ ap (λ offset. fold (sought_next offset) b.sought ys) first.0 ∙ ap (λ s. fold (sought_next a.offset) s ys) first.1 ∙ sym (fold-append (sought_next a.offset) a.sought xs ys)) };
 
     // A file in memory has fewer occurrences than a `usize` counts.
-    fn visit(&mut self, role: Role, _: &[u8], span: Span) {
+    fn visit(&mut self, role: Role, _: &str, span: Span) {
         if let Sought::Passed(passed) = self.sought {
-            if role.is_identifier() && span.start <= self.offset && self.offset < span.end {
+            if role.is_identifier()
+                && span.start as usize <= self.offset
+                && self.offset < span.end as usize
+            {
                 self.sought = Sought::Found(passed);
             } else {
                 self.sought = Sought::Passed(passed.saturating_add(1));
@@ -53,8 +56,8 @@ impl Visitor for Seeker {
     }
 }
 
-/// The identifier that is used at an offset of a file, in bytes: the occurrence with `start <= offset < end`, but for the
-/// string of an import and the parenthesis of a call. Takes no memory.
+/// The identifier that is used at an offset of a file, in bytes: the number of the occurrence with `start <= offset < end`.
+/// `None` where there is none, and at the string of an import and the parenthesis of a call. Takes no memory.
 pub fn at(file: &File, offset: usize) -> Option<OccId>
     requires few { length (file_occs (file_of file.now)) < 2 ^ 64 }
     ensures value { option_map (λ id. id.0) result ≡ covering offset (file_occs (file_of file.now)) }

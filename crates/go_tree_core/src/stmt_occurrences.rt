@@ -4,7 +4,7 @@ ghost use Rattle.go_tree_nodes.specs.Shapes as shapes;
 ghost use Rattle.go_tree_core.specs.Occurrences as occurrences;
 
 use crate::expr_occurrences::{visit_expr, visit_exprs, visit_value};
-use crate::occurrence::Place;
+use crate::occurrence::Context;
 use crate::visitor::Visitor;
 use go_tree_nodes::{
     Branch, Expr, Exprs, ForHead, IfHead, InitPart, Line, Otherwise, Simple, Stmt,
@@ -15,17 +15,17 @@ fn visit_simple<V: Visitor>(visitor: &mut V, simple: &Simple)
     ensures { V.Sees visitor.old (occurrences.simple_occs (shapes.shape_simple simple.now)) visitor.new }
 {
     match simple {
-        Simple::Expr(expr) => visit_expr(visitor, Place::Value, expr),
-        Simple::Step(expr, _, _) => visit_expr(visitor, Place::Value, expr),
-        Simple::Assign(targets, _, values) => {
-            visit_exprs(visitor, Place::Target, targets);
-            visit_exprs(visitor, Place::Value, values);
+        Simple::Expr(expr) => visit_expr(visitor, Context::Value, expr),
+        Simple::Step(expr, _, _) => visit_expr(visitor, Context::Value, expr),
+        Simple::Assign(assignment) => {
+            visit_exprs(visitor, Context::Target, &assignment.targets);
+            visit_exprs(visitor, Context::Value, &assignment.values);
         }
-        Simple::Update(target, _, _, value) => {
-            visit_expr(visitor, Place::Value, target);
-            visit_expr(visitor, Place::Value, value);
+        Simple::Update(update) => {
+            visit_expr(visitor, Context::Value, &update.target);
+            visit_expr(visitor, Context::Value, &update.value);
         }
-        Simple::Define(_, _, values) => visit_exprs(visitor, Place::Value, values),
+        Simple::Define(definition) => visit_exprs(visitor, Context::Value, &definition.values),
     }
 }
 
@@ -45,17 +45,17 @@ fn visit_some_expr<V: Visitor>(visitor: &mut V, expr: &Option<Expr>)
 {
     match expr {
         None => {}
-        Some(expr) => visit_expr(visitor, Place::Value, expr),
+        Some(expr) => visit_expr(visitor, Context::Value, expr),
     }
 }
 
 // Visits the occurrences of expressions, where some stand.
-fn visit_some_exprs<V: Visitor>(visitor: &mut V, exprs: &Option<Exprs>)
+fn visit_some_exprs<V: Visitor>(visitor: &mut V, exprs: &Option<Box<Exprs>>)
     ensures { V.Sees visitor.old (occurrences.some_exprs_occs (shapes.shape_some_exprs exprs.now)) visitor.new }
 {
     match exprs {
         None => {}
-        Some(exprs) => visit_exprs(visitor, Place::Value, exprs),
+        Some(exprs) => visit_exprs(visitor, Context::Value, exprs),
     }
 }
 
@@ -74,7 +74,7 @@ fn visit_if_head<V: Visitor>(visitor: &mut V, head: &IfHead)
     ensures { V.Sees visitor.old (occurrences.if_occs (shapes.shape_if head.now)) visitor.new }
 {
     visit_init(visitor, &head.init);
-    visit_expr(visitor, Place::Value, &head.condition);
+    visit_expr(visitor, Context::Value, &head.condition);
 }
 
 // Visits the occurrences of the head of a `for`.
@@ -83,7 +83,7 @@ fn visit_for_head<V: Visitor>(visitor: &mut V, head: &ForHead)
 {
     match head {
         ForHead::Forever => {}
-        ForHead::While(condition) => visit_expr(visitor, Place::Value, condition),
+        ForHead::While(condition) => visit_expr(visitor, Context::Value, condition),
         ForHead::Clauses(init, _, condition, _, post) => {
             visit_some_simple(visitor, init);
             visit_some_expr(visitor, condition);
@@ -106,9 +106,9 @@ fn visit_stmt<V: Visitor>(visitor: &mut V, stmt: &Stmt)
         Stmt::Continue(_) => {}
         Stmt::Block(_, lines, _) => visit_lines(visitor, lines),
         Stmt::If(branch) => visit_branch(visitor, branch),
-        Stmt::For(_, head, _, lines, _) => {
-            visit_for_head(visitor, head);
-            visit_lines(visitor, lines);
+        Stmt::For(turns) => {
+            visit_for_head(visitor, &turns.head);
+            visit_lines(visitor, &turns.body);
         }
     }
 }

@@ -16,7 +16,7 @@ pub(crate) trait Visitor {
     ghost Sees: { Self → List TheOcc → Self → Type 0 };
 
     /// Visits one occurrence.
-    fn visit(&mut self, role: Role, spelling: &[u8], span: Span)
+    fn visit(&mut self, role: Role, spelling: &str, span: Span)
         ensures { Sees self.old (occ_at role spelling.now span ∷ []) self.new };
 
     ghost sees_none: { (a : Self) → Sees a [] a };
@@ -28,12 +28,12 @@ pub(crate) trait Visitor {
 pub(crate) fn visit_ident<V: Visitor>(visitor: &mut V, role: Role, ident: &Ident)
     ensures { V.Sees visitor.old (occurrence role ident.now ∷ []) visitor.new }
 {
-    visitor.visit(role, ident.name.as_str().as_bytes(), ident.span);
+    visitor.visit(role, ident.name.as_str(), ident.span);
 }
 
 /// Visits a call, at its opening parenthesis.
 pub(crate) fn visit_call<V: Visitor>(visitor: &mut V, span: Span)
     ensures { V.Sees visitor.old (call_at span ∷ []) visitor.new }
 {
-    visitor.visit(Role::Call, &[b'('], span);
+    visitor.visit(Role::Call, "(", span);
 }

@@ -5,8 +5,12 @@ use mathlib.Core.Former.{Count}
 use Rattle.go_text_core.specs.declared.span.Span.{Span}
 use Rattle.go_tree_nodes.specs.declared.types.TypeName.{TypeName}
 use Rattle.go_tree_nodes.specs.declared.types.TypeExpr.{TypeExpr}
-use Rattle.go_tree_nodes.specs.declared.exprs.Expr.{Expr, Row_of-Item, end_of-Item, more_of-Item, items-the_row-Item, items_hidden-the_row-Item-0}
-use Rattle.go_tree_nodes.specs.declared.exprs.Expr.TheVariants as expr
+use Rattle.go_tree_nodes.specs.declared.exprs.Expr.{Expr}
+use Rattle.go_tree_nodes.specs.declared.exprs.Expr.TheBlock.{hidden-the_row-Item-0}
+use Rattle.go_tree_nodes.specs.declared.exprs.CallExpr.{CallExpr, roll-CallExpr, out-CallExpr, rolls-CallExpr', is-CallExpr', Row_of-Item, end_of-Item, more_of-Item, items-the_row-Item, items_hidden-the_row-Item-0}
+use Rattle.go_tree_nodes.specs.declared.exprs.LiteralExpr.{LiteralExpr, roll-LiteralExpr, out-LiteralExpr, rolls-LiteralExpr', is-LiteralExpr'}
+use Rattle.go_tree_nodes.specs.declared.exprs.StructLiteralExpr.{StructLiteralExpr, roll-StructLiteralExpr, out-StructLiteralExpr, rolls-StructLiteralExpr', is-StructLiteralExpr'}
+use Rattle.go_tree_nodes.specs.declared.stmts.Loop.{Loop, roll-Loop, out-Loop, rolls-Loop', is-Loop'}
 use Rattle.go_tree_nodes.specs.declared.exprs.«Item» as declared_item
 use Rattle.go_tree_nodes.specs.declared.stmts.IfHead.{IfHead}
 use Rattle.go_tree_nodes.specs.declared.stmts.ForHead.{ForHead}
@@ -19,46 +23,56 @@ use Rattle.go_tree_nodes.specs.declared.stmts.Otherwise.TheVariants as otherwise
 use Rattle.go_tree_nodes.specs.declared.stmts.«Line» as declared_line
 use Rattle.go_tree_nodes.specs.Trees.{Call, Literal, StructLiteral, Item, Block, For, Branch, ElseBlock, Line}
 use Rattle.go_tree_nodes.specs.TypeShapes.{shape_type}
-use Rattle.go_tree_nodes.specs.Shapes.{shape, shape_items, items_of, shape_if, shape_for, shape_stmt, shape_branch, shape_else, shape_row, lines_of}
+use Rattle.go_tree_nodes.specs.Shapes.{shape, shape_call, shape_literal, shape_struct_literal, shape_items, items_of, key_of, shape_loop, shape_if, shape_for, shape_stmt, shape_branch, shape_else, shape_row, lines_of}
 
 -- the items of a row are those of its list
 pub row_items : (n : _) (row : Row_of-Item n) → shape_items row ≡ items_of (items-the_row-Item n row)
 row_items n end_of-Item = refl
-row_items n (more_of-Item key e comma rest) = ap (Item key (shape e) comma) (row_items _ rest)
-
--- the row of a call or a literal
-abbrev items_row : Expr → (n : Count) × Row_of-Item n
-items_row (expr.Call' _ e first _ row last) = (_, row)
-items_row (expr.Literal' n first _ row last) = (_, row)
-items_row (expr.StructLiteral' t first _ row last) = (_, row)
-items_row _ = (_, end_of-Item)
+row_items n (more_of-Item key e comma rest) = ap (Item (key_of key) (shape e) comma) (row_items _ rest)
 
 -- the tree of a call is that of the list of its arguments
-pub shape_call : (e : Box Expr) (first : Span) (is : Vec declared_item.Item Global) (last : Span) → shape (expr.Call e first is last) ≡ Call (shape e.value) first (items_of is.items) last
-shape_call e first is last =
-    let row = items_row (expr.Call e first is last) in
-    ap (λ l. Call (shape e.value) first l last) (row_items row.0 row.1 ∙ ap items_of (items_hidden-the_row-Item-0 is))
+pub call_parts : (c : CallExpr) → shape_call c ≡ Call (shape (out-CallExpr c).callee) (out-CallExpr c).«open» (items_of (out-CallExpr c).args.items) (out-CallExpr c).close
+call_parts c =
+    let o = out-CallExpr c in
+    ap shape_call (is-CallExpr' c)
+    ∙ ap (λ l. Call (shape o.callee) o.«open» l o.close) (row_items _ (hidden-the_row-Item-0 o.args) ∙ ap items_of (items_hidden-the_row-Item-0 o.args))
+
+pub shape_called : (callee : Expr) (first : Span) (is : Vec declared_item.Item Global) (last : Span) → shape_call (roll-CallExpr (record { callee = callee; «open» = first; args = is; close = last })) ≡ Call (shape callee) first (items_of is.items) last
+shape_called callee first is last =
+    ap shape_call (rolls-CallExpr' (record { callee = callee; «open» = first; args = is; close = last }))
+    ∙ ap (λ l. Call (shape callee) first l last) (row_items _ (hidden-the_row-Item-0 is) ∙ ap items_of (items_hidden-the_row-Item-0 is))
 
 -- the tree of a literal is that of the list of its elements
-pub shape_literal : (n : TypeName) (first : Span) (is : Vec declared_item.Item Global) (last : Span) → shape (expr.Literal n first is last) ≡ Literal n first (items_of is.items) last
-shape_literal n first is last =
-    let row = items_row (expr.Literal n first is last) in
-    ap (λ l. Literal n first l last) (row_items row.0 row.1 ∙ ap items_of (items_hidden-the_row-Item-0 is))
+pub literal_parts : (c : LiteralExpr) → shape_literal c ≡ Literal (out-LiteralExpr c).type_name (out-LiteralExpr c).«open» (items_of (out-LiteralExpr c).elements.items) (out-LiteralExpr c).close
+literal_parts c =
+    let o = out-LiteralExpr c in
+    ap shape_literal (is-LiteralExpr' c)
+    ∙ ap (λ l. Literal o.type_name o.«open» l o.close) (row_items _ (hidden-the_row-Item-0 o.elements) ∙ ap items_of (items_hidden-the_row-Item-0 o.elements))
 
-pub shape_struct_literal : (t : TypeExpr) (first : Span) (is : Vec declared_item.Item Global) (last : Span) → shape (expr.StructLiteral t first is last) ≡ StructLiteral (shape_type t) first (items_of is.items) last
-shape_struct_literal t first is last =
-    let row = items_row (expr.StructLiteral t first is last) in
-    ap (λ l. StructLiteral (shape_type t) first l last) (row_items row.0 row.1 ∙ ap items_of (items_hidden-the_row-Item-0 is))
+pub shape_literal_made : (n : TypeName) (first : Span) (is : Vec declared_item.Item Global) (last : Span) → shape_literal (roll-LiteralExpr (record { type_name = n; «open» = first; elements = is; close = last })) ≡ Literal n first (items_of is.items) last
+shape_literal_made n first is last =
+    ap shape_literal (rolls-LiteralExpr' (record { type_name = n; «open» = first; elements = is; close = last }))
+    ∙ ap (λ l. Literal n first l last) (row_items _ (hidden-the_row-Item-0 is) ∙ ap items_of (items_hidden-the_row-Item-0 is))
+
+pub struct_literal_parts : (c : StructLiteralExpr) → shape_struct_literal c ≡ StructLiteral (shape_type (out-StructLiteralExpr c).type_expr) (out-StructLiteralExpr c).«open» (items_of (out-StructLiteralExpr c).elements.items) (out-StructLiteralExpr c).close
+struct_literal_parts c =
+    let o = out-StructLiteralExpr c in
+    ap shape_struct_literal (is-StructLiteralExpr' c)
+    ∙ ap (λ l. StructLiteral (shape_type o.type_expr) o.«open» l o.close) (row_items _ (hidden-the_row-Item-0 o.elements) ∙ ap items_of (items_hidden-the_row-Item-0 o.elements))
+
+pub shape_struct_literal_made : (t : TypeExpr) (first : Span) (is : Vec declared_item.Item Global) (last : Span) → shape_struct_literal (roll-StructLiteralExpr (record { type_expr = t; «open» = first; elements = is; close = last })) ≡ StructLiteral (shape_type t) first (items_of is.items) last
+shape_struct_literal_made t first is last =
+    ap shape_struct_literal (rolls-StructLiteralExpr' (record { type_expr = t; «open» = first; elements = is; close = last }))
+    ∙ ap (λ l. StructLiteral (shape_type t) first l last) (row_items _ (hidden-the_row-Item-0 is) ∙ ap items_of (items_hidden-the_row-Item-0 is))
 
 -- the lines of a row are those of its list
 pub row_lines : (n : _) (row : Row_of-Line n) → shape_row row ≡ lines_of (items-the_row-Line n row)
 row_lines n end_of-Line = refl
 row_lines n (more_of-Line s semicolon rest) = ap (Line (shape_stmt s) semicolon) (row_lines _ rest)
 
--- the row of a block or a loop
+-- the row of a block
 abbrev stmt_row : Stmt → (n : Count) × Row_of-Line n
 stmt_row (stmt.Block' first _ row last) = (_, row)
-stmt_row (stmt.For' k head first _ row last) = (_, row)
 stmt_row _ = (_, end_of-Line)
 
 -- the tree of a block is that of the list of its lines
@@ -68,10 +82,16 @@ shape_block first ls last =
     ap (λ l. Block first l last) (row_lines row.0 row.1 ∙ ap lines_of (items_hidden-the_row-Line-0 ls))
 
 -- the tree of a loop is that of the list of its lines
-pub shape_loop : (k : Span) (head : ForHead) (first : Span) (ls : Vec declared_line.Line Global) (last : Span) → shape_stmt (stmt.For k head first ls last) ≡ For k (shape_for head) first (lines_of ls.items) last
-shape_loop k head first ls last =
-    let row = stmt_row (stmt.For k head first ls last) in
-    ap (λ l. For k (shape_for head) first l last) (row_lines row.0 row.1 ∙ ap lines_of (items_hidden-the_row-Line-0 ls))
+pub loop_parts : (b : Loop) → shape_loop b ≡ For (out-Loop b).keyword (shape_for (out-Loop b).head) (out-Loop b).«open» (lines_of (out-Loop b).body.items) (out-Loop b).close
+loop_parts b =
+    let o = out-Loop b in
+    ap shape_loop (is-Loop' b)
+    ∙ ap (λ l. For o.keyword (shape_for o.head) o.«open» l o.close) (row_lines _ (hidden-the_row-Line-0 o.body) ∙ ap lines_of (items_hidden-the_row-Line-0 o.body))
+
+pub shape_looped : (k : Span) (head : ForHead) (first : Span) (ls : Vec declared_line.Line Global) (last : Span) → shape_loop (roll-Loop (record { keyword = k; head = head; «open» = first; body = ls; close = last })) ≡ For k (shape_for head) first (lines_of ls.items) last
+shape_looped k head first ls last =
+    ap shape_loop (rolls-Loop' (record { keyword = k; head = head; «open» = first; body = ls; close = last }))
+    ∙ ap (λ l. For k (shape_for head) first l last) (row_lines _ (hidden-the_row-Line-0 ls) ∙ ap lines_of (items_hidden-the_row-Line-0 ls))
 
 -- the row of a block behind `else`
 abbrev else_row : Otherwise → (n : Count) × Row_of-Line n

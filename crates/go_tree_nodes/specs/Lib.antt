@@ -5,3 +5,4 @@ pub mod Spelling
 pub mod Terminals
 pub mod Trees
 pub mod TypeShapes
+pub mod codes

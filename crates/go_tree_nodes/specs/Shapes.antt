@@ -1,10 +1,15 @@
 -- The trees that values of the program hold.
 use Rattle.std.specs.Prelude.{List, [], ◌∷◌, Option, Some, None, map}
+use Rattle.std.specs.Global.{Box}
 use Rattle.go_text_core.specs.declared.span.Span.{Span}
 use Rattle.go_tree_nodes.specs.declared.types.TypeExpr.{TypeExpr}
-use Rattle.go_tree_nodes.specs.declared.exprs.Expr.{Expr, Row_of-Item, end_of-Item, more_of-Item}
+use Rattle.go_tree_nodes.specs.declared.exprs.Expr.{Expr}
+use Rattle.go_tree_nodes.specs.declared.exprs.CallExpr.{CallExpr, CallExpr', Row_of-Item, end_of-Item, more_of-Item}
+use Rattle.go_tree_nodes.specs.declared.exprs.LiteralExpr.{LiteralExpr, LiteralExpr'}
+use Rattle.go_tree_nodes.specs.declared.exprs.StructLiteralExpr.{StructLiteralExpr, StructLiteralExpr'}
 use Rattle.go_tree_nodes.specs.declared.exprs.Expr.TheVariants as expr
 use Rattle.go_tree_nodes.specs.declared.exprs.«Item» as declared_item
+use Rattle.go_tree_nodes.specs.declared.exprs.Key.{Key}
 use Rattle.go_tree_nodes.specs.declared.exprs.Exprs.{Exprs}
 use Rattle.go_tree_nodes.specs.declared.exprs.NextExpr.{NextExpr}
 use Rattle.go_tree_nodes.specs.declared.decls.«Values».{«Values»}
@@ -27,6 +32,7 @@ use Rattle.go_tree_nodes.specs.declared.stmts.ForHead.TheVariants as for_head
 use Rattle.go_tree_nodes.specs.declared.stmts.Stmt.{Stmt, Row_of-Line, end_of-Line, more_of-Line}
 use Rattle.go_tree_nodes.specs.declared.stmts.Stmt.TheVariants as stmt
 use Rattle.go_tree_nodes.specs.declared.stmts.«Branch» as declared_branch
+use Rattle.go_tree_nodes.specs.declared.stmts.Loop.{Loop, Loop'}
 use Rattle.go_tree_nodes.specs.declared.stmts.Otherwise.{Otherwise}
 use Rattle.go_tree_nodes.specs.declared.stmts.Otherwise.TheVariants as otherwise
 use Rattle.go_tree_nodes.specs.declared.stmts.«Line» as declared_line
@@ -45,6 +51,11 @@ use Rattle.go_tree_nodes.specs.TypeShapes.{shape_idents, shape_type, shape_signa
 
 -- expressions
 
+-- a key is in a box
+abbrev pub key_of : Option (Box Key) → Option Key
+key_of None = None
+key_of (Some k) = Some k.value
+
 abbrev mutual
   pub shape : Expr → ExprTree
   shape (expr.Integer n span) = Integer n span
@@ -52,19 +63,28 @@ abbrev mutual
   shape (expr.Name x) = Named x
   shape (expr.Paren' first _ e last) = Paren first (shape e) last
   shape (expr.Unary' op span _ e) = Unary op span (shape e)
-  shape (expr.Binary' _ a op span _ b) = Binary (shape a) op span (shape b)
+  shape (expr.Binary' _ a op span b) = Binary (shape a) op span (shape b)
   shape (expr.Select' _ e dot x) = Select (shape e) dot x
-  shape (expr.Call' _ e first _ row last) = Call (shape e) first (shape_items row) last
-  shape (expr.Literal' n first _ row last) = Literal n first (shape_items row) last
-  shape (expr.StructLiteral' t first _ row last) = StructLiteral (shape_type t) first (shape_items row) last
+  shape (expr.Call' _ c) = shape_call c
+  shape (expr.Literal' _ l) = shape_literal l
+  shape (expr.StructLiteral' _ l) = shape_struct_literal l
+
+  pub shape_call : CallExpr → ExprTree
+  shape_call (CallExpr' e first _ row last) = Call (shape e) first (shape_items row) last
+
+  pub shape_literal : LiteralExpr → ExprTree
+  shape_literal (LiteralExpr' n first _ row last) = Literal n first (shape_items row) last
+
+  pub shape_struct_literal : StructLiteralExpr → ExprTree
+  shape_struct_literal (StructLiteralExpr' t first _ row last) = StructLiteral (shape_type t) first (shape_items row) last
 
   pub shape_items : {n : _} → Row_of-Item n → ItemTrees
   shape_items end_of-Item = NoItems
-  shape_items (more_of-Item key e comma rest) = Item key (shape e) comma (shape_items rest)
+  shape_items (more_of-Item key e comma rest) = Item (key_of key) (shape e) comma (shape_items rest)
 
 abbrev pub items_of : List declared_item.Item → ItemTrees
 items_of [] = NoItems
-items_of (i ∷ is) = Item i.key (shape i.value) i.comma (items_of is)
+items_of (i ∷ is) = Item (key_of i.key) (shape i.value) i.comma (items_of is)
 
 abbrev pub exprs_from : Expr → List NextExpr → Separated ExprTree
 exprs_from e [] = One (shape e)
@@ -77,9 +97,9 @@ abbrev pub shape_some_expr : Option Expr → Option ExprTree
 shape_some_expr None = None
 shape_some_expr (Some e) = Some (shape e)
 
-abbrev pub shape_some_exprs : Option Exprs → Option (Separated ExprTree)
+abbrev pub shape_some_exprs : Option (Box Exprs) → Option (Separated ExprTree)
 shape_some_exprs None = None
-shape_some_exprs (Some es) = Some (shape_exprs es)
+shape_some_exprs (Some es) = Some (shape_exprs es.value)
 
 -- declarations of constants, variables and types
 
@@ -121,10 +141,10 @@ shape_type_decl t = record { keyword = t.keyword; specs = shape_type_specs t.spe
 
 abbrev pub shape_simple : declared_simple.Simple → SimpleTree
 shape_simple (simple.Expr e) = Alone (shape e)
-shape_simple (simple.Step e op span) = Step (shape e) op span
-shape_simple (simple.Assign ts span es) = Assign (shape_exprs ts) span (shape_exprs es)
-shape_simple (simple.Update t op span e) = Update (shape t) op span (shape e)
-shape_simple (simple.Define xs span es) = Define (shape_idents xs) span (shape_exprs es)
+shape_simple (simple.Step e op span) = Step (shape e.value) op span
+shape_simple (simple.Assign a) = Assign (shape_exprs a.value.targets) a.value.assign (shape_exprs a.value.values)
+shape_simple (simple.Update u) = Update (shape u.value.target) u.value.operator u.value.span (shape u.value.value)
+shape_simple (simple.Define d) = Define (shape_idents d.value.names) d.value.define (shape_exprs d.value.values)
 
 abbrev pub shape_some_simple : Option declared_simple.Simple → Option SimpleTree
 shape_some_simple None = None
@@ -145,14 +165,17 @@ shape_for (for_head.Clauses init a test b post) = Clauses (shape_some_simple ini
 abbrev mutual
   pub shape_stmt : Stmt → StmtTree
   shape_stmt stmt.Empty = Empty
-  shape_stmt (stmt.Declare v) = Declare (shape_value v)
+  shape_stmt (stmt.Declare v) = Declare (shape_value v.value)
   shape_stmt (stmt.Simple s) = Simple (shape_simple s)
   shape_stmt (stmt.Return s es) = Return s (shape_some_exprs es)
   shape_stmt (stmt.Break s) = Break s
   shape_stmt (stmt.Continue s) = Continue s
   shape_stmt (stmt.Block' first _ row last) = Block first (shape_row row) last
-  shape_stmt (stmt.If b) = If (shape_branch b)
-  shape_stmt (stmt.For' k head first _ row last) = For k (shape_for head) first (shape_row row) last
+  shape_stmt (stmt.If' _ b) = If (shape_branch b)
+  shape_stmt (stmt.For' _ l) = shape_loop l
+
+  pub shape_loop : Loop → StmtTree
+  shape_loop (Loop' k head first _ row last) = For k (shape_for head) first (shape_row row) last
 
   pub shape_branch : declared_branch.Branch → BranchTree
   shape_branch (declared_branch.Branch' k head first _ row last other) = Branch k (shape_if head) first (shape_row row) last (shape_else other)

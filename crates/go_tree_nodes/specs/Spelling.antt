@@ -28,7 +28,7 @@ abbrev pub spell_ident : Ident → Terminal
 spell_ident x = terminal (Spelled x.name) x.span
 
 abbrev pub spell_text : TextLiteral → Terminal
-spell_text t = terminal (Quoted t.value) t.span
+spell_text t = terminal (Quoted t.spelled) t.span
 
 abbrev pub spell_idents : Separated Ident → List Terminal
 spell_idents (One x) = spell_ident x ∷ []

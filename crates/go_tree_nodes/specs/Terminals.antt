@@ -11,8 +11,9 @@ use Rattle.go_scan_core.specs.declared.token.Token.{Token}
 use Rattle.go_scan_core.specs.Numbers.{integer_value_of}
 use Rattle.go_scan_core.specs.Values.{string_value_of}
 use Rattle.std.specs.Str.{chars}
+use Rattle.go_tree_nodes.specs.declared.names.TextLiteral.{TextLiteral}
 
--- a name with its spelling, an integer literal and a string literal with their values, a keyword, an operator
+-- a name and a string literal with their spelling, an integer literal with its value, a keyword, an operator
 -- or a punctuation mark; and a token that is no piece of its text, which no tree writes
 pub data TerminalKind : Type 0 where
   Spelled : List ℕ → TerminalKind
@@ -40,7 +41,7 @@ number_kind (Some digits) = if nat_le (integer_value_of digits) 9223372036854775
 
 abbrev pub text_kind : Option (List ℕ) → TerminalKind
 text_kind None = Stray
-text_kind (Some spelled) = Quoted (string_value_of (chars spelled))
+text_kind (Some spelled) = Quoted spelled
 
 -- the kind of a token that stands here in a text
 abbrev pub kind_at : List ℕ → Span → TokenKind → TerminalKind
@@ -50,7 +51,11 @@ kind_at text span token.String = text_kind (slice_of text span)
 kind_at text span (token.Keyword k) = Word k
 kind_at text span (token.Operator o) = Mark o
 
--- a token of a text, with its spelling where it is a name, and its value where it is a literal
+-- the bytes that a string literal stands for
+abbrev pub value_of : TextLiteral → List ℕ
+value_of t = string_value_of (chars t.spelled)
+
+-- a token of a text, with its spelling where it is a name or a string literal, and its value where it is an integer literal
 abbrev pub terminal_of : List ℕ → Token → Terminal
 terminal_of text t = terminal (kind_at text t.span t.kind) t.span
 

@@ -18,26 +18,75 @@ pub enum Expr {
     Paren(Span, Box<Expr>, Span),
     /// A unary operator with its place, before its operand.
     Unary(Operator, Span, Box<Expr>),
-    /// A binary operator with its place, between its operands.
-    Binary(Box<Expr>, Operator, Span, Box<Expr>),
-    /// An operand, the place of the dot, and the name behind it.
-    Select(Box<Expr>, Span, Ident),
-    /// What is called, and the arguments between the places of the parentheses.
-    Call(Box<Expr>, Span, Vec<Item>, Span),
-    /// A composite literal of a named type, its elements between the places of the braces.
-    Literal(TypeName, Span, Vec<Item>, Span),
-    /// A composite literal of a struct type that is written out.
-    StructLiteral(TypeExpr, Span, Vec<Item>, Span),
+    Binary(Box<BinaryExpr>),
+    Select(Box<SelectExpr>),
+    Call(Box<CallExpr>),
+    Literal(Box<LiteralExpr>),
+    StructLiteral(Box<StructLiteralExpr>),
+}
+
+// Trees keep very many of these: a form that takes more room stands behind a box.
+const _: () = prove!(size_of::<Expr>() == 32);
+
+/// A binary operator with its place, between its operands.
+#[cycle(expr)]
+#[derive(Drop)]
+pub struct BinaryExpr {
+    pub left: Expr,
+    pub operator: Operator,
+    pub span: Span,
+    pub right: Expr,
+}
+
+/// An operand, the place of the dot, and the name behind it.
+#[cycle(expr)]
+#[derive(Drop)]
+pub struct SelectExpr {
+    pub operand: Expr,
+    pub dot: Span,
+    pub name: Ident,
+}
+
+/// What is called, and the arguments between the places of the parentheses.
+#[cycle(expr)]
+#[derive(Drop)]
+pub struct CallExpr {
+    pub callee: Expr,
+    pub open: Span,
+    pub args: Vec<Item>,
+    pub close: Span,
+}
+
+/// A composite literal of a named type, its elements between the places of the braces.
+#[cycle(expr)]
+#[derive(Drop)]
+pub struct LiteralExpr {
+    pub type_name: TypeName,
+    pub open: Span,
+    pub elements: Vec<Item>,
+    pub close: Span,
+}
+
+/// A composite literal of a struct type that is written out, its elements between the places of the braces.
+#[cycle(expr)]
+#[derive(Drop)]
+pub struct StructLiteralExpr {
+    pub type_expr: TypeExpr,
+    pub open: Span,
+    pub elements: Vec<Item>,
+    pub close: Span,
 }
 
 /// An argument or an element, with its key where it has one, and the comma behind it where one stands.
 #[cycle(expr)]
 #[derive(Drop)]
 pub struct Item {
-    pub key: Option<Key>,
+    pub key: Option<Box<Key>>,
     pub value: Expr,
     pub comma: Option<Span>,
 }
+
+const _: () = prove!(size_of::<Item>() == 64);
 
 /// The key of an element, and the place of its colon.
 #[derive(Drop)]

@@ -12,13 +12,19 @@ pub use decls::{
     TypeDecl, TypeLine, TypeSpec, TypeSpecs, ValueDecl, ValueKind, ValueLine, ValueSpec,
     ValueSpecs, Values,
 };
-pub use exprs::{Expr, Exprs, Item, Key, NextExpr};
+pub use exprs::{
+    BinaryExpr, CallExpr, Expr, Exprs, Item, Key, LiteralExpr, NextExpr, SelectExpr,
+    StructLiteralExpr,
+};
 pub use files::{
     Decl, File, FuncDecl, ImportDecl, ImportLine, ImportName, ImportSpec, ImportSpecs, Receiver,
     TopDecl,
 };
-pub use names::{Ident, Idents, NextIdent, TextLiteral, TextValue};
-pub use stmts::{Branch, ForHead, IfHead, InitPart, Line, Otherwise, Simple, Stmt};
+pub use names::{Ident, Idents, NextIdent, TextLiteral};
+pub use stmts::{
+    Assignment, Branch, Definition, ForHead, IfHead, InitPart, Line, Loop, Otherwise, Simple, Stmt,
+    Update,
+};
 pub use types::{
     FieldLine, Fields, MethodLine, Param, Params, Results, Signature, TypeExpr, TypeName,
 };

@@ -1,9 +1,10 @@
 //! Names, literals and lists of names.
 ghost use Rattle.std.specs.Prelude.{◌≡◌, IfOk};
+ghost use Rattle.go_tree_nodes.specs.Terminals.{value_of};
 
+use go_scan_core::string_value;
 use go_text_core::{Name, Span};
 use std::alloc::{AllocError, Global};
-use std::marker::Model;
 
 /// A name, and where it stands.
 #[derive(Drop)]
@@ -26,48 +27,22 @@ pub struct NextIdent {
     pub ident: Ident,
 }
 
-/// The bytes that a string literal stands for. Contracts see it as those bytes.
-#[derive(Drop)]
-pub struct TextValue {
-    bytes: Vec<u8>,
-}
-
-impl Model for TextValue {
-    ghost use Rattle.std.specs.Prelude.{List, ℕ};
-
-    ghost Value = { List ℕ };
-
-    ghost view = { λ v. v.bytes.items };
-}
-
-impl TextValue {
-    /// The value with these bytes.
-    pub fn new(bytes: Vec<u8>) -> TextValue
-        ensures { result ≡ bytes.items }
-    {
-        TextValue { bytes }
-    }
-
-    /// The bytes.
-    pub fn as_bytes(&self) -> &[u8]
-        ensures { result.now ≡ self.now }
-    {
-        self.bytes.as_slice()
-    }
-
-    /// An equal value. The one error is want of memory.
-    pub fn copy(&self, alloc: Global) -> Result<TextValue, AllocError>
-        ensures { IfOk result (λ v. v ≡ self.now) }
-    {
-        Ok(TextValue {
-            bytes: Vec::from_slice(alloc, self.bytes.as_slice())?,
-        })
-    }
-}
-
-/// A string literal: its value, and where it stands.
+/// A string literal, as it is spelled, quotes included, and where it stands.
 #[derive(Drop)]
 pub struct TextLiteral {
-    pub value: TextValue,
+    pub spelled: Name,
     pub span: Span,
+}
+
+impl TextLiteral {
+    /// The bytes that the literal stands for.
+    ///
+    /// # Errors
+    ///
+    /// [`AllocError`] where memory runs out.
+    pub fn value(&self, alloc: Global) -> Result<Vec<u8>, AllocError>
+        ensures { IfOk result (λ v. v.items ≡ value_of self.now) }
+    {
+        string_value(alloc, self.spelled.as_str())
+    }
 }

@@ -11,13 +11,35 @@ pub enum Simple {
     /// An expression.
     Expr(Expr),
     /// An expression, and `++` or `--` with its place.
-    Step(Expr, Operator, Span),
-    /// Targets, the place of `=`, values.
-    Assign(Exprs, Span, Exprs),
-    /// A target, an operator with `=` and its place, a value.
-    Update(Expr, Operator, Span, Expr),
-    /// Names, the place of `:=`, values.
-    Define(Idents, Span, Exprs),
+    Step(Box<Expr>, Operator, Span),
+    Assign(Box<Assignment>),
+    Update(Box<Update>),
+    Define(Box<Definition>),
+}
+
+/// Targets, the place of `=`, values.
+#[derive(Drop)]
+pub struct Assignment {
+    pub targets: Exprs,
+    pub assign: Span,
+    pub values: Exprs,
+}
+
+/// A target, an operator with `=` and its place, a value.
+#[derive(Drop)]
+pub struct Update {
+    pub target: Expr,
+    pub operator: Operator,
+    pub span: Span,
+    pub value: Expr,
+}
+
+/// Names, the place of `:=`, values.
+#[derive(Drop)]
+pub struct Definition {
+    pub names: Idents,
+    pub define: Span,
+    pub values: Exprs,
 }
 
 /// What stands between `if` and its block: a statement with a semicolon where these stand, and the condition.
@@ -52,19 +74,33 @@ pub enum Stmt {
     /// Nothing: a semicolon stands behind it.
     Empty,
     /// A declaration of local constants or variables.
-    Declare(ValueDecl),
+    Declare(Box<ValueDecl>),
     Simple(Simple),
     /// The place of `return`, and what is returned.
-    Return(Span, Option<Exprs>),
+    Return(Span, Option<Box<Exprs>>),
     /// The place of `break`.
     Break(Span),
     /// The place of `continue`.
     Continue(Span),
     /// A block, between the places of its braces.
     Block(Span, Vec<Line>, Span),
-    If(Branch),
-    /// The place of `for`, its head, and its block between the places of the braces.
-    For(Span, ForHead, Span, Vec<Line>, Span),
+    If(Box<Branch>),
+    For(Box<Loop>),
+}
+
+// Trees keep very many of these: a form that takes more room stands behind a box.
+const _: () = prove!(size_of::<Stmt>() == 48);
+
+/// A `for` with its block.
+#[cycle(stmt)]
+#[derive(Drop)]
+pub struct Loop {
+    /// The place of `for`.
+    pub keyword: Span,
+    pub head: ForHead,
+    pub open: Span,
+    pub body: Vec<Line>,
+    pub close: Span,
 }
 
 /// An `if` with its block and what stands behind `else`.
@@ -98,3 +134,5 @@ pub struct Line {
     pub stmt: Stmt,
     pub semicolon: Option<Span>,
 }
+
+const _: () = prove!(size_of::<Line>() == 64);

@@ -1,1 +1,4 @@
+pub mod Asking
+pub mod Runs
 pub mod Statuses
+pub mod Texts

@@ -1,8 +1,9 @@
 -- What several reads give.
-use Rattle.std.proofs.Common.{◌≡◌, ℕ, ◌≤◌, List, ◌++◌, length, take, Option, Some, None, sym, ap, ◌∙◌}
-use Rattle.std.proofs.lemmas.List.{append_assoc, append-nil, take_at, take_all}
+use Rattle.std.proofs.Common.{◌≡◌, ℕ, ◌+◌, ◌≤◌, List, ◌++◌, length, take, Option, Some, None, sym, ap, subst, ◌∙◌, arith}
+use Rattle.std.proofs.lemmas.List.{append_assoc, append-nil, take_at, take_all, length-append}
 use Rattle.std.specs.Prelude.{IfSome}
 use Rattle.std.specs.Io.KnownBytes.{Consumes, IsAtEnd}
+use Rattle.govisd_core.specs.Inputs.{ReadsUpTo}
 
 -- one read after another
 pub consumes_more : (old mid new : Option (List ℕ)) (bs cs : List ℕ) → Consumes old mid bs → Consumes mid new cs → Consumes old new (bs ++ cs)
@@ -22,3 +23,13 @@ pub all_given : (old new : Option (List ℕ)) (bs : List ℕ) (n : ℕ) → Cons
 all_given None new bs n h e l = tt
 all_given (Some xs) None bs n h e l = absurd h
 all_given (Some xs) (Some ys) bs n h e l = sym (ap (take n) (h ∙ (ap (λ l. bs ++ l) e ∙ append-nil bs)) ∙ take_all n bs l)
+
+-- one more read of what there is room for
+pub reads_more : (old mid new : Option (List ℕ)) (bs : List ℕ) (room most : ℕ) → Consumes old mid bs → ReadsUpTo room mid new → length bs + room ≤ most → ReadsUpTo most old new
+reads_more old mid new bs room most before more fits =
+    (bs ++ more.0, consumes_more old mid new bs more.0 before more.1, omega (arith, length-append bs more.0, more.2, fits))
+
+-- what was read are the first bytes that there were
+pub reads_first : (given left : Option (List ℕ)) (bs : List ℕ) (most : ℕ) → IfSome given (λ xs. bs ≡ take most xs) → Consumes given left bs → IfSome given (λ xs. Consumes given left (take most xs))
+reads_first None left bs most first taken = tt
+reads_first (Some xs) left bs most first taken = subst (Consumes (Some xs) left) first taken

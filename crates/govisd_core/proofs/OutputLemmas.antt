@@ -1,9 +1,10 @@
 -- What several writes append.
-use Rattle.std.proofs.Common.{◌≡◌, ◌-◌, ◌==◌, ℕ, Bool, true, false, List, [], ◌++◌, length, take, drop, Option, Some, None, refl, sym, ap, subst, ◌∙◌, arith}
-use Rattle.std.proofs.lemmas.List.{append_assoc, append-nil, take_at, take_all, take-append-drop, length-drop, nil_from_length}
-use Rattle.std.proofs.lemmas.Bool.Decides.{nat_tests}
+use Rattle.std.proofs.Common.{◌≡◌, ◌-◌, ◌<◌, ℕ, Bool, true, false, List, [], ◌++◌, length, take, drop, Option, Some, None, Result, Ok, Err, refl, sym, ap, subst, ◌∙◌, arith}
+use Rattle.std.proofs.lemmas.List.{append_assoc, append-nil, take_at, take_all, take-append-drop, length-append, length-drop, nil_from_length}
 use Rattle.std.specs.Io.KnownBytes.{Appends, Keeps}
-use Rattle.govisd_core.specs.Outputs.{IsWritten}
+use Rattle.std.specs.Result.{is_err}
+use Rattle.std.specs.declared.io.ErrorKind.{ErrorKind}
+use Rattle.govisd_core.specs.Outputs.{IsCutShort, IsWritten}
 
 -- the bytes before the rest went out
 pub record SentFirst (old new : Option (List ℕ)) (bytes rest : List ℕ) : Type 0 where
@@ -44,16 +45,27 @@ pub sent_all : (old new : Option (List ℕ)) (bytes rest : List ℕ) → SentFir
 sent_all old new bytes rest before none =
     subst (Appends old new) (sym (before.whole ∙ (ap (λ l. before.sent ++ l) (nil_from_length rest none) ∙ append-nil before.sent))) before.writes
 
--- the first of them went out, and one more write failed
-pub sent_part : (old mid new : Option (List ℕ)) (bytes rest : List ℕ) → SentFirst old mid bytes rest → Keeps mid new → (count : ℕ) × Appends old new (take count bytes)
-sent_part old mid new bytes rest before kept =
-    (length before.sent, subst (Appends old new) (sym (ap (take (length before.sent)) before.whole ∙ take_at before.sent rest (length before.sent) refl)) (appends_kept old mid new before.sent before.writes kept))
+-- the first of them went out, some are left, and one more write failed
+pub sent_part : (old mid new : Option (List ℕ)) (bytes rest : List ℕ) → SentFirst old mid bytes rest → 0 < length rest → Keeps mid new → IsCutShort old new bytes
+sent_part old mid new bytes rest before some kept = (
+  length before.sent,
+  omega (arith, ap length before.whole, length-append before.sent rest, some),
+  subst (Appends old new) (sym (ap (take (length before.sent)) before.whole ∙ take_at before.sent rest (length before.sent) refl)) (appends_kept old mid new before.sent before.writes kept),
+)
 
 keeps_same : (known : Option (List ℕ)) → Keeps known known
 keeps_same None = tt
 keeps_same (Some xs) = refl
 
--- no write is left
-pub sent_last : (old new : Option (List ℕ)) (bytes rest : List ℕ) (done : Bool) → SentFirst old new bytes rest → done ≡ (length rest == 0) → IsWritten old new bytes done
-sent_last old new bytes rest true before is = sent_all old new bytes rest before (grind (arith, nat_tests))
-sent_last old new bytes rest false before is = sent_part old new new bytes rest before (keeps_same new)
+-- the first of them went out, some are left, and no write is
+pub sent_last : (old new : Option (List ℕ)) (bytes rest : List ℕ) → SentFirst old new bytes rest → 0 < length rest → IsCutShort old new bytes
+sent_last old new bytes rest before some = sent_part old new new bytes rest before some (keeps_same new)
+
+-- whether the writer failed
+pub all_written : {A : Type 0} (old new : Option (List ℕ)) (bytes : List ℕ) (r : Result A ErrorKind) (failed : Bool) → IsWritten old new bytes r → failed ≡ is_err r → failed ≡ false → Appends old new bytes
+all_written old new bytes (Ok done) failed written asked is = written
+all_written old new bytes (Err kind) failed written asked is = let bad : true ≡ false = sym asked ∙ is in cc
+
+pub cut_short : {A : Type 0} (old new : Option (List ℕ)) (bytes : List ℕ) (r : Result A ErrorKind) (failed : Bool) → IsWritten old new bytes r → failed ≡ is_err r → failed ≡ true → IsCutShort old new bytes
+cut_short old new bytes (Ok done) failed written asked is = let bad : false ≡ true = sym asked ∙ is in cc
+cut_short old new bytes (Err kind) failed written asked is = written.1

@@ -24,6 +24,7 @@ use Rattle.go_resolve_core.specs.Faults.{faults_of}
 use Rattle.govisd_core.specs.Lines.{use_line, fault_line, is_bound, is_empty}
 use Rattle.govisd_core.specs.Reports.{TooLong, NoText, BadToken, NoTree, TooHigh, Outside, Whole, IsText, HasTokens, IsReport, Reports, ReportsPart, the_fault, max_bytes}
 use Rattle.govisd_core.specs.declared.run.Report.{Report}
+use Rattle.govisd_core.specs.Outputs.{IsCutShort}
 
 tokens_of_fault : (bytes : List ℕ) (fault : SynFault) → IsText bytes → IsTreeFault bytes fault → HasTokens bytes
 tokens_of_fault bytes fault text why = record { text = text; tokens = why.tokens; scanned = why.scanned }
@@ -91,11 +92,11 @@ reported_all None limit bytes clean out old new read made appended = tt
 reported_all (Some xs) limit bytes clean out old new read made appended = subst (λ b. Reports clean b old new) read (reported bytes clean out old new made appended)
 
 -- a report of which a first part was written
-reported_part : (bytes : List ℕ) (clean : Bool) (out : List ℕ) (old new : Option (List ℕ)) → IsReport bytes clean out → (count : ℕ) × Appends old new (take count out) → ReportsPart bytes old new
+reported_part : (bytes : List ℕ) (clean : Bool) (out : List ℕ) (old new : Option (List ℕ)) → IsReport bytes clean out → IsCutShort old new out → ReportsPart bytes old new
 reported_part bytes clean out old new made part =
-    record { input = made.input; is = made.is; count = part.0; writes = subst (λ text. Appends old new (take part.0 text)) made.writes part.1 }
+    record { input = made.input; is = made.is; cut = subst (IsCutShort old new) made.writes part }
 
 -- the same over what was read
-pub reported_first : (remaining : Option (List ℕ)) (limit : ℕ) (bytes : List ℕ) (clean : Bool) (out : List ℕ) (old new : Option (List ℕ)) → IfSome remaining (λ xs. bytes ≡ take limit xs) → IsReport bytes clean out → (count : ℕ) × Appends old new (take count out) → IfSome remaining (λ xs. ReportsPart (take limit xs) old new)
+pub reported_first : (remaining : Option (List ℕ)) (limit : ℕ) (bytes : List ℕ) (clean : Bool) (out : List ℕ) (old new : Option (List ℕ)) → IfSome remaining (λ xs. bytes ≡ take limit xs) → IsReport bytes clean out → IsCutShort old new out → IfSome remaining (λ xs. ReportsPart (take limit xs) old new)
 reported_first None limit bytes clean out old new read made part = tt
 reported_first (Some xs) limit bytes clean out old new read made part = subst (λ b. ReportsPart b old new) read (reported_part bytes clean out old new made part)

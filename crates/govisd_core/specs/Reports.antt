@@ -1,12 +1,12 @@
 -- What a run over some bytes writes, by the rules alone.
-use Rattle.std.specs.Prelude.{◌≡◌, ◌≤◌, ◌<◌, ℕ, Bool, true, false, List, length, take, Option, Ok, Err}
+use Rattle.std.specs.Prelude.{◌≡◌, ◌≤◌, ◌<◌, ℕ, Bool, true, false, List, length, Option, Ok, Err}
 use Rattle.std.specs.Str.{IsUtf8}
-use Rattle.std.specs.Io.KnownBytes.{Appends, Keeps}
+use Rattle.std.specs.Io.KnownBytes.{Appends, Consumes, Keeps}
 use Rattle.go_text_core.specs.declared.rule.Rule.{Rule}
 use Rattle.go_text_core.specs.declared.rule.Rule.TheVariants.{E3, L1, P1, P2, X1}
 use Rattle.go_scan_core.specs.declared.token.LexFault.{LexFault}
 use Rattle.go_scan_core.specs.declared.token.Token.{Token}
-use Rattle.go_scan_core.specs.Cutting.{tokens_of}
+use Rattle.go_scan_core.specs.Tokens.{IsAnswer}
 use Rattle.go_tree_nodes.specs.Trees as wide
 use Rattle.go_tree_nodes.specs.Heights.{file_height}
 use Rattle.go_subset_core.specs.Trees.{FileTree}
@@ -15,6 +15,7 @@ use Rattle.go_subset_core.specs.Subset.{Inside_file, IsOutside}
 use Rattle.go_parse_core.specs.Correct.{HasTree, HasNoTree, HasNoLowTree, max_height}
 use Rattle.govisd_core.specs.declared.run.ResolveEnd.{ResolveEnd}
 use Rattle.govisd_core.specs.declared.run.ResolveEnd.TheVariants.{Clean, Faults, ReadFault, WriteFault, Memory}
+use Rattle.govisd_core.specs.Outputs.{IsCutShort}
 use Rattle.govisd_core.specs.Lines.{fault_line, lines_of, has_no_fault}
 
 -- the most bytes that a text may have
@@ -41,12 +42,12 @@ pub record IsText (bytes : List ℕ) : Type 0 where
 pub record HasTokens (bytes : List ℕ) : Type 0 where
   pub text : IsText bytes
   pub tokens : List Token
-  pub scanned : tokens_of bytes ≡ Ok tokens
+  pub scanned : IsAnswer bytes (Ok tokens)
 
 abbrev pub IsInput : List ℕ → Input → Type 0
 IsInput bytes TooLong = max_bytes < length bytes
 IsInput bytes NoText = (length bytes ≤ max_bytes) × ¬ (IsUtf8 bytes)
-IsInput bytes (BadToken fault) = IsText bytes × (tokens_of bytes ≡ Err fault)
+IsInput bytes (BadToken fault) = IsText bytes × IsAnswer bytes (Err fault)
 IsInput bytes (NoTree offset) = HasTokens bytes × HasNoTree bytes × (offset ≤ length bytes)
 IsInput bytes (TooHigh offset) = HasTokens bytes × HasNoLowTree bytes × (offset ≤ length bytes)
 IsInput bytes (Outside f) = IsText bytes × HasTree bytes f × (file_height f ≤ max_height) × IsOutside bytes f
@@ -77,12 +78,11 @@ pub record Reports (clean : Bool) (bytes : List ℕ) (old new : Option (List ℕ
   pub says : is_clean input ≡ clean
   pub writes : Appends old new (report bytes input)
 
--- the first bytes of the report were written, and nothing else
+-- the first bytes of the report were written, but not all, and nothing else
 pub record ReportsPart (bytes : List ℕ) (old new : Option (List ℕ)) : Type 0 where
   pub input : Input
   pub is : IsInput bytes input
-  pub count : ℕ
-  pub writes : Appends old new (take count (report bytes input))
+  pub cut : IsCutShort old new (report bytes input)
 
 -- how a run over these bytes ended, and what was written
 abbrev pub IsEnd : ResolveEnd → List ℕ → Option (List ℕ) → Option (List ℕ) → Type 0
@@ -91,6 +91,14 @@ IsEnd Faults bytes old new = Reports false bytes old new
 IsEnd ReadFault bytes old new = Keeps old new
 IsEnd Memory bytes old new = Keeps old new
 IsEnd WriteFault bytes old new = ReportsPart bytes old new
+
+-- where a report was made, all the bytes were read, and no others
+abbrev pub ReadsAll : ResolveEnd → List ℕ → Option (List ℕ) → Option (List ℕ) → Type 0
+ReadsAll Clean bytes given left = Consumes given left bytes
+ReadsAll Faults bytes given left = Consumes given left bytes
+ReadsAll WriteFault bytes given left = Consumes given left bytes
+ReadsAll ReadFault bytes given left = Unit {0}
+ReadsAll Memory bytes given left = Unit {0}
 
 -- the text of a report on the bytes, and whether it is of a source without fault
 pub record IsReport (bytes : List ℕ) (clean : Bool) (text : List ℕ) : Type 0 where

@@ -1,8 +1,8 @@
 //! Reading the input of a run.
-ghost use Rattle.std.specs.Prelude.{◌≡◌, ◌≤◌, ◌<◌, take, ◌⊎◌, IfOk, IfErr, IfSome};
-ghost use Rattle.govisd_core.specs.Inputs.{IsPart};
+ghost use Rattle.std.specs.Prelude.{◌≡◌, ◌≤◌, ◌<◌, take, IfOk, IfErr, IfSome};
+ghost use Rattle.std.specs.Io.KnownBytes.{Consumes};
+ghost use Rattle.govisd_core.specs.Inputs.{IsPart, IsFinal, ReadsUpTo};
 
-use crate::run::ResolveEnd;
 use std::alloc::Global;
 use std::io::{ErrorKind, Read};
 
@@ -15,32 +15,44 @@ const READS: u64 = 2_097_152;
 // The most bytes of one read.
 const PIECE: usize = 4096;
 
+/// Why an input is not read.
+#[derive(Clone, Copy)]
+pub enum InputFault {
+    /// The reader failed with an error of this kind.
+    Reader(ErrorKind),
+    /// Memory ran out.
+    Memory,
+}
+
 // One read of at most `room` bytes, and whether more may come: it gave some, or was interrupted.
-fn read_part<R: Read>(reader: &mut R, bytes: &mut Vec<u8>, room: usize) -> Result<bool, ResolveEnd>
+fn read_part<R: Read>(reader: &mut R, bytes: &mut Vec<u8>, room: usize) -> Result<bool, InputFault>
     requires some { 0 < room }
     requires small { room ≤ PIECE }
     ensures ok { IfOk result (λ more. IsPart (R.remaining reader.old) (R.remaining reader.new) bytes.old.items bytes.new.items room more) }
-    ensures err { IfErr result (λ end. (end ≡ ResolveEnd.ReadFault) ⊎ (end ≡ ResolveEnd.Memory)) }
+    ensures err { IfErr result IsFinal }
+    ensures few { ReadsUpTo room (R.remaining reader.old) (R.remaining reader.new) }
 {
     let mut buffer = [0u8; PIECE];
     let part = &mut buffer[..room];
     match reader.read(part) {
         Err(error) if error.kind() == ErrorKind::Interrupted => Ok(true),
-        Err(_) => Err(ResolveEnd::ReadFault),
+        Err(error) => Err(InputFault::Reader(error.kind())),
         Ok(count) => match bytes.extend_from_slice(&part[..count]) {
             Ok(()) => Ok(count > 0),
-            Err(_) => Err(ResolveEnd::Memory),
+            Err(_) => Err(InputFault::Memory),
         },
     }
 }
 
 /// The first bytes that a reader gives, up to the limit.
 ///
-/// A read that is interrupted is made again. One that fails, and bytes that want more than 2,097,152 reads,
-/// are a fault of the reader.
-pub fn read_input<R: Read>(alloc: Global, reader: &mut R) -> Result<Vec<u8>, ResolveEnd>
+/// A read that is interrupted is made again. The error of one that fails otherwise is the fault, and so is
+/// [`ErrorKind::TimedOut`] where the bytes want more than 2,097,152 reads. No byte beyond the limit is read.
+pub fn read_input<R: Read>(alloc: Global, reader: &mut R) -> Result<Vec<u8>, InputFault>
     ensures ok { IfOk result (λ v. IfSome (R.remaining reader.old) (λ bytes. v.items ≡ take LIMIT bytes)) }
-    ensures err { IfErr result (λ end. (end ≡ ResolveEnd.ReadFault) ⊎ (end ≡ ResolveEnd.Memory)) }
+    ensures taken { IfOk result (λ v. Consumes (R.remaining reader.old) (R.remaining reader.new) v.items) }
+    ensures err { IfErr result IsFinal }
+    ensures few { ReadsUpTo LIMIT (R.remaining reader.old) (R.remaining reader.new) }
 {
     let mut bytes = Vec::new(alloc);
     for _turn in 0..READS {
@@ -52,5 +64,5 @@ pub fn read_input<R: Read>(alloc: Global, reader: &mut R) -> Result<Vec<u8>, Res
             return Ok(bytes);
         }
     }
-    Err(ResolveEnd::ReadFault)
+    Err(InputFault::Reader(ErrorKind::TimedOut))
 }

@@ -8,4 +8,5 @@ mod output;
 mod run;
 
 pub use laws::one_input;
+pub use output::write_report;
 pub use run::{ResolveEnd, run_resolve};

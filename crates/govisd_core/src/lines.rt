@@ -21,8 +21,8 @@ fn role_name(role: Role) -> &'static str
 fn piece(text: &[u8], span: Span) -> &[u8]
     ensures { result.now ≡ slice_range text.now span.start span.end }
 {
-    let end = span.end.min(text.len());
-    let start = span.start.min(end);
+    let end = (span.end as usize).min(text.len());
+    let start = (span.start as usize).min(end);
     &text[start..end]
 }
 
@@ -73,7 +73,7 @@ fn push_use(out: &mut Vec<u8>, alloc: Global, text: &[u8], found: Use) -> Result
     ensures { OnOk result (out.new.items ≡ out.old.items ++ use_line text.now found) }
 {
     let name = piece(text, found.span);
-    push_number(out, alloc, found.span.start)?;
+    push_number(out, alloc, found.span.start as usize)?;
     push(out, b" ")?;
     push(out, role_name(found.role).as_bytes())?;
     push(out, b" ")?;

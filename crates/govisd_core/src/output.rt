@@ -7,34 +7,40 @@ use std::io::{ErrorKind, Write};
 // The most writes that are made.
 const WRITES: u64 = u64::MAX;
 
-// One write: how many of the bytes it took, 0 where it was interrupted, or none where the writer failed.
-fn write_part<W: Write>(writer: &mut W, bytes: &[u8]) -> Option<usize>
+// One write: how many of the bytes it took, 0 where it was interrupted, or the kind of its error.
+fn write_part<W: Write>(writer: &mut W, bytes: &[u8]) -> Result<usize, ErrorKind>
     requires { 0 < length bytes.now }
     ensures { IsPartWritten (W.contents writer.old) (W.contents writer.new) bytes.now result }
 {
     match writer.write(bytes) {
-        Ok(0) => None,
-        Ok(count) => Some(count),
-        Err(error) if error.kind() == ErrorKind::Interrupted => Some(0),
-        Err(_) => None,
+        Ok(0) => Err(ErrorKind::WriteZero),
+        Ok(count) => Ok(count),
+        Err(error) if error.kind() == ErrorKind::Interrupted => Ok(0),
+        Err(error) => Err(error.kind()),
     }
 }
 
-/// Writes some bytes, and answers whether all of them were written. Where not, a first part of them was.
+/// Writes some bytes. Where not all of them can be written, a first part of them is, and at least one is not.
 ///
-/// A write that is interrupted is made again. One that fails, or takes none of the bytes, is the last.
-pub fn write_report<W: Write>(writer: &mut W, bytes: &[u8]) -> bool
+/// # Errors
+///
+/// The kind of the error of the write that failed. A write that is interrupted is made again. One that takes none of
+/// the bytes fails with [`ErrorKind::WriteZero`], and after 2^64 - 1 writes [`ErrorKind::TimedOut`] is the answer.
+pub fn write_report<W: Write>(writer: &mut W, bytes: &[u8]) -> Result<(), ErrorKind>
     ensures { IsWritten (W.contents writer.old) (W.contents writer.new) bytes.now result }
 {
     let mut rest = bytes;
     for _turn in 0..WRITES {
         if rest.is_empty() {
-            return true;
+            return Ok(());
         }
-        let Some(count) = write_part(writer, rest) else {
-            return false;
-        };
-        rest = &rest[count..];
+        match write_part(writer, rest) {
+            Ok(count) => rest = &rest[count..],
+            Err(kind) => return Err(kind),
+        }
     }
-    rest.is_empty()
+    if rest.is_empty() {
+        return Ok(());
+    }
+    Err(ErrorKind::TimedOut)
 }

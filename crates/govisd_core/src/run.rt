@@ -1,8 +1,9 @@
 //! A run of `govisd resolve`, from a reader to a writer.
 ghost use Rattle.std.specs.Prelude.{◌≡◌, false, take, string_bytes, IfOk, IfSome};
-ghost use Rattle.govisd_core.specs.Reports.{IsReport, IsEnd, IsText, the_fault};
+ghost use Rattle.govisd_core.specs.Inputs.{ReadsUpTo};
+ghost use Rattle.govisd_core.specs.Reports.{IsReport, IsEnd, IsText, ReadsAll, the_fault};
 
-use crate::input::{LIMIT, read_input};
+use crate::input::{InputFault, LIMIT, read_input};
 use crate::lines::{fault_lines, has_no_fault, resolution_lines};
 use crate::output::write_report;
 use go_parse_core::{ParseError, Parsed, parse};
@@ -21,7 +22,7 @@ pub enum ResolveEnd {
     Faults,
     /// The reader failed, or gave too little at a time. Nothing is written.
     ReadFault,
-    /// The writer failed. A first part of the report is written, or nothing of it.
+    /// The writer failed. A first part of the report is written, or nothing of it, and never all.
     WriteFault,
     /// Memory ran out. Nothing is written.
     Memory,
@@ -100,18 +101,21 @@ fn report_of(alloc: Global, bytes: Vec<u8>) -> Result<Report, AllocError>
 /// `fault 0 X1`. Bytes that are no file have one line `fault OFFSET RULE`: E3 at 0 for more than 1,048,576 bytes, of which one more is read at the most;
 /// L1 at 0 for no UTF-8; and else the fault of the text. The report is made before any of it is written,
 /// and where the writer fails, what it took is a first part of the report. Reads and writes that are
-/// interrupted are made again.
+/// interrupted are made again. What the reader has beyond 1,048,577 bytes stays in it.
 pub fn run_resolve<R: Read, W: Write>(alloc: Global, reader: &mut R, writer: &mut W) -> ResolveEnd
-    ensures { IfSome (R.remaining reader.old) (λ bytes. IsEnd result (take LIMIT bytes) (W.contents writer.old) (W.contents writer.new)) }
+    ensures end { IfSome (R.remaining reader.old) (λ bytes. IsEnd result (take LIMIT bytes) (W.contents writer.old) (W.contents writer.new)) }
+    ensures few { ReadsUpTo LIMIT (R.remaining reader.old) (R.remaining reader.new) }
+    ensures all { IfSome (R.remaining reader.old) (λ bytes. ReadsAll result (take LIMIT bytes) (R.remaining reader.old) (R.remaining reader.new)) }
 {
     let bytes = match read_input(alloc, reader) {
         Ok(bytes) => bytes,
-        Err(end) => return end,
+        Err(InputFault::Reader(_)) => return ResolveEnd::ReadFault,
+        Err(InputFault::Memory) => return ResolveEnd::Memory,
     };
     let Ok(report) = report_of(alloc, bytes) else {
         return ResolveEnd::Memory;
     };
-    if !write_report(writer, report.text.as_slice()) {
+    if write_report(writer, report.text.as_slice()).is_err() {
         return ResolveEnd::WriteFault;
     }
     if report.clean {

@@ -1,8 +1,7 @@
 //! Lines, as they are written.
 use go_text_core::Rule;
-use go_tree_core::Role;
 use std::alloc::{AllocError, Global};
-use std::fmt::Write;
+use std::fmt::{Debug, Display, Write};
 
 /// A text that is written piece by piece. It keeps in mind that memory was wanting, so that nothing has to be asked
 /// behind each piece.
@@ -33,76 +32,74 @@ impl Lines {
         }
     }
 
-    /// Adds a character.
-    pub fn add_char(&mut self, c: char) {
-        if self.text.push(c).is_err() {
-            self.is_cut = true;
-        }
-    }
-
-    /// Ends a line.
-    pub fn end(&mut self) {
-        self.add_char('\n');
-    }
-
     /// Adds a piece, and a blank behind it.
-    pub fn add_word(&mut self, word: &str) {
+    pub fn word(&mut self, word: &str) {
         self.add(word);
-        self.add_char(' ');
+        self.add(" ");
     }
 
     /// Adds a piece, and ends the line.
-    pub fn add_line(&mut self, piece: &str) {
+    pub fn line(&mut self, piece: &str) {
         self.add(piece);
-        self.end();
+        self.add("\n");
     }
 
-    /// Adds the line of a yes or a no.
-    pub fn add_yes(&mut self, holds: bool) {
-        self.add(if holds { "yes\n" } else { "no\n" });
-    }
-
-    /// Adds a number.
-    pub fn add_number(&mut self, number: usize) {
-        if write!(self.text, "{number}").is_err() {
+    /// Adds what is shown, as a number.
+    pub fn show<T: Display + Drop>(&mut self, shown: T) {
+        if write!(self.text, "{shown}").is_err() {
             self.is_cut = true;
         }
+    }
+
+    /// Adds the name of what is shown, as a role.
+    pub fn name<T: Debug + Drop>(&mut self, shown: T) {
+        if write!(self.text, "{shown:?}").is_err() {
+            self.is_cut = true;
+        }
+    }
+
+    /// Adds what is shown, and ends the line.
+    pub fn end<T: Display + Drop>(&mut self, shown: T) {
+        self.show(shown);
+        self.add("\n");
     }
 
     /// Adds a number behind a piece.
-    pub fn add_count(&mut self, piece: &str, number: usize) {
+    pub fn count(&mut self, piece: &str, number: usize) {
         self.add(piece);
-        self.add_number(number);
+        self.show(number);
     }
 
-    /// Adds `\x` and the two hexadecimal digits of a byte.
-    pub fn add_hex(&mut self, b: u8) {
-        if write!(self.text, "\\x{b:02x}").is_err() {
-            self.is_cut = true;
-        }
-    }
-
-    /// Adds the name of a role, and a blank behind it.
-    pub fn add_role(&mut self, role: Role) {
-        if write!(self.text, "{role:?} ").is_err() {
-            self.is_cut = true;
-        }
-    }
-
-    /// Adds the number of a rule.
-    pub fn add_rule(&mut self, rule: Rule) {
-        if write!(self.text, "{rule}").is_err() {
-            self.is_cut = true;
-        }
+    /// Adds a start and an end, and a blank behind each.
+    pub fn span<T: Display + Drop>(&mut self, start: T, end: T) {
+        self.show(start);
+        self.add(" ");
+        self.show(end);
+        self.add(" ");
     }
 
     /// Adds the line of a rule that refuses something. M0 is want of memory.
     pub fn refuse(&mut self, rule: Rule) {
         if rule == Rule::M0 {
-            self.cut();
+            self.is_cut = true;
         }
-        self.add_rule(rule);
-        self.end();
+        self.line(rule.number());
+    }
+
+    /// Adds a text between quotation marks, and ends the line. A byte from a space to `~` stands for itself, but `\xHH` stands
+    /// for a quotation mark, a backslash and any other byte.
+    pub fn quote(&mut self, bytes: &[u8]) {
+        self.add("\"");
+        for b in bytes {
+            let added = match b {
+                b'"' | b'\\' | 0..=31 | 127..=255 => write!(self.text, "\\x{b:02x}"),
+                plain => self.text.push(char::from(*plain)),
+            };
+            if added.is_err() {
+                self.is_cut = true;
+            }
+        }
+        self.add("\"\n");
     }
 
     /// The text, unless a piece of it is missing.

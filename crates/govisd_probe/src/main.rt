@@ -19,30 +19,27 @@ mod table;
 mod tokens;
 mod trees;
 mod words;
+mod workspaces;
 
 use answers::add_answer;
 use lines::Lines;
-use std::alloc::{AllocError, Global};
 use std::process::ExitCode;
 use std::{env, fs, io};
 use table::add_table;
 
-/// What is answered to the bytes of a file.
-fn answer(alloc: Global, kind: &str, bytes: &[u8]) -> Result<String, AllocError> {
-    let mut out = Lines::new(alloc);
-    if kind == "cases" {
-        add_table(&mut out, alloc, bytes);
-    } else {
-        add_answer(&mut out, alloc, kind, bytes);
-    }
-    out.finish()
-}
-
 /// Writes what is answered to a file.
 fn show(rt: &HostRuntime, kind: &str, file: &str) -> io::Result<()> {
     let bytes = fs::read(rt, file)?;
-    let lines = answer(rt.alloc(), kind, bytes.as_slice())?;
-    print!(rt; "file {file}\n{lines}")
+    let mut out = Lines::new(rt.alloc());
+    out.add("file ");
+    out.line(file);
+    if kind == "cases" {
+        add_table(&mut out, rt.alloc(), bytes.as_slice());
+    } else {
+        add_answer(&mut out, rt.alloc(), kind, bytes.as_slice());
+    }
+    let lines = out.finish()?;
+    print!(rt; "{lines}")
 }
 
 /// Writes what the words of the command line ask for, and tells whether they ask for something.

@@ -1,133 +1,88 @@
-//! What answers name of the packages of a workspace, without their trees.
-use go_block_core::{Blocks, workspace_blocks};
-use go_graph_core::{KFault, PackageSource, Plan, SourceFile, Workspace, assemble, plan_imports};
-use go_tree_nodes::{ImportDecl, ImportSpecs};
+//! The packages of a workspace as answers name them, and what each is.
+use crate::lines::Lines;
+use go_graph_core::{PackageSource, Workspace, assemble};
 use std::alloc::{AllocError, Global};
 
-/// A file.
+/// The path of a package and the names of its files.
 #[derive(Drop)]
-pub struct NamedFile {
-    pub name: String,
-    /// The offsets of the strings of its imports, in order.
-    pub imports: Vec<usize>,
-}
-
-/// A package.
-#[derive(Drop)]
-pub struct NamedPackage {
+pub struct Named {
     pub path: String,
-    /// Its name, or why its files are no package.
-    pub name: Result<String, KFault>,
-    pub files: Vec<NamedFile>,
+    pub files: Vec<String>,
 }
 
-/// The packages of a workspace, what their imports come to, and their blocks.
-#[derive(Drop)]
-pub struct Packages {
-    pub named: Vec<NamedPackage>,
-    pub plan: Plan,
-    pub blocks: Vec<Option<Blocks>>,
-}
-
-/// Adds the offsets of the strings of one declaration's imports.
-fn add_offsets(offsets: &mut Vec<usize>, specs: &ImportSpecs) -> Result<(), AllocError> {
-    match specs {
-        ImportSpecs::One(spec) => offsets.push(spec.path.span.start)?,
-        ImportSpecs::Group(_, lines, _) => {
-            for line in lines {
-                offsets.push(line.spec.path.span.start)?;
-            }
+impl Named {
+    /// The name of the file of a number, and nothing where there is none.
+    pub fn file(&self, number: usize) -> &str {
+        match self.files.get(number) {
+            Some(name) => name.as_str(),
+            None => "",
         }
     }
-    Ok(())
 }
 
-/// The offsets of the strings of imports, in order.
-fn import_offsets(alloc: Global, imports: &[ImportDecl]) -> Result<Vec<usize>, AllocError> {
-    let mut offsets = Vec::new(alloc);
-    for decl in imports {
-        add_offsets(&mut offsets, &decl.specs)?;
-    }
-    Ok(offsets)
-}
-
-/// Adds a file.
-fn add_file(
-    files: &mut Vec<NamedFile>,
-    alloc: Global,
-    source: &SourceFile,
-) -> Result<(), AllocError> {
-    let imports = match source.tree() {
-        Ok(tree) => import_offsets(alloc, tree.imports.as_slice())?,
-        Err(_) => Vec::new(alloc),
-    };
-    let name = String::from_str(alloc, source.name())?;
-    files.push(NamedFile { name, imports })?;
-    Ok(())
-}
-
-/// Files, as far as answers name them.
-fn named_files(alloc: Global, sources: &[SourceFile]) -> Result<Vec<NamedFile>, AllocError> {
+/// The names of a package.
+fn name_package(alloc: Global, source: &PackageSource) -> Result<Named, AllocError> {
     let mut files = Vec::new(alloc);
-    for source in sources {
-        add_file(&mut files, alloc, source)?;
+    for file in source.files() {
+        files.push(String::from_str(alloc, file.name())?)?;
     }
-    Ok(files)
-}
-
-/// The name of a package, or why its files are no package.
-fn package_name(
-    alloc: Global,
-    source: &PackageSource,
-) -> Result<Result<String, KFault>, AllocError> {
-    match assemble(source.files()) {
-        Ok(assembled) => String::from_str(alloc, assembled.name()).map(Ok),
-        Err(fault) => Ok(Err(fault)),
-    }
-}
-
-/// Adds a package.
-fn add_package(
-    packages: &mut Vec<NamedPackage>,
-    alloc: Global,
-    source: &PackageSource,
-) -> Result<(), AllocError> {
-    let name = package_name(alloc, source)?;
     let path = String::from_str(alloc, source.path().as_str())?;
-    let files = named_files(alloc, source.files())?;
-    packages.push(NamedPackage { path, name, files })?;
-    Ok(())
+    Ok(Named { path, files })
 }
 
-/// The packages of a workspace, as far as answers name them.
-fn named_packages(
-    alloc: Global,
-    sources: &[PackageSource],
-) -> Result<Vec<NamedPackage>, AllocError> {
+/// The names of the packages of a workspace, in order.
+pub fn name_packages(alloc: Global, workspace: &Workspace) -> Result<Vec<Named>, AllocError> {
     let mut packages = Vec::new(alloc);
-    for source in sources {
-        add_package(&mut packages, alloc, source)?;
+    for source in workspace.packages() {
+        packages.push(name_package(alloc, source)?)?;
     }
     Ok(packages)
 }
 
-/// The packages of a workspace.
-pub fn packages_of(alloc: Global, workspace: &Workspace) -> Result<Packages, AllocError> {
-    let plan = plan_imports(alloc, workspace)?;
-    let blocks = workspace_blocks(alloc, workspace, &plan)?;
-    let named = named_packages(alloc, workspace.packages())?;
-    Ok(Packages {
-        named,
-        plan,
-        blocks,
-    })
+/// Adds a package: its path and its name, or why its files are no package.
+pub fn add_package(out: &mut Lines, source: &PackageSource) {
+    out.add("package ");
+    out.word(source.path().as_str());
+    match assemble(source.files()) {
+        Ok(package) => out.line(package.name()),
+        Err(fault) => {
+            out.word(fault.rule.number());
+            if let Some(file) = source.files().get(fault.file) {
+                out.add(file.name());
+            }
+            out.add(":");
+            out.end(fault.offset);
+        }
+    }
 }
 
-/// How many files each package of a workspace has.
-pub fn file_counts(alloc: Global, workspace: &Workspace) -> Result<Vec<usize>, AllocError> {
-    let mut counts = Vec::new(alloc);
+/// Adds how many packages, files and trees a workspace has.
+pub fn add_counts(out: &mut Lines, workspace: &Workspace) {
+    let (mut files, mut trees) = (0usize, 0usize);
     for source in workspace.packages() {
-        counts.push(source.files().len())?;
+        for file in source.files() {
+            files = files.saturating_add(1);
+            trees = trees.saturating_add(usize::from(file.tree().is_ok()));
+        }
     }
-    Ok(counts)
+    out.count("packages ", workspace.packages().len());
+    out.count(" files ", files);
+    out.count(" trees ", trees);
+    out.line("");
+}
+
+/// Adds the files of a workspace: of each its path and name, whether it has a tree or which rule it breaks, and its text.
+pub fn add_files(out: &mut Lines, workspace: &Workspace) {
+    for source in workspace.packages() {
+        for file in source.files() {
+            out.add(source.path().as_str());
+            out.add("/");
+            out.word(file.name());
+            match file.tree() {
+                Ok(_) => out.add("tree "),
+                Err(fault) => out.word(fault.rule.number()),
+            }
+            out.quote(file.text().as_bytes());
+        }
+    }
 }

@@ -1,5 +1,6 @@
 //! What the imports of a workspace come to.
 use crate::lines::Lines;
+use crate::packages::Named;
 use go_graph_core::{ImportAt, ImportOutcome, Plan};
 use go_text_core::Rule;
 use std::alloc::{AllocError, Global};
@@ -28,16 +29,16 @@ fn add_outcomes(
     Ok(())
 }
 
-/// What the imports of packages with so many files come to, in order of path, file and place.
+/// What the imports of packages come to, in order of path, file and place.
 fn outcomes(
     alloc: Global,
-    counts: &[usize],
+    packages: &[Named],
     plan: &Plan,
 ) -> Result<Vec<ImportOutcome>, AllocError> {
     let mut outcomes = Vec::new(alloc);
-    for (package, count) in counts.iter().enumerate() {
-        for file in 0..*count {
-            add_outcomes(&mut outcomes, plan, package, file)?;
+    for (number, package) in packages.iter().enumerate() {
+        for file in 0..package.files.len() {
+            add_outcomes(&mut outcomes, plan, number, file)?;
         }
     }
     Ok(outcomes)
@@ -54,55 +55,32 @@ fn refused(outcomes: &[ImportOutcome], rule: Rule) -> usize {
     count
 }
 
-/// How many imports come to a package.
-fn passing(outcomes: &[ImportOutcome]) -> usize {
-    let mut count = 0usize;
-    for outcome in outcomes {
-        if let ImportOutcome::Package(_) = outcome {
-            count = count.saturating_add(1);
-        }
+/// Adds how many imports come to a package, and how many each rule refuses that refuses any.
+fn add_counts(out: &mut Lines, outcomes: &[ImportOutcome]) {
+    let mut passing = outcomes.len();
+    for rule in &IMPORT_RULES {
+        passing = passing.saturating_sub(refused(outcomes, *rule));
     }
-    count
-}
-
-/// Adds how many imports there are, how many come to a package, and how many each rule refuses that refuses any.
-fn add_imports(out: &mut Lines, outcomes: &[ImportOutcome]) {
-    out.add_count(" imports ", outcomes.len());
-    out.add_count(" passing ", passing(outcomes));
-    for rule in IMPORT_RULES {
-        let count = refused(outcomes, rule);
+    out.count(" passing ", passing);
+    for rule in &IMPORT_RULES {
+        let count = refused(outcomes, *rule);
         if count > 0 {
-            out.add_char(' ');
-            out.add_rule(rule);
-            out.add_count(" ", count);
+            out.add(" ");
+            out.word(rule.number());
+            out.show(count);
         }
     }
 }
 
 /// Adds how many packages and imports there are, how many imports come to a package, how many each rule refuses
-/// that refuses any, and how many packages are in the order. The packages have so many files.
-pub fn add_plan(out: &mut Lines, alloc: Global, counts: &[usize], plan: &Plan) {
-    out.add_count("packages ", counts.len());
-    match outcomes(alloc, counts, plan) {
-        Ok(outcomes) => add_imports(out, outcomes.as_slice()),
-        Err(_) => out.cut(),
-    }
-    out.add_count(" order ", plan.order().len());
-    out.end();
-}
-
-/// The sum of numbers.
-fn sum(numbers: &[usize]) -> usize {
-    let mut sum = 0usize;
-    for number in numbers {
-        sum = sum.saturating_add(*number);
-    }
-    sum
-}
-
-/// Adds how many packages and files there are, where the packages have so many files.
-pub fn add_sources(out: &mut Lines, counts: &[usize]) {
-    out.add_count("packages ", counts.len());
-    out.add_count(" files ", sum(counts));
-    out.end();
+/// that refuses any, and how many packages are in the order.
+pub fn add_plan(out: &mut Lines, alloc: Global, packages: &[Named], plan: &Plan) {
+    let Ok(outcomes) = outcomes(alloc, packages, plan) else {
+        return out.cut();
+    };
+    out.count("packages ", packages.len());
+    out.count(" imports ", outcomes.len());
+    add_counts(out, outcomes.as_slice());
+    out.count(" order ", plan.order().len());
+    out.line("");
 }

@@ -1,51 +1,42 @@
 //! What names denote in the files of a workspace.
 ghost use Rattle.std.specs.Prelude.{◌<◌, length};
 
-use crate::archive::queries;
+use crate::archive::member_place;
 use crate::blocks::{Place, add_decl, add_target};
 use crate::lines::Lines;
-use crate::packages::{NamedPackage, Packages};
+use crate::packages::Named;
 use crate::paths::pair;
+use go_block_core::Blocks;
 use go_scope_core::{DeclId, InScope, Scopes};
 use go_text_core::Rule;
 use std::alloc::{AllocError, Global};
 
-/// Adds what a name denotes in a file.
-fn add_denoted(out: &mut Lines, place: Place<'_>, denoted: Option<InScope>) {
-    match denoted {
-        None => out.add_line("nothing"),
+/// Adds a name, and what it denotes in a file.
+fn add_found(out: &mut Lines, place: Place<'_>, scopes: &Scopes<'_>, name: &str) {
+    out.word(name);
+    match scopes.find(name) {
+        None => out.line("nothing"),
         Some(InScope::Local(id)) => {
-            out.add_count("local ", id.0);
-            out.end();
+            out.add("local ");
+            out.end(id.0);
         }
         Some(InScope::Package(decl)) => add_decl(out, place.package, decl),
         Some(InScope::File(binding)) => add_target(out, place.packages, binding.target),
     }
 }
 
-/// Adds the names that denote something in a file.
-fn add_names(out: &mut Lines, alloc: Global, scopes: &Scopes<'_>) {
-    let Ok(names) = scopes.names(alloc) else {
-        return out.cut();
-    };
-    out.add("names");
-    for name in &names {
-        out.add_char(' ');
-        out.add(name);
+/// The names of a list, with a number for each.
+fn numbered<'a>(
+    alloc: Global,
+    list: &'a str,
+    mut number: usize,
+) -> Result<Vec<(&'a str, DeclId)>, AllocError> {
+    let mut names = Vec::new(alloc);
+    for name in list.split(',') {
+        names.push((name, DeclId(number)))?;
+        number = number.saturating_add(1);
     }
-    out.end();
-}
-
-/// Adds a name, and what it denotes.
-fn add_found(out: &mut Lines, place: Place<'_>, scopes: &Scopes<'_>, name: &str) {
-    out.add_word(name);
-    add_denoted(out, place, scopes.find(name));
-}
-
-/// Adds the rule that refuses a declaration.
-fn add_refused(out: &mut Lines, rule: Rule) {
-    out.add_char(' ');
-    out.refuse(rule);
+    Ok(names)
 }
 
 /// Adds which of the names of a short declaration are new.
@@ -53,20 +44,7 @@ fn add_news(out: &mut Lines, news: &[bool]) {
     for is_new in news {
         out.add(if *is_new { " new" } else { " old" });
     }
-    out.end();
-}
-
-/// The names of a list, with a number for each.
-fn numbered<'a>(
-    alloc: Global,
-    list: &'a str,
-    number: usize,
-) -> Result<Vec<(&'a str, DeclId)>, AllocError> {
-    let mut names = Vec::new(alloc);
-    for (i, name) in list.split(',').enumerate() {
-        names.push((name, DeclId(number.saturating_add(i))))?;
-    }
-    Ok(names)
+    out.line("");
 }
 
 /// Declares the names of a list by a short declaration, and adds which are new.
@@ -79,7 +57,10 @@ fn add_short(out: &mut Lines, alloc: Global, scopes: &mut Scopes<'_>, list: &str
     };
     match scopes.declare_short(names.as_slice()) {
         Ok(news) => add_news(out, news.as_slice()),
-        Err(rule) => add_refused(out, rule),
+        Err(rule) => {
+            out.add(" ");
+            out.refuse(rule);
+        }
     }
 }
 
@@ -88,12 +69,10 @@ fn add_declared(out: &mut Lines, scopes: &mut Scopes<'_>, name: &str, number: us
     requires { 0 < length scopes.old.open_blocks }
     ensures { 0 < length scopes.new.open_blocks }
 {
+    out.add(" ");
     match scopes.declare(name, DeclId(number)) {
-        Ok(()) => {
-            out.add_count(" ", number);
-            out.end();
-        }
-        Err(rule) => add_refused(out, rule),
+        Ok(()) => out.end(number),
+        Err(rule) => out.refuse(rule),
     }
 }
 
@@ -112,18 +91,15 @@ fn add_block(out: &mut Lines, alloc: Global, scopes: &mut Scopes<'_>, words: &st
     }
 }
 
-/// Adds the names that denote something in a block, and what each denotes there and outside of the block.
+/// Adds what names denote in a block, and outside of it.
 fn add_both(
     out: &mut Lines,
-    alloc: Global,
     place: Place<'_>,
     inside: &Scopes<'_>,
     outside: &Scopes<'_>,
+    names: &[&str],
 ) {
-    let Ok(names) = inside.names(alloc) else {
-        return out.cut();
-    };
-    for name in &names {
+    for name in names {
         add_found(out, place, inside, name);
         add_found(out, place, outside, name);
     }
@@ -131,7 +107,7 @@ fn add_both(
 
 /// Opens a block and another inside it, declares what the words before and behind `{` say, and adds what the names
 /// denote in a copy of the blocks and when the inner one is left.
-fn add_blocks(
+fn add_inner(
     out: &mut Lines,
     alloc: Global,
     place: Place<'_>,
@@ -145,7 +121,20 @@ fn add_blocks(
     add_block(out, alloc, scopes, inner, 100);
     let inside = scopes.copy(alloc)?;
     scopes.leave();
-    add_both(out, alloc, place, &inside, scopes);
+    let names = inside.names(alloc)?;
+    add_both(out, place, &inside, scopes, names.as_slice());
+    Ok(())
+}
+
+/// Adds the names that denote something in a file.
+fn add_names(out: &mut Lines, alloc: Global, scopes: &Scopes<'_>) -> Result<(), Rule> {
+    let names = scopes.names(alloc)?;
+    out.add("names");
+    for name in &names {
+        out.add(" ");
+        out.add(name);
+    }
+    out.line("");
     Ok(())
 }
 
@@ -158,80 +147,71 @@ fn add_asked(
     mut scopes: Scopes<'_>,
     asked: &str,
 ) {
-    if asked.is_empty() {
-        return add_names(out, alloc, &scopes);
-    }
-    let Some(words) = asked.strip_prefix('{') else {
-        return add_found(out, place, &scopes, asked);
+    let done = if asked.is_empty() {
+        add_names(out, alloc, &scopes)
+    } else if let Some(words) = asked.strip_prefix('{') {
+        add_inner(out, alloc, place, &mut scopes, words)
+    } else {
+        add_found(out, place, &scopes, asked);
+        Ok(())
     };
-    if add_blocks(out, alloc, place, &mut scopes, words).is_err() {
+    if done.is_err() {
         out.cut();
-    }
-}
-
-/// The number of the file of a name in a package.
-fn file_number(package: &NamedPackage, name: &str) -> Option<usize> {
-    for (number, file) in package.files.iter().enumerate() {
-        if file.name.as_str() == name {
-            return Some(number);
-        }
-    }
-    None
-}
-
-/// The number of the package of a path.
-fn package_number(packages: &[NamedPackage], path: &str) -> Option<usize> {
-    for (number, package) in packages.iter().enumerate() {
-        if package.path.as_str() == path {
-            return Some(number);
-        }
-    }
-    None
-}
-
-/// The package of a path, and its blocks, if it has them.
-fn place_of<'a>(packages: &'a Packages, path: &str) -> Option<Place<'a>> {
-    let number = package_number(packages.named.as_slice(), path)?;
-    match (packages.named.get(number), packages.blocks.get(number)) {
-        (Some(package), Some(Some(blocks))) => Some(Place {
-            packages: packages.named.as_slice(),
-            package,
-            blocks,
-        }),
-        _ => None,
     }
 }
 
 /// Adds the answer to what is asked of a file of a package.
 fn add_in_package(out: &mut Lines, alloc: Global, place: Place<'_>, file: &str, asked: &str) {
-    match file_number(place.package, file) {
-        Some(file) => {
-            let scopes = Scopes::begin(alloc, place.blocks, file);
-            add_asked(out, alloc, place, scopes, asked);
+    for (number, name) in place.package.files.iter().enumerate() {
+        if name.as_str() == file {
+            let scopes = Scopes::begin(alloc, place.blocks, number);
+            return add_asked(out, alloc, place, scopes, asked);
         }
-        None => out.add_line("no file"),
     }
+    out.line("no file");
 }
 
 /// Adds the answer to a query: a file of a package, written as its path and its name, and behind a blank what is
 /// asked of it.
-fn add_query(out: &mut Lines, alloc: Global, packages: &Packages, query: &str) {
+fn add_query(
+    out: &mut Lines,
+    alloc: Global,
+    packages: &[Named],
+    all: &[Option<Blocks>],
+    query: &str,
+) {
     let (place, asked) = pair(query);
-    out.add_word(place);
+    out.word(place);
     let (path, file) = place.rsplit_once('/').unwrap_or(("", place));
-    match place_of(packages, path) {
-        Some(place) => add_in_package(out, alloc, place, file, asked),
-        None => out.add_line("no package"),
+    for (package, blocks) in packages.iter().zip(all) {
+        if let (true, Some(blocks)) = (package.path.as_str() == path, blocks) {
+            let place = Place {
+                packages,
+                package,
+                blocks,
+            };
+            return add_in_package(out, alloc, place, file, asked);
+        }
     }
+    out.line("no package");
 }
 
 /// Adds the answers to the queries of an archive with its packages. The queries stand before its first file, a line
 /// each.
-pub fn add_scope(out: &mut Lines, alloc: Global, packages: &Packages, text: &str) {
-    let Ok(queries) = queries(alloc, text) else {
-        return out.cut();
-    };
-    for query in &queries {
-        add_query(out, alloc, packages, query);
+pub fn add_scope(
+    out: &mut Lines,
+    alloc: Global,
+    packages: &[Named],
+    all: &[Option<Blocks>],
+    text: &str,
+) {
+    for line in text.lines() {
+        if member_place(line).is_some() {
+            return;
+        }
+        let query = line.trim();
+        if !query.is_empty() {
+            add_query(out, alloc, packages, all, query);
+        }
     }
 }

@@ -1,7 +1,6 @@
-//! Workspaces of a shape, of any number of packages.
-use crate::archive::Archive;
+//! Archives of packages in a shape, of any number of packages.
+use crate::lines::Lines;
 use std::alloc::{AllocError, Global};
-use std::fmt::Write;
 use std::ops::Range;
 
 /// Which of the packages, in a row, each imports.
@@ -28,34 +27,19 @@ impl Shape {
     }
 }
 
-/// The text of the package of a number.
-fn text_of(alloc: Global, shape: Shape, count: usize, number: usize) -> Result<String, AllocError> {
-    let mut text = format!(in alloc; "package p{number}\n")?;
-    for other in shape.imported(count, number) {
-        if other != number || matches!(shape, Shape::Ring) {
-            writeln!(text, "import \"ex.com/p{other}\"")?;
+/// The archive of so many packages that import one another in a shape, one file each.
+pub fn shaped(alloc: Global, shape: Shape, count: usize) -> Result<String, AllocError> {
+    let mut archive = Lines::new(alloc);
+    for number in 0..count {
+        archive.count("-- ex.com/p", number);
+        archive.count("/a.go --\npackage p", number);
+        archive.line("");
+        for other in shape.imported(count, number) {
+            if other != number || matches!(shape, Shape::Ring) {
+                archive.count("import \"ex.com/p", other);
+                archive.line("\"");
+            }
         }
     }
-    Ok(text)
-}
-
-/// Adds the package of a number.
-fn add_package(
-    archive: &mut Archive,
-    alloc: Global,
-    number: usize,
-    text: String,
-) -> Result<(), AllocError> {
-    let path = format!(in alloc; "ex.com/p{number}")?;
-    archive.add(alloc, path, "a.go", text)
-}
-
-/// The files of so many packages that import one another in a shape, one file each.
-pub fn shaped(alloc: Global, shape: Shape, count: usize) -> Result<Archive, AllocError> {
-    let mut archive = Archive::new(alloc);
-    for number in 0..count {
-        let text = text_of(alloc, shape, count, number)?;
-        add_package(&mut archive, alloc, number, text)?;
-    }
-    Ok(archive)
+    archive.finish()
 }

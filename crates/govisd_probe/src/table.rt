@@ -16,31 +16,17 @@ struct Case<'a> {
 }
 
 impl<'a> Case<'a> {
-    /// Takes the kind, or the name behind it.
-    fn take_word(&mut self, word: &'a str) {
-        if self.kind.is_empty() {
-            self.kind = word;
-        } else {
-            self.name = word;
-        }
-    }
-
-    /// Takes a piece of the text, as often as was said.
-    fn take_piece(&mut self, out: &mut Lines, piece: &[u8]) {
+    /// Takes the piece of the text that a literal stands for, as often as was said.
+    fn take_literal(&mut self, out: &mut Lines, alloc: Global, literal: &str) {
+        let Ok(piece) = string_value(alloc, literal) else {
+            return out.cut();
+        };
         for _turn in 0..self.times {
-            if self.bytes.extend_from_slice(piece).is_err() {
+            if self.bytes.extend_from_slice(piece.as_slice()).is_err() {
                 out.cut();
             }
         }
         self.times = 1;
-    }
-
-    /// Takes the piece of the text that a literal stands for.
-    fn take_literal(&mut self, out: &mut Lines, alloc: Global, literal: &str) {
-        match string_value(alloc, literal) {
-            Ok(piece) => self.take_piece(out, piece.as_slice()),
-            Err(_) => out.cut(),
-        }
     }
 
     /// Adds the answer to the text, with commas between its lines, and begins the next text.
@@ -48,49 +34,37 @@ impl<'a> Case<'a> {
         let mut lines = Lines::new(alloc);
         add_answer(&mut lines, alloc, self.kind, self.bytes.as_slice());
         self.bytes.clear();
-        match lines.finish() {
-            Ok(lines) => add_in_line(out, lines.as_str()),
-            Err(_) => out.cut(),
-        }
-    }
-
-    /// Takes a mark.
-    fn take_mark(&mut self, out: &mut Lines, alloc: Global, mark: Operator) {
-        match mark {
-            Operator::Colon => {
-                out.add(self.name);
-                out.add_char(':');
-            }
-            Operator::Comma => {
-                self.answer(out, alloc);
-                out.add(" |");
-            }
-            Operator::Semicolon => {
-                self.answer(out, alloc);
-                out.end();
-                self.kind = "";
-            }
-            _ => {}
+        let Ok(lines) = lines.finish() else {
+            return out.cut();
+        };
+        for (i, line) in lines.as_str().lines().enumerate() {
+            out.add(if i == 0 { " " } else { ", " });
+            out.add(line);
         }
     }
 
     /// Takes a token.
     fn take(&mut self, out: &mut Lines, alloc: Global, kind: TokenKind, spelled: &'a str) {
         match kind {
-            TokenKind::Identifier => self.take_word(spelled),
+            TokenKind::Identifier if self.kind.is_empty() => self.kind = spelled,
+            TokenKind::Identifier => self.name = spelled,
             TokenKind::Integer => self.times = integer_value(spelled).unwrap_or(1),
             TokenKind::String => self.take_literal(out, alloc, spelled),
-            TokenKind::Operator(mark) => self.take_mark(out, alloc, mark),
-            TokenKind::Keyword(_) => {}
+            TokenKind::Operator(Operator::Colon) => {
+                out.add(self.name);
+                out.add(":");
+            }
+            TokenKind::Operator(Operator::Comma) => {
+                self.answer(out, alloc);
+                out.add(" |");
+            }
+            TokenKind::Operator(Operator::Semicolon) => {
+                self.answer(out, alloc);
+                out.line("");
+                self.kind = "";
+            }
+            TokenKind::Operator(_) | TokenKind::Keyword(_) => {}
         }
-    }
-}
-
-/// Adds lines as one, with commas between them.
-fn add_in_line(out: &mut Lines, lines: &str) {
-    for (i, line) in lines.lines().enumerate() {
-        out.add(if i == 0 { " " } else { ", " });
-        out.add(line);
     }
 }
 
@@ -114,10 +88,10 @@ fn add_cases(out: &mut Lines, alloc: Global, table: &str, tokens: &[Token]) {
 /// other, and `3*"a"` stands for `"aaa"`. The line of its answers has the name, and ` | ` between two answers.
 pub fn add_table(out: &mut Lines, alloc: Global, bytes: &[u8]) {
     let Ok(table) = str::from_utf8(bytes) else {
-        return out.add_line("no text");
+        return out.line("no text");
     };
     match scan(alloc, table) {
         Ok(tokens) => add_cases(out, alloc, table, tokens.as_slice()),
-        Err(_) => out.add_line("no table"),
+        Err(_) => out.line("no table"),
     }
 }

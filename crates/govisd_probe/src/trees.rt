@@ -1,11 +1,22 @@
 //! What is answered of trees.
 use crate::lines::Lines;
-use crate::tokens::{add_fault, add_made_comments, add_quoted, add_span};
+use crate::tokens::{add_comments, add_fault};
 use go_parse_core::{ParseError, Parsed, parse};
-use go_text_core::Span;
 use go_tree_core::{Occ, at, close, copy, occurrences};
 use go_tree_nodes::{Decl, File};
-use std::alloc::{AllocError, Global};
+use std::alloc::Global;
+
+/// The kinds of what is asked of a tree, with what stands before and behind a text in its file.
+const AROUND: [(&str, &str, &str); 8] = [
+    ("parse", "", ""),
+    ("uses", "", ""),
+    ("places", "", ""),
+    ("copies", "", ""),
+    ("decl", "package a\n", "\n"),
+    ("stmt", "package a\nfunc f() { ", " }\n"),
+    ("expr", "package a\nvar x = ", "\n"),
+    ("typed", "package a\nvar x ", "\n"),
+];
 
 /// Adds why a text has no tree.
 fn add_error(out: &mut Lines, error: ParseError) {
@@ -15,171 +26,143 @@ fn add_error(out: &mut Lines, error: ParseError) {
     }
 }
 
-/// Why a text has no tree, if it has none.
-fn parse_error(alloc: Global, text: String) -> Option<ParseError> {
-    match parse(alloc, text) {
-        Ok(parsed) => {
-            parsed.close();
-            None
-        }
-        Err(error) => Some(error),
-    }
-}
-
-/// Why a text between two others has no tree, if it has none.
-fn tree_error(alloc: Global, around: (&str, &str), text: &str) -> Option<ParseError> {
-    let (before, behind) = around;
-    match format!(in alloc; "{before}{text}{behind}") {
-        Ok(file) => parse_error(alloc, file),
-        Err(_) => Some(ParseError::Memory),
-    }
-}
-
-/// Adds that a file has a tree in which a text stands between others.
-pub fn add_tree(out: &mut Lines, alloc: Global, around: (&str, &str), text: &str) {
-    match tree_error(alloc, around, text) {
-        None => out.add_line("tree"),
-        Some(error) => add_error(out, error),
-    }
-}
-
 /// Adds occurrences: of each its start, its end, its role and its spelling.
-fn add_occurrences(out: &mut Lines, occs: &[Occ]) {
+fn add_uses(out: &mut Lines, occs: &[Occ]) {
     for occ in occs {
-        add_span(out, occ.span);
-        out.add_role(occ.role);
-        add_quoted(out, occ.spelling.as_bytes());
+        out.span(occ.span.start, occ.span.end);
+        out.name(occ.role);
+        out.add(" ");
+        out.quote(occ.spelling.as_str().as_bytes());
     }
-}
-
-/// Adds occurrences, if memory lasted for them.
-fn add_uses(out: &mut Lines, occs: Result<Vec<Occ>, AllocError>) {
-    match occs {
-        Ok(occs) => add_occurrences(out, occs.as_slice()),
-        Err(_) => out.cut(),
-    }
-}
-
-/// Adds an offset and the number of the occurrence there.
-fn add_place(out: &mut Lines, offset: usize, number: usize) {
-    out.add_number(offset);
-    out.add_count(" ", number);
-    out.end();
 }
 
 /// Adds for each byte of an occurrence its offset and the number of the occurrence.
 fn add_places(out: &mut Lines, parsed: &Parsed) {
     for offset in 0..parsed.text().len() {
         if let Some(id) = at(parsed.tree(), offset) {
-            add_place(out, offset, id.0);
+            out.show(offset);
+            out.add(" ");
+            out.end(id.0);
         }
     }
 }
 
-/// Adds the name of a function, the place of its opening brace and how many statements it has.
-fn add_func(out: &mut Lines, name: &str, brace: Span, statements: usize) {
-    out.add_word(name);
-    add_span(out, brace);
-    out.add_number(statements);
-    out.end();
-}
-
-/// Adds the name of a file and its functions.
+/// Adds the name of a file and the number of its declarations, and of each function its name, the place of its opening brace and
+/// how many statements it has.
 fn add_file(out: &mut Lines, file: &File) {
-    out.add_word(file.name.name.as_str());
-    out.add_number(file.decls.len());
-    out.end();
+    out.word(file.name.name.as_str());
+    out.end(file.decls.len());
     for top in &file.decls {
         if let Decl::Func(func) = &top.decl {
-            add_func(
-                out,
-                func.name.name.as_str(),
-                func.open_brace,
-                func.body.len(),
-            );
+            out.word(func.name.name.as_str());
+            out.span(func.open_brace.start, func.open_brace.end);
+            out.end(func.body.len());
         }
-    }
-}
-
-/// Adds a copy of a tree.
-fn add_copied(out: &mut Lines, alloc: Global, file: &File) {
-    match copy(alloc, file) {
-        Ok(copied) => {
-            add_file(out, &copied);
-            close(copied);
-        }
-        Err(_) => out.cut(),
     }
 }
 
 /// Adds the tree of a parsed text, and then a copy of it: its text, its comments, and a copy of its tree.
 fn add_copies(out: &mut Lines, alloc: Global, parsed: &Parsed) {
     add_file(out, parsed.tree());
-    match parsed.copy(alloc) {
-        Ok(copied) => {
-            add_quoted(out, copied.text().as_bytes());
-            add_made_comments(out, copied.comments(alloc));
-            add_copied(out, alloc, copied.tree());
-            copied.close();
+    let Ok(copied) = parsed.copy(alloc) else {
+        return out.cut();
+    };
+    out.quote(copied.text().as_bytes());
+    match copied.comments(alloc) {
+        Ok(comments) => add_comments(out, comments.as_slice()),
+        Err(_) => out.cut(),
+    }
+    match copy(alloc, copied.tree()) {
+        Ok(tree) => {
+            add_file(out, &tree);
+            close(tree);
         }
         Err(_) => out.cut(),
     }
-}
-
-/// What is asked of the tree of a text.
-#[derive(Clone, Copy)]
-pub enum Asked {
-    Uses,
-    Places,
-    Copies,
+    copied.close();
 }
 
 /// Adds what is asked of the tree of a text.
-fn add_asked(out: &mut Lines, alloc: Global, asked: Asked, parsed: &Parsed) {
-    match asked {
-        Asked::Uses => add_uses(out, occurrences(alloc, parsed.tree())),
-        Asked::Places => add_places(out, parsed),
-        Asked::Copies => add_copies(out, alloc, parsed),
+fn add_asked(out: &mut Lines, alloc: Global, kind: &str, parsed: &Parsed) {
+    match kind {
+        "uses" => match occurrences(alloc, parsed.tree()) {
+            Ok(occs) => add_uses(out, occs.as_slice()),
+            Err(_) => out.cut(),
+        },
+        "places" => add_places(out, parsed),
+        "copies" => add_copies(out, alloc, parsed),
+        _ => out.line("tree"),
     }
 }
 
-/// Adds what is asked of the tree of a text.
-pub fn add_of_tree(out: &mut Lines, alloc: Global, asked: Asked, text: &str) {
-    let Ok(text) = String::from_str(alloc, text) else {
-        return out.cut();
-    };
+/// Adds what is asked of the tree of a text, and tells whether it has one.
+fn add_of_tree(out: &mut Lines, alloc: Global, kind: &str, text: String) -> bool {
     match parse(alloc, text) {
         Ok(parsed) => {
-            add_asked(out, alloc, asked, &parsed);
+            add_asked(out, alloc, kind, &parsed);
             parsed.close();
+            true
         }
-        Err(error) => add_error(out, error),
+        Err(error) => {
+            add_error(out, error);
+            false
+        }
     }
 }
 
-/// Whether a text has a tree.
-fn has_tree(out: &mut Lines, alloc: Global, text: &str) -> bool {
-    match tree_error(alloc, ("", ""), text) {
-        None => true,
-        Some(ParseError::Fault(_)) => false,
-        Some(ParseError::Memory) => {
-            out.cut();
+/// Whether a text has a tree, which is said too.
+fn has_tree(said: &mut Lines, alloc: Global, text: &str) -> bool {
+    match String::from_str(alloc, text) {
+        Ok(text) => add_of_tree(said, alloc, "parse", text),
+        Err(_) => {
+            said.cut();
             false
         }
     }
 }
 
 /// Adds how many of a text's beginnings have a tree, nothing and the whole text among them.
-pub fn add_prefixes(out: &mut Lines, alloc: Global, text: &str) {
+fn add_prefixes(out: &mut Lines, alloc: Global, text: &str) {
     let mut count = 0usize;
+    let mut said = Lines::new(alloc);
     for end in 0..=text.len() {
         // Inside a character there is no prefix.
         if let Some(prefix) = text.get(..end) {
-            if has_tree(out, alloc, prefix) {
+            if has_tree(&mut said, alloc, prefix) {
                 count = count.saturating_add(1);
             }
         }
     }
-    out.add_number(count);
-    out.end();
+    if said.finish().is_err() {
+        out.cut();
+    }
+    out.end(count);
+}
+
+/// What stands before and behind a text of this kind in its file.
+fn around(kind: &str) -> Option<(&'static str, &'static str)> {
+    for (name, before, behind) in &AROUND {
+        if *name == kind {
+            return Some((before, behind));
+        }
+    }
+    None
+}
+
+/// Adds the answer of this kind, and tells whether there is such a kind here.
+pub fn add_answer(out: &mut Lines, alloc: Global, kind: &str, text: &str) -> bool {
+    if kind == "prefixes" {
+        add_prefixes(out, alloc, text);
+        return true;
+    }
+    let Some((before, behind)) = around(kind) else {
+        return false;
+    };
+    match format!(in alloc; "{before}{text}{behind}") {
+        Ok(file) => {
+            add_of_tree(out, alloc, kind, file);
+        }
+        Err(_) => out.cut(),
+    }
+    true
 }

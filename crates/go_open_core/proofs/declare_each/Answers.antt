@@ -1,8 +1,6 @@
-use Rattle.std.proofs.Common.{[], inl, inr, refl, sym, ap, ◌∙◌, take}
-use Rattle.std.proofs.lemmas.List.{take_all}
-use Rattle.std.specs.List.{list_any}
-use Rattle.go_open_core.specs.Blocks.{block_of, block_after, news_of, named}
-use Rattle.go_open_core.proofs.Tables.{block_step, news_step, undone, on_ok_at, on_err_at, block_after-none}
+use Rattle.std.proofs.Common.{[], inl, refl, sym, ◌∙◌, take}
+use Rattle.go_open_core.specs.Blocks.{block_of, named}
+use Rattle.go_open_core.proofs.Tables.{block_step, news_step, undone, on_ok_at, on_err_at}
 use Rattle.go_open_core.proofs.declare_each.Goals as goal
 
 pub loop-name-preserved : goal.loop-name-preserved
@@ -17,12 +15,4 @@ loop-name-preserved c =
 pub returns-then-is_err-clause-err : goal.returns-then-is_err-clause-err
 returns-then-is_err-clause-err c =
     let err = sym c.is_err.ensures.value ∙ c.if-is_err.true in
-    (undone c.args.block.now c.declare_new.new.block c.truncate.new.self (named (take c.loop-name.name-index c.args.names.now)) c.len-before.result c.loop-name.invariant.before (on_err_at c.declare_new.result err c.declare_new.ensures.err ∙ c.loop-name.invariant.block) c.truncate.ensures.entries, inl refl)
-
-pub returns-clause-err : goal.returns-clause-err
-returns-clause-err c =
-    let names = c.args.names.now in
-    let start = block_of c.args.block.now in
-    let all = take_all c.loop-name.name-index names c.loop-name-test.false in
-    let none = ap (λ t. list_any (λ b. b) (news_of start (named t))) (sym all) ∙ (ap (list_any (λ b. b)) (sym c.loop-name.invariant.news) ∙ (ap (list_any (λ b. b)) (sym c.as_slice.ensures.value) ∙ (sym c.any_new.ensures ∙ c.if-any_new.false))) in
-    (c.loop-name.invariant.block ∙ (ap (λ t. block_after start (named t)) all ∙ block_after-none (named names) start none), inr (refl, none))
+    (undone c.args.block.now c.declare_new.new.block c.truncate.new.self (named (take c.loop-name.name-index c.args.names.now)) c.len-before.result c.loop-name.invariant.before (on_err_at c.declare_new.result err c.declare_new.ensures.err ∙ c.loop-name.invariant.block) c.truncate.ensures.entries, inl (refl, sym c.can_declare_any.ensures ∙ c.if-not-can_declare_any.false))

@@ -6,7 +6,7 @@ pub loop-package-init : goal.loop-package-init
 loop-package-init c = c.in_ok-all.ensures.items
 
 pub loop-package-preserved : goal.loop-package-preserved
-loop-package-preserved c = c.in_ok-append.ensures ∙ (ap (λ l. l ++ None ∷ []) c.loop-package.invariant ∙ replicate_more c.loop-package._package None)
+loop-package-preserved c = c.in_ok-add.ensures ∙ (ap (λ l. l ++ None ∷ []) c.loop-package.invariant ∙ replicate_more c.loop-package._package None)
 
 pub returns : goal.returns
 returns c =

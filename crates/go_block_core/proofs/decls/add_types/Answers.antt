@@ -10,7 +10,7 @@ pub loop-line-init : goal.loop-line-init
 loop-line-init c = no_pieces c.args.decls.now.items
 
 pub loop-line-preserved : goal.loop-line-preserved
-loop-line-preserved c = piece_more (λ (line : TypeLine). type_declared c.args.file (shape_type_line line).0) c.args.decls.now.items _ _ c.deref-line-items.result.now c.loop-line.line-index c.line-item.result c.loop-line-test.true c.line-item.is c.loop-line.invariant c.in_ok-add-in-Group.ensures
+loop-line-preserved c = piece_more (λ (line : TypeLine). type_declared c.args.file (shape_type_line line).0) c.args.decls.now.items _ _ c.deref-line-items.result.now c.loop-line.line-index c.line-item.result c.loop-line-test.true c.line-item.is c.loop-line.invariant c.in_ok-add_ident-in-Group.ensures
 
 pub returns-after-loop-line : goal.returns-after-loop-line
 returns-after-loop-line c =

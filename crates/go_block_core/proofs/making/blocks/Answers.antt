@@ -1,7 +1,7 @@
 use Rattle.std.proofs.Common.{◌≡◌, ◌++◌, [], ap, subst, ◌∙◌}
 use Rattle.go_block_core.specs.Tables.{table_of}
 use Rattle.go_block_core.specs.Blocks.{HoldsEachOnce, imports_of}
-use Rattle.go_block_core.specs.Declarations.{is_main, package_declared}
+use Rattle.go_block_core.specs.Declarations.{is_main_package, package_declared}
 use Rattle.go_block_core.specs.Faults.{decl_faults, file_faults, all_faults}
 use Rattle.go_block_core.proofs.OrderLaws.{declarations_in_order}
 use Rattle.go_block_core.proofs.making.blocks.Goals as goal
@@ -10,7 +10,7 @@ pub returns-clause-blocks : goal.returns-clause-blocks
 returns-clause-blocks c =
     let trees = c.args.«package».now in
     let imports = imports_of c.args.names.now in
-    let in_package = decl_faults (is_main trees) [] (package_declared trees) in
+    let in_package = decl_faults (is_main_package trees) [] (package_declared trees) in
     let first = c.in_ok-table.ensures.faults ∙ ap (λ fs. fs ++ in_package) c.new-faults.ensures.items in
     let all : c.file_blocks.new.faults.items ≡ all_faults trees imports = c.in-Ok.ensures.faults ∙ (ap (λ fs. fs ++ file_faults (table_of c.in_ok-table.table) 0 imports) first ∙ ap (λ names. in_package ++ file_faults names 0 imports) c.in_ok-table.ensures.table) in
     record {

@@ -1,5 +1,5 @@
 use Rattle.std.proofs.Common.{◌≡◌, ◌++◌, take, map}
-use Rattle.go_block_core.specs.Naming.{spec_shown}
+use Rattle.go_block_core.specs.mirrors.Shown.{spec_shown}
 use Rattle.go_block_core.proofs.SpecLemmas.{line_spec}
 use Rattle.go_block_core.proofs.naming.add_specs.Given as goal
 

@@ -1,6 +1,6 @@
 use Rattle.std.proofs.Common.{[], map, length, subst, sym, ap, arith}
 use Rattle.std.proofs.lemmas.Option.{slice_get_within}
-use Rattle.go_graph_core.specs.Targets.{AllNumbered}
+use Rattle.go_graph_core.specs.Lists.{AllNumbered}
 use Rattle.go_block_core.specs.Holding.{imports_in}
 use Rattle.go_block_core.specs.Naming.{AreFileImports, AreImportsOf}
 use Rattle.go_block_core.proofs.ImportSteps.{file_more, files_done, read_file}
@@ -23,7 +23,7 @@ file_imports-requires c = record {
 }
 
 pub loop-file-preserved : goal.loop-file-preserved
-loop-file-preserved c = file_more c.args.workspace.now c.args.blocks.now c.args.number c.files-files.result.now c.loop-file.imports.items c.append.new.items.items c.loop-file.file c.index-files-file.result c.in_ok-of_file.of_file c.loop-file-test.true c.index-files-file.is c.loop-file.invariant c.in_ok-of_file.ensures c.in_ok-append.ensures
+loop-file-preserved c = file_more c.args.workspace.now c.args.blocks.now c.args.number c.files-files.result.now c.loop-file.imports.items c.add.new.all.items c.loop-file.file c.index-files-file.result c.in_ok-of_file.of_file c.loop-file-test.true c.index-files-file.is c.loop-file.invariant c.in_ok-of_file.ensures c.in_ok-add.ensures
 
 pub new-requires : goal.new-requires
 new-requires c =

@@ -1,5 +1,5 @@
 use Rattle.std.proofs.Common.{take, map}
-use Rattle.go_graph_core.specs.Targets.{AllNumbered}
+use Rattle.go_graph_core.specs.Lists.{AllNumbered}
 use Rattle.go_block_core.specs.Holding.{imports_in}
 use Rattle.go_block_core.specs.Naming.{AreFileImports}
 use Rattle.go_block_core.proofs.naming.import_names.Given as goal

@@ -5,7 +5,8 @@ use Rattle.std.proofs.lemmas.List.Folds.{flat_map-map}
 use Rattle.go_tree_nodes.specs.declared.files.ImportDecl.{ImportDecl}
 use Rattle.go_tree_nodes.specs.Trees.{ImportTree}
 use Rattle.go_tree_nodes.specs.Shapes.{import_of, shape_import_specs}
-use Rattle.go_block_core.specs.Naming.{specs_in, spec_shown}
+use Rattle.go_block_core.specs.Naming.{specs_in}
+use Rattle.go_block_core.specs.mirrors.Shown.{spec_shown}
 use Rattle.go_block_core.proofs.Pieces.{piece_more}
 use Rattle.go_block_core.proofs.naming.import_specs.Goals as goal
 

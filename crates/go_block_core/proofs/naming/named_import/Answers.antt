@@ -19,4 +19,4 @@ form_of-requires-clause-made c =
 pub returns : goal.returns
 returns c =
     let here : IsOutcome c.args.workspace.now c.args.at c.in-Some.outcome = planned_outcome c.args.workspace.now c.args.plan.now c.args.at (Some c.in-Some.outcome) c.requires.planned (sym c.in-Some.is ∙ c.outcome.ensures) in
-    record { place = refl; text = c.in_ok-text.ensures; outcome = here; form = c.in_ok-form.ensures }
+    record { place = refl; outcome = here; form = c.in_ok-form.ensures }

@@ -1,7 +1,8 @@
 use Rattle.std.proofs.Common.{◌≡◌, [], Some, slice_get, option_map, map, length, refl, sym, ap, subst, ◌∙◌, arith}
 use Rattle.std.proofs.lemmas.List.{length-map, take_all}
 use Rattle.std.proofs.lemmas.Option.{slice_get-map, slice_get_read}
-use Rattle.go_block_core.specs.Naming.{AreSpecImports, spec_shown}
+use Rattle.go_block_core.specs.Naming.{AreSpecImports}
+use Rattle.go_block_core.specs.mirrors.Shown.{spec_shown}
 use Rattle.go_block_core.proofs.ImportSteps.{import_more}
 use Rattle.go_block_core.proofs.naming.named_imports.Goals as goal
 
@@ -16,7 +17,7 @@ named_import-requires c =
     record { planned = c.requires.planned; made = c.requires.made; there = c.requires.there n (spec_shown c.index-specs-import.result) at }
 
 pub loop-import-preserved : goal.loop-import-preserved
-loop-import-preserved c = import_more c.args.workspace.now c.args.blocks.now c.args.number c.args.file c.args.specs.now c.loop-import.imports.items c.append.new.items.items c.loop-import.import c.index-specs-import.result c.in_ok-named.named c.loop-import-test.true c.index-specs-import.is c.loop-import.invariant c.in_ok-named.ensures c.in_ok-append.ensures
+loop-import-preserved c = import_more c.args.workspace.now c.args.blocks.now c.args.number c.args.file c.args.specs.now c.loop-import.imports.items c.add.new.all.items c.loop-import.import c.index-specs-import.result c.in_ok-named.named c.loop-import-test.true c.index-specs-import.is c.loop-import.invariant c.in_ok-named.ensures c.in_ok-add.ensures
 
 pub returns : goal.returns
 returns c =

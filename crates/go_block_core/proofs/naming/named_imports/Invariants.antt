@@ -1,5 +1,6 @@
 use Rattle.std.proofs.Common.{take, map}
-use Rattle.go_block_core.specs.Naming.{AreSpecImports, spec_shown}
+use Rattle.go_block_core.specs.Naming.{AreSpecImports}
+use Rattle.go_block_core.specs.mirrors.Shown.{spec_shown}
 use Rattle.go_block_core.proofs.naming.named_imports.Given as goal
 
 abbrev pub invariant-loop-import : goal.invariant-loop-import

@@ -18,7 +18,7 @@ loop-imports-preserved c =
     let before = c.loop-imports.invariant in
     let same = same_count c.loop-imports.tables.items (map imports_in (take i files)) before.0 in
     let count : c.len.result ≡ length (map imports_in (take i files)) = omega (arith, c.len.ensures, same) in (
-      tables_step c.loop-imports.tables.items c.append.new.items.items c.in_ok-table.table files i d c.loop-imports-test.true c.imports-item.is before.0 c.in_ok-table.ensures.table c.in_ok-append.ensures,
+      tables_step c.loop-imports.tables.items c.add.new.all.items c.in_ok-table.table files i d c.loop-imports-test.true c.imports-item.is before.0 c.in_ok-table.ensures.table c.in_ok-add.ensures,
       faults_step c.args.faults.now.items _ _ _ _ _ before.1 c.in_ok-table.ensures.faults (file_faults_step (table_of c.args.names.now) files i d c.len.result c.loop-imports-test.true c.imports-item.is count),
     )
 

@@ -11,7 +11,7 @@ pub loop-name-preserved : goal.loop-name-preserved
 loop-name-preserved c =
     let rest = map (λ e. (string_bytes e.0, e.1)) c.next.new.self in
     let step = ap (map (λ e. (string_bytes e.0, e.1))) c.in-Some.ensures.steps ∙ ap (λ name. (name, c.in-Some.decl.now) ∷ rest) (sym c.as_str.ensures.value) in
-    listed_more (map name_and_decl c.loop-name.names.items) _ _ _ rest _ c.in_ok-add_name.ensures step c.loop-name.invariant
+    listed_more (map name_and_decl c.loop-name.names.items) _ _ _ rest _ c.in_ok-add_entry.ensures step c.loop-name.invariant
 
 pub returns : goal.returns
 returns c = all_listed (map name_and_decl c.loop-name.names.items) _ _ (ap (map (λ e. (string_bytes e.0, e.1))) c.in-None.ensures.steps.0) c.loop-name.invariant

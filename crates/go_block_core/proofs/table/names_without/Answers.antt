@@ -15,7 +15,7 @@ loop-name-preserved g c =
 pub loop-name-preserved-in-Continue-1 : goal.loop-name-preserved-in-Continue-1
 loop-name-preserved-in-Continue-1 g c =
     let absent : has (table_of c.args.other.now) (string_bytes c.in-Some.name.now) ≡ false = sym (ap is_some (c.find.ensures ∙ ap (in_block (table_of c.args.other.now)) c.as_str-name.ensures.value)) ∙ c.if-is_none.ensures in
-    name_kept (table_of c.args.other.now) c.loop-name.names.items c.loop-name.name-iterator c.next.new.self c.in-Some.name.now c.in-Some.field-0-1.now (names_in (without (table_of c.args.other.now) (table_of c.args.table.now))) c.in-Some.ensures.steps absent c.append.new.items.items c.as_str-name.result c.in_ok-append.ensures c.as_str-name.ensures.value c.loop-name.invariant
+    name_kept (table_of c.args.other.now) c.loop-name.names.items c.loop-name.name-iterator c.next.new.self c.in-Some.name.now c.in-Some.field-0-1.now (names_in (without (table_of c.args.other.now) (table_of c.args.table.now))) c.in-Some.ensures.steps absent c.add.new.all.items c.as_str-name.result c.in_ok-add.ensures c.as_str-name.ensures.value c.loop-name.invariant
 
 pub returns : goal.returns
 returns g c = all_listed (map (λ n. n.now) c.loop-name.names.items) _ _ (ap (λ es. names_in (without (table_of c.args.other.now) (map (λ e. (string_bytes e.0, e.1)) es))) c.in-None.ensures.steps.0) c.loop-name.invariant

@@ -2,7 +2,7 @@ use Rattle.std.proofs.Common.{List, All, get_or, take, subst, sym, ◌∙◌, re
 use Rattle.std.proofs.lemmas.List.{take_all, take_more}
 use Rattle.std.proofs.lemmas.List.Elements.{All-push}
 use Rattle.go_cycle_core.specs.declared.edge.Edge.{Edge}
-use Rattle.go_cycle_core.specs.Certificate.{Holds}
+use Rattle.go_cycle_core.specs.mirrors.Certificate.{Holds}
 use Rattle.go_cycle_core.proofs.certify.all_hold.Goals as goal
 
 pub loop-edge-preserved : goal.loop-edge-preserved

@@ -1,5 +1,5 @@
 use Rattle.std.proofs.Common.{All, take}
-use Rattle.go_cycle_core.specs.Certificate.{Holds}
+use Rattle.go_cycle_core.specs.mirrors.Certificate.{Holds}
 use Rattle.go_cycle_core.proofs.certify.all_hold.Given as goal
 
 abbrev pub invariant-loop-edge : goal.invariant-loop-edge

@@ -1,6 +1,6 @@
 use Rattle.std.proofs.Common.{◌≡◌, ◌↔◌, ℕ, List, Bool, true, All, length, map, refl, subst, sym, ◌∙◌, ap, arith}
 use Rattle.go_cycle_core.specs.declared.edge.Edge.{Edge}
-use Rattle.go_cycle_core.specs.Certificate.{marks_along, Holds}
+use Rattle.go_cycle_core.specs.mirrors.Certificate.{marks_along, Holds}
 use Rattle.go_cycle_core.specs.Cycle.{InRange, reversed}
 use Rattle.go_cycle_core.proofs.Walks.{reversed_in_range}
 use Rattle.go_cycle_core.proofs.Certified.{ranking_from_certificate}

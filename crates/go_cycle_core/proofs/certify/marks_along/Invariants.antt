@@ -1,5 +1,5 @@
 use Rattle.std.proofs.Common.{◌≡◌, length, take}
-use Rattle.go_cycle_core.specs.Certificate.{marks_along}
+use Rattle.go_cycle_core.specs.mirrors.Certificate.{marks_along}
 use Rattle.go_cycle_core.proofs.certify.marks_along.Given as goal
 
 abbrev pub invariant-loop-place : goal.invariant-loop-place

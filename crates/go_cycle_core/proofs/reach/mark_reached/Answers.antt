@@ -1,5 +1,5 @@
 use Rattle.std.proofs.Common.{List, ℕ, ◌<◌, All, length, subst, sym, rules}
-use Rattle.go_cycle_core.specs.Search.{MarksRow}
+use Rattle.go_cycle_core.specs.mirrors.Search.{MarksRow}
 use Rattle.go_cycle_core.proofs.Marks.{search_more, search_ends}
 use Rattle.go_cycle_core.proofs.Places.{row_in_range}
 use Rattle.go_cycle_core.proofs.reach.mark_reached.Goals as goal

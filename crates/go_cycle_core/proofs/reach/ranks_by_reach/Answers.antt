@@ -1,6 +1,6 @@
 use Rattle.std.proofs.Common.{ℕ, List, Vec, subst, sym, arith}
 use Rattle.std.specs.declared.alloc.Global.{Global}
-use Rattle.go_cycle_core.specs.Search.{IsReachCount, AreRows}
+use Rattle.go_cycle_core.specs.mirrors.Search.{IsReachCount, AreRows}
 use Rattle.go_cycle_core.proofs.Counts.{counts_push, len_push, ranking_from_counts}
 use Rattle.go_cycle_core.proofs.reach.ranks_by_reach.Goals as goal
 

@@ -1,5 +1,5 @@
 use Rattle.std.proofs.Common.{◌≡◌, ◌<◌, ℕ, length, get_or}
-use Rattle.go_cycle_core.specs.Search.{IsReachCount}
+use Rattle.go_cycle_core.specs.mirrors.Search.{IsReachCount}
 use Rattle.go_cycle_core.proofs.reach.ranks_by_reach.Given as goal
 
 abbrev pub invariant-loop-start : goal.invariant-loop-start

@@ -1,6 +1,6 @@
 use Rattle.std.proofs.Common.{List, ℕ, subst, sym, arith, get_or, take}
 use Rattle.std.proofs.lemmas.List.{take_more}
-use Rattle.go_cycle_core.specs.Search.{MarksRow}
+use Rattle.go_cycle_core.specs.mirrors.Search.{MarksRow}
 use Rattle.go_cycle_core.proofs.Marks.{row_push}
 use Rattle.go_cycle_core.proofs.reach.visit_row.Goals as goal
 

@@ -1,5 +1,5 @@
 use Rattle.std.proofs.Common.{take}
-use Rattle.go_cycle_core.specs.Search.{MarksRow}
+use Rattle.go_cycle_core.specs.mirrors.Search.{MarksRow}
 use Rattle.go_cycle_core.proofs.reach.visit_row.Given as goal
 
 abbrev pub invariant-loop-place : goal.invariant-loop-place

@@ -1,5 +1,5 @@
 use Rattle.std.proofs.Common.{◌≡◌, length}
-use Rattle.go_cycle_core.specs.Search.{AreEmpty}
+use Rattle.go_cycle_core.specs.mirrors.Search.{AreEmpty}
 use Rattle.go_cycle_core.proofs.rows.empty_rows.Given as goal
 
 abbrev pub invariant-loop : goal.invariant-loop

@@ -1,6 +1,6 @@
 use Rattle.std.proofs.Common.{arith, length-set}
 use Rattle.go_cycle_core.specs.declared.edge.Edge.{Edge}
-use Rattle.go_cycle_core.specs.Search.{edge_at}
+use Rattle.go_cycle_core.specs.mirrors.Search.{edge_at}
 use Rattle.go_cycle_core.proofs.Places.{rows_push, rows_all}
 use Rattle.go_cycle_core.proofs.rows.rows_of.Goals as goal
 

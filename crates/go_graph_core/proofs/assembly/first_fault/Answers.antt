@@ -1,8 +1,8 @@
 use Rattle.std.proofs.Common.{refl, sym, ◌≡◌, ◌∙◌, ap, Err, []}
 use Rattle.go_text_core.specs.declared.rule.Rule.TheVariants.{K4}
 use Rattle.go_graph_core.specs.Sources.{source}
-use Rattle.go_graph_core.specs.Clauses.{place_in}
-use Rattle.go_graph_core.specs.Flaws.{has_flaw, is_flawed}
+use Rattle.go_graph_core.specs.mirrors.Clauses.{place_in}
+use Rattle.go_graph_core.specs.mirrors.Flaws.{has_flaw, is_flawed}
 use Rattle.go_graph_core.proofs.Faults.{none_more, first_here, first_nowhere}
 use Rattle.go_graph_core.proofs.assembly.first_fault.Goals as goal
 

@@ -1,5 +1,5 @@
 use Rattle.std.proofs.Common.{take}
-use Rattle.go_graph_core.specs.Targets.{ArePackageTargets}
+use Rattle.go_graph_core.specs.mirrors.Targets.{ArePackageTargets}
 use Rattle.go_graph_core.proofs.imports.package_targets.Given as goal
 
 abbrev pub invariant-loop-file : goal.invariant-loop-file

@@ -2,7 +2,7 @@ use Rattle.std.proofs.Common.{◌+◌, sym, subst, List, take}
 use Rattle.std.proofs.lemmas.List.{take_all}
 use Rattle.go_graph_core.specs.declared.imports.Standing.{Standing}
 use Rattle.go_graph_core.specs.Workspaces.{PackageModel}
-use Rattle.go_graph_core.specs.Targets.{IsStanding, HaveStandings}
+use Rattle.go_graph_core.specs.mirrors.Targets.{IsStanding, HaveStandings}
 use Rattle.go_graph_core.proofs.Zips.{zip_more}
 use Rattle.go_graph_core.proofs.imports.standings.Goals as goal
 

@@ -1,5 +1,5 @@
 use Rattle.std.proofs.Common.{take}
-use Rattle.go_graph_core.specs.Targets.{HaveStandings}
+use Rattle.go_graph_core.specs.mirrors.Targets.{HaveStandings}
 use Rattle.go_graph_core.proofs.imports.standings.Given as goal
 
 abbrev pub invariant-loop-source : goal.invariant-loop-source

@@ -1,6 +1,6 @@
 use Rattle.std.proofs.Common.{take}
 use Rattle.std.specs.List.{AllZip}
-use Rattle.go_graph_core.specs.Targets.{ArePackageTargets}
+use Rattle.go_graph_core.specs.mirrors.Targets.{ArePackageTargets}
 use Rattle.go_graph_core.proofs.imports.targets.Given as goal
 
 abbrev pub invariant-loop-source : goal.invariant-loop-source

@@ -1,7 +1,7 @@
 use Rattle.std.proofs.Common.{◌∙◌, ◌++◌, ap}
 use Rattle.std.specs.List.{flat_map}
 use Rattle.std.proofs.lemmas.List.{take_all}
-use Rattle.go_graph_core.specs.Targets.{edge_of}
+use Rattle.go_graph_core.specs.mirrors.Targets.{edge_of}
 use Rattle.go_graph_core.proofs.planning.add_edges.Goals as goal
 
 pub returns : goal.returns

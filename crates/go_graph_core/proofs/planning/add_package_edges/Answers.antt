@@ -1,6 +1,6 @@
 use Rattle.std.proofs.Common.{◌∙◌, ◌++◌, ap}
 use Rattle.std.proofs.lemmas.List.{take_all}
-use Rattle.go_graph_core.specs.Targets.{edge_of, package_edges}
+use Rattle.go_graph_core.specs.mirrors.Targets.{edge_of, package_edges}
 use Rattle.std.specs.List.{flat_map}
 use Rattle.go_graph_core.proofs.PlanEdges.{file_edges_more}
 use Rattle.go_graph_core.proofs.planning.add_package_edges.Goals as goal

@@ -1,7 +1,7 @@
 use Rattle.std.proofs.Common.{◌∙◌, sym, ap}
 use Rattle.std.specs.List.{filter}
 use Rattle.std.proofs.lemmas.List.{take_all}
-use Rattle.go_graph_core.specs.Targets.{is_assembled}
+use Rattle.go_graph_core.specs.mirrors.Targets.{is_assembled}
 use Rattle.go_graph_core.proofs.PlanOrder.{kept_more, passed_more}
 use Rattle.go_graph_core.proofs.planning.assembled.Goals.{then-is_assembled+in_ok-push, else-is_assembled}
 use Rattle.go_graph_core.proofs.planning.assembled.Goals as goal

@@ -1,6 +1,6 @@
 use Rattle.std.proofs.Common.{◌≡◌, take}
 use Rattle.std.specs.List.{filter}
-use Rattle.go_graph_core.specs.Targets.{is_assembled}
+use Rattle.go_graph_core.specs.mirrors.Targets.{is_assembled}
 use Rattle.go_graph_core.proofs.planning.assembled.Given as goal
 
 abbrev pub invariant-loop-number : goal.invariant-loop-number

@@ -1,5 +1,5 @@
 use Rattle.std.proofs.Common.{◌≡◌, take}
-use Rattle.go_graph_core.specs.Targets.{edges_from}
+use Rattle.go_graph_core.specs.mirrors.Targets.{edges_from}
 use Rattle.go_graph_core.proofs.planning.edges.Given as goal
 
 abbrev pub invariant-loop-from : goal.invariant-loop-from

@@ -4,7 +4,7 @@ use Rattle.std.proofs.lemmas.List.{with_items_is}
 use Rattle.go_cycle_core.specs.declared.edge.Edge.{Edge}
 use Rattle.go_cycle_core.specs.Cycle.{InRange, IsRanking, IsAfter}
 use Rattle.go_graph_core.specs.Workspaces.{PackageModel, IsWorkspace}
-use Rattle.go_graph_core.specs.Targets.{AreAllSettled, edges_from, is_assembled}
+use Rattle.go_graph_core.specs.mirrors.Targets.{AreAllSettled, edges_from, is_assembled}
 use Rattle.go_graph_core.specs.Plans.{IsPlan, plan_of, outcomes_shown}
 use Rattle.go_graph_core.proofs.PlanEdges.{in_range}
 use Rattle.go_graph_core.proofs.PlanLemmas.{planned}

@@ -3,7 +3,7 @@ use Rattle.std.proofs.lemmas.List.{with_items_is}
 use Rattle.std.specs.Vec.{with_items}
 use Rattle.std.specs.declared.alloc.Global.{Global}
 use Rattle.go_graph_core.specs.declared.imports.ImportOutcome.{ImportOutcome}
-use Rattle.go_graph_core.specs.Targets.{AreSettled}
+use Rattle.go_graph_core.specs.mirrors.Targets.{AreSettled}
 use Rattle.go_graph_core.proofs.Zips.{all_numbered_so_far, one_more_numbered}
 use Rattle.go_graph_core.proofs.planning.settle.Goals as goal
 

@@ -1,7 +1,7 @@
 use Rattle.std.proofs.Common.{ℕ, Vec}
 use Rattle.std.specs.declared.alloc.Global.{Global}
 use Rattle.go_graph_core.specs.declared.imports.ImportOutcome.{ImportOutcome}
-use Rattle.go_graph_core.specs.Targets.{AreSettled}
+use Rattle.go_graph_core.specs.mirrors.Targets.{AreSettled}
 use Rattle.go_graph_core.proofs.Zips.{NumberedSoFar}
 use Rattle.go_graph_core.proofs.planning.settle.Given as goal
 

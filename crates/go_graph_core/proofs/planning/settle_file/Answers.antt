@@ -1,7 +1,7 @@
 use Rattle.std.proofs.Common.{subst, arith}
 use Rattle.go_graph_core.specs.declared.imports.ImportOutcome.{ImportOutcome}
 use Rattle.go_graph_core.specs.declared.imports.ImportOutcome.TheVariants.{Package}
-use Rattle.go_graph_core.specs.Targets.{IsSettled}
+use Rattle.go_graph_core.specs.mirrors.Targets.{IsSettled}
 use Rattle.go_graph_core.proofs.Zips.{all_so_far, one_more_so_far}
 use Rattle.go_graph_core.proofs.planning.settle_file.Goals as goal
 

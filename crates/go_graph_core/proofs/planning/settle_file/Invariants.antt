@@ -1,4 +1,4 @@
-use Rattle.go_graph_core.specs.Targets.{IsSettled}
+use Rattle.go_graph_core.specs.mirrors.Targets.{IsSettled}
 use Rattle.go_graph_core.proofs.Zips.{ZipSoFar}
 use Rattle.go_graph_core.proofs.planning.settle_file.Given as goal
 

@@ -4,7 +4,7 @@ use Rattle.std.proofs.lemmas.List.{with_items_is}
 use Rattle.std.specs.Vec.{with_items}
 use Rattle.std.specs.declared.alloc.Global.{Global}
 use Rattle.go_graph_core.specs.declared.imports.ImportOutcome.{ImportOutcome}
-use Rattle.go_graph_core.specs.Targets.{IsSettled}
+use Rattle.go_graph_core.specs.mirrors.Targets.{IsSettled}
 use Rattle.go_graph_core.proofs.Zips.{all_so_far, one_more_so_far}
 use Rattle.go_graph_core.proofs.planning.settle_package.Goals as goal
 

@@ -2,7 +2,7 @@ use Rattle.std.proofs.Common.{Vec}
 use Rattle.std.specs.List.{AllZip}
 use Rattle.std.specs.declared.alloc.Global.{Global}
 use Rattle.go_graph_core.specs.declared.imports.ImportOutcome.{ImportOutcome}
-use Rattle.go_graph_core.specs.Targets.{IsSettled}
+use Rattle.go_graph_core.specs.mirrors.Targets.{IsSettled}
 use Rattle.go_graph_core.proofs.Zips.{ZipSoFar}
 use Rattle.go_graph_core.proofs.planning.settle_package.Given as goal
 

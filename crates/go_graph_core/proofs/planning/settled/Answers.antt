@@ -2,7 +2,7 @@ use Rattle.std.proofs.Common.{◌≡◌, ◌∙◌, sym, subst, refl, inl, inr, 
 use Rattle.go_text_core.specs.declared.rule.Rule.TheVariants.{I4}
 use Rattle.go_graph_core.specs.declared.imports.ImportOutcome.{ImportOutcome}
 use Rattle.go_graph_core.specs.declared.imports.ImportOutcome.TheVariants.{Package, Refused}
-use Rattle.go_graph_core.specs.Targets.{IsSettled}
+use Rattle.go_graph_core.specs.mirrors.Targets.{IsSettled}
 use Rattle.go_graph_core.proofs.planning.settled.Goals as goal
 
 pub returns-then-is_on_cycle : goal.returns-then-is_on_cycle

@@ -3,11 +3,11 @@ use Rattle.std.specs.Prelude.{vec_capacity}
 use Rattle.std.specs.List.Sorted.{IsStrictlySortedBy}
 use Rattle.std.specs.Map.{keys_of}
 use Rattle.std.specs.Vec.Iter.{into_iter_items}
-use Rattle.go_graph_core.specs.Workspaces.{by_bytes, put_all, inside}
+use Rattle.go_graph_core.specs.Workspaces.{by_bytes, put_all, packages_inside}
 use Rattle.go_graph_core.proofs.workspace.put_inside.Given as goal
 
 abbrev pub invariant-loop-package : goal.invariant-loop-package
 invariant-loop-package l =
-    (put_all l.packages.items (inside l.own (into_iter_items l.package-iterator)) ≡ put_all l.initial.packages.items (inside l.own l.fn.from.items))
+    (put_all l.packages.items (packages_inside l.own (into_iter_items l.package-iterator)) ≡ put_all l.initial.packages.items (packages_inside l.own l.fn.from.items))
     × IsStrictlySortedBy by_bytes (keys_of l.packages.items)
     × (vec_len l.packages + length (into_iter_items l.package-iterator) ≤ vec_capacity l.packages)

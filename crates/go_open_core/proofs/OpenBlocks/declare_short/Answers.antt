@@ -18,7 +18,7 @@ returns-clause-ok c = IfOk-weaker c.declare_each.result _ _ (λ news h. let t = 
 pub returns-clause-err : goal.returns-clause-err
 returns-clause-err c = IfErr-weaker c.declare_each.result _ _ (λ rule h. let t = top_is block_of c.self.inside.blocks.items c.args.self.now (c.len-top.result - 1) c.index_mut.result.now c.self.view_is (places c) c.index_mut.ensures.value in (
   same_last block_of c.self.inside.blocks.items c.args.self.now (c.len-top.result - 1) c.index_mut.result.now c.declare_each.new.block c.self.view_is (places c) c.index_mut.ensures.value h.0,
-  ⊎_elim inl (λ q. inr (q.0, ap (λ b. list_any (λ b. b) (news_of b (named c.args.names.now))) (sym t) ∙ q.1)) h.1,
+  ⊎_elim (λ p. inl (p.0, ap (λ b. list_any (λ b. b) (news_of b (named c.args.names.now))) (sym t) ∙ p.1)) (λ q. inr (q.0, ap (λ b. list_any (λ b. b) (news_of b (named c.args.names.now))) (sym t) ∙ q.1)) h.1,
 )) c.declare_each.ensures.err
   where
     places : (c : goal.After-self-1) → c.len-top.result - 1 + 1 ≡ length c.self.inside.blocks.items

@@ -19,4 +19,4 @@ turns-preserved c =
     tops_more _ _ _ _ _ _ _ c.turns.invariant c.turns-test.ensures c.in_ok-decl.ensures c.in_ok-add.ensures
 
 pub returns : goal.returns
-returns c = tops_end _ _ _ _ c.turns.invariant c.turns-test.ensures
+returns c = rw c.fitted.ensures (tops_end _ _ _ _ c.turns.invariant c.turns-test.ensures)

@@ -19,7 +19,7 @@ returns-then-is_none c =
 pub returns-in_default : goal.returns-in_default
 returns-in_default c =
     let end = some_of _ _ c.if-is_none.ensures c.mark-in_default.ensures in
-    list_last _ _ _ _ _ _ _ _ _ _ _ c.turns.invariant (none_of _ _ c.turns-test.ensures c.mark.ensures) c.in_ok-spec.ensures c.in_default.ensures end.1 (pushed shape_import_line _ _ _ c.in_ok-add.ensures)
+    rw c.fitted.ensures (list_last _ _ _ _ _ _ _ _ _ _ _ c.turns.invariant (none_of _ _ c.turns-test.ensures c.mark.ensures) c.in_ok-spec.ensures c.in_default.ensures end.1 (pushed shape_import_line _ _ _ c.in_ok-add.ensures))
 
 pub turns-smaller : goal.turns-smaller
 turns-smaller c = list_turn_shorter operator.Semicolon _ _ _ (import_spec_shorter _ _ c.in_ok-spec.ensures) c.in-Some.ensures
@@ -31,4 +31,4 @@ turns-preserved c =
 pub returns : goal.returns
 returns c =
     let end = some_of _ _ c.turns-test.ensures c.mark.ensures in
-    list_end _ _ _ _ _ _ _ _ c.turns.invariant end.1
+    rw c.fitted-2.ensures (list_end _ _ _ _ _ _ _ _ c.turns.invariant end.1)

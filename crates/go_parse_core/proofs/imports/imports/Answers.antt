@@ -12,14 +12,14 @@ returns-in_err-specs c =
     rw (p.1, p.2) (specs_fails _ _ _ _ _ c.turns.invariant c.in-Some.ensures c.in_err-specs.ensures)
 
 pub returns-in-Err : goal.returns-in-Err
-returns-in-Err c = semicolon_fails _ _ _ _ _ _ c.turns.invariant c.in-Some.ensures c.in_ok-specs.ensures c.in-Err.ensures
+returns-in-Err c = semicolon_fails _ _ _ _ _ _ c.turns.invariant c.in-Some.ensures c.in_ok-specs.ensures c.in-Err.ensures.value
 
 pub turns-smaller : goal.turns-smaller
-turns-smaller c = turn_shorter _ _ _ _ c.in-Some.ensures c.in_ok-specs.ensures c.in-Ok.ensures
+turns-smaller c = turn_shorter _ _ _ _ c.in-Some.ensures c.in_ok-specs.ensures c.in-Ok.ensures.value
 
 pub turns-preserved : goal.turns-preserved
 turns-preserved c =
-    imports_more _ _ _ _ _ _ _ _ c.turns.invariant c.in-Some.ensures c.in_ok-specs.ensures c.in-Ok.ensures refl c.in_ok-add.ensures
+    imports_more _ _ _ _ _ _ _ _ c.turns.invariant c.in-Some.ensures c.in_ok-specs.ensures c.in-Ok.ensures.value refl c.in_ok-add.ensures
 
 pub returns : goal.returns
-returns c = imports_end _ _ _ c.turns.invariant c.in_default.ensures
+returns c = rw c.fitted.ensures (imports_end _ _ _ c.turns.invariant c.in_default.ensures)

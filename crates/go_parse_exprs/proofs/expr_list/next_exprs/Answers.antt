@@ -1,5 +1,6 @@
-use Rattle.std.proofs.Common.{arith, refl}
+use Rattle.std.proofs.Common.{arith, refl, sym, ap, ◌∙◌, Ok}
 use Rattle.std.proofs.lemmas.Result.{err_from_is_err_and}
+use Rattle.go_tree_nodes.specs.Shapes.{exprs_from}
 use Rattle.go_parse_exprs.proofs.CodeExprLists.{exprs_start, exprs_more, exprs_fails, exprs_end, next_shorter, high_none, high_after}
 use Rattle.go_parse_exprs.proofs.expr_list.next_exprs.Goals as goal
 
@@ -20,4 +21,5 @@ returns-in_err-expr-clause-tree c first turns some =
     rw (p.1, p.2) (exprs_fails _ _ _ _ _ _ _ _ (c.turns.invariant.so_far first turns some) c.in-Some.ensures c.in_err-expr.ensures.tree)
 
 pub returns-clause-tree : goal.returns-clause-tree
-returns-clause-tree c first turns some = exprs_end _ _ _ _ _ _ (c.turns.invariant.so_far first turns some) c.in_default.ensures
+returns-clause-tree c first turns some =
+    exprs_end _ _ _ _ _ _ (c.turns.invariant.so_far first turns some) c.in_default.ensures ∙ ap (λ l. Ok (exprs_from first l, c.turns.rest)) (sym c.fitted.ensures)

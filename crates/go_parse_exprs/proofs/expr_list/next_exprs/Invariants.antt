@@ -1,7 +1,7 @@
 use Rattle.std.proofs.Common.{◌≤◌, ◌<◌, ◌^◌, ℕ, length}
 use Rattle.go_tree_nodes.specs.declared.exprs.Expr.{Expr}
 use Rattle.go_tree_nodes.specs.Shapes.{shape}
-use Rattle.go_parse_exprs.specs.CodeShapes.{on_from, HighBehind}
+use Rattle.go_parse_exprs.specs.mirrors.CodeShapes.{on_from, HighBehind}
 use Rattle.go_parse_exprs.proofs.CodeExprLists.{ExprsSoFar}
 use Rattle.go_parse_exprs.proofs.expr_list.next_exprs.Given as goal
 

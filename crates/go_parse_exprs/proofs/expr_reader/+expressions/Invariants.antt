@@ -3,16 +3,25 @@ use Rattle.go_scan_core.specs.declared.kind.Operator.TheVariants as operator
 use Rattle.go_tree_nodes.specs.Shapes.{shape, items_of}
 use Rattle.go_tree_nodes.specs.Heights.{height, items_height}
 use Rattle.go_parse_types.proofs.CodeLists.{ListSoFar}
-use Rattle.go_parse_exprs.specs.CodeShapes.{item_of}
-use Rattle.go_parse_exprs.specs.ExprReading.{ItemTree, item_at, expr_at}
+use Rattle.go_parse_exprs.specs.mirrors.CodeShapes.{item_of}
+use Rattle.go_parse_exprs.specs.mirrors.ExprReading.{ItemTree, item_ahead, expr_at}
 use Rattle.go_parse_exprs.proofs.Onward.{onward}
 use Rattle.go_parse_exprs.proofs.expr_reader.+expressions.Given as goal
 
-abbrev pub decreases-expr : goal.decreases-expr
-decreases-expr l = 12 * l.budget
+abbrev pub decreases-ranked_expr : goal.decreases-ranked_expr
+decreases-ranked_expr l = 12 * l.budget
 
 abbrev pub decreases-one_step : goal.decreases-one_step
 decreases-one_step l = 12 * l.inner + 9
+
+abbrev pub decreases-binary : goal.decreases-binary
+decreases-binary l = 12 * l.inner + 5
+
+abbrev pub decreases-call : goal.decreases-call
+decreases-call l = 12 * l.inner + 5
+
+abbrev pub decreases-closed_items : goal.decreases-closed_items
+decreases-closed_items l = 12 * l.inner + 4
 
 abbrev pub decreases-operand : goal.decreases-operand
 decreases-operand l = 12 * l.inner + 9
@@ -21,7 +30,7 @@ abbrev pub decreases-boxed_expr : goal.decreases-boxed_expr
 decreases-boxed_expr l = 12 * l.budget + 1
 
 abbrev pub decreases-elements : goal.decreases-elements
-decreases-elements l = 12 * l.inner + 4
+decreases-elements l = 12 * l.inner + 5
 
 abbrev pub decreases-in_parens : goal.decreases-in_parens
 decreases-in_parens l = 12 * l.inner + 2
@@ -41,8 +50,8 @@ decreases-item l = 12 * l.inner + 1
 abbrev pub decreases-items : goal.decreases-items
 decreases-items l = 12 * l.inner + 3
 
-abbrev pub invariant-expr-turns : goal.invariant-expr-turns
-invariant-expr-turns l = record {
+abbrev pub invariant-ranked_expr-turns : goal.invariant-ranked_expr-turns
+invariant-ranked_expr-turns l = record {
   some : 0 < l.budget;
   few : l.budget < 2 ^ 31;
   high : l.high ≡ height (shape l.left);
@@ -50,15 +59,15 @@ invariant-expr-turns l = record {
   same : expr_at l.budget l.header l.least l.fn.ahead ≡ onward (l.budget - 1) l.header l.least (shape l.left) l.rest;
 }
 
-abbrev pub decreases-expr-turns : goal.decreases-expr-turns
-decreases-expr-turns l = l.budget - l.high
+abbrev pub decreases-ranked_expr-turns : goal.decreases-ranked_expr-turns
+decreases-ranked_expr-turns l = l.budget - l.high
 
 abbrev pub invariant-items-turns : goal.invariant-items-turns
 invariant-items-turns l = record {
   few : l.inner < 2 ^ 31;
   low : l.high ≤ l.inner;
   high : l.high ≡ items_height (items_of l.all.items);
-  so_far : ListSoFar ItemTree (item_at (expr_at l.inner) l.keyed) operator.Comma l.close l.fn.ahead (map item_of l.all.items) l.rest;
+  so_far : ListSoFar ItemTree (item_ahead (expr_at l.inner) l.keyed) operator.Comma l.close l.fn.ahead (map item_of l.all.items) l.rest;
 }
 
 abbrev pub decreases-items-turns : goal.decreases-items-turns

@@ -23,4 +23,4 @@ pub returns : goal.returns
 returns c =
     let end = YieldsList-end (YieldsList-from_vec {s = c.into_iter-next-iterator.result} c.args.exprs.more.items (search rules) (search rules))
     c.turns.yielded c.turns.next-iterator c.turns.yielded_by c.next.result c.next.new.self c.in-None.is c.next.ensures.steps in
-    rw (← end.0, map-id) (sym (names_all _ _ _ _ c.turns.invariant))
+    rw (c.fitted-more.ensures, ← end.0, map-id) (sym (names_all _ _ _ _ c.turns.invariant))

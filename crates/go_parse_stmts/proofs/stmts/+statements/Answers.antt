@@ -1,9 +1,9 @@
 use Rattle.std.proofs.Common.{arith, sym, ap, ◌∙◌, Ok}
 use Rattle.std.proofs.lemmas.Result.{err_from_is_err_and}
-use Rattle.go_tree_nodes.proofs.ShapeLemmas.{shape_block, shape_loop, shape_else_block, shape_branched}
+use Rattle.go_tree_nodes.proofs.ShapeLemmas.{shape_block, shape_looped, shape_else_block, shape_branched}
 use Rattle.go_tree_nodes.specs.Shapes.{shape_if, shape_for, shape_else}
 use Rattle.go_parse_types.proofs.CodeSteps.{none_of, some_of}
-use Rattle.go_parse_stmts.proofs.CodeStmts.{declared_is, declared_fails, returned_is, broken_is, continued_is, if_is, if_fails, loop_is, plain_is, lines_none, lines_too_high, lines_fails, line_more, line_shorter, line_last, line_missing, lines_end, block_zero, block_fails, block_open, block_closed, block_is, block_stops, for_is, else_is, else_if_too_high, else_if_fails, else_if_is, branch_is, branch_fails}
+use Rattle.go_parse_stmts.proofs.CodeStmts.{declared_is, returned_is, broken_is, continued_is, if_is, loop_is, plain_is, lines_none, lines_too_high, lines_fails, line_more, line_shorter, line_last, line_missing, lines_end, block_zero, block_fails, block_open, block_closed, block_is, block_stops, for_is, else_is, else_if_too_high, else_if_fails, else_if_is, branch_is, branch_fails}
 use Rattle.go_parse_stmts.proofs.stmts.+statements.Goals as goal
 
 pub lines-turns-init : goal.lines-turns-init
@@ -20,11 +20,11 @@ lines-returns-in_err-stmt t c =
 pub lines-returns-in_err-need_mark : goal.lines-returns-in_err-need_mark
 lines-returns-in_err-need_mark t c =
     let p = err_from_is_err_and c.from_residual-in_err-need_mark.result c.from_residual-in_err-need_mark.ensures.1 in
-    rw (p.1, p.2) (line_missing _ _ _ _ _ _ _ _ _ c.turns.invariant.so_far (omega arith) (none_of _ _ c.turns-test.ensures c.mark.ensures) c.in_ok-stmt.ensures c.some_mark-semicolon.ensures c.if-is_none.ensures c.in_err-need_mark.ensures)
+    rw (p.1, p.2) (line_missing _ _ _ _ _ _ _ _ _ c.turns.invariant.so_far (omega arith) (none_of _ _ c.turns-test.ensures c.mark.ensures) c.in_ok-stmt.ensures c.some_mark-semicolon.ensures c.if-is_none.ensures c.in_err-need_mark.ensures.value)
 
 pub lines-returns-then-is_none : goal.lines-returns-then-is_none
 lines-returns-then-is_none t c =
-    line_last _ _ _ _ _ _ _ _ _ c.turns.invariant.so_far (omega arith) (none_of _ _ c.turns-test.ensures c.mark.ensures) c.in_ok-stmt.ensures c.some_mark-semicolon.ensures c.if-is_none.ensures c.in_ok-need_mark.ensures c.in_ok-add.ensures
+    rw c.fitted.ensures (line_last _ _ _ _ _ _ _ _ _ c.turns.invariant.so_far (omega arith) (none_of _ _ c.turns-test.ensures c.mark.ensures) c.in_ok-stmt.ensures c.some_mark-semicolon.ensures c.if-is_none.ensures c.in_ok-need_mark.ensures.value c.in_ok-add.ensures)
 
 pub lines-turns-smaller : goal.lines-turns-smaller
 lines-turns-smaller t c = line_shorter _ _ _ _ _ _ (omega arith) c.in_ok-stmt.ensures c.some_mark-semicolon.ensures c.if-is_none.ensures
@@ -36,23 +36,23 @@ lines-turns-preserved t c =
 pub lines-returns : goal.lines-returns
 lines-returns t c =
     let end = some_of _ _ c.turns-test.ensures c.mark.ensures in
-    lines_end _ _ _ _ _ c.turns.invariant.so_far end.1
+    rw c.fitted-2.ensures (lines_end _ _ _ _ _ c.turns.invariant.so_far end.1)
 
 pub block-returns-then-budget-eq0 : goal.block-returns-then-budget-eq0
-block-returns-then-budget-eq0 t c = block_zero c.args.budget c.args.ahead _ c.«in_ok-open».ensures c.if-budget-eq0.true
+block-returns-then-budget-eq0 t c = block_zero c.args.budget c.args.ahead _ c.«in_ok-open».ensures.value c.if-budget-eq0.true
 
 pub block-returns-in_err-all : goal.block-returns-in_err-all
 block-returns-in_err-all t c =
     let p = err_from_is_err_and c.from_residual-in_err-all.result c.from_residual-in_err-all.ensures.1 in
-    rw (p.1, p.2) (block_fails c.args.budget c.args.ahead _ _ _ c.«in_ok-open».ensures (omega arith) c.in_err-all.ensures)
+    rw (p.1, p.2) (block_fails c.args.budget c.args.ahead _ _ _ c.«in_ok-open».ensures.value (omega arith) c.in_err-all.ensures)
 
 pub block-returns-in_err-close : goal.block-returns-in_err-close
 block-returns-in_err-close t c =
     let p = err_from_is_err_and c.from_residual-in_err-close.result c.from_residual-in_err-close.ensures.1 in
-    rw (p.1, p.2) (block_open c.args.budget c.args.ahead _ _ _ _ _ c.«in_ok-open».ensures (omega arith) c.in_ok-all.ensures c.in_err-close.ensures)
+    rw (p.1, p.2) (block_open c.args.budget c.args.ahead _ _ _ _ _ c.«in_ok-open».ensures.value (omega arith) c.in_ok-all.ensures c.in_err-close.ensures.value)
 
 pub block-returns : goal.block-returns
-block-returns t c = block_closed c.args.budget c.args.ahead _ _ _ _ _ _ c.«in_ok-open».ensures (omega arith) c.in_ok-all.ensures c.in_ok-close.ensures
+block-returns t c = block_closed c.args.budget c.args.ahead _ _ _ _ _ _ c.«in_ok-open».ensures.value (omega arith) c.in_ok-all.ensures c.in_ok-close.ensures.value
 
 pub without_keyword-returns-in_err-open : goal.without_keyword-returns-in_err-open
 without_keyword-returns-in_err-open t c =
@@ -74,38 +74,33 @@ otherwise-returns-then-is_some t c =
 
 pub otherwise-returns-then-inner-eq0 : goal.otherwise-returns-then-inner-eq0
 otherwise-returns-then-inner-eq0 t c =
-    else_if_too_high c.args.inner _ _ c.args.ahead _ _ c.in-Some.ensures (none_of _ _ (sym c.if-is_some.ensures) c.mark.ensures) c.in_ok-if_keyword.ensures c.if-inner-eq0.true
+    else_if_too_high c.args.inner _ _ c.args.ahead _ _ c.in-Some.ensures (none_of _ _ (sym c.if-is_some.ensures) c.mark.ensures) c.in_ok-if_keyword.ensures.value c.if-inner-eq0.true
 
 pub otherwise-returns-in_err-branch : goal.otherwise-returns-in_err-branch
 otherwise-returns-in_err-branch t c =
     let p = err_from_is_err_and c.from_residual-in_err-branch.result c.from_residual-in_err-branch.ensures.1 in
-    rw (p.1, p.2) (else_if_fails c.args.inner _ _ c.args.ahead _ _ _ c.in-Some.ensures (none_of _ _ (sym c.if-is_some.ensures) c.mark.ensures) c.in_ok-if_keyword.ensures (omega arith) c.in_err-branch.ensures)
+    rw (p.1, p.2) (else_if_fails c.args.inner _ _ c.args.ahead _ _ _ c.in-Some.ensures (none_of _ _ (sym c.if-is_some.ensures) c.mark.ensures) c.in_ok-if_keyword.ensures.value (omega arith) c.in_err-branch.ensures)
 
 pub otherwise-returns : goal.otherwise-returns
 otherwise-returns t c =
-    rw c.in_ok-boxed.ensures (else_if_is c.args.inner _ _ c.args.ahead _ _ _ _ c.in-Some.ensures (none_of _ _ (sym c.if-is_some.ensures) c.mark.ensures) c.in_ok-if_keyword.ensures (omega arith) c.in_ok-branch.ensures)
+    else_if_is c.args.inner _ _ c.args.ahead _ _ _ _ c.in-Some.ensures (none_of _ _ (sym c.if-is_some.ensures) c.mark.ensures) c.in_ok-if_keyword.ensures.value (omega arith) c.in_ok-branch.ensures
 
-pub branch-returns-in-Ok : goal.branch-returns-in-Ok
-branch-returns-in-Ok t c =
-    branch_is c.args.inner c.args.keyword c.args.ahead c.in_ok-head.rest c.in-Ok.rest (shape_if c.in_ok-head.head) _ _ _ (shape_else c.in-Ok.otherwise) c.in_ok-head.ensures c.in-Ok.ensures
-    ∙ ap (λ s. Ok (s, c.in-Ok.rest)) (sym (shape_branched _ c.in_ok-head.head _ c.in-Ok.«then» _ c.in-Ok.otherwise))
+pub branch-returns-in_ok-boxed-in-Ok : goal.branch-returns-in_ok-boxed-in-Ok
+branch-returns-in_ok-boxed-in-Ok t c =
+    rw c.in_ok-boxed-in-Ok.ensures (branch_is c.args.inner c.args.keyword c.args.ahead c.in_ok-head.rest c.in-Ok.rest (shape_if c.in_ok-head.head) _ _ _ (shape_else c.in-Ok.otherwise) c.in_ok-head.ensures c.in-Ok.ensures
+    ∙ ap (λ s. Ok (s, c.in-Ok.rest)) (sym (shape_branched _ c.in_ok-head.head _ c.in-Ok.«then» _ c.in-Ok.otherwise)))
 
 pub branch-returns-in-Err : goal.branch-returns-in-Err
 branch-returns-in-Err t c =
     branch_fails c.args.inner c.args.keyword c.args.ahead c.in_ok-head.rest (shape_if c.in_ok-head.head) _ c.in_ok-head.ensures c.in-Err.ensures
 
-pub for_stmt-returns-in-Ok : goal.for_stmt-returns-in-Ok
-for_stmt-returns-in-Ok t c =
-    for_is c.args.inner c.args.keyword c.args.ahead c.in_ok-head.rest c.in-Ok.rest (shape_for c.in_ok-head.head) _ _ _ c.in_ok-head.ensures c.in-Ok.ensures
-    ∙ ap (λ s. Ok (s, c.in-Ok.rest)) (sym (shape_loop _ c.in_ok-head.head _ c.in-Ok.body _))
+pub for_stmt-returns-in_ok-boxed-in-Ok : goal.for_stmt-returns-in_ok-boxed-in-Ok
+for_stmt-returns-in_ok-boxed-in-Ok t c =
+    rw c.in_ok-boxed-in-Ok.ensures (for_is c.args.inner c.args.keyword c.args.ahead c.in_ok-head.rest c.in-Ok.rest (shape_for c.in_ok-head.head) _ _ _ c.in_ok-head.ensures c.in-Ok.ensures
+    ∙ ap (λ s. Ok (s, c.in-Ok.rest)) (sym (shape_looped _ c.in_ok-head.head _ c.in-Ok.body _)))
 
 pub statement-returns-in-Some : goal.statement-returns-in-Some
-statement-returns-in-Some t c = declared_is c.args.inner c.args.ahead _ _ _ c.in-Some.ensures c.in_ok-decl.ensures
-
-pub statement-returns-in_err-decl : goal.statement-returns-in_err-decl
-statement-returns-in_err-decl t c =
-    let p = err_from_is_err_and c.from_residual.result c.from_residual.ensures.1 in
-    rw (p.1, p.2) (declared_fails c.args.inner c.args.ahead _ _ c.in-Some.ensures c.in_err-decl.ensures)
+statement-returns-in-Some t c = rw (declared_is c.args.inner c.args.ahead _ c.in-Some.ensures) c.declaration.ensures
 
 pub statement-returns-in-Some-word : goal.statement-returns-in-Some-word
 statement-returns-in-Some-word t c = rw (returned_is c.args.inner c.args.ahead _ c.in_default.ensures c.in-Some-word.ensures) c.return_stmt.ensures
@@ -118,11 +113,6 @@ statement-returns-in-Some-word-3 t c = continued_is c.args.inner c.args.ahead _ 
 
 pub statement-returns-in-Some-word-4 : goal.statement-returns-in-Some-word-4
 statement-returns-in-Some-word-4 t c = if_is c.args.inner c.args.ahead _ _ _ c.in_default.ensures c.in_default-word.ensures c.in_default-word-2.ensures c.in_default-word-3.ensures c.in-Some-word-4.ensures c.in_ok-branch.ensures
-
-pub statement-returns-in_err-branch : goal.statement-returns-in_err-branch
-statement-returns-in_err-branch t c =
-    let p = err_from_is_err_and c.from_residual-in_err-branch.result c.from_residual-in_err-branch.ensures.1 in
-    rw (p.1, p.2) (if_fails c.args.inner c.args.ahead _ _ c.in_default.ensures c.in_default-word.ensures c.in_default-word-2.ensures c.in_default-word-3.ensures c.in-Some-word-4.ensures c.in_err-branch.ensures)
 
 pub statement-returns-in-Some-word-5 : goal.statement-returns-in-Some-word-5
 statement-returns-in-Some-word-5 t c = rw (loop_is c.args.inner c.args.ahead _ c.in_default.ensures c.in_default-word.ensures c.in_default-word-2.ensures c.in_default-word-3.ensures c.in_default-word-4.ensures c.in-Some-word-5.ensures) c.for_stmt.ensures

@@ -16,11 +16,11 @@ returns-in_err-spec c =
 pub returns-in_err-need_mark : goal.returns-in_err-need_mark
 returns-in_err-need_mark c =
     let p = err_from_is_err_and c.from_residual-in_err-need_mark.result c.from_residual-in_err-need_mark.ensures.1 in
-    rw (p.1, p.2) (turn_missing _ _ _ _ _ _ _ _ _ _ _ c.turns.invariant.so_far (none_of _ _ c.turns-test.ensures c.mark.ensures) c.in_ok-spec.ensures c.some_mark-semicolon.ensures c.if-is_none.ensures c.in_err-need_mark.ensures)
+    rw (p.1, p.2) (turn_missing _ _ _ _ _ _ _ _ _ _ _ c.turns.invariant.so_far (none_of _ _ c.turns-test.ensures c.mark.ensures) c.in_ok-spec.ensures c.some_mark-semicolon.ensures c.if-is_none.ensures c.in_err-need_mark.ensures.value)
 
 pub returns-then-is_none : goal.returns-then-is_none
 returns-then-is_none c =
-    turn_last _ _ _ _ _ _ _ _ _ _ _ _ c.turns.invariant.so_far (none_of _ _ c.turns-test.ensures c.mark.ensures) c.in_ok-spec.ensures c.some_mark-semicolon.ensures c.if-is_none.ensures c.in_ok-need_mark.ensures (pushed shape_value_line _ _ _ c.in_ok-add.ensures)
+    rw c.fitted.ensures (turn_last _ _ _ _ _ _ _ _ _ _ _ _ c.turns.invariant.so_far (none_of _ _ c.turns-test.ensures c.mark.ensures) c.in_ok-spec.ensures c.some_mark-semicolon.ensures c.if-is_none.ensures c.in_ok-need_mark.ensures.value (pushed shape_value_line _ _ _ c.in_ok-add.ensures))
 
 pub turns-smaller : goal.turns-smaller
 turns-smaller c = turn_shorter _ _ _ _ (value_spec_shorter _ _ _ _ _ c.in_ok-spec.ensures) c.some_mark-semicolon.ensures c.if-is_none.ensures
@@ -32,4 +32,4 @@ turns-preserved c =
 pub returns : goal.returns
 returns c =
     let end = some_of _ _ c.turns-test.ensures c.mark.ensures in
-    list_end _ _ _ _ _ _ _ _ c.turns.invariant.so_far end.1
+    rw c.fitted-2.ensures (list_end _ _ _ _ _ _ _ _ c.turns.invariant.so_far end.1)

@@ -3,7 +3,7 @@ use Rattle.go_scan_core.specs.declared.kind.Operator.TheVariants as operator
 use Rattle.go_tree_nodes.specs.Shapes.{shape_value_line}
 use Rattle.go_tree_nodes.specs.Trees.{ValueSpecTree}
 use Rattle.go_parse_types.proofs.CodeLists.{ListSoFar}
-use Rattle.go_parse_stmts.specs.StmtReading.{value_spec_at}
+use Rattle.go_parse_stmts.specs.mirrors.StmtReading.{value_spec_at}
 use Rattle.go_parse_stmts.proofs.value_decls.value_lines.Given as goal
 
 abbrev pub invariant-turns : goal.invariant-turns

@@ -5,7 +5,7 @@ use Rattle.go_parse_types.proofs.CodeEntries.{groups_push, groups_name, groups_a
 use Rattle.go_parse_types.proofs.entries.groups_from.Goals as goal
 
 pub turns-preserved-in-Some-name : goal.turns-preserved-in-Some-name
-turns-preserved-in-Some-name c = groups_push _ _ _ _ _ _ _ c.turns.invariant c.in-Some-name.is c.in_ok-group.ensures.0 c.in_ok-group.ensures.1 c.in_ok-group.ensures.2 c.in_ok-push.ensures.items
+turns-preserved-in-Some-name c = groups_push _ _ _ _ _ _ _ c.turns.invariant c.in-Some-name.is c.in_ok-group.ensures.0 c.in_ok-group.ensures.1 c.in_ok-group.ensures.2 c.in_ok-add.ensures
 
 pub turns-preserved : goal.turns-preserved
 turns-preserved c = groups_name _ _ _ _ _ _ _ c.turns.invariant c.in_default.is c.in-Some-plain.ensures c.in-Some-comma.is c.in_ok-with_name.ensures
@@ -32,4 +32,4 @@ pub returns : goal.returns
 returns c =
     let end = YieldsList-end (YieldsList-from_vec {s = c.into_iter-entry-iterator.result} c.args.entries.items (search rules) (search rules))
     c.turns.yielded c.turns.entry-iterator c.turns.yielded_by c.next.result c.next.new.self c.in-None.is c.next.ensures.steps in
-    rw (← end.0, map-id) (groups_all _ _ _ c.turns.invariant (sym c.if-is_some.ensures))
+    rw (← end.0, map-id, c.fitted.ensures) (groups_all _ _ _ c.turns.invariant (sym c.if-is_some.ensures))

@@ -1,6 +1,6 @@
 use Rattle.std.proofs.Common.{◌≡◌, map, drop}
-use Rattle.go_parse_types.specs.EntryShapes.{entry_of}
-use Rattle.go_parse_types.specs.TypeReading.{has_name}
+use Rattle.go_parse_types.specs.mirrors.EntryShapes.{entry_of}
+use Rattle.go_parse_types.specs.mirrors.TypeReading.{has_name}
 use Rattle.go_parse_types.proofs.entries.is_named.Given as goal
 
 abbrev pub invariant-turns : goal.invariant-turns

@@ -5,10 +5,7 @@ use Rattle.go_parse_types.proofs.CodeEntries.{types_start, types_push, types_all
 use Rattle.go_parse_types.proofs.entries.types_from.Goals as goal
 
 pub turns-init : goal.turns-init
-turns-init c = types_start _ c.new-params.ensures.items
-
-pub turns-preserved-in_ok-push : goal.turns-preserved-in_ok-push
-turns-preserved-in_ok-push c = types_push _ _ _ _ _ c.turns.invariant refl refl refl c.in_ok-push.ensures.items
+turns-init c = types_start _ c.in_ok-params.ensures.items
 
 pub returns : goal.returns
 returns c =
@@ -17,4 +14,4 @@ returns c =
     rw (← end.0, map-id) (types_all _ _ c.turns.invariant)
 
 pub turns-preserved : goal.turns-preserved
-turns-preserved c = types_push _ _ _ _ _ c.turns.invariant refl refl refl c.in_ok-push.ensures.items
+turns-preserved c = types_push _ _ _ _ _ c.turns.invariant refl refl refl c.in_ok-add.ensures

@@ -1,7 +1,7 @@
 use Rattle.std.proofs.Common.{◌≡◌, ◌<◌, ◌+◌, ◌*◌, ◌^◌, max, drop}
 use Rattle.go_tree_nodes.specs.Heights as heights
 use Rattle.go_tree_nodes.specs.TypeShapes.{shape_type, shape_signature, shape_results, fields_of, methods_of, params_of}
-use Rattle.go_parse_types.specs.EntryShapes.{field_height}
+use Rattle.go_parse_types.specs.mirrors.EntryShapes.{field_height}
 use Rattle.go_parse_types.proofs.heights.+heights.Given as goal
 
 abbrev pub invariant-lines_height-loop-line : goal.invariant-lines_height-loop-line

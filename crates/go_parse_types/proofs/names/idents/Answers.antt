@@ -1,5 +1,6 @@
-use Rattle.std.proofs.Common.{refl}
+use Rattle.std.proofs.Common.{refl, sym, ap, ◌∙◌, Ok}
 use Rattle.std.proofs.lemmas.Result.{err_from_is_err_and}
+use Rattle.go_tree_nodes.specs.TypeShapes.{idents_from}
 use Rattle.go_parse_types.proofs.CodeIdents.{idents_start, idents_start_fails, idents_push, idents_fails, idents_end, idents_turn_shorter}
 use Rattle.go_parse_types.proofs.names.idents.Goals as goal
 
@@ -23,4 +24,5 @@ returns-in_err-ident c =
     rw (p.1, p.2) (idents_fails _ _ _ _ _ _ c.turns.invariant c.in-Some.ensures c.in_err-ident.ensures)
 
 pub returns : goal.returns
-returns c = idents_end _ _ _ _ c.turns.invariant c.in_default.ensures
+returns c =
+    idents_end _ _ _ _ c.turns.invariant c.in_default.ensures ∙ ap (λ l. Ok (idents_from c.in_ok-first.first l, c.turns.rest)) (sym c.fitted-more.ensures)

@@ -1,9 +1,9 @@
-use Rattle.std.proofs.Common.{◌∷◌, [], ◌++◌, map, arith, sym, ap, ◌∙◌, Ok}
+use Rattle.std.proofs.Common.{map, arith, sym, ap, ◌∙◌, Ok}
 use Rattle.std.proofs.lemmas.Result.{err_from_is_err_and}
 use Rattle.go_scan_core.specs.declared.kind.Operator.TheVariants as operator
-use Rattle.go_tree_nodes.proofs.TypeShapes.{shape_struct, shape_interface, shape_listed, shape_signed, method_rolled}
-use Rattle.go_parse_types.specs.EntryShapes.{entry_of, line_of, method_of}
-use Rattle.go_parse_types.specs.TypeReading.{type_at, entry_at, line_at, method_at}
+use Rattle.go_tree_nodes.proofs.TypeShapes.{shape_struct, shape_interface, shape_listed, shape_signed}
+use Rattle.go_parse_types.specs.mirrors.EntryShapes.{entry_of, line_of, method_of}
+use Rattle.go_parse_types.specs.mirrors.TypeReading.{type_at, entry_at, line_at, method_at}
 use Rattle.go_parse_types.proofs.CodeSteps.{none_of, some_of}
 use Rattle.go_parse_types.proofs.CodeLists.{list_step, list_step_shorter, list_step_fails, list_end}
 use Rattle.go_parse_types.proofs.CodeTypes.{type_zero, type_more, entry_less, line_less, method_less, pushed, struct_is, interface_is, listed_is, signature_is}
@@ -41,7 +41,7 @@ lines-turns-preserved t c =
 pub lines-returns : goal.lines-returns
 lines-returns t c =
     let end = some_of _ _ c.turns-test.ensures c.mark.ensures in
-    list_end _ _ _ _ _ _ _ _ c.turns.invariant end.1
+    list_end _ _ _ _ _ _ _ _ c.turns.invariant end.1 ∙ ap (λ l. Ok (map line_of l, c.turns.rest)) (sym c.fitted.ensures)
 
 pub methods-returns-in_err-method : goal.methods-returns-in_err-method
 methods-returns-in_err-method t c =
@@ -58,7 +58,7 @@ methods-turns-preserved t c =
 pub methods-returns : goal.methods-returns
 methods-returns t c =
     let end = some_of _ _ c.turns-test.ensures c.mark.ensures in
-    list_end _ _ _ _ _ _ _ _ c.turns.invariant end.1
+    list_end _ _ _ _ _ _ _ _ c.turns.invariant end.1 ∙ ap (λ l. Ok (map method_of l, c.turns.rest)) (sym c.fitted.ensures)
 
 pub type_expr-returns-then-budget-eq0 : goal.type_expr-returns-then-budget-eq0
 type_expr-returns-then-budget-eq0 t c = type_zero _ _ c.if-budget-eq0.true
@@ -68,19 +68,19 @@ type_expr-returns t c = rw (type_more c.args.budget c.args.ahead (omega arith)) 
 
 pub struct_type-returns : goal.struct_type-returns
 struct_type-returns t c =
-    struct_is _ _ _ _ c.args.ahead _ _ _ _ c.in_ok-open.ensures c.in_ok-lines.ensures c.in_ok-close.ensures ∙ ap (λ s. Ok (s, c.in_ok-close.rest)) (sym (shape_struct _ _ c.in_ok-lines.lines _))
+    struct_is _ _ _ _ c.args.ahead _ _ _ _ c.in_ok-open.ensures.value c.in_ok-lines.ensures c.in_ok-close.ensures.value ∙ ap (λ s. Ok (s, c.in_ok-close.rest)) (sym (shape_struct _ _ c.in_ok-lines.lines _))
 
 pub interface_type-returns : goal.interface_type-returns
 interface_type-returns t c =
-    interface_is _ _ _ _ c.args.ahead _ _ _ _ c.in_ok-open.ensures c.in_ok-methods.ensures c.in_ok-close.ensures ∙ ap (λ s. Ok (s, c.in_ok-close.rest)) (sym (shape_interface _ _ c.in_ok-methods.methods _))
+    interface_is _ _ _ _ c.args.ahead _ _ _ _ c.in_ok-open.ensures.value c.in_ok-methods.ensures c.in_ok-close.ensures.value ∙ ap (λ s. Ok (s, c.in_ok-close.rest)) (sym (shape_interface _ _ c.in_ok-methods.methods _))
 
 pub listed-returns : goal.listed-returns
 listed-returns t c =
-    listed_is _ _ _ _ _ _ _ c.in_ok-entries.ensures c.in_ok-close.ensures ∙ ap (λ r. Ok (r, c.in_ok-close.rest)) (sym (shape_listed _ c.in_ok-entries.entries _))
+    listed_is _ _ _ _ _ _ _ c.in_ok-entries.ensures c.in_ok-close.ensures.value ∙ ap (λ r. Ok (r, c.in_ok-close.rest)) (sym (shape_listed _ c.in_ok-entries.entries _))
 
 pub signature-returns : goal.signature-returns
 signature-returns t c =
-    signature_is _ _ _ c.args.ahead _ _ _ _ _ _ c.in_ok-open.ensures c.in_ok-entries.ensures c.in_ok-close.ensures c.in_ok-results.ensures
+    signature_is _ _ _ c.args.ahead _ _ _ _ _ _ c.in_ok-open.ensures.value c.in_ok-entries.ensures c.in_ok-close.ensures.value c.in_ok-results.ensures
     ∙ ap (λ s. Ok (s, c.in_ok-results.rest)) (sym (shape_signed c.in_ok-open.open c.in_ok-entries.entries c.in_ok-close.close c.in_ok-results.results))
 
 pub type_expr-type_above-requires : goal.type_expr-type_above-requires

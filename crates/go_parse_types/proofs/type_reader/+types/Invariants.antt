@@ -2,8 +2,8 @@ use Rattle.std.proofs.Common.{◌+◌, ◌*◌, length, map}
 use Rattle.go_scan_core.specs.declared.kind.Operator.TheVariants as operator
 use Rattle.go_tree_nodes.specs.declared.names.Ident.{Ident}
 use Rattle.go_tree_nodes.specs.Trees.{SignatureTree}
-use Rattle.go_parse_types.specs.EntryShapes.{entry_of, line_of, method_of}
-use Rattle.go_parse_types.specs.TypeReading.{type_at, EntryTree, entry_at, LineTree, line_at, method_at}
+use Rattle.go_parse_types.specs.mirrors.EntryShapes.{entry_of, line_of, method_of}
+use Rattle.go_parse_types.specs.mirrors.TypeReading.{type_at, EntryTree, entry_at, LineTree, line_at, method_at}
 use Rattle.go_parse_types.proofs.CodeLists.{ListSoFar}
 use Rattle.go_parse_types.proofs.type_reader.+types.Given as goal
 

@@ -1,6 +1,6 @@
 use Rattle.std.proofs.Common.{◌∙◌, ap, Ok}
-use Rattle.go_parse_types.specs.EntryShapes.{line_tree}
-use Rattle.go_parse_types.specs.Marks.{◌>>=◌}
+use Rattle.go_parse_types.specs.mirrors.EntryShapes.{line_tree}
+use Rattle.go_parse_types.specs.mirrors.Marks.{◌>>=◌}
 use Rattle.go_parse_types.proofs.CodeTypes.{line_marked, line_fails}
 use Rattle.go_parse_types.proofs.type_reader.field_line.Goals as goal
 

@@ -1,6 +1,6 @@
 use Rattle.std.proofs.Common.{length, map, ap, ◌∙◌}
 use Rattle.go_subset_core.specs.Shapes.{decl_of, top_of}
-use Rattle.go_resolve_core.specs.Walk.{repeats_of, env_tops}
+use Rattle.go_resolve_core.specs.mirrors.Walk.{repeats_of, env_tops}
 use Rattle.go_resolve_core.proofs.Pushes.{still_open}
 use Rattle.go_resolve_core.proofs.Tops.{length-env_decl, repeats_step, repeats_end, env_tops_step, env_tops_end}
 use Rattle.go_resolve_core.proofs.file.declare_decls.Goals as goal

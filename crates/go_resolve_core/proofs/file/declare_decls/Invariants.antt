@@ -1,6 +1,6 @@
 use Rattle.std.proofs.Common.{◌≡◌, ◌<◌, ◌++◌, map, length, drop}
 use Rattle.go_subset_core.specs.Shapes.{top_of}
-use Rattle.go_resolve_core.specs.Walk.{repeats_of, env_tops}
+use Rattle.go_resolve_core.specs.mirrors.Walk.{repeats_of, env_tops}
 use Rattle.go_resolve_core.proofs.file.declare_decls.Given as goal
 
 abbrev pub invariant-loop-top : goal.invariant-loop-top

@@ -1,6 +1,6 @@
 use Rattle.std.proofs.Common.{◌≡◌, ◌++◌, map, drop}
 use Rattle.go_subset_core.specs.Shapes.{top_of}
-use Rattle.go_resolve_core.specs.Walk.{tops_uses, tops_notes}
+use Rattle.go_resolve_core.specs.mirrors.Walk.{tops_uses, tops_notes}
 use Rattle.go_resolve_core.proofs.file.walk_decls.Given as goal
 
 abbrev pub invariant-loop-i : goal.invariant-loop-i

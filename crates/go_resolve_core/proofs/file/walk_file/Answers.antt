@@ -1,7 +1,7 @@
 use Rattle.std.proofs.Common.{[], ◌∷◌, ◌++◌, map, length, ap, ◌∙◌}
 use Rattle.std.proofs.lemmas.Result.{IfOk-equal}
 use Rattle.go_subset_core.specs.Shapes.{file_of, top_of}
-use Rattle.go_resolve_core.specs.Walk.{tops_uses, tops_notes}
+use Rattle.go_resolve_core.specs.mirrors.Walk.{tops_uses, tops_notes}
 use Rattle.go_resolve_core.proofs.Tops.{length-repeats_of}
 use Rattle.go_resolve_core.proofs.Files.{resolved_open, resolved_uses, resolved_faults}
 use Rattle.go_resolve_core.proofs.file.walk_file.Goals as goal

@@ -1,6 +1,6 @@
 use Rattle.std.proofs.Common.{◌≡◌, ◌<◌, ◌||◌, length, drop}
 use Rattle.go_subset_core.specs.Shapes.{shape_idents}
-use Rattle.go_resolve_core.specs.Walk.{idents, env_names, any_new_in}
+use Rattle.go_resolve_core.specs.mirrors.Walk.{idents, env_names, any_new_in}
 use Rattle.go_resolve_core.proofs.Steps.{rest_names}
 use Rattle.go_resolve_core.proofs.short.declare_names.Given as goal
 

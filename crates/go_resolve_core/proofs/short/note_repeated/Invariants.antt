@@ -1,6 +1,6 @@
 use Rattle.std.proofs.Common.{◌≡◌, ℕ, [], ◌++◌, List, drop}
 use Rattle.go_subset_core.specs.Shapes.{shape_idents}
-use Rattle.go_resolve_core.specs.Walk.{idents, repeated_in}
+use Rattle.go_resolve_core.specs.mirrors.Walk.{idents, repeated_in}
 use Rattle.go_resolve_core.proofs.Steps.{rest_names, Knows}
 use Rattle.go_resolve_core.proofs.short.note_repeated.Given as goal
 

@@ -2,7 +2,7 @@ use Rattle.std.proofs.Common.{◌≡◌, ◌++◌, length, ap, sym, subst, ◌�
 use Rattle.std.specs.Prelude.{OnOk}
 use Rattle.go_subset_core.specs.declared.tree.Stmt.{Stmt}
 use Rattle.go_subset_core.specs.Shapes.{shape_stmt, lines_of}
-use Rattle.go_resolve_core.specs.Walk.{stmt_uses, stmt_notes, env_after, lines_uses, lines_notes, lines_env}
+use Rattle.go_resolve_core.specs.mirrors.Walk.{stmt_uses, stmt_notes, env_after, lines_uses, lines_notes, lines_env}
 use Rattle.go_resolve_core.specs.declared.declared.Block.TheVariants.{Within}
 use Rattle.go_resolve_core.proofs.Pushes.{still_open}
 use Rattle.go_resolve_core.proofs.Walks.{length-env_after, block_shape, left_block, inner_open, uses_step, notes_step, env_step, uses_end, notes_end, env_end, short_notes}

@@ -1,6 +1,6 @@
 use Rattle.std.proofs.Common.{◌≡◌, ◌++◌, ◌<◌, length, drop}
 use Rattle.go_subset_core.specs.Shapes.{lines_of}
-use Rattle.go_resolve_core.specs.Walk.{lines_uses, lines_notes, lines_env}
+use Rattle.go_resolve_core.specs.mirrors.Walk.{lines_uses, lines_notes, lines_env}
 use Rattle.go_resolve_core.proofs.walk.+walk.Given as goal
 
 abbrev pub invariant-walk_lines-loop-line : goal.invariant-walk_lines-loop-line

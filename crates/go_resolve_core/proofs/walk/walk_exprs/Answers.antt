@@ -1,7 +1,7 @@
 use Rattle.std.proofs.Common.{map, ◌∙◌}
 use Rattle.go_subset_core.specs.Occurrences.{expr_occs, exprs_occs}
 use Rattle.go_subset_core.specs.Shapes.{shape, shape_exprs}
-use Rattle.go_resolve_core.specs.Walk.{use_in}
+use Rattle.go_resolve_core.specs.mirrors.Walk.{use_in}
 use Rattle.go_resolve_core.proofs.Steps.{each_init, each_step, each_end, next_uses, exprs_each}
 use Rattle.go_resolve_core.proofs.walk.walk_exprs.Goals as goal
 

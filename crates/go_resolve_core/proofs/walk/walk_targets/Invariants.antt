@@ -1,7 +1,7 @@
 use Rattle.std.proofs.Common.{◌≡◌, ◌++◌, map, drop}
 use Rattle.go_subset_core.specs.Occurrences.{targets_occs}
 use Rattle.go_subset_core.specs.Shapes.{shape_exprs}
-use Rattle.go_resolve_core.specs.Walk.{use_in}
+use Rattle.go_resolve_core.specs.mirrors.Walk.{use_in}
 use Rattle.go_resolve_core.proofs.Steps.{each, next_target_uses}
 use Rattle.go_resolve_core.proofs.walk.walk_targets.Given as goal
 

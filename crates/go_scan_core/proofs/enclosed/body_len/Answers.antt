@@ -1,7 +1,7 @@
-use Rattle.std.proofs.Common.{◌≡◌, ◌+◌, ◌<◌, length, drop, sym, ap, ◌∙◌, arith, Ok, Err}
+use Rattle.std.proofs.Common.{◌≡◌, ◌+◌, drop, sym, ap, ◌∙◌, arith, Ok, Err}
 use Rattle.std.proofs.lemmas.List.{length-drop}
-use Rattle.go_scan_core.specs.declared.enclosed.Flaw.TheVariants.{Stray}
-use Rattle.go_scan_core.specs.Enclosed.{behind, body}
+use Rattle.go_scan_core.specs.declared.enclosed.Flaw.TheVariants.{Forbidden}
+use Rattle.go_scan_core.specs.mirrors.Enclosed.{behind, body}
 use Rattle.go_scan_core.proofs.EmptyLemmas.{filled, emptied}
 use Rattle.go_scan_core.proofs.BodyLemmas.{behind-behind, body_end, body_none, body_step, end_within, item_within}
 use Rattle.go_scan_core.proofs.enclosed.body_len.Goals as goal
@@ -34,11 +34,11 @@ returns-in-End-clause-value c =
 pub returns-in-End-clause-within : goal.returns-in-End-clause-within
 returns-in-End-clause-within c = omega (arith, end_within c.args.enclosure c.loop-rest.rest.now (sym c.next_item.ensures ∙ c.in-End.is))
 
-pub returns-in-Stray-clause-value : goal.returns-in-Stray-clause-value
-returns-in-Stray-clause-value c =
+pub returns-in-Forbidden-clause-value : goal.returns-in-Forbidden-clause-value
+returns-in-Forbidden-clause-value c =
     let some = filled c.loop-rest.rest.now c.loop-rest-test.ensures in
     let none : c.loop-rest.count ≡ c.loop-rest.count + 0 = omega arith in
-    ap (λ n. Err (Stray n)) none ∙ sym (ap (behind c.loop-rest.count) (body_end c.args.enclosure c.loop-rest.rest.now _ some (sym c.next_item.ensures ∙ c.in-Stray.is))) ∙ c.loop-rest.invariant.answer
+    ap (λ n. Err (Forbidden n)) none ∙ sym (ap (behind c.loop-rest.count) (body_end c.args.enclosure c.loop-rest.rest.now _ some (sym c.next_item.ensures ∙ c.in-Forbidden.is))) ∙ c.loop-rest.invariant.answer
 
 pub returns-in-Bad-clause-value : goal.returns-in-Bad-clause-value
 returns-in-Bad-clause-value c =

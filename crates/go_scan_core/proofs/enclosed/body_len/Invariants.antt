@@ -1,5 +1,5 @@
 use Rattle.std.proofs.Common.{◌≡◌, ◌+◌, length}
-use Rattle.go_scan_core.specs.Enclosed.{behind, body}
+use Rattle.go_scan_core.specs.mirrors.Enclosed.{behind, body}
 use Rattle.go_scan_core.proofs.enclosed.body_len.Given as goal
 
 abbrev pub invariant-loop-rest : goal.invariant-loop-rest

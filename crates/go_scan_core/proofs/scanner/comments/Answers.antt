@@ -2,7 +2,8 @@ use Rattle.std.proofs.Common.{◌≡◌, List, ℕ, Result, Ok, Err, Vec, IfOk, 
 use Rattle.go_scan_core.specs.declared.token.Comment.{Comment}
 use Rattle.go_scan_core.specs.declared.token.ScanError.{ScanError}
 use Rattle.go_scan_core.specs.declared.token.ScanError.TheVariants as errors
-use Rattle.go_scan_core.specs.Cutting.{Answers, comments_in, comments_of}
+use Rattle.go_scan_core.specs.Cutting.{Answers, comments_of}
+use Rattle.go_scan_core.specs.Parts.{comments_in}
 use Rattle.go_scan_core.specs.Tokens.{FindsComments, IsAnswerOf}
 use Rattle.go_scan_core.proofs.AnswerLemmas.{comments_are_computed}
 use Rattle.go_scan_core.proofs.TokenLemmas.{comments_have_texts, comments_in_order}

@@ -1,5 +1,6 @@
 use Rattle.std.proofs.Common.{◌≡◌, ◌+◌, None, length}
-use Rattle.go_scan_core.specs.Cutting.{closed, cut, remarked, width, with_front}
+use Rattle.go_scan_core.specs.Parts.{width}
+use Rattle.go_scan_core.specs.mirrors.Cutting.{closed, cut, remarked, with_front}
 use Rattle.go_scan_core.proofs.scanner.read_characters.Given as goal
 
 abbrev pub invariant-loop-rest : goal.invariant-loop-rest

@@ -1,4 +1,4 @@
-use Rattle.std.proofs.Common.{◌≡◌, ◌<◌, ◌++◌, length, drop, sym, ap, ◌∙◌, arith, append_assoc}
+use Rattle.std.proofs.Common.{◌++◌, drop, sym, ap, ◌∙◌, arith, append_assoc}
 use Rattle.std.proofs.lemmas.List.{append-nil, get_or_read}
 use Rattle.go_scan_core.specs.Values.{meaning_at, meaning_bytes, quoted_value}
 use Rattle.go_scan_core.proofs.EmptyLemmas.{filled, emptied}

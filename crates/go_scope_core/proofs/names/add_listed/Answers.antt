@@ -4,6 +4,6 @@ use Rattle.go_open_core.specs.Blocks.{list_names}
 use Rattle.go_scope_core.proofs.names.add_listed.Goals as goal
 
 pub returns-in-Ok-clause-ok : goal.returns-in-Ok-clause-ok
-returns-in-Ok-clause-ok g c = on_ok_weaker c.add_names.result
-    (λ added. (c.in-Ok.more, c.in-Ok.is, added ∙ ap (λ l. list_names (map (λ n. n.now) c.args.names.now.keys) (map (λ n. n.now) l)) c.as_slice.ensures.value))
-    c.add_names.ensures.ok
+returns-in-Ok-clause-ok g c = on_ok_weaker c.add_all.result
+    (λ added. (c.in-Ok.more, c.in-Ok.is, added ∙ ap (λ l. list_names c.args.names.now (map (λ n. n.now) l)) c.as_slice.ensures.value))
+    c.add_all.ensures.ok

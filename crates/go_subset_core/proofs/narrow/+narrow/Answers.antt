@@ -1,7 +1,7 @@
 use Rattle.std.proofs.Common.{sym, ap, ◌∙◌, map, Some}
 use Rattle.std.proofs.lemmas.Result.{err_from_is_err_and}
 use Rattle.std.specs.Option.{option_map}
-use Rattle.go_subset_core.specs.Narrowing.{each}
+use Rattle.go_subset_core.specs.mirrors.Narrowing.{each}
 use Rattle.go_subset_core.proofs.EachLemmas.{each_push, each_stop, each_end}
 use Rattle.go_subset_core.proofs.NarrowLemmas.{narrow_line, line_tree, lines_from, lines_each, lines_made, block_made, block_none, refuses_along}
 use Rattle.go_subset_core.proofs.narrow.+narrow.Goals as goal

@@ -1,7 +1,7 @@
 use Rattle.std.proofs.Common.{sym, ap, ◌∙◌, map, Some}
 use Rattle.std.proofs.lemmas.Result.{err_from_is_err_and}
 use Rattle.std.specs.Option.{option_map}
-use Rattle.go_subset_core.specs.Narrowing.{each}
+use Rattle.go_subset_core.specs.mirrors.Narrowing.{each}
 use Rattle.go_subset_core.proofs.EachLemmas.{each_push, each_stop, each_end}
 use Rattle.go_subset_core.proofs.NarrowLemmas.{narrow_next, next_tree, exprs_none, exprs_stop, exprs_all, refuses_along}
 use Rattle.go_subset_core.proofs.narrow.narrow_exprs.Goals as goal

@@ -1,5 +1,5 @@
 use Rattle.std.proofs.Common.{◌≡◌, take, map, Some}
-use Rattle.go_subset_core.specs.Narrowing.{each}
+use Rattle.go_subset_core.specs.mirrors.Narrowing.{each}
 use Rattle.go_subset_core.proofs.NarrowLemmas.{narrow_next, next_tree}
 use Rattle.go_subset_core.proofs.narrow.narrow_exprs.Given as goal
 

@@ -3,7 +3,7 @@ use Rattle.std.proofs.lemmas.Result.{err_from_is_err_and}
 use Rattle.std.specs.Option.{option_map}
 use Rattle.go_tree_nodes.specs.Shapes as wide_shapes
 use Rattle.go_subset_core.specs.Shapes.{top_of}
-use Rattle.go_subset_core.specs.Narrowing.{each, narrow_top, top_tree}
+use Rattle.go_subset_core.specs.mirrors.Narrowing.{each, narrow_top, top_tree}
 use Rattle.go_subset_core.proofs.EachLemmas.{each_push, each_stop, each_end, each-map}
 use Rattle.go_subset_core.proofs.NarrowLemmas.{narrow_decl_of, refuses_along}
 use Rattle.go_subset_core.proofs.narrow.narrow_tops.Goals as goal

@@ -1,6 +1,6 @@
 use Rattle.std.proofs.Common.{◌≡◌, take, map, Some}
 use Rattle.go_subset_core.specs.Shapes.{top_of}
-use Rattle.go_subset_core.specs.Narrowing.{each}
+use Rattle.go_subset_core.specs.mirrors.Narrowing.{each}
 use Rattle.go_subset_core.proofs.NarrowLemmas.{narrow_decl_of}
 use Rattle.go_subset_core.proofs.narrow.narrow_tops.Given as goal
 

@@ -2,7 +2,7 @@ use Rattle.std.proofs.Common.{sym, ap, ◌∙◌}
 use Rattle.std.specs.Prelude.{◌==◌}
 use Rattle.std.specs.Option.{option_map, option_and_then}
 use Rattle.go_tree_nodes.specs.Shapes as wide_shapes
-use Rattle.go_subset_core.specs.Narrowing.{narrow, narrow_values}
+use Rattle.go_subset_core.specs.mirrors.Narrowing.{narrow, narrow_values}
 use Rattle.go_subset_core.proofs.NarrowLemmas.{exprs_several}
 use Rattle.go_subset_core.proofs.narrow.narrow_values.Goals as goal
 

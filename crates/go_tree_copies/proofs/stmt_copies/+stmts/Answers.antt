@@ -1,9 +1,10 @@
 use Rattle.std.proofs.Common.{ap, sym, ◌∙◌}
 use Rattle.go_tree_nodes.specs.declared.stmts.«Branch» as declared_branch
-use Rattle.go_tree_nodes.specs.Trees.{Declare, Simple, Return, Block, If, For, Branch, ElseBlock, NoLines, Line}
-use Rattle.go_tree_nodes.specs.Shapes.{shape_stmt, shape_if, shape_for, shape_else, lines_of}
-use Rattle.go_tree_copies.proofs.SameTrees.{one_copied, all_copied, line_tree, same_lines, of_made}
-use Rattle.go_tree_nodes.proofs.ShapeLemmas.{shape_block, shape_loop, shape_else_block, shape_branched, branch_parts}
+use Rattle.go_tree_nodes.specs.declared.stmts.Loop.{out-Loop}
+use Rattle.go_tree_nodes.specs.Trees.{Simple, Return, Block, If, For, Branch, ElseBlock, NoLines, Line}
+use Rattle.go_tree_nodes.specs.Shapes.{shape_stmt, shape_if, shape_for, shape_loop, shape_branch, shape_else, lines_of}
+use Rattle.go_tree_copies.proofs.SameTrees.{one_copied, all_copied, line_tree, same_lines, of_made, of_boxed}
+use Rattle.go_tree_nodes.proofs.ShapeLemmas.{shape_block, shape_looped, loop_parts, shape_else_block, shape_branched, branch_parts}
 use Rattle.go_tree_copies.proofs.stmt_copies.+stmts.Goals as goal
 
 pub copy_lines-loop-line-preserved : goal.copy_lines-loop-line-preserved
@@ -24,15 +25,6 @@ copy_stmt-returns-in-Ok-copy_lines t c =
     ∙ ap (λ l. Block w.«open» l w.close) c.in-Ok-copy_lines.ensures
     ∙ sym (ap shape_stmt w.is ∙ shape_block w.«open» w.lines w.close)
 
-pub copy_stmt-returns-in-Ok-copy_for_head : goal.copy_stmt-returns-in-Ok-copy_for_head
-copy_stmt-returns-in-Ok-copy_for_head t c =
-    let w = c.in-For in
-    let ls = c.in-Ok-copy_lines-2.copy in
-    shape_loop w.keyword c.in-Ok-copy_for_head.copy w.«open» ls w.close
-    ∙ ap (λ h. For w.keyword h w.«open» (lines_of ls.items) w.close) c.in-Ok-copy_for_head.ensures
-    ∙ ap (λ l. For w.keyword (shape_for w.head) w.«open» l w.close) c.in-Ok-copy_lines-2.ensures
-    ∙ sym (ap shape_stmt w.is ∙ shape_loop w.keyword w.head w.«open» w.lines w.close)
-
 pub copy_otherwise-returns-in-Ok : goal.copy_otherwise-returns-in-Ok
 copy_otherwise-returns-in-Ok t c =
     let w = c.in-Block in
@@ -47,14 +39,25 @@ copy_branch-returns t c =
     let ls = c.in-Ok.copy.1.0 in
     let other = c.in-Ok.copy.1.1 in
     let made = of_made _ _ _ c.in-Ok.ensures.1 c.both.ensures in
+    let same =
     shape_branched b.keyword head b.«open» ls b.close other
     ∙ ap (λ h. Branch b.keyword h b.«open» (lines_of ls.items) b.close (shape_else other)) (of_made _ _ _ c.in-Ok.ensures.0 c.copy_if_head-head.ensures)
     ∙ ap (λ l. Branch b.keyword (shape_if b.head) b.«open» l b.close (shape_else other)) (of_made _ _ _ made.0 c.copy_lines-then.ensures)
     ∙ ap (Branch b.keyword (shape_if b.head) b.«open» (lines_of b.«then».items) b.close) (of_made _ _ _ made.1 c.copy_otherwise-otherwise.ensures)
-    ∙ sym (branch_parts c.args.branch.now)
+    ∙ sym (branch_parts c.args.branch.now) in
+    of_boxed shape_branch _ _ _ c.boxed.ensures same
 
-pub copy_stmt-returns-in-Ok : goal.copy_stmt-returns-in-Ok
-copy_stmt-returns-in-Ok t c = ap Declare c.in-Ok.ensures ∙ sym (ap shape_stmt c.in-Declare.is)
+pub copy_loop-returns : goal.copy_loop-returns
+copy_loop-returns t c =
+    let b = out-Loop c.args.turns.now in
+    let ls = c.in-Ok.copy.0 in
+    let head = c.in-Ok.copy.1 in
+    let same =
+    shape_looped b.keyword head b.«open» ls b.close
+    ∙ ap (λ h. For b.keyword h b.«open» (lines_of ls.items) b.close) (of_made _ _ _ c.in-Ok.ensures.1 c.copy_for_head.ensures)
+    ∙ ap (λ l. For b.keyword (shape_for b.head) b.«open» l b.close) (of_made _ _ _ c.in-Ok.ensures.0 c.copy_lines-body.ensures)
+    ∙ sym (loop_parts c.args.turns.now) in
+    of_boxed shape_loop _ _ _ c.boxed.ensures same
 
 pub copy_stmt-returns-in-Ok-copy_simple : goal.copy_stmt-returns-in-Ok-copy_simple
 copy_stmt-returns-in-Ok-copy_simple t c = ap Simple c.in-Ok-copy_simple.ensures ∙ sym (ap shape_stmt c.in-Simple.is)
@@ -63,4 +66,4 @@ pub copy_stmt-returns-in-Ok-copy_some_exprs : goal.copy_stmt-returns-in-Ok-copy_
 copy_stmt-returns-in-Ok-copy_some_exprs t c = ap (Return c.in-Return.keyword) c.in-Ok-copy_some_exprs.ensures ∙ sym (ap shape_stmt c.in-Return.is)
 
 pub copy_stmt-returns-in-Ok-copy_branch : goal.copy_stmt-returns-in-Ok-copy_branch
-copy_stmt-returns-in-Ok-copy_branch t c = ap If c.in-Ok-copy_branch.ensures ∙ sym (ap shape_stmt c.in-If.is)
+copy_stmt-returns-in-Ok-copy_branch t c = ap If c.in-Ok-copy_branch.ensures ∙ ap (λ b. If (shape_branch b)) c.deref-in-If.ensures ∙ sym (ap shape_stmt c.in-If.is)

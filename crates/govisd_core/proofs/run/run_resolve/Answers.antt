@@ -1,20 +1,20 @@
-use Rattle.std.proofs.Common.{ℕ, false, take, subst}
+use Rattle.std.proofs.Common.{false, subst}
 use Rattle.std.specs.Io.KnownBytes.{Appends}
+use Rattle.govisd_core.specs.Outputs.{IsCutShort}
 use Rattle.govisd_core.specs.Reports.{IsReport}
+use Rattle.govisd_core.proofs.OutputLemmas.{all_written, cut_short}
 use Rattle.govisd_core.proofs.ReportLemmas.{reported_all, reported_first}
 use Rattle.govisd_core.proofs.run.run_resolve.Goals as goal
 
-pub returns-then-not-write_report : goal.returns-then-not-write_report
-returns-then-not-write_report g c =
+pub returns-then-is_err-clause-end : goal.returns-then-is_err-clause-end
+returns-then-is_err-clause-end g c =
     let report = c.in-Ok-report_of.report in
-    let text = c.as_slice.ensures.value in
-    let part = c.if-not-write_report.ensures in
-    let sent = subst (λ bs. (count : ℕ) × Appends (g.W.Write.contents c.args.writer.now) (g.W.Write.contents c.write_report.new.writer) (take count bs)) text part in
-    reported_first (g.R.Read.remaining c.args.reader.now) 1048577 c.in-Ok.bytes.items report.clean report.text.items _ _ c.in-Ok.ensures.ok c.in-Ok-report_of.ensures sent
+    let cut = cut_short (g.W.Write.contents c.args.writer.now) (g.W.Write.contents c.write_report.new.writer) c.as_slice.result.now c.write_report.result c.is_err.result c.write_report.ensures c.is_err.ensures.value c.if-is_err.true in
+    reported_first (g.R.Read.remaining c.args.reader.now) 1048577 c.in-Ok.bytes.items report.clean report.text.items _ _ c.in-Ok.ensures.ok c.in-Ok-report_of.ensures (subst (IsCutShort _ _) c.as_slice.ensures.value cut)
 
-pub returns : goal.returns
-returns g c =
+pub returns-clause-end : goal.returns-clause-end
+returns-clause-end g c =
     let report = c.in-Ok-report_of.report in
     let made = subst (λ b. IsReport c.in-Ok.bytes.items b report.text.items) c.if-report.false c.in-Ok-report_of.ensures in
-    let appended = subst (λ bs. Appends (g.W.Write.contents c.args.writer.now) (g.W.Write.contents c.write_report.new.writer) bs) c.as_slice.ensures.value c.if-not-write_report.ensures in
-    reported_all (g.R.Read.remaining c.args.reader.now) 1048577 c.in-Ok.bytes.items false report.text.items _ _ c.in-Ok.ensures.ok made appended
+    let all = all_written (g.W.Write.contents c.args.writer.now) (g.W.Write.contents c.write_report.new.writer) c.as_slice.result.now c.write_report.result c.is_err.result c.write_report.ensures c.is_err.ensures.value c.if-is_err.false in
+    reported_all (g.R.Read.remaining c.args.reader.now) 1048577 c.in-Ok.bytes.items false report.text.items _ _ c.in-Ok.ensures.ok made (subst (Appends _ _) c.as_slice.ensures.value all)

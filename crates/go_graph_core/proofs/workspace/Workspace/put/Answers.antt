@@ -21,12 +21,12 @@ returns-then-is_empty-clause-ok c =
 pub invariant_of-put_at : goal.invariant_of-put_at
 invariant_of-put_at c =
     let some : 0 < length (given_files c.args.files.items) = (let z : 0 < vec_len c.args.files = positive _ (sym c.is_empty.ensures ∙ c.if-is_empty.false) in let k = c.args.files.ok in let n = as_many_given c.args.files.items in omega (arith, z, n)) in
-    read_package c.in-Ok-copy.path (given_files c.args.files.items) c.in-Ok.files.items (subst IsPath (sym c.in-Ok-copy.ensures) c.place-at.ensures.path) c.in-Ok.ensures some
+    read_package c.in-Ok-copy.path (given_files c.args.files.items) c.in-Ok.files.items (subst IsPath (sym c.in-Ok-copy.ensures) c.position_of-at.ensures.path) c.in-Ok.ensures some
 
 pub invariant_of-self-2 : goal.invariant_of-self-2
 invariant_of-self-2 c =
     let some : 0 < length (given_files c.args.files.items) = (let z : 0 < vec_len c.args.files = positive _ (sym c.is_empty.ensures ∙ c.if-is_empty.false) in let k = c.args.files.ok in let n = as_many_given c.args.files.items in omega (arith, z, n)) in
-    let well : IsPackage (c.in-Ok-copy.path, c.in-Ok.files.items) = read_package c.in-Ok-copy.path (given_files c.args.files.items) c.in-Ok.files.items (subst IsPath (sym c.in-Ok-copy.ensures) c.place-at.ensures.path) c.in-Ok.ensures some in
+    let well : IsPackage (c.in-Ok-copy.path, c.in-Ok.files.items) = read_package c.in-Ok-copy.path (given_files c.args.files.items) c.in-Ok.files.items (subst IsPath (sym c.in-Ok-copy.ensures) c.position_of-at.ensures.path) c.in-Ok.ensures some in
     subst IsWorkspace (sym c.in_default-put_at.ensures.ok) (well_put c.self.inside.packages.items c.in-Ok-copy.path c.in-Ok.files.items c.self.invariant well)
 
 pub returns-clause-ok : goal.returns-clause-ok

@@ -4,7 +4,7 @@ use Rattle.go_block_core.proofs.HoldingLaws.{never_hidden}
 use Rattle.go_open_core.specs.Blocks.{found_in, in_block}
 use Rattle.go_scope_core.specs.declared.scope.InScope.TheVariants.{Package, File, Local}
 use Rattle.go_scope_core.specs.Scopes.{scope_blocks}
-use Rattle.go_scope_core.proofs.Innermost.{meanings}
+use Rattle.go_open_core.proofs.Innermost.{meanings}
 use Rattle.go_scope_core.proofs.Lookups.{found_by_parts}
 use Rattle.go_scope_core.proofs.scope.Scopes.find.Goals as goal
 

@@ -1,0 +1,9 @@
+pub mod Alike
+pub mod Binding
+pub mod Denoted
+pub mod Faults
+pub mod Law
+pub mod Outline
+pub mod Steps
+pub mod Tables
+pub mod mirrors

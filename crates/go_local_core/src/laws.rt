@@ -1,0 +1,22 @@
+//! Laws of what the names of a function denote, with nothing to run.
+ghost use Rattle.go_local_core.specs.Denoted.{OneIsDenoted};
+ghost use Rattle.go_local_core.specs.Tables.{OneTable};
+
+/// There is exactly one list of the declarations of a function in which each means what its piece gives under the
+/// names as this very list binds them, and what comes of a walk through the function with the names that are open is
+/// what this list gives.
+///
+/// The Go specification, "Declarations and scope".
+pub fn one_table<X, N>()
+    ensures { OneTable X N }
+{}
+
+/// What a name is bound to at a place is the declaration of it that holds there, whose region has the place and whose
+/// block lies inside the blocks of all others; there is at most one.
+///
+/// The Go specification, "Declarations and scope": "An identifier declared in a block may be redeclared in an inner
+/// block. While the identifier of the inner declaration is in scope, it denotes the entity declared by the inner
+/// declaration."
+pub fn one_is_denoted<X, N>()
+    ensures { OneIsDenoted X N }
+{}

@@ -1,0 +1,16 @@
+//! The local names of a function: its blocks, what is checked in them, and what each name denotes at each place.
+//!
+//! The Go specification, "Blocks" and "Declarations and scope".
+#![tactic(auto)]
+
+mod laws;
+
+use go_text_core::Rule;
+pub use laws::{one_is_denoted, one_table};
+
+/// A rule that is broken, and the offset in bytes where it is.
+#[derive(Clone, Copy, Debug, PartialEq, Eq)]
+pub struct Fault {
+    pub offset: usize,
+    pub rule: Rule,
+}

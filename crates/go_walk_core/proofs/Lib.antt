@@ -1,0 +1,4 @@
+pub mod EndLemmas
+pub mod StepLemmas
+pub mod TerminatingLemmas
+pub mod Visits

@@ -1,0 +1,107 @@
+//! What the program does, over a reader and two writers.
+ghost use Rattle.std.specs.Prelude.{◌≡◌, ◌++◌, List, ℕ, map, string_bytes, IfOk};
+ghost use Rattle.clap.specs.Values.{kind_of};
+ghost use Rattle.govisd.specs.Texts.{refused_text as text_of_refused};
+ghost use Rattle.govisd.specs.Runs.{Refuses, Resolves, Runs, Shows, Tells};
+
+use crate::status::{end_status, refusal_status};
+use crate::texts::{end_text, help_text, refused_text, version_text};
+use crate::words::{Request, read_words};
+use clap::Error;
+use clap::error::ErrorKind;
+use govisd_core::{ResolveEnd, run_resolve, write_report};
+use std::alloc::{AllocError, Global};
+use std::convert::AsStr;
+use std::io::{Read, Write};
+
+/// What came of the program.
+#[derive(Clone, Copy)]
+pub struct Ran {
+    /// The exit status.
+    pub status: u8,
+    /// Whether the second writer took the whole of what was to be said on it, be it nothing.
+    pub is_told: bool,
+}
+
+// Writes what is to be said, and answers whether all of it was written.
+fn tell<E: Write>(err: &mut E, text: &str) -> bool
+    ensures { Tells result text.now (E.contents err.old) (E.contents err.new) }
+{
+    write_report(err, text.as_bytes()).is_ok()
+}
+
+// A run of `resolve`. Where it writes no whole report, it says why.
+fn resolve<R: Read, W: Write, E: Write>(
+    alloc: Global,
+    reader: &mut R,
+    out: &mut W,
+    err: &mut E,
+) -> Ran
+    ensures { Resolves result (R.remaining reader.old) (R.remaining reader.new) (W.contents out.old) (W.contents out.new) (E.contents err.old) (E.contents err.new) }
+{
+    let end = run_resolve(alloc, reader, out);
+    let is_told = tell(err, end_text(end));
+    Ran {
+        status: end_status(end),
+        is_told,
+    }
+}
+
+// Writes a text that was asked for, or says that it cannot be written.
+fn show<W: Write, E: Write>(out: &mut W, err: &mut E, text: &str) -> Ran
+    ensures { Shows result text.now (W.contents out.old) (W.contents out.new) (E.contents err.old) (E.contents err.new) }
+{
+    if write_report(out, text.as_bytes()).is_ok() {
+        return Ran {
+            status: 0,
+            is_told: true,
+        };
+    }
+    let is_told = tell(err, end_text(ResolveEnd::WriteFault));
+    Ran { status: 1, is_told }
+}
+
+// What is wrong with the words of a command line, and a last line that says that it is refused.
+fn refusal_text(alloc: Global, error: &Error) -> Result<String, AllocError>
+    ensures { IfOk result (λ text. (front : List ℕ) × (string_bytes text ≡ front ++ text_of_refused)) }
+{
+    let mut text = error.to_string(alloc)?;
+    text.push_str(refused_text())?;
+    Ok(text)
+}
+
+// Says what is wrong with the words of a command line.
+fn refuse<E: Write>(alloc: Global, err: &mut E, error: &Error) -> Ran
+    ensures { Refuses (kind_of error.now) result (E.contents err.old) (E.contents err.new) }
+{
+    let status = refusal_status(error.kind());
+    if let ErrorKind::OutOfMemory = error.kind() {
+        let is_told = tell(err, end_text(ResolveEnd::Memory));
+        return Ran { status, is_told };
+    }
+    let is_told = match refusal_text(alloc, error) {
+        Ok(text) => tell(err, text.as_str()),
+        Err(_) => tell(err, refused_text()),
+    };
+    Ran { status, is_told }
+}
+
+/// What the program does for the words of its command line, of which the first is its name: a run of `resolve`
+/// from the reader to the first writer, its help or its version on the first writer, or a refusal. What there is
+/// to say beside goes to the second writer.
+pub fn run<S: AsStr, R: Read, W: Write, E: Write>(
+    alloc: Global,
+    words: &[S],
+    reader: &mut R,
+    out: &mut W,
+    err: &mut E,
+) -> Ran
+    ensures { Runs (map S.text words.now) result (R.remaining reader.old) (R.remaining reader.new) (W.contents out.old) (W.contents out.new) (E.contents err.old) (E.contents err.new) }
+{
+    match read_words(alloc, words) {
+        Ok(Request::Resolve) => resolve(alloc, reader, out, err),
+        Ok(Request::Help) => show(out, err, help_text()),
+        Ok(Request::Version) => show(out, err, version_text()),
+        Err(error) => refuse(alloc, err, &error),
+    }
+}
