@@ -6,4 +6,5 @@ pub mod Law
 pub mod Outline
 pub mod Steps
 pub mod Tables
+pub mod Worked
 pub mod mirrors

@@ -1,6 +1,7 @@
 //! Laws of what the names of a function denote, with nothing to run.
 ghost use Rattle.go_local_core.specs.Denoted.{OneIsDenoted};
 ghost use Rattle.go_local_core.specs.Tables.{OneTable};
+ghost use Rattle.go_local_core.specs.Worked.{WorkedFunctions};
 
 /// There is exactly one list of the declarations of a function in which each means what its piece gives under the
 /// names as this very list binds them, and what comes of a walk through the function with the names that are open is
@@ -19,4 +20,10 @@ pub fn one_table<X, N>()
 /// declaration."
 pub fn one_is_denoted<X, N>()
     ensures { OneIsDenoted X N }
+{}
+
+/// Two functions with headers, `else` chains, groups and short declarations, in which each name denotes the declaration
+/// that was worked out by hand, and the faults are those that were: by the walk, and by the intervals.
+pub fn worked_functions()
+    ensures { WorkedFunctions }
 {}
