@@ -5,42 +5,60 @@ use Rattle.std.proofs.lemmas.List.{take_more, map_more, map-append, length-map}
 use Rattle.std.specs.Global.{Global}
 use Rattle.std.specs.declared.string.String.{String}
 use Rattle.indexmap.specs.IndexMap.{IndexMap}
+use Rattle.go_block_core.specs.Exports.{clause_name}
 use Rattle.go_block_core.specs.Tables.{table_of}
 use Rattle.go_tree_nodes.specs.Trees.{FileTree}
 use Rattle.go_graph_core.specs.Packages.{Trees, IsPackageName}
-use Rattle.go_block_core.specs.declared.decls.DeclRef.{DeclRef}
-use Rattle.go_block_core.specs.declared.decls.Declaration.{Declaration}
+use Rattle.go_decl_core.specs.declared.keys.DeclRef.{DeclRef}
 use Rattle.go_block_core.specs.declared.binding.Binding.{Binding}
-use Rattle.go_block_core.specs.declared.binding.Bound.{Bound}
 use Rattle.go_block_core.specs.declared.imports.NamedImport.{NamedImport}
 use Rattle.go_block_core.specs.declared.fault.BlockFault.{BlockFault}
-use Rattle.go_block_core.specs.Bindings.{file_bound}
+use Rattle.go_block_core.specs.Bindings.{Bound, file_bound}
 use Rattle.go_graph_core.specs.Imports.{main}
-use Rattle.go_block_core.specs.Declarations.{is_main_package}
+use Rattle.go_block_core.specs.Declarations.{Declaration, is_main_package}
 use Rattle.go_block_core.specs.Holding.{with_declared, declared_block, with_bound, bound_block, file_block, file_blocks, imports_in}
 use Rattle.go_block_core.specs.Faults.{fault_if, decl_faults_at, decl_faults, bound_faults_at, bound_faults, file_faults}
 
--- one declaration more
-pub declared_more : (b : List (List ℕ × DeclRef)) (ds : List Declaration) (d : Declaration) → declared_block b (ds ++ d ∷ []) ≡ with_declared (declared_block b ds) d
-declared_more b [] d = refl
-declared_more b (e ∷ ds) d = declared_more (with_declared b e) ds d
+-- declarations behind others
+pub declared_join : (b : List (List ℕ × DeclRef)) (ds es : List Declaration) → declared_block b (ds ++ es) ≡ declared_block (declared_block b ds) es
+declared_join b [] es = refl
+declared_join b (d ∷ ds) es = declared_join (with_declared b d) ds es
 
-pub decl_faults_more : (main : Bool) (b : List (List ℕ × DeclRef)) (ds : List Declaration) (d : Declaration) → decl_faults main b (ds ++ d ∷ []) ≡ decl_faults main b ds ++ decl_faults_at main (declared_block b ds) d
-decl_faults_more main b [] d = append-nil (decl_faults_at main b d)
-decl_faults_more main b (e ∷ ds) d =
-    ap (λ fs. decl_faults_at main b e ++ fs) (decl_faults_more main (with_declared b e) ds d)
-    ∙ sym (append_assoc (decl_faults_at main b e) (decl_faults main (with_declared b e) ds) (decl_faults_at main (declared_block (with_declared b e) ds) d))
+pub decl_faults_join : (is_main : Bool) (b : List (List ℕ × DeclRef)) (ds es : List Declaration) → decl_faults is_main b (ds ++ es) ≡ decl_faults is_main b ds ++ decl_faults is_main (declared_block b ds) es
+decl_faults_join is_main b [] es = refl
+decl_faults_join is_main b (d ∷ ds) es =
+    ap (λ fs. decl_faults_at is_main b d ++ fs) (decl_faults_join is_main (with_declared b d) ds es)
+    ∙ sym (append_assoc (decl_faults_at is_main b d) (decl_faults is_main (with_declared b d) ds) (decl_faults is_main (declared_block (with_declared b d) ds) es))
 
--- one binding more
-pub bound_more : (b : List (List ℕ × Binding)) (ns : List Bound) (n : Bound) → bound_block b (ns ++ n ∷ []) ≡ with_bound (bound_block b ns) n
-bound_more b [] n = refl
-bound_more b (m ∷ ns) n = bound_more (with_bound b m) ns n
+-- one step of a loop that declares: the block and the faults of what was declared and of what comes
+pub block_step : (first old new : List (List ℕ × DeclRef)) (ds more all : List Declaration) → old ≡ declared_block first ds → new ≡ declared_block old more → all ≡ ds ++ more → new ≡ declared_block first all
+block_step first old new ds more all before step is = step ∙ (ap (λ b. declared_block b more) before ∙ (sym (declared_join first ds more) ∙ ap (declared_block first) (sym is)))
 
-pub bound_faults_more : (names : List (List ℕ × DeclRef)) (file : ℕ) (b : List (List ℕ × Binding)) (ns : List Bound) (n : Bound) → bound_faults names file b (ns ++ n ∷ []) ≡ bound_faults names file b ns ++ bound_faults_at names file (bound_block b ns) n
-bound_faults_more names file b [] n = append-nil (bound_faults_at names file b n)
-bound_faults_more names file b (m ∷ ns) n =
-    ap (λ fs. bound_faults_at names file b m ++ fs) (bound_faults_more names file (with_bound b m) ns n)
-    ∙ sym (append_assoc (bound_faults_at names file b m) (bound_faults names file (with_bound b m) ns) (bound_faults_at names file (bound_block (with_bound b m) ns) n))
+pub block_faults_step : (is_main : Bool) (first old : List (List ℕ × DeclRef)) (ds more all : List Declaration) (front fs new : List BlockFault) → old ≡ declared_block first ds → fs ≡ front ++ decl_faults is_main first ds → new ≡ fs ++ decl_faults is_main old more → all ≡ ds ++ more → new ≡ front ++ decl_faults is_main first all
+block_faults_step is_main first old ds more all front fs new block before step is =
+    step
+    ∙ (ap (λ b. fs ++ decl_faults is_main b more) block
+    ∙ (ap (λ l. l ++ decl_faults is_main (declared_block first ds) more) before
+    ∙ (append_assoc front (decl_faults is_main first ds) (decl_faults is_main (declared_block first ds) more)
+    ∙ ap (λ l. front ++ l) (sym (decl_faults_join is_main first ds more) ∙ ap (decl_faults is_main first) (sym is)))))
+
+-- what one declaration declares
+pub one_declared : (ds : List Declaration) (d : Declaration) (b new : List (List ℕ × DeclRef)) → d ∷ [] ≡ ds → new ≡ with_declared b d → new ≡ declared_block b ds
+one_declared ds d b new is step = step ∙ ap (declared_block b) is
+
+pub one_faults : (is_main : Bool) (ds : List Declaration) (d : Declaration) (b : List (List ℕ × DeclRef)) (old new : List BlockFault) → d ∷ [] ≡ ds → new ≡ old ++ decl_faults_at is_main b d → new ≡ old ++ decl_faults is_main b ds
+one_faults is_main ds d b old new is step = step ∙ ap (λ fs. old ++ fs) (sym (append-nil (decl_faults_at is_main b d)) ∙ ap (decl_faults is_main b) is)
+
+-- bindings, of which some are left
+pub bound_step : (table new whole : List (List ℕ × Binding)) (b : Bound) (left rest : List Bound) → left ≡ b ∷ rest → new ≡ with_bound table b → bound_block table left ≡ whole → bound_block new rest ≡ whole
+bound_step table new whole b left rest is step before = ap (λ t. bound_block t rest) step ∙ (ap (bound_block table) (sym is) ∙ before)
+
+pub bound_faults_step : (names : List (List ℕ × DeclRef)) (file : ℕ) (table new : List (List ℕ × Binding)) (b : Bound) (left rest : List Bound) (old more whole : List BlockFault) → left ≡ b ∷ rest → new ≡ with_bound table b → more ≡ old ++ bound_faults_at names file table b → old ++ bound_faults names file table left ≡ whole → more ++ bound_faults names file new rest ≡ whole
+bound_faults_step names file table new b left rest old more whole is step added before =
+    ap (λ t. more ++ bound_faults names file t rest) step
+    ∙ (ap (λ l. l ++ bound_faults names file (with_bound table b) rest) added
+    ∙ (append_assoc old (bound_faults_at names file table b) (bound_faults names file (with_bound table b) rest)
+    ∙ (ap (λ l. old ++ bound_faults names file table l) (sym is) ∙ before)))
 
 -- one file more
 pub file_faults_more : (names : List (List ℕ × DeclRef)) (file : ℕ) (fs : List (List NamedImport)) (f : List NamedImport) → file_faults names file (fs ++ f ∷ []) ≡ file_faults names file fs ++ bound_faults names (file + length fs) [] (file_bound f)
@@ -68,22 +86,6 @@ two_faults first mid new f g {f_holds = f_holds} {g_holds = g_holds} same_f same
     ∙ (ap (λ l. l ++ fault_if g_holds g) (mid_is ∙ ap (λ b. first ++ fault_if b f) same_f)
     ∙ append_assoc first (fault_if f_holds f) (fault_if g_holds g)))
 
-pub declared_step : (ds : List Declaration) (i : ℕ) (d : Declaration) → i < length ds → d ≡ get_or ds i d → declared_block [] (take (i + 1) ds) ≡ with_declared (declared_block [] (take i ds)) d
-declared_step ds i d lt is =
-    ap (declared_block []) (take_more ds i d lt) ∙ (declared_more [] (take i ds) (get_or ds i d) ∙ ap (with_declared (declared_block [] (take i ds))) (sym is))
-
-pub decl_faults_step : (main : Bool) (ds : List Declaration) (i : ℕ) (d : Declaration) → i < length ds → d ≡ get_or ds i d → decl_faults main [] (take (i + 1) ds) ≡ decl_faults main [] (take i ds) ++ decl_faults_at main (declared_block [] (take i ds)) d
-decl_faults_step main ds i d lt is =
-    ap (decl_faults main []) (take_more ds i d lt) ∙ (decl_faults_more main [] (take i ds) (get_or ds i d) ∙ ap (λ x. decl_faults main [] (take i ds) ++ decl_faults_at main (declared_block [] (take i ds)) x) (sym is))
-
-pub bound_step : (ns : List Bound) (i : ℕ) (n : Bound) → i < length ns → n ≡ get_or ns i n → bound_block [] (take (i + 1) ns) ≡ with_bound (bound_block [] (take i ns)) n
-bound_step ns i n lt is =
-    ap (bound_block []) (take_more ns i n lt) ∙ (bound_more [] (take i ns) (get_or ns i n) ∙ ap (with_bound (bound_block [] (take i ns))) (sym is))
-
-pub bound_faults_step : (names : List (List ℕ × DeclRef)) (file : ℕ) (ns : List Bound) (i : ℕ) (n : Bound) → i < length ns → n ≡ get_or ns i n → bound_faults names file [] (take (i + 1) ns) ≡ bound_faults names file [] (take i ns) ++ bound_faults_at names file (bound_block [] (take i ns)) n
-bound_faults_step names file ns i n lt is =
-    ap (bound_faults names file []) (take_more ns i n lt) ∙ (bound_faults_more names file [] (take i ns) (get_or ns i n) ∙ ap (λ x. bound_faults names file [] (take i ns) ++ bound_faults_at names file (bound_block [] (take i ns)) x) (sym is))
-
 pub files_step : (files : List (Vec NamedImport Global)) (i : ℕ) (d : Vec NamedImport Global) → i < length files → d ≡ get_or files i d → map imports_in (take (i + 1) files) ≡ map imports_in (take i files) ++ d.items ∷ []
 files_step files i d lt is = map_more imports_in files i d lt ∙ ap (λ x. map imports_in (take i files) ++ imports_in x ∷ []) (sym is)
 
@@ -105,3 +107,8 @@ file_faults_step names files i d number lt is count =
     ap (file_faults names 0) (files_step files i d lt is)
     ∙ (file_faults_more names 0 (map imports_in (take i files)) d.items
     ∙ ap (λ n. file_faults names 0 (map imports_in (take i files)) ++ bound_faults names n [] (file_bound d.items)) (let e : 0 + length (map imports_in (take i files)) ≡ number = omega arith in e))
+
+-- the name of a package is that in its first clause
+pub clause_of_name : (ts : Trees) (name : List ℕ) → IsPackageName ts name → name ≡ clause_name ts
+clause_of_name [] name h = absurd (let l : 0 < length {A = List ℕ × FileTree} [] = h.some in omega arith)
+clause_of_name (t ∷ ts) name h = sym (h.same 0 t (omega arith))

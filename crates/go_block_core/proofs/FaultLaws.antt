@@ -2,15 +2,13 @@
 use Rattle.std.proofs.Common.{◌≡◌, ℕ, ◌+◌, ◌<◌, zero, suc, Bool, true, false, not, ◌&&◌, ◌⊎◌, inl, inr, ⊎_elim, List, [], ◌∷◌, ◌++◌, length, get_or, Some, is_some, refl, sym, ap, subst, ◌∙◌, arith}
 use Rattle.std.specs.Prelude.{Any, Contains, slice_get}
 use Rattle.std.proofs.lemmas.List.Elements.{Contains-append_left, Contains-append_right, Contains-append_cases}
-use Rattle.go_block_core.specs.declared.decls.DeclRef.{DeclRef}
-use Rattle.go_block_core.specs.declared.decls.Declaration.{Declaration}
+use Rattle.go_decl_core.specs.declared.keys.DeclRef.{DeclRef}
 use Rattle.go_block_core.specs.declared.binding.Binding.{Binding}
-use Rattle.go_block_core.specs.declared.binding.Bound.{Bound}
 use Rattle.go_block_core.specs.declared.imports.NamedImport.{NamedImport}
 use Rattle.go_block_core.specs.declared.fault.BlockRule.TheVariants.{B1, B2, B3}
 use Rattle.go_block_core.specs.declared.fault.BlockFault.{BlockFault}
-use Rattle.go_block_core.specs.Bindings.{file_bound}
-use Rattle.go_block_core.specs.Declarations.{is_bindable, has_fixed_form, package_declared, is_main_package}
+use Rattle.go_block_core.specs.Bindings.{Bound, file_bound}
+use Rattle.go_block_core.specs.Declarations.{Declaration, is_bindable, has_fixed_form, package_declared, is_main_package}
 use Rattle.go_block_core.specs.Faults.{block_fault, fault_if, decl_faults_at, decl_faults, bound_faults_at, bound_faults, file_faults}
 use Rattle.go_block_core.specs.Holding.{with_declared, declared_block, with_bound, bound_block, package_block}
 use Rattle.go_block_core.specs.Laws.{Declares, Names, IsSecondDecl, IsMalformed, IsSecondBinding, IsHidden, FaultsAreThese}
@@ -88,13 +86,13 @@ decl_meaning main ds f h =
     ⊎_elim
     (λ p. (let parts = both (is_bindable d.name) (has (declared_block [] r.before) d.name) p.0 in inl (record { before = r.before; decl = d; after = r.after; split = r.split; binds_name = parts.0; earlier = any_declared r.before d.name parts.1; fault = p.1 })))
     (λ p. (let parts = both (has_fixed_form main d.name) (not d.is_procedure) p.0 in inr (record { decl = d; among = among_split ds r.before d r.after r.split; fixed = parts.0; other = no_from_not d.is_procedure parts.1; fault = p.1 })))
-    (one_of_two (is_bindable d.name && has (declared_block [] r.before) d.name) (has_fixed_form main d.name && not d.is_procedure) (block_fault d.decl.file d.decl.at B1) (block_fault d.decl.file d.decl.at B3) f r.holds)
+    (one_of_two (is_bindable d.name && has (declared_block [] r.before) d.name) (has_fixed_form main d.name && not d.is_procedure) (block_fault d.decl.file d.at B1) (block_fault d.decl.file d.at B3) f r.holds)
 
 second_decl_stands : (main : Bool) (ds : List Declaration) (f : BlockFault) → IsSecondDecl ds f → Contains (decl_faults main [] ds) f
 second_decl_stands main ds f s =
     let d = s.decl in
     let is_second = ap (λ b. b && has (declared_block [] s.before) d.name) s.binds_name ∙ has_declared s.before d.name s.earlier in
-    subst (λ l. Contains (decl_faults main [] l) f) (sym s.split) (decl_put main [] s.before d s.after f (Contains-append_left (fault_if (is_bindable d.name && has (declared_block [] s.before) d.name) (block_fault d.decl.file d.decl.at B1)) (fault_if (has_fixed_form main d.name && not d.is_procedure) (block_fault d.decl.file d.decl.at B3)) f (in_if _ _ f is_second s.fault)))
+    subst (λ l. Contains (decl_faults main [] l) f) (sym s.split) (decl_put main [] s.before d s.after f (Contains-append_left (fault_if (is_bindable d.name && has (declared_block [] s.before) d.name) (block_fault d.decl.file d.at B1)) (fault_if (has_fixed_form main d.name && not d.is_procedure) (block_fault d.decl.file d.at B3)) f (in_if _ _ f is_second s.fault)))
 
 malformed_stands : (main : Bool) (ds : List Declaration) (f : BlockFault) → IsMalformed main ds f → Contains (decl_faults main [] ds) f
 malformed_stands main ds f s =
@@ -102,7 +100,7 @@ malformed_stands main ds f s =
     let d = s.decl in
     let split : ds ≡ r.before ++ d ∷ r.after = r.split ∙ ap (λ x. r.before ++ x ∷ r.after) r.holds in
     let is_malformed = ap (λ b. b && not d.is_procedure) s.fixed ∙ ap not s.other in
-    subst (λ l. Contains (decl_faults main [] l) f) (sym split) (decl_put main [] r.before d r.after f (Contains-append_right (fault_if (is_bindable d.name && has (declared_block [] r.before) d.name) (block_fault d.decl.file d.decl.at B1)) (fault_if (has_fixed_form main d.name && not d.is_procedure) (block_fault d.decl.file d.decl.at B3)) f (in_if _ _ f is_malformed s.fault)))
+    subst (λ l. Contains (decl_faults main [] l) f) (sym split) (decl_put main [] r.before d r.after f (Contains-append_right (fault_if (is_bindable d.name && has (declared_block [] r.before) d.name) (block_fault d.decl.file d.at B1)) (fault_if (has_fixed_form main d.name && not d.is_procedure) (block_fault d.decl.file d.at B3)) f (in_if _ _ f is_malformed s.fault)))
 
 -- bindings
 

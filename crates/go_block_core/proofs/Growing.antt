@@ -1,20 +1,19 @@
--- Blocks that are right stay right when more are made.
+-- What imports come to stays the same when more blocks are made.
 use Rattle.std.proofs.Common.{◌≡◌, ℕ, suc, List, [], ◌∷◌, Option, Some}
 use Rattle.std.specs.Prelude.{slice_get}
-use Rattle.go_tree_nodes.specs.declared.files.ImportName.{ImportName}
-use Rattle.go_tree_nodes.specs.declared.files.ImportName.TheVariants as written
-use Rattle.go_tree_nodes.specs.Terminals.{value_of}
-use Rattle.go_tree_nodes.specs.Trees.{ImportSpecTree}
+use Rattle.go_tree_nodes.specs.Trees.{FileTree}
+use Rattle.go_graph_core.specs.declared.imports.ImportAt.{ImportAt}
 use Rattle.go_graph_core.specs.declared.imports.ImportOutcome.{ImportOutcome}
 use Rattle.go_graph_core.specs.declared.imports.ImportOutcome.TheVariants as outcomes
+use Rattle.go_graph_core.specs.Packages.{Trees, trees_of}
 use Rattle.go_graph_core.specs.Workspaces.{PackageModel}
 use Rattle.go_graph_core.specs.Lists.{AllNumbered}
-use Rattle.go_block_core.specs.declared.imports.ImportForm.{ImportForm}
-use Rattle.go_block_core.specs.declared.imports.NamedDecl.{NamedDecl}
-use Rattle.go_block_core.specs.declared.imports.NamedImport.{NamedImport}
+use Rattle.go_block_core.specs.declared.imports.Imported.{Imported}
+use Rattle.go_block_core.specs.declared.imports.Imported.TheVariants as given
+use Rattle.go_block_core.specs.Exports.{ExportsModel}
 use Rattle.go_block_core.specs.Blocks.{BlocksModel}
-use Rattle.go_block_core.specs.Naming.{IsForm, AreDotNames, IsImportOf, import_at, AreFileImports, AreSpecImports, file_specs}
-use Rattle.go_block_core.specs.All.{AreBlocksAt}
+use Rattle.go_block_core.specs.Naming.{IsGiven, AreInFile, AreInPackage, import_at, file_specs}
+use Rattle.go_block_core.specs.All.{IsShown, IsImported, AreBlocksAt}
 
 -- blocks that are there stay there
 abbrev pub Grows : List (Option BlocksModel) → List (Option BlocksModel) → Type 0
@@ -26,36 +25,33 @@ numbered_weaker R S f k [] (y ∷ ys) h = absurd h
 numbered_weaker R S f k (x ∷ xs) [] h = absurd h
 numbered_weaker R S f k (x ∷ xs) (y ∷ ys) h = (f k x y h.0, numbered_weaker R S f (suc k) xs ys h.1)
 
+-- what is given by one list is given by another that shows the same
+pub given_weaker : (P Q : ℕ → ExportsModel → Type 0) → ((n : ℕ) (e : ExportsModel) → P n e → Q n e) → (o : ImportOutcome) (i : Imported) → IsGiven P o i → IsGiven Q o i
+given_weaker P Q f (outcomes.«Package» n) (given.«Package» e) h = f n e h
+given_weaker P Q f (outcomes.«Package» n) (given.Refused rule) h = absurd h
+given_weaker P Q f (outcomes.Refused rule) (given.«Package» e) h = absurd h
+given_weaker P Q f (outcomes.Refused rule) (given.Refused other) h = h
+
+-- what holds at each import holds where less is asked
+pub package_weaker : (P Q : ImportAt → Imported → Type 0) → ((at : ImportAt) (i : Imported) → P at i → Q at i) → (number : ℕ) (ts : Trees) (files : List (List Imported)) → AreInPackage P number ts files → AreInPackage Q number ts files
+package_weaker P Q f number ts files h =
+    numbered_weaker (λ file t is. AreInFile P number file t.1 is) (λ file t is. AreInFile Q number file t.1 is)
+    (λ file t is r. numbered_weaker (λ n spec i. P (import_at number file n) i) (λ n spec i. Q (import_at number file n) i) (λ n spec i s. f (import_at number file n) i s) 0 (file_specs t.1) is r)
+    0 ts files h
+
 module _ (ps : List PackageModel) (bs cs : List (Option BlocksModel)) (grows : Grows bs cs) where
-  dot_names : (o : ImportOutcome) (names : List NamedDecl) → AreDotNames bs o names → AreDotNames cs o names
-  dot_names (outcomes.Package number) names h = record { blocks = h.blocks; there = grows number h.blocks h.there; same = h.same }
-  dot_names (outcomes.Refused rule) names h = h
+  pub shown_grow : (n : ℕ) (e : ExportsModel) → IsShown ps bs n e → IsShown ps cs n e
+  shown_grow n e h = record { path = h.path; files = h.files; numbered = h.numbered; blocks = h.blocks; there = grows n h.blocks h.there; is = h.is }
 
-  form : (text : List ℕ) (name : ImportName) (o : ImportOutcome) (f : ImportForm) → IsForm ps bs text name o f → IsForm ps cs text name o f
-  form text written.Own o f h = h
-  form text (written.Named id) o f h = h
-  form text (written.Dot dot) o f h = (h.0, h.1, dot_names o h.0.items h.2)
-
-  imports_grow : (number file : ℕ) (specs : List ImportSpecTree) (is : List NamedImport) → AreSpecImports ps bs number file specs is → AreSpecImports ps cs number file specs is
-  imports_grow number file specs is h =
-      numbered_weaker (λ n spec i. IsImportOf ps bs (import_at number file n) spec i) (λ n spec i. IsImportOf ps cs (import_at number file n) spec i)
-      (λ n spec i r. record { place = r.place; outcome = r.outcome; form = form (value_of spec.path) spec.name i.outcome i.form r.form })
-      0 specs is h
+  imported_grow : (at : ImportAt) (i : Imported) → IsImported ps bs at i → IsImported ps cs at i
+  imported_grow at i h = record { outcome = h.outcome; judged = h.judged; shown = given_weaker (IsShown ps bs) (IsShown ps cs) shown_grow h.outcome i h.shown }
 
   pub blocks_grow : (number : ℕ) (b : BlocksModel) → AreBlocksAt ps bs number b → AreBlocksAt ps cs number b
   blocks_grow number b h = record {
     path = h.path;
     files = h.files;
     numbered = h.numbered;
-    imports = h.imports;
-    named = record {
-      path = h.named.path;
-      files = h.named.files;
-      numbered = h.named.numbered;
-      each =
-          numbered_weaker (λ file s is. AreFileImports ps bs number file s is) (λ file s is. AreFileImports ps cs number file s is)
-          (λ file s is r. imports_grow number file (file_specs s) is r)
-          0 h.named.files h.imports h.named.each;
-    };
+    imported = h.imported;
+    given = package_weaker (IsImported ps bs) (IsImported ps cs) imported_grow number (trees_of h.files) h.imported h.given;
     blocks = h.blocks;
   }

@@ -6,13 +6,11 @@ use Rattle.std.specs.Map.{lookup}
 use Rattle.std.proofs.lemmas.Bool.{true≢false}
 use Rattle.std.proofs.lemmas.List.Elements.{All-cons, All-head, All-tail}
 use Rattle.std.proofs.lemmas.Slice.Eq.{bytes_eq-Decides}
-use Rattle.go_block_core.specs.declared.decls.DeclRef.{DeclRef}
-use Rattle.go_block_core.specs.declared.decls.Declaration.{Declaration}
+use Rattle.go_decl_core.specs.declared.keys.DeclRef.{DeclRef}
 use Rattle.go_block_core.specs.declared.binding.Binding.{Binding}
-use Rattle.go_block_core.specs.declared.binding.Bound.{Bound}
 use Rattle.go_block_core.specs.Blocks.{in_some}
-use Rattle.go_block_core.specs.Declarations.{is_bindable, package_declared}
-use Rattle.go_block_core.specs.Bindings.{file_bound}
+use Rattle.go_block_core.specs.Declarations.{Declaration, is_bindable, package_declared}
+use Rattle.go_block_core.specs.Bindings.{Bound, file_bound}
 use Rattle.go_block_core.specs.Holding.{with_declared, declared_block, with_bound, bound_block}
 use Rattle.go_block_core.specs.Laws.{IsFirstOf, Declares, Names, PackageHolds, FileHolds, NeverHidden, FileAnswers}
 use Rattle.go_block_core.specs.Tables.{in_block, has, with_first}

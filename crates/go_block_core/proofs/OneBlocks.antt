@@ -1,151 +1,46 @@
--- A workspace has one list of blocks.
-use Rattle.std.proofs.Common.{◌≡◌, ℕ, ◌+◌, suc, List, [], ◌∷◌, ◌++◌, map, Option, Some, None, refl, sym, ap, subst, ◌∙◌, cond}
+-- A package has one list of blocks, and so has a workspace.
+use Rattle.std.proofs.Common.{◌≡◌, ℕ, ◌+◌, suc, List, [], ◌∷◌, Option, Some, None, refl, sym, ap, subst, ◌∙◌, arith}
 use Rattle.std.specs.Prelude.{slice_get, Contains}
-use Rattle.std.specs.Str.{chars}
-use Rattle.go_text_core.specs.Text.{exported}
-use Rattle.go_tree_nodes.specs.declared.files.ImportName.{ImportName}
-use Rattle.go_tree_nodes.specs.declared.files.ImportName.TheVariants as written
-use Rattle.go_tree_nodes.specs.Terminals.{value_of}
-use Rattle.go_tree_nodes.specs.Trees.{ImportSpecTree}
+use Rattle.go_tree_nodes.specs.Trees.{FileTree}
 use Rattle.go_graph_core.specs.declared.imports.ImportAt.{ImportAt}
 use Rattle.go_graph_core.specs.declared.imports.ImportOutcome.{ImportOutcome}
 use Rattle.go_graph_core.specs.declared.imports.ImportOutcome.TheVariants as outcomes
 use Rattle.go_graph_core.specs.Sources.{SourceModel}
-use Rattle.go_graph_core.specs.Packages.{IsNameOf, trees_of}
+use Rattle.go_graph_core.specs.Packages.{IsAssembled, Trees, trees_of}
 use Rattle.go_graph_core.specs.Workspaces.{PackageModel, IsWorkspace}
 use Rattle.go_graph_core.specs.Imports.{IsNumbered}
 use Rattle.go_graph_core.specs.Lists.{AllNumbered}
-use Rattle.go_graph_core.proofs.Assemblies.{one_name}
 use Rattle.go_graph_core.proofs.OutcomeLaws.{has_one_outcome}
-use Rattle.go_graph_core.proofs.Zips.{numbered_back}
-use Rattle.go_block_core.specs.declared.binding.Bound.{Bound}
-use Rattle.go_block_core.specs.declared.binding.Target.TheVariants as targets
-use Rattle.go_block_core.specs.declared.decls.DeclRef.{DeclRef}
-use Rattle.go_block_core.specs.declared.imports.ImportForm.{ImportForm}
-use Rattle.go_block_core.specs.declared.imports.ImportForm.TheVariants as forms
-use Rattle.go_block_core.specs.declared.imports.NamedDecl.{NamedDecl}
+use Rattle.go_graph_core.proofs.Zips.{numbered_at, numbered_back}
+use Rattle.go_block_core.specs.declared.imports.Imported.{Imported}
+use Rattle.go_block_core.specs.declared.imports.Imported.TheVariants as given
 use Rattle.go_block_core.specs.declared.imports.NamedImport.{NamedImport}
-use Rattle.go_block_core.specs.Bindings.{bound_as, name_and_decl, exported_bound, all_exported, dot_bound, form_bound, import_bound, file_bound}
-use Rattle.go_block_core.specs.Holding.{package_block, bound_block, file_blocks}
-use Rattle.go_block_core.specs.Blocks.{BlocksModel, blocks_model}
-use Rattle.go_block_core.specs.Naming.{IsOwnName, AreDotNames, IsForm, IsImportOf, AreFileImports, AreImportsOf, import_at, file_specs}
-use Rattle.go_block_core.specs.All.{AreBlocksAt, IsEntry, AreAllBlocks, OneBlocks}
-use Rattle.go_block_core.specs.declared.fault.BlockFault.{BlockFault}
-use Rattle.go_block_core.specs.Declarations.{is_main_package, package_declared}
-use Rattle.go_block_core.specs.Faults.{fault_cmp, decl_faults, bound_faults, file_faults, all_faults}
+use Rattle.go_block_core.specs.Exports.{ExportsModel, exports_model, exported_names, clause_name}
+use Rattle.go_block_core.specs.Holding.{package_block}
+use Rattle.go_block_core.specs.Blocks.{BlocksModel, blocks_model, AreBlocks, exports_of}
+use Rattle.go_block_core.specs.Naming.{IsGiven, AreInFile, import_at, file_specs, package_named}
+use Rattle.go_block_core.specs.All.{IsShown, IsImported, AreImported, AreBlocksAt, IsEntry, AreAllBlocks, OneBlocks, AloneIsWhole}
+use Rattle.go_block_core.specs.Faults.{fault_cmp}
+use Rattle.go_block_core.specs.Laws.{OneBlocksAlone}
 use Rattle.go_block_core.proofs.FaultLemmas.{fault_total}
 use Rattle.go_block_core.proofs.SortedOnce.{same_sorted}
 
--- the files of a number are one list
-same_files : (ps : List PackageModel) (number : ℕ) (p q : List ℕ) (fs gs : List SourceModel) → IsNumbered ps p number fs → IsNumbered ps q number gs → fs ≡ gs
-same_files ps number p q fs gs a b = (let e : Some (p, fs) ≡ Some (q, gs) = sym a ∙ b in ap (λ (o : Option PackageModel). elim o [ None ↦ fs | Some m ↦ m.1 ]) e)
+-- a package alone
 
--- what a name of a package's block binds is decided by the name and its declaration
-abbrev pair_bound : ℕ → ℕ → List ℕ × DeclRef → List Bound
-pair_bound at number e = cond (exported (chars e.0)) (bound_as at e.0 (targets.Exported number e.1) ∷ []) []
+pub one_blocks_alone : OneBlocksAlone
+one_blocks_alone trees imports b c x y =
+    let faults = same_sorted fault_cmp fault_total b.faults c.faults x.faults.order y.faults.order
+    (λ f h. (y.faults.same f).1 ((x.faults.same f).0 h))
+    (λ f h. (x.faults.same f).1 ((y.faults.same f).0 h)) in
+    ap (λ n. blocks_model n b.files b.faults) (x.package_names ∙ sym y.package_names)
+    ∙ (ap (λ n. blocks_model c.names n b.faults) (x.file_names ∙ sym y.file_names)
+    ∙ ap (λ n. blocks_model c.names c.files n) faults)
 
-same_exported : (at number : ℕ) (ns ms : List NamedDecl) → map name_and_decl ns ≡ map name_and_decl ms → all_exported at number ns ≡ all_exported at number ms
-same_exported at number [] [] e = refl
-same_exported at number [] (m ∷ ms) e = cc
-same_exported at number (n ∷ ns) [] e = cc
-same_exported at number (n ∷ ns) (m ∷ ms) e =
-    let head : name_and_decl n ≡ name_and_decl m = cc in
-    let tail : map name_and_decl ns ≡ map name_and_decl ms = cc in
-    ap (λ bs. bs ++ all_exported at number ns) (ap (pair_bound at number) head) ∙ ap (λ bs. exported_bound at number m ++ bs) (same_exported at number ns ms tail)
+-- a workspace
 
--- the faults of files are decided by what their imports bind
-abbrev faults_of : List (List ℕ × DeclRef) → ℕ → List (List Bound) → List BlockFault
-faults_of names file [] = []
-faults_of names file (b ∷ bs) = bound_faults names file [] b ++ faults_of names (file + 1) bs
-
-faults_from : (names : List (List ℕ × DeclRef)) (file : ℕ) (is : List (List NamedImport)) → file_faults names file is ≡ faults_of names file (map file_bound is)
-faults_from names file [] = refl
-faults_from names file (i ∷ is) = ap (λ l. bound_faults names file [] (file_bound i) ++ l) (faults_from names (file + 1) is)
-
-module _ (ps : List PackageModel) (bs cs : List (Option BlocksModel)) (well : IsWorkspace ps) (all_bs : AreAllBlocks ps bs) (all_cs : AreAllBlocks ps cs) where
-  same_names : (i : ℕ) (b c : BlocksModel) → AreBlocksAt ps bs i b → AreBlocksAt ps cs i c → b.names ≡ c.names
-  same_names i b c x y = x.blocks.package_names ∙ (ap (λ fs. package_block (trees_of fs)) (same_files ps i x.path y.path x.files y.files x.numbered y.numbered) ∙ sym y.blocks.package_names)
-
-  names_at : (i : ℕ) (b c : BlocksModel) → slice_get bs i ≡ Some (Some b) → slice_get cs i ≡ Some (Some c) → b.names ≡ c.names
-  names_at i b c x y =
-      let at_b = numbered_back (λ number p o. IsEntry ps bs number p o) 0 ps bs i (Some b) all_bs x in
-      let at_c = numbered_back (λ number p o. IsEntry ps cs number p o) 0 ps cs i (Some c) all_cs y in
-      same_names (0 + i) b c at_b.2.1 at_c.2.1
-
-  same_own : (text : List ℕ) (n m : Option (List ℕ)) (o : ImportOutcome) → IsOwnName ps text o n → IsOwnName ps text o m → n ≡ m
-  same_own text n m (outcomes.Package number) x y =
-      let files = same_files ps number x.2.path y.2.path x.2.files y.2.files x.2.numbered y.2.numbered in
-      x.1 ∙ (ap Some (one_name y.2.files x.0 y.0 (subst (IsNameOf x.0) files x.2.named) y.2.named) ∙ sym y.1)
-  same_own text n m (outcomes.Refused rule) x y = x ∙ sym y
-
-  same_dot : (at : ℕ) (ns ms : List NamedDecl) (o : ImportOutcome) → AreDotNames bs o ns → AreDotNames cs o ms → dot_bound at ns o ≡ dot_bound at ms o
-  same_dot at ns ms (outcomes.Package number) x y = same_exported at number ns ms (x.same ∙ (names_at number x.blocks y.blocks x.there y.there ∙ sym y.same))
-  same_dot at ns ms (outcomes.Refused rule) x y = refl
-
-  same_form : (at : ℕ) (text : List ℕ) (name : ImportName) (o : ImportOutcome) (f g : ImportForm) → IsForm ps bs text name o f → IsForm ps cs text name o g → form_bound at o f ≡ form_bound at o g
-  same_form at text written.Own o f g x y = ap (form_bound at o) (x.1 ∙ (ap forms.Own (same_own text x.0 y.0 o x.2 y.2) ∙ sym y.1))
-  same_form at text (written.Named id) o f g x y = ap (form_bound at o) (x ∙ sym y)
-  same_form at text (written.Dot dot) o f g x y = ap (form_bound at o) x.1 ∙ (same_dot at x.0.items y.0.items o x.2 y.2 ∙ ap (form_bound at o) (sym y.1))
-
-  same_import : (at : ImportAt) (spec : ImportSpecTree) (i j : NamedImport) → IsImportOf ps bs at spec i → IsImportOf ps cs at spec j → import_bound i ≡ import_bound j
-  same_import at spec i j x y =
-      let outcome : j.outcome ≡ i.outcome = has_one_outcome ps at j.outcome i.outcome well y.outcome x.outcome in
-      let place : i.at ≡ j.at = x.place ∙ sym y.place in
-      same_form i.at (value_of spec.path) spec.name i.outcome i.form j.form x.form (subst (λ o. IsForm ps cs (value_of spec.path) spec.name o j.form) outcome y.form)
-      ∙ (ap (λ n. form_bound n i.outcome j.form) place ∙ ap (λ o. form_bound j.at o j.form) (sym outcome))
-
-  same_specs : (number file k : ℕ) (specs : List ImportSpecTree) (is js : List NamedImport) → AllNumbered (λ n spec i. IsImportOf ps bs (import_at number file n) spec i) k specs is → AllNumbered (λ n spec i. IsImportOf ps cs (import_at number file n) spec i) k specs js → file_bound is ≡ file_bound js
-  same_specs number file k [] [] [] x y = refl
-  same_specs number file k [] (i ∷ is) js x y = absurd x
-  same_specs number file k [] [] (j ∷ js) x y = absurd y
-  same_specs number file k (spec ∷ specs) [] js x y = absurd x
-  same_specs number file k (spec ∷ specs) (i ∷ is) [] x y = absurd y
-  same_specs number file k (spec ∷ specs) (i ∷ is) (j ∷ js) x y =
-      ap (λ l. l ++ file_bound is) (same_import (import_at number file k) spec i j x.0 y.0)
-      ∙ ap (λ l. import_bound j ++ l) (same_specs number file (suc k) specs is js x.1 y.1)
-
-  same_all : (number k : ℕ) (files : List SourceModel) (is js : List (List NamedImport)) → AllNumbered (λ file s l. AreFileImports ps bs number file s l) k files is → AllNumbered (λ file s l. AreFileImports ps cs number file s l) k files js → map file_bound is ≡ map file_bound js
-  same_all number k [] [] [] x y = refl
-  same_all number k [] (i ∷ is) js x y = absurd x
-  same_all number k [] [] (j ∷ js) x y = absurd y
-  same_all number k (s ∷ files) [] js x y = absurd x
-  same_all number k (s ∷ files) (i ∷ is) [] x y = absurd y
-  same_all number k (s ∷ files) (i ∷ is) (j ∷ js) x y =
-      ap (λ l. l ∷ map file_bound is) (same_specs number k 0 (file_specs s) i j x.0 y.0)
-      ∙ ap (λ l. file_bound j ∷ l) (same_all number (suc k) files is js x.1 y.1)
-
-  same_bound : (number : ℕ) (is js : List (List NamedImport)) → AreImportsOf ps number bs is → AreImportsOf ps number cs js → map file_bound is ≡ map file_bound js
-  same_bound number is js x y =
-      let files = same_files ps number x.path y.path x.files y.files x.numbered y.numbered in
-      same_all number 0 y.files is js (subst (λ fs. AllNumbered (λ file s l. AreFileImports ps bs number file s l) 0 fs is) files x.each) y.each
-
-  blocks_from : (is : List (List NamedImport)) → file_blocks is ≡ map (bound_block []) (map file_bound is)
-  blocks_from [] = refl
-  blocks_from (i ∷ is) = ap (λ l. bound_block [] (file_bound i) ∷ l) (blocks_from is)
-
-  same_given : (i : ℕ) (b c : BlocksModel) (x : AreBlocksAt ps bs i b) (y : AreBlocksAt ps cs i c) → all_faults (trees_of x.files) x.imports ≡ all_faults (trees_of y.files) y.imports
-  same_given i b c x y =
-      let names = package_block (trees_of y.files) in
-      let bound = same_bound i x.imports y.imports x.named y.named in
-      ap (λ fs. all_faults (trees_of fs) x.imports) (same_files ps i x.path y.path x.files y.files x.numbered y.numbered)
-      ∙ ap (λ l. decl_faults (is_main_package (trees_of y.files)) [] (package_declared (trees_of y.files)) ++ l)
-      (faults_from names 0 x.imports ∙ (ap (faults_of names 0) bound ∙ sym (faults_from names 0 y.imports)))
-
-  same_blocks : (i : ℕ) (b c : BlocksModel) → AreBlocksAt ps bs i b → AreBlocksAt ps cs i c → b ≡ c
-  same_blocks i b c x y =
-      let names = same_names i b c x y in
-      let files = x.blocks.file_names ∙ (blocks_from x.imports ∙ (ap (map (bound_block [])) (same_bound i x.imports y.imports x.named y.named) ∙ (sym (blocks_from y.imports) ∙ sym y.blocks.file_names))) in
-      let given = same_given i b c x y in
-      let faults = same_sorted fault_cmp fault_total b.faults c.faults x.blocks.faults.order y.blocks.faults.order
-      (λ f h. (y.blocks.faults.same f).1 (subst (λ l. Contains l f) given ((x.blocks.faults.same f).0 h)))
-      (λ f h. (x.blocks.faults.same f).1 (subst (λ l. Contains l f) (sym given) ((y.blocks.faults.same f).0 h))) in
-      ap (λ n. blocks_model n b.files b.faults) names ∙ (ap (λ n. blocks_model c.names n b.faults) files ∙ ap (λ n. blocks_model c.names c.files n) faults)
-
-  same_entry : (i : ℕ) (p : PackageModel) (o r : Option BlocksModel) → IsEntry ps bs i p o → IsEntry ps cs i p r → o ≡ r
-  same_entry i p None None x y = refl
-  same_entry i p None (Some c) x y = absurd (x y.0)
-  same_entry i p (Some b) None x y = absurd (y x.0)
-  same_entry i p (Some b) (Some c) x y = ap Some (same_blocks i b c x.1 y.1)
+-- the package of a number is one
+same_package : (ps : List PackageModel) (number : ℕ) (p q : PackageModel) → slice_get ps number ≡ Some p → slice_get ps number ≡ Some q → p ≡ q
+same_package ps number p q a b = (let e : Some p ≡ Some q = sym a ∙ b in cc)
 
 one_list : {A X : Type 0} (R S : ℕ → A → X → Type 0) → ((k : ℕ) (a : A) (x y : X) → R k a x → S k a y → x ≡ y) → (k : ℕ) (zs : List A) (xs ys : List X) → AllNumbered R k zs xs → AllNumbered S k zs ys → xs ≡ ys
 one_list R S f k [] [] [] r s = refl
@@ -155,5 +50,79 @@ one_list R S f k (a ∷ zs) [] ys r s = absurd r
 one_list R S f k (a ∷ zs) (x ∷ xs) [] r s = absurd s
 one_list R S f k (a ∷ zs) (x ∷ xs) (y ∷ ys) r s = ap (λ z. z ∷ xs) (f k a x y r.0 s.0) ∙ ap (λ l. y ∷ l) (one_list R S f (suc k) zs xs ys r.1 s.1)
 
+module _ (ps : List PackageModel) (bs cs : List (Option BlocksModel)) (well : IsWorkspace ps) (all_bs : AreAllBlocks ps bs) (all_cs : AreAllBlocks ps cs) where
+  same_names : (i : ℕ) (b c : BlocksModel) → AreBlocksAt ps bs i b → AreBlocksAt ps cs i c → b.names ≡ c.names
+  same_names i b c x y = x.blocks.package_names ∙ (ap (λ (p : PackageModel). package_block (trees_of p.1)) (same_package ps i (x.path, x.files) (y.path, y.files) x.numbered y.numbered) ∙ sym y.blocks.package_names)
+
+  names_at : (i : ℕ) (b c : BlocksModel) → slice_get bs i ≡ Some (Some b) → slice_get cs i ≡ Some (Some c) → b.names ≡ c.names
+  names_at i b c x y =
+      let at_b = numbered_back (λ number p o. IsEntry ps bs number p o) 0 ps bs i (Some b) all_bs x in
+      let at_c = numbered_back (λ number p o. IsEntry ps cs number p o) 0 ps cs i (Some c) all_cs y in
+      same_names (0 + i) b c at_b.2.1 at_c.2.1
+
+  -- what a package shows
+  same_shown : (i : ℕ) (e f : ExportsModel) → IsShown ps bs i e → IsShown ps cs i f → e ≡ f
+  same_shown i e f x y =
+      x.is
+      ∙ (ap (λ p. exports_of p x.blocks) (same_package ps i (x.path, x.files) (y.path, y.files) x.numbered y.numbered)
+      ∙ (ap (λ ns. exports_model y.path (clause_name (trees_of y.files)) (exported_names ns)) (names_at i x.blocks y.blocks x.there y.there)
+      ∙ sym y.is))
+
+  -- what imports come to
+  same_given : (o : ImportOutcome) (i j : Imported) → IsGiven (IsShown ps bs) o i → IsGiven (IsShown ps cs) o j → i ≡ j
+  same_given (outcomes.«Package» n) (given.«Package» e) (given.«Package» f) x y = ap given.«Package» (same_shown n e f x y)
+  same_given (outcomes.«Package» n) (given.Refused rule) j x y = absurd x
+  same_given (outcomes.«Package» n) (given.«Package» e) (given.Refused rule) x y = absurd y
+  same_given (outcomes.Refused r) (given.«Package» e) j x y = absurd x
+  same_given (outcomes.Refused r) (given.Refused rule) (given.«Package» f) x y = absurd y
+  same_given (outcomes.Refused r) (given.Refused rule) (given.Refused other) x y = ap given.Refused (x ∙ sym y)
+
+  same_import : (at : ImportAt) (i j : Imported) → IsImported ps bs at i → IsImported ps cs at j → i ≡ j
+  same_import at i j x y =
+      let outcome = has_one_outcome ps at y.outcome x.outcome well y.judged x.judged in
+      same_given x.outcome i j x.shown (subst (λ o. IsGiven (IsShown ps cs) o j) outcome y.shown)
+
+  same_imported : (number : ℕ) (ts : Trees) (is js : List (List Imported)) → AreImported ps bs number ts is → AreImported ps cs number ts js → is ≡ js
+  same_imported number ts is js x y =
+      one_list (λ file t l. AreInFile (IsImported ps bs) number file t.1 l) (λ file t l. AreInFile (IsImported ps cs) number file t.1 l)
+      (λ file t l m r s. one_list (λ n spec i. IsImported ps bs (import_at number file n) i) (λ n spec i. IsImported ps cs (import_at number file n) i)
+      (λ n spec i j a b. same_import (import_at number file n) i j a b) 0 (file_specs t.1) l m r s)
+      0 ts is js x y
+
+  -- the blocks of a package by the one list are those by the other
+  blocks_alone : (number : ℕ) (path : List ℕ) (files : List SourceModel) (imported : List (List Imported)) (c : BlocksModel) → IsNumbered ps path number files → AreImported ps bs number (trees_of files) imported → AreBlocksAt ps cs number c → AreBlocks (trees_of files) (package_named (trees_of files) imported) c
+  blocks_alone number path files imported c numbered come y =
+      let same : ◌≡◌ {A = PackageModel} (path, files) (y.path, y.files) = same_package ps number (path, files) (y.path, y.files) numbered y.numbered in
+      let mine = subst (λ (p : PackageModel). AreImported ps bs number (trees_of p.1) imported) same come in
+      let imports = same_imported number (trees_of y.files) imported y.imported mine y.given in
+      subst (λ (p : PackageModel). AreBlocks (trees_of p.1) (package_named (trees_of p.1) imported) c) (sym same)
+      (subst (λ l. AreBlocks (trees_of y.files) (package_named (trees_of y.files) l) c) (sym imports) y.blocks)
+
+  same_blocks : (i : ℕ) (b c : BlocksModel) → AreBlocksAt ps bs i b → AreBlocksAt ps cs i c → b ≡ c
+  same_blocks i b c x y = one_blocks_alone (trees_of x.files) (package_named (trees_of x.files) x.imported) b c x.blocks (blocks_alone i x.path x.files x.imported c x.numbered x.given y)
+
+  same_entry : (i : ℕ) (p : PackageModel) (o r : Option BlocksModel) → IsEntry ps bs i p o → IsEntry ps cs i p r → o ≡ r
+  same_entry i p None None x y = refl
+  same_entry i p None (Some c) x y = absurd (x y.0)
+  same_entry i p (Some b) None x y = absurd (y x.0)
+  same_entry i p (Some b) (Some c) x y = ap Some (same_blocks i b c x.1 y.1)
+
 pub one_blocks : OneBlocks
 one_blocks ps bs cs well x y = one_list (λ number p o. IsEntry ps bs number p o) (λ number p o. IsEntry ps cs number p o) (λ k p o r a b. same_entry ps bs cs well x y k p o r a b) 0 ps bs cs x y
+
+-- an assembled package has its blocks in the list
+entry_some : (ps : List PackageModel) (bs : List (Option BlocksModel)) (i : ℕ) (p : PackageModel) (o : Option BlocksModel) → IsAssembled p.1 → IsEntry ps bs i p o → (c : BlocksModel) × (o ≡ Some c) × AreBlocksAt ps bs i c
+entry_some ps bs i p None assembled h = absurd (h assembled)
+entry_some ps bs i p (Some c) assembled h = (c, refl, h.1)
+
+pub alone_is_whole : AloneIsWhole
+alone_is_whole ps bs number path files imported b well all numbered assembled come =
+    let at = numbered_at (λ n p o. IsEntry ps bs n p o) 0 ps bs number (path, files) all numbered in
+    let entry = entry_some ps bs (0 + number) (path, files) at.0 assembled at.2 in
+    let e : 0 + number ≡ number = omega arith in
+    let here = subst (λ n. AreBlocksAt ps bs n entry.0) e entry.2 in
+    let has : slice_get bs number ≡ Some (Some entry.0) = at.1 ∙ ap Some entry.1 in
+    let alone = blocks_alone ps bs bs well all all number path files imported entry.0 numbered come here in (
+      λ h. has ∙ ap (λ c. Some (Some c)) (one_blocks_alone (trees_of files) (package_named (trees_of files) imported) entry.0 b alone h),
+      λ h. (let same : Some (Some entry.0) ≡ Some (Some b) = sym has ∙ h in let same_b : entry.0 ≡ b = cc in subst (AreBlocks (trees_of files) (package_named (trees_of files) imported)) same_b alone),
+    )

@@ -2,7 +2,7 @@
 use Rattle.std.proofs.Common.{◌≡◌, ℕ, Bool, true, false, not, List, [], ◌∷◌, ◌++◌, map, Option, Some, None, is_some, refl, sym, ap, ◌∙◌, cond, Bor, append_assoc, append-nil}
 use Rattle.std.specs.Prelude.{string_bytes, slice_get}
 use Rattle.std.specs.String.{string_eq}
-use Rattle.std.specs.Str.{bytes_eq}
+use Rattle.std.specs.Str.{bytes_eq, chars}
 use Rattle.std.specs.Map.{lookup}
 use Rattle.std.specs.declared.string.String.{String}
 use Rattle.std.proofs.lemmas.Bool.{true≢false}
@@ -10,9 +10,12 @@ use Rattle.std.proofs.lemmas.Slice.Eq.{bytes_eq-Decides}
 use Rattle.std.proofs.lemmas.List.{map-append}
 use Rattle.indexmap.specs.IndexMap.{IndexMap, get, get_by, insert_entry}
 use Rattle.indexmap.proofs.CallerLemmas.{insert_entry-new}
+use Rattle.go_text_core.specs.Text.{exported}
+use Rattle.go_decl_core.specs.declared.keys.DeclRef.{DeclRef}
+use Rattle.go_block_core.specs.Exports.{exported_names}
 use Rattle.go_block_core.specs.Tables.{table_of, in_block, has, with_first, names_in, without}
 use Rattle.go_block_core.specs.declared.binding.Binding.{Binding}
-use Rattle.go_block_core.specs.Blocks.{BlocksModel, in_some, file_binding, if_block, held_in}
+use Rattle.go_block_core.specs.Blocks.{BlocksModel, in_some, file_has, file_binding, if_block, held_in}
 
 module _ {X : Type 0} where
   lookup_bytes : {Y : Type 0} (name : List ℕ) (es : List (String Y × X)) → lookup (λ k. bytes_eq name (string_bytes k)) es ≡ lookup (bytes_eq name) (map (λ e. (string_bytes e.0, e.1)) es)
@@ -85,11 +88,12 @@ module _ {X Z : Type 0} (other : List (List ℕ × Z)) (name : List ℕ) where
       ∙ pick (bytes_eq name e.0) (has other e.0) (has other name) e.1 (in_block (without other es) name) (in_block es name)
       (λ same. ap (has other) (sym ((bytes_eq-Decides name e.0).0 same))) (in_without es)
 
+-- an entry of a table, as one of a block
+abbrev pub entry_of : {X Y : Type 0} → String Y × X → List ℕ × X
+entry_of e = (string_bytes e.0, e.1)
+
 -- the names of a table that another block has not, one after another
 module _ {X Y Z : Type 0} (other : List (List ℕ × Z)) (shown : List (Bor (List ℕ))) (left rest : List (String Y × X)) (key : String Y) (x : X) (whole : List (List ℕ)) (step : left ≡ (key, x) ∷ rest) where
-  abbrev pub entry_of : String Y × X → List ℕ × X
-  entry_of e = (string_bytes e.0, e.1)
-
   pub name_left_out : has other (string_bytes key) ≡ true → map (λ n. n.now) shown ++ names_in (without other (map entry_of left)) ≡ whole → map (λ n. n.now) shown ++ names_in (without other (map entry_of rest)) ≡ whole
   name_left_out there before =
       let behind = without other (map entry_of rest) in
@@ -102,21 +106,28 @@ module _ {X Y Z : Type 0} (other : List (List ℕ × Z)) (shown : List (Bor (Lis
       let next : names_in (without other (map entry_of left)) ≡ string_bytes key ∷ names_in behind = ap (λ es. names_in (without other (map entry_of es))) step ∙ ap (λ b. names_in (cond (not b) (entry_of (key, x) ∷ behind) behind)) absent in
       name_shown shown new name (string_bytes key) _ _ _ more is next before
 
+-- the exported names of a table with their declarations, one after another
+module _ {Y : Type 0} (old : List (List ℕ × DeclRef)) (left rest : List (String Y × DeclRef)) (key : String Y) (d : DeclRef) (whole : List (List ℕ × DeclRef)) (step : left ≡ (key, d) ∷ rest) where
+  pub exported_left_out : exported (chars (string_bytes key)) ≡ false → old ++ exported_names (map entry_of left) ≡ whole → old ++ exported_names (map entry_of rest) ≡ whole
+  exported_left_out hidden before =
+      let behind = exported_names (map entry_of rest) in
+      let gone : exported_names (map entry_of left) ≡ behind = ap (λ es. exported_names (map entry_of es)) step ∙ ap (λ b. cond b (entry_of (key, d) ∷ behind) behind) hidden in
+      ap (λ es. old ++ es) (sym gone) ∙ before
+
+  pub exported_kept : exported (chars (string_bytes key)) ≡ true → (new : List (List ℕ × DeclRef)) → new ≡ old ++ (string_bytes key, d) ∷ [] → old ++ exported_names (map entry_of left) ≡ whole → new ++ exported_names (map entry_of rest) ≡ whole
+  exported_kept shown new more before =
+      let behind = exported_names (map entry_of rest) in
+      let next : exported_names (map entry_of left) ≡ entry_of (key, d) ∷ behind = ap (λ es. exported_names (map entry_of es)) step ∙ ap (λ b. cond b (entry_of (key, d) ∷ behind) behind) shown in
+      listed_more old new (string_bytes key, d) _ behind whole more next before
+
 -- what a look-up in a file answers
 
 module _ (b : BlocksModel) (file : ℕ) (name : List ℕ) where
   pub hidden_binding : has b.names name ≡ true → None ≡ file_binding b file name
   hidden_binding there = ap (λ gone. cond gone None (in_some (slice_get b.files file) name)) (sym there)
 
-  pub binding_in : (block : List (List ℕ × Binding)) → has b.names name ≡ false → slice_get b.files file ≡ Some block → in_block block name ≡ file_binding b file name
-  binding_in block absent at =
-      ap (λ gone. cond gone None (in_block block name)) (sym absent)
-      ∙ ap (λ o. cond (has b.names name) None (in_some o name)) (sym at)
-
-  pub binding_nowhere : slice_get b.files file ≡ None → None ≡ file_binding b file name
-  binding_nowhere at =
-      same_none (has b.names name)
-      ∙ ap (λ o. cond (has b.names name) None (in_some o name)) (sym at)
+  pub shown_binding : has b.names name ≡ false → file_has b file name ≡ file_binding b file name
+  shown_binding absent = ap (λ gone. cond gone None (file_has b file name)) (sym absent)
 
 in_if_block : (o : Option (List (List ℕ × Binding))) (name : List ℕ) → in_block (if_block o) name ≡ in_some o name
 in_if_block None name = refl

@@ -2,15 +2,17 @@
 use Rattle.std.specs.Prelude.{◌≡◌, refl, ℕ, ◌↔◌, List, map, [], Option, Some, None, slice_get, Contains, if◌then◌else◌}
 use Rattle.std.specs.Coded.{Coded, code_by, coded×, coded_list, coded_ℕ}
 use Rattle.std.specs.List.Sorted.{IsStrictlySortedBy}
-use Rattle.go_graph_core.specs.Packages.{Trees}
-use Rattle.go_block_core.specs.declared.decls.DeclRef.{DeclRef}
-use Rattle.go_block_core.specs.contracts.decls.DeclRef as decl_ref
+use Rattle.go_graph_core.specs.Packages.{Trees, trees_of}
+use Rattle.go_graph_core.specs.Workspaces.{PackageModel}
+use Rattle.go_decl_core.specs.declared.keys.DeclRef.{DeclRef}
+use Rattle.go_decl_core.specs.contracts.keys.DeclRef as decl_ref
 use Rattle.go_block_core.specs.declared.binding.Binding.{Binding}
 use Rattle.go_block_core.specs.contracts.binding.Binding as binding
 use Rattle.go_block_core.specs.declared.fault.BlockFault.{BlockFault}
 use Rattle.go_block_core.specs.contracts.fault.BlockFault as block_fault
 use Rattle.go_block_core.specs.declared.imports.ImportNames.{ImportNames}
 use Rattle.go_block_core.specs.declared.imports.NamedImport.{NamedImport}
+use Rattle.go_block_core.specs.Exports.{ExportsModel, exports_model, exported_names, clause_name}
 use Rattle.go_block_core.specs.Faults.{fault_cmp, all_faults}
 use Rattle.go_block_core.specs.Holding.{package_block, file_blocks, imports_in}
 use Rattle.go_block_core.specs.Tables.{in_block, has, without}
@@ -32,9 +34,13 @@ abbrev pub in_some : Option (List (List ℕ × Binding)) → List ℕ → Option
 in_some None name = None
 in_some (Some block) name = in_block block name
 
+-- what the block of a file has at a name
+abbrev pub file_has : BlocksModel → ℕ → List ℕ → Option Binding
+file_has b file name = in_some (slice_get b.files file) name
+
 -- the binding of a name that holds in a file: that of the file's block, unless the package block has the name
 abbrev pub file_binding : BlocksModel → ℕ → List ℕ → Option Binding
-file_binding b file name = if has b.names name then None else in_some (slice_get b.files file) name
+file_binding b file name = if has b.names name then None else file_has b file name
 
 -- the block of a file, and none where there is no such file
 abbrev pub if_block : Option (List (List ℕ × Binding)) → List (List ℕ × Binding)
@@ -59,3 +65,7 @@ pub record AreBlocks (trees : Trees) (imports : List (List NamedImport)) (b : Bl
   pub package_names : b.names ≡ package_block trees
   pub file_names : b.files ≡ file_blocks imports
   pub faults : HoldsEachOnce (all_faults trees imports) b.faults
+
+-- what a package with these blocks shows: its path, the name in its clauses, and the exported names of its package block
+abbrev pub exports_of : PackageModel → BlocksModel → ExportsModel
+exports_of p b = exports_model p.0 (clause_name (trees_of p.1)) (exported_names b.names)

@@ -1,19 +1,16 @@
 -- Laws of what holds in blocks, and of the faults in them.
 use Rattle.std.specs.Prelude.{◌≡◌, ℕ, ◌<◌, ◌≤◌, map, AllPairs, Bool, true, false, ◌⊎◌, ◌↔◌, List, ◌∷◌, ◌++◌, Some, None, All, Any, Contains, slice_get}
 use Rattle.std.specs.List.Sorted.{IsStrictlyIncreasing}
-use Rattle.go_tree_nodes.specs.Spelling.{spell_file}
-use Rattle.go_tree_nodes.specs.Terminals.{InOrder}
 use Rattle.go_graph_core.specs.Packages.{Trees}
-use Rattle.go_block_core.specs.declared.decls.DeclRef.{DeclRef}
-use Rattle.go_block_core.specs.declared.decls.Declaration.{Declaration}
+use Rattle.go_graph_core.specs.Sources.{IsPlaced}
+use Rattle.go_decl_core.specs.declared.keys.DeclRef.{DeclRef}
 use Rattle.go_block_core.specs.declared.binding.Binding.{Binding}
-use Rattle.go_block_core.specs.declared.binding.Bound.{Bound}
 use Rattle.go_block_core.specs.declared.imports.NamedImport.{NamedImport}
 use Rattle.go_block_core.specs.declared.fault.BlockRule.TheVariants.{B1, B2, B3}
 use Rattle.go_block_core.specs.declared.fault.BlockFault.{BlockFault}
-use Rattle.go_block_core.specs.Bindings.{file_bound}
-use Rattle.go_block_core.specs.Blocks.{BlocksModel, file_binding}
-use Rattle.go_block_core.specs.Declarations.{package_declared, is_bindable, has_fixed_form, is_main_package}
+use Rattle.go_block_core.specs.Bindings.{Bound, file_bound}
+use Rattle.go_block_core.specs.Blocks.{BlocksModel, AreBlocks, file_binding}
+use Rattle.go_block_core.specs.Declarations.{Declaration, package_declared, is_bindable, has_fixed_form, is_main_package}
 use Rattle.go_block_core.specs.Faults.{block_fault, all_faults}
 use Rattle.go_block_core.specs.Holding.{package_block, file_block}
 use Rattle.go_block_core.specs.Tables.{in_block}
@@ -66,7 +63,7 @@ pub record IsSecondDecl (ds : List Declaration) (f : BlockFault) : Type 0 where
   pub split : ds ≡ before ++ decl ∷ after
   pub binds_name : is_bindable decl.name ≡ true
   pub earlier : Any (Declares decl.name) before
-  pub fault : f ≡ block_fault decl.decl.file decl.decl.at B1
+  pub fault : f ≡ block_fault decl.decl.file decl.at B1
 
 -- B3: what must be a function without parameters and results, and is none
 pub record IsMalformed (main : Bool) (ds : List Declaration) (f : BlockFault) : Type 0 where
@@ -74,7 +71,7 @@ pub record IsMalformed (main : Bool) (ds : List Declaration) (f : BlockFault) : 
   pub among : Contains ds decl
   pub fixed : has_fixed_form main decl.name ≡ true
   pub other : decl.is_procedure ≡ false
-  pub fault : f ≡ block_fault decl.decl.file decl.decl.at B3
+  pub fault : f ≡ block_fault decl.decl.file decl.at B3
 
 -- B1: a binding of a name that an earlier one of the file binds
 pub record IsSecondBinding (files : List (List NamedImport)) (f : BlockFault) : Type 0 where
@@ -110,18 +107,22 @@ IsBlockFault trees files f =
 abbrev pub FaultsAreThese : Type 0
 FaultsAreThese = (trees : Trees) (files : List (List NamedImport)) (f : BlockFault) → Contains (all_faults trees files) f ↔ IsBlockFault trees files f
 
--- a declaration stands before another: in an earlier file, or earlier in the same
+-- a declaration stands before another: in an earlier file, or in the same by number and by offset
 abbrev pub StandsBefore : Declaration → Declaration → Type 0
-StandsBefore d e = (d.decl.file < e.decl.file) ⊎ ((d.decl.file ≡ e.decl.file) × (d.decl.at < e.decl.at))
+StandsBefore d e = (d.decl.file < e.decl.file) ⊎ ((d.decl.file ≡ e.decl.file) × (d.decl.number < e.decl.number) × (d.at < e.at))
 
 -- the tokens of each file's tree follow one another, as those of a text do
 abbrev pub ArePlaced : Trees → Type 0
-ArePlaced trees = All (λ t. (high : ℕ) × InOrder 0 (spell_file t.1) high) trees
+ArePlaced trees = All (λ t. IsPlaced t.1) trees
 
--- the list of declarations is in order of file and offset, so that the first of a name is the first by these
+-- the list of declarations is in order of file and number, and of file and offset, so that the first of a name is the first by these
 abbrev pub DeclarationsInOrder : Type 0
 DeclarationsInOrder = (trees : Trees) → ArePlaced trees → AllPairs StandsBefore (package_declared trees)
 
 -- the list of bindings is in order of place, so that the first of a name is the first by place
 abbrev pub BindingsInOrder : Type 0
 BindingsInOrder = (imports : List NamedImport) → IsStrictlyIncreasing (map (λ i. i.at) imports) → AllPairs (λ a b. a.binding.at ≤ b.binding.at) (file_bound imports)
+
+-- the trees of a package and its imports have one package block, one block for each file, and one list of faults
+abbrev pub OneBlocksAlone : Type 0
+OneBlocksAlone = (trees : Trees) (imports : List (List NamedImport)) (b c : BlocksModel) → AreBlocks trees imports b → AreBlocks trees imports c → b ≡ c

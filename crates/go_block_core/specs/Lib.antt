@@ -2,6 +2,7 @@ pub mod All
 pub mod Bindings
 pub mod Blocks
 pub mod Declarations
+pub mod Exports
 pub mod Faults
 pub mod Holding
 pub mod Laws

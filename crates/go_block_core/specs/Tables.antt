@@ -1,18 +1,14 @@
 -- A block: its names with what they are bound to, in the order in which they were bound.
-use Rattle.std.specs.Prelude.{ℕ, Bool, not, List, [], ◌∷◌, ◌++◌, map, Option, is_some, string_bytes, if◌then◌else◌}
+use Rattle.std.specs.Prelude.{ℕ, Bool, not, List, [], ◌∷◌, ◌++◌, map, is_some, string_bytes, if◌then◌else◌}
 use Rattle.std.specs.List.{filter}
-use Rattle.std.specs.Str.{bytes_eq}
-use Rattle.std.specs.Map.{lookup}
 use Rattle.std.specs.declared.string.String.{String}
 use Rattle.indexmap.specs.IndexMap.{IndexMap}
+-- what a block has at a name, and its names in order
+pub use Rattle.go_open_core.specs.Blocks.{in_block, names_in}
 
 -- the names of a table as a block
 abbrev pub table_of : {Y S X : Type 0} → IndexMap (String Y) X S → List (List ℕ × X)
 table_of table = map (λ e. (string_bytes e.0, e.1)) table.entries
-
--- what a block has at a name
-abbrev pub in_block : {X : Type 0} → List (List ℕ × X) → List ℕ → Option X
-in_block block name = lookup (bytes_eq name) block
 
 -- whether a block has a name
 abbrev pub has : {X : Type 0} → List (List ℕ × X) → List ℕ → Bool
@@ -21,10 +17,6 @@ has block name = is_some (in_block block name)
 -- a block with one more name, unless it has it
 abbrev pub with_first : {X : Type 0} → List (List ℕ × X) → List ℕ → X → List (List ℕ × X)
 with_first block name x = if has block name then block else block ++ (name, x) ∷ []
-
--- the names of a block, in order
-abbrev pub names_in : {X : Type 0} → List (List ℕ × X) → List (List ℕ)
-names_in block = map (λ e. e.0) block
 
 -- what a block binds names to that another has not
 abbrev pub without : {X Z : Type 0} → List (List ℕ × Z) → List (List ℕ × X) → List (List ℕ × X)

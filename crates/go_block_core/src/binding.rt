@@ -1,149 +1,148 @@
 //! The names that imports bind in the block of their file.
-ghost use Rattle.std.specs.Prelude.{◌≡◌, ◌++◌, ◌∷◌, [], OnOk, IfOk, option_map};
+ghost use Rattle.std.specs.Prelude.{◌≡◌, ◌++◌, ◌∷◌, [], OnOk, IfOk, map};
+ghost use Rattle.go_block_core.specs.Exports.{name_and_decl};
 ghost use Rattle.go_block_core.specs.Bindings.{bound_as, target_of, bound_if, named_bound, exported_bound, dot_bound, import_bound, file_bound};
+ghost use Rattle.go_block_core.specs.mirrors.Shown.{bound_shown, text_shown};
 
-use crate::decls::DeclRef;
-use crate::imports::{ImportForm, NamedDecl, NamedImport};
-use go_graph_core::ImportOutcome;
+use crate::exports::NamedDecl;
+use crate::imports::{ImportForm, Imported, NamedImport};
+use go_decl_core::DeclKey;
 use go_parse_types::add;
-use go_text_core::{Name, Rule, is_exported};
+use go_path_core::ImportPath;
+use go_text_core::{Name, Rule};
 use std::alloc::{AllocError, Global};
 
 /// What a name of a file block denotes.
-#[derive(Clone, Copy, Debug, PartialEq, Eq)]
+#[derive(Drop)]
 pub enum Target {
-    /// The package of this number.
-    Package(usize),
+    /// The package of this path.
+    Package(ImportPath),
     /// An import that this rule refuses.
     Refused(Rule),
-    /// A declaration of the package of this number.
-    Exported(usize, DeclRef),
+    /// This declaration of an imported package.
+    Exported(DeclKey),
 }
 
 /// A binding of a file block.
-#[derive(Clone, Copy, Debug, PartialEq, Eq)]
+#[derive(Drop)]
 pub struct Binding {
     /// The offset in bytes of the string of the import that makes it.
     pub at: usize,
     pub target: Target,
 }
 
-/// A binding with its name.
+/// A name with its binding.
 #[derive(Drop)]
-pub(crate) struct Bound {
-    pub(crate) name: Name,
+pub(crate) struct BoundName<'a> {
+    pub(crate) name: &'a str,
     pub(crate) binding: Binding,
 }
 
 /// Adds a binding.
-fn add_binding(
-    bound: &mut Vec<Bound>,
-    alloc: Global,
-    name: &Name,
+fn add_binding<'a>(
+    bound: &mut Vec<BoundName<'a>>,
+    name: &'a str,
     at: usize,
     target: Target,
 ) -> Result<(), AllocError>
-    ensures { OnOk result (bound.new.items ≡ bound.old.items ++ bound_as at name.now target ∷ []) }
+    ensures { OnOk result (map bound_shown bound.new.items ≡ map bound_shown bound.old.items ++ bound_as at name.now target ∷ []) }
 {
-    let entry = Bound {
-        name: name.copy(alloc)?,
-        binding: Binding { at, target },
-    };
-    add(bound, entry)
+    let binding = Binding { at, target };
+    add(bound, BoundName { name, binding })
 }
 
 /// What the name of an import denotes.
-fn target_of(outcome: ImportOutcome) -> Target
-    ensures { result ≡ target_of outcome }
+fn target_of(imported: &Imported) -> Result<Target, AllocError>
+    ensures { IfOk result (λ target. target ≡ target_of imported.now) }
 {
-    match outcome {
-        ImportOutcome::Package(number) => Target::Package(number),
-        ImportOutcome::Refused(rule) => Target::Refused(rule),
+    match imported {
+        Imported::Package(exports) => Ok(Target::Package(exports.path().share()?)),
+        Imported::Refused(rule) => Ok(Target::Refused(*rule)),
     }
 }
 
 /// Adds what an import without a name binds: its own name, if it has one.
-fn add_own(
-    bound: &mut Vec<Bound>,
-    alloc: Global,
-    name: Option<&Name>,
+fn add_own<'a>(
+    bound: &mut Vec<BoundName<'a>>,
+    name: Option<&'a Name>,
     import: &NamedImport,
 ) -> Result<(), AllocError>
-    ensures { OnOk result (bound.new.items ≡ bound.old.items ++ bound_if import.now.at (option_map (λ n. n.now) name.entry) (target_of import.now.outcome)) }
+    ensures { OnOk result (map bound_shown bound.new.items ≡ map bound_shown bound.old.items ++ bound_if import.now.at (text_shown name.entry) (target_of import.now.imported)) }
 {
     match name {
-        Some(name) => add_binding(bound, alloc, name, import.at, target_of(import.outcome)),
+        Some(name) => {
+            let target = target_of(&import.imported)?;
+            add_binding(bound, name.as_str(), import.at, target)
+        }
         None => Ok(()),
     }
 }
 
 /// Adds what an import under another name binds.
-fn add_named(
-    bound: &mut Vec<Bound>,
-    alloc: Global,
-    name: &Name,
+fn add_named<'a>(
+    bound: &mut Vec<BoundName<'a>>,
+    name: &'a Name,
     import: &NamedImport,
 ) -> Result<(), AllocError>
-    ensures { OnOk result (bound.new.items ≡ bound.old.items ++ named_bound import.now.at name.now import.now.outcome) }
+    ensures { OnOk result (map bound_shown bound.new.items ≡ map bound_shown bound.old.items ++ named_bound import.now.at name.now (target_of import.now.imported)) }
 {
-    if name.as_str() == "_" {
+    let name = name.as_str();
+    if name == "_" {
         return Ok(());
     }
-    add_binding(bound, alloc, name, import.at, target_of(import.outcome))
+    let target = target_of(&import.imported)?;
+    add_binding(bound, name, import.at, target)
 }
 
-/// Adds a name of a package's block, if it is exported.
-fn add_exported(
-    bound: &mut Vec<Bound>,
-    alloc: Global,
+/// Adds an exported name of the package of a path.
+fn add_exported<'a>(
+    bound: &mut Vec<BoundName<'a>>,
     at: usize,
-    number: usize,
-    named: &NamedDecl,
+    path: &ImportPath,
+    named: &'a NamedDecl,
 ) -> Result<(), AllocError>
-    ensures { OnOk result (bound.new.items ≡ bound.old.items ++ exported_bound at number named.now) }
+    ensures { OnOk result (map bound_shown bound.new.items ≡ map bound_shown bound.old.items ++ exported_bound at path.now (name_and_decl named.now) ∷ []) }
 {
-    if is_exported(named.name.as_str()) {
-        let target = Target::Exported(number, named.decl);
-        return add_binding(bound, alloc, &named.name, at, target);
-    }
-    Ok(())
+    let key = DeclKey {
+        path: path.share()?,
+        decl: named.decl,
+    };
+    add_binding(bound, named.name.as_str(), at, Target::Exported(key))
 }
 
 /// Adds what an import with a dot binds.
-fn add_dot(
-    bound: &mut Vec<Bound>,
-    alloc: Global,
-    names: &Vec<NamedDecl>,
-    import: &NamedImport,
-) -> Result<(), AllocError>
-    ensures { OnOk result (bound.new.items ≡ bound.old.items ++ dot_bound import.now.at names.now.items import.now.outcome) }
+fn add_dot<'a>(bound: &mut Vec<BoundName<'a>>, import: &'a NamedImport) -> Result<(), AllocError>
+    ensures { OnOk result (map bound_shown bound.new.items ≡ map bound_shown bound.old.items ++ dot_bound import.now.at import.now.imported) }
 {
-    if let ImportOutcome::Package(number) = import.outcome {
-        for named in names {
-            add_exported(bound, alloc, import.at, number, named)?;
+    if let Imported::Package(exports) = &import.imported {
+        for named in exports.names() {
+            add_exported(bound, import.at, exports.path(), named)?;
         }
     }
     Ok(())
 }
 
 /// Adds what an import binds.
-fn add_import(bound: &mut Vec<Bound>, alloc: Global, import: &NamedImport) -> Result<(), AllocError>
-    ensures { OnOk result (bound.new.items ≡ bound.old.items ++ import_bound import.now) }
+fn add_import<'a>(bound: &mut Vec<BoundName<'a>>, import: &'a NamedImport) -> Result<(), AllocError>
+    ensures { OnOk result (map bound_shown bound.new.items ≡ map bound_shown bound.old.items ++ import_bound import.now) }
 {
     match &import.form {
-        ImportForm::Own(name) => add_own(bound, alloc, name.as_ref(), import),
-        ImportForm::Named(name) => add_named(bound, alloc, name, import),
-        ImportForm::Dot(names) => add_dot(bound, alloc, names, import),
+        ImportForm::Own(name) => add_own(bound, name.as_ref(), import),
+        ImportForm::Named(name) => add_named(bound, name, import),
+        ImportForm::Dot => add_dot(bound, import),
     }
 }
 
 /// What the imports of a file bind, in order of their places, those that do not hold among them.
-pub(crate) fn bindings(alloc: Global, imports: &Vec<NamedImport>) -> Result<Vec<Bound>, AllocError>
-    ensures { IfOk result (λ bound. bound.items ≡ file_bound imports.now.items) }
+pub(crate) fn bindings<'a>(
+    alloc: Global,
+    imports: &'a Vec<NamedImport>,
+) -> Result<Vec<BoundName<'a>>, AllocError>
+    ensures { IfOk result (λ bound. map bound_shown bound.items ≡ file_bound imports.now.items) }
 {
     let mut bound = Vec::new(alloc);
     for import in imports {
-        add_import(&mut bound, alloc, import)?;
+        add_import(&mut bound, import)?;
     }
     Ok(bound)
 }

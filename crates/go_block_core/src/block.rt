@@ -1,15 +1,15 @@
 //! The blocks of a package.
-ghost use Rattle.std.specs.Prelude.{◌≡◌, IfOk, map};
-ghost use Rattle.go_block_core.specs.Bindings.{name_and_decl};
+ghost use Rattle.std.specs.Prelude.{◌≡◌, IfOk, map, option_copied};
+ghost use Rattle.go_block_core.specs.Exports.{name_and_decl, exported_names};
 ghost use Rattle.go_block_core.specs.Tables.{in_block, names_in};
-ghost use Rattle.go_block_core.specs.Blocks.{file_binding, held_in};
+ghost use Rattle.go_block_core.specs.Blocks.{file_binding, file_has, held_in};
 
 use crate::binding::Binding;
-use crate::decls::DeclRef;
+use crate::exports::NamedDecl;
 use crate::fault::BlockFault;
-use crate::imports::NamedDecl;
-use crate::package_block::names_of;
-use crate::table::{find, names_in, names_without};
+use crate::package_block::{exported_of, names_of};
+use crate::table::{find, has, names_in, names_without};
+use go_decl_core::DeclRef;
 use indexmap::IndexMap;
 use std::alloc::{AllocError, Global};
 use std::marker::Model;
@@ -39,11 +39,10 @@ impl Blocks {
     pub fn package(&self, name: &str) -> Option<DeclRef>
         ensures { result ≡ in_block self.now.names name.now }
     {
-        find(&self.package, name)
+        find(&self.package, name).copied()
     }
 
-    /// The names of the package block with their declarations, in order of file and offset: what an import of
-    /// the package with a dot is given.
+    /// The names of the package block with their declarations, in order of file and number.
     ///
     /// # Errors
     ///
@@ -54,7 +53,18 @@ impl Blocks {
         names_of(alloc, &self.package)
     }
 
-    /// The names of the package block, in order of file and offset.
+    /// The exported names of the package block with their declarations, in order of file and number.
+    ///
+    /// # Errors
+    ///
+    /// `AllocError` for want of memory.
+    pub(crate) fn exported(&self, alloc: Global) -> Result<Vec<NamedDecl>, AllocError>
+        ensures { IfOk result (λ names. map name_and_decl names.items ≡ exported_names self.now.names) }
+    {
+        exported_of(alloc, &self.package)
+    }
+
+    /// The names of the package block, in order of file and number.
     ///
     /// # Errors
     ///
@@ -66,12 +76,19 @@ impl Blocks {
     }
 
     /// The binding of a name in the block of a file, by the file's number. A name of the package block has none.
-    pub fn file(&self, file: usize, name: &str) -> Option<Binding>
-        ensures { result ≡ file_binding self.now file name.now }
+    pub fn file(&self, file: usize, name: &str) -> Option<&Binding>
+        ensures { option_copied result ≡ file_binding self.now file name.now }
     {
-        if find(&self.package, name).is_some() {
+        if has(&self.package, name) {
             return None;
         }
+        self.in_file(file, name)
+    }
+
+    /// What the block of a file has at a name, by the file's number, whatever the package block has.
+    pub fn in_file(&self, file: usize, name: &str) -> Option<&Binding>
+        ensures { option_copied result ≡ file_has self.now file name.now }
+    {
         match self.files.get(file) {
             Some(table) => find(table, name),
             None => None,

@@ -1,49 +1,27 @@
 //! The declarations of the package block.
-ghost use Rattle.std.specs.Prelude.{◌≡◌, ◌++◌, ◌∷◌, [], OnOk, IfOk, map};
-ghost use Rattle.go_tree_nodes.specs.TypeShapes.{shape_idents, shape_results, shape_signature};
-ghost use Rattle.go_tree_nodes.specs.Shapes.{shape_value, shape_type_decl, decl_of, top_of};
-ghost use Rattle.go_block_core.specs.Laws.{ArePlaced};
-ghost use Rattle.go_block_core.specs.Declarations.{declaration, declared_idents, value_declared, types_declared, decl_declared, tops_declared, package_declared, kind_of, without_results, is_procedure};
+ghost use Rattle.std.specs.Prelude.{◌≡◌};
+ghost use Rattle.go_decl_core.specs.Outer.{kind_of_value};
+ghost use Rattle.go_decl_core.specs.Shown.{decl_shown};
+ghost use Rattle.go_tree_nodes.specs.TypeShapes.{shape_results, shape_signature};
+ghost use Rattle.go_block_core.specs.Declarations.{top_declared, without_results, is_procedure};
+ghost use Rattle.go_block_core.specs.mirrors.Shown.{declaration_shown, declared_shown, named_place};
 
-use go_graph_core::Package;
-use go_parse_types::add;
-use go_text_core::Name;
-use go_tree_nodes::{
-    Decl, Ident, Idents, Results, Signature, TopDecl, TypeDecl, TypeSpecs, ValueDecl, ValueKind,
-    ValueSpecs,
-};
-use std::alloc::{AllocError, Global};
+use go_decl_core::{DeclForm, DeclKind, DeclRef, TopDecl};
+use go_tree_nodes::{Results, Signature, ValueKind};
 
-/// What is declared.
-#[derive(Clone, Copy, Debug, PartialEq, Eq)]
-pub enum DeclKind {
-    Const,
-    Var,
-    Type,
-    Func,
-}
-
-/// A declaration of a package block.
-#[derive(Clone, Copy, Debug, PartialEq, Eq)]
-pub struct DeclRef {
-    /// The number of its file in order of name, from 0.
-    pub file: usize,
-    /// The offset in bytes of its identifier.
-    pub at: usize,
-    pub kind: DeclKind,
-}
-
-/// A declaration with its name, and whether it is a function without parameters and results.
-#[derive(Drop)]
-pub(crate) struct Declaration {
-    pub(crate) name: Name,
+/// A declaration of a package block with its name and the offset in bytes of its identifier, and whether it is a
+/// function without parameters and results.
+#[derive(Clone, Copy)]
+pub(crate) struct NamedPlace<'a> {
+    pub(crate) name: &'a str,
+    pub(crate) at: usize,
     pub(crate) decl: DeclRef,
     pub(crate) is_procedure: bool,
 }
 
 /// What a declaration of values declares.
 fn kind_of(kind: ValueKind) -> DeclKind
-    ensures { result ≡ kind_of kind }
+    ensures { result ≡ kind_of_value kind }
 {
     match kind {
         ValueKind::Const => DeclKind::Const,
@@ -69,140 +47,40 @@ fn is_procedure(signature: &Signature) -> bool
     signature.params.entries.is_empty() && is_without_results(&signature.results)
 }
 
-/// Adds the declaration of an identifier.
-fn add_ident(
-    decls: &mut Vec<Declaration>,
-    alloc: Global,
+/// A declaration of the file of this number.
+fn named_place<'a>(
     file: usize,
+    top: &TopDecl<'a>,
     kind: DeclKind,
     is_procedure: bool,
-    ident: &Ident,
-) -> Result<(), AllocError>
-    ensures { OnOk result (decls.new.items ≡ decls.old.items ++ declaration file kind is_procedure ident.now ∷ []) }
+) -> NamedPlace<'a>
+    ensures { declaration_shown result ≡ named_place file top.now kind is_procedure }
 {
-    let declared = Declaration {
-        name: ident.name.copy(alloc)?,
+    NamedPlace {
+        name: top.ident.name.as_str(),
+        at: top.ident.span.start as usize,
         decl: DeclRef {
             file,
-            at: ident.span.start as usize,
+            number: top.number,
             kind,
         },
         is_procedure,
-    };
-    add(decls, declared)
-}
-
-/// Adds the declarations of some identifiers.
-fn add_idents(
-    decls: &mut Vec<Declaration>,
-    alloc: Global,
-    file: usize,
-    kind: DeclKind,
-    idents: &Idents,
-) -> Result<(), AllocError>
-    ensures { OnOk result (decls.new.items ≡ decls.old.items ++ declared_idents file kind (shape_idents idents.now)) }
-{
-    add_ident(decls, alloc, file, kind, false, &idents.first)?;
-    for next in &idents.more {
-        add_ident(decls, alloc, file, kind, false, &next.ident)?;
-    }
-    Ok(())
-}
-
-/// Adds what a declaration of constants or variables declares.
-fn add_values(
-    decls: &mut Vec<Declaration>,
-    alloc: Global,
-    file: usize,
-    value: &ValueDecl,
-) -> Result<(), AllocError>
-    ensures { OnOk result (decls.new.items ≡ decls.old.items ++ value_declared file (shape_value value.now)) }
-{
-    let kind = kind_of(value.kind);
-    match &value.specs {
-        ValueSpecs::One(spec) => add_idents(decls, alloc, file, kind, &spec.names),
-        ValueSpecs::Group(_, lines, _) => {
-            for line in lines {
-                add_idents(decls, alloc, file, kind, &line.spec.names)?;
-            }
-            Ok(())
-        }
     }
 }
 
-/// Adds what a declaration of types declares.
-fn add_types(
-    decls: &mut Vec<Declaration>,
-    alloc: Global,
-    file: usize,
-    types: &TypeDecl,
-) -> Result<(), AllocError>
-    ensures { OnOk result (decls.new.items ≡ decls.old.items ++ types_declared file (shape_type_decl types.now)) }
+/// What a declaration of the file of this number declares in the package block: a method nothing.
+pub(crate) fn declaration<'a>(file: usize, top: &TopDecl<'a>) -> Option<NamedPlace<'a>>
+    ensures { declared_shown result ≡ top_declared file (decl_shown top.now) }
 {
-    match &types.specs {
-        TypeSpecs::One(spec) => add_ident(decls, alloc, file, DeclKind::Type, false, &spec.name),
-        TypeSpecs::Group(_, lines, _) => {
-            for line in lines {
-                add_ident(decls, alloc, file, DeclKind::Type, false, &line.spec.name)?;
-            }
-            Ok(())
-        }
-    }
-}
-
-/// Adds what a declaration declares. A method is not declared in the package block.
-fn add_decl(
-    decls: &mut Vec<Declaration>,
-    alloc: Global,
-    file: usize,
-    decl: &Decl,
-) -> Result<(), AllocError>
-    ensures { OnOk result (decls.new.items ≡ decls.old.items ++ decl_declared file (decl_of decl.now)) }
-{
-    match decl {
-        Decl::Value(value) => add_values(decls, alloc, file, value),
-        Decl::Type(types) => add_types(decls, alloc, file, types),
-        Decl::Func(func) => {
+    match top.form {
+        DeclForm::Value(kind, _, _) => Some(named_place(file, top, kind_of(kind), false)),
+        DeclForm::Type(_) => Some(named_place(file, top, DeclKind::Type, false)),
+        DeclForm::Func(func) => {
             if func.receiver.is_some() {
-                return Ok(());
+                return None;
             }
             let is_procedure = is_procedure(&func.signature);
-            add_ident(decls, alloc, file, DeclKind::Func, is_procedure, &func.name)
+            Some(named_place(file, top, DeclKind::Func, is_procedure))
         }
     }
-}
-
-/// Adds what the declarations of a file declare.
-fn add_tops(
-    decls: &mut Vec<Declaration>,
-    alloc: Global,
-    file: usize,
-    tops: &Vec<TopDecl>,
-) -> Result<(), AllocError>
-    ensures { OnOk result (decls.new.items ≡ decls.old.items ++ tops_declared file (map top_of tops.now.items)) }
-{
-    for top in tops {
-        add_decl(decls, alloc, file, &top.decl)?;
-    }
-    Ok(())
-}
-
-/// The declarations of a package in order of file and offset, those that bind nothing among them.
-pub(crate) fn declarations(
-    alloc: Global,
-    package: &Package<'_>,
-) -> Result<Vec<Declaration>, AllocError>
-    ensures decls { IfOk result (λ decls. decls.items ≡ package_declared «package».now) }
-    // The tokens of each tree follow one another in its text.
-    ensures placed { OnOk result (ArePlaced «package».now) }
-{
-    let mut decls = Vec::new(alloc);
-    let files = package.files();
-    for file in 0..files.len() {
-        match files[file].tree() {
-            Ok(tree) => add_tops(&mut decls, alloc, file, &tree.decls)?,
-            Err(_) => unreachable!(),
-        }
-    }
-    Ok(decls)
 }

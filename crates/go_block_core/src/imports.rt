@@ -1,29 +1,46 @@
 //! The imports of a package, and the names that they bind.
-ghost use Rattle.std.specs.Prelude.{◌≡◌, map};
+ghost use Rattle.std.specs.Prelude.{◌≡◌, IfOk, map};
 ghost use Rattle.go_block_core.specs.Holding.{imports_in, AreImportsInOrder};
 
-use crate::decls::DeclRef;
-use go_graph_core::ImportOutcome;
-use go_text_core::Name;
+use crate::exports::Exports;
+use go_text_core::{Name, Rule};
+use std::alloc::AllocError;
 
-/// A name of a package block, and its declaration.
+/// What an import comes to, as the package that has it sees it.
 #[derive(Drop)]
-pub struct NamedDecl {
-    pub name: Name,
-    pub decl: DeclRef,
+pub enum Imported {
+    /// A package that shows this.
+    Package(Exports),
+    /// None, by this rule.
+    Refused(Rule),
+}
+
+impl Imported {
+    /// The same once more. It takes no memory.
+    ///
+    /// # Errors
+    ///
+    /// `AllocError` where what the package shows has too many owners.
+    pub fn share(&self) -> Result<Imported, AllocError>
+        ensures { IfOk result (λ imported. imported ≡ self.now) }
+    {
+        match self {
+            Imported::Package(exports) => Ok(Imported::Package(exports.share()?)),
+            Imported::Refused(rule) => Ok(Imported::Refused(*rule)),
+        }
+    }
 }
 
 /// The form of an import.
 #[derive(Drop)]
 pub(crate) enum ImportForm {
-    /// Without a name: that in the clause of the package that it comes to. Where the import is refused, it is what
+    /// Without a name: that in the clauses of the package that it comes to. Where the import is refused, it is what
     /// stands behind the last `/` of its path, if that is an identifier other than `_`.
     Own(Option<Name>),
     /// Under another name. `_` binds nothing.
     Named(Name),
-    /// With a dot: the names of the block of the package that it comes to, of which the exported ones are bound; none
-    /// where the import is refused.
-    Dot(Vec<NamedDecl>),
+    /// With a dot: it binds what the package shows that it comes to, and nothing where it is refused.
+    Dot,
 }
 
 /// An import.
@@ -31,8 +48,7 @@ pub(crate) enum ImportForm {
 pub(crate) struct NamedImport {
     /// The offset in bytes of its string.
     pub(crate) at: usize,
-    /// What it comes to.
-    pub(crate) outcome: ImportOutcome,
+    pub(crate) imported: Imported,
     pub(crate) form: ImportForm,
 }
 

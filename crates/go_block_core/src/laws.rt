@@ -1,7 +1,7 @@
 //! Laws of the definitions.
-ghost use Rattle.go_block_core.specs.All.{OneBlocks};
+ghost use Rattle.go_block_core.specs.All.{AloneIsWhole, OneBlocks};
 ghost use Rattle.go_block_core.specs.Naming.{TextsAgree};
-ghost use Rattle.go_block_core.specs.Laws.{PackageHolds, FileHolds, NeverHidden, FileAnswers, FaultsAreThese, DeclarationsInOrder, BindingsInOrder};
+ghost use Rattle.go_block_core.specs.Laws.{PackageHolds, FileHolds, NeverHidden, FileAnswers, FaultsAreThese, DeclarationsInOrder, BindingsInOrder, OneBlocksAlone};
 
 /// A law, with nothing to run: the package block has at a name the declaration of that name which no earlier
 /// one of that name precedes, so at most one.
@@ -31,7 +31,8 @@ pub fn faults_are_these()
     ensures { FaultsAreThese }
 {}
 
-/// A law, with nothing to run: the declarations of a package are listed in order of file and offset.
+/// A law, with nothing to run: the declarations of a package are listed in order of file and number, and
+/// of file and offset.
 pub fn declarations_are_in_order()
     ensures { DeclarationsInOrder }
 {}
@@ -39,6 +40,18 @@ pub fn declarations_are_in_order()
 /// A law, with nothing to run: the bindings of a file are listed in order of the places of their imports.
 pub fn bindings_are_in_order()
     ensures { BindingsInOrder }
+{}
+
+/// A law, with nothing to run: the trees of a package and its imports have one package block, one block for each
+/// file, and one list of faults at most.
+pub fn one_blocks_alone()
+    ensures { OneBlocksAlone }
+{}
+
+/// A law, with nothing to run: the blocks that a package has alone, with what its imports come to by the list of a
+/// workspace's blocks, are those that this list has for it, and no others are.
+pub fn alone_is_whole()
+    ensures { AloneIsWhole }
 {}
 
 /// A law, with nothing to run: a workspace has one list of blocks at most.

@@ -1,16 +1,20 @@
-//! The package block and the file blocks of the assembled packages of a workspace: which names they bind, and the
-//! faults in them.
+//! The package block and the file blocks of a package, and of the assembled packages of a workspace: which names they
+//! bind, and the faults in them.
 //!
 //! "The package block contains all Go source text for that package", and each file "has a file block that
 //! contains all Go source text in that file" (the Go specification, "Blocks"). Constants, types, variables and
 //! functions outside functions are declared in the package block, the names of imports in the file block
 //! ("Declarations and scope", "Import declarations").
+//!
+//! A package is judged from its trees and from what its imports come to, each as a refusal or as what the
+//! imported package shows ([`Exports`]): its path, its name, and its exported names with their declarations.
 #![tactic(auto)]
 
 mod all;
 mod binding;
 mod block;
 mod decls;
+mod exports;
 mod fault;
 mod imports;
 mod laws;
@@ -23,13 +27,14 @@ mod word;
 pub use all::workspace_blocks;
 pub use binding::{Binding, Target};
 pub use block::Blocks;
-pub use decls::{DeclKind, DeclRef};
+pub use exports::{Exports, NamedDecl};
 pub use fault::{BlockFault, BlockRule};
-pub use imports::{ImportNames, NamedDecl};
+pub use go_decl_core::{DeclKey, DeclKind, DeclRef};
+pub use imports::{ImportNames, Imported};
 pub use laws::{
-    bindings_are_in_order, declarations_are_in_order, faults_are_these, file_answers_its_own,
-    file_has_the_first, import_texts_agree, one_blocks, package_has_the_first,
-    package_is_never_hidden,
+    alone_is_whole, bindings_are_in_order, declarations_are_in_order, faults_are_these,
+    file_answers_its_own, file_has_the_first, import_texts_agree, one_blocks, one_blocks_alone,
+    package_has_the_first, package_is_never_hidden,
 };
 pub use making::blocks;
 pub use naming::import_names;

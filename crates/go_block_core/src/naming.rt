@@ -1,21 +1,18 @@
-//! The imports of a package, from the plan of its workspace.
-ghost use Rattle.std.specs.Prelude.{◌≡◌, ◌++◌, IfOk, OnOk, map};
-ghost use Rattle.go_tree_nodes.specs.Shapes.{import_of, shape_import_spec, shape_import_specs};
+//! The imports of a package, with the names that they may bind.
+ghost use Rattle.std.specs.Prelude.{◌≡◌, ◌++◌, ◌<◌, IfOk, OnOk, map, length};
+ghost use Rattle.go_tree_nodes.specs.Shapes.{import_of, file_of, shape_import_spec, shape_import_specs};
 ghost use Rattle.go_tree_nodes.specs.Terminals.{value_of};
-ghost use Rattle.go_graph_core.specs.Packages.{IsAssembled, IsNameOf};
-ghost use Rattle.go_graph_core.specs.Imports.{IsOutcome};
-ghost use Rattle.go_graph_core.specs.Plans.{IsPlan, IsAssembledAt};
+ghost use Rattle.go_graph_core.specs.Packages.{trees_of};
 ghost use Rattle.go_block_core.specs.Blocks.{imports_of};
-ghost use Rattle.go_block_core.specs.Naming.{AreImportsOf, AreFileImports, AreSpecImports, IsImportOf, IsFileAt, IsSpecAt, IsForm, IsOwnName, AreDotNames, HaveBlocks, HasDotBlocks, HasOutcomeBlocks, specs_in, specs_of};
-ghost use Rattle.go_block_core.specs.mirrors.Shown.{AreSpecsAt, spec_shown};
+ghost use Rattle.go_block_core.specs.Naming.{HaveOneEach, form_named, file_named, file_specs, imported_in, named_import, own_name, package_named, specs_in, specs_named, specs_of};
+ghost use Rattle.go_block_core.specs.mirrors.Shown.{spec_shown};
 
-use crate::block::Blocks;
-use crate::imports::{ImportForm, ImportNames, NamedDecl, NamedImport};
+use crate::imports::{ImportForm, ImportNames, Imported, NamedImport};
 use crate::word::refused_name;
-use go_graph_core::{ImportAt, ImportOutcome, PackageSource, Plan, SourceFile, Workspace};
+use go_graph_core::Package;
 use go_parse_types::add;
 use go_text_core::Name;
-use go_tree_nodes::{ImportDecl, ImportName, ImportSpec, ImportSpecs, TextLiteral};
+use go_tree_nodes::{File, ImportDecl, ImportName, ImportSpec, ImportSpecs, TextLiteral};
 use std::alloc::{AllocError, Global};
 
 /// Adds the imports of a declaration.
@@ -37,7 +34,7 @@ fn add_specs<'a>(
 }
 
 /// The imports of declarations, in order of place.
-fn import_specs<'a>(
+pub(crate) fn import_specs<'a>(
     alloc: Global,
     imports: &'a Vec<ImportDecl>,
 ) -> Result<Vec<&'a ImportSpec>, AllocError>
@@ -50,193 +47,106 @@ fn import_specs<'a>(
     Ok(specs)
 }
 
-/// The name in the clause of an assembled package.
-fn clause_name(source: &PackageSource) -> &Name
-    requires { IsAssembled source.now.1 }
-    ensures { IsNameOf result.now source.now.1 }
-{
-    let files = source.files();
-    match files[0].clause() {
-        Some(ident) => &ident.name,
-        None => unreachable!(),
-    }
-}
-
-/// The name of an import of this path that is written without one: that in the clause of the package that it comes
+/// The name of an import of this path that is written without one: that in the clauses of the package that it comes
 /// to. A refused import has what its path ends with, if that may be a name.
 fn own_name(
     alloc: Global,
-    workspace: &Workspace,
-    at: ImportAt,
     path: &TextLiteral,
-    outcome: ImportOutcome,
+    imported: &Imported,
 ) -> Result<Option<Name>, AllocError>
-    requires { IsOutcome workspace.now at outcome }
-    ensures { IfOk result (λ name. IsOwnName workspace.now (value_of path.now) outcome name) }
+    ensures { IfOk result (λ name. name ≡ own_name (value_of path.now) imported.now) }
 {
-    match outcome {
-        ImportOutcome::Package(number) => {
-            let packages = workspace.packages();
-            let name = clause_name(&packages[number]).copy(alloc)?;
-            Ok(Some(name))
-        }
-        ImportOutcome::Refused(_) => refused_name(alloc, path),
+    match imported {
+        Imported::Package(exports) => Ok(Some(exports.name().copy(alloc)?)),
+        Imported::Refused(_) => refused_name(alloc, path),
     }
 }
 
-/// The names that an import with a dot may bind: those of the block of the package that it comes to. A refused
-/// import has none.
-fn dot_names(
-    alloc: Global,
-    blocks: &[Option<Blocks>],
-    outcome: ImportOutcome,
-) -> Result<Vec<NamedDecl>, AllocError>
-    requires { HasOutcomeBlocks blocks.now outcome }
-    ensures { IfOk result (λ names. AreDotNames blocks.now outcome names.items) }
-{
-    match outcome {
-        ImportOutcome::Package(number) => match &blocks[number] {
-            Some(blocks) => blocks.names(alloc),
-            None => unreachable!(),
-        },
-        ImportOutcome::Refused(_) => Ok(Vec::new(alloc)),
-    }
-}
-
-/// The form of the import at a place, which is written so.
-fn form_of(
-    alloc: Global,
-    workspace: &Workspace,
-    blocks: &[Option<Blocks>],
-    at: ImportAt,
-    spec: &ImportSpec,
-    outcome: ImportOutcome,
-) -> Result<ImportForm, AllocError>
-    requires come { IsOutcome workspace.now at outcome }
-    requires made { HasDotBlocks blocks.now spec.now.name outcome }
-    ensures { IfOk result (λ form. IsForm workspace.now blocks.now (value_of spec.now.path) spec.now.name outcome form) }
+/// The form of an import.
+fn form_of(alloc: Global, spec: &ImportSpec, imported: &Imported) -> Result<ImportForm, AllocError>
+    ensures { IfOk result (λ form. form ≡ form_named (value_of spec.now.path) spec.now.name imported.now) }
 {
     match &spec.name {
-        ImportName::Own => {
-            let name = own_name(alloc, workspace, at, &spec.path, outcome)?;
-            Ok(ImportForm::Own(name))
-        }
+        ImportName::Own => Ok(ImportForm::Own(own_name(alloc, &spec.path, imported)?)),
         ImportName::Named(ident) => Ok(ImportForm::Named(ident.name.copy(alloc)?)),
-        ImportName::Dot(_) => Ok(ImportForm::Dot(dot_names(alloc, blocks, outcome)?)),
+        ImportName::Dot(_) => Ok(ImportForm::Dot),
     }
 }
 
-/// The import at a place, which is written so.
+/// An import with what it comes to.
 fn named_import(
     alloc: Global,
-    workspace: &Workspace,
-    plan: &Plan,
-    blocks: &[Option<Blocks>],
-    at: ImportAt,
     spec: &ImportSpec,
+    imported: &Imported,
 ) -> Result<NamedImport, AllocError>
-    requires planned { IsPlan workspace.now plan.now }
-    requires made { HaveBlocks workspace.now at.«package» blocks.now }
-    requires there { IsSpecAt workspace.now at (shape_import_spec spec.now) }
-    ensures { IfOk result (λ named. IsImportOf workspace.now blocks.now at (shape_import_spec spec.now) named) }
+    ensures { IfOk result (λ named. named ≡ named_import (shape_import_spec spec.now) imported.now) }
 {
-    let Some(outcome) = plan.outcome(at) else {
-        unreachable!()
-    };
-    let form = form_of(alloc, workspace, blocks, at, spec, outcome)?;
+    let form = form_of(alloc, spec, imported)?;
     Ok(NamedImport {
         at: spec.path.span.start as usize,
-        outcome,
+        imported: imported.share()?,
         form,
     })
 }
 
-/// The imports that are written so, in order, in the file of two numbers.
-fn named_imports(
+/// The imports that are written so, in order, each with what it comes to.
+fn specs_named(
     alloc: Global,
-    workspace: &Workspace,
-    plan: &Plan,
-    blocks: &[Option<Blocks>],
-    number: usize,
-    file: usize,
     specs: &[&ImportSpec],
+    imported: &[Imported],
 ) -> Result<Vec<NamedImport>, AllocError>
-    requires planned { IsPlan workspace.now plan.now }
-    requires made { HaveBlocks workspace.now number blocks.now }
-    requires there { AreSpecsAt workspace.now number file (map spec_shown specs.now) }
-    ensures { IfOk result (λ imports. AreSpecImports workspace.now blocks.now number file (map spec_shown specs.now) imports.items) }
+    requires { length specs.now ≡ length imported.now }
+    ensures { IfOk result (λ imports. imports.items ≡ specs_named (map spec_shown specs.now) imported.now) }
 {
     let mut imports = Vec::with_capacity(alloc, specs.len())?;
     for import in 0..specs.len() {
-        let at = ImportAt {
-            package: number,
-            file,
-            import,
-        };
-        let named = named_import(alloc, workspace, plan, blocks, at, specs[import])?;
+        let named = named_import(alloc, specs[import], &imported[import])?;
         add(&mut imports, named)?;
     }
     Ok(imports)
 }
 
-/// The imports of the file of two numbers. A file without a tree has none.
-fn file_imports(
+/// The imports of a file, each with what it comes to.
+fn file_named(
     alloc: Global,
-    workspace: &Workspace,
-    plan: &Plan,
-    blocks: &[Option<Blocks>],
-    number: usize,
-    file: usize,
-    source: &SourceFile,
+    tree: &File,
+    imported: &[Imported],
 ) -> Result<Vec<NamedImport>, AllocError>
-    requires planned { IsPlan workspace.now plan.now }
-    requires made { HaveBlocks workspace.now number blocks.now }
-    requires there { IsFileAt workspace.now number file source.now }
-    ensures { IfOk result (λ imports. AreFileImports workspace.now blocks.now number file source.now imports.items) }
+    requires { length (file_specs (file_of tree.now)) ≡ length imported.now }
+    ensures { IfOk result (λ imports. imports.items ≡ file_named (file_of tree.now) imported.now) }
 {
-    match source.tree() {
-        Ok(tree) => {
-            let specs = import_specs(alloc, &tree.imports)?;
-            named_imports(alloc, workspace, plan, blocks, number, file, &specs)
-        }
-        Err(_) => Ok(Vec::new(alloc)),
-    }
+    let specs = import_specs(alloc, &tree.imports)?;
+    specs_named(alloc, &specs, imported)
 }
 
-/// The imports of a package, each with what the plan says that it comes to and the names that it may bind.
+/// The imports of a package, each with what it comes to and the names that it may bind.
 ///
-/// An import without a name has the name in the clause of the package that it comes to, an import with a dot the
-/// names of that package's block: "the PackageName is used in qualified identifiers to access exported
+/// An import without a name has the name in the clauses of the package that it comes to, an import with a dot the
+/// exported names of that package: "the PackageName is used in qualified identifiers to access exported
 /// identifiers of the package", it "defaults to the identifier specified in the package clause of the imported
 /// package" where it is left out, and for an explicit period "all the package's exported identifiers declared in
 /// that package's package block will be declared in the importing source file's file block" (the Go
 /// specification, "Import declarations").
 ///
-/// `number` is the number of the package in the workspace, from 0 in byte order of path. `blocks` has at a
-/// package's number the blocks of that package, or `None`; those that an import with a dot of this package comes
-/// to are there.
+/// `imports` has for each file of the package, in order of name, and for each import of the file, in order of place,
+/// what it comes to.
 ///
 /// # Errors
 ///
 /// `AllocError` for want of memory.
 pub fn import_names(
     alloc: Global,
-    workspace: &Workspace,
-    plan: &Plan,
-    number: usize,
-    blocks: &[Option<Blocks>],
+    package: &Package,
+    imports: &[Vec<Imported>],
 ) -> Result<ImportNames, AllocError>
-    requires planned { IsPlan workspace.now plan.now }
-    requires assembled { IsAssembledAt workspace.now number }
-    requires made { HaveBlocks workspace.now number blocks.now }
-    ensures { IfOk result (λ names. AreImportsOf workspace.now number blocks.now (imports_of names)) }
+    requires { HaveOneEach (trees_of «package».now.1) (map imported_in imports.now) }
+    ensures { IfOk result (λ names. imports_of names ≡ package_named (trees_of «package».now.1) (map imported_in imports.now)) }
 {
-    let packages = workspace.packages();
-    let files = packages[number].files();
-    let mut imports = Vec::with_capacity(alloc, files.len())?;
+    let files = package.files();
+    let mut named = Vec::with_capacity(alloc, files.len())?;
     for file in 0..files.len() {
-        let of_file = file_imports(alloc, workspace, plan, blocks, number, file, &files[file])?;
-        add(&mut imports, of_file)?;
+        let of_file = file_named(alloc, package.tree(file), imports[file].as_slice())?;
+        add(&mut named, of_file)?;
     }
-    Ok(ImportNames::new(imports))
+    Ok(ImportNames::new(named))
 }

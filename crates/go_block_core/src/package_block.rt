@@ -1,18 +1,31 @@
 //! What the package block and the file blocks hold, and the faults in them.
 ghost use Rattle.std.specs.Prelude.{◌≡◌, ◌++◌, ◌∷◌, [], not, ◌&&◌, OnOk, IfOk, map};
+ghost use Rattle.std.specs.Str.{chars};
+ghost use Rattle.go_text_core.specs.Text.{exported};
+ghost use Rattle.go_tree_nodes.specs.Shapes.{file_of};
+ghost use Rattle.go_graph_core.specs.Sources.{IsPlaced};
+ghost use Rattle.go_graph_core.specs.Packages.{trees_of};
+ghost use Rattle.go_decl_core.specs.Shown.{decl_shown};
+ghost use Rattle.go_block_core.specs.Exports.{name_and_decl, exported_names};
 ghost use Rattle.go_block_core.specs.Tables.{table_of};
-ghost use Rattle.go_block_core.specs.Declarations.{is_bindable, has_fixed_form};
+ghost use Rattle.go_block_core.specs.Declarations.{is_bindable, has_fixed_form, top_declared, file_declared, is_main_package, package_declared};
 ghost use Rattle.go_block_core.specs.Faults.{decl_faults_at, decl_faults, bound_faults_at, bound_faults, file_faults};
-ghost use Rattle.go_block_core.specs.Holding.{is_second, with_declared, declared_block, with_bound, bound_block, file_block, file_blocks, imports_in};
-ghost use Rattle.go_block_core.specs.Bindings.{file_bound, name_and_decl};
+ghost use Rattle.go_block_core.specs.Holding.{is_second, with_declared, declared_block, package_block, with_bound, bound_block, file_block, file_blocks, imports_in};
+ghost use Rattle.go_block_core.specs.Bindings.{file_bound};
+ghost use Rattle.go_block_core.specs.Laws.{ArePlaced};
+ghost use Rattle.go_block_core.specs.mirrors.Shown.{bound_shown, declaration_shown};
 
-use crate::binding::{Binding, Bound, bindings};
-use crate::decls::{DeclRef, Declaration};
+use crate::binding::{Binding, BoundName, bindings};
+use crate::decls::{NamedPlace, declaration};
+use crate::exports::NamedDecl;
 use crate::fault::{BlockFault, BlockRule, add_fault_if};
-use crate::imports::{NamedDecl, NamedImport};
-use crate::table::{bind_first, find};
+use crate::imports::NamedImport;
+use crate::table::{bind_first, has};
+use go_decl_core::{DeclRef, TopDecl, outline};
+use go_graph_core::Package;
 use go_parse_types::add;
-use go_text_core::Name;
+use go_text_core::{Name, is_exported};
+use go_tree_nodes::File;
 use indexmap::IndexMap;
 use std::alloc::{AllocError, Global};
 
@@ -24,10 +37,10 @@ fn is_bindable(name: &str) -> bool
 }
 
 /// Whether a declaration must be a function without parameters and results, and is none.
-fn is_malformed(is_main: bool, declared: &Declaration) -> bool
-    ensures { result ≡ (has_fixed_form is_main declared.now.name && not declared.now.is_procedure) }
+fn is_malformed(is_main: bool, declared: &NamedPlace<'_>) -> bool
+    ensures { result ≡ (has_fixed_form is_main (declaration_shown declared.now).name && not declared.now.is_procedure) }
 {
-    let name = declared.name.as_str();
+    let name = declared.name;
     (name == "init" || (is_main && name == "main")) && !declared.is_procedure
 }
 
@@ -35,12 +48,12 @@ fn is_malformed(is_main: bool, declared: &Declaration) -> bool
 fn declare(
     table: &mut IndexMap<String, DeclRef>,
     alloc: Global,
-    declared: &Declaration,
+    declared: &NamedPlace<'_>,
 ) -> Result<bool, AllocError>
-    ensures second { IfOk result (λ second. second ≡ is_second (table_of table.old) declared.now) }
-    ensures table { OnOk result (table_of table.new ≡ with_declared (table_of table.old) declared.now) }
+    ensures second { IfOk result (λ second. second ≡ is_second (table_of table.old) (declaration_shown declared.now)) }
+    ensures table { OnOk result (table_of table.new ≡ with_declared (table_of table.old) (declaration_shown declared.now)) }
 {
-    let name = declared.name.as_str();
+    let name = declared.name;
     if is_bindable(name) {
         return bind_first(table, alloc, name, declared.decl);
     }
@@ -52,32 +65,75 @@ fn add_declared(
     table: &mut IndexMap<String, DeclRef>,
     alloc: Global,
     is_main: bool,
-    declared: &Declaration,
+    declared: &NamedPlace<'_>,
     faults: &mut Vec<BlockFault>,
 ) -> Result<(), AllocError>
-    ensures table { OnOk result (table_of table.new ≡ with_declared (table_of table.old) declared.now) }
-    ensures faults { OnOk result (faults.new.items ≡ faults.old.items ++ decl_faults_at is_main (table_of table.old) declared.now) }
+    ensures table { OnOk result (table_of table.new ≡ with_declared (table_of table.old) (declaration_shown declared.now)) }
+    ensures faults { OnOk result (faults.new.items ≡ faults.old.items ++ decl_faults_at is_main (table_of table.old) (declaration_shown declared.now)) }
 {
-    let DeclRef { file, at, .. } = declared.decl;
+    let file = declared.decl.file;
+    let at = declared.at;
     let is_second = declare(table, alloc, declared)?;
     add_fault_if(faults, is_second, file, at, BlockRule::B1)?;
     let is_malformed = is_malformed(is_main, declared);
     add_fault_if(faults, is_malformed, file, at, BlockRule::B3)
 }
 
+/// Declares what a declaration of a file declares in the package block.
+fn add_top(
+    table: &mut IndexMap<String, DeclRef>,
+    alloc: Global,
+    is_main: bool,
+    file: usize,
+    top: &TopDecl<'_>,
+    faults: &mut Vec<BlockFault>,
+) -> Result<(), AllocError>
+    ensures table { OnOk result (table_of table.new ≡ declared_block (table_of table.old) (top_declared file (decl_shown top.now))) }
+    ensures faults { OnOk result (faults.new.items ≡ faults.old.items ++ decl_faults is_main (table_of table.old) (top_declared file (decl_shown top.now))) }
+{
+    match declaration(file, top) {
+        Some(declared) => add_declared(table, alloc, is_main, &declared, faults),
+        None => Ok(()),
+    }
+}
+
+/// Declares what a file declares in the package block.
+fn add_file(
+    table: &mut IndexMap<String, DeclRef>,
+    alloc: Global,
+    is_main: bool,
+    file: usize,
+    tree: &File,
+    faults: &mut Vec<BlockFault>,
+) -> Result<(), AllocError>
+    requires { IsPlaced (file_of tree.now) }
+    ensures table { OnOk result (table_of table.new ≡ declared_block (table_of table.old) (file_declared file (file_of tree.now))) }
+    ensures faults { OnOk result (faults.new.items ≡ faults.old.items ++ decl_faults is_main (table_of table.old) (file_declared file (file_of tree.now))) }
+{
+    let outline = outline(alloc, tree)?;
+    for top in &outline.decls {
+        add_top(table, alloc, is_main, file, top, faults)?;
+    }
+    Ok(())
+}
+
 /// The package block: of several declarations of one name the first. Adds the faults in it.
 pub(crate) fn package_block(
     alloc: Global,
-    is_main: bool,
-    decls: &Vec<Declaration>,
+    package: &Package,
     faults: &mut Vec<BlockFault>,
 ) -> Result<IndexMap<String, DeclRef>, AllocError>
-    ensures table { IfOk result (λ table. table_of table ≡ declared_block [] decls.now.items) }
-    ensures faults { OnOk result (faults.new.items ≡ faults.old.items ++ decl_faults is_main [] decls.now.items) }
+    ensures table { IfOk result (λ table. table_of table ≡ package_block (trees_of «package».now.1)) }
+    ensures faults { OnOk result (faults.new.items ≡ faults.old.items ++ decl_faults (is_main_package (trees_of «package».now.1)) [] (package_declared (trees_of «package».now.1))) }
+    // The tokens of each tree follow one another in its text.
+    ensures placed { OnOk result (ArePlaced (trees_of «package».now.1)) }
 {
+    let is_main = package.name() == "main";
+    let files = package.files();
     let mut table = IndexMap::new(alloc);
-    for declared in decls {
-        let Ok(()) = add_declared(&mut table, alloc, is_main, declared, faults) else {
+    for file in 0..files.len() {
+        let tree = package.tree(file);
+        let Ok(()) = add_file(&mut table, alloc, is_main, file, tree, faults) else {
             // By name: the drop of a table is then one call.
             drop(table);
             return Err(AllocError);
@@ -92,17 +148,17 @@ fn add_bound(
     alloc: Global,
     names: &IndexMap<String, DeclRef>,
     file: usize,
-    bound: &Bound,
+    bound: BoundName<'_>,
     faults: &mut Vec<BlockFault>,
 ) -> Result<(), AllocError>
-    ensures table { OnOk result (table_of table.new ≡ with_bound (table_of table.old) bound.now) }
-    ensures faults { OnOk result (faults.new.items ≡ faults.old.items ++ bound_faults_at (table_of names.now) file (table_of table.old) bound.now) }
+    ensures table { OnOk result (table_of table.new ≡ with_bound (table_of table.old) (bound_shown bound.entry)) }
+    ensures faults { OnOk result (faults.new.items ≡ faults.old.items ++ bound_faults_at (table_of names.now) file (table_of table.old) (bound_shown bound.entry)) }
 {
-    let name = bound.name.as_str();
-    let at = bound.binding.at;
-    let is_second = bind_first(table, alloc, name, bound.binding)?;
+    let BoundName { name, binding } = bound;
+    let at = binding.at;
+    let is_second = bind_first(table, alloc, name, binding)?;
     add_fault_if(faults, is_second, file, at, BlockRule::B1)?;
-    let is_hidden = find(names, name).is_some();
+    let is_hidden = has(names, name);
     add_fault_if(faults, is_hidden, file, at, BlockRule::B2)
 }
 
@@ -120,7 +176,7 @@ fn file_block(
 {
     let all = bindings(alloc, imports)?;
     let mut table = IndexMap::new(alloc);
-    for bound in &all {
+    for bound in all {
         let Ok(()) = add_bound(&mut table, alloc, names, file, bound, faults) else {
             // By name: the drop of a table is then one call.
             drop(table);
@@ -174,6 +230,23 @@ pub(crate) fn names_of(
     let mut names = Vec::new(alloc);
     for (name, decl) in table {
         add_entry(&mut names, alloc, name.as_str(), *decl)?;
+    }
+    Ok(names)
+}
+
+/// The exported names of a table with their declarations, in order.
+pub(crate) fn exported_of(
+    alloc: Global,
+    table: &IndexMap<String, DeclRef>,
+) -> Result<Vec<NamedDecl>, AllocError>
+    ensures { IfOk result (λ names. map name_and_decl names.items ≡ exported_names (table_of table.now)) }
+{
+    let mut names = Vec::new(alloc);
+    for (name, decl) in table {
+        let name = name.as_str();
+        if is_exported(name) {
+            add_entry(&mut names, alloc, name, *decl)?;
+        }
     }
     Ok(names)
 }

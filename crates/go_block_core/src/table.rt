@@ -1,5 +1,5 @@
 //! Tables of names.
-ghost use Rattle.std.specs.Prelude.{◌≡◌, OnOk, IfOk, is_some, map};
+ghost use Rattle.std.specs.Prelude.{◌≡◌, OnOk, IfOk, map, option_copied};
 ghost use Rattle.go_block_core.specs.Tables.{table_of, in_block, has, with_first, names_in, without};
 
 use go_parse_types::add;
@@ -7,14 +7,21 @@ use indexmap::IndexMap;
 use std::alloc::{AllocError, Global};
 
 /// What a table has at a name.
-pub(crate) fn find<V: Copy>(table: &IndexMap<String, V>, name: &str) -> Option<V>
-    ensures { result ≡ in_block (table_of table.now) name.now }
+pub(crate) fn find<'a, V>(table: &'a IndexMap<String, V>, name: &str) -> Option<&'a V>
+    ensures { option_copied result ≡ in_block (table_of table.now) name.now }
 {
-    table.get(name).copied()
+    table.get(name)
+}
+
+/// Whether a table has a name.
+pub(crate) fn has<V>(table: &IndexMap<String, V>, name: &str) -> bool
+    ensures { result ≡ has (table_of table.now) name.now }
+{
+    find(table, name).is_some()
 }
 
 /// Binds a name, unless the table has it, and answers whether the table had it.
-pub(crate) fn bind_first<V: Copy>(
+pub(crate) fn bind_first<V: Drop>(
     table: &mut IndexMap<String, V>,
     alloc: Global,
     name: &str,
@@ -23,7 +30,7 @@ pub(crate) fn bind_first<V: Copy>(
     ensures had { IfOk result (λ had. had ≡ has (table_of table.old) name.now) }
     ensures table { OnOk result (table_of table.new ≡ with_first (table_of table.old) name.now value) }
 {
-    if find(table, name).is_some() {
+    if has(table, name) {
         return Ok(true);
     }
     let key = String::from_str(alloc, name)?;
@@ -46,7 +53,7 @@ pub(crate) fn names_in<'a, V>(
 }
 
 /// The names of a table that another table has not, in order.
-pub(crate) fn names_without<'a, V, W: Copy>(
+pub(crate) fn names_without<'a, V, W>(
     alloc: Global,
     table: &'a IndexMap<String, V>,
     other: &IndexMap<String, W>,
@@ -56,7 +63,7 @@ pub(crate) fn names_without<'a, V, W: Copy>(
     let mut names = Vec::new(alloc);
     for (name, _) in table {
         let name = name.as_str();
-        if find(other, name).is_none() {
+        if !has(other, name) {
             add(&mut names, name)?;
         }
     }

@@ -1,6 +1,7 @@
 -- What the tests of package clauses say of a package.
 use Rattle.std.proofs.Common.{◌≡◌, ◌≢◌, ℕ, ◌<◌, ◌≤◌, ◌⊎◌, inl, inr, Bool, true, false, not, cond, List, [], ◌∷◌, length, get_or, All, Option, Some, None, Result, Ok, Err, slice_get, refl, sym, ◌∙◌, ap, subst, arith, zero, suc}
 use Rattle.std.specs.Str.{bytes_eq}
+use Rattle.std.specs.Option.{option_map}
 use Rattle.std.specs.List.{position, position_or_len}
 use Rattle.std.proofs.lemmas.List.Quantifiers.{position-Some}
 use Rattle.std.proofs.lemmas.List.Sums.{fails_before_first}
@@ -15,7 +16,7 @@ use Rattle.go_tree_nodes.specs.Trees.{FileTree}
 use Rattle.go_parse_core.specs.declared.error.SynFault.{SynFault}
 use Rattle.go_graph_core.specs.Sources.{SourceModel, source, clause_of, clause_in}
 use Rattle.go_graph_core.specs.mirrors.Clauses.{has_none, clause_has_name, place_in, lacks_clause, is_named, is_other}
-use Rattle.go_graph_core.specs.Packages.{Trees, trees_of, HasNoClause, IsBlankAt, IsBlank, blank, DiffersAt, Differs, IsFirst, AllHaveTrees, NoneIsBlank, IsNameOf, IsK4, IsK3, IsK2, IsAssembled, IsPackageName}
+use Rattle.go_graph_core.specs.Packages.{trees_of, HasNoClause, IsBlankAt, IsBlank, blank, DiffersAt, Differs, IsFirst, AllHaveTrees, NoneIsBlank, IsNameOf, IsK4, IsK3, IsK2, IsAssembled, IsPackageName, IsTreeAt, tree_shown}
 
 pub two : (b : Bool) → (b ≡ true) ⊎ (b ≡ false)
 two true = inl refl
@@ -216,11 +217,15 @@ one_name files a b p q =
     p.4 ∙ (ap (λ x. x.name) id ∙ sym q.4)
 
 -- the name of an assembled package is in each of its trees
-pub name_of : (files : List SourceModel) (trees : Trees) (r : SourceModel) (id : Ident) (name : List ℕ) → IsAssembled files → trees_of files ≡ trees → 0 < length files → r ≡ get_or files 0 r → Some id ≡ clause_of r → name ≡ id.name → IsPackageName trees name
-name_of files trees r id name well view some same e is =
-    let first : slice_get files 0 ≡ Some r = slice_get-get_or files 0 r some ∙ ap Some (sym same) in
-    record {
-      some = subst (λ n. 0 < n) (sym (as_many files well.trees) ∙ ap length view) some;
-      named = λ b. all_at (λ s. IsBlank s → ⊥) files 0 r well.named first (id.span.start, (id, sym e, sym is ∙ b, refl));
-      same = subst (All (λ t. t.1.name.name ≡ name)) view (same_in_all name files well.trees (subst (λ n. All (λ s. Differs n s → ⊥) files) (one_name files well.name name well.is_name (name_of_first files r id name some same e is)) well.same));
-    }
+pub name_of : (files : List SourceModel) (name : List ℕ) → IsAssembled files → IsNameOf name files → IsPackageName (trees_of files) name
+name_of files name well is = record {
+  some = subst (λ n. 0 < n) (sym (as_many files well.trees)) (slice_get_within files 0 is.0 is.2);
+  named = λ b. all_at (λ s. IsBlank s → ⊥) files 0 is.0 well.named is.2 (is.1.span.start, (is.1, is.3, sym is.4 ∙ b, refl));
+  same = same_in_all name files well.trees (subst (λ n. All (λ s. Differs n s → ⊥) files) (one_name files well.name name well.is_name is) well.same);
+}
+
+-- the tree of a file of an assembled package
+pub tree_there : (files : List SourceModel) (i : ℕ) (s : SourceModel) (f : FileTree) → IsAssembled files → i < length files → s ≡ get_or files i s → Ok f ≡ s.content → IsTreeAt files i f × (option_map tree_shown (slice_get (trees_of files) i) ≡ Some f)
+tree_there files i s f well lt is e =
+    let at : slice_get files i ≡ Some s = slice_get-get_or files i s lt ∙ ap Some (sym is) in
+    ((s, at, sym e), ap (option_map tree_shown) (tree_at files i s f well.trees at (sym e)))

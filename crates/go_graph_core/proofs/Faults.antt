@@ -1,19 +1,21 @@
 -- The first file with a flaw in its clause, and the rule that it breaks.
-use Rattle.std.proofs.Common.{◌≡◌, ℕ, ◌<◌, ◌≤◌, ◌+◌, inl, inr, true, false, cond, List, length, get_or, Some, None, slice_get, sym, ◌∙◌, ap, subst, arith}
+use Rattle.std.proofs.Common.{◌≡◌, ℕ, ◌<◌, ◌≤◌, ◌+◌, inl, inr, true, false, cond, List, length, get_or, Option, Some, None, slice_get, sym, ◌∙◌, ap, subst, arith}
 use Rattle.std.specs.List.{position, position_or_len}
 use Rattle.std.proofs.lemmas.List.Sums.{position_or_len_is}
 use Rattle.std.proofs.lemmas.List.Quantifiers.{position-Some}
 use Rattle.std.proofs.lemmas.Option.{slice_get-get_or, get_or_from_slice_get}
 use Rattle.std.proofs.lemmas.Bool.{ltb-true, ltb-false, lt-ltb}
 use lib.Dec.{ltb}
+use denote.Ref.{Bor}
 use Rattle.go_text_core.specs.declared.rule.Rule.TheVariants.{K2, K3, K4}
 use Rattle.go_graph_core.specs.declared.assembly.ClauseFlaw.{ClauseFlaw}
+use Rattle.go_graph_core.specs.declared.assembly.ClauseFlaw.TheVariants.{NotNamed}
 use Rattle.go_graph_core.specs.declared.assembly.KFault.{KFault}
 use Rattle.go_graph_core.specs.Sources.{SourceModel, clause_of}
 use Rattle.go_graph_core.specs.mirrors.Clauses.{place_in, lacks_clause, is_named, is_other}
-use Rattle.go_graph_core.specs.mirrors.Flaws.{is_flawed}
+use Rattle.go_graph_core.specs.mirrors.Flaws.{is_flawed, IsFirstFault, IsFlaw}
 use Rattle.go_graph_core.specs.Packages.{blank, IsNameOf, IsK2, IsK3, IsK4}
-use Rattle.go_graph_core.proofs.Assemblies.{two, lacks-true, k2_of, k3_of, k4_of}
+use Rattle.go_graph_core.proofs.Assemblies.{two, lacks-true, k2_of, k3_of, k4_of, assembled_of}
 
 -- no file before this number has the flaw
 abbrev pub NoneBefore : ClauseFlaw → List SourceModel → ℕ → Type 0
@@ -63,3 +65,8 @@ pub k2_first : (files : List SourceModel) (name : List ℕ) (fault : KFault) →
 k2_first files name fault none fine first h =
     let k = k2_of files name fault.file fault.offset h.2.0 none fine first h.1 h.2.1 h.2.2 in
     record { rule = h.0; trees = k.trees; named = k.named; name = k.name; is_name = k.is_name; file = k.file; first = k.first; offset = k.offset }
+
+-- where the first two rules are met, the third is broken, or the files are assembled
+pub last_flaw : (files : List SourceModel) (name : Bor (List ℕ)) (found : Option KFault) → position lacks_clause files ≡ None → position (is_named blank) files ≡ None → IsNameOf name.now files → IsFirstFault files (NotNamed name) K2 found → IsFlaw files found
+last_flaw files name None none fine first h = assembled_of files name.now none fine first h
+last_flaw files name (Some fault) none fine first h = inr (inr (k2_first files name.now fault none fine first h))

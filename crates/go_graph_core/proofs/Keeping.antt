@@ -1,5 +1,5 @@
 -- What a put and a replacement keep of packages, and what look-ups find after them.
-use Rattle.std.proofs.Common.{◌≡◌, ◌≢◌, ℕ, zero, suc, ◌<◌, ◌⊎◌, inl, inr, Bool, true, false, not, cond, List, [], ◌∷◌, ◌++◌, length, All, Option, Some, None, refl, sym, ◌∙◌, ap, subst, arith}
+use Rattle.std.proofs.Common.{◌≡◌, ◌≢◌, ℕ, zero, suc, ◌<◌, ◌⊎◌, inl, inr, Bool, true, false, not, cond, List, [], ◌∷◌, ◌++◌, length, get_or, All, Option, Some, None, refl, sym, ◌∙◌, ap, subst, arith}
 use Rattle.std.specs.List.{AllByRecursion, filter}
 use Rattle.std.specs.List.Sorted.{IsStrictlySortedBy, IsPermutation}
 use Rattle.std.specs.Ordering.{match_ordering, is_eq}
@@ -23,7 +23,8 @@ use Rattle.std.specs.declared.string.String.{String}
 use lib.Dec.{eqb}
 use Rattle.go_path_core.specs.Path.{elements, IsPath, IsPrefix}
 use Rattle.go_graph_core.specs.Sources.{SourceModel}
-use Rattle.go_graph_core.specs.Workspaces.{PackageModel, by_bytes, files_at, IsWorkspace, IsPackage, AreReadFrom, given_files, Puts, begins, is_path_inside, packages_inside, packages_outside, put_all, replaced, Replaces}
+use Rattle.go_graph_core.specs.Workspaces.{PackageModel, by_bytes, files_at, IsWorkspace, IsPackage, AreAllRead, AreReadFrom, given_files, Puts, begins, is_path_inside, packages_inside, packages_outside, put_all, replaced, Replaces}
+use Rattle.go_graph_core.proofs.Contents.{placed_content}
 use Rattle.go_graph_core.proofs.Places.{IsOrdered, turned, equal_texts, same_text}
 
 two : (b : Bool) → (b ≡ true) ⊎ (b ≡ false)
@@ -132,16 +133,17 @@ module _ (P : PackageModel → Type 0) where
   all_all base [] old new = old
   all_all base (p ∷ ps) old new = all_all (insert_entry by_bytes base p.0 p.1) ps (all_insert base p.0 p.1 old (All-head P p ps new)) (All-tail P p ps new)
 
-pub well_put : (ps : List PackageModel) (q : List ℕ) (v : List SourceModel) → IsWorkspace ps → IsPackage (q, v) → IsWorkspace (insert_entry by_bytes ps q v)
-well_put ps q v well h = record { order = ordered_insert ps q v well.order; packages = all_insert IsPackage ps q v well.packages h }
+pub well_put : (ps : List PackageModel) (q : List ℕ) (v : List SourceModel) → IsWorkspace ps → IsPackage (q, v) → AreAllRead (q, v) → IsWorkspace (insert_entry by_bytes ps q v)
+well_put ps q v well h read = record { order = ordered_insert ps q v well.order; packages = all_insert IsPackage ps q v well.packages h; read = all_insert AreAllRead ps q v well.read read }
 
 pub well_removed : (t : List ℕ → Bool) (ps : List PackageModel) → IsWorkspace ps → IsWorkspace (remove_entry t ps)
-well_removed t ps well = record { order = ordered_remove t ps well.order; packages = all_remove IsPackage t ps well.packages }
+well_removed t ps well = record { order = ordered_remove t ps well.order; packages = all_remove IsPackage t ps well.packages; read = all_remove AreAllRead t ps well.read }
 
 pub well_replaced : (own : List ℕ) (old from : List PackageModel) → IsWorkspace old → IsWorkspace from → IsWorkspace (replaced own old from)
 well_replaced own old from one other = record {
   order = ordered_all (packages_outside own old) (packages_inside own from) (ordered_filter _ old one.order);
   packages = all_all IsPackage (packages_outside own old) (packages_inside own from) (all_filter IsPackage _ old one.packages) (all_filter IsPackage _ from other.packages);
+  read = all_all AreAllRead (packages_outside own old) (packages_inside own from) (all_filter AreAllRead _ old one.read) (all_filter AreAllRead _ from other.read);
 }
 
 -- look-ups
@@ -285,17 +287,8 @@ some_read given [] read some = (let n = length_permutation given [] read.same in
 some_read given (f ∷ fs) read some = omega arith
 
 -- one package of those that are put in turn
-
-pub put_one : (own : List ℕ) (now new : List PackageModel) (p : PackageModel) (rest all target : List PackageModel) → all ≡ p ∷ rest → is_path_inside own p.0 ≡ true → new ≡ insert_entry by_bytes now p.0 p.1 → put_all now (packages_inside own all) ≡ target → put_all new (packages_inside own rest) ≡ target
-put_one own now new p rest all target are test e h =
-    ap (λ l. put_all l (packages_inside own rest)) e
-    ∙ (sym (ap (λ b. put_all now (cond b (p ∷ packages_inside own rest) (packages_inside own rest))) test)
-    ∙ (sym (ap (λ l. put_all now (packages_inside own l)) are) ∙ h))
-
-pub passed_over : (own : List ℕ) (now : List PackageModel) (p : PackageModel) (rest all target : List PackageModel) → all ≡ p ∷ rest → is_path_inside own p.0 ≡ false → put_all now (packages_inside own all) ≡ target → put_all now (packages_inside own rest) ≡ target
-passed_over own now p rest all target are test h =
-    sym (ap (λ b. put_all now (cond b (p ∷ packages_inside own rest) (packages_inside own rest))) test)
-    ∙ (sym (ap (λ l. put_all now (packages_inside own l)) are) ∙ h)
+pub put_one : (now new : List PackageModel) (p : PackageModel) (rest all target : List PackageModel) → all ≡ p ∷ rest → new ≡ insert_entry by_bytes now p.0 p.1 → put_all now all ≡ target → put_all new rest ≡ target
+put_one now new p rest all target are e h = ap (λ l. put_all l rest) e ∙ (sym (ap (put_all now) are) ∙ h)
 
 -- no files are given where none are counted
 pub none_given : {Y Z : Type 0} (files : List (String Y × String Z)) → length files ≡ 0 → given_files files ≡ []
@@ -308,7 +301,7 @@ as_many_given (f ∷ fs) = ap suc (as_many_given fs)
 
 -- a package of files that are read
 pub read_package : (path : List ℕ) (given : List (List ℕ × List ℕ)) (fs : List SourceModel) → IsPath path → AreReadFrom given fs → 0 < length given → IsPackage (path, fs)
-read_package path given fs well read some = record { path = well; some = some_read given fs read some; order = read.order; contents = read.contents }
+read_package path given fs well read some = record { path = well; some = some_read given fs read some; order = read.order; contents = λ k d lt. placed_content (get_or fs k d).text (get_or fs k d).content (read.contents k d lt) }
 
 pub positive : (n : ℕ) → eqb n 0 ≡ false → 0 < n
 positive zero h = cc

@@ -158,7 +158,7 @@ found (p ∷ ps) text = elim (same_text p.0 text) [
     not_in p ps text differs none (suc i) files h = none i files h
 
 -- what the files of a package are to those that import it
-stands : (files : List SourceModel) → 0 < length files → AreFaulty files ⊎ (AreMain files ⊎ AreLibrary files)
+pub stands : (files : List SourceModel) → 0 < length files → AreFaulty files ⊎ (AreMain files ⊎ AreLibrary files)
 stands files some = by_answer files (has_assembly files some).0 (has_assembly files some).1
   where
     by_name : (files : List SourceModel) → IsAssembled files → AreFaulty files ⊎ (AreMain files ⊎ AreLibrary files)

@@ -21,7 +21,7 @@ use Rattle.go_graph_core.proofs.Zips.{zip_at, zip_back}
 abbrev Files : Type 0 → Type 0
 Files S = Vec ImportOutcome S
 
-abbrev Targets : Type 0 → Type 0
+abbrev pub Targets : Type 0 → Type 0
 Targets S = Vec (Vec ImportOutcome S) S
 
 edges_append : {S : Type 0} (k : ℕ) (xs : List (Targets S)) (x : Targets S) → edges_from k (xs ++ x ∷ []) ≡ edges_from k xs ++ package_edges (k + length xs) x.items
@@ -79,16 +79,16 @@ pub edge_at : {S : Type 0} (ts : List (Targets S)) (i a b : ℕ) (p : Targets S)
 edge_at ts i a b p f to x y z = (let n : 0 + i ≡ i = omega arith in subst (λ m. Contains (edges_from 0 ts) (edge m to)) n (edge_there 0 ts i a b p f to x y z))
 
 -- where an edge comes from
-record ComesFrom {S : Type 0} (ts : List (Targets S)) (k : ℕ) (e : Edge) : Type 0 where
-  i : ℕ
-  a : ℕ
-  b : ℕ
-  p : Targets S
-  f : Files S
-  in_all : slice_get ts i ≡ Some p
-  in_files : slice_get p.items a ≡ Some f
-  in_file : slice_get f.items b ≡ Some (Package e.to)
-  from : e.from ≡ k + i
+pub record ComesFrom {S : Type 0} (ts : List (Targets S)) (k : ℕ) (e : Edge) : Type 0 where
+  pub i : ℕ
+  pub a : ℕ
+  pub b : ℕ
+  pub p : Targets S
+  pub f : Files S
+  pub in_all : slice_get ts i ≡ Some p
+  pub in_files : slice_get p.items a ≡ Some f
+  pub in_file : slice_get f.items b ≡ Some (Package e.to)
+  pub from : e.from ≡ k + i
 
 from_one : (k : ℕ) (o : ImportOutcome) (e : Edge) → Contains (edge_of k o) e → (o ≡ Package e.to) × (e.from ≡ k)
 from_one k (Refused rule) e h = absurd (omega (arith, h.1))
@@ -97,7 +97,7 @@ from_one k (Package to) e h = elim (Contains-push_cases [] (edge k to) e h) [
   | inr same ↦ (ap (λ (x : Edge). Package x.to) same, ap (λ (x : Edge). x.from) (sym same))
 ]
 
-edge_from : {S : Type 0} (k : ℕ) (ts : List (Targets S)) (e : Edge) → Contains (edges_from k ts) e → ComesFrom ts k e
+pub edge_from : {S : Type 0} (k : ℕ) (ts : List (Targets S)) (e : Edge) → Contains (edges_from k ts) e → ComesFrom ts k e
 edge_from k [] e h = absurd (omega (arith, h.1))
 edge_from {S} k (q ∷ ts) e h = elim (Contains-append_cases (package_edges k q.items) (edges_from (suc k) ts) e h) [
   | inl here ↦

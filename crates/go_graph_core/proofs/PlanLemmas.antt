@@ -3,6 +3,7 @@ use Rattle.std.proofs.Common.{◌≡◌, ℕ, ◌+◌, inl, inr, List, [], ◌�
 use Rattle.std.specs.List.{AllZip, Contains, filter, range_with_len}
 use Rattle.std.specs.List.Sorted.{IsPermutation}
 use Rattle.std.specs.Option.{option_and_then}
+use Rattle.std.proofs.lemmas.List.{length-map}
 use Rattle.go_cycle_core.specs.declared.edge.Edge.{Edge}
 use Rattle.go_cycle_core.specs.Cycle.{IsRanking, IsAfter}
 use Rattle.go_graph_core.specs.declared.imports.ImportAt.{ImportAt}
@@ -11,11 +12,11 @@ use Rattle.go_graph_core.specs.declared.imports.ImportOutcome.TheVariants.{Packa
 use Rattle.go_graph_core.specs.declared.imports.Standing.{Standing}
 use Rattle.go_graph_core.specs.Workspaces.{PackageModel, IsWorkspace}
 use Rattle.go_graph_core.specs.Imports.{IsTarget, IsNoImport, IsJudged, IsOutcome, IsEdge, edge}
-use Rattle.go_graph_core.specs.mirrors.Targets.{HaveStandings, AreTargets, AreSettled, AreAllSettled, IsSettled, edges_from, is_assembled}
+use Rattle.go_graph_core.specs.mirrors.Targets.{HaveStandings, AreTargets, ArePackageTargets, AreSettled, AreAllSettled, IsSettled, edges_from, is_assembled}
 use Rattle.go_graph_core.specs.Plans.{IsPlan, plan_of, outcome_at, outcomes_shown}
 use Rattle.go_graph_core.proofs.PlanEdges.{edge_at, import_back, import_on, has_edge, on_cycle, from_cycle}
 use Rattle.go_graph_core.proofs.PlanOrder.{order_once, order_each, order_after}
-use Rattle.go_graph_core.proofs.Zips.{zip_at, zip_back, numbered_at, numbered_back}
+use Rattle.go_graph_core.proofs.Zips.{zip_at, zip_back, zip_length, numbered_at, numbered_back, numbered_length}
 
 abbrev Files : Type 0 → Type 0
 Files S = Vec ImportOutcome S
@@ -36,7 +37,7 @@ file_shown [] b c o e = cc
 file_shown (f ∷ fs) zero c o e = (f, refl, e)
 file_shown (f ∷ fs) (suc b) c o e = file_shown fs b c o e
 
-shown : {S : Type 0} (ps : List (Packages S)) (a b c : ℕ) (o : ImportOutcome) → in_all (outcomes_shown ps) a b c ≡ Some o → (p : Packages S) × (f : Files S) × (slice_get ps a ≡ Some p) × (slice_get p.items b ≡ Some f) × (slice_get f.items c ≡ Some o)
+pub shown : {S : Type 0} (ps : List (Packages S)) (a b c : ℕ) (o : ImportOutcome) → in_all (outcomes_shown ps) a b c ≡ Some o → (p : Packages S) × (f : Files S) × (slice_get ps a ≡ Some p) × (slice_get p.items b ≡ Some f) × (slice_get f.items c ≡ Some o)
 shown [] a b c o e = cc
 shown (p ∷ ps) zero b c o e = (let h = file_shown p.items b c o e in (p, h.0, refl, h.1, h.2))
 shown (p ∷ ps) (suc a) b c o e = shown ps a b c o e
@@ -46,7 +47,7 @@ shows_file [] b c f o x y = cc
 shows_file {S} (g ∷ fs) zero c f o x y = (let same : g ≡ f = cc in ap (λ (h : Files S). slice_get h.items c) same ∙ y)
 shows_file (g ∷ fs) (suc b) c f o x y = shows_file fs b c f o x y
 
-shows : {S : Type 0} (ps : List (Packages S)) (a b c : ℕ) (p : Packages S) (f : Files S) (o : ImportOutcome) → slice_get ps a ≡ Some p → slice_get p.items b ≡ Some f → slice_get f.items c ≡ Some o → in_all (outcomes_shown ps) a b c ≡ Some o
+pub shows : {S : Type 0} (ps : List (Packages S)) (a b c : ℕ) (p : Packages S) (f : Files S) (o : ImportOutcome) → slice_get ps a ≡ Some p → slice_get p.items b ≡ Some f → slice_get f.items c ≡ Some o → in_all (outcomes_shown ps) a b c ≡ Some o
 shows [] a b c p f o x y z = cc
 shows {S} (r ∷ ps) zero b c p f o x y z = (let same : r ≡ p = cc in ap (λ (h : Packages S). in_files (map (λ f. f.items) h.items) b c) same ∙ shows_file p.items b c f o y z)
 shows (r ∷ ps) (suc a) b c p f o x y z = shows ps a b c p f o x y z
@@ -89,6 +90,7 @@ at_place ps ts outs ranks at (Some o) well are ranking settled e = outcome_of ps
 
 pub planned : {S : Type 0} (ps : List PackageModel) (standings : List Standing) (ts outs : List (Packages S)) (ranks numbers : List ℕ) → IsWorkspace ps → HaveStandings ps standings → AreTargets ps ts → IsRanking (edges_from 0 ts) ranks → IsPermutation (range_with_len 0 (length ps)) numbers → IsAfter (edges_from 0 ts) numbers → AreAllSettled ranks ts outs → IsPlan ps (plan_of (outcomes_shown outs) (filter (is_assembled standings) numbers))
 planned ps standings ts outs ranks numbers well have are ranking same after settled = record {
+  many = length-map outs (λ p. map (λ f. f.items) p.items) ∙ (sym (numbered_length (λ k ts os. AreSettled ranks k ts.items os.items) 0 ts outs settled) ∙ sym (zip_length (λ p os. ArePackageTargets ps p os.items) ps ts are));
   outcomes = λ at. at_place ps ts outs ranks at (outcome_at (outcomes_shown outs) at) well are ranking settled refl;
   once = order_once (length ps) numbers (is_assembled standings) same;
   each = λ i. order_each ps standings numbers i have same;

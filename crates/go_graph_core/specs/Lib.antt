@@ -4,5 +4,6 @@ pub mod Lists
 pub mod Packages
 pub mod Plans
 pub mod Sources
+pub mod Views
 pub mod Workspaces
 pub mod mirrors

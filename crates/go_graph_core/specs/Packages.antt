@@ -7,6 +7,7 @@ use Rattle.go_tree_nodes.specs.Trees.{FileTree}
 use Rattle.go_parse_core.specs.declared.error.SynFault.{SynFault}
 use Rattle.go_graph_core.specs.declared.assembly.KFault.{KFault}
 use Rattle.go_graph_core.specs.Sources.{SourceModel, clause_of}
+use Rattle.go_graph_core.specs.Workspaces.{PackageModel}
 use Rattle.go_tree_nodes.specs.codes.TreeCodes.{coded_file}
 
 -- the trees of a package's files, each with the name of its file
@@ -25,6 +26,14 @@ tree_before name (Err fault) rest = rest
 abbrev pub trees_of : List SourceModel → Trees
 trees_of [] = []
 trees_of (s ∷ ss) = tree_before s.name s.content (trees_of ss)
+
+-- a tree of these, without its file's name
+abbrev pub tree_shown : List ℕ × FileTree → FileTree
+tree_shown t = t.1
+
+-- the file of this number has this tree
+abbrev pub IsTreeAt : List SourceModel → ℕ → FileTree → Type 0
+IsTreeAt files i f = (s : SourceModel) × (slice_get files i ≡ Some s) × (s.content ≡ Ok f)
 
 -- the file has no tree
 abbrev pub HasNoClause : SourceModel → Type 0
@@ -108,6 +117,11 @@ pub record IsAssembled (files : List SourceModel) : Type 0 where
 abbrev pub IsAssembly : List SourceModel → Result Trees KFault → Type 0
 IsAssembly files (Ok trees) = (trees ≡ trees_of files) × IsAssembled files
 IsAssembly files (Err fault) = IsK4 files fault ⊎ (IsK3 files fault ⊎ IsK2 files fault)
+
+-- the trees of the package that files are assembled to, or why they are none
+abbrev pub assembly_shown : Result PackageModel KFault → Result Trees KFault
+assembly_shown (Ok p) = Ok (trees_of p.1)
+assembly_shown (Err fault) = Err fault
 
 -- files have an assembly
 abbrev pub HasAssembly : Type 0

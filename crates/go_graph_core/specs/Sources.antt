@@ -1,10 +1,12 @@
 -- What a source file holds.
-use Rattle.std.specs.Prelude.{refl, ℕ, List, Result, Ok, Err, Option, Some, None}
+use Rattle.std.specs.Prelude.{refl, ℕ, ⊤, List, Result, Ok, Err, Option, Some, None}
 use Rattle.std.specs.Coded.{Coded, code_by, coded×, coded_list, coded_ℕ, coded_result}
 use denote.Ref.{Bor}
 use Rattle.go_tree_nodes.specs.declared.files.File.{File}
 use Rattle.go_tree_nodes.specs.declared.names.Ident.{Ident}
 use Rattle.go_tree_nodes.specs.Shapes.{file_of}
+use Rattle.go_tree_nodes.specs.Spelling.{spell_file}
+use Rattle.go_tree_nodes.specs.Terminals.{InOrder}
 use Rattle.go_tree_nodes.specs.Trees.{FileTree}
 use Rattle.go_parse_core.specs.declared.error.SynFault.{SynFault}
 use Rattle.go_parse_core.specs.contracts.error.SynFault as syn_fault
@@ -17,7 +19,16 @@ abbrev pub IsContent : List ℕ → Result FileTree SynFault → Type 0
 IsContent text (Ok f) = IsParse text f
 IsContent text (Err fault) = IsSynFault text fault
 
--- a file: its name, its text, and the tree of the text or why there is none
+-- the tokens that a tree writes follow one another, as those of a text do
+abbrev pub IsPlaced : FileTree → Type 0
+IsPlaced f = (high : ℕ) × InOrder 0 (spell_file f) high
+
+-- the same of a content, where it is a tree
+abbrev pub IsPlacedContent : Result FileTree SynFault → Type 0
+IsPlacedContent (Ok f) = IsPlaced f
+IsPlacedContent (Err fault) = ⊤
+
+-- a file: its name, its text, and a tree or why there is none
 pub record SourceModel : Type 0 where
   pub name : List ℕ
   pub text : List ℕ
@@ -33,6 +44,10 @@ coded_source = code_by (List ℕ × (List ℕ × Result FileTree SynFault)) (cod
 -- the content of a file is that of its text
 abbrev pub IsRead : SourceModel → Type 0
 IsRead s = IsContent s.text s.content
+
+-- the tree of a file, where it has one, is a placed one
+abbrev pub IsPlacedSource : SourceModel → Type 0
+IsPlacedSource s = IsPlacedContent s.content
 
 -- a content without where its tree lies in memory
 abbrev pub content_of : Result File SynFault → Result FileTree SynFault

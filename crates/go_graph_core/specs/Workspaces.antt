@@ -10,9 +10,8 @@ use Rattle.std.specs.BTreeMap.{insert_entry, is_at}
 use Rattle.std.specs.Map.{keys_of, lookup, remove_entry}
 use Rattle.std.specs.Coded.{Coded, coded×, coded_list, coded_ℕ}
 use Rattle.std.specs.declared.string.String.{String}
-use denote.Ref.{Bor}
 use Rattle.go_path_core.specs.Path.{elements, IsPath, IsPrefix}
-use Rattle.go_graph_core.specs.Sources.{SourceModel, coded_source, IsRead}
+use Rattle.go_graph_core.specs.Sources.{SourceModel, coded_source, IsRead, IsPlacedSource}
 
 -- a package: its path and its files
 abbrev pub PackageModel : Type 0
@@ -34,12 +33,17 @@ pub record IsPackage (p : PackageModel) : Type 0 where
   pub path : IsPath p.0
   pub some : 0 < length p.1
   pub order : IsStrictlySortedBy by_bytes (names_of_files p.1)
-  pub contents : All IsRead p.1
+  pub contents : All IsPlacedSource p.1
 
--- the packages of a workspace: in order of path, no two of one path
+-- each file of a package is read: its content is that of its text
+abbrev pub AreAllRead : PackageModel → Type 0
+AreAllRead p = All IsRead p.1
+
+-- the packages of a workspace: in order of path, no two of one path, and each file is read
 pub record IsWorkspace (ps : List PackageModel) : Type 0 where
   pub order : IsStrictlySortedBy by_bytes (keys_of ps)
   pub packages : All IsPackage ps
+  pub read : All AreAllRead ps
 
 -- the files of a path's package, if there is one
 abbrev pub files_at : List PackageModel → List ℕ → Option (List SourceModel)
@@ -107,8 +111,3 @@ pub record Replaces (own : List ℕ) (old from new : List PackageModel) : Type 0
   pub packages : new ≡ replaced own old from
   pub here : (path : List ℕ) → IsPrefix (elements own) (elements path) → files_at new path ≡ files_at from path
   pub others : (path : List ℕ) → (IsPrefix (elements own) (elements path) → ⊥) → files_at new path ≡ files_at old path
-
--- the files that a look-up answers
-abbrev pub files_shown : Option (Bor (List SourceModel)) → Option (List SourceModel)
-files_shown None = None
-files_shown (Some fs) = Some fs.now

@@ -1,12 +1,18 @@
 //! Packages that are assembled from files.
-ghost use Rattle.std.specs.Prelude.{◌≡◌, ◌<◌, length, option_map};
+ghost use Rattle.std.specs.Prelude.{◌≡◌, ◌<◌, length, option_map, slice_get, Some, IfOk};
+ghost use Rattle.go_tree_nodes.specs.Shapes.{file_of};
 ghost use Rattle.go_graph_core.specs.mirrors.Clauses.{clause_has_name};
-ghost use Rattle.go_graph_core.specs.mirrors.Flaws.{has_flaw, IsFirstFault};
-ghost use Rattle.go_graph_core.specs.Packages.{IsAssembly, IsPackageName, IsAssembled, trees_of};
+ghost use Rattle.go_graph_core.specs.mirrors.Flaws.{has_flaw, IsFirstFault, IsFlaw};
+ghost use Rattle.go_graph_core.specs.Sources.{IsPlaced};
+ghost use Rattle.go_graph_core.specs.Packages.{IsAssembly, IsPackageName, IsAssembled, IsNameOf, IsTreeAt, trees_of, tree_shown, assembly_shown};
+ghost use Rattle.go_graph_core.specs.Workspaces.{IsPackage};
 
 use crate::source::SourceFile;
+use crate::workspace::PackageSource;
+use go_path_core::ImportPath;
 use go_text_core::Rule;
-use go_tree_nodes::Ident;
+use go_tree_nodes::{File, Ident};
+use std::alloc::AllocError;
 use std::marker::Model;
 
 /// Why files are no package.
@@ -21,44 +27,98 @@ pub struct KFault {
     pub offset: usize,
 }
 
-/// A package: files with trees, and one name in all their package clauses. Contracts see it as the trees, each
-/// with the name of its file, in order.
+/// A package: files with trees, and one name in all their package clauses. It is a handle, as its source is. Contracts see it as
+/// its source, the path and the files in order of name.
 #[derive(Drop)]
-pub struct Package<'a> {
-    files: &'a [SourceFile],
+pub struct Package {
+    source: PackageSource,
 }
 
-impl<'a> Model for Package<'a> {
-    ghost use Rattle.go_graph_core.specs.Packages.{Trees, coded_trees, trees_of, IsAssembled};
+impl Model for Package {
+    ghost use Rattle.go_graph_core.specs.Packages.{IsAssembled};
+    ghost use Rattle.go_graph_core.specs.Workspaces.{PackageModel, coded_package};
 
-    ghost Value = { Trees };
+    ghost Value = { PackageModel };
 
-    ghost coded = { coded_trees };
+    ghost coded = { coded_package };
 
-    ghost view = { λ p. trees_of p.files.now };
+    ghost view = { λ p. p.source };
 
-    ghost invariant = { λ p. IsAssembled p.files.now };
+    ghost invariant = { λ p. IsAssembled p.source.1 };
 }
 
-impl<'a> Package<'a> {
+impl Package {
     /// The name of the package, which stands in each of its clauses.
     pub fn name(&self) -> &str
-        ensures { IsPackageName self.now result.now }
+        ensures { IsPackageName (trees_of self.now.1) result.now }
     {
-        let files = self.files;
-        match files[0].clause() {
-            Some(name) => name.name.as_str(),
-            None => unreachable!(),
+        clause_name(self.source.files())
+    }
+
+    /// The path of the package.
+    pub fn path(&self) -> &ImportPath
+        ensures { result.now ≡ self.now.0 }
+    {
+        self.source.path()
+    }
+
+    /// The files of the package, at least one, in byte order of name.
+    pub fn files(&self) -> &[SourceFile]
+        ensures files { result.now ≡ self.now.1 }
+        ensures assembled { IsAssembled self.now.1 }
+        ensures well { IsPackage self.now }
+    {
+        self.source.files()
+    }
+
+    /// The tree of the file of this number, from 0 in byte order of name. Its tokens follow one another.
+    pub fn tree(&self, file: usize) -> &File
+        requires { file < length self.now.1 }
+        ensures tree { option_map tree_shown (slice_get (trees_of self.now.1) file) ≡ Some (file_of result.now) }
+        ensures content { IsTreeAt self.now.1 file (file_of result.now) }
+        ensures placed { IsPlaced (file_of result.now) }
+    {
+        let files = self.source.files();
+        match files[file].tree() {
+            Ok(tree) => tree,
+            // Each file of an assembled package has a tree.
+            Err(_) => unreachable!(),
         }
     }
 
-    /// The files of the package.
-    pub fn files(&self) -> &[SourceFile]
-        ensures files { trees_of result.now ≡ self.now }
-        ensures count { length result.now ≡ length self.now }
-        ensures well { IsAssembled result.now }
+    /// The path and the files of the package.
+    pub fn source(&self) -> &PackageSource
+        ensures { result.now ≡ self.now }
     {
-        self.files
+        &self.source
+    }
+
+    /// Ends the package, as its drop does, and promises nothing: no answer may rest on it. A crate that ends its packages by
+    /// this call proves no drops of trees of its own.
+    pub fn close(self) {}
+
+    /// The same package, once more. It takes no memory.
+    ///
+    /// # Errors
+    ///
+    /// `AllocError` where the package has too many owners.
+    pub fn share(&self) -> Result<Package, AllocError>
+        ensures { IfOk result (λ p. p ≡ self.now) }
+    {
+        Ok(Package {
+            source: self.source.share()?,
+        })
+    }
+}
+
+/// The name in the clauses of files that are assembled.
+pub(crate) fn clause_name(files: &[SourceFile]) -> &str
+    requires { IsAssembled files.now }
+    ensures { IsNameOf result.now files.now }
+{
+    match files[0].clause() {
+        Some(clause) => clause.name.as_str(),
+        None => unreachable!(),
     }
 }
 
@@ -111,7 +171,24 @@ fn first_fault(files: &[SourceFile], flaw: ClauseFlaw<'_>, rule: Rule) -> Option
     None
 }
 
-/// Assembles a package from its files.
+/// Why files are no package, if they are none.
+pub(crate) fn assembly_fault(files: &[SourceFile]) -> Option<KFault>
+    requires { 0 < length files.now }
+    ensures { IsFlaw files.now result }
+{
+    if let Some(fault) = first_fault(files, ClauseFlaw::Missing, Rule::K4) {
+        return Some(fault);
+    }
+    if let Some(fault) = first_fault(files, ClauseFlaw::Named("_"), Rule::K3) {
+        return Some(fault);
+    }
+    let Some(clause) = files[0].clause() else {
+        unreachable!()
+    };
+    first_fault(files, ClauseFlaw::NotNamed(clause.name.as_str()), Rule::K2)
+}
+
+/// Assembles a package from its files. Who wants to keep the source shares it first.
 ///
 /// A package clause "begins each source file and defines the package to which the file belongs". Its name
 /// "must not be the blank identifier", and a set of files "sharing the same PackageName form the
@@ -124,21 +201,13 @@ fn first_fault(files: &[SourceFile], flaw: ClauseFlaw<'_>, rule: Rule) -> Option
 /// - `Rule::K4` where a file has no tree, at offset 0.
 /// - `Rule::K3` where the name in a clause is `_`, at that name.
 /// - `Rule::K2` where the name in a clause is not that of the first file, at that name.
-pub fn assemble(files: &[SourceFile]) -> Result<Package<'_>, KFault>
-    requires { 0 < length files.now }
-    ensures { IsAssembly files.now result }
+pub fn assemble(source: PackageSource) -> Result<Package, KFault>
+    ensures assembly { IsAssembly source.1 (assembly_shown result) }
+    // The package is the source.
+    ensures source { IfOk result (λ p. p ≡ source) }
 {
-    if let Some(fault) = first_fault(files, ClauseFlaw::Missing, Rule::K4) {
-        return Err(fault);
+    match assembly_fault(source.files()) {
+        Some(fault) => Err(fault),
+        None => Ok(Package { source }),
     }
-    if let Some(fault) = first_fault(files, ClauseFlaw::Named("_"), Rule::K3) {
-        return Err(fault);
-    }
-    let Some(clause) = files[0].clause() else {
-        unreachable!()
-    };
-    if let Some(fault) = first_fault(files, ClauseFlaw::NotNamed(clause.name.as_str()), Rule::K2) {
-        return Err(fault);
-    }
-    Ok(Package { files })
 }

@@ -1,18 +1,20 @@
 //! Imports, and the packages that they name.
-ghost use Rattle.std.specs.Prelude.{IfOk, OnOk, OnErr};
+ghost use Rattle.std.specs.Prelude.{IfOk, OnOk, OnErr, map, string_bytes};
 ghost use Rattle.std.specs.List.{AllZip};
+ghost use Rattle.std.specs.List.Sorted.{IsStrictlySortedBy};
+ghost use Rattle.go_scan_core.specs.Values.{IsPlain};
 ghost use Rattle.go_tree_nodes.specs.Shapes.{shape_import_specs};
 ghost use Rattle.go_tree_nodes.specs.Terminals.{value_of};
-ghost use Rattle.go_path_core.specs.Path.{IsPath};
-ghost use Rattle.go_graph_core.specs.Workspaces.{IsWorkspace};
+ghost use Rattle.go_graph_core.specs.Workspaces.{by_bytes, IsWorkspace};
 ghost use Rattle.go_graph_core.specs.Imports.{import_texts, texts_in, IsTarget};
+ghost use Rattle.go_graph_core.specs.mirrors.Positions.{AreTheirPaths, IsPlaceOf};
 ghost use Rattle.go_graph_core.specs.mirrors.Targets.{IsStanding, HaveStandings, Adds, AreTargets, ArePackageTargets};
 
-use crate::assembly::assemble;
+use crate::assembly::{assembly_fault, clause_name};
 use crate::source::SourceFile;
-use crate::workspace::{PackageSource, position_of};
+use crate::workspace::PackageSource;
 use go_parse_types::add;
-use go_path_core::{ImportPath, may_import};
+use go_path_core::{ImportPath, PathText, may_import_text};
 use go_text_core::Rule;
 use go_tree_nodes::{ImportSpec, ImportSpecs};
 use std::alloc::{AllocError, Global};
@@ -53,10 +55,11 @@ pub(crate) enum Standing {
 fn standing_of(source: &PackageSource) -> Standing
     ensures { IsStanding source.now result }
 {
-    match assemble(source.files()) {
-        Err(_) => Standing::Faulty,
-        Ok(assembled) => {
-            if assembled.name() == "main" {
+    let files = source.files();
+    match assembly_fault(files) {
+        Some(_) => Standing::Faulty,
+        None => {
+            if clause_name(files) == "main" {
                 Standing::Main
             } else {
                 Standing::Library
@@ -79,19 +82,41 @@ pub(crate) fn standings(
     Ok(standings)
 }
 
+/// The paths of packages, in their order. They lie near one another, so that look-ups are quick.
+fn paths_of(alloc: Global, packages: &[PackageSource]) -> Result<Vec<String>, AllocError>
+    ensures { IfOk result (λ paths. AreTheirPaths paths.items packages.now) }
+{
+    let mut paths = Vec::with_capacity(alloc, packages.len())?;
+    for source in packages {
+        let path = String::from_str(alloc, source.path().as_str())?;
+        add(&mut paths, path)?;
+    }
+    Ok(paths)
+}
+
+/// Where a path stands among paths in order, or where it would stand.
+fn place_of(paths: &[String], path: &str) -> Result<usize, usize>
+    requires { IsStrictlySortedBy by_bytes (map (λ s. string_bytes s) paths.now) }
+    ensures { IsPlaceOf (λ s. string_bytes s) paths.now path.now result }
+{
+    paths.binary_search_by(|known| known.as_str().cmp(path))
+}
+
 /// What an import of a path comes to, cycles left aside.
 fn path_target(
     packages: &[PackageSource],
+    paths: &[String],
     standings: &[Standing],
     from: &ImportPath,
-    path: &ImportPath,
+    path: &PathText<'_>,
 ) -> ImportOutcome
     requires well { IsWorkspace packages.now }
+    requires paths { AreTheirPaths paths.now packages.now }
     requires standings { HaveStandings packages.now standings.now }
     ensures { IsTarget packages.now from.now path.now result }
 {
-    let number = position_of(packages, path);
-    if !may_import(from, path) {
+    let number = place_of(paths, path.as_str());
+    if !may_import_text(from, path) {
         return ImportOutcome::Refused(Rule::I3);
     }
     let Ok(number) = number else {
@@ -105,43 +130,66 @@ fn path_target(
 }
 
 /// What an import of a text comes to, cycles left aside.
-fn target(
-    alloc: Global,
+fn text_target(
     packages: &[PackageSource],
+    paths: &[String],
+    standings: &[Standing],
+    from: &ImportPath,
+    text: &str,
+) -> ImportOutcome
+    requires well { IsWorkspace packages.now }
+    requires paths { AreTheirPaths paths.now packages.now }
+    requires standings { HaveStandings packages.now standings.now }
+    ensures { IsTarget packages.now from.now text.now result }
+{
+    match PathText::read(text) {
+        Ok(path) => path_target(packages, paths, standings, from, &path),
+        Err(_) => ImportOutcome::Refused(Rule::I1),
+    }
+}
+
+/// What an import of these bytes comes to, cycles left aside.
+fn target(
+    packages: &[PackageSource],
+    paths: &[String],
     standings: &[Standing],
     from: &ImportPath,
     text: &[u8],
-) -> Result<ImportOutcome, AllocError>
+) -> ImportOutcome
     requires well { IsWorkspace packages.now }
+    requires paths { AreTheirPaths paths.now packages.now }
     requires standings { HaveStandings packages.now standings.now }
-    ensures target { IfOk result (IsTarget packages.now from.now text.now) }
-    // A text that is no path needs no memory.
-    ensures memory { OnErr result (IsPath text.now) }
+    ensures { IsTarget packages.now from.now text.now result }
 {
     let Ok(text) = str::from_utf8(text) else {
-        return Ok(ImportOutcome::Refused(Rule::I1));
+        return ImportOutcome::Refused(Rule::I1);
     };
-    match ImportPath::read(alloc, text) {
-        Ok(path) => Ok(path_target(packages, standings, from, &path)),
-        Err(Rule::M0) => Err(AllocError),
-        Err(_) => Ok(ImportOutcome::Refused(Rule::I1)),
-    }
+    text_target(packages, paths, standings, from, text)
 }
 
 /// What an import comes to, cycles left aside.
 fn spec_target(
     alloc: Global,
     packages: &[PackageSource],
+    paths: &[String],
     standings: &[Standing],
     from: &ImportPath,
     spec: &ImportSpec,
 ) -> Result<ImportOutcome, AllocError>
     requires well { IsWorkspace packages.now }
+    requires paths { AreTheirPaths paths.now packages.now }
     requires standings { HaveStandings packages.now standings.now }
-    ensures { IfOk result (IsTarget packages.now from.now (value_of spec.now.path)) }
+    ensures target { IfOk result (IsTarget packages.now from.now (value_of spec.now.path)) }
+    // An import that is written plainly needs no memory.
+    ensures memory { OnErr result (¬ IsPlain spec.now.path.spelled) }
 {
-    let text = spec.path.value(alloc)?;
-    target(alloc, packages, standings, from, &text)
+    match spec.path.plain() {
+        Some(text) => Ok(text_target(packages, paths, standings, from, text)),
+        None => {
+            let text = spec.path.value(alloc)?;
+            Ok(target(packages, paths, standings, from, &text))
+        }
+    }
 }
 
 /// Adds what the imports of one declaration come to.
@@ -149,22 +197,24 @@ fn add_targets(
     targets: &mut Vec<ImportOutcome>,
     alloc: Global,
     packages: &[PackageSource],
+    paths: &[String],
     standings: &[Standing],
     from: &ImportPath,
     specs: &ImportSpecs,
 ) -> Result<(), AllocError>
     requires well { IsWorkspace packages.now }
+    requires paths { AreTheirPaths paths.now packages.now }
     requires standings { HaveStandings packages.now standings.now }
     ensures { OnOk result (Adds (IsTarget packages.now from.now) (texts_in (shape_import_specs specs.now)) targets.old.items targets.new.items) }
 {
     match specs {
         ImportSpecs::One(spec) => {
-            targets.push(spec_target(alloc, packages, standings, from, spec)?)?;
+            targets.push(spec_target(alloc, packages, paths, standings, from, spec)?)?;
         }
         ImportSpecs::Group(_, lines, _) => {
             targets.reserve(lines.len())?;
             for line in lines {
-                targets.push(spec_target(alloc, packages, standings, from, &line.spec)?)?;
+                targets.push(spec_target(alloc, packages, paths, standings, from, &line.spec)?)?;
             }
         }
     }
@@ -175,11 +225,13 @@ fn add_targets(
 fn file_targets(
     alloc: Global,
     packages: &[PackageSource],
+    paths: &[String],
     standings: &[Standing],
     from: &ImportPath,
     file: &SourceFile,
 ) -> Result<Vec<ImportOutcome>, AllocError>
     requires well { IsWorkspace packages.now }
+    requires paths { AreTheirPaths paths.now packages.now }
     requires standings { HaveStandings packages.now standings.now }
     ensures { IfOk result (λ targets. AllZip (IsTarget packages.now from.now) (import_texts file.now) targets.items) }
 {
@@ -192,6 +244,7 @@ fn file_targets(
             &mut targets,
             alloc,
             packages,
+            paths,
             standings,
             from,
             &import.specs,
@@ -204,10 +257,12 @@ fn file_targets(
 fn package_targets(
     alloc: Global,
     packages: &[PackageSource],
+    paths: &[String],
     standings: &[Standing],
     source: &PackageSource,
 ) -> Result<Vec<Vec<ImportOutcome>>, AllocError>
     requires well { IsWorkspace packages.now }
+    requires paths { AreTheirPaths paths.now packages.now }
     requires standings { HaveStandings packages.now standings.now }
     ensures { IfOk result (λ targets. ArePackageTargets packages.now source.now targets.items) }
 {
@@ -216,7 +271,7 @@ fn package_targets(
     for file in source.files() {
         add(
             &mut targets,
-            file_targets(alloc, packages, standings, from, file)?,
+            file_targets(alloc, packages, paths, standings, from, file)?,
         )?;
     }
     Ok(targets)
@@ -232,11 +287,12 @@ pub(crate) fn targets(
     requires standings { HaveStandings packages.now standings.now }
     ensures { IfOk result (λ targets. AreTargets packages.now targets.items) }
 {
+    let paths = paths_of(alloc, packages)?;
     let mut targets = Vec::with_capacity(alloc, packages.len())?;
     for source in packages {
         add(
             &mut targets,
-            package_targets(alloc, packages, standings, source)?,
+            package_targets(alloc, packages, &paths, standings, source)?,
         )?;
     }
     Ok(targets)

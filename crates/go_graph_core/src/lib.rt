@@ -11,12 +11,17 @@ mod imports;
 mod laws;
 mod planning;
 mod source;
+mod unchanged;
 mod workspace;
 
 pub use assembly::{KFault, Package, assemble};
-pub use import_laws::{cycles_are_assembled, one_outcome, one_target};
+pub use import_laws::{
+    cycles_are_assembled, cycles_are_decided, each_import_has_an_outcome,
+    each_workspace_has_a_plan, imports_are_occurrences, one_outcome, one_target,
+};
 pub use imports::{ImportAt, ImportOutcome};
 pub use laws::one_assembly;
 pub use planning::{Plan, plan_imports};
 pub use source::SourceFile;
+pub use unchanged::have_same_imports;
 pub use workspace::{PackageSource, Workspace};

@@ -1,12 +1,13 @@
 //! The import plan of a workspace: what each import comes to, and an order of the packages.
 ghost use Rattle.std.specs.Prelude.{◌≡◌, ◌++◌, IfOk, OnOk, length};
 ghost use Rattle.std.specs.List.{AllZip, flat_map, filter};
-ghost use Rattle.go_graph_core.specs.Plans.{IsPlan, outcome_at};
+ghost use Rattle.go_graph_core.specs.Plans.{IsPlan, AreReached, outcome_at, outcomes_shown, plan_of};
 ghost use Rattle.go_graph_core.specs.mirrors.Targets.{IsSettled, AreSettled, AreAllSettled, edge_of, package_edges, edges_from, is_assembled};
 
 use crate::imports::{ImportAt, ImportOutcome, Standing, standings, targets};
 use crate::workspace::Workspace;
 use go_cycle_core::{Edge, Ranked, rank_and_order};
+use go_reach_core::{Reached, find_reached};
 use go_text_core::Rule;
 use std::alloc::{AllocError, Global};
 use std::marker::Model;
@@ -131,11 +132,13 @@ pub struct Plan {
 }
 
 impl Model for Plan {
-    ghost use Rattle.go_graph_core.specs.Plans.{PlanModel, plan_of, outcomes_shown};
+    ghost use Rattle.go_graph_core.specs.Plans.{PlanModel, plan_of, outcomes_shown, IsOrderly};
 
     ghost Value = { PlanModel };
 
     ghost view = { λ p. plan_of (outcomes_shown p.outcomes.items) p.order.items };
+
+    ghost invariant = { λ p. IsOrderly (plan_of (outcomes_shown p.outcomes.items) p.order.items) };
 }
 
 impl Plan {
@@ -162,6 +165,36 @@ impl Plan {
     {
         self.order.as_slice()
     }
+
+    /// For each package, by number, the packages that it reaches: those that a list of at least one passing import leads to from it.
+    ///
+    /// # Errors
+    ///
+    /// `AllocError` for want of memory.
+    pub fn reached(&self, alloc: Global) -> Result<Reached, AllocError>
+        ensures many { IfOk result (λ sets. length sets ≡ length self.now.outcomes) }
+        ensures sets { IfOk result (AreReached self.now) }
+    {
+        let edges = edges(alloc, &self.outcomes)?;
+        find_reached(alloc, self.outcomes.len(), &self.order, &edges)
+    }
+}
+
+/// What each import of a workspace comes to, and the assembled packages in an order.
+fn outcomes_and_order(
+    alloc: Global,
+    workspace: &Workspace,
+) -> Result<(Vec<Vec<Vec<ImportOutcome>>>, Vec<usize>), AllocError>
+    ensures { IfOk result (λ p. IsPlan workspace.now (plan_of (outcomes_shown p.0.items) p.1.items)) }
+{
+    let packages = workspace.packages();
+    let standings = standings(alloc, packages)?;
+    let mut outcomes = targets(alloc, packages, &standings)?;
+    let edges = edges(alloc, &outcomes)?;
+    let ranked = rank_and_order(alloc, &edges, packages.len())?;
+    let order = assembled(alloc, ranked.order(), &standings)?;
+    settle(&ranked, &mut outcomes);
+    Ok((outcomes, order))
 }
 
 /// Plans the imports of a workspace: what each comes to, and an order in which the packages can be built.
@@ -177,12 +210,6 @@ impl Plan {
 pub fn plan_imports(alloc: Global, workspace: &Workspace) -> Result<Plan, AllocError>
     ensures { IfOk result (IsPlan workspace.now) }
 {
-    let packages = workspace.packages();
-    let standings = standings(alloc, packages)?;
-    let mut outcomes = targets(alloc, packages, &standings)?;
-    let edges = edges(alloc, &outcomes)?;
-    let ranked = rank_and_order(alloc, &edges, packages.len())?;
-    let order = assembled(alloc, ranked.order(), &standings)?;
-    settle(&ranked, &mut outcomes);
+    let (outcomes, order) = outcomes_and_order(alloc, workspace)?;
     Ok(Plan { outcomes, order })
 }

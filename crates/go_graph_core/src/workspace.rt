@@ -1,12 +1,11 @@
 //! Workspaces.
-ghost use Rattle.std.specs.Prelude.{◌≡◌, ◌≤◌, ◌+◌, [], map, All, OnOk, IfErr, IfOk, OnErr, vec_len, vec_capacity};
+ghost use Rattle.std.specs.Prelude.{◌≡◌, ◌<◌, ◌≤◌, ◌+◌, ◌↔◌, [], length, All, IsTrue, OnOk, IfErr, IfOk, OnErr, vec_len, vec_capacity};
 ghost use Rattle.std.specs.BTreeMap.{insert_entry, is_at};
 ghost use Rattle.std.specs.List.Sorted.{IsStrictlySortedBy};
 ghost use Rattle.std.specs.Map.{keys_of, remove_entry};
 ghost use Rattle.go_graph_core.specs.mirrors.Positions.{IsPosition};
-ghost use Rattle.go_graph_core.specs.Sources.{IsRead};
-ghost use Rattle.go_graph_core.specs.Workspaces.{by_bytes, IsWorkspace, IsPackage, HaveDistinctNames, given_files, AreReadFrom, Puts, Replaces, files_at, files_shown, put_all, packages_inside, is_path_inside};
-ghost use Rattle.go_path_core.specs.Path.{IsPath};
+ghost use Rattle.go_graph_core.specs.Sources.{IsRead, IsPlacedSource};
+ghost use Rattle.go_graph_core.specs.Workspaces.{by_bytes, names_of_files, IsWorkspace, IsPackage, AreAllRead, HaveDistinctNames, given_files, AreReadFrom, Puts, Replaces, put_all, packages_inside, is_path_inside};
 
 use crate::source::SourceFile;
 use go_parse_types::add;
@@ -14,33 +13,60 @@ use go_path_core::{ImportPath, Module};
 use go_text_core::Rule;
 use std::alloc::{AllocError, Global};
 use std::marker::Model;
+use std::sync::Arc;
 
-/// A package of a workspace: its path and its files, at least one, in order of name. Contracts see it as these
-/// two.
+/// What a package holds.
 #[derive(Drop)]
-pub struct PackageSource {
+struct PackageContent {
     path: ImportPath,
     files: Vec<SourceFile>,
 }
 
+/// A package of a workspace: its path and its files, at least one, in order of name. It is a handle: what is shared has one
+/// content. Contracts see it as these two.
+#[derive(Drop)]
+pub struct PackageSource {
+    content: Arc<PackageContent>,
+}
+
 impl Model for PackageSource {
+    ghost use Rattle.std.specs.Arc.{arc_value};
     ghost use Rattle.go_graph_core.specs.Workspaces.{PackageModel, coded_package, IsPackage};
 
     ghost Value = { PackageModel };
 
     ghost coded = { coded_package };
 
-    ghost view = { λ p. (p.path, p.files.items) };
+    ghost view = { λ p. ((arc_value p.content).path, (arc_value p.content).files.items) };
 
-    ghost invariant = { λ p. IsPackage (p.path, p.files.items) };
+    ghost invariant = { λ p. IsPackage ((arc_value p.content).path, (arc_value p.content).files.items) };
 }
 
 impl PackageSource {
+    /// A package of these files, in byte order of name, at least one, and no two of one name.
+    ///
+    /// # Errors
+    ///
+    /// `AllocError` for want of memory.
+    pub fn new(
+        alloc: Global,
+        path: ImportPath,
+        files: Vec<SourceFile>,
+    ) -> Result<PackageSource, AllocError>
+        requires some { 0 < length files.items }
+        requires order { IsStrictlySortedBy by_bytes (names_of_files files.items) }
+        ensures { IfOk result (λ p. p ≡ (path, files.items)) }
+    {
+        pass_over(&files);
+        let content = Arc::new(alloc, PackageContent { path, files })?;
+        Ok(PackageSource { content })
+    }
+
     /// The package's path.
     pub fn path(&self) -> &ImportPath
         ensures { result.now ≡ self.now.0 }
     {
-        &self.path
+        &self.content.path
     }
 
     /// The package's files, at least one, in byte order of name.
@@ -48,20 +74,57 @@ impl PackageSource {
         ensures files { result.now ≡ self.now.1 }
         ensures well { IsPackage self.now }
     {
-        self.files.as_slice()
+        self.content.files.as_slice()
     }
 
-    /// An equal value. The one error is want of memory.
-    pub(crate) fn copy(&self, alloc: Global) -> Result<PackageSource, AllocError>
+    /// The same package, once more. It takes no memory.
+    ///
+    /// # Errors
+    ///
+    /// `AllocError` where the package has too many owners.
+    pub fn share(&self) -> Result<PackageSource, AllocError>
         ensures { IfOk result (λ p. p ≡ self.now) }
     {
-        let mut files = Vec::with_capacity(alloc, self.files.len())?;
-        for file in &self.files {
-            add(&mut files, file.copy(alloc)?)?;
-        }
-        let path = self.path.copy(alloc)?;
-        Ok(PackageSource { path, files })
+        Ok(PackageSource {
+            content: Arc::try_clone(&self.content)?,
+        })
     }
+
+    /// Whether two packages, each file of which has the content that its text has, are the same. Paths, and names, texts and
+    /// faults of files, are compared.
+    pub fn is_same(&self, other: &PackageSource) -> bool
+        requires own { AreAllRead self.now }
+        requires other { AreAllRead other.now }
+        ensures { IsTrue result ↔ (self.now ≡ other.now) }
+    {
+        self.path().as_str() == other.path().as_str() && are_same_files(self.files(), other.files())
+    }
+}
+
+/// Goes over files, so that it is known of each that its tree is placed.
+fn pass_over(files: &[SourceFile])
+    ensures { All IsPlacedSource files.now }
+{
+    for file in files {
+        let _tree = file.tree();
+    }
+}
+
+/// Whether two lists of files, each with the content that its text has, are the same.
+fn are_same_files(files: &[SourceFile], others: &[SourceFile]) -> bool
+    requires own { All IsRead files.now }
+    requires other { All IsRead others.now }
+    ensures { IsTrue result ↔ (files.now ≡ others.now) }
+{
+    if files.len() != others.len() {
+        return false;
+    }
+    for file in 0..files.len() {
+        if !files[file].is_same(&others[file]) {
+            return false;
+        }
+    }
+    true
 }
 
 /// Packages in byte order of path. Contracts see them as the list of their paths and files.
@@ -102,19 +165,6 @@ impl Workspace {
         self.packages.as_slice()
     }
 
-    /// The files of a path's package, in byte order of name.
-    pub fn files(&self, path: &ImportPath) -> Option<&[SourceFile]>
-        ensures { files_shown result ≡ files_at self.now path.now }
-    {
-        match position_of(self.packages.as_slice(), path) {
-            Ok(at) => {
-                let package = &self.packages[at];
-                Some(package.files())
-            }
-            Err(_) => None,
-        }
-    }
-
     /// Reads files by their names and texts, and puts them in the place of the files of the path. Without
     /// files there is no package of that path any more.
     ///
@@ -135,35 +185,41 @@ impl Workspace {
             remove_package(&mut self.packages, path);
             return Ok(());
         }
-        let at = position_of(self.packages.as_slice(), path);
+        let at = position_of(self.packages.as_slice(), path.as_str());
         let Ok(files) = read_files(alloc, files) else {
             return Err(Rule::M0);
         };
-        let Ok(path) = path.copy(alloc) else {
+        let Ok(path) = path.share() else {
             return Err(Rule::M0);
         };
-        if let Err(AllocError) = put_at(&mut self.packages, at, PackageSource { path, files }) {
+        let Ok(source) = PackageSource::new(alloc, path, files) else {
+            return Err(Rule::M0);
+        };
+        if let Err(AllocError) = put_at(&mut self.packages, at, source) {
             return Err(Rule::M0);
         }
         Ok(())
     }
 
     /// Puts the packages that another workspace has inside a module in the place of those inside it. The
-    /// others stay.
+    /// others stay. The packages that are put are shared.
     ///
     /// # Errors
     ///
-    /// `Rule::M0` for want of memory. The workspace is then as it was.
-    pub fn replace(&mut self, own: &Module, from: Workspace) -> Result<(), Rule>
-        ensures ok { OnOk result (Replaces own.now self.old from self.new) }
+    /// `Rule::M0` for want of memory, or where a package has too many owners. The workspace is then as it was.
+    pub fn replace(&mut self, own: &Module, from: &Workspace) -> Result<(), Rule>
+        ensures ok { OnOk result (Replaces own.now self.old from.now self.new) }
         ensures err { IfErr result (λ rule. (rule ≡ Rule.M0) × (self.new ≡ self.old)) }
     {
-        let Workspace { packages } = from;
-        if let Err(AllocError) = self.packages.reserve(packages.len()) {
+        let alloc = *self.packages.allocator();
+        let Ok(inside) = share_inside(alloc, own, from.packages()) else {
+            return Err(Rule::M0);
+        };
+        if let Err(AllocError) = self.packages.reserve(inside.len()) {
             return Err(Rule::M0);
         }
         self.packages.retain(|package| !lies_inside(package, own));
-        put_inside(&mut self.packages, own, packages);
+        put_each(&mut self.packages, inside);
         Ok(())
     }
 
@@ -171,25 +227,27 @@ impl Workspace {
     /// workspaces by this call proves no drops of trees of its own.
     pub fn close(self) {}
 
-    /// An equal value. The one error is want of memory.
+    /// An equal value, whose packages are shared.
+    ///
+    /// # Errors
+    ///
+    /// `AllocError` for want of memory, or where a package has too many owners.
     pub fn copy(&self, alloc: Global) -> Result<Workspace, AllocError>
         ensures { IfOk result (λ w. w ≡ self.now) }
     {
         let mut packages = Vec::with_capacity(alloc, self.packages.len())?;
         for package in &self.packages {
-            add(&mut packages, package.copy(alloc)?)?;
+            add(&mut packages, package.share()?)?;
         }
         Ok(Workspace { packages })
     }
 }
 
 /// Where the package of a path stands among packages in order, or where it would stand.
-pub(crate) fn position_of(packages: &[PackageSource], path: &ImportPath) -> Result<usize, usize>
+fn position_of(packages: &[PackageSource], path: &str) -> Result<usize, usize>
     requires { IsStrictlySortedBy by_bytes (keys_of packages.now) }
-    ensures position { IsPosition packages.now path.now result }
-    ensures path { IsPath path.now }
+    ensures { IsPosition packages.now path.now result }
 {
-    let path = path.as_str();
     packages.binary_search_by(|package| package.path().as_str().cmp(path))
 }
 
@@ -219,7 +277,7 @@ fn remove_package(packages: &mut Vec<PackageSource>, path: &ImportPath)
     requires { IsStrictlySortedBy by_bytes (keys_of packages.old.items) }
     ensures { packages.new.items ≡ remove_entry (is_at (by_bytes path.now)) packages.old.items }
 {
-    let Ok(at) = position_of(packages.as_slice(), path) else {
+    let Ok(at) = position_of(packages.as_slice(), path.as_str()) else {
         return;
     };
     packages.remove(at);
@@ -232,20 +290,35 @@ fn lies_inside(package: &PackageSource, own: &Module) -> bool
     own.contains(package.path())
 }
 
-/// Puts those packages that lie inside a module into their places.
-fn put_inside(packages: &mut Vec<PackageSource>, own: &Module, from: Vec<PackageSource>)
+/// The packages that lie inside a module, shared, in their order.
+fn share_inside(
+    alloc: Global,
+    own: &Module,
+    packages: &[PackageSource],
+) -> Result<Vec<PackageSource>, AllocError>
+    ensures { IfOk result (λ inside. inside.items ≡ packages_inside own.now packages.now) }
+{
+    let mut inside = Vec::new(alloc);
+    for package in packages {
+        if lies_inside(package, own) {
+            add(&mut inside, package.share()?)?;
+        }
+    }
+    Ok(inside)
+}
+
+/// Puts packages into their places.
+fn put_each(packages: &mut Vec<PackageSource>, from: Vec<PackageSource>)
     requires order { IsStrictlySortedBy by_bytes (keys_of packages.old.items) }
     requires room { vec_len packages.old + vec_len from ≤ vec_capacity packages.old }
-    ensures { packages.new.items ≡ put_all packages.old.items (packages_inside own.now from.items) }
+    ensures { packages.new.items ≡ put_all packages.old.items from.items }
 {
     for package in from {
-        if lies_inside(&package, own) {
-            let at = position_of(packages.as_slice(), package.path());
-            match put_at(packages, at, package) {
-                Ok(()) => {}
-                // There is room for each of them.
-                Err(AllocError) => unreachable!(),
-            }
+        let at = position_of(packages.as_slice(), package.path().as_str());
+        match put_at(packages, at, package) {
+            Ok(()) => {}
+            // There is room for each of them.
+            Err(AllocError) => unreachable!(),
         }
     }
 }

@@ -1,5 +1,5 @@
 -- What comes of the steps on the way through them is what the intervals give.
-use Rattle.std.proofs.Common.{◌≡◌, ℕ, suc, ◌+◌, ◌<◌, ◌≤◌, Bool, true, false, cond, not, ◌&&◌, ◌||◌, List, [], ◌∷◌, ◌++◌, map, filter, Option, refl, sym, ap, subst, ◌∙◌, arith}
+use Rattle.std.proofs.Common.{◌≡◌, ℕ, suc, ◌+◌, ◌<◌, ◌≤◌, Bool, true, false, not, ◌&&◌, ◌||◌, List, [], ◌∷◌, ◌++◌, map, filter, Option, refl, sym, ap, subst, ◌∙◌, arith}
 use Rattle.std.specs.Prelude.{if◌then◌else◌}
 use Rattle.std.specs.List.{list_any}
 use Rattle.std.specs.Str.{bytes_eq}
@@ -8,19 +8,19 @@ use Rattle.std.proofs.lemmas.List.Elements.{filter-append}
 use Rattle.std.proofs.lemmas.List.Folds.{list_any-append}
 use Rattle.std.proofs.lemmas.Slice.Eq.{bytes_eq-Decides}
 use Rattle.go_text_core.specs.Text.{is_blank}
-use Rattle.go_text_core.specs.declared.span.Span.{Span}
 use Rattle.go_tree_nodes.specs.declared.names.Ident.{Ident}
 use Rattle.go_tree_nodes.specs.Terminals.{Terminal, TerminalKind, Spelled, Number, Quoted, Word, Mark, Stray, InOrder, least_width}
-use Rattle.go_local_core.specs.Steps.{Piece, Manner, Steps, Done, Check, Declare, Inner, spell_piece}
+use Rattle.go_tree_nodes.proofs.InOrder.{in_order_ends, AreInTurn, turn_ends}
+use Rattle.go_local_core.specs.Steps.{Steps, Done, Check, Declare, Inner, spell_piece}
 use Rattle.go_open_core.specs.Blocks.{or_else}
 use Rattle.go_local_core.specs.Binding.{Local, Look, region_has, is_second, shown, innermost_of, bound, is_first}
 use Rattle.go_local_core.specs.Law.{Rules, Out, out, both, declared, declared_from, declare_out, check_out, law_out}
 use Rattle.go_local_core.specs.Faults.{name_faults}
-use Rattle.go_local_core.specs.mirrors.Walk.{Names, latest, look_in, is_new, with_name, with_names, news, names_of, walk_out}
+use Rattle.go_local_core.specs.mirrors.Walk.{latest, look_in, is_new, with_names, news, names_of, walk_out}
 use Rattle.go_local_core.specs.Alike.{AlikeAt, Alike, LookAtNames}
-use Rattle.go_local_core.proofs.Each.{Each, each-weaker, each-append, filter-none}
+use Rattle.go_text_core.proofs.Each.{Each, each-weaker, each-append, filter-none}
 use Rattle.go_local_core.proofs.Found.{pairs, found}
-use Rattle.go_local_core.proofs.Placed.{AreInTurn, Placed, in_order_ends, turn_ends, placed_ends}
+use Rattle.go_local_core.proofs.Placed.{Placed, placed_ends}
 use Rattle.go_local_core.proofs.Parts.{IsPart, inside, names_parts, law_parts, walk_parts}
 use Rattle.go_local_core.proofs.Fits.{Fits, fits_later, fits_enter, fits_leave, fits_second, fits_first, second_is, region-before}
 

@@ -1,5 +1,5 @@
 -- Along the steps of a function, the open names are the declarations that the intervals show at each place.
-use Rattle.std.proofs.Common.{◌≡◌, ℕ, ◌+◌, ◌<◌, ◌≤◌, Bool, true, false, cond, not, ◌&&◌, ◌||◌, List, [], ◌∷◌, ◌++◌, filter, refl, sym, ap, subst, ◌∙◌, arith}
+use Rattle.std.proofs.Common.{◌≡◌, ℕ, ◌+◌, ◌<◌, ◌≤◌, Bool, true, false, cond, not, ◌&&◌, ◌||◌, List, [], ◌∷◌, ◌++◌, refl, sym, ap, subst, ◌∙◌, arith}
 use Rattle.std.specs.Prelude.{nat_le, nat_lt, nat_eq}
 use Rattle.std.specs.List.{list_any}
 use Rattle.std.specs.Str.{bytes_eq}
@@ -9,7 +9,7 @@ use Rattle.std.proofs.lemmas.List.Elements.{filter-append}
 use Rattle.std.proofs.lemmas.List.Folds.{list_any-append}
 use Rattle.std.proofs.lemmas.Slice.Eq.{bytes_eq-Decides}
 use Rattle.go_local_core.specs.Binding.{Local, region_has, is_second, shown}
-use Rattle.go_local_core.proofs.Each.{Each, each-weaker, each-append, filter-none, any-none, any-same, none-each, and_false, and_true, or_false}
+use Rattle.go_text_core.proofs.Each.{Each, each-weaker, each-append, filter-none, any-none, any-same, none-each, and_false, and_true, or_false, absorbed, and_left, each-both}
 use Rattle.go_local_core.proofs.Found.{IsOver, Nested, nested_push}
 
 -- `past` are the declarations passed so far of `all`, and the walk stands in the block from o to c: what is open is what is
@@ -93,15 +93,6 @@ second_is X all past mine rest outer block o c lo at here n f h e own later =
     ∙ (any-same t (λ x. bytes_eq n x.name && nat_eq x.opens o) past (each-weaker _ _ (λ x k. ap (λ b. (bytes_eq n x.name && nat_eq x.opens o) && b) (lt-ltb x.at here (omega (arith, k.0))) ∙ and_true _) past f.earlier)
     ∙ sym (f.tops n)))))
 
-absorbed : (b w : Bool) → (w ≡ true → b ≡ true) → (b || (w || false)) ≡ b
-absorbed true w h = refl
-absorbed false true h = sym (h refl)
-absorbed false false h = refl
-
-and_left : (a b : Bool) → (a && b) ≡ true → a ≡ true
-and_left true b h = refl
-and_left false b h = h
-
 -- a declaration that is not the first of its block is shown nowhere
 pub fits_second : (X : Type 0) (all past outer block : List (Local X)) (o c lo at next : ℕ) (d : Local X) → Fits X all past outer block o c lo at → d.opens ≡ o → at ≤ d.at → d.at < next
     → is_second all d.opens d.name d.at ≡ true → list_any (λ e. bytes_eq d.name e.name) block ≡ true → Fits X all (past ++ d ∷ []) outer block o c lo next
@@ -123,10 +114,6 @@ fits_second X all past outer block o c lo at next d f own h i second taken =
 
 over_own : {X : Type 0} (o c : ℕ) (d e : Local X) → d.opens ≡ o → d.closes ≡ c → (e.opens ≡ o) × (e.closes ≡ c) → bytes_eq d.name e.name ≡ false → IsOver e d
 over_own o c d e p q h k = (omega (arith, h.0), omega (arith, h.1), λ s. absurd (cc))
-
-each-both : {A : Type 0} (P Q : A → Type 0) (xs : List A) → Each P xs → Each Q xs → Each (λ x. P x × Q x) xs
-each-both P Q [] h k = tt
-each-both P Q (x ∷ xs) h k = ((h.0, k.0), each-both P Q xs h.1 k.1)
 
 -- the first of its block
 pub fits_first : (X : Type 0) (all past outer block : List (Local X)) (o c lo at next : ℕ) (d : Local X) → Fits X all past outer block o c lo at → d.opens ≡ o → d.closes ≡ c → d.from ≡ lo → at ≤ d.at → d.at < next

@@ -1,10 +1,9 @@
 -- There is one list of the declarations of a function that is right.
-use Rattle.std.proofs.Common.{◌≡◌, ℕ, ◌+◌, ◌≤◌, true, false, List, [], ◌++◌, Option, refl, sym, ap, subst, ◌∙◌, ◌↔◌, arith}
+use Rattle.std.proofs.Common.{◌≡◌, ℕ, ◌+◌, true, false, List, [], Option, sym, ap, subst, ◌∙◌, ◌↔◌, arith}
 use Rattle.std.proofs.lemmas.List.{append-nil}
 use Rattle.go_tree_nodes.specs.Trees.{FuncTree}
 use Rattle.go_local_core.specs.Binding.{Local}
-use Rattle.go_local_core.specs.Law.{Rules, Out, law_out, IsRight}
-use Rattle.go_local_core.specs.mirrors.Walk.{walk_out}
+use Rattle.go_local_core.specs.Law.{Rules, Out}
 use Rattle.go_local_core.specs.Outline.{func_steps, func_opens, func_closes}
 use Rattle.go_local_core.specs.Alike.{LookAtNames}
 use Rattle.go_local_core.specs.Tables.{IsFuncPlaced, walked, given, IsTable, OneTable}

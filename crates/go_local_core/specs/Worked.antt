@@ -14,8 +14,6 @@ use Rattle.go_local_core.specs.Outline.{idents, header_idents}
 use Rattle.go_local_core.specs.Binding.{Look}
 use Rattle.go_local_core.specs.Law.{Rules}
 use Rattle.go_local_core.specs.Tables.{walked, given}
-use Rattle.go_local_core.specs.Alike.{AlikeAt, Alike, LookAtNames}
-use Rattle.go_tree_nodes.specs.Spelling.{mark, spell_ident, spell, spell_items}
 
 abbrev pub x_at : ℕ → Ident
 x_at n = record { name = codes "x"; span = record { start = n; end = suc n } }

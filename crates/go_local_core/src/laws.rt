@@ -1,5 +1,6 @@
 //! Laws of what the names of a function denote, with nothing to run.
 ghost use Rattle.go_local_core.specs.Denoted.{OneIsDenoted};
+ghost use Rattle.go_local_core.specs.Short.{ShortFaults, ShortWalk};
 ghost use Rattle.go_local_core.specs.Tables.{OneTable};
 ghost use Rattle.go_local_core.specs.Worked.{WorkedFunctions};
 
@@ -26,4 +27,14 @@ pub fn one_is_denoted<X, N>()
 /// that was worked out by hand, and the faults are those that were: by the walk, and by the intervals.
 pub fn worked_functions()
     ensures { WorkedFunctions }
+{}
+
+/// What the names to the left of `:=` break is B4 at the first of them exactly where none is new, and B1 at each that is
+/// repeated, by what these names are in the block where they stand; and a walk through the function that keeps the names
+/// of the block has the same ones for new.
+///
+/// The Go specification, "Short variable declarations".
+pub fn short_is_one_definition<X>()
+    ensures faults { ShortFaults X }
+    ensures walk { ShortWalk X }
 {}

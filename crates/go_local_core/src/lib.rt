@@ -6,7 +6,7 @@
 mod laws;
 
 use go_text_core::Rule;
-pub use laws::{one_is_denoted, one_table, worked_functions};
+pub use laws::{one_is_denoted, one_table, short_is_one_definition, worked_functions};
 
 /// A rule that is broken, and the offset in bytes where it is.
 #[derive(Clone, Copy, Debug, PartialEq, Eq)]

@@ -1,4 +1,6 @@
 pub mod Distinct
 pub mod Innermost
 pub mod Names
+pub mod News
+pub mod Shorts
 pub mod Tables

@@ -14,7 +14,7 @@ use Rattle.std.proofs.lemmas.Slice.Eq.{bytes_eq-Decides}
 use Rattle.go_open_core.specs.Blocks.{found_in, in_block, or_else, names_in, all_names, is_listed, list_name, list_names}
 
 -- names behind references
-any_shown : (name : List ℕ) (xs : List (Bor (List ℕ))) → list_any (λ x. bytes_eq name x.now) xs ≡ is_listed (map (λ x. x.now) xs) name
+pub any_shown : (name : List ℕ) (xs : List (Bor (List ℕ))) → list_any (λ x. bytes_eq name x.now) xs ≡ is_listed (map (λ x. x.now) xs) name
 any_shown name [] = refl
 any_shown name (x ∷ xs) = ap (λ b. bytes_eq name x.now || b) (any_shown name xs)
 
@@ -52,7 +52,7 @@ names_step f ts i t s s' all h is now left =
 pub names_end : {T X : Type 0} (f : T → List (List ℕ × X)) (ts : List T) (i : ℕ) (s all : List (List ℕ)) → length ts ≤ i → list_names s (all_names (map f (drop i ts))) ≡ all → s ≡ all
 names_end f ts i s all h left = ap (λ l. list_names s (all_names (map f l))) (sym (drop_all i ts h)) ∙ left
 
-or-none : (b : Bool) → b ≡ b || false
+pub or-none : (b : Bool) → b ≡ b || false
 or-none true = refl
 or-none false = refl
 
@@ -60,17 +60,17 @@ or-assoc : (a b c : Bool) → (a || b) || c ≡ a || (b || c)
 or-assoc true b c = refl
 or-assoc false b c = refl
 
-or-swap : (a b : Bool) → a || b ≡ b || a
+pub or-swap : (a b : Bool) → a || b ≡ b || a
 or-swap true true = refl
 or-swap true false = refl
 or-swap false true = refl
 or-swap false false = refl
 
-listed-append : (xs ys : List (List ℕ)) (name : List ℕ) → is_listed (xs ++ ys) name ≡ is_listed xs name || is_listed ys name
+pub listed-append : (xs ys : List (List ℕ)) (name : List ℕ) → is_listed (xs ++ ys) name ≡ is_listed xs name || is_listed ys name
 listed-append [] ys name = refl
 listed-append (x ∷ xs) ys name = ap (λ b. bytes_eq name x || b) (listed-append xs ys name) ∙ sym (or-assoc (bytes_eq name x) (is_listed xs name) (is_listed ys name))
 
-same_bytes : (x y : List ℕ) → bytes_eq x y ≡ true → x ≡ y
+pub same_bytes : (x y : List ℕ) → bytes_eq x y ≡ true → x ≡ y
 same_bytes x y h = (bytes_eq-Decides x y).0 h
 
 pub bytes_equiv : IsEquivalence bytes_eq
@@ -92,13 +92,13 @@ listed-name s m name = by (is_listed s m) refl
     by true there = again (bytes_eq name m) refl there
     by false there = listed-append s (m ∷ []) name ∙ ap (λ b. is_listed s name || b) (sym (or-none (bytes_eq name m)))
 
-listed-names : (s ns : List (List ℕ)) (name : List ℕ) → is_listed (list_names s ns) name ≡ is_listed s name || is_listed ns name
+pub listed-names : (s ns : List (List ℕ)) (name : List ℕ) → is_listed (list_names s ns) name ≡ is_listed s name || is_listed ns name
 listed-names s [] name = or-none (is_listed s name)
 listed-names s (n ∷ ns) name =
     listed-names (list_name s n) ns name
     ∙ (ap (λ b. b || is_listed ns name) (listed-name s n name) ∙ or-assoc (is_listed s name) (bytes_eq name n) (is_listed ns name))
 
-listed-block : {X : Type 0} (block : List (List ℕ × X)) (name : List ℕ) → is_listed (names_in block) name ≡ is_some (in_block block name)
+pub listed-block : {X : Type 0} (block : List (List ℕ × X)) (name : List ℕ) → is_listed (names_in block) name ≡ is_some (in_block block name)
 listed-block [] name = refl
 listed-block (e ∷ es) name = by (bytes_eq name e.0) (listed-block es name)
   where

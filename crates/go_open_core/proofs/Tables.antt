@@ -1,5 +1,5 @@
 -- A block's table, and the list of blocks.
-use Rattle.std.proofs.Common.{◌≡◌, ℕ, ◌+◌, ◌-◌, ◌<◌, ◌≤◌, zero, suc, Bool, true, false, ◌⊎◌, inl, inr, ⊎_elim, ◌&&◌, not, List, [], ◌∷◌, ◌++◌, map, length, Option, Some, None, is_some, Vec, Result, Ok, Err, refl, sym, ap, ◌∙◌, arith, cond, if◌then◌else◌, ◌||◌, take, get_or, set}
+use Rattle.std.proofs.Common.{◌≡◌, ℕ, ◌+◌, ◌-◌, ◌<◌, ◌≤◌, zero, suc, Bool, true, false, ◌⊎◌, inl, inr, ⊎_elim, ◌&&◌, not, List, [], ◌∷◌, ◌++◌, map, length, Option, Some, None, is_some, Vec, Result, Ok, Err, refl, sym, ap, ◌∙◌, arith, cond, if◌then◌else◌, take, get_or, set}
 use Rattle.std.specs.Prelude.{string_bytes, vec_len}
 use Rattle.std.specs.String.{string_eq}
 use Rattle.std.specs.Str.{bytes_eq}
@@ -7,14 +7,13 @@ use Rattle.std.specs.Map.{lookup}
 use Rattle.std.specs.Borrow.{Bor}
 use Rattle.std.specs.Result.{is_err, OnOk, OnErr}
 use Rattle.std.specs.declared.string.String.{String}
-use Rattle.std.specs.List.{list_any}
 use Rattle.std.proofs.lemmas.List.{map-append, map_more, length-append, length-map, take-map, take_all, take-append-le}
 use Rattle.std.specs.Option.{option_to_list}
 use Rattle.std.proofs.lemmas.Bool.{true≢false}
 use Rattle.indexmap.specs.IndexMap.{IndexMap, get, get_by, insert_entry}
 use Rattle.indexmap.proofs.CallerLemmas.{insert_entry-new}
 use Rattle.go_open_core.specs.declared.DeclId.{DeclId}
-use Rattle.go_open_core.specs.Blocks.{block_of, in_block, found_in, innermost, with_innermost, or_else, is_new, is_taken, block_with, block_after, news_of, named}
+use Rattle.go_open_core.specs.Blocks.{block_of, in_block, found_in, innermost, with_innermost, or_else, is_new, is_taken, block_with, block_after, named}
 use Rattle.go_text_core.specs.Text.{is_blank}
 
 lookup_bytes : {Y : Type 0} (name : List ℕ) (es : List (String Y × DeclId)) → lookup (λ k. bytes_eq name (string_bytes k)) es ≡ lookup (bytes_eq name) (map (λ e. (string_bytes e.0, e.1)) es)
@@ -90,22 +89,7 @@ with_innermost-same (x ∷ y ∷ ys) = ap (λ l. x ∷ l) (with_innermost-same (
 pub innermost-pop : (xs ys : List (List (List ℕ × DeclId))) (x : List (List ℕ × DeclId)) → xs ≡ ys ++ x ∷ [] → xs ≡ ys ++ innermost xs ∷ []
 innermost-pop xs ys x e = e ∙ ap (λ b. ys ++ b ∷ []) (sym (ap innermost e ∙ innermost-push ys x))
 
--- a short declaration with no new name leaves the block as it was
-pub block_after-none : (names block : List (List ℕ × DeclId)) → list_any (λ b. b) (news_of block names) ≡ false → block_after block names ≡ block
-block_after-none [] block h = refl
-block_after-none (n ∷ names) block h = by (is_new block n.0) refl (block_after-none names block)
-  where
-    by : (b : Bool) → is_new block n.0 ≡ b → (list_any (λ b. b) (news_of block names) ≡ false → block_after block names ≡ block) → block_after (if is_new block n.0 then block ++ n ∷ [] else block) names ≡ block
-    by true e rest = absurd (true≢false (sym (ap (λ b. b || list_any (λ b. b) (news_of (if b then block ++ n ∷ [] else block) names)) e) ∙ h))
-    by false e rest =
-        ap (λ b. block_after (if b then block ++ n ∷ [] else block) names) e
-        ∙ rest (sym (ap (λ b. b || list_any (λ b. b) (news_of (if b then block ++ n ∷ [] else block) names)) e) ∙ h)
-
 -- one name more
-pub news_of-push : (names : List (List ℕ × DeclId)) (n : List ℕ × DeclId) (block : List (List ℕ × DeclId)) → news_of block (names ++ n ∷ []) ≡ news_of block names ++ is_new (block_after block names) n.0 ∷ []
-news_of-push [] n block = refl
-news_of-push (m ∷ names) n block = ap (λ l. is_new block m.0 ∷ l) (news_of-push names n (if is_new block m.0 then block ++ m ∷ [] else block))
-
 pub block_after-push : (names : List (List ℕ × DeclId)) (n : List ℕ × DeclId) (block : List (List ℕ × DeclId)) → block_after block (names ++ n ∷ []) ≡ (if is_new (block_after block names) n.0 then block_after block names ++ n ∷ [] else block_after block names)
 block_after-push [] n block = refl
 block_after-push (m ∷ names) n block = block_after-push names n (if is_new block m.0 then block ++ m ∷ [] else block)
@@ -156,7 +140,7 @@ on_err_at (Ok x) h p = absurd (true≢false (sym h))
 on_err_at (Err e) h p = p
 
 module _ (names : List (Bor (List ℕ) × DeclId)) (start now new : List (List ℕ × DeclId)) (i : ℕ) (d : Bor (List ℕ) × DeclId) (h : i < length names) where
-  named_more : named (take (i + 1) names) ≡ named (take i names) ++ ((get_or names i d).0.now, (get_or names i d).1) ∷ []
+  pub named_more : named (take (i + 1) names) ≡ named (take i names) ++ ((get_or names i d).0.now, (get_or names i d).1) ∷ []
   named_more = map_more (λ n. (n.0.now, n.1)) names i d h
 
   pub block_step : now ≡ block_after start (named (take i names)) → new ≡ (if is_new now (get_or names i d).0.now then now ++ ((get_or names i d).0.now, (get_or names i d).1) ∷ [] else now) → new ≡ block_after start (named (take (i + 1) names))
@@ -164,13 +148,6 @@ module _ (names : List (Bor (List ℕ) × DeclId)) (start now new : List (List �
       let n : List ℕ × DeclId = ((get_or names i d).0.now, (get_or names i d).1) in
       e ∙ (ap (λ b. if is_new b (get_or names i d).0.now then b ++ n ∷ [] else b) inv
       ∙ (sym (block_after-push (named (take i names)) n start) ∙ sym (ap (block_after start) named_more)))
-
-  pub news_step : (before after : List Bool) → now ≡ block_after start (named (take i names)) → before ≡ news_of start (named (take i names)) → after ≡ before ++ is_new now (get_or names i d).0.now ∷ [] → after ≡ news_of start (named (take (i + 1) names))
-  news_step before after inv said e =
-      let n : List ℕ × DeclId = ((get_or names i d).0.now, (get_or names i d).1) in
-      e ∙ (ap (λ l. l ++ is_new now (get_or names i d).0.now ∷ []) said
-      ∙ (ap (λ b. news_of start (named (take i names)) ++ is_new b (get_or names i d).0.now ∷ []) inv
-      ∙ (sym (news_of-push (named (take i names)) n start) ∙ sym (ap (news_of start) named_more))))
 
 -- what truncate leaves
 pub undone : {Y S : Type 0} (was now cut : IndexMap (String Y) DeclId S) (names : List (List ℕ × DeclId)) (n : ℕ) → n ≡ length was.entries → block_of now ≡ block_after (block_of was) names → cut.entries ≡ take n now.entries → block_of cut ≡ block_of was

@@ -1,6 +1,6 @@
 -- What a contract sees of the open blocks: a list of blocks, the outermost first, each a list of names with
 -- their declarations, in the order in which they were declared.
-use Rattle.std.specs.Prelude.{◌≡◌, ℕ, Bool, ◌&&◌, not, List, [], ◌∷◌, ◌++◌, map, All, Option, Some, None, is_some, string_bytes, if◌then◌else◌}
+use Rattle.std.specs.Prelude.{◌≡◌, ℕ, Bool, true, false, ◌&&◌, not, List, [], ◌∷◌, ◌++◌, map, All, Option, Some, None, is_some, string_bytes, if◌then◌else◌}
 use Rattle.std.specs.List.{list_any}
 use Rattle.std.specs.Str.{bytes_eq}
 use Rattle.std.specs.Map.{lookup}
@@ -9,6 +9,8 @@ use Rattle.indexmap.specs.IndexMap.{IndexMap}
 use Rattle.std.specs.Borrow.{Bor}
 use Rattle.go_text_core.specs.Text.{is_blank}
 use Rattle.go_open_core.specs.declared.DeclId.{DeclId}
+use Rattle.go_open_core.specs.declared.short.ShortName.{ShortName}
+use Rattle.go_open_core.specs.declared.short.ShortName.TheVariants.{New, Old, Blank, Repeated}
 
 -- the declaration of a name in one block
 abbrev pub in_block : {X : Type 0} → List (List ℕ × X) → List ℕ → Option X
@@ -66,11 +68,6 @@ abbrev pub block_after : {X : Type 0} → List (List ℕ × X) → List (List �
 block_after block [] = block
 block_after block (n ∷ names) = block_after (if is_new block n.0 then block ++ n ∷ [] else block) names
 
--- which names of a short declaration are new
-abbrev pub news_of : {X : Type 0} → List (List ℕ × X) → List (List ℕ × X) → List Bool
-news_of block [] = []
-news_of block (n ∷ names) = is_new block n.0 ∷ news_of (if is_new block n.0 then block ++ n ∷ [] else block) names
-
 -- the names of a short declaration, as bytes
 abbrev pub named : List (Bor (List ℕ) × DeclId) → List (List ℕ × DeclId)
 named names = map (λ n. (n.0.now, n.1)) names
@@ -78,6 +75,46 @@ named names = map (λ n. (n.0.now, n.1)) names
 -- whether a name is among these
 abbrev pub is_listed : List (List ℕ) → List ℕ → Bool
 is_listed names name = list_any (bytes_eq name) names
+
+-- a name to the left of `:=` is repeated where it stands to its left already and is not blank
+abbrev pub is_repeated : List (List ℕ) → List ℕ → Bool
+is_repeated before name = not (is_blank name) && is_listed before name
+
+-- which of some names are repeated, behind others
+abbrev pub repeated_behind : List (List ℕ) → List (List ℕ) → List Bool
+repeated_behind before [] = []
+repeated_behind before (name ∷ names) = is_repeated before name ∷ repeated_behind (before ++ name ∷ []) names
+
+-- what a name to the left of `:=` is, in a block and behind other names
+abbrev pub short_name : {X : Type 0} → List (List ℕ × X) → List (List ℕ) → List ℕ → ShortName
+short_name block before name =
+    if is_repeated before name then Repeated else (if is_blank name then Blank else (if is_some (in_block block name) then Old else New))
+
+-- what some names are, behind others
+abbrev pub short_names_behind : {X : Type 0} → List (List ℕ × X) → List (List ℕ) → List (List ℕ) → List ShortName
+short_names_behind block before [] = []
+short_names_behind block before (name ∷ names) = short_name block before name ∷ short_names_behind block (before ++ name ∷ []) names
+
+-- what the names to the left of `:=` are in a block, in their order
+abbrev pub short_names : {X : Type 0} → List (List ℕ × X) → List (List ℕ) → List ShortName
+short_names block names = short_names_behind block [] names
+
+-- a name that is declared by its short declaration
+abbrev pub is_short_new : ShortName → Bool
+is_short_new New = true
+is_short_new Old = false
+is_short_new Blank = false
+is_short_new Repeated = false
+
+-- whether one of the names is declared by their short declaration
+abbrev pub any_new : List ShortName → Bool
+any_new shorts = list_any is_short_new shorts
+
+-- those of the names with declarations that are new
+abbrev pub only_new : {X : Type 0} → List ShortName → List (List ℕ × X) → List (List ℕ × X)
+only_new [] names = []
+only_new (s ∷ shorts) [] = []
+only_new (s ∷ shorts) (n ∷ names) = (if is_short_new s then n ∷ [] else []) ++ only_new shorts names
 
 -- a list of names with one more, unless it is there
 abbrev pub list_name : List (List ℕ) → List ℕ → List (List ℕ)

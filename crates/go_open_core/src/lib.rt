@@ -1,16 +1,20 @@
 //! The open blocks at a place of a file, with the names that are declared in each.
 #![tactic(auto)]
 
+mod laws;
 mod name_list;
+mod short;
 
 ghost use Rattle.std.specs.Prelude.{◌≡◌, ℕ, ◌+◌, ◌<◌, ◌≤◌, ◌⊎◌, [], ◌∷◌, ◌++◌, length, IfOk, IfErr, OnOk, OnErr, IfSome, IsSome, IsNone, IsOk, true, false, None, Some, is_some, map, if◌then◌else◌, ◌↔◌, Contains, AllPairs, List};
-ghost use Rattle.std.specs.List.{list_any};
-ghost use Rattle.go_open_core.specs.Blocks.{found_in, innermost, with_innermost, is_taken, block_with, block_of, in_block, block_after, news_of, named, is_new, names_in, all_names, list_names, NoneHas, IsInnermost};
+ghost use Rattle.go_open_core.specs.Blocks.{found_in, innermost, with_innermost, is_taken, block_with, block_of, in_block, block_after, short_names, any_new, named, names_in, all_names, list_names, NoneHas, IsInnermost};
 ghost use Rattle.go_text_core.specs.Text.{is_blank};
 
 use go_text_core::Rule;
 use indexmap::IndexMap;
+pub use laws::short_adds_new;
 pub use name_list::NameList;
+use short::{declare_each, short_names_in};
+pub use short::{ShortDecl, ShortName};
 use std::alloc::Global;
 use std::marker::Model;
 
@@ -92,71 +96,6 @@ fn declare_in(
     add_decl(block, alloc, name, id)
 }
 
-// Whether a declaration of the name in one block is the first.
-fn can_declare(block: &IndexMap<String, DeclId>, name: &str) -> bool
-    ensures { result ≡ is_new (block_of block.now) name.now }
-{
-    name != "_" && find_in(block, name).is_none()
-}
-
-// Whether one of these names is new in a block.
-fn can_declare_any(block: &IndexMap<String, DeclId>, names: &[(&str, DeclId)]) -> bool
-    ensures { result ≡ list_any (λ b. b) (news_of (block_of block.now) (named names.now)) }
-{
-    for (name, _) in names {
-        if can_declare(block, name) {
-            return true;
-        }
-    }
-    false
-}
-
-// Declares a name in one block, if it is new there, and notes whether it is.
-fn declare_new(
-    block: &mut IndexMap<String, DeclId>,
-    alloc: Global,
-    news: &mut Vec<bool>,
-    name: &str,
-    id: DeclId,
-) -> Result<(), Rule>
-    ensures noted { OnOk result (news.new.items ≡ news.old.items ++ is_new (block_of block.old) name.now ∷ []) }
-    ensures block { OnOk result (block_of block.new ≡ (if is_new (block_of block.old) name.now then block_of block.old ++ (name.now, id) ∷ [] else block_of block.old)) }
-    ensures err { OnErr result (block_of block.new ≡ block_of block.old) }
-{
-    let is_new = can_declare(block, name);
-    if news.push(is_new).is_err() {
-        return Err(Rule::M0);
-    }
-    if is_new {
-        return add_decl(block, alloc, name, id);
-    }
-    Ok(())
-}
-
-// Declares those names in one block that are new there, and says which. Takes memory only where one is new. After a
-// refusal the block is as it was.
-fn declare_each(
-    block: &mut IndexMap<String, DeclId>,
-    alloc: Global,
-    names: &[(&str, DeclId)],
-) -> Result<Vec<bool>, Rule>
-    ensures ok { IfOk result (λ news. (news.items ≡ news_of (block_of block.old) (named names.now)) × (list_any (λ b. b) news.items ≡ true) × (block_of block.new ≡ block_after (block_of block.old) (named names.now))) }
-    ensures err { IfErr result (λ rule. (block_of block.new ≡ block_of block.old) × (((rule ≡ Rule.M0) × (list_any (λ b. b) (news_of (block_of block.old) (named names.now)) ≡ true)) ⊎ ((rule ≡ Rule.B4) × (list_any (λ b. b) (news_of (block_of block.old) (named names.now)) ≡ false)))) }
-{
-    if !can_declare_any(block, names) {
-        return Err(Rule::B4);
-    }
-    let before = block.len();
-    let mut news = Vec::new(alloc);
-    for (name, id) in names {
-        if declare_new(block, alloc, &mut news, name, *id).is_err() {
-            block.truncate(before);
-            return Err(Rule::M0);
-        }
-    }
-    Ok(news)
-}
-
 // A second table with the names and declarations of a block, in their order.
 fn copy_block(
     alloc: Global,
@@ -181,7 +120,7 @@ fn add_block_names<'a>(
     ensures err { IfErr result (λ rule. rule ≡ Rule.M0) }
 {
     for name in block.keys() {
-        names.add(name.as_str())?;
+        let _ = names.add(name.as_str())?;
     }
     Ok(())
 }
@@ -216,6 +155,13 @@ impl OpenBlocks {
         let _ = self.blocks.pop();
     }
 
+    /// How many blocks are open. Takes no memory.
+    pub fn depth(&self) -> usize
+        ensures { result ≡ length self.now }
+    {
+        self.blocks.len()
+    }
+
     /// Whether the innermost block has a declaration of the name, so that another would be the second. The blank
     /// identifier has none. Takes no memory.
     pub fn is_taken(&self, name: &str) -> bool
@@ -244,18 +190,33 @@ impl OpenBlocks {
         declare_in(&mut self.blocks[top], alloc, name, id)
     }
 
-    /// Declares the names of a short declaration that are new in the innermost block, and answers for each whether it is.
+    /// Declares those names to the left of a `:=` that are new in the innermost block, and answers what each is. One of
+    /// them is new; each that is repeated breaks B1 (the Go specification, "Short variable declarations").
     ///
-    /// The blank identifier is not new, nor is a name that stands a second time in the list.
-    /// Errors: B4 where no name is new, and otherwise M0 where memory is wanting. The blocks are then as they were.
-    pub fn declare_short(&mut self, names: &[(&str, DeclId)]) -> Result<Vec<bool>, Rule>
+    /// Errors: B4 where no name is new, of which `short_names` tells what each is, and otherwise M0 where memory is
+    /// wanting. The blocks are then as they were. B4 takes no memory.
+    pub fn declare_short(&mut self, names: &[(&str, DeclId)]) -> Result<ShortDecl, Rule>
         requires { 0 < length self.old }
-        ensures ok { IfOk result (λ news. (news.items ≡ news_of (innermost self.old) (named names.now)) × (list_any (λ b. b) news.items ≡ true) × (self.new ≡ with_innermost self.old (block_after (innermost self.old) (named names.now)))) }
-        ensures err { IfErr result (λ rule. (self.new ≡ self.old) × (((rule ≡ Rule.M0) × (list_any (λ b. b) (news_of (innermost self.old) (named names.now)) ≡ true)) ⊎ ((rule ≡ Rule.B4) × (list_any (λ b. b) (news_of (innermost self.old) (named names.now)) ≡ false)))) }
+        ensures shorts { IfOk result (λ short. (short ≡ short_names (innermost self.old) (names_in (named names.now))) × (any_new short ≡ true)) }
+        ensures ok { OnOk result (self.new ≡ with_innermost self.old (block_after (innermost self.old) (named names.now))) }
+        ensures err { IfErr result (λ rule. (self.new ≡ self.old) × (((rule ≡ Rule.M0) × (any_new (short_names (innermost self.old) (names_in (named names.now))) ≡ true)) ⊎ ((rule ≡ Rule.B4) × (any_new (short_names (innermost self.old) (names_in (named names.now))) ≡ false)))) }
     {
         let alloc = *self.blocks.allocator();
         let top = self.blocks.len() - 1;
         declare_each(&mut self.blocks[top], alloc, names)
+    }
+
+    /// What each name to the left of a `:=` is in the innermost block, in their order, with nothing declared (the Go
+    /// specification, "Short variable declarations"). Where none is new the declaration breaks B4, and each that is
+    /// repeated breaks B1. Errors: M0 where memory is wanting.
+    pub fn short_names(&self, names: &[&str]) -> Result<ShortDecl, Rule>
+        requires { 0 < length self.now }
+        ensures ok { IfOk result (λ short. short ≡ short_names (innermost self.now) (map (λ n. n.now) names.now)) }
+        ensures err { IfErr result (λ rule. rule ≡ Rule.M0) }
+    {
+        let alloc = *self.blocks.allocator();
+        let top = self.blocks.len() - 1;
+        short_names_in(&self.blocks[top], alloc, names)
     }
 
     /// The declaration of a name in the innermost block that has one, if any has. Takes no memory.

@@ -1,6 +1,6 @@
 //! Lists of names, each once.
-ghost use Rattle.std.specs.Prelude.{◌≡◌, [], IfOk, IfErr, OnOk, map};
-ghost use Rattle.go_open_core.specs.Blocks.{list_name, list_names};
+ghost use Rattle.std.specs.Prelude.{◌≡◌, [], IfOk, IfErr, OnOk, map, not};
+ghost use Rattle.go_open_core.specs.Blocks.{is_listed, list_name, list_names};
 
 use go_text_core::Rule;
 use indexmap::IndexSet;
@@ -21,13 +21,14 @@ impl<'a> Model for NameList<'a> {
     ghost view = { λ n. map (λ name. name.now) n.names.keys };
 }
 
-// Adds a name to a set, unless it is there.
-fn insert<'a>(names: &mut IndexSet<&'a str>, name: &'a str) -> Result<(), Rule>
+// Adds a name to a set, unless it is there, and answers whether it was not.
+fn insert<'a>(names: &mut IndexSet<&'a str>, name: &'a str) -> Result<bool, Rule>
+    ensures added { IfOk result (λ added. added ≡ not (is_listed (map (λ n. n.now) names.old.keys) name.now)) }
     ensures ok { OnOk result (map (λ n. n.now) names.new.keys ≡ list_name (map (λ n. n.now) names.old.keys) name.now) }
     ensures err { IfErr result (λ rule. rule ≡ Rule.M0) }
 {
     match names.insert(name) {
-        Ok(_) => Ok(()),
+        Ok(added) => Ok(added),
         Err(_) => Err(Rule::M0),
     }
 }
@@ -42,8 +43,9 @@ impl<'a> NameList<'a> {
         }
     }
 
-    /// Adds a name, unless it is there. Errors: M0 where memory is wanting.
-    pub(crate) fn add(&mut self, name: &'a str) -> Result<(), Rule>
+    /// Adds a name, unless it is there, and answers whether it was not. Errors: M0 where memory is wanting.
+    pub fn add(&mut self, name: &'a str) -> Result<bool, Rule>
+        ensures added { IfOk result (λ added. added ≡ not (is_listed self.old name.now)) }
         ensures ok { OnOk result (self.new ≡ list_name self.old name.now) }
         ensures err { IfErr result (λ rule. rule ≡ Rule.M0) }
     {
@@ -56,7 +58,7 @@ impl<'a> NameList<'a> {
         ensures err { IfErr result (λ rule. rule ≡ Rule.M0) }
     {
         for name in more {
-            self.add(name)?;
+            let _ = self.add(name)?;
         }
         Ok(())
     }

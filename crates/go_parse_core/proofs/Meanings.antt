@@ -1,5 +1,6 @@
 -- What each answer of reading means.
 use Rattle.std.proofs.Common.{◌≡◌, ℕ, ◌+◌, ◌≤◌, List, Result, Ok, Err, subst, arith, inl, inr}
+use Rattle.go_parse_types.proofs.Marks.{ok_same}
 use Rattle.go_scan_core.specs.declared.token.LexFault.{LexFault}
 use Rattle.go_scan_core.specs.declared.token.Token.{Token}
 use Rattle.go_scan_core.specs.Tokens.{IsAnswer}
@@ -13,9 +14,6 @@ use Rattle.go_parse_core.specs.mirrors.FileReading.{file_at}
 use Rattle.go_parse_core.proofs.FileFound.{file_complete}
 use Rattle.go_parse_core.proofs.FileSound.{file_sound}
 
-pub same_ok : {A E : Type 0} (x y : A) (r : Result A E) → r ≡ Ok x → r ≡ Ok y → x ≡ y
-same_ok x y r e d = cc
-
 pub ok_not_err : {A E : Type 0} (x : A) (y : E) (r : Result A E) → r ≡ Ok x → r ≡ Err y → ⊥
 ok_not_err x y r e d = cc
 
@@ -28,7 +26,7 @@ one_tree_of ts f g is it =
     let b = file_height f + file_height g in
     elim (file_complete b ts f is) [
       | inr h ↦ absurd (omega (arith, h.1))
-      | inl e ↦ (elim (file_complete b ts g it) [ inr h ↦ absurd (omega (arith, h.1)) | inl d ↦ same_ok f g (file_at b ts) e d ])
+      | inl e ↦ (elim (file_complete b ts g it) [ inr h ↦ absurd (omega (arith, h.1)) | inl d ↦ ok_same f g (file_at b ts) e d ])
     ]
 
 -- terminals that are refused have no tree of any height

@@ -17,6 +17,7 @@ use Rattle.go_parse_exprs.specs.mirrors.ExprReading.{expr_at, exprs_by, exprs_go
 use Rattle.go_parse_types.proofs.Marks.{mark_shorter}
 use Rattle.go_parse_exprs.proofs.Fronts.{spell_some}
 use Rattle.go_parse_exprs.proofs.ExprSound.{expr_sound}
+use Rattle.go_parse_types.proofs.CodeSeparated.{with_front, front_along, front_append, front_err}
 use Rattle.go_parse_types.proofs.CodeSteps.{fails_along}
 
 pub first_shorter : (b : ℕ) (header : Bool) (ts rest : List Terminal) (t : ExprTree) → expr_at b header 1 ts ≡ Ok (t, rest) → length rest < length ts
@@ -30,24 +31,11 @@ next_shorter b header ts m x at e = omega (arith, mark_shorter operator.Comma ts
 abbrev pub Exprs : Type 0
 Exprs = Reading (Separated ExprTree)
 
--- the expressions that are read, and the last of them given to what reads on
-abbrev pub with_front : Expr → List NextExpr → (ExprTree → Exprs) → Exprs
-with_front e [] on = on (shape e)
-with_front e (n ∷ ns) on = with_front n.expr ns on >>= λ x. Ok (Then (shape e) n.comma x.0, x.1)
+-- a comma, and the expression behind it
+abbrev pub part : NextExpr → Span × ExprTree
+part n = (n.comma, shape n.expr)
 
-front_along : (e : Expr) (ns : List NextExpr) (f g : ExprTree → Exprs) → ((t : ExprTree) → f t ≡ g t) → with_front e ns f ≡ with_front e ns g
-front_along e [] f g h = h (shape e)
-front_along e (n ∷ ns) f g h = ap (λ r. r >>= λ x. Ok (Then (shape e) n.comma x.0, x.1)) (front_along n.expr ns f g h)
-
-front_append : (e : Expr) (ns : List NextExpr) (n : NextExpr) (on : ExprTree → Exprs) → with_front e (ns ++ (n ∷ [])) on ≡ with_front e ns (λ t. on (shape n.expr) >>= λ x. Ok (Then t n.comma x.0, x.1))
-front_append e [] n on = refl
-front_append e (m ∷ ns) n on = ap (λ r. r >>= λ x. Ok (Then (shape e) m.comma x.0, x.1)) (front_append m.expr ns n on)
-
-front_err : (e : Expr) (ns : List NextExpr) (f : Stuck) → with_front e ns (λ t. Err f) ≡ Err f
-front_err e [] f = refl
-front_err e (n ∷ ns) f = ap (λ r. r >>= λ x. Ok (Then (shape e) n.comma x.0, x.1)) (front_err n.expr ns f)
-
-front_one : (e : Expr) (ns : List NextExpr) (ts : List Terminal) → with_front e ns (λ t. Ok (One t, ts)) ≡ Ok (exprs_from e ns, ts)
+front_one : (e : Expr) (ns : List NextExpr) (ts : List Terminal) → with_front part (shape e) ns (λ t. Ok (One t, ts)) ≡ Ok (exprs_from e ns, ts)
 front_one e [] ts = refl
 front_one e (n ∷ ns) ts = ap (λ r. r >>= λ x. Ok (Then (shape e) n.comma x.0, x.1)) (front_one n.expr ns ts)
 
@@ -55,7 +43,7 @@ front_one e (n ∷ ns) ts = ap (λ r. r >>= λ x. Ok (Then (shape e) n.comma x.0
 pub record ExprsSoFar (b : ℕ) (header : Bool) (whole : Exprs) (first : Expr) (more : List NextExpr) (rest : List Terminal) : Type 0 where
   pub turns : ℕ
   pub enough : length rest < turns
-  pub same : whole ≡ with_front first more (on_from b header turns rest)
+  pub same : whole ≡ with_front part (shape first) more (on_from b header turns rest)
 
 go_is : (b k : ℕ) (header : Bool) (ts rest : List Terminal) (t : ExprTree) → 0 < k → expr_at b header 1 ts ≡ Ok (t, rest) → exprs_go (expr_at b header 1) k ts ≡ on_from b header (k - 1) rest t
 unfolding exprs_go
@@ -71,7 +59,7 @@ go_err b (suc k) header ts f some e = ap (λ r. r >>= λ x. exprs_by (exprs_go (
 
 pub exprs_start : (b turns : ℕ) (header : Bool) (ts : List Terminal) (first : Expr) (more : List NextExpr) → more ≡ [] → length ts < turns → ExprsSoFar b header (on_from b header turns ts (shape first)) first more ts
 exprs_start b turns header ts first more none some =
-    record { turns = turns; enough = some; same = ap (λ ns. with_front first ns (on_from b header turns ts)) (sym none) }
+    record { turns = turns; enough = some; same = ap (λ ns. with_front part (shape first) ns (on_from b header turns ts)) (sym none) }
 
 -- the first, and what reads on
 pub exprs_first : (b : ℕ) (header : Bool) (ts rest : List Terminal) (t : ExprTree) → expr_at b header 1 ts ≡ Ok (t, rest) → exprs_at b header ts ≡ on_from b header (length ts) rest t
@@ -89,11 +77,11 @@ exprs_more b header whole rest after first more new m n so at e comma is =
     let some : 0 < k = omega (arith, so.enough) in
     let on : (t : ExprTree) → on_from b header k rest t ≡ (on_from b header (k - 1) after (shape n.expr) >>= λ x. Ok (Then t n.comma x.0, x.1)) =
     λ t. ap (exprs_by (exprs_go (expr_at b header 1) k) t rest) (sym at) ∙ ap (λ r. r >>= λ x. Ok (Then t m.0 x.0, x.1)) (go_is b k header m.1 after (shape n.expr) some e) ∙ ap (λ c. on_from b header (k - 1) after (shape n.expr) >>= λ x. Ok (Then t c x.0, x.1)) (sym comma) in
-    record { turns = k - 1; enough = omega (arith, so.enough); same = so.same ∙ front_along first more (on_from b header k rest) (λ t. on_from b header (k - 1) after (shape n.expr) >>= λ x. Ok (Then t n.comma x.0, x.1)) on ∙ sym (front_append first more n (on_from b header (k - 1) after)) ∙ ap (λ ns. with_front first ns (on_from b header (k - 1) after)) (sym is) }
+    record { turns = k - 1; enough = omega (arith, so.enough); same = so.same ∙ front_along part (shape first) more (on_from b header k rest) (λ t. on_from b header (k - 1) after (shape n.expr) >>= λ x. Ok (Then t n.comma x.0, x.1)) on ∙ sym (front_append part (shape first) more n (on_from b header (k - 1) after)) ∙ ap (λ ns. with_front part (shape first) ns (on_from b header (k - 1) after)) (sym is) }
 
 pub exprs_fails : (b : ℕ) (header : Bool) (whole : Exprs) (rest : List Terminal) (first : Expr) (more : List NextExpr) (m : Span × List Terminal) (e : Stop) → ExprsSoFar b header whole first more rest → Some m ≡ mark_at operator.Comma rest → Fails e (expr_at b header 1 m.1) → Fails e whole
 exprs_fails b header whole rest first more m e so at failed =
-    fails_along (expr_at b header 1 m.1) whole e (λ f g. so.same ∙ front_along first more (on_from b header so.turns rest) (λ t. Err f) (on f g) ∙ front_err first more f) failed
+    fails_along (expr_at b header 1 m.1) whole e (λ f g. so.same ∙ front_along part (shape first) more (on_from b header so.turns rest) (λ t. Err f) (on f g) ∙ front_err part (shape first) more f) failed
   where
     on : (f : Stuck) → expr_at b header 1 m.1 ≡ Err f → (t : ExprTree) → on_from b header so.turns rest t ≡ Err f
     on f g t =
@@ -102,7 +90,7 @@ exprs_fails b header whole rest first more m e so at failed =
 
 pub exprs_end : (b : ℕ) (header : Bool) (whole : Exprs) (rest : List Terminal) (first : Expr) (more : List NextExpr) → ExprsSoFar b header whole first more rest → None ≡ mark_at operator.Comma rest → whole ≡ Ok (exprs_from first more, rest)
 exprs_end b header whole rest first more so at =
-    so.same ∙ front_along first more (on_from b header so.turns rest) (λ t. Ok (One t, rest)) (λ t. ap (exprs_by (exprs_go (expr_at b header 1) so.turns) t rest) (sym at)) ∙ front_one first more rest
+    so.same ∙ front_along part (shape first) more (on_from b header so.turns rest) (λ t. Ok (One t, rest)) (λ t. ap (exprs_by (exprs_go (expr_at b header 1) so.turns) t rest) (sym at)) ∙ front_one first more rest
 
 -- the height of one more
 high_more : (first : Expr) (more : List NextExpr) (n : NextExpr) → exprs_height (exprs_from first (more ++ (n ∷ []))) ≡ max (exprs_height (exprs_from first more)) (height (shape n.expr))

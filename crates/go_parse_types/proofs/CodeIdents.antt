@@ -11,29 +11,17 @@ use Rattle.go_parse_types.specs.declared.stop.Stop.{Stop}
 use Rattle.go_parse_types.specs.mirrors.Giving.{Fails}
 use Rattle.go_parse_types.specs.mirrors.Marks.{Stuck, ◌>>=◌, Reading, need, mark_at, name_at, idents_more, idents_go}
 use Rattle.go_parse_types.proofs.Marks.{need_ok, mark_shorter, name_shorter}
+use Rattle.go_parse_types.proofs.CodeSeparated.{with_front, front_along, front_append, front_err}
 use Rattle.go_parse_types.proofs.CodeSteps.{fails_along}
 
 abbrev pub Names : Type 0
 Names = Reading (Separated Ident)
 
--- the names that are read, and the last of them given to what reads on
-abbrev pub with_front : Ident → List NextIdent → (Ident → Names) → Names
-with_front x [] on = on x
-with_front x (n ∷ ns) on = with_front n.ident ns on >>= λ y. Ok (Then x n.comma y.0, y.1)
+-- a comma, and the name behind it
+abbrev pub part : NextIdent → Span × Ident
+part n = (n.comma, n.ident)
 
-front_along : (x : Ident) (ns : List NextIdent) (f g : Ident → Names) → ((t : Ident) → f t ≡ g t) → with_front x ns f ≡ with_front x ns g
-front_along x [] f g h = h x
-front_along x (n ∷ ns) f g h = ap (λ r. r >>= λ y. Ok (Then x n.comma y.0, y.1)) (front_along n.ident ns f g h)
-
-front_append : (x : Ident) (ns : List NextIdent) (n : NextIdent) (on : Ident → Names) → with_front x (ns ++ (n ∷ [])) on ≡ with_front x ns (λ t. on n.ident >>= λ y. Ok (Then t n.comma y.0, y.1))
-front_append x [] n on = refl
-front_append x (m ∷ ns) n on = ap (λ r. r >>= λ y. Ok (Then x m.comma y.0, y.1)) (front_append m.ident ns n on)
-
-front_err : (x : Ident) (ns : List NextIdent) (f : Stuck) → with_front x ns (λ t. Err f) ≡ Err f
-front_err x [] f = refl
-front_err x (n ∷ ns) f = ap (λ r. r >>= λ y. Ok (Then x n.comma y.0, y.1)) (front_err n.ident ns f)
-
-front_one : (x : Ident) (ns : List NextIdent) (ts : List Terminal) → with_front x ns (λ t. Ok (One t, ts)) ≡ Ok (idents_from x ns, ts)
+front_one : (x : Ident) (ns : List NextIdent) (ts : List Terminal) → with_front part x ns (λ t. Ok (One t, ts)) ≡ Ok (idents_from x ns, ts)
 front_one x [] ts = refl
 front_one x (n ∷ ns) ts = ap (λ r. r >>= λ y. Ok (Then x n.comma y.0, y.1)) (front_one n.ident ns ts)
 
@@ -45,7 +33,7 @@ on_from turns rest x = idents_more (idents_go turns) x rest (mark_at operator.Co
 pub record IdentsSoFar (ts : List Terminal) (first : Ident) (more : List NextIdent) (rest : List Terminal) : Type 0 where
   pub turns : ℕ
   pub enough : length rest < turns
-  pub same : idents_go (suc (length ts)) ts ≡ with_front first more (on_from turns rest)
+  pub same : idents_go (suc (length ts)) ts ≡ with_front part first more (on_from turns rest)
 
 go_is : (k : ℕ) (ts rest : List Terminal) (x : Ident) → 0 < k → need (name_at ts) ≡ Ok (x, rest) → idents_go k ts ≡ on_from (k - 1) rest x
 unfolding idents_go
@@ -66,7 +54,7 @@ pub idents_start : (ts rest : List Terminal) (first : Ident) (more : List NextId
 idents_start ts rest first more none e =
     let less = need_name_shorter ts rest first e in
     let step = go_is (suc (length ts)) ts rest first (omega arith) e in
-    record { turns = suc (length ts) - 1; enough = omega arith; same = step ∙ ap (λ ns. with_front first ns (on_from (suc (length ts) - 1) rest)) (sym none) }
+    record { turns = suc (length ts) - 1; enough = omega arith; same = step ∙ ap (λ ns. with_front part first ns (on_from (suc (length ts) - 1) rest)) (sym none) }
 
 pub idents_start_fails : (ts : List Terminal) (e : Stop) → Fails e (need (name_at ts)) → Fails e (idents_go (suc (length ts)) ts)
 idents_start_fails ts e failed = fails_along (need (name_at ts)) (idents_go (suc (length ts)) ts) e (λ f g. go_err (suc (length ts)) ts f (omega arith) g) failed
@@ -81,11 +69,11 @@ idents_push ts rest after first more new m n so at e comma is =
     let some : 0 < k = omega (arith, so.enough) in
     let on : (t : Ident) → on_from k rest t ≡ (on_from (k - 1) after n.ident >>= λ y. Ok (Then t n.comma y.0, y.1)) =
     λ t. ap (idents_more (idents_go k) t rest) (sym at) ∙ ap (λ r. r >>= λ y. Ok (Then t m.0 y.0, y.1)) (go_is k m.1 after n.ident some e) ∙ ap (λ c. on_from (k - 1) after n.ident >>= λ y. Ok (Then t c y.0, y.1)) (sym comma) in
-    record { turns = k - 1; enough = omega (arith, so.enough); same = so.same ∙ front_along first more (on_from k rest) (λ t. on_from (k - 1) after n.ident >>= λ y. Ok (Then t n.comma y.0, y.1)) on ∙ sym (front_append first more n (on_from (k - 1) after)) ∙ ap (λ ns. with_front first ns (on_from (k - 1) after)) (sym is) }
+    record { turns = k - 1; enough = omega (arith, so.enough); same = so.same ∙ front_along part first more (on_from k rest) (λ t. on_from (k - 1) after n.ident >>= λ y. Ok (Then t n.comma y.0, y.1)) on ∙ sym (front_append part first more n (on_from (k - 1) after)) ∙ ap (λ ns. with_front part first ns (on_from (k - 1) after)) (sym is) }
 
 pub idents_fails : (ts rest : List Terminal) (first : Ident) (more : List NextIdent) (m : Span × List Terminal) (e : Stop) → IdentsSoFar ts first more rest → Some m ≡ mark_at operator.Comma rest → Fails e (need (name_at m.1)) → Fails e (idents_go (suc (length ts)) ts)
 idents_fails ts rest first more m e so at failed =
-    fails_along (need (name_at m.1)) (idents_go (suc (length ts)) ts) e (λ f g. so.same ∙ front_along first more (on_from so.turns rest) (λ t. Err f) (on f g) ∙ front_err first more f) failed
+    fails_along (need (name_at m.1)) (idents_go (suc (length ts)) ts) e (λ f g. so.same ∙ front_along part first more (on_from so.turns rest) (λ t. Err f) (on f g) ∙ front_err part first more f) failed
   where
     on : (f : Stuck) → need (name_at m.1) ≡ Err f → (t : Ident) → on_from so.turns rest t ≡ Err f
     on f g t =
@@ -94,4 +82,4 @@ idents_fails ts rest first more m e so at failed =
 
 pub idents_end : (ts rest : List Terminal) (first : Ident) (more : List NextIdent) → IdentsSoFar ts first more rest → None ≡ mark_at operator.Comma rest → idents_go (suc (length ts)) ts ≡ Ok (idents_from first more, rest)
 idents_end ts rest first more so at =
-    so.same ∙ front_along first more (on_from so.turns rest) (λ t. Ok (One t, rest)) (λ t. ap (idents_more (idents_go so.turns) t rest) (sym at)) ∙ front_one first more rest
+    so.same ∙ front_along part first more (on_from so.turns rest) (λ t. Ok (One t, rest)) (λ t. ap (idents_more (idents_go so.turns) t rest) (sym at)) ∙ front_one first more rest

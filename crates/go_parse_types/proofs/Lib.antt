@@ -6,6 +6,7 @@ pub mod Signatures
 pub mod TypeLines
 pub mod Types
 pub mod CodeSteps
+pub mod CodeSeparated
 pub mod CodeIdents
 pub mod CodeLists
 pub mod CodeEntries

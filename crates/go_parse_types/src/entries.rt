@@ -5,8 +5,7 @@ ghost use Rattle.go_tree_nodes.specs.TypeShapes.{shape_idents, shape_names, shap
 ghost use Rattle.go_parse_types.specs.mirrors.EntryShapes.{entry_of, with_last};
 ghost use Rattle.go_parse_types.specs.mirrors.TypeReading.{has_name, as_types, as_groups, as_params, plain_name};
 
-use crate::keeping::{add, fitted};
-use go_text_core::Span;
+use go_text_core::{Span, add, fitted};
 use go_tree_nodes::{Ident, Idents, NextIdent, Param, TypeExpr, TypeName};
 use std::alloc::{AllocError, Global};
 

@@ -4,14 +4,13 @@
 mod ahead;
 mod entries;
 mod heights;
-mod keeping;
 mod names;
 mod stop;
 mod type_reader;
 
 pub use ahead::Ahead;
+pub use go_text_core::{add, boxed, fitted};
 pub use heights::type_height;
-pub use keeping::{add, boxed, fitted};
 pub use names::{idents, type_name};
 pub use stop::Stop;
 pub use type_reader::{signature, struct_type, type_expr};

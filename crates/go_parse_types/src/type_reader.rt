@@ -10,11 +10,10 @@ ghost use Rattle.go_parse_types.specs.mirrors.TypeReading.{type_at, type_by, ent
 
 use crate::ahead::Ahead;
 use crate::entries::{Entry, params_from};
-use crate::keeping::{add, boxed, fitted};
 use crate::names::{idents, name_of, type_name};
 use crate::stop::Stop;
 use go_scan_core::{Keyword, Operator};
-use go_text_core::Span;
+use go_text_core::{Span, add, boxed, fitted};
 use go_tree_nodes::{
     FieldLine, Fields, Ident, MethodLine, Param, Params, Results, Signature, TextLiteral, TypeExpr,
 };

@@ -1,6 +1,5 @@
-use Rattle.std.proofs.Common.{◌≡◌, ℕ, ◌<◌, ◌≤◌, ◌+◌, ◌-◌, ◌==◌, ◌⊎◌, inl, inr, Bool, true, false, ◌&&◌, ◌||◌, not, cond, List, [], ◌∷◌, ◌++◌, length, take, drop, All, Option, Some, None, refl, sym, ◌∙◌, ap, subst, arith, length-drop, map}
-use Rattle.std.specs.List.{position, position_or_len, last_or}
-use Rattle.std.specs.Option.{option_map}
+use Rattle.std.proofs.Common.{◌≡◌, ℕ, ◌<◌, ◌≤◌, ◌+◌, ◌-◌, ◌==◌, ◌⊎◌, inl, inr, Bool, true, false, ◌&&◌, ◌||◌, not, cond, List, [], ◌∷◌, ◌++◌, length, take, drop, All, Some, None, refl, sym, ◌∙◌, ap, subst, arith, length-drop}
+use Rattle.std.specs.List.{position, position_or_len}
 use Rattle.std.specs.Str.{bytes_eq}
 use Rattle.std.proofs.lemmas.List.{take_all}
 use Rattle.std.proofs.lemmas.List.Elements.{All-cons, All-head, All-tail}
@@ -8,16 +7,13 @@ use Rattle.std.proofs.lemmas.List.Splits.{slice_split_first, slice_split_none, l
 use Rattle.std.proofs.lemmas.List.Sums.{fails_before_first}
 use Rattle.std.proofs.lemmas.Bool.{and_parts, and_from, ltb-true, ltb-false}
 use Rattle.std.proofs.lemmas.Slice.Eq.{bytes_eq-Decides}
+use Rattle.go_text_core.proofs.Each.{true_or_false}
 use lib.Dec.{ltb}
 use Rattle.go_path_core.specs.Path.{elements, IsElement, internal, IsPrefix, MayImport, is_first, tail_of, importable}
 
-two : (b : Bool) → (b ≡ true) ⊎ (b ≡ false)
-two true = inl refl
-two false = inr refl
-
 -- what position says, in terms of where the first slash stands
 cases_of : (p : ℕ → Bool) (xs : List ℕ) → ((position_or_len p xs < length xs) × (position p xs ≡ Some (position_or_len p xs))) ⊎ ((length xs ≤ position_or_len p xs) × (position p xs ≡ None))
-cases_of p xs = elim (two (ltb (position_or_len p xs) (length xs))) [
+cases_of p xs = elim (true_or_false (ltb (position_or_len p xs) (length xs))) [
   | inl e ↦ inl (ltb-true _ _ e, ap (λ b. cond b (Some (position_or_len p xs)) None) e)
   | inr e ↦ inr (ltb-false _ _ e, ap (λ b. cond b (Some (position_or_len p xs)) None) e)
 ]
@@ -137,10 +133,3 @@ unnot false h = cc
 
 pub or_is : {P Q : Type 0} (r s : Bool) → (r ≡ true → Q) × (Q → r ≡ true) → r ≡ false → (s ≡ true → P) × (P → s ≡ true) → (s ≡ true → P ⊎ Q) × (P ⊎ Q → s ≡ true)
 or_is {P} {Q} r s hr off hs = ((λ t. inl (hs.0 t)), (λ e. elim e [ inl p ↦ hs.1 p | inr q ↦ (let t : r ≡ true = hr.1 q in cc) ]))
-
-last_or-map : {A B : Type 0} (f : A → B) (o : Option A) (xs : List A) → last_or (option_map f o) (map f xs) ≡ option_map f (last_or o xs)
-last_or-map f o [] = refl
-last_or-map f o (x ∷ xs) = last_or-map f (Some x) xs
-
-pub last_shown : {A B : Type 0} (f : A → B) (x : A) (xs : List A) (ys : List B) → map f xs ≡ ys → last_or None xs ≡ Some x → Some (f x) ≡ last_or None ys
-last_shown f x xs ys h e = sym (ap (option_map f) e) ∙ (sym (last_or-map f None xs) ∙ ap (last_or None) h)

@@ -1,28 +1,79 @@
 //! Import paths, and which of them a package may import.
 ghost use Rattle.std.specs.Prelude.{◌≡◌, ◌↔◌, ◌⊎◌, IfOk, IfErr, IsTrue, string_bytes};
-ghost use Rattle.std.specs.List.{last_or};
 ghost use Rattle.go_path_core.specs.Path.{elements, IsPath, MayImport};
 
 use crate::path_text::{can_import, is_path};
 use go_text_core::Rule;
 use std::alloc::{AllocError, Global};
 use std::marker::Model;
+use std::sync::Arc;
 
-/// A well-formed import path. Contracts see it as its bytes.
+/// A well-formed path where its text stands. Contracts see it as its bytes.
 #[derive(Drop)]
-pub struct ImportPath {
-    text: String,
+pub struct PathText<'a> {
+    text: &'a str,
 }
 
-impl Model for ImportPath {
-    ghost use Rattle.std.specs.Prelude.{List, ℕ, string_bytes};
+impl<'a> Model for PathText<'a> {
+    ghost use Rattle.std.specs.Prelude.{List, ℕ};
     ghost use Rattle.go_path_core.specs.Path.{IsPath};
 
     ghost Value = { List ℕ };
 
-    ghost view = { λ p. string_bytes p.text };
+    ghost view = { λ p. p.text.now };
 
-    ghost invariant = { λ p. IsPath (string_bytes p.text) };
+    ghost invariant = { λ p. IsPath p.text.now };
+}
+
+impl<'a> PathText<'a> {
+    /// Reads the text between the quotes of an import, with no memory.
+    ///
+    /// # Errors
+    ///
+    /// `Rule::I1` exactly where the text is no path, and no other.
+    pub fn read(text: &'a str) -> Result<PathText<'a>, Rule>
+        ensures ok { IfOk result (λ path. (path ≡ text.now) × IsPath text.now) }
+        ensures err { IfErr result (λ rule. (rule ≡ Rule.I1) × ¬ IsPath text.now) }
+    {
+        if !is_path(text) {
+            return Err(Rule::I1);
+        }
+        Ok(PathText { text })
+    }
+
+    /// The path that a text is which was tested.
+    pub(crate) fn from_tested(text: &'a str) -> PathText<'a>
+        requires { IsPath text.now }
+        ensures { result ≡ text.now }
+    {
+        PathText { text }
+    }
+
+    /// The path as it is written.
+    pub fn as_str(&self) -> &'a str
+        ensures text { result.now ≡ self.now }
+        ensures path { IsPath self.now }
+    {
+        self.text
+    }
+}
+
+/// A well-formed import path, shared by all that hold it. Contracts see it as its bytes.
+#[derive(Drop)]
+pub struct ImportPath {
+    text: Arc<String>,
+}
+
+impl Model for ImportPath {
+    ghost use Rattle.std.specs.Prelude.{List, ℕ, string_bytes};
+    ghost use Rattle.std.specs.Arc.{arc_value};
+    ghost use Rattle.go_path_core.specs.Path.{IsPath};
+
+    ghost Value = { List ℕ };
+
+    ghost view = { λ p. string_bytes (arc_value p.text) };
+
+    ghost invariant = { λ p. IsPath (string_bytes (arc_value p.text)) };
 }
 
 impl ImportPath {
@@ -35,21 +86,20 @@ impl ImportPath {
         ensures ok { IfOk result (λ path. (path ≡ text.now) × IsPath text.now) }
         ensures err { IfErr result (λ rule. ((rule ≡ Rule.M0) × IsPath text.now) ⊎ ((rule ≡ Rule.I1) × ¬ IsPath text.now)) }
     {
-        if !is_path(text) {
-            return Err(Rule::I1);
-        }
-        match String::from_str(alloc, text) {
-            Ok(text) => Ok(ImportPath { text }),
+        let path = PathText::read(text)?;
+        match ImportPath::new(alloc, &path) {
+            Ok(path) => Ok(path),
             Err(_) => Err(Rule::M0),
         }
     }
 
-    /// The import path of a text that was tested.
-    pub(crate) fn from_tested(text: String) -> ImportPath
-        requires { IsPath (string_bytes text) }
-        ensures { result ≡ string_bytes text }
+    /// The import path that is written so.
+    pub(crate) fn new(alloc: Global, path: &PathText<'_>) -> Result<ImportPath, AllocError>
+        ensures { IfOk result (λ own. own ≡ path.now) }
     {
-        ImportPath { text }
+        Ok(ImportPath {
+            text: Arc::new(alloc, String::from_str(alloc, path.text)?)?,
+        })
     }
 
     /// The path as it is written.
@@ -60,27 +110,33 @@ impl ImportPath {
         self.text.as_str()
     }
 
-    /// The last element of the path, which is the whole path where it has no `/`.
-    pub fn last_element(&self) -> &str
-        ensures { Some result.now ≡ last_or None (elements self.now) }
+    /// The path where its text stands.
+    pub fn as_text(&self) -> PathText<'_>
+        ensures { result ≡ self.now }
     {
-        match self.text.split('/').last() {
-            Some(element) => element,
-            None => "",
+        PathText {
+            text: self.text.as_str(),
         }
     }
 
-    /// A second path that is written alike.
+    /// The same path once more. It takes no memory.
     ///
     /// # Errors
     ///
-    /// `AllocError` for want of memory.
-    pub fn copy(&self, alloc: Global) -> Result<ImportPath, AllocError>
+    /// `AllocError` where the path has too many owners.
+    pub fn share(&self) -> Result<ImportPath, AllocError>
         ensures { IfOk result (λ path. path ≡ self.now) }
     {
         Ok(ImportPath {
-            text: String::from_str(alloc, self.text.as_str())?,
+            text: Arc::try_clone(&self.text)?,
         })
+    }
+
+    /// Whether two paths are written alike.
+    pub fn is_same(&self, other: &ImportPath) -> bool
+        ensures { IsTrue result ↔ (self.now ≡ other.now) }
+    {
+        self.text.as_bytes() == other.text.as_bytes()
     }
 }
 
@@ -90,6 +146,15 @@ impl ImportPath {
 /// So the elements before each element `internal` of `path` have to be the first elements of `from`.
 /// See `go help gopath`, "Internal Directories".
 pub fn may_import(from: &ImportPath, path: &ImportPath) -> bool
+    ensures { IsTrue result ↔ MayImport (elements from.now) (elements path.now) }
+{
+    may_import_text(from, &path.as_text())
+}
+
+/// Whether the package `from` may import the package that is written so.
+///
+/// The rule is that of [`may_import`].
+pub fn may_import_text(from: &ImportPath, path: &PathText<'_>) -> bool
     ensures { IsTrue result ↔ MayImport (elements from.now) (elements path.now) }
 {
     can_import(true, Some(from.text.as_bytes()), path.text.as_bytes())

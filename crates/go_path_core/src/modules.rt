@@ -2,7 +2,7 @@
 ghost use Rattle.std.specs.Prelude.{◌≡◌, ◌↔◌, ◌⊎◌, IfOk, IfErr, IsTrue};
 ghost use Rattle.go_path_core.specs.Path.{elements, IsPath, IsPrefix};
 
-use crate::import_path::ImportPath;
+use crate::import_path::{ImportPath, PathText};
 use crate::path_text::{is_path, is_within};
 use go_text_core::Rule;
 use std::alloc::{AllocError, Global};
@@ -60,7 +60,7 @@ impl Module {
     pub fn path(&self, alloc: Global) -> Result<ImportPath, AllocError>
         ensures { IfOk result (λ path. path ≡ self.now) }
     {
-        Ok(ImportPath::from_tested(String::from_str(alloc, self.as_str())?))
+        ImportPath::new(alloc, &PathText::from_tested(self.as_str()))
     }
 
     /// Whether a path is the module's own or lies below it, by elements: `ex.com/ab` is not below `ex.com/a`.

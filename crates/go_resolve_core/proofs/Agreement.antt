@@ -5,6 +5,7 @@ use Rattle.std.proofs.lemmas.List.{append_assoc, append-nil, map-append}
 use Rattle.go_text_core.specs.Text.{is_blank}
 use Rattle.go_text_core.specs.declared.span.Span.{Span}
 use Rattle.go_tree_nodes.specs.declared.names.Ident.{Ident}
+use Rattle.go_tree_nodes.proofs.InOrder.{AreInTurn, turn_ends}
 use Rattle.go_subset_core.specs.declared.tree.TypeExpr.{TypeExpr}
 use Rattle.go_subset_core.specs.declared.tree.TypeExpr.TheVariants as type_expr
 use Rattle.go_subset_core.specs.declared.occurrence.Role.TheVariants as role
@@ -23,10 +24,10 @@ use Rattle.go_resolve_core.specs.Faults as fault
 use Rattle.go_resolve_core.specs.Faults.{second_fault, any_new, first_of, fault_at, repeated_fault, repeated_faults, short_faults, stmt_faults, lines_faults}
 use Rattle.go_resolve_core.specs.Outcomes.{use_of}
 use Rattle.go_resolve_core.specs.mirrors.Walk.{use_in, env_with, idents, env_names, any_new_in, repeated_in, taken_note, new_note, env_after, stmt_uses, stmt_notes, lines_uses, lines_notes}
-use Rattle.go_resolve_core.proofs.Each.{Each, each-weaker, each-append, or_false}
+use Rattle.go_text_core.proofs.Each.{Each, each-weaker, each-append, or_false}
 use Rattle.go_resolve_core.proofs.Found.{Nested}
-use Rattle.go_resolve_core.proofs.Placed.{IsWithin, AreWithin, IsTypeWithin, AreSomeWithin, AreInTurn, IsStmtPlaced, AreLinesPlaced, stmt_end, some_end}
-use Rattle.go_resolve_core.proofs.Parts.{IsLocal, names_declare, names_are, names_parts, turn_ends, stmt_ends, lines_ends, lines_parts}
+use Rattle.go_resolve_core.proofs.Placed.{IsWithin, AreWithin, IsTypeWithin, AreSomeWithin, IsStmtPlaced, AreLinesPlaced, stmt_end, some_end}
+use Rattle.go_resolve_core.proofs.Parts.{IsLocal, names_declare, names_are, names_parts, stmt_ends, lines_ends, lines_parts}
 use Rattle.go_resolve_core.proofs.Fits.{Fits, last_of, fits_later, occs_agree, fits_enter, fits_leave, second_is, fits_taken, fits_new}
 use Rattle.go_resolve_core.proofs.Pushes.{with_same}
 

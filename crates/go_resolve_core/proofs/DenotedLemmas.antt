@@ -8,6 +8,7 @@ use Rattle.std.proofs.lemmas.Bool.{lt-ltb, true≢false}
 use Rattle.std.proofs.lemmas.Slice.Eq.{bytes_eq-Decides}
 use Rattle.go_text_core.specs.Text.{is_blank}
 use Rattle.go_tree_nodes.specs.declared.names.Ident.{Ident}
+use Rattle.go_tree_nodes.proofs.InOrder.{AreInTurn}
 use Rattle.go_subset_core.specs.Trees as tree
 use Rattle.go_subset_core.specs.Trees.{Separated, StmtTree, Lines, Declare, Short, Assign, Return, Empty, More, DeclTree, Value, Func, TopTree, FileTree}
 use Rattle.go_resolve_core.specs.declared.declared.Block.{Block}
@@ -21,8 +22,8 @@ use Rattle.go_resolve_core.specs.Declarations.{entry, declares, expr_end, exprs_
 use Rattle.go_resolve_core.specs.Denoted.{IsAmong, IsInScope, Denotes, InnermostIsDenoted, OneIsDenoted}
 use Rattle.go_resolve_core.specs.Placed.{IsPlaced}
 use Rattle.go_resolve_core.specs.mirrors.Walk.{idents}
-use Rattle.go_resolve_core.proofs.Each.{Each, each-weaker, each-append}
-use Rattle.go_resolve_core.proofs.Placed.{AreInTurn, IsStmtPlaced, AreLinesPlaced, IsDeclPlaced, AreDeclsPlaced, stmt_end, decl_end, file_placed}
+use Rattle.go_text_core.proofs.Each.{Each, each-weaker, each-append}
+use Rattle.go_resolve_core.proofs.Placed.{IsStmtPlaced, AreLinesPlaced, IsDeclPlaced, AreDeclsPlaced, stmt_end, decl_end, file_placed}
 use Rattle.go_resolve_core.proofs.Parts.{IsLocal, names_declare, names_are, stmt_ends, stmt_parts, lines_parts}
 use Rattle.go_resolve_core.proofs.Package.{is_distinct, distinct, universe_each, and_split, negated, decl_at}
 

@@ -18,7 +18,7 @@ use Rattle.go_resolve_core.specs.Faults.{fault_at, procedure_fault, main_fault, 
 use Rattle.go_resolve_core.specs.Outcomes.{use_of, uses_of}
 use Rattle.go_resolve_core.specs.Placed.{IsPlaced}
 use Rattle.go_resolve_core.specs.mirrors.Walk.{env_decl, env_tops, is_repeated, repeats_of, taken_note, name_notes, body_notes, decl_uses, tops_uses, tops_notes, lines_uses}
-use Rattle.go_resolve_core.proofs.Each.{Each, each-weaker, each-append, each-filter, filter-none, any-none, and_false}
+use Rattle.go_text_core.proofs.Each.{Each, each-weaker, each-append, each-filter, filter-none, any-none, and_false}
 use Rattle.go_resolve_core.proofs.Found.{flat, IsSingle, Nested}
 use Rattle.go_resolve_core.proofs.Parts.{IsLocal, IsPart, opens, closes, lines_ends, lines_parts, region-after, apart_by_open_before}
 use Rattle.go_resolve_core.proofs.Placed.{IsDeclPlaced, IsFuncPlaced, AreDeclsPlaced, decl_end, file_placed}

@@ -17,7 +17,7 @@ use Rattle.go_resolve_core.specs.declared.declared.Use.{Use}
 use Rattle.go_resolve_core.specs.Binding.{Entry, same_block, region_has, is_second, shown}
 use Rattle.go_resolve_core.specs.Outcomes.{outcome_by, use_of}
 use Rattle.go_resolve_core.specs.mirrors.Walk.{use_in}
-use Rattle.go_resolve_core.proofs.Each.{Each, each-weaker, each-append, filter-none, any-none, any-same, and_false, or_false}
+use Rattle.go_text_core.proofs.Each.{Each, each-weaker, each-append, filter-none, any-none, any-same, and_false, and_true, or_false, absorbed, and_left}
 use Rattle.go_resolve_core.proofs.Found.{flat, with_name, IsStrictly, IsSingle, Nested, binds_found}
 use Rattle.go_resolve_core.proofs.Parts.{IsLocal, opens, IsPart, region-before, region-after, region-in, apart_by_open, apart_by_open_before, same_block-self}
 use Rattle.go_resolve_core.proofs.Pushes.{innermost_with, in_block_push, some_push}
@@ -167,10 +167,6 @@ test_same Package false o c q lo at k h = refl
 test_same File true o c q lo at k h = refl
 test_same File false o c q lo at k h = refl
 test_same (Within p d) a o c q lo at k h = ap (λ t. (a && same_block (Within p d) (Within o c)) && t) (lt-ltb q at (omega (arith, (k tt).0))) ∙ and_true (a && same_block (Within p d) (Within o c))
-  where
-    and_true : (b : Bool) → (b && true) ≡ b
-    and_true true = refl
-    and_true false = refl
 
 -- whether a declaration is the second of its name in its block, is what the innermost block knows
 pub second_is : (all past rest : List Entry) (bs : List Block) (env : List (List Entry)) (o c see lo : ℕ) (d : Entry) → Fits all past bs env o c see lo → d.1.block ≡ Within o c → lo ≤ d.1.at
@@ -185,15 +181,6 @@ second_is all past rest bs env o c see lo d f own h e later =
     ∙ (ap (list_any t) e ∙ (list_any-append t past (d ∷ rest) ∙ (ap (λ b. list_any t past || b) none ∙ (or_false _
     ∙ (any-same t (λ x. bytes_eq d.0 x.0 && same_block x.1.block (Within o c)) past (each-weaker _ _ (λ x k. test_same x.1.block (bytes_eq d.0 x.0) o c x.1.at lo d.1.at k h) past f.earlier)
     ∙ sym (f.tops d.0))))))
-
-absorbed : (b w : Bool) → (w ≡ true → b ≡ true) → (b || (w || false)) ≡ b
-absorbed true w h = refl
-absorbed false true h = sym (h refl)
-absorbed false false h = refl
-
-and_left : (a b : Bool) → (a && b) ≡ true → a ≡ true
-and_left true b h = refl
-and_left false b h = h
 
 -- a declaration that is not the first is shown nowhere
 pub fits_taken : (all past rest : List Entry) (bs : List Block) (env : List (List Entry)) (o c hi lo next : ℕ) (d : Entry) → Fits all past bs env o c hi lo → d.1.block ≡ Within o c → lo ≤ d.1.at → d.1.at < next
@@ -280,7 +267,3 @@ fits_new all past rest bs block env o c hi lo next d f own h i from e later abse
       last = f.last;
       low = omega arith;
     }
-  where
-    and_true : (b : Bool) → (b && true) ≡ b
-    and_true true = refl
-    and_true false = refl

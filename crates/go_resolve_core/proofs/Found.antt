@@ -13,7 +13,7 @@ use Rattle.go_open_core.specs.Blocks.{in_block, or_else, found_in}
 use Rattle.go_resolve_core.specs.declared.declared.Block.{Block}
 use Rattle.go_resolve_core.specs.declared.declared.Block.TheVariants.{Universe, Package, File, Within}
 use Rattle.go_resolve_core.specs.Binding.{Entry, is_inside, innermost_of, shown, binds}
-use Rattle.go_resolve_core.proofs.Each.{Each, each-weaker, each-append, each-filter, all-each, and_false}
+use Rattle.go_text_core.proofs.Each.{Each, each-weaker, each-append, each-filter, all-each, and_false}
 
 -- the entries of all blocks, the outermost first
 abbrev pub flat : List (List Entry) → List Entry

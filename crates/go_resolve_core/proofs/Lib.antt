@@ -1,6 +1,5 @@
 pub mod Agreement
 pub mod DenotedLemmas
-pub mod Each
 pub mod Envs
 pub mod Files
 pub mod Fits

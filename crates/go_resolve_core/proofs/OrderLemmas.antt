@@ -7,6 +7,7 @@ use Rattle.go_text_core.specs.Text.{is_blank}
 use Rattle.go_text_core.specs.declared.rule.Rule.{Rule}
 use Rattle.go_text_core.specs.declared.rule.Rule.TheVariants.{B1, B3, B4, K3}
 use Rattle.go_tree_nodes.specs.declared.names.Ident.{Ident}
+use Rattle.go_tree_nodes.proofs.InOrder.{AreInTurn, turn_ends}
 use Rattle.go_subset_core.specs.Trees as tree
 use Rattle.go_subset_core.specs.Trees.{Separated, One, Then, StmtTree, Lines, Declare, Short, Assign, Return, Empty, More, DeclTree, Value, Func, TopTree, FileTree}
 use Rattle.go_resolve_core.specs.declared.declared.Block.{Block}
@@ -17,8 +18,8 @@ use Rattle.go_resolve_core.specs.Declarations.{entry, expr_end, exprs_end, kind_
 use Rattle.go_resolve_core.specs.Faults.{fault_at, any_new, repeated_fault, repeated_faults, short_faults, stmt_faults, lines_faults, is_procedure, is_main, name_faults, body_faults, tops_faults}
 use Rattle.go_resolve_core.specs.Order.{IsBefore, AreInOrder, FaultsInOrder}
 use Rattle.go_resolve_core.specs.mirrors.Walk.{idents, new_note}
-use Rattle.go_resolve_core.proofs.Placed.{AreInTurn, IsStmtPlaced, AreLinesPlaced, IsDeclPlaced, AreDeclsPlaced, stmt_end, decl_end, file_placed}
-use Rattle.go_resolve_core.proofs.Parts.{turn_ends, stmt_ends, lines_ends}
+use Rattle.go_resolve_core.proofs.Placed.{IsStmtPlaced, AreLinesPlaced, IsDeclPlaced, AreDeclsPlaced, stmt_end, decl_end, file_placed}
+use Rattle.go_resolve_core.proofs.Parts.{stmt_ends, lines_ends}
 use Rattle.go_resolve_core.proofs.Package.{decl_at}
 
 all_weaker : (P Q : Fault → Type 0) → ((f : Fault) → P f → Q f) → (fs : List Fault) → AllByRecursion P fs → AllByRecursion Q fs

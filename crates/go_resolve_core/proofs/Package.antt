@@ -15,10 +15,11 @@ use Rattle.go_open_core.specs.Blocks.{in_block, innermost, with_innermost}
 use Rattle.go_resolve_core.specs.declared.declared.Block.{Block}
 use Rattle.go_resolve_core.specs.declared.declared.Block.TheVariants.{Universe, Package, File, Within}
 use Rattle.go_resolve_core.specs.Binding.{Entry, same_block, is_second}
+use Rattle.go_universe_core.specs.Universe.{spelling_of}
 use Rattle.go_resolve_core.specs.Universe.{universe}
 use Rattle.go_resolve_core.specs.Declarations.{entry, is_init, decl_kind, decl_name, decl_declares, tops_declare}
 use Rattle.go_resolve_core.specs.mirrors.Walk.{env_decl, env_tops}
-use Rattle.go_resolve_core.proofs.Each.{Each, each-weaker, each-append, any-none, any-same, and_false, or_false}
+use Rattle.go_text_core.proofs.Each.{Each, each-weaker, each-append, any-none, any-same, and_false, and_true, or_false, absorbed}
 use Rattle.go_resolve_core.proofs.Found.{IsSingle, with_name}
 use Rattle.go_resolve_core.proofs.Parts.{IsLocal, lines_ends}
 use Rattle.go_resolve_core.proofs.Placed.{IsDeclPlaced, AreDeclsPlaced, decl_end}
@@ -86,7 +87,7 @@ single_distinct (d ∷ ds) h n =
     by false e q rest = single_more n d ds e rest
 
 pub distinct : is_distinct universe ≡ true
-unfolding universe
+unfolding universe spelling_of
 distinct = refl
 
 pub universe_single : IsSingle universe
@@ -163,15 +164,6 @@ second_in_package all front passed rest back d e f p r l own =
     ∙ (ap (list_any t) e ∙ (list_any-append t front ((passed ++ d ∷ rest) ++ back) ∙ (ap (λ b. b || list_any t ((passed ++ d ∷ rest) ++ back)) in_front
     ∙ (list_any-append t (passed ++ d ∷ rest) back ∙ (ap (λ b. list_any t (passed ++ d ∷ rest) || b) in_back ∙ (or_false _
     ∙ (list_any-append t passed (d ∷ rest) ∙ (ap (λ b. list_any t passed || b) behind ∙ (or_false _ ∙ in_passed)))))))))
-  where
-    and_true : (b : Bool) → (b && true) ≡ b
-    and_true true = refl
-    and_true false = refl
-
-absorbed : (b w : Bool) → (w ≡ true → b ≡ true) → (b || (w || false)) ≡ b
-absorbed true w h = refl
-absorbed false true h = sym (h refl)
-absorbed false false h = refl
 
 entry_step : (all front passed rest back has : List Entry) (lo next : ℕ) (d : Entry) → all ≡ front ++ ((passed ++ d ∷ rest) ++ back) → Each IsPredeclared front → Each (λ e. IsLocal e.1.block) back → Package_is all passed has lo
     → lo ≤ d.1.at → d.1.at < next → d.1.block ≡ Package → Each (λ e. d.1.at < e.1.at) rest

@@ -5,6 +5,7 @@ use Rattle.std.proofs.lemmas.Bool.{le-leb, lt-leb, lt-ltb, le-ltb}
 use Rattle.std.proofs.lemmas.List.{append-nil}
 use Rattle.go_text_core.specs.Text.{is_blank}
 use Rattle.go_tree_nodes.specs.declared.names.Ident.{Ident}
+use Rattle.go_tree_nodes.proofs.InOrder.{AreInTurn, turn_ends}
 use Rattle.go_subset_core.specs.Trees as tree
 use Rattle.go_subset_core.specs.Trees.{StmtTree, Lines, Separated, One, Then, Declare, Short, Assign, Return, Empty, More}
 use Rattle.go_resolve_core.specs.declared.declared.Block.{Block}
@@ -14,8 +15,8 @@ use Rattle.go_resolve_core.specs.declared.declared.DeclKind.TheVariants.{Var}
 use Rattle.go_resolve_core.specs.Binding.{Entry, same_block, region_has}
 use Rattle.go_resolve_core.specs.Declarations.{expr_end, exprs_end, entry, declares, kind_of, idents_declare, stmt_declares, lines_declare}
 use Rattle.go_resolve_core.specs.mirrors.Walk.{idents}
-use Rattle.go_resolve_core.proofs.Each.{Each, each-weaker, each-append, and_false}
-use Rattle.go_resolve_core.proofs.Placed.{AreInTurn, IsStmtPlaced, AreLinesPlaced, stmt_end}
+use Rattle.go_text_core.proofs.Each.{Each, each-weaker, each-append, and_false}
+use Rattle.go_resolve_core.proofs.Placed.{IsStmtPlaced, AreLinesPlaced, stmt_end}
 
 abbrev pub IsLocal : Block → Type 0
 IsLocal Universe = ⊥
@@ -91,10 +92,6 @@ names_declare owner from (x ∷ xs) = declares Var owner from x ++ names_declare
 pub names_are : (owner : Block) (from : ℕ) (xs : Separated Ident) → idents_declare owner from xs ≡ names_declare owner from (idents xs)
 names_are owner from (One x) = sym (append-nil (declares Var owner from x))
 names_are owner from (Then x comma more) = ap (λ l. declares Var owner from x ++ l) (names_are owner from more)
-
-pub turn_ends : (xs : List Ident) (lo hi : ℕ) → AreInTurn lo xs hi → lo ≤ hi
-turn_ends [] lo hi h = h
-turn_ends (x ∷ xs) lo hi h = omega (arith, h.0, turn_ends xs (x.span.start + 1) hi h.1)
 
 pub names_parts : (xs : List Ident) (o c lo hi : ℕ) → o < lo → AreInTurn lo xs hi → Each (IsPart o c lo hi) (names_declare (Within o c) hi xs)
 names_parts [] o c lo hi l h = tt

@@ -7,6 +7,7 @@ use Rattle.go_tree_nodes.specs.declared.names.Ident.{Ident}
 use Rattle.go_subset_core.specs.declared.tree.TypeExpr.{TypeExpr}
 use Rattle.go_subset_core.specs.declared.tree.TypeExpr.TheVariants as type_expr
 use Rattle.go_tree_nodes.specs.Terminals.{Terminal, terminal, Mark, InOrder}
+use Rattle.go_tree_nodes.proofs.InOrder.{in_order_from, AreInTurn}
 use Rattle.go_subset_core.specs.Trees.{ExprTree, Literal, Named, Paren, Binary, Separated, One, Then, ValueTree, StmtTree, Lines, Declare, Short, Assign, Return, Block, Empty, More, FuncTree, DeclTree, Value, Func, TopTree, FileTree}
 use Rattle.go_subset_core.specs.Spelling.{spell, spell_exprs, spell_idents, spell_some_type, spell_outcome, spell_value, spell_semicolon, spell_stmt, spell_lines, spell_func, spell_decl, spell_tops}
 use Rattle.go_resolve_core.specs.Declarations.{expr_end, exprs_end}
@@ -27,11 +28,6 @@ AreWithin lo (Then t comma more) hi = IsWithin lo t hi × AreWithin lo more hi
 abbrev pub IsTypeWithin : ℕ → Option TypeExpr → ℕ → Type 0
 IsTypeWithin lo None hi = Unit {0}
 IsTypeWithin lo (Some (type_expr.Name x)) hi = (lo ≤ x.span.start) × (x.span.start < hi)
-
--- names follow one another between two places
-abbrev pub AreInTurn : ℕ → List Ident → ℕ → Type 0
-AreInTurn lo [] hi = lo ≤ hi
-AreInTurn lo (x ∷ xs) hi = (lo ≤ x.span.start) × AreInTurn (x.span.start + 1) xs hi
 
 abbrev pub some_end : ℕ → Option (Separated ExprTree) → ℕ
 some_end at None = at
@@ -115,10 +111,6 @@ mutual
   lines_wider lo lo' hi l (More c s rest) k = (stmt_wider lo lo' l c k.0, k.1)
 
 -- from the tokens
-
-pub in_order_from : (a b high : ℕ) → a ≤ b → (ts : List Terminal) → InOrder b ts high → InOrder a ts high
-in_order_from a b high h [] k = omega arith
-in_order_from a b high h (t ∷ ts) k = (omega (arith, k.0), k.1, k.2)
 
 -- the tokens of a tree and those behind it
 pub expr_placed : (t : ExprTree) (lo high : ℕ) (rest : List Terminal) → InOrder lo (spell t ++ rest) high → IsWithin lo t (expr_end t) × (lo < expr_end t) × InOrder (expr_end t) rest high

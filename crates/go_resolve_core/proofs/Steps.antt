@@ -9,6 +9,7 @@ use Rattle.std.proofs.lemmas.List.Folds.{list_any-append}
 use Rattle.std.proofs.lemmas.Slice.Eq.{bytes_eq-Decides}
 use Rattle.go_text_core.specs.Text.{is_blank}
 use Rattle.go_text_core.specs.declared.rule.Rule.TheVariants.{B1}
+use Rattle.go_text_core.proofs.Each.{or_false, absorbed}
 use Rattle.go_tree_nodes.specs.declared.names.Ident.{Ident}
 use Rattle.go_subset_core.specs.declared.tree.Expr.{Expr}
 use Rattle.go_subset_core.specs.declared.tree.NextExpr.{NextExpr}
@@ -92,15 +93,6 @@ repeats before seen x k = by (is_blank x.name) refl
     by : (b : Bool) → is_blank x.name ≡ b → taken_note (not b && is_some (in_block (innermost seen) x.name)) x ≡ (if not b && list_any (bytes_eq x.name) before then fault_at x B1 ∷ [] else [])
     by true e = refl
     by false e = ap (λ t. taken_note t x) (k.1 x.name e)
-
-absorbed : (b w : Bool) → (w ≡ true → b ≡ true) → (b || (w || false)) ≡ b
-absorbed true w h = refl
-absorbed false true h = sym (h refl)
-absorbed false false h = refl
-
-or_false : (b : Bool) → (b || false) ≡ b
-or_false true = refl
-or_false false = refl
 
 pub knows_more : (before : List (List ℕ)) (seen : List (List (List ℕ × DeclId))) (name : List ℕ) (id : DeclId) → Knows before seen → Knows (before ++ name ∷ []) (seen_with seen name id)
 knows_more before [] name id k = absurd (omega (arith, k.0))

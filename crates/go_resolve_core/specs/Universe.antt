@@ -1,28 +1,35 @@
--- The predeclared names, with what each declares. Of these, the ones outside the profile are refused.
-use Rattle.std.specs.Prelude.{ℕ, List, [], ◌∷◌, ◌++◌, map, codes}
+-- The universe block: the predeclared names, with what each declares.
+use Rattle.std.specs.Prelude.{List, map, if◌then◌else◌}
+use Rattle.go_universe_core.specs.declared.TheConstants.{PREDECLARED}
+use Rattle.go_universe_core.specs.declared.Predeclared.{Predeclared}
+use Rattle.go_universe_core.specs.declared.PredeclaredKind.{PredeclaredKind}
+use Rattle.go_universe_core.specs.declared.PredeclaredKind.TheVariants as predeclared_kind
+use Rattle.go_universe_core.specs.Universe.{spelling_of, kind_of, usable}
 use Rattle.go_resolve_core.specs.declared.declared.Block.TheVariants as block
 use Rattle.go_resolve_core.specs.declared.declared.DeclKind.{DeclKind}
 use Rattle.go_resolve_core.specs.declared.declared.DeclKind.TheVariants.{Const, Func, «Type», Nil, Outside}
+use Rattle.go_resolve_core.specs.declared.declared.Declared.{Declared}
 use Rattle.go_resolve_core.specs.Binding.{Entry}
 
--- a predeclared name has no place in a file
-abbrev pub predeclared : DeclKind → List ℕ → Entry
-predeclared kind name = (name, record { kind = kind; at = 0; from = 0; block = block.Universe })
+-- what the name of a kind declares
+abbrev pub kind_as : PredeclaredKind → DeclKind
+kind_as predeclared_kind.Type = «Type»
+kind_as predeclared_kind.Constant = Const
+kind_as predeclared_kind.Nil = Nil
+kind_as predeclared_kind.Function = Func
 
-abbrev pub types : List (List ℕ)
-types = codes "any" ∷ (codes "bool" ∷ (codes "error" ∷ (codes "int" ∷ (codes "string" ∷ []))))
+-- what a predeclared name declares; those that may not be used are outside the profile
+abbrev pub declared_kind : Predeclared → DeclKind
+declared_kind p = if usable p then kind_as (kind_of p) else Outside
 
-abbrev pub constants : List (List ℕ)
-constants = codes "false" ∷ (codes "true" ∷ [])
+-- a declaration of the universe block has no place in a file
+abbrev pub universal : DeclKind → Declared
+universal kind = record { kind = kind; at = 0; from = 0; block = block.Universe }
 
-abbrev pub functions : List (List ℕ)
-functions = codes "len" ∷ (codes "panic" ∷ (codes "print" ∷ (codes "println" ∷ [])))
-
-abbrev pub outside : List (List ℕ)
-outside =
-    codes "append" ∷ (codes "byte" ∷ (codes "cap" ∷ (codes "clear" ∷ (codes "close" ∷ (codes "comparable" ∷ (codes "complex" ∷ (codes "complex128" ∷ (codes "complex64" ∷ (codes "copy" ∷ (codes "delete" ∷ (codes "float32" ∷ (codes "float64" ∷ (codes "imag" ∷ (codes "int16" ∷ (codes "int32" ∷ (codes "int64" ∷ (codes "int8" ∷ (codes "iota" ∷ (codes "make" ∷ (codes "max" ∷ (codes "min" ∷ (codes "new" ∷ (codes "real" ∷ (codes "recover" ∷ (codes "rune" ∷ (codes "uint" ∷ (codes "uint16" ∷ (codes "uint32" ∷ (codes "uint64" ∷ (codes "uint8" ∷ (codes "uintptr" ∷ [])))))))))))))))))))))))))))))))
+-- the declaration of a predeclared name
+abbrev pub predeclared : Predeclared → Declared
+predeclared p = universal (declared_kind p)
 
 -- the universe block
 unfoldable pub universe : List Entry
-universe =
-    map (predeclared «Type») types ++ (map (predeclared Const) constants ++ (map (predeclared Func) functions ++ (predeclared Nil (codes "nil") ∷ map (predeclared Outside) outside)))
+universe = map (λ p. (spelling_of p, predeclared p)) PREDECLARED

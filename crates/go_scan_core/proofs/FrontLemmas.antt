@@ -7,6 +7,7 @@ use Rattle.unicode.specs.GeneralCategory.{general_category}
 use Rattle.unicode.specs.Rows.{value_in}
 use Rattle.std.proofs.lemmas.Bool.Decides.{nat_tests}
 use Rattle.go_text_core.specs.Text.{letter, digit}
+use Rattle.go_text_core.proofs.Each.{true_or_false}
 use Rattle.go_scan_core.specs.declared.kind.Keyword.{Keyword}
 use Rattle.go_scan_core.specs.declared.kind.Keyword.TheVariants.{Break, Case, Chan, Const, Continue, Default, Defer, Else, Fallthrough, For, Func, Go, Goto, If, Import, Interface, Map, Package, Range, Return, Select, Struct, Switch, «Type», Var}
 use Rattle.go_scan_core.specs.declared.kind.Operator.{Operator}
@@ -18,10 +19,6 @@ use Rattle.go_scan_core.specs.mirrors.Front.{front_of}
 use Rattle.go_scan_core.specs.mirrors.Reading.{keyword_spelled, longest_operator}
 use Rattle.go_scan_core.specs.Tokens.{BeginsComment, BeginsRefused}
 use Rattle.go_scan_core.specs.Spelling.{keyword_spelling, operator_spelling}
-
-pub true_or_false : (b : Bool) → (b ≡ true) ⊎ (b ≡ false)
-true_or_false true = inl refl
-true_or_false false = inr refl
 
 pub and_true : (a b : Bool) → (a && b) ≡ true → (a ≡ true) × (b ≡ true)
 and_true true b h = (refl, h)

@@ -12,6 +12,7 @@ pub mod LexemeLemmas
 pub mod NumberLemmas
 pub mod OrderLemmas
 pub mod PieceLemmas
+pub mod PlainLemmas
 pub mod ReachLemmas
 pub mod SpaceLemmas
 pub mod TextLemmas

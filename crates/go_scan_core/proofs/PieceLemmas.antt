@@ -6,6 +6,7 @@ use Rattle.std.proofs.lemmas.List.{length-append, length-take-le, take-append-dr
 use Rattle.std.proofs.lemmas.List.Sums.{prefix_len-le-length}
 use Rattle.go_text_core.specs.Text.{letter}
 use Rattle.go_text_core.specs.declared.rule.Rule.{Rule}
+use Rattle.go_text_core.proofs.Each.{true_or_false}
 use Rattle.go_scan_core.specs.declared.enclosed.Enclosure.{Enclosure}
 use Rattle.go_scan_core.specs.declared.enclosed.Enclosure.TheVariants.{General, Quoted, Raw}
 use Rattle.go_scan_core.specs.declared.front.Front.{Front}
@@ -27,7 +28,7 @@ use Rattle.go_scan_core.specs.mirrors.Front.{front_of}
 use Rattle.go_scan_core.specs.mirrors.Numbers.{number_len}
 use Rattle.go_scan_core.specs.mirrors.Reading.{keyword_spelled, integer_at, operator_at, longest_operator, operator_read, piece_at, piece_by, piece_from, identifier_at, word_kind}
 use Rattle.go_scan_core.specs.Tokens.{BeginsComment, BeginsRefused, IsAnyLexeme, IsBadNumber, IsComment, IsEnclosed, IsFault, IsGood, IsInteger, IsLexeme, IsLongest, BeginsNothing, IsWord, joined}
-use Rattle.go_scan_core.proofs.FrontLemmas.{backquote_front, space_front, digit_front, front_says, general_front, letter_front, line_front, mark_front, mark_other, marks, newline_front, or_false, or_true, other_begins, quote_front, same_number, true_or_false}
+use Rattle.go_scan_core.proofs.FrontLemmas.{backquote_front, space_front, digit_front, front_says, general_front, letter_front, line_front, mark_front, mark_other, marks, newline_front, or_false, or_true, other_begins, quote_front, same_number}
 use Rattle.go_scan_core.proofs.EnclosedLemmas.{Found, enclosed_complete, enclosed_sound}
 use Rattle.go_scan_core.proofs.LexemeLemmas.{FitsMark, all_prefix, all_taken, first_joined, integer_first, keyword_word, no_operator, number_longest, number_sound, operator_fits, operator_longest, operator_some, operator_stands, operator_taken, spelled, word_lexeme, word_sound, word_within}
 

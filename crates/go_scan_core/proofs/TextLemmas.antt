@@ -18,7 +18,7 @@ use Rattle.go_scan_core.specs.mirrors.Cutting.{close}
 use Rattle.go_scan_core.specs.Tokens.{AreParts, IsAnswer, IsAnswerFrom, IsAnswerOf, IsComment, IsGood, IsLexeme, tokens_by_line}
 use Rattle.go_scan_core.specs.Texts.{CommentHasItsText, HasItsText, IsEncodedComment, IsFilled, IsSpelled}
 use Rattle.go_scan_core.proofs.AnswerLemmas.{tokens_by_line-close}
-use Rattle.go_scan_core.proofs.FrontLemmas.{and_true, chosen, true_or_false}
+use Rattle.go_scan_core.proofs.FrontLemmas.{and_true, chosen}
 use Rattle.go_scan_core.proofs.LexemeLemmas.{keyword_word, operator_some}
 use Rattle.go_scan_core.proofs.CutLemmas.{width-encodes}
 use Rattle.go_scan_core.proofs.ReachLemmas.{lexeme_in_reach}
@@ -28,6 +28,7 @@ use Rattle.go_scan_core.specs.declared.kind.TokenKind.TheVariants as kinds
 use Rattle.go_scan_core.specs.declared.token.Comment.{Comment}
 use Rattle.go_scan_core.specs.Tokens.{IsEnclosed, IsWord}
 use Rattle.go_text_core.specs.Text.{letter}
+use Rattle.go_text_core.proofs.Each.{true_or_false}
 
 -- the characters begin at this byte of the text, and are the rest of it
 record Begins (text cs : List ℕ) (start : ℕ) : Type 0 where

@@ -1,5 +1,5 @@
 -- The bytes that string literals stand for.
-use Rattle.std.specs.Prelude.{ℕ, zero, suc, ◌+◌, ◌-◌, ◌==◌, if◌then◌else◌, List, [], ◌∷◌, ◌++◌, length, take, encode_utf8, Option, Some, None}
+use Rattle.std.specs.Prelude.{◌≡◌, ◌≢◌, ◌⊎◌, All, ℕ, zero, suc, ◌+◌, ◌-◌, ◌==◌, if◌then◌else◌, List, [], ◌∷◌, ◌++◌, length, take, encode_utf8, Option, Some, None}
 use Rattle.std.specs.List.{flat_map}
 use Rattle.go_scan_core.specs.declared.escape.Meaning.{Meaning}
 use Rattle.go_scan_core.specs.declared.escape.Meaning.TheVariants.{Byte, Char}
@@ -40,3 +40,16 @@ but_last cs = take (length cs - 1) cs
 abbrev pub string_value_of : List ℕ → List ℕ
 string_value_of [] = []
 string_value_of (c ∷ cs) = if c == 96 then raw_value (but_last cs) else quoted_value (but_last cs) 0
+
+-- a text is this inside between two of the byte `mark`, and the byte `never` is not in the inside
+abbrev pub IsBetween : ℕ → ℕ → List ℕ → List ℕ → Type 0
+IsBetween mark never inside text = (text ≡ mark ∷ (inside ++ mark ∷ [])) × All (λ b. b ≢ never) inside
+
+-- a text that has such an inside
+abbrev pub IsPlainBetween : ℕ → ℕ → List ℕ → Type 0
+IsPlainBetween mark never text = (inside : List ℕ) × IsBetween mark never inside text
+
+-- a literal that is written plainly: between two `"` with no backslash, or between two backquotes
+-- with no carriage return
+abbrev pub IsPlain : List ℕ → Type 0
+IsPlain text = IsPlainBetween 34 92 text ⊎ IsPlainBetween 96 13 text

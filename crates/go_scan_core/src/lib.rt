@@ -22,4 +22,4 @@ pub use kind::{CommentKind, KEYWORDS, Keyword, OPERATORS, Operator, TokenKind};
 pub use laws::{comments_are_the_answer, one_answer, one_list_of_comments, tokens_are_the_answer};
 pub use scanner::{comments, scan};
 pub use token::{Comment, LexFault, ScanError, Token};
-pub use value::{integer_value, string_value};
+pub use value::{integer_value, plain_value, string_value};

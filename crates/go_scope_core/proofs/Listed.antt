@@ -1,15 +1,18 @@
 -- The names of a scope, each once.
-use Rattle.std.proofs.Common.{◌≡◌, ℕ, Bool, true, false, ◌||◌, List, [], ◌∷◌, ◌++◌, map, refl, sym, ap, ◌∙◌, append_assoc, if◌then◌else◌}
+use Rattle.std.proofs.Common.{◌≡◌, ℕ, ◌+◌, ◌<◌, length, drop, get_or, Bool, true, false, ◌||◌, List, [], ◌∷◌, ◌++◌, map, refl, sym, ap, ◌∙◌, append_assoc, if◌then◌else◌}
 use Rattle.std.specs.Str.{bytes_eq}
 use Rattle.std.proofs.lemmas.Bool.{true≢false}
+use Rattle.std.proofs.lemmas.List.{drop_more}
 use Rattle.std.proofs.lemmas.List.Folds.{list_any-append}
 use Rattle.std.proofs.lemmas.Slice.Eq.{bytes_eq-Decides}
 use Rattle.go_block_core.specs.Blocks.{held_in}
 use Rattle.go_open_core.specs.Blocks.{names_in, all_names, is_listed, list_name, list_names}
 use Rattle.go_open_core.proofs.Names.{list_names-append}
-use Rattle.go_scope_core.specs.declared.scope.InScope.TheVariants.{Package, File, Local}
+use Rattle.go_universe_core.specs.declared.TheConstants.{PREDECLARED}
+use Rattle.go_universe_core.specs.declared.Predeclared.{Predeclared}
+use Rattle.go_universe_core.specs.Universe.{spelling_of}
 use Rattle.go_scope_core.specs.Models.{ScopesModel}
-use Rattle.go_scope_core.specs.Scopes.{scope_blocks}
+use Rattle.go_scope_core.specs.Scopes.{Universe, Package, File, Local, universe, inside_universe, scope_blocks}
 
 -- a name that is listed stays listed
 stays : (s ns : List (List ℕ)) (name : List ℕ) → is_listed s name ≡ true → is_listed (list_names s ns) name ≡ true
@@ -61,23 +64,38 @@ module _ {X Y : Type 0} (f : X → Y) where
   all_names-map [] = refl
   all_names-map (block ∷ blocks) = ap (λ l. l ++ all_names (map (λ block. map (λ e. (e.0, f e.1)) block) blocks)) (names_in-map block) ∙ ap (λ l. names_in block ++ l) (all_names-map blocks)
 
-names_of_scope : (s : ScopesModel) → all_names (scope_blocks s) ≡ names_in s.blocks.names ++ (names_in (held_in s.blocks s.file) ++ all_names s.open_blocks)
-names_of_scope s =
+-- one predeclared name more
+pub spelling_step : (ps : List Predeclared) (i : ℕ) (p : Predeclared) (s s' all : List (List ℕ)) → i < length ps → s' ≡ list_name s (spelling_of (get_or ps i p)) → list_names s (map spelling_of (drop i ps)) ≡ all → list_names s' (map spelling_of (drop (i + 1) ps)) ≡ all
+spelling_step ps i p s s' all h now left =
+    ap (λ l. list_names l (map spelling_of (drop (i + 1) ps))) now
+    ∙ (ap (λ l. list_names s (map spelling_of l)) (sym (drop_more ps i p h)) ∙ left)
+
+spelled_names : (ps : List Predeclared) → map spelling_of ps ≡ names_in (map (λ p. (spelling_of p, p)) ps)
+spelled_names [] = refl
+spelled_names (p ∷ ps) = ap (λ l. spelling_of p ∷ l) (spelled_names ps)
+
+-- the names of the universe block are those of the table
+pub universe_names : map spelling_of PREDECLARED ≡ names_in universe
+unfolding universe
+universe_names = spelled_names PREDECLARED
+
+names_inside : (s : ScopesModel) → all_names (inside_universe s) ≡ names_in s.blocks.names ++ (names_in (held_in s.blocks s.file) ++ all_names s.open_blocks)
+names_inside s =
     ap (λ l. l ++ (names_in (map (λ e. (e.0, File e.1)) (held_in s.blocks s.file)) ++ all_names (map (λ block. map (λ e. (e.0, Local e.1)) block) s.open_blocks))) (names_in-map Package s.blocks.names)
     ∙ ap (λ l. names_in s.blocks.names ++ l) (ap (λ l. l ++ all_names (map (λ block. map (λ e. (e.0, Local e.1)) block) s.open_blocks)) (names_in-map File (held_in s.blocks s.file)) ∙ ap (λ l. names_in (held_in s.blocks s.file) ++ l) (all_names-map Local s.open_blocks))
 
--- the names of the package block, then those of the file's block, then those of the function's blocks, each once
-pub listed_in_turn : (s : ScopesModel) (p f o first second third : List (List ℕ)) → p ≡ names_in s.blocks.names → f ≡ names_in (held_in s.blocks s.file) → o ≡ list_names [] (all_names s.open_blocks) → first ≡ list_names [] p → second ≡ list_names first f → third ≡ list_names second o → third ≡ list_names [] (all_names (scope_blocks s))
-listed_in_turn s p f o first second third p_is f_is o_is first_is second_is third_is =
+names_of_scope : (s : ScopesModel) → all_names (scope_blocks s) ≡ names_in universe ++ (names_in s.blocks.names ++ (names_in (held_in s.blocks s.file) ++ all_names s.open_blocks))
+names_of_scope s = ap (λ l. l ++ all_names (inside_universe s)) (names_in-map Universe universe) ∙ ap (λ l. names_in universe ++ l) (names_inside s)
+
+-- the names of the universe block, then those of the package block, of the file's block and of the function's blocks, each once
+pub listed_in_turn : (s : ScopesModel) → list_names (list_names (list_names (list_names [] (names_in universe)) (names_in s.blocks.names)) (names_in (held_in s.blocks s.file))) (list_names [] (all_names s.open_blocks)) ≡ list_names [] (all_names (scope_blocks s))
+listed_in_turn s =
+    let U = names_in universe in
     let P = names_in s.blocks.names in
     let F = names_in (held_in s.blocks s.file) in
     let O = all_names s.open_blocks in
-    let one : first ≡ list_names [] P = first_is ∙ ap (list_names []) p_is in
-    let two : second ≡ list_names (list_names [] P) F = second_is ∙ (ap (λ l. list_names l f) one ∙ ap (list_names (list_names [] P)) f_is) in
-    third_is
-    ∙ (ap (λ l. list_names l o) two
-    ∙ (ap (list_names (list_names (list_names [] P) F)) o_is
-    ∙ (list_names-twice (list_names (list_names [] P) F) [] O
-    ∙ (ap (λ l. list_names l O) (sym (list_names-append [] P F))
-    ∙ (sym (list_names-append [] (P ++ F) O)
-    ∙ sym (ap (list_names []) (names_of_scope s ∙ sym (append_assoc P F O))))))))
+    list_names-twice (list_names (list_names (list_names [] U) P) F) [] O
+    ∙ (ap (λ l. list_names (list_names l F) O) (sym (list_names-append [] U P))
+    ∙ (ap (λ l. list_names l O) (sym (list_names-append [] (U ++ P) F))
+    ∙ (sym (list_names-append [] ((U ++ P) ++ F) O)
+    ∙ ap (list_names []) (append_assoc (U ++ P) F O ∙ (append_assoc U P (F ++ O) ∙ sym (names_of_scope s))))))

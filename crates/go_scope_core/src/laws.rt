@@ -1,5 +1,5 @@
 //! Laws of what names denote.
-ghost use Rattle.go_scope_core.specs.Laws.{DenotesInnermost, DenotesOne, LocalHides, PackageNeverHidden, FileInside, BlankStaysOut};
+ghost use Rattle.go_scope_core.specs.Laws.{DenotesInnermost, DenotesOne, LocalHides, PackageNeverHidden, FileInside, UniverseOutermost, BlankStaysOut};
 
 /// A law, with nothing to run: what a name denotes is its declaration in the innermost open block that has one,
 /// and there is at most one (the Go specification, "Declarations and scope").
@@ -26,6 +26,13 @@ pub fn package_is_never_hidden()
 /// file's block.
 pub fn file_is_inside()
     ensures { FileInside }
+{}
+
+/// A law, with nothing to run: the universe block lies outside all others. A name that no block of the package, the
+/// file and the function has denotes the predeclared name that is spelled so, if there is one; and a predeclared name
+/// that one of these blocks has is hidden (the Go specification, "Blocks", "Predeclared identifiers").
+pub fn universe_is_outermost()
+    ensures { UniverseOutermost }
 {}
 
 /// A law, with nothing to run: where no open block of the function has the blank identifier, as at the beginning,

@@ -1,7 +1,7 @@
 //! What a name denotes at a place of a file of a package.
 //!
-//! Blocks lie one inside another: the package block, in it the block of a file, and in that the blocks of a
-//! function (the Go specification, "Blocks"). A name denotes what is declared in the innermost block that has it
+//! Blocks lie one inside another: the universe block, in it the package block, in that the block of a file, and in that
+//! the blocks of a function (the Go specification, "Blocks"). A name denotes what is declared in the innermost block that has it
 //! ("Declarations and scope").
 #![tactic(auto)]
 
@@ -9,8 +9,10 @@ mod laws;
 mod names;
 mod scope;
 
-pub use go_open_core::DeclId;
+pub use go_open_core::{DeclId, ShortDecl, ShortName};
+pub use go_universe_core::Predeclared;
 pub use laws::{
     blank_stays_out, denotes_one, file_is_inside, local_hides, package_is_never_hidden,
+    universe_is_outermost,
 };
 pub use scope::{InScope, Scopes};

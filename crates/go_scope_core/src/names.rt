@@ -5,11 +5,33 @@ ghost use denote.Ref.{Bor};
 ghost use Rattle.go_open_core.specs.Blocks.{list_names, all_names};
 ghost use Rattle.go_block_core.specs.Tables.{names_in};
 ghost use Rattle.go_block_core.specs.Blocks.{held_in};
+ghost use Rattle.go_universe_core.specs.Universe.{spelling_of};
+ghost use Rattle.go_scope_core.specs.Scopes.{universe};
 
 use go_block_core::Blocks;
 use go_open_core::{NameList, OpenBlocks};
 use go_text_core::Rule;
+use go_universe_core::{PREDECLARED, Predeclared};
 use std::alloc::Global;
+
+/// Adds how some predeclared names are spelled, each unless it is there.
+fn add_spellings(names: &mut NameList<'_>, predeclared: &[Predeclared]) -> Result<(), Rule>
+    ensures ok { OnOk result (names.new ≡ list_names names.old (map spelling_of predeclared.now)) }
+    ensures err { IfErr result (λ rule. rule ≡ Rule.M0) }
+{
+    for name in predeclared {
+        let _ = names.add(name.spelling())?;
+    }
+    Ok(())
+}
+
+/// Adds all predeclared names, each unless it is there.
+fn add_predeclared(names: &mut NameList<'_>) -> Result<(), Rule>
+    ensures ok { OnOk result (names.new ≡ list_names names.old (names_in universe)) }
+    ensures err { IfErr result (λ rule. rule ≡ Rule.M0) }
+{
+    add_spellings(names, &PREDECLARED)
+}
 
 /// Adds the names of a list, each unless it is there; the list may have failed for want of memory.
 fn add_listed<'a, E: Drop>(
@@ -25,7 +47,7 @@ fn add_listed<'a, E: Drop>(
     }
 }
 
-/// The names of a list, then those of a package block, of those that hold in the block of a file, and of the blocks
+/// The names of a list, then those of the universe block, of a package block, of those that hold in the block of a file, and of the blocks
 /// of a function, each once. The list is the caller's, so that it is let go in one place, and not wherever this ends.
 pub(crate) fn listed_names<'a>(
     names: &mut NameList<'a>,
@@ -34,9 +56,10 @@ pub(crate) fn listed_names<'a>(
     file: usize,
     open_blocks: &'a OpenBlocks,
 ) -> Result<Vec<&'a str>, Rule>
-    ensures ok { IfOk result (λ listed. map (λ n. n.now) listed.items ≡ list_names (list_names (list_names names.old (names_in blocks.now.names)) (names_in (held_in blocks.now file))) (list_names [] (all_names open_blocks.now))) }
+    ensures ok { IfOk result (λ listed. map (λ n. n.now) listed.items ≡ list_names (list_names (list_names (list_names names.old (names_in universe)) (names_in blocks.now.names)) (names_in (held_in blocks.now file))) (list_names [] (all_names open_blocks.now))) }
     ensures err { IfErr result (λ rule. rule ≡ Rule.M0) }
 {
+    add_predeclared(names)?;
     add_listed(names, blocks.package_names(alloc))?;
     add_listed(names, blocks.file_names(alloc, file))?;
     add_listed(names, open_blocks.names(alloc))?;

@@ -3,7 +3,6 @@ use Rattle.std.proofs.Common.{◌≡◌, ℕ, List, None, refl}
 use Rattle.go_tree_nodes.specs.declared.exprs.CallExpr.{CallExpr, CallExpr'}
 use Rattle.go_tree_nodes.specs.declared.exprs.LiteralExpr.{LiteralExpr, LiteralExpr'}
 use Rattle.go_tree_nodes.specs.declared.exprs.StructLiteralExpr.{StructLiteralExpr, StructLiteralExpr'}
-use Rattle.go_tree_nodes.specs.declared.stmts.«Branch» as declared_branch
 use Rattle.go_tree_nodes.specs.declared.stmts.Loop.{Loop, Loop'}
 use Rattle.go_tree_nodes.specs.Shapes as wide_shapes
 use Rattle.go_subset_core.specs.mirrors.Narrowing.{narrow, narrow_stmt}

@@ -12,7 +12,7 @@ use crate::plain::{is_arithmetic, is_plain};
 use crate::tree::{
     Decl, Expr, Exprs, File, FuncDecl, Line, NextExpr, Stmt, TopDecl, TypeExpr, ValueDecl,
 };
-use go_text_core::Span;
+use go_text_core::{Span, add, boxed};
 use go_tree_nodes as wide;
 use go_tree_nodes::{Ident, Idents, NextIdent, ValueKind};
 use std::alloc::{AllocError, Global};
@@ -35,21 +35,6 @@ impl From<AllocError> for Refusal {
     fn from(_error: AllocError) -> Self {
         Refusal::Memory
     }
-}
-
-// Adds what was made to a list.
-fn add<T: Drop>(made: &mut Vec<T>, new: T) -> Result<(), AllocError>
-    ensures { OnOk result (made.new.items ≡ made.old.items ++ new ∷ []) }
-{
-    made.push(new)?;
-    Ok(())
-}
-
-// What was made, in a box.
-fn boxed<T: Drop>(alloc: Global, made: T) -> Result<Box<T>, AllocError>
-    ensures { IfOk result (λ x. x.value ≡ made) }
-{
-    Ok(Box::new(alloc, made)?)
 }
 
 fn copy_ident(alloc: Global, ident: &Ident) -> Result<Ident, AllocError>

@@ -1,9 +1,11 @@
-//! Letters, digits and names of Go, the spans of a text and the numbers of the rules.
+//! Letters, digits and names of Go, the spans of a text and the numbers of the rules. Beside them stands what every
+//! layer uses: lists that grow, and boxes.
 //!
 //! The Go specification, "Letters and digits", "Exported identifiers" and "Uniqueness of identifiers".
 #![tactic(auto)]
 
 mod name;
+mod room;
 mod rule;
 mod span;
 
@@ -12,6 +14,7 @@ ghost use Rattle.std.specs.Str.{chars};
 ghost use Rattle.go_text_core.specs.Text.{letter, digit, uppercase, exported, SameId};
 
 pub use name::Name;
+pub use room::{add, boxed, fitted};
 pub use rule::Rule;
 pub use span::Span;
 use unicode::properties::{GeneralCategory, GeneralCategoryGroup};

@@ -11,6 +11,7 @@ ghost use Rattle.go_tree_nodes.specs.Trees.{FieldTrees, Binary, Select};
 ghost use Rattle.go_tree_nodes.specs.TypeShapes as type_shapes;
 ghost use Rattle.go_tree_nodes.specs.Shapes as shapes;
 
+use go_text_core::{add, boxed};
 use go_tree_nodes::{
     BinaryExpr, CallExpr, Expr, Exprs, FieldLine, Fields, Ident, Idents, Item, Key, LiteralExpr,
     MethodLine, NextExpr, NextIdent, Param, Params, Results, SelectExpr, Signature,
@@ -31,14 +32,6 @@ macro_rules! copied {
 
 pub(crate) use copied;
 
-/// Adds a copy to a list.
-pub(crate) fn add<T: Drop>(copies: &mut Vec<T>, copy: T) -> Result<(), AllocError>
-    ensures { OnOk result (copies.new.items ≡ copies.old.items ++ copy ∷ []) }
-{
-    copies.push(copy)?;
-    Ok(())
-}
-
 /// Two copies. Where there was no memory for one, the other is dropped.
 pub(crate) fn both<A: Drop, B: Drop>(
     first: Result<A, AllocError>,
@@ -47,13 +40,6 @@ pub(crate) fn both<A: Drop, B: Drop>(
     ensures { IfOk result (λ x. (first ≡ Ok x.0) × (second ≡ Ok x.1)) }
 {
     Ok((first?, second?))
-}
-
-/// A copy in a box.
-pub(crate) fn boxed<T: Drop>(alloc: Global, copy: T) -> Result<Box<T>, AllocError>
-    ensures { IfOk result (λ x. x.value ≡ copy) }
-{
-    Ok(Box::new(alloc, copy)?)
 }
 
 /// A name that is spelled alike, with the same place.

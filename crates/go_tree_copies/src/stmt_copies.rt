@@ -7,9 +7,10 @@ ghost use Rattle.go_tree_nodes.specs.Trees as trees;
 ghost use Rattle.go_tree_nodes.specs.TypeShapes.{shape_idents};
 
 use crate::copies::{
-    add, both, boxed, copied, copy_boxed, copy_expr, copy_exprs, copy_ident, copy_idents,
-    copy_signature, copy_text, copy_type, copy_type_name,
+    both, copied, copy_boxed, copy_expr, copy_exprs, copy_ident, copy_idents, copy_signature,
+    copy_text, copy_type, copy_type_name,
 };
+use go_text_core::{add, boxed};
 use go_tree_nodes::{
     Assignment, Branch, Decl, Definition, Expr, Exprs, ForHead, FuncDecl, Ident, IfHead,
     ImportDecl, ImportLine, ImportName, ImportSpec, ImportSpecs, InitPart, Line, Loop, Otherwise,

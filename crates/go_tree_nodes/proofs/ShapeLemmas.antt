@@ -1,6 +1,6 @@
 -- Rows of items and lines, as lists of them.
 use Rattle.std.proofs.Common.{◌≡◌, Vec, refl, ap, ◌∙◌}
-use Rattle.std.specs.Global.{Global, Box}
+use Rattle.std.specs.Global.{Global}
 use mathlib.Core.Former.{Count}
 use Rattle.go_text_core.specs.declared.span.Span.{Span}
 use Rattle.go_tree_nodes.specs.declared.types.TypeName.{TypeName}

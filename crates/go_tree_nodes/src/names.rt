@@ -1,8 +1,9 @@
 //! Names, literals and lists of names.
-ghost use Rattle.std.specs.Prelude.{◌≡◌, IfOk};
+ghost use Rattle.std.specs.Prelude.{◌≡◌, ◌↔◌, IfOk, IfSome, IsTrue, is_some};
+ghost use Rattle.go_scan_core.specs.Values.{IsPlain};
 ghost use Rattle.go_tree_nodes.specs.Terminals.{value_of};
 
-use go_scan_core::string_value;
+use go_scan_core::{plain_value, string_value};
 use go_text_core::{Name, Span};
 use std::alloc::{AllocError, Global};
 
@@ -44,5 +45,14 @@ impl TextLiteral {
         ensures { IfOk result (λ v. v.items ≡ value_of self.now) }
     {
         string_value(alloc, self.spelled.as_str())
+    }
+
+    /// What the literal stands for, as a piece of its spelling, where it is written plainly: between
+    /// two `"` with no backslash, or between two `` ` `` with no carriage return. It takes no memory.
+    pub fn plain(&self) -> Option<&str>
+        ensures value { IfSome result (λ text. text.now ≡ value_of self.now) }
+        ensures plain { IsTrue (is_some result) ↔ IsPlain self.now.spelled }
+    {
+        plain_value(self.spelled.as_str())
     }
 }

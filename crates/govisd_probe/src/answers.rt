@@ -1,28 +1,56 @@
 //! Which kind of answer is asked for.
+use crate::kinds::{Asked, Kind, find};
 use crate::lines::Lines;
-use crate::{paths, runs, tokens, trees, words, workspaces};
+use crate::{runs, shapes, tokens, trees, words, workspaces};
+use go_path_core::{ImportPath, Module};
 use std::alloc::Global;
 
-/// Adds the answer of this kind to a text, and tells whether there is such a kind.
-fn add_text_answer(out: &mut Lines, alloc: Global, kind: &str, text: &str) -> bool {
-    tokens::add_answer(out, alloc, kind, text)
-        || trees::add_answer(out, alloc, kind, text)
-        || words::add_answer(out, alloc, kind, text)
-        || paths::add_answer(out, alloc, kind, text)
-        || workspaces::add_answer(out, alloc, kind, text)
+/// Adds what is asked of the tree of the file in which a text stands.
+fn add_of_file(out: &mut Lines, alloc: Global, asked: &Asked, text: &str) {
+    let mut file = Lines::new(alloc);
+    file.add(asked.before);
+    file.add(text);
+    file.add(asked.behind);
+    match file.finish() {
+        Ok(file) => trees::add_of_tree(out, alloc, &asked.kind, file),
+        Err(_) => out.cut(),
+    }
 }
 
-/// Adds the answer of this kind to bytes, in lines.
-pub fn add_answer(out: &mut Lines, alloc: Global, kind: &str, bytes: &[u8]) {
-    if runs::add_answer(out, alloc, kind, bytes) {
-        return;
-    }
-    match str::from_utf8(bytes) {
-        Ok(text) => {
-            if !add_text_answer(out, alloc, kind, text) {
-                out.line("no such kind");
-            }
+/// Adds the answer of this kind to a text.
+fn add_text_answer(out: &mut Lines, alloc: Global, asked: &Asked, text: &str) {
+    match &asked.kind {
+        Kind::Letters => words::add_letters(out, text),
+        Kind::Name => words::add_name(out, alloc, text),
+        Kind::Same => words::add_same(out, text),
+        Kind::Piece => words::add_piece(out, text),
+        Kind::Rules => words::add_rules(out, text),
+        Kind::Path => words::add_read(out, ImportPath::read(alloc, text)),
+        Kind::Module => words::add_read(out, Module::read(alloc, text)),
+        Kind::Overlaps => words::add_judged(out, words::overlapping(alloc, text)),
+        Kind::MayImport => words::add_judged(out, words::importing(alloc, text)),
+        Kind::Tokens => tokens::add_tokens_of(out, alloc, text),
+        Kind::Comments => tokens::add_comments_of(out, alloc, text),
+        Kind::Prefixes => trees::add_prefixes(out, alloc, text),
+        Kind::Tree | Kind::Uses | Kind::Places | Kind::Copies => {
+            add_of_file(out, alloc, asked, text)
         }
-        Err(_) => out.line("no text"),
+        Kind::Run(ends) => runs::add_run(out, alloc, *ends, text.as_bytes()),
+        Kind::Slow(ends) => runs::add_slow_run(out, alloc, *ends, text),
+        Kind::Unread => runs::add_unread(out, alloc, text.as_bytes()),
+        Kind::Shaped(shape) => shapes::add_shaped(out, alloc, shape, text),
+        kind => workspaces::add_of_archive(out, alloc, kind, text),
+    }
+}
+
+/// Adds the answer of this kind to bytes, in lines. Of what is no text there is a run alone.
+pub fn add_answer(out: &mut Lines, alloc: Global, kind: &str, bytes: &[u8]) {
+    let Some(asked) = find(kind) else {
+        return out.line("no such kind");
+    };
+    match (str::from_utf8(bytes), &asked.kind) {
+        (Ok(text), _) => add_text_answer(out, alloc, asked, text),
+        (Err(_), Kind::Run(ends)) => runs::add_run(out, alloc, *ends, bytes),
+        (Err(_), _) => out.line("no text"),
     }
 }

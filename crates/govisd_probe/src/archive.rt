@@ -14,8 +14,11 @@ use go_text_core::Rule;
 use std::alloc::{AllocError, Global};
 use std::collections::BTreeMap;
 
-/// Files by the paths of their packages, each as its name and its text, in the order of the archive.
-type Members<'a> = BTreeMap<&'a str, Vec<(&'a str, &'a str)>>;
+/// The files of a package by their names.
+type Files = BTreeMap<String, String>;
+
+/// The files of packages by the paths of these.
+type Members<'a> = BTreeMap<&'a str, Files>;
 
 /// The path of the package and the name of the file that a line begins: in `-- ex.com/a/x.go --` what stands
 /// before the last `/`, and what stands behind it.
@@ -24,18 +27,19 @@ pub fn member_place(line: &str) -> Option<(&str, &str)> {
     place.trim().rsplit_once('/')
 }
 
-/// Adds a file at a place, if there is one.
+/// Adds a file at a place, if there is one, in the place of one of its name.
 fn add_member<'a>(
     members: &mut Members<'a>,
     alloc: Global,
     place: Option<(&'a str, &'a str)>,
-    text: &'a str,
+    text: &str,
 ) -> Result<(), AllocError> {
     let Some((path, name)) = place else {
         return Ok(());
     };
-    let files = members.entry(path)?.or_insert(Vec::new(alloc));
-    files.push((name, text))?;
+    let files = members.entry(path)?.or_insert(BTreeMap::new(alloc));
+    let name = String::from_str(alloc, name)?;
+    files.insert(name, String::from_str(alloc, text)?)?;
     Ok(())
 }
 
@@ -59,37 +63,16 @@ fn add_members<'a>(
     add_member(members, alloc, place, text.get(start..at).unwrap_or(""))
 }
 
-/// Adds a file, in the place of one of its name.
-fn add_file(
-    files: &mut BTreeMap<String, String>,
-    alloc: Global,
-    name: &str,
-    text: &str,
-) -> Result<(), AllocError> {
-    let name = String::from_str(alloc, name)?;
-    files.insert(name, String::from_str(alloc, text)?)?;
-    Ok(())
-}
-
-/// Files by name and text, in order of name, of which the later ones are kept.
-fn in_order(alloc: Global, members: &[(&str, &str)]) -> Result<Vec<(String, String)>, AllocError>
+/// Files in order of name.
+fn in_order(alloc: Global, files: Files) -> Result<Vec<(String, String)>, AllocError>
     ensures { IfOk result (λ files. IsStrictlySortedBy string_cmp (keys_of files.items)) }
 {
-    let mut files = BTreeMap::new(alloc);
-    for (name, text) in members {
-        add_file(&mut files, alloc, name, text)?;
-    }
     files.into_iter().collect(alloc)
 }
 
 /// Puts files in the place of those of a path.
-fn put(
-    workspace: &mut Workspace,
-    alloc: Global,
-    path: &str,
-    members: &[(&str, &str)],
-) -> Result<(), Rule> {
-    let Ok(files) = in_order(alloc, members) else {
+fn put(workspace: &mut Workspace, alloc: Global, path: &str, files: Files) -> Result<(), Rule> {
+    let Ok(files) = in_order(alloc, files) else {
         return Err(Rule::M0);
     };
     let path = ImportPath::read(alloc, path)?;
@@ -106,8 +89,8 @@ pub fn put_archive(workspace: &mut Workspace, alloc: Global, text: &str) -> Resu
     if add_members(&mut members, alloc, text).is_err() {
         return Err(Rule::M0);
     }
-    for (path, files) in &members {
-        put(workspace, alloc, path, files.as_slice())?;
+    for (path, files) in members {
+        put(workspace, alloc, path, files)?;
     }
     Ok(())
 }

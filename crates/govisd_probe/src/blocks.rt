@@ -1,7 +1,7 @@
 //! What the imports, the blocks and the faults of the packages of a workspace are.
 use crate::lines::Lines;
 use crate::packages::Named;
-use go_block_core::{Blocks, DeclKind, DeclRef, Target};
+use go_block_core::{Blocks, DeclKey, DeclKind, DeclRef, Target};
 use go_graph_core::{ImportAt, ImportOutcome, Plan};
 use go_tree_core::{Role, occurrences};
 use go_tree_nodes::File;
@@ -28,8 +28,7 @@ fn add_place(out: &mut Lines, package: &Named, file: usize, offset: usize) {
     out.add(package.path.as_str());
     out.add("/");
     out.add(package.file(file));
-    out.add(":");
-    out.show(offset);
+    out.count(":", offset, "");
 }
 
 /// Adds what an import comes to: the path of a package, or the rule that refuses it.
@@ -76,28 +75,41 @@ pub fn add_order(out: &mut Lines, packages: &[Named], order: &[usize]) {
     out.line("");
 }
 
-/// Adds a declaration: its kind and its place.
-pub fn add_decl(out: &mut Lines, package: &Named, decl: DeclRef) {
-    out.word(match decl.kind {
+/// The word for what is declared.
+fn kind_word(kind: DeclKind) -> &'static str {
+    match kind {
         DeclKind::Const => "const",
         DeclKind::Var => "var",
         DeclKind::Type => "type",
         DeclKind::Func => "func",
-    });
-    add_place(out, package, decl.file, decl.at);
+        DeclKind::Method => "method",
+        DeclKind::Field => "field",
+        DeclKind::Param => "param",
+    }
+}
+
+/// Adds a declaration: its kind and its place.
+pub fn add_decl(out: &mut Lines, package: &Named, decl: DeclRef) {
+    out.word(kind_word(decl.kind));
+    add_place(out, package, decl.file, package.offset(decl));
     out.line("");
 }
 
-/// Adds what a name of a file block denotes.
-pub fn add_target(out: &mut Lines, packages: &[Named], target: Target) {
-    match target {
-        Target::Package(number) => out.line(path_of(packages, number)),
-        Target::Refused(rule) => out.refuse(rule),
-        Target::Exported(number, decl) => {
-            if let Some(package) = packages.get(number) {
-                add_decl(out, package, decl);
-            }
+/// Adds a declaration of one of the packages.
+fn add_key(out: &mut Lines, packages: &[Named], key: &DeclKey) {
+    for package in packages {
+        if package.path.as_str() == key.path.as_str() {
+            return add_decl(out, package, key.decl);
         }
+    }
+}
+
+/// Adds what a name of a file block denotes.
+pub fn add_target(out: &mut Lines, packages: &[Named], target: &Target) {
+    match target {
+        Target::Package(path) => out.line(path.as_str()),
+        Target::Refused(rule) => out.refuse(*rule),
+        Target::Exported(key) => add_key(out, packages, key),
     }
 }
 
@@ -124,7 +136,7 @@ fn add_file_block(out: &mut Lines, alloc: Global, place: Place<'_>, file: usize)
             out.word(name);
             add_place(out, place.package, file, binding.at);
             out.add(" ");
-            add_target(out, place.packages, binding.target);
+            add_target(out, place.packages, &binding.target);
         }
     }
 }

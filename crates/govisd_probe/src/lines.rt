@@ -1,7 +1,10 @@
 //! Lines, as they are written.
-use go_text_core::Rule;
+use go_text_core::{Rule, Span};
 use std::alloc::{AllocError, Global};
 use std::fmt::{Debug, Display, Write};
+
+/// The digits of hexadecimal numbers.
+const DIGITS: &[u8; 16] = b"0123456789abcdef";
 
 /// A text that is written piece by piece. It keeps in mind that memory was wanting, so that nothing has to be asked
 /// behind each piece.
@@ -51,30 +54,32 @@ impl Lines {
         }
     }
 
-    /// Adds the name of what is shown, as a role.
+    /// Adds the name of what is shown, as a role, and a blank behind it.
     pub fn name<T: Debug + Drop>(&mut self, shown: T) {
-        if write!(self.text, "{shown:?}").is_err() {
+        if write!(self.text, "{shown:?} ").is_err() {
             self.is_cut = true;
         }
     }
 
-    /// Adds what is shown, and ends the line.
-    pub fn end<T: Display + Drop>(&mut self, shown: T) {
+    /// Adds what is shown behind a piece, and ends the line.
+    pub fn end<T: Display + Drop>(&mut self, piece: &str, shown: T) {
+        self.add(piece);
         self.show(shown);
         self.add("\n");
     }
 
-    /// Adds a number behind a piece.
-    pub fn count(&mut self, piece: &str, number: usize) {
-        self.add(piece);
+    /// Adds a number between two pieces.
+    pub fn count(&mut self, before: &str, number: usize, behind: &str) {
+        self.add(before);
         self.show(number);
+        self.add(behind);
     }
 
-    /// Adds a start and an end, and a blank behind each.
-    pub fn span<T: Display + Drop>(&mut self, start: T, end: T) {
-        self.show(start);
+    /// Adds the start and the end of a place, and a blank behind each.
+    pub fn span(&mut self, span: Span) {
+        self.show(span.start);
         self.add(" ");
-        self.show(end);
+        self.show(span.end);
         self.add(" ");
     }
 
@@ -86,17 +91,36 @@ impl Lines {
         self.line(rule.number());
     }
 
+    /// Adds the line of a fault of a text. No rule fixes the place of P1 and P2.
+    pub fn fault(&mut self, rule: Rule, offset: usize) {
+        if rule != Rule::P1 && rule != Rule::P2 {
+            self.count("fault ", offset, " ");
+        }
+        self.refuse(rule);
+    }
+
+    /// Adds a byte in two hexadecimal digits.
+    fn hex(&mut self, byte: u8) {
+        self.add("\\x");
+        self.push(char::from(DIGITS[usize::from(byte >> 4)]));
+        self.push(char::from(DIGITS[usize::from(byte & 15)]));
+    }
+
+    /// Adds a character.
+    pub fn push(&mut self, c: char) {
+        if self.text.push(c).is_err() {
+            self.is_cut = true;
+        }
+    }
+
     /// Adds a text between quotation marks, and ends the line. A byte from a space to `~` stands for itself, but `\xHH` stands
     /// for a quotation mark, a backslash and any other byte.
     pub fn quote(&mut self, bytes: &[u8]) {
         self.add("\"");
         for b in bytes {
-            let added = match b {
-                b'"' | b'\\' | 0..=31 | 127..=255 => write!(self.text, "\\x{b:02x}"),
-                plain => self.text.push(char::from(*plain)),
-            };
-            if added.is_err() {
-                self.is_cut = true;
+            match b {
+                b'"' | b'\\' | 0..=31 | 127..=255 => self.hex(*b),
+                plain => self.push(char::from(*plain)),
             }
         }
         self.add("\"\n");

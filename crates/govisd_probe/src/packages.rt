@@ -1,30 +1,70 @@
 //! The packages of a workspace as answers name them, and what each is.
+ghost use Rattle.go_tree_nodes.specs.Shapes.{file_of};
+ghost use Rattle.go_decl_core.specs.Outer.{IsPlaced};
+
 use crate::lines::Lines;
-use go_graph_core::{PackageSource, Workspace, assemble};
+use go_decl_core::{DeclRef, Places, outline};
+use go_graph_core::{PackageSource, SourceFile, Workspace, assemble};
+use go_tree_nodes::File;
 use std::alloc::{AllocError, Global};
 
-/// The path of a package and the names of its files.
+/// A file: its name, and the places of what it declares, where it has a tree.
+#[derive(Drop)]
+pub struct NamedFile {
+    pub name: String,
+    places: Option<Places>,
+}
+
+/// The path of a package, and its files.
 #[derive(Drop)]
 pub struct Named {
     pub path: String,
-    pub files: Vec<String>,
+    pub files: Vec<NamedFile>,
 }
 
 impl Named {
     /// The name of the file of a number, and nothing where there is none.
     pub fn file(&self, number: usize) -> &str {
         match self.files.get(number) {
-            Some(name) => name.as_str(),
+            Some(file) => file.name.as_str(),
             None => "",
         }
     }
+
+    /// The offset of a declaration, and 0 where there is none.
+    pub fn offset(&self, decl: DeclRef) -> usize {
+        let Some(file) = self.files.get(decl.file) else {
+            return 0;
+        };
+        match &file.places {
+            Some(places) => places.place(decl.number).map_or(0, |place| place.at),
+            None => 0,
+        }
+    }
+}
+
+/// The places of what a file declares.
+fn places_of(alloc: Global, tree: &File) -> Result<Places, AllocError>
+    requires { IsPlaced (file_of tree.now) }
+{
+    Ok(outline(alloc, tree)?.places)
+}
+
+/// The name of a file and the places of what it declares.
+fn name_file(alloc: Global, file: &SourceFile) -> Result<NamedFile, AllocError> {
+    let name = String::from_str(alloc, file.name())?;
+    let places = match file.tree() {
+        Ok(tree) => Some(places_of(alloc, tree)?),
+        Err(_) => None,
+    };
+    Ok(NamedFile { name, places })
 }
 
 /// The names of a package.
 fn name_package(alloc: Global, source: &PackageSource) -> Result<Named, AllocError> {
     let mut files = Vec::new(alloc);
     for file in source.files() {
-        files.push(String::from_str(alloc, file.name())?)?;
+        files.push(name_file(alloc, file)?)?;
     }
     let path = String::from_str(alloc, source.path().as_str())?;
     Ok(Named { path, files })
@@ -43,15 +83,20 @@ pub fn name_packages(alloc: Global, workspace: &Workspace) -> Result<Vec<Named>,
 pub fn add_package(out: &mut Lines, source: &PackageSource) {
     out.add("package ");
     out.word(source.path().as_str());
-    match assemble(source.files()) {
-        Ok(package) => out.line(package.name()),
+    let Ok(shared) = source.share() else {
+        return out.cut();
+    };
+    match assemble(shared) {
+        Ok(package) => {
+            out.line(package.name());
+            package.close();
+        }
         Err(fault) => {
             out.word(fault.rule.number());
             if let Some(file) = source.files().get(fault.file) {
                 out.add(file.name());
             }
-            out.add(":");
-            out.end(fault.offset);
+            out.end(":", fault.offset);
         }
     }
 }
@@ -65,10 +110,9 @@ pub fn add_counts(out: &mut Lines, workspace: &Workspace) {
             trees = trees.saturating_add(usize::from(file.tree().is_ok()));
         }
     }
-    out.count("packages ", workspace.packages().len());
-    out.count(" files ", files);
-    out.count(" trees ", trees);
-    out.line("");
+    out.count("packages ", workspace.packages().len(), " files ");
+    out.show(files);
+    out.end(" trees ", trees);
 }
 
 /// Adds the files of a workspace: of each its path and name, whether it has a tree or which rule it breaks, and its text.

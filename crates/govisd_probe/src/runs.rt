@@ -8,7 +8,7 @@ use std::io::{ErrorKind, Read, Write};
 
 /// What a reader gives and a writer takes.
 #[derive(Clone, Copy)]
-struct Ends {
+pub struct Ends {
     /// How many bytes a read gives and a write takes at most.
     step: usize,
     /// How many reads can be made before one fails.
@@ -21,11 +21,27 @@ struct Ends {
 
 impl Ends {
     /// All that is asked for.
-    const ALL: Ends = Ends {
+    pub const ALL: Ends = Ends {
         step: usize::MAX,
         reads: usize::MAX,
         interrupts: false,
         fails: false,
+    };
+
+    /// The same with interruptions.
+    pub const INTERRUPTED: Ends = Ends {
+        step: usize::MAX,
+        reads: usize::MAX,
+        interrupts: true,
+        fails: false,
+    };
+
+    /// A writer that takes nothing.
+    pub const FAILING: Ends = Ends {
+        step: usize::MAX,
+        reads: usize::MAX,
+        interrupts: false,
+        fails: true,
     };
 }
 
@@ -93,36 +109,38 @@ fn run(alloc: Global, ends: Ends, bytes: &[u8]) -> (ResolveEnd, Vec<u8>) {
     (end, sink.bytes)
 }
 
-/// Adds the lines that a run writes, and how it ends.
-fn add_run(out: &mut Lines, alloc: Global, ends: Ends, bytes: &[u8]) {
-    let (end, lines) = run(alloc, ends, bytes);
-    let lines = str::from_utf8(lines.as_slice()).unwrap_or("no text\n");
-    let end = match end {
+/// The word for how a run ends, and nothing for want of memory.
+fn end_word(end: ResolveEnd) -> &'static str {
+    match end {
         ResolveEnd::Clean => "clean",
         ResolveEnd::Faults => "faults",
         ResolveEnd::ReadFault => "read fault",
         ResolveEnd::WriteFault => "write fault",
-        ResolveEnd::Memory => return out.cut(),
-    };
-    out.add(lines);
-    out.line(end);
+        ResolveEnd::Memory => "",
+    }
+}
+
+/// Adds the lines that a run writes, and how it ends.
+pub fn add_run(out: &mut Lines, alloc: Global, ends: Ends, bytes: &[u8]) {
+    let (end, lines) = run(alloc, ends, bytes);
+    if end == ResolveEnd::Memory {
+        out.cut();
+    }
+    out.add(str::from_utf8(lines.as_slice()).unwrap_or("no text\n"));
+    out.line(end_word(end));
 }
 
 /// Adds the same of a run whose reads give, and whose writes take, at most as many bytes as the first line says.
-fn add_slow_run(out: &mut Lines, alloc: Global, interrupts: bool, bytes: &[u8]) {
-    let text = str::from_utf8(bytes).unwrap_or("");
-    let (step, source) = text.split_once('\n').unwrap_or(("", text));
-    let ends = Ends {
-        step: step.parse().unwrap_or(1),
-        interrupts,
-        ..Ends::ALL
-    };
-    add_run(out, alloc, ends, source.as_bytes());
+pub fn add_slow_run(out: &mut Lines, alloc: Global, ends: Ends, text: &str) {
+    if let Some((step, source)) = text.split_once('\n') {
+        let step = step.parse().unwrap_or(1);
+        add_run(out, alloc, Ends { step, ..ends }, source.as_bytes());
+    }
 }
 
 /// Adds how many runs end with a read fault and write nothing, of those in which the read of each byte fails and
 /// the read at the end.
-fn add_unread(out: &mut Lines, alloc: Global, bytes: &[u8]) {
+pub fn add_unread(out: &mut Lines, alloc: Global, bytes: &[u8]) {
     let mut count = 0usize;
     for reads in 0..=bytes.len() {
         let ends = Ends {
@@ -135,24 +153,5 @@ fn add_unread(out: &mut Lines, alloc: Global, bytes: &[u8]) {
             count = count.saturating_add(1);
         }
     }
-    out.end(count);
-}
-
-/// Adds the answer of this kind, and tells whether there is such a kind here.
-pub fn add_answer(out: &mut Lines, alloc: Global, kind: &str, bytes: &[u8]) -> bool {
-    match kind {
-        "resolve" => add_run(out, alloc, Ends::ALL, bytes),
-        "slow" => add_slow_run(out, alloc, false, bytes),
-        "interrupted" => add_slow_run(out, alloc, true, bytes),
-        "unread" => add_unread(out, alloc, bytes),
-        "unwritten" => {
-            let ends = Ends {
-                fails: true,
-                ..Ends::ALL
-            };
-            add_run(out, alloc, ends, bytes);
-        }
-        _ => return false,
-    }
-    true
+    out.end("", count);
 }

@@ -5,9 +5,9 @@ use crate::archive::member_place;
 use crate::blocks::{Place, add_decl, add_target};
 use crate::lines::Lines;
 use crate::packages::Named;
-use crate::paths::pair;
+use crate::words::pair;
 use go_block_core::Blocks;
-use go_scope_core::{DeclId, InScope, Scopes};
+use go_scope_core::{DeclId, InScope, Scopes, ShortDecl, ShortName};
 use go_text_core::Rule;
 use std::alloc::{AllocError, Global};
 
@@ -17,11 +17,14 @@ fn add_found(out: &mut Lines, place: Place<'_>, scopes: &Scopes<'_>, name: &str)
     match scopes.find(name) {
         None => out.line("nothing"),
         Some(InScope::Local(id)) => {
-            out.add("local ");
-            out.end(id.0);
+            out.end("local ", id.0);
         }
         Some(InScope::Package(decl)) => add_decl(out, place.package, decl),
-        Some(InScope::File(binding)) => add_target(out, place.packages, binding.target),
+        Some(InScope::File(binding)) => add_target(out, place.packages, &binding.target),
+        Some(InScope::Universe(predeclared)) => {
+            out.add("universe.");
+            out.line(predeclared.spelling());
+        }
     }
 }
 
@@ -39,15 +42,41 @@ fn numbered<'a>(
     Ok(names)
 }
 
-/// Adds which of the names of a short declaration are new.
-fn add_news(out: &mut Lines, news: &[bool]) {
-    for is_new in news {
-        out.add(if *is_new { " new" } else { " old" });
+/// The word for what a name to the left of `:=` is.
+fn short_word(name: &ShortName) -> &'static str {
+    match name {
+        ShortName::New => " new",
+        ShortName::Old => " old",
+        ShortName::Blank => " blank",
+        ShortName::Repeated => " repeated",
     }
-    out.line("");
 }
 
-/// Declares the names of a list by a short declaration, and adds which are new.
+/// Adds what the names of a short declaration are, and B4 where none is new.
+fn add_news(out: &mut Lines, short: &ShortDecl) {
+    for name in short.names() {
+        out.add(short_word(name));
+    }
+    out.line(if short.is_any_new() { "" } else { " B4" });
+}
+
+/// Adds what the names of a list are that a short declaration does not declare, since none of them is new.
+fn add_none_new(out: &mut Lines, alloc: Global, scopes: &Scopes<'_>, list: &str)
+    requires { 0 < length scopes.now.open_blocks }
+{
+    let mut names = Vec::new(alloc);
+    for name in list.split(',') {
+        if names.push(name).is_err() {
+            return out.cut();
+        }
+    }
+    match scopes.short_names(names.as_slice()) {
+        Ok(short) => add_news(out, &short),
+        Err(rule) => out.refuse(rule),
+    }
+}
+
+/// Declares the names of a list by a short declaration, and adds what they are.
 fn add_short(out: &mut Lines, alloc: Global, scopes: &mut Scopes<'_>, list: &str, number: usize)
     requires { 0 < length scopes.old.open_blocks }
     ensures { 0 < length scopes.new.open_blocks }
@@ -56,7 +85,8 @@ fn add_short(out: &mut Lines, alloc: Global, scopes: &mut Scopes<'_>, list: &str
         return out.cut();
     };
     match scopes.declare_short(names.as_slice()) {
-        Ok(news) => add_news(out, news.as_slice()),
+        Ok(short) => add_news(out, &short),
+        Err(Rule::B4) => add_none_new(out, alloc, scopes, list),
         Err(rule) => {
             out.add(" ");
             out.refuse(rule);
@@ -71,7 +101,7 @@ fn add_declared(out: &mut Lines, scopes: &mut Scopes<'_>, name: &str, number: us
 {
     out.add(" ");
     match scopes.declare(name, DeclId(number)) {
-        Ok(()) => out.end(number),
+        Ok(()) => out.end("", number),
         Err(rule) => out.refuse(rule),
     }
 }
@@ -162,8 +192,8 @@ fn add_asked(
 
 /// Adds the answer to what is asked of a file of a package.
 fn add_in_package(out: &mut Lines, alloc: Global, place: Place<'_>, file: &str, asked: &str) {
-    for (number, name) in place.package.files.iter().enumerate() {
-        if name.as_str() == file {
+    for (number, named) in place.package.files.iter().enumerate() {
+        if named.name.as_str() == file {
             let scopes = Scopes::begin(alloc, place.blocks, number);
             return add_asked(out, alloc, place, scopes, asked);
         }
@@ -173,11 +203,11 @@ fn add_in_package(out: &mut Lines, alloc: Global, place: Place<'_>, file: &str, 
 
 /// Adds the answer to a query: a file of a package, written as its path and its name, and behind a blank what is
 /// asked of it.
-fn add_query(
+fn add_query<'a>(
     out: &mut Lines,
     alloc: Global,
-    packages: &[Named],
-    all: &[Option<Blocks>],
+    packages: &'a [Named],
+    all: &'a [Option<Blocks>],
     query: &str,
 ) {
     let (place, asked) = pair(query);
@@ -198,11 +228,11 @@ fn add_query(
 
 /// Adds the answers to the queries of an archive with its packages. The queries stand before its first file, a line
 /// each.
-pub fn add_scope(
+pub fn add_scope<'a>(
     out: &mut Lines,
     alloc: Global,
-    packages: &[Named],
-    all: &[Option<Blocks>],
+    packages: &'a [Named],
+    all: &'a [Option<Blocks>],
     text: &str,
 ) {
     for line in text.lines() {

@@ -37,9 +37,11 @@ impl<'a> Case<'a> {
         let Ok(lines) = lines.finish() else {
             return out.cut();
         };
-        for (i, line) in lines.as_str().lines().enumerate() {
-            out.add(if i == 0 { " " } else { ", " });
+        let mut is_first = true;
+        for line in lines.as_str().lines() {
+            out.add(if is_first { " " } else { ", " });
             out.add(line);
+            is_first = false;
         }
     }
 

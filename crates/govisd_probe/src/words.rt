@@ -1,6 +1,6 @@
-//! What is answered of letters, names, spans and rules.
+//! What is answered of letters, names, spans, rules, import paths and modules.
 use crate::lines::Lines;
-use crate::paths::pair;
+use go_path_core::{ImportPath, Module, may_import, overlaps};
 use go_text_core::{Name, Rule, Span, is_digit, is_exported, is_letter, same_id};
 use std::alloc::Global;
 
@@ -17,17 +17,31 @@ const NAME_RULES: [Rule; 9] = [
     Rule::N9,
 ];
 
+/// The two texts round the first blank. The second is empty where there is none.
+pub fn pair(text: &str) -> (&str, &str) {
+    match text.split_once(' ') {
+        Some(both) => both,
+        None => (text, ""),
+    }
+}
+
+/// The word for whether something holds.
+fn yes_or_no(holds: bool) -> &'static str {
+    if holds { "yes" } else { "no" }
+}
+
+/// What a character may be in an identifier.
+fn class(c: char) -> &'static str {
+    if is_letter(c) {
+        return "letter";
+    }
+    if is_digit(c) { "digit" } else { "neither" }
+}
+
 /// Adds what each character of a text may be in an identifier, and whether a name that begins so is exported.
-fn add_letters(out: &mut Lines, text: &str) {
+pub fn add_letters(out: &mut Lines, text: &str) {
     for c in text.chars() {
-        let word = if is_letter(c) {
-            "letter"
-        } else if is_digit(c) {
-            "digit"
-        } else {
-            "neither"
-        };
-        out.line(word);
+        out.line(class(c));
     }
     if is_exported(text) {
         out.line("exported");
@@ -35,7 +49,7 @@ fn add_letters(out: &mut Lines, text: &str) {
 }
 
 /// Adds the spelling of a copy of the name that is spelled so, and of the name.
-fn add_name(out: &mut Lines, alloc: Global, text: &str) {
+pub fn add_name(out: &mut Lines, alloc: Global, text: &str) {
     let Ok(name) = Name::from_text(alloc, text) else {
         return out.cut();
     };
@@ -46,48 +60,63 @@ fn add_name(out: &mut Lines, alloc: Global, text: &str) {
     out.line(name.as_str());
 }
 
-/// The word for whether something holds.
-pub fn yes_or_no(holds: bool) -> &'static str {
-    if holds { "yes" } else { "no" }
-}
-
 /// Adds whether two identifiers are the same, each with the path of its package behind a blank.
-fn add_same(out: &mut Lines, text: &str) {
-    let (one, other) = text.split_once(", ").unwrap_or((text, ""));
-    let (a, a_path) = pair(one);
-    let (b, b_path) = pair(other);
-    out.line(yes_or_no(same_id(a, a_path, b, b_path)));
+pub fn add_same(out: &mut Lines, text: &str) {
+    let (one, rest) = pair(text);
+    let (one_path, rest) = pair(rest);
+    let (other, other_path) = pair(rest);
+    out.line(yes_or_no(same_id(one, one_path, other, other_path)));
 }
 
-/// The piece of a text from a start to an end, which stand before it.
-fn piece(text: &str) -> Option<&str> {
+/// Adds the piece of a text from a start to an end, which stand before it.
+pub fn add_piece(out: &mut Lines, text: &str) {
     let (start, rest) = pair(text);
     let (end, text) = pair(rest);
     let span = Span {
-        start: start.parse().ok()?,
-        end: end.parse().ok()?,
+        start: start.parse().unwrap_or(0),
+        end: end.parse().unwrap_or(0),
     };
-    span.slice(text)
+    out.line(span.slice(text).unwrap_or("none"));
 }
 
 /// Adds the rules on names whose number begins with a text.
-fn add_rules(out: &mut Lines, text: &str) {
+pub fn add_rules(out: &mut Lines, text: &str) {
     for rule in &NAME_RULES {
-        if rule.number().starts_with(text) {
-            out.line(rule.number());
+        let number = rule.number();
+        if number.starts_with(text) {
+            out.line(number);
         }
     }
 }
 
-/// Adds the answer of this kind, and tells whether there is such a kind here.
-pub fn add_answer(out: &mut Lines, alloc: Global, kind: &str, text: &str) -> bool {
-    match kind {
-        "letters" => add_letters(out, text),
-        "name" => add_name(out, alloc, text),
-        "same" => add_same(out, text),
-        "piece" => out.line(piece(text).unwrap_or("none")),
-        "rules" => add_rules(out, text),
-        _ => return false,
+/// Adds that a text could be read, or the rule that it breaks.
+pub fn add_read<T: Drop>(out: &mut Lines, read: Result<T, Rule>) {
+    match read {
+        Ok(_) => out.line("ok"),
+        Err(rule) => out.refuse(rule),
     }
-    true
+}
+
+/// Adds whether something holds, or the rule that is broken.
+pub fn add_judged(out: &mut Lines, judged: Result<bool, Rule>) {
+    match judged {
+        Ok(holds) => out.line(yes_or_no(holds)),
+        Err(rule) => out.refuse(rule),
+    }
+}
+
+/// Whether one of the two modules round a blank lies inside the other, and O2 where one is no module.
+pub fn overlapping(alloc: Global, text: &str) -> Result<bool, Rule> {
+    let (one, other) = pair(text);
+    let one = Module::read(alloc, one)?;
+    let other = Module::read(alloc, other)?;
+    Ok(overlaps(&one, &other))
+}
+
+/// Whether the path before a blank may import the one behind it, and I1 where one is no path.
+pub fn importing(alloc: Global, text: &str) -> Result<bool, Rule> {
+    let (from, path) = pair(text);
+    let from = ImportPath::read(alloc, from)?;
+    let path = ImportPath::read(alloc, path)?;
+    Ok(may_import(&from, &path))
 }

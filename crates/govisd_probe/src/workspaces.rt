@@ -1,11 +1,13 @@
 //! What is answered of workspaces.
+ghost use Rattle.go_graph_core.specs.Plans.{IsPlan};
+
 use crate::archive::put_archive;
 use crate::blocks::{Place, add_blocks, add_imports, add_order};
+use crate::kinds::Kind;
 use crate::lines::Lines;
 use crate::packages::{Named, add_counts, add_files, add_package, name_packages};
 use crate::plans::add_plan;
 use crate::scopes::add_scope;
-use crate::shapes::{Shape, shaped};
 use go_block_core::{Blocks, workspace_blocks};
 use go_graph_core::{ImportAt, Plan, Workspace, plan_imports};
 use go_path_core::Module;
@@ -39,7 +41,12 @@ fn add_packages(
 }
 
 /// Adds the blocks of packages.
-fn add_all_blocks(out: &mut Lines, alloc: Global, packages: &[Named], all: &[Option<Blocks>]) {
+fn add_all_blocks<'a>(
+    out: &mut Lines,
+    alloc: Global,
+    packages: &'a [Named],
+    all: &'a [Option<Blocks>],
+) {
     for (package, blocks) in packages.iter().zip(all) {
         if let Some(blocks) = blocks {
             let place = Place {
@@ -52,27 +59,41 @@ fn add_all_blocks(out: &mut Lines, alloc: Global, packages: &[Named], all: &[Opt
     }
 }
 
-/// Adds what is asked of a workspace. The text is that of its archive.
-fn add_planned(out: &mut Lines, alloc: Global, kind: &str, workspace: &Workspace, text: &str) {
+/// Adds what is asked of a workspace whose imports are planned. The text is that of its archive.
+fn add_planned(
+    out: &mut Lines,
+    alloc: Global,
+    kind: &Kind,
+    workspace: &Workspace,
+    plan: &Plan,
+    text: &str,
+)
+    requires { IsPlan workspace.now plan.now }
+{
     let Ok(packages) = name_packages(alloc, workspace) else {
         return out.cut();
     };
     let packages = packages.as_slice();
-    let Ok(plan) = plan_imports(alloc, workspace) else {
-        return out.cut();
-    };
-    if kind == "plan" {
-        return add_plan(out, alloc, packages, &plan);
-    }
-    let Ok(blocks) = workspace_blocks(alloc, workspace, &plan) else {
+    let Ok(blocks) = workspace_blocks(alloc, workspace, plan) else {
         return out.cut();
     };
     let blocks = blocks.as_slice();
-    if kind == "scope" {
+    if matches!(kind, Kind::Scope) {
         return add_scope(out, alloc, packages, blocks, text);
     }
-    add_packages(out, alloc, workspace, packages, &plan);
+    add_packages(out, alloc, workspace, packages, plan);
     add_all_blocks(out, alloc, packages, blocks);
+}
+
+/// Adds what is asked of the imports of a workspace, or of what stands on them.
+fn add_of_plan(out: &mut Lines, alloc: Global, kind: &Kind, workspace: &Workspace, text: &str) {
+    let Ok(plan) = plan_imports(alloc, workspace) else {
+        return out.cut();
+    };
+    match kind {
+        Kind::Plan => add_plan(out, workspace, &plan),
+        _ => add_planned(out, alloc, kind, workspace, &plan, text),
+    }
 }
 
 /// Adds the files of a copy of a workspace.
@@ -94,53 +115,29 @@ fn put_replaced(workspace: &mut Workspace, alloc: Global, text: &str) -> Result<
     put_archive(workspace, alloc, old)?;
     let module = Module::read(alloc, module)?;
     let mut from = Workspace::empty(alloc);
-    match put_archive(&mut from, alloc, new) {
-        Ok(()) => workspace.replace(&module, from),
-        Err(rule) => {
-            from.close();
-            Err(rule)
-        }
-    }
+    let replaced = match put_archive(&mut from, alloc, new) {
+        Ok(()) => workspace.replace(&module, &from),
+        Err(rule) => Err(rule),
+    };
+    from.close();
+    replaced
 }
 
 /// Adds what is asked of the workspace of an archive.
-fn add_of_archive(out: &mut Lines, alloc: Global, kind: &str, text: &str) {
+pub fn add_of_archive(out: &mut Lines, alloc: Global, kind: &Kind, text: &str) {
     let mut workspace = Workspace::empty(alloc);
     let filled = match kind {
-        "replaced" => put_replaced(&mut workspace, alloc, text),
+        Kind::Replaced => put_replaced(&mut workspace, alloc, text),
         _ => put_archive(&mut workspace, alloc, text),
     };
     match filled {
         Err(rule) => out.refuse(rule),
         Ok(()) => match kind {
-            "sources" => add_counts(out, &workspace),
-            "replaced" => add_files(out, &workspace),
-            "copied" => add_copy(out, alloc, &workspace),
-            _ => add_planned(out, alloc, kind, &workspace, text),
+            Kind::Sources => add_counts(out, &workspace),
+            Kind::Replaced => add_files(out, &workspace),
+            Kind::Copied => add_copy(out, alloc, &workspace),
+            _ => add_of_plan(out, alloc, kind, &workspace, text),
         },
     }
     workspace.close();
-}
-
-/// Adds the counts of the plan of packages in a shape, as many as a text says.
-fn add_shaped(out: &mut Lines, alloc: Global, shape: Shape, text: &str) {
-    let count = text.parse().unwrap_or(0);
-    match shaped(alloc, shape, count) {
-        Ok(archive) => add_of_archive(out, alloc, "plan", archive.as_str()),
-        Err(_) => out.cut(),
-    }
-}
-
-/// Adds the answer of this kind, and tells whether there is such a kind here.
-pub fn add_answer(out: &mut Lines, alloc: Global, kind: &str, text: &str) -> bool {
-    match kind {
-        "packages" | "plan" | "scope" | "sources" | "copied" | "replaced" => {
-            add_of_archive(out, alloc, kind, text)
-        }
-        "chain" => add_shaped(out, alloc, Shape::Chain, text),
-        "ring" => add_shaped(out, alloc, Shape::Ring, text),
-        "complete" => add_shaped(out, alloc, Shape::Complete, text),
-        _ => return false,
-    }
-    true
 }

@@ -1,5 +1,5 @@
 -- What the steps of a plan give: standings, targets, edges.
-use Rattle.std.specs.Prelude.{◌≡◌, ℕ, ◌⊎◌, Bool, true, false, suc, List, [], ◌∷◌, ◌++◌, ⊤, Option, Some, None, slice_get, Contains}
+use Rattle.std.specs.Prelude.{◌≡◌, ℕ, ◌⊎◌, Bool, true, false, suc, List, [], ◌∷◌, ◌++◌, Option, Some, None, slice_get, Contains}
 use Rattle.std.specs.List.{AllZip, flat_map}
 use Rattle.std.specs.declared.vec.Vec.{Vec}
 use Rattle.go_text_core.specs.declared.rule.Rule.TheVariants.{I4}

@@ -1,51 +1,42 @@
-use Rattle.std.proofs.Common.{◌<◌, ◌≤◌, length, slice_index, replicate, None, sym, ap, subst, ◌∙◌, arith}
+use Rattle.std.proofs.Common.{◌≡◌, ◌<◌, ◌≤◌, length, slice_index, replicate, None, sym, ap, subst, ◌∙◌, arith}
 use Rattle.std.proofs.lemmas.List.{take_all}
-use Rattle.go_block_core.specs.Naming.{HaveBlocks}
-use Rattle.go_block_core.specs.All.{AreBlocksAt}
-use Rattle.go_block_core.proofs.AllLemmas.{AreMade, none_made, have_blocks, assembled_at, is_within, one_more, all_made}
+use Rattle.go_block_core.specs.mirrors.Steps.{IsPackageReady, IsMadeAt}
+use Rattle.go_block_core.proofs.AllLemmas.{AreMade, none_made, ready_at, assembled_at, is_within, one_more, all_made}
 use Rattle.go_block_core.proofs.all.workspace_blocks.Goals as goal
 
 pub loop-number-init : goal.loop-number-init
-loop-number-init c = none_made c.args.workspace.now c.in_ok-all.all.items (c.in_ok-all.ensures ∙ ap (λ ps. replicate (length ps) None) c.packages.ensures.packages)
+loop-number-init c =
+    let packages = c.packages-packages.ensures.packages in
+    none_made c.args.workspace.now c.in_ok-all.all.items c.in_ok-exports.exports.items (c.in_ok-all.ensures ∙ ap (λ ps. replicate (length ps) None) packages) (c.in_ok-exports.ensures ∙ ap (λ ps. replicate (length ps) None) packages)
 
-pub blocks_at-requires-clause-assembled : goal.blocks_at-requires-clause-assembled
-blocks_at-requires-clause-assembled c =
+pub made_at-requires-clause-assembled : goal.made_at-requires-clause-assembled
+made_at-requires-clause-assembled c =
     let order = c.args.plan.now.order in
     let lt : c.loop-number.number-index < length order = omega (arith, c.loop-number-test.true, ap length c.order-number-items.ensures) in
     assembled_at c.args.workspace.now c.args.plan.now c.loop-number.number-index _ c.requires lt (ap (λ l. slice_index l c.loop-number.number-index) c.order-number-items.ensures)
 
-pub blocks_at-requires-clause-made : goal.blocks_at-requires-clause-made
-blocks_at-requires-clause-made c =
+pub made_at-requires-clause-ready : goal.made_at-requires-clause-ready
+made_at-requires-clause-ready c =
     let ps = c.args.workspace.now in
     let k = c.loop-number.number-index in
     let order = c.args.plan.now.order in
     let number = slice_index c.order-number-items.result.now k in
     let lt : k < length order = omega (arith, c.loop-number-test.true, ap length c.order-number-items.ensures) in
-    subst (HaveBlocks ps number) (sym c.deref.ensures.value) (have_blocks ps c.args.plan.now k number c.loop-number.all.items c.requires lt (ap (λ l. slice_index l k) c.order-number-items.ensures) c.loop-number.invariant)
-
-pub index_mut-requires : goal.index_mut-requires
-index_mut-requires c =
-    let ps = c.args.workspace.now in
-    let k = c.loop-number.number-index in
-    let number = slice_index c.order-number-items.result.now k in
-    let lt : k < length c.args.plan.now.order = omega (arith, c.loop-number-test.true, ap length c.order-number-items.ensures) in
-    let below : number < length ps = is_within ps number (assembled_at ps c.args.plan.now k number c.requires lt (ap (λ l. slice_index l k) c.order-number-items.ensures)) in
-    omega (arith, below, c.loop-number.invariant.count, c.deref.ensures.len, ap length c.deref.ensures.value)
+    subst (λ es. IsPackageReady ps c.args.plan.now.outcomes es number) (sym c.deref.ensures.value) (ready_at ps c.args.plan.now k c.loop-number.all.items c.loop-number.exports.items c.requires lt c.loop-number.invariant number (ap (λ l. slice_index l k) c.order-number-items.ensures))
 
 pub loop-number-preserved : goal.loop-number-preserved
 loop-number-preserved c =
     let ps = c.args.workspace.now in
+    let plan = c.args.plan.now in
     let k = c.loop-number.number-index in
-    let order = c.args.plan.now.order in
     let number = slice_index c.order-number-items.result.now k in
-    let lt : k < length order = omega (arith, c.loop-number-test.true, ap length c.order-number-items.ensures) in
+    let lt : k < length plan.order = omega (arith, c.loop-number-test.true, ap length c.order-number-items.ensures) in
     let is = ap (λ l. slice_index l k) c.order-number-items.ensures in
-    let below : number < length ps = is_within ps number (assembled_at ps c.args.plan.now k number c.requires lt is) in
-    let here = subst (λ l. AreBlocksAt ps l number c.in_ok-made.made) c.deref.ensures.value c.in_ok-made.ensures in
-    one_more ps order k number c.loop-number.all.items c.in_ok-made.made c.requires.once lt is below c.loop-number.invariant here
+    let here = subst (λ es. IsMadeAt ps plan.outcomes es number c.in_ok-made.made.blocks c.in_ok-made.made.exports) c.deref.ensures.value c.in_ok-made.ensures in
+    one_more ps plan k number c.loop-number.all.items c.loop-number.exports.items c.in_ok-made.made.blocks c.in_ok-made.made.exports c.requires lt is c.loop-number.invariant here
 
 pub returns : goal.returns
 returns c =
     let order = c.args.plan.now.order in
     let le : length order ≤ c.loop-number.number-index = omega (arith, c.loop-number-test.false, ap length c.order-number-items.ensures) in
-    all_made c.args.workspace.now c.args.plan.now c.loop-number.all.items c.requires (subst (λ l. AreMade c.args.workspace.now l c.loop-number.all.items) (take_all c.loop-number.number-index order le) c.loop-number.invariant)
+    all_made c.args.workspace.now c.args.plan.now c.loop-number.all.items c.loop-number.exports.items c.requires (subst (λ l. AreMade c.args.workspace.now l c.loop-number.all.items c.loop-number.exports.items) (take_all c.loop-number.number-index order le) c.loop-number.invariant)

@@ -1,4 +1,5 @@
 use Rattle.std.proofs.Common.{◌≡◌, ◌++◌, [], ap, subst, ◌∙◌}
+use Rattle.go_graph_core.specs.Packages.{trees_of}
 use Rattle.go_block_core.specs.Tables.{table_of}
 use Rattle.go_block_core.specs.Blocks.{HoldsEachOnce, imports_of}
 use Rattle.go_block_core.specs.Declarations.{is_main_package, package_declared}
@@ -8,7 +9,7 @@ use Rattle.go_block_core.proofs.making.blocks.Goals as goal
 
 pub returns-clause-blocks : goal.returns-clause-blocks
 returns-clause-blocks c =
-    let trees = c.args.«package».now in
+    let trees = trees_of c.args.«package».now.1 in
     let imports = imports_of c.args.names.now in
     let in_package = decl_faults (is_main_package trees) [] (package_declared trees) in
     let first = c.in_ok-table.ensures.faults ∙ ap (λ fs. fs ++ in_package) c.new-faults.ensures.items in
@@ -20,4 +21,4 @@ returns-clause-blocks c =
     }
 
 pub returns-clause-order : goal.returns-clause-order
-returns-clause-order c = declarations_in_order c.args.«package».now c.in_ok-table.ensures.placed
+returns-clause-order c = declarations_in_order (trees_of c.args.«package».now.1) c.in_ok-table.ensures.placed

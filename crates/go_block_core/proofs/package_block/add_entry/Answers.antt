@@ -1,7 +1,7 @@
 use Rattle.std.proofs.Common.{◌++◌, [], ◌∷◌, map, ap, ◌∙◌}
 use Rattle.std.proofs.lemmas.List.{map-append}
 use Rattle.std.proofs.lemmas.Result.{on_ok_weaker}
-use Rattle.go_block_core.specs.Bindings.{name_and_decl}
+use Rattle.go_block_core.specs.Exports.{name_and_decl}
 use Rattle.go_block_core.proofs.package_block.add_entry.Goals as goal
 
 pub returns : goal.returns

@@ -1,6 +1,6 @@
 use Rattle.std.proofs.Common.{◌∷◌, ◌++◌, map, sym, ap, ◌∙◌}
 use Rattle.std.specs.Prelude.{string_bytes}
-use Rattle.go_block_core.specs.Bindings.{name_and_decl}
+use Rattle.go_block_core.specs.Exports.{name_and_decl}
 use Rattle.go_block_core.proofs.TableLemmas.{listed_more, all_listed}
 use Rattle.go_block_core.proofs.package_block.names_of.Goals as goal
 

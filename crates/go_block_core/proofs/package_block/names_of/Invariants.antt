@@ -1,6 +1,6 @@
 use Rattle.std.proofs.Common.{◌≡◌, ◌++◌, map}
 use Rattle.std.specs.Prelude.{string_bytes}
-use Rattle.go_block_core.specs.Bindings.{name_and_decl}
+use Rattle.go_block_core.specs.Exports.{name_and_decl}
 use Rattle.go_block_core.specs.Tables.{table_of}
 use Rattle.go_block_core.proofs.package_block.names_of.Given as goal
 

@@ -3,4 +3,4 @@ use Rattle.go_block_core.proofs.TableLemmas.{in_table}
 use Rattle.go_block_core.proofs.table.find.Goals as goal
 
 pub returns : goal.returns
-returns g c = c.copied.ensures ∙ (c.get.ensures.value ∙ in_table c.args.name.now c.args.table.now)
+returns g c = c.get.ensures.value ∙ in_table c.args.name.now c.args.table.now

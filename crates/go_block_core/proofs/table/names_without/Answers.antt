@@ -1,6 +1,6 @@
-use Rattle.std.proofs.Common.{◌≡◌, true, false, is_some, map, sym, ap, ◌∙◌}
+use Rattle.std.proofs.Common.{◌≡◌, true, false, map, sym, ap, ◌∙◌}
 use Rattle.std.specs.Prelude.{string_bytes}
-use Rattle.go_block_core.specs.Tables.{table_of, in_block, has, names_in, without}
+use Rattle.go_block_core.specs.Tables.{table_of, has, names_in, without}
 use Rattle.go_block_core.proofs.TableLemmas.{none_listed, all_listed, name_kept, name_left_out}
 use Rattle.go_block_core.proofs.table.names_without.Goals as goal
 
@@ -9,12 +9,12 @@ loop-name-init g c = none_listed (λ es. names_in (without (table_of c.args.othe
 
 pub loop-name-preserved : goal.loop-name-preserved
 loop-name-preserved g c =
-    let there : has (table_of c.args.other.now) (string_bytes c.in-Some.name.now) ≡ true = sym (ap is_some (c.find.ensures ∙ ap (in_block (table_of c.args.other.now)) c.as_str-name.ensures.value)) ∙ c.if-is_none.ensures in
+    let there : has (table_of c.args.other.now) (string_bytes c.in-Some.name.now) ≡ true = ap (has (table_of c.args.other.now)) (sym c.as_str-name.ensures.value) ∙ sym c.if-not-has.ensures in
     name_left_out (table_of c.args.other.now) c.loop-name.names.items c.loop-name.name-iterator c.next.new.self c.in-Some.name.now c.in-Some.field-0-1.now (names_in (without (table_of c.args.other.now) (table_of c.args.table.now))) c.in-Some.ensures.steps there c.loop-name.invariant
 
 pub loop-name-preserved-in-Continue-1 : goal.loop-name-preserved-in-Continue-1
 loop-name-preserved-in-Continue-1 g c =
-    let absent : has (table_of c.args.other.now) (string_bytes c.in-Some.name.now) ≡ false = sym (ap is_some (c.find.ensures ∙ ap (in_block (table_of c.args.other.now)) c.as_str-name.ensures.value)) ∙ c.if-is_none.ensures in
+    let absent : has (table_of c.args.other.now) (string_bytes c.in-Some.name.now) ≡ false = ap (has (table_of c.args.other.now)) (sym c.as_str-name.ensures.value) ∙ sym c.if-not-has.ensures in
     name_kept (table_of c.args.other.now) c.loop-name.names.items c.loop-name.name-iterator c.next.new.self c.in-Some.name.now c.in-Some.field-0-1.now (names_in (without (table_of c.args.other.now) (table_of c.args.table.now))) c.in-Some.ensures.steps absent c.add.new.all.items c.as_str-name.result c.in_ok-add.ensures c.as_str-name.ensures.value c.loop-name.invariant
 
 pub returns : goal.returns

@@ -10,7 +10,7 @@ use Rattle.go_graph_core.proofs.imports.add_targets.Goals as goal
 
 pub loop-line-preserved : goal.loop-line-preserved
 loop-line-preserved c =
-    adds_more (IsTarget c.args.packages.now c.args.from.now) (λ (i : ImportLine). value_of i.spec.path) c.deref-line-items.result.now c.loop-line.line-index c.line-item.result c.in_ok-spec_target-in-Group.field-0 c.args.targets.now.items c.loop-line.targets.items c.push-in-loop-line.new.self.items c.loop-line-test.true c.line-item.is c.loop-line.invariant c.in_ok-push-in-Group.ensures.items c.in_ok-spec_target-in-Group.ensures
+    adds_more (IsTarget c.args.packages.now c.args.from.now) (λ (i : ImportLine). value_of i.spec.path) c.deref-line-items.result.now c.loop-line.line-index c.line-item.result c.in_ok-spec_target-in-Group.field-0 c.args.targets.now.items c.loop-line.targets.items c.push-in-loop-line.new.self.items c.loop-line-test.true c.line-item.is c.loop-line.invariant c.in_ok-push-in-Group.ensures.items c.in_ok-spec_target-in-Group.ensures.target
 
 pub returns-after-loop-line : goal.returns-after-loop-line
 returns-after-loop-line c =

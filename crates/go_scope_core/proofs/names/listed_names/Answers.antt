@@ -3,6 +3,7 @@ use Rattle.std.proofs.lemmas.Result.{IfOk-at_ok, IfOk-weaker}
 use Rattle.go_block_core.specs.Tables.{names_in}
 use Rattle.go_block_core.specs.Blocks.{held_in}
 use Rattle.go_open_core.specs.Blocks.{all_names, list_names}
+use Rattle.go_scope_core.specs.Scopes.{universe}
 use Rattle.go_scope_core.proofs.names.listed_names.Goals as goal
 
 pub returns-clause-ok : goal.returns-clause-ok
@@ -13,8 +14,8 @@ returns-clause-ok c =
     let O = list_names [] (all_names c.args.open_blocks.now) in
     let p = c.in_ok-add_listed.ensures.ok in
     let f = c.in_ok-add_listed-2.ensures.ok in
-    let old = c.args.names.now in
-    let first : c.add_listed.new.names ≡ list_names old P = p.2 ∙ ap (list_names old) (IfOk-at_ok (λ names. map (λ n. n.now) names.items ≡ P) p.1 c.package_names.ensures) in
+    let old = list_names c.args.names.now (names_in universe) in
+    let first : c.add_listed.new.names ≡ list_names old P = p.2 ∙ (ap (λ s. list_names s (map (λ n. n.now) p.0.items)) c.in_ok-add_predeclared.ensures.ok ∙ ap (list_names old) (IfOk-at_ok (λ names. map (λ n. n.now) names.items ≡ P) p.1 c.package_names.ensures)) in
     let second : c.add_listed-2.new.names ≡ list_names (list_names old P) F =
     f.2 ∙ (ap (λ s. list_names s (map (λ n. n.now) f.0.items)) first ∙ ap (list_names (list_names old P)) (IfOk-at_ok (λ names. map (λ n. n.now) names.items ≡ F) f.1 c.file_names.ensures)) in
     let o = c.in_ok-add_listed-3.ensures.ok in

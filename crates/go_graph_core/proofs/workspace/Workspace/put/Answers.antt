@@ -18,20 +18,23 @@ returns-then-is_empty-clause-ok c =
     (subst IsOrdered c.self.view_is c.self.invariant.order) (none_given c.args.files.items none)
     (c.remove_package.ensures ∙ ap (remove_entry (is_at (by_bytes c.args.path.now))) c.self.view_is)
 
-pub invariant_of-put_at : goal.invariant_of-put_at
-invariant_of-put_at c =
-    let some : 0 < length (given_files c.args.files.items) = (let z : 0 < vec_len c.args.files = positive _ (sym c.is_empty.ensures ∙ c.if-is_empty.false) in let k = c.args.files.ok in let n = as_many_given c.args.files.items in omega (arith, z, n)) in
-    read_package c.in-Ok-copy.path (given_files c.args.files.items) c.in-Ok.files.items (subst IsPath (sym c.in-Ok-copy.ensures) c.position_of-at.ensures.path) c.in-Ok.ensures some
+pub new-requires-clause-some : goal.new-requires-clause-some
+new-requires-clause-some c =
+    let z : 0 < vec_len c.args.files = positive _ (sym c.is_empty.ensures ∙ c.if-is_empty.false) in
+    let k = c.args.files.ok in
+    let n = as_many_given c.args.files.items in
+    some_read (given_files c.args.files.items) c.in-Ok.files.items c.in-Ok.ensures (omega (arith, z, n))
 
 pub invariant_of-self-2 : goal.invariant_of-self-2
 invariant_of-self-2 c =
     let some : 0 < length (given_files c.args.files.items) = (let z : 0 < vec_len c.args.files = positive _ (sym c.is_empty.ensures ∙ c.if-is_empty.false) in let k = c.args.files.ok in let n = as_many_given c.args.files.items in omega (arith, z, n)) in
-    let well : IsPackage (c.in-Ok-copy.path, c.in-Ok.files.items) = read_package c.in-Ok-copy.path (given_files c.args.files.items) c.in-Ok.files.items (subst IsPath (sym c.in-Ok-copy.ensures) c.position_of-at.ensures.path) c.in-Ok.ensures some in
-    subst IsWorkspace (sym c.in_default-put_at.ensures.ok) (well_put c.self.inside.packages.items c.in-Ok-copy.path c.in-Ok.files.items c.self.invariant well)
+    let well : IsPackage (c.in-Ok-share.path, c.in-Ok.files.items) = read_package c.in-Ok-share.path (given_files c.args.files.items) c.in-Ok.files.items (subst IsPath (sym c.in-Ok-share.ensures) c.as_str.ensures.path) c.in-Ok.ensures some in
+    let e : c.put_at.new.packages.items ≡ insert_entry by_bytes c.self.inside.packages.items c.in-Ok-share.path c.in-Ok.files.items = c.in_default-put_at.ensures.ok ∙ ap (λ p. insert_entry by_bytes c.self.inside.packages.items p.0 p.1) c.in-Ok-new.ensures in
+    subst IsWorkspace (sym e) (well_put c.self.inside.packages.items c.in-Ok-share.path c.in-Ok.files.items c.self.invariant well c.in-Ok.ensures.contents)
 
 pub returns-clause-ok : goal.returns-clause-ok
 returns-clause-ok c =
     let some : 0 < length (given_files c.args.files.items) = (let z : 0 < vec_len c.args.files = positive _ (sym c.is_empty.ensures ∙ c.if-is_empty.false) in let k = c.args.files.ok in let n = as_many_given c.args.files.items in omega (arith, z, n)) in
     let e : c.put_at.new.packages.items ≡ insert_entry by_bytes c.args.self.now c.args.path.now c.in-Ok.files.items =
-    c.in_default-put_at.ensures.ok ∙ (λ i. insert_entry by_bytes (c.self.view_is i) (c.in-Ok-copy.ensures i) c.in-Ok.files.items) in
+    c.in_default-put_at.ensures.ok ∙ (ap (λ p. insert_entry by_bytes c.self.inside.packages.items p.0 p.1) c.in-Ok-new.ensures ∙ (λ i. insert_entry by_bytes (c.self.view_is i) (c.in-Ok-share.ensures i) c.in-Ok.files.items)) in
     put_some c.args.self.now c.args.path.now (given_files c.args.files.items) c.put_at.new.packages.items c.in-Ok.files.items c.in-Ok.ensures (some_read (given_files c.args.files.items) c.in-Ok.files.items c.in-Ok.ensures some) e

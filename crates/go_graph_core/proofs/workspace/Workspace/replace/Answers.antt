@@ -5,8 +5,8 @@ use Rattle.go_graph_core.proofs.Places.{IsOrdered}
 use Rattle.go_graph_core.proofs.Keeping.{ordered_filter, well_replaced, replaces}
 use Rattle.go_graph_core.proofs.workspace.Workspace.replace.Goals as goal
 
-pub put_inside-requires-clause-order : goal.put_inside-requires-clause-order
-put_inside-requires-clause-order c =
+pub put_each-requires-clause-order : goal.put_each-requires-clause-order
+put_each-requires-clause-order c =
     let kept : c.retain.new.self.items ≡ packages_outside c.args.own.now c.self.inside.packages.items = filter_same _ (λ p. not (is_path_inside c.args.own.now p.0)) _ (λ x b f' k. search rules) c.reserve.new.self.items c.retain.new.self.items c.retain.ensures.filtered ∙ ap (packages_outside c.args.own.now) c.reserve.ensures.items in
     subst IsOrdered (sym kept) (ordered_filter (λ p. not (is_path_inside c.args.own.now p.0)) c.self.inside.packages.items c.self.invariant.order)
 
@@ -14,13 +14,14 @@ pub invariant_of-self-2 : goal.invariant_of-self-2
 invariant_of-self-2 c =
     let own = c.args.own.now in
     let kept : c.retain.new.self.items ≡ packages_outside own c.self.inside.packages.items = filter_same _ (λ p. not (is_path_inside own p.0)) _ (λ x b f' k. search rules) c.reserve.new.self.items c.retain.new.self.items c.retain.ensures.filtered ∙ ap (packages_outside own) c.reserve.ensures.items in
-    let e : c.put_inside.new.packages.items ≡ replaced own c.self.inside.packages.items c.from.inside.packages.items = c.put_inside.ensures ∙ ap (λ l. put_all l (packages_inside own c.from.inside.packages.items)) kept in
-    subst IsWorkspace (sym e) (well_replaced own c.self.inside.packages.items c.from.inside.packages.items c.self.invariant c.from.invariant)
+    let inside : c.in-Ok.inside.items ≡ packages_inside own c.args.from.now = c.in-Ok.ensures ∙ ap (packages_inside own) c.packages.ensures.packages in
+    let e : c.put_each.new.packages.items ≡ replaced own c.self.inside.packages.items c.args.from.now = c.put_each.ensures ∙ (λ i. put_all (kept i) (inside i)) in
+    subst IsWorkspace (sym e) (well_replaced own c.self.inside.packages.items c.args.from.now c.self.invariant c.packages.ensures.well)
 
 pub returns-clause-ok : goal.returns-clause-ok
 returns-clause-ok c =
     let own = c.args.own.now in
     let kept : c.retain.new.self.items ≡ packages_outside own c.self.inside.packages.items = filter_same _ (λ p. not (is_path_inside own p.0)) _ (λ x b f' k. search rules) c.reserve.new.self.items c.retain.new.self.items c.retain.ensures.filtered ∙ ap (packages_outside own) c.reserve.ensures.items in
-    let e : c.put_inside.new.packages.items ≡ replaced own c.args.self.now c.args.from =
-    c.put_inside.ensures ∙ (ap (λ l. put_all l (packages_inside own c.from.inside.packages.items)) (kept ∙ ap (packages_outside own) c.self.view_is) ∙ ap (λ l. put_all (packages_outside own c.args.self.now) (packages_inside own l)) c.from.view_is) in
-    replaces own c.args.self.now c.args.from c.put_inside.new.packages.items (subst IsOrdered c.from.view_is c.from.invariant.order) e
+    let inside : c.in-Ok.inside.items ≡ packages_inside own c.args.from.now = c.in-Ok.ensures ∙ ap (packages_inside own) c.packages.ensures.packages in
+    let e : c.put_each.new.packages.items ≡ replaced own c.args.self.now c.args.from.now = c.put_each.ensures ∙ ((λ i. put_all (kept i) (inside i)) ∙ ap (λ l. put_all (packages_outside own l) (packages_inside own c.args.from.now)) c.self.view_is) in
+    replaces own c.args.self.now c.args.from.now c.put_each.new.packages.items c.packages.ensures.well.order e

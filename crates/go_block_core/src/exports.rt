@@ -1,0 +1,102 @@
+//! What a package shows to those that import it.
+ghost use Rattle.std.specs.Prelude.{◌≡◌, IfOk, map};
+ghost use Rattle.go_block_core.specs.Exports.{name_and_decl};
+ghost use Rattle.go_block_core.specs.Blocks.{exports_of};
+
+use crate::block::Blocks;
+use go_decl_core::DeclRef;
+use go_graph_core::Package;
+use go_path_core::ImportPath;
+use go_text_core::Name;
+use std::alloc::{AllocError, Global};
+use std::marker::Model;
+use std::sync::Arc;
+
+/// A name of a package block, and its declaration.
+#[derive(Drop)]
+pub struct NamedDecl {
+    pub name: Name,
+    pub decl: DeclRef,
+}
+
+/// What a package shows.
+#[derive(Drop)]
+struct ExportsContent {
+    path: ImportPath,
+    name: Name,
+    names: Vec<NamedDecl>,
+}
+
+/// What a package shows to those that import it: its path, the name in its clauses, and the exported names of its
+/// package block with their declarations. A handle over one shared pointer; contracts see the three.
+#[derive(Drop)]
+pub struct Exports {
+    content: Arc<ExportsContent>,
+}
+
+impl Model for Exports {
+    ghost use Rattle.std.specs.Prelude.{map};
+    ghost use Rattle.std.specs.Arc.{arc_value};
+    ghost use Rattle.go_block_core.specs.Exports.{ExportsModel, coded_exports, exports_model, name_and_decl};
+
+    ghost Value = { ExportsModel };
+
+    ghost coded = { coded_exports };
+
+    ghost view = { λ e. exports_model (arc_value e.content).path (arc_value e.content).name (map name_and_decl (arc_value e.content).names.items) };
+}
+
+impl Exports {
+    /// What a package shows that has these blocks. An identifier is exported where it begins with an upper-case
+    /// letter and is declared in the package block (the Go specification, "Exported identifiers").
+    ///
+    /// # Errors
+    ///
+    /// `AllocError` for want of memory.
+    pub fn of(alloc: Global, package: &Package, blocks: &Blocks) -> Result<Exports, AllocError>
+        ensures { IfOk result (λ exports. exports ≡ exports_of «package».now blocks.now) }
+    {
+        let content = ExportsContent {
+            path: package.path().share()?,
+            name: Name::from_text(alloc, package.name())?,
+            names: blocks.exported(alloc)?,
+        };
+        Ok(Exports {
+            content: Arc::new(alloc, content)?,
+        })
+    }
+
+    /// The same once more. It takes no memory.
+    ///
+    /// # Errors
+    ///
+    /// `AllocError` where it has too many owners.
+    pub fn share(&self) -> Result<Exports, AllocError>
+        ensures { IfOk result (λ exports. exports ≡ self.now) }
+    {
+        Ok(Exports {
+            content: Arc::try_clone(&self.content)?,
+        })
+    }
+
+    /// The path of the package.
+    pub fn path(&self) -> &ImportPath
+        ensures { result.now ≡ self.now.path }
+    {
+        &self.content.path
+    }
+
+    /// The name in the clauses of the package.
+    pub fn name(&self) -> &Name
+        ensures { result.now ≡ self.now.name }
+    {
+        &self.content.name
+    }
+
+    /// The exported names of the package block with their declarations, in order of file and number.
+    pub fn names(&self) -> &[NamedDecl]
+        ensures { map name_and_decl result.now ≡ self.now.names }
+    {
+        self.content.names.as_slice()
+    }
+}

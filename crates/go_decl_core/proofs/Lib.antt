@@ -1,0 +1,11 @@
+pub mod Adding
+pub mod Alike
+pub mod Declared
+pub mod OnePlace
+pub mod ListLemmas
+pub mod Listed
+pub mod Naming
+pub mod Numbers
+pub mod Order
+pub mod Tables
+pub mod Worked

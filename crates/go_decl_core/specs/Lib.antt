@@ -1,0 +1,9 @@
+pub mod Bodies
+pub mod Embedded
+pub mod Laws
+pub mod Outer
+pub mod Sample
+pub mod Shown
+pub mod Table
+pub mod TopDecls
+pub mod mirrors

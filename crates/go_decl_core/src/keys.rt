@@ -1,0 +1,47 @@
+//! How a declaration is known in its package and in a workspace.
+ghost use Rattle.std.specs.Prelude.{◌≡◌, ◌↔◌, IfOk, IsTrue};
+
+use crate::places::DeclKind;
+use go_path_core::ImportPath;
+use std::alloc::AllocError;
+
+/// A declaration of a package.
+#[derive(Clone, Copy, Debug, PartialEq, Eq)]
+pub struct DeclRef {
+    /// The number of its file in order of name, from 0.
+    pub file: usize,
+    /// Its number among the identifiers that the file declares outside function bodies, from 0.
+    pub number: usize,
+    pub kind: DeclKind,
+}
+
+/// A declaration of a workspace.
+#[derive(Drop)]
+pub struct DeclKey {
+    /// The path of its package.
+    pub path: ImportPath,
+    pub decl: DeclRef,
+}
+
+impl DeclKey {
+    /// The same key once more. It takes no memory.
+    ///
+    /// # Errors
+    ///
+    /// [`AllocError`] where the path has too many owners.
+    pub fn share(&self) -> Result<DeclKey, AllocError>
+        ensures { IfOk result (λ key. key ≡ self.now) }
+    {
+        Ok(DeclKey {
+            path: self.path.share()?,
+            decl: self.decl,
+        })
+    }
+
+    /// Whether two keys are of the same declaration.
+    pub fn is_same(&self, other: &DeclKey) -> bool
+        ensures { IsTrue result ↔ (self.now ≡ other.now) }
+    {
+        self.decl == other.decl && self.path.is_same(&other.path)
+    }
+}

@@ -1,0 +1,11 @@
+use Rattle.std.proofs.Common.{rules}
+use Rattle.std.specs.Prelude.{string_bytes}
+use Rattle.std.proofs.lemmas.Fn.{always_returns_same}
+use Rattle.go_graph_core.specs.Workspaces.{by_bytes}
+use Rattle.go_graph_core.proofs.Places.{place_of}
+use Rattle.go_graph_core.proofs.imports.place_of.Goals as goal
+
+pub returns : goal.returns
+returns c =
+    place_of (λ s. string_bytes s) c.args.paths.now c.args.path.now c.binary_search_by.result c.requires c.binary_search_by.ensures.bound
+    (c.binary_search_by.ensures.position (λ s. by_bytes (string_bytes s) c.args.path.now) (always_returns_same _ _ _ (λ a r f' k. search rules)))

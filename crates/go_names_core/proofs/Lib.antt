@@ -1,0 +1,12 @@
+pub mod BodyLemmas
+pub mod DeclareLemmas
+pub mod FaultLemmas
+pub mod MeansLemmas
+pub mod NoteLemmas
+pub mod Runs
+pub mod SceneLemmas
+pub mod ScopeLemmas
+pub mod ShortLemmas
+pub mod StateLemmas
+pub mod ZipLemmas
+pub mod Worked

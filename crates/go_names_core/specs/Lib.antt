@@ -1,0 +1,6 @@
+pub mod Body
+pub mod Scenes
+pub mod Scope
+pub mod Uses
+pub mod Worked
+pub mod mirrors

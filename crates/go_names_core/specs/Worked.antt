@@ -1,0 +1,106 @@
+-- A function with what each name in it denotes, worked out by hand. The n-th token of the function stands at n.
+use Rattle.std.specs.Prelude.{◌≡◌, ℕ, suc, List, [], ◌∷◌, Option, Some, None, codes}
+use Rattle.go_text_core.specs.declared.span.Span.{Span}
+use Rattle.go_text_core.specs.declared.rule.Rule.TheVariants.{B4, I1}
+use Rattle.go_scan_core.specs.declared.kind.Operator.TheVariants as operator
+use Rattle.go_universe_core.specs.declared.Predeclared.TheVariants as predeclared
+use Rattle.go_tree_nodes.specs.declared.names.Ident.{Ident}
+use Rattle.go_tree_nodes.specs.declared.types.TypeName.TheVariants as type_name
+use Rattle.go_tree_nodes.specs.declared.decls.ValueKind.TheVariants as kinds
+use Rattle.go_tree_nodes.specs.Trees as tree
+use Rattle.go_tree_nodes.specs.Trees.{Separated, One, Then, NamedType, Signed, NoResult, NoParams, Param, ExprTree, Named, Binary, Select, Call, Literal, NoItems, Item, ValueSpecTree, Group, Assign, Define, Lines, Simple, Return, If, Branch, NoElse, ElseIf, NoLines, Line, FuncTree}
+use Rattle.go_decl_core.specs.declared.places.DeclKind.TheVariants as decl_kind
+use Rattle.go_decl_core.specs.declared.keys.DeclRef.{DeclRef}
+use Rattle.go_block_core.specs.declared.binding.Target.TheVariants as target
+use Rattle.go_block_core.specs.Blocks.{BlocksModel, blocks_model}
+use Rattle.go_local_core.specs.declared.Fault.{Fault}
+use Rattle.go_local_core.specs.Tables.{walked, given}
+use Rattle.go_names_core.specs.declared.meaning.Outside.TheVariants as outside
+use Rattle.go_names_core.specs.declared.names.Denoted.{Denoted}
+use Rattle.go_names_core.specs.declared.names.Denoted.TheVariants as denoted
+use Rattle.go_names_core.specs.declared.names.NameUse.{NameUse}
+use Rattle.go_names_core.specs.Scope.{beyond_in}
+use Rattle.go_names_core.specs.Uses.{name_rules, denoted_outside}
+
+abbrev pub at : ℕ → Span
+at n = record { start = n; end = suc n }
+
+abbrev pub called : List ℕ → ℕ → Ident
+called name n = record { name = name; span = at n }
+
+abbrev pub name_at : List ℕ → ℕ → ExprTree
+name_at name n = Named (called name n)
+
+-- the package declares f, g, len and the type T, and its file imports p
+abbrev pub decl : ℕ → decl_kind.the_data → DeclRef
+decl n kind = record { file = 0; number = n; kind = kind }
+
+abbrev pub blocks : BlocksModel
+blocks = blocks_model ((codes "T", decl 0 decl_kind.«Type») ∷ (codes "f", decl 1 decl_kind.Func) ∷ (codes "g", decl 9 decl_kind.Func) ∷ (codes "len", decl 10 decl_kind.Func) ∷ []) (((codes "p", record { at = 91; target = target.Refused I1 }) ∷ []) ∷ []) []
+
+abbrev pub constant : Ident → ℕ → ExprTree → ValueSpecTree
+constant x p v = record { names = One x; type_expr = None; values = Some (at p, One v) }
+
+-- func f(a, b T) {
+--   const ( c = a; d = p.X )
+--   if a, e := b, c; a == e { return d } else if g(a, len) { _ = e }
+--   b, h := h, b
+--   b, _ := T{h: h}, int
+-- }
+abbrev pub function : FuncTree
+function = record {
+  func = at 0;
+  receiver = None;
+  name = called (codes "f") 1;
+  signature = Signed (at 2) (Param (Some (Then (called (codes "a") 3) (at 4) (One (called (codes "b") 5)))) (NamedType (type_name.Plain (called (codes "T") 6))) None NoParams) (at 7) NoResult;
+  open_brace = at 8;
+  body =
+      Line (tree.Declare (record { kind = kinds.Const; keyword = at 9; specs = Group (at 10) ((constant (called (codes "c") 11) 12 (name_at (codes "a") 13), Some (at 14)) ∷ (constant (called (codes "d") 15) 16 (Select (name_at (codes "p") 17) (at 18) (called (codes "X") 19)), None) ∷ []) (at 20) })) (Some (at 21))
+      (Line (If (Branch (at 22) (record { init = Some (Some (Define (Then (called (codes "a") 23) (at 24) (One (called (codes "e") 25))) (at 26) (Then (name_at (codes "b") 27) (at 28) (One (name_at (codes "c") 29)))), at 30); condition = Binary (name_at (codes "a") 31) operator.Equal (at 32) (name_at (codes "e") 33) })
+      (at 34) (Line (Return (at 35) (Some (One (name_at (codes "d") 36)))) None NoLines) (at 37)
+      (ElseIf (at 38) (Branch (at 39) (record { init = None; condition = Call (name_at (codes "g") 40) (at 41) (Item None (name_at (codes "a") 42) (Some (at 43)) (Item None (name_at (codes "len") 44) None NoItems)) (at 45) })
+      (at 46) (Line (Simple (Assign (One (name_at (codes "_") 47)) (at 48) (One (name_at (codes "e") 49)))) None NoLines) (at 50) NoElse)))) (Some (at 51))
+      (Line (Simple (Define (Then (called (codes "b") 52) (at 53) (One (called (codes "h") 54))) (at 55) (Then (name_at (codes "h") 56) (at 57) (One (name_at (codes "b") 58))))) (Some (at 59))
+      (Line (Simple (Define (Then (called (codes "b") 60) (at 61) (One (called (codes "_") 62))) (at 63) (Then (Literal (type_name.Plain (called (codes "T") 64)) (at 65) (Item (Some (record { name = called (codes "h") 66; colon = at 67 })) (name_at (codes "h") 68) None NoItems) (at 69)) (at 70) (One (name_at (codes "int") 71))))) None NoLines)));
+  close_brace = at 72;
+}
+
+abbrev pub use_at : ℕ → Denoted → NameUse
+use_at n d = record { offset = n; denoted = Some d }
+
+abbrev pub uses : List NameUse
+uses =
+    use_at 6 (denoted.Outside (outside.Package (decl 0 decl_kind.«Type»)))
+    ∷ use_at 13 (denoted.Local 3)
+    ∷ use_at 17 (denoted.Outside (outside.File 91))
+    ∷ use_at 27 (denoted.Local 5)
+    ∷ use_at 29 (denoted.Local 11)
+    ∷ use_at 31 (denoted.Local 23)
+    ∷ use_at 33 (denoted.Local 25)
+    ∷ use_at 36 (denoted.Local 15)
+    ∷ use_at 40 (denoted.Outside (outside.Package (decl 9 decl_kind.Func)))
+    ∷ use_at 42 (denoted.Local 23)
+    ∷ use_at 44 (denoted.Outside (outside.Package (decl 10 decl_kind.Func)))
+    ∷ use_at 49 (denoted.Local 25)
+    ∷ record { offset = 56; denoted = None }
+    ∷ use_at 58 (denoted.Local 5)
+    ∷ use_at 64 (denoted.Outside (outside.Package (decl 0 decl_kind.«Type»)))
+    ∷ use_at 68 (denoted.Local 54)
+    ∷ use_at 71 (denoted.Outside (outside.Universe predeclared.Int))
+    ∷ []
+
+-- no name before the last `:=` is new
+abbrev pub faults : List Fault
+faults = record { offset = 60; rule = B4 } ∷ []
+
+-- what a name denotes outside the function
+abbrev pub beyond : List ℕ → Option Denoted
+beyond = beyond_in denoted_outside blocks 0
+
+-- each name that is used has the declaration that is written here, and the faults are these: on the way through the function, and by the
+-- intervals of its declarations
+pub record WorkedNames : Type 0 where
+  pub uses_walked : (walked name_rules beyond function).notes ≡ uses
+  pub uses_given : (given name_rules beyond function (walked name_rules beyond function).declares).notes ≡ uses
+  pub faults_walked : (walked name_rules beyond function).faults ≡ faults
+  pub faults_given : (given name_rules beyond function (walked name_rules beyond function).declares).faults ≡ faults

@@ -1,0 +1,23 @@
+//! The names of a function: a walk that checks its pieces with the names that are open there, and what each name denotes.
+//!
+//! The Go specification, "Blocks" and "Declarations and scope".
+#![tactic(auto)]
+
+mod alone;
+mod checker;
+mod declaring;
+mod function;
+mod idents;
+mod laws;
+mod look;
+mod meaning;
+mod names;
+mod noting;
+mod walker;
+
+pub use checker::Checker;
+pub use function::{Checked, check_function};
+pub use laws::{open_names_are_bound, worked_names};
+pub use look::OpenNames;
+pub use meaning::{Meant, Outside};
+pub use names::{Denoted, FuncNames, NameUse, function_names};

@@ -1,0 +1,5 @@
+pub mod Bits
+pub mod Changes
+pub mod Ends
+pub mod Filled
+pub mod Members

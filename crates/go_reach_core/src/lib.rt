@@ -1,0 +1,11 @@
+//! What the nodes of a graph reach, as sets of numbers.
+//!
+//! A graph is a list of edges between the numbers below a count. What a node reaches is what lists of at least one edge
+//! lead to from it.
+#![tactic(auto)]
+
+mod graph;
+mod numbers;
+
+pub use graph::{Reached, find_reached};
+pub use numbers::NumberSet;
