@@ -5,12 +5,12 @@ set -u
 
 bench=$(dirname -- "$(readlink -f -- "$0")")
 out=${BENCH_OUT:-$bench/out}
-source=$bench/$1/main.go
+source=$bench/$1
 peer=$out/$(basename -- "$1")
 
 go=$("$bench/go_command.sh") || exit 1
-if [ ! -x "$peer" ] || [ -n "$(find "$source" -newer "$peer")" ]; then
-    (cd "$(dirname -- "$source")" && GO111MODULE=off GOFLAGS='' GOCACHE="$out/gocache" "$go" build -o "$peer" main.go) >&2 || {
+if [ ! -x "$peer" ] || [ -n "$(find "$source" -type f -newer "$peer")" ]; then
+    (cd "$source" && GO111MODULE=off GOFLAGS='' GOCACHE="$out/gocache" "$go" build -o "$peer" .) >&2 || {
         echo "bench: the Go program $1 did not build, so nothing is compared with it" >&2
         exit 1
     }

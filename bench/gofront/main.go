@@ -1,7 +1,8 @@
 // Gofront reads one Go file on standard input and tells by go/types what each identifier that is used
 // denotes: the peer of `govisd resolve`, in its format as far as go/types answers. With the argument `parse` it
 // only parses the file, by go/parser: the peer of `govisd_probe parse`. With `sources FILE` it parses all files of an
-// archive, holds their trees, and counts them: the peer of `govisd_probe sources`.
+// archive, holds their trees, and counts them: the peer of `govisd_probe sources`. With `names FILE` it tells by go/types
+// what each identifier that a function of an archive uses denotes: the peer of `govisd_probe names` (names.go).
 //
 // Each line is OFFSET ROLE TEXT ANSWER. ROLE is type or value. ANSWER is universe.NAME,
 // local/in.go:OFFSET, or ? where go/types finds no declaration. Errors go to standard error, but that a
@@ -229,8 +230,9 @@ func sources(name string) error {
 }
 
 func run() int {
-	if len(os.Args) == 3 && os.Args[1] == "sources" {
-		if err := sources(os.Args[2]); err != nil {
+	modes := map[string]func(string) error{"sources": sources, "names": names}
+	if len(os.Args) == 3 && modes[os.Args[1]] != nil {
+		if err := modes[os.Args[1]](os.Args[2]); err != nil {
 			fmt.Fprintln(os.Stderr, err)
 			return 1
 		}

@@ -2,6 +2,7 @@
 use Rattle.std.proofs.Common.{◌≡◌, ◌+◌, Bool, true, false, ◌&&◌, List, get_or, refl, sym, ap, ◌∙◌}
 use Rattle.std.specs.Cmp.{IsTotalOrder, IsEquivalence}
 use Rattle.std.specs.Ordering.{nat_cmp, eq_by_cmp, ordering_then, is_eq, is_lt}
+use Rattle.std.specs.declared.cmp.Ordering.TheVariants.{Equal}
 use Rattle.std.specs.List.Sorted.{IsSorted}
 use Rattle.std.proofs.lemmas.Bool.{eqb-true}
 use Rattle.std.proofs.lemmas.Cmp.{nat_cmp_total, on_total, then_total, eq_by_cmp_equiv}
@@ -72,3 +73,6 @@ same_means x y h =
     ap (λ f. block_fault f x.offset x.rule) (eqb-true x.file y.file parts.0)
     ∙ (ap (λ o. block_fault y.file o x.rule) (eqb-true x.offset y.offset rest.0)
     ∙ ap (λ r. block_fault y.file y.offset r) (rule_means x.rule y.rule rest.1))
+
+pub fault_equal : (x y : BlockFault) → fault_cmp x y ≡ Equal → x ≡ y
+fault_equal x y h = same_means x y (same_eq x y ∙ ap is_eq h)

@@ -1,11 +1,12 @@
 -- What blocks have at a name.
-use Rattle.std.proofs.Common.{◌≡◌, ℕ, ◌<◌, zero, suc, Bool, true, false, ◌&&◌, ◌⊎◌, inl, inr, List, [], ◌∷◌, ◌++◌, length, get_or, All, Option, Some, None, is_some, cond, refl, sym, ap, subst, ◌∙◌, arith}
+use Rattle.std.proofs.Common.{◌≡◌, ℕ, ◌<◌, zero, suc, Bool, true, false, ◌&&◌, inl, inr, List, [], ◌∷◌, ◌++◌, length, get_or, All, Option, Some, None, is_some, cond, refl, sym, ap, subst, ◌∙◌, arith}
 use Rattle.std.specs.Prelude.{Any, slice_get}
 use Rattle.std.specs.Str.{bytes_eq}
 use Rattle.std.specs.Map.{lookup}
 use Rattle.std.proofs.lemmas.Bool.{true≢false}
 use Rattle.std.proofs.lemmas.List.Elements.{All-cons, All-head, All-tail}
 use Rattle.std.proofs.lemmas.Slice.Eq.{bytes_eq-Decides}
+use Rattle.go_text_core.proofs.Each.{true_or_false}
 use Rattle.go_decl_core.specs.declared.keys.DeclRef.{DeclRef}
 use Rattle.go_block_core.specs.declared.binding.Binding.{Binding}
 use Rattle.go_block_core.specs.Blocks.{in_some}
@@ -15,10 +16,6 @@ use Rattle.go_block_core.specs.Holding.{with_declared, declared_block, with_boun
 use Rattle.go_block_core.specs.Laws.{IsFirstOf, Declares, Names, PackageHolds, FileHolds, NeverHidden, FileAnswers}
 use Rattle.go_block_core.specs.Tables.{in_block, has, with_first}
 use Rattle.go_block_core.proofs.FaultLemmas.{both}
-
-pub two : (b : Bool) → (b ≡ true) ⊎ (b ≡ false)
-two true = inl refl
-two false = inr refl
 
 -- the value of the first that passes
 abbrev pub first_by : {T V : Type 0} → (T → Bool) → (T → V) → List T → Option V
@@ -31,7 +28,7 @@ module _ {T V : Type 0} (t : T → Bool) (value : T → V) (P : T → Type 0) (y
 
   pub found : (xs : List T) (v : V) → first_by t value xs ≡ Some v → IsFirstOf P value xs v
   found [] v h = (let j : None ≡ Some v = h in cc)
-  found (x ∷ xs) v h = elim (two (t x)) [
+  found (x ∷ xs) v h = elim (true_or_false (t x)) [
     | inl e ↦ (let j : Some (value x) ≡ Some v = sym (at_head x xs true e) ∙ h in record {
       before = [];
       first = x;
@@ -54,7 +51,7 @@ module _ {T V : Type 0} (t : T → Bool) (value : T → V) (P : T → Type 0) (y
 
   pub is_found : (before : List T) (x : T) (after : List T) → All (λ y. P y → ⊥) before → P x → first_by t value (before ++ x ∷ after) ≡ Some (value x)
   is_found [] x after none p = at_head x after true (back x p)
-  is_found (y ∷ ys) x after none p = elim (two (t y)) [
+  is_found (y ∷ ys) x after none p = elim (true_or_false (t y)) [
     | inl e ↦ absurd (All-head (λ z. P z → ⊥) y ys none (yes y e))
     | inr e ↦ at_head y (ys ++ x ∷ after) false e ∙ is_found ys x after (All-tail (λ z. P z → ⊥) y ys none) p
   ]
@@ -64,7 +61,7 @@ module _ {T V : Type 0} (t : T → Bool) (value : T → V) (P : T → Type 0) (y
 
   pub some_any : (xs : List T) → is_some (first_by t value xs) ≡ true → Any P xs
   some_any [] h = (let j : false ≡ true = h in cc)
-  some_any (x ∷ xs) h = elim (two (t x)) [
+  some_any (x ∷ xs) h = elim (true_or_false (t x)) [
     | inl e ↦ (0, x, omega arith, refl, yes x e)
     | inr e ↦ (let r : Any P xs = some_any xs (sym (ap is_some (at_head x xs false e)) ∙ h) in (suc r.0, r.1, omega (arith, r.2), r.3, r.4))
   ]
@@ -72,7 +69,7 @@ module _ {T V : Type 0} (t : T → Bool) (value : T → V) (P : T → Type 0) (y
   any_some_at : (xs : List T) (k : ℕ) (x : T) → k < length xs → get_or xs k x ≡ x → P x → is_some (first_by t value xs) ≡ true
   any_some_at [] k x lt e p = absurd (omega arith)
   any_some_at (y ∷ ys) zero x lt e p = ap is_some (at_head y ys true (back y (subst P (sym e) p)))
-  any_some_at (y ∷ ys) (suc k) x lt e p = elim (two (t y)) [
+  any_some_at (y ∷ ys) (suc k) x lt e p = elim (true_or_false (t y)) [
     | inl h ↦ ap is_some (at_head y ys true h)
     | inr h ↦ ap is_some (at_head y ys false h) ∙ any_some_at ys k x (omega arith) e p
   ]
@@ -110,8 +107,8 @@ module _ {X : Type 0} where
 
   -- what a block has behind one more name
   in_with_first : (b : List (List ℕ × X)) (n : List ℕ) (x : X) (q : List ℕ) → in_block (with_first b n x) q ≡ or_else (in_block b q) (cond (bytes_eq q n) (Some x) None)
-  in_with_first b n x q = elim (two (has b n)) [
-    | inl h ↦ ap (λ c. in_block (cond c b (b ++ (n, x) ∷ [])) q) h ∙ elim (two (bytes_eq q n)) [
+  in_with_first b n x q = elim (true_or_false (has b n)) [
+    | inl h ↦ ap (λ c. in_block (cond c b (b ++ (n, x) ∷ [])) q) h ∙ elim (true_or_false (bytes_eq q n)) [
       | inl e ↦ (let same : q ≡ n = (bytes_eq-Decides q n).0 e in or_some (in_block b q) (cond (bytes_eq q n) (Some x) None) (ap (λ r. is_some (in_block b r)) same ∙ h))
       | inr e ↦ or_none (in_block b q) ∙ ap (λ c. or_else (in_block b q) (cond c (Some x) None)) (sym e)
     ]

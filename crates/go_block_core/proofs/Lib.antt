@@ -6,6 +6,7 @@ pub mod GivenSteps
 pub mod FaultLaws
 pub mod FaultLemmas
 pub mod Growing
+pub mod HasBlocks
 pub mod HoldingLaws
 pub mod NamingLemmas
 pub mod NamingSteps

@@ -143,7 +143,11 @@ fn made_at(
     let packages = workspace.packages();
     let source = packages[number].share()?;
     match assemble(source) {
-        Ok(package) => made_of(alloc, plan, number, &package, exports),
+        Ok(package) => {
+            let made = made_of(alloc, plan, number, &package, exports);
+            package.close();
+            made
+        }
         Err(_) => unreachable!(),
     }
 }

@@ -1,5 +1,5 @@
 //! Laws of the definitions.
-ghost use Rattle.go_block_core.specs.All.{AloneIsWhole, OneBlocks};
+ghost use Rattle.go_block_core.specs.All.{AloneIsWhole, HasBlocks, OneBlocks};
 ghost use Rattle.go_block_core.specs.Naming.{TextsAgree};
 ghost use Rattle.go_block_core.specs.Laws.{PackageHolds, FileHolds, NeverHidden, FileAnswers, FaultsAreThese, DeclarationsInOrder, BindingsInOrder, OneBlocksAlone};
 
@@ -57,6 +57,11 @@ pub fn alone_is_whole()
 /// A law, with nothing to run: a workspace has one list of blocks at most.
 pub fn one_blocks()
     ensures { OneBlocks }
+{}
+
+/// A law, with nothing to run: a workspace has a list of blocks.
+pub fn each_workspace_has_blocks()
+    ensures { HasBlocks }
 {}
 
 /// A law, with nothing to run: the imports of declarations, in order of place, have the texts by which a plan finds

@@ -32,9 +32,9 @@ pub use fault::{BlockFault, BlockRule};
 pub use go_decl_core::{DeclKey, DeclKind, DeclRef};
 pub use imports::{ImportNames, Imported};
 pub use laws::{
-    alone_is_whole, bindings_are_in_order, declarations_are_in_order, faults_are_these,
-    file_answers_its_own, file_has_the_first, import_texts_agree, one_blocks, one_blocks_alone,
-    package_has_the_first, package_is_never_hidden,
+    alone_is_whole, bindings_are_in_order, declarations_are_in_order, each_workspace_has_blocks,
+    faults_are_these, file_answers_its_own, file_has_the_first, import_texts_agree, one_blocks,
+    one_blocks_alone, package_has_the_first, package_is_never_hidden,
 };
 pub use making::blocks;
 pub use naming::import_names;

@@ -3,6 +3,7 @@ pub mod DeclareLemmas
 pub mod FaultLemmas
 pub mod MeansLemmas
 pub mod NoteLemmas
+pub mod OccurrenceLemmas
 pub mod Runs
 pub mod SceneLemmas
 pub mod ScopeLemmas

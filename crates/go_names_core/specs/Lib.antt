@@ -1,4 +1,5 @@
 pub mod Body
+pub mod Occurrences
 pub mod Scenes
 pub mod Scope
 pub mod Uses

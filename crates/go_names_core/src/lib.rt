@@ -17,7 +17,7 @@ mod walker;
 
 pub use checker::Checker;
 pub use function::{Checked, check_function};
-pub use laws::{open_names_are_bound, worked_names};
+pub use laws::{open_names_are_bound, uses_are_occurrences, worked_names};
 pub use look::OpenNames;
 pub use meaning::{Meant, Outside};
 pub use names::{Denoted, FuncNames, NameUse, function_names};

@@ -25,5 +25,5 @@ pub use laws::{
     calls_are_occurrences, imports_are_occurrences, names_are_used_or_declared,
     occurrences_are_written,
 };
-pub use occurrence::{Occ, OccId, Role, Usage};
+pub use occurrence::{Context, Occ, OccId, Role, Usage};
 pub use seek::at;

@@ -47,11 +47,16 @@ impl Role {
 
 /// Where an expression stands, which says how it is used.
 #[derive(Clone, Copy)]
-pub(crate) enum Context {
+pub enum Context {
+    /// Below a `*` of what is called: a type.
     Type,
+    /// As a value.
     Value,
+    /// As what is called.
     Callee,
+    /// Left of a dot.
     BeforeDot,
+    /// As a target of an assignment.
     Target,
 }
 

@@ -1,2 +1,3 @@
-mod Names
+mod FileNames
 mod OpenBlocks
+mod Placed

@@ -5,15 +5,18 @@ use crate::{runs, shapes, tokens, trees, words, workspaces};
 use go_path_core::{ImportPath, Module};
 use std::alloc::Global;
 
-/// Adds what is asked of the tree of the file in which a text stands.
+/// Adds what is asked of the file, or the archive, in which a text stands.
 fn add_of_file(out: &mut Lines, alloc: Global, asked: &Asked, text: &str) {
     let mut file = Lines::new(alloc);
     file.add(asked.before);
     file.add(text);
     file.add(asked.behind);
-    match file.finish() {
-        Ok(file) => trees::add_of_tree(out, alloc, &asked.kind, file),
-        Err(_) => out.cut(),
+    match (file.finish(), &asked.kind) {
+        (Ok(file), Kind::Names | Kind::Keys) => {
+            workspaces::add_of_archive(out, alloc, &asked.kind, file.as_str());
+        }
+        (Ok(file), kind) => trees::add_of_tree(out, alloc, kind, file),
+        (Err(_), _) => out.cut(),
     }
 }
 
@@ -32,7 +35,7 @@ fn add_text_answer(out: &mut Lines, alloc: Global, asked: &Asked, text: &str) {
         Kind::Tokens => tokens::add_tokens_of(out, alloc, text),
         Kind::Comments => tokens::add_comments_of(out, alloc, text),
         Kind::Prefixes => trees::add_prefixes(out, alloc, text),
-        Kind::Tree | Kind::Uses | Kind::Places | Kind::Copies => {
+        Kind::Tree | Kind::Uses | Kind::Places | Kind::Copies | Kind::Names | Kind::Keys => {
             add_of_file(out, alloc, asked, text)
         }
         Kind::Run(ends) => runs::add_run(out, alloc, *ends, text.as_bytes()),

@@ -24,7 +24,7 @@ fn path_of(packages: &[Named], number: usize) -> &str {
 }
 
 /// Adds a place: the path of a package, the name of a file of it, and the offset in bytes.
-fn add_place(out: &mut Lines, package: &Named, file: usize, offset: usize) {
+pub fn add_place(out: &mut Lines, package: &Named, file: usize, offset: usize) {
     out.add(package.path.as_str());
     out.add("/");
     out.add(package.file(file));
@@ -76,7 +76,7 @@ pub fn add_order(out: &mut Lines, packages: &[Named], order: &[usize]) {
 }
 
 /// The word for what is declared.
-fn kind_word(kind: DeclKind) -> &'static str {
+pub fn kind_word(kind: DeclKind) -> &'static str {
     match kind {
         DeclKind::Const => "const",
         DeclKind::Var => "var",

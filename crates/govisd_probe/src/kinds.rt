@@ -31,6 +31,8 @@ pub enum Kind {
     Packages,
     Plan,
     Scope,
+    Names,
+    Keys,
     Shaped(Shape),
 }
 
@@ -55,7 +57,7 @@ macro_rules! plain {
 }
 
 /// All kinds.
-const KINDS: [Asked; 34] = [
+const KINDS: [Asked; 36] = [
     plain!("letters", Kind::Letters),
     plain!("name", Kind::Name),
     plain!("same", Kind::Same),
@@ -107,6 +109,18 @@ const KINDS: [Asked; 34] = [
     plain!("packages", Kind::Packages),
     plain!("plan", Kind::Plan),
     plain!("scope", Kind::Scope),
+    Asked {
+        name: "names",
+        kind: Kind::Names,
+        before: "-- local/in.go --\n",
+        behind: "",
+    },
+    Asked {
+        name: "keys",
+        kind: Kind::Keys,
+        before: "-- local/in.go --\n",
+        behind: "",
+    },
     plain!("chain", Kind::Shaped(Shape::Chain)),
     plain!("ring", Kind::Shaped(Shape::Ring)),
     plain!("complete", Kind::Shaped(Shape::Complete)),

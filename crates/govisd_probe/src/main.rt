@@ -10,6 +10,7 @@ mod archive;
 mod blocks;
 mod kinds;
 mod lines;
+mod names;
 mod packages;
 mod plans;
 mod runs;

@@ -3,7 +3,7 @@ ghost use Rattle.go_tree_nodes.specs.Shapes.{file_of};
 ghost use Rattle.go_decl_core.specs.Outer.{IsPlaced};
 
 use crate::lines::Lines;
-use go_decl_core::{DeclRef, Places, outline};
+use go_decl_core::{DeclRef, Place, Places, outline};
 use go_graph_core::{PackageSource, SourceFile, Workspace, assemble};
 use go_tree_nodes::File;
 use std::alloc::{AllocError, Global};
@@ -31,13 +31,23 @@ impl Named {
         }
     }
 
+    /// The identifiers that the file of a number declares outside bodies, and none where it has no tree.
+    pub fn places(&self, number: usize) -> &[Place] {
+        match self.files.get(number) {
+            Some(
+                NamedFile {
+                    places: Some(places),
+                    ..
+                },
+            ) => places.places(),
+            _ => &[],
+        }
+    }
+
     /// The offset of a declaration, and 0 where there is none.
     pub fn offset(&self, decl: DeclRef) -> usize {
-        let Some(file) = self.files.get(decl.file) else {
-            return 0;
-        };
-        match &file.places {
-            Some(places) => places.place(decl.number).map_or(0, |place| place.at),
+        match self.places(decl.file).get(decl.number) {
+            Some(place) => place.at,
             None => 0,
         }
     }

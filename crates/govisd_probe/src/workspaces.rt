@@ -5,6 +5,7 @@ use crate::archive::put_archive;
 use crate::blocks::{Place, add_blocks, add_imports, add_order};
 use crate::kinds::Kind;
 use crate::lines::Lines;
+use crate::names::{add_keys, add_names};
 use crate::packages::{Named, add_counts, add_files, add_package, name_packages};
 use crate::plans::add_plan;
 use crate::scopes::add_scope;
@@ -40,21 +41,27 @@ fn add_packages(
     add_order(out, packages, plan.order());
 }
 
-/// Adds the blocks of packages.
+/// Adds the blocks of packages, the names of their functions, or what their files declare.
 fn add_all_blocks<'a>(
     out: &mut Lines,
     alloc: Global,
+    kind: &Kind,
+    workspace: &Workspace,
     packages: &'a [Named],
     all: &'a [Option<Blocks>],
 ) {
-    for (package, blocks) in packages.iter().zip(all) {
+    for ((package, blocks), source) in packages.iter().zip(all).zip(workspace.packages()) {
         if let Some(blocks) = blocks {
             let place = Place {
                 packages,
                 package,
                 blocks,
             };
-            add_blocks(out, alloc, place);
+            match kind {
+                Kind::Names => add_names(out, alloc, place, source),
+                Kind::Keys => add_keys(out, package, source),
+                _ => add_blocks(out, alloc, place),
+            }
         }
     }
 }
@@ -81,8 +88,10 @@ fn add_planned(
     if matches!(kind, Kind::Scope) {
         return add_scope(out, alloc, packages, blocks, text);
     }
-    add_packages(out, alloc, workspace, packages, plan);
-    add_all_blocks(out, alloc, packages, blocks);
+    if matches!(kind, Kind::Packages) {
+        add_packages(out, alloc, workspace, packages, plan);
+    }
+    add_all_blocks(out, alloc, kind, workspace, packages, blocks);
 }
 
 /// Adds what is asked of the imports of a workspace, or of what stands on them.

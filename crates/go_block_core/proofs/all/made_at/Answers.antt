@@ -21,8 +21,8 @@ unreachable-requires c =
     let well = subst (λ (p : PackageModel). IsAssembled p.1) (same ∙ sym c.in_ok-source.ensures) here.3 in
     not_faulty c.in_ok-source.source.1 well (c.in-Err.field-0, c.in-Err.ensures.assembly)
 
-pub made_of-requires : goal.made_of-requires
-made_of-requires c =
+pub made_of-made-requires : goal.made_of-made-requires
+made_of-made-requires c =
     let here = c.requires.assembled in
     let same = read_at c.args.workspace.now c.packages-packages.result.now c.args.number c.index-packages-number.result here c.packages-packages.ensures.packages c.index-packages-number.is in
     subst (λ (p : PackageModel). AreReady c.args.plan.now.outcomes c.args.exports.now c.args.number (trees_of p.1)) (same ∙ (sym c.in_ok-source.ensures ∙ sym c.in-Ok.ensures.source)) (c.requires.ready (here.0, here.1) here.2)
@@ -32,6 +32,6 @@ returns c =
     let here = c.requires.assembled in
     let same = read_at c.args.workspace.now c.packages-packages.result.now c.args.number c.index-packages-number.result here c.packages-packages.ensures.packages c.index-packages-number.is in
     let e = same ∙ (sym c.in_ok-source.ensures ∙ sym c.in-Ok.ensures.source) in
-    IfOk-weaker c.made_of.result _ _
+    IfOk-weaker c.made_of-made.result _ _
     (λ made h. record { of_package = (here.0, here.1); numbered = here.2; made = subst (λ (p : PackageModel). IsMadeOf c.args.plan.now.outcomes c.args.exports.now c.args.number p made.blocks made.exports) (sym e) h })
-    c.made_of.ensures
+    c.made_of-made.ensures

@@ -1,4 +1,4 @@
-use Rattle.govisd_probe.proofs.Names.{distinct_names}
+use Rattle.govisd_probe.proofs.FileNames.{distinct_names}
 use Rattle.govisd_probe.proofs.archive.put.Goals as goal
 
 pub put-requires : goal.put-requires

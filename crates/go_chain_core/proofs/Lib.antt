@@ -1,0 +1,4 @@
+pub mod Back
+pub mod Chained
+pub mod Knowing
+pub mod Lists

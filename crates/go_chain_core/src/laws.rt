@@ -1,0 +1,12 @@
+//! Laws of chains.
+ghost use Rattle.go_chain_core.specs.Laws.{OneEnd, EndlessLeadsBack};
+
+/// A law, with nothing to run: a chain has one end at most.
+pub fn one_end()
+    ensures { OneEnd }
+{}
+
+/// A law, with nothing to run: a number whose chain has no end leads to a number that leads back to itself.
+pub fn endless_leads_back()
+    ensures { EndlessLeadsBack }
+{}

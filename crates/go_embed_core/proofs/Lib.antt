@@ -1,0 +1,9 @@
+pub mod Ids
+pub mod Rows
+pub mod Keeping
+pub mod Counting
+pub mod Edging
+pub mod Noting
+pub mod Meeting
+pub mod Telling
+pub mod Steps

@@ -1,0 +1,157 @@
+-- Faults of members, one after another.
+use Rattle.std.proofs.Common.{◌≡◌, ℕ, ◌+◌, ◌<◌, ◌≤◌, Bool, true, false, not, ◌&&◌, ◌||◌, List, [], ◌∷◌, ◌++◌, map, length, drop, get_or, if◌then◌else◌, refl, sym, ap, ◌∙◌}
+use Rattle.std.specs.Borrow.{Bor}
+use Rattle.std.specs.List.{list_any}
+use Rattle.std.specs.Str.{bytes_eq}
+use Rattle.std.proofs.lemmas.List.{drop_more, drop_all, append_assoc, append-nil, map-append}
+use Rattle.std.proofs.lemmas.Slice.Eq.{bytes_eq-Decides}
+use Rattle.go_text_core.specs.Text.{is_blank}
+use Rattle.go_text_core.specs.declared.rule.Rule.TheVariants as rules
+use Rattle.go_decl_core.specs.declared.keys.DeclKey.{DeclKey}
+use Rattle.go_term_core.specs.declared.term.Field.{Field}
+use Rattle.go_term_core.specs.declared.term.Method.{Method}
+use Rattle.go_term_core.specs.declared.term.TypeTerm.{TypeTerm}
+use Rattle.go_term_core.specs.Terms.{Term, Fields, NoField, AField, Methods, NoMethod, AMethod}
+use Rattle.go_term_core.specs.Shapes.{shape, sign_of, fields_of, methods_of, terms_of}
+use Rattle.go_settle_core.specs.declared.kind.Kind.{Kind}
+use Rattle.go_settle_core.specs.Settled.{can_be_embedded, has_name, repeats}
+use Rattle.go_table_core.specs.declared.entry.DeclaredMethod.{DeclaredMethod}
+use Rattle.go_table_core.specs.Entries.{Member}
+use Rattle.go_table_core.specs.Methods.{has_field_before}
+use Rattle.go_table_core.specs.Shown.{member_shown}
+use Rattle.go_embed_core.specs.declared.faults.MemberFault.{MemberFault}
+use Rattle.go_embed_core.specs.Faults.{fault_if, term_faults, fields_faults, methods_faults, sign_faults, terms_faults, declared_faults}
+use Rattle.go_embed_core.specs.mirrors.Passing.{SameNames, field_own, method_own, declared_own}
+use Rattle.go_embed_core.proofs.Ids.{bytes_eq_swap}
+
+-- 1. Names that were passed.
+
+pub any_name : (name : List ℕ) (xs : List (Bor (List ℕ))) → list_any (λ x. bytes_eq name x.now) xs ≡ has_name (map (λ x. x.now) xs) name
+any_name name [] = refl
+any_name name (x ∷ xs) = ap (λ b. b || list_any (λ x. bytes_eq name x.now) xs) (bytes_eq_swap name x.now) ∙ by (bytes_eq x.now name) (any_name name xs)
+  where
+    by : (b : Bool) {c d : Bool} → c ≡ d → b || c ≡ (if b then true else d)
+    by true e = refl
+    by false e = e
+
+if_any : (b c : Bool) → (c ≡ true → b ≡ true) → b ≡ (if c then true else b)
+if_any b true h = h refl
+if_any b false h = refl
+
+if_swap : (a b : Bool) → (if a then true else b) ≡ (if b then true else a)
+if_swap true true = refl
+if_swap true false = refl
+if_swap false true = refl
+if_swap false false = refl
+
+if_three : (a b c : Bool) → (if a then true else (if b then true else c)) ≡ (if b then true else (if a then true else c))
+if_three true true c = refl
+if_three true false c = refl
+if_three false true c = refl
+if_three false false c = refl
+
+pub has_pushed : (ns : List (List ℕ)) (n other : List ℕ) → has_name (ns ++ n ∷ []) other ≡ (if bytes_eq n other then true else has_name ns other)
+has_pushed [] n other = refl
+has_pushed (m ∷ ns) n other = ap (λ b. if bytes_eq m other then true else b) (has_pushed ns n other) ∙ if_three (bytes_eq m other) (bytes_eq n other) (has_name ns other)
+
+-- a name that stands in a list adds none
+pub has_again : (ns : List (List ℕ)) (n other : List ℕ) → has_name ns n ≡ true → has_name ns other ≡ (if bytes_eq n other then true else has_name ns other)
+has_again ns n other h = if_any (has_name ns other) (bytes_eq n other) (λ e. sym (ap (has_name ns) ((bytes_eq-Decides n other).0 e)) ∙ h)
+
+-- a set of names with one more
+pub names_more : (xs : List (Bor (List ℕ))) (x : Bor (List ℕ)) (now : List (Bor (List ℕ))) → now ≡ (if list_any (λ y. bytes_eq x.now y.now) xs then xs else xs ++ x ∷ [])
+    → SameNames (map (λ y. y.now) now) (x.now ∷ map (λ y. y.now) xs)
+names_more xs x now is = λ other. ap (λ l. has_name (map (λ y. y.now) l) other) is ∙ by other (list_any (λ y. bytes_eq x.now y.now) xs) (any_name x.now xs)
+  where
+    by : (other : List ℕ) (b : Bool) → b ≡ has_name (map (λ y. y.now) xs) x.now → has_name (map (λ y. y.now) (if b then xs else xs ++ x ∷ [])) other ≡ (if bytes_eq x.now other then true else has_name (map (λ y. y.now) xs) other)
+    by other true h = has_again (map (λ y. y.now) xs) x.now other (sym h)
+    by other false h = ap (λ l. has_name l other) (map-append (λ y. y.now) xs (x ∷ [])) ∙ has_pushed (map (λ y. y.now) xs) x.now other
+
+-- 2. The same names give the same faults.
+
+same_more : (a b : List (List ℕ)) (name : List ℕ) → SameNames a b → SameNames (name ∷ a) (name ∷ b)
+same_more a b name h = λ other. ap (λ v. if bytes_eq name other then true else v) (h other)
+
+same_fields : (kind : DeclKey → Kind) (a b : List (List ℕ)) (fs : Fields) → SameNames a b → fields_faults kind a fs ≡ fields_faults kind b fs
+same_fields kind a b NoField h = refl
+same_fields kind a b (AField name place embedded t tag fs) h =
+    ap (λ v. fault_if (not (is_blank name) && v) place rules.B5 ++ (fault_if (embedded && not (can_be_embedded kind t)) place rules.Y2 ++ (term_faults kind t ++ fields_faults kind (name ∷ a) fs))) (h name)
+    ∙ ap (λ l. fault_if (repeats b name) place rules.B5 ++ (fault_if (embedded && not (can_be_embedded kind t)) place rules.Y2 ++ (term_faults kind t ++ l))) (same_fields kind (name ∷ a) (name ∷ b) fs (same_more a b name h))
+
+same_methods : (kind : DeclKey → Kind) (a b : List (List ℕ)) (ms : Methods) → SameNames a b → methods_faults kind a ms ≡ methods_faults kind b ms
+same_methods kind a b NoMethod h = refl
+same_methods kind a b (AMethod name place g ms) h =
+    ap (λ v. fault_if (is_blank name || v) place rules.B5 ++ (sign_faults kind g ++ methods_faults kind (name ∷ a) ms)) (h name)
+    ∙ ap (λ l. fault_if (is_blank name || has_name b name) place rules.B5 ++ (sign_faults kind g ++ l)) (same_methods kind (name ∷ a) (name ∷ b) ms (same_more a b name h))
+
+same_declared : (kind : DeclKey → Kind) (path : List ℕ) (u : Term) (a b : List (List ℕ)) (ms : List Member) → SameNames a b → declared_faults kind path u a ms ≡ declared_faults kind path u b ms
+same_declared kind path u a b [] h = refl
+same_declared kind path u a b (m ∷ ms) h =
+    ap (λ v. fault_if (not (is_blank m.name) && (v || has_field_before path u m)) m.place rules.B5 ++ (sign_faults kind m.sign ++ declared_faults kind path u (m.name ∷ a) ms)) (h m.name)
+    ∙ ap (λ l. fault_if (not (is_blank m.name) && (has_name b m.name || has_field_before path u m)) m.place rules.B5 ++ (sign_faults kind m.sign ++ l)) (same_declared kind path u (m.name ∷ a) (m.name ∷ b) ms (same_more a b m.name h))
+
+-- 3. One member more.
+
+step : {X : Type 0} (F : List (List ℕ) → List X → List MemberFault) (own : List MemberFault) (seen next passed : List (List ℕ)) (xs : List X) (i : ℕ) (x : X) (first last all : List MemberFault)
+    → i < length xs → x ≡ get_or xs i x → F seen (x ∷ drop (i + 1) xs) ≡ own ++ F next (drop (i + 1) xs) → F passed (drop (i + 1) xs) ≡ F next (drop (i + 1) xs) → last ≡ first ++ own
+    → first ++ F seen (drop i xs) ≡ all → last ++ F passed (drop (i + 1) xs) ≡ all
+step F own seen next passed xs i x first last all lt is split same more before =
+    let rest = drop (i + 1) xs in
+    ap (λ l. last ++ l) same
+    ∙ (ap (λ l. l ++ F next rest) more
+    ∙ (append_assoc first own (F next rest)
+    ∙ (ap (λ l. first ++ l) (sym split)
+    ∙ (ap (λ l. first ++ F seen l) (ap (λ y. y ∷ rest) is ∙ sym (drop_more xs i x lt)) ∙ before))))
+
+pub fields_step : (kind : DeclKey → Kind) (seen passed : List (List ℕ)) (fs : List Field) (i : ℕ) (f : Field) (first middle last all : List MemberFault)
+    → i < length fs → f ≡ get_or fs i f → SameNames passed (f.name ∷ seen) → middle ≡ first ++ field_own kind seen f → last ≡ middle ++ term_faults kind (shape f.term)
+    → first ++ fields_faults kind seen (fields_of (drop i fs)) ≡ all → last ++ fields_faults kind passed (fields_of (drop (i + 1) fs)) ≡ all
+fields_step kind seen passed fs i f first middle last all lt is names own inner before =
+    let rest = fields_faults kind (f.name ∷ seen) (fields_of (drop (i + 1) fs)) in
+    let b5 = fault_if (repeats seen f.name) f.place rules.B5 in
+    let y2 = fault_if (f.embedded && not (can_be_embedded kind (shape f.term))) f.place rules.Y2 in
+    let t = term_faults kind (shape f.term) in
+    let split : b5 ++ (y2 ++ (t ++ rest)) ≡ ((b5 ++ y2) ++ t) ++ rest = sym (append_assoc (b5 ++ y2) t rest ∙ append_assoc b5 y2 (t ++ rest)) in
+    step (λ s l. fields_faults kind s (fields_of l)) (field_own kind seen f ++ t) seen (f.name ∷ seen) passed fs i f first last all lt is split
+    (same_fields kind passed (f.name ∷ seen) (fields_of (drop (i + 1) fs)) names)
+    (inner ∙ (ap (λ l. l ++ t) own ∙ append_assoc first (field_own kind seen f) t)) before
+
+pub methods_step : (kind : DeclKey → Kind) (seen passed : List (List ℕ)) (ms : List Method) (i : ℕ) (m : Method) (first middle params last all : List MemberFault)
+    → i < length ms → m ≡ get_or ms i m → SameNames passed (m.name ∷ seen) → middle ≡ first ++ method_own seen m
+    → params ≡ middle ++ terms_faults kind (terms_of m.signature.params.items) → last ≡ params ++ terms_faults kind (terms_of m.signature.results.items)
+    → first ++ methods_faults kind seen (methods_of (drop i ms)) ≡ all → last ++ methods_faults kind passed (methods_of (drop (i + 1) ms)) ≡ all
+methods_step kind seen passed ms i m first middle params last all lt is names own ins outs before =
+    let rest = methods_faults kind (m.name ∷ seen) (methods_of (drop (i + 1) ms)) in
+    let b5 = method_own seen m in
+    let p = terms_faults kind (terms_of m.signature.params.items) in
+    let r = terms_faults kind (terms_of m.signature.results.items) in
+    let split : b5 ++ ((p ++ r) ++ rest) ≡ (b5 ++ (p ++ r)) ++ rest = sym (append_assoc b5 (p ++ r) rest) in
+    let more : last ≡ first ++ (b5 ++ (p ++ r)) =
+    outs ∙ (ap (λ l. l ++ r) (ins ∙ ap (λ l. l ++ p) own) ∙ (append_assoc (first ++ b5) p r ∙ append_assoc first b5 (p ++ r))) in
+    step (λ s l. methods_faults kind s (methods_of l)) (b5 ++ (p ++ r)) seen (m.name ∷ seen) passed ms i m first last all lt is split
+    (same_methods kind passed (m.name ∷ seen) (methods_of (drop (i + 1) ms)) names) more before
+
+pub terms_step : (kind : DeclKey → Kind) (ts : List TypeTerm) (i : ℕ) (t : TypeTerm) (first last all : List MemberFault) → i < length ts → t ≡ get_or ts i t → last ≡ first ++ term_faults kind (shape t)
+    → first ++ terms_faults kind (terms_of (drop i ts)) ≡ all → last ++ terms_faults kind (terms_of (drop (i + 1) ts)) ≡ all
+terms_step kind ts i t first last all lt is more before =
+    step (λ s l. terms_faults kind (terms_of l)) (term_faults kind (shape t)) [] [] [] ts i t first last all lt is refl refl more before
+
+pub declared_step : (kind : DeclKey → Kind) (path : List ℕ) (u : Term) (seen passed : List (List ℕ)) (ms : List DeclaredMethod) (i : ℕ) (m : DeclaredMethod) (first middle last all : List MemberFault)
+    → i < length ms → m ≡ get_or ms i m → SameNames passed (m.name ∷ seen) → middle ≡ first ++ declared_own path u seen m → last ≡ middle ++ sign_faults kind (sign_of m.signature)
+    → first ++ declared_faults kind path u seen (map member_shown (drop i ms)) ≡ all → last ++ declared_faults kind path u passed (map member_shown (drop (i + 1) ms)) ≡ all
+declared_step kind path u seen passed ms i m first middle last all lt is names own inner before =
+    let rest = declared_faults kind path u (m.name ∷ seen) (map member_shown (drop (i + 1) ms)) in
+    let b5 = declared_own path u seen m in
+    let g = sign_faults kind (sign_of m.signature) in
+    step (λ s l. declared_faults kind path u s (map member_shown l)) (b5 ++ g) seen (m.name ∷ seen) passed ms i m first last all lt is (sym (append_assoc b5 g rest))
+    (same_declared kind path u passed (m.name ∷ seen) (map member_shown (drop (i + 1) ms)) names)
+    (inner ∙ (ap (λ l. l ++ g) own ∙ append_assoc first b5 g)) before
+
+-- the end of a loop over members
+pub notes_end : {X : Type 0} (F : List X → List MemberFault) (xs : List X) (i : ℕ) (now all : List MemberFault) → F [] ≡ [] → length xs ≤ i → now ++ F (drop i xs) ≡ all → now ≡ all
+notes_end F xs i now all none le before =
+    sym (append-nil now) ∙ (ap (λ l. now ++ l) (sym none) ∙ (ap (λ l. now ++ F l) (sym (drop_all i xs le)) ∙ before))
+
+-- two notes one behind the other
+pub both_notes : (first middle last a b : List MemberFault) → middle ≡ first ++ a → last ≡ middle ++ b → last ≡ first ++ (a ++ b)
+both_notes first middle last a b h k = k ∙ (ap (λ l. l ++ b) h ∙ append_assoc first a b)

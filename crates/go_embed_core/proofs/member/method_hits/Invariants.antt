@@ -1,0 +1,6 @@
+use Rattle.std.proofs.Common.{◌≡◌, drop}
+use Rattle.go_embed_core.specs.mirrors.Tallies.{together, hits_shown, tallies, method_tally}
+use Rattle.go_embed_core.proofs.member.method_hits.Given as goal
+
+abbrev pub invariant-loop-method : goal.invariant-loop-method
+invariant-loop-method l = together (hits_shown l.hits) (tallies (method_tally l.path l.name l.from) (drop l.method-index l.methods)) ≡ tallies (method_tally l.path l.name l.from) l.methods

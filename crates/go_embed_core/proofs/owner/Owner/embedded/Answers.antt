@@ -1,0 +1,19 @@
+use Rattle.std.proofs.Common.{sym, ◌∙◌}
+use Rattle.go_embed_core.specs.OwnersShown.{owner_shown}
+use Rattle.go_embed_core.proofs.Edging.{embeds_past, embeds_hidden, embeds_shown}
+use Rattle.go_embed_core.specs.mirrors.Edges.{IsHiding}
+use Rattle.std.proofs.Common.{subst}
+use Rattle.go_embed_core.proofs.owner.Owner.embedded.Goals as goal
+
+pub returns-then-hides : goal.returns-then-hides
+returns-then-hides c =
+    let o = owner_shown c.args.self.now in
+    sym (embeds_hidden o c.fields.result.now c.args.position c.in-Some.field.now c.hides.result c.fields.ensures c.in-Some.ensures.lookup.3.0 c.in-Some.ensures.lookup.1 (subst (IsHiding c.hides.result o) c.as_str.ensures c.hides.ensures) c.if-hides.true)
+
+pub returns-else-hides : goal.returns-else-hides
+returns-else-hides c =
+    let o = owner_shown c.args.self.now in
+    c.edge_of.ensures ∙ sym (embeds_shown o c.fields.result.now c.args.position c.in-Some.field.now c.hides.result c.fields.ensures c.in-Some.ensures.lookup.3.0 c.in-Some.ensures.lookup.1 (subst (IsHiding c.hides.result o) c.as_str.ensures c.hides.ensures) c.if-hides.false)
+
+pub returns-in-None : goal.returns-in-None
+returns-in-None c = sym (embeds_past (owner_shown c.args.self.now) c.fields.result.now c.args.position c.fields.ensures c.in-None.ensures.lookup.3)

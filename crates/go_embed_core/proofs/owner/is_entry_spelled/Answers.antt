@@ -1,0 +1,9 @@
+use Rattle.std.proofs.Common.{ap, ◌∙◌}
+use Rattle.go_embed_core.specs.Owners.{declared_found, is_spelled_in}
+use Rattle.go_embed_core.proofs.Counting.{methods_spelled}
+use Rattle.go_embed_core.proofs.owner.is_entry_spelled.Goals as goal
+
+pub returns : goal.returns
+returns c =
+    let d = c.args.defined.now in
+    c.is_method_spelled.ensures ∙ (methods_spelled d.key.path c.args.name.now c.methods.result.now ∙ ap (λ ms. is_spelled_in (declared_found d.key.path ms) c.args.name.now) c.methods.ensures)

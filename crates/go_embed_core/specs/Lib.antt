@@ -1,0 +1,5 @@
+pub mod Owners
+pub mod OwnersShown
+pub mod Faults
+pub mod Laws
+pub mod mirrors

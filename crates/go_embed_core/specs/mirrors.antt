@@ -1,0 +1,4 @@
+pub mod Edges
+pub mod Tallies
+pub mod Passing
+pub mod Passed

@@ -1,0 +1,51 @@
+-- The fields and embedded fields of an owner, as the program reads them.
+use Rattle.std.specs.Prelude.{◌≡◌, ◌⊎◌, ℕ, zero, suc, Bool, true, false, List, [], ◌++◌, Option, Some, None, option_to_list, if◌then◌else◌}
+use Rattle.std.specs.Borrow.{Bor}
+use Rattle.go_term_core.specs.declared.term.TypeTerm.{TypeTerm}
+use Rattle.go_term_core.specs.Terms.{Term, NoType, Predeclared, ErrorType, Defined, PointerTo, StructOf, InterfaceOf, Fields, NoField}
+use Rattle.go_term_core.specs.Shapes.{shape}
+use Rattle.go_table_core.specs.Entries.{Member, has_method}
+use Rattle.go_table_core.specs.Shown.{hides_some}
+use Rattle.go_embed_core.specs.Owners.{OwnerModel, Edge, edge}
+
+-- an underlying type, or none
+abbrev pub under_shown : Option (Bor TypeTerm) → Term
+under_shown None = NoType
+under_shown (Some t) = shape t.now
+
+-- the fields of a struct type, and none of any other type
+abbrev pub struct_fields : Term → Fields
+struct_fields NoType = NoField
+struct_fields (Predeclared b) = NoField
+struct_fields ErrorType = NoField
+struct_fields (Defined k) = NoField
+struct_fields (PointerTo t) = NoField
+struct_fields (StructOf path fs) = fs
+struct_fields (InterfaceOf path ms) = NoField
+
+-- a method has the identifier of a field that is so named
+abbrev pub hidden_in : List ℕ → List Member → List ℕ → Term → Bool
+hidden_in own ms name NoType = false
+hidden_in own ms name (Predeclared b) = false
+hidden_in own ms name ErrorType = false
+hidden_in own ms name (Defined k) = false
+hidden_in own ms name (PointerTo t) = false
+hidden_in own ms name (StructOf path fs) = has_method own ms name path
+hidden_in own ms name (InterfaceOf path methods) = false
+
+abbrev pub hidden_by : OwnerModel → List ℕ → Term → Bool
+hidden_by o name u = hidden_in o.path o.methods name u
+
+-- an answer to whether fields of a name are kept from an owner: it may be no also where no field at all is kept from it
+pub record IsHiding (hides : Bool) (o : OwnerModel) (name : List ℕ) : Type 0 where
+  pub kept : hides ≡ true → hidden_by o name o.underlying ≡ true
+  pub left : hides ≡ false → (hidden_by o name o.underlying ≡ false) ⊎ (hides_some o.path o.methods o.underlying ≡ false)
+
+-- the edge of a field
+abbrev pub edge_if : Bool → ℕ → Term → Option Edge
+edge_if b i t = if b then Some (edge i t) else None
+
+-- the edges at as many places, from one on
+abbrev pub edges_from : (ℕ → Option Edge) → ℕ → ℕ → List Edge
+edges_from f k zero = []
+edges_from f k (suc n) = option_to_list (f k) ++ edges_from f (suc k) n

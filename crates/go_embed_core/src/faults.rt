@@ -1,0 +1,347 @@
+//! The faults of struct types, interface types, methods and receivers.
+ghost use Rattle.std.specs.Prelude.{◌≡◌, ◌++◌, ◌∷◌, [], true, false, not, ◌&&◌, ◌||◌, IfOk, OnOk, IfErr, map};
+ghost use Rattle.go_text_core.specs.Text.{is_blank};
+ghost use Rattle.go_term_core.specs.Shapes.{shape, sign_of, fields_of, methods_of, terms_of};
+ghost use Rattle.go_settle_core.specs.Settled.{can_be_embedded};
+ghost use Rattle.go_table_core.specs.Methods.{has_field_before};
+ghost use Rattle.go_table_core.specs.Shown.{member_shown};
+ghost use Rattle.go_embed_core.specs.Faults.{fault_if, term_faults, fields_faults, methods_faults, sign_faults, terms_faults, declared_faults, is_open_base, can_be_base};
+ghost use Rattle.go_embed_core.specs.mirrors.Passing.{SameNames, field_own, method_own, declared_own};
+
+use crate::passed::PassedNames;
+use go_path_core::ImportPath;
+use go_table_core::FieldTable;
+use go_text_core::{Name, Rule, add};
+use go_type_core::{
+    DeclaredMethod, Field, Kind, Kinds, MemberPlace, Method, Signature, TypeTerm, can_embed,
+};
+use std::alloc::{AllocError, Global};
+
+/// A fault at the declaration of a field or a method.
+#[derive(Clone, Copy, Debug, PartialEq, Eq)]
+pub struct MemberFault {
+    pub place: MemberPlace,
+    /// B5 where its name is repeated, or blank where it may not be; Y2 where a field's type may not be embedded.
+    pub rule: Rule,
+}
+
+// Whether a name is the blank identifier.
+fn is_blank(name: &str) -> bool
+    ensures { result ≡ is_blank name.now }
+{
+    name == "_"
+}
+
+// Notes a fault, where there is one.
+fn note_if(
+    faults: &mut Vec<MemberFault>,
+    is_fault: bool,
+    place: MemberPlace,
+    rule: Rule,
+) -> Result<(), AllocError>
+    ensures { OnOk result (faults.new.items ≡ faults.old.items ++ fault_if is_fault place rule) }
+{
+    if !is_fault {
+        return Ok(());
+    }
+    add(faults, MemberFault { place, rule })
+}
+
+// Whether a field repeats a name.
+fn is_repeated(name: &Name, is_met: bool) -> bool
+    ensures { result ≡ not (is_blank name.now) && is_met }
+{
+    !is_blank(name.as_str()) && is_met
+}
+
+// Whether a field is written as an embedded one, and its type may not be embedded.
+fn is_refused<K: Kinds>(kinds: &K, field: &Field) -> bool
+    ensures { result ≡ field.now.embedded && not (can_be_embedded (K.kinds kinds.now) (shape field.now.term)) }
+{
+    field.embedded && !can_embed(kinds, &field.term)
+}
+
+// Whether a method of an interface type is blank, or repeats a name.
+fn is_second(name: &Name, is_met: bool) -> bool
+    ensures { result ≡ is_blank name.now || is_met }
+{
+    is_blank(name.as_str()) || is_met
+}
+
+// Whether a field comes before a declared method, or another method.
+fn is_preceded(
+    path: &ImportPath,
+    fields: &FieldTable<'_>,
+    method: &DeclaredMethod,
+    is_met: bool,
+) -> bool
+    ensures { result ≡ is_met || has_field_before path.now fields.now (member_shown method.now) }
+{
+    is_met || fields.comes_before(path, method)
+}
+
+// The faults of a field beside those of its type.
+fn check_field<'a, K: Kinds>(
+    kinds: &K,
+    field: &'a Field,
+    passed: &mut PassedNames<'a>,
+    faults: &mut Vec<MemberFault>,
+) -> Result<(), AllocError>
+    ensures names { OnOk result (SameNames passed.new (field.now.name ∷ passed.old)) }
+    ensures faults { OnOk result (faults.new.items ≡ faults.old.items ++ field_own (K.kinds kinds.now) passed.old field.now) }
+{
+    let is_met = passed.meet(&field.name)?;
+    note_if(
+        faults,
+        is_repeated(&field.name, is_met),
+        field.place,
+        Rule::B5,
+    )?;
+    note_if(faults, is_refused(kinds, field), field.place, Rule::Y2)
+}
+
+// The faults of a method of an interface type beside those of its signature.
+fn check_method<'a>(
+    method: &'a Method,
+    passed: &mut PassedNames<'a>,
+    faults: &mut Vec<MemberFault>,
+) -> Result<(), AllocError>
+    ensures names { OnOk result (SameNames passed.new (method.now.name ∷ passed.old)) }
+    ensures faults { OnOk result (faults.new.items ≡ faults.old.items ++ method_own passed.old method.now) }
+{
+    let is_met = passed.meet(&method.name)?;
+    note_if(
+        faults,
+        is_second(&method.name, is_met),
+        method.place,
+        Rule::B5,
+    )
+}
+
+// The faults in a type.
+#[cycle(faults)]
+fn add_term<'a, K: Kinds>(
+    alloc: Global,
+    kinds: &K,
+    term: &'a TypeTerm,
+    faults: &mut Vec<MemberFault>,
+) -> Result<(), AllocError>
+    ensures { OnOk result (faults.new.items ≡ faults.old.items ++ term_faults (K.kinds kinds.now) (shape term.now)) }
+{
+    match term {
+        TypeTerm::Pointer(base) => add_term(alloc, kinds, base, faults),
+        TypeTerm::Struct(_, fields) => {
+            let mut passed_fields = PassedNames::new(alloc);
+            add_fields(alloc, kinds, fields, &mut passed_fields, faults)
+        }
+        TypeTerm::Interface(_, methods) => {
+            let mut passed_methods = PassedNames::new(alloc);
+            add_methods(alloc, kinds, methods, &mut passed_methods, faults)
+        }
+        TypeTerm::NoType | TypeTerm::Basic(_) | TypeTerm::Error | TypeTerm::Defined(_) => Ok(()),
+    }
+}
+
+// The faults of fields behind those of the names that were passed.
+#[cycle(faults)]
+fn add_fields<'a, K: Kinds>(
+    alloc: Global,
+    kinds: &K,
+    fields: &'a Vec<Field>,
+    passed: &mut PassedNames<'a>,
+    faults: &mut Vec<MemberFault>,
+) -> Result<(), AllocError>
+    ensures { OnOk result (faults.new.items ≡ faults.old.items ++ fields_faults (K.kinds kinds.now) passed.old (fields_of fields.now.items)) }
+{
+    for field in fields {
+        check_field(kinds, field, passed, faults)?;
+        add_term(alloc, kinds, &field.term, faults)?;
+    }
+    Ok(())
+}
+
+// The faults of the methods of an interface type behind those of the names that were passed.
+#[cycle(faults)]
+fn add_methods<'a, K: Kinds>(
+    alloc: Global,
+    kinds: &K,
+    methods: &'a Vec<Method>,
+    passed: &mut PassedNames<'a>,
+    faults: &mut Vec<MemberFault>,
+) -> Result<(), AllocError>
+    ensures { OnOk result (faults.new.items ≡ faults.old.items ++ methods_faults (K.kinds kinds.now) passed.old (methods_of methods.now.items)) }
+{
+    for method in methods {
+        check_method(method, passed, faults)?;
+        add_terms(alloc, kinds, &method.signature.params, faults)?;
+        add_terms(alloc, kinds, &method.signature.results, faults)?;
+    }
+    Ok(())
+}
+
+// The faults in the types of parameters or of results.
+#[cycle(faults)]
+fn add_terms<'a, K: Kinds>(
+    alloc: Global,
+    kinds: &K,
+    terms: &'a Vec<TypeTerm>,
+    faults: &mut Vec<MemberFault>,
+) -> Result<(), AllocError>
+    ensures { OnOk result (faults.new.items ≡ faults.old.items ++ terms_faults (K.kinds kinds.now) (terms_of terms.now.items)) }
+{
+    for term in terms {
+        add_term(alloc, kinds, term, faults)?;
+    }
+    Ok(())
+}
+
+// The faults in a signature.
+fn add_signature<K: Kinds>(
+    alloc: Global,
+    kinds: &K,
+    signature: &Signature,
+    faults: &mut Vec<MemberFault>,
+) -> Result<(), AllocError>
+    ensures { OnOk result (faults.new.items ≡ faults.old.items ++ sign_faults (K.kinds kinds.now) (sign_of signature.now)) }
+{
+    add_terms(alloc, kinds, &signature.params, faults)?;
+    add_terms(alloc, kinds, &signature.results, faults)
+}
+
+// The faults of a declared method beside those of its signature.
+fn check_declared<'a>(
+    path: &ImportPath,
+    fields: &FieldTable<'_>,
+    method: &'a DeclaredMethod,
+    passed: &mut PassedNames<'a>,
+    faults: &mut Vec<MemberFault>,
+) -> Result<(), AllocError>
+    ensures names { OnOk result (SameNames passed.new (method.now.name ∷ passed.old)) }
+    ensures faults { OnOk result (faults.new.items ≡ faults.old.items ++ declared_own path.now fields.now passed.old method.now) }
+{
+    let is_met = passed.meet(&method.name)?;
+    let is_late = is_preceded(path, fields, method, is_met);
+    note_if(
+        faults,
+        is_repeated(&method.name, is_late),
+        method.place,
+        Rule::B5,
+    )
+}
+
+// The faults of declared methods behind those of the names that were passed.
+fn add_declared<'a, K: Kinds>(
+    alloc: Global,
+    kinds: &K,
+    path: &ImportPath,
+    fields: &FieldTable<'_>,
+    methods: &'a [DeclaredMethod],
+    passed: &mut PassedNames<'a>,
+    faults: &mut Vec<MemberFault>,
+) -> Result<(), AllocError>
+    ensures { OnOk result (faults.new.items ≡ faults.old.items ++ declared_faults (K.kinds kinds.now) path.now fields.now passed.old (map member_shown methods.now)) }
+{
+    for method in methods {
+        check_declared(path, fields, method, passed, faults)?;
+        add_signature(alloc, kinds, &method.signature, faults)?;
+    }
+    Ok(())
+}
+
+/// The faults of the struct types and the interface types that a type has in it, as it is written, in order: of fields and methods that
+/// repeat a name of their type (B5), of an interface's method that is blank (B5), of embedded fields whose type may not be embedded (Y2).
+/// It takes expected time that is linear in the type.
+///
+/// # Errors
+///
+/// `AllocError` where memory is wanting.
+pub fn check_struct<K: Kinds>(
+    alloc: Global,
+    kinds: &K,
+    term: &TypeTerm,
+) -> Result<Vec<MemberFault>, AllocError>
+    ensures { IfOk result (λ faults. faults.items ≡ term_faults (K.kinds kinds.now) (shape term.now)) }
+{
+    let mut faults = Vec::new(alloc);
+    add_term(alloc, kinds, term, &mut faults)?;
+    Ok(faults)
+}
+
+/// The faults of the methods that are declared of a type, in order of file and place, and of the types in their signatures: a method that
+/// repeats the name of an earlier one, or of a field that comes before it (B5). `path` is of the type's package, `underlying` the type's
+/// underlying type. It takes expected time that is linear in the fields and the methods.
+///
+/// # Errors
+///
+/// `AllocError` where memory is wanting.
+pub fn check_methods<K: Kinds>(
+    alloc: Global,
+    kinds: &K,
+    path: &ImportPath,
+    underlying: &TypeTerm,
+    methods: &[DeclaredMethod],
+) -> Result<Vec<MemberFault>, AllocError>
+    ensures { IfOk result (λ faults. faults.items ≡ declared_faults (K.kinds kinds.now) path.now (shape underlying.now) [] (map member_shown methods.now)) }
+{
+    let fields = FieldTable::of(alloc, underlying)?;
+    let mut passed = PassedNames::new(alloc);
+    let mut faults = Vec::new(alloc);
+    match add_declared(
+        alloc,
+        kinds,
+        path,
+        &fields,
+        methods,
+        &mut passed,
+        &mut faults,
+    ) {
+        Ok(()) => Ok(faults),
+        Err(error) => Err(error),
+    }
+}
+
+// Whether a defined type of a kind may be the base of a receiver.
+fn is_open_base(kind: Kind) -> bool
+    ensures { result ≡ is_open_base kind }
+{
+    match kind {
+        Kind::Nothing => true,
+        Kind::Pointer => false,
+        Kind::Interface => false,
+        Kind::Other => true,
+    }
+}
+
+// Whether a type, as its name is written, may be the base of a receiver.
+fn can_be_base<K: Kinds>(kinds: &K, path: &ImportPath, base: &TypeTerm) -> bool
+    ensures { result ≡ can_be_base (K.kinds kinds.now) path.now (shape base.now) }
+{
+    match base {
+        TypeTerm::NoType => true,
+        TypeTerm::Defined(key) => {
+            key.path.as_str() == path.as_str() && is_open_base(kinds.kind(key))
+        }
+        TypeTerm::Basic(_)
+        | TypeTerm::Error
+        | TypeTerm::Pointer(_)
+        | TypeTerm::Struct(_, _)
+        | TypeTerm::Interface(_, _) => false,
+    }
+}
+
+/// Whether a receiver's base, as its name is written without the star, is a defined type of the package that is neither a pointer type
+/// nor an interface type.
+///
+/// # Errors
+///
+/// `Rule::B6` exactly where it is not; a name that is refused breaks no rule.
+pub fn check_base<K: Kinds>(kinds: &K, path: &ImportPath, base: &TypeTerm) -> Result<(), Rule>
+    ensures ok { OnOk result (can_be_base (K.kinds kinds.now) path.now (shape base.now) ≡ true) }
+    ensures err { IfErr result (λ rule. (rule ≡ Rule.B6) × (can_be_base (K.kinds kinds.now) path.now (shape base.now) ≡ false)) }
+{
+    if can_be_base(kinds, path, base) {
+        Ok(())
+    } else {
+        Err(Rule::B6)
+    }
+}

@@ -1,0 +1,19 @@
+//! What a type has of its own: its fields, its methods, and the types that it embeds; and the faults of struct types, interface types and
+//! receivers.
+//!
+//! The Go specification, "Struct types", "Interface types", "Method declarations".
+#![tactic(auto)]
+
+mod faults;
+mod laws;
+mod member;
+mod owner;
+mod passed;
+
+pub use faults::{MemberFault, check_base, check_methods, check_struct};
+pub use laws::{
+    embedding_is_a_step, faults_are_local, owner_is_local, repeated_is_told,
+    starred_interface_is_told,
+};
+pub use member::{Hits, Member};
+pub use owner::{Embedded, Owner, embeds};

@@ -1,0 +1,323 @@
+//! A type whose members are asked for.
+ghost use Rattle.std.specs.Prelude.{◌≡◌, ◌++◌, IfOk, OnOk, map, option_map, option_to_list};
+ghost use Rattle.go_term_core.specs.Terms.{Defined};
+ghost use Rattle.go_term_core.specs.Shapes.{shape, fields_of};
+ghost use Rattle.go_table_core.specs.Entries.{find};
+ghost use Rattle.go_table_core.specs.Shown.{member_shown};
+ghost use Rattle.go_embed_core.specs.Owners.{owner_in, embeds_at, embedded_in, field_count, has_spelled, declared_found, term_found, is_spelled_in, edge};
+ghost use Rattle.go_embed_core.specs.OwnersShown.{owner_shown, source_shown, entry_owner, embedded_shown, AreHits};
+ghost use Rattle.go_embed_core.specs.mirrors.Edges.{under_shown, struct_fields, hidden_in, IsHiding, edge_if};
+ghost use Rattle.go_embed_core.specs.mirrors.Tallies.{hits_shown, tallies, tally_of, nobody};
+
+use crate::member::{Hits, has_method, is_method_spelled, is_spelled, method_hits, term_hits};
+use go_decl_core::DeclKey;
+use go_path_core::ImportPath;
+use go_text_core::add;
+use go_type_core::{DeclaredMethod, DefinedType, Field, TypeTable, TypeTerm};
+use std::alloc::{AllocError, Global};
+
+/// Where the members of a type stand.
+#[derive(Clone, Copy)]
+enum Source<'a> {
+    /// A defined type that the table has.
+    Entry(&'a DefinedType),
+    /// A defined type of a package that the table has not.
+    Missing(&'a ImportPath),
+    /// Any other type, which is its own underlying type.
+    Plain(&'a TypeTerm),
+}
+
+/// A type whose members are asked for, as a table has it.
+#[derive(Clone, Copy)]
+pub struct Owner<'a> {
+    source: Source<'a>,
+}
+
+/// An embedded field of a struct type.
+#[derive(Clone, Copy)]
+pub struct Embedded<'a> {
+    /// The field's place among those of its struct type, from 0.
+    pub position: usize,
+    /// Whether it is written with a star.
+    pub pointer: bool,
+    /// The type that it embeds, without the star.
+    pub target: &'a TypeTerm,
+}
+
+// Where the members of a defined type stand.
+fn defined_source<'a>(table: &'a TypeTable, key: &'a DeclKey) -> Source<'a>
+    ensures { source_shown result ≡ owner_in (find table.now) (Defined key.now) }
+{
+    match table.locate(key) {
+        Some(located) => Source::Entry(located.defined),
+        None => Source::Missing(&key.path),
+    }
+}
+
+// Where the members of a type stand.
+fn source_of<'a>(table: &'a TypeTable, term: &'a TypeTerm) -> Source<'a>
+    ensures { source_shown result ≡ owner_in (find table.now) (shape term.now) }
+{
+    match term {
+        TypeTerm::Defined(key) => defined_source(table, key),
+        TypeTerm::NoType
+        | TypeTerm::Basic(_)
+        | TypeTerm::Error
+        | TypeTerm::Pointer(_)
+        | TypeTerm::Struct(_, _)
+        | TypeTerm::Interface(_, _) => Source::Plain(term),
+    }
+}
+
+// The fields of a struct type, and none of any other type.
+fn struct_fields<'a>(term: &'a TypeTerm) -> &'a [Field]
+    ensures { fields_of result.now ≡ struct_fields (shape term.now) }
+{
+    match term {
+        TypeTerm::Struct(_, fields) => fields.as_slice(),
+        TypeTerm::NoType
+        | TypeTerm::Basic(_)
+        | TypeTerm::Error
+        | TypeTerm::Defined(_)
+        | TypeTerm::Pointer(_)
+        | TypeTerm::Interface(_, _) => &[],
+    }
+}
+
+// The edge of an embedded field of a type.
+fn edge_to<'a>(term: &'a TypeTerm, position: usize) -> Embedded<'a>
+    ensures { embedded_shown result ≡ edge position (shape term.now) }
+{
+    match term {
+        TypeTerm::Pointer(base) => Embedded {
+            position,
+            pointer: true,
+            target: base,
+        },
+        TypeTerm::NoType
+        | TypeTerm::Basic(_)
+        | TypeTerm::Error
+        | TypeTerm::Defined(_)
+        | TypeTerm::Struct(_, _)
+        | TypeTerm::Interface(_, _) => Embedded {
+            position,
+            pointer: false,
+            target: term,
+        },
+    }
+}
+
+// The edge of a field, where it is an embedded one.
+fn edge_of<'a>(field: &'a Field, position: usize) -> Option<Embedded<'a>>
+    ensures { option_map embedded_shown result ≡ edge_if field.now.embedded position (shape field.now.term) }
+{
+    if field.embedded {
+        Some(edge_to(&field.term, position))
+    } else {
+        None
+    }
+}
+
+// Whether a method has the identifier of a field of a struct type that is so named.
+fn has_namesake(path: &ImportPath, methods: &[DeclaredMethod], name: &str, term: &TypeTerm) -> bool
+    ensures { result ≡ hidden_in path.now (map member_shown methods.now) name.now (shape term.now) }
+{
+    match term {
+        TypeTerm::Struct(from, _) => has_method(path, methods, name, from),
+        TypeTerm::NoType
+        | TypeTerm::Basic(_)
+        | TypeTerm::Error
+        | TypeTerm::Defined(_)
+        | TypeTerm::Pointer(_)
+        | TypeTerm::Interface(_, _) => false,
+    }
+}
+
+// Whether fields of a name are kept from a defined type by one of its methods: no is answered also where no field is.
+fn is_kept(defined: &DefinedType, name: &str) -> bool
+    ensures { IsHiding result (entry_owner defined.now) name.now }
+{
+    if defined.hides_fields() {
+        let path = &defined.key().path;
+        return has_namesake(path, defined.methods(), name, defined.underlying());
+    }
+    false
+}
+
+// The methods that are declared of a defined type and have an identifier.
+fn entry_hits<'a>(defined: &'a DefinedType, name: &str, from: &ImportPath) -> Hits<'a>
+    ensures { hits_shown result ≡ tallies (tally_of name.now from.now) (declared_found defined.now.key.path defined.now.methods) }
+{
+    method_hits(&defined.key().path, defined.methods(), name, from)
+}
+
+// Whether a method that is declared of a defined type is spelled so.
+fn is_entry_spelled(defined: &DefinedType, name: &str) -> bool
+    ensures { result ≡ is_spelled_in (declared_found defined.now.key.path defined.now.methods) name.now }
+{
+    is_method_spelled(defined.methods(), name)
+}
+
+// Adds the edge of an embedded field, where the field of a number is one.
+fn add_edge<'a>(
+    owner: &Owner<'a>,
+    position: usize,
+    edges: &mut Vec<Embedded<'a>>,
+) -> Result<(), AllocError>
+    ensures { OnOk result (map embedded_shown edges.new.items ≡ map embedded_shown edges.old.items ++ option_to_list (embeds_at (owner_shown owner.now) position)) }
+{
+    match owner.embedded(position) {
+        Some(edge) => add(edges, edge),
+        None => Ok(()),
+    }
+}
+
+impl<'a> Owner<'a> {
+    /// The members of a type, in a table.
+    pub fn of(table: &'a TypeTable, term: &'a TypeTerm) -> Owner<'a>
+        ensures { owner_shown result ≡ owner_in (find table.now) (shape term.now) }
+    {
+        Owner {
+            source: source_of(table, term),
+        }
+    }
+
+    // Its underlying type, or none where the table has not the type.
+    fn underlying(&self) -> Option<&'a TypeTerm>
+        ensures { under_shown result ≡ (owner_shown self.now).underlying }
+    {
+        match self.source {
+            Source::Entry(defined) => Some(defined.underlying()),
+            Source::Missing(_) => None,
+            Source::Plain(term) => Some(term),
+        }
+    }
+
+    // The fields of its struct type, or none where it is none.
+    fn fields(&self) -> &'a [Field]
+        ensures { fields_of result.now ≡ struct_fields (owner_shown self.now).underlying }
+    {
+        match self.underlying() {
+            Some(term) => struct_fields(term),
+            None => &[],
+        }
+    }
+
+    // Whether fields of a name are kept from it by one of its methods: no is answered also where no field is.
+    fn hides(&self, name: &str) -> bool
+        ensures { IsHiding result (owner_shown self.now) name.now }
+    {
+        match self.source {
+            Source::Entry(defined) => is_kept(defined, name),
+            Source::Missing(_) => false,
+            Source::Plain(_) => false,
+        }
+    }
+
+    // The methods that are declared of it and have an identifier.
+    fn own_hits(&self, name: &str, from: &ImportPath) -> Hits<'a>
+        ensures { let o = owner_shown self.now in hits_shown result ≡ tallies (tally_of name.now from.now) (declared_found o.path o.methods) }
+    {
+        match self.source {
+            Source::Entry(defined) => entry_hits(defined, name, from),
+            Source::Missing(_) => Hits::Nothing,
+            Source::Plain(_) => Hits::Nothing,
+        }
+    }
+
+    // The members of its underlying type that have an identifier.
+    fn underlying_hits(&self, name: &str, from: &ImportPath) -> Hits<'a>
+        ensures { hits_shown result ≡ tallies (tally_of name.now from.now) (term_found nobody (owner_shown self.now).underlying) }
+    {
+        match self.underlying() {
+            Some(term) => term_hits(term, name, from),
+            None => Hits::Nothing,
+        }
+    }
+
+    // Whether a method that is declared of it is spelled so.
+    fn is_own_spelled(&self, name: &str) -> bool
+        ensures { let o = owner_shown self.now in result ≡ is_spelled_in (declared_found o.path o.methods) name.now }
+    {
+        match self.source {
+            Source::Entry(defined) => is_entry_spelled(defined, name),
+            Source::Missing(_) => false,
+            Source::Plain(_) => false,
+        }
+    }
+
+    // Whether its underlying type has a member that is spelled so.
+    fn is_underlying_spelled(&self, name: &str) -> bool
+        ensures { result ≡ is_spelled_in (term_found nobody (owner_shown self.now).underlying) name.now }
+    {
+        match self.underlying() {
+            Some(term) => is_spelled(term, name),
+            None => false,
+        }
+    }
+
+    /// How many fields its struct type has, and 0 where it is none.
+    pub fn field_count(&self) -> usize
+        ensures { result ≡ field_count (owner_shown self.now) }
+    {
+        self.fields().len()
+    }
+
+    /// The embedded field at a place among the fields, or none where the field there is not embedded, or is kept from the type by a
+    /// method of its name. It takes no memory.
+    pub fn embedded(&self, position: usize) -> Option<Embedded<'a>>
+        ensures { option_map embedded_shown result ≡ embeds_at (owner_shown self.now) position }
+    {
+        match self.fields().get(position) {
+            Some(field) => {
+                if self.hides(field.name.as_str()) {
+                    return None;
+                }
+                edge_of(field, position)
+            }
+            None => None,
+        }
+    }
+
+    /// The members that an identifier names which is written in a package. Two that it names are more, however alike. It takes no memory.
+    pub fn hits(&self, name: &str, from: &ImportPath) -> Hits<'a>
+        ensures { AreHits (owner_shown self.now) name.now from.now result }
+    {
+        let own = self.own_hits(name, from);
+        if self.hides(name) {
+            return own;
+        }
+        own.and(self.underlying_hits(name, from))
+    }
+
+    /// Whether it has a member that is spelled so, in whichever package. It takes no memory.
+    pub fn has_spelled(&self, name: &str) -> bool
+        ensures { result ≡ has_spelled (owner_shown self.now) name.now }
+    {
+        if self.is_own_spelled(name) {
+            return true;
+        }
+        self.is_underlying_spelled(name)
+    }
+}
+
+/// The embedded fields of a type, in order: its edges to the types that it embeds.
+///
+/// # Errors
+///
+/// `AllocError` where memory is wanting.
+pub fn embeds<'a>(
+    alloc: Global,
+    table: &'a TypeTable,
+    term: &'a TypeTerm,
+) -> Result<Vec<Embedded<'a>>, AllocError>
+    ensures { IfOk result (λ edges. map embedded_shown edges.items ≡ embedded_in (owner_in (find table.now) (shape term.now))) }
+{
+    let owner = Owner::of(table, term);
+    let count = owner.field_count();
+    let mut edges = Vec::new(alloc);
+    for position in 0..count {
+        add_edge(&owner, position, &mut edges)?;
+    }
+    Ok(edges)
+}

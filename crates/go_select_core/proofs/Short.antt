@@ -1,0 +1,188 @@
+-- A path can be cut until it meets no type of the table twice.
+use Rattle.std.proofs.Common.{◌≡◌, ℕ, zero, suc, ◌≤◌, Bool, true, false, ◌&&◌, ◌||◌, List, [], ◌∷◌, ◌++◌, length, Option, Some, None, refl, sym, ap, ◌∙◌, subst, arith, ◌⊎◌, inl, inr, if◌then◌else◌, eq-eqb}
+use borrow.Author.Tests.{eqb-true}
+use denote.Enum.Bare.{sameb, same_true, true_same}
+use Rattle.std.specs.Prelude.{nat_eq}
+use Rattle.std.specs.Map.{lookup}
+use Rattle.std.specs.Str.{bytes_eq}
+use Rattle.std.proofs.lemmas.Slice.Eq.{bytes_eq-Decides}
+use Rattle.go_decl_core.specs.contracts.places.DeclKind as decl_kind
+use Rattle.go_decl_core.specs.declared.keys.DeclKey.{DeclKey}
+use Rattle.go_term_core.specs.Terms.{Term, NoType, Predeclared, ErrorType, Defined, PointerTo, StructOf, InterfaceOf, Fields}
+use Rattle.go_table_core.specs.Entries.{Entry, find, same_key, same_decl, term_in, underlying_in}
+use Rattle.go_embed_core.specs.Owners.{Edge, Found, owner_in, term_embedded, embedded_in}
+use Rattle.go_select_core.specs.Paths.{Step, Leads, Hit}
+use Rattle.go_select_core.specs.Laws.{ShortPathsSuffice}
+use Rattle.go_select_core.specs.mirrors.Ways.{At, IsNumbered}
+use Rattle.go_select_core.specs.mirrors.Levels.{left_below, left}
+use Rattle.go_select_core.proofs.ListLemmas.{In}
+use Rattle.go_select_core.proofs.Edges.{step_edge}
+use Rattle.go_select_core.proofs.Weights.{lookup_more, lookup_new, left_falls}
+use Rattle.go_select_core.proofs.Growing.{numbered_same}
+
+-- keys
+
+both : (a b : Bool) → a && b ≡ true → (a ≡ true) × (b ≡ true)
+both true b h = (refl, h)
+both false b h = cc
+
+joined : (a b : Bool) → a ≡ true → b ≡ true → a && b ≡ true
+joined a b h g = ap (λ c. c && b) h ∙ g
+
+key_same : (a b : DeclKey) → same_key a b ≡ true → a ≡ b
+key_same a b h =
+    let x = both (bytes_eq a.path b.path) (same_decl a.decl b.decl) h in
+    let y = both (nat_eq a.decl.file b.decl.file) (nat_eq a.decl.number b.decl.number && sameb decl_kind.the_type a.decl.kind b.decl.kind) x.1 in
+    let z = both (nat_eq a.decl.number b.decl.number) (sameb decl_kind.the_type a.decl.kind b.decl.kind) y.1 in
+    let p = (bytes_eq-Decides a.path b.path).0 x.0 in
+    let f = eqb-true a.decl.file b.decl.file y.0 in
+    let n = eqb-true a.decl.number b.decl.number z.0 in
+    let k = same_true decl_kind.the_type tt a.decl.kind b.decl.kind z.1 in
+    λ i. record { path = p i; decl = record { file = f i; number = n i; kind = k i } }
+
+key_itself : (k : DeclKey) → same_key k k ≡ true
+key_itself k =
+    joined (bytes_eq k.path k.path) (same_decl k.decl k.decl) ((bytes_eq-Decides k.path k.path).1 refl)
+    (joined (nat_eq k.decl.file k.decl.file) (nat_eq k.decl.number k.decl.number && sameb decl_kind.the_type k.decl.kind k.decl.kind) (eq-eqb k.decl.file k.decl.file refl)
+    (joined (nat_eq k.decl.number k.decl.number) (sameb decl_kind.the_type k.decl.kind k.decl.kind) (eq-eqb k.decl.number k.decl.number refl) (true_same decl_kind.the_type k.decl.kind k.decl.kind refl)))
+
+-- whether a type is that defined type
+same_node : (w : Term) (j : DeclKey) → (w ≡ Defined j) ⊎ (w ≡ Defined j → ⊥)
+same_node NoType j = inr (λ e. cc)
+same_node (Predeclared b) j = inr (λ e. cc)
+same_node ErrorType j = inr (λ e. cc)
+same_node (Defined k) j = by (same_key k j) refl
+  where
+    by : (b : Bool) → same_key k j ≡ b → (Defined k ≡ Defined j) ⊎ (Defined k ≡ Defined j → ⊥)
+    by true e = inl (ap Defined (key_same k j e))
+    by false e = inr (λ s. let kj : k ≡ j = (cc) in let t : same_key k j ≡ true = subst (λ x. same_key k x ≡ true) kj (key_itself k) in let z : true ≡ false = sym t ∙ e in (cc))
+same_node (PointerTo t) j = inr (λ e. cc)
+same_node (StructOf path fs) j = inr (λ e. cc)
+same_node (InterfaceOf path ms) j = inr (λ e. cc)
+
+-- what is found stands at a place
+
+found_step : (b : Bool) (x e : Entry) (rest : Option Entry) (k : DeclKey) (es : List Entry) → same_key x.key k ≡ b → (rest ≡ Some e → (n : ℕ) × At es n e × (e.key ≡ k)) → (if b then Some x else rest) ≡ Some e → (n : ℕ) × At (x ∷ es) n e × (e.key ≡ k)
+found_step true x e rest k es is more h = let s : x ≡ e = (cc) in (0, ap Some s, ap (λ (y : Entry). y.key) (sym s) ∙ key_same x.key k is)
+found_step false x e rest k es is more h = let r = more h in (suc r.0, r.1, r.2)
+
+found_at : (es : List Entry) (k : DeclKey) (e : Entry) → find es k ≡ Some e → (n : ℕ) × At es n e × (e.key ≡ k)
+found_at [] k e h = cc
+found_at (x ∷ es) k e h = found_step (same_key x.key k) x e (find es k) k es refl (λ r. found_at es k e r) h
+
+numbered : (es : List Entry) (k : DeclKey) (e : Entry) → find es k ≡ Some e → (n : ℕ) × IsNumbered es n (Defined k)
+numbered es k e h =
+    let r = found_at es k e h in
+    (r.0, record { entry = e; at = r.1; is = ap Defined (sym r.2); found = ap (find es) r.2 ∙ h })
+
+-- no path from a type leads to a struct type as it is written
+abbrev Clean : List Entry → Term → Type 0
+Clean es v = (q : List ℕ) (b : Bool) (p : List ℕ) (fs : Fields) → Leads (find es) v q b (StructOf p fs) → ⊥
+
+clean_step : (es : List Entry) (t : Term) (i : ℕ) (p : Bool) (v : Term) → Clean es t → Step (find es) t i p v → Clean es v
+clean_step es t i p v clean s q b path fs h = clean (i ∷ q) (p || b) path fs (v, p, b, s, h, refl)
+
+-- a type with an edge is of the table
+step_numbered : (es : List Entry) (t : Term) (i : ℕ) (p : Bool) (v : Term) → Clean es t → Step (find es) t i p v → (n : ℕ) × IsNumbered es n t
+step_numbered es t i p v clean s = by t refl (let x = step_edge (find es) t i p v s in (x.0, x.2))
+  where
+    defined : (k : DeclKey) (r : Option Entry) → find es k ≡ r → (e : Edge) × In (embedded_in (owner_in (find es) (Defined k))) e → (n : ℕ) × IsNumbered es n (Defined k)
+    defined k None is e = let u : underlying_in (find es) (Defined k) ≡ NoType = ap term_in is in absurd (subst (λ w. In (term_embedded (owner_in (find es) (Defined k)) w) e.0) u e.1)
+    defined k (Some x) is e = numbered es k x is
+
+    by : (w : Term) → t ≡ w → (e : Edge) × In (embedded_in (owner_in (find es) t)) e → (n : ℕ) × IsNumbered es n t
+    by NoType same e = absurd (subst (λ w. In (embedded_in (owner_in (find es) w)) e.0) same e.1)
+    by (Predeclared b) same e = absurd (subst (λ w. In (embedded_in (owner_in (find es) w)) e.0) same e.1)
+    by ErrorType same e = absurd (subst (λ w. In (embedded_in (owner_in (find es) w)) e.0) same e.1)
+    by (Defined k) same e = let r = defined k (find es k) refl (e.0, subst (λ w. In (embedded_in (owner_in (find es) w)) e.0) same e.1) in (r.0, subst (λ w. IsNumbered es r.0 w) (sym same) r.1)
+    by (PointerTo u) same e = absurd (subst (λ w. In (embedded_in (owner_in (find es) w)) e.0) same e.1)
+    by (StructOf path fs) same e = absurd (clean [] false path fs (same, refl))
+    by (InterfaceOf path ms) same e = absurd (subst (λ w. In (embedded_in (owner_in (find es) w)) e.0) same e.1)
+
+-- paths that meet no type that is marked
+
+abbrev Free : List Entry → List (ℕ × ℕ) → Term → Type 0
+Free es met u = (n : ℕ) → IsNumbered es n u → lookup (nat_eq n) met ≡ None
+
+abbrev Avoids : List Entry → List (ℕ × ℕ) → Term → List ℕ → Term → Type 0
+Avoids es met t [] u = Free es met t × (t ≡ u)
+Avoids es met t (i ∷ q) u = Free es met t × ((v : Term) × (p : Bool) × Step (find es) t i p v × Avoids es met v q u)
+
+avoids_none : (es : List Entry) (t : Term) (q : List ℕ) (p : Bool) (u : Term) → Leads (find es) t q p u → Avoids es [] t q u
+avoids_none es t [] p u h = (λ n num. refl, h.0)
+avoids_none es t (i ∷ q) p u h = (λ n num. refl, (h.0, h.1, h.3, avoids_none es h.0 q h.2 u h.4))
+
+free_more : (es : List Entry) (met : List (ℕ × ℕ)) (n : ℕ) (w : Term) → Free es met w → (IsNumbered es n w → ⊥) → Free es (met ++ (n, 0) ∷ []) w
+free_more es met n w free other m num = lookup_more met n 0 m (λ e. other (subst (λ k. IsNumbered es k w) e num)) ∙ free m num
+
+-- the last time that a path is at t: it never is, or the rest of it never comes back
+abbrev Rest : List Entry → List (ℕ × ℕ) → Term → Term → Type 0
+Rest es met t u = (t ≡ u) ⊎ ((i : ℕ) × (p : Bool) × (v : Term) × (q : List ℕ) × Step (find es) t i p v × Avoids es met v q u)
+
+same_as : (es : List Entry) (n : ℕ) (t : Term) (num : IsNumbered es n t) (w : Term) → (w ≡ t) ⊎ (w ≡ t → ⊥)
+same_as es n t num w = elim (same_node w num.entry.key) [ inl e ↦ inl (e ∙ sym num.is) | inr d ↦ inr (λ e. d (e ∙ num.is)) ]
+
+last_visit : (es : List Entry) (met : List (ℕ × ℕ)) (n : ℕ) (t : Term) (num : IsNumbered es n t) (w : Term) (q : List ℕ) (u : Term) → Avoids es met w q u → Avoids es (met ++ (n, 0) ∷ []) w q u ⊎ Rest es (met ++ (n, 0) ∷ []) t u
+last_visit es met n t num w [] u h =
+    elim (same_as es n t num w) [
+      | inl z ↦ inr (inl (sym z ∙ h.1))
+      | inr d ↦ inl (free_more es met n w h.0 (λ m. d (numbered_same es n w t m num)), h.1)
+    ]
+last_visit es met n t num w (i ∷ q) u h =
+    elim (last_visit es met n t num h.1.0 q u h.1.3) [
+      | inr r ↦ inr r
+      | inl a ↦ elim (same_as es n t num w) [
+        | inl z ↦ inr (inr (i, h.1.1, h.1.0, q, subst (λ k. Step (find es) k i h.1.1 h.1.0) z h.1.2, a))
+        | inr d ↦ inl (free_more es met n w h.0 (λ m. d (numbered_same es n w t m num)), (h.1.0, h.1.1, h.1.2, a))
+      ]
+    ]
+
+starts : (es : List Entry) (met : List (ℕ × ℕ)) (t : Term) (q : List ℕ) (u : Term) → Avoids es met t q u → Free es met t
+starts es met t [] u h = h.0
+starts es met t (i ∷ q) u h = h.0
+
+marked : (es : List Entry) (met : List (ℕ × ℕ)) (n : ℕ) (t : Term) (q : List ℕ) (u : Term) → IsNumbered es n t → lookup (nat_eq n) met ≡ None → Avoids es (met ++ (n, 0) ∷ []) t q u → ⊥
+marked es met n t q u num none a =
+    let x = starts es (met ++ (n, 0) ∷ []) t q u a n num in
+    let y = lookup_new met n 0 none in
+    some_none 0 (sym y ∙ x)
+  where
+    some_none : (p : ℕ) → Some p ≡ None → ⊥
+    some_none p z = cc
+
+short : (b : ℕ) (es : List Entry) (met : List (ℕ × ℕ)) (t : Term) (q : List ℕ) (u : Term) → left es met ≤ b → Clean es t → Avoids es met t q u → (r : List ℕ) × (p : Bool) × Leads (find es) t r p u × (length r ≤ b)
+short b es met t [] u l clean h = ([], false, (h.1, refl), omega arith)
+short zero es met t (i ∷ q) u l clean h =
+    let num = step_numbered es t i h.1.1 h.1.0 clean h.1.2 in
+    let f = left_falls es met num.0 0 t num.1 (h.0 num.0 num.1) in
+    absurd (omega (arith, f, l))
+short (suc b) es met t (i ∷ q) u l clean h =
+    let num = step_numbered es t i h.1.1 h.1.0 clean h.1.2 in
+    let none = h.0 num.0 num.1 in
+    let f = left_falls es met num.0 0 t num.1 none in
+    elim (last_visit es met num.0 t num.1 t (i ∷ q) u h) [
+      | inl a ↦ absurd (marked es met num.0 t (i ∷ q) u num.1 none a)
+      | inr r ↦ elim r [
+        | inl e ↦ ([], false, (e, refl), omega arith)
+        | inr x ↦
+            let s = short b es (met ++ (num.0, 0) ∷ []) x.2 x.3 u (omega (arith, f, l)) (clean_step es t x.0 x.1 x.2 clean x.4) x.5 in
+            (x.0 ∷ s.0, x.1 || s.1, (x.2, x.1, s.1, x.4, s.2, refl), omega (arith, s.3))
+      ]
+    ]
+
+left_none : (n : ℕ) → left_below n [] ≤ n
+left_none zero = omega arith
+left_none (suc n) = let l = left_none n in omega (arith, l)
+
+pub short_paths : ShortPathsSuffice
+short_paths es t name from names h = by h.0 h.1 h.4
+  where
+    by : (q : List ℕ) (p : Bool) (g : Hit (find es) t name from q p h.2 h.3)
+        → (path : List ℕ) × (pointer : Bool) × (number : ℕ) × (f : Found) × Hit (find es) t name from path pointer number f × (length path ≤ suc (length es))
+    by [] p g = ([], p, h.2, h.3, g, omega arith)
+    by (i ∷ q) p g =
+        let s = g.leads in
+        let clean : Clean es s.0 = λ r b path fs l. names i r (s.1 || b) path fs (s.0, s.1, b, s.3, l, refl) in
+        let r = short (left es []) es [] s.0 q g.at (omega arith) clean (avoids_none es s.0 q s.2 g.at s.4) in
+        let n = left_none (length es) in
+        (i ∷ r.0, s.1 || r.1, h.2, h.3, record { at = g.at; leads = (s.0, s.1, r.1, s.3, r.2, refl); has = g.has }, omega (arith, r.3, n))

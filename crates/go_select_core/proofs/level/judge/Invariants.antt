@@ -1,0 +1,6 @@
+use Rattle.go_table_core.specs.Entries.{find}
+use Rattle.go_select_core.proofs.Judging.{JudgedTo}
+use Rattle.go_select_core.proofs.level.judge.Given as goal
+
+abbrev pub invariant-types : goal.invariant-types
+invariant-types l = JudgedTo (find l.table) l.name l.from l.types l.first l.n l.best l.spelled

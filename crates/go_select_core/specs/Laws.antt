@@ -1,0 +1,39 @@
+-- Laws of selectors.
+use Rattle.std.specs.Prelude.{◌≡◌, ◌⊎◌, ◌↔◌, ◌≤◌, ℕ, suc, Bool, List, ◌∷◌, length, Contains, Result, Ok, Err}
+use Rattle.go_decl_core.specs.declared.keys.DeclKey.{DeclKey}
+use Rattle.go_text_core.specs.declared.rule.Rule.{Rule}
+use Rattle.go_term_core.specs.Terms.{Term, StructOf, Fields, term_keys, sign_keys}
+use Rattle.go_table_core.specs.Entries.{Entry, Look, find}
+use Rattle.go_table_core.specs.Laws.{AgreeFrom, IsReached}
+use Rattle.go_embed_core.specs.Owners.{Found, AFieldOf, AMethodOf, AnInterfaces, TheErrorMethod}
+use Rattle.go_embed_core.specs.OwnersShown.{found_shown}
+use Rattle.go_select_core.specs.declared.search.Selected.{Selected}
+use Rattle.go_select_core.specs.Paths.{Leads, Hit, HasHit}
+use Rattle.go_select_core.specs.Selectors.{IsAnswer, IsRule}
+
+-- a selector has at most one answer
+pub record OnlyOneAnswer : Type 0 where
+  pub selected : (look : Look) (t : Term) (name from : List ℕ) (r s : Selected) → IsAnswer look t name from (Ok r) → IsAnswer look t name from (Ok s)
+      → (r.path ≡ s.path) × (found_shown r.member ≡ found_shown s.member) × (r.through_pointer ≡ s.through_pointer)
+  pub refused : (look : Look) (t : Term) (name from : List ℕ) (r s : Rule) → IsRule look t name from r → IsRule look t name from s → r ≡ s
+  pub not_both : (look : Look) (t : Term) (name from : List ℕ) (s : Selected) (r : Rule) → IsAnswer look t name from (Ok s) → IsRule look t name from r → ⊥
+
+abbrev pub found_keys : Found → List DeclKey
+found_keys (AFieldOf path place t) = term_keys t
+found_keys (AMethodOf path place pointer g) = sign_keys g
+found_keys (AnInterfaces path place g) = sign_keys g
+found_keys TheErrorMethod = Rattle.std.specs.Prelude.List.[]
+
+-- an answer depends on what the type reaches alone, and mentions what is reached alone
+pub record SelectionIsLocal : Type 0 where
+  pub same : (look other : Look) (t : Term) (name from : List ℕ) (r : Result Selected Rule) → AgreeFrom look other t → IsAnswer look t name from r ↔ IsAnswer other t name from r
+  pub inside : (look : Look) (t : Term) (name from : List ℕ) (s : Selected) (k : DeclKey) → IsAnswer look t name from (Ok s) → Contains (found_keys (found_shown s.member)) k → IsReached look t k
+
+-- no struct type stands as it is written on a path, but at its start: each embedded field has a type's name, with a star or without
+abbrev pub EmbedsNames : Look → Term → Type 0
+EmbedsNames look t = (i : ℕ) (path : List ℕ) (pointer : Bool) (p : List ℕ) (fs : Fields) → Leads look t (i ∷ path) pointer (StructOf p fs) → ⊥
+
+-- paths that are at most one field longer than a table has types suffice
+abbrev pub ShortPathsSuffice : Type 0
+ShortPathsSuffice = (es : List Entry) (t : Term) (name from : List ℕ) → EmbedsNames (find es) t → HasHit (find es) t name from
+    → (path : List ℕ) × (pointer : Bool) × (number : ℕ) × (f : Found) × Hit (find es) t name from path pointer number f × (length path ≤ suc (length es))

@@ -1,0 +1,5 @@
+pub mod Paths
+pub mod Selectors
+pub mod Listing
+pub mod Laws
+pub mod mirrors

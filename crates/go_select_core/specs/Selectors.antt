@@ -1,0 +1,84 @@
+-- What a selector denotes behind an operand of a type.
+use Rattle.std.specs.Prelude.{◌≡◌, ◌⊎◌, ℕ, Bool, true, false, ◌||◌, List, Result, Ok, Err, ⊤}
+use Rattle.go_text_core.specs.Text.{is_blank}
+use Rattle.go_text_core.specs.declared.rule.Rule.{Rule}
+use Rattle.go_text_core.specs.declared.rule.Rule.TheVariants as rules
+use Rattle.go_term_core.specs.Terms.{Term, NoType, Predeclared, ErrorType, Defined, PointerTo, StructOf, InterfaceOf}
+use Rattle.go_settle_core.specs.declared.kind.Kind.{Kind}
+use Rattle.go_settle_core.specs.declared.kind.Kind.TheVariants as kinds
+use Rattle.go_settle_core.specs.Settled.{kind_of_term}
+use Rattle.go_table_core.specs.Entries.{Look, underlying_in}
+use Rattle.go_embed_core.specs.Owners.{Found, AFieldOf}
+use Rattle.go_embed_core.specs.OwnersShown.{found_shown}
+use Rattle.go_select_core.specs.declared.search.Selected.{Selected}
+use Rattle.go_select_core.specs.Paths.{HasHit, IsSelected, IsAmbiguous, IsSpelled}
+
+-- where a selector is searched: nowhere, by a rule; in a type, with whether the operand's type is a pointer type; or in what a defined
+-- pointer type points to, where methods are left out
+pub data Searched : Type 0 where
+  Refused : Rule → Searched
+  In : Term → Bool → Searched
+  FieldsIn : Term → Searched
+
+abbrev pub unless_refused : Kind → Searched → Searched
+unless_refused kinds.Nothing s = Refused rules.S4
+unless_refused kinds.Pointer s = Refused rules.S6
+unless_refused kinds.Interface s = Refused rules.S6
+unless_refused kinds.Other s = s
+
+abbrev pub kind_in : Look → Term → Kind
+kind_in look t = kind_of_term (underlying_in look t)
+
+-- in a type that is no pointer type as it is written; u is its underlying type
+abbrev pub searched_under : Look → Term → Term → Searched
+searched_under look t NoType = Refused rules.S4
+searched_under look t (PointerTo b) = unless_refused (kind_in look b) (FieldsIn b)
+searched_under look t _ = In t false
+
+abbrev pub searched : Look → Term → Searched
+searched look NoType = Refused rules.S4
+searched look (Predeclared b) = In (Predeclared b) false
+searched look ErrorType = In ErrorType false
+searched look (Defined k) = searched_under look (Defined k) (underlying_in look (Defined k))
+searched look (PointerTo t) = unless_refused (kind_in look t) (In t true)
+searched look (StructOf path fs) = In (StructOf path fs) false
+searched look (InterfaceOf path ms) = In (InterfaceOf path ms) false
+
+abbrev pub IsFieldFound : Found → Type 0
+IsFieldFound (AFieldOf path place t) = ⊤
+IsFieldFound _ = ⊥
+
+-- a member that is selected in a type
+abbrev pub IsSelectedAs : Look → Term → Bool → List ℕ → List ℕ → Selected → Type 0
+IsSelectedAs look t by_pointer name from s =
+    (pointer : Bool) × IsSelected look t name from s.path pointer (found_shown s.member) × (s.through_pointer ≡ by_pointer || pointer)
+
+-- why nothing is selected in a type
+pub data IsMissing (look : Look) (t : Term) (name from : List ℕ) : Rule → Type 0 where
+  ambiguous : IsAmbiguous look t name from → IsMissing look t name from rules.S2
+  hidden : (HasHit look t name from → ⊥) → IsSpelled look t name → IsMissing look t name from rules.S3
+  absent : (HasHit look t name from → ⊥) → (IsSpelled look t name → ⊥) → IsMissing look t name from rules.S1
+
+abbrev pub IsFound : Look → Searched → List ℕ → List ℕ → Selected → Type 0
+IsFound look (Refused rule) name from s = ⊥
+IsFound look (In t by_pointer) name from s = IsSelectedAs look t by_pointer name from s
+IsFound look (FieldsIn t) name from s = IsSelectedAs look t true name from s × IsFieldFound (found_shown s.member)
+
+-- a method is selected behind a defined pointer type
+abbrev pub IsMethodBehind : Look → Term → List ℕ → List ℕ → Type 0
+IsMethodBehind look t name from = (path : List ℕ) × (pointer : Bool) × (f : Found) × IsSelected look t name from path pointer f × (IsFieldFound f → ⊥)
+
+abbrev pub IsRefused : Look → Searched → List ℕ → List ℕ → Rule → Type 0
+IsRefused look (Refused why) name from rule = rule ≡ why
+IsRefused look (In t by_pointer) name from rule = IsMissing look t name from rule
+IsRefused look (FieldsIn t) name from rule = IsMissing look t name from rule ⊎ (IsMethodBehind look t name from × (rule ≡ rules.S7))
+
+-- a blank name is refused before all else
+abbrev pub IsRule : Look → Term → List ℕ → List ℕ → Rule → Type 0
+IsRule look t name from rule =
+    ((is_blank name ≡ true) × (rule ≡ rules.S8)) ⊎ ((is_blank name ≡ false) × IsRefused look (searched look t) name from rule)
+
+-- the answer to a selector, want of memory apart
+abbrev pub IsAnswer : Look → Term → List ℕ → List ℕ → Result Selected Rule → Type 0
+IsAnswer look t name from (Ok s) = (is_blank name ≡ false) × IsFound look (searched look t) name from s
+IsAnswer look t name from (Err rule) = (rule ≡ rules.M0) ⊎ IsRule look t name from rule

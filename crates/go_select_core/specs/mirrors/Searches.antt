@@ -1,0 +1,19 @@
+-- What the search in a type answers.
+use Rattle.std.specs.Prelude.{◌≡◌, ◌⊎◌, ℕ, List, Result, Ok, Err}
+use Rattle.go_text_core.specs.declared.rule.Rule.{Rule}
+use Rattle.go_text_core.specs.declared.rule.Rule.TheVariants as rules
+use Rattle.go_term_core.specs.Terms.{Term}
+use Rattle.go_table_core.specs.Entries.{Look}
+use Rattle.go_embed_core.specs.OwnersShown.{found_shown}
+use Rattle.go_select_core.specs.declared.search.Selected.{Selected}
+use Rattle.go_select_core.specs.Paths.{IsSelected}
+use Rattle.go_select_core.specs.Selectors.{IsMissing}
+
+abbrev pub IsSearched : Look → Term → List ℕ → List ℕ → Result Selected Rule → Type 0
+IsSearched look t name from (Ok s) = IsSelected look t name from s.path s.through_pointer (found_shown s.member)
+IsSearched look t name from (Err rule) = IsMissing look t name from rule
+
+-- want of memory too
+abbrev pub IsSearchedOrNot : Look → Term → List ℕ → List ℕ → Result Selected Rule → Type 0
+IsSearchedOrNot look t name from (Ok s) = IsSelected look t name from s.path s.through_pointer (found_shown s.member)
+IsSearchedOrNot look t name from (Err rule) = (rule ≡ rules.M0) ⊎ IsMissing look t name from rule

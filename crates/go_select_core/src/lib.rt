@@ -1,0 +1,17 @@
+//! What a selector denotes: the field or method at the shallowest depth, over embedded fields.
+//!
+//! The Go specification, "Selectors", "Struct types".
+#![tactic(auto)]
+
+mod laws;
+mod level;
+mod numbers;
+mod operand;
+mod path;
+mod search;
+mod trails;
+
+pub use go_embed_core::{Member, Owner};
+pub use laws::{only_one_answer, selection_is_local, short_paths_suffice};
+pub use path::EmbedPath;
+pub use search::{Selected, select};

@@ -1,0 +1,60 @@
+//! Which fields and methods are kept.
+ghost use Rattle.std.specs.Prelude.{◌≡◌, IfOk, length};
+ghost use Rattle.go_text_core.specs.Text.{is_blank};
+ghost use Rattle.go_settle_core.specs.mirrors.Kept.{keeps_field, keeps_method, kept_fields, kept_methods};
+
+use crate::seen::SeenNames;
+use go_term_core::{Field, Method};
+use go_text_core::add;
+use std::alloc::{AllocError, Global};
+
+// Whether a name is the blank identifier.
+fn is_blank(name: &str) -> bool
+    ensures { result ≡ is_blank name.now }
+{
+    name == "_"
+}
+
+// Whether a field is kept: it is blank, or its name is new.
+fn keeps_field(name: &str, is_new: bool) -> bool
+    ensures { result ≡ keeps_field name.now is_new }
+{
+    is_blank(name) || is_new
+}
+
+// Whether a method is kept: it is not blank, and its name is new.
+fn keeps_method(name: &str, is_new: bool) -> bool
+    ensures { result ≡ keeps_method name.now is_new }
+{
+    !is_blank(name) && is_new
+}
+
+/// For each field whether it is kept: it is blank, or repeats no earlier name.
+pub(crate) fn kept_fields(alloc: Global, fields: &[Field]) -> Result<Vec<bool>, AllocError>
+    ensures kept { IfOk result (λ kept. kept.items ≡ kept_fields fields.now) }
+    ensures len { IfOk result (λ kept. length kept.items ≡ length fields.now) }
+{
+    let mut seen = SeenNames::new(alloc);
+    let mut kept = Vec::new(alloc);
+    for field in fields {
+        let name = field.name.as_str();
+        let is_new = seen.add(name)?;
+        add(&mut kept, keeps_field(name, is_new))?;
+    }
+    Ok(kept)
+}
+
+/// For each method whether it is kept: it is not blank, and repeats no earlier name.
+pub(crate) fn kept_methods(alloc: Global, methods: &[Method]) -> Result<Vec<bool>, AllocError>
+    ensures kept { IfOk result (λ kept. kept.items ≡ kept_methods methods.now) }
+    ensures len { IfOk result (λ kept. length kept.items ≡ length methods.now) }
+{
+    let mut seen = SeenNames::new(alloc);
+    let mut kept = Vec::new(alloc);
+    for method in methods {
+        let name = method.name.as_str();
+        let is_new = seen.add(name)?;
+        add(&mut kept, keeps_method(name, is_new))?;
+    }
+    Ok(kept)
+}

@@ -1,0 +1,22 @@
+//! Laws of settling.
+ghost use Rattle.go_settle_core.specs.Laws.{SettledIsApart, SettledMentionsWritten, SettlingIsIdempotent, SettlingIsLocal};
+
+/// A law, with nothing to run: a settled term settled again, with the same kinds, is the same.
+pub fn settling_is_idempotent()
+    ensures { SettlingIsIdempotent }
+{}
+
+/// A law, with nothing to run: a defined type that a settled term mentions is a type, and the written term mentions it.
+pub fn settled_mentions_written()
+    ensures { SettledMentionsWritten }
+{}
+
+/// A law, with nothing to run: the methods of each interface type in a settled term differ by name.
+pub fn settled_is_apart()
+    ensures { SettledIsApart }
+{}
+
+/// A law, with nothing to run: where two look-ups agree on the defined types that a written term mentions, it is settled alike.
+pub fn settling_is_local()
+    ensures { SettlingIsLocal }
+{}

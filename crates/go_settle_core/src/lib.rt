@@ -1,0 +1,20 @@
+//! Types as they are written, and as they are once what is no type is known.
+//!
+//! A written term has each name of a type that resolves as the key of its declaration. A settled term has no type in place of what is
+//! none, no field and no method that repeats a name, and no field embedded that may not be.
+#![tactic(auto)]
+
+mod embed;
+mod kept;
+mod kind;
+mod laws;
+mod seen;
+mod terms;
+
+pub use embed::{can_embed, kind_of};
+pub use kind::{Kind, Kinds};
+pub use laws::{
+    settled_is_apart, settled_mentions_written, settling_is_idempotent, settling_is_local,
+};
+pub use seen::SeenNames;
+pub use terms::{settle, settle_signature};

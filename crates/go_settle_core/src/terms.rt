@@ -1,0 +1,207 @@
+//! Settling terms.
+ghost use Rattle.std.specs.Prelude.{◌≡◌, [], IfOk, IsTrue, ◌↔◌};
+ghost use Rattle.go_term_core.specs.Terms.{NoType, NoField, NoMethod};
+ghost use Rattle.go_term_core.specs.Shapes.{shape, sign_of, fields_of, methods_of, terms_of};
+ghost use Rattle.go_settle_core.specs.Settled.{defined_unless, pointer_to, settled, settled_fields, settled_methods, settled_sign, settled_terms};
+ghost use Rattle.go_settle_core.specs.mirrors.Kept.{make_field, make_method, put_field, put_method};
+
+use crate::embed::can_embed;
+use crate::kept::{kept_fields, kept_methods};
+use crate::kind::{Kind, Kinds};
+use go_decl_core::DeclKey;
+use go_term_core::{Field, Method, Signature, TypeTerm};
+use go_text_core::{add, boxed};
+use std::alloc::{AllocError, Global};
+
+/// What was made, or the end of the function where memory ran out. A `?` is two calls of generic functions, and a proof writes out
+/// the term's type for each.
+macro_rules! made {
+    ($made:expr) => {
+        match $made {
+            Ok(made) => made,
+            Err(error) => return Err(error),
+        }
+    };
+}
+
+// Two results at once. Where there was no memory for one, the other is dropped.
+fn both<A: Drop, B: Drop>(
+    first: Result<A, AllocError>,
+    second: Result<B, AllocError>,
+) -> Result<(A, B), AllocError>
+    ensures { IfOk result (λ x. (first ≡ Ok x.0) × (second ≡ Ok x.1)) }
+{
+    Ok((first?, second?))
+}
+
+// The defined type of a declaration, unless it is no type.
+fn settle_key(key: &DeclKey, kind: Kind) -> Result<TypeTerm, AllocError>
+    ensures { IfOk result (λ t. shape t ≡ defined_unless kind key.now) }
+{
+    match kind {
+        Kind::Nothing => Ok(TypeTerm::NoType),
+        Kind::Pointer | Kind::Interface | Kind::Other => Ok(TypeTerm::Defined(key.share()?)),
+    }
+}
+
+// Whether a term is no type.
+fn is_no_type(term: &TypeTerm) -> bool
+    ensures { IsTrue result ↔ (shape term.now ≡ NoType) }
+{
+    match term {
+        TypeTerm::NoType => true,
+        TypeTerm::Basic(_) => false,
+        TypeTerm::Error => false,
+        TypeTerm::Defined(_) => false,
+        TypeTerm::Pointer(_) => false,
+        TypeTerm::Struct(_, _) => false,
+        TypeTerm::Interface(_, _) => false,
+    }
+}
+
+// A pointer to a type, unless that is no type.
+fn point_to(alloc: Global, base: TypeTerm) -> Result<TypeTerm, AllocError>
+    ensures { IfOk result (λ t. shape t ≡ pointer_to (shape base)) }
+{
+    if is_no_type(&base) {
+        return Ok(base);
+    }
+    Ok(TypeTerm::Pointer(made!(boxed(alloc, base))))
+}
+
+/// The settled term of a written one.
+///
+/// A name of what is no type, and a pointer to what is none, is no type. Of fields and of methods that repeat a name the first is
+/// kept, blank fields are all kept, and a blank method is left out. A field that may not be embedded is a plain one.
+///
+/// # Errors
+///
+/// `AllocError` where memory is wanting.
+#[cycle(settling)]
+pub fn settle<K: Kinds>(alloc: Global, kinds: &K, term: &TypeTerm) -> Result<TypeTerm, AllocError>
+    ensures { IfOk result (λ t. shape t ≡ settled (K.kinds kinds.now) (shape term.now)) }
+{
+    match term {
+        TypeTerm::NoType => Ok(TypeTerm::NoType),
+        TypeTerm::Basic(basic) => Ok(TypeTerm::Basic(*basic)),
+        TypeTerm::Error => Ok(TypeTerm::Error),
+        TypeTerm::Defined(key) => settle_key(key, kinds.kind(key)),
+        TypeTerm::Pointer(base) => point_to(alloc, made!(settle(alloc, kinds, base))),
+        TypeTerm::Struct(path, fields) => {
+            let fields = settle_fields(alloc, kinds, fields);
+            let (path, fields) = made!(both(path.share(), fields));
+            Ok(TypeTerm::Struct(path, fields))
+        }
+        TypeTerm::Interface(path, methods) => {
+            let methods = settle_methods(alloc, kinds, methods);
+            let (path, methods) = made!(both(path.share(), methods));
+            Ok(TypeTerm::Interface(path, methods))
+        }
+    }
+}
+
+// The settled fields of a struct type.
+#[cycle(settling)]
+fn settle_fields<K: Kinds>(
+    alloc: Global,
+    kinds: &K,
+    fields: &Vec<Field>,
+) -> Result<Vec<Field>, AllocError>
+    ensures { IfOk result (λ fs. fields_of fs.items ≡ settled_fields (K.kinds kinds.now) [] (fields_of fields.now.items)) }
+{
+    let kept = made!(kept_fields(alloc, fields));
+    let mut settled = Vec::new(alloc);
+    for (i, field) in fields.iter().enumerate() {
+        if kept[i] {
+            let field = made!(settle_field(alloc, kinds, field));
+            made!(add(&mut settled, field));
+        }
+    }
+    Ok(settled)
+}
+
+// A settled field.
+#[cycle(settling)]
+fn settle_field<K: Kinds>(alloc: Global, kinds: &K, field: &Field) -> Result<Field, AllocError>
+    ensures { IfOk result (λ f. put_field f NoField ≡ make_field (K.kinds kinds.now) field.now NoField) }
+{
+    let texts = both(field.name.copy(alloc), field.tag.copy(alloc));
+    let ((name, tag), term) = made!(both(texts, settle(alloc, kinds, &field.term)));
+    Ok(Field {
+        name,
+        place: field.place,
+        embedded: field.embedded && can_embed(kinds, &field.term),
+        term,
+        tag,
+    })
+}
+
+// The settled methods of an interface type.
+#[cycle(settling)]
+fn settle_methods<K: Kinds>(
+    alloc: Global,
+    kinds: &K,
+    methods: &Vec<Method>,
+) -> Result<Vec<Method>, AllocError>
+    ensures { IfOk result (λ ms. methods_of ms.items ≡ settled_methods (K.kinds kinds.now) [] (methods_of methods.now.items)) }
+{
+    let kept = made!(kept_methods(alloc, methods));
+    let mut settled = Vec::new(alloc);
+    for (i, method) in methods.iter().enumerate() {
+        if kept[i] {
+            let method = made!(settle_method(alloc, kinds, method));
+            made!(add(&mut settled, method));
+        }
+    }
+    Ok(settled)
+}
+
+// A settled method.
+#[cycle(settling)]
+fn settle_method<K: Kinds>(alloc: Global, kinds: &K, method: &Method) -> Result<Method, AllocError>
+    ensures { IfOk result (λ m. put_method m NoMethod ≡ make_method (K.kinds kinds.now) method.now NoMethod) }
+{
+    let name = method.name.copy(alloc);
+    let signature = settle_signature(alloc, kinds, &method.signature);
+    let (name, signature) = made!(both(name, signature));
+    Ok(Method {
+        name,
+        place: method.place,
+        signature,
+    })
+}
+
+/// The signature of settled parameters and results of a written one.
+///
+/// # Errors
+///
+/// `AllocError` where memory is wanting.
+#[cycle(settling)]
+pub fn settle_signature<K: Kinds>(
+    alloc: Global,
+    kinds: &K,
+    signature: &Signature,
+) -> Result<Signature, AllocError>
+    ensures { IfOk result (λ s. sign_of s ≡ settled_sign (K.kinds kinds.now) (sign_of signature.now)) }
+{
+    let params = settle_terms(alloc, kinds, &signature.params);
+    let (params, results) = made!(both(params, settle_terms(alloc, kinds, &signature.results)));
+    Ok(Signature { params, results })
+}
+
+// The settled terms of a list.
+#[cycle(settling)]
+fn settle_terms<K: Kinds>(
+    alloc: Global,
+    kinds: &K,
+    terms: &Vec<TypeTerm>,
+) -> Result<Vec<TypeTerm>, AllocError>
+    ensures { IfOk result (λ ts. terms_of ts.items ≡ settled_terms (K.kinds kinds.now) (terms_of terms.now.items)) }
+{
+    let mut settled = Vec::new(alloc);
+    for term in terms {
+        let term = made!(settle(alloc, kinds, term));
+        made!(add(&mut settled, term));
+    }
+    Ok(settled)
+}

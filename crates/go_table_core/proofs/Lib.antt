@@ -1,0 +1,5 @@
+pub mod Finding
+pub mod Searching
+pub mod Adding
+pub mod Spelled
+pub mod Meanings

@@ -1,0 +1,154 @@
+//! What is declared of types.
+ghost use Rattle.std.specs.Prelude.{◌≡◌, IfOk, map};
+ghost use Rattle.std.specs.Arc.{arc_value};
+ghost use Rattle.go_term_core.specs.Shapes.{shape};
+ghost use Rattle.go_table_core.specs.Shown.{member_shown, HidesRightly};
+ghost use Rattle.go_table_core.specs.mirrors.Spots.{spells_some};
+ghost use Rattle.go_table_core.specs.Methods.{term_fields};
+
+use crate::fields::FieldTable;
+use go_decl_core::DeclKey;
+use go_term_core::{MemberPlace, Signature, TypeTerm};
+use go_text_core::Name;
+use std::alloc::{AllocError, Global};
+use std::marker::Model;
+use std::sync::Arc;
+
+/// A method that is declared with a receiver.
+#[derive(Drop)]
+pub struct DeclaredMethod {
+    pub name: Name,
+    pub place: MemberPlace,
+    /// Whether its receiver is a pointer to the type.
+    pub pointer: bool,
+    pub signature: Signature,
+}
+
+/// A type declaration as it is written, with each name of a type that resolves as its declaration's key.
+#[derive(Drop)]
+pub struct TypeEntry {
+    pub key: DeclKey,
+    pub name: Name,
+    /// What it is defined by.
+    pub term: TypeTerm,
+    /// The methods whose receivers name it, in order of file and place.
+    pub methods: Vec<DeclaredMethod>,
+}
+
+/// A defined type of a package. Contracts see its key, its name, its underlying type, and those of its methods that are its own by the
+/// rules.
+#[derive(Drop)]
+pub struct DefinedType {
+    key: DeclKey,
+    name: Name,
+    underlying: Arc<TypeTerm>,
+    methods: Vec<DeclaredMethod>,
+    /// Whether a field of its struct type has the identifier of one of its methods, which keeps the field from it.
+    hides: bool,
+}
+
+impl Model for DefinedType {
+    ghost use Rattle.go_table_core.specs.Entries.{Entry};
+    ghost use Rattle.go_table_core.specs.codes.EntryCodes.{coded_entry};
+    ghost use Rattle.go_table_core.specs.Shown.{defined_shown, HidesRightly};
+
+    ghost Value = { Entry };
+
+    ghost coded = { coded_entry };
+
+    ghost view = { λ d. defined_shown d.key d.name d.underlying d.methods };
+
+    ghost invariant = { λ d. HidesRightly d.hides (defined_shown d.key d.name d.underlying d.methods) };
+}
+
+/// Whether a field of a struct type is spelled as one of these methods. Time grows with fields and methods.
+fn spells_one_of(
+    alloc: Global,
+    term: &TypeTerm,
+    methods: &[DeclaredMethod],
+) -> Result<bool, AllocError>
+    ensures { IfOk result (λ spells. spells ≡ spells_some (map member_shown methods.now) (term_fields (shape term.now))) }
+{
+    if methods.is_empty() {
+        return Ok(false);
+    }
+    let fields = FieldTable::of(alloc, term)?;
+    for method in methods {
+        if fields.has_spelled(method.name.as_str()) {
+            return Ok(true);
+        }
+    }
+    Ok(false)
+}
+
+impl DefinedType {
+    /// A defined type with its underlying type, which is shared, and its methods.
+    ///
+    /// # Errors
+    ///
+    /// `AllocError` where memory is wanting.
+    pub fn new(
+        alloc: Global,
+        key: DeclKey,
+        name: Name,
+        underlying: Arc<TypeTerm>,
+        methods: Vec<DeclaredMethod>,
+    ) -> Result<DefinedType, AllocError>
+        ensures { IfOk result (λ d. d ≡ record { key = key; name = name; term = shape (arc_value underlying); methods = map member_shown methods.items }) }
+    {
+        let hides = spells_one_of(alloc, &underlying, methods.as_slice())?;
+        Ok(DefinedType {
+            key,
+            name,
+            underlying,
+            methods,
+            hides,
+        })
+    }
+
+    /// Its declaration.
+    pub fn key(&self) -> &DeclKey
+        ensures { result.now ≡ self.now.key }
+    {
+        &self.key
+    }
+
+    /// Its name.
+    pub fn name(&self) -> &Name
+        ensures { result.now ≡ self.now.name }
+    {
+        &self.name
+    }
+
+    /// Its underlying type, or no type.
+    pub fn underlying(&self) -> &TypeTerm
+        ensures { shape result.now ≡ self.now.term }
+    {
+        &self.underlying
+    }
+
+    /// Its underlying type once more, to be shared with another defined type. It takes no memory.
+    ///
+    /// # Errors
+    ///
+    /// `AllocError` where the term has too many owners.
+    pub fn share_underlying(&self) -> Result<Arc<TypeTerm>, AllocError>
+        ensures { IfOk result (λ u. shape (arc_value u) ≡ self.now.term) }
+    {
+        Arc::try_clone(&self.underlying)
+    }
+
+    /// The methods that are declared of it, in order of file and place.
+    pub fn methods(&self) -> &[DeclaredMethod]
+        ensures { map member_shown result.now ≡ self.now.methods }
+    {
+        self.methods.as_slice()
+    }
+
+    /// Whether a method may keep a field from it: where this is false, none does.
+    pub fn hides_fields(&self) -> bool
+        ensures { HidesRightly result self.now }
+    {
+        self.hides
+    }
+}

@@ -1,0 +1,234 @@
+//! The fields of a struct type by their names.
+ghost use Rattle.std.specs.Prelude.{◌≡◌, IfOk, OnOk, option_map, [], ◌<◌};
+ghost use Rattle.go_term_core.specs.Shapes.{shape, fields_of};
+ghost use Rattle.go_table_core.specs.Shown.{member_shown};
+ghost use Rattle.go_table_core.specs.Methods.{has_field_before, field_spelled, term_fields};
+ghost use Rattle.go_table_core.specs.mirrors.Spots.{spot_before, earlier_of, earliest_with, earliest_before, named_places, struct_path, HasPlaces, AddsField};
+
+use crate::entry::DeclaredMethod;
+use go_path_core::ImportPath;
+use go_term_core::{Field, MemberPlace, TypeTerm};
+use go_text_core::is_exported;
+use indexmap::IndexMap;
+use std::alloc::{AllocError, Global};
+use std::marker::Model;
+
+/// A place by its file, and by what counts there.
+#[derive(Clone, Copy)]
+struct Spot {
+    file: usize,
+    at: usize,
+}
+
+/// The earliest of the fields of one name, outside function bodies and inside.
+#[derive(Clone, Copy)]
+struct Earliest {
+    declared: Option<Spot>,
+    local: Option<Spot>,
+}
+
+/// The fields of a struct type by their names; of any other type it has none. Contracts see the type.
+#[derive(Drop)]
+pub struct FieldTable<'a> {
+    underlying: &'a TypeTerm,
+    places: IndexMap<&'a str, Earliest>,
+}
+
+impl<'a> Model for FieldTable<'a> {
+    ghost use Rattle.go_term_core.specs.Terms.{Term};
+    ghost use Rattle.go_term_core.specs.codes.TermCodes.{coded_term};
+    ghost use Rattle.go_term_core.specs.Shapes.{shape};
+    ghost use Rattle.go_table_core.specs.Methods.{term_fields};
+    ghost use Rattle.go_table_core.specs.mirrors.Spots.{named_places, HasPlaces};
+
+    ghost Value = { Term };
+
+    ghost coded = { coded_term };
+
+    ghost view = { λ t. shape t.underlying.now };
+
+    ghost invariant = { λ t. HasPlaces (named_places t.places) (term_fields (shape t.underlying.now)) };
+}
+
+impl Spot {
+    /// Whether it stands before another: by file, then by place there.
+    fn is_before(self, other: Spot) -> bool
+        ensures { result ≡ spot_before self other }
+    {
+        self.file < other.file || (self.file == other.file && self.at < other.at)
+    }
+}
+
+/// The earlier of a spot and one that may be.
+fn earlier(first: Option<Spot>, spot: Spot) -> Spot
+    ensures { result ≡ earlier_of first spot }
+{
+    let Some(first) = first else {
+        return spot;
+    };
+    if spot.is_before(first) { spot } else { first }
+}
+
+impl Earliest {
+    /// With one more place.
+    fn with(self, place: MemberPlace) -> Earliest
+        ensures { result ≡ earliest_with self place }
+    {
+        match place {
+            MemberPlace::Declared(decl) => {
+                let spot = Spot {
+                    file: decl.file,
+                    at: decl.number,
+                };
+                Earliest {
+                    declared: Some(earlier(self.declared, spot)),
+                    local: self.local,
+                }
+            }
+            MemberPlace::Local(inner) => {
+                let spot = Spot {
+                    file: inner.file,
+                    at: inner.offset,
+                };
+                Earliest {
+                    declared: self.declared,
+                    local: Some(earlier(self.local, spot)),
+                }
+            }
+        }
+    }
+
+    /// Whether one of the places stands before a place.
+    fn is_before(self, place: MemberPlace) -> bool
+        ensures { result ≡ earliest_before self place }
+    {
+        let (first, spot) = match place {
+            MemberPlace::Declared(decl) => (
+                self.declared,
+                Spot {
+                    file: decl.file,
+                    at: decl.number,
+                },
+            ),
+            MemberPlace::Local(inner) => (
+                self.local,
+                Spot {
+                    file: inner.file,
+                    at: inner.offset,
+                },
+            ),
+        };
+        match first {
+            Some(first) => first.is_before(spot),
+            None => false,
+        }
+    }
+}
+
+/// The fields of a struct type, and none of another.
+fn fields_in(term: &TypeTerm) -> &[Field]
+    ensures { fields_of result.now ≡ term_fields (shape term.now) }
+{
+    match term {
+        TypeTerm::Struct(_, fields) => fields.as_slice(),
+        TypeTerm::NoType
+        | TypeTerm::Basic(_)
+        | TypeTerm::Error
+        | TypeTerm::Defined(_)
+        | TypeTerm::Pointer(_)
+        | TypeTerm::Interface(_, _) => &[],
+    }
+}
+
+/// The package where a struct type is written.
+fn home_of(term: &TypeTerm) -> Option<&ImportPath>
+    ensures { option_map (λ p. p.now) result ≡ struct_path (shape term.now) }
+{
+    match term {
+        TypeTerm::Struct(path, _) => Some(path),
+        TypeTerm::NoType
+        | TypeTerm::Basic(_)
+        | TypeTerm::Error
+        | TypeTerm::Defined(_)
+        | TypeTerm::Pointer(_)
+        | TypeTerm::Interface(_, _) => None,
+    }
+}
+
+/// Adds a field to a table of names.
+fn add_field<'a>(
+    places: &mut IndexMap<&'a str, Earliest>,
+    field: &'a Field,
+) -> Result<(), AllocError>
+    ensures { OnOk result (AddsField (named_places places.old) (named_places places.new) field.now.name field.now.place) }
+{
+    let name = field.name.as_str();
+    let so_far = match places.get(name) {
+        Some(so_far) => *so_far,
+        None => Earliest {
+            declared: None,
+            local: None,
+        },
+    };
+    match places.insert(name, so_far.with(field.place)) {
+        Ok(_) => Ok(()),
+        Err(_) => Err(AllocError),
+    }
+}
+
+/// The places of fields by their names.
+fn places_of<'a>(
+    alloc: Global,
+    fields: &'a [Field],
+) -> Result<IndexMap<&'a str, Earliest>, AllocError>
+    ensures { IfOk result (λ places. HasPlaces (named_places places) (fields_of fields.now)) }
+{
+    let mut places = IndexMap::new(alloc);
+    for field in fields {
+        add_field(&mut places, field)?;
+    }
+    Ok(places)
+}
+
+impl<'a> FieldTable<'a> {
+    /// The fields of an underlying type. Time grows with the number of fields.
+    ///
+    /// # Errors
+    ///
+    /// `AllocError` where memory is wanting.
+    pub fn of(alloc: Global, underlying: &'a TypeTerm) -> Result<FieldTable<'a>, AllocError>
+        ensures { IfOk result (λ table. table ≡ shape underlying.now) }
+    {
+        let places = places_of(alloc, fields_in(underlying))?;
+        Ok(FieldTable { underlying, places })
+    }
+
+    /// Whether a field is spelled so, be it of the same package or not. It takes constant expected time and no memory.
+    pub fn has_spelled(&self, name: &str) -> bool
+        ensures { result ≡ field_spelled (term_fields self.now) name.now }
+    {
+        self.places.contains_key(name)
+    }
+
+    /// Whether a field comes before a method of a package that has its identifier: it stands before it, or in another package. Then the
+    /// field is kept and the method is not. It takes constant expected time and no memory. The Go specification, "Method
+    /// declarations", "Uniqueness of identifiers".
+    pub fn comes_before(&self, path: &ImportPath, method: &DeclaredMethod) -> bool
+        ensures { result ≡ has_field_before path.now self.now (member_shown method.now) }
+    {
+        let name = method.name.as_str();
+        match self.places.get(name) {
+            Some(first) => match home_of(self.underlying) {
+                Some(home) => {
+                    if home.is_same(path) {
+                        first.is_before(method.place)
+                    } else {
+                        is_exported(name)
+                    }
+                }
+                None => false,
+            },
+            None => false,
+        }
+    }
+}

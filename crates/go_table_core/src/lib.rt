@@ -1,0 +1,21 @@
+//! Tables of defined types: what each comes to and which methods are its own; and what is assignable.
+//!
+//! A [`TypeTable`] is a view of several packages' types, each kept once and shared; nothing of them is copied into it. The Go specification,
+//! "Type declarations", "Underlying types", "Assignability".
+#![tactic(auto)]
+
+mod assign;
+mod entry;
+mod fields;
+mod kinds;
+mod laws;
+mod table;
+
+pub use assign::{Operand, assignable};
+pub use entry::{DeclaredMethod, DefinedType, TypeEntry};
+pub use fields::FieldTable;
+pub use laws::{
+    assignable_is_local, assignable_to_itself, nothing_is_assignable_to_no_type,
+    underlying_is_local,
+};
+pub use table::{Located, PackageTypes, TypeTable};

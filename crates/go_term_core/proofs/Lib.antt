@@ -1,0 +1,4 @@
+pub mod TermShapes
+pub mod Copied
+pub mod SameLists
+pub mod Meanings

@@ -1,0 +1,102 @@
+-- Lists that are compared, as far as a loop has come.
+use Rattle.std.proofs.Common.{◌≡◌, ◌↔◌, ℕ, suc, ◌+◌, ◌<◌, ◌≤◌, List, [], ◌∷◌, ◌++◌, ◌⊎◌, inl, inr, length, get_or, take, drop, Bool, IsTrue, true, false, refl, ap, sym, ◌∙◌, subst}
+use Rattle.std.proofs.lemmas.List.{drop_all, drop_more, take-append-drop}
+use Rattle.go_text_core.specs.Text.{SameId}
+use Rattle.go_term_core.specs.declared.term.MemberPlace.{MemberPlace}
+use Rattle.go_term_core.specs.declared.term.TypeTerm.{TypeTerm}
+use Rattle.go_term_core.specs.declared.term.Field.{Field}
+use Rattle.go_term_core.specs.declared.term.Method.{Method}
+use Rattle.go_term_core.specs.Terms.{Term, Sign}
+use Rattle.go_term_core.specs.Shapes.{shape, sign_of, fields_of, methods_of, terms_of}
+use Rattle.go_term_core.specs.Identity.{Identical, SameFields, HasAll, SameSign, SameTerms, IsMethod, method_count}
+use Rattle.go_term_core.specs.mirrors.Alike.{HasAlike}
+
+-- a test that failed, of what does not hold
+pub fails : {W : Type 0} → (W → ⊥) → IsTrue false ↔ W
+fails never = (λ h. absurd (let k : false ≡ true = h in cc), λ w. absurd (never w))
+
+first_is : {X : Type 0} (xs : List X) (i : ℕ) (x : X) → i < length xs → x ≡ get_or xs i x → drop i xs ≡ x ∷ drop (i + 1) xs
+first_is xs i x h is = drop_more xs i x h ∙ ap (λ y. y ∷ drop (i + 1) xs) (sym is)
+
+-- lists of other lengths
+
+pub as_many_fields : (p q : List ℕ) (fs gs : List Field) → SameFields p (fields_of fs) q (fields_of gs) → length fs ≡ length gs
+as_many_fields p q [] [] h = refl
+as_many_fields p q [] (g ∷ gs) h = absurd h
+as_many_fields p q (f ∷ fs) [] h = absurd h
+as_many_fields p q (f ∷ fs) (g ∷ gs) h = ap suc (as_many_fields p q fs gs h.4)
+
+pub as_many_terms : (ts us : List TypeTerm) → SameTerms (terms_of ts) (terms_of us) → length ts ≡ length us
+as_many_terms [] [] h = refl
+as_many_terms [] (u ∷ us) h = absurd h
+as_many_terms (t ∷ ts) [] h = absurd h
+as_many_terms (t ∷ ts) (u ∷ us) h = ap suc (as_many_terms ts us h.1)
+
+pub methods_counted : (ms : List Method) → method_count (methods_of ms) ≡ length ms
+methods_counted [] = refl
+methods_counted (m ∷ ms) = ap suc (methods_counted ms)
+
+-- a method among others
+
+module _ (name : List ℕ) (place : MemberPlace) (g : Sign) where
+  in_front : (xs ys : List Method) → IsMethod (methods_of xs) name place g → IsMethod (methods_of (xs ++ ys)) name place g
+  in_front [] ys h = absurd h
+  in_front (x ∷ xs) ys (inl h) = inl h
+  in_front (x ∷ xs) ys (inr h) = inr (in_front xs ys h)
+
+  in_back : (xs ys : List Method) → IsMethod (methods_of ys) name place g → IsMethod (methods_of (xs ++ ys)) name place g
+  in_back [] ys h = h
+  in_back (x ∷ xs) ys h = inr (in_back xs ys h)
+
+  in_either : (xs ys : List Method) → IsMethod (methods_of (xs ++ ys)) name place g → IsMethod (methods_of xs) name place g ⊎ IsMethod (methods_of ys) name place g
+  in_either [] ys h = inr h
+  in_either (x ∷ xs) ys (inl h) = inl (inl h)
+  in_either (x ∷ xs) ys (inr h) = elim (in_either xs ys h) [ inl k ↦ inl (inr k) | inr k ↦ inr k ]
+
+module _ (p name : List ℕ) (g : Sign) (q : List ℕ) where
+  abbrev Has : List Method → Type 0
+  Has ns = HasAlike p name g q (methods_of ns)
+
+  -- a loop that finds one
+  pub alike_found : (ns : List Method) (i : ℕ) (n : Method) → i < length ns → n ≡ get_or ns i n → SameId name p n.name q → SameSign g (sign_of n.signature) → (Has (drop i ns) ↔ Has ns) → IsTrue true ↔ Has ns
+  alike_found ns i n lt is same signs so_far =
+      (λ _. so_far.0 (subst Has (sym (first_is ns i n lt is)) (n.name, n.place, sign_of n.signature, inl (refl, refl, refl), same, signs)), λ _. refl)
+
+  -- the methods from some place on, and those before
+  pub alike_in : (front back items ns : List Method) (i : ℕ) → items ≡ ns → front ≡ take i items → back ≡ drop i items → Has back ⊎ Has front → Has ns
+  alike_in front back items ns i is at_front at_back (inl h) =
+      let whole : front ++ back ≡ ns = ap (λ l. l ++ back) at_front ∙ ap (λ l. take i items ++ l) at_back ∙ take-append-drop i items ∙ is in
+      subst Has whole (h.0, h.1, h.2, in_back h.0 h.1 h.2 front back h.3, h.4, h.5)
+  alike_in front back items ns i is at_front at_back (inr h) =
+      let whole : front ++ back ≡ ns = ap (λ l. l ++ back) at_front ∙ ap (λ l. take i items ++ l) at_back ∙ take-append-drop i items ∙ is in
+      subst Has whole (h.0, h.1, h.2, in_front h.0 h.1 h.2 front back h.3, h.4, h.5)
+
+  pub alike_where : (front back items ns : List Method) (i : ℕ) → items ≡ ns → front ≡ take i items → back ≡ drop i items → Has ns → Has back ⊎ Has front
+  alike_where front back items ns i is at_front at_back has =
+      let whole : front ++ back ≡ ns = ap (λ l. l ++ back) at_front ∙ ap (λ l. take i items ++ l) at_back ∙ take-append-drop i items ∙ is in
+      let h = subst Has (sym whole) has in
+      elim (in_either h.0 h.1 h.2 front back h.3) [ inl k ↦ inr (h.0, h.1, h.2, k, h.4, h.5) | inr k ↦ inl (h.0, h.1, h.2, k, h.4, h.5) ]
+
+-- a loop over the methods of the one
+module _ (p q : List ℕ) (items ms ns : List Method) (i : ℕ) (m : Method) (are : items ≡ ms) (lt : i < length items) (is : m ≡ get_or items i m) where
+  at_m : drop i ms ≡ m ∷ drop (i + 1) ms
+  at_m = subst (λ l. drop i l ≡ m ∷ drop (i + 1) l) are (first_is items i m lt is)
+
+  abbrev All : List Method → Type 0
+  All l = HasAll p (methods_of l) q (methods_of ns)
+
+  pub all_step : HasAlike p m.name (sign_of m.signature) q (methods_of ns) → (All (drop i ms) ↔ All ms) → All (drop (i + 1) ms) ↔ All ms
+  all_step has so_far = (λ r. so_far.0 (subst All (sym at_m) (has, r)), λ w. (subst All at_m (so_far.1 w)).1)
+
+  pub all_missing : {C : Type 0} → (HasAlike p m.name (sign_of m.signature) q (methods_of ns) → ⊥) → (All (drop i ms) ↔ All ms) → IsTrue false ↔ (C × All ms)
+  all_missing never so_far = fails (λ w. never (subst All at_m (so_far.1 w.1)).0)
+
+pub all_end : (p q : List ℕ) (items ms ns : List Method) (i : ℕ) → items ≡ ms → length items ≤ i → (HasAll p (methods_of (drop i ms)) q (methods_of ns) ↔ HasAll p (methods_of ms) q (methods_of ns)) → HasAll p (methods_of ms) q (methods_of ns)
+all_end p q items ms ns i are h so_far = so_far.0 (subst (λ l. HasAll p (methods_of (drop i l)) q (methods_of ns)) are (subst (λ l. HasAll p (methods_of l) q (methods_of ns)) (sym (drop_all i items h)) tt))
+
+-- types
+
+-- an answer about two terms, about what they are
+module _ (a b s t : Term) (r : Bool) (at_a : a ≡ s) (at_b : b ≡ t) where
+  pub same_at : (IsTrue r ↔ Identical s t) → IsTrue r ↔ Identical a b
+  same_at same = subst (λ x. IsTrue r ↔ Identical x b) (sym at_a) (subst (λ x. IsTrue r ↔ Identical s x) (sym at_b) same)

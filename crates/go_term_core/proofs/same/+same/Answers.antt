@@ -1,0 +1,65 @@
+use Rattle.std.proofs.Common.{◌≡◌, false, true, refl, inl, inr, ap, sym, ◌∙◌}
+use Rattle.go_term_core.specs.Shapes.{shape, sign_of}
+use Rattle.go_term_core.proofs.TermShapes.{shape_struct, shape_interface}
+use Rattle.go_term_core.proofs.SameLists.{fails, as_many_fields, as_many_terms, methods_counted, alike_found, alike_in, alike_where, all_step, all_missing, all_end, same_at}
+use Rattle.go_term_core.proofs.same.+same.Goals as goal
+use Rattle.go_term_core.proofs.same.+same.Goals.{same_methods-else-not-has_alike-via-then-not-has_alike+else-not-has_alike-2, same_methods-else-not-has_alike-via-else-not-has_alike}
+
+pub has_alike-returns-then-has_same_signature : goal.has_alike-returns-then-has_same_signature
+has_alike-returns-then-has_same_signature t c =
+    let a = c.args in
+    alike_found a.p.now a.m.now.name (sign_of a.m.now.signature) a.q.now a.ns.now _ c.n-item.result c.loop-n-test.true c.n-item.is (c.if-is_same_name.ensures.0 refl) (c.if-has_same_signature.ensures.0 refl) c.loop-n.invariant
+
+pub identical-returns-in-Struct-Struct : goal.identical-returns-in-Struct-Struct
+identical-returns-in-Struct-Struct t c =
+    let w = c.in-Struct-Struct in
+    same_at _ _ _ _ _ (ap shape w.is-0 ∙ shape_struct w.p w.fs) (ap shape w.is-1 ∙ shape_struct w.q w.gs) c.same_fields.ensures
+
+pub identical-returns-in-Interface-Interface : goal.identical-returns-in-Interface-Interface
+identical-returns-in-Interface-Interface t c =
+    let w = c.in-Interface-Interface in
+    same_at _ _ _ _ _ (ap shape w.is-0 ∙ shape_interface w.p w.ms) (ap shape w.is-1 ∙ shape_interface w.q w.ns) c.same_methods.ensures
+
+pub same_fields-returns-then-len : goal.same_fields-returns-then-len
+same_fields-returns-then-len t c =
+    let a = c.args in
+    fails (λ h. let e = as_many_fields a.p.now a.q.now a.fs.now.items a.gs.now.items h in c.if-len.true (c.len.ensures ∙ (a.fs.now.ok.0 ∙ e ∙ sym a.gs.now.ok.0) ∙ sym c.len-2.ensures))
+
+pub same_methods-returns-then-len : goal.same_methods-returns-then-len
+same_methods-returns-then-len t c =
+    let a = c.args in
+    fails (λ h. let e = sym (methods_counted a.ms.now.items) ∙ (h.0 ∙ methods_counted a.ns.now.items) in c.if-len.true (c.len.ensures ∙ (a.ms.now.ok.0 ∙ e ∙ sym a.ns.now.ok.0) ∙ sym c.len-2.ensures))
+
+pub same_methods-returns-then-not-has_alike-2 : goal.same_methods-returns-then-not-has_alike-2
+same_methods-returns-then-not-has_alike-2 t c =
+    let a = c.args in
+    let m = c.m-item.result in
+    all_missing a.p.now a.q.now _ a.ms.now.items a.ns.now.items _ m c.deref-m-items.ensures.value c.loop-i-test.true c.m-item.is
+    (λ has.
+    elim (alike_where a.p.now m.name (sign_of m.signature) a.q.now _ _ _ a.ns.now.items _ c.deref.ensures.value c.split_at.ensures.front c.split_at.ensures.back has) [
+      | inl h ↦ let k : false ≡ true = c.if-not-has_alike.ensures.1 h in cc
+      | inr h ↦ let k : false ≡ true = c.if-not-has_alike-2.ensures.1 h in cc
+    ])
+    c.loop-i.invariant
+
+pub same_methods-loop-i-preserved : goal.same_methods-loop-i-preserved
+same_methods-loop-i-preserved t c =
+    let a = c.args in
+    let m = c.m-item.result in
+    all_step a.p.now a.q.now _ a.ms.now.items a.ns.now.items _ m c.deref-m-items.ensures.value c.loop-i-test.true c.m-item.is
+    (alike_in a.p.now m.name (sign_of m.signature) a.q.now _ _ _ a.ns.now.items _ c.deref.ensures.value c.split_at.ensures.front c.split_at.ensures.back (
+    elim c.else-not-has_alike.branch [
+      | same_methods-else-not-has_alike-via-then-not-has_alike+else-not-has_alike-2 w ↦ inr (w.if-not-has_alike-2.ensures.0 refl)
+      | same_methods-else-not-has_alike-via-else-not-has_alike w ↦ inl (w.if-not-has_alike.ensures.0 refl)
+    ]))
+    c.loop-i.invariant
+
+pub same_methods-returns : goal.same_methods-returns
+same_methods-returns t c =
+    let a = c.args in
+    (λ _. (methods_counted a.ms.now.items ∙ (sym a.ms.now.ok.0 ∙ (sym c.len.ensures ∙ c.if-len.false ∙ c.len-2.ensures) ∙ a.ns.now.ok.0) ∙ sym (methods_counted a.ns.now.items), all_end a.p.now a.q.now _ a.ms.now.items a.ns.now.items _ c.deref-m-items.ensures.value c.loop-i-test.false c.loop-i.invariant), λ _. refl)
+
+pub same_terms-returns-then-len : goal.same_terms-returns-then-len
+same_terms-returns-then-len t c =
+    let a = c.args in
+    fails (λ h. let e = as_many_terms a.ts.now.items a.us.now.items h in c.if-len.true (c.len.ensures ∙ (a.ts.now.ok.0 ∙ e ∙ sym a.us.now.ok.0) ∙ sym c.len-2.ensures))

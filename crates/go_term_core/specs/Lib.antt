@@ -1,0 +1,7 @@
+pub mod Tags
+pub mod Terms
+pub mod Shapes
+pub mod Identity
+pub mod Laws
+pub mod mirrors
+pub mod codes

@@ -1,0 +1,137 @@
+//! Copies of terms.
+ghost use Rattle.std.specs.Prelude.{◌≡◌, IfOk};
+ghost use Rattle.go_term_core.specs.Shapes.{shape, sign_of, fields_of, methods_of, terms_of};
+
+use crate::term::{Field, Method, Signature, TypeTerm};
+use go_text_core::{add, boxed};
+use std::alloc::{AllocError, Global};
+
+/// The copy that was made, or the end of the function where memory ran out. A `?` is two calls of generic functions, and a proof
+/// writes out the term's type for each.
+macro_rules! copied {
+    ($copy:expr) => {
+        match $copy {
+            Ok(copy) => copy,
+            Err(error) => return Err(error),
+        }
+    };
+}
+
+/// Two copies. Where there was no memory for one, the other is dropped.
+fn both<A: Drop, B: Drop>(
+    first: Result<A, AllocError>,
+    second: Result<B, AllocError>,
+) -> Result<(A, B), AllocError>
+    ensures { IfOk result (λ x. (first ≡ Ok x.0) × (second ≡ Ok x.1)) }
+{
+    Ok((first?, second?))
+}
+
+/// A second term of the same type.
+///
+/// # Errors
+///
+/// `AllocError` where memory is wanting.
+#[cycle(copies)]
+pub fn copy(alloc: Global, term: &TypeTerm) -> Result<TypeTerm, AllocError>
+    ensures { IfOk result (λ t. shape t ≡ shape term.now) }
+{
+    match term {
+        TypeTerm::NoType => Ok(TypeTerm::NoType),
+        TypeTerm::Basic(basic) => Ok(TypeTerm::Basic(*basic)),
+        TypeTerm::Error => Ok(TypeTerm::Error),
+        TypeTerm::Defined(key) => Ok(TypeTerm::Defined(copied!(key.share()))),
+        TypeTerm::Pointer(base) => Ok(TypeTerm::Pointer(copied!(copy_boxed(alloc, base)))),
+        TypeTerm::Struct(path, fields) => {
+            let (path, fields) = copied!(both(path.share(), copy_fields(alloc, fields)));
+            Ok(TypeTerm::Struct(path, fields))
+        }
+        TypeTerm::Interface(path, methods) => {
+            let (path, methods) = copied!(both(path.share(), copy_methods(alloc, methods)));
+            Ok(TypeTerm::Interface(path, methods))
+        }
+    }
+}
+
+/// The same term, in a box.
+#[cycle(copies)]
+fn copy_boxed(alloc: Global, term: &Box<TypeTerm>) -> Result<Box<TypeTerm>, AllocError>
+    ensures { IfOk result (λ t. shape t.value ≡ shape term.now.value) }
+{
+    let copy = copied!(copy(alloc, term));
+    boxed(alloc, copy)
+}
+
+/// The same fields.
+#[cycle(copies)]
+fn copy_fields(alloc: Global, fields: &Vec<Field>) -> Result<Vec<Field>, AllocError>
+    ensures { IfOk result (λ fs. fields_of fs.items ≡ fields_of fields.now.items) }
+{
+    let mut copies = copied!(Vec::with_capacity(alloc, fields.len()));
+    for field in fields {
+        let texts = both(field.name.copy(alloc), field.tag.copy(alloc));
+        let ((name, tag), term) = copied!(both(texts, copy(alloc, &field.term)));
+        copied!(add(
+            &mut copies,
+            Field {
+                name,
+                place: field.place,
+                embedded: field.embedded,
+                term,
+                tag,
+            },
+        ));
+    }
+    Ok(copies)
+}
+
+/// The same methods.
+#[cycle(copies)]
+fn copy_methods(alloc: Global, methods: &Vec<Method>) -> Result<Vec<Method>, AllocError>
+    ensures { IfOk result (λ ms. methods_of ms.items ≡ methods_of methods.now.items) }
+{
+    let mut copies = copied!(Vec::with_capacity(alloc, methods.len()));
+    for method in methods {
+        let name = method.name.copy(alloc);
+        let (name, signature) = copied!(both(name, copy_signature(alloc, &method.signature)));
+        copied!(add(
+            &mut copies,
+            Method {
+                name,
+                place: method.place,
+                signature,
+            },
+        ));
+    }
+    Ok(copies)
+}
+
+/// A second signature of the same types.
+///
+/// # Errors
+///
+/// `AllocError` where memory is wanting.
+#[cycle(copies)]
+pub fn copy_signature(alloc: Global, signature: &Signature) -> Result<Signature, AllocError>
+    ensures { IfOk result (λ s. sign_of s ≡ sign_of signature.now) }
+{
+    let params = copy_terms(alloc, &signature.params);
+    let (params, results) = copied!(both(params, copy_terms(alloc, &signature.results)));
+    Ok(Signature { params, results })
+}
+
+/// The same types.
+#[cycle(copies)]
+fn copy_terms(alloc: Global, terms: &Vec<TypeTerm>) -> Result<Vec<TypeTerm>, AllocError>
+    ensures { IfOk result (λ ts. terms_of ts.items ≡ terms_of terms.now.items) }
+{
+    let mut copies = copied!(Vec::with_capacity(alloc, terms.len()));
+    for term in terms {
+        let copy = copied!(copy(alloc, term));
+        copied!(add(&mut copies, copy));
+    }
+    Ok(copies)
+}
+
+/// Lets a term go. It spares the crates above a proof of how terms end.
+pub fn close(term: TypeTerm) {}

@@ -1,0 +1,18 @@
+//! Types of Go as terms: what they are made of, and which are identical.
+//!
+//! A defined type stands in a term as its declaration's key, and is never unfolded there. A struct type and an interface type
+//! stand with the package where they are written, since two identifiers that are not exported are the same in one package alone.
+//! The Go specification, "Types", "Struct types", "Interface types", "Type identity".
+#![tactic(auto)]
+
+mod copies;
+mod laws;
+mod same;
+mod tag;
+mod term;
+
+pub use copies::{close, copy, copy_signature};
+pub use laws::{defined_by_key, identity_is_equivalence, order_does_not_count, tags_are_compared};
+pub use same::{has_same_signature, identical};
+pub use tag::Tag;
+pub use term::{Basic, Field, LocalPlace, MemberPlace, Method, Signature, TypeTerm};

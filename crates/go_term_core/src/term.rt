@@ -1,0 +1,83 @@
+//! The terms of types.
+use crate::tag::Tag;
+use go_decl_core::{DeclKey, DeclRef};
+use go_path_core::ImportPath;
+use go_text_core::Name;
+
+/// The predeclared types that values of the profile may have, but for `error` and `any`: `any` is an interface type without
+/// methods.
+#[derive(Clone, Copy, Debug, PartialEq, Eq)]
+pub enum Basic {
+    Bool,
+    Int,
+    Text,
+}
+
+/// An identifier that is declared inside a function's body.
+#[derive(Clone, Copy, Debug, PartialEq, Eq)]
+pub struct LocalPlace {
+    /// The number of its file among those of the package in order of name, from 0.
+    pub file: usize,
+    /// The offset in bytes of the identifier, from the file's start.
+    pub offset: usize,
+}
+
+/// Where a field or a method is declared in its package.
+#[derive(Clone, Copy, Debug, PartialEq, Eq)]
+pub enum MemberPlace {
+    /// Outside function bodies.
+    Declared(DeclRef),
+    /// In a type that is written inside a body.
+    Local(LocalPlace),
+}
+
+/// A type.
+#[cycle(term)]
+#[derive(Drop)]
+pub enum TypeTerm {
+    /// No type: a name that is refused, a type that reaches itself outside pointers and interfaces, and what is a pointer to such
+    /// or is defined by such.
+    NoType,
+    /// `bool`, `int` or `string`.
+    Basic(Basic),
+    /// `error`, the predeclared type with the method `Error`.
+    Error,
+    /// A defined type, by its declaration.
+    Defined(DeclKey),
+    /// A pointer to values of a type.
+    Pointer(Box<TypeTerm>),
+    /// A struct type: the package where it is written, and its fields in order.
+    Struct(ImportPath, Vec<Field>),
+    /// An interface type: the package where it is written, and its methods in order.
+    Interface(ImportPath, Vec<Method>),
+}
+
+/// A field of a struct type.
+#[cycle(term)]
+#[derive(Drop)]
+pub struct Field {
+    pub name: Name,
+    pub place: MemberPlace,
+    /// Whether it is written as a type's name, with or without a star, and no other name.
+    pub embedded: bool,
+    pub term: TypeTerm,
+    /// The bytes that the tag stands for; none and an empty one are the same.
+    pub tag: Tag,
+}
+
+/// A method of an interface type.
+#[cycle(term)]
+#[derive(Drop)]
+pub struct Method {
+    pub name: Name,
+    pub place: MemberPlace,
+    pub signature: Signature,
+}
+
+/// The types of parameters and of results, one for each parameter and each result.
+#[cycle(term)]
+#[derive(Drop)]
+pub struct Signature {
+    pub params: Vec<TypeTerm>,
+    pub results: Vec<TypeTerm>,
+}

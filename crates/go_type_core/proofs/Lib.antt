@@ -1,0 +1,9 @@
+pub mod Keyed
+pub mod Looping
+pub mod Nothings
+pub mod Unders
+pub mod Steps
+pub mod Building
+pub mod Joining
+pub mod Meanings
+pub mod Worked

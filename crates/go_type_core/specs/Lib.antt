@@ -1,0 +1,4 @@
+pub mod Built
+pub mod Laws
+pub mod Sample
+pub mod mirrors

@@ -1,0 +1,5 @@
+-- Definitions that follow the code step by step, for its proof. No statement that a caller rests on needs them.
+pub mod Numbers
+pub mod Edges
+pub mod Chained
+pub mod Making

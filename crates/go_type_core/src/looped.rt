@@ -1,0 +1,123 @@
+//! Which types reach themselves.
+ghost use Rattle.std.specs.Prelude.{◌≡◌, ◌<◌, ◌++◌, ◌∷◌, [], IfOk, length, map, OnOk};
+ghost use Rattle.go_cycle_core.specs.Cycle.{InRange, IsRanking};
+ghost use Rattle.go_table_core.specs.Shown.{entry_shown};
+ghost use Rattle.go_table_core.specs.Tables.{Rise};
+ghost use Rattle.go_term_core.specs.Shapes.{fields_of, shape};
+ghost use Rattle.go_type_core.specs.Built.{direct_fields, direct_keys};
+ghost use Rattle.go_type_core.specs.mirrors.Edges.{all_uses, AreLooped, Falls, MarksTo, marks_if, uses_from};
+ghost use Rattle.go_type_core.specs.mirrors.Numbers.{keys_of};
+
+use crate::own_keys::OwnKeys;
+use go_cycle_core::{Edge, Ranked, rank_and_order};
+use go_decl_core::DeclKey;
+use go_table_core::TypeEntry;
+use go_term_core::{Field, TypeTerm};
+use std::alloc::{AllocError, Global};
+
+// Adds the edge to a type, if it is of the package.
+fn push_use(
+    keys: &OwnKeys,
+    from: usize,
+    key: &DeclKey,
+    edges: &mut Vec<Edge>,
+) -> Result<(), AllocError>
+    ensures { OnOk result (edges.new.items ≡ edges.old.items ++ uses_from keys.now from (key.now ∷ [])) }
+{
+    if let Some(to) = keys.number(key) {
+        edges.push(Edge { from, to })?;
+    }
+    Ok(())
+}
+
+// Adds the edges to the types of the package that a type uses outside pointers and interfaces.
+#[cycle(uses)]
+fn push_uses(
+    keys: &OwnKeys,
+    from: usize,
+    term: &TypeTerm,
+    edges: &mut Vec<Edge>,
+) -> Result<(), AllocError>
+    ensures { OnOk result (edges.new.items ≡ edges.old.items ++ uses_from keys.now from (direct_keys (shape term.now))) }
+{
+    match term {
+        TypeTerm::Defined(key) => push_use(keys, from, key, edges),
+        TypeTerm::Struct(_, fields) => push_fields(keys, from, fields, edges),
+        TypeTerm::Pointer(_) => Ok(()),
+        TypeTerm::NoType | TypeTerm::Basic(_) | TypeTerm::Error | TypeTerm::Interface(_, _) => Ok(
+            (),
+        ),
+    }
+}
+
+// Adds the edges to those that fields use.
+#[cycle(uses)]
+fn push_fields(
+    keys: &OwnKeys,
+    from: usize,
+    fields: &Vec<Field>,
+    edges: &mut Vec<Edge>,
+) -> Result<(), AllocError>
+    ensures { OnOk result (edges.new.items ≡ edges.old.items ++ uses_from keys.now from (direct_fields (fields_of fields.now.items))) }
+{
+    for field in fields {
+        push_uses(keys, from, &field.term, edges)?;
+    }
+    Ok(())
+}
+
+// The edges of the types of a package to those that they use.
+fn all_uses(alloc: Global, keys: &OwnKeys, entries: &[TypeEntry]) -> Result<Vec<Edge>, AllocError>
+    ensures { IfOk result (λ edges. edges.items ≡ all_uses keys.now 0 (map entry_shown entries.now)) }
+{
+    let mut edges = Vec::new(alloc);
+    for (number, entry) in entries.iter().enumerate() {
+        push_uses(keys, number, &entry.term, &mut edges)?;
+    }
+    Ok(edges)
+}
+
+// Marks a number, if it is to be.
+fn mark_if(marks: &mut Vec<bool>, number: usize, is_marked: bool)
+    requires { number < length marks.old.items }
+    ensures { marks.new.items ≡ marks_if marks.old.items number is_marked }
+{
+    if is_marked {
+        marks[number] = true;
+    }
+}
+
+// Marks the starts of the edges that lie on cycles.
+fn mark_loops(
+    alloc: Global,
+    edges: &[Edge],
+    ranked: &Ranked,
+    count: usize,
+) -> Result<Vec<bool>, AllocError>
+    requires range { InRange count edges.now }
+    requires ranking { IsRanking edges.now ranked.now.ranks }
+    ensures { IfOk result (λ marks. MarksTo edges.now edges.now count marks.items) }
+{
+    let mut marks = vec![in alloc; false; count]?;
+    for edge in edges {
+        mark_if(&mut marks, edge.from, ranked.is_on_cycle(*edge));
+    }
+    Ok(marks)
+}
+
+/// Marks the types of a package that reach themselves outside pointers and interfaces.
+pub(crate) fn looped_types(
+    alloc: Global,
+    keys: &OwnKeys,
+    entries: &[TypeEntry],
+) -> Result<Vec<bool>, AllocError>
+    requires keys { keys.now ≡ keys_of (map entry_shown entries.now) }
+    requires rising { Rise (map entry_shown entries.now) }
+    ensures len { IfOk result (λ marks. length marks.items ≡ length entries.now) }
+    ensures looped { IfOk result (λ marks. AreLooped (map entry_shown entries.now) marks.items) }
+    ensures falls { IfOk result (λ marks. Falls (map entry_shown entries.now) marks.items) }
+{
+    let edges = all_uses(alloc, keys, entries)?;
+    let ranked = rank_and_order(alloc, &edges, entries.len())?;
+    mark_loops(alloc, &edges, &ranked, entries.len())
+}

@@ -1,0 +1,59 @@
+use Rattle.std.proofs.Common.{ap, sym, ◌∙◌}
+use Rattle.std.proofs.lemmas.Result.{IfOk-weaker}
+use Rattle.go_tree_nodes.specs.TypeShapes.{shape_type}
+use Rattle.go_tree_nodes.proofs.TypeShapes as trees
+use Rattle.go_term_core.specs.Terms.{StructOf, InterfaceOf, SignOf}
+use Rattle.go_term_core.specs.Shapes.{shape, sign_of}
+use Rattle.go_term_core.proofs.TermShapes.{shape_struct, shape_interface}
+use Rattle.go_written_core.specs.Written.{in_file, term_of, signature_of, fields_of_tree, methods_of_tree}
+use Rattle.go_written_core.specs.mirrors.Adding.{lines_of, method_lines_of}
+use Rattle.go_written_core.proofs.Collected.{lines_step, method_lines_step, params_step, listed_has}
+use Rattle.go_written_core.proofs.terms.+written.Goals as goal
+
+pub write_results-returns-in-Listed : goal.write_results-returns-in-Listed
+write_results-returns-in-Listed g t c =
+    IfOk-weaker c.write_params.result _ _ (λ ts had. had ∙ sym (listed_has (g.N.TypeNames.meaning c.args.names.now) (in_file c.args.at.now) c.args.results.now c.in-Listed.listed c.in-Listed.is)) c.write_params.ensures
+
+pub write_signature-returns : goal.write_signature-returns
+write_signature-returns g t c =
+    let mean = g.N.TypeNames.meaning c.args.names.now in
+    let f = in_file c.args.at.now in
+    (λ i. SignOf (c.in_ok-params.ensures i) (c.in_ok-results.ensures i)) ∙ sym (ap (signature_of mean f) (trees.signature_parts c.args.tree.now))
+
+pub write_type-returns-in_ok-share-in-Struct : goal.write_type-returns-in_ok-share-in-Struct
+write_type-returns-in_ok-share-in-Struct g t c =
+    let mean = g.N.TypeNames.meaning c.args.names.now in
+    let f = in_file c.args.at.now in
+    let w = c.in-Struct in
+    let path = c.in_ok-share-in-Struct.field-0 in
+    let fields = c.in_ok-fields-in-Struct.fields in
+    let tree = ap shape_type w.is ∙ trees.shape_struct w.field-0 w.field-1 w.lines w.field-3 in
+    shape_struct path fields
+    ∙ ap (StructOf path) c.in_ok-fields-in-Struct.ensures
+    ∙ ap (λ p. StructOf p (fields_of_tree mean f (lines_of w.lines.items))) c.in_ok-share-in-Struct.ensures
+    ∙ sym (ap (term_of mean f) tree)
+
+pub write_type-returns-in_ok-share-in-Interface : goal.write_type-returns-in_ok-share-in-Interface
+write_type-returns-in_ok-share-in-Interface g t c =
+    let mean = g.N.TypeNames.meaning c.args.names.now in
+    let f = in_file c.args.at.now in
+    let w = c.in-Interface in
+    let path = c.in_ok-share-in-Interface.field-0 in
+    let methods = c.in_ok-methods-in-Interface.methods in
+    let tree = ap shape_type w.is ∙ trees.shape_interface w.field-0 w.field-1 w.lines w.field-3 in
+    shape_interface path methods
+    ∙ ap (InterfaceOf path) c.in_ok-methods-in-Interface.ensures
+    ∙ ap (λ p. InterfaceOf p (methods_of_tree mean f (method_lines_of w.lines.items))) c.in_ok-share-in-Interface.ensures
+    ∙ sym (ap (term_of mean f) tree)
+
+pub write_fields-loop-line-preserved : goal.write_fields-loop-line-preserved
+write_fields-loop-line-preserved g t c =
+    lines_step (g.N.TypeNames.meaning c.args.names.now) (in_file c.args.at.now) c.deref-line-items.result.now c.loop-line.line-index c.line-item.result _ _ c.loop-line-test.true c.line-item.is c.loop-line.invariant c.in_ok-write_line.ensures
+
+pub write_methods-loop-line-preserved : goal.write_methods-loop-line-preserved
+write_methods-loop-line-preserved g t c =
+    method_lines_step (g.N.TypeNames.meaning c.args.names.now) (in_file c.args.at.now) c.deref-line-items.result.now c.loop-line.line-index c.line-item.result _ _ (sign_of c.in_ok-signature.signature) c.loop-line-test.true c.line-item.is c.loop-line.invariant c.in_ok-signature.ensures c.in_ok-add_method.ensures
+
+pub write_params-loop-param-preserved : goal.write_params-loop-param-preserved
+write_params-loop-param-preserved g t c =
+    params_step (g.N.TypeNames.meaning c.args.names.now) (in_file c.args.at.now) c.deref-param-items.result.now c.loop-param.param-index c.param-item.result _ _ (shape c.in_ok-term.term) c.loop-param-test.true c.param-item.is c.loop-param.invariant c.in_ok-term.ensures c.in_ok-add_for_names.ensures
