@@ -62,6 +62,18 @@ module _ (p name : List ℕ) (g : Sign) (q : List ℕ) where
   alike_found ns i n lt is same signs so_far =
       (λ _. so_far.0 (subst Has (sym (first_is ns i n lt is)) (n.name, n.place, sign_of n.signature, inl (refl, refl, refl), same, signs)), λ _. refl)
 
+  -- a loop that passes one over
+  pub alike_passed : (ns : List Method) (i : ℕ) (n : Method) → i < length ns → n ≡ get_or ns i n → (SameId name p n.name q → SameSign g (sign_of n.signature) → ⊥) → (Has (drop i ns) ↔ Has ns) → Has (drop (i + 1) ns) ↔ Has ns
+  alike_passed ns i n lt is never so_far = (
+    λ r. so_far.0 (subst Has (sym (first_is ns i n lt is)) (r.0, r.1, r.2, inr r.3, r.4, r.5)),
+    λ w.
+        let h = subst Has (first_is ns i n lt is) (so_far.1 w) in
+        elim h.3 [ inl e ↦ absurd (never (subst (λ x. SameId name p x q) (sym e.0) h.4) (subst (λ k. SameSign g k) (sym e.2) h.5)) | inr k ↦ (h.0, h.1, h.2, k, h.4, h.5) ],
+  )
+
+  pub alike_nowhere : (ns : List Method) (i : ℕ) → length ns ≤ i → (Has (drop i ns) ↔ Has ns) → IsTrue false ↔ Has ns
+  alike_nowhere ns i h so_far = fails (λ w. (subst Has (drop_all i ns h) (so_far.1 w)).3)
+
   -- the methods from some place on, and those before
   pub alike_in : (front back items ns : List Method) (i : ℕ) → items ≡ ns → front ≡ take i items → back ≡ drop i items → Has back ⊎ Has front → Has ns
   alike_in front back items ns i is at_front at_back (inl h) =
@@ -76,6 +88,45 @@ module _ (p name : List ℕ) (g : Sign) (q : List ℕ) where
       let whole : front ++ back ≡ ns = ap (λ l. l ++ back) at_front ∙ ap (λ l. take i items ++ l) at_back ∙ take-append-drop i items ∙ is in
       let h = subst Has (sym whole) has in
       elim (in_either h.0 h.1 h.2 front back h.3) [ inl k ↦ inr (h.0, h.1, h.2, k, h.4, h.5) | inr k ↦ inl (h.0, h.1, h.2, k, h.4, h.5) ]
+
+-- a loop over two lists at once, of which each two elements are compared
+module _ {X : Type 0} (P : List X → List X → Type 0) (Here : X → X → Type 0) (opens : (x y : X) (xs ys : List X) → P (x ∷ xs) (y ∷ ys) ↔ (Here x y × P xs ys)) (items xs ys : List X) (i : ℕ) (x y : X) (are : items ≡ xs) (many : length xs ≡ length ys) (lt : i < length items) (at_x : x ≡ get_or items i x) (at_y : y ≡ get_or ys i y) where
+  opened : P (drop i xs) (drop i ys) ↔ (Here x y × P (drop (i + 1) xs) (drop (i + 1) ys))
+  opened =
+      let e : drop i xs ≡ x ∷ drop (i + 1) xs = subst (λ l. drop i l ≡ x ∷ drop (i + 1) l) are (first_is items i x lt at_x) in
+      let f : drop i ys ≡ y ∷ drop (i + 1) ys = first_is ys i y (subst (λ n. i < n) (ap length are ∙ many) lt) at_y in
+      let There : Type 0 = Here x y × P (drop (i + 1) xs) (drop (i + 1) ys) in
+      subst (λ l. P l (drop i ys) ↔ There) (sym e) (subst (λ l. P (x ∷ drop (i + 1) xs) l ↔ There) (sym f) (opens x y (drop (i + 1) xs) (drop (i + 1) ys)))
+
+  pub both_step : Here x y → (P (drop i xs) (drop i ys) ↔ P xs ys) → P (drop (i + 1) xs) (drop (i + 1) ys) ↔ P xs ys
+  both_step here so_far = (λ r. so_far.0 (opened.1 (here, r)), λ w. (opened.0 (so_far.1 w)).1)
+
+  pub both_differ : (Here x y → ⊥) → (P (drop i xs) (drop i ys) ↔ P xs ys) → IsTrue false ↔ P xs ys
+  both_differ never so_far = fails (λ w. never (opened.0 (so_far.1 w)).0)
+
+pub both_end : {X : Type 0} (P : List X → List X → Type 0) → P [] [] → (items xs ys : List X) (i : ℕ) → items ≡ xs → length xs ≡ length ys → length items ≤ i → (P (drop i xs) (drop i ys) ↔ P xs ys) → IsTrue true ↔ P xs ys
+both_end P nil items xs ys i are many h so_far =
+    let below : length xs ≤ i = subst (λ n. n ≤ i) (ap length are) h in
+    (λ _. so_far.0 (subst (λ l. P l (drop i ys)) (sym (drop_all i xs below)) (subst (λ l. P [] l) (sym (drop_all i ys (subst (λ n. n ≤ i) many below))) nil)), λ _. refl)
+
+-- two fields are the same
+abbrev pub IsSameField : List ℕ → List ℕ → Field → Field → Type 0
+IsSameField p q f g = SameId f.name p g.name q × (f.embedded ≡ g.embedded) × Identical (shape f.term) (shape g.term) × (f.tag ≡ g.tag)
+
+abbrev pub AreSameFields : List ℕ → List ℕ → List Field → List Field → Type 0
+AreSameFields p q fs gs = SameFields p (fields_of fs) q (fields_of gs)
+
+abbrev pub fields_open : (p q : List ℕ) (f g : Field) (fs gs : List Field) → AreSameFields p q (f ∷ fs) (g ∷ gs) ↔ (IsSameField p q f g × AreSameFields p q fs gs)
+fields_open p q f g fs gs = (λ h. ((h.0, h.1, h.2, h.3), h.4), λ h. (h.0.0, h.0.1, h.0.2, h.0.3, h.1))
+
+abbrev pub IsSameTerm : TypeTerm → TypeTerm → Type 0
+IsSameTerm t u = Identical (shape t) (shape u)
+
+abbrev pub AreSameTerms : List TypeTerm → List TypeTerm → Type 0
+AreSameTerms ts us = SameTerms (terms_of ts) (terms_of us)
+
+abbrev pub terms_open : (t u : TypeTerm) (ts us : List TypeTerm) → AreSameTerms (t ∷ ts) (u ∷ us) ↔ (IsSameTerm t u × AreSameTerms ts us)
+terms_open t u ts us = (λ h. (h.0, h.1), λ h. (h.0, h.1))
 
 -- a loop over the methods of the one
 module _ (p q : List ℕ) (items ms ns : List Method) (i : ℕ) (m : Method) (are : items ≡ ms) (lt : i < length items) (is : m ≡ get_or items i m) where

@@ -1,6 +1,6 @@
 use Rattle.std.proofs.Common.{ap, sym, ◌∙◌}
-use Rattle.go_term_core.specs.Terms.{StructOf, InterfaceOf, AField, NoField, AMethod, NoMethod, ATerm, NoTerm}
-use Rattle.go_term_core.specs.Shapes.{shape, sign_of, fields_of, methods_of}
+use Rattle.go_term_core.specs.Terms.{StructOf, InterfaceOf, AMethod, NoMethod, ATerm, NoTerm}
+use Rattle.go_term_core.specs.Shapes.{shape, fields_of, methods_of}
 use Rattle.go_term_core.proofs.TermShapes.{shape_struct, shape_interface}
 use Rattle.go_term_core.proofs.Copied.{one_copied, all_copied, of_made, field_term, method_term, same_fields, same_methods, same_terms}
 use Rattle.go_term_core.proofs.copies.+copies.Goals as goal
@@ -31,3 +31,14 @@ copy_methods-returns t c = same_methods _ _ (all_copied method_term _ _ _ _ c.de
 
 pub copy_terms-returns : goal.copy_terms-returns
 copy_terms-returns t c = same_terms _ _ (all_copied _ _ _ _ _ c.deref-term-items.ensures.value c.loop-term-test.false c.loop-term.invariant)
+
+pub copy_methods-loop-method-preserved : goal.copy_methods-loop-method-preserved
+copy_methods-loop-method-preserved t c =
+    let x = c.method-item.result in
+    let name = of_made _ _ _ c.in-Ok-both.ensures.0 c.copy-name.ensures in
+    let signature = of_made _ _ _ c.in-Ok-both.ensures.1 c.copy_signature.ensures in
+    one_copied method_term _ _ _ _ x _ c.loop-method-test.true c.method-item.is c.in-Ok-add.ensures (λ i. AMethod (name i) x.place (signature i) NoMethod) c.loop-method.invariant
+
+pub copy_terms-loop-term-preserved : goal.copy_terms-loop-term-preserved
+copy_terms-loop-term-preserved t c =
+    one_copied (λ t. ATerm (shape t) NoTerm) _ _ _ _ c.term-item.result _ c.loop-term-test.true c.term-item.is c.in-Ok-add.ensures (ap (λ s. ATerm s NoTerm) c.in-Ok-copy.ensures) c.loop-term.invariant

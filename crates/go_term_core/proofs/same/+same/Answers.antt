@@ -1,9 +1,9 @@
 use Rattle.std.proofs.Common.{◌≡◌, false, true, refl, inl, inr, ap, sym, ◌∙◌}
 use Rattle.go_term_core.specs.Shapes.{shape, sign_of}
 use Rattle.go_term_core.proofs.TermShapes.{shape_struct, shape_interface}
-use Rattle.go_term_core.proofs.SameLists.{fails, as_many_fields, as_many_terms, methods_counted, alike_found, alike_in, alike_where, all_step, all_missing, all_end, same_at}
+use Rattle.go_term_core.proofs.SameLists.{fails, alike_passed, alike_nowhere, both_step, both_differ, both_end, IsSameField, AreSameFields, fields_open, IsSameTerm, AreSameTerms, terms_open, as_many_fields, as_many_terms, methods_counted, alike_found, alike_in, alike_where, all_step, all_missing, all_end, same_at}
 use Rattle.go_term_core.proofs.same.+same.Goals as goal
-use Rattle.go_term_core.proofs.same.+same.Goals.{same_methods-else-not-has_alike-via-then-not-has_alike+else-not-has_alike-2, same_methods-else-not-has_alike-via-else-not-has_alike}
+use Rattle.go_term_core.proofs.same.+same.Goals.{has_alike-else-is_same_name-via-then-is_same_name+else-has_same_signature, has_alike-else-is_same_name-via-else-is_same_name, same_methods-else-not-has_alike-via-then-not-has_alike+else-not-has_alike-2, same_methods-else-not-has_alike-via-else-not-has_alike}
 
 pub has_alike-returns-then-has_same_signature : goal.has_alike-returns-then-has_same_signature
 has_alike-returns-then-has_same_signature t c =
@@ -63,3 +63,54 @@ pub same_terms-returns-then-len : goal.same_terms-returns-then-len
 same_terms-returns-then-len t c =
     let a = c.args in
     fails (λ h. let e = as_many_terms a.ts.now.items a.us.now.items h in c.if-len.true (c.len.ensures ∙ (a.ts.now.ok.0 ∙ e ∙ sym a.us.now.ok.0) ∙ sym c.len-2.ensures))
+
+pub same_fields-loop-i-preserved : goal.same_fields-loop-i-preserved
+same_fields-loop-i-preserved t c =
+    let a = c.args in
+    let many = sym a.fs.now.ok.0 ∙ (sym c.len.ensures ∙ c.if-len.false ∙ c.len-2.ensures) ∙ a.gs.now.ok.0 in
+    both_step (AreSameFields a.p.now a.q.now) (IsSameField a.p.now a.q.now) (fields_open a.p.now a.q.now) _ a.fs.now.items a.gs.now.items _ c.f-item.result c.index.result.now c.deref-f-items.ensures.value many c.loop-i-test.true c.f-item.is c.index.ensures (c.if-not-is_same_field.ensures.0 refl) c.loop-i.invariant
+
+pub same_fields-returns-then-not-is_same_field : goal.same_fields-returns-then-not-is_same_field
+same_fields-returns-then-not-is_same_field t c =
+    let a = c.args in
+    let many = sym a.fs.now.ok.0 ∙ (sym c.len.ensures ∙ c.if-len.false ∙ c.len-2.ensures) ∙ a.gs.now.ok.0 in
+    both_differ (AreSameFields a.p.now a.q.now) (IsSameField a.p.now a.q.now) (fields_open a.p.now a.q.now) _ a.fs.now.items a.gs.now.items _ c.f-item.result c.index.result.now c.deref-f-items.ensures.value many c.loop-i-test.true c.f-item.is c.index.ensures (λ h. let k : false ≡ true = c.if-not-is_same_field.ensures.1 h in cc) c.loop-i.invariant
+
+pub same_fields-returns : goal.same_fields-returns
+same_fields-returns t c =
+    let a = c.args in
+    let many = sym a.fs.now.ok.0 ∙ (sym c.len.ensures ∙ c.if-len.false ∙ c.len-2.ensures) ∙ a.gs.now.ok.0 in
+    both_end (AreSameFields a.p.now a.q.now) tt _ a.fs.now.items a.gs.now.items _ c.deref-f-items.ensures.value many c.loop-i-test.false c.loop-i.invariant
+
+pub same_terms-loop-i-preserved : goal.same_terms-loop-i-preserved
+same_terms-loop-i-preserved t c =
+    let a = c.args in
+    let many = sym a.ts.now.ok.0 ∙ (sym c.len.ensures ∙ c.if-len.false ∙ c.len-2.ensures) ∙ a.us.now.ok.0 in
+    both_step AreSameTerms IsSameTerm terms_open _ a.ts.now.items a.us.now.items _ c.t-item.result c.index.result.now c.deref-t-items.ensures.value many c.loop-i-test.true c.t-item.is c.index.ensures (c.if-not-identical.ensures.0 refl) c.loop-i.invariant
+
+pub same_terms-returns-then-not-identical : goal.same_terms-returns-then-not-identical
+same_terms-returns-then-not-identical t c =
+    let a = c.args in
+    let many = sym a.ts.now.ok.0 ∙ (sym c.len.ensures ∙ c.if-len.false ∙ c.len-2.ensures) ∙ a.us.now.ok.0 in
+    both_differ AreSameTerms IsSameTerm terms_open _ a.ts.now.items a.us.now.items _ c.t-item.result c.index.result.now c.deref-t-items.ensures.value many c.loop-i-test.true c.t-item.is c.index.ensures (λ h. let k : false ≡ true = c.if-not-identical.ensures.1 h in cc) c.loop-i.invariant
+
+pub same_terms-returns : goal.same_terms-returns
+same_terms-returns t c =
+    let a = c.args in
+    let many = sym a.ts.now.ok.0 ∙ (sym c.len.ensures ∙ c.if-len.false ∙ c.len-2.ensures) ∙ a.us.now.ok.0 in
+    both_end AreSameTerms tt _ a.ts.now.items a.us.now.items _ c.deref-t-items.ensures.value many c.loop-i-test.false c.loop-i.invariant
+
+pub has_alike-loop-n-preserved : goal.has_alike-loop-n-preserved
+has_alike-loop-n-preserved t c =
+    let a = c.args in
+    alike_passed a.p.now a.m.now.name (sign_of a.m.now.signature) a.q.now a.ns.now _ c.n-item.result c.loop-n-test.true c.n-item.is
+    (elim c.else-is_same_name.branch [
+      | has_alike-else-is_same_name-via-then-is_same_name+else-has_same_signature w ↦ (λ same signs. let k : false ≡ true = w.if-has_same_signature.ensures.1 signs in cc)
+      | has_alike-else-is_same_name-via-else-is_same_name w ↦ (λ same signs. let k : false ≡ true = w.if-is_same_name.ensures.1 same in cc)
+    ])
+    c.loop-n.invariant
+
+pub has_alike-returns : goal.has_alike-returns
+has_alike-returns t c =
+    let a = c.args in
+    alike_nowhere a.p.now a.m.now.name (sign_of a.m.now.signature) a.q.now a.ns.now _ c.loop-n-test.false c.loop-n.invariant
