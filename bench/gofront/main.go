@@ -67,20 +67,24 @@ func (f *finder) values(exprs []ast.Expr) {
 	}
 }
 
-// target gathers what a left side of `=` uses; the blank identifier, in parentheses too, uses nothing.
-func (f *finder) target(expr ast.Expr) {
-	inner := expr
+// isBlank tells whether a left side of `=` is the blank identifier, in parentheses or not.
+func isBlank(expr ast.Expr) bool {
 	for {
-		paren, ok := inner.(*ast.ParenExpr)
+		paren, ok := expr.(*ast.ParenExpr)
 		if !ok {
 			break
 		}
-		inner = paren.X
+		expr = paren.X
 	}
-	if ident, ok := inner.(*ast.Ident); ok && ident.Name == "_" {
-		return
+	ident, ok := expr.(*ast.Ident)
+	return ok && ident.Name == "_"
+}
+
+// target gathers what a left side of `=` uses; the blank identifier, in parentheses too, uses nothing.
+func (f *finder) target(expr ast.Expr) {
+	if !isBlank(expr) {
+		f.value(expr)
 	}
-	f.value(expr)
 }
 
 func (f *finder) general(decl *ast.GenDecl) {

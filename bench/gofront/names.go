@@ -202,15 +202,7 @@ func (u *user) all(exprs []ast.Expr) {
 // targets gathers what left sides of `=` use: a blank target, in parentheses too, uses nothing.
 func (u *user) targets(exprs []ast.Expr) {
 	for _, expr := range exprs {
-		inner := expr
-		for {
-			paren, ok := inner.(*ast.ParenExpr)
-			if !ok {
-				break
-			}
-			inner = paren.X
-		}
-		if ident, ok := inner.(*ast.Ident); !ok || ident.Name != "_" {
+		if !isBlank(expr) {
 			ast.Walk(u, expr)
 		}
 	}

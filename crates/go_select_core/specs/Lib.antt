@@ -1,5 +1,4 @@
 pub mod Paths
 pub mod Selectors
-pub mod Listing
 pub mod Laws
 pub mod mirrors
