@@ -56,7 +56,7 @@ in_fields o path n [] i f lt is = absurd (omega arith)
 in_fields o path n (g ∷ fs) zero f lt is = ap (λ (h : Field). edge_if (h.embedded && not (has_method o.path o.methods h.name path)) n (shape h.term)) (sym is)
 in_fields o path n (g ∷ fs) (suc i) f lt is = in_fields o path n fs i f (omega arith) is
 
-hides_here : (o : OwnerModel) (path : List ℕ) (fs : List Field) (i : ℕ) (f : Field) → i < length fs → f ≡ get_or fs i f → hides_field o.path o.methods path (fields_of fs) ≡ false → has_method o.path o.methods f.name path ≡ false
+pub hides_here : (o : OwnerModel) (path : List ℕ) (fs : List Field) (i : ℕ) (f : Field) → i < length fs → f ≡ get_or fs i f → hides_field o.path o.methods path (fields_of fs) ≡ false → has_method o.path o.methods f.name path ≡ false
 hides_here o path [] i f lt is h = absurd (omega arith)
 hides_here o path (g ∷ fs) zero f lt is h =
     ap (λ (x : Field). has_method o.path o.methods x.name path) is ∙ (or_parts (has_method o.path o.methods g.name path) (hides_field o.path o.methods path (fields_of fs)) h).0

@@ -24,7 +24,3 @@ one_test false false P h to from = refl
 
 pub same_id_test : (a p b q : List ℕ) (r : Bool) → (IsTrue r ↔ SameId a p b q) → r ≡ same_id a p b q
 same_id_test a p b q r h = one_test r (same_id a p b q) (SameId a p b q) h (same_id_is a p b q) (same_id_from a p b q)
-
-pub bytes_eq_swap : (a b : List ℕ) → bytes_eq a b ≡ bytes_eq b a
-bytes_eq_swap a b =
-    one_test (bytes_eq a b) (bytes_eq b a) (a ≡ b) ((bytes_eq-Decides a b).0, (bytes_eq-Decides a b).1) (λ e. sym ((bytes_eq-Decides b a).0 e)) (λ e. (bytes_eq-Decides b a).1 (sym e))

@@ -3,7 +3,7 @@ pub mod Rows
 pub mod Keeping
 pub mod Counting
 pub mod Edging
+pub mod Adding
 pub mod Noting
-pub mod Meeting
 pub mod Telling
 pub mod Steps

@@ -1,10 +1,7 @@
 -- Faults of members, one after another.
-use Rattle.std.proofs.Common.{◌≡◌, ℕ, ◌+◌, ◌<◌, ◌≤◌, Bool, true, false, not, ◌&&◌, ◌||◌, List, [], ◌∷◌, ◌++◌, map, length, drop, get_or, if◌then◌else◌, refl, sym, ap, ◌∙◌}
-use Rattle.std.specs.Borrow.{Bor}
-use Rattle.std.specs.List.{list_any}
+use Rattle.std.proofs.Common.{◌≡◌, ℕ, ◌+◌, ◌<◌, ◌≤◌, true, not, ◌&&◌, ◌||◌, List, [], ◌∷◌, ◌++◌, map, length, drop, get_or, if◌then◌else◌, refl, sym, ap, ◌∙◌}
 use Rattle.std.specs.Str.{bytes_eq}
-use Rattle.std.proofs.lemmas.List.{drop_more, drop_all, append_assoc, append-nil, map-append}
-use Rattle.std.proofs.lemmas.Slice.Eq.{bytes_eq-Decides}
+use Rattle.std.proofs.lemmas.List.{drop_more, drop_all, append_assoc, append-nil}
 use Rattle.go_text_core.specs.Text.{is_blank}
 use Rattle.go_text_core.specs.declared.rule.Rule.TheVariants as rules
 use Rattle.go_decl_core.specs.declared.keys.DeclKey.{DeclKey}
@@ -22,52 +19,8 @@ use Rattle.go_table_core.specs.Shown.{member_shown}
 use Rattle.go_embed_core.specs.declared.faults.MemberFault.{MemberFault}
 use Rattle.go_embed_core.specs.Faults.{fault_if, term_faults, fields_faults, methods_faults, sign_faults, terms_faults, declared_faults}
 use Rattle.go_embed_core.specs.mirrors.Passing.{SameNames, field_own, method_own, declared_own}
-use Rattle.go_embed_core.proofs.Ids.{bytes_eq_swap}
 
--- 1. Names that were passed.
-
-pub any_name : (name : List ℕ) (xs : List (Bor (List ℕ))) → list_any (λ x. bytes_eq name x.now) xs ≡ has_name (map (λ x. x.now) xs) name
-any_name name [] = refl
-any_name name (x ∷ xs) = ap (λ b. b || list_any (λ x. bytes_eq name x.now) xs) (bytes_eq_swap name x.now) ∙ by (bytes_eq x.now name) (any_name name xs)
-  where
-    by : (b : Bool) {c d : Bool} → c ≡ d → b || c ≡ (if b then true else d)
-    by true e = refl
-    by false e = e
-
-if_any : (b c : Bool) → (c ≡ true → b ≡ true) → b ≡ (if c then true else b)
-if_any b true h = h refl
-if_any b false h = refl
-
-if_swap : (a b : Bool) → (if a then true else b) ≡ (if b then true else a)
-if_swap true true = refl
-if_swap true false = refl
-if_swap false true = refl
-if_swap false false = refl
-
-if_three : (a b c : Bool) → (if a then true else (if b then true else c)) ≡ (if b then true else (if a then true else c))
-if_three true true c = refl
-if_three true false c = refl
-if_three false true c = refl
-if_three false false c = refl
-
-pub has_pushed : (ns : List (List ℕ)) (n other : List ℕ) → has_name (ns ++ n ∷ []) other ≡ (if bytes_eq n other then true else has_name ns other)
-has_pushed [] n other = refl
-has_pushed (m ∷ ns) n other = ap (λ b. if bytes_eq m other then true else b) (has_pushed ns n other) ∙ if_three (bytes_eq m other) (bytes_eq n other) (has_name ns other)
-
--- a name that stands in a list adds none
-pub has_again : (ns : List (List ℕ)) (n other : List ℕ) → has_name ns n ≡ true → has_name ns other ≡ (if bytes_eq n other then true else has_name ns other)
-has_again ns n other h = if_any (has_name ns other) (bytes_eq n other) (λ e. sym (ap (has_name ns) ((bytes_eq-Decides n other).0 e)) ∙ h)
-
--- a set of names with one more
-pub names_more : (xs : List (Bor (List ℕ))) (x : Bor (List ℕ)) (now : List (Bor (List ℕ))) → now ≡ (if list_any (λ y. bytes_eq x.now y.now) xs then xs else xs ++ x ∷ [])
-    → SameNames (map (λ y. y.now) now) (x.now ∷ map (λ y. y.now) xs)
-names_more xs x now is = λ other. ap (λ l. has_name (map (λ y. y.now) l) other) is ∙ by other (list_any (λ y. bytes_eq x.now y.now) xs) (any_name x.now xs)
-  where
-    by : (other : List ℕ) (b : Bool) → b ≡ has_name (map (λ y. y.now) xs) x.now → has_name (map (λ y. y.now) (if b then xs else xs ++ x ∷ [])) other ≡ (if bytes_eq x.now other then true else has_name (map (λ y. y.now) xs) other)
-    by other true h = has_again (map (λ y. y.now) xs) x.now other (sym h)
-    by other false h = ap (λ l. has_name l other) (map-append (λ y. y.now) xs (x ∷ [])) ∙ has_pushed (map (λ y. y.now) xs) x.now other
-
--- 2. The same names give the same faults.
+-- 1. The same names give the same faults.
 
 same_more : (a b : List (List ℕ)) (name : List ℕ) → SameNames a b → SameNames (name ∷ a) (name ∷ b)
 same_more a b name h = λ other. ap (λ v. if bytes_eq name other then true else v) (h other)
@@ -90,7 +43,7 @@ same_declared kind path u a b (m ∷ ms) h =
     ap (λ v. fault_if (not (is_blank m.name) && (v || has_field_before path u m)) m.place rules.B5 ++ (sign_faults kind m.sign ++ declared_faults kind path u (m.name ∷ a) ms)) (h m.name)
     ∙ ap (λ l. fault_if (not (is_blank m.name) && (has_name b m.name || has_field_before path u m)) m.place rules.B5 ++ (sign_faults kind m.sign ++ l)) (same_declared kind path u (m.name ∷ a) (m.name ∷ b) ms (same_more a b m.name h))
 
--- 3. One member more.
+-- 2. One member more.
 
 step : {X : Type 0} (F : List (List ℕ) → List X → List MemberFault) (own : List MemberFault) (seen next passed : List (List ℕ)) (xs : List X) (i : ℕ) (x : X) (first last all : List MemberFault)
     → i < length xs → x ≡ get_or xs i x → F seen (x ∷ drop (i + 1) xs) ≡ own ++ F next (drop (i + 1) xs) → F passed (drop (i + 1) xs) ≡ F next (drop (i + 1) xs) → last ≡ first ++ own

@@ -1,5 +1,5 @@
 -- What values of the program hold of the members of types.
-use Rattle.std.specs.Prelude.{◌≡◌, ℕ, List, [], Some, slice_get}
+use Rattle.std.specs.Prelude.{◌≡◌, ℕ, List, [], Some, slice_get, codes}
 use Rattle.go_text_core.specs.Text.{SameId}
 use Rattle.go_term_core.specs.Terms.{NoType}
 use Rattle.go_term_core.specs.Shapes.{shape, sign_of}
@@ -35,6 +35,22 @@ found_shown (members.Field path f) = AFieldOf path.now f.now.place (shape f.now.
 found_shown (members.Method path m) = AMethodOf path.now m.now.place m.now.pointer (sign_of m.now.signature)
 found_shown (members.InterfaceMethod path m) = AnInterfaces path.now m.now.place (sign_of m.now.signature)
 found_shown members.ErrorMethod = TheErrorMethod
+
+-- its name, and the path of the package where the name is written
+abbrev pub name_shown : Member → List ℕ
+name_shown (members.Field path f) = f.now.name
+name_shown (members.Method path m) = m.now.name
+name_shown (members.InterfaceMethod path m) = m.now.name
+name_shown members.ErrorMethod = codes "Error"
+
+abbrev pub package_shown : Member → List ℕ
+package_shown (members.Field path f) = path.now
+package_shown (members.Method path m) = path.now
+package_shown (members.InterfaceMethod path m) = path.now
+package_shown members.ErrorMethod = []
+
+abbrev pub named_shown : Member → Named
+named_shown m = (name_shown m, (package_shown m, found_shown m))
 
 -- a member that an identifier names: at one place of the list
 abbrev pub IsNamedAt : OwnerModel → List ℕ → List ℕ → ℕ → Found → Type 0

@@ -1,4 +1,3 @@
 pub mod Edges
 pub mod Tallies
 pub mod Passing
-pub mod Passed

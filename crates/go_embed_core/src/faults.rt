@@ -2,14 +2,14 @@
 ghost use Rattle.std.specs.Prelude.{◌≡◌, ◌++◌, ◌∷◌, [], true, false, not, ◌&&◌, ◌||◌, IfOk, OnOk, IfErr, map};
 ghost use Rattle.go_text_core.specs.Text.{is_blank};
 ghost use Rattle.go_term_core.specs.Shapes.{shape, sign_of, fields_of, methods_of, terms_of};
-ghost use Rattle.go_settle_core.specs.Settled.{can_be_embedded};
+ghost use Rattle.go_settle_core.specs.Settled.{can_be_embedded, has_name};
 ghost use Rattle.go_table_core.specs.Methods.{has_field_before};
 ghost use Rattle.go_table_core.specs.Shown.{member_shown};
 ghost use Rattle.go_embed_core.specs.Faults.{fault_if, term_faults, fields_faults, methods_faults, sign_faults, terms_faults, declared_faults, is_open_base, can_be_base};
 ghost use Rattle.go_embed_core.specs.mirrors.Passing.{SameNames, field_own, method_own, declared_own};
 
-use crate::passed::PassedNames;
 use go_path_core::ImportPath;
+use go_settle_core::SeenNames;
 use go_table_core::FieldTable;
 use go_text_core::{Name, Rule, add};
 use go_type_core::{
@@ -80,17 +80,26 @@ fn is_preceded(
     is_met || fields.comes_before(path, method)
 }
 
+// Passes a name, and answers whether it was passed before.
+fn meet<'a>(passed: &mut SeenNames<'a>, name: &'a Name) -> Result<bool, AllocError>
+    ensures before { IfOk result (λ before. before ≡ has_name passed.old name.now) }
+    ensures ok { OnOk result (SameNames passed.new (name.now ∷ passed.old)) }
+{
+    let is_new = passed.add(name.as_str())?;
+    Ok(!is_new)
+}
+
 // The faults of a field beside those of its type.
 fn check_field<'a, K: Kinds>(
     kinds: &K,
     field: &'a Field,
-    passed: &mut PassedNames<'a>,
+    passed: &mut SeenNames<'a>,
     faults: &mut Vec<MemberFault>,
 ) -> Result<(), AllocError>
     ensures names { OnOk result (SameNames passed.new (field.now.name ∷ passed.old)) }
     ensures faults { OnOk result (faults.new.items ≡ faults.old.items ++ field_own (K.kinds kinds.now) passed.old field.now) }
 {
-    let is_met = passed.meet(&field.name)?;
+    let is_met = meet(passed, &field.name)?;
     note_if(
         faults,
         is_repeated(&field.name, is_met),
@@ -103,13 +112,13 @@ fn check_field<'a, K: Kinds>(
 // The faults of a method of an interface type beside those of its signature.
 fn check_method<'a>(
     method: &'a Method,
-    passed: &mut PassedNames<'a>,
+    passed: &mut SeenNames<'a>,
     faults: &mut Vec<MemberFault>,
 ) -> Result<(), AllocError>
     ensures names { OnOk result (SameNames passed.new (method.now.name ∷ passed.old)) }
     ensures faults { OnOk result (faults.new.items ≡ faults.old.items ++ method_own passed.old method.now) }
 {
-    let is_met = passed.meet(&method.name)?;
+    let is_met = meet(passed, &method.name)?;
     note_if(
         faults,
         is_second(&method.name, is_met),
@@ -131,11 +140,11 @@ fn add_term<'a, K: Kinds>(
     match term {
         TypeTerm::Pointer(base) => add_term(alloc, kinds, base, faults),
         TypeTerm::Struct(_, fields) => {
-            let mut passed_fields = PassedNames::new(alloc);
+            let mut passed_fields = SeenNames::new(alloc);
             add_fields(alloc, kinds, fields, &mut passed_fields, faults)
         }
         TypeTerm::Interface(_, methods) => {
-            let mut passed_methods = PassedNames::new(alloc);
+            let mut passed_methods = SeenNames::new(alloc);
             add_methods(alloc, kinds, methods, &mut passed_methods, faults)
         }
         TypeTerm::NoType | TypeTerm::Basic(_) | TypeTerm::Error | TypeTerm::Defined(_) => Ok(()),
@@ -148,7 +157,7 @@ fn add_fields<'a, K: Kinds>(
     alloc: Global,
     kinds: &K,
     fields: &'a Vec<Field>,
-    passed: &mut PassedNames<'a>,
+    passed: &mut SeenNames<'a>,
     faults: &mut Vec<MemberFault>,
 ) -> Result<(), AllocError>
     ensures { OnOk result (faults.new.items ≡ faults.old.items ++ fields_faults (K.kinds kinds.now) passed.old (fields_of fields.now.items)) }
@@ -166,7 +175,7 @@ fn add_methods<'a, K: Kinds>(
     alloc: Global,
     kinds: &K,
     methods: &'a Vec<Method>,
-    passed: &mut PassedNames<'a>,
+    passed: &mut SeenNames<'a>,
     faults: &mut Vec<MemberFault>,
 ) -> Result<(), AllocError>
     ensures { OnOk result (faults.new.items ≡ faults.old.items ++ methods_faults (K.kinds kinds.now) passed.old (methods_of methods.now.items)) }
@@ -213,13 +222,13 @@ fn check_declared<'a>(
     path: &ImportPath,
     fields: &FieldTable<'_>,
     method: &'a DeclaredMethod,
-    passed: &mut PassedNames<'a>,
+    passed: &mut SeenNames<'a>,
     faults: &mut Vec<MemberFault>,
 ) -> Result<(), AllocError>
     ensures names { OnOk result (SameNames passed.new (method.now.name ∷ passed.old)) }
     ensures faults { OnOk result (faults.new.items ≡ faults.old.items ++ declared_own path.now fields.now passed.old method.now) }
 {
-    let is_met = passed.meet(&method.name)?;
+    let is_met = meet(passed, &method.name)?;
     let is_late = is_preceded(path, fields, method, is_met);
     note_if(
         faults,
@@ -236,7 +245,7 @@ fn add_declared<'a, K: Kinds>(
     path: &ImportPath,
     fields: &FieldTable<'_>,
     methods: &'a [DeclaredMethod],
-    passed: &mut PassedNames<'a>,
+    passed: &mut SeenNames<'a>,
     faults: &mut Vec<MemberFault>,
 ) -> Result<(), AllocError>
     ensures { OnOk result (faults.new.items ≡ faults.old.items ++ declared_faults (K.kinds kinds.now) path.now fields.now passed.old (map member_shown methods.now)) }
@@ -284,7 +293,7 @@ pub fn check_methods<K: Kinds>(
     ensures { IfOk result (λ faults. faults.items ≡ declared_faults (K.kinds kinds.now) path.now (shape underlying.now) [] (map member_shown methods.now)) }
 {
     let fields = FieldTable::of(alloc, underlying)?;
-    let mut passed = PassedNames::new(alloc);
+    let mut passed = SeenNames::new(alloc);
     let mut faults = Vec::new(alloc);
     match add_declared(
         alloc,

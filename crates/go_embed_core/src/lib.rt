@@ -7,8 +7,8 @@
 mod faults;
 mod laws;
 mod member;
+mod members;
 mod owner;
-mod passed;
 
 pub use faults::{MemberFault, check_base, check_methods, check_struct};
 pub use laws::{

@@ -1,12 +1,14 @@
 //! The members that an identifier names.
-ghost use Rattle.std.specs.Prelude.{◌≡◌, map};
+ghost use Rattle.std.specs.Prelude.{◌≡◌, ◌⊎◌, ◌↔◌, IsTrue, map};
 ghost use Rattle.std.specs.List.{list_any};
-ghost use Rattle.std.specs.Str.{bytes_eq};
+ghost use Rattle.std.specs.Str.{bytes_eq, chars};
+ghost use Rattle.go_text_core.specs.Text.{exported};
 ghost use Rattle.go_term_core.specs.Terms.{ErrorType};
 ghost use Rattle.go_term_core.specs.Shapes.{shape};
 ghost use Rattle.go_table_core.specs.Entries.{same_id, has_method};
 ghost use Rattle.go_table_core.specs.Shown.{member_shown};
 ghost use Rattle.go_embed_core.specs.Owners.{term_found, is_spelled_in};
+ghost use Rattle.go_embed_core.specs.OwnersShown.{name_shown, package_shown};
 ghost use Rattle.go_embed_core.specs.mirrors.Tallies.{together, hits_shown, tallies, tally_of, method_tally, field_tally, interface_tally, nobody};
 
 use go_path_core::ImportPath;
@@ -31,6 +33,40 @@ pub enum Hits<'a> {
     Nothing,
     One(Member<'a>),
     More,
+}
+
+impl<'a> Member<'a> {
+    /// Its name.
+    pub fn name(self) -> &'a str
+        ensures { result.now ≡ name_shown self.entry }
+    {
+        match self {
+            Member::Field(_, field) => field.name.as_str(),
+            Member::Method(_, method) => method.name.as_str(),
+            Member::InterfaceMethod(_, method) => method.name.as_str(),
+            Member::ErrorMethod => "Error",
+        }
+    }
+
+    /// The path of the package where its name is written, which is empty for the method of the predeclared type `error`.
+    pub fn package(self) -> &'a str
+        ensures { result.now ≡ package_shown self.entry }
+    {
+        match self {
+            Member::Field(path, _) => path.as_str(),
+            Member::Method(path, _) => path.as_str(),
+            Member::InterfaceMethod(path, _) => path.as_str(),
+            Member::ErrorMethod => "",
+        }
+    }
+
+    /// Whether an identifier that is written in a package may name it: it is exported, or of that package. The Go specification, "Exported
+    /// identifiers", "Uniqueness of identifiers".
+    pub fn is_visible(self, from: &ImportPath) -> bool
+        ensures { IsTrue result ↔ (IsTrue (exported (chars (name_shown self.entry))) ⊎ (package_shown self.entry ≡ from.now)) }
+    {
+        go_text_core::is_exported(self.name()) || self.package() == from.as_str()
+    }
 }
 
 impl<'a> Hits<'a> {

@@ -1,15 +1,18 @@
 //! A type whose members are asked for.
 ghost use Rattle.std.specs.Prelude.{◌≡◌, ◌++◌, IfOk, OnOk, map, option_map, option_to_list};
-ghost use Rattle.go_term_core.specs.Terms.{Defined};
+ghost use Rattle.go_term_core.specs.Terms.{Defined, StructOf};
 ghost use Rattle.go_term_core.specs.Shapes.{shape, fields_of};
 ghost use Rattle.go_table_core.specs.Entries.{find};
 ghost use Rattle.go_table_core.specs.Shown.{member_shown};
-ghost use Rattle.go_embed_core.specs.Owners.{owner_in, embeds_at, embedded_in, field_count, has_spelled, declared_found, term_found, is_spelled_in, edge};
-ghost use Rattle.go_embed_core.specs.OwnersShown.{owner_shown, source_shown, entry_owner, embedded_shown, AreHits};
+ghost use Rattle.go_embed_core.specs.Owners.{owner_in, embeds_at, embedded_in, field_count, has_spelled, declared_found, fields_found, term_found, members_of, is_spelled_in, edge};
+ghost use Rattle.go_embed_core.specs.OwnersShown.{owner_shown, source_shown, entry_owner, embedded_shown, named_shown, AreHits};
 ghost use Rattle.go_embed_core.specs.mirrors.Edges.{under_shown, struct_fields, hidden_in, IsHiding, edge_if};
 ghost use Rattle.go_embed_core.specs.mirrors.Tallies.{hits_shown, tallies, tally_of, nobody};
 
-use crate::member::{Hits, has_method, is_method_spelled, is_spelled, method_hits, term_hits};
+use crate::member::{
+    Hits, Member, has_method, is_method_spelled, is_spelled, method_hits, term_hits,
+};
+use crate::members::{add_interface, add_methods};
 use go_decl_core::DeclKey;
 use go_path_core::ImportPath;
 use go_text_core::add;
@@ -172,6 +175,53 @@ fn add_edge<'a>(
     }
 }
 
+// Adds the methods that are declared of a defined type.
+fn add_declared<'a>(
+    defined: &'a DefinedType,
+    members: &mut Vec<Member<'a>>,
+) -> Result<(), AllocError>
+    ensures { OnOk result (map named_shown members.new.items ≡ map named_shown members.old.items ++ declared_found defined.now.key.path defined.now.methods) }
+{
+    add_methods(&defined.key().path, defined.methods(), members)
+}
+
+// Adds the fields of a struct type that no method of its owner keeps from it.
+fn add_fields<'a>(
+    owner: &Owner<'a>,
+    path: &'a ImportPath,
+    fields: &'a [Field],
+    members: &mut Vec<Member<'a>>,
+) -> Result<(), AllocError>
+    requires { (owner_shown owner.now).underlying ≡ StructOf path.now (fields_of fields.now) }
+    ensures { OnOk result (map named_shown members.new.items ≡ map named_shown members.old.items ++ fields_found (owner_shown owner.now) path.now (fields_of fields.now)) }
+{
+    for field in fields {
+        if !owner.hides(field.name.as_str()) {
+            add(members, Member::Field(path, field))?;
+        }
+    }
+    Ok(())
+}
+
+// Adds the members of the underlying type of an owner.
+fn add_term<'a>(
+    owner: &Owner<'a>,
+    term: &'a TypeTerm,
+    members: &mut Vec<Member<'a>>,
+) -> Result<(), AllocError>
+    requires { shape term.now ≡ (owner_shown owner.now).underlying }
+    ensures { OnOk result (map named_shown members.new.items ≡ map named_shown members.old.items ++ term_found (owner_shown owner.now) (shape term.now)) }
+{
+    match term {
+        TypeTerm::Error => add(members, Member::ErrorMethod),
+        TypeTerm::Struct(path, fields) => add_fields(owner, path, fields, members),
+        TypeTerm::Interface(path, methods) => add_interface(path, methods, members),
+        TypeTerm::NoType | TypeTerm::Basic(_) | TypeTerm::Defined(_) | TypeTerm::Pointer(_) => Ok(
+            (),
+        ),
+    }
+}
+
 impl<'a> Owner<'a> {
     /// The members of a type, in a table.
     pub fn of(table: &'a TypeTable, term: &'a TypeTerm) -> Owner<'a>
@@ -277,6 +327,42 @@ impl<'a> Owner<'a> {
             }
             None => None,
         }
+    }
+
+    // Adds the methods that are declared of it.
+    fn add_own(&self, members: &mut Vec<Member<'a>>) -> Result<(), AllocError>
+        ensures { let o = owner_shown self.now in OnOk result (map named_shown members.new.items ≡ map named_shown members.old.items ++ declared_found o.path o.methods) }
+    {
+        match self.source {
+            Source::Entry(defined) => add_declared(defined, members),
+            Source::Missing(_) => Ok(()),
+            Source::Plain(_) => Ok(()),
+        }
+    }
+
+    // Adds the members of its underlying type.
+    fn add_underlying(&self, members: &mut Vec<Member<'a>>) -> Result<(), AllocError>
+        ensures { let o = owner_shown self.now in OnOk result (map named_shown members.new.items ≡ map named_shown members.old.items ++ term_found o o.underlying) }
+    {
+        match self.underlying() {
+            Some(term) => add_term(self, term, members),
+            None => Ok(()),
+        }
+    }
+
+    /// Its members, in order: the methods that are declared of it, and then the members of its underlying type. A field that a method of the
+    /// type keeps from it is left out.
+    ///
+    /// # Errors
+    ///
+    /// `AllocError` where memory is wanting.
+    pub fn members(&self, alloc: Global) -> Result<Vec<Member<'a>>, AllocError>
+        ensures { IfOk result (λ members. map named_shown members.items ≡ members_of (owner_shown self.now)) }
+    {
+        let mut members = Vec::new(alloc);
+        self.add_own(&mut members)?;
+        self.add_underlying(&mut members)?;
+        Ok(members)
     }
 
     /// The members that an identifier names which is written in a package. Two that it names are more, however alike. It takes no memory.

@@ -24,11 +24,11 @@ two false = inr refl
 
 -- positions
 
--- no file passes where no position is found
-pub none_passes : (t : SourceModel → Bool) (files : List SourceModel) → position t files ≡ None → All (λ s. t s ≡ false) files
-none_passes t files h = elim (two (ltb (position_or_len t files) (length files))) [
-  | inl e ↦ (let j : Some (position_or_len t files) ≡ None = sym (ap (λ b. cond b (Some (position_or_len t files)) None) e) ∙ h in cc)
-  | inr e ↦ (let up : length files ≤ position_or_len t files = ltb-false _ _ e in λ k d lt. fails_before_first t files k d (omega arith))
+-- nothing passes where no position is found
+pub none_passes : {A : Type 0} (t : A → Bool) (xs : List A) → position t xs ≡ None → All (λ x. t x ≡ false) xs
+none_passes t xs h = elim (two (ltb (position_or_len t xs) (length xs))) [
+  | inl e ↦ (let j : Some (position_or_len t xs) ≡ None = sym (ap (λ b. cond b (Some (position_or_len t xs)) None) e) ∙ h in cc)
+  | inr e ↦ (let up : length xs ≤ position_or_len t xs = ltb-false _ _ e in λ k d lt. fails_before_first t xs k d (omega arith))
 ]
 
 -- the first that passes is the first that P holds of

@@ -10,6 +10,7 @@ pub mod OneTarget
 pub mod Orders
 pub mod OutcomeLaws
 pub mod Outcomes
+pub mod PathTables
 pub mod Places
 pub mod PlanEdges
 pub mod PlanLaws

@@ -1,36 +1,27 @@
 -- The numbers of packages, and the bytes of a path.
-use Rattle.std.proofs.Common.{◌≡◌, ℕ, ◌<◌, inl, inr, List, [], ◌∷◌, length, get_or, All, Some, Result, Ok, Err, MatchOption, slice_get, sym, ◌∙◌, ap, subst, arith}
-use Rattle.std.specs.List.{join_with_byte}
+use Rattle.std.proofs.Common.{◌≡◌, ℕ, ◌<◌, inl, inr, true, false, List, [], ◌∷◌, length, get_or, All, Option, Some, None, MatchOption, slice_get, refl, sym, ◌∙◌, ap, subst, arith}
+use Rattle.std.specs.List.{join_with_byte, position}
 use Rattle.std.specs.Map.{keys_of}
-use Rattle.std.specs.Result.{result_ok}
-use Rattle.std.specs.Str.{IsUtf8}
-use Rattle.std.specs.declared.cmp.Ordering.TheVariants.{Less, Equal, Greater}
+use Rattle.std.specs.Str.{IsUtf8, bytes_eq}
+use Rattle.std.specs.declared.cmp.Ordering.TheVariants.{Less, Equal}
 use Rattle.std.proofs.lemmas.Bool.{cases_lt}
 use Rattle.std.proofs.lemmas.List.{get_or-map, get_or_past, length-map}
 use Rattle.std.proofs.lemmas.List.Elements.{All-head, All-tail, All-append, All-cons, All-nil}
 use Rattle.std.proofs.lemmas.List.Splits.{join_with_byte-slice_split}
-use Rattle.std.proofs.lemmas.Map.Keys.{Less-from_sorted}
+use Rattle.std.proofs.lemmas.List.Quantifiers.{position-Some}
+use Rattle.std.proofs.lemmas.Slice.Eq.{bytes_eq-Decides}
 use Rattle.std.proofs.lemmas.Option.{slice_get_within, get_or_from_slice_get}
 use Rattle.std.proofs.lemmas.Str.{IsUtf8-from_ascii}
 use Rattle.go_path_core.specs.Path.{elements, IsPath, IsElement, IsPathByte}
 use Rattle.go_graph_core.specs.Sources.{SourceModel}
 use Rattle.go_graph_core.specs.Workspaces.{PackageModel, by_bytes, IsWorkspace}
-use Rattle.go_graph_core.specs.mirrors.Positions.{IsPosition}
 use Rattle.go_graph_core.specs.Imports.{IsNumbered, IsNowhere}
-use Rattle.go_graph_core.proofs.Places.{same_text}
+use Rattle.go_graph_core.proofs.Assemblies.{none_passes}
+use Rattle.go_graph_core.proofs.Places.{same_text, some_item, path_below}
 
 -- the package of the path has this number
 abbrev pub IsNumber : List PackageModel → List ℕ → ℕ → Type 0
 IsNumber ps path i = (files : List SourceModel) × IsNumbered ps path i files
-
--- the paths before a place are less than those behind it
-rising : (ps : List PackageModel) (i j : ℕ) (d : PackageModel) → IsWorkspace ps → i < j → j < length ps → by_bytes (get_or ps i d).0 (get_or ps j d).0 ≡ Less
-rising ps i j d well lt below =
-    let n : length (keys_of ps) ≡ length ps = length-map ps (λ e. e.0) in
-    let a : get_or (keys_of ps) i d.0 ≡ (get_or ps i d).0 = get_or-map (λ e. e.0) ps i d d.0 (omega arith) in
-    let b : get_or (keys_of ps) j d.0 ≡ (get_or ps j d).0 = get_or-map (λ e. e.0) ps j d d.0 below in
-    let less = Less-from_sorted by_bytes (keys_of ps) i j d.0 well.order lt (omega arith) in
-    subst (λ x. by_bytes (get_or ps i d).0 x ≡ Less) b (subst (λ x. by_bytes x (get_or (keys_of ps) j d.0) ≡ Less) a less)
 
 -- no two packages have one path
 pub one_number : (ps : List PackageModel) (path : List ℕ) (i j : ℕ) (f g : List SourceModel) → IsWorkspace ps → slice_get ps i ≡ Some (path, f) → slice_get ps j ≡ Some (path, g) → i < j → ⊥
@@ -38,23 +29,32 @@ one_number ps path i j f g well a b lt =
     let d : PackageModel = (path, f) in
     let x : get_or ps i d ≡ (path, f) = get_or_from_slice_get ps i (path, f) d a in
     let y : get_or ps j d ≡ (path, g) = get_or_from_slice_get ps j (path, g) d b in
-    let less : by_bytes (get_or ps i d).0 (get_or ps j d).0 ≡ Less = rising ps i j d well lt (slice_get_within ps j (path, g) b) in
+    let less : by_bytes (get_or ps i d).0 (get_or ps j d).0 ≡ Less = path_below ps i j d well.order lt (slice_get_within ps j (path, g) b) in
     let same : by_bytes path path ≡ Equal = same_text path in
     let here : by_bytes path path ≡ Less = subst (λ (p : PackageModel). by_bytes path p.0 ≡ Less) y (subst (λ (p : PackageModel). by_bytes p.0 (get_or ps j d).0 ≡ Less) x less) in
     let no : Less ≡ Equal = sym here ∙ same in cc
 
--- the number of a path's package, where it stands
-pub number_of_place : (ps : List PackageModel) (path : List ℕ) (r : Result ℕ ℕ) → IsPosition ps path r → MatchOption (result_ok r) (IsNowhere ps path) (IsNumber ps path)
-number_of_place ps path (Ok i) (p, at, same) = (p.1, at ∙ ap (λ (q : List ℕ). Some (q, p.1)) same)
-number_of_place ps path (Err i) (le, before, behind) = λ j files at.
-    let d : PackageModel = (path, files) in
-    let below : j < length ps = slice_get_within ps j d at in
-    let here : get_or ps j d ≡ d = get_or_from_slice_get ps j d d at in
-    let same : by_bytes path path ≡ Equal = same_text path in
-    elim (cases_lt j i) [
-      | inl lt ↦ (let less : by_bytes path path ≡ Less = subst (λ (p : PackageModel). by_bytes p.0 path ≡ Less) here (before j d (omega arith) lt) in let no : Less ≡ Equal = sym less ∙ same in cc)
-      | inr ge ↦ (let more : by_bytes path path ≡ Greater = subst (λ (p : PackageModel). by_bytes p.0 path ≡ Greater) here (behind j d ge below) in let no : Greater ≡ Equal = sym more ∙ same in cc)
-    ]
+-- the number of a path's package, where a search through the paths finds it
+pub number_of_position : (ps : List PackageModel) (keys : List (List ℕ)) (text path : List ℕ) (r : Option ℕ) → keys ≡ keys_of ps → text ≡ path → r ≡ position (bytes_eq text) keys → MatchOption r (IsNowhere ps path) (IsNumber ps path)
+number_of_position ps keys text path r e f h = number_found ps path r (h ∙ (ap (λ q. position (bytes_eq q) keys) f ∙ ap (position (bytes_eq path)) e))
+  where
+    number_found : (ps : List PackageModel) (path : List ℕ) (r : Option ℕ) → r ≡ position (bytes_eq path) (keys_of ps) → MatchOption r (IsNowhere ps path) (IsNumber ps path)
+    number_found ps path (Some i) h =
+        let n : length (keys_of ps) ≡ length ps = length-map ps (λ p. p.0) in
+        let found = position-Some (bytes_eq path) (keys_of ps) i path (sym h) in
+        let lt : i < length ps = omega (arith, found.0, n) in
+        let p : (p : PackageModel) × (slice_get ps i ≡ Some p) = some_item ps i lt in
+        let here : get_or (keys_of ps) i path ≡ p.0.0 = get_or-map (λ (q : PackageModel). q.0) ps i p.0 path lt ∙ ap (λ (q : PackageModel). q.0) (get_or_from_slice_get ps i p.0 p.0 p.1) in
+        let same : path ≡ p.0.0 = (bytes_eq-Decides path (get_or (keys_of ps) i path)).0 found.1 ∙ here in
+        (p.0.1, p.1 ∙ ap (λ (q : List ℕ). Some (q, p.0.1)) (sym same))
+    number_found ps path None h = λ i files at.
+        let d : PackageModel = (path, files) in
+        let n : length (keys_of ps) ≡ length ps = length-map ps (λ p. p.0) in
+        let lt : i < length ps = slice_get_within ps i d at in
+        let fails : bytes_eq path (get_or (keys_of ps) i path) ≡ false = none_passes (bytes_eq path) (keys_of ps) (sym h) i path (omega (arith, lt, n)) in
+        let here : get_or (keys_of ps) i path ≡ path = get_or-map (λ (q : PackageModel). q.0) ps i d path lt ∙ ap (λ (q : PackageModel). q.0) (get_or_from_slice_get ps i d d at) in
+        let yes : bytes_eq path path ≡ true = (bytes_eq-Decides path path).1 refl in
+        let no : true ≡ false = sym yes ∙ subst (λ q. bytes_eq path q ≡ false) here fails in cc
 
 -- a path is ASCII
 

@@ -1,5 +1,5 @@
 -- Lists of packages in order of path: what stands at a place, what a put leaves there, and what look-ups find.
-use Rattle.std.proofs.Common.{◌≡◌, ℕ, zero, suc, ◌<◌, ◌≤◌, ◌⊎◌, inl, inr, Bool, true, false, cond, List, [], ◌∷◌, length, get_or, map, set, Some, None, Result, Ok, Err, slice_get, refl, sym, ◌∙◌, ap, subst, arith}
+use Rattle.std.proofs.Common.{◌≡◌, ℕ, zero, suc, ◌<◌, ◌≤◌, ◌⊎◌, inl, inr, Bool, true, false, cond, List, [], ◌∷◌, length, get_or, set, Some, None, Result, Ok, Err, slice_get, refl, sym, ◌∙◌, ap, subst, arith}
 use Rattle.std.specs.List.{AllByRecursion, AllWithin, insert, remove}
 use Rattle.std.specs.List.Sorted.{IsStrictlySortedBy, IsNonDecreasingBy, IsBinarySearchResult, IsSearchInRange}
 use Rattle.std.proofs.lemmas.Bool.{ltb-true, ltb-false}
@@ -13,9 +13,9 @@ use Rattle.std.proofs.lemmas.Cmp.{nat_list_cmp_total}
 use Rattle.std.proofs.lemmas.List.{length-map}
 use Rattle.std.proofs.lemmas.Map.Keys.{sorted_head, sorted_tail, Less-from_sorted}
 use Rattle.std.proofs.lemmas.Map.Text.{is_eq-slice_cmp}
-use Rattle.std.proofs.lemmas.Option.{slice_get-get_or, slice_get_within, get_or_from_slice_get}
+use Rattle.std.proofs.lemmas.Option.{slice_get-get_or}
 use Rattle.std.proofs.lemmas.Slice.Eq.{bytes_eq-Decides}
-use Rattle.go_graph_core.specs.mirrors.Positions.{IsPlaceOf}
+use Rattle.go_graph_core.specs.mirrors.Positions.{IsPosition}
 use Rattle.go_graph_core.specs.Sources.{SourceModel}
 use Rattle.go_graph_core.specs.Workspaces.{PackageModel, by_bytes, files_at, IsWorkspace}
 
@@ -49,23 +49,27 @@ rises x y q Greater up h = at_most (by_bytes x q)
     at_most Equal = omega arith
     at_most Greater = omega arith
 
-key_at : {A : Type 0} (key : A → List ℕ) (xs : List A) (i : ℕ) (d : A) → get_or (map key xs) i (key d) ≡ key (get_or xs i d)
-key_at key [] i d = refl
-key_at key (x ∷ xs) zero d = refl
-key_at key (x ∷ xs) (suc i) d = key_at key xs i d
+key_at : (ps : List PackageModel) (i : ℕ) (d : PackageModel) → get_or (keys_of ps) i d.0 ≡ (get_or ps i d).0
+key_at [] i d = refl
+key_at (p ∷ ps) zero d = refl
+key_at (p ∷ ps) (suc i) d = key_at ps i d
 
-pub told_in_turn : {A : Type 0} (key : A → List ℕ) (xs : List A) (q : List ℕ) → IsStrictlySortedBy by_bytes (map key xs) → IsNonDecreasingBy (λ x. ordering_index (by_bytes (key x) q)) xs
-told_in_turn key xs q ordered i j d up lt = elim (two (ltb i j)) [
+-- a path below another
+pub path_below : (ps : List PackageModel) (i j : ℕ) (d : PackageModel) → IsOrdered ps → i < j → j < length ps → by_bytes (get_or ps i d).0 (get_or ps j d).0 ≡ Less
+path_below ps i j d ordered below lt =
+    let enough : j < length (keys_of ps) = subst (λ n. j < n) (sym (length-map ps (λ p. p.0))) lt in
+    let compared : by_bytes (get_or (keys_of ps) i d.0) (get_or (keys_of ps) j d.0) ≡ Less = Less-from_sorted by_bytes (keys_of ps) i j d.0 ordered below enough in
+    subst (λ k. by_bytes k (get_or ps j d).0 ≡ Less) (key_at ps i d) (subst (λ k. by_bytes (get_or (keys_of ps) i d.0) k ≡ Less) (key_at ps j d) compared)
+
+told_in_turn : (ps : List PackageModel) (q : List ℕ) → IsOrdered ps → IsNonDecreasingBy (λ p. ordering_index (by_bytes p.0 q)) ps
+told_in_turn ps q ordered i j d up lt = elim (two (ltb i j)) [
   | inl less ↦
       let below : i < j = ltb-true _ _ less in
-      let enough : j < length (map key xs) = subst (λ n. j < n) (sym (length-map xs key)) lt in
-      let compared : by_bytes (get_or (map key xs) i (key d)) (get_or (map key xs) j (key d)) ≡ Less = Less-from_sorted by_bytes (map key xs) i j (key d) ordered below enough in
-      let here : by_bytes (key (get_or xs i d)) (key (get_or xs j d)) ≡ Less = subst (λ k. by_bytes k (key (get_or xs j d)) ≡ Less) (key_at key xs i d) (subst (λ k. by_bytes (get_or (map key xs) i (key d)) k ≡ Less) (key_at key xs j d) compared) in
-      rises (key (get_or xs i d)) (key (get_or xs j d)) q (by_bytes (key (get_or xs j d)) q) here refl
+      rises (get_or ps i d).0 (get_or ps j d).0 q (by_bytes (get_or ps j d).0 q) (path_below ps i j d ordered below lt) refl
   | inr more ↦
       let le : j ≤ i = ltb-false _ _ more in
       let same : i ≡ j = omega arith in
-      subst (λ k. ordering_index (by_bytes (key (get_or xs i d)) q) ≤ ordering_index (by_bytes (key (get_or xs k d)) q)) same (omega arith)
+      subst (λ k. ordering_index (by_bytes (get_or ps i d).0 q) ≤ ordering_index (by_bytes (get_or ps k d).0 q)) same (omega arith)
 ]
   where
     two : (b : Bool) → (b ≡ true) ⊎ (b ≡ false)
@@ -74,50 +78,16 @@ told_in_turn key xs q ordered i j d up lt = elim (two (ltb i j)) [
 
 -- what a search says
 
-some_item : {A : Type 0} (xs : List A) (i : ℕ) → i < length xs → (x : A) × (slice_get xs i ≡ Some x)
+pub some_item : {A : Type 0} (xs : List A) (i : ℕ) → i < length xs → (x : A) × (slice_get xs i ≡ Some x)
 some_item [] i lt = absurd (omega arith)
 some_item (x ∷ xs) zero lt = (x, refl)
 some_item (x ∷ xs) (suc i) lt = some_item xs i (omega (arith, lt))
 
-pub place_of : {A : Type 0} (key : A → List ℕ) (xs : List A) (q : List ℕ) (r : Result ℕ ℕ) → IsStrictlySortedBy by_bytes (map key xs) → IsSearchInRange r (length xs) → IsBinarySearchResult (λ x. by_bytes (key x) q) xs r → IsPlaceOf key xs q r
-place_of key xs q (Ok i) ordered within found =
-    let d = (some_item xs i within).0 in
-    (get_or xs i d, slice_get-get_or xs i d within, equal_texts _ q (found d))
-place_of key xs q (Err i) ordered within found = (let cut = found (told_in_turn key xs q ordered) in (within, cut.0, cut.1))
-
--- lists of the same keys
-
-as_many_keys : {A B : Type 0} (f : A → List ℕ) (g : B → List ℕ) (xs : List A) (ys : List B) → map f xs ≡ map g ys → length xs ≡ length ys
-as_many_keys f g xs ys e = sym (length-map xs f) ∙ (ap length e ∙ length-map ys g)
-
-same_key : {A B : Type 0} (f : A → List ℕ) (g : B → List ℕ) (xs : List A) (ys : List B) → map f xs ≡ map g ys → (k : ℕ) (x : A) (y : B) → slice_get xs k ≡ Some x → slice_get ys k ≡ Some y → f x ≡ g y
-same_key f g [] ys e k x y a b = cc
-same_key f g (z ∷ xs) [] e k x y a b = cc
-same_key f g (z ∷ xs) (w ∷ ys) e zero x y a b =
-    let here : f z ≡ g w = ap (λ (l : List (List ℕ)). elim l [ [] ↦ f z | u ∷ us ↦ u ]) e in
-    let one : z ≡ x = cc in
-    let other : w ≡ y = cc in
-    ap f (sym one) ∙ (here ∙ ap g other)
-same_key f g (z ∷ xs) (w ∷ ys) e (suc k) x y a b = same_key f g xs ys (ap (λ (l : List (List ℕ)). elim l [ [] ↦ map f xs | u ∷ us ↦ us ]) e) k x y a b
-
-pub place_moves : {A B : Type 0} (f : A → List ℕ) (g : B → List ℕ) (xs : List A) (ys : List B) (q : List ℕ) (r : Result ℕ ℕ) → map f xs ≡ map g ys → IsPlaceOf f xs q r → IsPlaceOf g ys q r
-place_moves f g xs ys q (Ok i) e h =
-    let many : length xs ≡ length ys = as_many_keys f g xs ys e in
-    let lt = slice_get_within xs i h.0 h.1 in
-    let other = some_item ys i (omega (arith, lt, many)) in
-    (other.0, other.1, sym (same_key f g xs ys e i h.0 other.0 h.1 other.1) ∙ h.2)
-place_moves {A} {B} f g xs ys q (Err i) e h =
-    let many : length xs ≡ length ys = as_many_keys f g xs ys e in
-    let le = h.0 in
-    let key : (k : ℕ) (d : B) (o : Ordering) → k < length ys → ((x : A) → by_bytes (f (get_or xs k x)) q ≡ o) → by_bytes (g (get_or ys k d)) q ≡ o = λ k d o lt says.
-    let one = some_item xs k (omega (arith, lt, many)) in
-    let other = some_item ys k lt in
-    let same : f (get_or xs k one.0) ≡ g (get_or ys k d) = ap f (get_or_from_slice_get xs k one.0 one.0 one.1) ∙ (same_key f g xs ys e k one.0 other.0 one.1 other.1 ∙ ap g (sym (get_or_from_slice_get ys k other.0 d other.1))) in
-    subst (λ t. by_bytes t q ≡ o) same (says one.0) in (
-      omega (arith, le, many),
-      (λ k d low up. key k d Less (omega (arith, up, le, many)) (λ x. h.1 k x low up)),
-      (λ k d low up. key k d Greater up (λ x. h.2 k x low (omega (arith, up, many)))),
-    )
+pub place_of : (ps : List PackageModel) (q : List ℕ) (r : Result ℕ ℕ) → IsOrdered ps → IsSearchInRange r (length ps) → IsBinarySearchResult (λ p. by_bytes p.0 q) ps r → IsPosition ps q r
+place_of ps q (Ok i) ordered within found =
+    let d = (some_item ps i within).0 in
+    (get_or ps i d, slice_get-get_or ps i d within, equal_texts _ q (found d))
+place_of ps q (Err i) ordered within found = (let cut = found (told_in_turn ps q ordered) in (within, cut.0, cut.1))
 
 -- what stands behind a smaller first path
 head_below : (p : PackageModel) (ps : List PackageModel) (i : ℕ) (e : PackageModel) → IsOrdered (p ∷ ps) → slice_get ps i ≡ Some e → by_bytes p.0 e.0 ≡ Less

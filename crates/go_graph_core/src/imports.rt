@@ -1,16 +1,16 @@
 //! Imports, and the packages that they name.
-ghost use Rattle.std.specs.Prelude.{IfOk, OnOk, OnErr, map, string_bytes};
+ghost use Rattle.std.specs.Prelude.{◌≡◌, IfOk, OnOk, OnErr};
 ghost use Rattle.std.specs.List.{AllZip};
-ghost use Rattle.std.specs.List.Sorted.{IsStrictlySortedBy};
+ghost use Rattle.std.specs.Map.{keys_of};
 ghost use Rattle.go_scan_core.specs.Values.{IsPlain};
 ghost use Rattle.go_tree_nodes.specs.Shapes.{shape_import_specs};
 ghost use Rattle.go_tree_nodes.specs.Terminals.{value_of};
-ghost use Rattle.go_graph_core.specs.Workspaces.{by_bytes, IsWorkspace};
+ghost use Rattle.go_graph_core.specs.Workspaces.{IsWorkspace};
 ghost use Rattle.go_graph_core.specs.Imports.{import_texts, texts_in, IsTarget};
-ghost use Rattle.go_graph_core.specs.mirrors.Positions.{AreTheirPaths, IsPlaceOf};
 ghost use Rattle.go_graph_core.specs.mirrors.Targets.{IsStanding, HaveStandings, Adds, AreTargets, ArePackageTargets};
 
 use crate::assembly::{assembly_fault, clause_name};
+use crate::path_table::PathTable;
 use crate::source::SourceFile;
 use crate::workspace::PackageSource;
 use go_parse_types::add;
@@ -82,44 +82,24 @@ pub(crate) fn standings(
     Ok(standings)
 }
 
-/// The paths of packages, in their order. They lie near one another, so that look-ups are quick.
-fn paths_of(alloc: Global, packages: &[PackageSource]) -> Result<Vec<String>, AllocError>
-    ensures { IfOk result (λ paths. AreTheirPaths paths.items packages.now) }
-{
-    let mut paths = Vec::with_capacity(alloc, packages.len())?;
-    for source in packages {
-        let path = String::from_str(alloc, source.path().as_str())?;
-        add(&mut paths, path)?;
-    }
-    Ok(paths)
-}
-
-/// Where a path stands among paths in order, or where it would stand.
-fn place_of(paths: &[String], path: &str) -> Result<usize, usize>
-    requires { IsStrictlySortedBy by_bytes (map (λ s. string_bytes s) paths.now) }
-    ensures { IsPlaceOf (λ s. string_bytes s) paths.now path.now result }
-{
-    paths.binary_search_by(|known| known.as_str().cmp(path))
-}
-
 /// What an import of a path comes to, cycles left aside.
 fn path_target(
     packages: &[PackageSource],
-    paths: &[String],
+    paths: &PathTable<'_>,
     standings: &[Standing],
     from: &ImportPath,
     path: &PathText<'_>,
 ) -> ImportOutcome
     requires well { IsWorkspace packages.now }
-    requires paths { AreTheirPaths paths.now packages.now }
+    requires paths { paths.now ≡ keys_of packages.now }
     requires standings { HaveStandings packages.now standings.now }
     ensures { IsTarget packages.now from.now path.now result }
 {
-    let number = place_of(paths, path.as_str());
+    let number = paths.number(path.as_str());
     if !may_import_text(from, path) {
         return ImportOutcome::Refused(Rule::I3);
     }
-    let Ok(number) = number else {
+    let Some(number) = number else {
         return ImportOutcome::Refused(Rule::I2);
     };
     match standings[number] {
@@ -132,13 +112,13 @@ fn path_target(
 /// What an import of a text comes to, cycles left aside.
 fn text_target(
     packages: &[PackageSource],
-    paths: &[String],
+    paths: &PathTable<'_>,
     standings: &[Standing],
     from: &ImportPath,
     text: &str,
 ) -> ImportOutcome
     requires well { IsWorkspace packages.now }
-    requires paths { AreTheirPaths paths.now packages.now }
+    requires paths { paths.now ≡ keys_of packages.now }
     requires standings { HaveStandings packages.now standings.now }
     ensures { IsTarget packages.now from.now text.now result }
 {
@@ -151,13 +131,13 @@ fn text_target(
 /// What an import of these bytes comes to, cycles left aside.
 fn target(
     packages: &[PackageSource],
-    paths: &[String],
+    paths: &PathTable<'_>,
     standings: &[Standing],
     from: &ImportPath,
     text: &[u8],
 ) -> ImportOutcome
     requires well { IsWorkspace packages.now }
-    requires paths { AreTheirPaths paths.now packages.now }
+    requires paths { paths.now ≡ keys_of packages.now }
     requires standings { HaveStandings packages.now standings.now }
     ensures { IsTarget packages.now from.now text.now result }
 {
@@ -171,13 +151,13 @@ fn target(
 fn spec_target(
     alloc: Global,
     packages: &[PackageSource],
-    paths: &[String],
+    paths: &PathTable<'_>,
     standings: &[Standing],
     from: &ImportPath,
     spec: &ImportSpec,
 ) -> Result<ImportOutcome, AllocError>
     requires well { IsWorkspace packages.now }
-    requires paths { AreTheirPaths paths.now packages.now }
+    requires paths { paths.now ≡ keys_of packages.now }
     requires standings { HaveStandings packages.now standings.now }
     ensures target { IfOk result (IsTarget packages.now from.now (value_of spec.now.path)) }
     // An import that is written plainly needs no memory.
@@ -197,13 +177,13 @@ fn add_targets(
     targets: &mut Vec<ImportOutcome>,
     alloc: Global,
     packages: &[PackageSource],
-    paths: &[String],
+    paths: &PathTable<'_>,
     standings: &[Standing],
     from: &ImportPath,
     specs: &ImportSpecs,
 ) -> Result<(), AllocError>
     requires well { IsWorkspace packages.now }
-    requires paths { AreTheirPaths paths.now packages.now }
+    requires paths { paths.now ≡ keys_of packages.now }
     requires standings { HaveStandings packages.now standings.now }
     ensures { OnOk result (Adds (IsTarget packages.now from.now) (texts_in (shape_import_specs specs.now)) targets.old.items targets.new.items) }
 {
@@ -225,13 +205,13 @@ fn add_targets(
 fn file_targets(
     alloc: Global,
     packages: &[PackageSource],
-    paths: &[String],
+    paths: &PathTable<'_>,
     standings: &[Standing],
     from: &ImportPath,
     file: &SourceFile,
 ) -> Result<Vec<ImportOutcome>, AllocError>
     requires well { IsWorkspace packages.now }
-    requires paths { AreTheirPaths paths.now packages.now }
+    requires paths { paths.now ≡ keys_of packages.now }
     requires standings { HaveStandings packages.now standings.now }
     ensures { IfOk result (λ targets. AllZip (IsTarget packages.now from.now) (import_texts file.now) targets.items) }
 {
@@ -257,12 +237,12 @@ fn file_targets(
 fn package_targets(
     alloc: Global,
     packages: &[PackageSource],
-    paths: &[String],
+    paths: &PathTable<'_>,
     standings: &[Standing],
     source: &PackageSource,
 ) -> Result<Vec<Vec<ImportOutcome>>, AllocError>
     requires well { IsWorkspace packages.now }
-    requires paths { AreTheirPaths paths.now packages.now }
+    requires paths { paths.now ≡ keys_of packages.now }
     requires standings { HaveStandings packages.now standings.now }
     ensures { IfOk result (λ targets. ArePackageTargets packages.now source.now targets.items) }
 {
@@ -272,6 +252,28 @@ fn package_targets(
         add(
             &mut targets,
             file_targets(alloc, packages, paths, standings, from, file)?,
+        )?;
+    }
+    Ok(targets)
+}
+
+/// What all imports come to, cycles left aside, for each package and each file, by a table of the packages' paths.
+fn targets_by(
+    alloc: Global,
+    packages: &[PackageSource],
+    paths: &PathTable<'_>,
+    standings: &[Standing],
+) -> Result<Vec<Vec<Vec<ImportOutcome>>>, AllocError>
+    requires well { IsWorkspace packages.now }
+    requires paths { paths.now ≡ keys_of packages.now }
+    requires standings { HaveStandings packages.now standings.now }
+    ensures { IfOk result (λ targets. AreTargets packages.now targets.items) }
+{
+    let mut targets = Vec::with_capacity(alloc, packages.len())?;
+    for source in packages {
+        add(
+            &mut targets,
+            package_targets(alloc, packages, paths, standings, source)?,
         )?;
     }
     Ok(targets)
@@ -287,13 +289,6 @@ pub(crate) fn targets(
     requires standings { HaveStandings packages.now standings.now }
     ensures { IfOk result (λ targets. AreTargets packages.now targets.items) }
 {
-    let paths = paths_of(alloc, packages)?;
-    let mut targets = Vec::with_capacity(alloc, packages.len())?;
-    for source in packages {
-        add(
-            &mut targets,
-            package_targets(alloc, packages, &paths, standings, source)?,
-        )?;
-    }
-    Ok(targets)
+    let paths = PathTable::of(alloc, packages)?;
+    targets_by(alloc, packages, &paths, standings)
 }

@@ -9,6 +9,7 @@ mod assembly;
 mod import_laws;
 mod imports;
 mod laws;
+mod path_table;
 mod planning;
 mod source;
 mod unchanged;

@@ -1,5 +1,5 @@
 //! The import plan of a workspace: what each import comes to, and an order of the packages.
-ghost use Rattle.std.specs.Prelude.{◌≡◌, ◌++◌, IfOk, OnOk, length};
+ghost use Rattle.std.specs.Prelude.{◌≡◌, ◌++◌, All, IfOk, OnOk, length};
 ghost use Rattle.std.specs.List.{AllZip, flat_map, filter};
 ghost use Rattle.go_graph_core.specs.Plans.{IsPlan, AreReached, outcome_at, outcomes_shown, plan_of};
 ghost use Rattle.go_graph_core.specs.mirrors.Targets.{IsSettled, AreSettled, AreAllSettled, edge_of, package_edges, edges_from, is_assembled};
@@ -173,6 +173,8 @@ impl Plan {
     /// `AllocError` for want of memory.
     pub fn reached(&self, alloc: Global) -> Result<Reached, AllocError>
         ensures many { IfOk result (λ sets. length sets ≡ length self.now.outcomes) }
+        // Each set can be put into each other.
+        ensures bound { IfOk result (λ sets. All (λ s. s.bound ≡ length self.now.outcomes) sets) }
         ensures sets { IfOk result (AreReached self.now) }
     {
         let edges = edges(alloc, &self.outcomes)?;

@@ -166,7 +166,7 @@ impl Workspace {
     }
 
     /// Reads files by their names and texts, and puts them in the place of the files of the path. Without
-    /// files there is no package of that path any more.
+    /// files there is no package of that path any more, and no memory is taken.
     ///
     /// # Errors
     ///
@@ -180,6 +180,7 @@ impl Workspace {
         requires { HaveDistinctNames (given_files files.items) }
         ensures ok { OnOk result (Puts self.old path.now (given_files files.items) self.new) }
         ensures err { IfErr result (λ rule. (rule ≡ Rule.M0) × (self.new ≡ self.old)) }
+        ensures memory { OnErr result (0 < length files.items) }
     {
         if files.is_empty() {
             remove_package(&mut self.packages, path);

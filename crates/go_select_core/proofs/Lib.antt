@@ -6,6 +6,12 @@ pub mod Weights
 pub mod Growing
 pub mod Judging
 pub mod Searching
+pub mod Identifiers
+pub mod Naming
+pub mod Surveying
+pub mod ListedNames
 pub mod Meanings
 pub mod Local
 pub mod Short
+pub mod OnlyListing
+pub mod Answering

@@ -13,8 +13,8 @@ use Rattle.go_embed_core.specs.Owners.{OwnerModel, Edge, edge, off, owner_in, fi
 use Rattle.go_embed_core.specs.OwnersShown.{IsNamedAt, found_shown}
 use Rattle.go_select_core.specs.declared.search.Selected.{Selected}
 use Rattle.go_select_core.specs.Paths.{Step, Leads, Hit, HasHit, IsSelected, IsSpelled}
-use Rattle.go_select_core.specs.Selectors.{Searched, Refused, In, FieldsIn, unless_refused, kind_in, searched_under, searched, IsMissing, ambiguous, hidden, absent, IsFound, IsRefused, IsAnswer}
-use Rattle.go_select_core.specs.Laws.{found_keys, SelectionIsLocal}
+use Rattle.go_select_core.specs.Selectors.{Searched, Refused, In, FieldsIn, unless_refused, kind_in, searched_under, searched, IsMissing, ambiguous, hidden, absent, IsFound, IsFoundAs, IsDenoted, IsRefused, IsAnswer}
+use Rattle.go_select_core.specs.Laws.{found_keys, SelectionIsLocal, ListingIsLocal}
 use Rattle.go_select_core.proofs.ListLemmas.{In as AmongItems, at_in}
 use Rattle.go_select_core.proofs.Edges.{step_edge}
 
@@ -31,7 +31,7 @@ leads_on look mentioned (x ∷ through) j js k h r = (h.0, (h.1.0, h.1.1, leads_
 reach_on : (look : Look) (t : Term) (j : DeclKey) (e : Entry) → IsReached look t j → look j ≡ Some e → Covered look t (entry_keys e)
 reach_on look t j e r is k h = (r.0 ++ j ∷ [], leads_on look (term_keys t) r.0 j [] k r.1 (e, is, h))
 
-reach_through : (look : Look) (t u : Term) → Covered look t (term_keys u) → (k : DeclKey) → IsReached look u k → IsReached look t k
+pub reach_through : (look : Look) (t u : Term) → Covered look t (term_keys u) → (k : DeclKey) → IsReached look u k → IsReached look t k
 reach_through look t u covered k r = by r.0 r.1
   where
     by : (through : List DeclKey) → LeadsTo look (term_keys u) through k → IsReached look t k
@@ -40,7 +40,7 @@ reach_through look t u covered k r = by r.0 r.1
 
 -- what a type's owner mentions is reached
 
-under_covered : (look : Look) (t : Term) → Covered look t (term_keys (underlying_in look t))
+pub under_covered : (look : Look) (t : Term) → Covered look t (term_keys (underlying_in look t))
 under_covered look NoType j h = ([], h)
 under_covered look (Predeclared b) j h = ([], h)
 under_covered look ErrorType j h = ([], h)
@@ -102,12 +102,12 @@ term_edge_keys o (PointerTo t) e j r h = absurd r
 term_edge_keys o (StructOf path fs) e j r h = fields_edge o path 0 fs e j r h
 term_edge_keys o (InterfaceOf path ms) e j r h = absurd r
 
-step_covered : (look : Look) (t : Term) (i : ℕ) (p : Bool) (u : Term) → Step look t i p u → Covered look t (term_keys u)
+pub step_covered : (look : Look) (t : Term) (i : ℕ) (p : Bool) (u : Term) → Step look t i p u → Covered look t (term_keys u)
 step_covered look t i p u s j h =
     let x = step_edge look t i p u s in
     under_covered look t j (term_edge_keys (owner_in look t) (owner_in look t).underlying x.0 j x.2 (subst (λ v. Contains (term_keys v) j) (sym x.5) h))
 
-leads_covered : (look : Look) (t : Term) (q : List ℕ) (p : Bool) (u : Term) → Leads look t q p u → (k : DeclKey) → IsReached look u k → IsReached look t k
+pub leads_covered : (look : Look) (t : Term) (q : List ℕ) (p : Bool) (u : Term) → Leads look t q p u → (k : DeclKey) → IsReached look u k → IsReached look t k
 leads_covered look t [] p u h k r = subst (λ v. IsReached look v k) (sym h.0) r
 leads_covered look t (i ∷ q) p u h k r = reach_through look t h.0 (step_covered look t i h.1 h.0 h.3) k (leads_covered look h.0 q h.2 u h.4 k r)
 
@@ -149,7 +149,7 @@ among_append [] ys x r = inr r
 among_append (y ∷ xs) ys x (inl s) = inl (inl s)
 among_append (y ∷ xs) ys x (inr r) = elim (among_append xs ys x r) [ inl s ↦ inl (inr s) | inr s ↦ inr s ]
 
-named_covered : (look : Look) (t : Term) (name from : List ℕ) (i : ℕ) (f : Found) → IsNamedAt (owner_in look t) name from i f → Covered look t (found_keys f)
+pub named_covered : (look : Look) (t : Term) (name from : List ℕ) (i : ℕ) (f : Found) → IsNamedAt (owner_in look t) name from i f → Covered look t (found_keys f)
 named_covered look t name from i f h j mentioned =
     let m : Contains (found_keys h.0.1.1) j = subst (λ g. Contains (found_keys g) j) (sym h.3) mentioned in
     elim (among_append (declared_found (owner_in look t).path (owner_in look t).methods) (term_found (owner_in look t) (owner_in look t).underlying) h.0 (at_in (members_of (owner_in look t)) i h.0 h.1)) [
@@ -170,10 +170,10 @@ agree_owner look other (PointerTo t) a = refl
 agree_owner look other (StructOf path fs) a = refl
 agree_owner look other (InterfaceOf path ms) a = refl
 
-agree_along : (look other : Look) (t u : Term) → AgreeFrom look other t → ((k : DeclKey) → IsReached look u k → IsReached look t k) → AgreeFrom look other u
+pub agree_along : (look other : Look) (t u : Term) → AgreeFrom look other t → ((k : DeclKey) → IsReached look u k → IsReached look t k) → AgreeFrom look other u
 agree_along look other t u a inside k r = a k (inside k r)
 
-agree_back : (look other : Look) (t : Term) → AgreeFrom look other t → AgreeFrom other look t
+pub agree_back : (look other : Look) (t : Term) → AgreeFrom look other t → AgreeFrom other look t
 agree_back look other t a k r = sym (a k (go (term_keys t) r.0 (λ j h. ([], h)) r.1))
   where
     go : (mentioned through : List DeclKey) → Covered look t mentioned → LeadsTo other mentioned through k → IsReached look t k
@@ -207,7 +207,7 @@ hit_there look other t name from q p m f a h =
 has_there : (look other : Look) (t : Term) (name from : List ℕ) → AgreeFrom look other t → HasHit look t name from → HasHit other t name from
 has_there look other t name from a h = (h.0, h.1, h.2, h.3, hit_there look other t name from h.0 h.1 h.2 h.3 a h.4)
 
-selected_there : (look other : Look) (t : Term) (name from : List ℕ) (q : List ℕ) (p : Bool) (f : Found) → AgreeFrom look other t → IsSelected look t name from q p f → IsSelected other t name from q p f
+pub selected_there : (look other : Look) (t : Term) (name from : List ℕ) (q : List ℕ) (p : Bool) (f : Found) → AgreeFrom look other t → IsSelected look t name from q p f → IsSelected other t name from q p f
 selected_there look other t name from q p f a s =
     record {
       number = s.number;
@@ -229,7 +229,7 @@ missing_there look other t name from r a (absent none x) =
 
 -- what is searched
 
-abbrev ReachesWhat : Look → Term → Searched → Type 0
+abbrev pub ReachesWhat : Look → Term → Searched → Type 0
 ReachesWhat look t (Refused why) = Unit {0}
 ReachesWhat look t (In u by_pointer) = (k : DeclKey) → IsReached look u k → IsReached look t k
 ReachesWhat look t (FieldsIn u) = (k : DeclKey) → IsReached look u k → IsReached look t k
@@ -249,7 +249,7 @@ reach_under look t (PointerTo u) covered = reach_kind look t (kind_in look u) (F
 reach_under look t (StructOf path fs) covered = λ k r. r
 reach_under look t (InterfaceOf path ms) covered = λ k r. r
 
-reach_searched : (look : Look) (t : Term) → ReachesWhat look t (searched look t)
+pub reach_searched : (look : Look) (t : Term) → ReachesWhat look t (searched look t)
 reach_searched look NoType = tt
 reach_searched look (Predeclared b) = λ k r. r
 reach_searched look ErrorType = λ k r. r
@@ -258,7 +258,7 @@ reach_searched look (PointerTo u) = reach_kind look (PointerTo u) (kind_in look 
 reach_searched look (StructOf path fs) = λ k r. r
 reach_searched look (InterfaceOf path ms) = λ k r. r
 
-kind_same : (look other : Look) (u : Term) → AgreeFrom look other u → kind_in look u ≡ kind_in other u
+pub kind_same : (look other : Look) (u : Term) → AgreeFrom look other u → kind_in look u ≡ kind_in other u
 kind_same look other u a = ap (λ (o : OwnerModel). kind_of_term o.underlying) (agree_owner look other u a)
 
 under_same : (look other : Look) (t u : Term) → AgreeFrom look other t → Covered look t (term_keys u) → searched_under look t u ≡ searched_under other t u
@@ -270,7 +270,7 @@ under_same look other t (PointerTo u) a covered = ap (λ k. unless_refused k (Fi
 under_same look other t (StructOf path fs) a covered = refl
 under_same look other t (InterfaceOf path ms) a covered = refl
 
-searched_same : (look other : Look) (t : Term) → AgreeFrom look other t → searched look t ≡ searched other t
+pub searched_same : (look other : Look) (t : Term) → AgreeFrom look other t → searched look t ≡ searched other t
 searched_same look other NoType a = refl
 searched_same look other (Predeclared b) a = refl
 searched_same look other ErrorType a = refl
@@ -281,12 +281,15 @@ searched_same look other (PointerTo u) a = ap (λ k. unless_refused k (In u true
 searched_same look other (StructOf path fs) a = refl
 searched_same look other (InterfaceOf path ms) a = refl
 
-found_there : (look other : Look) (t : Term) (w : Searched) (name from : List ℕ) (s : Selected) → AgreeFrom look other t → ReachesWhat look t w → IsFound look w name from s → IsFound other w name from s
-found_there look other t (Refused why) name from s a inside h = h
-found_there look other t (In u by_pointer) name from s a inside h =
-    (h.0, selected_there look other u name from s.path h.0 (found_shown s.member) (agree_along look other t u a inside) h.1, h.2)
-found_there look other t (FieldsIn u) name from s a inside h =
-    ((h.0.0, selected_there look other u name from s.path h.0.0 (found_shown s.member) (agree_along look other t u a inside) h.0.1, h.0.2), h.1)
+found_there : (look other : Look) (t : Term) (w : Searched) (name from path : List ℕ) (passes : Bool) (f : Found) → AgreeFrom look other t → ReachesWhat look t w → IsFoundAs look w name from path passes f → IsFoundAs other w name from path passes f
+found_there look other t (Refused why) name from path passes f a inside h = h
+found_there look other t (In u by_pointer) name from path passes f a inside h = (h.0, selected_there look other u name from path h.0 f (agree_along look other t u a inside) h.1, h.2)
+found_there look other t (FieldsIn u) name from path passes f a inside h =
+    ((h.0.0, selected_there look other u name from path h.0.0 f (agree_along look other t u a inside) h.0.1, h.0.2), h.1)
+
+pub denoted_there : (look other : Look) (t : Term) (name from path : List ℕ) (passes : Bool) (f : Found) → AgreeFrom look other t → IsDenoted look t name from path passes f → IsDenoted other t name from path passes f
+denoted_there look other t name from path passes f a h =
+    (h.0, subst (λ w. IsFoundAs other w name from path passes f) (searched_same look other t a) (found_there look other t (searched look t) name from path passes f a (reach_searched look t) h.1))
 
 refused_there : (look other : Look) (t : Term) (w : Searched) (name from : List ℕ) (r : Rule) → AgreeFrom look other t → ReachesWhat look t w → IsRefused look w name from r → IsRefused other w name from r
 refused_there look other t (Refused why) name from r a inside h = h
@@ -296,8 +299,7 @@ refused_there look other t (FieldsIn u) name from r a inside (inr h) =
     inr ((h.0.0, h.0.1, h.0.2, selected_there look other u name from h.0.0 h.0.1 h.0.2 (agree_along look other t u a inside) h.0.3, h.0.4), h.1)
 
 answer_there : (look other : Look) (t : Term) (name from : List ℕ) (r : Result Selected Rule) → AgreeFrom look other t → IsAnswer look t name from r → IsAnswer other t name from r
-answer_there look other t name from (Ok s) a h =
-    (h.0, subst (λ w. IsFound other w name from s) (searched_same look other t a) (found_there look other t (searched look t) name from s a (reach_searched look t) h.1))
+answer_there look other t name from (Ok s) a h = denoted_there look other t name from s.path s.through_pointer (found_shown s.member) a h
 answer_there look other t name from (Err r) a (inl h) = inl h
 answer_there look other t name from (Err r) a (inr (inl h)) = inr (inl h)
 answer_there look other t name from (Err r) a (inr (inr h)) =
@@ -317,4 +319,13 @@ local =
     record {
       same = λ look other t name from r a. (λ h. answer_there look other t name from r a h, λ h. answer_there other look t name from r (agree_back look other t a) h);
       inside = λ look t name from s k h m. found_inside look t (searched look t) name from s (reach_searched look t) h.1 k m;
+    }
+
+-- the names that selectors have are the same too
+pub listing_there : ListingIsLocal
+listing_there look other t from names a l =
+    record {
+      rising = l.rising;
+      sound = λ n c. answer_there look other t n.0 from (Ok n.1) a (l.sound n c);
+      whole = λ name path passes f d. l.whole name path passes f (denoted_there other look t name from path passes f (agree_back look other t a) d);
     }

@@ -35,7 +35,7 @@ selected_same look t name from p q a b f g r s = by (s.shortest p a r.number f r
 selected_hit : (look : Look) (t : Term) (name from : List ℕ) (p : List ℕ) (a : Bool) (f : Found) → IsSelected look t name from p a f → HasHit look t name from
 selected_hit look t name from p a f s = (p, a, s.number, f, s.hit)
 
-missing_or_selected : (look : Look) (t : Term) (name from : List ℕ) (p : List ℕ) (a : Bool) (f : Found) (r : Rule) → IsSelected look t name from p a f → IsMissing look t name from r → ⊥
+pub missing_or_selected : (look : Look) (t : Term) (name from : List ℕ) (p : List ℕ) (a : Bool) (f : Found) (r : Rule) → IsSelected look t name from p a f → IsMissing look t name from r → ⊥
 missing_or_selected look t name from p a f r s (ambiguous x) = x.none p a f s
 missing_or_selected look t name from p a f r s (hidden none x) = none (selected_hit look t name from p a f s)
 missing_or_selected look t name from p a f r s (absent none x) = none (selected_hit look t name from p a f s)

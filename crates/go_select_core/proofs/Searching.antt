@@ -11,7 +11,7 @@ use Rattle.go_select_core.specs.Paths.{Leads, Hit, HasHit, IsSelected, IsAmbiguo
 use Rattle.go_select_core.specs.Selectors.{IsMissing, ambiguous, hidden, absent}
 use Rattle.go_select_core.specs.mirrors.Ways.{At, Way, way_of, ways, root, IsRight, Begins}
 use Rattle.go_select_core.specs.mirrors.Levels.{IsWay, IsLevel, IsAbove, HasOne, Spells, entry_weight, weight, tallest, bound, height, IsNext, IsOnly, IsClash, IsNone, IsSpelt}
-use Rattle.go_select_core.proofs.ListLemmas.{at_within}
+use Rattle.go_select_core.proofs.ListLemmas.{at_within, at_same}
 use Rattle.go_select_core.proofs.Walks.{deeper_above, no_more, selects, clashes}
 use Rattle.go_select_core.proofs.Weights.{height_falls}
 use Rattle.go_select_core.proofs.WayLemmas.{ways_length, ways_at, ways_back}
@@ -41,7 +41,7 @@ only_item : (x y : Way) (n : ℕ) → At (x ∷ []) n y → (n ≡ 0) × (y ≡ 
 only_item x y zero h = (refl, cc)
 only_item x y (suc n) h = cc
 
-root_low : (es : List Entry) (t : Term) → weight es t ≤ bound es t
+pub root_low : (es : List Entry) (t : Term) → weight es t ≤ bound es t
 root_low es NoType = omega arith
 root_low es (Predeclared b) = omega arith
 root_low es ErrorType = omega arith
@@ -62,6 +62,52 @@ first_above look t P none = record { least = λ q p v leads holds. at q p v lead
     at [] p v leads holds = absurd (none (subst P (sym leads.0) holds))
     at (i ∷ q) p v leads holds = omega arith
 
+-- the searched type alone is a level
+pub first_level : (es : List Entry) (t : Term) → IsLevel (find es) t 0 0 (root t ∷ [])
+first_level es t =
+    record {
+      each = λ n x at l. subst (λ (w : Way). IsWay (find es) t 0 w) (sym (only_item (root t) x n at).1) (record { leads = (refl, refl); long = refl; other = λ many. cc });
+      older = λ n x at. subst (λ (w : Way). Leads (find es) t w.path w.pointer w.node × (length w.path ≤ 0)) (sym (only_item (root t) x n at).1) ((refl, refl), omega arith);
+      apart = λ m n x y hx hy lx ly same. (only_item (root t) x m hx).0 ∙ sym (only_item (root t) y n hy).0;
+      full = λ q p v leads z. inl (let e = empty_path (find es) t v q p leads z in (0, root t, refl, omega arith, e.1, inr (sym e.0)));
+    }
+
+-- what a level says of a name that no shorter path has
+module _ (look : Look) (t : Term) (name from : List ℕ) (k first : ℕ) (paths : List (List ℕ)) (types : List Reached) (sized : length paths ≡ length types) (level : IsLevel look t k first (ways paths types))
+    (above : IsAbove look t (HasOne look name from) k) where
+  type_at : (n : ℕ) (r : Reached) → At types n r → At (ways paths types) n (way_of (get_or paths n []) r)
+  type_at n r at = ways_at paths types n r sized at
+
+  -- its only member, with its type's path
+  pub level_one : (n : ℕ) (f : Found) → IsOnly look name from types first n f → (x : Way) × At (ways paths types) n x × IsSelected look t name from x.path x.pointer f
+  level_one n f o = (
+    way_of (get_or paths n []) o.x,
+    type_at n o.x o.at,
+    selects look t name from k first (ways paths types) n (way_of (get_or paths n []) o.x) o.m f level above (type_at n o.x o.at) o.in_level o.one o.has
+        (λ i y j h at' l has. let q = ways_back paths types i y at' in o.only i q.0 j h q.1 l (subst (λ (w : Way). IsNamedAt (owner_in look w.node) name from j h) q.2 has)),
+  )
+
+  hit_at : (n : ℕ) (r : Reached) (m : ℕ) (f : Found) → At types n r → first ≤ n → IsNamedAt (owner_in look (shape r.term.now)) name from m f → Hit look t name from (get_or paths n []) r.pointer m f
+  hit_at n r m f at l has = record { at = shape r.term.now; leads = (level.each n (way_of (get_or paths n []) r) (type_at n r at) l).leads; has = has }
+
+  -- more than one
+  pub level_more : IsClash look name from types first → IsAmbiguous look t name from
+  level_more c = by c.more
+    where
+      w : IsWay look t k (way_of (get_or paths c.n []) c.x)
+      w = level.each c.n (way_of (get_or paths c.n []) c.x) (type_at c.n c.x c.at) c.in_level
+
+      by : (c.x.many ≡ true)
+          ⊎ ((i : ℕ) × (y : Reached) × (j : ℕ) × (g : Found) × At types i y × (first ≤ i) × IsNamedAt (owner_in look (shape y.term.now)) name from j g × (c.n ≡ i → c.m ≡ j → ⊥)) → IsAmbiguous look t name from
+      by (inl many) =
+          let o = w.other many in
+          clashes look t name from k (get_or paths c.n []) o.0 c.x.pointer o.1 c.m c.m c.f c.f above (hit_at c.n c.x c.m c.f c.at c.in_level c.has) (record { at = shape c.x.term.now; leads = o.2; has = c.has })
+          w.long o.3 (λ same m. o.4 (sym same))
+      by (inr o) =
+          let v = level.each o.0 (way_of (get_or paths o.0 []) o.1) (type_at o.0 o.1 o.4) o.5 in
+          clashes look t name from k (get_or paths c.n []) (get_or paths o.0 []) c.x.pointer o.1.pointer c.m o.2 c.f o.3 above (hit_at c.n c.x c.m c.f c.at c.in_level c.has) (hit_at o.0 o.1 o.2 o.3 o.4 o.5 o.6)
+          w.long v.long (λ same m. o.7 (level.apart c.n o.0 (way_of (get_or paths c.n []) c.x) (way_of (get_or paths o.0 []) o.1) (type_at c.n c.x c.at) (type_at o.0 o.1 o.4) c.in_level o.5 same) m)
+
 pub search_begin : (es : List Entry) (t : Term) (name from : List ℕ) (paths : List (List ℕ)) (types : List Reached) (met : List (ℕ × ℕ)) (spelled : Bool)
     → (HasOne (find es) name from t → ⊥) → spelled ≡ has_spelled (owner_in (find es) t) name → Begins es t paths types met → SearchTo es t name from 0 paths types met spelled
 search_begin es t name from paths types met spelled none is b =
@@ -69,7 +115,7 @@ search_begin es t name from paths types met spelled none is b =
       k = 0;
       sized = b.sized;
       inside = omega arith;
-      level = subst (λ ws. IsLevel (find es) t 0 0 ws) (sym b.only) first_level;
+      level = subst (λ ws. IsLevel (find es) t 0 0 ws) (sym b.only) (first_level es t);
       above = first_above (find es) t (HasOne (find es) name from) none;
       spelt = spelt spelled is;
       right = subst (λ ws. IsRight es ws met) (sym b.only) b.right;
@@ -79,15 +125,6 @@ search_begin es t name from paths types met spelled none is b =
     spelt : (s : Bool) → s ≡ has_spelled (owner_in (find es) t) name → SpeltWithin (find es) t name 0 s
     spelt true e = ([], false, t, (refl, refl), sym e)
     spelt false e = first_above (find es) t (Spells (find es) name) (λ h. let z : true ≡ false = sym h ∙ sym e in (cc))
-
-    first_level : IsLevel (find es) t 0 0 (root t ∷ [])
-    first_level =
-        record {
-          each = λ n x at l. subst (λ (w : Way). IsWay (find es) t 0 w) (sym (only_item (root t) x n at).1) (record { leads = (refl, refl); long = refl; other = λ many. cc });
-          older = λ n x at. subst (λ (w : Way). Leads (find es) t w.path w.pointer w.node × (length w.path ≤ 0)) (sym (only_item (root t) x n at).1) ((refl, refl), omega arith);
-          apart = λ m n x y hx hy lx ly same. (only_item (root t) x m hx).0 ∙ sym (only_item (root t) y n hy).0;
-          full = λ q p v leads z. inl (let e = empty_path (find es) t v q p leads z in (0, root t, refl, omega arith, e.1, inr (sym e.0)));
-        }
 
     low : (n : ℕ) (x : Way) → At (root t ∷ []) n x → weight es x.node ≤ bound es t
     low n x at = subst (λ (w : Way). weight es w.node ≤ bound es t) (sym (only_item (root t) x n at).1) (root_low es t)
@@ -106,8 +143,8 @@ module _ (es : List Entry) (t : Term) (name from : List ℕ) (first : ℕ) (path
   lower : (n : ℕ) (z : Way) → At (ways paths' types') n z → length types ≤ n → weight es z.node ≤ bound es t
   lower n z at l = bounded_next es t s.k first (ways paths types) met (ways paths' types') met' s.level next s.low n z at (omega (arith, size, l))
 
-  type_at : (n : ℕ) (r : Reached) → At types' n r → At (ways paths' types') n (way_of (get_or paths' n []) r)
-  type_at n r at = ways_at paths' types' n r sized at
+  at_type : (n : ℕ) (r : Reached) → At types' n r → At (ways paths' types') n (way_of (get_or paths' n []) r)
+  at_type n r at = ways_at paths' types' n r sized at
 
   pub search_next : (h : Bool) → IsNone (find es) name from types' (length types) → IsSpelt (find es) name types' (length types) h → SearchTo es t name from (length types) paths' types' met' (spelled || h)
   search_next h none spelt =
@@ -126,7 +163,7 @@ module _ (es : List Entry) (t : Term) (name from : List ℕ) (first : ℕ) (path
       by : (a b : Bool) → SpeltWithin (find es) t name s.k a → IsSpelt (find es) name types' (length types) b → SpeltWithin (find es) t name (s.k + 1) (a || b)
       by true b w v = w
       by false true w v =
-          let x = type_at v.0 v.1 v.2 in
+          let x = at_type v.0 v.1 v.2 in
           let y = deeper.each v.0 (way_of (get_or paths' v.0 []) v.1) x v.3 in
           (get_or paths' v.0 [], v.1.pointer, shape v.1.term.now, y.leads, v.4)
       by false false w v =
@@ -134,30 +171,12 @@ module _ (es : List Entry) (t : Term) (name from : List ℕ) (first : ℕ) (path
 
   pub search_one : (n : ℕ) (f : Found) (r : Reached) → IsOnly (find es) name from types' (length types) n f → At types' n r → IsSelected (find es) t name from (get_or paths' n []) r.pointer f
   search_one n f r o at =
-      let same : o.x ≡ r = (let a = o.at in (cc)) in
-      subst (λ (x : Reached). IsSelected (find es) t name from (get_or paths' n []) x.pointer f) same
-      (selects (find es) t name from (s.k + 1) (length types) (ways paths' types') n (way_of (get_or paths' n []) o.x) o.m f deeper s.above (type_at n o.x o.at) o.in_level o.one o.has
-      (λ i y j h at' l has. let q = ways_back paths' types' i y at' in o.only i q.0 j h q.1 l (subst (λ (w : Way). IsNamedAt (owner_in (find es) w.node) name from j h) q.2 has)))
-
-  hit_at : (n : ℕ) (r : Reached) (m : ℕ) (f : Found) → At types' n r → length types ≤ n → IsNamedAt (owner_in (find es) (shape r.term.now)) name from m f → Hit (find es) t name from (get_or paths' n []) r.pointer m f
-  hit_at n r m f at l has = record { at = shape r.term.now; leads = (deeper.each n (way_of (get_or paths' n []) r) (type_at n r at) l).leads; has = has }
+      let one = level_one (find es) t name from (s.k + 1) (length types) paths' types' sized deeper s.above n f o in
+      let same : one.0 ≡ way_of (get_or paths' n []) r = at_same (ways paths' types') n one.0 (way_of (get_or paths' n []) r) one.1 (at_type n r at) in
+      subst (λ (w : Way). IsSelected (find es) t name from w.path w.pointer f) same one.2
 
   pub search_more : IsClash (find es) name from types' (length types) → IsAmbiguous (find es) t name from
-  search_more c = by c.more
-    where
-      w : IsWay (find es) t (s.k + 1) (way_of (get_or paths' c.n []) c.x)
-      w = deeper.each c.n (way_of (get_or paths' c.n []) c.x) (type_at c.n c.x c.at) c.in_level
-
-      by : (c.x.many ≡ true)
-          ⊎ ((i : ℕ) × (y : Reached) × (j : ℕ) × (g : Found) × At types' i y × (length types ≤ i) × IsNamedAt (owner_in (find es) (shape y.term.now)) name from j g × (c.n ≡ i → c.m ≡ j → ⊥)) → IsAmbiguous (find es) t name from
-      by (inl many) =
-          let o = w.other many in
-          clashes (find es) t name from (s.k + 1) (get_or paths' c.n []) o.0 c.x.pointer o.1 c.m c.m c.f c.f s.above (hit_at c.n c.x c.m c.f c.at c.in_level c.has) (record { at = shape c.x.term.now; leads = o.2; has = c.has })
-          w.long o.3 (λ same m. o.4 (sym same))
-      by (inr o) =
-          let v = deeper.each o.0 (way_of (get_or paths' o.0 []) o.1) (type_at o.0 o.1 o.4) o.5 in
-          clashes (find es) t name from (s.k + 1) (get_or paths' c.n []) (get_or paths' o.0 []) c.x.pointer o.1.pointer c.m o.2 c.f o.3 s.above (hit_at c.n c.x c.m c.f c.at c.in_level c.has) (hit_at o.0 o.1 o.2 o.3 o.4 o.5 o.6)
-          w.long v.long (λ same m. o.7 (deeper.apart c.n o.0 (way_of (get_or paths' c.n []) c.x) (way_of (get_or paths' o.0 []) o.1) (type_at c.n c.x c.at) (type_at o.0 o.1 o.4) c.in_level o.5 same) m)
+  search_more c = level_more (find es) t name from (s.k + 1) (length types) paths' types' sized deeper s.above c
 
   pub search_falls : first < length types → height es t (length types) (ways paths' types') met' < height es t first (ways paths types) met
   search_falls less =

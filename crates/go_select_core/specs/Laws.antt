@@ -1,6 +1,7 @@
 -- Laws of selectors.
-use Rattle.std.specs.Prelude.{◌≡◌, ◌⊎◌, ◌↔◌, ◌≤◌, ℕ, suc, Bool, List, ◌∷◌, length, Contains, Result, Ok, Err}
+use Rattle.std.specs.Prelude.{◌≡◌, ◌↔◌, ◌≤◌, ℕ, suc, Bool, List, ◌∷◌, length, map, Contains, Result, Ok}
 use Rattle.go_decl_core.specs.declared.keys.DeclKey.{DeclKey}
+use Rattle.go_text_core.specs.declared.name.Name.{Name}
 use Rattle.go_text_core.specs.declared.rule.Rule.{Rule}
 use Rattle.go_term_core.specs.Terms.{Term, StructOf, Fields, term_keys, sign_keys}
 use Rattle.go_table_core.specs.Entries.{Entry, Look, find}
@@ -10,6 +11,7 @@ use Rattle.go_embed_core.specs.OwnersShown.{found_shown}
 use Rattle.go_select_core.specs.declared.search.Selected.{Selected}
 use Rattle.go_select_core.specs.Paths.{Leads, Hit, HasHit}
 use Rattle.go_select_core.specs.Selectors.{IsAnswer, IsRule}
+use Rattle.go_select_core.specs.Selections.{IsListing}
 
 -- a selector has at most one answer
 pub record OnlyOneAnswer : Type 0 where
@@ -37,3 +39,15 @@ EmbedsNames look t = (i : ℕ) (path : List ℕ) (pointer : Bool) (p : List ℕ)
 abbrev pub ShortPathsSuffice : Type 0
 ShortPathsSuffice = (es : List Entry) (t : Term) (name from : List ℕ) → EmbedsNames (find es) t → HasHit (find es) t name from
     → (path : List ℕ) × (pointer : Bool) × (number : ℕ) × (f : Found) × Hit (find es) t name from path pointer number f × (length path ≤ suc (length es))
+
+-- a name with what it denotes
+abbrev pub name_listed : Name × Selected → List ℕ × (List ℕ × (Found × Bool))
+name_listed n = (n.0, (n.1.path, (found_shown n.1.member, n.1.through_pointer)))
+
+-- the names that selectors have are listed in one way alone
+abbrev pub OneListing : Type 0
+OneListing = (look : Look) (t : Term) (from : List ℕ) (names others : List (Name × Selected)) → IsListing look t from names → IsListing look t from others → map name_listed names ≡ map name_listed others
+
+-- they depend on what the type reaches alone
+abbrev pub ListingIsLocal : Type 0
+ListingIsLocal = (look other : Look) (t : Term) (from : List ℕ) (names : List (Name × Selected)) → AgreeFrom look other t → IsListing look t from names → IsListing other t from names

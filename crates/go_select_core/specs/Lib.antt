@@ -1,4 +1,5 @@
 pub mod Paths
 pub mod Selectors
+pub mod Selections
 pub mod Laws
 pub mod mirrors

@@ -59,10 +59,19 @@ pub data IsMissing (look : Look) (t : Term) (name from : List ℕ) : Rule → Ty
   hidden : (HasHit look t name from → ⊥) → IsSpelled look t name → IsMissing look t name from rules.S3
   absent : (HasHit look t name from → ⊥) → (IsSpelled look t name → ⊥) → IsMissing look t name from rules.S1
 
+-- the member that is denoted, with its path and whether a pointer is passed on the way
+abbrev pub IsFoundAs : Look → Searched → List ℕ → List ℕ → List ℕ → Bool → Found → Type 0
+IsFoundAs look (Refused rule) name from path passes f = ⊥
+IsFoundAs look (In t by_pointer) name from path passes f = (pointer : Bool) × IsSelected look t name from path pointer f × (passes ≡ by_pointer || pointer)
+IsFoundAs look (FieldsIn t) name from path passes f = ((pointer : Bool) × IsSelected look t name from path pointer f × (passes ≡ true || pointer)) × IsFieldFound f
+
+-- what a selector denotes behind an operand of a type
+abbrev pub IsDenoted : Look → Term → List ℕ → List ℕ → List ℕ → Bool → Found → Type 0
+IsDenoted look t name from path passes f = (is_blank name ≡ false) × IsFoundAs look (searched look t) name from path passes f
+
+-- what is selected, as the program has it
 abbrev pub IsFound : Look → Searched → List ℕ → List ℕ → Selected → Type 0
-IsFound look (Refused rule) name from s = ⊥
-IsFound look (In t by_pointer) name from s = IsSelectedAs look t by_pointer name from s
-IsFound look (FieldsIn t) name from s = IsSelectedAs look t true name from s × IsFieldFound (found_shown s.member)
+IsFound look w name from s = IsFoundAs look w name from s.path s.through_pointer (found_shown s.member)
 
 -- a method is selected behind a defined pointer type
 abbrev pub IsMethodBehind : Look → Term → List ℕ → List ℕ → Type 0
@@ -80,5 +89,5 @@ IsRule look t name from rule =
 
 -- the answer to a selector, want of memory apart
 abbrev pub IsAnswer : Look → Term → List ℕ → List ℕ → Result Selected Rule → Type 0
-IsAnswer look t name from (Ok s) = (is_blank name ≡ false) × IsFound look (searched look t) name from s
+IsAnswer look t name from (Ok s) = IsDenoted look t name from s.path s.through_pointer (found_shown s.member)
 IsAnswer look t name from (Err rule) = (rule ≡ rules.M0) ⊎ IsRule look t name from rule

@@ -4,3 +4,5 @@ pub mod Ways
 pub mod Levels
 pub mod Operands
 pub mod Searches
+pub mod Names
+pub mod Listings

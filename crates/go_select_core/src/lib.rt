@@ -5,6 +5,8 @@
 
 mod laws;
 mod level;
+mod listing;
+mod names;
 mod numbers;
 mod operand;
 mod path;
@@ -12,6 +14,9 @@ mod search;
 mod trails;
 
 pub use go_embed_core::{Member, Owner};
-pub use laws::{only_one_answer, selection_is_local, short_paths_suffice};
+pub use laws::{
+    listing_is_local, one_listing, only_one_answer, selection_is_local, short_paths_suffice,
+};
+pub use listing::{selectable, selections};
 pub use path::EmbedPath;
-pub use search::{Selected, select};
+pub use search::{Selected, select, select_behind_pointer};

@@ -17,8 +17,12 @@ pub(crate) enum Operand<'a> {
     FieldsIn(&'a TypeTerm),
 }
 
-// Where a selector is searched behind a pointer to a type, which may be neither a pointer type nor an interface type.
-fn behind_pointer<'a>(
+/// Where a selector is searched behind a pointer to a type, which may be neither a pointer type nor an interface type.
+///
+/// # Errors
+///
+/// `Rule::S4` where the type is none; `Rule::S6` where it is a pointer type or an interface type.
+pub(crate) fn behind_pointer<'a>(
     table: &TypeTable,
     target: &TypeTerm,
     operand: Operand<'a>,

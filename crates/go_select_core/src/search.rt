@@ -4,12 +4,13 @@ ghost use Rattle.go_table_core.specs.Entries.{find};
 ghost use Rattle.go_term_core.specs.Shapes.{shape};
 ghost use Rattle.go_embed_core.specs.Owners.{owner_in, has_spelled};
 ghost use Rattle.go_embed_core.specs.OwnersShown.{found_shown};
-ghost use Rattle.go_select_core.specs.Selectors.{IsAnswer, IsFieldFound};
+ghost use Rattle.go_select_core.specs.Selectors.{In, FieldsIn, IsAnswer, IsFieldFound};
+ghost use Rattle.go_term_core.specs.Terms.{PointerTo};
 ghost use Rattle.go_select_core.specs.mirrors.Levels.{HasOne};
-ghost use Rattle.go_select_core.specs.mirrors.Searches.{IsSearched, IsSearchedOrNot};
+ghost use Rattle.go_select_core.specs.mirrors.Searches.{IsSearched, IsSearchedOrNot, IsFoundOrNot};
 
 use crate::level::{Judged, Levels, expand, judge};
-use crate::operand::{Operand, behind};
+use crate::operand::{Operand, behind, behind_pointer};
 use crate::path::EmbedPath;
 use go_embed_core::{Hits, Member, Owner};
 use go_path_core::ImportPath;
@@ -91,6 +92,46 @@ fn search<'a>(
     }
 }
 
+// What a name denotes in a type. Errors: M0, and the rule that it breaks.
+fn select_in<'a>(
+    alloc: Global,
+    table: &'a TypeTable,
+    start: &'a TypeTerm,
+    by_pointer: bool,
+    name: &str,
+    from: &ImportPath,
+) -> Result<Selected<'a>, Rule>
+    ensures { IsFoundOrNot (find table.now) (In (shape start.now) by_pointer) name.now from.now result }
+{
+    let found = search(alloc, table, start, name, from)?;
+    Ok(Selected {
+        member: found.member,
+        path: found.path,
+        through_pointer: by_pointer || found.through_pointer,
+    })
+}
+
+// What a name denotes in what a defined pointer type points to, where fields alone are found. Errors: M0, and the rule that it breaks.
+fn select_field<'a>(
+    alloc: Global,
+    table: &'a TypeTable,
+    start: &'a TypeTerm,
+    name: &str,
+    from: &ImportPath,
+) -> Result<Selected<'a>, Rule>
+    ensures { IsFoundOrNot (find table.now) (FieldsIn (shape start.now)) name.now from.now result }
+{
+    let found = search(alloc, table, start, name, from)?;
+    if !is_field(found.member) {
+        return Err(Rule::S7);
+    }
+    Ok(Selected {
+        member: found.member,
+        path: found.path,
+        through_pointer: true,
+    })
+}
+
 /// What the selector `x.name` denotes for an operand `x` of a type, where `name` is written in the package `from`.
 ///
 /// It is the field or method at the shallowest depth, where there is exactly one. The Go specification, "Selectors".
@@ -117,31 +158,43 @@ pub fn select<'a>(
     if name == "_" {
         return Err(Rule::S8);
     }
-    match behind(table, term)? {
-        Operand::In(start, by_pointer) => {
-            let found = search(alloc, table, start, name, from)?;
-            Ok(Selected {
-                member: found.member,
-                path: found.path,
-                through_pointer: by_pointer || found.through_pointer,
-            })
-        }
-        Operand::FieldsIn(start) => {
-            let found = search(alloc, table, start, name, from)?;
-            if !is_field(found.member) {
-                return Err(Rule::S7);
-            }
-            Ok(Selected {
-                member: found.member,
-                path: found.path,
-                through_pointer: true,
-            })
-        }
+    match behind(table, term) {
+        Ok(Operand::In(start, by_pointer)) => select_in(
+            alloc, table, start, by_pointer, name, from,
+        ),
+        Ok(Operand::FieldsIn(start)) => select_field(alloc, table, start, name, from),
+        Err(rule) => Err(rule),
+    }
+}
+
+/// What the selector `x.name` denotes for an operand `x` whose type is a pointer to a type, where `name` is written in the package `from`.
+///
+/// # Errors
+///
+/// As of [`select`].
+pub fn select_behind_pointer<'a>(
+    alloc: Global,
+    table: &'a TypeTable,
+    base: &'a TypeTerm,
+    name: &str,
+    from: &ImportPath,
+) -> Result<Selected<'a>, Rule>
+    ensures { IsAnswer (find table.now) (PointerTo (shape base.now)) name.now from.now result }
+{
+    if name == "_" {
+        return Err(Rule::S8);
+    }
+    match behind_pointer(table, base, Operand::In(base, true)) {
+        Ok(Operand::In(start, by_pointer)) => select_in(
+            alloc, table, start, by_pointer, name, from,
+        ),
+        Ok(Operand::FieldsIn(start)) => select_field(alloc, table, start, name, from),
+        Err(rule) => Err(rule),
     }
 }
 
 // Whether a member is a field.
-fn is_field(member: Member<'_>) -> bool
+pub(crate) fn is_field(member: Member<'_>) -> bool
     ensures { IsTrue result ↔ IsFieldFound (found_shown member.entry) }
 {
     match member {

@@ -53,7 +53,7 @@ module _ (kind : DeclKey → Kind) where
   embedded_key k kinds.Interface e h = ap is_no_pointer e
   embedded_key k kinds.Other e h = ap is_no_pointer e
 
-  embedded_again : (t : Term) → can_be_embedded kind t ≡ true → can_be_embedded kind (settled kind t) ≡ true
+  pub embedded_again : (t : Term) → can_be_embedded kind t ≡ true → can_be_embedded kind (settled kind t) ≡ true
   embedded_again NoType h = refl
   embedded_again (Predeclared b) h = refl
   embedded_again ErrorType h = refl

@@ -46,7 +46,7 @@ module _ (kind : DeclKey → Kind) where
     rest,
   )
 
-  none_of : (ms : Methods) (seen : List (List ℕ)) (name : List ℕ) → has_name seen name ≡ true → HasNone name (settled_methods kind seen ms)
+  pub none_of : (ms : Methods) (seen : List (List ℕ)) (name : List ℕ) → has_name seen name ≡ true → HasNone name (settled_methods kind seen ms)
   none_of NoMethod seen name there = tt
   none_of (AMethod other place g ms) seen name there =
       none_step seen name other place g ms there (none_of ms seen name there) (none_of ms (other ∷ seen) name (has_later other name seen there)) (is_blank other || has_name seen other) refl

@@ -5,3 +5,4 @@ pub mod Loops
 pub mod Masks
 pub mod Mentions
 pub mod Names
+pub mod Cleaning

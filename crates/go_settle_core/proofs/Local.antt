@@ -65,7 +65,7 @@ module _ (kind other : DeclKey → Kind) where
         let rest = behind (sign_keys g) (methods_keys ms) same in
         (λ i. if is_blank name || has_name seen name then methods_alike ms seen rest i else AMethod name place (sign_alike g first i) (methods_alike ms (name ∷ seen) rest i))
 
-    sign_alike : (g : Sign) → Agree (sign_keys g) → settled_sign kind g ≡ settled_sign other g
+    pub sign_alike : (g : Sign) → Agree (sign_keys g) → settled_sign kind g ≡ settled_sign other g
     sign_alike (SignOf ps rs) same =
         let first = before (terms_keys ps) (terms_keys rs) same in
         let rest = behind (terms_keys ps) (terms_keys rs) same in

@@ -89,7 +89,7 @@ module _ (kind : DeclKey → Kind) where
         (later (methods_keys without) (sign_keys g) (methods_keys ms) (methods_mention ms seen))
         (joined (sign_keys h) (sign_keys g) (methods_keys rest) (methods_keys ms) (sign_mentions g) (methods_mention ms (name ∷ seen)))
 
-    sign_mentions : (g : Sign) → Mentions (sign_keys (settled_sign kind g)) (sign_keys g)
+    pub sign_mentions : (g : Sign) → Mentions (sign_keys (settled_sign kind g)) (sign_keys g)
     sign_mentions (SignOf ps rs) = joined (terms_keys (settled_terms kind ps)) (terms_keys ps) (terms_keys (settled_terms kind rs)) (terms_keys rs) (terms_mention ps) (terms_mention rs)
 
     terms_mention : (ts : Terms) → Mentions (terms_keys (settled_terms kind ts)) (terms_keys ts)

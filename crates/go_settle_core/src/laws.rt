@@ -1,4 +1,5 @@
 //! Laws of settling.
+ghost use Rattle.go_settle_core.specs.Clean.{SettlingCleans};
 ghost use Rattle.go_settle_core.specs.Laws.{SettledIsApart, SettledMentionsWritten, SettlingIsIdempotent, SettlingIsLocal};
 
 /// A law, with nothing to run: a settled term settled again, with the same kinds, is the same.
@@ -19,4 +20,9 @@ pub fn settled_is_apart()
 /// A law, with nothing to run: where two look-ups agree on the defined types that a written term mentions, it is settled alike.
 pub fn settling_is_local()
     ensures { SettlingIsLocal }
+{}
+
+/// A law, with nothing to run: nothing is amiss in a settled term, and a term in which nothing is amiss is settled as it is.
+pub fn settling_cleans()
+    ensures { SettlingCleans }
 {}

@@ -14,7 +14,8 @@ mod terms;
 pub use embed::{can_embed, kind_of};
 pub use kind::{Kind, Kinds};
 pub use laws::{
-    settled_is_apart, settled_mentions_written, settling_is_idempotent, settling_is_local,
+    settled_is_apart, settled_mentions_written, settling_cleans, settling_is_idempotent,
+    settling_is_local,
 };
 pub use seen::SeenNames;
 pub use terms::{settle, settle_signature};

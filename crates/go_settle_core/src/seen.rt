@@ -9,7 +9,8 @@ use std::marker::Model;
 /// How many names are searched one by one.
 const FEW: usize = 8;
 
-/// Names, each once. Contracts see it as their list. The first few are searched one by one, the others by their hash.
+/// A set of names. Contracts see a list that has them, and promise of it which names it has. The first few are searched one by one, the
+/// others by their hash.
 #[derive(Drop)]
 pub struct SeenNames<'a> {
     few: Vec<&'a str>,

@@ -30,7 +30,7 @@ bytes_turned x y apart = by (bytes_eq y x) refl
     by false e = refl
 
 -- the first of two answers
-abbrev or_else : Option Entry → Option Entry → Option Entry
+abbrev pub or_else : Option Entry → Option Entry → Option Entry
 or_else (Some a) b = Some a
 or_else None b = b
 
@@ -38,7 +38,7 @@ or_none : (o : Option Entry) → or_else o None ≡ o
 or_none (Some a) = refl
 or_none None = refl
 
-find-append : (xs ys : List Entry) (k : DeclKey) → find (xs ++ ys) k ≡ or_else (find xs k) (find ys k)
+pub find-append : (xs ys : List Entry) (k : DeclKey) → find (xs ++ ys) k ≡ or_else (find xs k) (find ys k)
 find-append [] ys k = refl
 find-append (x ∷ xs) ys k = by (same_key x.key k) (find-append xs ys k)
   where

@@ -3,3 +3,5 @@ pub mod Searching
 pub mod Adding
 pub mod Spelled
 pub mod Meanings
+pub mod Reaching
+pub mod ByRule

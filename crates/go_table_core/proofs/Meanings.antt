@@ -11,10 +11,10 @@ use Rattle.go_table_core.specs.Entries.{Entry, Look, term_in, underlying_in, met
 use Rattle.go_table_core.specs.Assign.{Assigned, AValue, ANil, AnInteger, AText, ABoolean, IsNamed, IsInterface, IsPointer, IsValueAssignable, identical, alike, implements_it, IsFitting, IsAssignable}
 use Rattle.go_table_core.specs.Laws.{IsReached, AgreeFrom, UnderlyingIsLocal, AssignedAgrees, AssignableIsLocal}
 
-alone : (k : DeclKey) → Contains (k ∷ []) k
+pub alone : (k : DeclKey) → Contains (k ∷ []) k
 alone k = (0, omega arith, refl)
 
-reached_itself : (look : Look) (k : DeclKey) → IsReached look (Defined k) k
+pub reached_itself : (look : Look) (k : DeclKey) → IsReached look (Defined k) k
 reached_itself look k = ([], alone k)
 
 same_underlying : (look other : Look) (t : Term) → AgreeFrom look other t → underlying_in look t ≡ underlying_in other t

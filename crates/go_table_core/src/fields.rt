@@ -125,8 +125,8 @@ impl Earliest {
     }
 }
 
-/// The fields of a struct type, and none of another.
-fn fields_in(term: &TypeTerm) -> &[Field]
+/// The fields of a struct type in order, as they stand in the term; none of a type that is written otherwise, be it defined by a struct type.
+pub fn term_fields(term: &TypeTerm) -> &[Field]
     ensures { fields_of result.now ≡ term_fields (shape term.now) }
 {
     match term {
@@ -199,7 +199,7 @@ impl<'a> FieldTable<'a> {
     pub fn of(alloc: Global, underlying: &'a TypeTerm) -> Result<FieldTable<'a>, AllocError>
         ensures { IfOk result (λ table. table ≡ shape underlying.now) }
     {
-        let places = places_of(alloc, fields_in(underlying))?;
+        let places = places_of(alloc, term_fields(underlying))?;
         Ok(FieldTable { underlying, places })
     }
 

@@ -13,9 +13,9 @@ mod table;
 
 pub use assign::{Operand, assignable};
 pub use entry::{DeclaredMethod, DefinedType, TypeEntry};
-pub use fields::FieldTable;
+pub use fields::{FieldTable, term_fields};
 pub use laws::{
-    assignable_is_local, assignable_to_itself, nothing_is_assignable_to_no_type,
-    underlying_is_local,
+    adding_keeps, assignability_by_rule, assignable_is_local, assignable_to_itself,
+    nothing_is_assignable_to_no_type, reach_is_closed, underlying_is_local,
 };
 pub use table::{Located, PackageTypes, TypeTable};

@@ -2,3 +2,4 @@ pub mod TermShapes
 pub mod Copied
 pub mod SameLists
 pub mod Meanings
+pub mod ByForm

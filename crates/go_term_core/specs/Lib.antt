@@ -3,5 +3,6 @@ pub mod Terms
 pub mod Shapes
 pub mod Identity
 pub mod Laws
+pub mod Forms
 pub mod mirrors
 pub mod codes

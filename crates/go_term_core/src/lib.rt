@@ -12,7 +12,10 @@ mod tag;
 mod term;
 
 pub use copies::{close, copy, copy_signature};
-pub use laws::{defined_by_key, identity_is_equivalence, order_does_not_count, tags_are_compared};
-pub use same::{has_same_signature, identical};
+pub use laws::{
+    defined_by_key, identity_by_form, identity_is_equivalence, order_does_not_count,
+    tags_are_compared, tags_do_not_count,
+};
+pub use same::{has_same_signature, identical, identical_but_for_tags};
 pub use tag::Tag;
 pub use term::{Basic, Field, LocalPlace, MemberPlace, Method, Signature, TypeTerm};

@@ -15,7 +15,7 @@ use Rattle.go_type_core.specs.Built.{base, IsBuilt}
 use Rattle.go_type_core.specs.mirrors.Numbers.{keys_of, IsTable}
 use Rattle.go_type_core.specs.mirrors.Edges.{all_uses, AreLooped, Falls, MarksTo}
 use Rattle.go_type_core.specs.mirrors.Chained.{next_bare, next_named, nothing_at, kind_at, known_kind, AreNothing, AreRootEnds}
-use Rattle.go_type_core.specs.mirrors.Making.{marked_faults, entry_at, AreShared}
+use Rattle.go_type_core.specs.mirrors.Making.{marked_faults, entry_at, AreShared, IsMade}
 use Rattle.go_type_core.proofs.Keyed.{rise_apart}
 use Rattle.go_type_core.proofs.Looping.{in_range, marked_looped, marked_falls}
 use Rattle.go_type_core.proofs.Nothings.{inside, are_nothing}
@@ -89,19 +89,17 @@ pub record IsPrepared (es : List TypeEntry) (imported : List Entry) (keys : List
   pub made : IsTable ks (length es) (kind_at (find imported) nothing (shown es) ends)
   pub shared : AreShared (find imported) (known_kind keys ks (find imported)) nothing ends (shown es) types
 
--- the same, where lists were handed on as slices
-pub prepare : (es : List TypeEntry) (imported : List Entry) (keys : List DeclKey) (looped nothing : List Bool) (ends : List (Option ℕ)) (ks : List Kind) (types : List Entry) (looped' nothing' nothing'' : List Bool) (ends' ends'' : List (Option ℕ)) (ks' : List Kind)
-    → looped' ≡ looped → nothing' ≡ nothing → nothing'' ≡ nothing → ends' ≡ ends → ends'' ≡ ends → ks' ≡ ks
-    → Rise (shown es) → keys ≡ keys_of (shown es) → AreLooped (shown es) looped → Falls (shown es) looped → AreNothing (shown es) (find imported) nothing
-    → AreRootEnds (shown es) looped' ends → IsTable ks (length es) (kind_at (find imported) nothing' (shown es) ends')
-    → AreShared (find imported) (known_kind keys ks' (find imported)) nothing'' ends'' (shown es) types → IsPrepared es imported keys looped nothing ends ks types
-prepare es imported keys looped nothing ends ks types looped' nothing' nothing'' ends' ends'' ks' l n m e f k rise view are falls nothing_are roots made shared = record {
-  rise = rise;
-  view = view;
-  are = are;
-  falls = falls;
+-- types as they are made, where lists were handed on as slices
+pub made_of : (es : List TypeEntry) (imported : List Entry) (keys : List DeclKey) (looped nothing : List Bool) (ends : List (Option ℕ)) (ks : List Kind) (types : List Entry) (nothing' nothing'' : List Bool) (ends' ends'' : List (Option ℕ)) (ks' : List Kind)
+    → nothing' ≡ nothing → nothing'' ≡ nothing → ends' ≡ ends → ends'' ≡ ends → ks' ≡ ks → AreNothing (shown es) (find imported) nothing
+    → AreRootEnds (shown es) looped ends → IsTable ks (length es) (kind_at (find imported) nothing' (shown es) ends')
+    → AreShared (find imported) (known_kind keys ks' (find imported)) nothing'' ends'' (shown es) types → IsMade (length es) (shown es) (find imported) keys looped types
+made_of es imported keys looped nothing ends ks types nothing' nothing'' ends' ends'' ks' n m e f k nothing_are roots made shared = record {
+  nothing = nothing;
+  ends = ends;
+  ks = ks;
   nothing_are = nothing_are;
-  roots = subst (λ x. AreRootEnds (shown es) x ends) l roots;
+  roots = roots;
   made = subst (λ x. IsTable ks (length es) (kind_at (find imported) x (shown es) ends)) n (subst (λ x. IsTable ks (length es) (kind_at (find imported) nothing' (shown es) x)) e made);
   shared = subst (λ x. AreShared (find imported) (known_kind keys ks (find imported)) x ends (shown es) types) m
       (subst (λ x. AreShared (find imported) (known_kind keys ks (find imported)) nothing'' x (shown es) types) f (subst (λ x. AreShared (find imported) (known_kind keys x (find imported)) nothing'' ends'' (shown es) types) k shared));
@@ -131,3 +129,24 @@ module _ (es : List TypeEntry) (imported : List Entry) (keys : List DeclKey) (lo
 
   pub plain_of : All (λ e. IsPlain e.term) imported → All (λ e. IsPlain e.term) types
   plain_of plain = plain_types (shown es) types (find imported) (known_kind (keys_of (shown es)) ks (find imported)) nothing ends types_are (λ k. plain_found imported k plain)
+
+-- types that were made, by those that reach themselves
+module _ (es : List TypeEntry) (imported : List Entry) (keys : List DeclKey) (looped looped' : List Bool) (types : List Entry) (rise : Rise (shown es)) (view : keys ≡ keys_of (shown es)) (are : AreLooped (shown es) looped) (falls : Falls (shown es) looped)
+    (same : looped' ≡ looped) (made : IsMade (length es) (shown es) (find imported) keys looped' types) where
+  m : IsMade (length es) (shown es) (find imported) keys looped types
+  m = subst (λ l. IsMade (length es) (shown es) (find imported) keys l types) same made
+
+  prepared : IsPrepared es imported keys looped m.nothing m.ends m.ks types
+  prepared = record { rise = rise; view = view; are = are; falls = falls; nothing_are = m.nothing_are; roots = m.roots; made = m.made; shared = m.shared }
+
+  pub made_own : (path : List ℕ) → AreOf path (shown es) → AreOf path types
+  made_own path own = own_of es imported keys looped m.nothing m.ends m.ks types prepared path own
+
+  pub made_rise : Rise types
+  made_rise = rise_of es imported keys looped m.nothing m.ends m.ks types prepared
+
+  pub made_plain : All (λ e. IsPlain e.term) imported → All (λ e. IsPlain e.term) types
+  made_plain plain = plain_of es imported keys looped m.nothing m.ends m.ks types prepared plain
+
+  pub made_built : (faults : List TypeFault) → length looped ≡ length es → faults ≡ marked_faults 0 looped → IsBuilt (find imported) (shown es) types faults
+  made_built faults count is = built_of es imported keys looped m.nothing m.ends m.ks types prepared faults count is

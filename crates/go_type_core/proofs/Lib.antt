@@ -7,3 +7,6 @@ pub mod Building
 pub mod Joining
 pub mod Meanings
 pub mod Worked
+pub mod Together
+pub mod Elsewhere
+pub mod Mentioned

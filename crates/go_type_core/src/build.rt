@@ -1,10 +1,12 @@
 //! The types of a package from what is written of them.
-ghost use Rattle.std.specs.Prelude.{◌≡◌, IfOk, map};
+ghost use Rattle.std.specs.Prelude.{◌≡◌, IfOk, length, map};
 ghost use Rattle.go_table_core.specs.Entries.{find};
 ghost use Rattle.go_table_core.specs.Shown.{entry_shown};
 ghost use Rattle.go_table_core.specs.Tables.{AreOf, Rise};
 ghost use Rattle.go_type_core.specs.Built.{IsBuilt};
-ghost use Rattle.go_type_core.specs.mirrors.Making.{marked_faults};
+ghost use Rattle.go_type_core.specs.mirrors.Edges.{AreLooped};
+ghost use Rattle.go_type_core.specs.mirrors.Making.{IsMade, marked_faults};
+ghost use Rattle.go_type_core.specs.mirrors.Numbers.{keys_of};
 
 use crate::looped::looped_types;
 use crate::nothing::nothing_types;
@@ -12,7 +14,7 @@ use crate::own_keys::OwnKeys;
 use crate::roots::{kinds_of, root_ends};
 use crate::settled::settled_types;
 use go_path_core::ImportPath;
-use go_table_core::{PackageTypes, TypeEntry, TypeTable};
+use go_table_core::{DefinedType, PackageTypes, TypeEntry, TypeTable};
 use go_text_core::Rule;
 use std::alloc::{AllocError, Global};
 
@@ -39,6 +41,25 @@ fn marked_faults(alloc: Global, looped: &[bool]) -> Result<Vec<TypeFault>, Alloc
     Ok(faults)
 }
 
+// The types of a package, from those that reach themselves.
+fn made_types(
+    alloc: Global,
+    keys: &OwnKeys,
+    looped: &[bool],
+    entries: &[TypeEntry],
+    imported: &TypeTable,
+) -> Result<Vec<DefinedType>, AllocError>
+    requires keys { keys.now ≡ keys_of (map entry_shown entries.now) }
+    requires rising { Rise (map entry_shown entries.now) }
+    requires looped { AreLooped (map entry_shown entries.now) looped.now }
+    ensures { IfOk result (λ types. IsMade (length entries.now) (map entry_shown entries.now) (find imported.now) keys.now looped.now types.items) }
+{
+    let nothing = nothing_types(alloc, imported, keys, looped, entries)?;
+    let ends = root_ends(alloc, keys, looped, entries)?;
+    let kinds = kinds_of(alloc, imported, &nothing, entries, &ends)?;
+    settled_types(alloc, keys, &kinds, imported, &nothing, &ends, entries)
+}
+
 /// The types of the package of a path, from what is written of them, in order of file and place, and from the types of the packages that it
 /// imports; and the faults of types that reach themselves outside pointers and interfaces, in order. It takes time that is linear in what
 /// is written, but for look-ups. The Go specification, "Type declarations", "Underlying types", "Method declarations".
@@ -61,10 +82,7 @@ pub fn build_types(
     let _plain = imported.len();
     let keys = OwnKeys::of(alloc, &path, entries)?;
     let looped = looped_types(alloc, &keys, entries)?;
-    let nothing = nothing_types(alloc, imported, &keys, &looped, entries)?;
-    let ends = root_ends(alloc, &keys, &looped, entries)?;
-    let kinds = kinds_of(alloc, imported, &nothing, entries, &ends)?;
-    let types = settled_types(alloc, &keys, &kinds, imported, &nothing, &ends, entries)?;
     let faults = marked_faults(alloc, &looped)?;
+    let types = made_types(alloc, &keys, &looped, entries, imported)?;
     Ok((PackageTypes::new(alloc, path, types)?, faults))
 }

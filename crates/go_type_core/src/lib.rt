@@ -21,6 +21,8 @@ pub use go_table_core::{
 };
 pub use go_term_core::{
     Basic, Field, LocalPlace, MemberPlace, Method, Signature, Tag, TypeTerm, has_same_signature,
-    identical,
+    identical, identical_but_for_tags,
 };
-pub use laws::{one_settled, worked_types};
+pub use laws::{
+    building_is_local, built_mentions_written, one_settled, underlying_as_defined, worked_types,
+};

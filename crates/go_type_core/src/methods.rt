@@ -1,5 +1,5 @@
 //! The methods of a type that are its own.
-ghost use Rattle.std.specs.Prelude.{◌≡◌, ◌∷◌, [], ℕ, List, IfOk, map, not, OnOk};
+ghost use Rattle.std.specs.Prelude.{◌≡◌, [], ℕ, List, IfOk, map, not};
 ghost use Rattle.go_settle_core.specs.Settled.{has_name, kind_of_term};
 ghost use Rattle.go_table_core.specs.Methods.{has_field_before};
 ghost use Rattle.go_table_core.specs.Shown.{member_shown};
@@ -9,10 +9,9 @@ ghost use Rattle.go_type_core.specs.Built.{kept, kept_over, settled_member};
 ghost use Rattle.go_type_core.specs.mirrors.Making.{is_left_out, seen_after};
 
 use go_path_core::ImportPath;
-use go_settle_core::{Kind, Kinds, kind_of, settle_signature};
+use go_settle_core::{Kind, Kinds, SeenNames, kind_of, settle_signature};
 use go_table_core::{DeclaredMethod, FieldTable};
 use go_term_core::TypeTerm;
-use indexmap::IndexSet;
 use std::alloc::{AllocError, Global};
 
 // Whether a name is the blank identifier.
@@ -22,33 +21,22 @@ fn is_blank(name: &str) -> bool
     name == "_"
 }
 
-// Adds a name to those that were seen, unless it is there, and answers whether it was not.
-fn see<'a>(seen: &mut IndexSet<&'a str>, name: &'a str) -> Result<bool, AllocError>
-    ensures added { IfOk result (λ is_new. is_new ≡ not (has_name (map (λ n. n.now) seen.old.keys) name.now)) }
-    ensures seen { OnOk result ((n : List ℕ) → has_name (map (λ n. n.now) seen.new.keys) n ≡ has_name (name.now ∷ map (λ n. n.now) seen.old.keys) n) }
-{
-    match seen.insert(name) {
-        Ok(is_new) => Ok(is_new),
-        Err(_) => Err(AllocError),
-    }
-}
-
 // Whether a method is its type's own: it is not blank, stands behind no field of its identifier, and repeats no earlier name. Its name
 // is then among those that were seen.
 fn take_method<'a>(
     fields: &FieldTable<'_>,
     path: &ImportPath,
     method: &'a DeclaredMethod,
-    seen: &mut IndexSet<&'a str>,
+    seen: &mut SeenNames<'a>,
 ) -> Result<bool, AllocError>
-    ensures kept { IfOk result (λ is_kept. is_kept ≡ not (is_left_out path.now fields.now (map (λ n. n.now) seen.old.keys) (member_shown method.now))) }
-    ensures seen { IfOk result (λ is_kept. (n : List ℕ) → has_name (map (λ n. n.now) seen.new.keys) n ≡ has_name (seen_after is_kept method.now.name (map (λ n. n.now) seen.old.keys)) n) }
+    ensures kept { IfOk result (λ is_kept. is_kept ≡ not (is_left_out path.now fields.now seen.old (member_shown method.now))) }
+    ensures seen { IfOk result (λ is_kept. (n : List ℕ) → has_name seen.new n ≡ has_name (seen_after is_kept method.now.name seen.old) n) }
 {
     let name = method.name.as_str();
     if is_blank(name) || fields.comes_before(path, method) {
         return Ok(false);
     }
-    see(seen, name)
+    seen.add(name)
 }
 
 // A method with its settled signature.
@@ -79,7 +67,7 @@ fn own_methods<K: Kinds>(
 ) -> Result<Vec<DeclaredMethod>, AllocError>
     ensures { IfOk result (λ own. map member_shown own.items ≡ kept (K.kinds kinds.now) path.now fields.now [] (map member_shown methods.now)) }
 {
-    let mut seen = IndexSet::new(alloc);
+    let mut seen = SeenNames::new(alloc);
     let mut own = Vec::new(alloc);
     for method in methods {
         if take_method(fields, path, method, &mut seen)? {

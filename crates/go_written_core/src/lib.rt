@@ -4,8 +4,10 @@
 //! repeated field and a field that may not be embedded stand in them as they are written. The Go specification, "Types".
 #![tactic(auto)]
 
+mod laws;
 mod names;
 mod terms;
 
+pub use laws::written_by_names;
 pub use names::{TypeNames, WrittenIn};
 pub use terms::{write_signature, write_type};

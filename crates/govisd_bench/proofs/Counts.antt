@@ -2,8 +2,7 @@
 use Rattle.std.proofs.Common.{◌≡◌, ℕ, ◌+◌, ◌<◌, List, [], ◌∷◌, ◌++◌, map, length, get_or, take, Vec, Some, sym, ap, subst, ◌∙◌, arith}
 use Rattle.std.specs.Prelude.{slice_get, option_map, vec_len}
 use Rattle.std.specs.Global.{Global}
-use Rattle.std.specs.List.{IsDistinct, flat_map}
-use Rattle.std.specs.declared.string.String.{String}
+use Rattle.std.specs.List.{flat_map}
 use Rattle.std.proofs.lemmas.List.{length-append, length-map}
 use Rattle.std.proofs.lemmas.List.Folds.{flat_map-map}
 use Rattle.go_tree_nodes.specs.declared.files.ImportDecl.{ImportDecl}
@@ -11,17 +10,9 @@ use Rattle.go_tree_nodes.specs.declared.files.ImportLine.{ImportLine}
 use Rattle.go_tree_nodes.specs.Shapes.{import_of, shape_import_line, shape_import_specs}
 use Rattle.go_tree_nodes.specs.Trees.{FileTree, ImportTree}
 use Rattle.go_graph_core.specs.Packages.{Trees}
-use Rattle.go_graph_core.specs.Workspaces.{given_files, HaveDistinctNames}
 use Rattle.go_block_core.specs.declared.imports.Imported.{Imported}
 use Rattle.go_block_core.specs.Naming.{HaveOneEach, file_specs, imported_in, specs_in, specs_of}
 use Rattle.go_block_core.proofs.Pieces.{next_piece}
-
--- one file has a name of its own
-pub one_name : {Y Z : Type 0} (files : List (String Y × String Z)) → length files ≡ 1 → HaveDistinctNames (given_files files)
-unfolding IsDistinct
-one_name [] h = tt
-one_name (f ∷ []) h = (tt, tt)
-one_name (f ∷ g ∷ gs) h = absurd (omega (arith, h))
 
 -- the length that a list is asked for
 pub len_as_list : {T A : Type 0} (v : Vec T A) (n : ℕ) → n ≡ vec_len v → n ≡ length v.items

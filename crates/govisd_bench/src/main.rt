@@ -15,11 +15,11 @@
 #![tactic(auto)]
 
 mod alone;
-mod archive;
 mod calls;
 
 use calls::{Taken, measure};
 use go_graph_core::Workspace;
+use govisd_show::put_archive;
 use std::process::ExitCode;
 use std::{env, fs, io, str};
 
@@ -27,11 +27,8 @@ use std::{env, fs, io, str};
 fn show(rt: &HostRuntime, kind: &str, file: &str) -> io::Result<ExitCode> {
     let bytes = fs::read(rt, file)?;
     let mut workspace = Workspace::empty(rt.alloc());
-    let read = archive::put_archive(
-        &mut workspace,
-        rt.alloc(),
-        str::from_utf8(&bytes).unwrap_or(""),
-    );
+    let text = str::from_utf8(&bytes).unwrap_or("");
+    let read = put_archive(&mut workspace, rt.alloc(), text);
     let said = match read {
         Ok(()) => measure(rt, kind, &workspace),
         Err(_) => Ok(None),

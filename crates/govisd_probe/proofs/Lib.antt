@@ -1,3 +1,1 @@
-mod FileNames
 mod OpenBlocks
-mod Placed

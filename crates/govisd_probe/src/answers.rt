@@ -1,8 +1,8 @@
 //! Which kind of answer is asked for.
 use crate::kinds::{Asked, Kind, find};
-use crate::lines::Lines;
 use crate::{runs, shapes, tokens, trees, words, workspaces};
 use go_path_core::{ImportPath, Module};
+use govisd_show::Lines;
 use std::alloc::Global;
 
 /// Adds what is asked of the file, or the archive, in which a text stands.

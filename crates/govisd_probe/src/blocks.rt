@@ -1,18 +1,41 @@
 //! What the imports, the blocks and the faults of the packages of a workspace are.
-use crate::lines::Lines;
-use crate::packages::Named;
 use go_block_core::{Blocks, DeclKey, DeclKind, DeclRef, Target};
 use go_graph_core::{ImportAt, ImportOutcome, Plan};
+use go_text_core::add;
 use go_tree_core::{Role, occurrences};
 use go_tree_nodes::File;
-use std::alloc::Global;
+use govisd_show::{Lines, Named};
+use std::alloc::{AllocError, Global};
 
-/// A package with its blocks, among all packages.
+/// A package with its number and its blocks, among all packages.
 #[derive(Clone, Copy)]
 pub struct Place<'a> {
     pub packages: &'a [Named],
     pub package: &'a Named,
+    pub number: usize,
     pub blocks: &'a Blocks,
+}
+
+/// The packages that have blocks, in order.
+pub fn with_blocks<'a>(
+    alloc: Global,
+    packages: &'a [Named],
+    all: &'a [Option<Blocks>],
+) -> Result<Vec<Place<'a>>, AllocError> {
+    let (mut places, mut number) = (Vec::new(alloc), 0usize);
+    for (package, blocks) in packages.iter().zip(all) {
+        if let Some(blocks) = blocks {
+            let place = Place {
+                packages,
+                package,
+                number,
+                blocks,
+            };
+            add(&mut places, place)?;
+        }
+        number = number.saturating_add(1);
+    }
+    Ok(places)
 }
 
 /// The path of the package of a number, and nothing where there is none.
@@ -21,14 +44,6 @@ fn path_of(packages: &[Named], number: usize) -> &str {
         Some(package) => package.path.as_str(),
         None => "",
     }
-}
-
-/// Adds a place: the path of a package, the name of a file of it, and the offset in bytes.
-pub fn add_place(out: &mut Lines, package: &Named, file: usize, offset: usize) {
-    out.add(package.path.as_str());
-    out.add("/");
-    out.add(package.file(file));
-    out.count(":", offset, "");
 }
 
 /// Adds what an import comes to: the path of a package, or the rule that refuses it.
@@ -56,7 +71,7 @@ pub fn add_imports(
         if occ.role == Role::Import {
             out.add("import ");
             if let Some(package) = packages.get(at.package) {
-                add_place(out, package, at.file, occ.span.start as usize);
+                package.add_place(out, at.file, occ.span.start as usize);
             }
             out.add(" ");
             add_outcome(out, packages, plan.outcome(at));
@@ -91,7 +106,7 @@ pub fn kind_word(kind: DeclKind) -> &'static str {
 /// Adds a declaration: its kind and its place.
 pub fn add_decl(out: &mut Lines, package: &Named, decl: DeclRef) {
     out.word(kind_word(decl.kind));
-    add_place(out, package, decl.file, package.offset(decl));
+    package.add_decl(out, decl);
     out.line("");
 }
 
@@ -134,7 +149,7 @@ fn add_file_block(out: &mut Lines, alloc: Global, place: Place<'_>, file: usize)
         if let Some(binding) = place.blocks.file(file, name) {
             out.add("bound ");
             out.word(name);
-            add_place(out, place.package, file, binding.at);
+            place.package.add_place(out, file, binding.at);
             out.add(" ");
             add_target(out, place.packages, &binding.target);
         }
@@ -149,7 +164,7 @@ pub fn add_blocks(out: &mut Lines, alloc: Global, place: Place<'_>) {
     }
     for fault in place.blocks.faults() {
         out.add("fault ");
-        add_place(out, place.package, fault.file, fault.offset);
+        place.package.add_place(out, fault.file, fault.offset);
         out.add(" ");
         out.refuse(fault.rule.rule());
     }

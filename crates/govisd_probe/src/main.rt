@@ -6,12 +6,9 @@
 #![tactic(auto)]
 
 mod answers;
-mod archive;
 mod blocks;
 mod kinds;
-mod lines;
 mod names;
-mod packages;
 mod plans;
 mod runs;
 mod scopes;
@@ -23,7 +20,7 @@ mod words;
 mod workspaces;
 
 use answers::add_answer;
-use lines::Lines;
+use govisd_show::Lines;
 use std::alloc::{AllocError, Global};
 use std::process::ExitCode;
 use std::{env, fs, io};

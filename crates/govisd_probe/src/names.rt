@@ -3,13 +3,12 @@ ghost use Rattle.go_tree_nodes.specs.Shapes.{file_of, func_of};
 ghost use Rattle.go_decl_core.specs.Outer.{IsPlaced};
 ghost use Rattle.go_local_core.specs.Tables.{IsFuncPlaced};
 
-use crate::blocks::{Place, add_place, kind_word};
-use crate::lines::Lines;
-use crate::packages::Named;
+use crate::blocks::{Place, kind_word};
 use go_graph_core::PackageSource;
 use go_names_core::{Denoted, FuncNames, Outside, function_names};
 use go_text_core::{is_digit, is_letter};
 use go_tree_nodes::{Decl, File, FuncDecl};
+use govisd_show::{Lines, Named};
 use std::alloc::Global;
 
 /// The identifier that stands at an offset.
@@ -27,10 +26,10 @@ fn identifier(text: &str, offset: usize) -> &str {
 fn add_denoted(out: &mut Lines, package: &Named, file: usize, denoted: Option<Denoted>) {
     match denoted {
         Some(Denoted::Local(offset) | Denoted::Outside(Outside::File(offset))) => {
-            add_place(out, package, file, offset);
+            package.add_place(out, file, offset);
         }
         Some(Denoted::Outside(Outside::Package(decl))) => {
-            add_place(out, package, decl.file, package.offset(decl));
+            package.add_decl(out, decl);
         }
         Some(Denoted::Outside(Outside::Universe(name))) => {
             out.add("universe.");
@@ -66,7 +65,9 @@ fn add_function(
     requires { IsFuncPlaced (func_of func.now) }
 {
     out.add("function ");
-    add_place(out, place.package, file, func.name.span.start as usize);
+    place
+        .package
+        .add_place(out, file, func.name.span.start as usize);
     out.line("");
     match function_names(alloc, place.blocks, file, func) {
         Ok(names) => add_func_names(out, place.package, file, text, &names),
@@ -94,22 +95,33 @@ fn add_file_names(
 
 /// Adds the names of the functions of a package.
 pub fn add_names(out: &mut Lines, alloc: Global, place: Place<'_>, source: &PackageSource) {
-    for (number, file) in source.files().iter().enumerate() {
+    let mut number = 0usize;
+    for file in source.files() {
         if let Ok(tree) = file.tree() {
             add_file_names(out, alloc, place, number, file.text(), tree);
         }
+        number = number.saturating_add(1);
     }
 }
 
-/// Adds what the files of a package declare outside bodies: of each identifier its number, its kind, its spelling and its place.
+/// Adds what the file of a number declares outside bodies: of each identifier its number, its kind, its spelling and its place.
+fn add_file_keys(out: &mut Lines, package: &Named, file: usize, text: &str) {
+    let mut number = 0usize;
+    for place in package.places(file) {
+        out.count("", number, " ");
+        out.word(kind_word(place.kind));
+        out.word(identifier(text, place.at));
+        package.add_place(out, file, place.at);
+        out.line("");
+        number = number.saturating_add(1);
+    }
+}
+
+/// Adds what the files of a package declare outside bodies.
 pub fn add_keys(out: &mut Lines, package: &Named, source: &PackageSource) {
-    for (file, read) in source.files().iter().enumerate() {
-        for (number, place) in package.places(file).iter().enumerate() {
-            out.count("", number, " ");
-            out.word(kind_word(place.kind));
-            out.word(identifier(read.text(), place.at));
-            add_place(out, package, file, place.at);
-            out.line("");
-        }
+    let mut file = 0usize;
+    for read in source.files() {
+        add_file_keys(out, package, file, read.text());
+        file = file.saturating_add(1);
     }
 }

@@ -1,71 +1,76 @@
 //! What the imports of a workspace come to, counted.
-use crate::lines::Lines;
 use go_graph_core::{ImportAt, ImportOutcome, Plan, Workspace};
 use go_text_core::Rule;
+use govisd_show::Lines;
 
 /// The rules that may refuse an import.
 const IMPORT_RULES: [Rule; 6] = [Rule::I1, Rule::I2, Rule::I3, Rule::I4, Rule::I5, Rule::I6];
 
-/// Which imports are counted.
-#[derive(Clone, Copy)]
-enum Wanted {
-    All,
-    /// Those that come to a package.
-    Passing,
-    /// Those that a rule refuses.
-    Refused(Rule),
+/// How many imports there are, how many of them come to a package, and how many each of the rules refuses.
+#[derive(Drop)]
+struct Counts {
+    all: usize,
+    passing: usize,
+    refused: [usize; 6],
 }
 
-/// Whether an import that comes to this is counted.
-fn is_wanted(wanted: Wanted, outcome: ImportOutcome) -> bool {
-    match (wanted, outcome) {
-        (Wanted::All, _) | (Wanted::Passing, ImportOutcome::Package(_)) => true,
-        (Wanted::Refused(rule), ImportOutcome::Refused(refusing)) => rule == refusing,
-        _ => false,
+impl Counts {
+    /// Counts an import that a rule refuses.
+    fn refuse(&mut self, rule: Rule) {
+        for n in 0..6usize {
+            if IMPORT_RULES[n] == rule {
+                self.refused[n] = self.refused[n].saturating_add(1);
+            }
+        }
+    }
+
+    /// Adds for each rule that refuses any import how many it refuses.
+    fn add_refused(&self, out: &mut Lines) {
+        for n in 0..6usize {
+            if self.refused[n] > 0 {
+                out.add(" ");
+                out.word(IMPORT_RULES[n].number());
+                out.show(self.refused[n]);
+            }
+        }
     }
 }
 
-/// Counts imports of a file.
-fn count_file(wanted: Wanted, plan: &Plan, package: usize, file: usize) -> usize {
-    let mut count = 0usize;
+/// Counts the imports of a file.
+fn count_file(counts: &mut Counts, plan: &Plan, package: usize, file: usize) {
     for import in 0..usize::MAX {
         let at = ImportAt {
             package,
             file,
             import,
         };
-        let Some(outcome) = plan.outcome(at) else {
-            return count;
-        };
-        count = count.saturating_add(usize::from(is_wanted(wanted, outcome)));
-    }
-    count
-}
-
-/// Counts imports of a workspace.
-fn count(wanted: Wanted, workspace: &Workspace, plan: &Plan) -> usize {
-    let mut count = 0usize;
-    for (number, package) in workspace.packages().iter().enumerate() {
-        for file in 0..package.files().len() {
-            count = count.saturating_add(count_file(wanted, plan, number, file));
+        match plan.outcome(at) {
+            Some(ImportOutcome::Package(_)) => counts.passing = counts.passing.saturating_add(1),
+            Some(ImportOutcome::Refused(rule)) => counts.refuse(rule),
+            None => return,
         }
+        counts.all = counts.all.saturating_add(1);
     }
-    count
 }
 
 /// Adds how many packages and imports there are, how many imports come to a package, how many each rule refuses
 /// that refuses any, and how many packages are in the order.
 pub fn add_plan(out: &mut Lines, workspace: &Workspace, plan: &Plan) {
-    out.count("packages ", workspace.packages().len(), "");
-    out.count(" imports ", count(Wanted::All, workspace, plan), "");
-    out.count(" passing ", count(Wanted::Passing, workspace, plan), "");
-    for rule in &IMPORT_RULES {
-        let refused = count(Wanted::Refused(*rule), workspace, plan);
-        if refused > 0 {
-            out.add(" ");
-            out.word(rule.number());
-            out.show(refused);
+    let mut counts = Counts {
+        all: 0,
+        passing: 0,
+        refused: [0; 6],
+    };
+    let mut number = 0usize;
+    for package in workspace.packages() {
+        for file in 0..package.files().len() {
+            count_file(&mut counts, plan, number, file);
         }
+        number = number.saturating_add(1);
     }
+    out.count("packages ", number, "");
+    out.count(" imports ", counts.all, "");
+    out.count(" passing ", counts.passing, "");
+    counts.add_refused(out);
     out.end(" order ", plan.order().len());
 }

@@ -1,7 +1,7 @@
 //! What a run of `govisd resolve` writes and how it ends, over readers that give little or fail and writers that take little or
 //! fail.
-use crate::lines::Lines;
 use govisd_core::{ResolveEnd, run_resolve};
+use govisd_show::Lines;
 use std::alloc::Global;
 use std::io;
 use std::io::{ErrorKind, Read, Write};

@@ -1,14 +1,11 @@
 //! What names denote in the files of a workspace.
 ghost use Rattle.std.specs.Prelude.{◌<◌, length};
 
-use crate::archive::member_place;
 use crate::blocks::{Place, add_decl, add_target};
-use crate::lines::Lines;
-use crate::packages::Named;
 use crate::words::pair;
-use go_block_core::Blocks;
 use go_scope_core::{DeclId, InScope, Scopes, ShortDecl, ShortName};
-use go_text_core::Rule;
+use go_text_core::{Rule, add};
+use govisd_show::{Lines, member_place};
 use std::alloc::{AllocError, Global};
 
 /// Adds a name, and what it denotes in a file.
@@ -36,7 +33,7 @@ fn numbered<'a>(
 ) -> Result<Vec<(&'a str, DeclId)>, AllocError> {
     let mut names = Vec::new(alloc);
     for name in list.split(',') {
-        names.push((name, DeclId(number)))?;
+        add(&mut names, (name, DeclId(number)))?;
         number = number.saturating_add(1);
     }
     Ok(names)
@@ -66,7 +63,7 @@ fn add_none_new(out: &mut Lines, alloc: Global, scopes: &Scopes<'_>, list: &str)
 {
     let mut names = Vec::new(alloc);
     for name in list.split(',') {
-        if names.push(name).is_err() {
+        if add(&mut names, name).is_err() {
             return out.cut();
         }
     }
@@ -111,25 +108,29 @@ fn add_block(out: &mut Lines, alloc: Global, scopes: &mut Scopes<'_>, words: &st
     requires { 0 < length scopes.old.open_blocks }
     ensures { 0 < length scopes.new.open_blocks }
 {
-    for (i, word) in words.split_whitespace().enumerate() {
-        let number = first.saturating_add(i);
+    let mut number = first;
+    for word in words.split_whitespace() {
         out.add(word);
         match word.strip_suffix(":=") {
             Some(list) => add_short(out, alloc, scopes, list, number),
             None => add_declared(out, scopes, word, number),
         }
+        number = number.saturating_add(1);
     }
 }
 
-/// Adds what names denote in a block, and outside of it.
+/// Adds what the names of a block denote in it, and outside of it.
 fn add_both(
     out: &mut Lines,
+    alloc: Global,
     place: Place<'_>,
     inside: &Scopes<'_>,
     outside: &Scopes<'_>,
-    names: &[&str],
 ) {
-    for name in names {
+    let Ok(names) = inside.names(alloc) else {
+        return out.cut();
+    };
+    for name in &names {
         add_found(out, place, inside, name);
         add_found(out, place, outside, name);
     }
@@ -143,29 +144,34 @@ fn add_inner(
     place: Place<'_>,
     scopes: &mut Scopes<'_>,
     words: &str,
-) -> Result<(), Rule> {
+) {
     let (outer, inner) = words.split_once('{').unwrap_or((words, ""));
-    scopes.enter()?;
+    let Ok(()) = scopes.enter() else {
+        return out.cut();
+    };
     add_block(out, alloc, scopes, outer, 0);
-    scopes.enter()?;
+    let Ok(()) = scopes.enter() else {
+        return out.cut();
+    };
     add_block(out, alloc, scopes, inner, 100);
-    let inside = scopes.copy(alloc)?;
+    let Ok(inside) = scopes.copy(alloc) else {
+        return out.cut();
+    };
     scopes.leave();
-    let names = inside.names(alloc)?;
-    add_both(out, place, &inside, scopes, names.as_slice());
-    Ok(())
+    add_both(out, alloc, place, &inside, scopes);
 }
 
 /// Adds the names that denote something in a file.
-fn add_names(out: &mut Lines, alloc: Global, scopes: &Scopes<'_>) -> Result<(), Rule> {
-    let names = scopes.names(alloc)?;
+fn add_names(out: &mut Lines, alloc: Global, scopes: &Scopes<'_>) {
+    let Ok(names) = scopes.names(alloc) else {
+        return out.cut();
+    };
     out.add("names");
     for name in &names {
         out.add(" ");
         out.add(name);
     }
     out.line("");
-    Ok(())
 }
 
 /// Adds the answer to what is asked of a file: what a name denotes there, or without a name the names that denote
@@ -174,53 +180,40 @@ fn add_asked(
     out: &mut Lines,
     alloc: Global,
     place: Place<'_>,
-    mut scopes: Scopes<'_>,
+    scopes: &mut Scopes<'_>,
     asked: &str,
 ) {
-    let done = if asked.is_empty() {
-        add_names(out, alloc, &scopes)
-    } else if let Some(words) = asked.strip_prefix('{') {
-        add_inner(out, alloc, place, &mut scopes, words)
-    } else {
-        add_found(out, place, &scopes, asked);
-        Ok(())
-    };
-    if done.is_err() {
-        out.cut();
+    if asked.is_empty() {
+        return add_names(out, alloc, scopes);
+    }
+    match asked.strip_prefix('{') {
+        Some(words) => add_inner(out, alloc, place, scopes, words),
+        None => add_found(out, place, scopes, asked),
     }
 }
 
 /// Adds the answer to what is asked of a file of a package.
 fn add_in_package(out: &mut Lines, alloc: Global, place: Place<'_>, file: &str, asked: &str) {
-    for (number, named) in place.package.files.iter().enumerate() {
+    let mut number = 0usize;
+    for named in &place.package.files {
         if named.name.as_str() == file {
-            let scopes = Scopes::begin(alloc, place.blocks, number);
-            return add_asked(out, alloc, place, scopes, asked);
+            let mut scopes = Scopes::begin(alloc, place.blocks, number);
+            return add_asked(out, alloc, place, &mut scopes, asked);
         }
+        number = number.saturating_add(1);
     }
     out.line("no file");
 }
 
 /// Adds the answer to a query: a file of a package, written as its path and its name, and behind a blank what is
 /// asked of it.
-fn add_query<'a>(
-    out: &mut Lines,
-    alloc: Global,
-    packages: &'a [Named],
-    all: &'a [Option<Blocks>],
-    query: &str,
-) {
-    let (place, asked) = pair(query);
-    out.word(place);
-    let (path, file) = place.rsplit_once('/').unwrap_or(("", place));
-    for (package, blocks) in packages.iter().zip(all) {
-        if let (true, Some(blocks)) = (package.path.as_str() == path, blocks) {
-            let place = Place {
-                packages,
-                package,
-                blocks,
-            };
-            return add_in_package(out, alloc, place, file, asked);
+fn add_query(out: &mut Lines, alloc: Global, places: &[Place<'_>], query: &str) {
+    let (file, asked) = pair(query);
+    out.word(file);
+    let (path, name) = file.rsplit_once('/').unwrap_or(("", file));
+    for place in places {
+        if place.package.path.as_str() == path {
+            return add_in_package(out, alloc, *place, name, asked);
         }
     }
     out.line("no package");
@@ -228,20 +221,14 @@ fn add_query<'a>(
 
 /// Adds the answers to the queries of an archive with its packages. The queries stand before its first file, a line
 /// each.
-pub fn add_scope<'a>(
-    out: &mut Lines,
-    alloc: Global,
-    packages: &'a [Named],
-    all: &'a [Option<Blocks>],
-    text: &str,
-) {
+pub fn add_scope(out: &mut Lines, alloc: Global, places: &[Place<'_>], text: &str) {
     for line in text.lines() {
         if member_place(line).is_some() {
             return;
         }
         let query = line.trim();
         if !query.is_empty() {
-            add_query(out, alloc, packages, all, query);
+            add_query(out, alloc, places, query);
         }
     }
 }

@@ -1,7 +1,7 @@
 //! Archives of packages in a shape, of any number of packages.
 use crate::kinds::Kind;
-use crate::lines::Lines;
 use crate::workspaces::add_of_archive;
+use govisd_show::Lines;
 use std::alloc::Global;
 use std::ops::Range;
 

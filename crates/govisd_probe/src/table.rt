@@ -1,7 +1,7 @@
 //! A table of cases: what is asked, of which texts.
 use crate::answers::add_answer;
-use crate::lines::Lines;
 use go_scan_core::{Operator, Token, TokenKind, integer_value, scan, string_value};
+use govisd_show::Lines;
 use std::alloc::Global;
 
 /// A case, as far as it is read.

@@ -1,8 +1,8 @@
 //! What is answered of tokens and comments.
-use crate::lines::Lines;
 use go_scan_core::{
     Comment, CommentKind, ScanError, Token, TokenKind, comments, integer_value, scan, string_value,
 };
+use govisd_show::Lines;
 use std::alloc::Global;
 
 /// Adds why a text has no tokens.

@@ -1,10 +1,10 @@
 //! What is answered of trees.
 use crate::kinds::Kind;
-use crate::lines::Lines;
 use crate::tokens::add_comments;
 use go_parse_core::{ParseError, Parsed, parse, tree_of};
 use go_tree_core::{Occ, at, close, copy, occurrences};
 use go_tree_nodes::{Decl, File};
+use govisd_show::Lines;
 use std::alloc::Global;
 
 /// Adds why a text has no tree.

@@ -1,7 +1,7 @@
 //! What is answered of letters, names, spans, rules, import paths and modules.
-use crate::lines::Lines;
 use go_path_core::{ImportPath, Module, may_import, overlaps};
 use go_text_core::{Name, Rule, Span, is_digit, is_exported, is_letter, same_id};
+use govisd_show::Lines;
 use std::alloc::Global;
 
 /// The rules on names.

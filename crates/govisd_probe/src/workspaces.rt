@@ -1,18 +1,16 @@
 //! What is answered of workspaces.
 ghost use Rattle.go_graph_core.specs.Plans.{IsPlan};
 
-use crate::archive::put_archive;
-use crate::blocks::{Place, add_blocks, add_imports, add_order};
+use crate::blocks::{Place, add_blocks, add_imports, add_order, with_blocks};
 use crate::kinds::Kind;
-use crate::lines::Lines;
 use crate::names::{add_keys, add_names};
-use crate::packages::{Named, add_counts, add_files, add_package, name_packages};
 use crate::plans::add_plan;
 use crate::scopes::add_scope;
-use go_block_core::{Blocks, workspace_blocks};
+use go_block_core::workspace_blocks;
 use go_graph_core::{ImportAt, Plan, Workspace, plan_imports};
 use go_path_core::Module;
 use go_text_core::Rule;
+use govisd_show::{Lines, Named, add_counts, add_files, add_package, name_packages, put_archive};
 use std::alloc::Global;
 
 /// Adds the packages of a workspace, their imports and their order.
@@ -26,8 +24,10 @@ fn add_packages(
     for source in workspace.packages() {
         add_package(out, source);
     }
-    for (package, source) in workspace.packages().iter().enumerate() {
-        for (file, read) in source.files().iter().enumerate() {
+    let mut package = 0usize;
+    for source in workspace.packages() {
+        let mut file = 0usize;
+        for read in source.files() {
             let at = ImportAt {
                 package,
                 file,
@@ -36,32 +36,26 @@ fn add_packages(
             if let Ok(tree) = read.tree() {
                 add_imports(out, alloc, packages, plan, at, tree);
             }
+            file = file.saturating_add(1);
         }
+        package = package.saturating_add(1);
     }
     add_order(out, packages, plan.order());
 }
 
-/// Adds the blocks of packages, the names of their functions, or what their files declare.
-fn add_all_blocks<'a>(
+/// Adds what is asked of the blocks of packages, of the names of their functions, or of what their files declare.
+fn add_all_blocks(
     out: &mut Lines,
     alloc: Global,
     kind: &Kind,
     workspace: &Workspace,
-    packages: &'a [Named],
-    all: &'a [Option<Blocks>],
+    places: &[Place<'_>],
 ) {
-    for ((package, blocks), source) in packages.iter().zip(all).zip(workspace.packages()) {
-        if let Some(blocks) = blocks {
-            let place = Place {
-                packages,
-                package,
-                blocks,
-            };
-            match kind {
-                Kind::Names => add_names(out, alloc, place, source),
-                Kind::Keys => add_keys(out, package, source),
-                _ => add_blocks(out, alloc, place),
-            }
+    for place in places {
+        match (kind, workspace.packages().get(place.number)) {
+            (Kind::Names, Some(source)) => add_names(out, alloc, *place, source),
+            (Kind::Keys, Some(source)) => add_keys(out, place.package, source),
+            _ => add_blocks(out, alloc, *place),
         }
     }
 }
@@ -80,18 +74,19 @@ fn add_planned(
     let Ok(packages) = name_packages(alloc, workspace) else {
         return out.cut();
     };
-    let packages = packages.as_slice();
     let Ok(blocks) = workspace_blocks(alloc, workspace, plan) else {
         return out.cut();
     };
-    let blocks = blocks.as_slice();
-    if matches!(kind, Kind::Scope) {
-        return add_scope(out, alloc, packages, blocks, text);
+    let packages = packages.as_slice();
+    let Ok(places) = with_blocks(alloc, packages, blocks.as_slice()) else {
+        return out.cut();
+    };
+    match kind {
+        Kind::Scope => return add_scope(out, alloc, places.as_slice(), text),
+        Kind::Packages => add_packages(out, alloc, workspace, packages, plan),
+        _ => {}
     }
-    if matches!(kind, Kind::Packages) {
-        add_packages(out, alloc, workspace, packages, plan);
-    }
-    add_all_blocks(out, alloc, kind, workspace, packages, blocks);
+    add_all_blocks(out, alloc, kind, workspace, places.as_slice());
 }
 
 /// Adds what is asked of the imports of a workspace, or of what stands on them.

@@ -7,7 +7,7 @@ use Rattle.go_table_core.specs.Entries.{Look}
 use Rattle.go_embed_core.specs.OwnersShown.{found_shown}
 use Rattle.go_select_core.specs.declared.search.Selected.{Selected}
 use Rattle.go_select_core.specs.Paths.{IsSelected}
-use Rattle.go_select_core.specs.Selectors.{IsMissing}
+use Rattle.go_select_core.specs.Selectors.{Searched, IsMissing, IsFound, IsRefused}
 
 abbrev pub IsSearched : Look → Term → List ℕ → List ℕ → Result Selected Rule → Type 0
 IsSearched look t name from (Ok s) = IsSelected look t name from s.path s.through_pointer (found_shown s.member)
@@ -17,3 +17,8 @@ IsSearched look t name from (Err rule) = IsMissing look t name from rule
 abbrev pub IsSearchedOrNot : Look → Term → List ℕ → List ℕ → Result Selected Rule → Type 0
 IsSearchedOrNot look t name from (Ok s) = IsSelected look t name from s.path s.through_pointer (found_shown s.member)
 IsSearchedOrNot look t name from (Err rule) = (rule ≡ rules.M0) ⊎ IsMissing look t name from rule
+
+-- what a name denotes where a selector is searched, want of memory too
+abbrev pub IsFoundOrNot : Look → Searched → List ℕ → List ℕ → Result Selected Rule → Type 0
+IsFoundOrNot look w name from (Ok s) = IsFound look w name from s
+IsFoundOrNot look w name from (Err rule) = (rule ≡ rules.M0) ⊎ IsRefused look w name from rule

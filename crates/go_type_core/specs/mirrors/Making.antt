@@ -17,7 +17,7 @@ use Rattle.go_table_core.specs.Entries.{Entry, Look, Member, find}
 use Rattle.go_table_core.specs.Methods.{has_field_before}
 use Rattle.go_type_core.specs.Built.{kept_over}
 use Rattle.go_type_core.specs.mirrors.Numbers.{term_at, IsTable}
-use Rattle.go_type_core.specs.mirrors.Chained.{root_at, root_term, term_unless, under_at, known_kind}
+use Rattle.go_type_core.specs.mirrors.Chained.{root_at, root_term, term_unless, under_at, kind_at, known_kind, AreNothing, AreRootEnds}
 use Rattle.go_type_core.specs.declared.build.TypeFault.{TypeFault}
 use Rattle.go_type_core.specs.declared.settled.Plan.{Plan}
 
@@ -80,3 +80,13 @@ plan_kind p = known_kind p.kinds.keys.now p.kinds.kinds.now (find p.kinds.import
 abbrev pub AreShared : Look → (DeclKey → Kind) → List Bool → List (Option ℕ) → List Entry → List Entry → Type 0
 AreShared far kind nothing ends written types =
     (us : List Term) × IsTable us (length written) (own_term_at far kind nothing written ends) × IsTable types (length written) (shared_entry_at kind nothing written ends us)
+
+-- the types of a package as they are made where it is known which reach themselves: what is none, ends of chains of names and kinds first
+pub record IsMade (count : ℕ) (written : List Entry) (far : Look) (keys : List DeclKey) (looped : List Bool) (types : List Entry) : Type 0 where
+  pub nothing : List Bool
+  pub ends : List (Option ℕ)
+  pub ks : List Kind
+  pub nothing_are : AreNothing written far nothing
+  pub roots : AreRootEnds written looped ends
+  pub made : IsTable ks count (kind_at far nothing written ends)
+  pub shared : AreShared far (known_kind keys ks far) nothing ends written types

@@ -6,5 +6,5 @@ use Rattle.go_graph_core.proofs.workspace.position_of.Goals as goal
 
 pub returns : goal.returns
 returns c =
-    place_of (λ p. p.0) c.args.packages.now c.args.path.now c.binary_search_by.result c.requires c.binary_search_by.ensures.bound
+    place_of c.args.packages.now c.args.path.now c.binary_search_by.result c.requires c.binary_search_by.ensures.bound
     (c.binary_search_by.ensures.position (λ p. by_bytes p.0 c.args.path.now) (always_returns_same _ _ _ (λ a r f' k. search rules)))

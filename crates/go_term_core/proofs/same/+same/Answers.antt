@@ -3,27 +3,27 @@ use Rattle.go_term_core.specs.Shapes.{shape, sign_of}
 use Rattle.go_term_core.proofs.TermShapes.{shape_struct, shape_interface}
 use Rattle.go_term_core.proofs.SameLists.{fails, alike_passed, alike_nowhere, both_step, both_differ, both_end, IsSameField, AreSameFields, fields_open, IsSameTerm, AreSameTerms, terms_open, as_many_fields, as_many_terms, methods_counted, alike_found, alike_in, alike_where, all_step, all_missing, all_end, same_at}
 use Rattle.go_term_core.proofs.same.+same.Goals as goal
-use Rattle.go_term_core.proofs.same.+same.Goals.{has_alike-else-is_same_name-via-then-is_same_name+else-has_same_signature, has_alike-else-is_same_name-via-else-is_same_name, same_methods-else-not-has_alike-via-then-not-has_alike+else-not-has_alike-2, same_methods-else-not-has_alike-via-else-not-has_alike}
+use Rattle.go_term_core.proofs.same.+same.Goals.{has_alike-else-is_same_name-via-then-is_same_name+else-same_signature, has_alike-else-is_same_name-via-else-is_same_name, same_methods-else-not-has_alike-via-then-not-has_alike+else-not-has_alike-2, same_methods-else-not-has_alike-via-else-not-has_alike}
 
-pub has_alike-returns-then-has_same_signature : goal.has_alike-returns-then-has_same_signature
-has_alike-returns-then-has_same_signature t c =
+pub has_alike-returns-then-same_signature : goal.has_alike-returns-then-same_signature
+has_alike-returns-then-same_signature t c =
     let a = c.args in
-    alike_found a.p.now a.m.now.name (sign_of a.m.now.signature) a.q.now a.ns.now _ c.n-item.result c.loop-n-test.true c.n-item.is (c.if-is_same_name.ensures.0 refl) (c.if-has_same_signature.ensures.0 refl) c.loop-n.invariant
+    alike_found a.tags a.p.now a.m.now.name (sign_of a.m.now.signature) a.q.now a.ns.now _ c.n-item.result c.loop-n-test.true c.n-item.is (c.if-is_same_name.ensures.0 refl) (c.if-same_signature.ensures.0 refl) c.loop-n.invariant
 
-pub identical-returns-in-Struct-Struct : goal.identical-returns-in-Struct-Struct
-identical-returns-in-Struct-Struct t c =
+pub identical_by-returns-in-Struct-Struct : goal.identical_by-returns-in-Struct-Struct
+identical_by-returns-in-Struct-Struct t c =
     let w = c.in-Struct-Struct in
-    same_at _ _ _ _ _ (ap shape w.is-0 ∙ shape_struct w.p w.fs) (ap shape w.is-1 ∙ shape_struct w.q w.gs) c.same_fields.ensures
+    same_at c.args.tags _ _ _ _ _ (ap shape w.is-0 ∙ shape_struct w.p w.fs) (ap shape w.is-1 ∙ shape_struct w.q w.gs) c.same_fields.ensures
 
-pub identical-returns-in-Interface-Interface : goal.identical-returns-in-Interface-Interface
-identical-returns-in-Interface-Interface t c =
+pub identical_by-returns-in-Interface-Interface : goal.identical_by-returns-in-Interface-Interface
+identical_by-returns-in-Interface-Interface t c =
     let w = c.in-Interface-Interface in
-    same_at _ _ _ _ _ (ap shape w.is-0 ∙ shape_interface w.p w.ms) (ap shape w.is-1 ∙ shape_interface w.q w.ns) c.same_methods.ensures
+    same_at c.args.tags _ _ _ _ _ (ap shape w.is-0 ∙ shape_interface w.p w.ms) (ap shape w.is-1 ∙ shape_interface w.q w.ns) c.same_methods.ensures
 
 pub same_fields-returns-then-len : goal.same_fields-returns-then-len
 same_fields-returns-then-len t c =
     let a = c.args in
-    fails (λ h. let e = as_many_fields a.p.now a.q.now a.fs.now.items a.gs.now.items h in c.if-len.true (c.len.ensures ∙ (a.fs.now.ok.0 ∙ e ∙ sym a.gs.now.ok.0) ∙ sym c.len-2.ensures))
+    fails (λ h. let e = as_many_fields a.tags a.p.now a.q.now a.fs.now.items a.gs.now.items h in c.if-len.true (c.len.ensures ∙ (a.fs.now.ok.0 ∙ e ∙ sym a.gs.now.ok.0) ∙ sym c.len-2.ensures))
 
 pub same_methods-returns-then-len : goal.same_methods-returns-then-len
 same_methods-returns-then-len t c =
@@ -34,9 +34,9 @@ pub same_methods-returns-then-not-has_alike-2 : goal.same_methods-returns-then-n
 same_methods-returns-then-not-has_alike-2 t c =
     let a = c.args in
     let m = c.m-item.result in
-    all_missing a.p.now a.q.now _ a.ms.now.items a.ns.now.items _ m c.deref-m-items.ensures.value c.loop-i-test.true c.m-item.is
+    all_missing a.tags a.p.now a.q.now _ a.ms.now.items a.ns.now.items _ m c.deref-m-items.ensures.value c.loop-i-test.true c.m-item.is
     (λ has.
-    elim (alike_where a.p.now m.name (sign_of m.signature) a.q.now _ _ _ a.ns.now.items _ c.deref.ensures.value c.split_at.ensures.front c.split_at.ensures.back has) [
+    elim (alike_where a.tags a.p.now m.name (sign_of m.signature) a.q.now _ _ _ a.ns.now.items _ c.deref.ensures.value c.split_at.ensures.front c.split_at.ensures.back has) [
       | inl h ↦ let k : false ≡ true = c.if-not-has_alike.ensures.1 h in cc
       | inr h ↦ let k : false ≡ true = c.if-not-has_alike-2.ensures.1 h in cc
     ])
@@ -46,8 +46,8 @@ pub same_methods-loop-i-preserved : goal.same_methods-loop-i-preserved
 same_methods-loop-i-preserved t c =
     let a = c.args in
     let m = c.m-item.result in
-    all_step a.p.now a.q.now _ a.ms.now.items a.ns.now.items _ m c.deref-m-items.ensures.value c.loop-i-test.true c.m-item.is
-    (alike_in a.p.now m.name (sign_of m.signature) a.q.now _ _ _ a.ns.now.items _ c.deref.ensures.value c.split_at.ensures.front c.split_at.ensures.back (
+    all_step a.tags a.p.now a.q.now _ a.ms.now.items a.ns.now.items _ m c.deref-m-items.ensures.value c.loop-i-test.true c.m-item.is
+    (alike_in a.tags a.p.now m.name (sign_of m.signature) a.q.now _ _ _ a.ns.now.items _ c.deref.ensures.value c.split_at.ensures.front c.split_at.ensures.back (
     elim c.else-not-has_alike.branch [
       | same_methods-else-not-has_alike-via-then-not-has_alike+else-not-has_alike-2 w ↦ inr (w.if-not-has_alike-2.ensures.0 refl)
       | same_methods-else-not-has_alike-via-else-not-has_alike w ↦ inl (w.if-not-has_alike.ensures.0 refl)
@@ -57,55 +57,55 @@ same_methods-loop-i-preserved t c =
 pub same_methods-returns : goal.same_methods-returns
 same_methods-returns t c =
     let a = c.args in
-    (λ _. (methods_counted a.ms.now.items ∙ (sym a.ms.now.ok.0 ∙ (sym c.len.ensures ∙ c.if-len.false ∙ c.len-2.ensures) ∙ a.ns.now.ok.0) ∙ sym (methods_counted a.ns.now.items), all_end a.p.now a.q.now _ a.ms.now.items a.ns.now.items _ c.deref-m-items.ensures.value c.loop-i-test.false c.loop-i.invariant), λ _. refl)
+    (λ _. (methods_counted a.ms.now.items ∙ (sym a.ms.now.ok.0 ∙ (sym c.len.ensures ∙ c.if-len.false ∙ c.len-2.ensures) ∙ a.ns.now.ok.0) ∙ sym (methods_counted a.ns.now.items), all_end a.tags a.p.now a.q.now _ a.ms.now.items a.ns.now.items _ c.deref-m-items.ensures.value c.loop-i-test.false c.loop-i.invariant), λ _. refl)
 
 pub same_terms-returns-then-len : goal.same_terms-returns-then-len
 same_terms-returns-then-len t c =
     let a = c.args in
-    fails (λ h. let e = as_many_terms a.ts.now.items a.us.now.items h in c.if-len.true (c.len.ensures ∙ (a.ts.now.ok.0 ∙ e ∙ sym a.us.now.ok.0) ∙ sym c.len-2.ensures))
+    fails (λ h. let e = as_many_terms a.tags a.ts.now.items a.us.now.items h in c.if-len.true (c.len.ensures ∙ (a.ts.now.ok.0 ∙ e ∙ sym a.us.now.ok.0) ∙ sym c.len-2.ensures))
 
 pub same_fields-loop-i-preserved : goal.same_fields-loop-i-preserved
 same_fields-loop-i-preserved t c =
     let a = c.args in
     let many = sym a.fs.now.ok.0 ∙ (sym c.len.ensures ∙ c.if-len.false ∙ c.len-2.ensures) ∙ a.gs.now.ok.0 in
-    both_step (AreSameFields a.p.now a.q.now) (IsSameField a.p.now a.q.now) (fields_open a.p.now a.q.now) _ a.fs.now.items a.gs.now.items _ c.f-item.result c.index.result.now c.deref-f-items.ensures.value many c.loop-i-test.true c.f-item.is c.index.ensures (c.if-not-is_same_field.ensures.0 refl) c.loop-i.invariant
+    both_step (AreSameFields a.tags a.p.now a.q.now) (IsSameField a.tags a.p.now a.q.now) (fields_open a.tags a.p.now a.q.now) _ a.fs.now.items a.gs.now.items _ c.f-item.result c.index.result.now c.deref-f-items.ensures.value many c.loop-i-test.true c.f-item.is c.index.ensures (c.if-not-is_same_field.ensures.0 refl) c.loop-i.invariant
 
 pub same_fields-returns-then-not-is_same_field : goal.same_fields-returns-then-not-is_same_field
 same_fields-returns-then-not-is_same_field t c =
     let a = c.args in
     let many = sym a.fs.now.ok.0 ∙ (sym c.len.ensures ∙ c.if-len.false ∙ c.len-2.ensures) ∙ a.gs.now.ok.0 in
-    both_differ (AreSameFields a.p.now a.q.now) (IsSameField a.p.now a.q.now) (fields_open a.p.now a.q.now) _ a.fs.now.items a.gs.now.items _ c.f-item.result c.index.result.now c.deref-f-items.ensures.value many c.loop-i-test.true c.f-item.is c.index.ensures (λ h. let k : false ≡ true = c.if-not-is_same_field.ensures.1 h in cc) c.loop-i.invariant
+    both_differ (AreSameFields a.tags a.p.now a.q.now) (IsSameField a.tags a.p.now a.q.now) (fields_open a.tags a.p.now a.q.now) _ a.fs.now.items a.gs.now.items _ c.f-item.result c.index.result.now c.deref-f-items.ensures.value many c.loop-i-test.true c.f-item.is c.index.ensures (λ h. let k : false ≡ true = c.if-not-is_same_field.ensures.1 h in cc) c.loop-i.invariant
 
 pub same_fields-returns : goal.same_fields-returns
 same_fields-returns t c =
     let a = c.args in
     let many = sym a.fs.now.ok.0 ∙ (sym c.len.ensures ∙ c.if-len.false ∙ c.len-2.ensures) ∙ a.gs.now.ok.0 in
-    both_end (AreSameFields a.p.now a.q.now) tt _ a.fs.now.items a.gs.now.items _ c.deref-f-items.ensures.value many c.loop-i-test.false c.loop-i.invariant
+    both_end (AreSameFields a.tags a.p.now a.q.now) tt _ a.fs.now.items a.gs.now.items _ c.deref-f-items.ensures.value many c.loop-i-test.false c.loop-i.invariant
 
 pub same_terms-loop-i-preserved : goal.same_terms-loop-i-preserved
 same_terms-loop-i-preserved t c =
     let a = c.args in
     let many = sym a.ts.now.ok.0 ∙ (sym c.len.ensures ∙ c.if-len.false ∙ c.len-2.ensures) ∙ a.us.now.ok.0 in
-    both_step AreSameTerms IsSameTerm terms_open _ a.ts.now.items a.us.now.items _ c.t-item.result c.index.result.now c.deref-t-items.ensures.value many c.loop-i-test.true c.t-item.is c.index.ensures (c.if-not-identical.ensures.0 refl) c.loop-i.invariant
+    both_step (AreSameTerms a.tags) (IsSameTerm a.tags) (terms_open a.tags) _ a.ts.now.items a.us.now.items _ c.t-item.result c.index.result.now c.deref-t-items.ensures.value many c.loop-i-test.true c.t-item.is c.index.ensures (c.if-not-identical_by.ensures.0 refl) c.loop-i.invariant
 
-pub same_terms-returns-then-not-identical : goal.same_terms-returns-then-not-identical
-same_terms-returns-then-not-identical t c =
+pub same_terms-returns-then-not-identical_by : goal.same_terms-returns-then-not-identical_by
+same_terms-returns-then-not-identical_by t c =
     let a = c.args in
     let many = sym a.ts.now.ok.0 ∙ (sym c.len.ensures ∙ c.if-len.false ∙ c.len-2.ensures) ∙ a.us.now.ok.0 in
-    both_differ AreSameTerms IsSameTerm terms_open _ a.ts.now.items a.us.now.items _ c.t-item.result c.index.result.now c.deref-t-items.ensures.value many c.loop-i-test.true c.t-item.is c.index.ensures (λ h. let k : false ≡ true = c.if-not-identical.ensures.1 h in cc) c.loop-i.invariant
+    both_differ (AreSameTerms a.tags) (IsSameTerm a.tags) (terms_open a.tags) _ a.ts.now.items a.us.now.items _ c.t-item.result c.index.result.now c.deref-t-items.ensures.value many c.loop-i-test.true c.t-item.is c.index.ensures (λ h. let k : false ≡ true = c.if-not-identical_by.ensures.1 h in cc) c.loop-i.invariant
 
 pub same_terms-returns : goal.same_terms-returns
 same_terms-returns t c =
     let a = c.args in
     let many = sym a.ts.now.ok.0 ∙ (sym c.len.ensures ∙ c.if-len.false ∙ c.len-2.ensures) ∙ a.us.now.ok.0 in
-    both_end AreSameTerms tt _ a.ts.now.items a.us.now.items _ c.deref-t-items.ensures.value many c.loop-i-test.false c.loop-i.invariant
+    both_end (AreSameTerms a.tags) tt _ a.ts.now.items a.us.now.items _ c.deref-t-items.ensures.value many c.loop-i-test.false c.loop-i.invariant
 
 pub has_alike-loop-n-preserved : goal.has_alike-loop-n-preserved
 has_alike-loop-n-preserved t c =
     let a = c.args in
-    alike_passed a.p.now a.m.now.name (sign_of a.m.now.signature) a.q.now a.ns.now _ c.n-item.result c.loop-n-test.true c.n-item.is
+    alike_passed a.tags a.p.now a.m.now.name (sign_of a.m.now.signature) a.q.now a.ns.now _ c.n-item.result c.loop-n-test.true c.n-item.is
     (elim c.else-is_same_name.branch [
-      | has_alike-else-is_same_name-via-then-is_same_name+else-has_same_signature w ↦ (λ same signs. let k : false ≡ true = w.if-has_same_signature.ensures.1 signs in cc)
+      | has_alike-else-is_same_name-via-then-is_same_name+else-same_signature w ↦ (λ same signs. let k : false ≡ true = w.if-same_signature.ensures.1 signs in cc)
       | has_alike-else-is_same_name-via-else-is_same_name w ↦ (λ same signs. let k : false ≡ true = w.if-is_same_name.ensures.1 same in cc)
     ])
     c.loop-n.invariant
@@ -113,4 +113,4 @@ has_alike-loop-n-preserved t c =
 pub has_alike-returns : goal.has_alike-returns
 has_alike-returns t c =
     let a = c.args in
-    alike_nowhere a.p.now a.m.now.name (sign_of a.m.now.signature) a.q.now a.ns.now _ c.loop-n-test.false c.loop-n.invariant
+    alike_nowhere a.tags a.p.now a.m.now.name (sign_of a.m.now.signature) a.q.now a.ns.now _ c.loop-n-test.false c.loop-n.invariant

@@ -4,4 +4,4 @@ use Rattle.go_type_core.specs.Built.{kept}
 use Rattle.go_type_core.proofs.methods.own_methods.Given as goal
 
 abbrev pub invariant-loop-method : goal.invariant-loop-method
-invariant-loop-method g l = map member_shown l.own.items ++ kept (g.K.Kinds.kinds l.kinds) l.path l.fields (map (λ n. n.now) l.seen.keys) (map member_shown (drop l.method-index l.methods)) ≡ kept (g.K.Kinds.kinds l.kinds) l.path l.fields [] (map member_shown l.methods)
+invariant-loop-method g l = map member_shown l.own.items ++ kept (g.K.Kinds.kinds l.kinds) l.path l.fields l.seen (map member_shown (drop l.method-index l.methods)) ≡ kept (g.K.Kinds.kinds l.kinds) l.path l.fields [] (map member_shown l.methods)

@@ -1,5 +1,5 @@
 use Rattle.std.proofs.Common.{◌≡◌, ◌<◌, length, get_or, subst}
-use Rattle.govisd_bench.proofs.Placed.{func_placed}
+use Rattle.govisd_show.proofs.Placed.{func_placed}
 use Rattle.govisd_bench.proofs.calls.of_file.Goals as goal
 
 pub function_names-requires : goal.function_names-requires

@@ -1,5 +1,5 @@
 use Rattle.std.proofs.Common.{◌≡◌, ◌<◌, length, get_or, subst}
-use Rattle.govisd_probe.proofs.Placed.{func_placed}
+use Rattle.govisd_show.proofs.Placed.{func_placed}
 use Rattle.govisd_probe.proofs.names.add_file_names.Goals as goal
 
 pub add_function-requires : goal.add_function-requires

@@ -34,3 +34,9 @@ pub returns-clause-sets : goal.returns-clause-sets
 returns-clause-sets c =
     let same : c.deref-3.result.now ≡ edges_from 0 c.self.inside.outcomes.items = c.deref-3.ensures.value ∙ (c.in_ok-edges.ensures ∙ ap (edges_from 0) c.deref.ensures.value) in
     ok_weaker (AreReachSets c.deref-3.result.now) (AreReached c.args.self.now) (λ sets h. subst (λ p. AreReached p sets) c.self.view_is (are_reached c.self.inside.outcomes.items c.self.inside.order.items sets (subst (λ l. AreReachSets l sets) same h))) c.find_reached.result c.find_reached.ensures.sets
+
+pub returns-clause-bound : goal.returns-clause-bound
+returns-clause-bound c =
+    let count : c.len.result ≡ length c.self.inside.outcomes.items = c.len.ensures ∙ c.self.inside.outcomes.ok.0 in
+    let shown : length c.self.inside.outcomes.items ≡ length c.args.self.now.outcomes = sym (length-map c.self.inside.outcomes.items (λ p. map (λ f. f.items) p.items)) ∙ ap (λ p. length p.outcomes) c.self.view_is in
+    ok_weaker (λ sets. All (λ s. s.bound ≡ c.len.result) sets) (λ sets. All (λ s. s.bound ≡ length c.args.self.now.outcomes) sets) (λ sets h. subst (λ n. All (λ s. s.bound ≡ n) sets) (count ∙ shown) h) c.find_reached.result c.find_reached.ensures.bound

@@ -1,0 +1,15 @@
+#!/bin/sh
+# Compares what selectors denote by govisd and by go/types: 2,000 generated workspaces of types that embed one another, each name of a field or a
+# method behind values, pointers and pointers to pointers of each type, from each package. README.md in this folder says what is compared.
+#
+#     bench/conformance/selectors.sh                     the program crates/govisd_types/out/govisd_types
+#     GOVISD_TYPES=FILE bench/conformance/selectors.sh   another program
+#
+# Status 0 where no answer differs, 1 where one does, 2 where not all could be compared.
+set -u
+
+bench=$(dirname -- "$(dirname -- "$(readlink -f -- "$0")")")
+. "$bench/types.sh"
+peer=$("$bench/go_peer.sh" conformance/goselect) || exit 2
+PYTHONPATH=$bench exec python3 -B "$bench/conformance/selectors.py" --program "$types" --peer "$peer" --folder "$out/selectors" \
+    "$bench/../crates/govisd_types/data/paths.txt" "$bench/../crates/govisd_types/data/hidden.txt" "$bench/../crates/govisd_types/data/operands.txt" "$bench/../crates/govisd_types/data/towers.txt"

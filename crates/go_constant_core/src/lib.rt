@@ -1,0 +1,21 @@
+//! Values of constants: integers, booleans and texts, and what operators make of them.
+//!
+//! An integer constant has 64 bits with a sign: what lies outside is out of range, and whoever asks says by which rule. A text is
+//! bytes, shared by all constants that have it. The Go specification, "Constants", "Constant expressions", "Arithmetic operators",
+//! "Comparison operators", "Logical operators", "String concatenation".
+#![tactic(auto)]
+
+mod ints;
+mod laws;
+mod operators;
+mod texts;
+mod values;
+
+pub use laws::{
+    differences_are_exact, division_truncates, negation_is_exact, orders_are_total,
+    products_are_exact, sums_are_exact, texts_are_joined, texts_by_bytes, truth_tables,
+    unknown_stays_unknown,
+};
+pub use operators::{binary, unary};
+pub use texts::ConstantText;
+pub use values::{Constant, is_zero, natural, text_length};

@@ -1,0 +1,4 @@
+pub mod Turns
+pub mod FirstRules
+pub mod Agreements
+pub mod Locality

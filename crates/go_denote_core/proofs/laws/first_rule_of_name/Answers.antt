@@ -1,0 +1,5 @@
+use Rattle.go_denote_core.proofs.FirstRules.{first_of_name}
+use Rattle.go_denote_core.proofs.laws.first_rule_of_name.Goals as goal
+
+pub returns : goal.returns
+returns g c = first_of_name

@@ -1,0 +1,9 @@
+pub mod Look
+pub mod Answers
+pub mod Selectors
+pub mod Arguments
+pub mod Calls
+pub mod Contexts
+pub mod Rules
+pub mod Laws
+pub mod mirrors

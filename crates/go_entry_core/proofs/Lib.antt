@@ -1,0 +1,13 @@
+pub mod Alike
+pub mod Among
+pub mod Belonging
+pub mod Gains
+pub mod Numbered
+pub mod Ordered
+pub mod Outlining
+pub mod Placing
+pub mod Receiving
+pub mod Scoping
+pub mod Spelled
+pub mod Shown
+pub mod Worked

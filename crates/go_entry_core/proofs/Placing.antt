@@ -1,0 +1,165 @@
+-- The place of an entry among entries whose keys rise.
+use Rattle.std.proofs.Common.{◌≡◌, ℕ, zero, suc, ◌<◌, ◌⊎◌, inl, inr, true, false, ◌&&◌, List, [], ◌∷◌, length, get_or, map, Some, None, option_map, refl, sym, ap, ◌∙◌, subst, arith}
+use Rattle.std.specs.Prelude.{slice_get, nat_eq, nat_lt}
+use Rattle.std.specs.Str.{bytes_eq}
+use Rattle.std.specs.List.Sorted.{IsPartitionPoint, IsPartitionedBy}
+use Rattle.std.proofs.lemmas.Bool.{true≢false, cases_order, false_from_ne_true, and_parts, and_from, or_cases, or_left, or_right, eqb-true, eq-eqb, ltb-true, lt-ltb}
+use Rattle.std.proofs.lemmas.Slice.Eq.{bytes_eq-Decides}
+use Rattle.std.proofs.lemmas.Option.{slice_get_within, slice_get-map, slice_get-get_or, get_or_from_slice_get}
+use denote.Enum.Bare.{sameb, same_true, true_same}
+use Rattle.go_decl_core.specs.contracts.places.DeclKind as decl_kind
+use Rattle.go_decl_core.specs.declared.keys.DeclKey.{DeclKey}
+use Rattle.go_decl_core.specs.declared.keys.DeclRef.{DeclRef}
+use Rattle.go_term_core.specs.Terms.{Term, NoType, Predeclared, ErrorType, Defined, PointerTo, StructOf, InterfaceOf}
+use Rattle.go_table_core.specs.declared.entry.TypeEntry.{TypeEntry}
+use Rattle.go_table_core.specs.Entries.{Entry, same_decl, same_key}
+use Rattle.go_table_core.specs.Shown.{entry_shown}
+use Rattle.go_table_core.specs.Tables.{Rise}
+use Rattle.go_entry_core.specs.Entries.{is_type_of}
+use Rattle.go_entry_core.specs.mirrors.Gaining.{is_before, IsMeantAt}
+
+-- equal keys
+
+pub same_key_true : (a b : DeclKey) → same_key a b ≡ true → a ≡ b
+same_key_true a b h =
+    let parts = and_parts (bytes_eq a.path b.path) (same_decl a.decl b.decl) h in
+    let path : a.path ≡ b.path = (bytes_eq-Decides a.path b.path).0 parts.0 in
+    let inner = and_parts (nat_eq a.decl.file b.decl.file) (nat_eq a.decl.number b.decl.number && sameb decl_kind.the_type a.decl.kind b.decl.kind) parts.1 in
+    let last = and_parts (nat_eq a.decl.number b.decl.number) (sameb decl_kind.the_type a.decl.kind b.decl.kind) inner.1 in
+    let file : a.decl.file ≡ b.decl.file = eqb-true a.decl.file b.decl.file inner.0 in
+    let number : a.decl.number ≡ b.decl.number = eqb-true a.decl.number b.decl.number last.0 in
+    let kind : a.decl.kind ≡ b.decl.kind = same_true decl_kind.the_type tt a.decl.kind b.decl.kind last.1 in
+    λ i. record { path = path i; decl = record { file = file i; number = number i; kind = kind i } }
+
+pub same_key_itself : (k : DeclKey) → same_key k k ≡ true
+same_key_itself k =
+    and_from (bytes_eq k.path k.path) (same_decl k.decl k.decl) ((bytes_eq-Decides k.path k.path).1 refl)
+    (and_from (nat_eq k.decl.file k.decl.file) (nat_eq k.decl.number k.decl.number && sameb decl_kind.the_type k.decl.kind k.decl.kind) (eq-eqb k.decl.file k.decl.file refl)
+    (and_from (nat_eq k.decl.number k.decl.number) (sameb decl_kind.the_type k.decl.kind k.decl.kind) (eq-eqb k.decl.number k.decl.number refl) (true_same decl_kind.the_type k.decl.kind k.decl.kind refl)))
+
+pub same_key_from : (a b : DeclKey) → a ≡ b → same_key a b ≡ true
+same_key_from a b e = subst (λ (x : DeclKey). same_key a x ≡ true) e (same_key_itself a)
+
+-- a type of a key
+pub type_is : (k : DeclKey) (t : Term) → is_type_of k t ≡ true → t ≡ Defined k
+type_is k NoType h = absurd (true≢false (sym h))
+type_is k (Predeclared b) h = absurd (true≢false (sym h))
+type_is k ErrorType h = absurd (true≢false (sym h))
+type_is k (Defined j) h = ap Defined (same_key_true j k h)
+type_is k (PointerTo t) h = absurd (true≢false (sym h))
+type_is k (StructOf path fs) h = absurd (true≢false (sym h))
+type_is k (InterfaceOf path ms) h = absurd (true≢false (sym h))
+
+-- before and behind
+
+abbrev Before : DeclRef → DeclRef → Type 0
+Before a b = (a.file < b.file) ⊎ ((a.file ≡ b.file) × (a.number < b.number))
+
+before_from : (a b : DeclRef) → is_before a b ≡ true → Before a b
+before_from a b h = elim (or_cases (nat_lt a.file b.file) (nat_eq a.file b.file && nat_lt a.number b.number) h) [
+  | inl f ↦ inl (ltb-true a.file b.file f)
+  | inr s ↦ (let p = and_parts (nat_eq a.file b.file) (nat_lt a.number b.number) s in inr (eqb-true a.file b.file p.0, ltb-true a.number b.number p.1))
+]
+
+before_to : (a b : DeclRef) → Before a b → is_before a b ≡ true
+before_to a b h = elim h [
+  | inl f ↦ or_left (nat_lt a.file b.file) (nat_eq a.file b.file && nat_lt a.number b.number) (lt-ltb a.file b.file f)
+  | inr s ↦ or_right (nat_lt a.file b.file) (nat_eq a.file b.file && nat_lt a.number b.number) (and_from (nat_eq a.file b.file) (nat_lt a.number b.number) (eq-eqb a.file b.file s.0) (lt-ltb a.number b.number s.1))
+]
+
+before_on : (a b c : DeclRef) → Before a b → Before b c → Before a c
+before_on a b c h k = elim h [
+  | inl f ↦ elim k [ inl g ↦ inl (omega arith) | inr s ↦ (let e = s.0 in inl (omega (arith, e))) ]
+  | inr s ↦ elim k [ inl g ↦ (let e = s.0 in inl (omega (arith, e))) | inr r ↦ (let lt = s.1 in let mt = r.1 in inr (s.0 ∙ r.0, omega (arith, lt, mt))) ]
+]
+
+pub is_before_on : (a b c : DeclRef) → is_before a b ≡ true → is_before b c ≡ true → is_before a c ≡ true
+is_before_on a b c h k = before_to a c (before_on a b c (before_from a b h) (before_from b c k))
+
+pub not_before_itself : (a b : DeclRef) → a ≡ b → is_before a b ≡ true → ⊥
+not_before_itself a b e h =
+    let file : a.file ≡ b.file = ap (λ d. d.file) e in
+    let number : a.number ≡ b.number = ap (λ d. d.number) e in
+    elim (before_from a b h) [ inl f ↦ absurd (omega (arith, file, f)) | inr s ↦ (let lt = s.1 in absurd (omega (arith, number, lt))) ]
+
+-- entries that rise
+
+rise_rest : (w : Entry) (es : List Entry) → Rise (w ∷ es) → Rise es
+rise_rest w [] rise = tt
+rise_rest w (v ∷ es) rise = rise.1
+
+rise_first : (w : Entry) (es : List Entry) → Rise (w ∷ es) → (i : ℕ) (e : Entry) → slice_get es i ≡ Some e → is_before w.key.decl e.key.decl ≡ true
+rise_first w [] rise i e h = absurd (let no : None ≡ Some e = h in cc)
+rise_first w (v ∷ es) rise zero e h = (let ve : v ≡ e = (let s : Some v ≡ Some e = h in cc) in subst (λ (x : Entry). is_before w.key.decl x.key.decl ≡ true) ve rise.0)
+rise_first w (v ∷ es) rise (suc i) e h = is_before_on w.key.decl v.key.decl e.key.decl rise.0 (rise_first v es rise.1 i e h)
+
+pub rise_far : (es : List Entry) → Rise es → (i j : ℕ) (e f : Entry) → slice_get es i ≡ Some e → slice_get es j ≡ Some f → i < j → is_before e.key.decl f.key.decl ≡ true
+rise_far [] rise i j e f h k lt = absurd (let no : None ≡ Some e = h in cc)
+rise_far (x ∷ es) rise zero zero e f h k lt = absurd (omega (arith, lt))
+rise_far (x ∷ es) rise zero (suc j) e f h k lt =
+    let same : x ≡ e = (let s : Some x ≡ Some e = h in cc) in
+    subst (λ (y : Entry). is_before y.key.decl f.key.decl ≡ true) same (rise_first x es rise j f k)
+rise_far (x ∷ es) rise (suc i) zero e f h k lt = absurd (omega (arith, lt))
+rise_far (x ∷ es) rise (suc i) (suc j) e f h k lt = rise_far es (rise_rest x es rise) i j e f h k (omega (arith, lt))
+
+-- entries that have one key stand at one place
+pub rise_one : (es : List Entry) → Rise es → (i j : ℕ) (e f : Entry) → slice_get es i ≡ Some e → slice_get es j ≡ Some f → e.key ≡ f.key → i ≡ j
+rise_one es rise i j e f h k same = elim (cases_order i j) [
+  | inl eq ↦ eq
+  | inr apart ↦ elim apart [
+    | inl less ↦ absurd (not_before_itself e.key.decl f.key.decl (ap (λ (x : DeclKey). x.decl) same) (rise_far es rise i j e f h k less))
+    | inr more ↦ absurd (not_before_itself f.key.decl e.key.decl (ap (λ (x : DeclKey). x.decl) (sym same)) (rise_far es rise j i f e k h more))
+  ]
+]
+
+-- a search among entries as the program holds them
+
+shown_at : (ws : List TypeEntry) (i : ℕ) (d : TypeEntry) → i < length ws → slice_get (map entry_shown ws) i ≡ Some (entry_shown (get_or ws i d))
+shown_at ws i d lt = slice_get-map entry_shown ws i ∙ ap (option_map entry_shown) (slice_get-get_or ws i d lt)
+
+pub rise_split : (ws : List TypeEntry) (d : DeclRef) → Rise (map entry_shown ws) → IsPartitionedBy (λ e. is_before e.key.decl d) ws
+rise_split ws d rise i j x le lt h = elim (cases_order i j) [
+  | inl same ↦ subst (λ (k : ℕ). is_before (get_or ws k x).key.decl d ≡ true) (sym same) h
+  | inr apart ↦ elim apart [
+    | inl less ↦ (
+        let within : i < length ws = omega (arith, le, lt) in
+        is_before_on (get_or ws i x).key.decl (get_or ws j x).key.decl d
+        (rise_far (map entry_shown ws) rise i j (entry_shown (get_or ws i x)) (entry_shown (get_or ws j x)) (shown_at ws i x within) (shown_at ws j x lt) less) h
+        )
+    | inr more ↦ absurd (omega (arith, le, more))
+  ]
+]
+
+abbrev IsSplit : List TypeEntry → DeclKey → ℕ → Type 0
+IsSplit ws k n = IsPartitionPoint (λ (e : TypeEntry). is_before e.key.decl k.decl ≡ true) (λ (e : TypeEntry). is_before e.key.decl k.decl ≡ false) ws n
+
+pub entry_here : (ws : List TypeEntry) (k : DeclKey) (n : ℕ) (w : TypeEntry) → slice_get ws n ≡ Some w → w.key ≡ k → IsMeantAt (map entry_shown ws) (Defined k) (Some n)
+entry_here ws k n w at same = (entry_shown w, slice_get-map entry_shown ws n ∙ ap (option_map entry_shown) at, same_key_from k w.key (sym same))
+
+-- an entry that the program holds at a place
+pub held : (ws : List TypeEntry) (i : ℕ) (e : Entry) → slice_get (map entry_shown ws) i ≡ Some e → (w : TypeEntry) × (slice_get ws i ≡ Some w) × (entry_shown w ≡ e)
+held [] i e h = absurd (let no : None ≡ Some e = h in cc)
+held (w ∷ ws) zero e h = (w, refl, (let s : Some (entry_shown w) ≡ Some e = h in cc))
+held (w ∷ ws) (suc i) e h = held ws i e h
+
+pub entry_nowhere : (ws : List TypeEntry) (k : DeclKey) (n : ℕ) → Rise (map entry_shown ws) → IsSplit ws k n → ((w : TypeEntry) → slice_get ws n ≡ Some w → w.key ≡ k → ⊥) → IsMeantAt (map entry_shown ws) (Defined k) None
+entry_nowhere ws k n rise split none i e at = false_from_ne_true (same_key k e.key) (λ yes.
+    (let key : k ≡ e.key = same_key_true k e.key yes in
+    let w = held ws i e at in
+    let own : w.0.key ≡ k = ap (λ (x : Entry). x.key) w.2 ∙ sym key in
+    let within : i < length ws = slice_get_within ws i w.0 w.1 in
+    let read : get_or ws i w.0 ≡ w.0 = get_or_from_slice_get ws i w.0 w.0 w.1 in
+    let decl : w.0.key.decl ≡ k.decl = ap (λ (x : DeclKey). x.decl) own in
+    elim (cases_order i n) [
+      | inl here ↦ none w.0 (ap (slice_get ws) (sym here) ∙ w.1) own
+      | inr apart ↦ elim apart [
+        | inl less ↦ not_before_itself w.0.key.decl k.decl decl (ap (λ (y : TypeEntry). is_before y.key.decl k.decl) (sym read) ∙ split.0 i w.0 (omega arith) less)
+        | inr more ↦ (
+            let lt : n < length ws = omega (arith, within, more) in
+            let below : is_before (get_or ws n w.0).key.decl (get_or ws i w.0).key.decl ≡ true =
+            rise_far (map entry_shown ws) rise n i (entry_shown (get_or ws n w.0)) (entry_shown (get_or ws i w.0)) (shown_at ws n w.0 lt) (shown_at ws i w.0 within) more in
+            let yes : is_before (get_or ws n w.0).key.decl k.decl ≡ true = ap (is_before (get_or ws n w.0).key.decl) (sym (ap (λ (y : TypeEntry). y.key.decl) read ∙ decl)) ∙ below in
+            true≢false (sym yes ∙ split.1 n w.0 (omega arith) lt)
+            )
+      ]
+    ]))

@@ -1,0 +1,10 @@
+use Rattle.std.proofs.Common.{◌≡◌, map, take}
+use Rattle.go_decl_core.specs.Shown.{decl_shown}
+use Rattle.go_table_core.specs.Shown.{entry_shown}
+use Rattle.go_written_core.specs.Written.{in_file}
+use Rattle.go_entry_core.specs.Entries.{file_methods}
+use Rattle.go_entry_core.specs.mirrors.Gaining.{all_gaining}
+use Rattle.go_entry_core.proofs.methods.add_methods.Given as goal
+
+abbrev pub invariant-loop-decl : goal.invariant-loop-decl
+invariant-loop-decl g l = map entry_shown l.entries.items ≡ all_gaining (file_methods (g.N.TypeNames.meaning l.fn.names) (in_file l.fn.at) (map decl_shown (take l.decl-index l.decls))) (map entry_shown l.fn.entries.items)

@@ -1,0 +1,176 @@
+//! What the names of types mean at the top of a file.
+ghost use Rattle.std.specs.Prelude.{◌≡◌, IfOk, option_copied};
+ghost use Rattle.go_block_core.specs.Blocks.{file_binding};
+ghost use Rattle.go_block_core.specs.Tables.{in_block};
+ghost use Rattle.go_term_core.specs.Shapes.{shape};
+ghost use Rattle.go_universe_core.specs.Universe.{found};
+ghost use Rattle.go_entry_core.specs.Meanings.{key_of, outside_meaning, plain_meaning, qualified_meaning, shown_type, type_in_binding, type_in_target, type_of_key, type_of_target, type_of_universe};
+
+use go_block_core::{Binding, Blocks, DeclKey, DeclKind, DeclRef, Target};
+use go_path_core::ImportPath;
+use go_term_core::{Basic, TypeTerm};
+use go_tree_nodes::TypeName;
+use go_universe_core::{Predeclared, find_predeclared};
+use go_written_core::TypeNames;
+use std::alloc::{AllocError, Global};
+
+/// What packages show to those that import them.
+pub trait ImportedNames {
+    ghost use Rattle.std.specs.Prelude.{List, ℕ, Option, ◌≡◌};
+    ghost use Rattle.go_decl_core.specs.declared.keys.DeclRef.{DeclRef as TheRef};
+
+    ghost shows: { Self → List ℕ → List ℕ → Option TheRef };
+
+    /// The declaration of an exported name in the package block of the package of a path, or none where that package shows no such name. The
+    /// Go specification, "Qualified identifiers".
+    fn shown(&self, path: &ImportPath, name: &str) -> Option<DeclRef>
+        ensures { result ≡ shows self.now path.now name.now };
+}
+
+/// The names at the top of a file of a package, outside functions: those of the universe, of the package's block and of the file's block, and
+/// what the packages show that the file imports. A name of the package block is never one of the file's block; both hide the universe's. The
+/// Go specification, "Declarations and scope".
+#[derive(Drop)]
+pub struct FileNames<'a, P: ImportedNames> {
+    /// The path of the package.
+    pub path: &'a ImportPath,
+    /// The package's blocks.
+    pub blocks: &'a Blocks,
+    /// The file's number among those of the package in order of name, from 0.
+    pub file: usize,
+    /// What other packages show.
+    pub imported: &'a P,
+}
+
+// The type that a declaration declares.
+fn type_of_key(key: DeclKey) -> TypeTerm
+    ensures { shape result ≡ type_of_key key }
+{
+    match key.decl.kind {
+        DeclKind::Type => TypeTerm::Defined(key),
+        _ => TypeTerm::NoType,
+    }
+}
+
+// The type that a declaration of the package of a path declares.
+fn declared_type(path: &ImportPath, decl: DeclRef) -> Result<TypeTerm, AllocError>
+    ensures { IfOk result (λ t. shape t ≡ type_of_key (key_of path.now decl)) }
+{
+    let path = path.share()?;
+    Ok(type_of_key(DeclKey { path, decl }))
+}
+
+// The predeclared type of a name that is written in the package of a path, where it is one that may be used.
+fn universe_type(alloc: Global, path: &ImportPath, name: &str) -> Result<TypeTerm, AllocError>
+    ensures { IfOk result (λ t. shape t ≡ type_of_universe path.now (found name.now)) }
+{
+    match find_predeclared(name) {
+        Some(Predeclared::Any) => Ok(TypeTerm::Interface(path.share()?, Vec::new(alloc))),
+        Some(Predeclared::Bool) => Ok(TypeTerm::Basic(Basic::Bool)),
+        Some(Predeclared::Error) => Ok(TypeTerm::Error),
+        Some(Predeclared::Int) => Ok(TypeTerm::Basic(Basic::Int)),
+        Some(Predeclared::String) => Ok(TypeTerm::Basic(Basic::Text)),
+        _ => Ok(TypeTerm::NoType),
+    }
+}
+
+// The type that what a binding of a file block denotes is.
+fn target_type(target: &Target) -> Result<TypeTerm, AllocError>
+    ensures { IfOk result (λ t. shape t ≡ type_of_target target.now) }
+{
+    match target {
+        Target::Exported(key) => Ok(type_of_key(key.share()?)),
+        Target::Package(_) => Ok(TypeTerm::NoType),
+        Target::Refused(_) => Ok(TypeTerm::NoType),
+    }
+}
+
+// The type that a package shows under a name.
+fn shown_type<P: ImportedNames>(
+    imported: &P,
+    path: &ImportPath,
+    name: &str,
+) -> Result<TypeTerm, AllocError>
+    ensures { IfOk result (λ t. shape t ≡ shown_type path.now (P.shows imported.now path.now name.now)) }
+{
+    match imported.shown(path, name) {
+        Some(decl) => declared_type(path, decl),
+        None => Ok(TypeTerm::NoType),
+    }
+}
+
+// The type that a name behind a dot denotes, where the name before it denotes this.
+fn type_in_target<P: ImportedNames>(
+    imported: &P,
+    target: &Target,
+    name: &str,
+) -> Result<TypeTerm, AllocError>
+    ensures { IfOk result (λ t. shape t ≡ type_in_target (P.shows imported.now) name.now target.now) }
+{
+    match target {
+        Target::Package(path) => shown_type(imported, path, name),
+        Target::Refused(_) => Ok(TypeTerm::NoType),
+        Target::Exported(_) => Ok(TypeTerm::NoType),
+    }
+}
+
+// The same, where the name before the dot has this binding in the file block, or none.
+fn type_in_binding<P: ImportedNames>(
+    imported: &P,
+    binding: Option<&Binding>,
+    name: &str,
+) -> Result<TypeTerm, AllocError>
+    ensures { IfOk result (λ t. shape t ≡ type_in_binding (P.shows imported.now) name.now (option_copied binding.entry)) }
+{
+    match binding {
+        Some(binding) => type_in_target(imported, &binding.target, name),
+        None => Ok(TypeTerm::NoType),
+    }
+}
+
+impl<'a, P: ImportedNames> FileNames<'a, P> {
+    // The type that a name denotes which the package block has not.
+    fn outside(&self, alloc: Global, name: &str) -> Result<TypeTerm, AllocError>
+        ensures { IfOk result (λ t. shape t ≡ outside_meaning self.now.path.now name.now (file_binding self.now.blocks.now self.now.file name.now)) }
+    {
+        match self.blocks.file(self.file, name) {
+            Some(binding) => target_type(&binding.target),
+            None => universe_type(alloc, self.path, name),
+        }
+    }
+
+    // The type that a name alone denotes.
+    fn plain(&self, alloc: Global, name: &str) -> Result<TypeTerm, AllocError>
+        ensures { IfOk result (λ t. shape t ≡ plain_meaning self.now.path.now self.now.blocks.now self.now.file name.now (in_block self.now.blocks.now.names name.now)) }
+    {
+        match self.blocks.package(name) {
+            Some(decl) => declared_type(self.path, decl),
+            None => self.outside(alloc, name),
+        }
+    }
+
+    // The type that a name behind another and a dot denotes.
+    fn qualified(&self, qualifier: &str, name: &str) -> Result<TypeTerm, AllocError>
+        ensures { IfOk result (λ t. shape t ≡ qualified_meaning (P.shows self.now.imported.now) self.now.blocks.now self.now.file qualifier.now name.now (in_block self.now.blocks.now.names qualifier.now)) }
+    {
+        match self.blocks.package(qualifier) {
+            Some(_) => Ok(TypeTerm::NoType),
+            None => type_in_binding(self.imported, self.blocks.file(self.file, qualifier), name),
+        }
+    }
+}
+
+impl<'a, P: ImportedNames> TypeNames for FileNames<'a, P> {
+    ghost use Rattle.go_entry_core.specs.Meanings.{file_meaning};
+
+    ghost meaning = { λ n. file_meaning (P.shows n.imported.now) n.path.now n.blocks.now n.file };
+
+    fn named(&self, alloc: Global, name: &TypeName) -> Result<TypeTerm, AllocError> {
+        match name {
+            TypeName::Plain(ident) => self.plain(alloc, ident.name.as_str()),
+            TypeName::Qualified(qualifier, _, ident) => {
+                self.qualified(qualifier.name.as_str(), ident.name.as_str())
+            }
+        }
+    }
+}

@@ -1,0 +1,20 @@
+//! The types that a package declares, as they are written: what names of types mean at the top of a file, and which methods belong to which type.
+//!
+//! The Go specification, "Declarations and scope", "Qualified identifiers", "Type declarations", "Method declarations".
+#![tactic(auto)]
+
+mod entries;
+mod file_names;
+mod files;
+mod laws;
+mod methods;
+mod shown_packages;
+
+pub use entries::type_entries;
+pub use file_names::{FileNames, ImportedNames};
+pub use files::outlines;
+pub use laws::{
+    entries_are_local, entry_keys_differ, methods_are_of_the_type, names_are_in_scope,
+    packages_show_their_blocks, worked_entries,
+};
+pub use shown_packages::ShownPackages;

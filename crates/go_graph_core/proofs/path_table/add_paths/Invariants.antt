@@ -1,0 +1,6 @@
+use Rattle.std.proofs.Common.{◌≡◌, map, take}
+use Rattle.std.specs.Map.{keys_of}
+use Rattle.go_graph_core.proofs.path_table.add_paths.Given as goal
+
+abbrev pub invariant-loop-source : goal.invariant-loop-source
+invariant-loop-source l = map (λ k. k.now) l.paths.keys ≡ keys_of (take l.source-index l.packages)

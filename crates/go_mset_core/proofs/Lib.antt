@@ -1,0 +1,9 @@
+pub mod Sets
+pub mod Interfaces
+pub mod Promoting
+pub mod Sorting
+pub mod Orders
+pub mod MethodSorts
+pub mod Answering
+pub mod Locality
+pub mod Lacking

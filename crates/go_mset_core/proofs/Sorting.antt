@@ -1,0 +1,58 @@
+-- Lists in order.
+use Rattle.std.proofs.Common.{◌≡◌, ℕ, zero, suc, ◌<◌, List, [], ◌∷◌, length, get_or, refl, sym, ap, ◌∙◌, subst, arith, inl, inr}
+use Rattle.std.specs.Prelude.{AllPairs, map}
+use Rattle.std.proofs.lemmas.List.Kept.{AllPairs-cons}
+use Rattle.go_select_core.proofs.ListLemmas.{In, contained_in}
+
+in_at : {A : Type 0} (xs : List A) (k : ℕ) (d : A) → k < length xs → In xs (get_or xs k d)
+in_at [] k d l = absurd (omega arith)
+in_at (x ∷ xs) zero d l = inl refl
+in_at (x ∷ xs) (suc k) d l = inr (in_at xs k d (omega arith))
+
+pub in_map : {A B : Type 0} (f : A → B) (xs : List A) (x : A) → In xs x → In (map f xs) (f x)
+in_map f [] x h = absurd h
+in_map f (y ∷ xs) x (inl e) = inl (ap f e)
+in_map f (y ∷ xs) x (inr h) = inr (in_map f xs x h)
+
+pub map_in : {A B : Type 0} (f : A → B) (xs : List A) (y : B) → In (map f xs) y → (x : A) × In xs x × (f x ≡ y)
+map_in f [] y h = absurd h
+map_in f (x ∷ xs) y (inl e) = (x, inl refl, e)
+map_in f (x ∷ xs) y (inr h) = let r = map_in f xs y h in (r.0, inr r.1, r.2)
+
+module _ {A : Type 0} (R : A → A → Type 0) where
+  abbrev pub Rises : List A → Type 0
+  Rises [] = Unit {0}
+  Rises (x ∷ xs) = ((y : A) → In xs y → R x y) × Rises xs
+
+  pub pairs_rise : (xs : List A) → AllPairs R xs → Rises xs
+  pairs_rise [] p = tt
+  pairs_rise (x ∷ xs) p = (
+    λ y h. let c = contained_in xs y h in let q : R x (get_or xs c.0 y) = p 0 (suc c.0) y (omega arith) (omega (arith, c.1)) in subst (λ z. R x z) c.2 q,
+    pairs_rise xs (λ i j d low high. p (suc i) (suc j) d (omega arith) (omega arith)),
+  )
+
+  pub rising_pairs : (xs : List A) → Rises xs → AllPairs R xs
+  rising_pairs [] r = λ i j d low high. absurd (omega arith)
+  rising_pairs (x ∷ xs) r = AllPairs-cons R x xs (λ k d l. r.0 (get_or xs k d) (in_at xs k d l)) (rising_pairs xs r.1)
+
+  module _ (never : (x : A) → R x x → ⊥) (onward : (x y z : A) → R x y → R y z → R x z) where
+    first_same : (x y : A) (xs ys : List A) → Rises (x ∷ xs) → Rises (y ∷ ys) → In (y ∷ ys) x → In (x ∷ xs) y → x ≡ y
+    first_same x y xs ys rx ry (inl e) k = sym e
+    first_same x y xs ys rx ry (inr h) (inl e) = e
+    first_same x y xs ys rx ry (inr h) (inr k) = absurd (never x (onward x y x (rx.0 y k) (ry.0 x h)))
+
+    later : (x y z : A) (xs ys : List A) → Rises (x ∷ xs) → x ≡ y → In xs z → In (y ∷ ys) z → In ys z
+    later x y z xs ys rx e h (inl f) = absurd (never x (subst (λ w. R x w) (sym (e ∙ f)) (rx.0 z h)))
+    later x y z xs ys rx e h (inr k) = k
+
+    -- two lists in order of the same items are the same
+    pub rising_same : (xs ys : List A) → Rises xs → Rises ys → ((z : A) → In xs z → In ys z) → ((z : A) → In ys z → In xs z) → xs ≡ ys
+    rising_same [] [] rx ry there back = refl
+    rising_same [] (y ∷ ys) rx ry there back = absurd (back y (inl refl))
+    rising_same (x ∷ xs) [] rx ry there back = absurd (there x (inl refl))
+    rising_same (x ∷ xs) (y ∷ ys) rx ry there back =
+        let e = first_same x y xs ys rx ry (there x (inl refl)) (back y (inl refl)) in
+        let rest =
+        rising_same xs ys rx.1 ry.1 (λ z h. later x y z xs ys rx e h (there z (inr h))) (λ z h. later y x z ys xs ry (sym e) h (back z (inr h)))
+        in
+        (cc)

@@ -1,0 +1,5 @@
+pub mod MethodSets
+pub mod MethodLists
+pub mod Implementing
+pub mod Laws
+pub mod mirrors

@@ -1,0 +1,17 @@
+//! The method sets of types, and which types implement an interface type.
+//!
+//! The Go specification, "Method sets", "Struct types", "Implementing an interface".
+#![tactic(auto)]
+
+mod interface;
+mod laws;
+mod methods;
+mod wanted;
+
+pub use interface::{Missing, implements, implements_by_pointer};
+pub use laws::{
+    have_no_methods, implementation_is_local, implements_is_transitive, implements_itself,
+    interfaces_have_no_more, one_implementation, one_method_set, pointer_has_more,
+    pointer_implements_more, promotion, receivers_decide, selectors_decide,
+};
+pub use methods::{SetMethod, method_set};

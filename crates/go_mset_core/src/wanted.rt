@@ -1,0 +1,108 @@
+//! The methods that an interface type asks for.
+ghost use Rattle.std.specs.Prelude.{◌≡◌, ◌↔◌, IsTrue};
+ghost use Rattle.go_term_core.specs.Identity.{SameSign};
+ghost use Rattle.go_term_core.specs.Shapes.{shape, sign_of, terms_of};
+ghost use Rattle.go_term_core.specs.Terms.{ATerm, NoTerm, Predeclared};
+ghost use Rattle.go_term_core.specs.declared.term.Basic.TheVariants as basics;
+ghost use Rattle.go_embed_core.specs.OwnersShown.{found_shown};
+ghost use Rattle.go_mset_core.specs.MethodSets.{IsCallable};
+ghost use Rattle.go_mset_core.specs.Implementing.{IsSigned, error_sign};
+ghost use Rattle.go_mset_core.specs.mirrors.Asking.{sign_wanted};
+
+use go_select_core::Member;
+use go_type_core::{Basic, Signature, TypeTerm, has_same_signature};
+
+/// The signature of a method that is asked for.
+#[derive(Clone, Copy)]
+pub(crate) enum Wanted<'a> {
+    Signature(&'a Signature),
+    /// That of the method of `error`: no parameter, and one result of type `string`.
+    OfError,
+}
+
+// Whether these are one type, which is `string`.
+fn is_text_alone(types: &[TypeTerm]) -> bool
+    ensures { IsTrue result ↔ (terms_of types.now ≡ ATerm (Predeclared basics.Text) NoTerm) }
+{
+    types.len() == 1 && is_text(&types[0])
+}
+
+// Whether a type is `string`.
+fn is_text(term: &TypeTerm) -> bool
+    ensures { IsTrue result ↔ (shape term.now ≡ Predeclared basics.Text) }
+{
+    match term {
+        TypeTerm::Basic(basic) => *basic == Basic::Text,
+        TypeTerm::NoType
+        | TypeTerm::Error
+        | TypeTerm::Defined(_)
+        | TypeTerm::Pointer(_)
+        | TypeTerm::Struct(_, _)
+        | TypeTerm::Interface(_, _) => false,
+    }
+}
+
+// Whether there are no types.
+fn is_none(types: &[TypeTerm]) -> bool
+    ensures { IsTrue result ↔ (terms_of types.now ≡ NoTerm) }
+{
+    types.is_empty()
+}
+
+// Whether a signature is that of the method of `error`.
+fn is_of_error(signature: &Signature) -> bool
+    ensures { IsTrue result ↔ (sign_of signature.now ≡ error_sign) }
+{
+    is_none(&signature.params) && is_text_alone(&signature.results)
+}
+
+// Whether a signature is identical to that of a method that is asked for.
+fn is_same(signature: &Signature, wanted: Wanted<'_>) -> bool
+    ensures { IsTrue result ↔ SameSign (sign_of signature.now) (sign_wanted wanted.entry) }
+{
+    match wanted {
+        Wanted::Signature(asked) => has_same_signature(signature, asked),
+        Wanted::OfError => is_of_error(signature),
+    }
+}
+
+// Whether the method of `error` has the signature that is asked for.
+fn is_errors(wanted: Wanted<'_>) -> bool
+    ensures { IsTrue result ↔ SameSign error_sign (sign_wanted wanted.entry) }
+{
+    match wanted {
+        Wanted::Signature(asked) => is_of_error(asked),
+        Wanted::OfError => true,
+    }
+}
+
+/// Whether a member is a method that needs no pointer or has one.
+pub(crate) fn is_callable(member: Member<'_>, passes: bool) -> bool
+    ensures { IsTrue result ↔ IsCallable (found_shown member.entry) passes }
+{
+    match member {
+        Member::Field(_, _) => false,
+        Member::Method(_, method) => passes || !method.pointer,
+        Member::InterfaceMethod(_, _) => true,
+        Member::ErrorMethod => true,
+    }
+}
+
+// Whether a member is a method of the signature that is asked for.
+fn is_signed(member: Member<'_>, wanted: Wanted<'_>) -> bool
+    ensures { IsTrue result ↔ IsSigned (found_shown member.entry) (sign_wanted wanted.entry) }
+{
+    match member {
+        Member::Field(_, _) => false,
+        Member::Method(_, method) => is_same(&method.signature, wanted),
+        Member::InterfaceMethod(_, method) => is_same(&method.signature, wanted),
+        Member::ErrorMethod => is_errors(wanted),
+    }
+}
+
+/// Whether a member is a method that needs no pointer or has one, with the signature that is asked for.
+pub(crate) fn is_wanted(member: Member<'_>, passes: bool, wanted: Wanted<'_>) -> bool
+    ensures { IsTrue result ↔ (IsCallable (found_shown member.entry) passes × IsSigned (found_shown member.entry) (sign_wanted wanted.entry)) }
+{
+    is_callable(member, passes) && is_signed(member, wanted)
+}

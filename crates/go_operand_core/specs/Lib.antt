@@ -1,0 +1,13 @@
+pub mod TypeRules
+pub mod Values
+pub mod Assign
+pub mod Operators
+pub mod Prefixes
+pub mod Conversions
+pub mod Updates
+pub mod Relations
+pub mod Laws
+pub mod Known
+pub mod Refusals
+pub mod Variables
+pub mod Converting

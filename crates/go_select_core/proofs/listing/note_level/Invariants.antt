@@ -1,0 +1,10 @@
+use Rattle.go_table_core.specs.Entries.{find}
+use Rattle.go_select_core.specs.mirrors.Names.{names_of, AreNamed}
+use Rattle.go_select_core.proofs.Naming.{AreNotedTo}
+use Rattle.go_select_core.proofs.listing.note_level.Given as goal
+
+abbrev pub invariant-types : goal.invariant-types
+invariant-types l = AreNotedTo (find l.table) l.types l.first l.n 0 (names_of l.fn.names) (names_of l.names) × AreNamed (names_of l.names)
+
+abbrev pub invariant-members : goal.invariant-members
+invariant-members l = AreNotedTo (find l.table) l.types l.first l.n l.member-index (names_of l.fn.names) (names_of l.names) × AreNamed (names_of l.names)

@@ -1,0 +1,7 @@
+use Rattle.go_term_core.specs.Shapes.{shape}
+use Rattle.go_table_core.specs.Entries.{find}
+use Rattle.go_select_core.proofs.ListedNames.{listing_from}
+use Rattle.go_select_core.proofs.listing.selectable.Goals as goal
+
+pub returns : goal.returns
+returns c = listing_from (find c.args.table.now) (shape c.args.term.now) c.args.from.now _ _ c.in_ok-found.ensures c.in_ok-listed.ensures

@@ -1,0 +1,2 @@
+mod FileNames
+pub mod Placed

@@ -1,0 +1,154 @@
+//! The packages of a workspace as answers name them, and what each is.
+use crate::lines::Lines;
+use go_decl_core::{DeclRef, Place, Places, outline};
+use go_graph_core::{PackageSource, SourceFile, Workspace, assemble};
+use go_text_core::add;
+use std::alloc::{AllocError, Global};
+
+/// A file: its name, and the places of what it declares, where it has a tree.
+#[derive(Drop)]
+pub struct NamedFile {
+    pub name: String,
+    places: Option<Places>,
+}
+
+/// The path of a package, and its files.
+#[derive(Drop)]
+pub struct Named {
+    pub path: String,
+    pub files: Vec<NamedFile>,
+}
+
+impl Named {
+    /// The name of the file of a number, and nothing where there is none.
+    pub fn file(&self, number: usize) -> &str {
+        match self.files.get(number) {
+            Some(file) => file.name.as_str(),
+            None => "",
+        }
+    }
+
+    /// The identifiers that the file of a number declares outside bodies, and none where it has no tree.
+    pub fn places(&self, number: usize) -> &[Place] {
+        match self.files.get(number) {
+            Some(
+                NamedFile {
+                    places: Some(places),
+                    ..
+                },
+            ) => places.places(),
+            _ => &[],
+        }
+    }
+
+    /// The offset of a declaration, and 0 where there is none.
+    pub fn offset(&self, decl: DeclRef) -> usize {
+        match self.places(decl.file).get(decl.number) {
+            Some(place) => place.at,
+            None => 0,
+        }
+    }
+
+    /// Adds a place: the path of the package, the name of the file of a number, and an offset in bytes.
+    pub fn add_place(&self, out: &mut Lines, file: usize, offset: usize) {
+        out.add(self.path.as_str());
+        out.add("/");
+        out.add(self.file(file));
+        out.count(":", offset, "");
+    }
+
+    /// Adds the place of a declaration.
+    pub fn add_decl(&self, out: &mut Lines, decl: DeclRef) {
+        self.add_place(out, decl.file, self.offset(decl));
+    }
+}
+
+/// The name of a file and the places of what it declares.
+fn name_file(alloc: Global, file: &SourceFile) -> Result<NamedFile, AllocError> {
+    let name = String::from_str(alloc, file.name())?;
+    match file.tree() {
+        Ok(tree) => match outline(alloc, tree) {
+            Ok(outline) => Ok(NamedFile {
+                name,
+                places: Some(outline.places),
+            }),
+            Err(error) => Err(error),
+        },
+        Err(_) => Ok(NamedFile { name, places: None }),
+    }
+}
+
+/// The names of a package.
+fn name_package(alloc: Global, source: &PackageSource) -> Result<Named, AllocError> {
+    let mut files = Vec::new(alloc);
+    for file in source.files() {
+        add(&mut files, name_file(alloc, file)?)?;
+    }
+    let path = String::from_str(alloc, source.path().as_str())?;
+    Ok(Named { path, files })
+}
+
+/// The names of the packages of a workspace, in order.
+///
+/// # Errors
+///
+/// `AllocError` for want of memory.
+pub fn name_packages(alloc: Global, workspace: &Workspace) -> Result<Vec<Named>, AllocError> {
+    let mut packages = Vec::new(alloc);
+    for source in workspace.packages() {
+        add(&mut packages, name_package(alloc, source)?)?;
+    }
+    Ok(packages)
+}
+
+/// Adds a package: its path and its name, or why its files are no package.
+pub fn add_package(out: &mut Lines, source: &PackageSource) {
+    out.add("package ");
+    out.word(source.path().as_str());
+    let Ok(shared) = source.share() else {
+        return out.cut();
+    };
+    match assemble(shared) {
+        Ok(package) => {
+            out.line(package.name());
+            package.close();
+        }
+        Err(fault) => {
+            out.word(fault.rule.number());
+            if let Some(file) = source.files().get(fault.file) {
+                out.add(file.name());
+            }
+            out.end(":", fault.offset);
+        }
+    }
+}
+
+/// Adds how many packages, files and trees a workspace has.
+pub fn add_counts(out: &mut Lines, workspace: &Workspace) {
+    let (mut files, mut trees) = (0usize, 0usize);
+    for source in workspace.packages() {
+        for file in source.files() {
+            files = files.saturating_add(1);
+            trees = trees.saturating_add(usize::from(file.tree().is_ok()));
+        }
+    }
+    out.count("packages ", workspace.packages().len(), " files ");
+    out.show(files);
+    out.end(" trees ", trees);
+}
+
+/// Adds the files of a workspace: of each its path and name, whether it has a tree or which rule it breaks, and its text.
+pub fn add_files(out: &mut Lines, workspace: &Workspace) {
+    for source in workspace.packages() {
+        for file in source.files() {
+            out.add(source.path().as_str());
+            out.add("/");
+            out.word(file.name());
+            match file.tree() {
+                Ok(_) => out.add("tree "),
+                Err(fault) => out.word(fault.rule.number()),
+            }
+            out.quote(file.text().as_bytes());
+        }
+    }
+}

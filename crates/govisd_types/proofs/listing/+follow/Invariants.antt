@@ -1,0 +1,5 @@
+use Rattle.govisd_types.proofs.listing.+follow.Given as goal
+
+-- how many more fields a path may have
+abbrev pub decreases-follow : goal.decreases-follow
+decreases-follow l = l.left
