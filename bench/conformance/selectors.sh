@@ -11,5 +11,5 @@ set -u
 bench=$(dirname -- "$(dirname -- "$(readlink -f -- "$0")")")
 . "$bench/types.sh"
 peer=$("$bench/go_peer.sh" conformance/goselect) || exit 2
-PYTHONPATH=$bench exec python3 -B "$bench/conformance/selectors.py" --program "$types" --peer "$peer" --folder "$out/selectors" \
+PYTHONPATH=$bench exec python3 -B "$bench/conformance/selector_answers.py" --program "$types" --peer "$peer" --folder "$out/selectors" \
     "$bench/../crates/govisd_types/data/paths.txt" "$bench/../crates/govisd_types/data/hidden.txt" "$bench/../crates/govisd_types/data/operands.txt" "$bench/../crates/govisd_types/data/towers.txt"

@@ -113,14 +113,14 @@ def answers(options, kind, files):
     """What govisd and go/types answer, line by line, and how many answers of a listing of all paths differ from govisd's own."""
     status, ours, errors = run([options.program, kind, *files])
     if status:
-        sys.exit(f"selectors.py: {options.program} ended with {status}: {errors}")
+        sys.exit(f"selector_answers.py: {options.program} ended with {status}: {errors}")
     status, theirs, errors = run([options.peer, kind, *files])
     if status:
-        sys.exit(f"selectors.py: go/types refuses a generated workspace: {errors[:500]}")
+        sys.exit(f"selector_answers.py: go/types refuses a generated workspace: {errors[:500]}")
     second = [line for line in ours if line.startswith("  a listing")]
     ours = [line for line in ours if not line.startswith("  a listing")]
     if len(ours) != len(theirs):
-        sys.exit(f"selectors.py: {len(ours)} answers of govisd, {len(theirs)} of go/types")
+        sys.exit(f"selector_answers.py: {len(ours)} answers of govisd, {len(theirs)} of go/types")
     return list(zip(ours, theirs)), len(second)
 
 
