@@ -9,7 +9,7 @@ use Rattle.std.proofs.lemmas.Bool.{and_parts, and_from, ltb-true, ltb-false}
 use Rattle.std.proofs.lemmas.Slice.Eq.{bytes_eq-Decides}
 use Rattle.go_text_core.proofs.Each.{true_or_false}
 use lib.Dec.{ltb}
-use Rattle.go_path_core.specs.Path.{elements, IsElement, internal, IsPrefix, MayImport, is_first, tail_of, importable}
+use Rattle.go_path_core.specs.Path.{elements, IsElement, internal, IsPrefix, MayImport, is_first, tail_of, has_internal, importable}
 
 -- what position says, in terms of where the first slash stands
 cases_of : (p : ℕ → Bool) (xs : List ℕ) → ((position_or_len p xs < length xs) × (position p xs ≡ Some (position_or_len p xs))) ⊎ ((length xs ≤ position_or_len p xs) × (position p xs ≡ None))
@@ -105,6 +105,17 @@ complete shared q (x ∷ p) m =
     let below : May (shared && is_first x q) (tail_of q) p =
     (λ a b e. (let w = m (x ∷ a) b (ap (λ l. x ∷ l) e) in let f = is_first_from x q a w.1 in (and_from shared (is_first x q) w.0 f.0, f.1))) in
     and_from _ _ here (complete (shared && is_first x q) (tail_of q) p below)
+
+none_of : (x y : Bool) → (x || y) ≡ false → (x ≡ false) × (y ≡ false)
+none_of true y h = cc
+none_of false y h = (refl, h)
+
+-- a path without an element internal may be imported by all
+pub open_is : (shared : Bool) (q p : List (List ℕ)) → has_internal p ≡ false → importable shared q p ≡ true
+open_is shared q [] h = refl
+open_is shared q (e ∷ p) h =
+    let parts = none_of (bytes_eq e internal) (has_internal p) h in
+    and_from (not (bytes_eq e internal) || shared) (importable (shared && is_first e q) (tail_of q) p) (ap (λ b. not b || shared) parts.0) (open_is (shared && is_first e q) (tail_of q) p parts.1)
 
 pub may_import_is : (q p : List (List ℕ)) (r : Bool) → r ≡ importable true q p → (r ≡ true → MayImport q p) × (MayImport q p → r ≡ true)
 may_import_is q p r e = ((λ t a b h. (sound true q p (sym e ∙ t) a b h).1), (λ m. e ∙ complete true q p (λ a b h. (refl, m a b h))))

@@ -2,7 +2,7 @@
 ghost use Rattle.std.specs.Prelude.{◌≡◌, ◌↔◌, ◌⊎◌, IfOk, IfErr, IsTrue, string_bytes};
 ghost use Rattle.go_path_core.specs.Path.{elements, IsPath, MayImport};
 
-use crate::path_text::{can_import, is_path};
+use crate::path_text::{is_importable, is_path};
 use go_text_core::Rule;
 use std::alloc::{AllocError, Global};
 use std::marker::Model;
@@ -157,5 +157,5 @@ pub fn may_import(from: &ImportPath, path: &ImportPath) -> bool
 pub fn may_import_text(from: &ImportPath, path: &PathText<'_>) -> bool
     ensures { IsTrue result ↔ MayImport (elements from.now) (elements path.now) }
 {
-    can_import(true, Some(from.text.as_bytes()), path.text.as_bytes())
+    is_importable(from.text.as_bytes(), path.text.as_bytes())
 }

@@ -1,6 +1,6 @@
 //! The text of a path: its elements, and the tests along them.
-ghost use Rattle.std.specs.Prelude.{◌≡◌, ◌≤◌, ◌↔◌, ◌∷◌, ◌==◌, position, IsTrue, All, length};
-ghost use Rattle.go_path_core.specs.Path.{elements, left_of, is_shorter, IsPathByte, IsElement, IsPath, importable, IsPrefix};
+ghost use Rattle.std.specs.Prelude.{◌≡◌, ◌≤◌, ◌↔◌, ◌∷◌, ◌==◌, true, position, IsTrue, All, length};
+ghost use Rattle.go_path_core.specs.Path.{elements, left_of, is_shorter, IsPathByte, IsElement, IsPath, has_internal, importable, IsPrefix};
 
 /// The most bytes of a path.
 const MOST_BYTES: usize = 255;
@@ -65,9 +65,34 @@ pub(crate) fn is_path(text: &str) -> bool
     text.len() <= MOST_BYTES && has_elements(text.as_bytes(), MOST_ELEMENTS)
 }
 
-/// Whether what is left of a path may be imported, where `shared` says that the elements before it are
-/// the first of the importer's, of whose elements `from` is left.
-pub(crate) fn can_import(shared: bool, from: Option<&[u8]>, path: &[u8]) -> bool
+// Whether a text has an element `internal`.
+fn has_internal(path: &[u8]) -> bool
+    ensures { result ≡ has_internal (elements path.now) }
+{
+    let (element, rest) = next_element(path);
+    if element == b"internal".as_slice() {
+        return true;
+    }
+    match rest {
+        Some(path) => has_internal(path),
+        None => false,
+    }
+}
+
+/// Whether a path may be imported by the package `from`. Most paths have no element `internal`: of these the importer's is
+/// not looked at.
+pub(crate) fn is_importable(from: &[u8], path: &[u8]) -> bool
+    ensures { result ≡ importable true (elements from.now) (elements path.now) }
+{
+    if !has_internal(path) {
+        return true;
+    }
+    can_import(true, Some(from), path)
+}
+
+// Whether what is left of a path may be imported, where `shared` says that the elements before it are
+// the first of the importer's, of whose elements `from` is left.
+fn can_import(shared: bool, from: Option<&[u8]>, path: &[u8]) -> bool
     ensures { result ≡ importable shared (left_of from.entry) (elements path.now) }
 {
     let (element, rest) = next_element(path);
