@@ -3,10 +3,14 @@ use Rattle.std.proofs.Common.{◌≡◌, ℕ, ◌+◌, ◌<◌, ◌≤◌, Bool,
 use Rattle.std.proofs.lemmas.List.{drop_more, drop_all, append_assoc, append-nil, map-append}
 use Rattle.go_term_core.specs.declared.term.Field.{Field}
 use Rattle.go_term_core.specs.Terms.{StructOf}
-use Rattle.go_term_core.specs.Shapes.{shape, fields_of}
+use Rattle.go_term_core.specs.Shapes.{Line, line_at, fields_in}
 use Rattle.go_table_core.specs.Entries.{has_method}
 use Rattle.go_table_core.specs.Shown.{hides_some}
+use Rattle.std.specs.Borrow.{Bor}
+use Rattle.go_table_core.specs.declared.fields.StructField.{StructField}
+use Rattle.go_table_core.specs.Shown.{line_shown}
 use Rattle.go_embed_core.specs.declared.member.Member as declared_member
+use Rattle.go_embed_core.specs.declared.member.Member.TheVariants as members
 use Rattle.go_embed_core.specs.Owners.{OwnerModel, AFieldOf, Named, fields_found, declared_found, term_found, members_of}
 use Rattle.go_embed_core.specs.OwnersShown.{named_shown}
 use Rattle.go_embed_core.specs.mirrors.Edges.{hidden_by, IsHiding}
@@ -14,6 +18,10 @@ use Rattle.go_embed_core.proofs.Edging.{hides_here}
 
 pub pushed : (ms next : List declared_member.Member) (m : declared_member.Member) → next ≡ ms ++ m ∷ [] → map named_shown next ≡ map named_shown ms ++ named_shown m ∷ []
 pushed ms next m e = ap (map named_shown) e ∙ map-append named_shown ms (m ∷ [])
+
+pub member_pushed : (ms next : List declared_member.Member) (path : Bor (List ℕ)) (r : StructField) (f : Field) (ls : List Line) → next ≡ ms ++ members.Field path r ∷ [] → r.field.now ≡ f → line_shown r.line ≡ line_at ls f.line
+    → map named_shown next ≡ map named_shown ms ++ (f.name, (path.now, AFieldOf path.now f.place (line_at ls f.line).term)) ∷ []
+member_pushed ms next path r f ls e same lined = pushed ms next (members.Field path r) e ∙ (λ i. map named_shown ms ++ ((same i).name, (path.now, AFieldOf path.now (same i).place (lined i).term)) ∷ [])
 
 -- one item more, with what it adds
 pub added_step : {X : Type 0} (F : List X → List Named) (own : List Named) (xs : List X) (i : ℕ) (x : X) (now next all : List Named) → i < length xs → x ≡ get_or xs i x
@@ -31,30 +39,30 @@ added_end F xs i now all none le before =
 
 -- a field that no method keeps from its owner is listed, and another is not
 
-shown_now : (o : OwnerModel) (path : List ℕ) (f : Field) (fs : List Field) → has_method o.path o.methods f.name path ≡ false
-    → fields_found o path (fields_of (f ∷ fs)) ≡ (f.name, (path, AFieldOf path f.place (shape f.term))) ∷ fields_found o path (fields_of fs)
-shown_now o path f fs off = ap (λ b. if b then fields_found o path (fields_of fs) else (f.name, (path, AFieldOf path f.place (shape f.term))) ∷ fields_found o path (fields_of fs)) off
+shown_now : (ls : List Line) (o : OwnerModel) (path : List ℕ) (f : Field) (fs : List Field) → has_method o.path o.methods f.name path ≡ false
+    → fields_found o path (fields_in ls (f ∷ fs)) ≡ (f.name, (path, AFieldOf path f.place (line_at ls f.line).term)) ∷ fields_found o path (fields_in ls fs)
+shown_now ls o path f fs off = ap (λ b. if b then fields_found o path (fields_in ls fs) else (f.name, (path, AFieldOf path f.place (line_at ls f.line).term)) ∷ fields_found o path (fields_in ls fs)) off
 
-hidden_now : (o : OwnerModel) (path : List ℕ) (f : Field) (fs : List Field) → has_method o.path o.methods f.name path ≡ true → fields_found o path (fields_of (f ∷ fs)) ≡ fields_found o path (fields_of fs)
-hidden_now o path f fs on = ap (λ b. if b then fields_found o path (fields_of fs) else (f.name, (path, AFieldOf path f.place (shape f.term))) ∷ fields_found o path (fields_of fs)) on
+hidden_now : (ls : List Line) (o : OwnerModel) (path : List ℕ) (f : Field) (fs : List Field) → has_method o.path o.methods f.name path ≡ true → fields_found o path (fields_in ls (f ∷ fs)) ≡ fields_found o path (fields_in ls fs)
+hidden_now ls o path f fs on = ap (λ b. if b then fields_found o path (fields_in ls fs) else (f.name, (path, AFieldOf path f.place (line_at ls f.line).term)) ∷ fields_found o path (fields_in ls fs)) on
 
-module _ (o : OwnerModel) (path : List ℕ) (fs : List Field) (i : ℕ) (f : Field) (b : Bool) (lt : i < length fs) (is : f ≡ get_or fs i f) (under : o.underlying ≡ StructOf path (fields_of fs)) (hiding : IsHiding b o f.name) where
+module _ (ls : List Line) (o : OwnerModel) (path : List ℕ) (fs : List Field) (i : ℕ) (f : Field) (b : Bool) (lt : i < length fs) (is : f ≡ get_or fs i f) (under : o.underlying ≡ StructOf path (fields_in ls fs)) (hiding : IsHiding b o f.name) where
   off : b ≡ false → has_method o.path o.methods f.name path ≡ false
   off e =
       elim (hiding.left e) [
         | inl q ↦ sym (ap (hidden_by o f.name) under) ∙ q
-        | inr q ↦ hides_here o path fs i f lt is (sym (ap (hides_some o.path o.methods) under) ∙ q)
+        | inr q ↦ hides_here ls o path fs i f lt is (sym (ap (hides_some o.path o.methods) under) ∙ q)
       ]
 
-  pub field_shown : (now next all : List Named) → b ≡ false → next ≡ now ++ (f.name, (path, AFieldOf path f.place (shape f.term))) ∷ [] → now ++ fields_found o path (fields_of (drop i fs)) ≡ all
-      → next ++ fields_found o path (fields_of (drop (i + 1) fs)) ≡ all
+  pub field_shown : (now next all : List Named) → b ≡ false → next ≡ now ++ (f.name, (path, AFieldOf path f.place (line_at ls f.line).term)) ∷ [] → now ++ fields_found o path (fields_in ls (drop i fs)) ≡ all
+      → next ++ fields_found o path (fields_in ls (drop (i + 1) fs)) ≡ all
   field_shown now next all e more before =
-      added_step (λ l. fields_found o path (fields_of l)) ((f.name, (path, AFieldOf path f.place (shape f.term))) ∷ []) fs i f now next all lt is (shown_now o path f (drop (i + 1) fs) (off e)) more before
+      added_step (λ l. fields_found o path (fields_in ls l)) ((f.name, (path, AFieldOf path f.place (line_at ls f.line).term)) ∷ []) fs i f now next all lt is (shown_now ls o path f (drop (i + 1) fs) (off e)) more before
 
-  pub field_hidden : (now all : List Named) → b ≡ true → now ++ fields_found o path (fields_of (drop i fs)) ≡ all → now ++ fields_found o path (fields_of (drop (i + 1) fs)) ≡ all
+  pub field_hidden : (now all : List Named) → b ≡ true → now ++ fields_found o path (fields_in ls (drop i fs)) ≡ all → now ++ fields_found o path (fields_in ls (drop (i + 1) fs)) ≡ all
   field_hidden now all e before =
       let on : has_method o.path o.methods f.name path ≡ true = sym (ap (hidden_by o f.name) under) ∙ hiding.kept e in
-      added_step (λ l. fields_found o path (fields_of l)) [] fs i f now now all lt is (hidden_now o path f (drop (i + 1) fs) on) (sym (append-nil now)) before
+      added_step (λ l. fields_found o path (fields_in ls l)) [] fs i f now now all lt is (hidden_now ls o path f (drop (i + 1) fs) on) (sym (append-nil now)) before
 
 -- all members of an owner
 pub members_all : (o : OwnerModel) (none own all : List Named) → none ≡ [] → own ≡ none ++ declared_found o.path o.methods → all ≡ own ++ term_found o o.underlying → all ≡ members_of o

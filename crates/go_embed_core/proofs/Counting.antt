@@ -8,7 +8,7 @@ use Rattle.std.proofs.lemmas.List.{drop_more, drop_all}
 use Rattle.go_text_core.specs.Text.{SameId}
 use Rattle.go_term_core.specs.declared.term.Field.{Field}
 use Rattle.go_term_core.specs.declared.term.Method.{Method}
-use Rattle.go_term_core.specs.Shapes.{fields_of, methods_of}
+use Rattle.go_term_core.specs.Shapes.{Line, fields_in, methods_of}
 use Rattle.go_table_core.specs.declared.entry.DeclaredMethod.{DeclaredMethod}
 use Rattle.go_table_core.specs.Entries.{same_id, has_method}
 use Rattle.go_table_core.specs.Shown.{member_shown}
@@ -69,9 +69,9 @@ pub methods_named : (path name from : List ℕ) (ms : List DeclaredMethod) → t
 methods_named path name from [] = refl
 methods_named path name from (m ∷ ms) = ap (together (method_tally path name from m)) (methods_named path name from ms)
 
-pub fields_named : (path name from : List ℕ) (fs : List Field) → tallies (field_tally path name from) fs ≡ tallies (tally_of name from) (fields_found nobody path (fields_of fs))
-fields_named path name from [] = refl
-fields_named path name from (f ∷ fs) = ap (together (field_tally path name from f)) (fields_named path name from fs)
+pub fields_named : (ls : List Line) (path name from : List ℕ) (fs : List Field) → tallies (field_tally ls path name from) fs ≡ tallies (tally_of name from) (fields_found nobody path (fields_in ls fs))
+fields_named ls path name from [] = refl
+fields_named ls path name from (f ∷ fs) = ap (together (field_tally ls path name from f)) (fields_named ls path name from fs)
 
 pub interface_named : (path name from : List ℕ) (ms : List Method) → tallies (interface_tally path name from) ms ≡ tallies (tally_of name from) (methods_found path (methods_of ms))
 interface_named path name from [] = refl
@@ -89,9 +89,9 @@ pub methods_spelled : (path name : List ℕ) (ms : List DeclaredMethod) → list
 methods_spelled path name [] = refl
 methods_spelled path name (m ∷ ms) = or_if (bytes_eq m.name name) (list_any (λ m. bytes_eq m.name name) ms) ∙ ap (λ l. if bytes_eq m.name name then true else l) (methods_spelled path name ms)
 
-pub fields_spelled : (path name : List ℕ) (fs : List Field) → list_any (λ f. bytes_eq f.name name) fs ≡ is_spelled_in (fields_found nobody path (fields_of fs)) name
-fields_spelled path name [] = refl
-fields_spelled path name (f ∷ fs) = or_if (bytes_eq f.name name) (list_any (λ f. bytes_eq f.name name) fs) ∙ ap (λ l. if bytes_eq f.name name then true else l) (fields_spelled path name fs)
+pub fields_spelled : (ls : List Line) (path name : List ℕ) (fs : List Field) → list_any (λ f. bytes_eq f.name name) fs ≡ is_spelled_in (fields_found nobody path (fields_in ls fs)) name
+fields_spelled ls path name [] = refl
+fields_spelled ls path name (f ∷ fs) = or_if (bytes_eq f.name name) (list_any (λ f. bytes_eq f.name name) fs) ∙ ap (λ l. if bytes_eq f.name name then true else l) (fields_spelled ls path name fs)
 
 pub interface_spelled : (path name : List ℕ) (ms : List Method) → list_any (λ m. bytes_eq m.name name) ms ≡ is_spelled_in (methods_found path (methods_of ms)) name
 interface_spelled path name [] = refl

@@ -5,7 +5,7 @@ use Rattle.std.proofs.lemmas.Bool.{eq-eqb, ne_eqb, and_right, or_parts, not_from
 use Rattle.std.proofs.lemmas.List.{append_assoc, append-nil, map-append}
 use Rattle.go_term_core.specs.declared.term.Field.{Field}
 use Rattle.go_term_core.specs.Terms.{Term, NoType, Predeclared, ErrorType, Defined, PointerTo, StructOf, InterfaceOf, Fields, NoField, AField}
-use Rattle.go_term_core.specs.Shapes.{shape, fields_of}
+use Rattle.go_term_core.specs.Shapes.{Line, line_at, fields_in}
 use Rattle.go_table_core.specs.Entries.{has_method}
 use Rattle.go_table_core.specs.Shown.{hides_field, hides_some}
 use Rattle.go_embed_core.specs.declared.owner.Embedded.{Embedded}
@@ -45,96 +45,97 @@ place_is o path k (AField name place embedded t tag fs) (suc i) n e =
 
 -- 2. What the program reads.
 
-past_fields : (o : OwnerModel) (path : List ℕ) (n : ℕ) (fs : List Field) (i : ℕ) → length fs ≤ i → at_place o path n (fields_of fs) i ≡ None
-past_fields o path n [] i le = refl
-past_fields o path n (f ∷ fs) zero le = absurd (omega arith)
-past_fields o path n (f ∷ fs) (suc i) le = past_fields o path n fs i (omega arith)
+module _ (ls : List Line) where
+  past_fields : (o : OwnerModel) (path : List ℕ) (n : ℕ) (fs : List Field) (i : ℕ) → length fs ≤ i → at_place o path n (fields_in ls fs) i ≡ None
+  past_fields o path n [] i le = refl
+  past_fields o path n (f ∷ fs) zero le = absurd (omega arith)
+  past_fields o path n (f ∷ fs) (suc i) le = past_fields o path n fs i (omega arith)
 
-in_fields : (o : OwnerModel) (path : List ℕ) (n : ℕ) (fs : List Field) (i : ℕ) (f : Field) → i < length fs → f ≡ get_or fs i f
-    → at_place o path n (fields_of fs) i ≡ edge_if (f.embedded && not (has_method o.path o.methods f.name path)) n (shape f.term)
-in_fields o path n [] i f lt is = absurd (omega arith)
-in_fields o path n (g ∷ fs) zero f lt is = ap (λ (h : Field). edge_if (h.embedded && not (has_method o.path o.methods h.name path)) n (shape h.term)) (sym is)
-in_fields o path n (g ∷ fs) (suc i) f lt is = in_fields o path n fs i f (omega arith) is
+  in_fields : (o : OwnerModel) (path : List ℕ) (n : ℕ) (fs : List Field) (i : ℕ) (f : Field) → i < length fs → f ≡ get_or fs i f
+      → at_place o path n (fields_in ls fs) i ≡ edge_if ((line_at ls f.line).embedded && not (has_method o.path o.methods f.name path)) n (line_at ls f.line).term
+  in_fields o path n [] i f lt is = absurd (omega arith)
+  in_fields o path n (g ∷ fs) zero f lt is = ap (λ (h : Field). edge_if ((line_at ls h.line).embedded && not (has_method o.path o.methods h.name path)) n (line_at ls h.line).term) (sym is)
+  in_fields o path n (g ∷ fs) (suc i) f lt is = in_fields o path n fs i f (omega arith) is
 
-pub hides_here : (o : OwnerModel) (path : List ℕ) (fs : List Field) (i : ℕ) (f : Field) → i < length fs → f ≡ get_or fs i f → hides_field o.path o.methods path (fields_of fs) ≡ false → has_method o.path o.methods f.name path ≡ false
-hides_here o path [] i f lt is h = absurd (omega arith)
-hides_here o path (g ∷ fs) zero f lt is h =
-    ap (λ (x : Field). has_method o.path o.methods x.name path) is ∙ (or_parts (has_method o.path o.methods g.name path) (hides_field o.path o.methods path (fields_of fs)) h).0
-hides_here o path (g ∷ fs) (suc i) f lt is h =
-    hides_here o path fs i f (omega arith) is (or_parts (has_method o.path o.methods g.name path) (hides_field o.path o.methods path (fields_of fs)) h).1
+  pub hides_here : (o : OwnerModel) (path : List ℕ) (fs : List Field) (i : ℕ) (f : Field) → i < length fs → f ≡ get_or fs i f → hides_field o.path o.methods path (fields_in ls fs) ≡ false → has_method o.path o.methods f.name path ≡ false
+  hides_here o path [] i f lt is h = absurd (omega arith)
+  hides_here o path (g ∷ fs) zero f lt is h =
+      ap (λ (x : Field). has_method o.path o.methods x.name path) is ∙ (or_parts (has_method o.path o.methods g.name path) (hides_field o.path o.methods path (fields_in ls fs)) h).0
+  hides_here o path (g ∷ fs) (suc i) f lt is h =
+      hides_here o path fs i f (omega arith) is (or_parts (has_method o.path o.methods g.name path) (hides_field o.path o.methods path (fields_in ls fs)) h).1
 
--- the edges of an owner's underlying type by its fields
-under_past : (o : OwnerModel) (u : Term) (fs : List Field) (n : ℕ) → fields_of fs ≡ struct_fields u → length fs ≤ n → edge_at (term_embedded o u) n ≡ None
-under_past o NoType fs n e le = refl
-under_past o (Predeclared b) fs n e le = refl
-under_past o ErrorType fs n e le = refl
-under_past o (Defined k) fs n e le = refl
-under_past o (PointerTo t) fs n e le = refl
-under_past o (StructOf path gs) fs n e le = place_is o path 0 gs n n (omega arith) ∙ (ap (λ hs. at_place o path n hs n) (sym e) ∙ past_fields o path n fs n le)
-under_past o (InterfaceOf path ms) fs n e le = refl
+  -- the edges of an owner's underlying type by its fields
+  under_past : (o : OwnerModel) (u : Term) (fs : List Field) (n : ℕ) → fields_in ls fs ≡ struct_fields u → length fs ≤ n → edge_at (term_embedded o u) n ≡ None
+  under_past o NoType fs n e le = refl
+  under_past o (Predeclared b) fs n e le = refl
+  under_past o ErrorType fs n e le = refl
+  under_past o (Defined k) fs n e le = refl
+  under_past o (PointerTo t) fs n e le = refl
+  under_past o (StructOf path gs) fs n e le = place_is o path 0 gs n n (omega arith) ∙ (ap (λ hs. at_place o path n hs n) (sym e) ∙ past_fields o path n fs n le)
+  under_past o (InterfaceOf path ms) fs n e le = refl
 
--- a list without fields has no place
-no_place : (fs : List Field) (i : ℕ) → fields_of fs ≡ NoField → i < length fs → ⊥
-no_place [] i e lt = omega arith
-no_place (f ∷ fs) i e lt = cc e
+  -- a list without fields has no place
+  no_place : (fs : List Field) (i : ℕ) → fields_in ls fs ≡ NoField → i < length fs → ⊥
+  no_place [] i e lt = omega arith
+  no_place (f ∷ fs) i e lt = cc e
 
-hidden_edge : (o : OwnerModel) (path : List ℕ) (n : ℕ) (f : Field) → has_method o.path o.methods f.name path ≡ true → edge_if (f.embedded && not (has_method o.path o.methods f.name path)) n (shape f.term) ≡ None
-hidden_edge o path n f h = ap (λ b. edge_if b n (shape f.term)) (and_right f.embedded (not (has_method o.path o.methods f.name path)) (not_from_true (has_method o.path o.methods f.name path) h))
+  hidden_edge : (o : OwnerModel) (path : List ℕ) (n : ℕ) (f : Field) → has_method o.path o.methods f.name path ≡ true → edge_if ((line_at ls f.line).embedded && not (has_method o.path o.methods f.name path)) n (line_at ls f.line).term ≡ None
+  hidden_edge o path n f h = ap (λ b. edge_if b n (line_at ls f.line).term) (and_right (line_at ls f.line).embedded (not (has_method o.path o.methods f.name path)) (not_from_true (has_method o.path o.methods f.name path) h))
 
-and_yes : (b : Bool) → b && true ≡ b
-and_yes true = refl
-and_yes false = refl
+  and_yes : (b : Bool) → b && true ≡ b
+  and_yes true = refl
+  and_yes false = refl
 
-shown_edge : (o : OwnerModel) (path : List ℕ) (n : ℕ) (f : Field) → has_method o.path o.methods f.name path ≡ false → edge_if (f.embedded && not (has_method o.path o.methods f.name path)) n (shape f.term) ≡ edge_if f.embedded n (shape f.term)
-shown_edge o path n f h = ap (λ b. edge_if (f.embedded && not b) n (shape f.term)) h ∙ ap (λ b. edge_if b n (shape f.term)) (and_yes f.embedded)
+  shown_edge : (o : OwnerModel) (path : List ℕ) (n : ℕ) (f : Field) → has_method o.path o.methods f.name path ≡ false → edge_if ((line_at ls f.line).embedded && not (has_method o.path o.methods f.name path)) n (line_at ls f.line).term ≡ edge_if (line_at ls f.line).embedded n (line_at ls f.line).term
+  shown_edge o path n f h = ap (λ b. edge_if ((line_at ls f.line).embedded && not b) n (line_at ls f.line).term) h ∙ ap (λ b. edge_if b n (line_at ls f.line).term) (and_yes (line_at ls f.line).embedded)
 
-under_hidden : (o : OwnerModel) (u : Term) (fs : List Field) (n : ℕ) (f : Field) → fields_of fs ≡ struct_fields u → n < length fs → f ≡ get_or fs n f → hidden_by o f.name u ≡ true → edge_at (term_embedded o u) n ≡ None
-under_hidden o NoType fs n f e lt is h = refl
-under_hidden o (Predeclared b) fs n f e lt is h = refl
-under_hidden o ErrorType fs n f e lt is h = refl
-under_hidden o (Defined k) fs n f e lt is h = refl
-under_hidden o (PointerTo t) fs n f e lt is h = refl
-under_hidden o (StructOf path gs) fs n f e lt is h =
-    place_is o path 0 gs n n (omega arith) ∙ (ap (λ hs. at_place o path n hs n) (sym e) ∙ (in_fields o path n fs n f lt is ∙ hidden_edge o path n f h))
-under_hidden o (InterfaceOf path ms) fs n f e lt is h = refl
+  under_hidden : (o : OwnerModel) (u : Term) (fs : List Field) (n : ℕ) (f : Field) → fields_in ls fs ≡ struct_fields u → n < length fs → f ≡ get_or fs n f → hidden_by o f.name u ≡ true → edge_at (term_embedded o u) n ≡ None
+  under_hidden o NoType fs n f e lt is h = refl
+  under_hidden o (Predeclared b) fs n f e lt is h = refl
+  under_hidden o ErrorType fs n f e lt is h = refl
+  under_hidden o (Defined k) fs n f e lt is h = refl
+  under_hidden o (PointerTo t) fs n f e lt is h = refl
+  under_hidden o (StructOf path gs) fs n f e lt is h =
+      place_is o path 0 gs n n (omega arith) ∙ (ap (λ hs. at_place o path n hs n) (sym e) ∙ (in_fields o path n fs n f lt is ∙ hidden_edge o path n f h))
+  under_hidden o (InterfaceOf path ms) fs n f e lt is h = refl
 
-under_shown : (o : OwnerModel) (u : Term) (fs : List Field) (n : ℕ) (f : Field) → fields_of fs ≡ struct_fields u → n < length fs → f ≡ get_or fs n f
-    → (hidden_by o f.name u ≡ false) ⊎ (hides_some o.path o.methods u ≡ false) → edge_at (term_embedded o u) n ≡ edge_if f.embedded n (shape f.term)
-under_shown o NoType fs n f e lt is h = absurd (no_place fs n e lt)
-under_shown o (Predeclared b) fs n f e lt is h = absurd (no_place fs n e lt)
-under_shown o ErrorType fs n f e lt is h = absurd (no_place fs n e lt)
-under_shown o (Defined k) fs n f e lt is h = absurd (no_place fs n e lt)
-under_shown o (PointerTo t) fs n f e lt is h = absurd (no_place fs n e lt)
-under_shown o (StructOf path gs) fs n f e lt is h =
-    let off : has_method o.path o.methods f.name path ≡ false =
-    elim h [ inl q ↦ q | inr q ↦ hides_here o path fs n f lt is (ap (λ hs. hides_field o.path o.methods path hs) e ∙ q) ] in
-    place_is o path 0 gs n n (omega arith) ∙ (ap (λ hs. at_place o path n hs n) (sym e) ∙ (in_fields o path n fs n f lt is ∙ shown_edge o path n f off))
-under_shown o (InterfaceOf path ms) fs n f e lt is h = absurd (no_place fs n e lt)
+  under_shown : (o : OwnerModel) (u : Term) (fs : List Field) (n : ℕ) (f : Field) → fields_in ls fs ≡ struct_fields u → n < length fs → f ≡ get_or fs n f
+      → (hidden_by o f.name u ≡ false) ⊎ (hides_some o.path o.methods u ≡ false) → edge_at (term_embedded o u) n ≡ edge_if (line_at ls f.line).embedded n (line_at ls f.line).term
+  under_shown o NoType fs n f e lt is h = absurd (no_place fs n e lt)
+  under_shown o (Predeclared b) fs n f e lt is h = absurd (no_place fs n e lt)
+  under_shown o ErrorType fs n f e lt is h = absurd (no_place fs n e lt)
+  under_shown o (Defined k) fs n f e lt is h = absurd (no_place fs n e lt)
+  under_shown o (PointerTo t) fs n f e lt is h = absurd (no_place fs n e lt)
+  under_shown o (StructOf path gs) fs n f e lt is h =
+      let off : has_method o.path o.methods f.name path ≡ false =
+      elim h [ inl q ↦ q | inr q ↦ hides_here o path fs n f lt is (ap (λ hs. hides_field o.path o.methods path hs) e ∙ q) ] in
+      place_is o path 0 gs n n (omega arith) ∙ (ap (λ hs. at_place o path n hs n) (sym e) ∙ (in_fields o path n fs n f lt is ∙ shown_edge o path n f off))
+  under_shown o (InterfaceOf path ms) fs n f e lt is h = absurd (no_place fs n e lt)
 
--- no field has the number
-pub embeds_past : (o : OwnerModel) (fs : List Field) (n : ℕ) → fields_of fs ≡ struct_fields o.underlying → length fs ≤ n → embeds_at o n ≡ None
-embeds_past o fs n e le = under_past o o.underlying fs n e le
+  -- no field has the number
+  pub embeds_past : (o : OwnerModel) (fs : List Field) (n : ℕ) → fields_in ls fs ≡ struct_fields o.underlying → length fs ≤ n → embeds_at o n ≡ None
+  embeds_past o fs n e le = under_past o o.underlying fs n e le
 
--- the field of that number is kept from the owner
-pub embeds_hidden : (o : OwnerModel) (fs : List Field) (n : ℕ) (f : Field) (b : Bool) → fields_of fs ≡ struct_fields o.underlying → n < length fs → f ≡ get_or fs n f → IsHiding b o f.name → b ≡ true → embeds_at o n ≡ None
-embeds_hidden o fs n f b e lt is h on = under_hidden o o.underlying fs n f e lt is (h.kept on)
+  -- the field of that number is kept from the owner
+  pub embeds_hidden : (o : OwnerModel) (fs : List Field) (n : ℕ) (f : Field) (b : Bool) → fields_in ls fs ≡ struct_fields o.underlying → n < length fs → f ≡ get_or fs n f → IsHiding b o f.name → b ≡ true → embeds_at o n ≡ None
+  embeds_hidden o fs n f b e lt is h on = under_hidden o o.underlying fs n f e lt is (h.kept on)
 
--- it is the owner's
-pub embeds_shown : (o : OwnerModel) (fs : List Field) (n : ℕ) (f : Field) (b : Bool) → fields_of fs ≡ struct_fields o.underlying → n < length fs → f ≡ get_or fs n f → IsHiding b o f.name → b ≡ false
-    → embeds_at o n ≡ edge_if f.embedded n (shape f.term)
-embeds_shown o fs n f b e lt is h off = under_shown o o.underlying fs n f e lt is (h.left off)
+  -- it is the owner's
+  pub embeds_shown : (o : OwnerModel) (fs : List Field) (n : ℕ) (f : Field) (b : Bool) → fields_in ls fs ≡ struct_fields o.underlying → n < length fs → f ≡ get_or fs n f → IsHiding b o f.name → b ≡ false
+      → embeds_at o n ≡ edge_if (line_at ls f.line).embedded n (line_at ls f.line).term
+  embeds_shown o fs n f b e lt is h off = under_shown o o.underlying fs n f e lt is (h.left off)
 
-count_under : (u : Term) → count_fields (struct_fields u) ≡ term_fields u
-count_under NoType = refl
-count_under (Predeclared b) = refl
-count_under ErrorType = refl
-count_under (Defined k) = refl
-count_under (PointerTo t) = refl
-count_under (StructOf path fs) = refl
-count_under (InterfaceOf path ms) = refl
+  count_under : (u : Term) → count_fields (struct_fields u) ≡ term_fields u
+  count_under NoType = refl
+  count_under (Predeclared b) = refl
+  count_under ErrorType = refl
+  count_under (Defined k) = refl
+  count_under (PointerTo t) = refl
+  count_under (StructOf path fs) = refl
+  count_under (InterfaceOf path ms) = refl
 
-pub count_owner : (o : OwnerModel) (fs : List Field) → fields_of fs ≡ struct_fields o.underlying → length fs ≡ field_count o
-count_owner o fs e = sym (count_list fs) ∙ (ap count_fields e ∙ count_under o.underlying)
+  pub count_owner : (o : OwnerModel) (fs : List Field) → fields_in ls fs ≡ struct_fields o.underlying → length fs ≡ field_count o
+  count_owner o fs e = sym (count_list ls fs) ∙ (ap count_fields e ∙ count_under o.underlying)
 
 -- 3. All edges.
 

@@ -7,3 +7,6 @@ pub mod Adding
 pub mod Noting
 pub mod Telling
 pub mod Steps
+pub mod Naming
+pub mod Hiding
+pub mod Once

@@ -1,15 +1,16 @@
 -- Faults of members, one after another.
-use Rattle.std.proofs.Common.{◌≡◌, ℕ, ◌+◌, ◌<◌, ◌≤◌, true, not, ◌&&◌, ◌||◌, List, [], ◌∷◌, ◌++◌, map, length, drop, get_or, if◌then◌else◌, refl, sym, ap, ◌∙◌}
+use Rattle.std.proofs.Common.{◌≡◌, ℕ, ◌+◌, ◌<◌, ◌≤◌, true, false, not, ◌&&◌, ◌||◌, List, [], ◌∷◌, ◌++◌, map, length, drop, get_or, if◌then◌else◌, refl, sym, ap, ◌∙◌}
+use Rattle.std.specs.Prelude.{Option, None, Some}
 use Rattle.std.specs.Str.{bytes_eq}
 use Rattle.std.proofs.lemmas.List.{drop_more, drop_all, append_assoc, append-nil}
 use Rattle.go_text_core.specs.Text.{is_blank}
 use Rattle.go_text_core.specs.declared.rule.Rule.TheVariants as rules
 use Rattle.go_decl_core.specs.declared.keys.DeclKey.{DeclKey}
+use Rattle.go_term_core.specs.declared.term.MemberPlace.{MemberPlace}
 use Rattle.go_term_core.specs.declared.term.Field.{Field}
 use Rattle.go_term_core.specs.declared.term.Method.{Method}
-use Rattle.go_term_core.specs.declared.term.TypeTerm.{TypeTerm}
-use Rattle.go_term_core.specs.Terms.{Term, Fields, NoField, AField, Methods, NoMethod, AMethod}
-use Rattle.go_term_core.specs.Shapes.{shape, sign_of, fields_of, methods_of, terms_of}
+use Rattle.go_term_core.specs.Terms.{Term, NoType, Fields, NoField, AField, Methods, NoMethod, AMethod}
+use Rattle.go_term_core.specs.Shapes.{Line, line_at, term_at, fields_in, terms_in, sign_of, methods_of, params_of}
 use Rattle.go_settle_core.specs.declared.kind.Kind.{Kind}
 use Rattle.go_settle_core.specs.Settled.{can_be_embedded, has_name, repeats}
 use Rattle.go_table_core.specs.declared.entry.DeclaredMethod.{DeclaredMethod}
@@ -17,7 +18,7 @@ use Rattle.go_table_core.specs.Entries.{Member}
 use Rattle.go_table_core.specs.Methods.{has_field_before}
 use Rattle.go_table_core.specs.Shown.{member_shown}
 use Rattle.go_embed_core.specs.declared.faults.MemberFault.{MemberFault}
-use Rattle.go_embed_core.specs.Faults.{fault_if, term_faults, fields_faults, methods_faults, sign_faults, terms_faults, declared_faults}
+use Rattle.go_embed_core.specs.Faults.{fault_if, first_place, is_shared, term_faults, line_faults, fields_faults, methods_faults, sign_faults, terms_faults, declared_faults}
 use Rattle.go_embed_core.specs.mirrors.Passing.{SameNames, field_own, method_own, declared_own}
 
 -- 1. The same names give the same faults.
@@ -25,11 +26,11 @@ use Rattle.go_embed_core.specs.mirrors.Passing.{SameNames, field_own, method_own
 same_more : (a b : List (List ℕ)) (name : List ℕ) → SameNames a b → SameNames (name ∷ a) (name ∷ b)
 same_more a b name h = λ other. ap (λ v. if bytes_eq name other then true else v) (h other)
 
-same_fields : (kind : DeclKey → Kind) (a b : List (List ℕ)) (fs : Fields) → SameNames a b → fields_faults kind a fs ≡ fields_faults kind b fs
-same_fields kind a b NoField h = refl
-same_fields kind a b (AField name place embedded t tag fs) h =
-    ap (λ v. fault_if (not (is_blank name) && v) place rules.B5 ++ (fault_if (embedded && not (can_be_embedded kind t)) place rules.Y2 ++ (term_faults kind t ++ fields_faults kind (name ∷ a) fs))) (h name)
-    ∙ ap (λ l. fault_if (repeats b name) place rules.B5 ++ (fault_if (embedded && not (can_be_embedded kind t)) place rules.Y2 ++ (term_faults kind t ++ l))) (same_fields kind (name ∷ a) (name ∷ b) fs (same_more a b name h))
+same_fields : (kind : DeclKey → Kind) (a b : List (List ℕ)) (last : Option MemberPlace) (fs : Fields) → SameNames a b → fields_faults kind a last fs ≡ fields_faults kind b last fs
+same_fields kind a b last NoField h = refl
+same_fields kind a b last (AField name place embedded t tag fs) h =
+    ap (λ v. fault_if (not (is_blank name) && v) place rules.B5 ++ (fault_if (embedded && not (can_be_embedded kind t)) place rules.Y2 ++ (line_faults kind last t ++ fields_faults kind (name ∷ a) (first_place t) fs))) (h name)
+    ∙ ap (λ l. fault_if (repeats b name) place rules.B5 ++ (fault_if (embedded && not (can_be_embedded kind t)) place rules.Y2 ++ (line_faults kind last t ++ l))) (same_fields kind (name ∷ a) (name ∷ b) (first_place t) fs (same_more a b name h))
 
 same_methods : (kind : DeclKey → Kind) (a b : List (List ℕ)) (ms : Methods) → SameNames a b → methods_faults kind a ms ≡ methods_faults kind b ms
 same_methods kind a b NoMethod h = refl
@@ -43,9 +44,13 @@ same_declared kind path u a b (m ∷ ms) h =
     ap (λ v. fault_if (not (is_blank m.name) && (v || has_field_before path u m)) m.place rules.B5 ++ (sign_faults kind m.sign ++ declared_faults kind path u (m.name ∷ a) ms)) (h m.name)
     ∙ ap (λ l. fault_if (not (is_blank m.name) && (has_name b m.name || has_field_before path u m)) m.place rules.B5 ++ (sign_faults kind m.sign ++ l)) (same_declared kind path u (m.name ∷ a) (m.name ∷ b) ms (same_more a b m.name h))
 
+-- the faults of a type that is written for one name
+pub line_of : (kind : DeclKey → Kind) (last : Option MemberPlace) (t u : Term) → t ≡ u → is_shared last t ≡ false → term_faults kind u ≡ line_faults kind last t
+line_of kind last t u same alone = ap (term_faults kind) (sym same) ∙ sym (ap (λ b. if b then [] else term_faults kind t) alone)
+
 -- 2. One member more.
 
-step : {X : Type 0} (F : List (List ℕ) → List X → List MemberFault) (own : List MemberFault) (seen next passed : List (List ℕ)) (xs : List X) (i : ℕ) (x : X) (first last all : List MemberFault)
+pub step : {S X : Type 0} (F : S → List X → List MemberFault) (own : List MemberFault) (seen next passed : S) (xs : List X) (i : ℕ) (x : X) (first last all : List MemberFault)
     → i < length xs → x ≡ get_or xs i x → F seen (x ∷ drop (i + 1) xs) ≡ own ++ F next (drop (i + 1) xs) → F passed (drop (i + 1) xs) ≡ F next (drop (i + 1) xs) → last ≡ first ++ own
     → first ++ F seen (drop i xs) ≡ all → last ++ F passed (drop (i + 1) xs) ≡ all
 step F own seen next passed xs i x first last all lt is split same more before =
@@ -56,38 +61,48 @@ step F own seen next passed xs i x first last all lt is split same more before =
     ∙ (ap (λ l. first ++ l) (sym split)
     ∙ (ap (λ l. first ++ F seen l) (ap (λ y. y ∷ rest) is ∙ sym (drop_more xs i x lt)) ∙ before))))
 
-pub fields_step : (kind : DeclKey → Kind) (seen passed : List (List ℕ)) (fs : List Field) (i : ℕ) (f : Field) (first middle last all : List MemberFault)
-    → i < length fs → f ≡ get_or fs i f → SameNames passed (f.name ∷ seen) → middle ≡ first ++ field_own kind seen f → last ≡ middle ++ term_faults kind (shape f.term)
-    → first ++ fields_faults kind seen (fields_of (drop i fs)) ≡ all → last ++ fields_faults kind passed (fields_of (drop (i + 1) fs)) ≡ all
-fields_step kind seen passed fs i f first middle last all lt is names own inner before =
-    let rest = fields_faults kind (f.name ∷ seen) (fields_of (drop (i + 1) fs)) in
+pub fields_step : (kind : DeclKey → Kind) (ls : List Line) (seen passed : List (List ℕ)) (before after : Option MemberPlace) (fs : List Field) (i : ℕ) (f : Field) (first middle last all : List MemberFault)
+    → i < length fs → f ≡ get_or fs i f → SameNames passed (f.name ∷ seen) → after ≡ first_place (line_at ls f.line).term → middle ≡ first ++ field_own kind ls seen f → last ≡ middle ++ line_faults kind before (line_at ls f.line).term
+    → first ++ fields_faults kind seen before (fields_in ls (drop i fs)) ≡ all → last ++ fields_faults kind passed after (fields_in ls (drop (i + 1) fs)) ≡ all
+fields_step kind ls seen passed before after fs i f first middle last all lt is names place own inner so_far =
+    let rest = fields_faults kind (f.name ∷ seen) (first_place (line_at ls f.line).term) (fields_in ls (drop (i + 1) fs)) in
     let b5 = fault_if (repeats seen f.name) f.place rules.B5 in
-    let y2 = fault_if (f.embedded && not (can_be_embedded kind (shape f.term))) f.place rules.Y2 in
-    let t = term_faults kind (shape f.term) in
+    let y2 = fault_if ((line_at ls f.line).embedded && not (can_be_embedded kind (line_at ls f.line).term)) f.place rules.Y2 in
+    let t = line_faults kind before (line_at ls f.line).term in
     let split : b5 ++ (y2 ++ (t ++ rest)) ≡ ((b5 ++ y2) ++ t) ++ rest = sym (append_assoc (b5 ++ y2) t rest ∙ append_assoc b5 y2 (t ++ rest)) in
-    step (λ s l. fields_faults kind s (fields_of l)) (field_own kind seen f ++ t) seen (f.name ∷ seen) passed fs i f first last all lt is split
-    (same_fields kind passed (f.name ∷ seen) (fields_of (drop (i + 1) fs)) names)
-    (inner ∙ (ap (λ l. l ++ t) own ∙ append_assoc first (field_own kind seen f) t)) before
+    step {S = List (List ℕ) × Option MemberPlace} (λ s l. fields_faults kind s.0 s.1 (fields_in ls l)) (field_own kind ls seen f ++ t) (seen, before) (f.name ∷ seen, first_place (line_at ls f.line).term) (passed, after) fs i f first last all lt is split
+    (ap (λ p. fields_faults kind passed p (fields_in ls (drop (i + 1) fs))) place ∙ same_fields kind passed (f.name ∷ seen) (first_place (line_at ls f.line).term) (fields_in ls (drop (i + 1) fs)) names)
+    (inner ∙ (ap (λ l. l ++ t) own ∙ append_assoc first (field_own kind ls seen f) t)) so_far
 
 pub methods_step : (kind : DeclKey → Kind) (seen passed : List (List ℕ)) (ms : List Method) (i : ℕ) (m : Method) (first middle params last all : List MemberFault)
     → i < length ms → m ≡ get_or ms i m → SameNames passed (m.name ∷ seen) → middle ≡ first ++ method_own seen m
-    → params ≡ middle ++ terms_faults kind (terms_of m.signature.params.items) → last ≡ params ++ terms_faults kind (terms_of m.signature.results.items)
+    → params ≡ middle ++ terms_faults kind None (params_of m.signature.params) → last ≡ params ++ terms_faults kind None (params_of m.signature.results)
     → first ++ methods_faults kind seen (methods_of (drop i ms)) ≡ all → last ++ methods_faults kind passed (methods_of (drop (i + 1) ms)) ≡ all
 methods_step kind seen passed ms i m first middle params last all lt is names own ins outs before =
     let rest = methods_faults kind (m.name ∷ seen) (methods_of (drop (i + 1) ms)) in
     let b5 = method_own seen m in
-    let p = terms_faults kind (terms_of m.signature.params.items) in
-    let r = terms_faults kind (terms_of m.signature.results.items) in
+    let p = terms_faults kind None (params_of m.signature.params) in
+    let r = terms_faults kind None (params_of m.signature.results) in
     let split : b5 ++ ((p ++ r) ++ rest) ≡ (b5 ++ (p ++ r)) ++ rest = sym (append_assoc b5 (p ++ r) rest) in
     let more : last ≡ first ++ (b5 ++ (p ++ r)) =
     outs ∙ (ap (λ l. l ++ r) (ins ∙ ap (λ l. l ++ p) own) ∙ (append_assoc (first ++ b5) p r ∙ append_assoc first b5 (p ++ r))) in
     step (λ s l. methods_faults kind s (methods_of l)) (b5 ++ (p ++ r)) seen (m.name ∷ seen) passed ms i m first last all lt is split
     (same_methods kind passed (m.name ∷ seen) (methods_of (drop (i + 1) ms)) names) more before
 
-pub terms_step : (kind : DeclKey → Kind) (ts : List TypeTerm) (i : ℕ) (t : TypeTerm) (first last all : List MemberFault) → i < length ts → t ≡ get_or ts i t → last ≡ first ++ term_faults kind (shape t)
-    → first ++ terms_faults kind (terms_of (drop i ts)) ≡ all → last ++ terms_faults kind (terms_of (drop (i + 1) ts)) ≡ all
-terms_step kind ts i t first last all lt is more before =
-    step (λ s l. terms_faults kind (terms_of l)) (term_faults kind (shape t)) [] [] [] ts i t first last all lt is refl refl more before
+pub terms_step : (kind : DeclKey → Kind) (us : List Term) (before after : Option MemberPlace) (ns : List ℕ) (i n : ℕ) (first last all : List MemberFault) → i < length ns → n ≡ get_or ns i n
+    → after ≡ first_place (term_at us n) → last ≡ first ++ line_faults kind before (term_at us n)
+    → first ++ terms_faults kind before (terms_in us (drop i ns)) ≡ all → last ++ terms_faults kind after (terms_in us (drop (i + 1) ns)) ≡ all
+terms_step kind us before after ns i n first last all lt is place more so_far =
+    step (λ s l. terms_faults kind s (terms_in us l)) (line_faults kind before (term_at us n)) before (first_place (term_at us n)) after ns i n first last all lt is refl
+    (ap (λ p. terms_faults kind p (terms_in us (drop (i + 1) ns))) place) more so_far
+
+-- no type has no fault
+pub nothing_told : (kind : DeclKey → Kind) (last : Option MemberPlace) → line_faults kind last NoType ≡ []
+nothing_told kind None = refl
+nothing_told kind (Some p) = refl
+
+pub told_nowhere : (kind : DeclKey → Kind) (last : Option MemberPlace) (t : Term) (faults : List MemberFault) → t ≡ NoType → faults ≡ faults ++ line_faults kind last t
+told_nowhere kind last t faults is = sym (ap (λ u. faults ++ line_faults kind last u) is ∙ ap (λ l. faults ++ l) (nothing_told kind last) ∙ append-nil faults)
 
 pub declared_step : (kind : DeclKey → Kind) (path : List ℕ) (u : Term) (seen passed : List (List ℕ)) (ms : List DeclaredMethod) (i : ℕ) (m : DeclaredMethod) (first middle last all : List MemberFault)
     → i < length ms → m ≡ get_or ms i m → SameNames passed (m.name ∷ seen) → middle ≡ first ++ declared_own path u seen m → last ≡ middle ++ sign_faults kind (sign_of m.signature)

@@ -1,6 +1,6 @@
 -- Laws of faults.
 use Rattle.std.proofs.Common.{◌≡◌, ℕ, zero, suc, ◌<◌, Bool, true, false, not, ◌&&◌, ◌||◌, List, [], ◌∷◌, ◌++◌, if◌then◌else◌, inl, inr, refl, sym, ap, ◌∙◌, subst, arith}
-use Rattle.std.specs.Prelude.{◌⊎◌, Contains}
+use Rattle.std.specs.Prelude.{◌⊎◌, Contains, Option, None}
 use Rattle.std.specs.Str.{bytes_eq}
 use Rattle.std.proofs.lemmas.Bool.{true≢false, and_parts, and_from, not-true, not_from_false}
 use Rattle.std.proofs.lemmas.List.Elements.{Contains-append_left, Contains-append_right, Contains-append_cases}
@@ -17,8 +17,8 @@ use Rattle.go_settle_core.specs.declared.kind.Kind.{Kind}
 use Rattle.go_settle_core.specs.declared.kind.Kind.TheVariants as kinds
 use Rattle.go_settle_core.specs.Settled.{is_no_pointer, can_be_pointed, can_point, can_be_embedded, has_name, repeats}
 use Rattle.go_embed_core.specs.declared.faults.MemberFault.{MemberFault}
-use Rattle.go_embed_core.specs.Faults.{fault, fault_if, term_faults, fields_faults, methods_faults, sign_faults, terms_faults}
-use Rattle.go_embed_core.specs.Laws.{IsField, FaultsAreLocal, term_places, fields_places, methods_places, sign_places, terms_places, AreApart, IsRepeated, RepeatedIsTold, kind_at, MayNotBeEmbedded, StarredInterfaceIsTold}
+use Rattle.go_embed_core.specs.Faults.{fault, fault_if, first_place, is_shared, term_faults, fields_faults, methods_faults, sign_faults, terms_faults, line_faults}
+use Rattle.go_embed_core.specs.Laws.{IsField, FaultsAreLocal, term_places, fields_places, methods_places, sign_places, terms_places, line_places, AreApart, IsRepeated, RepeatedIsTold, kind_at, MayNotBeEmbedded, StarredInterfaceIsTold}
 use Rattle.go_embed_core.proofs.Steps.{is_first, is_later, in_none, in_one, first_or_later}
 
 -- 1. Faults depend on kinds that are mentioned.
@@ -50,6 +50,10 @@ embed_local one other (PointerTo t) h = point_local one other t h
 embed_local one other (StructOf path fs) h = refl
 embed_local one other (InterfaceOf path ms) h = refl
 
+-- the faults of a type behind another, from its own
+abbrev line_of_faults : Option MemberPlace → Term → List MemberFault → List MemberFault
+line_of_faults last t l = if is_shared last t then [] else l
+
 mutual
   term_local : (one other : DeclKey → Kind) (t : Term) → Agree one other (term_keys t) → term_faults one t ≡ term_faults other t
   term_local one other NoType h = refl
@@ -57,15 +61,15 @@ mutual
   term_local one other ErrorType h = refl
   term_local one other (Defined k) h = refl
   term_local one other (PointerTo t) h = term_local one other t h
-  term_local one other (StructOf path fs) h = fields_local one other [] fs h
+  term_local one other (StructOf path fs) h = fields_local one other [] None fs h
   term_local one other (InterfaceOf path ms) h = methods_local one other [] ms h
 
-  fields_local : (one other : DeclKey → Kind) (seen : List (List ℕ)) (fs : Fields) → Agree one other (fields_keys fs) → fields_faults one seen fs ≡ fields_faults other seen fs
-  fields_local one other seen NoField h = refl
-  fields_local one other seen (AField name place embedded t tag fs) h =
-      ap (λ c. fault_if (repeats seen name) place rules.B5 ++ (fault_if (embedded && not c) place rules.Y2 ++ (term_faults one t ++ fields_faults one (name ∷ seen) fs))) (embed_local one other t (agree_left one other (term_keys t) (fields_keys fs) h))
-      ∙ (ap (λ l. fault_if (repeats seen name) place rules.B5 ++ (fault_if (embedded && not (can_be_embedded other t)) place rules.Y2 ++ (l ++ fields_faults one (name ∷ seen) fs))) (term_local one other t (agree_left one other (term_keys t) (fields_keys fs) h))
-      ∙ ap (λ l. fault_if (repeats seen name) place rules.B5 ++ (fault_if (embedded && not (can_be_embedded other t)) place rules.Y2 ++ (term_faults other t ++ l))) (fields_local one other (name ∷ seen) fs (agree_right one other (term_keys t) (fields_keys fs) h)))
+  fields_local : (one other : DeclKey → Kind) (seen : List (List ℕ)) (last : Option MemberPlace) (fs : Fields) → Agree one other (fields_keys fs) → fields_faults one seen last fs ≡ fields_faults other seen last fs
+  fields_local one other seen last NoField h = refl
+  fields_local one other seen last (AField name place embedded t tag fs) h =
+      ap (λ c. fault_if (repeats seen name) place rules.B5 ++ (fault_if (embedded && not c) place rules.Y2 ++ (line_faults one last t ++ fields_faults one (name ∷ seen) (first_place t) fs))) (embed_local one other t (agree_left one other (term_keys t) (fields_keys fs) h))
+      ∙ (ap (λ l. fault_if (repeats seen name) place rules.B5 ++ (fault_if (embedded && not (can_be_embedded other t)) place rules.Y2 ++ (line_of_faults last t l ++ fields_faults one (name ∷ seen) (first_place t) fs))) (term_local one other t (agree_left one other (term_keys t) (fields_keys fs) h))
+      ∙ ap (λ l. fault_if (repeats seen name) place rules.B5 ++ (fault_if (embedded && not (can_be_embedded other t)) place rules.Y2 ++ (line_faults other last t ++ l))) (fields_local one other (name ∷ seen) (first_place t) fs (agree_right one other (term_keys t) (fields_keys fs) h)))
 
   methods_local : (one other : DeclKey → Kind) (seen : List (List ℕ)) (ms : Methods) → Agree one other (methods_keys ms) → methods_faults one seen ms ≡ methods_faults other seen ms
   methods_local one other seen NoMethod h = refl
@@ -75,52 +79,57 @@ mutual
 
   sign_local : (one other : DeclKey → Kind) (g : Sign) → Agree one other (sign_keys g) → sign_faults one g ≡ sign_faults other g
   sign_local one other (SignOf ps rs) h =
-      ap (λ l. l ++ terms_faults one rs) (terms_local one other ps (agree_left one other (terms_keys ps) (terms_keys rs) h))
-      ∙ ap (λ l. terms_faults other ps ++ l) (terms_local one other rs (agree_right one other (terms_keys ps) (terms_keys rs) h))
+      ap (λ l. l ++ terms_faults one None rs) (terms_local one other None ps (agree_left one other (terms_keys ps) (terms_keys rs) h))
+      ∙ ap (λ l. terms_faults other None ps ++ l) (terms_local one other None rs (agree_right one other (terms_keys ps) (terms_keys rs) h))
 
-  terms_local : (one other : DeclKey → Kind) (ts : Terms) → Agree one other (terms_keys ts) → terms_faults one ts ≡ terms_faults other ts
-  terms_local one other NoTerm h = refl
-  terms_local one other (ATerm t ts) h =
-      ap (λ l. l ++ terms_faults one ts) (term_local one other t (agree_left one other (term_keys t) (terms_keys ts) h))
-      ∙ ap (λ l. term_faults other t ++ l) (terms_local one other ts (agree_right one other (term_keys t) (terms_keys ts) h))
+  terms_local : (one other : DeclKey → Kind) (last : Option MemberPlace) (ts : Terms) → Agree one other (terms_keys ts) → terms_faults one last ts ≡ terms_faults other last ts
+  terms_local one other last NoTerm h = refl
+  terms_local one other last (ATerm t ts) h =
+      ap (λ l. line_of_faults last t l ++ terms_faults one (first_place t) ts) (term_local one other t (agree_left one other (term_keys t) (terms_keys ts) h))
+      ∙ ap (λ l. line_faults other last t ++ l) (terms_local one other (first_place t) ts (agree_right one other (term_keys t) (terms_keys ts) h))
 
 pub faults_local : FaultsAreLocal
 faults_local one other t h = term_local one other t h
 
 -- 2. A fault stands at the place of a member.
 
-fault_in : (b : Bool) (p : MemberPlace) (r : Rule) (f : MemberFault) → Contains (fault_if b p r) f → (b ≡ true) × (fault p r ≡ f)
+pub fault_in : (b : Bool) (p : MemberPlace) (r : Rule) (f : MemberFault) → Contains (fault_if b p r) f → (b ≡ true) × (fault p r ≡ f)
 fault_in true p r f h = (refl, in_one (fault p r) f h)
 fault_in false p r f h = absurd (in_none f h)
 
-place_in : (b : Bool) (p : MemberPlace) (r : Rule) (f : MemberFault) → Contains (fault_if b p r) f → p ≡ f.place
+pub place_in : (b : Bool) (p : MemberPlace) (r : Rule) (f : MemberFault) → Contains (fault_if b p r) f → p ≡ f.place
 place_in b p r f h = ap (λ (x : MemberFault). x.place) (fault_in b p r f h).1
 
+-- what is in a list that may be left out
+line_in : (b : Bool) (l : List MemberFault) (places : List MemberPlace) (f : MemberFault) → (Contains l f → Contains places f.place) → Contains (if b then [] else l) f → Contains (if b then [] else places) f.place
+line_in true l places f inside h = absurd (in_none f h)
+line_in false l places f inside h = inside h
+
 mutual
-  term_at : (kind : DeclKey → Kind) (t : Term) (f : MemberFault) → Contains (term_faults kind t) f → Contains (term_places t) f.place
+  pub term_at : (kind : DeclKey → Kind) (t : Term) (f : MemberFault) → Contains (term_faults kind t) f → Contains (term_places t) f.place
   term_at kind NoType f h = absurd (in_none f h)
   term_at kind (Predeclared b) f h = absurd (in_none f h)
   term_at kind ErrorType f h = absurd (in_none f h)
   term_at kind (Defined k) f h = absurd (in_none f h)
   term_at kind (PointerTo t) f h = term_at kind t f h
-  term_at kind (StructOf path fs) f h = fields_at kind [] fs f h
+  term_at kind (StructOf path fs) f h = fields_at kind [] None fs f h
   term_at kind (InterfaceOf path ms) f h = methods_at kind [] ms f h
 
-  fields_at : (kind : DeclKey → Kind) (seen : List (List ℕ)) (fs : Fields) (f : MemberFault) → Contains (fields_faults kind seen fs) f → Contains (fields_places fs) f.place
-  fields_at kind seen NoField f h = absurd (in_none f h)
-  fields_at kind seen (AField name place embedded t tag fs) f h =
-      elim (Contains-append_cases (fault_if (repeats seen name) place rules.B5) (fault_if (embedded && not (can_be_embedded kind t)) place rules.Y2 ++ (term_faults kind t ++ fields_faults kind (name ∷ seen) fs)) f h) [
-        | inl b5 ↦ is_first place f.place (term_places t ++ fields_places fs) (place_in (repeats seen name) place rules.B5 f b5)
-        | inr more ↦ elim (Contains-append_cases (fault_if (embedded && not (can_be_embedded kind t)) place rules.Y2) (term_faults kind t ++ fields_faults kind (name ∷ seen) fs) f more) [
-          | inl y2 ↦ is_first place f.place (term_places t ++ fields_places fs) (place_in (embedded && not (can_be_embedded kind t)) place rules.Y2 f y2)
-          | inr inner ↦ is_later place f.place (term_places t ++ fields_places fs) (elim (Contains-append_cases (term_faults kind t) (fields_faults kind (name ∷ seen) fs) f inner) [
-            | inl own ↦ Contains-append_left (term_places t) (fields_places fs) f.place (term_at kind t f own)
-            | inr rest ↦ Contains-append_right (term_places t) (fields_places fs) f.place (fields_at kind (name ∷ seen) fs f rest)
+  pub fields_at : (kind : DeclKey → Kind) (seen : List (List ℕ)) (last : Option MemberPlace) (fs : Fields) (f : MemberFault) → Contains (fields_faults kind seen last fs) f → Contains (fields_places last fs) f.place
+  fields_at kind seen last NoField f h = absurd (in_none f h)
+  fields_at kind seen last (AField name place embedded t tag fs) f h =
+      elim (Contains-append_cases (fault_if (repeats seen name) place rules.B5) (fault_if (embedded && not (can_be_embedded kind t)) place rules.Y2 ++ (line_faults kind last t ++ fields_faults kind (name ∷ seen) (first_place t) fs)) f h) [
+        | inl b5 ↦ is_first place f.place (line_places last t ++ fields_places (first_place t) fs) (place_in (repeats seen name) place rules.B5 f b5)
+        | inr more ↦ elim (Contains-append_cases (fault_if (embedded && not (can_be_embedded kind t)) place rules.Y2) (line_faults kind last t ++ fields_faults kind (name ∷ seen) (first_place t) fs) f more) [
+          | inl y2 ↦ is_first place f.place (line_places last t ++ fields_places (first_place t) fs) (place_in (embedded && not (can_be_embedded kind t)) place rules.Y2 f y2)
+          | inr inner ↦ is_later place f.place (line_places last t ++ fields_places (first_place t) fs) (elim (Contains-append_cases (line_faults kind last t) (fields_faults kind (name ∷ seen) (first_place t) fs) f inner) [
+            | inl own ↦ Contains-append_left (line_places last t) (fields_places (first_place t) fs) f.place (line_in (is_shared last t) (term_faults kind t) (term_places t) f (term_at kind t f) own)
+            | inr rest ↦ Contains-append_right (line_places last t) (fields_places (first_place t) fs) f.place (fields_at kind (name ∷ seen) (first_place t) fs f rest)
           ])
         ]
       ]
 
-  methods_at : (kind : DeclKey → Kind) (seen : List (List ℕ)) (ms : Methods) (f : MemberFault) → Contains (methods_faults kind seen ms) f → Contains (methods_places ms) f.place
+  pub methods_at : (kind : DeclKey → Kind) (seen : List (List ℕ)) (ms : Methods) (f : MemberFault) → Contains (methods_faults kind seen ms) f → Contains (methods_places ms) f.place
   methods_at kind seen NoMethod f h = absurd (in_none f h)
   methods_at kind seen (AMethod name place g ms) f h =
       elim (Contains-append_cases (fault_if (is_blank name || has_name seen name) place rules.B5) (sign_faults kind g ++ methods_faults kind (name ∷ seen) ms) f h) [
@@ -131,36 +140,39 @@ mutual
         ])
       ]
 
-  sign_at : (kind : DeclKey → Kind) (g : Sign) (f : MemberFault) → Contains (sign_faults kind g) f → Contains (sign_places g) f.place
+  pub sign_at : (kind : DeclKey → Kind) (g : Sign) (f : MemberFault) → Contains (sign_faults kind g) f → Contains (sign_places g) f.place
   sign_at kind (SignOf ps rs) f h =
-      elim (Contains-append_cases (terms_faults kind ps) (terms_faults kind rs) f h) [
-        | inl own ↦ Contains-append_left (terms_places ps) (terms_places rs) f.place (terms_at kind ps f own)
-        | inr rest ↦ Contains-append_right (terms_places ps) (terms_places rs) f.place (terms_at kind rs f rest)
+      elim (Contains-append_cases (terms_faults kind None ps) (terms_faults kind None rs) f h) [
+        | inl own ↦ Contains-append_left (terms_places None ps) (terms_places None rs) f.place (terms_at kind None ps f own)
+        | inr rest ↦ Contains-append_right (terms_places None ps) (terms_places None rs) f.place (terms_at kind None rs f rest)
       ]
 
-  terms_at : (kind : DeclKey → Kind) (ts : Terms) (f : MemberFault) → Contains (terms_faults kind ts) f → Contains (terms_places ts) f.place
-  terms_at kind NoTerm f h = absurd (in_none f h)
-  terms_at kind (ATerm t ts) f h =
-      elim (Contains-append_cases (term_faults kind t) (terms_faults kind ts) f h) [
-        | inl own ↦ Contains-append_left (term_places t) (terms_places ts) f.place (term_at kind t f own)
-        | inr rest ↦ Contains-append_right (term_places t) (terms_places ts) f.place (terms_at kind ts f rest)
+  pub terms_at : (kind : DeclKey → Kind) (last : Option MemberPlace) (ts : Terms) (f : MemberFault) → Contains (terms_faults kind last ts) f → Contains (terms_places last ts) f.place
+  terms_at kind last NoTerm f h = absurd (in_none f h)
+  terms_at kind last (ATerm t ts) f h =
+      elim (Contains-append_cases (line_faults kind last t) (terms_faults kind (first_place t) ts) f h) [
+        | inl own ↦ Contains-append_left (line_places last t) (terms_places (first_place t) ts) f.place (line_in (is_shared last t) (term_faults kind t) (term_places t) f (term_at kind t f) own)
+        | inr rest ↦ Contains-append_right (line_places last t) (terms_places (first_place t) ts) f.place (terms_at kind (first_place t) ts f rest)
       ]
+
+pub line_at : (kind : DeclKey → Kind) (last : Option MemberPlace) (t : Term) (f : MemberFault) → Contains (line_faults kind last t) f → Contains (line_places last t) f.place
+line_at kind last t f h = line_in (is_shared last t) (term_faults kind t) (term_places t) f (term_at kind t f) h
 
 -- 3. The faults at the place of one field of a struct type.
 
 -- the place of a field
-field_place : (fs : Fields) (i : ℕ) (name : List ℕ) (place : MemberPlace) (embedded : Bool) (t : Term) → IsField fs i name place embedded t → Contains (fields_places fs) place
-field_place NoField i name place embedded t h = absurd h
-field_place (AField name' place' embedded' t' tag fs) zero name place embedded t h = is_first place' place (term_places t' ++ fields_places fs) h.1
-field_place (AField name' place' embedded' t' tag fs) (suc i) name place embedded t h =
-    is_later place' place (term_places t' ++ fields_places fs) (Contains-append_right (term_places t') (fields_places fs) place (field_place fs i name place embedded t h))
+field_place : (last : Option MemberPlace) (fs : Fields) (i : ℕ) (name : List ℕ) (place : MemberPlace) (embedded : Bool) (t : Term) → IsField fs i name place embedded t → Contains (fields_places last fs) place
+field_place last NoField i name place embedded t h = absurd h
+field_place last (AField name' place' embedded' t' tag fs) zero name place embedded t h = is_first place' place (line_places last t' ++ fields_places (first_place t') fs) h.1
+field_place last (AField name' place' embedded' t' tag fs) (suc i) name place embedded t h =
+    is_later place' place (line_places last t' ++ fields_places (first_place t') fs) (Contains-append_right (line_places last t') (fields_places (first_place t') fs) place (field_place (first_place t') fs i name place embedded t h))
 
 -- places that differ in a list differ in its parts, and the parts have none in common
-apart_right : (a b : List MemberPlace) → AreApart (a ++ b) → AreApart b
+pub apart_right : {X : Type 0} (a b : List X) → AreApart (a ++ b) → AreApart b
 apart_right [] b h = h
 apart_right (p ∷ a) b h = apart_right a b h.1
 
-apart_cross : (a b : List MemberPlace) (p : MemberPlace) → AreApart (a ++ b) → Contains a p → Contains b p → ⊥
+pub apart_cross : {X : Type 0} (a b : List X) (p : X) → AreApart (a ++ b) → Contains a p → Contains b p → ⊥
 apart_cross [] b p h in_a in_b = in_none p in_a
 apart_cross (q ∷ a) b p h in_a in_b =
     elim (first_or_later q p a in_a) [
@@ -178,84 +190,86 @@ names_before seen (AField name place embedded t tag fs) (suc i) = names_before (
 abbrev own_faults : (DeclKey → Kind) → List (List ℕ) → List ℕ → MemberPlace → Bool → Term → List MemberFault
 own_faults kind before name place embedded t = fault_if (repeats before name) place rules.B5 ++ fault_if (embedded && not (can_be_embedded kind t)) place rules.Y2
 
-own_in : (kind : DeclKey → Kind) (seen : List (List ℕ)) (name : List ℕ) (place : MemberPlace) (embedded : Bool) (t : Term) (fs : Fields) (f : MemberFault)
-    → Contains (fault_if (repeats seen name) place rules.B5 ++ (fault_if (embedded && not (can_be_embedded kind t)) place rules.Y2 ++ (term_faults kind t ++ fields_faults kind (name ∷ seen) fs))) f
-    → Contains (own_faults kind seen name place embedded t) f ⊎ Contains (term_faults kind t ++ fields_faults kind (name ∷ seen) fs) f
-own_in kind seen name place embedded t fs f h =
+own_in : (kind : DeclKey → Kind) (seen : List (List ℕ)) (last : Option MemberPlace) (name : List ℕ) (place : MemberPlace) (embedded : Bool) (t : Term) (fs : Fields) (f : MemberFault)
+    → Contains (fault_if (repeats seen name) place rules.B5 ++ (fault_if (embedded && not (can_be_embedded kind t)) place rules.Y2 ++ (line_faults kind last t ++ fields_faults kind (name ∷ seen) (first_place t) fs))) f
+    → Contains (own_faults kind seen name place embedded t) f ⊎ Contains (line_faults kind last t ++ fields_faults kind (name ∷ seen) (first_place t) fs) f
+own_in kind seen last name place embedded t fs f h =
     let b5 = fault_if (repeats seen name) place rules.B5 in
     let y2 = fault_if (embedded && not (can_be_embedded kind t)) place rules.Y2 in
-    let inner = term_faults kind t ++ fields_faults kind (name ∷ seen) fs in
+    let inner = line_faults kind last t ++ fields_faults kind (name ∷ seen) (first_place t) fs in
     elim (Contains-append_cases b5 (y2 ++ inner) f h) [
       | inl one ↦ inl (Contains-append_left b5 y2 f one)
       | inr more ↦ elim (Contains-append_cases y2 inner f more) [ inl two ↦ inl (Contains-append_right b5 y2 f two) | inr rest ↦ inr rest ]
     ]
 
-own_out : (kind : DeclKey → Kind) (seen : List (List ℕ)) (name : List ℕ) (place : MemberPlace) (embedded : Bool) (t : Term) (fs : Fields) (f : MemberFault) → Contains (own_faults kind seen name place embedded t) f
-    → Contains (fault_if (repeats seen name) place rules.B5 ++ (fault_if (embedded && not (can_be_embedded kind t)) place rules.Y2 ++ (term_faults kind t ++ fields_faults kind (name ∷ seen) fs))) f
-own_out kind seen name place embedded t fs f h =
+own_out : (kind : DeclKey → Kind) (seen : List (List ℕ)) (last : Option MemberPlace) (name : List ℕ) (place : MemberPlace) (embedded : Bool) (t : Term) (fs : Fields) (f : MemberFault) → Contains (own_faults kind seen name place embedded t) f
+    → Contains (fault_if (repeats seen name) place rules.B5 ++ (fault_if (embedded && not (can_be_embedded kind t)) place rules.Y2 ++ (line_faults kind last t ++ fields_faults kind (name ∷ seen) (first_place t) fs))) f
+own_out kind seen last name place embedded t fs f h =
     let b5 = fault_if (repeats seen name) place rules.B5 in
     let y2 = fault_if (embedded && not (can_be_embedded kind t)) place rules.Y2 in
-    let inner = term_faults kind t ++ fields_faults kind (name ∷ seen) fs in
+    let inner = line_faults kind last t ++ fields_faults kind (name ∷ seen) (first_place t) fs in
     elim (Contains-append_cases b5 y2 f h) [
       | inl one ↦ Contains-append_left b5 (y2 ++ inner) f one
       | inr two ↦ Contains-append_right b5 (y2 ++ inner) f (Contains-append_left y2 inner f two)
     ]
 
 -- an own fault stands at the field's place
-own_place : (kind : DeclKey → Kind) (seen : List (List ℕ)) (name : List ℕ) (place : MemberPlace) (embedded : Bool) (t : Term) (f : MemberFault) → Contains (own_faults kind seen name place embedded t) f → place ≡ f.place
+pub own_place : (kind : DeclKey → Kind) (seen : List (List ℕ)) (name : List ℕ) (place : MemberPlace) (embedded : Bool) (t : Term) (f : MemberFault) → Contains (own_faults kind seen name place embedded t) f → place ≡ f.place
 own_place kind seen name place embedded t f h =
     elim (Contains-append_cases (fault_if (repeats seen name) place rules.B5) (fault_if (embedded && not (can_be_embedded kind t)) place rules.Y2) f h) [
       | inl one ↦ place_in (repeats seen name) place rules.B5 f one
       | inr two ↦ place_in (embedded && not (can_be_embedded kind t)) place rules.Y2 f two
     ]
 
-inner_place : (kind : DeclKey → Kind) (seen : List (List ℕ)) (t : Term) (fs : Fields) (f : MemberFault) → Contains (term_faults kind t ++ fields_faults kind seen fs) f → Contains (term_places t ++ fields_places fs) f.place
-inner_place kind seen t fs f h =
-    elim (Contains-append_cases (term_faults kind t) (fields_faults kind seen fs) f h) [
-      | inl own ↦ Contains-append_left (term_places t) (fields_places fs) f.place (term_at kind t f own)
-      | inr rest ↦ Contains-append_right (term_places t) (fields_places fs) f.place (fields_at kind seen fs f rest)
+pub inner_place : (kind : DeclKey → Kind) (seen : List (List ℕ)) (last next : Option MemberPlace) (t : Term) (fs : Fields) (f : MemberFault) → Contains (line_faults kind last t ++ fields_faults kind seen next fs) f
+    → Contains (line_places last t ++ fields_places next fs) f.place
+inner_place kind seen last next t fs f h =
+    elim (Contains-append_cases (line_faults kind last t) (fields_faults kind seen next fs) f h) [
+      | inl own ↦ Contains-append_left (line_places last t) (fields_places next fs) f.place (line_at kind last t f own)
+      | inr rest ↦ Contains-append_right (line_places last t) (fields_places next fs) f.place (fields_at kind seen next fs f rest)
     ]
 
-told : (kind : DeclKey → Kind) (seen : List (List ℕ)) (fs : Fields) (i : ℕ) (name : List ℕ) (place : MemberPlace) (embedded : Bool) (t : Term) (r : Rule) → AreApart (fields_places fs) → IsField fs i name place embedded t
-    → Contains (fields_faults kind seen fs) (fault place r) → Contains (own_faults kind (names_before seen fs i) name place embedded t) (fault place r)
-told kind seen NoField i name place embedded t r apart field h = absurd field
-told kind seen (AField name' place' embedded' t' tag fs) zero name place embedded t r apart field h =
-    elim (own_in kind seen name' place' embedded' t' fs (fault place r) h) [
+told : (kind : DeclKey → Kind) (seen : List (List ℕ)) (last : Option MemberPlace) (fs : Fields) (i : ℕ) (name : List ℕ) (place : MemberPlace) (embedded : Bool) (t : Term) (r : Rule) → AreApart (fields_places last fs)
+    → IsField fs i name place embedded t → Contains (fields_faults kind seen last fs) (fault place r) → Contains (own_faults kind (names_before seen fs i) name place embedded t) (fault place r)
+told kind seen last NoField i name place embedded t r apart field h = absurd field
+told kind seen last (AField name' place' embedded' t' tag fs) zero name place embedded t r apart field h =
+    elim (own_in kind seen last name' place' embedded' t' fs (fault place r) h) [
       | inl own ↦ subst (λ (u : Term). Contains (own_faults kind seen name place embedded u) (fault place r)) field.3
           (subst (λ (b : Bool). Contains (own_faults kind seen name place b t') (fault place r)) field.2
           (subst (λ (p : MemberPlace). Contains (own_faults kind seen name p embedded' t') (fault place r)) field.1
           (subst (λ (n : List ℕ). Contains (own_faults kind seen n place' embedded' t') (fault place r)) field.0 own)))
-      | inr inner ↦ absurd (apart.0 (subst (Contains (term_places t' ++ fields_places fs)) (sym field.1) (inner_place kind (name' ∷ seen) t' fs (fault place r) inner)))
+      | inr inner ↦ absurd (apart.0 (subst (Contains (line_places last t' ++ fields_places (first_place t') fs)) (sym field.1) (inner_place kind (name' ∷ seen) last (first_place t') t' fs (fault place r) inner)))
     ]
-told kind seen (AField name' place' embedded' t' tag fs) (suc i) name place embedded t r apart field h =
-    let there : Contains (fields_places fs) place = field_place fs i name place embedded t field in
-    elim (own_in kind seen name' place' embedded' t' fs (fault place r) h) [
-      | inl own ↦ absurd (apart.0 (subst (Contains (term_places t' ++ fields_places fs)) (sym (own_place kind seen name' place' embedded' t' (fault place r) own)) (Contains-append_right (term_places t') (fields_places fs) place there)))
-      | inr inner ↦ elim (Contains-append_cases (term_faults kind t') (fields_faults kind (name' ∷ seen) fs) (fault place r) inner) [
-        | inl deep ↦ absurd (apart_cross (term_places t') (fields_places fs) place apart.1 (term_at kind t' (fault place r) deep) there)
-        | inr rest ↦ told kind (name' ∷ seen) fs i name place embedded t r (apart_right (term_places t') (fields_places fs) apart.1) field rest
+told kind seen last (AField name' place' embedded' t' tag fs) (suc i) name place embedded t r apart field h =
+    let there : Contains (fields_places (first_place t') fs) place = field_place (first_place t') fs i name place embedded t field in
+    elim (own_in kind seen last name' place' embedded' t' fs (fault place r) h) [
+      | inl own ↦ absurd (apart.0 (subst (Contains (line_places last t' ++ fields_places (first_place t') fs)) (sym (own_place kind seen name' place' embedded' t' (fault place r) own)) (Contains-append_right (line_places last t') (fields_places (first_place t') fs) place there)))
+      | inr inner ↦ elim (Contains-append_cases (line_faults kind last t') (fields_faults kind (name' ∷ seen) (first_place t') fs) (fault place r) inner) [
+        | inl deep ↦ absurd (apart_cross (line_places last t') (fields_places (first_place t') fs) place apart.1 (line_at kind last t' (fault place r) deep) there)
+        | inr rest ↦ told kind (name' ∷ seen) (first_place t') fs i name place embedded t r (apart_right (line_places last t') (fields_places (first_place t') fs) apart.1) field rest
       ]
     ]
 
-telling : (kind : DeclKey → Kind) (seen : List (List ℕ)) (fs : Fields) (i : ℕ) (name : List ℕ) (place : MemberPlace) (embedded : Bool) (t : Term) (f : MemberFault) → IsField fs i name place embedded t
-    → Contains (own_faults kind (names_before seen fs i) name place embedded t) f → Contains (fields_faults kind seen fs) f
-telling kind seen NoField i name place embedded t f field h = absurd field
-telling kind seen (AField name' place' embedded' t' tag fs) zero name place embedded t f field h =
-    own_out kind seen name' place' embedded' t' fs f
+telling : (kind : DeclKey → Kind) (seen : List (List ℕ)) (last : Option MemberPlace) (fs : Fields) (i : ℕ) (name : List ℕ) (place : MemberPlace) (embedded : Bool) (t : Term) (f : MemberFault) → IsField fs i name place embedded t
+    → Contains (own_faults kind (names_before seen fs i) name place embedded t) f → Contains (fields_faults kind seen last fs) f
+telling kind seen last NoField i name place embedded t f field h = absurd field
+telling kind seen last (AField name' place' embedded' t' tag fs) zero name place embedded t f field h =
+    own_out kind seen last name' place' embedded' t' fs f
     (subst (λ (n : List ℕ). Contains (own_faults kind seen n place' embedded' t') f) (sym field.0)
     (subst (λ (p : MemberPlace). Contains (own_faults kind seen name p embedded' t') f) (sym field.1)
     (subst (λ (b : Bool). Contains (own_faults kind seen name place b t') f) (sym field.2)
     (subst (λ (u : Term). Contains (own_faults kind seen name place embedded u) f) (sym field.3) h))))
-telling kind seen (AField name' place' embedded' t' tag fs) (suc i) name place embedded t f field h =
-    let rest = telling kind (name' ∷ seen) fs i name place embedded t f field h in
+telling kind seen last (AField name' place' embedded' t' tag fs) (suc i) name place embedded t f field h =
+    let rest = telling kind (name' ∷ seen) (first_place t') fs i name place embedded t f field h in
     let b5 = fault_if (repeats seen name') place' rules.B5 in
     let y2 = fault_if (embedded' && not (can_be_embedded kind t')) place' rules.Y2 in
-    let others = fields_faults kind (name' ∷ seen) fs in
-    Contains-append_right b5 (y2 ++ (term_faults kind t' ++ others)) f (Contains-append_right y2 (term_faults kind t' ++ others) f (Contains-append_right (term_faults kind t') others f rest))
+    let inner = line_faults kind last t' in
+    let others = fields_faults kind (name' ∷ seen) (first_place t') fs in
+    Contains-append_right b5 (y2 ++ (inner ++ others)) f (Contains-append_right y2 (inner ++ others) f (Contains-append_right inner others f rest))
 
 -- 4. B5 and Y2 are two rules.
 
-rules_differ : rules.B5 ≡ rules.Y2 → ⊥
+pub rules_differ : rules.B5 ≡ rules.Y2 → ⊥
 rules_differ e = true≢false (ap (sameb rule_type.the_type rules.B5) e)
 
 own_b5 : (b c : Bool) (p : MemberPlace) → Contains (fault_if b p rules.B5 ++ fault_if c p rules.Y2) (fault p rules.B5) → b ≡ true
@@ -272,7 +286,7 @@ own_y2 b c p h =
       | inr two ↦ (fault_in c p rules.Y2 (fault p rules.Y2) two).0
     ]
 
-noted : (b : Bool) (p : MemberPlace) (r : Rule) → b ≡ true → Contains (fault_if b p r) (fault p r)
+pub noted : (b : Bool) (p : MemberPlace) (r : Rule) → b ≡ true → Contains (fault_if b p r) (fault p r)
 noted true p r e = is_first (fault p r) (fault p r) [] refl
 noted false p r e = absurd (true≢false (sym e))
 
@@ -327,8 +341,8 @@ pub repeated_told : RepeatedIsTold
 repeated_told kind path fs i name place embedded t apart field =
     let b5 = repeats (names_before [] fs i) name in
     let y2 = embedded && not (can_be_embedded kind t) in (
-      λ h. repeated_from fs i name (own_b5 b5 y2 place (told kind [] fs i name place embedded t rules.B5 apart field h)),
-      λ h. telling kind [] fs i name place embedded t (fault place rules.B5) field
+      λ h. repeated_from fs i name (own_b5 b5 y2 place (told kind [] None fs i name place embedded t rules.B5 apart field h)),
+      λ h. telling kind [] None fs i name place embedded t (fault place rules.B5) field
           (Contains-append_left (fault_if b5 place rules.B5) (fault_if y2 place rules.Y2) (fault place rules.B5) (noted b5 place rules.B5 (repeated_to fs i name h))),
     )
 
@@ -378,9 +392,9 @@ pub starred_told : StarredInterfaceIsTold
 starred_told kind path fs i name place embedded t apart field =
     let b5 = repeats (names_before [] fs i) name in
     let y2 = embedded && not (can_be_embedded kind t) in (
-      λ h. (let parts = and_parts embedded (not (can_be_embedded kind t)) (own_y2 b5 y2 place (told kind [] fs i name place embedded t rules.Y2 apart field h)) in
+      λ h. (let parts = and_parts embedded (not (can_be_embedded kind t)) (own_y2 b5 y2 place (told kind [] None fs i name place embedded t rules.Y2 apart field h)) in
           (parts.0, refused_from kind t (not-true (can_be_embedded kind t) parts.1))),
-      λ h. telling kind [] fs i name place embedded t (fault place rules.Y2) field
+      λ h. telling kind [] None fs i name place embedded t (fault place rules.Y2) field
           (Contains-append_right (fault_if b5 place rules.B5) (fault_if y2 place rules.Y2) (fault place rules.Y2)
           (noted y2 place rules.Y2 (and_from embedded (not (can_be_embedded kind t)) h.0 (not_from_false (can_be_embedded kind t) (refused_to kind t h.1))))),
     )

@@ -1,15 +1,17 @@
 -- Laws of members and faults.
-use Rattle.std.specs.Prelude.{◌≡◌, ◌<◌, ◌⊎◌, ◌↔◌, ℕ, zero, suc, Bool, true, false, List, [], ◌∷◌, ◌++◌, Contains, ⊤}
-use Rattle.go_text_core.specs.Text.{is_blank}
+use Rattle.std.specs.Prelude.{◌≡◌, ◌<◌, ◌⊎◌, ◌↔◌, ℕ, zero, suc, Bool, true, false, List, [], ◌∷◌, ◌++◌, Option, None, Contains, ⊤, if◌then◌else◌}
+use Rattle.go_text_core.specs.Text.{SameId, is_blank}
 use Rattle.go_text_core.specs.declared.rule.Rule.TheVariants as rules
 use Rattle.go_decl_core.specs.declared.keys.DeclKey.{DeclKey}
 use Rattle.go_term_core.specs.declared.term.MemberPlace.{MemberPlace}
 use Rattle.go_term_core.specs.Terms.{Term, NoType, Predeclared, ErrorType, Defined, PointerTo, StructOf, InterfaceOf, Fields, NoField, AField, Methods, NoMethod, AMethod, Sign, SignOf, Terms, NoTerm, ATerm, term_keys}
 use Rattle.go_settle_core.specs.declared.kind.Kind.{Kind}
 use Rattle.go_settle_core.specs.declared.kind.Kind.TheVariants as kinds
-use Rattle.go_table_core.specs.Entries.{Look, underlying_in, declared_methods, has_method}
+use Rattle.go_table_core.specs.Entries.{Member, Look, underlying_in, declared_methods, has_method}
+use Rattle.go_table_core.specs.Methods.{is_before}
+use Rattle.go_type_core.specs.Built.{kept}
 use Rattle.go_embed_core.specs.Owners.{Edge, owner_in, path_in, off, is_starred, embedded_in}
-use Rattle.go_embed_core.specs.Faults.{fault, term_faults}
+use Rattle.go_embed_core.specs.Faults.{fault, first_place, is_shared, term_faults, hidden_faults}
 
 -- the field of that number
 abbrev pub IsField : Fields → ℕ → List ℕ → MemberPlace → Bool → Term → Type 0
@@ -40,7 +42,7 @@ OwnerIsLocal = (look other : Look) (t : Term) → ((k : DeclKey) → t ≡ Defin
 abbrev pub FaultsAreLocal : Type 0
 FaultsAreLocal = (one other : DeclKey → Kind) (t : Term) → ((k : DeclKey) → Contains (term_keys t) k → one k ≡ other k) → term_faults one t ≡ term_faults other t
 
--- the places of the members that a type declares, in order
+-- the places of the members that a type declares, in order. A type that is written once for several names declares its members once
 abbrev mutual
   pub term_places : Term → List MemberPlace
   term_places NoType = []
@@ -48,28 +50,31 @@ abbrev mutual
   term_places ErrorType = []
   term_places (Defined k) = []
   term_places (PointerTo t) = term_places t
-  term_places (StructOf path fs) = fields_places fs
+  term_places (StructOf path fs) = fields_places None fs
   term_places (InterfaceOf path ms) = methods_places ms
 
-  pub fields_places : Fields → List MemberPlace
-  fields_places NoField = []
-  fields_places (AField name place embedded t tag fs) = place ∷ (term_places t ++ fields_places fs)
+  pub fields_places : Option MemberPlace → Fields → List MemberPlace
+  fields_places last NoField = []
+  fields_places last (AField name place embedded t tag fs) = place ∷ ((if is_shared last t then [] else term_places t) ++ fields_places (first_place t) fs)
 
   pub methods_places : Methods → List MemberPlace
   methods_places NoMethod = []
   methods_places (AMethod name place g ms) = place ∷ (sign_places g ++ methods_places ms)
 
   pub sign_places : Sign → List MemberPlace
-  sign_places (SignOf ps rs) = terms_places ps ++ terms_places rs
+  sign_places (SignOf ps rs) = terms_places None ps ++ terms_places None rs
 
-  pub terms_places : Terms → List MemberPlace
-  terms_places NoTerm = []
-  terms_places (ATerm t ts) = term_places t ++ terms_places ts
+  pub terms_places : Option MemberPlace → Terms → List MemberPlace
+  terms_places last NoTerm = []
+  terms_places last (ATerm t ts) = (if is_shared last t then [] else term_places t) ++ terms_places (first_place t) ts
 
--- no two places of a list are one
-abbrev pub AreApart : List MemberPlace → Type 0
+abbrev pub line_places : Option MemberPlace → Term → List MemberPlace
+line_places last t = if is_shared last t then [] else term_places t
+
+-- no two items of a list are one
+abbrev pub AreApart : {X : Type 0} → List X → Type 0
 AreApart [] = ⊤
-AreApart (p ∷ ps) = (Contains ps p → ⊥) × AreApart ps
+AreApart (x ∷ xs) = (Contains xs x → ⊥) × AreApart xs
 
 -- a field of the name stands before that of the number, and the name is not blank
 abbrev pub IsRepeated : Fields → ℕ → List ℕ → Type 0
@@ -81,8 +86,12 @@ IsRepeated fs i name =
 abbrev pub RepeatedIsTold : Type 0
 RepeatedIsTold =
     (kind : DeclKey → Kind) (path : List ℕ) (fs : Fields) (i : ℕ) (name : List ℕ) (place : MemberPlace) (embedded : Bool) (t : Term)
-    → AreApart (fields_places fs) → IsField fs i name place embedded t
+    → AreApart (fields_places None fs) → IsField fs i name place embedded t
     → Contains (term_faults kind (StructOf path fs)) (fault place rules.B5) ↔ IsRepeated fs i name
+
+-- the list of a type's faults names each place with each rule once
+abbrev pub EachFaultOnce : Type 0
+EachFaultOnce = (kind : DeclKey → Kind) (t : Term) → AreApart (term_places t) → AreApart (term_faults kind t)
 
 -- the kind of a type as its name is written
 abbrev pub kind_at : (DeclKey → Kind) → Term → Kind
@@ -109,5 +118,33 @@ MayNotBeEmbedded kind (InterfaceOf path ms) = ⊥
 abbrev pub StarredInterfaceIsTold : Type 0
 StarredInterfaceIsTold =
     (kind : DeclKey → Kind) (path : List ℕ) (fs : Fields) (i : ℕ) (name : List ℕ) (place : MemberPlace) (embedded : Bool) (t : Term)
-    → AreApart (fields_places fs) → IsField fs i name place embedded t
+    → AreApart (fields_places None fs) → IsField fs i name place embedded t
     → Contains (term_faults kind (StructOf path fs)) (fault place rules.Y2) ↔ ((embedded ≡ true) × MayNotBeEmbedded kind t)
+
+-- the places of the fields of a struct type
+abbrev pub own_places : Fields → List MemberPlace
+own_places NoField = []
+own_places (AField name place embedded t tag fs) = place ∷ own_places fs
+
+-- a field of the struct type over which a defined type of the package of a path is defined, and the methods that are declared of it. Two fields
+-- have two places, and of a field and a method one stands before the other, as two declarations of a package do
+pub record IsOwnField (path home : List ℕ) (fs : Fields) (ms : List Member) (name : List ℕ) (place : MemberPlace) : Type 0 where
+  pub number : ℕ
+  pub embedded : Bool
+  pub term : Term
+  pub field : IsField fs number name place embedded term
+  pub apart : AreApart (own_places fs)
+  pub ordered : (m : Member) → Contains ms m → (is_before m.place place ≡ true) ⊎ (is_before place m.place ≡ true)
+
+-- a method that a type keeps has the field's identifier and stands before it
+abbrev pub IsBehindMethod : (DeclKey → Kind) → List ℕ → List ℕ → Fields → List Member → List ℕ → MemberPlace → Type 0
+IsBehindMethod kind path home fs ms name place =
+    (m : Member) × Contains (kept kind path (StructOf home fs) [] ms) m × SameId m.name path name home × (is_before m.place place ≡ true)
+
+pub record HiddenIsTold : Type 0 where
+  -- the fault stands at a field exactly where a method of its identifier stands before it that the type keeps: so of the two one is kept
+  pub before : (kind : DeclKey → Kind) (path home : List ℕ) (fs : Fields) (ms : List Member) (name : List ℕ) (place : MemberPlace) → IsOwnField path home fs ms name place
+      → Contains (hidden_faults path (StructOf home fs) ms) (fault place rules.B5) ↔ IsBehindMethod kind path home fs ms name place
+  -- and exactly where the field is left out of the members of the type
+  pub left_out : (kind : DeclKey → Kind) (path home : List ℕ) (fs : Fields) (ms : List Member) (name : List ℕ) (place : MemberPlace) → IsOwnField path home fs ms name place
+      → Contains (hidden_faults path (StructOf home fs) ms) (fault place rules.B5) ↔ (has_method path (kept kind path (StructOf home fs) [] ms) name home ≡ true)

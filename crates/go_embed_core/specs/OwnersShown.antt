@@ -4,6 +4,7 @@ use Rattle.go_text_core.specs.Text.{SameId}
 use Rattle.go_term_core.specs.Terms.{NoType}
 use Rattle.go_term_core.specs.Shapes.{shape, sign_of}
 use Rattle.go_table_core.specs.Entries.{Entry}
+use Rattle.go_table_core.specs.Shown.{line_shown}
 use Rattle.go_embed_core.specs.declared.owner.Owner.{Owner}
 use Rattle.go_embed_core.specs.declared.owner.Source.{Source}
 use Rattle.go_embed_core.specs.declared.owner.Source.TheVariants as sources
@@ -31,14 +32,14 @@ abbrev pub embedded_shown : Embedded → Edge
 embedded_shown e = record { position = e.position; pointer = e.pointer; target = shape e.target.now }
 
 abbrev pub found_shown : Member → Found
-found_shown (members.Field path f) = AFieldOf path.now f.now.place (shape f.now.term)
+found_shown (members.Field path f) = AFieldOf path.now f.field.now.place (line_shown f.line).term
 found_shown (members.Method path m) = AMethodOf path.now m.now.place m.now.pointer (sign_of m.now.signature)
 found_shown (members.InterfaceMethod path m) = AnInterfaces path.now m.now.place (sign_of m.now.signature)
 found_shown members.ErrorMethod = TheErrorMethod
 
 -- its name, and the path of the package where the name is written
 abbrev pub name_shown : Member → List ℕ
-name_shown (members.Field path f) = f.now.name
+name_shown (members.Field path f) = f.field.now.name
 name_shown (members.Method path m) = m.now.name
 name_shown (members.InterfaceMethod path m) = m.now.name
 name_shown members.ErrorMethod = codes "Error"

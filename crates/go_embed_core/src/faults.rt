@@ -1,16 +1,17 @@
 //! The faults of struct types, interface types, methods and receivers.
-ghost use Rattle.std.specs.Prelude.{◌≡◌, ◌++◌, ◌∷◌, [], true, false, not, ◌&&◌, ◌||◌, IfOk, OnOk, IfErr, map};
+ghost use Rattle.std.specs.Prelude.{◌≡◌, ◌++◌, ◌∷◌, [], true, false, not, ◌&&◌, ◌||◌, IfOk, OnOk, IfErr, map, List};
 ghost use Rattle.go_text_core.specs.Text.{is_blank};
-ghost use Rattle.go_term_core.specs.Shapes.{shape, sign_of, fields_of, methods_of, terms_of};
+ghost use Rattle.go_term_core.specs.Shapes.{Line, shape, sign_of, fields_in, line_at, lines_of, methods_of, term_at, terms_in};
 ghost use Rattle.go_settle_core.specs.Settled.{can_be_embedded, has_name};
 ghost use Rattle.go_table_core.specs.Methods.{has_field_before};
 ghost use Rattle.go_table_core.specs.Shown.{member_shown};
-ghost use Rattle.go_embed_core.specs.Faults.{fault_if, term_faults, fields_faults, methods_faults, sign_faults, terms_faults, declared_faults, is_open_base, can_be_base};
+ghost use Rattle.go_embed_core.specs.Faults.{fault_if, same_place, first_field, first_method, first_place, is_shared, line_faults, term_faults, fields_faults, methods_faults, sign_faults, terms_faults, declared_faults, is_open_base, can_be_base};
 ghost use Rattle.go_embed_core.specs.mirrors.Passing.{SameNames, field_own, method_own, declared_own};
 
 use go_path_core::ImportPath;
 use go_settle_core::SeenNames;
 use go_table_core::FieldTable;
+use go_term_core::FieldLine;
 use go_text_core::{Name, Rule, add};
 use go_type_core::{
     DeclaredMethod, Field, Kind, Kinds, MemberPlace, Method, Signature, TypeTerm, can_embed,
@@ -26,14 +27,14 @@ pub struct MemberFault {
 }
 
 // Whether a name is the blank identifier.
-fn is_blank(name: &str) -> bool
+pub(crate) fn is_blank(name: &str) -> bool
     ensures { result ≡ is_blank name.now }
 {
     name == "_"
 }
 
 // Notes a fault, where there is one.
-fn note_if(
+pub(crate) fn note_if(
     faults: &mut Vec<MemberFault>,
     is_fault: bool,
     place: MemberPlace,
@@ -55,10 +56,20 @@ fn is_repeated(name: &Name, is_met: bool) -> bool
 }
 
 // Whether a field is written as an embedded one, and its type may not be embedded.
-fn is_refused<K: Kinds>(kinds: &K, field: &Field) -> bool
-    ensures { result ≡ field.now.embedded && not (can_be_embedded (K.kinds kinds.now) (shape field.now.term)) }
+fn is_refused<K: Kinds>(kinds: &K, lines: &Vec<FieldLine>, number: usize) -> bool
+    ensures { let l = line_at (lines_of lines.now.items) number in result ≡ l.embedded && not (can_be_embedded (K.kinds kinds.now) l.term) }
 {
-    field.embedded && !can_embed(kinds, &field.term)
+    match lines.get(number) {
+        Some(line) => is_line_refused(kinds, line),
+        None => false,
+    }
+}
+
+// Whether the field of a line is written as an embedded one, and its type may not be embedded.
+fn is_line_refused<K: Kinds>(kinds: &K, line: &FieldLine) -> bool
+    ensures { result ≡ line.now.embedded && not (can_be_embedded (K.kinds kinds.now) (shape line.now.term)) }
+{
+    line.embedded && !can_embed(kinds, &line.term)
 }
 
 // Whether a method of an interface type is blank, or repeats a name.
@@ -93,11 +104,12 @@ fn meet<'a>(passed: &mut SeenNames<'a>, name: &'a Name) -> Result<bool, AllocErr
 fn check_field<'a, K: Kinds>(
     kinds: &K,
     field: &'a Field,
+    lines: &Vec<FieldLine>,
     passed: &mut SeenNames<'a>,
     faults: &mut Vec<MemberFault>,
 ) -> Result<(), AllocError>
     ensures names { OnOk result (SameNames passed.new (field.now.name ∷ passed.old)) }
-    ensures faults { OnOk result (faults.new.items ≡ faults.old.items ++ field_own (K.kinds kinds.now) passed.old field.now) }
+    ensures faults { OnOk result (faults.new.items ≡ faults.old.items ++ field_own (K.kinds kinds.now) (lines_of lines.now.items) passed.old field.now) }
 {
     let is_met = meet(passed, &field.name)?;
     note_if(
@@ -106,7 +118,12 @@ fn check_field<'a, K: Kinds>(
         field.place,
         Rule::B5,
     )?;
-    note_if(faults, is_refused(kinds, field), field.place, Rule::Y2)
+    note_if(
+        faults,
+        is_refused(kinds, lines, field.line),
+        field.place,
+        Rule::Y2,
+    )
 }
 
 // The faults of a method of an interface type beside those of its signature.
@@ -127,21 +144,87 @@ fn check_method<'a>(
     )
 }
 
-// The faults in a type.
+// Whether two places are one.
+fn is_same_place(one: MemberPlace, other: MemberPlace) -> bool
+    ensures { result ≡ same_place one other }
+{
+    match one {
+        MemberPlace::Declared(a) => match other {
+            MemberPlace::Declared(b) => a.file == b.file
+                && (a.number == b.number && a.kind == b.kind),
+            MemberPlace::Local(_) => false,
+        },
+        MemberPlace::Local(a) => match other {
+            MemberPlace::Declared(_) => false,
+            MemberPlace::Local(b) => a.file == b.file && a.offset == b.offset,
+        },
+    }
+}
+
+// The place of the first of some fields.
+fn first_field(fields: &Vec<Field>) -> Option<MemberPlace>
+    ensures { (ls : List Line) → result ≡ first_field (fields_in ls fields.now.items) }
+{
+    match fields.first() {
+        Some(field) => Some(field.place),
+        None => None,
+    }
+}
+
+// The place of the first of some methods.
+fn first_method(methods: &Vec<Method>) -> Option<MemberPlace>
+    ensures { result ≡ first_method (methods_of methods.now.items) }
+{
+    match methods.first() {
+        Some(method) => Some(method.place),
+        None => None,
+    }
+}
+
+// The place of the first member that a type declares.
+fn first_place(term: &TypeTerm) -> Option<MemberPlace>
+    ensures { result ≡ first_place (shape term.now) }
+{
+    match term {
+        TypeTerm::Pointer(base) => first_place(base),
+        TypeTerm::Struct(_, fields, _) => first_field(fields),
+        TypeTerm::Interface(_, methods) => first_method(methods),
+        TypeTerm::NoType | TypeTerm::Basic(_) | TypeTerm::Error | TypeTerm::Defined(_) => None,
+    }
+}
+
+// Whether a type is written once for a name and for the one before it, the place of whose first member is given.
+fn is_shared(last: Option<MemberPlace>, term: &TypeTerm) -> bool
+    ensures { result ≡ is_shared last (shape term.now) }
+{
+    match last {
+        None => false,
+        Some(one) => match first_place(term) {
+            None => false,
+            Some(other) => is_same_place(one, other),
+        },
+    }
+}
+
+// The faults in a type behind another.
 #[cycle(faults)]
 fn add_term<'a, K: Kinds>(
     alloc: Global,
     kinds: &K,
+    last: Option<MemberPlace>,
     term: &'a TypeTerm,
     faults: &mut Vec<MemberFault>,
 ) -> Result<(), AllocError>
-    ensures { OnOk result (faults.new.items ≡ faults.old.items ++ term_faults (K.kinds kinds.now) (shape term.now)) }
+    ensures { OnOk result (faults.new.items ≡ faults.old.items ++ line_faults (K.kinds kinds.now) last (shape term.now)) }
 {
+    if is_shared(last, term) {
+        return Ok(());
+    }
     match term {
-        TypeTerm::Pointer(base) => add_term(alloc, kinds, base, faults),
-        TypeTerm::Struct(_, fields) => {
+        TypeTerm::Pointer(base) => add_term(alloc, kinds, None, base, faults),
+        TypeTerm::Struct(_, fields, lines) => {
             let mut passed_fields = SeenNames::new(alloc);
-            add_fields(alloc, kinds, fields, &mut passed_fields, faults)
+            add_fields(alloc, kinds, lines, fields, &mut passed_fields, faults)
         }
         TypeTerm::Interface(_, methods) => {
             let mut passed_methods = SeenNames::new(alloc);
@@ -156,17 +239,48 @@ fn add_term<'a, K: Kinds>(
 fn add_fields<'a, K: Kinds>(
     alloc: Global,
     kinds: &K,
+    lines: &'a Vec<FieldLine>,
     fields: &'a Vec<Field>,
     passed: &mut SeenNames<'a>,
     faults: &mut Vec<MemberFault>,
 ) -> Result<(), AllocError>
-    ensures { OnOk result (faults.new.items ≡ faults.old.items ++ fields_faults (K.kinds kinds.now) passed.old (fields_of fields.now.items)) }
+    ensures { OnOk result (faults.new.items ≡ faults.old.items ++ fields_faults (K.kinds kinds.now) passed.old None (fields_in (lines_of lines.now.items) fields.now.items)) }
 {
+    let mut last = None;
     for field in fields {
-        check_field(kinds, field, passed, faults)?;
-        add_term(alloc, kinds, &field.term, faults)?;
+        check_field(kinds, field, lines, passed, faults)?;
+        add_line(alloc, kinds, last, lines, field.line, faults)?;
+        last = first_of_line(lines, field.line);
     }
     Ok(())
+}
+
+// The place of the first member that the type of a line declares.
+fn first_of_line(lines: &Vec<FieldLine>, number: usize) -> Option<MemberPlace>
+    ensures { result ≡ first_place (line_at (lines_of lines.now.items) number).term }
+{
+    match lines.get(number) {
+        Some(line) => first_place(&line.term),
+        None => None,
+    }
+}
+
+// The faults in the type of a line behind another type.
+#[cycle(faults)]
+fn add_line<'a, K: Kinds>(
+    alloc: Global,
+    kinds: &K,
+    last: Option<MemberPlace>,
+    lines: &'a Vec<FieldLine>,
+    number: usize,
+    faults: &mut Vec<MemberFault>,
+) -> Result<(), AllocError>
+    ensures { OnOk result (faults.new.items ≡ faults.old.items ++ line_faults (K.kinds kinds.now) last (line_at (lines_of lines.now.items) number).term) }
+{
+    match lines.get(number) {
+        Some(line) => add_term(alloc, kinds, last, &line.term, faults),
+        None => Ok(()),
+    }
 }
 
 // The faults of the methods of an interface type behind those of the names that were passed.
@@ -182,8 +296,21 @@ fn add_methods<'a, K: Kinds>(
 {
     for method in methods {
         check_method(method, passed, faults)?;
-        add_terms(alloc, kinds, &method.signature.params, faults)?;
-        add_terms(alloc, kinds, &method.signature.results, faults)?;
+        let signature = &method.signature;
+        add_terms(
+            alloc,
+            kinds,
+            &signature.params.terms,
+            &signature.params.lines,
+            faults,
+        )?;
+        add_terms(
+            alloc,
+            kinds,
+            &signature.results.terms,
+            &signature.results.lines,
+            faults,
+        )?;
     }
     Ok(())
 }
@@ -194,14 +321,45 @@ fn add_terms<'a, K: Kinds>(
     alloc: Global,
     kinds: &K,
     terms: &'a Vec<TypeTerm>,
+    numbers: &Vec<usize>,
     faults: &mut Vec<MemberFault>,
 ) -> Result<(), AllocError>
-    ensures { OnOk result (faults.new.items ≡ faults.old.items ++ terms_faults (K.kinds kinds.now) (terms_of terms.now.items)) }
+    ensures { OnOk result (faults.new.items ≡ faults.old.items ++ terms_faults (K.kinds kinds.now) None (terms_in (map shape terms.now.items) numbers.now.items)) }
 {
-    for term in terms {
-        add_term(alloc, kinds, term, faults)?;
+    let mut last = None;
+    for number in numbers {
+        add_numbered(alloc, kinds, last, terms, *number, faults)?;
+        last = first_of_number(terms, *number);
     }
     Ok(())
+}
+
+// The place of the first member that the type of a number declares.
+fn first_of_number(terms: &Vec<TypeTerm>, number: usize) -> Option<MemberPlace>
+    ensures { result ≡ first_place (term_at (map shape terms.now.items) number) }
+{
+    match terms.get(number) {
+        Some(term) => first_place(term),
+        None => None,
+    }
+}
+
+// The faults in the type of a number behind another type.
+#[cycle(faults)]
+fn add_numbered<'a, K: Kinds>(
+    alloc: Global,
+    kinds: &K,
+    last: Option<MemberPlace>,
+    terms: &'a Vec<TypeTerm>,
+    number: usize,
+    faults: &mut Vec<MemberFault>,
+) -> Result<(), AllocError>
+    ensures { OnOk result (faults.new.items ≡ faults.old.items ++ line_faults (K.kinds kinds.now) last (term_at (map shape terms.now.items) number)) }
+{
+    match terms.get(number) {
+        Some(term) => add_term(alloc, kinds, last, term, faults),
+        None => Ok(()),
+    }
 }
 
 // The faults in a signature.
@@ -213,8 +371,10 @@ fn add_signature<K: Kinds>(
 ) -> Result<(), AllocError>
     ensures { OnOk result (faults.new.items ≡ faults.old.items ++ sign_faults (K.kinds kinds.now) (sign_of signature.now)) }
 {
-    add_terms(alloc, kinds, &signature.params, faults)?;
-    add_terms(alloc, kinds, &signature.results, faults)
+    let params = &signature.params;
+    let results = &signature.results;
+    add_terms(alloc, kinds, &params.terms, &params.lines, faults)?;
+    add_terms(alloc, kinds, &results.terms, &results.lines, faults)
 }
 
 // The faults of a declared method beside those of its signature.
@@ -258,7 +418,8 @@ fn add_declared<'a, K: Kinds>(
 }
 
 /// The faults of the struct types and the interface types that a type has in it, as it is written, in order: of fields and methods that
-/// repeat a name of their type (B5), of an interface's method that is blank (B5), of embedded fields whose type may not be embedded (Y2).
+/// repeat a name of their type (B5), of an interface's method that is blank (B5), of embedded fields whose type may not be embedded (Y2). A type
+/// that is written once for several fields or parameters has its faults once.
 /// It takes expected time that is linear in the type.
 ///
 /// # Errors
@@ -272,7 +433,7 @@ pub fn check_struct<K: Kinds>(
     ensures { IfOk result (λ faults. faults.items ≡ term_faults (K.kinds kinds.now) (shape term.now)) }
 {
     let mut faults = Vec::new(alloc);
-    add_term(alloc, kinds, term, &mut faults)?;
+    add_term(alloc, kinds, None, term, &mut faults)?;
     Ok(faults)
 }
 
@@ -333,7 +494,7 @@ fn can_be_base<K: Kinds>(kinds: &K, path: &ImportPath, base: &TypeTerm) -> bool
         TypeTerm::Basic(_)
         | TypeTerm::Error
         | TypeTerm::Pointer(_)
-        | TypeTerm::Struct(_, _)
+        | TypeTerm::Struct(_, _, _)
         | TypeTerm::Interface(_, _) => false,
     }
 }

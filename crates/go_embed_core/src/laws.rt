@@ -1,5 +1,5 @@
 //! Laws of members and faults.
-ghost use Rattle.go_embed_core.specs.Laws.{EmbeddingIsAStep, FaultsAreLocal, OwnerIsLocal, RepeatedIsTold, StarredInterfaceIsTold};
+ghost use Rattle.go_embed_core.specs.Laws.{EachFaultOnce, EmbeddingIsAStep, FaultsAreLocal, HiddenIsTold, OwnerIsLocal, RepeatedIsTold, StarredInterfaceIsTold};
 
 /// A law, with nothing to run: what is embedded is a field of the type's struct type that is written as an embedded one and that no
 /// method of the type keeps from it; and its type with the star taken off is the edge's end.
@@ -27,4 +27,15 @@ pub fn repeated_is_told()
 /// type is a pointer type by its name, or a star and the name of a pointer type or an interface type.
 pub fn starred_interface_is_told()
     ensures { StarredInterfaceIsTold }
+{}
+
+/// A law, with nothing to run: a field of the struct type by which a defined type is defined has B5 beside what it repeats of the struct type
+/// exactly where a method of its identifier, which is the type's own, stands before it; and exactly then it is no member of the defined type.
+pub fn hidden_is_told()
+    ensures { HiddenIsTold }
+{}
+
+/// A law, with nothing to run: the list of a type's faults has each fault once, where the members that the type declares have places of their own.
+pub fn each_fault_once()
+    ensures { EachFaultOnce }
 {}

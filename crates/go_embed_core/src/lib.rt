@@ -5,15 +5,17 @@
 #![tactic(auto)]
 
 mod faults;
+mod hidden;
 mod laws;
 mod member;
 mod members;
 mod owner;
 
 pub use faults::{MemberFault, check_base, check_methods, check_struct};
+pub use hidden::check_hidden_fields;
 pub use laws::{
-    embedding_is_a_step, faults_are_local, owner_is_local, repeated_is_told,
-    starred_interface_is_told,
+    each_fault_once, embedding_is_a_step, faults_are_local, hidden_is_told, owner_is_local,
+    repeated_is_told, starred_interface_is_told,
 };
 pub use member::{Hits, Member};
 pub use owner::{Embedded, Owner, embeds};

@@ -4,7 +4,7 @@ ghost use Rattle.std.specs.List.{list_any};
 ghost use Rattle.std.specs.Str.{bytes_eq, chars};
 ghost use Rattle.go_text_core.specs.Text.{exported};
 ghost use Rattle.go_term_core.specs.Terms.{ErrorType};
-ghost use Rattle.go_term_core.specs.Shapes.{shape};
+ghost use Rattle.go_term_core.specs.Shapes.{lines_of, shape};
 ghost use Rattle.go_table_core.specs.Entries.{same_id, has_method};
 ghost use Rattle.go_table_core.specs.Shown.{member_shown};
 ghost use Rattle.go_embed_core.specs.Owners.{term_found, is_spelled_in};
@@ -12,13 +12,15 @@ ghost use Rattle.go_embed_core.specs.OwnersShown.{name_shown, package_shown};
 ghost use Rattle.go_embed_core.specs.mirrors.Tallies.{together, hits_shown, tallies, tally_of, method_tally, field_tally, interface_tally, nobody};
 
 use go_path_core::ImportPath;
+use go_table_core::StructField;
+use go_term_core::FieldLine;
 use go_text_core::Name;
 use go_type_core::{DeclaredMethod, Field, Method, TypeTerm};
 
 /// A member of a type, with the package where it is written.
 #[derive(Clone, Copy)]
 pub enum Member<'a> {
-    Field(&'a ImportPath, &'a Field),
+    Field(&'a ImportPath, StructField<'a>),
     /// A method that is declared with a receiver.
     Method(&'a ImportPath, &'a DeclaredMethod),
     /// A method of an interface type.
@@ -41,7 +43,7 @@ impl<'a> Member<'a> {
         ensures { result.now ≡ name_shown self.entry }
     {
         match self {
-            Member::Field(_, field) => field.name.as_str(),
+            Member::Field(_, field) => field.field.name.as_str(),
             Member::Method(_, method) => method.name.as_str(),
             Member::InterfaceMethod(_, method) => method.name.as_str(),
             Member::ErrorMethod => "Error",
@@ -127,11 +129,17 @@ fn method_hit<'a>(
 }
 
 // The field of a struct type, where it has the identifier.
-fn field_hit<'a>(path: &'a ImportPath, field: &'a Field, name: &str, from: &ImportPath) -> Hits<'a>
-    ensures { hits_shown result ≡ field_tally path.now name.now from.now field.now }
+fn field_hit<'a>(
+    path: &'a ImportPath,
+    field: &'a Field,
+    lines: &'a [FieldLine],
+    name: &str,
+    from: &ImportPath,
+) -> Hits<'a>
+    ensures { hits_shown result ≡ field_tally (lines_of lines.now) path.now name.now from.now field.now }
 {
     if is_same_id(field.name.as_str(), path, name, from) {
-        Hits::One(Member::Field(path, field))
+        Hits::One(Member::Field(path, StructField::of(field, lines)))
     } else {
         Hits::Nothing
     }
@@ -173,14 +181,15 @@ pub(crate) fn method_hits<'a>(
 fn field_hits<'a>(
     path: &'a ImportPath,
     fields: &'a [Field],
+    lines: &'a [FieldLine],
     name: &str,
     from: &ImportPath,
 ) -> Hits<'a>
-    ensures { hits_shown result ≡ tallies (field_tally path.now name.now from.now) fields.now }
+    ensures { hits_shown result ≡ tallies (field_tally (lines_of lines.now) path.now name.now from.now) fields.now }
 {
     let mut hits = Hits::Nothing;
     for field in fields {
-        hits = hits.and(field_hit(path, field, name, from));
+        hits = hits.and(field_hit(path, field, lines, name, from));
     }
     hits
 }
@@ -218,7 +227,7 @@ pub(crate) fn term_hits<'a>(term: &'a TypeTerm, name: &str, from: &ImportPath) -
 {
     match term {
         TypeTerm::Error => error_hit(name, from),
-        TypeTerm::Struct(path, fields) => field_hits(path, fields, name, from),
+        TypeTerm::Struct(path, fields, lines) => field_hits(path, fields, lines, name, from),
         TypeTerm::Interface(path, methods) => interface_hits(path, methods, name, from),
         TypeTerm::NoType | TypeTerm::Basic(_) | TypeTerm::Defined(_) | TypeTerm::Pointer(_) =>
             Hits::Nothing,
@@ -274,7 +283,7 @@ pub(crate) fn is_spelled(term: &TypeTerm, name: &str) -> bool
 {
     match term {
         TypeTerm::Error => name == "Error",
-        TypeTerm::Struct(_, fields) => is_field_spelled(fields, name),
+        TypeTerm::Struct(_, fields, _) => is_field_spelled(fields, name),
         TypeTerm::Interface(_, methods) => is_interface_spelled(methods, name),
         TypeTerm::NoType | TypeTerm::Basic(_) | TypeTerm::Defined(_) | TypeTerm::Pointer(_) =>
             false,

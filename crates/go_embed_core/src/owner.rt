@@ -1,10 +1,10 @@
 //! A type whose members are asked for.
-ghost use Rattle.std.specs.Prelude.{◌≡◌, ◌++◌, IfOk, OnOk, map, option_map, option_to_list};
-ghost use Rattle.go_term_core.specs.Terms.{Defined, StructOf};
-ghost use Rattle.go_term_core.specs.Shapes.{shape, fields_of};
+ghost use Rattle.std.specs.Prelude.{◌≡◌, ◌++◌, ◌∷◌, [], IfOk, OnOk, map, option_map, option_to_list};
+ghost use Rattle.go_term_core.specs.Terms.{Defined, NoField, StructOf};
+ghost use Rattle.go_term_core.specs.Shapes.{shape, fields_in, line_at, lines_of};
 ghost use Rattle.go_table_core.specs.Entries.{find};
-ghost use Rattle.go_table_core.specs.Shown.{member_shown};
-ghost use Rattle.go_embed_core.specs.Owners.{owner_in, embeds_at, embedded_in, field_count, has_spelled, declared_found, fields_found, term_found, members_of, is_spelled_in, edge};
+ghost use Rattle.go_table_core.specs.Shown.{line_shown, member_shown};
+ghost use Rattle.go_embed_core.specs.Owners.{AFieldOf, owner_in, embeds_at, embedded_in, field_count, has_spelled, declared_found, fields_found, term_found, members_of, is_spelled_in, edge};
 ghost use Rattle.go_embed_core.specs.OwnersShown.{owner_shown, source_shown, entry_owner, embedded_shown, named_shown, AreHits};
 ghost use Rattle.go_embed_core.specs.mirrors.Edges.{under_shown, struct_fields, hidden_in, IsHiding, edge_if};
 ghost use Rattle.go_embed_core.specs.mirrors.Tallies.{hits_shown, tallies, tally_of, nobody};
@@ -15,6 +15,8 @@ use crate::member::{
 use crate::members::{add_interface, add_methods};
 use go_decl_core::DeclKey;
 use go_path_core::ImportPath;
+use go_table_core::{StructField, StructFields};
+use go_term_core::FieldLine;
 use go_text_core::add;
 use go_type_core::{DeclaredMethod, DefinedType, Field, TypeTable, TypeTerm};
 use std::alloc::{AllocError, Global};
@@ -67,23 +69,36 @@ fn source_of<'a>(table: &'a TypeTable, term: &'a TypeTerm) -> Source<'a>
         | TypeTerm::Basic(_)
         | TypeTerm::Error
         | TypeTerm::Pointer(_)
-        | TypeTerm::Struct(_, _)
+        | TypeTerm::Struct(_, _, _)
         | TypeTerm::Interface(_, _) => Source::Plain(term),
     }
 }
 
 // The fields of a struct type, and none of any other type.
-fn struct_fields<'a>(term: &'a TypeTerm) -> &'a [Field]
-    ensures { fields_of result.now ≡ struct_fields (shape term.now) }
+fn struct_fields<'a>(term: &'a TypeTerm) -> StructFields<'a>
+    ensures { fields_in (lines_of result.lines.now) result.fields.now ≡ struct_fields (shape term.now) }
 {
     match term {
-        TypeTerm::Struct(_, fields) => fields.as_slice(),
+        TypeTerm::Struct(_, fields, lines) => StructFields {
+            fields: fields.as_slice(),
+            lines: lines.as_slice(),
+        },
         TypeTerm::NoType
         | TypeTerm::Basic(_)
         | TypeTerm::Error
         | TypeTerm::Defined(_)
         | TypeTerm::Pointer(_)
-        | TypeTerm::Interface(_, _) => &[],
+        | TypeTerm::Interface(_, _) => no_fields(),
+    }
+}
+
+// No field.
+fn no_fields<'a>() -> StructFields<'a>
+    ensures { fields_in (lines_of result.lines.now) result.fields.now ≡ NoField }
+{
+    StructFields {
+        fields: &[],
+        lines: &[],
     }
 }
 
@@ -101,7 +116,7 @@ fn edge_to<'a>(term: &'a TypeTerm, position: usize) -> Embedded<'a>
         | TypeTerm::Basic(_)
         | TypeTerm::Error
         | TypeTerm::Defined(_)
-        | TypeTerm::Struct(_, _)
+        | TypeTerm::Struct(_, _, _)
         | TypeTerm::Interface(_, _) => Embedded {
             position,
             pointer: false,
@@ -111,11 +126,21 @@ fn edge_to<'a>(term: &'a TypeTerm, position: usize) -> Embedded<'a>
 }
 
 // The edge of a field, where it is an embedded one.
-fn edge_of<'a>(field: &'a Field, position: usize) -> Option<Embedded<'a>>
-    ensures { option_map embedded_shown result ≡ edge_if field.now.embedded position (shape field.now.term) }
+fn edge_of<'a>(field: StructField<'a>, position: usize) -> Option<Embedded<'a>>
+    ensures { let l = line_shown field.entry.line in option_map embedded_shown result ≡ edge_if l.embedded position l.term }
 {
-    if field.embedded {
-        Some(edge_to(&field.term, position))
+    match field.line {
+        Some(line) => line_edge(line, position),
+        None => None,
+    }
+}
+
+// The edge of a line, where its field is an embedded one.
+fn line_edge<'a>(line: &'a FieldLine, position: usize) -> Option<Embedded<'a>>
+    ensures { option_map embedded_shown result ≡ edge_if line.now.embedded position (shape line.now.term) }
+{
+    if line.embedded {
+        Some(edge_to(&line.term, position))
     } else {
         None
     }
@@ -126,7 +151,7 @@ fn has_namesake(path: &ImportPath, methods: &[DeclaredMethod], name: &str, term:
     ensures { result ≡ hidden_in path.now (map member_shown methods.now) name.now (shape term.now) }
 {
     match term {
-        TypeTerm::Struct(from, _) => has_method(path, methods, name, from),
+        TypeTerm::Struct(from, _, _) => has_method(path, methods, name, from),
         TypeTerm::NoType
         | TypeTerm::Basic(_)
         | TypeTerm::Error
@@ -190,17 +215,30 @@ fn add_fields<'a>(
     owner: &Owner<'a>,
     path: &'a ImportPath,
     fields: &'a [Field],
+    lines: &'a [FieldLine],
     members: &mut Vec<Member<'a>>,
 ) -> Result<(), AllocError>
-    requires { (owner_shown owner.now).underlying ≡ StructOf path.now (fields_of fields.now) }
-    ensures { OnOk result (map named_shown members.new.items ≡ map named_shown members.old.items ++ fields_found (owner_shown owner.now) path.now (fields_of fields.now)) }
+    requires { (owner_shown owner.now).underlying ≡ StructOf path.now (fields_in (lines_of lines.now) fields.now) }
+    ensures { OnOk result (map named_shown members.new.items ≡ map named_shown members.old.items ++ fields_found (owner_shown owner.now) path.now (fields_in (lines_of lines.now) fields.now)) }
 {
     for field in fields {
         if !owner.hides(field.name.as_str()) {
-            add(members, Member::Field(path, field))?;
+            add_member(path, field, lines, members)?;
         }
     }
     Ok(())
+}
+
+// Adds a field of these lines.
+fn add_member<'a>(
+    path: &'a ImportPath,
+    field: &'a Field,
+    lines: &'a [FieldLine],
+    members: &mut Vec<Member<'a>>,
+) -> Result<(), AllocError>
+    ensures { OnOk result (map named_shown members.new.items ≡ map named_shown members.old.items ++ (field.now.name, (path.now, AFieldOf path.now field.now.place (line_at (lines_of lines.now) field.now.line).term)) ∷ []) }
+{
+    add(members, Member::Field(path, StructField::of(field, lines)))
 }
 
 // Adds the members of the underlying type of an owner.
@@ -214,7 +252,7 @@ fn add_term<'a>(
 {
     match term {
         TypeTerm::Error => add(members, Member::ErrorMethod),
-        TypeTerm::Struct(path, fields) => add_fields(owner, path, fields, members),
+        TypeTerm::Struct(path, fields, lines) => add_fields(owner, path, fields, lines, members),
         TypeTerm::Interface(path, methods) => add_interface(path, methods, members),
         TypeTerm::NoType | TypeTerm::Basic(_) | TypeTerm::Defined(_) | TypeTerm::Pointer(_) => Ok(
             (),
@@ -244,12 +282,12 @@ impl<'a> Owner<'a> {
     }
 
     // The fields of its struct type, or none where it is none.
-    fn fields(&self) -> &'a [Field]
-        ensures { fields_of result.now ≡ struct_fields (owner_shown self.now).underlying }
+    fn fields(&self) -> StructFields<'a>
+        ensures { fields_in (lines_of result.lines.now) result.fields.now ≡ struct_fields (owner_shown self.now).underlying }
     {
         match self.underlying() {
             Some(term) => struct_fields(term),
-            None => &[],
+            None => no_fields(),
         }
     }
 
@@ -310,7 +348,7 @@ impl<'a> Owner<'a> {
     pub fn field_count(&self) -> usize
         ensures { result ≡ field_count (owner_shown self.now) }
     {
-        self.fields().len()
+        self.fields().fields.len()
     }
 
     /// The embedded field at a place among the fields, or none where the field there is not embedded, or is kept from the type by a
@@ -318,12 +356,13 @@ impl<'a> Owner<'a> {
     pub fn embedded(&self, position: usize) -> Option<Embedded<'a>>
         ensures { option_map embedded_shown result ≡ embeds_at (owner_shown self.now) position }
     {
-        match self.fields().get(position) {
+        let all = self.fields();
+        match all.fields.get(position) {
             Some(field) => {
                 if self.hides(field.name.as_str()) {
                     return None;
                 }
-                edge_of(field, position)
+                edge_of(StructField::of(field, all.lines), position)
             }
             None => None,
         }

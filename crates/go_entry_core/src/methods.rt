@@ -68,7 +68,7 @@ fn entry_of_type(entries: &[TypeEntry], term: &TypeTerm) -> Option<usize>
         TypeTerm::Basic(_) => None,
         TypeTerm::Error => None,
         TypeTerm::Pointer(_) => None,
-        TypeTerm::Struct(_, _) => None,
+        TypeTerm::Struct(_, _, _) => None,
         TypeTerm::Interface(_, _) => None,
     }
 }

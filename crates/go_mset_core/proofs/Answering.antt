@@ -1,8 +1,7 @@
 -- What is answered to the question whether a type implements an interface type.
 use Rattle.std.proofs.Common.{◌≡◌, ◌↔◌, ℕ, Bool, true, false, ◌==◌, List, [], ◌∷◌, ◌++◌, length, get_or, Option, Some, None, Result, Ok, Err, IsTrue, refl, sym, ap, ◌∙◌, subst, arith, ◌⊎◌, inl, inr}
-use Rattle.std.specs.Prelude.{codes}
+use Rattle.std.specs.Prelude.{codes, slice_get}
 use Rattle.go_term_core.specs.declared.term.Basic.TheVariants as basics
-use Rattle.go_term_core.specs.declared.term.TypeTerm.{TypeTerm}
 use Rattle.unicode.specs.GeneralCategory.{general_category}
 use Rattle.unicode.specs.Rows.{value_in}
 use Rattle.ucd_category.specs.GeneralCategoryRows.{general_category_rows}
@@ -13,9 +12,9 @@ use Rattle.go_text_core.specs.Text.{uppercase, exported, SameId}
 use Rattle.go_text_core.specs.declared.rule.Rule.{Rule}
 use Rattle.go_term_core.specs.declared.term.Method.{Method}
 use Rattle.go_term_core.specs.declared.term.MemberPlace.{MemberPlace}
-use Rattle.go_term_core.specs.Terms.{Term, NoType, Predeclared, ErrorType, Defined, PointerTo, StructOf, InterfaceOf, Methods, Sign, SignOf, Terms, NoTerm, ATerm}
+use Rattle.go_term_core.specs.Terms.{Term, NoType, Predeclared, ErrorType, Defined, PointerTo, StructOf, InterfaceOf, Methods, Sign, SignOf, Terms, NoTerm, ATerm, term_list, sign_params, sign_results}
 use Rattle.go_term_core.specs.Identity.{IsMethod, SameSign, SameTerms, Identical}
-use Rattle.go_term_core.specs.Shapes.{shape, sign_of, methods_of, terms_of}
+use Rattle.go_term_core.specs.Shapes.{shape, sign_of, methods_of}
 use Rattle.go_table_core.specs.Entries.{Look, underlying_in}
 use Rattle.go_embed_core.specs.OwnersShown.{found_shown}
 use Rattle.go_select_core.specs.declared.search.Selected.{Selected}
@@ -214,16 +213,30 @@ error_lacks look t from lacks =
 
 -- types in a row
 
-pub not_alone : (ts : List TypeTerm) → (length ts ≡ 1 → ⊥) → terms_of ts ≡ text_alone → ⊥
-not_alone [] other h = cc
-not_alone (t ∷ []) other h = other refl
-not_alone (t ∷ (u ∷ ts)) other h = cc
+abbrev listed_back : List Term → Terms
+listed_back [] = NoTerm
+listed_back (t ∷ ts) = ATerm t (listed_back ts)
 
-pub none_test : (ts : List TypeTerm) (r : Bool) → r ≡ (length ts == 0) → IsTrue r ↔ (terms_of ts ≡ NoTerm)
-none_test [] r h = (λ e. refl, λ e. h)
-none_test (t ∷ ts) r h = (λ e. let z : false ≡ true = sym (h ∙ not_same (length (t ∷ ts)) 0 (λ z. omega (arith, z))) ∙ e in (cc), λ e. cc)
+terms_listed : (ts : Terms) → ts ≡ listed_back (term_list ts)
+terms_listed NoTerm = refl
+terms_listed (ATerm t ts) = ap (ATerm t) (terms_listed ts)
 
-pub alone : (ts : List TypeTerm) (t : TypeTerm) → length ts ≡ 1 → t ≡ get_or ts 0 t → (shape t ≡ Predeclared basics.Text) ↔ (terms_of ts ≡ text_alone)
+sign_listed : (g : Sign) → g ≡ SignOf (listed_back (sign_params g)) (listed_back (sign_results g))
+sign_listed (SignOf ps rs) = λ i. SignOf (terms_listed ps i) (terms_listed rs i)
+
+pub of_error : (g : Sign) → ((sign_params g ≡ []) × (sign_results g ≡ Predeclared basics.Text ∷ [])) ↔ (g ≡ error_sign)
+of_error g = ((λ h. sign_listed g ∙ (λ i. SignOf (listed_back (h.0 i)) (listed_back (h.1 i)))), (λ e. (ap sign_params e, ap sign_results e)))
+
+pub none_test : (ts : List Term) (n : ℕ) (r : Bool) → n ≡ length ts → r ≡ (n == 0) → IsTrue r ↔ (ts ≡ [])
+none_test [] n r many h = ((λ e. refl), (λ e. h ∙ ap (λ m. m == 0) many))
+none_test (t ∷ ts) n r many h = ((λ e. let z : false ≡ true = sym (h ∙ not_same n 0 (λ z. let m = many in omega (arith, z, m))) ∙ e in (cc)), (λ e. cc))
+
+pub not_alone : (ts : List Term) → (length ts ≡ 1 → ⊥) → ts ≡ Predeclared basics.Text ∷ [] → ⊥
+not_alone ts other h = other (ap length h)
+
+pub alone : (ts : List Term) (t : Term) → length ts ≡ 1 → slice_get ts 0 ≡ Some t → (t ≡ Predeclared basics.Text) ↔ (ts ≡ Predeclared basics.Text ∷ [])
 alone [] t one is = absurd (omega arith)
-alone (x ∷ []) t one is = (λ h. let e = ap shape is in (cc), λ h. let e = ap shape is in (cc))
+alone (x ∷ []) t one is = (let e : x ≡ t = cc in ((λ h. ap (λ y. y ∷ []) (e ∙ h)), (λ h. sym e ∙ head_is x (Predeclared basics.Text) h))) where
+  head_is : (a b : Term) → a ∷ [] ≡ b ∷ [] → a ≡ b
+  head_is a b h = cc
 alone (x ∷ (y ∷ ts)) t one is = absurd (omega arith)

@@ -178,7 +178,7 @@ fn holder_implements<'a>(
         TypeTerm::Basic(_) => Ok(Ok(())),
         TypeTerm::Defined(_) => Ok(Ok(())),
         TypeTerm::Pointer(_) => Ok(Ok(())),
-        TypeTerm::Struct(_, _) => Ok(Ok(())),
+        TypeTerm::Struct(_, _, _) => Ok(Ok(())),
     }
 }
 

@@ -1,8 +1,8 @@
 //! The methods that an interface type asks for.
-ghost use Rattle.std.specs.Prelude.{◌≡◌, ◌↔◌, IsTrue};
+ghost use Rattle.std.specs.Prelude.{◌≡◌, ◌↔◌, ◌∷◌, [], IsTrue};
 ghost use Rattle.go_term_core.specs.Identity.{SameSign};
-ghost use Rattle.go_term_core.specs.Shapes.{shape, sign_of, terms_of};
-ghost use Rattle.go_term_core.specs.Terms.{ATerm, NoTerm, Predeclared};
+ghost use Rattle.go_term_core.specs.Shapes.{shape, sign_of};
+ghost use Rattle.go_term_core.specs.Terms.{Predeclared, sign_params, sign_results};
 ghost use Rattle.go_term_core.specs.declared.term.Basic.TheVariants as basics;
 ghost use Rattle.go_embed_core.specs.OwnersShown.{found_shown};
 ghost use Rattle.go_mset_core.specs.MethodSets.{IsCallable};
@@ -20,13 +20,6 @@ pub(crate) enum Wanted<'a> {
     OfError,
 }
 
-// Whether these are one type, which is `string`.
-fn is_text_alone(types: &[TypeTerm]) -> bool
-    ensures { IsTrue result ↔ (terms_of types.now ≡ ATerm (Predeclared basics.Text) NoTerm) }
-{
-    types.len() == 1 && is_text(&types[0])
-}
-
 // Whether a type is `string`.
 fn is_text(term: &TypeTerm) -> bool
     ensures { IsTrue result ↔ (shape term.now ≡ Predeclared basics.Text) }
@@ -37,23 +30,43 @@ fn is_text(term: &TypeTerm) -> bool
         | TypeTerm::Error
         | TypeTerm::Defined(_)
         | TypeTerm::Pointer(_)
-        | TypeTerm::Struct(_, _)
+        | TypeTerm::Struct(_, _, _)
         | TypeTerm::Interface(_, _) => false,
     }
 }
 
-// Whether there are no types.
-fn is_none(types: &[TypeTerm]) -> bool
-    ensures { IsTrue result ↔ (terms_of types.now ≡ NoTerm) }
+// Whether a signature has no parameter.
+fn has_no_param(signature: &Signature) -> bool
+    ensures { IsTrue result ↔ (sign_params (sign_of signature.now) ≡ []) }
 {
-    types.is_empty()
+    signature.param_count() == 0
+}
+
+// Whether a signature has one result, which is of type `string`.
+fn has_text_alone(signature: &Signature) -> bool
+    ensures { IsTrue result ↔ (sign_results (sign_of signature.now) ≡ Predeclared basics.Text ∷ []) }
+{
+    if signature.result_count() != 1 {
+        return false;
+    }
+    match signature.result_at(0) {
+        Some(term) => is_text(term),
+        None => false,
+    }
+}
+
+// Whether a signature has the parameters and the results of the method of `error`.
+fn has_types_of_error(signature: &Signature) -> bool
+    ensures { IsTrue result ↔ ((sign_params (sign_of signature.now) ≡ []) × (sign_results (sign_of signature.now) ≡ Predeclared basics.Text ∷ [])) }
+{
+    has_no_param(signature) && has_text_alone(signature)
 }
 
 // Whether a signature is that of the method of `error`.
 fn is_of_error(signature: &Signature) -> bool
     ensures { IsTrue result ↔ (sign_of signature.now ≡ error_sign) }
 {
-    is_none(&signature.params) && is_text_alone(&signature.results)
+    has_types_of_error(signature)
 }
 
 // Whether a signature is identical to that of a method that is asked for.

@@ -54,7 +54,7 @@ fn number_of(table: &TypeTable, term: &TypeTerm) -> Option<usize>
         | TypeTerm::Basic(_)
         | TypeTerm::Error
         | TypeTerm::Pointer(_)
-        | TypeTerm::Struct(_, _)
+        | TypeTerm::Struct(_, _, _)
         | TypeTerm::Interface(_, _) => None,
     }
 }

@@ -51,7 +51,7 @@ fn behind_name<'a>(
         TypeTerm::Basic(_) => Ok(Operand::In(term, false)),
         TypeTerm::Error => Ok(Operand::In(term, false)),
         TypeTerm::Defined(_) => Ok(Operand::In(term, false)),
-        TypeTerm::Struct(_, _) => Ok(Operand::In(term, false)),
+        TypeTerm::Struct(_, _, _) => Ok(Operand::In(term, false)),
         TypeTerm::Interface(_, _) => Ok(Operand::In(term, false)),
     }
 }
@@ -70,7 +70,7 @@ pub(crate) fn behind<'a>(table: &'a TypeTable, term: &'a TypeTerm) -> Result<Ope
         TypeTerm::Defined(_) => behind_name(table, term, table.underlying(term)),
         TypeTerm::Basic(_) => Ok(Operand::In(term, false)),
         TypeTerm::Error => Ok(Operand::In(term, false)),
-        TypeTerm::Struct(_, _) => Ok(Operand::In(term, false)),
+        TypeTerm::Struct(_, _, _) => Ok(Operand::In(term, false)),
         TypeTerm::Interface(_, _) => Ok(Operand::In(term, false)),
     }
 }

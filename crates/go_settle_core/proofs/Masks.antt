@@ -1,25 +1,37 @@
 -- The fields and methods that are kept are those of the settled type.
-use Rattle.std.proofs.Common.{◌≡◌, ℕ, suc, Bool, true, false, not, ◌&&◌, ◌||◌, List, [], ◌∷◌, length, map, if◌then◌else◌, refl, ap, ◌∙◌, subst}
+use Rattle.std.proofs.Common.{◌≡◌, ℕ, zero, suc, Bool, true, false, not, ◌&&◌, ◌||◌, List, [], ◌∷◌, length, map, if◌then◌else◌, refl, ap, ◌∙◌, subst}
 use Rattle.std.specs.Str.{bytes_eq}
 use Rattle.go_decl_core.specs.declared.keys.DeclKey.{DeclKey}
 use Rattle.go_text_core.specs.Text.{is_blank}
 use Rattle.go_term_core.specs.declared.term.TypeTerm.{TypeTerm}
 use Rattle.go_term_core.specs.declared.term.Field.{Field}
+use Rattle.go_term_core.specs.declared.term.FieldLine.{FieldLine}
 use Rattle.go_term_core.specs.declared.term.Method.{Method}
-use Rattle.go_term_core.specs.Terms.{Fields, NoField, AField, Methods, NoMethod, AMethod, Terms, NoTerm, ATerm}
-use Rattle.go_term_core.specs.Shapes.{shape, fields_of, methods_of, terms_of}
+use Rattle.go_term_core.specs.Terms.{Term, Fields, NoField, AField, Methods, NoMethod, AMethod, ATerm}
+use Rattle.go_term_core.specs.Shapes.{Line, line_at, line_shape, lines_of, term_at, fields_in, terms_in, shape, methods_of}
 use Rattle.go_settle_core.specs.declared.kind.Kind.{Kind}
 use Rattle.go_settle_core.specs.Settled.{can_be_embedded, has_name, settled, settled_fields, settled_methods, settled_sign, settled_terms}
-use Rattle.go_settle_core.specs.mirrors.Kept.{keeps_field, keeps_method, kept_names, kept_fields, kept_methods, put_field, make_field, put_method, make_method}
+use Rattle.go_settle_core.specs.mirrors.Kept.{keeps_field, keeps_method, kept_names, kept_fields, kept_methods, those_kept, settled_line, make_field, put_method, make_method}
 use Rattle.go_settle_core.proofs.Names.{SameNames, one_more, repeats_alike, seen_again, bytes_same}
 use Rattle.go_settle_core.proofs.Loops.{onto, masked, made}
 
--- a term before others, written and settled
-abbrev pub put_term : TypeTerm → Terms → Terms
-put_term t rest = ATerm (shape t) rest
+-- a field before others
+abbrev pub put_field : Field → List Field → List Field
+put_field f rest = f ∷ rest
 
-abbrev pub make_term : (DeclKey → Kind) → TypeTerm → Terms → Terms
-make_term kind t rest = ATerm (settled kind (shape t)) rest
+-- a line before others, written and settled
+abbrev pub put_line : FieldLine → List Line → List Line
+put_line l rest = line_shape l ∷ rest
+
+abbrev pub make_line : (DeclKey → Kind) → FieldLine → List Line → List Line
+make_line kind l rest = settled_line kind (line_shape l) ∷ rest
+
+-- a term before others, written and settled
+abbrev pub put_term : TypeTerm → List Term → List Term
+put_term t rest = shape t ∷ rest
+
+abbrev pub make_term : (DeclKey → Kind) → TypeTerm → List Term → List Term
+make_term kind t rest = settled kind (shape t) ∷ rest
 
 pub kept_len : (keeps : List ℕ → Bool → Bool) (seen names : List (List ℕ)) → length (kept_names keeps seen names) ≡ length names
 kept_len keeps seen [] = refl
@@ -30,25 +42,27 @@ names_len name_of [] = refl
 names_len name_of (x ∷ xs) = ap suc (names_len name_of xs)
 
 -- lists behind one another
-pub fields_onto : (make : Field → Fields → Fields) (fs : List Field) → onto put_field make NoField fs NoField ≡ fields_of fs
-fields_onto make [] = refl
-fields_onto make (f ∷ fs) = ap (put_field f) (fields_onto make fs)
+pub fields_onto : (fs : List Field) → onto put_field put_field [] fs [] ≡ fs
+fields_onto [] = refl
+fields_onto (f ∷ fs) = ap (put_field f) (fields_onto fs)
+
+pub lines_onto : (make : FieldLine → List Line → List Line) (ls : List FieldLine) → onto put_line make [] ls [] ≡ lines_of ls
+lines_onto make [] = refl
+lines_onto make (l ∷ ls) = ap (put_line l) (lines_onto make ls)
 
 pub methods_onto : (make : Method → Methods → Methods) (ms : List Method) → onto put_method make NoMethod ms NoMethod ≡ methods_of ms
 methods_onto make [] = refl
 methods_onto make (m ∷ ms) = ap (put_method m) (methods_onto make ms)
 
-pub terms_onto : (make : TypeTerm → Terms → Terms) (ts : List TypeTerm) → onto put_term make NoTerm ts NoTerm ≡ terms_of ts
+pub terms_onto : (make : TypeTerm → List Term → List Term) (ts : List TypeTerm) → onto put_term make [] ts [] ≡ map shape ts
 terms_onto make [] = refl
 terms_onto make (t ∷ ts) = ap (put_term t) (terms_onto make ts)
 
--- a field that was made before others
-abbrev fields_first : Fields → Fields → Fields
-fields_first NoField rest = rest
-fields_first (AField name place embedded t tag _) rest = AField name place embedded t tag rest
-
-pub field_before : (kind : DeclKey → Kind) (f x : Field) → put_field f NoField ≡ make_field kind x NoField → (rest : Fields) → put_field f rest ≡ make_field kind x rest
-field_before kind f x same rest = ap (λ l. fields_first l rest) same
+-- those that are kept, as a loop keeps them
+pub kept_masked : (ks : List Bool) (fs : List Field) → masked put_field put_field [] ks fs ≡ those_kept ks fs
+kept_masked ks [] = refl
+kept_masked [] (f ∷ fs) = refl
+kept_masked (k ∷ ks) (f ∷ fs) = ap (λ l. if k then f ∷ l else l) (kept_masked ks fs)
 
 abbrev methods_first : Methods → Methods → Methods
 methods_first NoMethod rest = rest
@@ -94,19 +108,38 @@ module _ (kind : DeclKey → Kind) where
       (λ i. if same name i then methods_seen ms seen other same i
       else AMethod name place (settled_sign kind g) (methods_seen ms (name ∷ seen) (name ∷ other) (left_more name seen other same) i))
 
-  field_kept : (f : Field) (blank has : Bool) (with without rest : Fields) → rest ≡ with → (has ≡ true → with ≡ without)
-      → (if blank || not has then make_field kind f rest else rest) ≡ (if not blank && has then without else make_field kind f with)
-  field_kept f true has with without rest e h = ap (make_field kind f) e
-  field_kept f false true with without rest e h = e ∙ h refl
-  field_kept f false false with without rest e h = ap (make_field kind f) e
+  line_settled : (ls : List Line) (n : ℕ) → line_at (map (settled_line kind) ls) n ≡ settled_line kind (line_at ls n)
+  line_settled [] n = refl
+  line_settled (l ∷ ls) zero = refl
+  line_settled (l ∷ ls) (suc n) = line_settled ls n
 
-  pub fields_masked : (fs : List Field) (seen : List (List ℕ))
-      → masked put_field (make_field kind) NoField (kept_names keeps_field seen (map (λ f. f.name) fs)) fs ≡ settled_fields kind seen (fields_of fs)
-  fields_masked [] seen = refl
-  fields_masked (f ∷ fs) seen =
-      let with : Fields = settled_fields kind (f.name ∷ seen) (fields_of fs) in
-      field_kept f (is_blank f.name) (has_name seen f.name) with (settled_fields kind seen (fields_of fs)) _ (fields_masked fs (f.name ∷ seen))
-      (λ h. fields_seen (fields_of fs) (f.name ∷ seen) seen (seen_again f.name seen h))
+  term_settled : (ts : List Term) (n : ℕ) → term_at (map (settled kind) ts) n ≡ settled kind (term_at ts n)
+  term_settled [] n = refl
+  term_settled (t ∷ ts) zero = refl
+  term_settled (t ∷ ts) (suc n) = term_settled ts n
+
+  -- parameters of settled terms
+  pub terms_settled : (ts : List Term) (ns : List ℕ) → terms_in (map (settled kind) ts) ns ≡ settled_terms kind (terms_in ts ns)
+  terms_settled ts [] = refl
+  terms_settled ts (n ∷ ns) = λ i. ATerm (term_settled ts n i) (terms_settled ts ns i)
+
+  module _ (ls : List Line) where
+    field_made : (f : Field) (rest : List Field) (with : Fields) → fields_in (map (settled_line kind) ls) rest ≡ with → fields_in (map (settled_line kind) ls) (f ∷ rest) ≡ make_field kind ls f with
+    field_made f rest with e = λ i. AField f.name f.place (line_settled ls f.line i).embedded (line_settled ls f.line i).term (line_settled ls f.line i).tag (e i)
+
+    field_kept : (f : Field) (blank has : Bool) (with without : Fields) (rest : List Field) → fields_in (map (settled_line kind) ls) rest ≡ with → (has ≡ true → with ≡ without)
+        → fields_in (map (settled_line kind) ls) (if blank || not has then f ∷ rest else rest) ≡ (if not blank && has then without else make_field kind ls f with)
+    field_kept f true has with without rest e h = field_made f rest with e
+    field_kept f false true with without rest e h = e ∙ h refl
+    field_kept f false false with without rest e h = field_made f rest with e
+
+    pub fields_masked : (fs : List Field) (seen : List (List ℕ))
+        → fields_in (map (settled_line kind) ls) (those_kept (kept_names keeps_field seen (map (λ f. f.name) fs)) fs) ≡ settled_fields kind seen (fields_in ls fs)
+    fields_masked [] seen = refl
+    fields_masked (f ∷ fs) seen =
+        let with : Fields = settled_fields kind (f.name ∷ seen) (fields_in ls fs) in
+        field_kept f (is_blank f.name) (has_name seen f.name) with (settled_fields kind seen (fields_in ls fs)) _ (fields_masked fs (f.name ∷ seen))
+        (λ h. fields_seen (fields_in ls fs) (f.name ∷ seen) seen (seen_again f.name seen h))
 
   method_kept : (m : Method) (blank has : Bool) (with without rest : Methods) → rest ≡ with → (has ≡ true → with ≡ without) → (blank ≡ true → with ≡ without)
       → (if not blank && not has then make_method kind m rest else rest) ≡ (if blank || has then without else make_method kind m with)
@@ -122,16 +155,17 @@ module _ (kind : DeclKey → Kind) where
       method_kept m (is_blank m.name) (has_name seen m.name) with (settled_methods kind seen (methods_of ms)) _ (methods_masked ms (m.name ∷ seen))
       (λ h. methods_seen (methods_of ms) (m.name ∷ seen) seen (left_seen m.name seen h)) (λ h. methods_seen (methods_of ms) (m.name ∷ seen) seen (left_blank m.name seen h))
 
-  pub terms_made : (ts : List TypeTerm) → made put_term (make_term kind) NoTerm ts ≡ settled_terms kind (terms_of ts)
+  pub lines_made : (ls : List FieldLine) → made put_line (make_line kind) [] ls ≡ map (settled_line kind) (lines_of ls)
+  lines_made [] = refl
+  lines_made (l ∷ ls) = ap (make_line kind l) (lines_made ls)
+
+  pub terms_made : (ts : List TypeTerm) → made put_term (make_term kind) [] ts ≡ map (settled kind) (map shape ts)
   terms_made [] = refl
-  terms_made (t ∷ ts) = ap (ATerm (settled kind (shape t))) (terms_made ts)
+  terms_made (t ∷ ts) = ap (make_term kind t) (terms_made ts)
 
   -- before a loop
-  pub fields_start : (settled : List Field) (kept : List Bool) (items fields : List Field) → settled ≡ [] → kept ≡ kept_fields fields → fields ≡ items
-      → onto put_field (make_field kind) NoField settled (masked put_field (make_field kind) NoField kept items) ≡ settled_fields kind [] (fields_of items)
-  fields_start settled kept items fields none is same =
-      ap (λ l. onto put_field (make_field kind) NoField l (masked put_field (make_field kind) NoField kept items)) none
-      ∙ (ap (λ ks. masked put_field (make_field kind) NoField ks items) (is ∙ ap kept_fields same) ∙ fields_masked items [])
+  pub lines_start : (settled : List FieldLine) (items : List FieldLine) → settled ≡ [] → onto put_line (make_line kind) [] settled (made put_line (make_line kind) [] items) ≡ map (settled_line kind) (lines_of items)
+  lines_start settled items none = ap (λ l. onto put_line (make_line kind) [] l (made put_line (make_line kind) [] items)) none ∙ lines_made items
 
   pub methods_start : (settled : List Method) (kept : List Bool) (items methods : List Method) → settled ≡ [] → kept ≡ kept_methods methods → methods ≡ items
       → onto put_method (make_method kind) NoMethod settled (masked put_method (make_method kind) NoMethod kept items) ≡ settled_methods kind [] (methods_of items)
@@ -139,5 +173,12 @@ module _ (kind : DeclKey → Kind) where
       ap (λ l. onto put_method (make_method kind) NoMethod l (masked put_method (make_method kind) NoMethod kept items)) none
       ∙ (ap (λ ks. masked put_method (make_method kind) NoMethod ks items) (is ∙ ap kept_methods same) ∙ methods_masked items [])
 
-  pub terms_start : (settled items : List TypeTerm) → settled ≡ [] → onto put_term (make_term kind) NoTerm settled (made put_term (make_term kind) NoTerm items) ≡ settled_terms kind (terms_of items)
-  terms_start settled items none = ap (λ l. onto put_term (make_term kind) NoTerm l (made put_term (make_term kind) NoTerm items)) none ∙ terms_made items
+  pub terms_start : (settled_so_far items : List TypeTerm) → settled_so_far ≡ [] → onto put_term (make_term kind) [] settled_so_far (made put_term (make_term kind) [] items) ≡ map (settled kind) (map shape items)
+  terms_start settled_so_far items none = ap (λ l. onto put_term (make_term kind) [] l (made put_term (make_term kind) [] items)) none ∙ terms_made items
+
+-- before a loop over fields
+pub fields_start : (settled : List Field) (kept : List Bool) (items fields : List Field) → settled ≡ [] → kept ≡ kept_fields fields → fields ≡ items
+    → onto put_field put_field [] settled (masked put_field put_field [] kept items) ≡ those_kept (kept_fields items) items
+fields_start settled kept items fields none is same =
+    ap (λ l. onto put_field put_field [] l (masked put_field put_field [] kept items)) none
+    ∙ (ap (λ ks. masked put_field put_field [] ks items) (is ∙ ap kept_fields same) ∙ kept_masked (kept_fields items) items)

@@ -16,7 +16,7 @@ pub fn kind_of(term: &TypeTerm) -> Kind
         TypeTerm::Error => Kind::Interface,
         TypeTerm::Defined(_) => Kind::Other,
         TypeTerm::Pointer(_) => Kind::Pointer,
-        TypeTerm::Struct(_, _) => Kind::Other,
+        TypeTerm::Struct(_, _, _) => Kind::Other,
         TypeTerm::Interface(_, _) => Kind::Interface,
     }
 }
@@ -33,7 +33,7 @@ pub fn can_embed<K: Kinds>(kinds: &K, term: &TypeTerm) -> bool
         TypeTerm::Error => true,
         TypeTerm::Defined(key) => is_no_pointer(kinds.kind(key)),
         TypeTerm::Pointer(base) => can_point(kinds, base),
-        TypeTerm::Struct(_, _) => true,
+        TypeTerm::Struct(_, _, _) => true,
         TypeTerm::Interface(_, _) => true,
     }
 }
@@ -48,7 +48,7 @@ fn can_point<K: Kinds>(kinds: &K, base: &TypeTerm) -> bool
         TypeTerm::Error => false,
         TypeTerm::Defined(key) => can_be_pointed(kinds.kind(key)),
         TypeTerm::Pointer(_) => false,
-        TypeTerm::Struct(_, _) => true,
+        TypeTerm::Struct(_, _, _) => true,
         TypeTerm::Interface(_, _) => false,
     }
 }

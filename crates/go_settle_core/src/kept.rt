@@ -1,7 +1,7 @@
 //! Which fields and methods are kept.
-ghost use Rattle.std.specs.Prelude.{◌≡◌, IfOk, length};
+ghost use Rattle.std.specs.Prelude.{◌≡◌, [], IfOk, length};
 ghost use Rattle.go_text_core.specs.Text.{is_blank};
-ghost use Rattle.go_settle_core.specs.mirrors.Kept.{keeps_field, keeps_method, kept_fields, kept_methods};
+ghost use Rattle.go_settle_core.specs.mirrors.Kept.{keeps_field, keeps_method, kept_fields, kept_methods, those_kept};
 
 use crate::seen::SeenNames;
 use go_term_core::{Field, Method};
@@ -30,7 +30,7 @@ fn keeps_method(name: &str, is_new: bool) -> bool
 }
 
 /// For each field whether it is kept: it is blank, or repeats no earlier name.
-pub(crate) fn kept_fields(alloc: Global, fields: &[Field]) -> Result<Vec<bool>, AllocError>
+fn kept_fields(alloc: Global, fields: &[Field]) -> Result<Vec<bool>, AllocError>
     ensures kept { IfOk result (λ kept. kept.items ≡ kept_fields fields.now) }
     ensures len { IfOk result (λ kept. length kept.items ≡ length fields.now) }
 {
@@ -57,4 +57,30 @@ pub(crate) fn kept_methods(alloc: Global, methods: &[Method]) -> Result<Vec<bool
         add(&mut kept, keeps_method(name, is_new))?;
     }
     Ok(kept)
+}
+
+// The same field.
+fn copy_field(alloc: Global, field: &Field) -> Result<Field, AllocError>
+    ensures { IfOk result (λ f. f ≡ field.now) }
+{
+    Ok(Field {
+        name: field.name.copy(alloc)?,
+        place: field.place,
+        line: field.line,
+    })
+}
+
+/// The fields of a struct type that are kept: those that are blank, or repeat no earlier name.
+pub(crate) fn settle_fields(alloc: Global, fields: &Vec<Field>) -> Result<Vec<Field>, AllocError>
+    ensures { IfOk result (λ fs. fs.items ≡ those_kept (kept_fields fields.now.items) fields.now.items) }
+{
+    let kept = kept_fields(alloc, fields)?;
+    let mut settled = Vec::new(alloc);
+    for (i, field) in fields.iter().enumerate() {
+        if kept[i] {
+            let copy = copy_field(alloc, field)?;
+            add(&mut settled, copy)?;
+        }
+    }
+    Ok(settled)
 }

@@ -1,15 +1,15 @@
 //! Settling terms.
-ghost use Rattle.std.specs.Prelude.{◌≡◌, [], IfOk, IsTrue, ◌↔◌};
-ghost use Rattle.go_term_core.specs.Terms.{NoType, NoField, NoMethod};
-ghost use Rattle.go_term_core.specs.Shapes.{shape, sign_of, fields_of, methods_of, terms_of};
-ghost use Rattle.go_settle_core.specs.Settled.{defined_unless, pointer_to, settled, settled_fields, settled_methods, settled_sign, settled_terms};
-ghost use Rattle.go_settle_core.specs.mirrors.Kept.{make_field, make_method, put_field, put_method};
+ghost use Rattle.std.specs.Prelude.{◌≡◌, [], IfOk, IsTrue, ◌↔◌, map};
+ghost use Rattle.go_term_core.specs.Terms.{NoType, NoMethod};
+ghost use Rattle.go_term_core.specs.Shapes.{shape, sign_of, line_shape, lines_of, methods_of, params_of};
+ghost use Rattle.go_settle_core.specs.Settled.{defined_unless, pointer_to, settled, settled_methods, settled_sign, settled_terms};
+ghost use Rattle.go_settle_core.specs.mirrors.Kept.{make_method, put_method, settled_line};
 
 use crate::embed::can_embed;
-use crate::kept::{kept_fields, kept_methods};
+use crate::kept::{kept_methods, settle_fields};
 use crate::kind::{Kind, Kinds};
 use go_decl_core::DeclKey;
-use go_term_core::{Field, Method, Signature, TypeTerm};
+use go_term_core::{FieldLine, Method, Params, Signature, TypeTerm};
 use go_text_core::{add, boxed};
 use std::alloc::{AllocError, Global};
 
@@ -54,7 +54,7 @@ fn is_no_type(term: &TypeTerm) -> bool
         TypeTerm::Error => false,
         TypeTerm::Defined(_) => false,
         TypeTerm::Pointer(_) => false,
-        TypeTerm::Struct(_, _) => false,
+        TypeTerm::Struct(_, _, _) => false,
         TypeTerm::Interface(_, _) => false,
     }
 }
@@ -87,10 +87,10 @@ pub fn settle<K: Kinds>(alloc: Global, kinds: &K, term: &TypeTerm) -> Result<Typ
         TypeTerm::Error => Ok(TypeTerm::Error),
         TypeTerm::Defined(key) => settle_key(key, kinds.kind(key)),
         TypeTerm::Pointer(base) => point_to(alloc, made!(settle(alloc, kinds, base))),
-        TypeTerm::Struct(path, fields) => {
-            let fields = settle_fields(alloc, kinds, fields);
-            let (path, fields) = made!(both(path.share(), fields));
-            Ok(TypeTerm::Struct(path, fields))
+        TypeTerm::Struct(path, fields, lines) => {
+            let heads = both(path.share(), settle_fields(alloc, fields));
+            let ((path, fields), lines) = made!(both(heads, settle_lines(alloc, kinds, lines)));
+            Ok(TypeTerm::Struct(path, fields, lines))
         }
         TypeTerm::Interface(path, methods) => {
             let methods = settle_methods(alloc, kinds, methods);
@@ -100,37 +100,35 @@ pub fn settle<K: Kinds>(alloc: Global, kinds: &K, term: &TypeTerm) -> Result<Typ
     }
 }
 
-// The settled fields of a struct type.
+// The settled lines of a struct type.
 #[cycle(settling)]
-fn settle_fields<K: Kinds>(
+fn settle_lines<K: Kinds>(
     alloc: Global,
     kinds: &K,
-    fields: &Vec<Field>,
-) -> Result<Vec<Field>, AllocError>
-    ensures { IfOk result (λ fs. fields_of fs.items ≡ settled_fields (K.kinds kinds.now) [] (fields_of fields.now.items)) }
+    lines: &Vec<FieldLine>,
+) -> Result<Vec<FieldLine>, AllocError>
+    ensures { IfOk result (λ ls. lines_of ls.items ≡ map (settled_line (K.kinds kinds.now)) (lines_of lines.now.items)) }
 {
-    let kept = made!(kept_fields(alloc, fields));
     let mut settled = Vec::new(alloc);
-    for (i, field) in fields.iter().enumerate() {
-        if kept[i] {
-            let field = made!(settle_field(alloc, kinds, field));
-            made!(add(&mut settled, field));
-        }
+    for line in lines {
+        let line = made!(settle_line(alloc, kinds, line));
+        made!(add(&mut settled, line));
     }
     Ok(settled)
 }
 
-// A settled field.
+// A settled line.
 #[cycle(settling)]
-fn settle_field<K: Kinds>(alloc: Global, kinds: &K, field: &Field) -> Result<Field, AllocError>
-    ensures { IfOk result (λ f. put_field f NoField ≡ make_field (K.kinds kinds.now) field.now NoField) }
+fn settle_line<K: Kinds>(
+    alloc: Global,
+    kinds: &K,
+    line: &FieldLine,
+) -> Result<FieldLine, AllocError>
+    ensures { IfOk result (λ l. line_shape l ≡ settled_line (K.kinds kinds.now) (line_shape line.now)) }
 {
-    let texts = both(field.name.copy(alloc), field.tag.copy(alloc));
-    let ((name, tag), term) = made!(both(texts, settle(alloc, kinds, &field.term)));
-    Ok(Field {
-        name,
-        place: field.place,
-        embedded: field.embedded && can_embed(kinds, &field.term),
+    let (tag, term) = made!(both(line.tag.copy(alloc), settle(alloc, kinds, &line.term)));
+    Ok(FieldLine {
+        embedded: line.embedded && can_embed(kinds, &line.term),
         term,
         tag,
     })
@@ -184,9 +182,26 @@ pub fn settle_signature<K: Kinds>(
 ) -> Result<Signature, AllocError>
     ensures { IfOk result (λ s. sign_of s ≡ settled_sign (K.kinds kinds.now) (sign_of signature.now)) }
 {
-    let params = settle_terms(alloc, kinds, &signature.params);
-    let (params, results) = made!(both(params, settle_terms(alloc, kinds, &signature.results)));
+    let params = settle_params(alloc, kinds, &signature.params);
+    let (params, results) = made!(both(params, settle_params(alloc, kinds, &signature.results)));
     Ok(Signature { params, results })
+}
+
+// The same numbers.
+fn copy_numbers(alloc: Global, numbers: &Vec<usize>) -> Result<Vec<usize>, AllocError>
+    ensures { IfOk result (λ ns. ns.items ≡ numbers.now.items) }
+{
+    Ok(numbers.as_slice().to_vec(alloc)?)
+}
+
+// The settled types of parameters or of results.
+#[cycle(settling)]
+fn settle_params<K: Kinds>(alloc: Global, kinds: &K, params: &Params) -> Result<Params, AllocError>
+    ensures { IfOk result (λ ps. params_of ps ≡ settled_terms (K.kinds kinds.now) (params_of params.now)) }
+{
+    let lines = copy_numbers(alloc, &params.lines);
+    let (lines, terms) = made!(both(lines, settle_terms(alloc, kinds, &params.terms)));
+    Ok(Params { lines, terms })
 }
 
 // The settled terms of a list.
@@ -196,7 +211,7 @@ fn settle_terms<K: Kinds>(
     kinds: &K,
     terms: &Vec<TypeTerm>,
 ) -> Result<Vec<TypeTerm>, AllocError>
-    ensures { IfOk result (λ ts. terms_of ts.items ≡ settled_terms (K.kinds kinds.now) (terms_of terms.now.items)) }
+    ensures { IfOk result (λ ts. map shape ts.items ≡ map (settled (K.kinds kinds.now)) (map shape terms.now.items)) }
 {
     let mut settled = Vec::new(alloc);
     for term in terms {

@@ -5,3 +5,4 @@ pub mod Spelled
 pub mod Meanings
 pub mod Reaching
 pub mod ByRule
+pub mod Lined

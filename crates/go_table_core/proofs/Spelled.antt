@@ -14,7 +14,7 @@ use Rattle.go_text_core.specs.Text.{exported}
 use Rattle.go_term_core.specs.declared.term.Field.{Field}
 use Rattle.go_term_core.specs.declared.term.MemberPlace.{MemberPlace}
 use Rattle.go_term_core.specs.declared.term.MemberPlace.TheVariants as places
-use Rattle.go_term_core.specs.Shapes.{fields_of}
+use Rattle.go_term_core.specs.Shapes.{Line, fields_in}
 use Rattle.go_term_core.specs.Terms.{Term, NoType, Predeclared, ErrorType, Defined, PointerTo, StructOf, InterfaceOf, Fields, NoField, AField}
 use Rattle.go_table_core.specs.declared.entry.DeclaredMethod.{DeclaredMethod}
 use Rattle.go_table_core.specs.declared.fields.Spot.{Spot}
@@ -130,27 +130,27 @@ added_spelled old new name place adds other = ap is_some (adds.at other) ∙ by 
     by true = or_true (is_some (found_places old other))
     by false = or_false (is_some (found_places old other))
 
-field_step : (old new : List (List ℕ × Earliest)) (f : Field) (rest : List Field) (all : Fields) → HasPlacesSoFar old (fields_of (f ∷ rest)) all → AddsField old new f.name f.place → HasPlacesSoFar new (fields_of rest) all
-field_step old new f rest all so_far adds = record {
+field_step : (ls : List Line) (old new : List (List ℕ × Earliest)) (f : Field) (rest : List Field) (all : Fields) → HasPlacesSoFar old (fields_in ls (f ∷ rest)) all → AddsField old new f.name f.place → HasPlacesSoFar new (fields_in ls rest) all
+field_step ls old new f rest all so_far adds = record {
   before = λ name q.
-      ap (λ b. b || named_before (fields_of rest) name q) (added_before old new f.name f.place adds name q)
-      ∙ (or_assoc (found_before (found_places old name) q) (bytes_eq name f.name && is_before f.place q) (named_before (fields_of rest) name q) ∙ so_far.before name q);
+      ap (λ b. b || named_before (fields_in ls rest) name q) (added_before old new f.name f.place adds name q)
+      ∙ (or_assoc (found_before (found_places old name) q) (bytes_eq name f.name && is_before f.place q) (named_before (fields_in ls rest) name q) ∙ so_far.before name q);
   spelled = λ name.
-      ap (λ b. b || field_spelled (fields_of rest) name) (added_spelled old new f.name f.place adds name)
-      ∙ (or_assoc (is_some (found_places old name)) (bytes_eq name f.name) (field_spelled (fields_of rest) name) ∙ so_far.spelled name);
+      ap (λ b. b || field_spelled (fields_in ls rest) name) (added_spelled old new f.name f.place adds name)
+      ∙ (or_assoc (is_some (found_places old name)) (bytes_eq name f.name) (field_spelled (fields_in ls rest) name) ∙ so_far.spelled name);
 }
 
 pub places_start : (all : Fields) → HasPlacesSoFar [] all all
 places_start all = record { before = λ name q. ap (λ b. b || named_before all name q) (none_before q); spelled = λ name. refl }
 
-pub places_step : (old new : List (List ℕ × Earliest)) (fs : List Field) (i : ℕ) (f : Field) (all : Fields) → i < length fs → f ≡ get_or fs i f → HasPlacesSoFar old (fields_of (drop i fs)) all → AddsField old new f.name f.place → HasPlacesSoFar new (fields_of (drop (i + 1) fs)) all
-places_step old new fs i f all lt is so_far adds =
+pub places_step : (ls : List Line) (old new : List (List ℕ × Earliest)) (fs : List Field) (i : ℕ) (f : Field) (all : Fields) → i < length fs → f ≡ get_or fs i f → HasPlacesSoFar old (fields_in ls (drop i fs)) all → AddsField old new f.name f.place → HasPlacesSoFar new (fields_in ls (drop (i + 1) fs)) all
+places_step ls old new fs i f all lt is so_far adds =
     let split : drop i fs ≡ f ∷ drop (i + 1) fs = drop_more fs i f lt ∙ ap (λ x. x ∷ drop (i + 1) fs) (sym is) in
-    field_step old new f (drop (i + 1) fs) all (subst (λ (l : List Field). HasPlacesSoFar old (fields_of l) all) split so_far) adds
+    field_step ls old new f (drop (i + 1) fs) all (subst (λ (l : List Field). HasPlacesSoFar old (fields_in ls l) all) split so_far) adds
 
-pub places_end : (ps : List (List ℕ × Earliest)) (fs : List Field) (i : ℕ) (all : Fields) → length fs ≤ i → HasPlacesSoFar ps (fields_of (drop i fs)) all → HasPlaces ps all
-places_end ps fs i all past so_far =
-    let done : HasPlacesSoFar ps NoField all = subst (λ (l : List Field). HasPlacesSoFar ps (fields_of l) all) (drop_all i fs past) so_far in
+pub places_end : (ls : List Line) (ps : List (List ℕ × Earliest)) (fs : List Field) (i : ℕ) (all : Fields) → length fs ≤ i → HasPlacesSoFar ps (fields_in ls (drop i fs)) all → HasPlaces ps all
+places_end ls ps fs i all past so_far =
+    let done : HasPlacesSoFar ps NoField all = subst (λ (l : List Field). HasPlacesSoFar ps (fields_in ls l) all) (drop_all i fs past) so_far in
     record {
       before = λ name q. or_false (found_before (found_places ps name) q) ∙ done.before name q;
       spelled = λ name. or_false (is_some (found_places ps name)) ∙ done.spelled name;

@@ -1,7 +1,9 @@
 -- The entries that values of the program hold.
-use Rattle.std.specs.Prelude.{◌≡◌, ◌||◌, ℕ, Bool, false, List, map, Vec}
+use Rattle.std.specs.Prelude.{◌≡◌, ◌||◌, ℕ, Bool, false, List, [], map, Vec, Option, Some, None}
+use Rattle.std.specs.Borrow.{Bor}
+use Rattle.go_term_core.specs.declared.term.FieldLine.{FieldLine}
 use Rattle.std.specs.Arc.{arc_value}
-use Rattle.go_term_core.specs.Shapes.{shape, sign_of}
+use Rattle.go_term_core.specs.Shapes.{Line, line_with, line_shape, shape, sign_of}
 use Rattle.go_table_core.specs.declared.entry.DeclaredMethod.{DeclaredMethod}
 use Rattle.go_table_core.specs.declared.entry.TypeEntry.{TypeEntry}
 use Rattle.std.specs.Global.{Global}
@@ -11,7 +13,7 @@ use Rattle.go_term_core.specs.declared.term.TypeTerm.{TypeTerm}
 use Rattle.go_table_core.specs.declared.assign.Operand.{Operand}
 use Rattle.go_table_core.specs.declared.assign.Operand.TheVariants as operands
 use Rattle.go_table_core.specs.Assign.{Assigned, AValue, ANil, AnInteger, AText, ABoolean}
-use Rattle.go_term_core.specs.Terms.{Term, StructOf, Fields, NoField, AField}
+use Rattle.go_term_core.specs.Terms.{Term, NoType, StructOf, Fields, NoField, AField}
 use Rattle.go_table_core.specs.Entries.{Member, Entry, has_method}
 
 abbrev pub member_shown : DeclaredMethod → Member
@@ -43,3 +45,8 @@ operand_shown operands.Nil = ANil
 operand_shown operands.Integer = AnInteger
 operand_shown operands.Text = AText
 operand_shown operands.Boolean = ABoolean
+
+-- the line that a field may have
+abbrev pub line_shown : Option (Bor FieldLine) → Line
+line_shown None = line_with false NoType []
+line_shown (Some l) = line_shape l.now

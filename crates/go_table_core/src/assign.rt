@@ -33,7 +33,7 @@ fn is_named(term: &TypeTerm) -> bool
         TypeTerm::Basic(_) | TypeTerm::Error | TypeTerm::Defined(_) => true,
         TypeTerm::NoType
         | TypeTerm::Pointer(_)
-        | TypeTerm::Struct(_, _)
+        | TypeTerm::Struct(_, _, _)
         | TypeTerm::Interface(_, _) => false,
     }
 }
@@ -80,8 +80,10 @@ fn takes_untyped(term: &TypeTerm, basic: Basic, implements: bool) -> bool
     match term {
         TypeTerm::Basic(own) => *own == basic,
         TypeTerm::Error | TypeTerm::Interface(_, _) => implements,
-        TypeTerm::NoType | TypeTerm::Defined(_) | TypeTerm::Pointer(_) | TypeTerm::Struct(_, _) =>
-            false,
+        TypeTerm::NoType
+        | TypeTerm::Defined(_)
+        | TypeTerm::Pointer(_)
+        | TypeTerm::Struct(_, _, _) => false,
     }
 }
 

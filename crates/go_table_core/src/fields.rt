@@ -1,13 +1,13 @@
 //! The fields of a struct type by their names.
 ghost use Rattle.std.specs.Prelude.{◌≡◌, IfOk, OnOk, option_map, [], ◌<◌};
-ghost use Rattle.go_term_core.specs.Shapes.{shape, fields_of};
-ghost use Rattle.go_table_core.specs.Shown.{member_shown};
+ghost use Rattle.go_term_core.specs.Shapes.{shape, shape_found, fields_in, line_at, lines_of};
+ghost use Rattle.go_table_core.specs.Shown.{line_shown, member_shown};
 ghost use Rattle.go_table_core.specs.Methods.{has_field_before, field_spelled, term_fields};
 ghost use Rattle.go_table_core.specs.mirrors.Spots.{spot_before, earlier_of, earliest_with, earliest_before, named_places, struct_path, HasPlaces, AddsField};
 
 use crate::entry::DeclaredMethod;
 use go_path_core::ImportPath;
-use go_term_core::{Field, MemberPlace, TypeTerm};
+use go_term_core::{Field, FieldLine, MemberPlace, TypeTerm};
 use go_text_core::is_exported;
 use indexmap::IndexMap;
 use std::alloc::{AllocError, Global};
@@ -125,18 +125,71 @@ impl Earliest {
     }
 }
 
+/// The fields of a struct type in order, and the lines that they stand in.
+#[derive(Clone, Copy)]
+pub struct StructFields<'a> {
+    pub fields: &'a [Field],
+    pub lines: &'a [FieldLine],
+}
+
+/// A field of a struct type, with its line; none where that is not there.
+#[derive(Clone, Copy)]
+pub struct StructField<'a> {
+    pub field: &'a Field,
+    pub line: Option<&'a FieldLine>,
+}
+
+impl<'a> StructField<'a> {
+    /// A field in one of these lines.
+    pub fn of(field: &'a Field, lines: &'a [FieldLine]) -> StructField<'a>
+        ensures field { result.field.now ≡ field.now }
+        ensures line { line_shown result.line ≡ line_at (lines_of lines.now) field.now.line }
+    {
+        StructField {
+            field,
+            line: lines.get(field.line),
+        }
+    }
+
+    /// Its type; `None` stands for no type.
+    pub fn term(self) -> Option<&'a TypeTerm>
+        ensures { shape_found result ≡ (line_shown self.entry.line).term }
+    {
+        match self.line {
+            Some(line) => Some(&line.term),
+            None => None,
+        }
+    }
+
+    /// Whether it is embedded.
+    pub fn is_embedded(self) -> bool
+        ensures { result ≡ (line_shown self.entry.line).embedded }
+    {
+        match self.line {
+            Some(line) => line.embedded,
+            None => false,
+        }
+    }
+}
+
 /// The fields of a struct type in order, as they stand in the term; none of a type that is written otherwise, be it defined by a struct type.
-pub fn term_fields(term: &TypeTerm) -> &[Field]
-    ensures { fields_of result.now ≡ term_fields (shape term.now) }
+pub fn term_fields(term: &TypeTerm) -> StructFields<'_>
+    ensures { fields_in (lines_of result.lines.now) result.fields.now ≡ term_fields (shape term.now) }
 {
     match term {
-        TypeTerm::Struct(_, fields) => fields.as_slice(),
+        TypeTerm::Struct(_, fields, lines) => StructFields {
+            fields: fields.as_slice(),
+            lines: lines.as_slice(),
+        },
         TypeTerm::NoType
         | TypeTerm::Basic(_)
         | TypeTerm::Error
         | TypeTerm::Defined(_)
         | TypeTerm::Pointer(_)
-        | TypeTerm::Interface(_, _) => &[],
+        | TypeTerm::Interface(_, _) => StructFields {
+            fields: &[],
+            lines: &[],
+        },
     }
 }
 
@@ -145,7 +198,7 @@ fn home_of(term: &TypeTerm) -> Option<&ImportPath>
     ensures { option_map (λ p. p.now) result ≡ struct_path (shape term.now) }
 {
     match term {
-        TypeTerm::Struct(path, _) => Some(path),
+        TypeTerm::Struct(path, _, _) => Some(path),
         TypeTerm::NoType
         | TypeTerm::Basic(_)
         | TypeTerm::Error
@@ -179,12 +232,12 @@ fn add_field<'a>(
 /// The places of fields by their names.
 fn places_of<'a>(
     alloc: Global,
-    fields: &'a [Field],
+    all: StructFields<'a>,
 ) -> Result<IndexMap<&'a str, Earliest>, AllocError>
-    ensures { IfOk result (λ places. HasPlaces (named_places places) (fields_of fields.now)) }
+    ensures { IfOk result (λ places. HasPlaces (named_places places) (fields_in (lines_of all.entry.lines.now) all.entry.fields.now)) }
 {
     let mut places = IndexMap::new(alloc);
-    for field in fields {
+    for field in all.fields {
         add_field(&mut places, field)?;
     }
     Ok(places)

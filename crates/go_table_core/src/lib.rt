@@ -13,7 +13,7 @@ mod table;
 
 pub use assign::{Operand, assignable};
 pub use entry::{DeclaredMethod, DefinedType, TypeEntry};
-pub use fields::{FieldTable, term_fields};
+pub use fields::{FieldTable, StructField, StructFields, term_fields};
 pub use laws::{
     adding_keeps, assignability_by_rule, assignable_is_local, assignable_to_itself,
     nothing_is_assignable_to_no_type, reach_is_closed, underlying_is_local,

@@ -252,7 +252,7 @@ impl TypeTable {
             | TypeTerm::Basic(_)
             | TypeTerm::Error
             | TypeTerm::Pointer(_)
-            | TypeTerm::Struct(_, _)
+            | TypeTerm::Struct(_, _, _)
             | TypeTerm::Interface(_, _) => term,
         }
     }

@@ -1,13 +1,11 @@
 -- Lists whose elements have the same terms have the same terms.
-use Rattle.std.proofs.Common.{◌≡◌, ℕ, ◌+◌, ◌<◌, ◌≤◌, List, [], ◌∷◌, ◌++◌, length, get_or, take, map, Ok, Err, refl, ap, sym, ◌∙◌, subst}
+use Rattle.std.proofs.Common.{◌≡◌, ℕ, ◌+◌, ◌<◌, ◌≤◌, List, [], ◌∷◌, ◌++◌, length, get_or, take, map, Ok, refl, ap, sym, ◌∙◌, subst}
 use Rattle.std.specs.Prelude.{IfOk}
 use Rattle.std.specs.declared.result.Result.{Result}
-use Rattle.std.proofs.lemmas.List.{take_more, take_all, map_more, map-append}
-use Rattle.go_term_core.specs.declared.term.TypeTerm.{TypeTerm}
-use Rattle.go_term_core.specs.declared.term.Field.{Field}
+use Rattle.std.proofs.lemmas.List.{take_all, map_more, map-append}
 use Rattle.go_term_core.specs.declared.term.Method.{Method}
-use Rattle.go_term_core.specs.Terms.{Fields, NoField, AField, Methods, NoMethod, AMethod, Sign, SignOf, Terms, NoTerm, ATerm}
-use Rattle.go_term_core.specs.Shapes.{shape, sign_of, fields_of, methods_of, terms_of}
+use Rattle.go_term_core.specs.Terms.{Methods, NoMethod, AMethod}
+use Rattle.go_term_core.specs.Shapes.{sign_of, methods_of}
 
 -- a loop that adds an element with an equal part
 module _ {X T : Type 0} (part : X → T) where
@@ -35,16 +33,6 @@ module _ {X T : Type 0} (whole : List X → T) (before : T → T → T) (step : 
   same_whole : (xs ys : List X) → map (λ x. whole (x ∷ [])) xs ≡ map (λ x. whole (x ∷ [])) ys → whole xs ≡ whole ys
   same_whole xs ys e = joined_is xs ∙ ap joined e ∙ sym (joined_is ys)
 
-abbrev pub field_term : Field → Fields
-field_term f = AField f.name f.place f.embedded (shape f.term) f.tag NoField
-
-abbrev fields_first : Fields → Fields → Fields
-fields_first NoField rest = rest
-fields_first (AField name place embedded t tag _) rest = AField name place embedded t tag rest
-
-pub same_fields : (fs gs : List Field) → map field_term fs ≡ map field_term gs → fields_of fs ≡ fields_of gs
-same_fields = same_whole fields_of fields_first (λ f fs. refl)
-
 abbrev pub method_term : Method → Methods
 method_term m = AMethod m.name m.place (sign_of m.signature) NoMethod
 
@@ -54,10 +42,3 @@ methods_first (AMethod name place g _) rest = AMethod name place g rest
 
 pub same_methods : (ms ns : List Method) → map method_term ms ≡ map method_term ns → methods_of ms ≡ methods_of ns
 same_methods = same_whole methods_of methods_first (λ m ms. refl)
-
-abbrev terms_first : Terms → Terms → Terms
-terms_first NoTerm rest = rest
-terms_first (ATerm t _) rest = ATerm t rest
-
-pub same_terms : (ts us : List TypeTerm) → map (λ t. ATerm (shape t) NoTerm) ts ≡ map (λ t. ATerm (shape t) NoTerm) us → terms_of ts ≡ terms_of us
-same_terms = same_whole terms_of terms_first (λ t ts. refl)

@@ -1,15 +1,19 @@
 -- Lists that are compared, as far as a loop has come.
-use Rattle.std.proofs.Common.{◌≡◌, ◌↔◌, ℕ, suc, ◌+◌, ◌<◌, ◌≤◌, List, [], ◌∷◌, ◌++◌, ◌⊎◌, inl, inr, length, get_or, take, drop, Bool, IsTrue, true, false, refl, ap, sym, ◌∙◌, subst}
+use Rattle.std.proofs.Common.{◌≡◌, ◌↔◌, ℕ, suc, ◌+◌, ◌<◌, ◌≤◌, List, [], ◌∷◌, ◌++◌, ◌⊎◌, inl, inr, length, get_or, take, drop, Bool, IsTrue, true, false, Option, Some, None, arith, refl, ap, sym, ◌∙◌, subst}
 use Rattle.std.proofs.lemmas.List.{drop_all, drop_more, take-append-drop}
+use Rattle.std.specs.Slice.{IsItemAt}
+use Rattle.std.specs.Prelude.{zero, map, slice_get, slice_index_or}
+use Rattle.std.specs.Borrow.{Bor}
 use Rattle.go_text_core.specs.Text.{SameId}
 use Rattle.go_term_core.specs.declared.term.MemberPlace.{MemberPlace}
-use Rattle.go_term_core.specs.declared.term.TypeTerm.{TypeTerm}
 use Rattle.go_term_core.specs.declared.term.Field.{Field}
+use Rattle.go_term_core.specs.declared.term.TypeTerm.{TypeTerm}
 use Rattle.go_term_core.specs.declared.term.Method.{Method}
-use Rattle.go_term_core.specs.Terms.{Term, Sign}
-use Rattle.go_term_core.specs.Shapes.{shape, sign_of, fields_of, methods_of, terms_of}
+use Rattle.go_term_core.specs.declared.same.Pair.{Pair}
+use Rattle.go_term_core.specs.Terms.{Term, NoType, Sign, term_list}
+use Rattle.go_term_core.specs.Shapes.{shape, shape_found, Line, line_with, line_at, term_at, fields_in, terms_in, sign_of, methods_of}
 use Rattle.go_term_core.specs.Identity.{TagsAgree, IdenticalBy, SameFieldsBy, HasAllBy, SameSignBy, SameTermsBy, IsMethod, method_count}
-use Rattle.go_term_core.specs.mirrors.Alike.{HasAlike}
+use Rattle.go_term_core.specs.mirrors.Alike.{HasAlike, IsMet, IsNoLine, SameLine}
 
 -- a test that failed, of what does not hold
 pub fails : {W : Type 0} → (W → ⊥) → IsTrue false ↔ W
@@ -20,17 +24,17 @@ first_is xs i x h is = drop_more xs i x h ∙ ap (λ y. y ∷ drop (i + 1) xs) (
 
 -- lists of other lengths
 
-pub as_many_fields : (tags : Bool) (p q : List ℕ) (fs gs : List Field) → SameFieldsBy tags p (fields_of fs) q (fields_of gs) → length fs ≡ length gs
-as_many_fields tags p q [] [] h = refl
-as_many_fields tags p q [] (g ∷ gs) h = absurd h
-as_many_fields tags p q (f ∷ fs) [] h = absurd h
-as_many_fields tags p q (f ∷ fs) (g ∷ gs) h = ap suc (as_many_fields tags p q fs gs h.4)
+pub as_many_fields : (tags : Bool) (p q : List ℕ) (ls ks : List Line) (fs gs : List Field) → SameFieldsBy tags p (fields_in ls fs) q (fields_in ks gs) → length fs ≡ length gs
+as_many_fields tags p q ls ks [] [] h = refl
+as_many_fields tags p q ls ks [] (g ∷ gs) h = absurd h
+as_many_fields tags p q ls ks (f ∷ fs) [] h = absurd h
+as_many_fields tags p q ls ks (f ∷ fs) (g ∷ gs) h = ap suc (as_many_fields tags p q ls ks fs gs h.4)
 
-pub as_many_terms : (tags : Bool) (ts us : List TypeTerm) → SameTermsBy tags (terms_of ts) (terms_of us) → length ts ≡ length us
-as_many_terms tags [] [] h = refl
-as_many_terms tags [] (u ∷ us) h = absurd h
-as_many_terms tags (t ∷ ts) [] h = absurd h
-as_many_terms tags (t ∷ ts) (u ∷ us) h = ap suc (as_many_terms tags ts us h.1)
+pub as_many_terms : (tags : Bool) (ts us : List Term) (ns ms : List ℕ) → SameTermsBy tags (terms_in ts ns) (terms_in us ms) → length ns ≡ length ms
+as_many_terms tags ts us [] [] h = refl
+as_many_terms tags ts us [] (m ∷ ms) h = absurd h
+as_many_terms tags ts us (n ∷ ns) [] h = absurd h
+as_many_terms tags ts us (n ∷ ns) (m ∷ ms) h = ap suc (as_many_terms tags ts us ns ms h.1)
 
 pub methods_counted : (ms : List Method) → method_count (methods_of ms) ≡ length ms
 methods_counted [] = refl
@@ -109,24 +113,105 @@ both_end P nil items xs ys i are many h so_far =
     let below : length xs ≤ i = subst (λ n. n ≤ i) (ap length are) h in
     (λ _. so_far.0 (subst (λ l. P l (drop i ys)) (sym (drop_all i xs below)) (subst (λ l. P [] l) (sym (drop_all i ys (subst (λ n. n ≤ i) many below))) nil)), λ _. refl)
 
+-- the lines that met last are the same
+abbrev pub KnowsLines : Bool → List Line → List Line → Option Pair → Type 0
+KnowsLines tags ls ks None = Unit {0}
+KnowsLines tags ls ks (Some m) = SameLine tags (line_at ls m.one) (line_at ks m.other)
+
+-- the terms that met last are identical
+abbrev pub KnowsTerms : Bool → List Term → List Term → Option Pair → Type 0
+KnowsTerms tags ts us None = Unit {0}
+KnowsTerms tags ts us (Some m) = IdenticalBy tags (term_at ts m.one) (term_at us m.other)
+
+pub lines_known : (tags : Bool) (ls ks : List Line) (met : Option Pair) (m : Pair) → KnowsLines tags ls ks met → IsMet met m ⊎ SameLine tags (line_at ls m.one) (line_at ks m.other) → SameLine tags (line_at ls m.one) (line_at ks m.other)
+lines_known tags ls ks met m knows (inl e) = subst (KnowsLines tags ls ks) e knows
+lines_known tags ls ks met m knows (inr h) = h
+
+pub terms_known : (tags : Bool) (ts us : List Term) (met : Option Pair) (m : Pair) → KnowsTerms tags ts us met → IsMet met m ⊎ IdenticalBy tags (term_at ts m.one) (term_at us m.other) → IdenticalBy tags (term_at ts m.one) (term_at us m.other)
+terms_known tags ts us met m knows (inl e) = subst (KnowsTerms tags ts us) e knows
+terms_known tags ts us met m knows (inr h) = h
+
+-- what is not there is no type
+
+pub nothing_right : (tags : Bool) (t : Term) → (t ≡ NoType) ↔ IdenticalBy tags t NoType
+nothing_right tags t = (λ e. subst (λ (x : Term). IdenticalBy tags x NoType) (sym e) tt, right_is tags t) where
+  right_is : (tags : Bool) (t : Term) → IdenticalBy tags t NoType → t ≡ NoType
+  right_is tags NoType h = refl
+  right_is tags _ h = absurd h
+
+pub nothing_left : (tags : Bool) (t : Term) → (t ≡ NoType) ↔ IdenticalBy tags NoType t
+nothing_left tags t = (λ e. subst (λ (x : Term). IdenticalBy tags NoType x) (sym e) tt, left_is tags t) where
+  left_is : (tags : Bool) (t : Term) → IdenticalBy tags NoType t → t ≡ NoType
+  left_is tags NoType h = refl
+  left_is tags _ h = absurd h
+
+tags_turn : (tags : Bool) (a b : List ℕ) → TagsAgree tags a b → TagsAgree tags b a
+tags_turn true a b h = sym h
+tags_turn false a b h = tt
+
+pub no_line_right : (tags : Bool) (l : Line) → IsNoLine tags l ↔ SameLine tags l (line_with false NoType [])
+no_line_right tags l = (λ h. (h.0, (nothing_right tags l.term).0 h.1, h.2), λ h. (h.0, (nothing_right tags l.term).1 h.1, h.2))
+
+pub no_line_left : (tags : Bool) (l : Line) → IsNoLine tags l ↔ SameLine tags (line_with false NoType []) l
+no_line_left tags l = (λ h. (sym h.0, (nothing_left tags l.term).0 h.1, tags_turn tags l.tag [] h.2), λ h. (sym h.0, (nothing_left tags l.term).1 h.1, tags_turn tags [] l.tag h.2))
+
+-- what a list has at a number
+
+module _ {X S : Type 0} (f : X → S) (d : S) where
+  at_some : (xs : List X) (i : ℕ) (x : X) → i < length xs → x ≡ slice_index_or xs i x → slice_index_or (map f xs) i d ≡ f x
+  at_some [] i x lt is = absurd (omega (arith, lt))
+  at_some (y ∷ xs) zero x lt is = ap f (sym is)
+  at_some (y ∷ xs) (suc i) x lt is = at_some xs i x (omega (arith, lt)) is
+
+  at_none : (xs : List X) (i : ℕ) → length xs ≤ i → slice_index_or (map f xs) i d ≡ d
+  at_none [] i h = refl
+  at_none (y ∷ xs) zero h = absurd (omega (arith, h))
+  at_none (y ∷ xs) (suc i) h = at_none xs i (omega (arith, h))
+
+  pub found : (xs items : List X) (i : ℕ) (x : Bor X) → xs ≡ items → IsItemAt xs i (Some x) → slice_index_or (map f items) i d ≡ f x.now
+  found xs items i x e h = subst (λ ys. slice_index_or (map f ys) i d ≡ f x.now) e (at_some xs i x.now h.3.0 h.1)
+
+  pub missing : (xs items : List X) (i : ℕ) → xs ≡ items → IsItemAt xs i None → slice_index_or (map f items) i d ≡ d
+  missing xs items i e h = subst (λ ys. slice_index_or (map f ys) i d ≡ d) e (at_none xs i h.3)
+
+pub alike_at : {W : Type 0} → W ↔ W
+alike_at = (λ h. h, λ h. h)
+
+pub lines_at : (tags : Bool) (l k l' k' : Line) (W : Type 0) → l' ≡ l → k' ≡ k → (W ↔ SameLine tags l k) → W ↔ SameLine tags l' k'
+lines_at tags l k l' k' W e f h = subst (λ x. W ↔ SameLine tags x k') (sym e) (subst (λ x. W ↔ SameLine tags l x) (sym f) h)
+
+pub terms_at : (tags : Bool) (t u t' u' : Term) (W : Type 0) → t' ≡ t → u' ≡ u → (W ↔ IdenticalBy tags t u) → W ↔ IdenticalBy tags t' u'
+terms_at tags t u t' u' W e f h = subst (λ (x : Term). W ↔ IdenticalBy tags x u') (sym e) (subst (λ (x : Term). W ↔ IdenticalBy tags t x) (sym f) h)
+
+pub no_lines : (tags : Bool) → IsTrue true ↔ SameLine tags (line_with false NoType []) (line_with false NoType [])
+no_lines true = (λ _. (refl, tt, refl), λ _. refl)
+no_lines false = (λ _. (refl, tt, tt), λ _. refl)
+
+pub no_terms : (tags : Bool) → IsTrue true ↔ IdenticalBy tags NoType NoType
+no_terms tags = (λ _. tt, λ _. refl)
+
+-- an answer where two did not meet last
+pub unless_met : (M W V : Type 0) (r : Bool) → (IsTrue false ↔ M) → (IsTrue r ↔ W) → (W ↔ V) → IsTrue r ↔ (M ⊎ V)
+unless_met M W V r never same there = (λ h. inr (there.0 (same.0 h)), λ h. elim h [ inl m ↦ absurd (let k : false ≡ true = never.1 m in cc) | inr v ↦ same.1 (there.1 v) ])
+
 -- two fields are the same
-abbrev pub IsSameField : Bool → List ℕ → List ℕ → Field → Field → Type 0
-IsSameField tags p q f g = SameId f.name p g.name q × (f.embedded ≡ g.embedded) × IdenticalBy tags (shape f.term) (shape g.term) × TagsAgree tags f.tag g.tag
+abbrev pub IsSameField : Bool → List ℕ → List ℕ → List Line → List Line → Field → Field → Type 0
+IsSameField tags p q ls ks f g = SameId f.name p g.name q × SameLine tags (line_at ls f.line) (line_at ks g.line)
 
-abbrev pub AreSameFields : Bool → List ℕ → List ℕ → List Field → List Field → Type 0
-AreSameFields tags p q fs gs = SameFieldsBy tags p (fields_of fs) q (fields_of gs)
+abbrev pub AreSameFields : Bool → List ℕ → List ℕ → List Line → List Line → List Field → List Field → Type 0
+AreSameFields tags p q ls ks fs gs = SameFieldsBy tags p (fields_in ls fs) q (fields_in ks gs)
 
-abbrev pub fields_open : (tags : Bool) (p q : List ℕ) (f g : Field) (fs gs : List Field) → AreSameFields tags p q (f ∷ fs) (g ∷ gs) ↔ (IsSameField tags p q f g × AreSameFields tags p q fs gs)
-fields_open tags p q f g fs gs = (λ h. ((h.0, h.1, h.2, h.3), h.4), λ h. (h.0.0, h.0.1, h.0.2, h.0.3, h.1))
+abbrev pub fields_open : (tags : Bool) (p q : List ℕ) (ls ks : List Line) (f g : Field) (fs gs : List Field) → AreSameFields tags p q ls ks (f ∷ fs) (g ∷ gs) ↔ (IsSameField tags p q ls ks f g × AreSameFields tags p q ls ks fs gs)
+fields_open tags p q ls ks f g fs gs = (λ h. ((h.0, (h.1, h.2, h.3)), h.4), λ h. (h.0.0, h.0.1.0, h.0.1.1, h.0.1.2, h.1))
 
-abbrev pub IsSameTerm : Bool → TypeTerm → TypeTerm → Type 0
-IsSameTerm tags t u = IdenticalBy tags (shape t) (shape u)
+abbrev pub IsSameTerm : Bool → List Term → List Term → ℕ → ℕ → Type 0
+IsSameTerm tags ts us n m = IdenticalBy tags (term_at ts n) (term_at us m)
 
-abbrev pub AreSameTerms : Bool → List TypeTerm → List TypeTerm → Type 0
-AreSameTerms tags ts us = SameTermsBy tags (terms_of ts) (terms_of us)
+abbrev pub AreSameTerms : Bool → List Term → List Term → List ℕ → List ℕ → Type 0
+AreSameTerms tags ts us ns ms = SameTermsBy tags (terms_in ts ns) (terms_in us ms)
 
-abbrev pub terms_open : (tags : Bool) (t u : TypeTerm) (ts us : List TypeTerm) → AreSameTerms tags (t ∷ ts) (u ∷ us) ↔ (IsSameTerm tags t u × AreSameTerms tags ts us)
-terms_open tags t u ts us = (λ h. (h.0, h.1), λ h. (h.0, h.1))
+abbrev pub terms_open : (tags : Bool) (ts us : List Term) (n m : ℕ) (ns ms : List ℕ) → AreSameTerms tags ts us (n ∷ ns) (m ∷ ms) ↔ (IsSameTerm tags ts us n m × AreSameTerms tags ts us ns ms)
+terms_open tags ts us n m ns ms = (λ h. (h.0, h.1), λ h. (h.0, h.1))
 
 -- a loop over the methods of the one
 module _ (tags : Bool) (p q : List ℕ) (items ms ns : List Method) (i : ℕ) (m : Method) (are : items ≡ ms) (lt : i < length items) (is : m ≡ get_or items i m) where
@@ -151,3 +236,29 @@ all_end tags p q items ms ns i are h so_far = so_far.0 (subst (λ l. HasAllBy ta
 module _ (tags : Bool) (a b s t : Term) (r : Bool) (at_a : a ≡ s) (at_b : b ≡ t) where
   pub same_at : (IsTrue r ↔ IdenticalBy tags s t) → IsTrue r ↔ IdenticalBy tags a b
   same_at same = subst (λ x. IsTrue r ↔ IdenticalBy tags x b) (sym at_a) (subst (λ x. IsTrue r ↔ IdenticalBy tags s x) (sym at_b) same)
+
+-- types by their numbers
+
+pub counted : (ts : List Term) (ns : List ℕ) → length (term_list (terms_in ts ns)) ≡ length ns
+counted ts [] = refl
+counted ts (n ∷ ns) = ap suc (counted ts ns)
+
+pub listed : (ts : List Term) (ns : List ℕ) (at n : ℕ) → at < length ns → n ≡ slice_index_or ns at n → slice_get (term_list (terms_in ts ns)) at ≡ Some (term_at ts n)
+listed ts [] at n lt is = absurd (omega (arith, lt))
+listed ts (m ∷ ns) zero n lt is = ap (λ k. Some (term_at ts k)) (sym is)
+listed ts (m ∷ ns) (suc at) n lt is = listed ts ns at n (omega (arith, lt)) is
+
+-- the type of the number that a list of numbers has at a place
+pub typed : (xs : List TypeTerm) (items : List TypeTerm) (n : ℕ) (r : Option (Bor TypeTerm)) → xs ≡ items → IsItemAt xs n r → term_at (map shape items) n ≡ shape_found r
+typed xs items n (Some t) e h = found shape NoType xs items n t e h
+typed xs items n None e h = missing shape NoType xs items n e h
+
+pub typed_at : (ts : List TypeTerm) (ns xs : List ℕ) (us : List TypeTerm) (at : ℕ) (n : Bor ℕ) (r : Option (Bor TypeTerm)) → xs ≡ ns → us ≡ ts → IsItemAt xs at (Some n) → IsItemAt us n.now r → slice_get (term_list (terms_in (map shape ts) ns)) at ≡ Some (shape_found r)
+typed_at ts ns xs us at n r e f h k =
+    subst (λ ms. slice_get (term_list (terms_in (map shape ts) ms)) at ≡ Some (shape_found r)) e (listed (map shape ts) xs at n.now h.3.0 h.1 ∙ ap Some (typed us ts n.now r f k))
+
+pub never_missing : (ts : List Term) (ns xs : List ℕ) (at : ℕ) → xs ≡ ns → at < length (term_list (terms_in ts ns)) → IsItemAt xs at None → ⊥
+never_missing ts ns xs at e lt h =
+    let there : at < length xs = subst (λ n. at < n) (counted ts ns ∙ ap length (sym e)) lt in
+    let none : length xs ≤ at = h.3 in
+    omega (arith, there, none)

@@ -1,11 +1,41 @@
 -- The terms that values of the program hold.
-use Rattle.std.specs.Prelude.{List, [], ◌∷◌}
-use Rattle.go_term_core.specs.declared.term.TypeTerm.{TypeTerm, Row_of-Field, end_of-Field, more_of-Field, Row_of-Method, end_of-Method, more_of-Method, Row_of-TypeTerm, end_of-TypeTerm, more_of-TypeTerm}
+use Rattle.std.specs.Prelude.{ℕ, Bool, false, List, [], ◌∷◌, map, slice_index_or, Option, Some, None}
+use Rattle.std.specs.Borrow.{Bor}
+use Rattle.go_term_core.specs.declared.term.TypeTerm.{TypeTerm, Row_of-FieldLine, end_of-FieldLine, more_of-FieldLine, Row_of-Method, end_of-Method, more_of-Method, Row_of-TypeTerm, end_of-TypeTerm, more_of-TypeTerm}
 use Rattle.go_term_core.specs.declared.term.TypeTerm.TheVariants as terms
 use Rattle.go_term_core.specs.declared.term.Field.{Field}
+use Rattle.go_term_core.specs.declared.term.FieldLine.{FieldLine}
 use Rattle.go_term_core.specs.declared.term.Method.{Method}
+use Rattle.go_term_core.specs.declared.term.Params.{Params}
 use Rattle.go_term_core.specs.declared.term.Signature.{Signature}
 use Rattle.go_term_core.specs.Terms.{Term, NoType, Predeclared, ErrorType, Defined, PointerTo, StructOf, InterfaceOf, Fields, NoField, AField, Methods, NoMethod, AMethod, Sign, SignOf, Terms, NoTerm, ATerm}
+
+-- what the fields of a line have in common: whether they are embedded, their type, their tag
+pub record Line : Type 0 where
+  pub embedded : Bool
+  pub term : Term
+  pub tag : List ℕ
+
+abbrev pub line_with : Bool → Term → List ℕ → Line
+line_with embedded t tag = record { embedded = embedded; term = t; tag = tag }
+
+-- the line of a number; one that is not there has no type
+abbrev pub line_at : List Line → ℕ → Line
+line_at ls n = slice_index_or ls n (line_with false NoType [])
+
+-- the term of a number
+abbrev pub term_at : List Term → ℕ → Term
+term_at ts n = slice_index_or ts n NoType
+
+-- fields that stand in these lines
+abbrev pub fields_in : List Line → List Field → Fields
+fields_in ls [] = NoField
+fields_in ls (f ∷ fs) = AField f.name f.place (line_at ls f.line).embedded (line_at ls f.line).term (line_at ls f.line).tag (fields_in ls fs)
+
+-- the terms of these numbers
+abbrev pub terms_in : List Term → List ℕ → Terms
+terms_in ts [] = NoTerm
+terms_in ts (n ∷ ns) = ATerm (term_at ts n) (terms_in ts ns)
 
 abbrev mutual
   pub shape : TypeTerm → Term
@@ -14,32 +44,38 @@ abbrev mutual
   shape terms.Error = ErrorType
   shape (terms.Defined k) = Defined k
   shape (terms.Pointer' _ t) = PointerTo (shape t)
-  shape (terms.Struct' path _ row) = StructOf path (shape_fields row)
+  shape (terms.Struct' path fields _ row) = StructOf path (fields_in (shape_lines row) fields.items)
   shape (terms.Interface' path _ row) = InterfaceOf path (shape_methods row)
 
-  pub shape_fields : {n : _} → Row_of-Field n → Fields
-  shape_fields end_of-Field = NoField
-  shape_fields (more_of-Field name place embedded t tag rest) = AField name place embedded (shape t) tag (shape_fields rest)
+  pub shape_lines : {n : _} → Row_of-FieldLine n → List Line
+  shape_lines end_of-FieldLine = []
+  shape_lines (more_of-FieldLine embedded t tag rest) = line_with embedded (shape t) tag ∷ shape_lines rest
 
   pub shape_methods : {n : _} → Row_of-Method n → Methods
   shape_methods end_of-Method = NoMethod
-  shape_methods (more_of-Method name place _ params _ results rest) = AMethod name place (SignOf (shape_terms params) (shape_terms results)) (shape_methods rest)
+  shape_methods (more_of-Method name place ps _ params rs _ results rest) = AMethod name place (SignOf (terms_in (shape_terms params) ps.items) (terms_in (shape_terms results) rs.items)) (shape_methods rest)
 
-  pub shape_terms : {n : _} → Row_of-TypeTerm n → Terms
-  shape_terms end_of-TypeTerm = NoTerm
-  shape_terms (more_of-TypeTerm t rest) = ATerm (shape t) (shape_terms rest)
+  pub shape_terms : {n : _} → Row_of-TypeTerm n → List Term
+  shape_terms end_of-TypeTerm = []
+  shape_terms (more_of-TypeTerm t rest) = shape t ∷ shape_terms rest
 
-abbrev pub terms_of : List TypeTerm → Terms
-terms_of [] = NoTerm
-terms_of (t ∷ ts) = ATerm (shape t) (terms_of ts)
+abbrev pub line_shape : FieldLine → Line
+line_shape l = line_with l.embedded (shape l.term) l.tag
+
+abbrev pub lines_of : List FieldLine → List Line
+lines_of ls = map line_shape ls
+
+abbrev pub params_of : Params → Terms
+params_of ps = terms_in (map shape ps.terms.items) ps.lines.items
 
 abbrev pub sign_of : Signature → Sign
-sign_of g = SignOf (terms_of g.params.items) (terms_of g.results.items)
-
-abbrev pub fields_of : List Field → Fields
-fields_of [] = NoField
-fields_of (f ∷ fs) = AField f.name f.place f.embedded (shape f.term) f.tag (fields_of fs)
+sign_of g = SignOf (params_of g.params) (params_of g.results)
 
 abbrev pub methods_of : List Method → Methods
 methods_of [] = NoMethod
 methods_of (m ∷ ms) = AMethod m.name m.place (sign_of m.signature) (methods_of ms)
+
+-- the type that may be there
+abbrev pub shape_found : Option (Bor TypeTerm) → Term
+shape_found None = NoType
+shape_found (Some t) = shape t.now

@@ -1,5 +1,5 @@
 -- Types as terms. A defined type is its declaration's key, and is never unfolded.
-use Rattle.std.specs.Prelude.{◌≡◌, ℕ, Bool, List, [], ◌∷◌, ◌++◌}
+use Rattle.std.specs.Prelude.{ℕ, Bool, List, [], ◌∷◌, ◌++◌}
 use Rattle.go_decl_core.specs.declared.keys.DeclKey.{DeclKey}
 use Rattle.go_term_core.specs.declared.term.Basic.{Basic}
 use Rattle.go_term_core.specs.declared.term.MemberPlace.{MemberPlace}
@@ -58,3 +58,14 @@ abbrev mutual
   pub terms_keys : Terms → List DeclKey
   terms_keys NoTerm = []
   terms_keys (ATerm t ts) = term_keys t ++ terms_keys ts
+
+-- the types of parameters and of results, in order
+abbrev pub term_list : Terms → List Term
+term_list NoTerm = []
+term_list (ATerm t ts) = t ∷ term_list ts
+
+abbrev pub sign_params : Sign → List Term
+sign_params (SignOf ps rs) = term_list ps
+
+abbrev pub sign_results : Sign → List Term
+sign_results (SignOf ps rs) = term_list rs

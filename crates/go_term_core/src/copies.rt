@@ -1,8 +1,8 @@
 //! Copies of terms.
-ghost use Rattle.std.specs.Prelude.{◌≡◌, IfOk};
-ghost use Rattle.go_term_core.specs.Shapes.{shape, sign_of, fields_of, methods_of, terms_of};
+ghost use Rattle.std.specs.Prelude.{◌≡◌, IfOk, map};
+ghost use Rattle.go_term_core.specs.Shapes.{shape, sign_of, lines_of, methods_of, params_of};
 
-use crate::term::{Field, Method, Signature, TypeTerm};
+use crate::term::{Field, FieldLine, Method, Params, Signature, TypeTerm};
 use go_text_core::{add, boxed};
 use std::alloc::{AllocError, Global};
 
@@ -42,9 +42,10 @@ pub fn copy(alloc: Global, term: &TypeTerm) -> Result<TypeTerm, AllocError>
         TypeTerm::Error => Ok(TypeTerm::Error),
         TypeTerm::Defined(key) => Ok(TypeTerm::Defined(copied!(key.share()))),
         TypeTerm::Pointer(base) => Ok(TypeTerm::Pointer(copied!(copy_boxed(alloc, base)))),
-        TypeTerm::Struct(path, fields) => {
-            let (path, fields) = copied!(both(path.share(), copy_fields(alloc, fields)));
-            Ok(TypeTerm::Struct(path, fields))
+        TypeTerm::Struct(path, fields, lines) => {
+            let heads = both(path.share(), copy_fields(alloc, fields));
+            let ((path, fields), lines) = copied!(both(heads, copy_lines(alloc, lines)));
+            Ok(TypeTerm::Struct(path, fields, lines))
         }
         TypeTerm::Interface(path, methods) => {
             let (path, methods) = copied!(both(path.share(), copy_methods(alloc, methods)));
@@ -63,20 +64,36 @@ fn copy_boxed(alloc: Global, term: &Box<TypeTerm>) -> Result<Box<TypeTerm>, Allo
 }
 
 /// The same fields.
-#[cycle(copies)]
 fn copy_fields(alloc: Global, fields: &Vec<Field>) -> Result<Vec<Field>, AllocError>
-    ensures { IfOk result (λ fs. fields_of fs.items ≡ fields_of fields.now.items) }
+    ensures { IfOk result (λ fs. fs.items ≡ fields.now.items) }
 {
     let mut copies = copied!(Vec::with_capacity(alloc, fields.len()));
     for field in fields {
-        let texts = both(field.name.copy(alloc), field.tag.copy(alloc));
-        let ((name, tag), term) = copied!(both(texts, copy(alloc, &field.term)));
+        let name = copied!(field.name.copy(alloc));
         copied!(add(
             &mut copies,
             Field {
                 name,
                 place: field.place,
-                embedded: field.embedded,
+                line: field.line,
+            },
+        ));
+    }
+    Ok(copies)
+}
+
+/// The same lines.
+#[cycle(copies)]
+fn copy_lines(alloc: Global, lines: &Vec<FieldLine>) -> Result<Vec<FieldLine>, AllocError>
+    ensures { IfOk result (λ ls. lines_of ls.items ≡ lines_of lines.now.items) }
+{
+    let mut copies = copied!(Vec::with_capacity(alloc, lines.len()));
+    for line in lines {
+        let (tag, term) = copied!(both(line.tag.copy(alloc), copy(alloc, &line.term)));
+        copied!(add(
+            &mut copies,
+            FieldLine {
+                embedded: line.embedded,
                 term,
                 tag,
             },
@@ -115,15 +132,32 @@ fn copy_methods(alloc: Global, methods: &Vec<Method>) -> Result<Vec<Method>, All
 pub fn copy_signature(alloc: Global, signature: &Signature) -> Result<Signature, AllocError>
     ensures { IfOk result (λ s. sign_of s ≡ sign_of signature.now) }
 {
-    let params = copy_terms(alloc, &signature.params);
-    let (params, results) = copied!(both(params, copy_terms(alloc, &signature.results)));
+    let params = copy_params(alloc, &signature.params);
+    let (params, results) = copied!(both(params, copy_params(alloc, &signature.results)));
     Ok(Signature { params, results })
+}
+
+/// The same numbers.
+fn copy_numbers(alloc: Global, numbers: &Vec<usize>) -> Result<Vec<usize>, AllocError>
+    ensures { IfOk result (λ ns. ns.items ≡ numbers.now.items) }
+{
+    Ok(numbers.as_slice().to_vec(alloc)?)
+}
+
+/// The same types, shared as they are.
+#[cycle(copies)]
+fn copy_params(alloc: Global, params: &Params) -> Result<Params, AllocError>
+    ensures { IfOk result (λ ps. params_of ps ≡ params_of params.now) }
+{
+    let lines = copy_numbers(alloc, &params.lines);
+    let (lines, terms) = copied!(both(lines, copy_terms(alloc, &params.terms)));
+    Ok(Params { lines, terms })
 }
 
 /// The same types.
 #[cycle(copies)]
 fn copy_terms(alloc: Global, terms: &Vec<TypeTerm>) -> Result<Vec<TypeTerm>, AllocError>
-    ensures { IfOk result (λ ts. terms_of ts.items ≡ terms_of terms.now.items) }
+    ensures { IfOk result (λ ts. map shape ts.items ≡ map shape terms.now.items) }
 {
     let mut copies = copied!(Vec::with_capacity(alloc, terms.len()));
     for term in terms {

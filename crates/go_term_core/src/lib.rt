@@ -7,6 +7,7 @@
 
 mod copies;
 mod laws;
+mod params;
 mod same;
 mod tag;
 mod term;
@@ -18,4 +19,6 @@ pub use laws::{
 };
 pub use same::{has_same_signature, identical, identical_but_for_tags};
 pub use tag::Tag;
-pub use term::{Basic, Field, LocalPlace, MemberPlace, Method, Signature, TypeTerm};
+pub use term::{
+    Basic, Field, FieldLine, LocalPlace, MemberPlace, Method, Params, Signature, TypeTerm,
+};

@@ -1,12 +1,13 @@
 //! Identity of types.
-ghost use Rattle.std.specs.Prelude.{◌≡◌, ◌↔◌, IsTrue};
+ghost use Rattle.std.specs.Prelude.{◌≡◌, ◌↔◌, ◌⊎◌, IsTrue, map};
 ghost use Rattle.go_text_core.specs.Text.{SameId};
-ghost use Rattle.go_term_core.specs.Shapes.{shape, sign_of, fields_of, methods_of, terms_of};
+ghost use Rattle.go_term_core.specs.Shapes.{shape, sign_of, fields_in, line_at, line_shape, lines_of, methods_of, params_of, term_at, terms_in};
+ghost use Rattle.go_term_core.specs.Terms.{NoType};
 ghost use Rattle.go_term_core.specs.Identity.{Identical, IdenticalButForTags, SameSign, TagsAgree, IdenticalBy, SameFieldsBy, HasAllBy, SameSignBy, SameTermsBy, method_count};
-ghost use Rattle.go_term_core.specs.mirrors.Alike.{HasAlike};
+ghost use Rattle.go_term_core.specs.mirrors.Alike.{HasAlike, IsMet, IsNoLine, SameLine};
 
 use crate::tag::Tag;
-use crate::term::{Field, Method, Signature, TypeTerm};
+use crate::term::{Field, FieldLine, Method, Params, Signature, TypeTerm};
 use go_path_core::ImportPath;
 use go_text_core::{Name, same_id};
 
@@ -47,7 +48,9 @@ fn identical_by(tags: bool, a: &TypeTerm, b: &TypeTerm) -> bool
         (TypeTerm::Error, TypeTerm::Error) => true,
         (TypeTerm::Defined(a), TypeTerm::Defined(b)) => a.is_same(b),
         (TypeTerm::Pointer(a), TypeTerm::Pointer(b)) => identical_by(tags, a, b),
-        (TypeTerm::Struct(p, fs), TypeTerm::Struct(q, gs)) => same_fields(tags, p, fs, q, gs),
+        (TypeTerm::Struct(p, fs, ls), TypeTerm::Struct(q, gs, ks)) => same_fields(
+            tags, p, fs, ls, q, gs, ks,
+        ),
         (TypeTerm::Interface(p, ms), TypeTerm::Interface(q, ns)) => same_methods(
             tags, p, ms, q, ns,
         ),
@@ -69,31 +72,113 @@ fn is_same_tag(tags: bool, a: &Tag, b: &Tag) -> bool
     if tags { a.is_same(b) } else { true }
 }
 
-/// Whether two struct types have the same fields in order.
+/// The numbers of two lines that meet, or of two terms: of the one type and of the other.
+#[derive(Clone, Copy)]
+struct Pair {
+    one: usize,
+    other: usize,
+}
+
+/// Whether these two met last.
+fn is_met(met: Option<Pair>, pair: Pair) -> bool
+    ensures { IsTrue result ↔ IsMet met pair }
+{
+    match met {
+        Some(met) => met.one == pair.one && met.other == pair.other,
+        None => false,
+    }
+}
+
+/// Whether two struct types have the same fields in order. Two lines are compared where they meet first, and not once for each name.
 #[cycle(same)]
-fn same_fields(tags: bool, p: &ImportPath, fs: &Vec<Field>, q: &ImportPath, gs: &Vec<Field>) -> bool
-    ensures { IsTrue result ↔ SameFieldsBy tags p.now (fields_of fs.now.items) q.now (fields_of gs.now.items) }
+fn same_fields(
+    tags: bool,
+    p: &ImportPath,
+    fs: &Vec<Field>,
+    ls: &Vec<FieldLine>,
+    q: &ImportPath,
+    gs: &Vec<Field>,
+    ks: &Vec<FieldLine>,
+) -> bool
+    ensures { IsTrue result ↔ SameFieldsBy tags p.now (fields_in (lines_of ls.now.items) fs.now.items) q.now (fields_in (lines_of ks.now.items) gs.now.items) }
 {
     if fs.len() != gs.len() {
         return false;
     }
+    let mut met = None;
     for (i, f) in fs.iter().enumerate() {
-        if !is_same_field(tags, p, f, q, &gs[i]) {
+        let g = &gs[i];
+        let pair = Pair {
+            one: f.line,
+            other: g.line,
+        };
+        if !is_same_named(p, f, q, g) || !are_lines_same(tags, ls, ks, met, pair) {
             return false;
         }
+        met = Some(pair);
     }
     true
 }
 
-/// Whether two fields are the same.
-#[cycle(same)]
-fn is_same_field(tags: bool, p: &ImportPath, f: &Field, q: &ImportPath, g: &Field) -> bool
-    ensures { IsTrue result ↔ (SameId f.now.name p.now g.now.name q.now × (f.now.embedded ≡ g.now.embedded) × IdenticalBy tags (shape f.now.term) (shape g.now.term) × TagsAgree tags f.now.tag g.now.tag) }
+/// Whether two fields have the same name.
+fn is_same_named(p: &ImportPath, f: &Field, q: &ImportPath, g: &Field) -> bool
+    ensures { IsTrue result ↔ SameId f.now.name p.now g.now.name q.now }
 {
-    f.embedded == g.embedded
-        && is_same_name(&f.name, p, &g.name, q)
-        && is_same_tag(tags, &f.tag, &g.tag)
-        && identical_by(tags, &f.term, &g.term)
+    is_same_name(&f.name, p, &g.name, q)
+}
+
+/// Whether two lines met last, or are the same.
+#[cycle(same)]
+fn are_lines_same(
+    tags: bool,
+    ls: &Vec<FieldLine>,
+    ks: &Vec<FieldLine>,
+    met: Option<Pair>,
+    pair: Pair,
+) -> bool
+    ensures { IsTrue result ↔ (IsMet met pair ⊎ SameLine tags (line_at (lines_of ls.now.items) pair.one) (line_at (lines_of ks.now.items) pair.other)) }
+{
+    if is_met(met, pair) {
+        return true;
+    }
+    match (ls.get(pair.one), ks.get(pair.other)) {
+        (Some(l), Some(k)) => is_same_line(tags, l, k),
+        (Some(l), None) => is_no_line(tags, l),
+        (None, Some(k)) => is_no_line(tags, k),
+        (None, None) => true,
+    }
+}
+
+/// Whether two lines are the same.
+#[cycle(same)]
+fn is_same_line(tags: bool, l: &FieldLine, k: &FieldLine) -> bool
+    ensures { IsTrue result ↔ SameLine tags (line_shape l.now) (line_shape k.now) }
+{
+    l.embedded == k.embedded
+        && is_same_tag(tags, &l.tag, &k.tag)
+        && identical_by(tags, &l.term, &k.term)
+}
+
+/// Whether a line is as one that is not there.
+fn is_no_line(tags: bool, l: &FieldLine) -> bool
+    ensures { IsTrue result ↔ IsNoLine tags (line_shape l.now) }
+{
+    !l.embedded && is_same_tag(tags, &l.tag, &Tag::none()) && is_no_type(&l.term)
+}
+
+/// Whether a term is no type.
+fn is_no_type(term: &TypeTerm) -> bool
+    ensures { IsTrue result ↔ (shape term.now ≡ NoType) }
+{
+    match term {
+        TypeTerm::NoType => true,
+        TypeTerm::Basic(_) => false,
+        TypeTerm::Error => false,
+        TypeTerm::Defined(_) => false,
+        TypeTerm::Pointer(_) => false,
+        TypeTerm::Struct(_, _, _) => false,
+        TypeTerm::Interface(_, _) => false,
+    }
 }
 
 /// Whether two interface types have as many methods, and the one has each of the other.
@@ -140,21 +225,63 @@ fn has_alike(tags: bool, p: &ImportPath, m: &Method, q: &ImportPath, ns: &[Metho
 fn same_signature(tags: bool, a: &Signature, b: &Signature) -> bool
     ensures { IsTrue result ↔ SameSignBy tags (sign_of a.now) (sign_of b.now) }
 {
-    same_terms(tags, &a.params, &b.params) && same_terms(tags, &a.results, &b.results)
+    same_params(tags, &a.params, &b.params) && same_params(tags, &a.results, &b.results)
 }
 
-/// Whether two lists have as many types, each identical to the other's at its place.
+/// Whether two lists have as many types, each identical to the other's at its place. Two terms are compared where they meet first.
 #[cycle(same)]
-fn same_terms(tags: bool, ts: &Vec<TypeTerm>, us: &Vec<TypeTerm>) -> bool
-    ensures { IsTrue result ↔ SameTermsBy tags (terms_of ts.now.items) (terms_of us.now.items) }
+fn same_params(tags: bool, ps: &Params, qs: &Params) -> bool
+    ensures { IsTrue result ↔ SameTermsBy tags (params_of ps.now) (params_of qs.now) }
 {
-    if ts.len() != us.len() {
+    same_terms(tags, &ps.terms, &ps.lines, &qs.terms, &qs.lines)
+}
+
+/// Whether two lists of numbers are of as many types, each identical to the other's at its place.
+#[cycle(same)]
+fn same_terms(
+    tags: bool,
+    ts: &Vec<TypeTerm>,
+    ns: &Vec<usize>,
+    us: &Vec<TypeTerm>,
+    ms: &Vec<usize>,
+) -> bool
+    ensures { IsTrue result ↔ SameTermsBy tags (terms_in (map shape ts.now.items) ns.now.items) (terms_in (map shape us.now.items) ms.now.items) }
+{
+    if ns.len() != ms.len() {
         return false;
     }
-    for (i, t) in ts.iter().enumerate() {
-        if !identical_by(tags, t, &us[i]) {
+    let mut met = None;
+    for (i, n) in ns.iter().enumerate() {
+        let pair = Pair {
+            one: *n,
+            other: ms[i],
+        };
+        if !are_terms_same(tags, ts, us, met, pair) {
             return false;
         }
+        met = Some(pair);
     }
     true
+}
+
+/// Whether two terms met last, or are identical.
+#[cycle(same)]
+fn are_terms_same(
+    tags: bool,
+    ts: &Vec<TypeTerm>,
+    us: &Vec<TypeTerm>,
+    met: Option<Pair>,
+    pair: Pair,
+) -> bool
+    ensures { IsTrue result ↔ (IsMet met pair ⊎ IdenticalBy tags (term_at (map shape ts.now.items) pair.one) (term_at (map shape us.now.items) pair.other)) }
+{
+    if is_met(met, pair) {
+        return true;
+    }
+    match (ts.get(pair.one), us.get(pair.other)) {
+        (Some(t), Some(u)) => identical_by(tags, t, u),
+        (Some(t), None) => is_no_type(t),
+        (None, Some(u)) => is_no_type(u),
+        (None, None) => true,
+    }
 }

@@ -46,19 +46,26 @@ pub enum TypeTerm {
     Defined(DeclKey),
     /// A pointer to values of a type.
     Pointer(Box<TypeTerm>),
-    /// A struct type: the package where it is written, and its fields in order.
-    Struct(ImportPath, Vec<Field>),
+    /// A struct type: the package where it is written, its fields in order, and the lines that they stand in.
+    Struct(ImportPath, Vec<Field>, Vec<FieldLine>),
     /// An interface type: the package where it is written, and its methods in order.
     Interface(ImportPath, Vec<Method>),
 }
 
 /// A field of a struct type.
-#[cycle(term)]
 #[derive(Drop)]
 pub struct Field {
     pub name: Name,
     pub place: MemberPlace,
-    /// Whether it is written as a type's name, with or without a star, and no other name.
+    /// The number of its line among those of the struct type, from 0. The fields of one line follow one another.
+    pub line: usize,
+}
+
+/// What the fields of one line of a struct type have in common. A field whose line is not there is of no type.
+#[cycle(term)]
+#[derive(Drop)]
+pub struct FieldLine {
+    /// Whether the one field is written as a type's name, with or without a star, and no other name.
     pub embedded: bool,
     pub term: TypeTerm,
     /// The bytes that the tag stands for; none and an empty one are the same.
@@ -74,10 +81,19 @@ pub struct Method {
     pub signature: Signature,
 }
 
-/// The types of parameters and of results, one for each parameter and each result.
+/// The types of parameters and of results.
 #[cycle(term)]
 #[derive(Drop)]
 pub struct Signature {
-    pub params: Vec<TypeTerm>,
-    pub results: Vec<TypeTerm>,
+    pub params: Params,
+    pub results: Params,
+}
+
+/// The types of parameters, or of results. Those whose names are written before one type share its term.
+#[cycle(term)]
+#[derive(Drop)]
+pub struct Params {
+    /// For each parameter the number of its type among the terms, from 0. One whose type is not there is of no type.
+    pub lines: Vec<usize>,
+    pub terms: Vec<TypeTerm>,
 }

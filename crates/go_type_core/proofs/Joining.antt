@@ -1,5 +1,5 @@
 -- What the parts of the code give one another, over what is written.
-use Rattle.std.proofs.Common.{◌≡◌, ℕ, Bool, List, Option, All, map, length, sym, ap, ◌∙◌, subst}
+use Rattle.std.proofs.Common.{◌≡◌, ℕ, Bool, List, Option, All, map, length, sym, ◌∙◌, subst}
 use Rattle.std.proofs.lemmas.List.{length-map}
 use Rattle.go_decl_core.specs.declared.keys.DeclKey.{DeclKey}
 use Rattle.go_cycle_core.specs.declared.edge.Edge.{Edge}
@@ -13,11 +13,12 @@ use Rattle.go_table_core.specs.Tables.{AreOf, Rise}
 use Rattle.go_type_core.specs.declared.build.TypeFault.{TypeFault}
 use Rattle.go_type_core.specs.Built.{base, IsBuilt}
 use Rattle.go_type_core.specs.mirrors.Numbers.{keys_of, IsTable}
-use Rattle.go_type_core.specs.mirrors.Edges.{all_uses, AreLooped, Falls, MarksTo}
+use Rattle.go_type_core.specs.mirrors.Edges.{all_uses, AreLooped, Falls, MarksTo, SameEdges}
 use Rattle.go_type_core.specs.mirrors.Chained.{next_bare, next_named, nothing_at, kind_at, known_kind, AreNothing, AreRootEnds}
 use Rattle.go_type_core.specs.mirrors.Making.{marked_faults, entry_at, AreShared, IsMade}
 use Rattle.go_type_core.proofs.Keyed.{rise_apart}
 use Rattle.go_type_core.proofs.Looping.{in_range, marked_looped, marked_falls}
+use Rattle.go_type_core.proofs.OnceEach.{range_same, ranking_same, marks_same}
 use Rattle.go_type_core.proofs.Nothings.{inside, are_nothing}
 use Rattle.go_type_core.proofs.Unders.{IsRooted}
 use Rattle.go_type_core.proofs.Steps.{table_all, types_shared, plain_found, plain_types}
@@ -32,23 +33,23 @@ count_shown es = sym (length-map es entry_shown)
 module _ (keys : List DeclKey) (es : List TypeEntry) (view : keys ≡ keys_of (shown es)) (rise : Rise (shown es)) where
   -- edges
 
-  pub range_of : (edges slice : List Edge) (count : ℕ) → edges ≡ all_uses keys 0 (shown es) → slice ≡ edges → count ≡ length es → InRange count slice
+  all_of : (edges slice : List Edge) → SameEdges edges (all_uses keys 0 (shown es)) → slice ≡ edges → SameEdges slice (all_uses (keys_of (shown es)) 0 (shown es))
+  all_of edges slice is same = subst (λ l. SameEdges l (all_uses (keys_of (shown es)) 0 (shown es))) (sym same) (subst (λ k. SameEdges edges (all_uses k 0 (shown es))) view is)
+
+  pub range_of : (edges slice : List Edge) (count : ℕ) → SameEdges edges (all_uses keys 0 (shown es)) → slice ≡ edges → count ≡ length es → InRange count slice
   range_of edges slice count is same counted =
-      let all : slice ≡ all_uses (keys_of (shown es)) 0 (shown es) = same ∙ (is ∙ ap (λ k. all_uses k 0 (shown es)) view) in
-      subst (λ l. InRange count l) (sym all) (subst (λ n. InRange n (all_uses (keys_of (shown es)) 0 (shown es))) (sym (counted ∙ count_shown es)) (in_range (shown es) (rise_apart (shown es) rise)))
+      range_same count slice (all_uses (keys_of (shown es)) 0 (shown es)) (all_of edges slice is same) (subst (λ n. InRange n (all_uses (keys_of (shown es)) 0 (shown es))) (sym (counted ∙ count_shown es)) (in_range (shown es) (rise_apart (shown es) rise)))
 
-  marks_of : (edges slice : List Edge) (count : ℕ) (marks : List Bool) → edges ≡ all_uses keys 0 (shown es) → slice ≡ edges → count ≡ length es → MarksTo slice slice count marks → MarksTo (all_uses (keys_of (shown es)) 0 (shown es)) (all_uses (keys_of (shown es)) 0 (shown es)) (length (shown es)) marks
+  marks_of : (edges slice : List Edge) (count : ℕ) (marks : List Bool) → SameEdges edges (all_uses keys 0 (shown es)) → slice ≡ edges → count ≡ length es → MarksTo slice slice count marks → MarksTo (all_uses (keys_of (shown es)) 0 (shown es)) (all_uses (keys_of (shown es)) 0 (shown es)) (length (shown es)) marks
   marks_of edges slice count marks is same counted m =
-      let all : slice ≡ all_uses (keys_of (shown es)) 0 (shown es) = same ∙ (is ∙ ap (λ k. all_uses k 0 (shown es)) view) in
-      subst (λ l. MarksTo l l (length (shown es)) marks) all (subst (λ n. MarksTo slice slice n marks) (counted ∙ count_shown es) m)
+      marks_same slice (all_uses (keys_of (shown es)) 0 (shown es)) (length (shown es)) marks (all_of edges slice is same) (subst (λ n. MarksTo slice slice n marks) (counted ∙ count_shown es) m)
 
-  pub looped_of : (edges slice : List Edge) (count : ℕ) (marks : List Bool) → edges ≡ all_uses keys 0 (shown es) → slice ≡ edges → count ≡ length es → MarksTo slice slice count marks → AreLooped (shown es) marks
+  pub looped_of : (edges slice : List Edge) (count : ℕ) (marks : List Bool) → SameEdges edges (all_uses keys 0 (shown es)) → slice ≡ edges → count ≡ length es → MarksTo slice slice count marks → AreLooped (shown es) marks
   looped_of edges slice count marks is same counted m = marked_looped (shown es) (rise_apart (shown es) rise) marks (marks_of edges slice count marks is same counted m)
 
-  pub falls_of : (edges slice ranked : List Edge) (count : ℕ) (marks : List Bool) (ranks : List ℕ) → edges ≡ all_uses keys 0 (shown es) → slice ≡ edges → ranked ≡ edges → count ≡ length es → IsRanking ranked ranks → MarksTo slice slice count marks → Falls (shown es) marks
+  pub falls_of : (edges slice ranked : List Edge) (count : ℕ) (marks : List Bool) (ranks : List ℕ) → SameEdges edges (all_uses keys 0 (shown es)) → slice ≡ edges → ranked ≡ edges → count ≡ length es → IsRanking ranked ranks → MarksTo slice slice count marks → Falls (shown es) marks
   falls_of edges slice ranked count marks ranks is same also counted ranking m =
-      let all : ranked ≡ all_uses (keys_of (shown es)) 0 (shown es) = also ∙ (is ∙ ap (λ k. all_uses k 0 (shown es)) view) in
-      marked_falls (shown es) (rise_apart (shown es) rise) marks ranks (subst (λ l. IsRanking l ranks) all ranking) (marks_of edges slice count marks is same counted m)
+      marked_falls (shown es) (rise_apart (shown es) rise) marks ranks (ranking_same ranked (all_uses (keys_of (shown es)) 0 (shown es)) ranks (all_of edges ranked is also) ranking) (marks_of edges slice count marks is same counted m)
 
   -- chains
 

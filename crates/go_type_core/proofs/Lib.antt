@@ -10,3 +10,4 @@ pub mod Worked
 pub mod Together
 pub mod Elsewhere
 pub mod Mentioned
+pub mod OnceEach

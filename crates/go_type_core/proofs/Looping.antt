@@ -1,20 +1,16 @@
 -- Types that reach themselves, as edges that lie on cycles.
-use Rattle.std.proofs.Common.{◌≡◌, ℕ, zero, suc, ◌+◌, ◌<◌, ◌≤◌, ◌⊎◌, inl, inr, ◌↔◌, Bool, true, false, List, [], ◌∷◌, ◌++◌, Option, Some, None, map, length, get_or, set, replicate, take, refl, sym, ap, ◌∙◌, subst, arith}
+use Rattle.std.proofs.Common.{◌≡◌, ℕ, zero, suc, ◌+◌, ◌<◌, ◌≤◌, ◌⊎◌, inl, inr, ◌↔◌, Bool, true, false, List, [], ◌∷◌, ◌++◌, Option, Some, None, length, get_or, set, replicate, take, refl, sym, ap, ◌∙◌, subst, arith}
 use Rattle.std.specs.Prelude.{slice_get}
 use Rattle.std.specs.List.{Contains}
 use Rattle.std.proofs.lemmas.Option.{slice_get_within}
-use Rattle.std.proofs.lemmas.List.{append-nil, append_assoc, length-map, length-take-le, map_more, take_all, take_more, length-set, length-replicate, get_or-set_same, get_or-set_other}
+use Rattle.std.proofs.lemmas.List.{take_all, take_more, length-set, length-replicate, get_or-set_same, get_or-set_other}
 use Rattle.std.proofs.lemmas.Bool.{cases_eq}
 use Rattle.std.proofs.lemmas.List.Elements.{Contains-append_left, Contains-append_right, Contains-append_cases, Contains-get_or, Contains-push, Contains-push_cases, All-contains}
 use Rattle.go_decl_core.specs.declared.keys.DeclKey.{DeclKey}
 use Rattle.go_cycle_core.specs.declared.edge.Edge.{Edge}
 use Rattle.go_cycle_core.specs.Cycle.{InRange, Leads, Reaches, IsOnCycle, IsRanked, IsRanking}
-use Rattle.go_term_core.specs.declared.term.Field.{Field}
-use Rattle.go_term_core.specs.Shapes.{shape, fields_of}
-use Rattle.go_table_core.specs.declared.entry.TypeEntry.{TypeEntry}
-use Rattle.go_table_core.specs.Shown.{entry_shown}
 use Rattle.go_table_core.specs.Entries.{Entry}
-use Rattle.go_type_core.specs.Built.{direct_keys, direct_fields, Uses, UsesAlong, IsLooped}
+use Rattle.go_type_core.specs.Built.{direct_keys, Uses, UsesAlong, IsLooped}
 use Rattle.go_type_core.specs.mirrors.Numbers.{keys_of, number_of}
 use Rattle.go_type_core.specs.mirrors.Edges.{edge_to, uses_from, all_uses, HasLoop, AreLooped, Falls, MarksTo, marks_if}
 use Rattle.go_type_core.proofs.Keyed.{at_found, at_number, at_place, Apart}
@@ -258,40 +254,13 @@ marks_here all some count marks x lt on m = record {
 
 -- edges made step by step
 
-uses_both : (keys : List DeclKey) (i : ℕ) (ks js : List DeclKey) → uses_from keys i (ks ++ js) ≡ uses_from keys i ks ++ uses_from keys i js
+pub uses_both : (keys : List DeclKey) (i : ℕ) (ks js : List DeclKey) → uses_from keys i (ks ++ js) ≡ uses_from keys i ks ++ uses_from keys i js
 uses_both keys i [] js = refl
 uses_both keys i (k ∷ ks) js = by_number (number_of keys k) (uses_both keys i ks js)
   where
     by_number : (o : Option ℕ) → uses_from keys i (ks ++ js) ≡ uses_from keys i ks ++ uses_from keys i js → edge_to i o (uses_from keys i (ks ++ js)) ≡ edge_to i o (uses_from keys i ks) ++ uses_from keys i js
     by_number None rest = rest
     by_number (Some j) rest = ap (λ es. edge i j ∷ es) rest
-
-fields_more : (fs : List Field) (f : Field) → direct_fields (fields_of (fs ++ f ∷ [])) ≡ direct_fields (fields_of fs) ++ direct_keys (shape f.term)
-fields_more [] f = append-nil (direct_keys (shape f.term))
-fields_more (g ∷ fs) f = ap (λ l. direct_keys (shape g.term) ++ l) (fields_more fs f) ∙ sym (append_assoc (direct_keys (shape g.term)) (direct_fields (fields_of fs)) (direct_keys (shape f.term)))
-
-pub push_step : (keys : List DeclKey) (from : ℕ) (before mid after : List Edge) (fs : List Field) (n : ℕ) (f : Field) → n < length fs → f ≡ get_or fs n f → mid ≡ before ++ uses_from keys from (direct_fields (fields_of (take n fs))) → after ≡ mid ++ uses_from keys from (direct_keys (shape f.term)) → after ≡ before ++ uses_from keys from (direct_fields (fields_of (take (n + 1) fs)))
-push_step keys from before mid after fs n f lt is h k =
-    let more : take (n + 1) fs ≡ take n fs ++ f ∷ [] = take_more fs n f lt ∙ ap (λ x. take n fs ++ x ∷ []) (sym is) in
-    let sum : uses_from keys from (direct_fields (fields_of (take (n + 1) fs))) ≡ uses_from keys from (direct_fields (fields_of (take n fs))) ++ uses_from keys from (direct_keys (shape f.term)) =
-    ap (λ l. uses_from keys from (direct_fields (fields_of l))) more ∙ (ap (uses_from keys from) (fields_more (take n fs) f) ∙ uses_both keys from (direct_fields (fields_of (take n fs))) (direct_keys (shape f.term))) in
-    k ∙ (ap (λ l. l ++ uses_from keys from (direct_keys (shape f.term))) h ∙ (append_assoc before (uses_from keys from (direct_fields (fields_of (take n fs)))) (uses_from keys from (direct_keys (shape f.term))) ∙ ap (λ l. before ++ l) (sym sum)))
-
-pub push_whole : (keys : List DeclKey) (from : ℕ) (before after : List Edge) (fs items : List Field) (n : ℕ) → fs ≡ items → length fs ≤ n → after ≡ before ++ uses_from keys from (direct_fields (fields_of (take n fs))) → after ≡ before ++ uses_from keys from (direct_fields (fields_of items))
-push_whole keys from before after fs items n e le h = h ∙ ap (λ l. before ++ uses_from keys from (direct_fields (fields_of l))) (take_all n fs le ∙ e)
-
-all_more : (keys : List DeclKey) (i n : ℕ) (ws : List Entry) (w : Entry) → i + length ws ≡ n → all_uses keys i (ws ++ w ∷ []) ≡ all_uses keys i ws ++ uses_from keys n (direct_keys w.term)
-all_more keys i n [] w e = (let same : i ≡ n = omega (arith, e) in append-nil (uses_from keys i (direct_keys w.term)) ∙ ap (λ x. uses_from keys x (direct_keys w.term)) same)
-all_more keys i n (v ∷ ws) w e = ap (λ l. uses_from keys i (direct_keys v.term) ++ l) (all_more keys (suc i) n ws w (omega (arith, e))) ∙ sym (append_assoc (uses_from keys i (direct_keys v.term)) (all_uses keys (suc i) ws) (uses_from keys n (direct_keys w.term)))
-
-pub all_step : (keys : List DeclKey) (mid after : List Edge) (es : List TypeEntry) (n : ℕ) (e : TypeEntry) → n < length es → e ≡ get_or es n e → mid ≡ all_uses keys 0 (map entry_shown (take n es)) → after ≡ mid ++ uses_from keys n (direct_keys (shape e.term)) → after ≡ all_uses keys 0 (map entry_shown (take (n + 1) es))
-all_step keys mid after es n e lt is h k =
-    let count : length (map entry_shown (take n es)) ≡ n = length-map (take n es) entry_shown ∙ length-take-le n es (omega (arith, lt)) in
-    let more : map entry_shown (take (n + 1) es) ≡ map entry_shown (take n es) ++ entry_shown e ∷ [] = map_more entry_shown es n e lt ∙ ap (λ x. map entry_shown (take n es) ++ entry_shown x ∷ []) (sym is) in
-    k ∙ (ap (λ l. l ++ uses_from keys n (direct_keys (shape e.term))) h ∙ (sym (all_more keys 0 n (map entry_shown (take n es)) (entry_shown e) (omega (arith, count))) ∙ ap (all_uses keys 0) (sym more)))
-
-pub all_whole : (keys : List DeclKey) (made : List Edge) (es : List TypeEntry) (n : ℕ) → length es ≤ n → made ≡ all_uses keys 0 (map entry_shown (take n es)) → made ≡ all_uses keys 0 (map entry_shown es)
-all_whole keys made es n le h = h ∙ ap (λ l. all_uses keys 0 (map entry_shown l)) (take_all n es le)
 
 pub marks_step : (all some : List Edge) (count : ℕ) (old new : List Bool) (x : Edge) (on : Bool) → x.from < count → ((on ≡ true) ↔ IsOnCycle all x) → new ≡ marks_if old x.from on → MarksTo all some count old → MarksTo all (some ++ x ∷ []) count new
 marks_step all some count old new x true lt says made h = subst (λ m. MarksTo all (some ++ x ∷ []) count m) (sym made) (marks_here all some count old x lt (says.0 refl) h)

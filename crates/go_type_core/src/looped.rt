@@ -1,18 +1,18 @@
 //! Which types reach themselves.
-ghost use Rattle.std.specs.Prelude.{◌≡◌, ◌<◌, ◌++◌, ◌∷◌, [], IfOk, length, map, OnOk};
+ghost use Rattle.std.specs.Prelude.{◌≡◌, ◌↔◌, ◌<◌, ◌++◌, ◌∷◌, [], IfOk, IsTrue, length, map, OnOk, Some};
 ghost use Rattle.go_cycle_core.specs.Cycle.{InRange, IsRanking};
 ghost use Rattle.go_table_core.specs.Shown.{entry_shown};
 ghost use Rattle.go_table_core.specs.Tables.{Rise};
-ghost use Rattle.go_term_core.specs.Shapes.{fields_of, shape};
+ghost use Rattle.go_term_core.specs.Shapes.{fields_in, line_at, lines_of, shape};
 ghost use Rattle.go_type_core.specs.Built.{direct_fields, direct_keys};
-ghost use Rattle.go_type_core.specs.mirrors.Edges.{all_uses, AreLooped, Falls, MarksTo, marks_if, uses_from};
+ghost use Rattle.go_type_core.specs.mirrors.Edges.{all_uses, AreLooped, Falls, HasAlso, LineAdded, MarksTo, SameEdges, marks_if, uses_from};
 ghost use Rattle.go_type_core.specs.mirrors.Numbers.{keys_of};
 
 use crate::own_keys::OwnKeys;
 use go_cycle_core::{Edge, Ranked, rank_and_order};
 use go_decl_core::DeclKey;
 use go_table_core::TypeEntry;
-use go_term_core::{Field, TypeTerm};
+use go_term_core::{Field, FieldLine, TypeTerm};
 use std::alloc::{AllocError, Global};
 
 // Adds the edge to a type, if it is of the package.
@@ -32,17 +32,18 @@ fn push_use(
 
 // Adds the edges to the types of the package that a type uses outside pointers and interfaces.
 #[cycle(uses)]
+#[tactic(auto, using(crate::proofs::OnceEach::also_nothing))]
 fn push_uses(
     keys: &OwnKeys,
     from: usize,
     term: &TypeTerm,
     edges: &mut Vec<Edge>,
 ) -> Result<(), AllocError>
-    ensures { OnOk result (edges.new.items ≡ edges.old.items ++ uses_from keys.now from (direct_keys (shape term.now))) }
+    ensures { OnOk result (HasAlso edges.old.items (uses_from keys.now from (direct_keys (shape term.now))) edges.new.items) }
 {
     match term {
         TypeTerm::Defined(key) => push_use(keys, from, key, edges),
-        TypeTerm::Struct(_, fields) => push_fields(keys, from, fields, edges),
+        TypeTerm::Struct(_, fields, lines) => push_fields(keys, from, lines, fields, edges),
         TypeTerm::Pointer(_) => Ok(()),
         TypeTerm::NoType | TypeTerm::Basic(_) | TypeTerm::Error | TypeTerm::Interface(_, _) => Ok(
             (),
@@ -50,25 +51,59 @@ fn push_uses(
     }
 }
 
-// Adds the edges to those that fields use.
+// Adds the edges to those that fields use: those of a line once, and not for each of its names.
 #[cycle(uses)]
 fn push_fields(
     keys: &OwnKeys,
     from: usize,
+    lines: &Vec<FieldLine>,
     fields: &Vec<Field>,
     edges: &mut Vec<Edge>,
 ) -> Result<(), AllocError>
-    ensures { OnOk result (edges.new.items ≡ edges.old.items ++ uses_from keys.now from (direct_fields (fields_of fields.now.items))) }
+    ensures { OnOk result (HasAlso edges.old.items (uses_from keys.now from (direct_fields (fields_in (lines_of lines.now.items) fields.now.items))) edges.new.items) }
 {
+    let mut met = None;
     for field in fields {
-        push_uses(keys, from, &field.term, edges)?;
+        push_line(keys, from, lines, field.line, met, edges)?;
+        met = Some(field.line);
     }
     Ok(())
 }
 
-// The edges of the types of a package to those that they use.
+// Whether a line was met last.
+fn is_last(met: Option<usize>, line: usize) -> bool
+    ensures { IsTrue result ↔ (met ≡ Some line) }
+{
+    match met {
+        Some(last) => last == line,
+        None => false,
+    }
+}
+
+// Adds the edges to those that a line uses, unless it was met last.
+#[cycle(uses)]
+fn push_line(
+    keys: &OwnKeys,
+    from: usize,
+    lines: &Vec<FieldLine>,
+    number: usize,
+    met: Option<usize>,
+    edges: &mut Vec<Edge>,
+) -> Result<(), AllocError>
+    ensures { OnOk result (LineAdded (uses_from keys.now from (direct_keys (line_at (lines_of lines.now.items) number).term)) met number edges.old.items edges.new.items) }
+{
+    if is_last(met, number) {
+        return Ok(());
+    }
+    match lines.get(number) {
+        Some(line) => push_uses(keys, from, &line.term, edges),
+        None => Ok(()),
+    }
+}
+
+// The edges of the types of a package to those that they use: each of them, and no other.
 fn all_uses(alloc: Global, keys: &OwnKeys, entries: &[TypeEntry]) -> Result<Vec<Edge>, AllocError>
-    ensures { IfOk result (λ edges. edges.items ≡ all_uses keys.now 0 (map entry_shown entries.now)) }
+    ensures { IfOk result (λ edges. SameEdges edges.items (all_uses keys.now 0 (map entry_shown entries.now))) }
 {
     let mut edges = Vec::new(alloc);
     for (number, entry) in entries.iter().enumerate() {

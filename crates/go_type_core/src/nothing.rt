@@ -26,7 +26,7 @@ fn base_of(term: &TypeTerm) -> &TypeTerm
         | TypeTerm::Basic(_)
         | TypeTerm::Error
         | TypeTerm::Defined(_)
-        | TypeTerm::Struct(_, _)
+        | TypeTerm::Struct(_, _, _)
         | TypeTerm::Interface(_, _) => term,
     }
 }
@@ -41,7 +41,7 @@ pub(crate) fn named_number(keys: &OwnKeys, term: &TypeTerm) -> Option<usize>
         | TypeTerm::Basic(_)
         | TypeTerm::Error
         | TypeTerm::Pointer(_)
-        | TypeTerm::Struct(_, _)
+        | TypeTerm::Struct(_, _, _)
         | TypeTerm::Interface(_, _) => None,
     }
 }
@@ -56,7 +56,7 @@ fn is_no_type(term: &TypeTerm) -> bool
         | TypeTerm::Error
         | TypeTerm::Defined(_)
         | TypeTerm::Pointer(_)
-        | TypeTerm::Struct(_, _)
+        | TypeTerm::Struct(_, _, _)
         | TypeTerm::Interface(_, _) => false,
     }
 }
@@ -74,7 +74,7 @@ fn is_lacking(imported: &TypeTable, term: &TypeTerm) -> bool
         TypeTerm::Basic(_)
         | TypeTerm::Error
         | TypeTerm::Pointer(_)
-        | TypeTerm::Struct(_, _)
+        | TypeTerm::Struct(_, _, _)
         | TypeTerm::Interface(_, _) => false,
     }
 }

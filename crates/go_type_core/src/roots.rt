@@ -94,7 +94,7 @@ fn root_kind(imported: &TypeTable, term: &TypeTerm) -> Kind
         TypeTerm::Error => Kind::Interface,
         TypeTerm::Interface(_, _) => Kind::Interface,
         TypeTerm::Basic(_) => Kind::Other,
-        TypeTerm::Struct(_, _) => Kind::Other,
+        TypeTerm::Struct(_, _, _) => Kind::Other,
     }
 }
 

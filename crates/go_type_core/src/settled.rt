@@ -62,7 +62,7 @@ fn root_term(alloc: Global, plan: &Plan<'_>, term: &TypeTerm) -> Result<Arc<Type
         | TypeTerm::Basic(_)
         | TypeTerm::Error
         | TypeTerm::Pointer(_)
-        | TypeTerm::Struct(_, _)
+        | TypeTerm::Struct(_, _, _)
         | TypeTerm::Interface(_, _) => settled_term(alloc, plan, term),
     }
 }

@@ -1,17 +1,17 @@
 //! The terms of type expressions.
-ghost use Rattle.std.specs.Prelude.{◌≡◌, IfOk, OnOk, true, false};
-ghost use Rattle.go_term_core.specs.Shapes.{shape, sign_of, fields_of, methods_of, terms_of};
-ghost use Rattle.go_term_core.specs.Terms.{NoField, AField, NoMethod, AMethod, NoTerm};
+ghost use Rattle.std.specs.Prelude.{◌≡◌, ◌++◌, ◌∷◌, [], IfOk, OnOk, true, false};
+ghost use Rattle.go_term_core.specs.Shapes.{line_with, shape, sign_of, methods_of, params_of};
+ghost use Rattle.go_term_core.specs.Terms.{NoField, AField, NoMethod, AMethod, NoTerm, ATerm};
 ghost use Rattle.go_tree_nodes.specs.TypeShapes.{shape_type, shape_idents, shape_names, shape_signature, shape_results};
-ghost use Rattle.go_written_core.specs.mirrors.Adding.{Adds, AddsTerms, then_methods, line_fields, lines_of, method_lines_of, params_in};
+ghost use Rattle.go_written_core.specs.mirrors.Adding.{Adds, AddsLine, AddsParams, AreWritten, then_methods, line_fields, lines_of, method_lines_of, params_in, named_in, field_in, numbers_of, more_numbers};
 ghost use Rattle.go_written_core.specs.Written.{in_file, term_of, signature_of, member_place, named_fields, fields_of_tree, methods_of_tree, results_of_tree, params_of_tree, for_names, last_ident, starred, tag_of};
 
 use crate::names::{TypeNames, WrittenIn};
 use go_decl_core::DeclKind;
-use go_term_core::{Field, Method, Signature, Tag, TypeTerm, copy};
+use go_term_core::{Field, FieldLine, Method, Params, Signature, Tag, TypeTerm};
 use go_text_core::{Span, add, boxed};
 use go_tree_nodes::{
-    FieldLine, Fields, Ident, Idents, MethodLine, Param, Results, TextLiteral, TypeExpr, TypeName,
+    Fields, Ident, Idents, MethodLine, NextIdent, Param, Results, TextLiteral, TypeExpr, TypeName,
 };
 use std::alloc::{AllocError, Global};
 
@@ -37,8 +37,8 @@ pub fn write_type<N: TypeNames>(
         }
         TypeExpr::Paren(_, inner, _) => write_type(alloc, names, at, inner),
         TypeExpr::Struct(_, _, lines, _) => {
-            let fields = write_fields(alloc, names, at, lines)?;
-            Ok(TypeTerm::Struct(at.path.share()?, fields))
+            let body = write_fields(alloc, names, at, lines)?;
+            Ok(TypeTerm::Struct(at.path.share()?, body.fields, body.lines))
         }
         TypeExpr::Interface(_, _, lines, _) => {
             let methods = write_methods(alloc, names, at, lines)?;
@@ -47,21 +47,31 @@ pub fn write_type<N: TypeNames>(
     }
 }
 
+// The fields of a struct type, and the lines that they stand in.
+#[derive(Drop)]
+struct Body {
+    fields: Vec<Field>,
+    lines: Vec<FieldLine>,
+}
+
 // The fields of the lines of a struct type.
 #[cycle(written)]
 fn write_fields<N: TypeNames>(
     alloc: Global,
     names: &N,
     at: &WrittenIn<'_>,
-    lines: &Vec<FieldLine>,
-) -> Result<Vec<Field>, AllocError>
-    ensures { IfOk result (λ fs. fields_of fs.items ≡ fields_of_tree (N.meaning names.now) (in_file at.now) (lines_of lines.now.items)) }
+    trees: &Vec<go_tree_nodes::FieldLine>,
+) -> Result<Body, AllocError>
+    ensures { IfOk result (λ body. AreWritten (fields_of_tree (N.meaning names.now) (in_file at.now) (lines_of trees.now.items)) body) }
 {
-    let mut fields = Vec::new(alloc);
-    for line in lines {
-        write_line(alloc, names, at, &line.fields, &line.tag, &mut fields)?;
+    let mut body = Body {
+        fields: Vec::new(alloc),
+        lines: Vec::new(alloc),
+    };
+    for line in trees {
+        write_line(alloc, names, at, &line.fields, &line.tag, &mut body)?;
     }
-    Ok(fields)
+    Ok(body)
 }
 
 // Adds the fields of a line of a struct type.
@@ -72,92 +82,106 @@ fn write_line<N: TypeNames>(
     at: &WrittenIn<'_>,
     line: &Fields,
     tag: &Option<TextLiteral>,
-    fields: &mut Vec<Field>,
+    body: &mut Body,
 ) -> Result<(), AllocError>
-    ensures { OnOk result (Adds fields.old.items (line_fields (N.meaning names.now) (in_file at.now) line.now tag.now) fields.new.items) }
+    ensures { OnOk result (Adds body.old (line_fields (N.meaning names.now) (in_file at.now) line.now tag.now) body.new) }
 {
     match line {
         Fields::Named(idents, tree) => {
             let term = write_type(alloc, names, at, tree)?;
-            add_named(alloc, at, fields, idents, term, tag)
+            add_named(alloc, at, body, idents, term, tag)
         }
         Fields::Embedded(star, name) => {
             let term = names.named(alloc, name)?;
-            add_embedded(alloc, at, fields, star, name, term, tag)
+            add_embedded(alloc, at, body, star, name, term, tag)
         }
     }
 }
 
-// Adds a field of a type for each name.
+// Adds a line of a type, and a field for each name.
 fn add_named(
     alloc: Global,
     at: &WrittenIn<'_>,
-    fields: &mut Vec<Field>,
+    body: &mut Body,
     idents: &Idents,
     term: TypeTerm,
     tag: &Option<TextLiteral>,
 ) -> Result<(), AllocError>
-    ensures { OnOk result (Adds fields.old.items (named_fields (in_file at.now) (shape term) (tag_of tag.now) (shape_idents idents.now) NoField) fields.new.items) }
+    ensures { OnOk result (Adds body.old (named_fields (in_file at.now) (shape term) (tag_of tag.now) (shape_idents idents.now) NoField) body.new) }
 {
-    add_field(
-        alloc,
-        at,
-        fields,
-        &idents.first,
-        false,
-        copy(alloc, &term)?,
-        tag,
-    )?;
+    add_names(alloc, at, &mut body.fields, body.lines.len(), idents)?;
+    add_line(alloc, &mut body.lines, false, term, tag)
+}
+
+// Adds a field of the line of a number for each name.
+fn add_names(
+    alloc: Global,
+    at: &WrittenIn<'_>,
+    fields: &mut Vec<Field>,
+    line: usize,
+    idents: &Idents,
+) -> Result<(), AllocError>
+    ensures { OnOk result (fields.new.items ≡ fields.old.items ++ named_in (in_file at.now) line (shape_idents idents.now)) }
+{
+    add_field(alloc, at, fields, &idents.first, line)?;
     for next in &idents.more {
-        add_field(
-            alloc,
-            at,
-            fields,
-            &next.ident,
-            false,
-            copy(alloc, &term)?,
-            tag,
-        )?;
+        add_field(alloc, at, fields, &next.ident, line)?;
     }
     Ok(())
 }
 
-// Adds an embedded field.
+// Adds a line with an embedded field.
 fn add_embedded(
     alloc: Global,
     at: &WrittenIn<'_>,
-    fields: &mut Vec<Field>,
+    body: &mut Body,
     star: &Option<Span>,
     name: &TypeName,
     term: TypeTerm,
     tag: &Option<TextLiteral>,
 ) -> Result<(), AllocError>
-    ensures { OnOk result (Adds fields.old.items (AField (last_ident name.now).name (member_place (in_file at.now) DeclKind.Field (last_ident name.now).span.start) true (starred star.now (shape term)) (tag_of tag.now) NoField) fields.new.items) }
+    ensures { OnOk result (Adds body.old (AField (last_ident name.now).name (member_place (in_file at.now) DeclKind.Field (last_ident name.now).span.start) true (starred star.now (shape term)) (tag_of tag.now) NoField) body.new) }
 {
     let term = starred_term(alloc, star, term)?;
-    add_field(alloc, at, fields, last_ident(name), true, term, tag)
+    add_field(
+        alloc,
+        at,
+        &mut body.fields,
+        last_ident(name),
+        body.lines.len(),
+    )?;
+    add_line(alloc, &mut body.lines, true, term, tag)
 }
 
-// Adds a field.
+// Adds a field of the line of a number.
 fn add_field(
     alloc: Global,
     at: &WrittenIn<'_>,
     fields: &mut Vec<Field>,
     ident: &Ident,
+    line: usize,
+) -> Result<(), AllocError>
+    ensures { OnOk result (fields.new.items ≡ fields.old.items ++ field_in (in_file at.now) line ident.now ∷ []) }
+{
+    let name = ident.name.copy(alloc)?;
+    let place = at.place(DeclKind::Field, ident.span.start as usize);
+    add(fields, Field { name, place, line })
+}
+
+// Adds a line.
+fn add_line(
+    alloc: Global,
+    lines: &mut Vec<FieldLine>,
     embedded: bool,
     term: TypeTerm,
     tag: &Option<TextLiteral>,
 ) -> Result<(), AllocError>
-    ensures { OnOk result (Adds fields.old.items (AField ident.now.name (member_place (in_file at.now) DeclKind.Field ident.now.span.start) embedded (shape term) (tag_of tag.now) NoField) fields.new.items) }
+    ensures { OnOk result (AddsLine lines.old.items (line_with embedded (shape term) (tag_of tag.now)) lines.new.items) }
 {
-    let name = ident.name.copy(alloc)?;
     let tag = tag_of(alloc, tag)?;
-    let place = at.place(DeclKind::Field, ident.span.start as usize);
     add(
-        fields,
-        Field {
-            name,
-            place,
+        lines,
+        FieldLine {
             embedded,
             term,
             tag,
@@ -261,52 +285,85 @@ fn write_results<N: TypeNames>(
     names: &N,
     at: &WrittenIn<'_>,
     results: &Results,
-) -> Result<Vec<TypeTerm>, AllocError>
-    ensures { IfOk result (λ ts. terms_of ts.items ≡ results_of_tree (N.meaning names.now) (in_file at.now) (shape_results results.now)) }
+) -> Result<Params, AllocError>
+    ensures { IfOk result (λ ps. params_of ps ≡ results_of_tree (N.meaning names.now) (in_file at.now) (shape_results results.now)) }
 {
     match results {
-        Results::Nothing => Ok(Vec::new(alloc)),
+        Results::Nothing => Ok(Params {
+            lines: Vec::new(alloc),
+            terms: Vec::new(alloc),
+        }),
         Results::Single(one) => {
             let term = write_type(alloc, names, at, one)?;
-            let mut terms = Vec::new(alloc);
-            add(&mut terms, term)?;
-            Ok(terms)
+            one_result(alloc, term)
         }
         Results::Listed(listed) => write_params(alloc, names, at, &listed.entries),
     }
 }
 
-// The types of parameters: one for each name, and for each that has none.
+// One type.
+fn one_result(alloc: Global, term: TypeTerm) -> Result<Params, AllocError>
+    ensures { IfOk result (λ ps. params_of ps ≡ ATerm (shape term) NoTerm) }
+{
+    let mut params = Params {
+        lines: Vec::new(alloc),
+        terms: Vec::new(alloc),
+    };
+    add(&mut params.lines, 0)?;
+    add(&mut params.terms, term)?;
+    Ok(params)
+}
+
+// The types of parameters: one for each name, and for each that has none. Names of one type share it.
 #[cycle(written)]
 fn write_params<N: TypeNames>(
     alloc: Global,
     names: &N,
     at: &WrittenIn<'_>,
-    params: &Vec<Param>,
-) -> Result<Vec<TypeTerm>, AllocError>
-    ensures { IfOk result (λ ts. terms_of ts.items ≡ params_of_tree (N.meaning names.now) (in_file at.now) (params_in params.now.items)) }
+    trees: &Vec<Param>,
+) -> Result<Params, AllocError>
+    ensures { IfOk result (λ ps. params_of ps ≡ params_of_tree (N.meaning names.now) (in_file at.now) (params_in trees.now.items)) }
 {
-    let mut terms = Vec::new(alloc);
-    for param in params {
+    let mut params = Params {
+        lines: Vec::new(alloc),
+        terms: Vec::new(alloc),
+    };
+    for param in trees {
         let term = write_type(alloc, names, at, &param.type_expr)?;
-        add_for_names(alloc, &mut terms, &param.names, term)?;
+        add_param(&mut params, &param.names, term)?;
     }
-    Ok(terms)
+    Ok(params)
 }
 
-// Adds a type for each name, or once where there is none.
-fn add_for_names(
-    alloc: Global,
-    terms: &mut Vec<TypeTerm>,
-    names: &Option<Idents>,
-    term: TypeTerm,
-) -> Result<(), AllocError>
-    ensures { OnOk result (AddsTerms terms.old.items (for_names (shape term) (shape_names names.now) NoTerm) terms.new.items) }
+// Adds a type once for each name, or once where there is none.
+fn add_param(params: &mut Params, names: &Option<Idents>, term: TypeTerm) -> Result<(), AllocError>
+    ensures { OnOk result (AddsParams params.old (for_names (shape term) (shape_names names.now) NoTerm) params.new) }
 {
-    if let Some(idents) = names {
-        for _ in &idents.more {
-            add(terms, copy(alloc, &term)?)?;
-        }
+    add_numbers(&mut params.lines, names, params.terms.len())?;
+    add(&mut params.terms, term)
+}
+
+// Adds a number for each name, or once where there is none.
+fn add_numbers(
+    lines: &mut Vec<usize>,
+    names: &Option<Idents>,
+    number: usize,
+) -> Result<(), AllocError>
+    ensures { OnOk result (lines.new.items ≡ lines.old.items ++ numbers_of number (shape_names names.now)) }
+{
+    add(lines, number)?;
+    match names {
+        Some(idents) => add_more(lines, &idents.more, number),
+        None => Ok(()),
     }
-    add(terms, term)
+}
+
+// Adds a number for each further name.
+fn add_more(lines: &mut Vec<usize>, more: &Vec<NextIdent>, number: usize) -> Result<(), AllocError>
+    ensures { OnOk result (lines.new.items ≡ lines.old.items ++ more_numbers number more.now.items) }
+{
+    for _ in more {
+        add(lines, number)?;
+    }
+    Ok(())
 }

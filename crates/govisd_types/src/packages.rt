@@ -3,21 +3,23 @@ ghost use Rattle.go_graph_core.specs.Plans.{IsPlan};
 
 use go_block_core::{Blocks, Exports, workspace_blocks};
 use go_decl_core::{DeclForm, Outline};
-use go_embed_core::{MemberFault, check_base, check_methods, check_struct};
+use go_embed_core::{MemberFault, check_base, check_hidden_fields, check_methods, check_struct};
 use go_entry_core::{FileNames, ShownPackages, outlines, type_entries};
 use go_graph_core::{PackageSource, Plan, Workspace, assemble};
 use go_path_core::ImportPath;
 use go_term_core::close;
 use go_text_core::{Rule, add};
 use go_tree_nodes::TypeName;
-use go_type_core::{MemberPlace, PackageTypes, TypeEntry, TypeFault, TypeTable, build_types};
+use go_type_core::{
+    DefinedType, MemberPlace, PackageTypes, TypeEntry, TypeFault, TypeTable, TypeTerm, build_types,
+};
 use go_written_core::TypeNames;
 use govisd_show::{Named, name_packages};
 use std::alloc::{AllocError, Global};
 use std::collections::BTreeMap;
 
 /// A fault, at an offset in bytes of the file of a number.
-#[derive(Clone, Copy)]
+#[derive(Clone, Copy, PartialEq, Eq)]
 pub struct Fault {
     pub file: usize,
     pub offset: usize,
@@ -110,7 +112,15 @@ fn add_faults(
     Ok(())
 }
 
-/// Adds the faults of what is written of a type: of its struct types and interface types, and of its methods.
+/// The type whose fields the methods of a defined type may meet: its underlying type, or, where it is no type, the type as it is written.
+fn met_type<'a>(defined: &'a DefinedType, entry: &'a TypeEntry) -> &'a TypeTerm {
+    match defined.underlying() {
+        TypeTerm::NoType => &entry.term,
+        underlying => underlying,
+    }
+}
+
+/// Adds the faults of what is written of a type: of its struct types and interface types, of its methods, and of the fields behind them.
 fn add_entry_faults(
     faults: &mut Vec<Fault>,
     alloc: Global,
@@ -122,13 +132,11 @@ fn add_entry_faults(
     let Some(located) = written.known.table.locate(&entry.key) else {
         return Ok(());
     };
-    let found = check_methods(
-        alloc,
-        &written.known.table,
-        written.path,
-        located.defined.underlying(),
-        entry.methods.as_slice(),
-    )?;
+    let met = met_type(located.defined, entry);
+    let methods = entry.methods.as_slice();
+    let found = check_methods(alloc, &written.known.table, written.path, met, methods)?;
+    add_faults(faults, written.outlines, found)?;
+    let found = check_hidden_fields(alloc, written.path, met, methods)?;
     add_faults(faults, written.outlines, found)
 }
 
@@ -184,7 +192,8 @@ fn add_receiver_faults(
     Ok(())
 }
 
-/// The faults of a package: of each type that reaches itself, then of the members of each type, then of receivers.
+/// The faults of a package, of types that reach themselves, of members and of receivers, by file, offset and rule: a place has each rule once. A
+/// field of another declaration may stand behind methods of several types.
 fn faults_of<'a>(
     alloc: Global,
     path: &'a ImportPath,
@@ -211,6 +220,8 @@ fn faults_of<'a>(
         add_entry_faults(&mut faults, alloc, &written, entry)?;
     }
     add_receiver_faults(&mut faults, alloc, &written)?;
+    faults.sort_by_key(|fault| (fault.file, fault.offset, fault.rule.number()))?;
+    faults.dedup();
     Ok(faults)
 }
 

@@ -42,7 +42,7 @@ fn add_member(out: &mut Lines, typed: &Typed, member: Member<'_>) {
     match member {
         Member::Field(path, field) => {
             out.add("field ");
-            add_place(out, typed, path, field.place);
+            add_place(out, typed, path, field.field.place);
         }
         Member::Method(path, method) => {
             out.add("method ");

@@ -3,6 +3,7 @@ use crate::packages::{Typed, TypedPackage};
 use crate::selectors::{add_operand, add_selectable, add_selector, starred};
 use go_path_core::ImportPath;
 use go_select_core::select;
+use go_table_core::StructField;
 use go_term_core::close;
 use go_type_core::{DefinedType, TypeTerm};
 use govisd_show::{Lines, Named};
@@ -20,9 +21,9 @@ fn add_members(
         names.insert(String::from_str(alloc, method.name.as_str())?)?;
     }
     match defined.underlying() {
-        TypeTerm::Struct(_, fields) => {
+        TypeTerm::Struct(_, fields, lines) => {
             for field in fields {
-                if embedded || !field.embedded {
+                if embedded || !StructField::of(field, lines).is_embedded() {
                     names.insert(String::from_str(alloc, field.name.as_str())?)?;
                 }
             }

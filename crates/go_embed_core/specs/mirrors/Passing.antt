@@ -1,26 +1,31 @@
 -- The faults of one member, beside those of its type, behind members of the names that were passed.
-use Rattle.std.specs.Prelude.{◌≡◌, ℕ, not, ◌&&◌, ◌||◌, List, ◌++◌}
+use Rattle.std.specs.Prelude.{◌≡◌, ℕ, not, ◌&&◌, ◌||◌, List, ◌∷◌, ◌++◌, if◌then◌else◌}
 use Rattle.go_text_core.specs.Text.{is_blank}
 use Rattle.go_text_core.specs.declared.rule.Rule.TheVariants as rules
 use Rattle.go_decl_core.specs.declared.keys.DeclKey.{DeclKey}
 use Rattle.go_term_core.specs.declared.term.Field.{Field}
 use Rattle.go_term_core.specs.declared.term.Method.{Method}
 use Rattle.go_term_core.specs.Terms.{Term}
-use Rattle.go_term_core.specs.Shapes.{shape}
+use Rattle.go_term_core.specs.Shapes.{Line, line_at}
 use Rattle.go_settle_core.specs.declared.kind.Kind.{Kind}
 use Rattle.go_settle_core.specs.Settled.{can_be_embedded, has_name, repeats}
 use Rattle.go_table_core.specs.declared.entry.DeclaredMethod.{DeclaredMethod}
+use Rattle.go_table_core.specs.Entries.{Member}
 use Rattle.go_table_core.specs.Methods.{has_field_before}
 use Rattle.go_table_core.specs.Shown.{member_shown}
 use Rattle.go_embed_core.specs.declared.faults.MemberFault.{MemberFault}
-use Rattle.go_embed_core.specs.Faults.{fault_if}
+use Rattle.go_embed_core.specs.Faults.{fault_if, is_left_out}
 
 -- two lists have the same names
 abbrev pub SameNames : List (List ℕ) → List (List ℕ) → Type 0
 SameNames a b = (name : List ℕ) → has_name a name ≡ has_name b name
 
-abbrev pub field_own : (DeclKey → Kind) → List (List ℕ) → Field → List MemberFault
-field_own kind seen f = fault_if (repeats seen f.name) f.place rules.B5 ++ fault_if (f.embedded && not (can_be_embedded kind (shape f.term))) f.place rules.Y2
+-- names with that of a method, unless the method is left out
+abbrev pub names_with : List ℕ → Term → Member → List (List ℕ) → List (List ℕ)
+names_with path u m names = if is_left_out path u m then names else m.name ∷ names
+
+abbrev pub field_own : (DeclKey → Kind) → List Line → List (List ℕ) → Field → List MemberFault
+field_own kind ls seen f = fault_if (repeats seen f.name) f.place rules.B5 ++ fault_if ((line_at ls f.line).embedded && not (can_be_embedded kind (line_at ls f.line).term)) f.place rules.Y2
 
 abbrev pub method_own : List (List ℕ) → Method → List MemberFault
 method_own seen m = fault_if (is_blank m.name || has_name seen m.name) m.place rules.B5

@@ -3,7 +3,7 @@ use Rattle.std.specs.Prelude.{ℕ, Bool, List, [], ◌∷◌, if◌then◌else�
 use Rattle.go_term_core.specs.declared.term.Field.{Field}
 use Rattle.go_term_core.specs.declared.term.Method.{Method}
 use Rattle.go_term_core.specs.Terms.{NoType}
-use Rattle.go_term_core.specs.Shapes.{shape, sign_of}
+use Rattle.go_term_core.specs.Shapes.{Line, line_at, sign_of}
 use Rattle.go_table_core.specs.declared.entry.DeclaredMethod.{DeclaredMethod}
 use Rattle.go_table_core.specs.Entries.{same_id}
 use Rattle.go_embed_core.specs.declared.member.Hits.{Hits}
@@ -43,8 +43,8 @@ tally_of name from n = hit_if (same_id n.0 n.1.0 name from) n.1.1
 abbrev pub method_tally : List ℕ → List ℕ → List ℕ → DeclaredMethod → Tally
 method_tally path name from m = hit_if (same_id m.name path name from) (AMethodOf path m.place m.pointer (sign_of m.signature))
 
-abbrev pub field_tally : List ℕ → List ℕ → List ℕ → Field → Tally
-field_tally path name from f = hit_if (same_id f.name path name from) (AFieldOf path f.place (shape f.term))
+abbrev pub field_tally : List Line → List ℕ → List ℕ → List ℕ → Field → Tally
+field_tally ls path name from f = hit_if (same_id f.name path name from) (AFieldOf path f.place (line_at ls f.line).term)
 
 abbrev pub interface_tally : List ℕ → List ℕ → List ℕ → Method → Tally
 interface_tally path name from m = hit_if (same_id m.name path name from) (AnInterfaces path m.place (sign_of m.signature))

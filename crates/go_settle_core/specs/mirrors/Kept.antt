@@ -1,10 +1,10 @@
 -- Which fields and methods are kept, before they are settled.
-use Rattle.std.specs.Prelude.{ℕ, Bool, not, ◌&&◌, ◌||◌, List, [], ◌∷◌, map}
+use Rattle.std.specs.Prelude.{ℕ, Bool, not, ◌&&◌, ◌||◌, List, [], ◌∷◌, map, if◌then◌else◌}
 use Rattle.go_decl_core.specs.declared.keys.DeclKey.{DeclKey}
 use Rattle.go_text_core.specs.Text.{is_blank}
 use Rattle.go_term_core.specs.declared.term.Field.{Field}
 use Rattle.go_term_core.specs.declared.term.Method.{Method}
-use Rattle.go_term_core.specs.Shapes.{shape, sign_of}
+use Rattle.go_term_core.specs.Shapes.{Line, line_with, line_at, sign_of}
 use Rattle.go_term_core.specs.Terms.{Fields, AField, Methods, AMethod}
 use Rattle.go_settle_core.specs.declared.kind.Kind.{Kind}
 use Rattle.go_settle_core.specs.Settled.{can_be_embedded, has_name, settled, settled_sign}
@@ -28,13 +28,19 @@ kept_fields fs = kept_names keeps_field [] (map (λ f. f.name) fs)
 abbrev pub kept_methods : List Method → List Bool
 kept_methods ms = kept_names keeps_method [] (map (λ m. m.name) ms)
 
--- a field before others
-abbrev pub put_field : Field → Fields → Fields
-put_field f rest = AField f.name f.place f.embedded (shape f.term) f.tag rest
+-- those of a list that are kept
+abbrev pub those_kept : List Bool → List Field → List Field
+those_kept ks [] = []
+those_kept [] (f ∷ fs) = []
+those_kept (k ∷ ks) (f ∷ fs) = if k then f ∷ those_kept ks fs else those_kept ks fs
 
--- a settled field before others
-abbrev pub make_field : (DeclKey → Kind) → Field → Fields → Fields
-make_field kind f rest = AField f.name f.place (f.embedded && can_be_embedded kind (shape f.term)) (settled kind (shape f.term)) f.tag rest
+-- a settled line
+abbrev pub settled_line : (DeclKey → Kind) → Line → Line
+settled_line kind l = line_with (l.embedded && can_be_embedded kind l.term) (settled kind l.term) l.tag
+
+-- a settled field of these lines before others
+abbrev pub make_field : (DeclKey → Kind) → List Line → Field → Fields → Fields
+make_field kind ls f rest = AField f.name f.place ((line_at ls f.line).embedded && can_be_embedded kind (line_at ls f.line).term) (settled kind (line_at ls f.line).term) (line_at ls f.line).tag rest
 
 -- a method before others
 abbrev pub put_method : Method → Methods → Methods

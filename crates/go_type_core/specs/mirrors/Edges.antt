@@ -1,5 +1,5 @@
 -- The uses of types by one another as edges between their numbers.
-use Rattle.std.specs.Prelude.{◌≡◌, ◌↔◌, ℕ, suc, ◌<◌, Bool, true, false, List, [], ◌∷◌, ◌++◌, Option, Some, None, length, slice_get, slice_index_or, slice_set, Contains, if◌then◌else◌}
+use Rattle.std.specs.Prelude.{◌≡◌, ◌↔◌, ◌⊎◌, ℕ, suc, ◌<◌, Bool, true, false, List, [], ◌∷◌, ◌++◌, Option, Some, None, length, slice_get, slice_index_or, slice_set, Contains, if◌then◌else◌}
 use Rattle.go_decl_core.specs.declared.keys.DeclKey.{DeclKey}
 use Rattle.go_cycle_core.specs.declared.edge.Edge.{Edge}
 use Rattle.go_cycle_core.specs.Cycle.{IsOnCycle}
@@ -45,3 +45,15 @@ pub record MarksTo (all some : List Edge) (count : ℕ) (marks : List Bool) : Ty
 -- marks with one more, if it is to be
 abbrev pub marks_if : List Bool → ℕ → Bool → List Bool
 marks_if marks i b = if b then slice_set marks i true else marks
+
+-- the same edges, however often each stands there
+abbrev pub SameEdges : List Edge → List Edge → Type 0
+SameEdges xs ys = (e : Edge) → Contains xs e ↔ Contains ys e
+
+-- edges with others, however often each stands there
+abbrev pub HasAlso : List Edge → List Edge → List Edge → Type 0
+HasAlso old more new = (e : Edge) → Contains new e ↔ (Contains old e ⊎ Contains more e)
+
+-- edges with those of a line, or as they were where the line was met last
+abbrev pub LineAdded : List Edge → Option ℕ → ℕ → List Edge → List Edge → Type 0
+LineAdded more met number old new = ((met ≡ Some number) × (new ≡ old)) ⊎ HasAlso old more new

@@ -8,4 +8,4 @@ use Rattle.go_embed_core.proofs.owner.has_namesake.Goals as goal
 pub returns-in-Struct : goal.returns-in-Struct
 returns-in-Struct c =
     let w = c.in-Struct in
-    c.has_method.ensures ∙ ap (hidden_in c.args.path.now (map member_shown c.args.methods.now) c.args.name.now) (sym (ap shape w.is ∙ shape_struct w.from w.field-1))
+    c.has_method.ensures ∙ ap (hidden_in c.args.path.now (map member_shown c.args.methods.now) c.args.name.now) (sym (ap shape w.is ∙ shape_struct w.from w.field-1 w.field-2))

@@ -1,7 +1,9 @@
-use Rattle.std.proofs.Common.{◌≡◌, false, true, refl, inl, inr, ap, sym, ◌∙◌}
-use Rattle.go_term_core.specs.Shapes.{shape, sign_of}
+use Rattle.std.proofs.Common.{◌≡◌, [], map, false, true, refl, inl, inr, ap, sym, ◌∙◌}
+use Rattle.go_term_core.specs.Shapes.{shape, line_shape, line_with, lines_of, sign_of}
+use Rattle.go_term_core.specs.Terms.{NoType}
+use Rattle.go_term_core.specs.mirrors.Alike.{IsMet}
 use Rattle.go_term_core.proofs.TermShapes.{shape_struct, shape_interface}
-use Rattle.go_term_core.proofs.SameLists.{fails, alike_passed, alike_nowhere, both_step, both_differ, both_end, IsSameField, AreSameFields, fields_open, IsSameTerm, AreSameTerms, terms_open, as_many_fields, as_many_terms, methods_counted, alike_found, alike_in, alike_where, all_step, all_missing, all_end, same_at}
+use Rattle.go_term_core.proofs.SameLists.{fails, alike_passed, alike_nowhere, both_end, AreSameFields, AreSameTerms, found, missing, alike_at, lines_at, terms_at, no_lines, no_terms, no_line_left, no_line_right, nothing_left, nothing_right, unless_met, as_many_fields, as_many_terms, methods_counted, alike_found, alike_in, alike_where, all_step, all_missing, all_end, same_at}
 use Rattle.go_term_core.proofs.same.+same.Goals as goal
 use Rattle.go_term_core.proofs.same.+same.Goals.{has_alike-else-is_same_name-via-then-is_same_name+else-same_signature, has_alike-else-is_same_name-via-else-is_same_name, same_methods-else-not-has_alike-via-then-not-has_alike+else-not-has_alike-2, same_methods-else-not-has_alike-via-else-not-has_alike}
 
@@ -13,17 +15,12 @@ has_alike-returns-then-same_signature t c =
 pub identical_by-returns-in-Struct-Struct : goal.identical_by-returns-in-Struct-Struct
 identical_by-returns-in-Struct-Struct t c =
     let w = c.in-Struct-Struct in
-    same_at c.args.tags _ _ _ _ _ (ap shape w.is-0 ∙ shape_struct w.p w.fs) (ap shape w.is-1 ∙ shape_struct w.q w.gs) c.same_fields.ensures
+    same_at c.args.tags _ _ _ _ _ (ap shape w.is-0 ∙ shape_struct w.p w.fs w.ls) (ap shape w.is-1 ∙ shape_struct w.q w.gs w.ks) c.same_fields.ensures
 
 pub identical_by-returns-in-Interface-Interface : goal.identical_by-returns-in-Interface-Interface
 identical_by-returns-in-Interface-Interface t c =
     let w = c.in-Interface-Interface in
     same_at c.args.tags _ _ _ _ _ (ap shape w.is-0 ∙ shape_interface w.p w.ms) (ap shape w.is-1 ∙ shape_interface w.q w.ns) c.same_methods.ensures
-
-pub same_fields-returns-then-len : goal.same_fields-returns-then-len
-same_fields-returns-then-len t c =
-    let a = c.args in
-    fails (λ h. let e = as_many_fields a.tags a.p.now a.q.now a.fs.now.items a.gs.now.items h in c.if-len.true (c.len.ensures ∙ (a.fs.now.ok.0 ∙ e ∙ sym a.gs.now.ok.0) ∙ sym c.len-2.ensures))
 
 pub same_methods-returns-then-len : goal.same_methods-returns-then-len
 same_methods-returns-then-len t c =
@@ -59,47 +56,6 @@ same_methods-returns t c =
     let a = c.args in
     (λ _. (methods_counted a.ms.now.items ∙ (sym a.ms.now.ok.0 ∙ (sym c.len.ensures ∙ c.if-len.false ∙ c.len-2.ensures) ∙ a.ns.now.ok.0) ∙ sym (methods_counted a.ns.now.items), all_end a.tags a.p.now a.q.now _ a.ms.now.items a.ns.now.items _ c.deref-m-items.ensures.value c.loop-i-test.false c.loop-i.invariant), λ _. refl)
 
-pub same_terms-returns-then-len : goal.same_terms-returns-then-len
-same_terms-returns-then-len t c =
-    let a = c.args in
-    fails (λ h. let e = as_many_terms a.tags a.ts.now.items a.us.now.items h in c.if-len.true (c.len.ensures ∙ (a.ts.now.ok.0 ∙ e ∙ sym a.us.now.ok.0) ∙ sym c.len-2.ensures))
-
-pub same_fields-loop-i-preserved : goal.same_fields-loop-i-preserved
-same_fields-loop-i-preserved t c =
-    let a = c.args in
-    let many = sym a.fs.now.ok.0 ∙ (sym c.len.ensures ∙ c.if-len.false ∙ c.len-2.ensures) ∙ a.gs.now.ok.0 in
-    both_step (AreSameFields a.tags a.p.now a.q.now) (IsSameField a.tags a.p.now a.q.now) (fields_open a.tags a.p.now a.q.now) _ a.fs.now.items a.gs.now.items _ c.f-item.result c.index.result.now c.deref-f-items.ensures.value many c.loop-i-test.true c.f-item.is c.index.ensures (c.if-not-is_same_field.ensures.0 refl) c.loop-i.invariant
-
-pub same_fields-returns-then-not-is_same_field : goal.same_fields-returns-then-not-is_same_field
-same_fields-returns-then-not-is_same_field t c =
-    let a = c.args in
-    let many = sym a.fs.now.ok.0 ∙ (sym c.len.ensures ∙ c.if-len.false ∙ c.len-2.ensures) ∙ a.gs.now.ok.0 in
-    both_differ (AreSameFields a.tags a.p.now a.q.now) (IsSameField a.tags a.p.now a.q.now) (fields_open a.tags a.p.now a.q.now) _ a.fs.now.items a.gs.now.items _ c.f-item.result c.index.result.now c.deref-f-items.ensures.value many c.loop-i-test.true c.f-item.is c.index.ensures (λ h. let k : false ≡ true = c.if-not-is_same_field.ensures.1 h in cc) c.loop-i.invariant
-
-pub same_fields-returns : goal.same_fields-returns
-same_fields-returns t c =
-    let a = c.args in
-    let many = sym a.fs.now.ok.0 ∙ (sym c.len.ensures ∙ c.if-len.false ∙ c.len-2.ensures) ∙ a.gs.now.ok.0 in
-    both_end (AreSameFields a.tags a.p.now a.q.now) tt _ a.fs.now.items a.gs.now.items _ c.deref-f-items.ensures.value many c.loop-i-test.false c.loop-i.invariant
-
-pub same_terms-loop-i-preserved : goal.same_terms-loop-i-preserved
-same_terms-loop-i-preserved t c =
-    let a = c.args in
-    let many = sym a.ts.now.ok.0 ∙ (sym c.len.ensures ∙ c.if-len.false ∙ c.len-2.ensures) ∙ a.us.now.ok.0 in
-    both_step (AreSameTerms a.tags) (IsSameTerm a.tags) (terms_open a.tags) _ a.ts.now.items a.us.now.items _ c.t-item.result c.index.result.now c.deref-t-items.ensures.value many c.loop-i-test.true c.t-item.is c.index.ensures (c.if-not-identical_by.ensures.0 refl) c.loop-i.invariant
-
-pub same_terms-returns-then-not-identical_by : goal.same_terms-returns-then-not-identical_by
-same_terms-returns-then-not-identical_by t c =
-    let a = c.args in
-    let many = sym a.ts.now.ok.0 ∙ (sym c.len.ensures ∙ c.if-len.false ∙ c.len-2.ensures) ∙ a.us.now.ok.0 in
-    both_differ (AreSameTerms a.tags) (IsSameTerm a.tags) (terms_open a.tags) _ a.ts.now.items a.us.now.items _ c.t-item.result c.index.result.now c.deref-t-items.ensures.value many c.loop-i-test.true c.t-item.is c.index.ensures (λ h. let k : false ≡ true = c.if-not-identical_by.ensures.1 h in cc) c.loop-i.invariant
-
-pub same_terms-returns : goal.same_terms-returns
-same_terms-returns t c =
-    let a = c.args in
-    let many = sym a.ts.now.ok.0 ∙ (sym c.len.ensures ∙ c.if-len.false ∙ c.len-2.ensures) ∙ a.us.now.ok.0 in
-    both_end (AreSameTerms a.tags) tt _ a.ts.now.items a.us.now.items _ c.deref-t-items.ensures.value many c.loop-i-test.false c.loop-i.invariant
-
 pub has_alike-loop-n-preserved : goal.has_alike-loop-n-preserved
 has_alike-loop-n-preserved t c =
     let a = c.args in
@@ -114,3 +70,73 @@ pub has_alike-returns : goal.has_alike-returns
 has_alike-returns t c =
     let a = c.args in
     alike_nowhere a.tags a.p.now a.m.now.name (sign_of a.m.now.signature) a.q.now a.ns.now _ c.loop-n-test.false c.loop-n.invariant
+
+pub same_fields-returns-then-len : goal.same_fields-returns-then-len
+same_fields-returns-then-len t c =
+    let a = c.args in
+    fails (λ h. let e = as_many_fields a.tags a.p.now a.q.now (lines_of a.ls.now.items) (lines_of a.ks.now.items) a.fs.now.items a.gs.now.items h in c.if-len.true (c.len.ensures ∙ (a.fs.now.ok.0 ∙ e ∙ sym a.gs.now.ok.0) ∙ sym c.len-2.ensures))
+
+pub same_terms-returns-then-len : goal.same_terms-returns-then-len
+same_terms-returns-then-len t c =
+    let a = c.args in
+    fails (λ h. let e = as_many_terms a.tags (map shape a.ts.now.items) (map shape a.us.now.items) a.ns.now.items a.ms.now.items h in c.if-len.true (c.len.ensures ∙ (a.ns.now.ok.0 ∙ e ∙ sym a.ms.now.ok.0) ∙ sym c.len-2.ensures))
+
+pub same_fields-returns : goal.same_fields-returns
+same_fields-returns t c =
+    let a = c.args in
+    let many = sym a.fs.now.ok.0 ∙ (sym c.len.ensures ∙ c.if-len.false ∙ c.len-2.ensures) ∙ a.gs.now.ok.0 in
+    both_end (AreSameFields a.tags a.p.now a.q.now (lines_of a.ls.now.items) (lines_of a.ks.now.items)) tt _ a.fs.now.items a.gs.now.items _ c.deref-f-items.ensures.value many c.loop-i-test.false c.loop-i.invariant.0
+
+pub same_terms-returns : goal.same_terms-returns
+same_terms-returns t c =
+    let a = c.args in
+    let many = sym a.ns.now.ok.0 ∙ (sym c.len.ensures ∙ c.if-len.false ∙ c.len-2.ensures) ∙ a.ms.now.ok.0 in
+    both_end (AreSameTerms a.tags (map shape a.ts.now.items) (map shape a.us.now.items)) tt _ a.ns.now.items a.ms.now.items _ c.deref-n-items.ensures.value many c.loop-i-test.false c.loop-i.invariant.0
+
+pub are_lines_same-returns-in-Some-Some : goal.are_lines_same-returns-in-Some-Some
+are_lines_same-returns-in-Some-Some t c =
+    let a = c.args in
+    let w = c.in-Some-Some in
+    unless_met (IsMet a.met a.pair) _ _ _ c.if-is_met.ensures c.is_same_line.ensures (lines_at a.tags _ _ _ _ _ (found line_shape (line_with false NoType []) c.deref.result.now a.ls.now.items a.pair.one w.l c.deref.ensures.value w.ensures.lookup) (found line_shape (line_with false NoType []) c.deref-2.result.now a.ks.now.items a.pair.other w.k c.deref-2.ensures.value w.ensures'.lookup) alike_at)
+
+pub are_lines_same-returns-in-Some-None : goal.are_lines_same-returns-in-Some-None
+are_lines_same-returns-in-Some-None t c =
+    let a = c.args in
+    let w = c.in-Some-None in
+    unless_met (IsMet a.met a.pair) _ _ _ c.if-is_met.ensures c.is_no_line.ensures (lines_at a.tags _ _ _ _ _ (found line_shape (line_with false NoType []) c.deref.result.now a.ls.now.items a.pair.one w.l c.deref.ensures.value w.ensures.lookup) (missing line_shape (line_with false NoType []) c.deref-2.result.now a.ks.now.items a.pair.other c.deref-2.ensures.value w.ensures'.lookup) (no_line_right a.tags (line_shape w.l.now)))
+
+pub are_lines_same-returns-in-None-Some : goal.are_lines_same-returns-in-None-Some
+are_lines_same-returns-in-None-Some t c =
+    let a = c.args in
+    let w = c.in-None-Some in
+    unless_met (IsMet a.met a.pair) _ _ _ c.if-is_met.ensures c.is_no_line-in-None-Some.ensures (lines_at a.tags _ _ _ _ _ (missing line_shape (line_with false NoType []) c.deref.result.now a.ls.now.items a.pair.one c.deref.ensures.value w.ensures.lookup) (found line_shape (line_with false NoType []) c.deref-2.result.now a.ks.now.items a.pair.other w.k c.deref-2.ensures.value w.ensures'.lookup) (no_line_left a.tags (line_shape w.k.now)))
+
+pub are_lines_same-returns-in-None-None : goal.are_lines_same-returns-in-None-None
+are_lines_same-returns-in-None-None t c =
+    let a = c.args in
+    let w = c.in-None-None in
+    unless_met (IsMet a.met a.pair) _ _ _ c.if-is_met.ensures alike_at (lines_at a.tags _ _ _ _ _ (missing line_shape (line_with false NoType []) c.deref.result.now a.ls.now.items a.pair.one c.deref.ensures.value w.ensures.lookup) (missing line_shape (line_with false NoType []) c.deref-2.result.now a.ks.now.items a.pair.other c.deref-2.ensures.value w.ensures'.lookup) (no_lines a.tags))
+
+pub are_terms_same-returns-in-Some-Some : goal.are_terms_same-returns-in-Some-Some
+are_terms_same-returns-in-Some-Some t c =
+    let a = c.args in
+    let w = c.in-Some-Some in
+    unless_met (IsMet a.met a.pair) _ _ _ c.if-is_met.ensures c.identical_by.ensures (terms_at a.tags _ _ _ _ _ (found shape NoType c.deref.result.now a.ts.now.items a.pair.one w.t c.deref.ensures.value w.ensures.lookup) (found shape NoType c.deref-2.result.now a.us.now.items a.pair.other w.u c.deref-2.ensures.value w.ensures'.lookup) alike_at)
+
+pub are_terms_same-returns-in-Some-None : goal.are_terms_same-returns-in-Some-None
+are_terms_same-returns-in-Some-None t c =
+    let a = c.args in
+    let w = c.in-Some-None in
+    unless_met (IsMet a.met a.pair) _ _ _ c.if-is_met.ensures c.is_no_type.ensures (terms_at a.tags _ _ _ _ _ (found shape NoType c.deref.result.now a.ts.now.items a.pair.one w.t c.deref.ensures.value w.ensures.lookup) (missing shape NoType c.deref-2.result.now a.us.now.items a.pair.other c.deref-2.ensures.value w.ensures'.lookup) (nothing_right a.tags (shape w.t.now)))
+
+pub are_terms_same-returns-in-None-Some : goal.are_terms_same-returns-in-None-Some
+are_terms_same-returns-in-None-Some t c =
+    let a = c.args in
+    let w = c.in-None-Some in
+    unless_met (IsMet a.met a.pair) _ _ _ c.if-is_met.ensures c.is_no_type-in-None-Some.ensures (terms_at a.tags _ _ _ _ _ (missing shape NoType c.deref.result.now a.ts.now.items a.pair.one c.deref.ensures.value w.ensures.lookup) (found shape NoType c.deref-2.result.now a.us.now.items a.pair.other w.u c.deref-2.ensures.value w.ensures'.lookup) (nothing_left a.tags (shape w.u.now)))
+
+pub are_terms_same-returns-in-None-None : goal.are_terms_same-returns-in-None-None
+are_terms_same-returns-in-None-None t c =
+    let a = c.args in
+    let w = c.in-None-None in
+    unless_met (IsMet a.met a.pair) _ _ _ c.if-is_met.ensures alike_at (terms_at a.tags _ _ _ _ _ (missing shape NoType c.deref.result.now a.ts.now.items a.pair.one c.deref.ensures.value w.ensures.lookup) (missing shape NoType c.deref-2.result.now a.us.now.items a.pair.other c.deref-2.ensures.value w.ensures'.lookup) (no_terms a.tags))

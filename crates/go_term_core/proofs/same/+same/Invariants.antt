@@ -1,17 +1,22 @@
-use Rattle.std.proofs.Common.{◌↔◌, drop}
-use Rattle.go_term_core.specs.Shapes.{sign_of, fields_of, methods_of, terms_of}
-use Rattle.go_term_core.specs.Identity.{SameFieldsBy, HasAllBy, SameTermsBy}
+use Rattle.std.proofs.Common.{◌↔◌, map, drop}
+use Rattle.go_term_core.specs.Shapes.{shape, sign_of, lines_of, methods_of}
+use Rattle.go_term_core.specs.Identity.{HasAllBy}
 use Rattle.go_term_core.specs.mirrors.Alike.{HasAlike}
+use Rattle.go_term_core.proofs.SameLists.{KnowsLines, KnowsTerms, AreSameFields, AreSameTerms}
 use Rattle.go_term_core.proofs.same.+same.Given as goal
 
 abbrev pub invariant-has_alike-loop-n : goal.invariant-has_alike-loop-n
 invariant-has_alike-loop-n l = HasAlike l.tags l.p l.m.name (sign_of l.m.signature) l.q (methods_of (drop l.n-index l.ns)) ↔ HasAlike l.tags l.p l.m.name (sign_of l.m.signature) l.q (methods_of l.ns)
 
 abbrev pub invariant-same_fields-loop-i : goal.invariant-same_fields-loop-i
-invariant-same_fields-loop-i l = SameFieldsBy l.tags l.p (fields_of (drop l.i l.fs.items)) l.q (fields_of (drop l.i l.gs.items)) ↔ SameFieldsBy l.tags l.p (fields_of l.fs.items) l.q (fields_of l.gs.items)
+invariant-same_fields-loop-i l =
+    (AreSameFields l.tags l.p l.q (lines_of l.ls.items) (lines_of l.ks.items) (drop l.i l.fs.items) (drop l.i l.gs.items) ↔ AreSameFields l.tags l.p l.q (lines_of l.ls.items) (lines_of l.ks.items) l.fs.items l.gs.items)
+    × KnowsLines l.tags (lines_of l.ls.items) (lines_of l.ks.items) l.met
 
 abbrev pub invariant-same_methods-loop-i : goal.invariant-same_methods-loop-i
 invariant-same_methods-loop-i l = HasAllBy l.tags l.p (methods_of (drop l.i l.ms.items)) l.q (methods_of l.ns.items) ↔ HasAllBy l.tags l.p (methods_of l.ms.items) l.q (methods_of l.ns.items)
 
 abbrev pub invariant-same_terms-loop-i : goal.invariant-same_terms-loop-i
-invariant-same_terms-loop-i l = SameTermsBy l.tags (terms_of (drop l.i l.ts.items)) (terms_of (drop l.i l.us.items)) ↔ SameTermsBy l.tags (terms_of l.ts.items) (terms_of l.us.items)
+invariant-same_terms-loop-i l =
+    (AreSameTerms l.tags (map shape l.ts.items) (map shape l.us.items) (drop l.i l.ns.items) (drop l.i l.ms.items) ↔ AreSameTerms l.tags (map shape l.ts.items) (map shape l.us.items) l.ns.items l.ms.items)
+    × KnowsTerms l.tags (map shape l.ts.items) (map shape l.us.items) l.met

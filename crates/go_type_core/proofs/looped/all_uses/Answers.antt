@@ -1,4 +1,4 @@
-use Rattle.go_type_core.proofs.Looping.{all_step, all_whole}
+use Rattle.go_type_core.proofs.OnceEach.{all_step, all_whole, also_start}
 use Rattle.go_type_core.proofs.looped.all_uses.Goals as goal
 
 pub loop-number-preserved : goal.loop-number-preserved
@@ -6,3 +6,6 @@ loop-number-preserved c = all_step c.args.keys.now c.loop-number.edges.items c.p
 
 pub returns : goal.returns
 returns c = all_whole c.args.keys.now c.loop-number.edges.items c.args.entries.now c.loop-number.number c.loop-number-test.false c.loop-number.invariant
+
+pub loop-number-init : goal.loop-number-init
+loop-number-init c = also_start c.new-edges.result.items c.new-edges.ensures.items

@@ -1,13 +1,15 @@
-use Rattle.std.proofs.Common.{ap, sym, ◌∙◌}
-use Rattle.std.proofs.lemmas.Result.{IfOk-weaker}
-use Rattle.go_tree_nodes.specs.TypeShapes.{shape_type}
+use Rattle.std.proofs.Common.{true, ap, sym, subst, ◌∙◌}
+use Rattle.std.proofs.lemmas.Result.{IfOk-weaker, on_ok_weaker}
+use Rattle.go_tree_nodes.specs.TypeShapes.{shape_idents, shape_type}
 use Rattle.go_tree_nodes.proofs.TypeShapes as trees
-use Rattle.go_term_core.specs.Terms.{StructOf, InterfaceOf, SignOf}
+use Rattle.go_term_core.specs.Terms.{Fields, NoField, AField, StructOf, InterfaceOf, SignOf}
+use Rattle.go_decl_core.specs.declared.places.DeclKind.TheVariants as kinds
 use Rattle.go_term_core.specs.Shapes.{shape, sign_of}
+use Rattle.go_term_core.specs.declared.term.Params.{roll-Params}
 use Rattle.go_term_core.proofs.TermShapes.{shape_struct, shape_interface}
-use Rattle.go_written_core.specs.Written.{in_file, term_of, signature_of, fields_of_tree, methods_of_tree}
-use Rattle.go_written_core.specs.mirrors.Adding.{lines_of, method_lines_of}
-use Rattle.go_written_core.proofs.Collected.{lines_step, method_lines_step, params_step, listed_has}
+use Rattle.go_written_core.specs.Written.{in_file, member_place, named_fields, last_ident, starred, tag_of, term_of, signature_of, fields_of_tree, methods_of_tree}
+use Rattle.go_written_core.specs.mirrors.Adding.{Adds, line_fields, lines_of, method_lines_of}
+use Rattle.go_written_core.proofs.Collected.{body_start, lines_step, lines_whole, method_lines_step, params_start, params_step, params_whole, listed_has}
 use Rattle.go_written_core.proofs.terms.+written.Goals as goal
 
 pub write_results-returns-in-Listed : goal.write_results-returns-in-Listed
@@ -26,10 +28,10 @@ write_type-returns-in_ok-share-in-Struct g t c =
     let f = in_file c.args.at.now in
     let w = c.in-Struct in
     let path = c.in_ok-share-in-Struct.field-0 in
-    let fields = c.in_ok-fields-in-Struct.fields in
+    let body = c.in_ok-body-in-Struct.body in
     let tree = ap shape_type w.is ∙ trees.shape_struct w.field-0 w.field-1 w.lines w.field-3 in
-    shape_struct path fields
-    ∙ ap (StructOf path) c.in_ok-fields-in-Struct.ensures
+    shape_struct path body.fields body.lines
+    ∙ ap (StructOf path) c.in_ok-body-in-Struct.ensures.0
     ∙ ap (λ p. StructOf p (fields_of_tree mean f (lines_of w.lines.items))) c.in_ok-share-in-Struct.ensures
     ∙ sym (ap (term_of mean f) tree)
 
@@ -48,7 +50,7 @@ write_type-returns-in_ok-share-in-Interface g t c =
 
 pub write_fields-loop-line-preserved : goal.write_fields-loop-line-preserved
 write_fields-loop-line-preserved g t c =
-    lines_step (g.N.TypeNames.meaning c.args.names.now) (in_file c.args.at.now) c.deref-line-items.result.now c.loop-line.line-index c.line-item.result _ _ c.loop-line-test.true c.line-item.is c.loop-line.invariant c.in_ok-write_line.ensures
+    lines_step (g.N.TypeNames.meaning c.args.names.now) (in_file c.args.at.now) c.deref-line-items.result.now c.loop-line.line-index c.line-item.result c.loop-line.body c.write_line.new.body c.loop-line-test.true c.line-item.is c.loop-line.invariant c.in_ok-write_line.ensures
 
 pub write_methods-loop-line-preserved : goal.write_methods-loop-line-preserved
 write_methods-loop-line-preserved g t c =
@@ -56,4 +58,40 @@ write_methods-loop-line-preserved g t c =
 
 pub write_params-loop-param-preserved : goal.write_params-loop-param-preserved
 write_params-loop-param-preserved g t c =
-    params_step (g.N.TypeNames.meaning c.args.names.now) (in_file c.args.at.now) c.deref-param-items.result.now c.loop-param.param-index c.param-item.result _ _ (shape c.in_ok-term.term) c.loop-param-test.true c.param-item.is c.loop-param.invariant c.in_ok-term.ensures c.in_ok-add_for_names.ensures
+    params_step (g.N.TypeNames.meaning c.args.names.now) (in_file c.args.at.now) c.deref-param-items.result.now c.loop-param.param-index c.param-item.result c.loop-param.params c.add_param.new.params (shape c.in_ok-term.term) c.loop-param-test.true c.param-item.is c.loop-param.invariant c.in_ok-term.ensures c.in_ok-add_param.ensures
+
+pub write_params-loop-param-init : goal.write_params-loop-param-init
+write_params-loop-param-init g t c = params_start (roll-Params (record { lines = c.new.result; terms = c.new-2.result })) c.new.ensures.items c.new-2.ensures.items
+
+pub write_params-returns : goal.write_params-returns
+write_params-returns g t c =
+    params_whole (g.N.TypeNames.meaning c.args.names.now) (in_file c.args.at.now) c.deref-param-items.result.now c.args.trees.now.items c.loop-param.param-index c.loop-param.params c.deref-param-items.ensures.value c.loop-param-test.false c.loop-param.invariant
+
+pub write_fields-loop-line-init : goal.write_fields-loop-line-init
+write_fields-loop-line-init g t c = body_start (record { fields = c.new.result; lines = c.new-2.result }) c.new.ensures.items c.new-2.ensures.items
+
+pub write_fields-returns : goal.write_fields-returns
+write_fields-returns g t c =
+    lines_whole (g.N.TypeNames.meaning c.args.names.now) (in_file c.args.at.now) c.deref-line-items.result.now c.args.trees.now.items c.loop-line.line-index c.loop-line.body c.deref-line-items.ensures.value c.loop-line-test.false c.loop-line.invariant
+
+pub write_line-returns-in_ok-term-in-Named : goal.write_line-returns-in_ok-term-in-Named
+write_line-returns-in_ok-term-in-Named g t c =
+    let mean = g.N.TypeNames.meaning c.args.names.now in
+    let f = in_file c.args.at.now in
+    let w = c.in-Named in
+    on_ok_weaker c.add_named.result
+    (λ adds. subst (λ (fs : Fields). Adds c.args.body.now fs c.add_named.new.body)
+    (ap (λ s. named_fields f s (tag_of c.args.tag.now) (shape_idents w.idents) NoField) c.in_ok-term-in-Named.ensures ∙ sym (ap (λ l. line_fields mean f l c.args.tag.now) w.is))
+    adds)
+    c.add_named.ensures
+
+pub write_line-returns-in_ok-term-in-Embedded : goal.write_line-returns-in_ok-term-in-Embedded
+write_line-returns-in_ok-term-in-Embedded g t c =
+    let mean = g.N.TypeNames.meaning c.args.names.now in
+    let f = in_file c.args.at.now in
+    let w = c.in-Embedded in
+    on_ok_weaker c.add_embedded.result
+    (λ adds. subst (λ (fs : Fields). Adds c.args.body.now fs c.add_embedded.new.body)
+    (ap (λ s. AField (last_ident w.name).name (member_place f kinds.Field (last_ident w.name).span.start) true (starred w.star s) (tag_of c.args.tag.now) NoField) c.in_ok-term-in-Embedded.ensures ∙ sym (ap (λ l. line_fields mean f l c.args.tag.now) w.is))
+    adds)
+    c.add_embedded.ensures

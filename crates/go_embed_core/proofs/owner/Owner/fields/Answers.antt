@@ -6,4 +6,4 @@ pub returns-in-Some : goal.returns-in-Some
 returns-in-Some c = c.struct_fields.ensures ∙ ap struct_fields c.in-Some.ensures
 
 pub returns-in-None : goal.returns-in-None
-returns-in-None c = ap struct_fields c.in-None.ensures
+returns-in-None c = c.no_fields.ensures ∙ ap struct_fields c.in-None.ensures

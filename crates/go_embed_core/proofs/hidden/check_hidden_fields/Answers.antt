@@ -1,0 +1,18 @@
+use Rattle.std.proofs.Common.{map, sym, ap, ◌∙◌}
+use Rattle.std.proofs.lemmas.Result.{IfOk-weaker}
+use Rattle.go_term_core.specs.Shapes.{shape, fields_in, lines_of}
+use Rattle.go_term_core.proofs.TermShapes.{shape_struct}
+use Rattle.go_table_core.specs.Shown.{member_shown}
+use Rattle.go_embed_core.specs.Faults.{own_names, named_faults}
+use Rattle.go_embed_core.proofs.Naming.{hidden_struct}
+use Rattle.go_embed_core.proofs.hidden.check_hidden_fields.Goals as goal
+
+pub returns-then-is_home : goal.returns-then-is_home
+returns-then-is_home c =
+    let w = c.in-Struct in
+    let path = c.args.path.now in
+    let ms = map member_shown c.args.methods.now in
+    IfOk-weaker c.hidden_fields.result _ _
+    (λ v e. e (lines_of w.field-2.items) ∙ (ap (λ l. named_faults (own_names path (shape c.args.underlying.now) ms) (fields_in (lines_of w.field-2.items) l)) c.deref.ensures.value
+    ∙ hidden_struct (lines_of w.field-2.items) path w.home w.fields.items (shape c.args.underlying.now) ms (ap shape w.is ∙ shape_struct w.home w.fields w.field-2) (sym c.is_home.ensures ∙ c.if-is_home.true)))
+    c.hidden_fields.ensures

@@ -1,0 +1,144 @@
+//! The faults of fields that a method of their type stands before.
+ghost use Rattle.std.specs.Prelude.{◌≡◌, ◌∷◌, IfOk, List, OnOk, map};
+ghost use Rattle.std.specs.Str.{bytes_eq};
+ghost use Rattle.go_text_core.specs.Text.{is_blank};
+ghost use Rattle.go_term_core.specs.Shapes.{Line, shape, fields_in};
+ghost use Rattle.go_settle_core.specs.Settled.{has_name};
+ghost use Rattle.go_table_core.specs.Shown.{member_shown};
+ghost use Rattle.go_embed_core.specs.Faults.{is_left_out, own_names, named_faults, hidden_faults};
+ghost use Rattle.go_embed_core.specs.mirrors.Passing.{SameNames, names_with};
+
+use crate::faults::{MemberFault, is_blank, note_if};
+use go_path_core::ImportPath;
+use go_table_core::FieldTable;
+use go_text_core::Rule;
+use go_type_core::{DeclaredMethod, Field, TypeTerm};
+use indexmap::IndexSet;
+use std::alloc::{AllocError, Global};
+
+// Whether a name is among these.
+fn has_name(names: &IndexSet<&str>, name: &str) -> bool
+    ensures { result ≡ has_name (map (λ n. n.now) names.now.keys) name.now }
+{
+    names.contains(name)
+}
+
+// Whether a path is another.
+fn is_home(home: &ImportPath, path: &ImportPath) -> bool
+    ensures { result ≡ bytes_eq home.now path.now }
+{
+    home.as_str() == path.as_str()
+}
+
+// Adds a name to others.
+fn add_name<'a>(names: &mut IndexSet<&'a str>, name: &'a str) -> Result<(), AllocError>
+    ensures { OnOk result (SameNames (map (λ n. n.now) names.new.keys) (name.now ∷ map (λ n. n.now) names.old.keys)) }
+{
+    match names.insert(name) {
+        Ok(_) => Ok(()),
+        Err(_) => Err(AllocError),
+    }
+}
+
+// Whether a method is blank, or stands behind a field of its identifier.
+fn is_left_out(path: &ImportPath, fields: &FieldTable<'_>, method: &DeclaredMethod) -> bool
+    ensures { result ≡ is_left_out path.now fields.now (member_shown method.now) }
+{
+    is_blank(method.name.as_str()) || fields.comes_before(path, method)
+}
+
+// Adds the name of a method, unless the method is left out.
+fn take_name<'a>(
+    path: &ImportPath,
+    fields: &FieldTable<'_>,
+    method: &'a DeclaredMethod,
+    names: &mut IndexSet<&'a str>,
+) -> Result<(), AllocError>
+    ensures { OnOk result (SameNames (map (λ n. n.now) names.new.keys) (names_with path.now fields.now (member_shown method.now) (map (λ n. n.now) names.old.keys))) }
+{
+    if is_left_out(path, fields, method) {
+        return Ok(());
+    }
+    add_name(names, method.name.as_str())
+}
+
+// The names of the methods that are a type's own.
+fn own_names<'a>(
+    alloc: Global,
+    path: &ImportPath,
+    fields: &FieldTable<'_>,
+    methods: &'a [DeclaredMethod],
+) -> Result<IndexSet<&'a str>, AllocError>
+    ensures { IfOk result (λ names. SameNames (map (λ n. n.now) names.keys) (own_names path.now fields.now (map member_shown methods.now))) }
+{
+    let mut names = IndexSet::new(alloc);
+    for method in methods {
+        take_name(path, fields, method, &mut names)?;
+    }
+    Ok(names)
+}
+
+// The faults of fields that have one of these names.
+fn named_faults(
+    alloc: Global,
+    names: &IndexSet<&str>,
+    fields: &[Field],
+) -> Result<Vec<MemberFault>, AllocError>
+    ensures { IfOk result (λ faults. (ls : List Line) → faults.items ≡ named_faults (map (λ n. n.now) names.now.keys) (fields_in ls fields.now)) }
+{
+    let mut faults = Vec::new(alloc);
+    for field in fields {
+        let is_hidden = has_name(names, field.name.as_str());
+        note_if(&mut faults, is_hidden, field.place, Rule::B5)?;
+    }
+    Ok(faults)
+}
+
+// The faults of the fields of a struct type that methods of a defined type of the same package stand before.
+fn hidden_fields(
+    alloc: Global,
+    path: &ImportPath,
+    underlying: &TypeTerm,
+    fields: &[Field],
+    methods: &[DeclaredMethod],
+) -> Result<Vec<MemberFault>, AllocError>
+    ensures { IfOk result (λ faults. (ls : List Line) → faults.items ≡ named_faults (own_names path.now (shape underlying.now) (map member_shown methods.now)) (fields_in ls fields.now)) }
+{
+    let table = FieldTable::of(alloc, underlying)?;
+    let names = own_names(alloc, path, &table, methods)?;
+    named_faults(alloc, &names, fields)
+}
+
+/// The faults of the fields of a defined type that its methods keep from it, in order of the fields: a field of a struct type that is written
+/// in the package of the type repeats the identifier of a method that is declared before it (B5). `path` is of the type's package,
+/// `underlying` the type's underlying type, be it written in another type declaration, or, where it is no type, the type as it is written;
+/// `methods` are those that are declared of it. Of a field and a method of one identifier the one that stands behind the other has the fault,
+/// here or in `check_methods`. It takes expected time that is linear in the fields and the methods.
+///
+/// # Errors
+///
+/// `AllocError` where memory is wanting.
+pub fn check_hidden_fields(
+    alloc: Global,
+    path: &ImportPath,
+    underlying: &TypeTerm,
+    methods: &[DeclaredMethod],
+) -> Result<Vec<MemberFault>, AllocError>
+    ensures { IfOk result (λ faults. faults.items ≡ hidden_faults path.now (shape underlying.now) (map member_shown methods.now)) }
+{
+    match underlying {
+        TypeTerm::Struct(home, fields, _) => {
+            if is_home(home, path) {
+                hidden_fields(alloc, path, underlying, fields, methods)
+            } else {
+                Ok(Vec::new(alloc))
+            }
+        }
+        TypeTerm::NoType
+        | TypeTerm::Basic(_)
+        | TypeTerm::Error
+        | TypeTerm::Defined(_)
+        | TypeTerm::Pointer(_)
+        | TypeTerm::Interface(_, _) => Ok(Vec::new(alloc)),
+    }
+}
