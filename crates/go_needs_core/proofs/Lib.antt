@@ -1,0 +1,4 @@
+pub mod Needed
+pub mod Edges
+pub mod Filled
+pub mod Reading

@@ -1,0 +1,14 @@
+//! Values of what needs one another: a node has a value once all have one that it needs, and none where what it needs leads back to
+//! itself.
+//!
+//! A package's constants and variables are such nodes: the initialiser of each names those that it needs. The Go specification, "Package
+//! initialization"; no constant is defined through itself.
+#![tactic(auto)]
+
+mod laws;
+mod needing;
+mod table;
+
+pub use laws::{endless_never_ends, one_table};
+pub use needing::Needing;
+pub use table::values_of;
