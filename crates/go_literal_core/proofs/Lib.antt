@@ -1,0 +1,7 @@
+pub mod Names
+pub mod Turns
+pub mod FieldLaws
+pub mod KeyLaws
+pub mod RepeatLaws
+pub mod LiteralLaws
+pub mod Sampling

@@ -1,0 +1,9 @@
+pub mod Look
+pub mod Fields
+pub mod Literals
+pub mod Keys
+pub mod Repeats
+pub mod Rules
+pub mod Laws
+pub mod Samples
+pub mod mirrors

@@ -1,0 +1,61 @@
+//! Spellings that stand in a list more than once.
+ghost use Rattle.std.specs.Prelude.{◌≡◌, ℕ, List, ◌∷◌, IfOk, OnOk, map, not};
+ghost use Rattle.go_literal_core.specs.Repeats.{has_name, repeated as repeated_of};
+ghost use Rattle.go_literal_core.specs.mirrors.Sets.{HasRepeats, Notes};
+
+use indexmap::IndexSet;
+use std::alloc::{AllocError, Global};
+
+// Adds a name to a set, unless it is there, and answers whether it was not.
+fn insert<'a>(names: &mut IndexSet<&'a str>, name: &'a str) -> Result<bool, AllocError>
+    ensures added { IfOk result (λ is_new. is_new ≡ not (has_name name.now (map (λ n. n.now) names.old.keys))) }
+    ensures seen { OnOk result ((n : List ℕ) → has_name n (map (λ n. n.now) names.new.keys) ≡ has_name n (name.now ∷ map (λ n. n.now) names.old.keys)) }
+{
+    match names.insert(name) {
+        Ok(is_new) => Ok(is_new),
+        Err(_) => Err(AllocError),
+    }
+}
+
+// Adds a name to the names seen; where it was there, to those seen again.
+fn note<'a>(
+    seen: &mut IndexSet<&'a str>,
+    again: &mut IndexSet<&'a str>,
+    name: &'a str,
+) -> Result<(), AllocError>
+    ensures { OnOk result (Notes (map (λ n. n.now) seen.old.keys) (map (λ n. n.now) again.old.keys) name.now (map (λ n. n.now) seen.new.keys) (map (λ n. n.now) again.new.keys)) }
+{
+    if insert(seen, name)? {
+        return Ok(());
+    }
+    insert(again, name)?;
+    Ok(())
+}
+
+// The names that stand in a list more than once.
+fn names_again<'a>(alloc: Global, names: &[&'a str]) -> Result<IndexSet<&'a str>, AllocError>
+    ensures { IfOk result (λ again. HasRepeats (map (λ n. n.now) again.keys) (map (λ n. n.now) names.now)) }
+{
+    let mut seen = IndexSet::new(alloc);
+    let mut again = IndexSet::new(alloc);
+    for name in names {
+        note(&mut seen, &mut again, *name)?;
+    }
+    Ok(again)
+}
+
+/// Of each of some spellings whether it stands among them more than once. Time grows with the number of spellings.
+///
+/// # Errors
+///
+/// `AllocError` where memory is wanting.
+pub fn repeated(alloc: Global, names: &[&str]) -> Result<Vec<bool>, AllocError>
+    ensures { IfOk result (λ flags. flags.items ≡ repeated_of (map (λ n. n.now) names.now)) }
+{
+    let again = names_again(alloc, names)?;
+    let mut flags = Vec::with_capacity(alloc, names.len())?;
+    for name in names {
+        flags.push(again.contains(*name))?;
+    }
+    Ok(flags)
+}
