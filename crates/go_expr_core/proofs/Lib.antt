@@ -1,0 +1,11 @@
+pub mod Forms
+pub mod Marks
+pub mod Steps
+pub mod Turning
+pub mod TypeTurns
+pub mod Arms
+pub mod Occurring
+pub mod Alike
+pub mod Independence
+pub mod Worked
+pub mod Listing

@@ -1,0 +1,105 @@
+-- Keys that are spelled as others.
+use Rattle.std.proofs.Common.{◌≡◌, ℕ, zero, suc, ◌+◌, ◌<◌, Bool, true, false, ◌||◌, List, [], ◌∷◌, ◌++◌, map, length, get_or, take, drop, refl, sym, ap, ◌∙◌, append_assoc, append-nil, add-one}
+use Rattle.std.specs.Prelude.{Option, Some, None, if◌then◌else◌}
+use Rattle.std.specs.Str.{bytes_eq}
+use Rattle.std.proofs.lemmas.Slice.Eq.{bytes_eq-Decides}
+use Rattle.std.proofs.lemmas.List.{drop_more, take_more}
+use Rattle.go_text_core.specs.declared.span.Span.{Span}
+use Rattle.go_tree_nodes.specs.declared.exprs.Key.{Key}
+use Rattle.go_tree_nodes.specs.declared.exprs.«Item» as declared_item
+use Rattle.go_tree_nodes.specs.Trees.{ExprTree, ItemTrees, NoItems, Item}
+use Rattle.go_tree_nodes.specs.Shapes.{shape, items_of, key_of}
+use Rattle.go_literal_core.specs.Repeats.{has_name, repeats, repeated}
+use Rattle.go_expr_core.specs.Elements.{key_names, all_keys, count, is_again}
+use Rattle.go_expr_core.specs.mirrors.Flags.{flags, spread}
+
+bytes_same : (n : List ℕ) → bytes_eq n n ≡ true
+bytes_same n = (bytes_eq-Decides n n).1 refl
+
+has_mid : (k : List ℕ) (before rest : List (List ℕ)) → has_name k (before ++ k ∷ rest) ≡ true
+has_mid k [] rest = ap (λ b. b || has_name k rest) (bytes_same k)
+has_mid k (n ∷ before) rest = ap (λ b. bytes_eq n k || b) (has_mid k before rest) ∙ or_true (bytes_eq n k)
+  where
+    or_true : (b : Bool) → (b || true) ≡ true
+    or_true true = refl
+    or_true false = refl
+
+-- a name that stands here stands more than once where it stands among the others
+repeats_among : (k : List ℕ) (before rest : List (List ℕ)) → repeats k (before ++ k ∷ rest) ≡ has_name k (before ++ rest)
+repeats_among k [] rest = ap (λ b. if b then has_name k rest else repeats k rest) (bytes_same k)
+repeats_among k (n ∷ before) rest = by (bytes_eq n k) (has_mid k before rest) (repeats_among k before rest)
+  where
+    by : (b : Bool) → has_name k (before ++ k ∷ rest) ≡ true → repeats k (before ++ k ∷ rest) ≡ has_name k (before ++ rest)
+        → (if b then has_name k (before ++ k ∷ rest) else repeats k (before ++ k ∷ rest)) ≡ (b || has_name k (before ++ rest))
+    by true there others = there
+    by false there others = others
+
+known_marks : (before : List (List ℕ)) (items : ItemTrees) → spread (map (λ n. repeats n (before ++ all_keys items)) (all_keys items)) items ≡ flags before items
+known_marks before NoItems = refl
+known_marks before (Item None e comma rest) =
+    ap (λ l. false ∷ l) (known_marks before rest ∙ ap (λ l. flags l rest) (sym (append-nil before)))
+known_marks before (Item (Some k) e comma rest) =
+    let name = k.name.name in
+    ap (λ b. b ∷ spread (map (λ n. repeats n (before ++ name ∷ all_keys rest)) (all_keys rest)) rest) (repeats_among name before (all_keys rest))
+    ∙ ap (λ l. has_name name (before ++ all_keys rest) ∷ l)
+    (ap (λ ks. spread (map (λ n. repeats n ks) (all_keys rest)) rest) (sym (append_assoc before (name ∷ []) (all_keys rest)))
+    ∙ known_marks (before ++ name ∷ []) rest)
+
+-- the marks of a literal's keys
+pub literal_marks : (items : ItemTrees) → spread (repeated (all_keys items)) items ≡ flags [] items
+literal_marks items = known_marks [] items
+
+pub items_counted : (xs : List declared_item.Item) → count (items_of xs) ≡ length xs
+items_counted [] = refl
+items_counted (x ∷ xs) = ap suc (items_counted xs)
+
+-- the keys of one more element
+pub keys_first : (key : Option Key) (e : ExprTree) (comma : Option Span) (rest : ItemTrees) → all_keys (Item key e comma rest) ≡ key_names key ++ all_keys rest
+keys_first None e comma rest = refl
+keys_first (Some k) e comma rest = refl
+
+-- the marks behind the first elements
+flags_behind : (before : List (List ℕ)) (xs : List declared_item.Item) (i : ℕ) → drop i (flags before (items_of xs)) ≡ flags (before ++ all_keys (items_of (take i xs))) (items_of (drop i xs))
+flags_behind before [] zero = refl
+flags_behind before [] (suc i) = refl
+flags_behind before (x ∷ xs) zero = ap (λ l. flags l (items_of (x ∷ xs))) (sym (append-nil before))
+flags_behind before (x ∷ xs) (suc i) =
+    flags_behind (before ++ key_names (key_of x.key)) xs i
+    ∙ ap (λ l. flags l (items_of (drop i xs))) (append_assoc before (key_names (key_of x.key)) (all_keys (items_of (take i xs)))
+    ∙ ap (λ l. before ++ l) (sym (keys_first (key_of x.key) (shape x.value) x.comma (items_of (take i xs)))))
+
+abbrev head_or : Bool → List Bool → Bool
+head_or d [] = d
+head_or d (b ∷ bs) = b
+
+head_behind : (bs : List Bool) (i : ℕ) (d : Bool) → get_or bs i d ≡ head_or d (drop i bs)
+head_behind [] zero d = refl
+head_behind [] (suc i) d = refl
+head_behind (b ∷ bs) zero d = refl
+head_behind (b ∷ bs) (suc i) d = head_behind bs i d
+
+pub first_item : (xs : List declared_item.Item) (i : ℕ) (x : declared_item.Item) → i < length xs → x ≡ get_or xs i x → items_of (drop i xs) ≡ Item (key_of x.key) (shape x.value) x.comma (items_of (drop (i + 1) xs))
+first_item xs i x h is = ap items_of (drop_more xs i x h ∙ ap (λ y. y ∷ drop (i + 1) xs) (sym is))
+
+-- the mark of an element
+pub mark_at : (bs : List Bool) (xs : List declared_item.Item) (i : ℕ) (x : declared_item.Item) → bs ≡ flags [] (items_of xs) → i < length xs → x ≡ get_or xs i x
+    → get_or bs i false ≡ is_again (key_of x.key) (all_keys (items_of (take i xs)) ++ all_keys (items_of (drop (i + 1) xs)))
+mark_at bs xs i x marks h is =
+    head_behind bs i false
+    ∙ (ap (λ l. head_or false (drop i l)) marks
+    ∙ ap (head_or false) (flags_behind [] xs i ∙ ap (flags (all_keys (items_of (take i xs)))) (first_item xs i x h is)))
+
+keys-append : (xs ys : List declared_item.Item) → all_keys (items_of (xs ++ ys)) ≡ all_keys (items_of xs) ++ all_keys (items_of ys)
+keys-append [] ys = refl
+keys-append (x ∷ xs) ys =
+    keys_first (key_of x.key) (shape x.value) x.comma (items_of (xs ++ ys))
+    ∙ (ap (λ l. key_names (key_of x.key) ++ l) (keys-append xs ys)
+    ∙ (sym (append_assoc (key_names (key_of x.key)) (all_keys (items_of xs)) (all_keys (items_of ys)))
+    ∙ ap (λ l. l ++ all_keys (items_of ys)) (sym (keys_first (key_of x.key) (shape x.value) x.comma (items_of xs)))))
+
+-- the keys of the first elements, and of one more
+pub keys_more : (xs : List declared_item.Item) (i : ℕ) (x : declared_item.Item) → i < length xs → x ≡ get_or xs i x → all_keys (items_of (take i xs)) ++ key_names (key_of x.key) ≡ all_keys (items_of (take (i + 1) xs))
+keys_more xs i x h is =
+    ap (λ l. all_keys (items_of (take i xs)) ++ l) (sym (append-nil (key_names (key_of x.key))) ∙ sym (keys_first (key_of x.key) (shape x.value) x.comma NoItems))
+    ∙ (sym (keys-append (take i xs) (x ∷ []))
+    ∙ ap (λ l. all_keys (items_of l)) (ap (λ y. take i xs ++ y ∷ []) is ∙ sym (take_more xs i x h)))

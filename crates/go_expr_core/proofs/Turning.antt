@@ -1,0 +1,70 @@
+-- Loops over the elements of a literal and over the arguments of a call.
+use Rattle.std.proofs.Common.{◌≡◌, ℕ, suc, ◌+◌, ◌<◌, Bool, List, [], ◌∷◌, ◌++◌, map, length, get_or, take, drop, refl, sym, ap, ◌∙◌, append_assoc, add-one, set}
+use Rattle.std.specs.Prelude.{Option, Some, None}
+use Rattle.std.proofs.lemmas.List.{map-append}
+use Rattle.std.proofs.Math.Seq.{set-append_seam}
+use Rattle.go_text_core.specs.declared.span.Span.{Span}
+use Rattle.go_tree_nodes.specs.declared.exprs.Key.{Key}
+use Rattle.go_tree_nodes.specs.declared.exprs.«Item» as declared_item
+use Rattle.go_tree_nodes.specs.Trees.{ExprTree, ItemTrees, Call}
+use Rattle.go_tree_nodes.specs.Shapes.{shape, items_of, key_of}
+use Rattle.go_denote_core.specs.declared.things.Place.{Place}
+use Rattle.go_denote_core.specs.declared.things.Place.TheVariants as places
+use Rattle.go_literal_core.specs.declared.things.Mode.{Mode}
+use Rattle.go_expr_core.specs.declared.things.Use.{Use}
+use Rattle.go_expr_core.specs.declared.things.Fault.{Fault}
+use Rattle.go_expr_core.specs.Looks.{Looks}
+use Rattle.go_expr_core.specs.Elements.{key_names, all_keys, is_again}
+use Rattle.go_expr_core.specs.Uses.{uses, use_of, spots, key_spots, key_uses, items_spots, items_uses, args_uses, call_uses}
+use Rattle.go_expr_core.specs.Faults.{items_faults}
+use Rattle.go_expr_core.specs.mirrors.Turns.{key_uses_by, turn_uses, turn_faults}
+use Rattle.go_expr_core.proofs.Marks.{first_item, keys_more}
+
+key_used : {T S D P : Type 0} (looks : Looks T S D P) (t : Option T) (m : Bool) (others : List (List ℕ)) (key : Option Key) → key_uses_by looks t m (is_again key others) key ≡ key_uses looks t m others key
+key_used looks t m others None = refl
+key_used looks t m others (Some k) = refl
+
+pub turn_used : {T S D P : Type 0} (looks : Looks T S D P) (t : Option T) (m again : Bool) (xs : List declared_item.Item) (i : ℕ) (x : declared_item.Item) → i < length xs → x ≡ get_or xs i x
+    → again ≡ is_again (key_of x.key) (all_keys (items_of (take i xs)) ++ all_keys (items_of (drop (i + 1) xs)))
+    → (u0 u1 : List (Use D P)) → u1 ≡ u0 ++ turn_uses looks t m again (key_of x.key) (shape x.value)
+    → u1 ++ items_uses looks t m (all_keys (items_of (take (i + 1) xs))) (items_of (drop (i + 1) xs)) ≡ u0 ++ items_uses looks t m (all_keys (items_of (take i xs))) (items_of (drop i xs))
+turn_used {T} {S} {D} {P} looks t m again xs i x h is mark u0 u1 e =
+    let ks = all_keys (items_of (take i xs)) in
+    let rest = items_of (drop (i + 1) xs) in
+    let key = key_spots {T = T} {D = D} {P = P} t m (ks ++ all_keys rest) (key_of x.key) in
+    let mid = spots looks places.«Value» (shape x.value) in
+    let more = items_spots looks t m (ks ++ key_names (key_of x.key)) rest in
+    let here = map (use_of looks) key in
+    let there = map (use_of looks) mid in
+    let behind = map (use_of looks) more in
+    ap (λ l. u1 ++ items_uses looks t m l rest) (sym (keys_more xs i x h is))
+    ∙ (ap (λ l. l ++ behind) (e ∙ ap (λ l. u0 ++ (l ++ there)) (ap (λ b. key_uses_by looks t m b (key_of x.key)) mark ∙ key_used looks t m (ks ++ all_keys rest) (key_of x.key)))
+    ∙ (append_assoc u0 (here ++ there) behind
+    ∙ ap (λ l. u0 ++ l) (append_assoc here there behind
+    ∙ (ap (λ l. here ++ l) (sym (map-append (use_of looks) mid more))
+    ∙ (sym (map-append (use_of looks) key (mid ++ more))
+    ∙ ap (items_uses looks t m ks) (sym (first_item xs i x h is)))))))
+
+pub turn_noted : {T S D P : Type 0} (looks : Looks T S D P) (mode : Mode) (t : Option T) (m again : Bool) (xs : List declared_item.Item) (i : ℕ) (x : declared_item.Item) → i < length xs → x ≡ get_or xs i x
+    → again ≡ is_again (key_of x.key) (all_keys (items_of (take i xs)) ++ all_keys (items_of (drop (i + 1) xs)))
+    → (f0 f1 : List Fault) → f1 ≡ f0 ++ turn_faults looks t mode m i again (key_of x.key) (shape x.value)
+    → f1 ++ items_faults looks t mode m (i + 1) (all_keys (items_of (take (i + 1) xs))) (items_of (drop (i + 1) xs)) ≡ f0 ++ items_faults looks t mode m i (all_keys (items_of (take i xs))) (items_of (drop i xs))
+turn_noted looks mode t m again xs i x h is mark f0 f1 e =
+    let ks = all_keys (items_of (take i xs)) in
+    let rest = items_of (drop (i + 1) xs) in
+    let one = turn_faults looks t mode m i (is_again (key_of x.key) (ks ++ all_keys rest)) (key_of x.key) (shape x.value) in
+    let more = items_faults looks t mode m (suc i) (ks ++ key_names (key_of x.key)) rest in
+    ap (λ l. f1 ++ items_faults looks t mode m (i + 1) l rest) (sym (keys_more xs i x h is))
+    ∙ (ap (λ n. f1 ++ items_faults looks t mode m n (ks ++ key_names (key_of x.key)) rest) (add-one i)
+    ∙ (ap (λ l. l ++ more) (e ∙ ap (λ b. f0 ++ turn_faults looks t mode m i b (key_of x.key) (shape x.value)) mark)
+    ∙ (append_assoc f0 one more
+    ∙ ap (λ l. f0 ++ l) (ap (items_faults looks t mode m i ks) (sym (first_item xs i x h is))))))
+
+-- a place that was kept is filled
+pub placed : {X : Type 0} (xs0 xs1 xs2 xs3 : List X) (n : ℕ) (y z : X) (head ys : List X) → xs1 ≡ xs0 ++ head → xs2 ≡ xs1 ++ y ∷ [] → xs3 ≡ xs2 ++ ys → n ≡ length xs1 → set xs3 n z ≡ xs0 ++ (head ++ z ∷ ys)
+placed xs0 xs1 xs2 xs3 n y z head ys a b c d =
+    ap (λ l. set l n z) (c ∙ (ap (λ l. l ++ ys) b ∙ append_assoc xs1 (y ∷ []) ys))
+    ∙ (ap (λ k. set (xs1 ++ y ∷ ys) k z) d ∙ (set-append_seam xs1 y ys z ∙ (ap (λ l. l ++ z ∷ ys) a ∙ append_assoc xs0 head (z ∷ ys))))
+
+pub call_used : {T S D P : Type 0} (looks : Looks T S D P) (p : Place) (e : ExprTree) (first : Span) (items : ItemTrees) (last : Span) → uses looks p (Call e first items last) ≡ call_uses looks e first items
+call_used looks p e first items last = map-append (use_of looks) (spots looks places.Callee e) _

@@ -1,0 +1,97 @@
+-- What an expression denotes: one recursion over its tree.
+--
+-- docs/RULES.md, "Expressions: roles, order, faults of parts". The Go specification, "Expressions".
+use Rattle.std.specs.Prelude.{ℕ, Bool, true, false, List, [], ◌∷◌, Option, Some, None}
+use Rattle.go_scan_core.specs.declared.kind.Operator.{Operator}
+use Rattle.go_constant_core.specs.declared.values.Constant.{Constant}
+use Rattle.go_constant_core.specs.declared.values.Constant.TheVariants as constants
+use Rattle.go_constant_core.specs.Values.{natural}
+use Rattle.go_tree_nodes.specs.declared.names.Ident.{Ident}
+use Rattle.go_tree_nodes.specs.declared.names.TextLiteral.{TextLiteral}
+use Rattle.go_tree_nodes.specs.declared.types.TypeName.{TypeName}
+use Rattle.go_tree_nodes.specs.declared.types.TypeName.TheVariants as type_names
+use Rattle.go_tree_nodes.specs.Terminals.{value_of}
+use Rattle.go_tree_nodes.specs.Trees.{TypeTree, ExprTree, ItemTrees, Integer, Text, Named, Paren, Unary, Binary, Select, Call, Literal, StructLiteral, NoItems, Item}
+use Rattle.go_text_core.specs.declared.span.Span.{Span}
+use Rattle.go_operand_core.specs.declared.types.ValueType.{ValueType}
+use Rattle.go_operand_core.specs.declared.types.ValueType.TheVariants as value_types
+use Rattle.go_denote_core.specs.declared.things.Place.{Place}
+use Rattle.go_denote_core.specs.declared.things.Place.TheVariants as places
+use Rattle.go_denote_core.specs.declared.things.Usage.{Usage}
+use Rattle.go_denote_core.specs.declared.things.Dot.{Dot}
+use Rattle.go_denote_core.specs.declared.things.Usage.TheVariants as usages
+use Rattle.go_denote_core.specs.declared.things.Denoted.{Denoted}
+use Rattle.go_denote_core.specs.declared.things.Denoted.TheVariants as denotes
+use Rattle.go_denote_core.specs.declared.things.Answer.{Answer}
+use Rattle.go_denote_core.specs.Answers.{name_answer}
+use Rattle.go_denote_core.specs.Selectors.{dot_of, selector_answer}
+use Rattle.go_denote_core.specs.Arguments.{arguments_of, is_free}
+use Rattle.go_denote_core.specs.Calls.{call_answer}
+use Rattle.go_literal_core.specs.Literals.{literal_type, literal_denotes}
+use Rattle.go_expr_core.specs.declared.things.Judged.{Judged}
+use Rattle.go_expr_core.specs.Looks.{Looks, at}
+use Rattle.go_expr_core.specs.Places.{inside, under_place, left_place, whole, is_name, is_literal, is_lone_call}
+use Rattle.go_expr_core.specs.Operators.{unary_of, binary_of}
+
+-- an untyped constant
+abbrev pub untyped : {T S D : Type 0} → ValueType T → Constant → Denoted T S D
+untyped t c = denotes.«Value» (record { value_type = t; constant = Some c; addressable = false })
+
+abbrev pub text_denotes : {T S D : Type 0} → TextLiteral → Denoted T S D
+text_denotes t = untyped value_types.UntypedText (constants.Text (value_of t))
+
+-- an identifier where it stands
+abbrev pub ident_answer : {T S D P : Type 0} → Looks T S D P → Place → Ident → Answer T S D P
+ident_answer looks p x = name_answer (at looks x.span.start) p x.name
+
+-- an identifier behind a dot
+abbrev pub behind_answer : {T S D P : Type 0} → Looks T S D P → Usage → Dot T D → Ident → Answer T S D P
+behind_answer looks u dot x = selector_answer (at looks x.span.start) u dot x.name
+
+-- the name of a type, each identifier where it stands
+abbrev pub type_name_answer : {T S D P : Type 0} → Looks T S D P → TypeName → Answer T S D P
+type_name_answer looks (type_names.Plain x) = ident_answer looks places.«Type» x
+type_name_answer looks (type_names.Qualified p dot x) =
+    selector_answer (at looks x.span.start) usages.«Type» (dot_of true (ident_answer looks places.TypeDot p).denoted) x.name
+
+-- the type that the name of a type denotes
+abbrev pub named_type : {T S D P : Type 0} → Looks T S D P → TypeName → Option T
+named_type looks n = literal_type (type_name_answer looks n).denoted
+
+-- a struct type that is written out
+abbrev pub written_type : {T S D P : Type 0} → Looks T S D P → TypeTree → Option T
+written_type looks t = looks.written.type_of (named_type looks) t
+
+abbrev mutual
+  pub denoted : {T S D P : Type 0} → Looks T S D P → Place → ExprTree → Denoted T S D
+  denoted looks p (Integer n span) = untyped value_types.UntypedInt (natural n)
+  denoted looks p (Text t) = text_denotes t
+  denoted looks p (Named x) = (ident_answer looks p x).denoted
+  denoted looks p (Paren first e last) = denoted looks (inside p) e
+  denoted looks p (Unary op span e) = (unary_of looks.types op (is_literal e) (denoted looks (under_place op p) e)).denoted
+  denoted looks p (Binary a op span b) = (binary_of looks.types op (denoted looks places.«Value» a) (denoted looks places.«Value» b)).denoted
+  denoted looks p (Select e dot x) = (selector_answer (at looks x.span.start) (whole p) (dot_of (is_name e) (denoted looks (left_place p e) e)) x.name).denoted
+  denoted looks p (Call e first items last) =
+      (call_answer (at looks first.start) (denoted looks places.Callee e) (is_free (is_lone_call items) (denoted_items looks items)) (arguments_of (at looks first.start) (denoted_items looks items))).denoted
+  denoted looks p (Literal n first items last) = literal_denotes (named_type looks n)
+  denoted looks p (StructLiteral t first items last) = literal_denotes (written_type looks t)
+
+  -- arguments
+  pub denoted_items : {T S D P : Type 0} → Looks T S D P → ItemTrees → List (Denoted T S D)
+  denoted_items looks NoItems = []
+  denoted_items looks (Item key e comma rest) = denoted looks places.«Value» e ∷ denoted_items looks rest
+
+-- each form with its answer
+
+abbrev pub unary_judged : {T S D P : Type 0} → Looks T S D P → Place → Operator → ExprTree → Judged T S D
+unary_judged looks p op e = unary_of looks.types op (is_literal e) (denoted looks (under_place op p) e)
+
+abbrev pub binary_judged : {T S D P : Type 0} → Looks T S D P → Operator → ExprTree → ExprTree → Judged T S D
+binary_judged looks op a b = binary_of looks.types op (denoted looks places.«Value» a) (denoted looks places.«Value» b)
+
+abbrev pub select_answer : {T S D P : Type 0} → Looks T S D P → Place → ExprTree → Ident → Answer T S D P
+select_answer looks p e x = selector_answer (at looks x.span.start) (whole p) (dot_of (is_name e) (denoted looks (left_place p e) e)) x.name
+
+abbrev pub called_answer : {T S D P : Type 0} → Looks T S D P → ExprTree → Span → ItemTrees → Answer T S D P
+called_answer looks e first items =
+    call_answer (at looks first.start) (denoted looks places.Callee e) (is_free (is_lone_call items) (denoted_items looks items)) (arguments_of (at looks first.start) (denoted_items looks items))

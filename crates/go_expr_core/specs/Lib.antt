@@ -1,0 +1,13 @@
+pub mod Looks
+pub mod Places
+pub mod Operators
+pub mod Denoting
+pub mod Elements
+pub mod Uses
+pub mod TypeUses
+pub mod Faults
+pub mod Lists
+pub mod Laws
+pub mod Respelling
+pub mod Samples
+pub mod mirrors

@@ -1,0 +1,135 @@
+-- Where the parts of an expression stand.
+--
+-- docs/RULES.md, "Occurrences", "Expressions: roles, order, faults of parts". The Go specification, "Operands", "Qualified identifiers",
+-- "Selectors", "Conversions".
+use Rattle.std.specs.Prelude.{ℕ, Bool, true, false, Option, Some, None}
+use Rattle.go_scan_core.specs.declared.kind.Operator.{Operator}
+use Rattle.go_scan_core.specs.declared.kind.Operator.TheVariants as operators
+use Rattle.go_tree_nodes.specs.declared.types.TypeName.{TypeName}
+use Rattle.go_tree_nodes.specs.declared.types.TypeName.TheVariants as type_names
+use Rattle.go_tree_nodes.specs.declared.exprs.Key.{Key}
+use Rattle.go_tree_nodes.specs.Trees.{TypeTree, NamedType, Pointer, ParenType, Struct, Interface, ExprTree, ItemTrees, Integer, Text, Named, Paren, Unary, Binary, Select, Call, Literal, StructLiteral, NoItems, Item}
+use Rattle.go_tree_core.specs.declared.occurrence.Role.{Role}
+use Rattle.go_tree_core.specs.declared.occurrence.Role.TheVariants as roles
+use Rattle.go_tree_core.specs.declared.occurrence.Usage as tree_usage
+use Rattle.go_tree_core.specs.declared.occurrence.Usage.TheVariants as tree_usages
+use Rattle.go_denote_core.specs.declared.things.Place.{Place}
+use Rattle.go_denote_core.specs.declared.things.Place.TheVariants as places
+use Rattle.go_denote_core.specs.declared.things.Usage.{Usage}
+use Rattle.go_denote_core.specs.declared.things.Usage.TheVariants as usages
+
+-- the place of what stands in parentheses: a name in them is no qualifier
+abbrev pub inside : Place → Place
+inside places.«Type» = places.«Type»
+inside places.TypeDot = places.«Value»
+inside places.«Value» = places.«Value»
+inside places.Callee = places.Callee
+inside places.BeforeDot = places.«Value»
+
+-- the place of what stands behind a star: where a type or what is called is wanted, a type
+abbrev pub starred : Place → Place
+starred places.«Type» = places.«Type»
+starred places.TypeDot = places.«Value»
+starred places.«Value» = places.«Value»
+starred places.Callee = places.«Type»
+starred places.BeforeDot = places.«Value»
+
+-- the place of what stands behind a unary operator
+abbrev pub under_place : Operator → Place → Place
+under_place operators.Star p = starred p
+under_place _ p = places.«Value»
+
+-- the place of a name left of a dot: before the dot of a type a name is a package
+abbrev pub before_place : Place → Place
+before_place places.«Type» = places.TypeDot
+before_place places.TypeDot = places.BeforeDot
+before_place places.«Value» = places.BeforeDot
+before_place places.Callee = places.BeforeDot
+before_place places.BeforeDot = places.BeforeDot
+
+-- the place left of a dot: a name alone may be a package there, anything else is an operand
+abbrev pub left_place : Place → ExprTree → Place
+left_place p (Named x) = before_place p
+left_place p _ = places.«Value»
+
+-- how a selector as a whole is used
+abbrev pub whole : Place → Usage
+whole places.«Type» = usages.«Type»
+whole places.TypeDot = usages.«Value»
+whole places.«Value» = usages.«Value»
+whole places.Callee = usages.Callee
+whole places.BeforeDot = usages.«Value»
+
+abbrev pub is_name : ExprTree → Bool
+is_name (Named x) = true
+is_name _ = false
+
+-- a composite literal, in parentheses or not
+abbrev pub is_literal : ExprTree → Bool
+is_literal (Literal n first items last) = true
+is_literal (StructLiteral t first items last) = true
+is_literal (Paren first e last) = is_literal e
+is_literal _ = false
+
+-- a call, in parentheses or not
+abbrev pub is_call : ExprTree → Bool
+is_call (Call e first items last) = true
+is_call (Paren first e last) = is_call e
+is_call _ = false
+
+-- the only argument is a call
+abbrev pub is_lone_call : ItemTrees → Bool
+is_lone_call NoItems = false
+is_lone_call (Item key e comma NoItems) = is_call e
+is_lone_call (Item key e comma (Item key2 e2 comma2 rest)) = false
+
+-- more than one
+abbrev pub is_several : ItemTrees → Bool
+is_several NoItems = false
+is_several (Item key e comma NoItems) = false
+is_several (Item key e comma (Item key2 e2 comma2 rest)) = true
+
+-- roles
+
+abbrev pub place_role : Place → Role
+place_role places.«Type» = roles.«Type»
+place_role places.TypeDot = roles.Qualifier
+place_role places.«Value» = roles.«Value»
+place_role places.Callee = roles.Callee
+place_role places.BeforeDot = roles.Qualifier
+
+abbrev pub role_usage : Usage → tree_usage.Usage
+role_usage usages.«Type» = tree_usages.«Type»
+role_usage usages.«Value» = tree_usages.«Value»
+role_usage usages.Callee = tree_usages.Callee
+
+-- where things begin
+
+abbrev pub type_name_start : TypeName → ℕ
+type_name_start (type_names.Plain x) = x.span.start
+type_name_start (type_names.Qualified p dot x) = p.span.start
+
+abbrev pub type_start : TypeTree → ℕ
+type_start (NamedType n) = type_name_start n
+type_start (Pointer star t) = star.start
+type_start (ParenType first t last) = first.start
+type_start (Struct k first ls last) = k.start
+type_start (Interface k first ms last) = k.start
+
+-- the first byte of an expression
+abbrev pub start : ExprTree → ℕ
+start (Integer n span) = span.start
+start (Text t) = t.span.start
+start (Named x) = x.span.start
+start (Paren first e last) = first.start
+start (Unary op span e) = span.start
+start (Binary a op span b) = start a
+start (Select e dot x) = start e
+start (Call e first items last) = start e
+start (Literal n first items last) = type_name_start n
+start (StructLiteral t first items last) = type_start t
+
+-- where an element begins: at its key, if it has one
+abbrev pub item_start : Option Key → ExprTree → ℕ
+item_start None e = start e
+item_start (Some k) e = k.name.span.start

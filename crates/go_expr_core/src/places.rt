@@ -1,0 +1,202 @@
+//! Where the parts of an expression stand.
+ghost use Rattle.std.specs.Prelude.{◌≡◌};
+ghost use Rattle.go_tree_nodes.specs.Shapes.{shape, key_of};
+ghost use Rattle.go_tree_nodes.specs.TypeShapes.{shape_type};
+ghost use Rattle.go_tree_core.specs.declared.occurrence.Role.TheVariants as roles;
+ghost use Rattle.go_expr_core.specs.Places as places;
+
+use go_denote_core::{Place, Usage};
+use go_scan_core::Operator;
+use go_tree_core::Role;
+use go_tree_nodes::{Expr, Key, TypeExpr, TypeName};
+
+/// The place of what stands in parentheses: a name in them is no qualifier.
+pub(crate) fn inside(place: Place) -> Place
+    ensures { result ≡ places.inside place }
+{
+    match place {
+        Place::Type => Place::Type,
+        Place::TypeDot | Place::Value | Place::BeforeDot => Place::Value,
+        Place::Callee => Place::Callee,
+    }
+}
+
+/// The place of what stands behind a unary operator.
+pub(crate) fn under_place(operator: Operator, place: Place) -> Place
+    ensures { result ≡ places.under_place operator place }
+{
+    if matches!(operator, Operator::Star) {
+        match place {
+            Place::Type | Place::Callee => Place::Type,
+            Place::TypeDot | Place::Value | Place::BeforeDot => Place::Value,
+        }
+    } else {
+        Place::Value
+    }
+}
+
+fn before_place(place: Place) -> Place
+    ensures { result ≡ places.before_place place }
+{
+    match place {
+        Place::Type => Place::TypeDot,
+        Place::TypeDot | Place::Value | Place::Callee | Place::BeforeDot => Place::BeforeDot,
+    }
+}
+
+/// Whether it is a name alone.
+pub(crate) fn is_name(expr: &Expr) -> bool
+    ensures { result ≡ places.is_name (shape expr.now) }
+{
+    match expr {
+        Expr::Name(_) => true,
+        Expr::Integer(_, _)
+        | Expr::Text(_)
+        | Expr::Paren(_, _, _)
+        | Expr::Unary(_, _, _)
+        | Expr::Binary(_)
+        | Expr::Select(_) => false,
+        Expr::Call(_) => false,
+        Expr::Literal(_) => false,
+        Expr::StructLiteral(_) => false,
+    }
+}
+
+/// The place left of a dot.
+pub(crate) fn left_place(place: Place, expr: &Expr) -> Place
+    ensures { result ≡ places.left_place place (shape expr.now) }
+{
+    match expr {
+        Expr::Name(_) => before_place(place),
+        Expr::Integer(_, _)
+        | Expr::Text(_)
+        | Expr::Paren(_, _, _)
+        | Expr::Unary(_, _, _)
+        | Expr::Binary(_)
+        | Expr::Select(_) => Place::Value,
+        Expr::Call(_) => Place::Value,
+        Expr::Literal(_) => Place::Value,
+        Expr::StructLiteral(_) => Place::Value,
+    }
+}
+
+/// How a selector as a whole is used.
+pub(crate) fn whole(place: Place) -> Usage
+    ensures { result ≡ places.whole place }
+{
+    match place {
+        Place::Type => Usage::Type,
+        Place::Callee => Usage::Callee,
+        Place::TypeDot | Place::Value | Place::BeforeDot => Usage::Value,
+    }
+}
+
+/// Whether it is a composite literal, in parentheses or not.
+pub(crate) fn is_literal(expr: &Expr) -> bool
+    ensures { result ≡ places.is_literal (shape expr.now) }
+{
+    match expr {
+        Expr::Literal(_) => true,
+        Expr::StructLiteral(_) => true,
+        Expr::Paren(_, inner, _) => is_literal(inner),
+        Expr::Call(_) => false,
+        Expr::Integer(_, _)
+        | Expr::Text(_)
+        | Expr::Name(_)
+        | Expr::Unary(_, _, _)
+        | Expr::Binary(_)
+        | Expr::Select(_) => false,
+    }
+}
+
+/// Whether it is a call, in parentheses or not.
+pub(crate) fn is_call(expr: &Expr) -> bool
+    ensures { result ≡ places.is_call (shape expr.now) }
+{
+    match expr {
+        Expr::Call(_) => true,
+        Expr::Paren(_, inner, _) => is_call(inner),
+        Expr::Literal(_) => false,
+        Expr::StructLiteral(_) => false,
+        Expr::Integer(_, _)
+        | Expr::Text(_)
+        | Expr::Name(_)
+        | Expr::Unary(_, _, _)
+        | Expr::Binary(_)
+        | Expr::Select(_) => false,
+    }
+}
+
+/// The role of a name at a place.
+pub(crate) fn place_role(place: Place) -> Role
+    ensures { result ≡ places.place_role place }
+{
+    match place {
+        Place::Type => Role::Type,
+        Place::TypeDot | Place::BeforeDot => Role::Qualifier,
+        Place::Value => Role::Value,
+        Place::Callee => Role::Callee,
+    }
+}
+
+/// The role of a name behind a dot, by the use of the whole.
+pub(crate) fn selector_role(usage: Usage) -> Role
+    ensures { result ≡ roles.Selector (places.role_usage usage) }
+{
+    match usage {
+        Usage::Type => Role::Selector(go_tree_core::Usage::Type),
+        Usage::Value => Role::Selector(go_tree_core::Usage::Value),
+        Usage::Callee => Role::Selector(go_tree_core::Usage::Callee),
+    }
+}
+
+/// The first byte of the name of a type.
+pub(crate) fn type_name_start(name: &TypeName) -> usize
+    ensures { result ≡ places.type_name_start name.now }
+{
+    match name {
+        TypeName::Plain(ident) => ident.span.start as usize,
+        TypeName::Qualified(ident, _, _) => ident.span.start as usize,
+    }
+}
+
+/// The first byte of a type.
+pub(crate) fn type_start(t: &TypeExpr) -> usize
+    ensures { result ≡ places.type_start (shape_type t.now) }
+{
+    match t {
+        TypeExpr::Name(name) => type_name_start(name),
+        TypeExpr::Pointer(star, _) => star.start as usize,
+        TypeExpr::Paren(first, _, _) => first.start as usize,
+        TypeExpr::Struct(keyword, _, _, _) => keyword.start as usize,
+        TypeExpr::Interface(keyword, _, _, _) => keyword.start as usize,
+    }
+}
+
+/// The first byte of an expression.
+pub(crate) fn start(expr: &Expr) -> usize
+    ensures { result ≡ places.start (shape expr.now) }
+{
+    match expr {
+        Expr::Integer(_, span) => span.start as usize,
+        Expr::Text(text) => text.span.start as usize,
+        Expr::Name(ident) => ident.span.start as usize,
+        Expr::Paren(first, _, _) => first.start as usize,
+        Expr::Unary(_, span, _) => span.start as usize,
+        Expr::Binary(binary) => start(&binary.left),
+        Expr::Select(select) => start(&select.operand),
+        Expr::Call(call) => start(&call.callee),
+        Expr::Literal(literal) => type_name_start(&literal.type_name),
+        Expr::StructLiteral(literal) => type_start(&literal.type_expr),
+    }
+}
+
+/// The first byte of an element.
+pub(crate) fn item_start(key: &Option<Box<Key>>, value: &Expr) -> usize
+    ensures { result ≡ places.item_start (key_of key.now) (shape value.now) }
+{
+    match key {
+        None => start(value),
+        Some(key) => key.name.span.start as usize,
+    }
+}
