@@ -24,7 +24,7 @@ use std::alloc::AllocError;
 /// are the first in their block. Notes are added behind those that there are. The one error is want of memory.
 pub trait Checker {
     /// What a name means.
-    type Meaning: Meant + Copy + Drop;
+    type Meaning: Meant + Drop;
 
     /// What is noted of a piece.
     type Note: Drop;

@@ -10,6 +10,7 @@ ghost use Rattle.go_names_core.specs.mirrors.Declaring.{is_second, faults_of_sec
 ghost use Rattle.go_names_core.specs.Scenes.{scene, local_declared, locals_declared};
 
 use crate::idents::{header_idents, listed_idents};
+use crate::meaning::Meant;
 use go_local_core::Fault;
 use go_open_core::{DeclId, NameList, ShortName};
 use go_scope_core::Scopes;
@@ -218,7 +219,7 @@ fn declare_local<M: Drop>(
 }
 
 // Declares names in the innermost block, those that are new there.
-fn declare_locals<M: Copy + Drop>(
+fn declare_locals<M: Meant + Drop>(
     scopes: &mut Scopes,
     locals: &mut Vec<M>,
     idents: &[&Ident],
@@ -227,14 +228,14 @@ fn declare_locals<M: Copy + Drop>(
     ensures { OnOk result (scene scopes.new locals.new.items ≡ locals_declared (scene scopes.old locals.old.items) (map (λ i. i.now) idents.now) means.now) }
 {
     for (ident, meaning) in idents.iter().zip(means) {
-        declare_local(scopes, locals, ident, *meaning)?;
+        declare_local(scopes, locals, ident, meaning.again())?;
     }
     Ok(())
 }
 
 /// Declares names in the innermost block with what they mean, those that are new there, and adds the faults of the others: of names before
 /// `:=`, or of others.
-pub(crate) fn declare<M: Copy + Drop>(
+pub(crate) fn declare<M: Meant + Drop>(
     scopes: &mut Scopes,
     locals: &mut Vec<M>,
     faults: &mut Vec<Fault>,

@@ -16,11 +16,11 @@ pub struct OpenNames<'a, M> {
 }
 
 // What is found in a scope, as a checker means it.
-fn meaning_of<M: Meant + Copy>(locals: &[M], found: InScope) -> Option<M>
+fn meaning_of<M: Meant>(locals: &[M], found: InScope) -> Option<M>
     ensures { result ≡ meaning_of M.outside locals.now (denoted_of found.entry) }
 {
     match found {
-        InScope::Local(DeclId(number)) => return locals.get(number).copied(),
+        InScope::Local(DeclId(number)) => return locals.get(number).map(|meaning| meaning.again()),
         InScope::Package(decl) => return Some(M::of_outside(Outside::Package(decl))),
         InScope::File(binding) => return Some(M::of_outside(Outside::File(binding.at))),
         InScope::Universe(name) => return Some(M::of_outside(Outside::Universe(name))),
@@ -37,7 +37,7 @@ impl<'a, M> OpenNames<'a, M> {
     }
 }
 
-impl<'a, M: Meant + Copy> OpenNames<'a, M> {
+impl<'a, M: Meant> OpenNames<'a, M> {
     /// What a name means here: what its declaration in the innermost open block that has one means, if any has. Takes no
     /// memory.
     ///

@@ -25,4 +25,8 @@ pub trait Meant {
     /// What a name means that is declared outside the function.
     fn of_outside(found: Outside) -> Self
         ensures { result ≡ outside found };
+
+    /// The same meaning once more. It takes no memory.
+    fn again(&self) -> Self
+        ensures { result ≡ self.now };
 }

@@ -32,6 +32,10 @@ impl Meant for Denoted {
     fn of_outside(found: Outside) -> Self {
         Denoted::Outside(found)
     }
+
+    fn again(&self) -> Self {
+        *self
+    }
 }
 
 /// A use of a name: an identifier that is looked up in scope.

@@ -1,0 +1,104 @@
+//! Expression statements, conditions, and expressions that stand for single values.
+ghost use Rattle.std.specs.Prelude.{◌≡◌};
+ghost use Rattle.go_statement_core.specs.Statements as statements;
+
+use go_denote_core::{Builtin, Denoted, is_refused};
+use go_operand_core::{Operand, TypeLooks, is_condition};
+use go_text_core::Rule;
+
+fn is_statement<T: Drop, S: Drop, D: Drop>(callee: &Denoted<T, S, D>) -> bool
+    ensures { result ≡ statements.is_statement callee.now }
+{
+    match callee {
+        Denoted::Type(_, _) | Denoted::Builtin(_, Builtin::Len) => false,
+        Denoted::Builtin(_, Builtin::Panic)
+        | Denoted::Builtin(_, Builtin::Print)
+        | Denoted::Refused
+        | Denoted::Typeless
+        | Denoted::Package(_)
+        | Denoted::Value(_)
+        | Denoted::Several(_)
+        | Denoted::Nothing
+        | Denoted::Func(_, _) => true,
+    }
+}
+
+fn called_rule<T: Drop, S: Drop, D: Drop>(callee: &Option<Denoted<T, S, D>>) -> Option<Rule>
+    ensures { result ≡ statements.called_rule callee.now }
+{
+    match callee {
+        None => Some(Rule::Y8),
+        Some(callee) => if is_statement(callee) {
+            None
+        } else {
+            Some(Rule::Y8)
+        },
+    }
+}
+
+/// The rule that an expression breaks where it stands for a statement, if it breaks one: Y8.
+///
+/// The callee is what is called, in parentheses or not: none where the expression is no call. An expression that is refused breaks no
+/// rule; another one is a call, of no type and not of `len`. The Go specification, "Expression statements".
+pub fn statement_rule<T: Drop, S: Drop, D: Drop>(
+    callee: &Option<Denoted<T, S, D>>,
+    denoted: &Denoted<T, S, D>,
+) -> Option<Rule>
+    ensures { result ≡ statements.statement_rule callee.now denoted.now }
+{
+    if is_refused(denoted) {
+        None
+    } else {
+        called_rule(callee)
+    }
+}
+
+fn value_condition<E: TypeLooks>(env: &E, operand: &Operand<E::Type>) -> Option<Rule>
+    ensures { result ≡ statements.value_condition (E.types env.now) operand.now }
+{
+    if is_condition(env, operand) {
+        None
+    } else {
+        Some(Rule::Y3)
+    }
+}
+
+/// The rule that the condition of an `if` or a `for` breaks, if it breaks one: Y3, where it is no single value over `bool`. One that is
+/// refused breaks no rule. The Go specification, "If statements", "For statements".
+pub fn condition_rule<E: TypeLooks, S: Drop, D: Drop>(
+    env: &E,
+    denoted: &Denoted<E::Type, S, D>,
+) -> Option<Rule>
+    ensures { result ≡ statements.condition_rule (E.types env.now) denoted.now }
+{
+    match denoted {
+        Denoted::Value(operand) => value_condition(env, operand),
+        Denoted::Several(_) | Denoted::Nothing => Some(Rule::Y3),
+        Denoted::Refused
+        | Denoted::Typeless
+        | Denoted::Package(_)
+        | Denoted::Type(_, _)
+        | Denoted::Func(_, _)
+        | Denoted::Builtin(_, _) => None,
+    }
+}
+
+/// The rule that an expression breaks where a single value is wanted, if it breaks one: Y3, for a call with several results or none.
+/// One that is refused breaks no rule.
+///
+/// A single value is wanted of an operand, and of a member of a list of several. The Go specification, "Operators", "Assignment
+/// statements": each expression must be single-valued.
+pub fn single_rule<T: Drop, S: Drop, D: Drop>(denoted: &Denoted<T, S, D>) -> Option<Rule>
+    ensures { result ≡ statements.single_rule denoted.now }
+{
+    match denoted {
+        Denoted::Nothing | Denoted::Several(_) => Some(Rule::Y3),
+        Denoted::Value(_)
+        | Denoted::Refused
+        | Denoted::Typeless
+        | Denoted::Package(_)
+        | Denoted::Type(_, _)
+        | Denoted::Func(_, _)
+        | Denoted::Builtin(_, _) => None,
+    }
+}
