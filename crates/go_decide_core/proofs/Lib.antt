@@ -1,0 +1,13 @@
+pub mod Tests
+pub mod Alike
+pub mod Converting
+pub mod Lists
+pub mod Shortening
+pub mod Matching
+pub mod Searching
+pub mod Choosing
+pub mod Implementing
+pub mod Assigning
+pub mod Localities
+pub mod Worked
+pub mod Handing

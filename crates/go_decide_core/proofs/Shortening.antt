@@ -1,0 +1,234 @@
+-- A path can be cut until it comes to no type of the table twice, whatever types are embedded.
+use Rattle.std.proofs.Common.{◌≡◌, ℕ, zero, suc, ◌+◌, ◌*◌, ◌<◌, ◌≤◌, Bool, true, false, not, ◌&&◌, ◌||◌, List, [], ◌∷◌, ◌++◌, length, max, Option, Some, None, refl, sym, ap, ◌∙◌, subst, arith, ◌⊎◌, inl, inr, if◌then◌else◌}
+use Rattle.std.specs.Prelude.{nat_eq}
+use Rattle.std.specs.Map.{lookup}
+use Rattle.go_decl_core.specs.declared.keys.DeclKey.{DeclKey}
+use Rattle.go_term_core.specs.Terms.{Term, NoType, Predeclared, ErrorType, Defined, PointerTo, StructOf, InterfaceOf, Fields, NoField, AField}
+use Rattle.go_table_core.specs.Entries.{Entry, find, same_key, term_in, underlying_in, has_method}
+use Rattle.go_embed_core.specs.Owners.{OwnerModel, Edge, edge, off, owner_in, fields_embedded, term_embedded, embedded_in}
+use Rattle.go_select_core.specs.Paths.{Step, Leads}
+use Rattle.go_select_core.specs.mirrors.Ways.{At, IsNumbered}
+use Rattle.go_select_core.specs.mirrors.Levels.{left_below, left}
+use Rattle.go_select_core.proofs.ListLemmas.{In}
+use Rattle.go_select_core.proofs.Edges.{step_edge}
+use Rattle.go_select_core.proofs.Weights.{lookup_more, lookup_new, left_falls}
+use Rattle.go_select_core.proofs.Growing.{numbered_same}
+use Rattle.go_decide_core.specs.Selecting.{nesting, fields_nesting, deepest, last_depth}
+use Rattle.go_decide_core.proofs.Tests.{decides_key}
+
+-- how deep the types are that a type embeds
+
+deep_step : (b : Bool) (x e : Entry) (n : ℕ) (rest : Option Entry) → (rest ≡ Some e → nesting e.term ≤ n) → (if b then Some x else rest) ≡ Some e → nesting e.term ≤ max (nesting x.term) n
+deep_step true x e n rest more h = let s : x ≡ e = (cc) in let d : nesting x.term ≡ nesting e.term = ap (λ (y : Entry). nesting y.term) s in omega (arith, d)
+deep_step false x e n rest more h = let l = more h in omega (arith, l)
+
+find_deep : (es : List Entry) (k : DeclKey) (e : Entry) → find es k ≡ Some e → nesting e.term ≤ deepest es
+find_deep [] k e h = cc
+find_deep (x ∷ es) k e h = deep_step (same_key x.key k) x e (deepest es) (find es k) (λ r. find_deep es k e r) h
+
+off_deep : (t : Term) → nesting (off t) ≤ nesting t
+off_deep NoType = omega arith
+off_deep (Predeclared b) = omega arith
+off_deep ErrorType = omega arith
+off_deep (Defined k) = omega arith
+off_deep (PointerTo t) = omega arith
+off_deep (StructOf path fs) = omega arith
+off_deep (InterfaceOf path ms) = omega arith
+
+field_step : (b : Bool) (i : ℕ) (t : Term) (n : ℕ) (rest : List Edge) (e : Edge) → (In rest e → nesting e.target ≤ n) → In (if b then edge i t ∷ rest else rest) e → nesting e.target ≤ max (nesting t) n
+field_step true i t n rest e more (inl s) =
+    let d : nesting (off t) ≡ nesting e.target = ap (λ (y : Edge). nesting y.target) s in
+    let l = off_deep t in omega (arith, d, l)
+field_step true i t n rest e more (inr r) = let l = more r in omega (arith, l)
+field_step false i t n rest e more r = let l = more r in omega (arith, l)
+
+fields_deep : (o : OwnerModel) (path : List ℕ) (i : ℕ) (fs : Fields) (e : Edge) → In (fields_embedded o path i fs) e → nesting e.target ≤ fields_nesting fs
+fields_deep o path i NoField e h = absurd h
+fields_deep o path i (AField name place embedded t tag fs) e h =
+    field_step (embedded && not (has_method o.path o.methods name path)) i t (fields_nesting fs) (fields_embedded o path (suc i) fs) e (λ r. fields_deep o path (suc i) fs e r) h
+
+term_deep : (o : OwnerModel) (u : Term) (e : Edge) → In (term_embedded o u) e → nesting e.target < nesting u
+term_deep o NoType e h = absurd h
+term_deep o (Predeclared b) e h = absurd h
+term_deep o ErrorType e h = absurd h
+term_deep o (Defined k) e h = absurd h
+term_deep o (PointerTo t) e h = absurd h
+term_deep o (StructOf path fs) e h = let l = fields_deep o path 0 fs e h in omega (arith, l)
+term_deep o (InterfaceOf path ms) e h = absurd h
+
+-- what is found stands at a place
+
+found_step : (b : Bool) (x e : Entry) (rest : Option Entry) (k : DeclKey) (es : List Entry) → same_key x.key k ≡ b → (rest ≡ Some e → (n : ℕ) × At es n e × (e.key ≡ k)) → (if b then Some x else rest) ≡ Some e → (n : ℕ) × At (x ∷ es) n e × (e.key ≡ k)
+found_step true x e rest k es is more h = let s : x ≡ e = (cc) in (0, ap Some s, ap (λ (y : Entry). y.key) (sym s) ∙ (decides_key x.key k).0 is)
+found_step false x e rest k es is more h = let r = more h in (suc r.0, r.1, r.2)
+
+found_at : (es : List Entry) (k : DeclKey) (e : Entry) → find es k ≡ Some e → (n : ℕ) × At es n e × (e.key ≡ k)
+found_at [] k e h = cc
+found_at (x ∷ es) k e h = found_step (same_key x.key k) x e (find es k) k es refl (λ r. found_at es k e r) h
+
+numbered : (es : List Entry) (k : DeclKey) (e : Entry) → find es k ≡ Some e → (n : ℕ) × IsNumbered es n (Defined k)
+numbered es k e h =
+    let r = found_at es k e h in
+    (r.0, record { entry = e; at = r.1; is = ap Defined (sym r.2); found = ap (find es) r.2 ∙ h })
+
+-- a type that embeds one is of the table, or the one stands within it
+abbrev Falls : List Entry → Term → Term → Type 0
+Falls es t v = (((n : ℕ) × IsNumbered es n t) × (nesting v ≤ deepest es)) ⊎ (nesting v < nesting t)
+
+edge_falls : (es : List Entry) (t : Term) (e : Edge) → In (embedded_in (owner_in (find es) t)) e → Falls es t e.target
+edge_falls es NoType e h = absurd h
+edge_falls es (Predeclared b) e h = absurd h
+edge_falls es ErrorType e h = absurd h
+edge_falls es (Defined k) e h = by (find es k) refl
+  where
+    by : (r : Option Entry) → find es k ≡ r → Falls es (Defined k) e.target
+    by None is = let u : underlying_in (find es) (Defined k) ≡ NoType = ap term_in is in absurd (subst (λ w. In (term_embedded (owner_in (find es) (Defined k)) w) e) u h)
+    by (Some x) is =
+        let u : underlying_in (find es) (Defined k) ≡ x.term = ap term_in is in
+        let d = term_deep (owner_in (find es) (Defined k)) x.term e (subst (λ w. In (term_embedded (owner_in (find es) (Defined k)) w) e) u h) in
+        let l = find_deep es k x is in
+        inl (numbered es k x is, omega (arith, d, l))
+edge_falls es (PointerTo t) e h = absurd h
+edge_falls es (StructOf path fs) e h = inr (term_deep (owner_in (find es) (StructOf path fs)) (StructOf path fs) e h)
+edge_falls es (InterfaceOf path ms) e h = absurd h
+
+step_falls : (es : List Entry) (t : Term) (i : ℕ) (p : Bool) (v : Term) → Step (find es) t i p v → Falls es t v
+step_falls es t i p v s = let x = step_edge (find es) t i p v s in subst (λ w. Falls es t w) x.5 (edge_falls es t x.0 x.2)
+
+-- whether a type is that defined type
+same_node : (w : Term) (j : DeclKey) → (w ≡ Defined j) ⊎ (w ≡ Defined j → ⊥)
+same_node NoType j = inr (λ e. cc)
+same_node (Predeclared b) j = inr (λ e. cc)
+same_node ErrorType j = inr (λ e. cc)
+same_node (Defined k) j = by (same_key k j) refl
+  where
+    by : (b : Bool) → same_key k j ≡ b → (Defined k ≡ Defined j) ⊎ (Defined k ≡ Defined j → ⊥)
+    by true e = inl (ap Defined ((decides_key k j).0 e))
+    by false e = inr (λ s. let kj : k ≡ j = (cc) in let t : same_key k j ≡ true = (decides_key k j).1 kj in let z : true ≡ false = sym t ∙ e in (cc))
+same_node (PointerTo t) j = inr (λ e. cc)
+same_node (StructOf path fs) j = inr (λ e. cc)
+same_node (InterfaceOf path ms) j = inr (λ e. cc)
+
+-- paths that come to no type that is marked
+
+abbrev Free : List Entry → List (ℕ × ℕ) → Term → Type 0
+Free es met u = (n : ℕ) → IsNumbered es n u → lookup (nat_eq n) met ≡ None
+
+abbrev Avoids : List Entry → List (ℕ × ℕ) → Term → List ℕ → Term → Type 0
+Avoids es met t [] u = Free es met t × (t ≡ u)
+Avoids es met t (i ∷ q) u = Free es met t × ((v : Term) × (p : Bool) × Step (find es) t i p v × Avoids es met v q u)
+
+avoids_none : (es : List Entry) (t : Term) (q : List ℕ) (p : Bool) (u : Term) → Leads (find es) t q p u → Avoids es [] t q u
+avoids_none es t [] p u h = (λ n num. refl, h.0)
+avoids_none es t (i ∷ q) p u h = (λ n num. refl, (h.0, h.1, h.3, avoids_none es h.0 q h.2 u h.4))
+
+free_more : (es : List Entry) (met : List (ℕ × ℕ)) (n : ℕ) (w : Term) → Free es met w → (IsNumbered es n w → ⊥) → Free es (met ++ (n, 0) ∷ []) w
+free_more es met n w free other m num = lookup_more met n 0 m (λ e. other (subst (λ k. IsNumbered es k w) e num)) ∙ free m num
+
+-- the last time that a path is at t: it never is, or the rest of it never comes back
+abbrev Rest : List Entry → List (ℕ × ℕ) → Term → Term → Type 0
+Rest es met t u = (t ≡ u) ⊎ ((i : ℕ) × (p : Bool) × (v : Term) × (q : List ℕ) × Step (find es) t i p v × Avoids es met v q u)
+
+same_as : (es : List Entry) (n : ℕ) (t : Term) (num : IsNumbered es n t) (w : Term) → (w ≡ t) ⊎ (w ≡ t → ⊥)
+same_as es n t num w = elim (same_node w num.entry.key) [ inl e ↦ inl (e ∙ sym num.is) | inr d ↦ inr (λ e. d (e ∙ num.is)) ]
+
+last_visit : (es : List Entry) (met : List (ℕ × ℕ)) (n : ℕ) (t : Term) (num : IsNumbered es n t) (w : Term) (q : List ℕ) (u : Term) → Avoids es met w q u → Avoids es (met ++ (n, 0) ∷ []) w q u ⊎ Rest es (met ++ (n, 0) ∷ []) t u
+last_visit es met n t num w [] u h =
+    elim (same_as es n t num w) [
+      | inl z ↦ inr (inl (sym z ∙ h.1))
+      | inr d ↦ inl (free_more es met n w h.0 (λ m. d (numbered_same es n w t m num)), h.1)
+    ]
+last_visit es met n t num w (i ∷ q) u h =
+    elim (last_visit es met n t num h.1.0 q u h.1.3) [
+      | inr r ↦ inr r
+      | inl a ↦ elim (same_as es n t num w) [
+        | inl z ↦ inr (inr (i, h.1.1, h.1.0, q, subst (λ k. Step (find es) k i h.1.1 h.1.0) z h.1.2, a))
+        | inr d ↦ inl (free_more es met n w h.0 (λ m. d (numbered_same es n w t m num)), (h.1.0, h.1.1, h.1.2, a))
+      ]
+    ]
+
+starts : (es : List Entry) (met : List (ℕ × ℕ)) (t : Term) (q : List ℕ) (u : Term) → Avoids es met t q u → Free es met t
+starts es met t [] u h = h.0
+starts es met t (i ∷ q) u h = h.0
+
+marked : (es : List Entry) (met : List (ℕ × ℕ)) (n : ℕ) (t : Term) (q : List ℕ) (u : Term) → IsNumbered es n t → lookup (nat_eq n) met ≡ None → Avoids es (met ++ (n, 0) ∷ []) t q u → ⊥
+marked es met n t q u num none a =
+    let x = starts es (met ++ (n, 0) ∷ []) t q u a n num in
+    let y = lookup_new met n 0 none in
+    some_none 0 (sym y ∙ x)
+  where
+    some_none : (p : ℕ) → Some p ≡ None → ⊥
+    some_none p z = cc
+
+-- one type fewer that may be met makes room for the deepest that is embedded
+drops : (d l m : ℕ) → l < m → l * suc d + suc d ≤ m * suc d
+drops d l m h = grind arith
+
+-- what a path may cost from a type on
+abbrev cost : List Entry → List (ℕ × ℕ) → Term → ℕ
+cost es met t = left es met * suc (deepest es) + nesting t
+
+abbrev Short : List Entry → Term → Term → ℕ → Type 0
+Short es t u b = (r : List ℕ) × (p : Bool) × Leads (find es) t r p u × (length r ≤ b)
+
+-- from a type of the table on, where paths can be cut that cost less
+over : (b : ℕ) (es : List Entry) (met : List (ℕ × ℕ)) (t : Term) (q : List ℕ) (u : Term) (n : ℕ) → IsNumbered es n t → cost es met t ≤ suc b → Avoids es met t q u
+    → ((met' : List (ℕ × ℕ)) (v : Term) (rest : List ℕ) → cost es met' v ≤ b → Avoids es met' v rest u → Short es v u b) → Short es t u (suc b)
+over b es met t q u n num l h more =
+    elim (last_visit es met n t num t q u h) [
+      | inl a ↦ absurd (marked es met n t q u num none a)
+      | inr r ↦ elim r [
+        | inl e ↦ ([], false, (e, refl), omega arith)
+        | inr x ↦ onward x.0 x.1 x.2 x.3 x.4 x.5
+      ]
+    ]
+  where
+    none : lookup (nat_eq n) met ≡ None
+    none = starts es met t q u h n num
+
+    fewer : left es (met ++ (n, 0) ∷ []) * suc (deepest es) + suc (deepest es) ≤ left es met * suc (deepest es)
+    fewer = drops (deepest es) (left es (met ++ (n, 0) ∷ [])) (left es met) (left_falls es met n 0 t num none)
+
+    onward : (j : ℕ) (p : Bool) (v : Term) (rest : List ℕ) → Step (find es) t j p v → Avoids es (met ++ (n, 0) ∷ []) v rest u → Short es t u (suc b)
+    onward j p v rest step a =
+        let k = fewer in
+        elim (step_falls es t j p v step) [
+          | inl x ↦
+              let low = x.1 in
+              let s = more (met ++ (n, 0) ∷ []) v rest (omega (arith, k, low, l)) a in
+              (j ∷ s.0, p || s.1, (v, p, s.1, step, s.2, refl), omega (arith, s.3))
+          | inr y ↦
+              let s = more (met ++ (n, 0) ∷ []) v rest (omega (arith, k, y, l)) a in
+              (j ∷ s.0, p || s.1, (v, p, s.1, step, s.2, refl), omega (arith, s.3))
+        ]
+
+short : (b : ℕ) (es : List Entry) (met : List (ℕ × ℕ)) (t : Term) (q : List ℕ) (u : Term) → cost es met t ≤ b → Avoids es met t q u → Short es t u b
+short b es met t [] u l h = ([], false, (h.1, refl), omega arith)
+short zero es met t (i ∷ q) u l h =
+    elim (step_falls es t i h.1.1 h.1.0 h.1.2) [
+      | inl x ↦
+          let f = left_falls es met x.0.0 0 t x.0.1 (h.0 x.0.0 x.0.1) in
+          let k = drops (deepest es) (left es (met ++ (x.0.0, 0) ∷ [])) (left es met) f in
+          absurd (omega (arith, k, l))
+      | inr y ↦ absurd (omega (arith, y, l))
+    ]
+short (suc b) es met t (i ∷ q) u l h =
+    elim (step_falls es t i h.1.1 h.1.0 h.1.2) [
+      | inl x ↦ over b es met t (i ∷ q) u x.0.0 x.0.1 l h (λ met' v rest k a. short b es met' v rest u k a)
+      | inr y ↦
+          let s = short b es met h.1.0 q u (omega (arith, y, l)) h.1.3 in
+          (i ∷ s.0, h.1.1 || s.1, (h.1.0, h.1.1, s.1, h.1.2, s.2, refl), omega (arith, s.3))
+    ]
+
+left_none : (n : ℕ) → left_below n [] ≤ n
+left_none zero = omega arith
+left_none (suc n) = let l = left_none n in omega (arith, l)
+
+times : (d l m : ℕ) → l ≤ m → l * suc d ≤ m * suc d
+times d l m h = grind arith
+
+pub short_path : (es : List Entry) (t : Term) (q : List ℕ) (p : Bool) (u : Term) → Leads (find es) t q p u → (r : List ℕ) × (b : Bool) × Leads (find es) t r b u × (length r ≤ last_depth es t)
+short_path es t q p u h =
+    let l = left_none (length es) in
+    let k = times (deepest es) (left es []) (length es) l in
+    short (last_depth es t) es [] t q u (omega (arith, k)) (avoids_none es t q p u h)

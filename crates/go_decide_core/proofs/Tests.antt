@@ -1,0 +1,79 @@
+-- Tests that decide.
+use Rattle.std.proofs.Common.{◌≡◌, ◌↔◌, ℕ, Bool, true, false, not, ◌&&◌, ◌||◌, List, IsTrue, ◌⊎◌, inl, inr, refl, subst, eq-eqb}
+use borrow.Author.Tests.{eqb-true}
+use denote.Enum.Bare.{sameb, same_true, true_same}
+use Rattle.std.specs.Prelude.{nat_eq}
+use Rattle.std.specs.Str.{bytes_eq}
+use Rattle.std.proofs.lemmas.Bool.{and_parts, and_from, or_cases, or_left, or_right}
+use Rattle.std.proofs.lemmas.Slice.Eq.{bytes_eq-Decides}
+use Rattle.go_decl_core.specs.contracts.places.DeclKind as decl_kind
+use Rattle.go_decl_core.specs.declared.keys.DeclKey.{DeclKey}
+use Rattle.go_term_core.specs.declared.term.Basic.{Basic}
+use Rattle.go_term_core.specs.declared.term.Basic.TheVariants as basics
+use Rattle.go_term_core.specs.Identity.{TagsAgree}
+use Rattle.go_table_core.specs.Entries.{same_key, same_decl}
+use Rattle.go_operand_core.specs.Values.{is_basic}
+use Rattle.go_decide_core.specs.Identity.{same_flag, tags_agree}
+
+-- both of two tests
+pub both_decide : {P Q : Type 0} (a b : Bool) → (IsTrue a ↔ P) → (IsTrue b ↔ Q) → IsTrue (a && b) ↔ (P × Q)
+both_decide a b p q = (λ h. let x = and_parts a b h in (p.0 x.0, q.0 x.1), λ h. and_from a b (p.1 h.0) (q.1 h.1))
+
+-- one of two tests
+pub some_decide : {P Q : Type 0} (a b : Bool) → (IsTrue a ↔ P) → (IsTrue b ↔ Q) → IsTrue (a || b) ↔ (P ⊎ Q)
+some_decide a b p q = (
+  λ h. elim (or_cases a b h) [ inl x ↦ inl (p.0 x) | inr y ↦ inr (q.0 y) ],
+  λ h. elim h [ inl x ↦ or_left a b (p.1 x) | inr y ↦ or_right a b (q.1 y) ],
+)
+
+-- a test that is never passed, of what never holds
+pub never : {P : Type 0} → (P → ⊥) → IsTrue false ↔ P
+never none = (λ h. cc, λ p. absurd (none p))
+
+pub decides_not : {P : Type 0} (a : Bool) → (IsTrue a ↔ P) → IsTrue (not a) ↔ (P → ⊥)
+decides_not true p = (λ h. cc, λ h. absurd (h (p.0 refl)))
+decides_not false p = (λ h x. let z : false ≡ true = p.1 x in (cc), λ h. refl)
+
+pub decides_number : (m n : ℕ) → IsTrue (nat_eq m n) ↔ (m ≡ n)
+decides_number m n = (λ h. eqb-true m n h, λ h. eq-eqb m n h)
+
+pub decides_flag : (a b : Bool) → IsTrue (same_flag a b) ↔ (a ≡ b)
+decides_flag true true = (λ h. refl, λ h. refl)
+decides_flag true false = (λ h. cc, λ h. cc)
+decides_flag false true = (λ h. cc, λ h. cc)
+decides_flag false false = (λ h. refl, λ h. refl)
+
+pub decides_tags : (tags : Bool) (x y : List ℕ) → IsTrue (tags_agree tags x y) ↔ TagsAgree tags x y
+decides_tags true x y = ((bytes_eq-Decides x y).0, (bytes_eq-Decides x y).1)
+decides_tags false x y = (λ h. tt, λ h. refl)
+
+pub decides_basic : (b c : Basic) → IsTrue (is_basic b c) ↔ (b ≡ c)
+decides_basic basics.Bool basics.Bool = (λ h. refl, λ h. refl)
+decides_basic basics.Bool basics.Int = (λ h. cc, λ h. cc)
+decides_basic basics.Bool basics.Text = (λ h. cc, λ h. cc)
+decides_basic basics.Int basics.Bool = (λ h. cc, λ h. cc)
+decides_basic basics.Int basics.Int = (λ h. refl, λ h. refl)
+decides_basic basics.Int basics.Text = (λ h. cc, λ h. cc)
+decides_basic basics.Text basics.Bool = (λ h. cc, λ h. cc)
+decides_basic basics.Text basics.Int = (λ h. cc, λ h. cc)
+decides_basic basics.Text basics.Text = (λ h. refl, λ h. refl)
+
+key_same : (a b : DeclKey) → same_key a b ≡ true → a ≡ b
+key_same a b h =
+    let x = and_parts (bytes_eq a.path b.path) (same_decl a.decl b.decl) h in
+    let y = and_parts (nat_eq a.decl.file b.decl.file) (nat_eq a.decl.number b.decl.number && sameb decl_kind.the_type a.decl.kind b.decl.kind) x.1 in
+    let z = and_parts (nat_eq a.decl.number b.decl.number) (sameb decl_kind.the_type a.decl.kind b.decl.kind) y.1 in
+    let p = (bytes_eq-Decides a.path b.path).0 x.0 in
+    let f = eqb-true a.decl.file b.decl.file y.0 in
+    let n = eqb-true a.decl.number b.decl.number z.0 in
+    let k = same_true decl_kind.the_type tt a.decl.kind b.decl.kind z.1 in
+    λ i. record { path = p i; decl = record { file = f i; number = n i; kind = k i } }
+
+pub key_itself : (k : DeclKey) → same_key k k ≡ true
+key_itself k =
+    and_from (bytes_eq k.path k.path) (same_decl k.decl k.decl) ((bytes_eq-Decides k.path k.path).1 refl)
+    (and_from (nat_eq k.decl.file k.decl.file) (nat_eq k.decl.number k.decl.number && sameb decl_kind.the_type k.decl.kind k.decl.kind) (eq-eqb k.decl.file k.decl.file refl)
+    (and_from (nat_eq k.decl.number k.decl.number) (sameb decl_kind.the_type k.decl.kind k.decl.kind) (eq-eqb k.decl.number k.decl.number refl) (true_same decl_kind.the_type k.decl.kind k.decl.kind refl)))
+
+pub decides_key : (a b : DeclKey) → IsTrue (same_key a b) ↔ (a ≡ b)
+decides_key a b = (λ h. key_same a b h, λ h. subst (λ k. same_key a k ≡ true) h (key_itself a))
