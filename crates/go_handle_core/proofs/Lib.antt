@@ -1,0 +1,3 @@
+pub mod Starred
+pub mod Listed
+pub mod Telling

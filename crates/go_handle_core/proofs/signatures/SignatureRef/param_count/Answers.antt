@@ -1,0 +1,12 @@
+use Rattle.std.proofs.Common.{sym, ap, ◌∙◌}
+use Rattle.std.specs.Prelude.{length}
+use Rattle.go_term_core.specs.Shapes.{params_of as shown}
+use Rattle.go_table_core.specs.Entries.{find}
+use Rattle.go_decide_core.specs.Rules.{params_of}
+use Rattle.go_handle_core.proofs.Listed.{typed_length}
+use Rattle.go_handle_core.proofs.signatures.SignatureRef.param_count.Goals as goal
+
+pub returns : goal.returns
+returns c =
+    let look = find c.args.table.now in
+    c.param_count.ensures ∙ (sym (typed_length look (shown c.self.inside.signature.now.params)) ∙ ap (λ s. length (params_of look s)) c.self.view_is)

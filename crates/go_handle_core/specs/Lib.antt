@@ -1,0 +1,5 @@
+pub mod Stars
+pub mod Homes
+pub mod Declarations
+pub mod Names
+pub mod mirrors

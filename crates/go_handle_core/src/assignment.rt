@@ -1,0 +1,102 @@
+//! Which values are assignable to variables of a type.
+ghost use Rattle.std.specs.Prelude.{◌≡◌, ◌&&◌, not, true, false, MatchOption, IfOk};
+ghost use Rattle.go_term_core.specs.Shapes.{shape};
+ghost use Rattle.go_table_core.specs.Entries.{find, underlying_in};
+ghost use Rattle.go_table_core.specs.Assign.{AValue};
+ghost use Rattle.go_decide_core.specs.Identity.{identical_of};
+ghost use Rattle.go_decide_core.specs.Assigning.{is_named, is_interface, value_fits, assignable_of};
+ghost use Rattle.go_decide_core.specs.Implementing.{implements_of};
+
+use crate::conversion::is_type;
+use crate::identity::is_identical;
+use crate::implementing::is_implementing;
+use crate::types::TypeRef;
+use go_settle_core::{Kind, kind_of};
+use go_table_core::TypeTable;
+use go_term_core::TypeTerm;
+use std::alloc::{AllocError, Global};
+
+// Whether a type as it stands is a name, declared or predeclared.
+fn is_name(term: &TypeTerm) -> bool
+    ensures { result ≡ is_named (shape term.now) }
+{
+    match term {
+        TypeTerm::Basic(_) | TypeTerm::Error | TypeTerm::Defined(_) => true,
+        TypeTerm::NoType
+        | TypeTerm::Pointer(_)
+        | TypeTerm::Struct(_, _, _)
+        | TypeTerm::Interface(_, _) => false,
+    }
+}
+
+// Whether a type is a name, declared or predeclared.
+fn is_named(t: &TypeRef<'_>) -> bool
+    ensures { result ≡ is_named t.now }
+{
+    t.stars == 0 && is_name(t.term)
+}
+
+// An interface type, be it named or not; none where a type is another.
+fn interface<'a>(table: &'a TypeTable, t: &TypeRef<'a>) -> Option<&'a TypeTerm>
+    ensures { MatchOption result (is_interface (underlying_in (find table.now) t.now) ≡ false) (λ i. (shape i.now ≡ t.now) × (is_interface (underlying_in (find table.now) t.now) ≡ true)) }
+{
+    if t.stars > 0 {
+        return None;
+    }
+    if kind_of(table.underlying(t.term)) == Kind::Interface {
+        return Some(t.term);
+    }
+    None
+}
+
+// Whether two types have identical underlying types, and one of the two is not named.
+fn are_alike_unnamed<'a>(table: &'a TypeTable, a: &TypeRef<'a>, b: &TypeRef<'a>) -> bool
+    ensures { result ≡ identical_of (underlying_in (find table.now) a.now) (underlying_in (find table.now) b.now) && not (is_named a.now && is_named b.now) }
+{
+    is_identical(&a.underlying(table), &b.underlying(table)) && !(is_named(a) && is_named(b))
+}
+
+// Whether a value of a type fits a variable of another, where both are types.
+fn fits<'a>(
+    alloc: Global,
+    table: &'a TypeTable,
+    value: &TypeRef<'a>,
+    variable: &TypeRef<'a>,
+) -> Result<bool, AllocError>
+    ensures { IfOk result (λ taken. taken ≡ value_fits (find table.now) value.now variable.now (implements_of table.now value.now variable.now)) }
+{
+    if is_identical(value, variable) {
+        return Ok(true);
+    }
+    if are_alike_unnamed(table, value, variable) {
+        return Ok(true);
+    }
+    match interface(table, variable) {
+        Some(term) => is_implementing(alloc, table, value, term),
+        None => Ok(false),
+    }
+}
+
+/// Whether a value of a type is assignable to a variable of another.
+///
+/// The Go specification, "Assignability".
+///
+/// # Errors
+///
+/// `AllocError` where memory is wanting for a search among methods.
+pub fn is_assignable<'a>(
+    alloc: Global,
+    table: &'a TypeTable,
+    value: &TypeRef<'a>,
+    variable: &TypeRef<'a>,
+) -> Result<bool, AllocError>
+    ensures { IfOk result (λ taken. taken ≡ assignable_of table.now (AValue value.now) variable.now) }
+{
+    if !is_type(table, variable) {
+        return Ok(false);
+    }
+    if !is_type(table, value) {
+        return Ok(false);
+    }
+    fits(alloc, table, value, variable)
+}

@@ -1,0 +1,27 @@
+//! Handles over tables of types: types under stars, signatures and declarations that are lent and never copied.
+//!
+//! They are what the rules of operands, names and selectors pass on (`go_operand_core`, `go_denote_core`).
+#![tactic(auto)]
+
+mod assignment;
+mod conversion;
+mod decls;
+mod here;
+mod home;
+mod identity;
+mod implementing;
+mod inside;
+mod selecting;
+mod signatures;
+mod types;
+
+pub use assignment::is_assignable;
+pub use conversion::is_convertible;
+pub use decls::{Decl, DeclSite};
+pub use here::TypesHere;
+pub use home::Home;
+pub use identity::is_identical;
+pub use implementing::is_implementing;
+pub use selecting::selection;
+pub use signatures::SignatureRef;
+pub use types::TypeRef;

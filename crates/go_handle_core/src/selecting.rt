@@ -1,0 +1,103 @@
+//! What selectors choose.
+ghost use Rattle.std.specs.Prelude.{◌≡◌, ◌↔◌, IsTrue, IfOk, Ok};
+ghost use Rattle.go_table_core.specs.Entries.{find};
+ghost use Rattle.go_select_core.specs.Selectors.{IsAnswer};
+ghost use Rattle.go_decide_core.specs.Selecting.{chosen_of};
+ghost use Rattle.go_handle_core.specs.Names.{shown_choice, selection_in};
+
+use crate::decls::{Decl, member_decl};
+use crate::home::Home;
+use crate::signatures::{SignatureRef, typed};
+use crate::types::TypeRef;
+use go_denote_core::Selection;
+use go_path_core::ImportPath;
+use go_select_core::{EmbedPath, Member, Selected, select, select_behind_pointer};
+use go_table_core::TypeTable;
+use go_text_core::Rule;
+use std::alloc::{AllocError, Global};
+
+// Whether memory was wanting.
+fn is_memory(rule: Rule) -> bool
+    ensures { IsTrue result ↔ (rule ≡ Rule.M0) }
+{
+    rule == Rule::M0
+}
+
+// What a selector denotes behind an operand of a type, where its name is written in the package `from`. Errors: M0, and the rule that it
+// breaks.
+fn answer<'a>(
+    alloc: Global,
+    table: &'a TypeTable,
+    t: &TypeRef<'a>,
+    name: &str,
+    from: &ImportPath,
+) -> Result<Selected<'a>, Rule>
+    ensures { IsAnswer (find table.now) t.now name.now from.now result }
+{
+    if t.stars == 0 {
+        return select(alloc, table, t.term, name, from);
+    }
+    if t.stars == 1 {
+        return select_behind_pointer(alloc, table, t.term, name, from);
+    }
+    if name == "_" {
+        return Err(Rule::S8);
+    }
+    Err(Rule::S6)
+}
+
+// What is selected, with its declaration.
+fn shown<'a>(
+    table: &'a TypeTable,
+    home: &'a Home,
+    selected: Selected<'a>,
+) -> Selection<TypeRef<'a>, SignatureRef<'a>, Decl<'a>, EmbedPath>
+    ensures { result ≡ shown_choice (find table.now) (chosen_of (Ok selected.entry)) }
+{
+    let decl = member_decl(selected.member);
+    let path = selected.path;
+    let passes = selected.through_pointer;
+    match selected.member {
+        Member::Field(_, field) => {
+            Selection::Field(decl, path, typed(table, field.term()), passes)
+        }
+        Member::Method(_, method) => {
+            let signature = SignatureRef::of(&method.signature);
+            Selection::Method(decl, path, signature, method.pointer, passes)
+        }
+        Member::InterfaceMethod(_, method) => {
+            let signature = SignatureRef::of(&method.signature);
+            Selection::Method(decl, path, signature, false, passes)
+        }
+        Member::ErrorMethod => {
+            Selection::Method(decl, path, home.error_signature(), false, passes)
+        }
+    }
+}
+
+/// The member that a name selects behind an operand of a type, asked for from a package.
+///
+/// The Go specification, "Selectors".
+///
+/// # Errors
+///
+/// `AllocError` where memory is wanting.
+pub fn selection<'a>(
+    alloc: Global,
+    table: &'a TypeTable,
+    home: &'a Home,
+    t: &TypeRef<'a>,
+    name: &str,
+) -> Result<Selection<TypeRef<'a>, SignatureRef<'a>, Decl<'a>, EmbedPath>, AllocError>
+    ensures { IfOk result (λ found. found ≡ selection_in table.now home.now t.now name.now) }
+{
+    match answer(alloc, table, t, name, home.path()) {
+        Ok(selected) => Ok(shown(table, home, selected)),
+        Err(rule) => {
+            if is_memory(rule) {
+                return Err(AllocError);
+            }
+            Ok(Selection::Missing(rule))
+        }
+    }
+}
