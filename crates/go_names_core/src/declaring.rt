@@ -228,7 +228,8 @@ fn declare_locals<M: Meant + Drop>(
     ensures { OnOk result (scene scopes.new locals.new.items ≡ locals_declared (scene scopes.old locals.old.items) (map (λ i. i.now) idents.now) means.now) }
 {
     for (ident, meaning) in idents.iter().zip(means) {
-        declare_local(scopes, locals, ident, meaning.again())?;
+        let again = meaning.again()?;
+        declare_local(scopes, locals, ident, again)?;
     }
     Ok(())
 }

@@ -56,11 +56,12 @@ fn add_receiver<'a>(
     Ok(())
 }
 
-/// Some identifiers, as a list.
-pub(crate) fn listed_idents<'a>(
-    alloc: Global,
-    names: &'a Idents,
-) -> Result<Vec<&'a Ident>, AllocError>
+/// Identifiers with commas between them, as a list, in order of their places.
+///
+/// # Errors
+///
+/// [`AllocError`] where memory runs out.
+pub fn listed_idents<'a>(alloc: Global, names: &'a Idents) -> Result<Vec<&'a Ident>, AllocError>
     ensures { IfOk result (λ list. map (λ i. i.now) list.items ≡ idents (shape_idents names.now)) }
 {
     let mut list = Vec::new(alloc);
@@ -68,11 +69,14 @@ pub(crate) fn listed_idents<'a>(
     Ok(list)
 }
 
-/// The identifiers of a function's receiver, parameters and results, as a list.
-pub(crate) fn header_idents<'a>(
-    alloc: Global,
-    func: &'a FuncDecl,
-) -> Result<Vec<&'a Ident>, AllocError>
+/// The identifiers that a function's receiver, parameters and results declare, as a list, in order of their places.
+///
+/// The Go specification, "Function declarations" and "Method declarations".
+///
+/// # Errors
+///
+/// [`AllocError`] where memory runs out.
+pub fn header_idents<'a>(alloc: Global, func: &'a FuncDecl) -> Result<Vec<&'a Ident>, AllocError>
     ensures { IfOk result (λ list. map (λ i. i.now) list.items ≡ func_idents func.now) }
 {
     let mut list = Vec::new(alloc);

@@ -1,11 +1,12 @@
 //! The names that are open at a place of a function.
-ghost use Rattle.std.specs.Prelude.{◌≡◌, ℕ};
+ghost use Rattle.std.specs.Prelude.{◌≡◌, ℕ, [], slice_get, IfOk};
 ghost use Rattle.go_scope_core.specs.Scopes.{denoted_of};
 ghost use Rattle.go_names_core.specs.Scope.{meaning_of, look_of};
 
 use crate::meaning::{Meant, Outside};
 use go_open_core::DeclId;
 use go_scope_core::{InScope, Scopes};
+use std::alloc::AllocError;
 
 /// The names that are open at a place of a function, with what they mean.
 #[derive(Drop)]
@@ -15,15 +16,28 @@ pub struct OpenNames<'a, M> {
     locals: &'a [M],
 }
 
+// What the local of a number means, if there is one.
+fn local_meaning<M: Meant>(locals: &[M], number: usize) -> Result<Option<M>, AllocError>
+    ensures { IfOk result (λ meaning. meaning ≡ slice_get locals.now number) }
+{
+    match locals.get(number) {
+        None => Ok(None),
+        Some(meaning) => match meaning.again() {
+            Ok(again) => Ok(Some(again)),
+            Err(error) => Err(error),
+        },
+    }
+}
+
 // What is found in a scope, as a checker means it.
-fn meaning_of<M: Meant>(locals: &[M], found: InScope) -> Option<M>
-    ensures { result ≡ meaning_of M.outside locals.now (denoted_of found.entry) }
+fn meaning_of<M: Meant>(locals: &[M], found: InScope) -> Result<Option<M>, AllocError>
+    ensures { IfOk result (λ meaning. meaning ≡ meaning_of M.outside locals.now (denoted_of found.entry)) }
 {
     match found {
-        InScope::Local(DeclId(number)) => return locals.get(number).map(|meaning| meaning.again()),
-        InScope::Package(decl) => return Some(M::of_outside(Outside::Package(decl))),
-        InScope::File(binding) => return Some(M::of_outside(Outside::File(binding.at))),
-        InScope::Universe(name) => return Some(M::of_outside(Outside::Universe(name))),
+        InScope::Local(DeclId(number)) => local_meaning(locals, number),
+        InScope::Package(decl) => Ok(Some(M::of_outside(Outside::Package(decl)))),
+        InScope::File(binding) => Ok(Some(M::of_outside(Outside::File(binding.at)))),
+        InScope::Universe(name) => Ok(Some(M::of_outside(Outside::Universe(name)))),
     }
 }
 
@@ -35,19 +49,33 @@ impl<'a, M> OpenNames<'a, M> {
     {
         OpenNames { scopes, locals }
     }
+
+    /// Those outside all functions: of the file, the package and the universe, where the scopes have no open block of a function.
+    pub fn at_top(scopes: &'a Scopes<'a>) -> Self
+        ensures scopes { result.scopes.now ≡ scopes.now }
+        ensures locals { result.locals.now ≡ [] }
+    {
+        OpenNames {
+            scopes,
+            locals: &[],
+        }
+    }
 }
 
 impl<'a, M: Meant> OpenNames<'a, M> {
-    /// What a name means here: what its declaration in the innermost open block that has one means, if any has. Takes no
-    /// memory.
+    /// What a name means here: what its declaration in the innermost open block that has one means, if any has.
     ///
     /// The Go specification, "Declarations and scope".
-    pub fn find(&self, name: &str) -> Option<M>
-        ensures { (place : ℕ) → result ≡ look_of M.outside self.now name.now place }
+    ///
+    /// # Errors
+    ///
+    /// [`AllocError`] where memory is wanting for what is shared with the meaning of a local ([`Meant::again`]).
+    pub fn find(&self, name: &str) -> Result<Option<M>, AllocError>
+        ensures { IfOk result (λ meaning. (place : ℕ) → meaning ≡ look_of M.outside self.now name.now place) }
     {
         match self.scopes.find(name) {
             Some(found) => meaning_of(self.locals, found),
-            None => None,
+            None => Ok(None),
         }
     }
 }

@@ -1,8 +1,9 @@
 //! What names mean that are declared outside a function.
-ghost use Rattle.std.specs.Prelude.{◌≡◌};
+ghost use Rattle.std.specs.Prelude.{◌≡◌, IfOk};
 
 use go_block_core::DeclRef;
 use go_universe_core::Predeclared;
+use std::alloc::AllocError;
 
 /// What a name denotes that is declared outside the function.
 #[derive(Clone, Copy)]
@@ -26,7 +27,11 @@ pub trait Meant {
     fn of_outside(found: Outside) -> Self
         ensures { result ≡ outside found };
 
-    /// The same meaning once more. It takes no memory.
-    fn again(&self) -> Self
-        ensures { result ≡ self.now };
+    /// The same meaning once more.
+    ///
+    /// # Errors
+    ///
+    /// [`AllocError`] where memory is wanting for what is shared with it.
+    fn again(&self) -> Result<Self, AllocError>
+        ensures { IfOk result (λ meaning. meaning ≡ self.now) };
 }

@@ -33,8 +33,8 @@ impl Meant for Denoted {
         Denoted::Outside(found)
     }
 
-    fn again(&self) -> Self {
-        *self
+    fn again(&self) -> Result<Self, AllocError> {
+        Ok(*self)
     }
 }
 

@@ -55,9 +55,13 @@ fn note_use(noter: &mut Noter, names: &OpenNames<Denoted>, ident: &Ident)
     if noter.lacks_memory {
         return;
     }
+    let Ok(denoted) = names.find(ident.name.as_str()) else {
+        noter.lacks_memory = true;
+        return;
+    };
     let used = NameUse {
         offset: ident.span.start as usize,
-        denoted: names.find(ident.name.as_str()),
+        denoted,
     };
     noter.lacks_memory = noter.uses.push(used).is_err();
 }
