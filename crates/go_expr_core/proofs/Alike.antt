@@ -1,9 +1,8 @@
 -- Look-ups that differ in what names stand for alone, and agree on the names that are written, make the same of an expression.
-use Rattle.std.proofs.Common.{◌≡◌, ℕ, suc, Bool, true, false, List, [], ◌∷◌, ◌++◌, map, refl, sym, ap, ◌∙◌}
+use Rattle.std.proofs.Common.{◌≡◌, ℕ, suc, Bool, true, List, [], ◌∷◌, ◌++◌, map, refl, sym, ap, ◌∙◌}
 use Rattle.std.specs.Prelude.{Option, Some, None, MatchOption, ⊤, if◌then◌else◌}
 use Rattle.std.proofs.lemmas.List.{map-append}
 use Rattle.go_text_core.specs.Text.{is_blank}
-use Rattle.go_text_core.specs.declared.rule.Rule.{Rule}
 use Rattle.go_text_core.specs.declared.rule.Rule.TheVariants.{N8, F1, F5, F8}
 use Rattle.go_tree_nodes.specs.declared.names.Ident.{Ident}
 use Rattle.go_tree_nodes.specs.declared.exprs.Key.{Key}
@@ -27,8 +26,7 @@ use Rattle.go_denote_core.specs.declared.things.Argument.TheVariants as argument
 use Rattle.go_denote_core.specs.declared.things.Denoted as declared_denoted
 use Rattle.go_denote_core.specs.declared.things.Denoted.TheVariants as denotes
 use Rattle.go_denote_core.specs.declared.things.Answer.{Answer}
-use Rattle.go_denote_core.specs.Look.{Look}
-use Rattle.go_denote_core.specs.Answers.{refused, found_answer, name_answer}
+use Rattle.go_denote_core.specs.Answers.{refused, found_answer}
 use Rattle.go_denote_core.specs.Selectors.{dot_of, selector_answer}
 use Rattle.go_denote_core.specs.Arguments.{arguments_of, is_free}
 use Rattle.go_denote_core.specs.Calls.{call_answer}
@@ -41,19 +39,20 @@ use Rattle.go_literal_core.specs.declared.things.Mode.TheVariants as modes
 use Rattle.go_literal_core.specs.declared.things.NamedField.{NamedField}
 use Rattle.go_literal_core.specs.declared.things.NamedField.TheVariants as nameds
 use Rattle.go_literal_core.specs.Fields.{named_field}
-use Rattle.go_literal_core.specs.Literals.{is_struct, literal_type, literal_denotes, literal_rule, literal_mode, element_target, misfits}
+use Rattle.go_literal_core.specs.Literals.{is_struct, literal_type, literal_denotes, literal_rule, literal_mode, element_target}
 use Rattle.go_literal_core.specs.Keys.{refused_key, found_key, key_answer}
-use Rattle.go_expr_core.specs.declared.things.Use.{Use}
 use Rattle.go_expr_core.specs.declared.things.Fault.{Fault}
-use Rattle.go_expr_core.specs.Looks.{Looks, at, literals_at}
+use Rattle.go_expr_core.specs.Looks.{WrittenRules, Looks, at, literals_at}
 use Rattle.go_expr_core.specs.Places.{inside, under_place, left_place, whole, is_name, is_literal, is_lone_call, is_several, start, item_start, type_name_start, type_start, place_role, role_usage}
 use Rattle.go_expr_core.specs.Operators.{unary_of, binary_of}
 use Rattle.go_expr_core.specs.Denoting.{ident_answer, type_name_answer, named_type, written_type, denoted, denoted_items, select_answer, called_answer}
-use Rattle.go_expr_core.specs.Elements.{key_names, all_keys, count, keys_of, is_mixed, key_target_by, is_again, target, element_rule, whole_rule, whole_mode}
-use Rattle.go_expr_core.specs.Uses.{made_use, use_of, uses, spots, type_name_spots, type_name_uses, type_spots, fields_spots, methods_spots, signature_spots, result_spots, params_spots, key_spots, key_uses, args_spots, args_uses, items_spots, items_uses, elements_uses}
+use Rattle.go_expr_core.specs.Elements.{key_names, all_keys, count, keys_of, is_mixed, key_target_by, is_again, target, element_rule, whole_mode}
+use Rattle.go_expr_core.specs.Uses.{made_use, uses, spots, type_name_spots, type_name_uses, type_spots, fields_spots, methods_spots, signature_spots, result_spots, params_spots, key_spots, key_uses, args_spots, args_uses, items_spots, items_uses}
 use Rattle.go_expr_core.specs.TypeUses.{type_uses, fields_uses, methods_uses, signature_uses, result_uses, params_uses}
 use Rattle.go_expr_core.specs.Faults.{fault_at, single_rule, listed_rule, faults, args_faults, items_faults, operand_faults, literal_faults}
 use Rattle.go_expr_core.specs.Laws.{type_name_idents, type_idents, fields_idents, methods_idents, signature_idents, result_idents, params_idents, idents, items_idents, Agree, type_names_of, field_names_of, method_names_of, signature_names_of, result_names_of, param_names_of, SameTypes, LooksAtNames, finding, Same, ExpressionsAreLocal}
+use Rattle.go_expr_core.specs.Needed.{needed_idents, needed_by_args, DenotedByNeededNames}
+use Rattle.go_expr_core.specs.Locality.{struct_types, struct_types_in, needed_types, needed_types_in, SameType, SameWritten, seeing, ExpressionsAreSeenAlike}
 
 -- what is asked of types is the same
 
@@ -90,6 +89,10 @@ agree_left : {T S D : Type 0} (find other : List ℕ → ℕ → Found T S D) (x
 agree_left find other [] ys h = tt
 agree_left find other (x ∷ xs) ys h = (h.0, agree_left find other xs ys h.1)
 
+agree_both : {T S D : Type 0} (find other : List ℕ → ℕ → Found T S D) (xs ys : List Ident) → Agree find other xs → Agree find other ys → Agree find other (xs ++ ys)
+agree_both find other [] ys h k = k
+agree_both find other (x ∷ xs) ys h k = (h.0, agree_both find other xs ys h.1 k)
+
 agree_right : {T S D : Type 0} (find other : List ℕ → ℕ → Found T S D) (xs ys : List Ident) → Agree find other (xs ++ ys) → Agree find other ys
 agree_right find other [] ys h = h
 agree_right find other (x ∷ xs) ys h = agree_right find other xs ys h.1
@@ -104,9 +107,9 @@ pieces a b c d e f = ap (λ l. l ++ b) e ∙ ap (λ l. c ++ l) f
 mapped : {A B : Type 0} (f g : A → B) (xs ys zs ws : List A) → map f xs ≡ map g zs → map f ys ≡ map g ws → map f (xs ++ ys) ≡ map g (zs ++ ws)
 mapped f g xs ys zs ws e h = map-append f xs ys ∙ (pieces _ _ _ _ e h ∙ sym (map-append g zs ws))
 
-module _ {T S D P : Type 0} (looks : Looks T S D P) (find : List ℕ → ℕ → Found T S D) (law : LooksAtNames T looks.written) where
+module _ {T S D P : Type 0} (looks : Looks T S D P) (find : List ℕ → ℕ → Found T S D) (written : WrittenRules T) where
   abbrev other : Looks T S D P
-  other = finding find looks
+  other = seeing find written looks
 
   abbrev Agrees : List Ident → Type 0
   Agrees xs = Agree looks.find find xs
@@ -208,46 +211,6 @@ module _ {T S D P : Type 0} (looks : Looks T S D P) (find : List ℕ → ℕ →
   named_same : (n : TypeName) → Agrees (type_name_idents n) → named_type looks n ≡ named_type other n
   named_same n h = ap (λ (a : Answer T S D P). literal_type a.denoted) (type_name_same n h)
 
-  abbrev Names : List TypeName → Type 0
-  Names ns = SameTypes (named_type looks) (named_type other) ns
-
-  mutual
-    type_agrees : (t : TypeTree) → Agrees (type_idents t) → Names (type_names_of t)
-    type_agrees (NamedType n) h = (named_same n h, tt)
-    type_agrees (Pointer star t) h = type_agrees t h
-    type_agrees (ParenType first t last) h = type_agrees t h
-    type_agrees (Struct k first ls last) h = fields_agree ls h
-    type_agrees (Interface k first methods last) h = methods_agree methods h
-
-    fields_agree : (ls : FieldTrees) → Agrees (fields_idents ls) → Names (field_names_of ls)
-    fields_agree NoFields h = tt
-    fields_agree (NamedFields xs t tag s rest) h =
-        same_both _ _ (type_names_of t) (field_names_of rest) (type_agrees t (agree_left _ _ (type_idents t) (fields_idents rest) h)) (fields_agree rest (agree_right _ _ (type_idents t) (fields_idents rest) h))
-    fields_agree (EmbeddedField star n tag s rest) h =
-        (named_same n (agree_left _ _ (type_name_idents n) (fields_idents rest) h), fields_agree rest (agree_right _ _ (type_name_idents n) (fields_idents rest) h))
-
-    methods_agree : (ms : MethodTrees) → Agrees (methods_idents ms) → Names (method_names_of ms)
-    methods_agree NoMethods h = tt
-    methods_agree (Method x signature s rest) h =
-        same_both _ _ (signature_names_of signature) (method_names_of rest) (signature_agrees signature (agree_left _ _ (signature_idents signature) (methods_idents rest) h)) (methods_agree rest (agree_right _ _ (signature_idents signature) (methods_idents rest) h))
-
-    signature_agrees : (s : SignatureTree) → Agrees (signature_idents s) → Names (signature_names_of s)
-    signature_agrees (Signed first params last result) h =
-        same_both _ _ (param_names_of params) (result_names_of result) (params_agree params (agree_left _ _ (params_idents params) (result_idents result) h)) (result_agrees result (agree_right _ _ (params_idents params) (result_idents result) h))
-
-    result_agrees : (r : ResultTree) → Agrees (result_idents r) → Names (result_names_of r)
-    result_agrees NoResult h = tt
-    result_agrees (OneResult t) h = type_agrees t h
-    result_agrees (Results first params last) h = params_agree params h
-
-    params_agree : (ps : ParamTrees) → Agrees (params_idents ps) → Names (param_names_of ps)
-    params_agree NoParams h = tt
-    params_agree (Param xs t comma rest) h =
-        same_both _ _ (type_names_of t) (param_names_of rest) (type_agrees t (agree_left _ _ (type_idents t) (params_idents rest) h)) (params_agree rest (agree_right _ _ (type_idents t) (params_idents rest) h))
-
-  written_same : (t : TypeTree) → Agrees (type_idents t) → written_type looks t ≡ written_type other t
-  written_same t h = law.type_of (named_type looks) (named_type other) t (type_agrees t h)
-
   -- uses in types
 
   name_uses : (n : TypeName) → Agrees (type_name_idents n) → type_name_uses looks n ≡ type_name_uses other n
@@ -290,33 +253,97 @@ module _ {T S D P : Type 0} (looks : Looks T S D P) (find : List ℕ → ℕ →
     params_used (Param xs t comma rest) h =
         mapped _ _ (type_spots looks t) (params_spots looks rest) (type_spots other t) (params_spots other rest) (type_used t (agree_left _ _ (type_idents t) (params_idents rest) h)) (params_used rest (agree_right _ _ (type_idents t) (params_idents rest) h))
 
-  -- what an expression denotes
+  -- names and struct types of pieces
+
+  abbrev Made : List TypeTree → Type 0
+  Made ts = SameWritten looks other ts
+
+  made_left : (ts us : List TypeTree) → Made (ts ++ us) → Made ts
+  made_left [] us h = tt
+  made_left (t ∷ ts) us h = (h.0, made_left ts us h.1)
+
+  made_right : (ts us : List TypeTree) → Made (ts ++ us) → Made us
+  made_right [] us h = h
+  made_right (t ∷ ts) us h = made_right ts us h.1
+
+  abbrev Both : List Ident → List TypeTree → Type 0
+  Both xs ts = Agrees xs × Made ts
+
+  left : (xs ys : List Ident) (ts us : List TypeTree) → Both (xs ++ ys) (ts ++ us) → Both xs ts
+  left xs ys ts us h = (agree_left _ _ xs ys h.0, made_left ts us h.1)
+
+  right : (xs ys : List Ident) (ts us : List TypeTree) → Both (xs ++ ys) (ts ++ us) → Both ys us
+  right xs ys ts us h = (agree_right _ _ xs ys h.0, made_right ts us h.1)
+
+  -- what an expression denotes, by what it needs
 
   mutual
-    denoted_same : (p : Place) (e : ExprTree) → Agrees (idents e) → denoted looks p e ≡ denoted other p e
-    denoted_same p (Integer n span) h = refl
-    denoted_same p (Text t) h = refl
-    denoted_same p (Named x) h = ap (λ (a : Answer T S D P). a.denoted) (name_same p x h.0)
-    denoted_same p (Paren first e last) h = denoted_same (inside p) e h
-    denoted_same p (Unary op span e) h = ap (λ d. (unary_of looks.types op (is_literal e) d).denoted) (denoted_same (under_place op p) e h)
-    denoted_same p (Binary a op span b) h =
-        ap (λ d. (binary_of looks.types op d (denoted looks places.«Value» b)).denoted) (denoted_same places.«Value» a (agree_left _ _ (idents a) (idents b) h))
-        ∙ ap (λ d. (binary_of looks.types op (denoted other places.«Value» a) d).denoted) (denoted_same places.«Value» b (agree_right _ _ (idents a) (idents b) h))
-    denoted_same p (Select e dot x) h =
+    denoted_needed : (p : Place) (e : ExprTree) → Both (needed_idents e) (needed_types e) → denoted looks p e ≡ denoted other p e
+    denoted_needed p (Integer n span) h = refl
+    denoted_needed p (Text t) h = refl
+    denoted_needed p (Named x) h = ap (λ (a : Answer T S D P). a.denoted) (name_same p x h.0.0)
+    denoted_needed p (Paren first e last) h = denoted_needed (inside p) e h
+    denoted_needed p (Unary op span e) h = ap (λ d. (unary_of looks.types op (is_literal e) d).denoted) (denoted_needed (under_place op p) e h)
+    denoted_needed p (Binary a op span b) h =
+        ap (λ d. (binary_of looks.types op d (denoted looks places.«Value» b)).denoted) (denoted_needed places.«Value» a (left (needed_idents a) (needed_idents b) (needed_types a) (needed_types b) h))
+        ∙ ap (λ d. (binary_of looks.types op (denoted other places.«Value» a) d).denoted) (denoted_needed places.«Value» b (right (needed_idents a) (needed_idents b) (needed_types a) (needed_types b) h))
+    denoted_needed p (Select e dot x) h =
         ap (λ (a : Answer T S D P). a.denoted) (selector_same x.span.start (whole p) (dot_of (is_name e) (denoted looks (left_place p e) e)) x.name
-        ∙ ap (λ d. selector_answer (at other x.span.start) (whole p) (dot_of (is_name e) d) x.name) (denoted_same (left_place p e) e h))
-    denoted_same p (Call e first items last) h =
-        ap (λ (a : Answer T S D P). a.denoted) (call_same first.start _ _ (is_lone_call items) _ _ (denoted_same places.Callee e (agree_left _ _ (idents e) (items_idents items) h)) (denoted_all items (agree_right _ _ (idents e) (items_idents items) h)))
-    denoted_same p (Literal n first items last) h = ap literal_denotes (named_same n (agree_left _ _ (type_name_idents n) (items_idents items) h))
-    denoted_same p (StructLiteral t first items last) h = ap literal_denotes (written_same t (agree_left _ _ (type_idents t) (items_idents items) h))
+        ∙ ap (λ d. selector_answer (at other x.span.start) (whole p) (dot_of (is_name e) d) x.name) (denoted_needed (left_place p e) e h))
+    denoted_needed p (Call e first items last) h =
+        ap (λ (a : Answer T S D P). a.denoted)
+        (call_same first.start _ _ (is_lone_call items) _ _
+        (denoted_needed places.Callee e (left (needed_idents e) (needed_by_args items) (needed_types e) (needed_types_in items) h))
+        (args_needed items (right (needed_idents e) (needed_by_args items) (needed_types e) (needed_types_in items) h)))
+    denoted_needed p (Literal n first items last) h = ap literal_denotes (named_same n h.0)
+    denoted_needed p (StructLiteral t first items last) h = ap literal_denotes h.1.0.type_of
 
-    denoted_all : (items : ItemTrees) → Agrees (items_idents items) → denoted_items looks items ≡ denoted_items other items
-    denoted_all NoItems h = refl
-    denoted_all (Item key e comma rest) h =
-        ap (λ d. d ∷ denoted_items looks rest) (denoted_same places.«Value» e (agree_left _ _ (idents e) (items_idents rest) h))
-        ∙ ap (λ l. denoted other places.«Value» e ∷ l) (denoted_all rest (agree_right _ _ (idents e) (items_idents rest) h))
+    args_needed : (items : ItemTrees) → Both (needed_by_args items) (needed_types_in items) → denoted_items looks items ≡ denoted_items other items
+    args_needed NoItems h = refl
+    args_needed (Item key e comma rest) h =
+        ap (λ d. d ∷ denoted_items looks rest) (denoted_needed places.«Value» e (left (needed_idents e) (needed_by_args rest) (needed_types e) (needed_types_in rest) h))
+        ∙ ap (λ l. denoted other places.«Value» e ∷ l) (args_needed rest (right (needed_idents e) (needed_by_args rest) (needed_types e) (needed_types_in rest) h))
 
-  select_same : (p : Place) (e : ExprTree) (x : Ident) → Agrees (idents e) → select_answer looks p e x ≡ select_answer other p e x
+  -- what is needed is written
+
+  made_both : (ts us : List TypeTree) → Made ts → Made us → Made (ts ++ us)
+  made_both [] us h k = k
+  made_both (t ∷ ts) us h k = (h.0, made_both ts us h.1 k)
+
+  beside : (xs ys : List Ident) (ts us : List TypeTree) → Both xs ts → Both ys us → Both (xs ++ ys) (ts ++ us)
+  beside xs ys ts us h k = (agree_both _ _ xs ys h.0 k.0, made_both ts us h.1 k.1)
+
+  mutual
+    expr_needs : (e : ExprTree) → Both (idents e) (struct_types e) → Both (needed_idents e) (needed_types e)
+    expr_needs (Integer n span) h = h
+    expr_needs (Text t) h = h
+    expr_needs (Named x) h = h
+    expr_needs (Paren first e last) h = expr_needs e h
+    expr_needs (Unary op span e) h = expr_needs e h
+    expr_needs (Binary a op span b) h =
+        beside (needed_idents a) (needed_idents b) (needed_types a) (needed_types b) (expr_needs a (left (idents a) (idents b) (struct_types a) (struct_types b) h)) (expr_needs b (right (idents a) (idents b) (struct_types a) (struct_types b) h))
+    expr_needs (Select e dot x) h = expr_needs e h
+    expr_needs (Call e first items last) h =
+        beside (needed_idents e) (needed_by_args items) (needed_types e) (needed_types_in items)
+        (expr_needs e (left (idents e) (items_idents items) (struct_types e) (struct_types_in items) h))
+        (args_need items (right (idents e) (items_idents items) (struct_types e) (struct_types_in items) h))
+    expr_needs (Literal n first items last) h = (agree_left _ _ (type_name_idents n) (items_idents items) h.0, tt)
+    expr_needs (StructLiteral t first items last) h = (agree_left _ _ (type_idents t) (items_idents items) h.0, (h.1.0, tt))
+
+    args_need : (items : ItemTrees) → Both (items_idents items) (struct_types_in items) → Both (needed_by_args items) (needed_types_in items)
+    args_need NoItems h = h
+    args_need (Item key e comma rest) h =
+        beside (needed_idents e) (needed_by_args rest) (needed_types e) (needed_types_in rest)
+        (expr_needs e (left (idents e) (items_idents rest) (struct_types e) (struct_types_in rest) h))
+        (args_need rest (right (idents e) (items_idents rest) (struct_types e) (struct_types_in rest) h))
+
+  denoted_same : (p : Place) (e : ExprTree) → Both (idents e) (struct_types e) → denoted looks p e ≡ denoted other p e
+  denoted_same p e h = denoted_needed p e (expr_needs e h)
+
+  denoted_all : (items : ItemTrees) → Both (items_idents items) (struct_types_in items) → denoted_items looks items ≡ denoted_items other items
+  denoted_all items h = args_needed items (args_need items h)
+
+  select_same : (p : Place) (e : ExprTree) (x : Ident) → Both (idents e) (struct_types e) → select_answer looks p e x ≡ select_answer other p e x
   select_same p e x h =
       selector_same x.span.start (whole p) (dot_of (is_name e) (denoted looks (left_place p e) e)) x.name
       ∙ ap (λ d. selector_answer (at other x.span.start) (whole p) (dot_of (is_name e) d) x.name) (denoted_same (left_place p e) e h)
@@ -326,41 +353,41 @@ module _ {T S D P : Type 0} (looks : Looks T S D P) (find : List ℕ → ℕ →
   key_used t m others (Some k) = ap (λ (a : KeyAnswer T D P). made_use k.name.span.start roles.Key a.outcome ∷ []) (key_same k.name.span.start t m (is_again (Some k) others) k.name.name)
 
   mutual
-    used_same : (p : Place) (e : ExprTree) → Agrees (idents e) → uses looks p e ≡ uses other p e
+    used_same : (p : Place) (e : ExprTree) → Both (idents e) (struct_types e) → uses looks p e ≡ uses other p e
     used_same p (Integer n span) h = refl
     used_same p (Text t) h = refl
-    used_same p (Named x) h = ap (λ (a : Answer T S D P). made_use x.span.start (place_role p) a.outcome ∷ []) (name_same p x h.0)
+    used_same p (Named x) h = ap (λ (a : Answer T S D P). made_use x.span.start (place_role p) a.outcome ∷ []) (name_same p x h.0.0)
     used_same p (Paren first e last) h = used_same (inside p) e h
     used_same p (Unary op span e) h = used_same (under_place op p) e h
     used_same p (Binary a op span b) h =
-        mapped _ _ (spots looks places.«Value» a) (spots looks places.«Value» b) (spots other places.«Value» a) (spots other places.«Value» b) (used_same places.«Value» a (agree_left _ _ (idents a) (idents b) h)) (used_same places.«Value» b (agree_right _ _ (idents a) (idents b) h))
+        mapped _ _ (spots looks places.«Value» a) (spots looks places.«Value» b) (spots other places.«Value» a) (spots other places.«Value» b) (used_same places.«Value» a (left (idents a) (idents b) (struct_types a) (struct_types b) h)) (used_same places.«Value» b (right (idents a) (idents b) (struct_types a) (struct_types b) h))
     used_same p (Select e dot x) h =
         mapped _ _ (spots looks (left_place p e) e) _ (spots other (left_place p e) e) _ (used_same (left_place p e) e h)
         (ap (λ (a : Answer T S D P). made_use x.span.start (roles.Selector (role_usage (whole p))) a.outcome ∷ []) (select_same p e x h))
     used_same p (Call e first items last) h =
-        mapped _ _ (spots looks places.Callee e) _ (spots other places.Callee e) _ (used_same places.Callee e (agree_left _ _ (idents e) (items_idents items) h))
-        (ap (λ (a : Answer T S D P). made_use first.start roles.Call a.outcome ∷ args_uses looks items) (call_same first.start _ _ (is_lone_call items) _ _ (denoted_same places.Callee e (agree_left _ _ (idents e) (items_idents items) h)) (denoted_all items (agree_right _ _ (idents e) (items_idents items) h)))
-        ∙ ap (λ l. made_use first.start roles.Call (called_answer other e first items).outcome ∷ l) (args_used items (agree_right _ _ (idents e) (items_idents items) h)))
+        mapped _ _ (spots looks places.Callee e) _ (spots other places.Callee e) _ (used_same places.Callee e (left (idents e) (items_idents items) (struct_types e) (struct_types_in items) h))
+        (ap (λ (a : Answer T S D P). made_use first.start roles.Call a.outcome ∷ args_uses looks items) (call_same first.start _ _ (is_lone_call items) _ _ (denoted_same places.Callee e (left (idents e) (items_idents items) (struct_types e) (struct_types_in items) h)) (denoted_all items (right (idents e) (items_idents items) (struct_types e) (struct_types_in items) h)))
+        ∙ ap (λ l. made_use first.start roles.Call (called_answer other e first items).outcome ∷ l) (args_used items (right (idents e) (items_idents items) (struct_types e) (struct_types_in items) h)))
     used_same p (Literal n first items last) h =
         mapped _ _ (type_name_spots looks n) (items_spots looks (named_type looks n) (is_mixed (keys_of items)) [] items) (type_name_spots other n) (items_spots other (named_type other n) (is_mixed (keys_of items)) [] items)
-        (name_uses n (agree_left _ _ (type_name_idents n) (items_idents items) h))
-        (items_used (named_type looks n) (is_mixed (keys_of items)) [] items (agree_right _ _ (type_name_idents n) (items_idents items) h) ∙ ap (λ t. items_uses other t (is_mixed (keys_of items)) [] items) (named_same n (agree_left _ _ (type_name_idents n) (items_idents items) h)))
+        (name_uses n (agree_left _ _ (type_name_idents n) (items_idents items) h.0))
+        (items_used (named_type looks n) (is_mixed (keys_of items)) [] items (right (type_name_idents n) (items_idents items) [] (struct_types_in items) h) ∙ ap (λ t. items_uses other t (is_mixed (keys_of items)) [] items) (named_same n (agree_left _ _ (type_name_idents n) (items_idents items) h.0)))
     used_same p (StructLiteral t first items last) h =
         mapped _ _ (type_spots looks t) (items_spots looks (written_type looks t) (is_mixed (keys_of items)) [] items) (type_spots other t) (items_spots other (written_type other t) (is_mixed (keys_of items)) [] items)
-        (type_used t (agree_left _ _ (type_idents t) (items_idents items) h))
-        (items_used (written_type looks t) (is_mixed (keys_of items)) [] items (agree_right _ _ (type_idents t) (items_idents items) h) ∙ ap (λ s. items_uses other s (is_mixed (keys_of items)) [] items) (written_same t (agree_left _ _ (type_idents t) (items_idents items) h)))
+        (type_used t (agree_left _ _ (type_idents t) (items_idents items) h.0))
+        (items_used (written_type looks t) (is_mixed (keys_of items)) [] items (right (type_idents t) (items_idents items) (t ∷ []) (struct_types_in items) h) ∙ ap (λ s. items_uses other s (is_mixed (keys_of items)) [] items) h.1.0.type_of)
 
-    args_used : (items : ItemTrees) → Agrees (items_idents items) → args_uses looks items ≡ args_uses other items
+    args_used : (items : ItemTrees) → Both (items_idents items) (struct_types_in items) → args_uses looks items ≡ args_uses other items
     args_used NoItems h = refl
     args_used (Item key e comma rest) h =
-        mapped _ _ (spots looks places.«Value» e) (args_spots looks rest) (spots other places.«Value» e) (args_spots other rest) (used_same places.«Value» e (agree_left _ _ (idents e) (items_idents rest) h)) (args_used rest (agree_right _ _ (idents e) (items_idents rest) h))
+        mapped _ _ (spots looks places.«Value» e) (args_spots looks rest) (spots other places.«Value» e) (args_spots other rest) (used_same places.«Value» e (left (idents e) (items_idents rest) (struct_types e) (struct_types_in rest) h)) (args_used rest (right (idents e) (items_idents rest) (struct_types e) (struct_types_in rest) h))
 
-    items_used : (t : Option T) (m : Bool) (before : List (List ℕ)) (items : ItemTrees) → Agrees (items_idents items) → items_uses looks t m before items ≡ items_uses other t m before items
+    items_used : (t : Option T) (m : Bool) (before : List (List ℕ)) (items : ItemTrees) → Both (items_idents items) (struct_types_in items) → items_uses looks t m before items ≡ items_uses other t m before items
     items_used t m before NoItems h = refl
     items_used t m before (Item key e comma rest) h =
         mapped _ _ (key_spots t m (before ++ all_keys rest) key) _ (key_spots t m (before ++ all_keys rest) key) _ (key_used t m (before ++ all_keys rest) key)
         (mapped _ _ (spots looks places.«Value» e) (items_spots looks t m (before ++ key_names key) rest) (spots other places.«Value» e) (items_spots other t m (before ++ key_names key) rest)
-        (used_same places.«Value» e (agree_left _ _ (idents e) (items_idents rest) h)) (items_used t m (before ++ key_names key) rest (agree_right _ _ (idents e) (items_idents rest) h)))
+        (used_same places.«Value» e (left (idents e) (items_idents rest) (struct_types e) (struct_types_in rest) h)) (items_used t m (before ++ key_names key) rest (right (idents e) (items_idents rest) (struct_types e) (struct_types_in rest) h)))
 
   -- faults
 
@@ -371,11 +398,11 @@ module _ {T S D P : Type 0} (looks : Looks T S D P) (find : List ℕ → ℕ →
       pieces _ _ _ _ (ap (fault_at offset) (rule_same offset t (keys_of items) (count items)))
       (h ∙ ap (λ m. items_faults other t m (is_mixed (keys_of items)) 0 [] items) (mode_same offset t (keys_of items) (count items)))
 
-  operand_with : (p : Place) (e : ExprTree) → Agrees (idents e) → faults looks p e ≡ faults other p e → operand_faults looks p e ≡ operand_faults other p e
+  operand_with : (p : Place) (e : ExprTree) → Both (idents e) (struct_types e) → faults looks p e ≡ faults other p e → operand_faults looks p e ≡ operand_faults other p e
   operand_with p e h same = pieces _ _ _ _ same (ap (λ d. fault_at (start e) (single_rule d)) (denoted_same p e h))
 
   mutual
-    faults_same : (p : Place) (e : ExprTree) → Agrees (idents e) → faults looks p e ≡ faults other p e
+    faults_same : (p : Place) (e : ExprTree) → Both (idents e) (struct_types e) → faults looks p e ≡ faults other p e
     faults_same p (Integer n span) h = refl
     faults_same p (Text t) h = refl
     faults_same p (Named x) h = refl
@@ -383,31 +410,31 @@ module _ {T S D P : Type 0} (looks : Looks T S D P) (find : List ℕ → ℕ →
     faults_same p (Unary op span e) h =
         pieces _ _ _ _ (operand_with (under_place op p) e h (faults_same (under_place op p) e h)) (ap (λ d. fault_at span.start (unary_of looks.types op (is_literal e) d).fault) (denoted_same (under_place op p) e h))
     faults_same p (Binary a op span b) h =
-        pieces _ _ _ _ (operand_with places.«Value» a (agree_left _ _ (idents a) (idents b) h) (faults_same places.«Value» a (agree_left _ _ (idents a) (idents b) h)))
-        (pieces _ _ _ _ (operand_with places.«Value» b (agree_right _ _ (idents a) (idents b) h) (faults_same places.«Value» b (agree_right _ _ (idents a) (idents b) h)))
-        (ap (λ d. fault_at (start a) (binary_of looks.types op d (denoted looks places.«Value» b)).fault) (denoted_same places.«Value» a (agree_left _ _ (idents a) (idents b) h))
-        ∙ ap (λ d. fault_at (start a) (binary_of looks.types op (denoted other places.«Value» a) d).fault) (denoted_same places.«Value» b (agree_right _ _ (idents a) (idents b) h))))
+        pieces _ _ _ _ (operand_with places.«Value» a (left (idents a) (idents b) (struct_types a) (struct_types b) h) (faults_same places.«Value» a (left (idents a) (idents b) (struct_types a) (struct_types b) h)))
+        (pieces _ _ _ _ (operand_with places.«Value» b (right (idents a) (idents b) (struct_types a) (struct_types b) h) (faults_same places.«Value» b (right (idents a) (idents b) (struct_types a) (struct_types b) h)))
+        (ap (λ d. fault_at (start a) (binary_of looks.types op d (denoted looks places.«Value» b)).fault) (denoted_same places.«Value» a (left (idents a) (idents b) (struct_types a) (struct_types b) h))
+        ∙ ap (λ d. fault_at (start a) (binary_of looks.types op (denoted other places.«Value» a) d).fault) (denoted_same places.«Value» b (right (idents a) (idents b) (struct_types a) (struct_types b) h))))
     faults_same p (Select e dot x) h = faults_same (left_place p e) e h
     faults_same p (Call e first items last) h =
-        pieces _ _ _ _ (faults_same places.Callee e (agree_left _ _ (idents e) (items_idents items) h)) (args_same (is_several items) items (agree_right _ _ (idents e) (items_idents items) h))
+        pieces _ _ _ _ (faults_same places.Callee e (left (idents e) (items_idents items) (struct_types e) (struct_types_in items) h)) (args_same (is_several items) items (right (idents e) (items_idents items) (struct_types e) (struct_types_in items) h))
     faults_same p (Literal n first items last) h =
-        literal_noted (type_name_start n) (named_type looks n) items [] [] (items_same (named_type looks n) _ _ 0 [] items (agree_right _ _ (type_name_idents n) (items_idents items) h))
-        ∙ ap (λ t. literal_faults other (type_name_start n) t items) (named_same n (agree_left _ _ (type_name_idents n) (items_idents items) h))
+        literal_noted (type_name_start n) (named_type looks n) items [] [] (items_same (named_type looks n) _ _ 0 [] items (right (type_name_idents n) (items_idents items) [] (struct_types_in items) h))
+        ∙ ap (λ t. literal_faults other (type_name_start n) t items) (named_same n (agree_left _ _ (type_name_idents n) (items_idents items) h.0))
     faults_same p (StructLiteral t first items last) h =
-        pieces _ _ _ _ (law.faults_of (named_type looks) (named_type other) t (type_agrees t (agree_left _ _ (type_idents t) (items_idents items) h)))
-        (literal_noted (type_start t) (written_type looks t) items [] [] (items_same (written_type looks t) _ _ 0 [] items (agree_right _ _ (type_idents t) (items_idents items) h))
-        ∙ ap (λ s. literal_faults other (type_start t) s items) (written_same t (agree_left _ _ (type_idents t) (items_idents items) h)))
+        pieces _ _ _ _ h.1.0.faults_of
+        (literal_noted (type_start t) (written_type looks t) items [] [] (items_same (written_type looks t) _ _ 0 [] items (right (type_idents t) (items_idents items) (t ∷ []) (struct_types_in items) h))
+        ∙ ap (λ s. literal_faults other (type_start t) s items) h.1.0.type_of)
 
-    args_same : (b : Bool) (items : ItemTrees) → Agrees (items_idents items) → args_faults looks b items ≡ args_faults other b items
+    args_same : (b : Bool) (items : ItemTrees) → Both (items_idents items) (struct_types_in items) → args_faults looks b items ≡ args_faults other b items
     args_same b NoItems h = refl
     args_same b (Item key e comma rest) h =
-        pieces _ _ _ _ (pieces _ _ _ _ (faults_same places.«Value» e (agree_left _ _ (idents e) (items_idents rest) h)) (ap (λ d. fault_at (start e) (listed_rule b d)) (denoted_same places.«Value» e (agree_left _ _ (idents e) (items_idents rest) h))))
-        (args_same b rest (agree_right _ _ (idents e) (items_idents rest) h))
+        pieces _ _ _ _ (pieces _ _ _ _ (faults_same places.«Value» e (left (idents e) (items_idents rest) (struct_types e) (struct_types_in rest) h)) (ap (λ d. fault_at (start e) (listed_rule b d)) (denoted_same places.«Value» e (left (idents e) (items_idents rest) (struct_types e) (struct_types_in rest) h))))
+        (args_same b rest (right (idents e) (items_idents rest) (struct_types e) (struct_types_in rest) h))
 
-    items_same : (t : Option T) (mode : Mode) (m : Bool) (n : ℕ) (before : List (List ℕ)) (items : ItemTrees) → Agrees (items_idents items) → items_faults looks t mode m n before items ≡ items_faults other t mode m n before items
+    items_same : (t : Option T) (mode : Mode) (m : Bool) (n : ℕ) (before : List (List ℕ)) (items : ItemTrees) → Both (items_idents items) (struct_types_in items) → items_faults looks t mode m n before items ≡ items_faults other t mode m n before items
     items_same t mode m n before NoItems h = refl
     items_same t mode m n before (Item key e comma rest) h =
-        let here = agree_left _ _ (idents e) (items_idents rest) h in
+        let here = left (idents e) (items_idents rest) (struct_types e) (struct_types_in rest) h in
         let wanted = target looks (start e) t mode m n (before ++ all_keys rest) key in
         pieces _ _ _ _
         (pieces _ _ _ _ (operand_with places.«Value» e here (faults_same places.«Value» e here))
@@ -416,10 +443,111 @@ module _ {T S D P : Type 0} (looks : Looks T S D P) (find : List ℕ → ℕ →
         ∙ ap (λ w. element_rule other (start e) w (denoted other places.«Value» e))
         (target_same (start e) t mode n (key_target_by looks t m (is_again key (before ++ all_keys rest)) key)
         ∙ ap (element_target (literals_at other (start e)) t mode n) (key_target_same t m (is_again key (before ++ all_keys rest)) key))))))
-        (items_same t mode m (suc n) (before ++ key_names key) rest (agree_right _ _ (idents e) (items_idents rest) h))
+        (items_same t mode m (suc n) (before ++ key_names key) rest (right (idents e) (items_idents rest) (struct_types e) (struct_types_in rest) h))
 
-  pub all_same : (p : Place) (e : ExprTree) → Agree looks.find find (idents e) → Same T S D P looks (finding find looks) p e
+  pub all_same : (p : Place) (e : ExprTree) → Both (idents e) (struct_types e) → Same T S D P looks other p e
   all_same p e h = record { denoted = denoted_same p e h; uses = used_same p e h; faults = faults_same p e h }
 
+-- what looks at the names in a struct type alone makes the same of it
+
+module _ {T S D P : Type 0} (looks : Looks T S D P) (find : List ℕ → ℕ → Found T S D) (law : LooksAtNames T looks.written) where
+  abbrev found : Looks T S D P
+  found = finding find looks
+
+  abbrev Finds : List Ident → Type 0
+  Finds xs = Agree looks.find find xs
+
+  abbrev Names : List TypeName → Type 0
+  Names ns = SameTypes (named_type looks) (named_type found) ns
+
+  mutual
+    type_agrees : (t : TypeTree) → Finds (type_idents t) → Names (type_names_of t)
+    type_agrees (NamedType n) h = (named_same looks find looks.written n h, tt)
+    type_agrees (Pointer star t) h = type_agrees t h
+    type_agrees (ParenType first t last) h = type_agrees t h
+    type_agrees (Struct k first ls last) h = fields_agree ls h
+    type_agrees (Interface k first methods last) h = methods_agree methods h
+
+    fields_agree : (ls : FieldTrees) → Finds (fields_idents ls) → Names (field_names_of ls)
+    fields_agree NoFields h = tt
+    fields_agree (NamedFields xs t tag s rest) h =
+        same_both _ _ (type_names_of t) (field_names_of rest) (type_agrees t (agree_left _ _ (type_idents t) (fields_idents rest) h)) (fields_agree rest (agree_right _ _ (type_idents t) (fields_idents rest) h))
+    fields_agree (EmbeddedField star n tag s rest) h =
+        (named_same looks find looks.written n (agree_left _ _ (type_name_idents n) (fields_idents rest) h), fields_agree rest (agree_right _ _ (type_name_idents n) (fields_idents rest) h))
+
+    methods_agree : (ms : MethodTrees) → Finds (methods_idents ms) → Names (method_names_of ms)
+    methods_agree NoMethods h = tt
+    methods_agree (Method x signature s rest) h =
+        same_both _ _ (signature_names_of signature) (method_names_of rest) (signature_agrees signature (agree_left _ _ (signature_idents signature) (methods_idents rest) h)) (methods_agree rest (agree_right _ _ (signature_idents signature) (methods_idents rest) h))
+
+    signature_agrees : (s : SignatureTree) → Finds (signature_idents s) → Names (signature_names_of s)
+    signature_agrees (Signed first params last result) h =
+        same_both _ _ (param_names_of params) (result_names_of result) (params_agree params (agree_left _ _ (params_idents params) (result_idents result) h)) (result_agrees result (agree_right _ _ (params_idents params) (result_idents result) h))
+
+    result_agrees : (r : ResultTree) → Finds (result_idents r) → Names (result_names_of r)
+    result_agrees NoResult h = tt
+    result_agrees (OneResult t) h = type_agrees t h
+    result_agrees (Results first params last) h = params_agree params h
+
+    params_agree : (ps : ParamTrees) → Finds (params_idents ps) → Names (param_names_of ps)
+    params_agree NoParams h = tt
+    params_agree (Param xs t comma rest) h =
+        same_both _ _ (type_names_of t) (param_names_of rest) (type_agrees t (agree_left _ _ (type_idents t) (params_idents rest) h)) (params_agree rest (agree_right _ _ (type_idents t) (params_idents rest) h))
+
+  type_made : (t : TypeTree) → Finds (type_idents t) → SameType T S D P looks found t
+  type_made t h = record { type_of = law.type_of _ _ t (type_agrees t h); faults_of = law.faults_of _ _ t (type_agrees t h) }
+
+  made : (ts us : List TypeTree) → SameWritten looks found ts → SameWritten looks found us → SameWritten looks found (ts ++ us)
+  made ts us h k = made_both looks find looks.written ts us h k
+
+  mutual
+    written_alike : (e : ExprTree) → Finds (idents e) → SameWritten looks found (struct_types e)
+    written_alike (Integer n span) h = tt
+    written_alike (Text t) h = tt
+    written_alike (Named x) h = tt
+    written_alike (Paren first e last) h = written_alike e h
+    written_alike (Unary op span e) h = written_alike e h
+    written_alike (Binary a op span b) h = made (struct_types a) (struct_types b) (written_alike a (agree_left _ _ (idents a) (idents b) h)) (written_alike b (agree_right _ _ (idents a) (idents b) h))
+    written_alike (Select e dot x) h = written_alike e h
+    written_alike (Call e first items last) h =
+        made (struct_types e) (struct_types_in items) (written_alike e (agree_left _ _ (idents e) (items_idents items) h)) (items_alike items (agree_right _ _ (idents e) (items_idents items) h))
+    written_alike (Literal n first items last) h = items_alike items (agree_right _ _ (type_name_idents n) (items_idents items) h)
+    written_alike (StructLiteral t first items last) h = (type_made t (agree_left _ _ (type_idents t) (items_idents items) h), items_alike items (agree_right _ _ (type_idents t) (items_idents items) h))
+
+    items_alike : (items : ItemTrees) → Finds (items_idents items) → SameWritten looks found (struct_types_in items)
+    items_alike NoItems h = tt
+    items_alike (Item key e comma rest) h = made (struct_types e) (struct_types_in rest) (written_alike e (agree_left _ _ (idents e) (items_idents rest) h)) (items_alike rest (agree_right _ _ (idents e) (items_idents rest) h))
+
+  mutual
+    needed_alike : (e : ExprTree) → Finds (needed_idents e) → SameWritten looks found (needed_types e)
+    needed_alike (Integer n span) h = tt
+    needed_alike (Text t) h = tt
+    needed_alike (Named x) h = tt
+    needed_alike (Paren first e last) h = needed_alike e h
+    needed_alike (Unary op span e) h = needed_alike e h
+    needed_alike (Binary a op span b) h =
+        made (needed_types a) (needed_types b) (needed_alike a (agree_left _ _ (needed_idents a) (needed_idents b) h)) (needed_alike b (agree_right _ _ (needed_idents a) (needed_idents b) h))
+    needed_alike (Select e dot x) h = needed_alike e h
+    needed_alike (Call e first items last) h =
+        made (needed_types e) (needed_types_in items) (needed_alike e (agree_left _ _ (needed_idents e) (needed_by_args items) h)) (args_alike items (agree_right _ _ (needed_idents e) (needed_by_args items) h))
+    needed_alike (Literal n first items last) h = tt
+    needed_alike (StructLiteral t first items last) h = (type_made t h, tt)
+
+    args_alike : (items : ItemTrees) → Finds (needed_by_args items) → SameWritten looks found (needed_types_in items)
+    args_alike NoItems h = tt
+    args_alike (Item key e comma rest) h =
+        made (needed_types e) (needed_types_in rest) (needed_alike e (agree_left _ _ (needed_idents e) (needed_by_args rest) h)) (args_alike rest (agree_right _ _ (needed_idents e) (needed_by_args rest) h))
+
+-- the laws
+
+pub expressions_seen : (T S D P : Type 0) → ExpressionsAreSeenAlike T S D P
+expressions_seen T S D P = record {
+  whole = λ looks find written p e h k. all_same looks find written p e (h, k);
+  needed = λ looks find written p e h k. denoted_needed looks find written p e (h, k);
+}
+
 pub expressions_local : (T S D P : Type 0) → ExpressionsAreLocal T S D P
-expressions_local T S D P looks find p e law h = all_same looks find law p e h
+expressions_local T S D P looks find p e law h = all_same looks find looks.written p e (h, written_alike looks find law e h)
+
+pub needed_names : (T S D P : Type 0) → DenotedByNeededNames T S D P
+needed_names T S D P looks find p e law h = denoted_needed looks find looks.written p e (h, needed_alike looks find law e h)

@@ -1,10 +1,8 @@
 -- The forms of expressions, each by the parts that the program takes of it.
-use Rattle.std.proofs.Common.{◌≡◌, ℕ, Bool, List, [], ◌∷◌, ◌++◌, map, length, refl, sym, ap, ◌∙◌, append_assoc, set}
-use Rattle.std.specs.Prelude.{Option, Some, None, Result, IfOk, OnOk}
+use Rattle.std.proofs.Common.{◌≡◌, ℕ, Bool, List, [], ◌∷◌, ◌++◌, length, sym, ap, ◌∙◌, set}
+use Rattle.std.specs.Prelude.{Option}
 use Rattle.std.specs.Global.{Box}
 use Rattle.std.proofs.lemmas.List.{map-append}
-use Rattle.std.proofs.lemmas.Result.{on_ok_weaker}
-use Rattle.go_text_core.specs.declared.span.Span.{Span}
 use Rattle.go_tree_nodes.specs.declared.exprs.Expr.{Expr}
 use Rattle.go_tree_nodes.specs.declared.exprs.Expr.TheVariants as expr
 use Rattle.go_tree_nodes.specs.declared.exprs.CallExpr.{CallExpr, out-CallExpr}
@@ -17,7 +15,6 @@ use Rattle.go_denote_core.specs.declared.things.Place.{Place}
 use Rattle.go_denote_core.specs.declared.things.Place.TheVariants as places
 use Rattle.go_denote_core.specs.declared.things.Denoted as declared_denoted
 use Rattle.go_denote_core.specs.declared.things.Answer.{Answer}
-use Rattle.go_denote_core.specs.declared.things.Outcome.{Outcome}
 use Rattle.go_denote_core.specs.Arguments.{arguments_of, is_free}
 use Rattle.go_denote_core.specs.Calls.{call_answer}
 use Rattle.go_literal_core.specs.Literals.{literal_denotes}
@@ -28,10 +25,10 @@ use Rattle.go_expr_core.specs.Places.{is_lone_call, is_several, type_name_start,
 use Rattle.go_expr_core.specs.Denoting.{named_type, written_type, denoted, denoted_items, called_answer}
 use Rattle.go_expr_core.specs.Elements.{keys_of, is_mixed}
 use Rattle.go_expr_core.specs.TypeUses.{type_uses}
-use Rattle.go_expr_core.specs.Uses.{made_use, use_of, uses, spots, args_uses, call_uses, type_name_spots, type_name_uses, type_spots, items_spots, elements_uses}
+use Rattle.go_expr_core.specs.Uses.{made_use, use_of, uses, args_uses, type_name_spots, type_name_uses, type_spots, items_spots, elements_uses}
 use Rattle.go_expr_core.specs.Faults.{faults, args_faults, literal_faults}
 use Rattle.go_expr_core.proofs.Forms.{call_form, literal_form, struct_form, two, three}
-use Rattle.go_expr_core.proofs.Steps.{ok_adds, ok_both, ok_is, both}
+use Rattle.go_expr_core.proofs.Steps.{both}
 use Rattle.go_expr_core.proofs.Turning.{placed, call_used}
 
 -- calls

@@ -1,5 +1,5 @@
 -- Another spelling of one identifier leaves its context as it was.
-use Rattle.std.proofs.Common.{◌≡◌, ◌⊎◌, inl, inr, ℕ, zero, suc, ◌+◌, Bool, List, [], ◌∷◌, ◌++◌, map, length, refl, sym, ap, subst, ◌∙◌, append_assoc}
+use Rattle.std.proofs.Common.{◌≡◌, ◌⊎◌, inl, inr, ℕ, zero, suc, Bool, List, [], ◌∷◌, ◌++◌, map, length, refl, sym, ap, subst, ◌∙◌, append_assoc}
 use Rattle.std.specs.Prelude.{Option, Some, None, slice_get}
 use Rattle.std.proofs.lemmas.List.{map-append}
 use Rattle.go_tree_nodes.specs.declared.names.Ident.{Ident}
@@ -10,12 +10,11 @@ use Rattle.go_tree_nodes.specs.Trees.{TypeTree, FieldTrees, MethodTrees, Signatu
 use Rattle.go_denote_core.specs.declared.things.Place.{Place}
 use Rattle.go_denote_core.specs.declared.things.Place.TheVariants as places
 use Rattle.go_literal_core.specs.Literals.{keys_among}
-use Rattle.go_expr_core.specs.declared.things.Use.{Use}
 use Rattle.go_expr_core.specs.Looks.{Looks}
 use Rattle.go_expr_core.specs.Places.{inside, under_place, left_place}
 use Rattle.go_expr_core.specs.Denoting.{named_type, written_type}
 use Rattle.go_expr_core.specs.Elements.{key_names, all_keys, count, keys_of, is_mixed}
-use Rattle.go_expr_core.specs.Uses.{Context, Spot, Identifier, CallAt, rule, role_of, made_use, use_of, type_name_spots, type_spots, fields_spots, methods_spots, signature_spots, result_spots, params_spots, key_spots, spots, uses, args_spots, items_spots}
+use Rattle.go_expr_core.specs.Uses.{Context, Spot, Identifier, CallAt, use_of, type_name_spots, type_spots, fields_spots, methods_spots, signature_spots, result_spots, params_spots, key_spots, spots, args_spots, items_spots}
 use Rattle.go_expr_core.specs.Respelling.{respelled, RespellsName, InPlain, InQualifier, BehindDot, RespellsType, InNamedType, InPointer, InParenType, InStruct, InInterface, RespellsFields, InFieldType, InLaterFields, InEmbedded, BehindEmbedded, RespellsMethods, InMethod, InLaterMethods, RespellsSignature, InParams, InResult, RespellsResult, InOneResult, InResults, RespellsParams, InParam, InLaterParams, Respells, InName, InParen, InUnary, InLeft, InRight, InOperand, InSelector, InCallee, InArguments, InLiteralType, InElements, InStructType, InStructElements, RespellsArgs, InArgument, InLaterArguments, RespellsItems, InKey, InElement, InLaterElements, NameDecides, Stands, OwnNameDecides}
 
 abbrev len : {A : Type 0} → List A → ℕ

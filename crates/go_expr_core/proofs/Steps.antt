@@ -1,6 +1,6 @@
 -- What a call of the program hands on.
 use Rattle.std.proofs.Common.{◌≡◌, ℕ, Bool, List, [], ◌∷◌, ◌++◌, refl, sym, ap, subst, ◌∙◌, append_assoc}
-use Rattle.std.specs.Prelude.{Option, Some, None, Result, Ok, Err, IfOk, OnOk}
+use Rattle.std.specs.Prelude.{Option, Some, Result, Ok, Err, IfOk, OnOk}
 use Rattle.std.specs.Global.{Box}
 use Rattle.std.proofs.lemmas.Result.{on_ok_weaker}
 use Rattle.go_tree_nodes.specs.declared.names.Ident.{Ident}

@@ -15,7 +15,7 @@ use Rattle.go_expr_core.specs.declared.things.Use.{Use}
 use Rattle.go_expr_core.specs.declared.things.Fault.{Fault}
 use Rattle.go_expr_core.specs.Looks.{Looks}
 use Rattle.go_expr_core.specs.Elements.{key_names, all_keys, is_again}
-use Rattle.go_expr_core.specs.Uses.{uses, use_of, spots, key_spots, key_uses, items_spots, items_uses, args_uses, call_uses}
+use Rattle.go_expr_core.specs.Uses.{uses, use_of, spots, key_spots, key_uses, items_spots, items_uses, call_uses}
 use Rattle.go_expr_core.specs.Faults.{items_faults}
 use Rattle.go_expr_core.specs.mirrors.Turns.{key_uses_by, turn_uses, turn_faults}
 use Rattle.go_expr_core.proofs.Marks.{first_item, keys_more}

@@ -19,7 +19,7 @@ use Rattle.go_tree_nodes.specs.Trees.{FieldTrees}
 use Rattle.go_tree_nodes.proofs.TypeShapes.{listed_parts, signature_parts}
 use Rattle.go_expr_core.specs.declared.things.Use.{Use}
 use Rattle.go_expr_core.specs.Looks.{Looks}
-use Rattle.go_expr_core.specs.Uses.{use_of, type_spots, type_name_spots, fields_spots, signature_spots, methods_spots, params_spots, result_spots}
+use Rattle.go_expr_core.specs.Uses.{use_of, type_spots, fields_spots, signature_spots, methods_spots, params_spots, result_spots}
 use Rattle.go_expr_core.specs.TypeUses.{type_uses, line_spots, line_uses, fields_uses, methods_uses, signature_uses, result_uses, params_uses}
 
 -- one turn of a loop that adds what an element has

@@ -1,7 +1,7 @@
 -- What an expression denotes: one recursion over its tree.
 --
 -- docs/RULES.md, "Expressions: roles, order, faults of parts". The Go specification, "Expressions".
-use Rattle.std.specs.Prelude.{ℕ, Bool, true, false, List, [], ◌∷◌, Option, Some, None}
+use Rattle.std.specs.Prelude.{true, false, List, [], ◌∷◌, Option, Some}
 use Rattle.go_scan_core.specs.declared.kind.Operator.{Operator}
 use Rattle.go_constant_core.specs.declared.values.Constant.{Constant}
 use Rattle.go_constant_core.specs.declared.values.Constant.TheVariants as constants

@@ -8,6 +8,8 @@ pub mod TypeUses
 pub mod Faults
 pub mod Lists
 pub mod Laws
+pub mod Needed
+pub mod Locality
 pub mod Respelling
 pub mod Samples
 pub mod mirrors

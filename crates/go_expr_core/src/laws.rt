@@ -1,5 +1,7 @@
 //! Laws of expressions.
 ghost use Rattle.go_expr_core.specs.Laws.{UsesAreOccurrences, ExpressionsAreLocal};
+ghost use Rattle.go_expr_core.specs.Needed.{DenotedByNeededNames};
+ghost use Rattle.go_expr_core.specs.Locality.{ExpressionsAreSeenAlike};
 ghost use Rattle.go_expr_core.specs.Respelling.{OwnNameDecides};
 ghost use Rattle.go_expr_core.specs.Samples.{SampleExpressions};
 
@@ -19,6 +21,19 @@ pub fn own_name_decides<T, S, D, P>()
 /// it, if what they make of a struct type that is written out looks at the names in it alone.
 pub fn expressions_are_local<T, S, D, P>()
     ensures { ExpressionsAreLocal T S D P }
+{}
+
+/// A law, with nothing to run: look-ups that agree on each name of an expression that is looked up, where it stands, and on each struct
+/// type that is written out before a literal in it, make the same of it. It denotes the same where they agree on those outside the
+/// elements of literals.
+pub fn expressions_are_seen_alike<T, S, D, P>()
+    ensures { ExpressionsAreSeenAlike T S D P }
+{}
+
+/// A law, with nothing to run: look-ups that agree on each name of an expression outside the elements of literals, where it stands,
+/// make it denote the same, if what they make of a struct type that is written out looks at the names in it alone.
+pub fn denoted_by_needed_names<T, S, D, P>()
+    ensures { DenotedByNeededNames T S D P }
 {}
 
 /// A law, with nothing to run: what a few expressions have, denote and break.

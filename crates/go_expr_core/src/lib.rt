@@ -13,9 +13,14 @@ mod things;
 mod types;
 mod walk;
 
-pub use laws::{expressions_are_local, own_name_decides, sample_expressions, uses_are_occurrences};
+pub use laws::{
+    denoted_by_needed_names, expressions_are_local, expressions_are_seen_alike, own_name_decides,
+    sample_expressions, uses_are_occurrences,
+};
 pub use lists::check_exprs;
 pub use looks::Exprs;
+pub use names::check_type_name;
+pub use places::{start, type_start};
 pub use things::{Fault, Notes, Use};
-pub use types::check_type;
+pub use types::{check_signature, check_type};
 pub use walk::check_expr;

@@ -49,8 +49,15 @@ pub(crate) fn check_selector<E: Exprs>(
     )
 }
 
-/// Notes what the identifiers of a type's name have, and answers the type that it denotes.
-pub(crate) fn check_type_name<E: Exprs>(
+/// Notes what the identifiers of a type's name have, in order of their places, and answers the type that it denotes: none where it
+/// denotes none.
+///
+/// The Go specification, "Types" and "Qualified identifiers".
+///
+/// # Errors
+///
+/// [`AllocError`] where memory is wanting; then some may be noted.
+pub fn check_type_name<E: Exprs>(
     env: &E,
     alloc: Global,
     name: &TypeName,

@@ -160,8 +160,8 @@ pub(crate) fn type_name_start(name: &TypeName) -> usize
     }
 }
 
-/// The first byte of a type.
-pub(crate) fn type_start(t: &TypeExpr) -> usize
+/// The first byte of a type as it is written, in bytes from the file's start.
+pub fn type_start(t: &TypeExpr) -> usize
     ensures { result ≡ places.type_start (shape_type t.now) }
 {
     match t {
@@ -173,8 +173,8 @@ pub(crate) fn type_start(t: &TypeExpr) -> usize
     }
 }
 
-/// The first byte of an expression.
-pub(crate) fn start(expr: &Expr) -> usize
+/// The first byte of an expression, in bytes from the file's start.
+pub fn start(expr: &Expr) -> usize
     ensures { result ≡ places.start (shape expr.now) }
 {
     match expr {

@@ -10,7 +10,13 @@ use crate::things::Use;
 use go_tree_nodes::{FieldLine, Fields, MethodLine, Param, Results, Signature, TypeExpr};
 use std::alloc::{AllocError, Global};
 
-/// Notes what the identifiers of a type have that is written out.
+/// Notes what the identifiers of a type have that is written out, in order of their places.
+///
+/// The Go specification, "Types".
+///
+/// # Errors
+///
+/// [`AllocError`] where memory is wanting; then some may be noted.
 #[cycle(check_types)]
 pub fn check_type<E: Exprs>(
     env: &E,
@@ -83,9 +89,15 @@ fn check_methods<E: Exprs>(
     Ok(())
 }
 
-/// Notes what the identifiers of a signature have.
+/// Notes what the identifiers of a signature have, in order of their places: those of its parameters' types and of its results' types.
+///
+/// The Go specification, "Function types".
+///
+/// # Errors
+///
+/// [`AllocError`] where memory is wanting; then some may be noted.
 #[cycle(check_types)]
-fn check_signature<E: Exprs>(
+pub fn check_signature<E: Exprs>(
     env: &E,
     alloc: Global,
     signature: &Signature,

@@ -1,5 +1,5 @@
 -- Of each element of a literal whether its key is spelled as another.
-use Rattle.std.specs.Prelude.{ℕ, Bool, true, false, List, [], ◌∷◌, ◌++◌, Option, Some, None}
+use Rattle.std.specs.Prelude.{ℕ, Bool, false, List, [], ◌∷◌, ◌++◌, Some, None}
 use Rattle.go_tree_nodes.specs.Trees.{ItemTrees, NoItems, Item}
 use Rattle.go_expr_core.specs.Elements.{key_names, all_keys, is_again}
 

@@ -1,5 +1,4 @@
-use Rattle.std.proofs.Common.{◌≡◌, ◌++◌, [], ◌∷◌, refl, sym, ap, ◌∙◌, append_assoc}
-use Rattle.go_tree_nodes.specs.declared.exprs.NextExpr.{NextExpr}
+use Rattle.std.proofs.Common.{◌++◌, [], ◌∷◌, refl, sym, ap, ◌∙◌, append_assoc}
 use Rattle.go_tree_nodes.specs.Shapes.{shape, shape_exprs}
 use Rattle.go_denote_core.specs.declared.things.Place.TheVariants as places
 use Rattle.go_expr_core.specs.Looks.{everywhere}
@@ -9,7 +8,7 @@ use Rattle.go_expr_core.specs.Faults.{member_faults}
 use Rattle.go_expr_core.specs.Lists.{exprs_faults}
 use Rattle.go_expr_core.specs.mirrors.Later.{later_denoted, later_uses, later_faults}
 use Rattle.go_expr_core.proofs.Listing.{list_denoted, list_uses, list_faults}
-use Rattle.go_expr_core.proofs.TypeTurns.{step, ended}
+use Rattle.go_expr_core.proofs.TypeTurns.{ended}
 use Rattle.go_expr_core.proofs.lists.check_exprs.Goals as goal
 
 pub returns-clause-denoted : goal.returns-clause-denoted

@@ -1,4 +1,4 @@
-use Rattle.std.proofs.Common.{◌≡◌, ap, sym}
+use Rattle.std.proofs.Common.{ap, sym}
 use Rattle.go_expr_core.specs.Places as places
 use Rattle.go_expr_core.proofs.Forms.{call_form, literal_form, struct_form}
 use Rattle.go_expr_core.proofs.places.+is_call.Goals as goal

@@ -1,4 +1,4 @@
-use Rattle.std.proofs.Common.{rules, append_assoc, ◌≡◌, ◌++◌, [], ◌∷◌, ◌<◌, length, get_or, refl, sym, ap, subst, ◌∙◌, ◌+◌, take, drop, List}
+use Rattle.std.proofs.Common.{rules, ◌≡◌, ◌++◌, [], ◌∷◌, ◌<◌, length, get_or, refl, ap, subst, ◌∙◌}
 use Rattle.std.proofs.lemmas.List.{map-append}
 use Rattle.go_tree_nodes.specs.declared.exprs.«Item» as declared_item
 use Rattle.go_tree_nodes.specs.Shapes.{shape, items_of, key_of}

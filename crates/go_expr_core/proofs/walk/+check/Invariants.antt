@@ -1,4 +1,4 @@
-use Rattle.std.proofs.Common.{◌≡◌, ◌++◌, take, drop, [], ◌∷◌}
+use Rattle.std.proofs.Common.{◌≡◌, ◌++◌, take, drop, []}
 use Rattle.go_tree_nodes.specs.Shapes.{items_of}
 use Rattle.go_expr_core.specs.Looks.{everywhere}
 use Rattle.go_expr_core.specs.Denoting.{denoted_items}

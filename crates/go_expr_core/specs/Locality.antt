@@ -1,0 +1,71 @@
+-- Look-ups that differ in names and in struct types that are written out, and agree on those of an expression.
+--
+-- docs/RULES.md, "Expressions: roles, order, faults of parts". The Go specification, "Struct types", "Composite literals".
+use Rattle.std.specs.Prelude.{◌≡◌, ℕ, ⊤, List, [], ◌∷◌, ◌++◌}
+use Rattle.go_tree_nodes.specs.Trees.{TypeTree, ExprTree, ItemTrees, Integer, Text, Named, Paren, Unary, Binary, Select, Call, Literal, StructLiteral, NoItems, Item}
+use Rattle.go_denote_core.specs.declared.things.Place.{Place}
+use Rattle.go_denote_core.specs.declared.things.Found.{Found}
+use Rattle.go_expr_core.specs.Looks.{Looks, WrittenRules}
+use Rattle.go_expr_core.specs.Denoting.{named_type, written_type, denoted}
+use Rattle.go_expr_core.specs.Laws.{idents, Agree, Same}
+use Rattle.go_expr_core.specs.Needed.{needed_idents}
+
+abbrev mutual
+  -- the struct types that stand before the literals in an expression, in order of their places
+  pub struct_types : ExprTree → List TypeTree
+  struct_types (Integer n span) = []
+  struct_types (Text t) = []
+  struct_types (Named x) = []
+  struct_types (Paren first e last) = struct_types e
+  struct_types (Unary op span e) = struct_types e
+  struct_types (Binary a op span b) = struct_types a ++ struct_types b
+  struct_types (Select e dot x) = struct_types e
+  struct_types (Call e first items last) = struct_types e ++ struct_types_in items
+  struct_types (Literal n first items last) = struct_types_in items
+  struct_types (StructLiteral t first items last) = t ∷ struct_types_in items
+
+  -- those in arguments or elements
+  pub struct_types_in : ItemTrees → List TypeTree
+  struct_types_in NoItems = []
+  struct_types_in (Item key e comma rest) = struct_types e ++ struct_types_in rest
+
+abbrev mutual
+  -- those of them that what an expression denotes needs: none in the elements of a literal
+  pub needed_types : ExprTree → List TypeTree
+  needed_types (Integer n span) = []
+  needed_types (Text t) = []
+  needed_types (Named x) = []
+  needed_types (Paren first e last) = needed_types e
+  needed_types (Unary op span e) = needed_types e
+  needed_types (Binary a op span b) = needed_types a ++ needed_types b
+  needed_types (Select e dot x) = needed_types e
+  needed_types (Call e first items last) = needed_types e ++ needed_types_in items
+  needed_types (Literal n first items last) = []
+  needed_types (StructLiteral t first items last) = t ∷ []
+
+  -- those of arguments
+  pub needed_types_in : ItemTrees → List TypeTree
+  needed_types_in NoItems = []
+  needed_types_in (Item key e comma rest) = needed_types e ++ needed_types_in rest
+
+-- two look-ups make the same of a struct type, each by the types that the names in it denote to it
+pub record SameType (T S D P : Type 0) (looks other : Looks T S D P) (t : TypeTree) : Type 0 where
+  pub type_of : written_type looks t ≡ written_type other t
+  pub faults_of : looks.written.faults_of (named_type looks) t ≡ other.written.faults_of (named_type other) t
+
+-- they make the same of each of these
+abbrev pub SameWritten : {T S D P : Type 0} → Looks T S D P → Looks T S D P → List TypeTree → Type 0
+SameWritten looks other [] = ⊤
+SameWritten {T} {S} {D} {P} looks other (t ∷ ts) = SameType T S D P looks other t × SameWritten looks other ts
+
+-- the look-ups with another look-up of names and other rules of struct types
+abbrev pub seeing : {T S D P : Type 0} → (List ℕ → ℕ → Found T S D) → WrittenRules T → Looks T S D P → Looks T S D P
+seeing find written looks = record { find = find; exported = looks.exported; select = looks.select; params = looks.params; results = looks.results; types = looks.types; literals = looks.literals; written = written }
+
+pub record ExpressionsAreSeenAlike (T S D P : Type 0) : Type 0 where
+  -- look-ups that agree on each name of an expression, where it stands, and on each struct type before a literal in it, make the same of it
+  pub whole : (looks : Looks T S D P) (find : List ℕ → ℕ → Found T S D) (written : WrittenRules T) (p : Place) (e : ExprTree)
+      → Agree looks.find find (idents e) → SameWritten looks (seeing find written looks) (struct_types e) → Same T S D P looks (seeing find written looks) p e
+  -- and it denotes the same where they agree on those outside the elements of literals
+  pub needed : (looks : Looks T S D P) (find : List ℕ → ℕ → Found T S D) (written : WrittenRules T) (p : Place) (e : ExprTree)
+      → Agree looks.find find (needed_idents e) → SameWritten looks (seeing find written looks) (needed_types e) → denoted looks p e ≡ denoted (seeing find written looks) p e
