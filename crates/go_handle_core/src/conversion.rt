@@ -15,8 +15,8 @@ fn is_nothing(t: &TypeRef<'_>) -> bool
     t.stars == 0 && kind_of(t.term) == Kind::Nothing
 }
 
-/// Whether what lies under a type is one.
-pub(crate) fn is_type<'a>(table: &'a TypeTable, t: &TypeRef<'a>) -> bool
+/// Whether what lies under a type is one, in a table. It takes no memory.
+pub fn is_type<'a>(table: &'a TypeTable, t: &TypeRef<'a>) -> bool
     ensures { result ≡ is_type (find table.now) t.now }
 {
     !is_nothing(&t.underlying(table))

@@ -1,6 +1,6 @@
 //! The package of a place.
 ghost use Rattle.std.specs.Prelude.{◌≡◌, IfOk};
-ghost use Rattle.go_term_core.specs.Terms.{Predeclared, InterfaceOf, NoMethod};
+ghost use Rattle.go_term_core.specs.Terms.{Predeclared, ErrorType, InterfaceOf, NoMethod};
 ghost use Rattle.go_term_core.specs.declared.term.Basic.TheVariants as basics;
 ghost use Rattle.go_mset_core.specs.Implementing.{error_sign};
 
@@ -20,6 +20,7 @@ pub struct Home {
     text: TypeTerm,
     boolean: TypeTerm,
     any: TypeTerm,
+    error: TypeTerm,
     error_signature: Signature,
 }
 
@@ -32,7 +33,7 @@ impl Model for Home {
 
     ghost view = { λ h. h.path };
 
-    ghost invariant = { λ h. IsHome h.path (shape h.int) (shape h.text) (shape h.boolean) (shape h.any) (sign_of h.error_signature) };
+    ghost invariant = { λ h. IsHome h.path (shape h.int) (shape h.text) (shape h.boolean) (shape h.any) (shape h.error) (sign_of h.error_signature) };
 }
 
 impl Home {
@@ -52,6 +53,7 @@ impl Home {
             text: TypeTerm::Basic(Basic::Text),
             boolean: TypeTerm::Basic(Basic::Bool),
             any: TypeTerm::Interface(any_path, Vec::new(alloc)),
+            error: TypeTerm::Error,
             error_signature,
         })
     }
@@ -89,6 +91,13 @@ impl Home {
         ensures { result ≡ InterfaceOf self.now NoMethod }
     {
         TypeRef::of(&self.any)
+    }
+
+    /// The predeclared type `error`.
+    pub fn error(&self) -> TypeRef<'_>
+        ensures { result ≡ ErrorType }
+    {
+        TypeRef::of(&self.error)
     }
 
     /// The signature of the method of the predeclared type `error`.

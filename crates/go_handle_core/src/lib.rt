@@ -16,12 +16,12 @@ mod signatures;
 mod types;
 
 pub use assignment::is_assignable;
-pub use conversion::is_convertible;
+pub use conversion::{is_convertible, is_type};
 pub use decls::{Decl, DeclSite};
 pub use here::TypesHere;
 pub use home::Home;
 pub use identity::is_identical;
 pub use implementing::is_implementing;
 pub use selecting::selection;
-pub use signatures::SignatureRef;
-pub use types::TypeRef;
+pub use signatures::{SignatureRef, typed};
+pub use types::{TypeParts, TypeRef};

@@ -28,8 +28,8 @@ impl<'a> Model for SignatureRef<'a> {
     ghost view = { λ s. sign_of s.signature.now };
 }
 
-/// A type, where it is one in a table; `None` stands for no type.
-pub(crate) fn typed<'a>(table: &'a TypeTable, term: Option<&'a TypeTerm>) -> Option<TypeRef<'a>>
+/// A type, where it is one in a table; `None` stands for no type. It takes no memory.
+pub fn typed<'a>(table: &'a TypeTable, term: Option<&'a TypeTerm>) -> Option<TypeRef<'a>>
     ensures { result ≡ typed (find table.now) (shape_found term.entry) }
 {
     match term {
@@ -56,6 +56,13 @@ impl<'a> SignatureRef<'a> {
         SignatureRef {
             signature: self.signature,
         }
+    }
+
+    /// The signature that is lent.
+    pub fn lent(&self) -> &'a Signature
+        ensures { sign_of result.now ≡ self.now }
+    {
+        self.signature
     }
 
     /// How many parameters there are.

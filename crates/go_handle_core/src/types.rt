@@ -3,7 +3,7 @@ ghost use Rattle.std.specs.Prelude.{◌≡◌, ◌≤◌, ◌^◌, suc, IfOk, On
 ghost use Rattle.go_term_core.specs.Shapes.{shape};
 ghost use Rattle.go_term_core.specs.Terms.{PointerTo};
 ghost use Rattle.go_table_core.specs.Entries.{find, underlying_in};
-ghost use Rattle.go_handle_core.specs.Stars.{base_in, star_count};
+ghost use Rattle.go_handle_core.specs.Stars.{base_in, star_count, starred};
 ghost use Rattle.go_decide_core.specs.Rules.{form_of, form_under};
 
 use go_operand_core::TypeForm;
@@ -32,6 +32,13 @@ impl<'a> Model for TypeRef<'a> {
     ghost view = { λ t. starred t.stars (shape t.term.now) };
 }
 
+/// The parts of a type under stars: pointers to pointers to the term, so many.
+#[derive(Clone, Copy)]
+pub struct TypeParts<'a> {
+    pub stars: usize,
+    pub term: &'a TypeTerm,
+}
+
 impl<'a> TypeRef<'a> {
     /// A type as it stands.
     pub fn of(term: &'a TypeTerm) -> TypeRef<'a>
@@ -46,6 +53,17 @@ impl<'a> TypeRef<'a> {
     {
         TypeRef {
             stars: self.stars,
+            term: self.term,
+        }
+    }
+
+    /// Its parts: a term, and the stars before it. It takes no memory.
+    pub fn parts(&self) -> TypeParts<'a>
+        ensures { starred result.stars (shape result.term.now) ≡ self.now }
+    {
+        let stars = self.stars;
+        TypeParts {
+            stars,
             term: self.term,
         }
     }

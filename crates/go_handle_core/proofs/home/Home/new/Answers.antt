@@ -12,5 +12,6 @@ invariant_of-result c =
       text_is = refl;
       boolean_is = refl;
       any_is = shape_interface path c.new.result ∙ (ap (λ ms. InterfaceOf path (methods_of ms)) c.new.ensures.items ∙ ap (λ p. InterfaceOf p NoMethod) c.in_ok-any_path.ensures);
-      error_is = c.in_ok-error_signature.ensures;
+      error_is = refl;
+      of_error_is = c.in_ok-error_signature.ensures;
     }
