@@ -1,0 +1,7 @@
+use Rattle.std.proofs.Common.{◌≡◌, ◌++◌, map, take}
+use Rattle.go_decl_core.specs.Shown.{decl_shown}
+use Rattle.go_fault_core.specs.TypeFaults.{file_receivers}
+use Rattle.go_fault_core.proofs.receivers.add_file.Given as goal
+
+abbrev pub invariant-loop-decl : goal.invariant-loop-decl
+invariant-loop-decl g l = l.faults.items ≡ l.fn.faults.items ++ file_receivers l.types (g.N.TypeNames.meaning l.names) l.path l.file (map decl_shown (take l.decl-index l.decls))

@@ -1,0 +1,15 @@
+use Rattle.std.proofs.Common.{◌++◌, map, ap, ◌∙◌}
+use Rattle.go_decl_core.specs.Shown.{decl_shown}
+use Rattle.go_entry_core.specs.Entries.{package_meanings}
+use Rattle.go_entry_core.specs.Outlines.{outline_shown}
+use Rattle.go_fault_core.specs.TypeFaults.{file_receivers}
+use Rattle.go_fault_core.proofs.Adding.{numbered_step}
+use Rattle.go_fault_core.proofs.receivers.add_receivers.Goals as goal
+
+pub loop-file-preserved : goal.loop-file-preserved
+loop-file-preserved g c =
+    let means = package_meanings (g.P.ImportedNames.shows c.args.imported.now) c.args.path.now c.args.blocks.now in
+    let file = c.loop-file.file in
+    let old = c.loop-file.faults.items in
+    numbered_step outline_shown (λ p. file_receivers c.args.types.now (means p.0) c.args.path.now p.0 p.1.decls) c.args.outlines.now file c.index-outlines-file.result c.args.faults.now.items old _ c.loop-file-test.true c.index-outlines-file.is
+    (c.in_ok-add_file.ensures ∙ ap (λ ds. old ++ file_receivers c.args.types.now (means file) c.args.path.now file (map decl_shown ds)) c.deref.ensures.value) c.loop-file.invariant

@@ -1,0 +1,88 @@
+-- The faults of the types that a package declares.
+--
+-- docs/RULES.md, "Types", "Members and selectors". The Go specification, "Type declarations", "Struct types", "Interface types", "Method
+-- declarations".
+use Rattle.std.specs.Prelude.{ℕ, Bool, List, [], ◌∷◌, ◌++◌, Option, Some, None, slice_get, if◌then◌else◌}
+use Rattle.std.specs.List.{flat_map, enumerate_from}
+use Rattle.go_text_core.specs.declared.rule.Rule.TheVariants.{B6}
+use Rattle.go_tree_nodes.specs.declared.files.Receiver.{Receiver}
+use Rattle.go_tree_nodes.specs.declared.types.TypeName.{TypeName}
+use Rattle.go_tree_nodes.specs.declared.types.TypeName.TheVariants as type_names
+use Rattle.go_tree_nodes.specs.Trees.{FuncTree}
+use Rattle.go_decl_core.specs.declared.keys.DeclKey.{DeclKey}
+use Rattle.go_decl_core.specs.TopDecls.{TopDeclTree, FormTree, ValueForm, TypeForm, FuncForm}
+use Rattle.go_settle_core.specs.declared.kind.Kind.{Kind}
+use Rattle.go_settle_core.specs.Settled.{kind_of_term}
+use Rattle.go_term_core.specs.declared.term.MemberPlace.TheVariants as places
+use Rattle.go_term_core.specs.Terms.{Term, NoType, Predeclared, ErrorType, Defined, PointerTo, StructOf, InterfaceOf}
+use Rattle.go_table_core.specs.Entries.{Entry, find, term_in}
+use Rattle.go_type_core.specs.declared.build.TypeFault.{TypeFault}
+use Rattle.go_embed_core.specs.Faults.{term_faults, declared_faults, hidden_faults, can_be_base}
+use Rattle.go_written_core.specs.Written.{Meaning}
+use Rattle.go_entry_core.specs.Entries.{Meanings}
+use Rattle.go_entry_core.specs.Outlines.{FileOutline}
+use Rattle.go_fault_core.specs.declared.places.PackageFault.{PackageFault}
+use Rattle.go_fault_core.specs.Places.{fault_in, located, all_located}
+
+-- the kinds of the types of a table
+abbrev pub kind_in : List Entry → DeclKey → Kind
+kind_in es k = kind_of_term (term_in (find es k))
+
+-- the type whose fields the methods of a defined type may meet: its underlying type, or, where it is no type, the type as it is written
+abbrev pub met_type : Term → Term → Term
+met_type NoType written = written
+met_type (Predeclared b) written = Predeclared b
+met_type ErrorType written = ErrorType
+met_type (Defined k) written = Defined k
+met_type (PointerTo t) written = PointerTo t
+met_type (StructOf path fs) written = StructOf path fs
+met_type (InterfaceOf path ms) written = InterfaceOf path ms
+
+abbrev pub met_in : List Entry → Entry → Term
+met_in es e = met_type (term_in (find es e.key)) e.term
+
+-- what is amiss in a type declaration and in the methods of its type, as they are written
+abbrev pub entry_faults : List Entry → List ℕ → List FileOutline → Entry → List PackageFault
+entry_faults es path os e =
+    (all_located os (term_faults (kind_in es) e.term) ++ all_located os (declared_faults (kind_in es) path (met_in es e) [] e.methods))
+    ++ all_located os (hidden_faults path (met_in es e) e.methods)
+
+abbrev pub entries_faults : List Entry → List ℕ → List FileOutline → List Entry → List PackageFault
+entries_faults es path os written = flat_map (entry_faults es path os) written
+
+-- types that reach themselves, by their numbers among the entries
+abbrev pub loop_fault : List FileOutline → TypeFault → Option Entry → List PackageFault
+loop_fault os f None = []
+loop_fault os f (Some e) = located os (places.Declared e.key.decl) f.rule
+
+abbrev pub loops_faults : List FileOutline → List Entry → List TypeFault → List PackageFault
+loops_faults os es fs = flat_map (λ f. loop_fault os f (slice_get es f.entry)) fs
+
+-- receivers
+
+-- where the name of a receiver's base begins
+abbrev pub base_start : TypeName → ℕ
+base_start (type_names.Plain x) = x.span.start
+base_start (type_names.Qualified p dot x) = p.span.start
+
+abbrev pub base_fault : List Entry → Meaning → List ℕ → ℕ → TypeName → List PackageFault
+base_fault es mean path file base = if can_be_base (kind_in es) path (mean base) then [] else fault_in file (base_start base) B6 ∷ []
+
+abbrev pub received_fault : List Entry → Meaning → List ℕ → ℕ → Option Receiver → List PackageFault
+received_fault es mean path file None = []
+received_fault es mean path file (Some r) = base_fault es mean path file r.base
+
+abbrev pub form_fault : List Entry → Meaning → List ℕ → ℕ → FormTree → List PackageFault
+form_fault es mean path file (ValueForm k v i) = []
+form_fault es mean path file (TypeForm t) = []
+form_fault es mean path file (FuncForm g) = received_fault es mean path file g.receiver
+
+abbrev pub file_receivers : List Entry → Meaning → List ℕ → ℕ → List TopDeclTree → List PackageFault
+file_receivers es mean path file ds = flat_map (λ d. form_fault es mean path file d.form) ds
+
+abbrev pub receivers_faults : List Entry → Meanings → List ℕ → List FileOutline → List PackageFault
+receivers_faults es means path os = flat_map (λ p. file_receivers es (means p.0) path p.0 p.1.decls) (enumerate_from 0 os)
+
+-- all of them: the types as they are written, among the types of a table, and which of them reach themselves
+abbrev pub faults_of_types : List Entry → Meanings → List ℕ → List FileOutline → List Entry → List TypeFault → List PackageFault
+faults_of_types es means path os written loops = (loops_faults os written loops ++ entries_faults es path os written) ++ receivers_faults es means path os

@@ -1,0 +1,160 @@
+//! The faults of type declarations.
+ghost use Rattle.std.specs.Prelude.{◌≡◌, ◌++◌, IfOk, OnOk, map, slice_get};
+ghost use Rattle.go_term_core.specs.Shapes.{shape};
+ghost use Rattle.go_table_core.specs.Shown.{entry_shown};
+ghost use Rattle.go_entry_core.specs.Entries.{package_meanings};
+ghost use Rattle.go_entry_core.specs.Outlines.{outline_shown};
+ghost use Rattle.go_fault_core.specs.TypeFaults.{entries_faults, entry_faults, faults_of_types, loop_fault, loops_faults, met_in};
+
+use crate::places::{PackageFault, add_fault, add_faults};
+use crate::receivers::add_receivers;
+use go_block_core::Blocks;
+use go_decl_core::Outline;
+use go_embed_core::{check_hidden_fields, check_methods, check_struct};
+use go_entry_core::ImportedNames;
+use go_path_core::ImportPath;
+use go_table_core::{TypeEntry, TypeTable};
+use go_term_core::{MemberPlace, TypeTerm};
+use go_type_core::TypeFault;
+use std::alloc::{AllocError, Global};
+
+/// The types of a package as they are written, beside its files. All is lent.
+#[derive(Clone, Copy)]
+pub struct WrittenTypes<'a, 'o> {
+    /// The path of the package.
+    pub path: &'a ImportPath,
+    /// What its package block and its file blocks bind.
+    pub blocks: &'a Blocks,
+    /// Its files in order of name.
+    pub outlines: &'a [Outline<'o>],
+    /// Its type declarations, in order of file and place.
+    pub entries: &'a [TypeEntry],
+    /// Those of them that reach themselves outside pointers and interfaces.
+    pub loops: &'a [TypeFault],
+}
+
+// The type whose fields the methods of a defined type may meet.
+fn met_type<'a>(types: &'a TypeTable, entry: &'a TypeEntry) -> &'a TypeTerm
+    ensures { shape result.now ≡ met_in types.now (entry_shown entry.now) }
+{
+    match types.locate(&entry.key) {
+        None => &entry.term,
+        Some(located) => match located.defined.underlying() {
+            TypeTerm::NoType => &entry.term,
+            underlying => underlying,
+        },
+    }
+}
+
+// Adds the faults of a type declaration, of the methods of its type, and of the fields behind them.
+fn add_entry(
+    alloc: Global,
+    types: &TypeTable,
+    path: &ImportPath,
+    outlines: &[Outline<'_>],
+    entry: &TypeEntry,
+    faults: &mut Vec<PackageFault>,
+) -> Result<(), AllocError>
+    ensures { OnOk result (faults.new.items ≡ faults.old.items ++ entry_faults types.now path.now (map outline_shown outlines.now) (entry_shown entry.now)) }
+{
+    let found = check_struct(alloc, types, &entry.term)?;
+    add_faults(faults, outlines, &found)?;
+    let met = met_type(types, entry);
+    let found = check_methods(alloc, types, path, met, &entry.methods)?;
+    add_faults(faults, outlines, &found)?;
+    let found = check_hidden_fields(alloc, path, met, &entry.methods)?;
+    add_faults(faults, outlines, &found)
+}
+
+// Adds the faults of type declarations.
+fn add_entries(
+    alloc: Global,
+    types: &TypeTable,
+    path: &ImportPath,
+    outlines: &[Outline<'_>],
+    entries: &[TypeEntry],
+    faults: &mut Vec<PackageFault>,
+) -> Result<(), AllocError>
+    ensures { OnOk result (faults.new.items ≡ faults.old.items ++ entries_faults types.now path.now (map outline_shown outlines.now) (map entry_shown entries.now)) }
+{
+    for entry in entries {
+        add_entry(alloc, types, path, outlines, entry, faults)?;
+    }
+    Ok(())
+}
+
+// Adds the fault of a type that reaches itself.
+fn add_loop(
+    outlines: &[Outline<'_>],
+    entries: &[TypeEntry],
+    fault: TypeFault,
+    faults: &mut Vec<PackageFault>,
+) -> Result<(), AllocError>
+    ensures { OnOk result (faults.new.items ≡ faults.old.items ++ loop_fault (map outline_shown outlines.now) fault (slice_get (map entry_shown entries.now) fault.entry)) }
+{
+    match entries.get(fault.entry) {
+        None => Ok(()),
+        Some(entry) => {
+            let place = MemberPlace::Declared(entry.key.decl);
+            add_fault(faults, outlines, place, fault.rule)
+        }
+    }
+}
+
+// Adds the faults of types that reach themselves.
+fn add_loops(
+    outlines: &[Outline<'_>],
+    entries: &[TypeEntry],
+    loops: &[TypeFault],
+    faults: &mut Vec<PackageFault>,
+) -> Result<(), AllocError>
+    ensures { OnOk result (faults.new.items ≡ faults.old.items ++ loops_faults (map outline_shown outlines.now) (map entry_shown entries.now) loops.now) }
+{
+    for fault in loops {
+        add_loop(outlines, entries, *fault, faults)?;
+    }
+    Ok(())
+}
+
+/// The faults of the types that a package declares, where `types` has them and those of the packages that it reaches, and `imported` says what
+/// other packages show: of types that reach themselves (Y1, at the type's name), of fields, methods of interface types and methods that repeat a name of
+/// their type or stand behind a member of it (B5), of embedded fields that may not be embedded (Y2), and of receivers (B6, at the first byte
+/// of the base's name). A field of another declaration may stand behind methods of several types: then it is listed several times.
+///
+/// # Errors
+///
+/// `AllocError` where memory is wanting.
+pub fn type_faults<P: ImportedNames>(
+    alloc: Global,
+    types: &TypeTable,
+    imported: &P,
+    written: &WrittenTypes<'_, '_>,
+) -> Result<Vec<PackageFault>, AllocError>
+    ensures { IfOk result (λ faults. faults.items ≡ faults_of_types types.now (package_meanings (P.shows imported.now) written.now.path.now written.now.blocks.now) written.now.path.now (map outline_shown written.now.outlines.now) (map entry_shown written.now.entries.now) written.now.loops.now) }
+{
+    let mut faults = Vec::new(alloc);
+    add_loops(
+        written.outlines,
+        written.entries,
+        written.loops,
+        &mut faults,
+    )?;
+    add_entries(
+        alloc,
+        types,
+        written.path,
+        written.outlines,
+        written.entries,
+        &mut faults,
+    )?;
+    add_receivers(
+        alloc,
+        types,
+        written.path,
+        written.blocks,
+        imported,
+        written.outlines,
+        &mut faults,
+    )?;
+    Ok(faults)
+}
