@@ -1,0 +1,13 @@
+use Rattle.std.proofs.Common.{ap, sym}
+use Rattle.go_expr_core.specs.Places as places
+use Rattle.go_expr_core.proofs.Forms.{call_form, literal_form, struct_form}
+use Rattle.go_piece_core.proofs.starts.+is_call.Goals as goal
+
+pub returns-in-Call : goal.returns-in-Call
+returns-in-Call t c = sym (ap (places.is_call) (call_form c.args.expr.now _ c.in-Call.is))
+
+pub returns-in-Literal : goal.returns-in-Literal
+returns-in-Literal t c = sym (ap (places.is_call) (literal_form c.args.expr.now _ c.in-Literal.is))
+
+pub returns-in-StructLiteral : goal.returns-in-StructLiteral
+returns-in-StructLiteral t c = sym (ap (places.is_call) (struct_form c.args.expr.now _ c.in-StructLiteral.is))

@@ -1,0 +1,183 @@
+-- What holds of the pieces of functions.
+--
+-- docs/RULES.md, "Occurrences", "Expressions: roles, order, faults of parts", "Assignments, declarations, returns, statements". The Go
+-- specification, "Declarations and scope".
+use Rattle.std.specs.Prelude.{◌≡◌, ℕ, ⊤, Bool, List, [], ◌∷◌, ◌++◌, length, map, Option, Some, None, if◌then◌else◌}
+use Rattle.go_text_core.specs.declared.span.Span.{Span}
+use Rattle.go_tree_nodes.specs.declared.names.Ident.{Ident}
+use Rattle.go_tree_nodes.specs.declared.files.Receiver.{Receiver}
+use Rattle.go_tree_nodes.specs.Trees.{Separated, One, Then, TypeTree, ExprTree, SignatureTree, ResultTree, ParamTrees, Signed, NoResult, OneResult, Results, NoParams, Param, SimpleTree, Alone, Step, Assign, Update, Define, FuncTree}
+use Rattle.go_tree_nodes.specs.Rules.{Wf, Wf_values, Wf_simple, Wf_some_exprs}
+use Rattle.go_tree_core.specs.declared.occurrence.Context.TheVariants as contexts
+use Rattle.go_tree_core.specs.declared.occurrence.Occ.{Occ}
+use Rattle.go_tree_core.specs.Occurrences.{receiver_occs, signature_occs, value_spec_occs, simple_occs, expr_occs, some_exprs_occs, func_occs}
+use Rattle.go_walk_core.specs.Ends.{is_blank_target}
+use Rattle.go_local_core.specs.Steps.{Piece, Header, Spec, Act, Condition, Given, Steps, Done, Check, Declare, Inner, spell_piece}
+use Rattle.go_local_core.specs.Outline.{func_steps}
+use Rattle.go_local_core.specs.Outline as outline
+use Rattle.go_local_core.specs.Binding.{Look}
+use Rattle.go_local_core.specs.Law.{Rules}
+use Rattle.go_local_core.specs.Alike.{Alike, LookAtNames}
+use Rattle.go_operand_core.specs.declared.types.Operand.{Operand}
+use Rattle.go_denote_core.specs.declared.things.Found.{Found}
+use Rattle.go_expr_core.specs.declared.things.Use.{Use}
+use Rattle.go_expr_core.specs.declared.things.Fault.{Fault}
+use Rattle.go_expr_core.specs.Looks.{Looks, WrittenRules}
+use Rattle.go_expr_core.specs.Laws as expressions
+use Rattle.go_expr_core.specs.Locality.{struct_types, SameWritten, seeing}
+use Rattle.go_piece_core.specs.Pieces.{piece_uses, piece_faults, piece_values, piece_names}
+
+-- each occurrence has exactly one outcome, and no other place has one
+
+-- the occurrences of a piece
+abbrev pub piece_occs : Piece → List Occ
+piece_occs (Header r s) = receiver_occs r ++ signature_occs s
+piece_occs (Spec kind v) = value_spec_occs v
+piece_occs (Act s) = simple_occs s
+piece_occs (Condition e) = expr_occs contexts.«Value» e
+piece_occs (Given place es) = some_exprs_occs es
+
+-- its expressions respect the grammar, in a header or not
+abbrev pub IsWellFormed : Bool → Piece → Type 0
+IsWellFormed header (Header r s) = ⊤
+IsWellFormed header (Spec kind v) = Wf_values v.values
+IsWellFormed header (Act s) = Wf_simple header s
+IsWellFormed header (Condition e) = Wf header e
+IsWellFormed header (Given place es) = Wf_some_exprs es
+
+-- the occurrences of steps
+abbrev pub steps_occs : Steps → List Occ
+steps_occs Done = []
+steps_occs (Check p rest) = piece_occs p ++ steps_occs rest
+steps_occs (Declare m from p xs rest) = piece_occs p ++ steps_occs rest
+steps_occs (Inner o c steps rest) = steps_occs steps ++ steps_occs rest
+
+pub record PiecesHaveOccurrences (T S D P : Type 0) : Type 0 where
+  -- what is noted of a piece stands where its occurrences stand, with their roles and in their order
+  pub pieces : (looks : Looks T S D P) (header : Bool) (p : Piece) → IsWellFormed header p → map expressions.use_place (piece_uses looks p) ≡ map expressions.occurrence_place (piece_occs p)
+  -- the occurrences of a function are those of its pieces
+  pub functions : (f : FuncTree) → func_occs f ≡ steps_occs (func_steps f)
+
+-- each name that is declared stands for one thing
+
+abbrev pub NamesHaveValues : (T S D P : Type 0) → Type 0
+NamesHaveValues T S D P = (looks : Looks T S D P) (firsts : List Bool) (p : Piece) → length (piece_values looks firsts p) ≡ length (piece_names p)
+
+-- a piece looks at the names in it alone, each where it stands
+
+abbrev pub receiver_idents : Option Receiver → List Ident
+receiver_idents None = []
+receiver_idents (Some r) = expressions.type_name_idents r.base
+
+abbrev pub some_type_idents : Option TypeTree → List Ident
+some_type_idents None = []
+some_type_idents (Some t) = expressions.type_idents t
+
+abbrev pub list_idents : Separated ExprTree → List Ident
+list_idents (One e) = expressions.idents e
+list_idents (Then e comma more) = expressions.idents e ++ list_idents more
+
+abbrev pub values_idents : Option (Span × Separated ExprTree) → List Ident
+values_idents None = []
+values_idents (Some v) = list_idents v.1
+
+abbrev pub returned_idents : Option (Separated ExprTree) → List Ident
+returned_idents None = []
+returned_idents (Some es) = list_idents es
+
+-- `_` left of `=` is looked up nowhere
+abbrev pub target_idents : ExprTree → List Ident
+target_idents e = if is_blank_target e then [] else expressions.idents e
+
+abbrev pub targets_idents : Separated ExprTree → List Ident
+targets_idents (One e) = target_idents e
+targets_idents (Then e comma more) = target_idents e ++ targets_idents more
+
+abbrev pub simple_idents : SimpleTree → List Ident
+simple_idents (Alone e) = expressions.idents e
+simple_idents (Step e op span) = expressions.idents e
+simple_idents (Assign ts span es) = targets_idents ts ++ list_idents es
+simple_idents (Update e op span v) = expressions.idents e ++ expressions.idents v
+simple_idents (Define xs span es) = outline.idents xs ++ list_idents es
+
+-- the identifiers of a piece that are looked up
+abbrev pub piece_idents : Piece → List Ident
+piece_idents (Header r s) = receiver_idents r ++ expressions.signature_idents s
+piece_idents (Spec kind v) = some_type_idents v.type_expr ++ values_idents v.values
+piece_idents (Act s) = simple_idents s
+piece_idents (Condition e) = expressions.idents e
+piece_idents (Given place es) = returned_idents es
+
+-- the types that a piece writes: those of its declarations, and struct types before literals
+
+abbrev pub list_types : Separated ExprTree → List TypeTree
+list_types (One e) = struct_types e
+list_types (Then e comma more) = struct_types e ++ list_types more
+
+abbrev pub params_types : ParamTrees → List TypeTree
+params_types NoParams = []
+params_types (Param xs t comma rest) = t ∷ params_types rest
+
+abbrev pub result_types : ResultTree → List TypeTree
+result_types NoResult = []
+result_types (OneResult t) = t ∷ []
+result_types (Results first params last) = params_types params
+
+abbrev pub signature_types : SignatureTree → List TypeTree
+signature_types (Signed first params last result) = params_types params ++ result_types result
+
+abbrev pub some_type : Option TypeTree → List TypeTree
+some_type None = []
+some_type (Some t) = t ∷ []
+
+abbrev pub values_types : Option (Span × Separated ExprTree) → List TypeTree
+values_types None = []
+values_types (Some v) = list_types v.1
+
+abbrev pub returned_types : Option (Separated ExprTree) → List TypeTree
+returned_types None = []
+returned_types (Some es) = list_types es
+
+abbrev pub simple_types : SimpleTree → List TypeTree
+simple_types (Alone e) = struct_types e
+simple_types (Step e op span) = struct_types e
+simple_types (Assign ts span es) = list_types ts ++ list_types es
+simple_types (Update e op span v) = struct_types e ++ struct_types v
+simple_types (Define xs span es) = list_types es
+
+abbrev pub piece_types : Piece → List TypeTree
+piece_types (Header r s) = signature_types s
+piece_types (Spec kind v) = some_type v.type_expr ++ values_types v.values
+piece_types (Act s) = simple_types s
+piece_types (Condition e) = struct_types e
+piece_types (Given place es) = returned_types es
+
+-- the same is noted, and the names stand for the same
+pub record SamePiece (T S D P : Type 0) (looks other : Looks T S D P) (p : Piece) : Type 0 where
+  pub uses : piece_uses looks p ≡ piece_uses other p
+  pub faults : (results : List (Option T)) (has_names : Bool) (firsts : List Bool) → piece_faults looks results has_names firsts p ≡ piece_faults other results has_names firsts p
+  pub values : (firsts : List Bool) → piece_values looks firsts p ≡ piece_values other firsts p
+
+-- look-ups that agree on each name of a piece, where it stands, and make the same of each type that it writes, make the same of it
+abbrev pub PiecesAreLocal : (T S D P : Type 0) → Type 0
+PiecesAreLocal T S D P = (looks : Looks T S D P) (find : List ℕ → ℕ → Found T S D) (written : WrittenRules T) (p : Piece)
+    → expressions.Agree looks.find find (piece_idents p) → SameWritten looks (seeing find written looks) (piece_types p) → SamePiece T S D P looks (seeing find written looks) p
+
+-- rules that are made of what pieces have, break and declare, by look-ups that are made of what names mean
+
+abbrev pub piece_rules : {X N T S D P : Type 0} → (Look X → Looks T S D P) → List (Option T) → Bool → (Piece → List (Use D P) → List Fault → List N) → (Piece → List (Option (Operand T)) → ℕ → X) → Rules X N
+piece_rules looks results has_names note mean = record {
+  notes = λ look firsts p. note p (piece_uses (looks look) p) (piece_faults (looks look) results has_names firsts p);
+  means = λ look firsts p. mean p (piece_values (looks look) firsts p);
+}
+
+-- what a name stands for rests on what it means where it stands, and the rest of the look-ups on nothing
+pub record FindByNames (X T S D P : Type 0) (looks : Look X → Looks T S D P) : Type 0 where
+  pub rest : (look other : Look X) → looks other ≡ seeing (looks other).find (looks other).written (looks look)
+  pub find : (look other : Look X) (name : List ℕ) (offset : ℕ) → look name offset ≡ other name offset → (looks look).find name offset ≡ (looks other).find name offset
+  -- each type that a piece writes is the same where its names mean the same
+  pub written : (look other : Look X) (p : Piece) → Alike look other (spell_piece p) → SameWritten (looks look) (looks other) (piece_types p)
+
+abbrev pub PiecesLookAtNames : (X N T S D P : Type 0) → Type 0
+PiecesLookAtNames X N T S D P = (looks : Look X → Looks T S D P) (results : List (Option T)) (has_names : Bool) (note : Piece → List (Use D P) → List Fault → List N) (mean : Piece → List (Option (Operand T)) → ℕ → X)
+    → FindByNames X T S D P looks → LookAtNames X N (piece_rules looks results has_names note mean)

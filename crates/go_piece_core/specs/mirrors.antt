@@ -1,0 +1,2 @@
+-- What mirrors the code for its proof.
+pub mod Later

@@ -1,0 +1,29 @@
+//! The pieces of functions and of specifications: what their identifiers and calls have, their faults, and what the names stand for that
+//! they declare, in any environment.
+//!
+//! No blocks are known here: names are looked up in the environment, and which of the names of a short declaration are new is told.
+#![tactic(auto)]
+
+mod constants;
+mod given;
+mod headers;
+mod laws;
+mod notes;
+mod pieces;
+mod returns;
+mod shorts;
+mod starts;
+mod statements;
+mod targets;
+mod types;
+mod variables;
+
+pub use headers::{check_header, function_results, has_named_results};
+pub use laws::{
+    names_have_values, pieces_are_local, pieces_have_occurrences, pieces_look_at_names,
+    worked_pieces,
+};
+pub use pieces::{check_simple, check_spec};
+pub use returns::check_returned;
+pub use shorts::check_short;
+pub use statements::check_condition;

@@ -1,0 +1,135 @@
+//! Statements that may stand in a header, and conditions.
+ghost use Rattle.std.specs.Prelude.{◌≡◌, ◌++◌, IfOk, OnOk};
+ghost use Rattle.go_tree_nodes.specs.Shapes.{shape, shape_exprs};
+ghost use Rattle.go_denote_core.specs.declared.things.Place.TheVariants as stands;
+ghost use Rattle.go_expr_core.specs.Looks.{everywhere};
+ghost use Rattle.go_expr_core.specs.Uses.{uses};
+ghost use Rattle.go_piece_core.specs.Values as values;
+ghost use Rattle.go_piece_core.specs.Targets as targets;
+ghost use Rattle.go_piece_core.specs.Statements as statements;
+
+use crate::given::check_list;
+use crate::notes::{check_operand, note_fault};
+use crate::starts::{list_start, start};
+use crate::targets::check_targets;
+use go_denote_core::{Denoted, Place, argument_of};
+use go_expr_core::{Exprs, Notes, check_expr};
+use go_statement_core::{
+    assignment_rule, condition_rule, increment_rule, statement_rule, update_rule,
+};
+use go_tree_nodes::{Assignment, Expr, Update};
+use std::alloc::{AllocError, Global};
+
+// What an expression calls, if it is a call.
+fn callee_of<E: Exprs>(
+    env: &E,
+    alloc: Global,
+    expr: &Expr,
+) -> Result<Option<Denoted<E::Type, E::Signature, E::Decl>>, AllocError>
+    ensures { IfOk result (λ c. c ≡ statements.callee_of (everywhere (E.types env.now) (E.names env.now) (E.literals env.now) (E.written env.now)) (shape expr.now)) }
+{
+    match expr {
+        Expr::Call(call) => {
+            let mut notes = Notes {
+                uses: Vec::new(alloc),
+                faults: Vec::new(alloc),
+            };
+            let callee = check_expr(env, alloc, Place::Callee, &call.callee, &mut notes)?;
+            Ok(Some(callee))
+        }
+        Expr::Paren(_, inner, _) => callee_of(env, alloc, inner),
+        Expr::Literal(_) => Ok(None),
+        Expr::StructLiteral(_) => Ok(None),
+        Expr::Integer(_, _)
+        | Expr::Text(_)
+        | Expr::Name(_)
+        | Expr::Unary(_, _, _)
+        | Expr::Binary(_)
+        | Expr::Select(_) => Ok(None),
+    }
+}
+
+/// Checks an expression that stands for a statement.
+pub(crate) fn check_alone<E: Exprs>(
+    env: &E,
+    alloc: Global,
+    expr: &Expr,
+    notes: &mut Notes<E::Decl, E::Path>,
+) -> Result<(), AllocError>
+    ensures uses { OnOk result (notes.new.uses.items ≡ notes.old.uses.items ++ uses (everywhere (E.types env.now) (E.names env.now) (E.literals env.now) (E.written env.now)) stands.«Value» (shape expr.now)) }
+    ensures faults { OnOk result (notes.new.faults.items ≡ notes.old.faults.items ++ statements.alone_faults (everywhere (E.types env.now) (E.names env.now) (E.literals env.now) (E.written env.now)) (shape expr.now)) }
+{
+    let denoted = check_expr(env, alloc, Place::Value, expr, notes)?;
+    let callee = callee_of(env, alloc, expr)?;
+    let rule = statement_rule(&callee, &denoted);
+    note_fault(&mut notes.faults, start(expr), rule)
+}
+
+/// Checks an expression before `++` or `--`.
+pub(crate) fn check_step<E: Exprs>(
+    env: &E,
+    alloc: Global,
+    expr: &Expr,
+    notes: &mut Notes<E::Decl, E::Path>,
+) -> Result<(), AllocError>
+    ensures uses { OnOk result (notes.new.uses.items ≡ notes.old.uses.items ++ uses (everywhere (E.types env.now) (E.names env.now) (E.literals env.now) (E.written env.now)) stands.«Value» (shape expr.now)) }
+    ensures faults { OnOk result (notes.new.faults.items ≡ notes.old.faults.items ++ statements.step_faults (everywhere (E.types env.now) (E.names env.now) (E.literals env.now) (E.written env.now)) (shape expr.now)) }
+{
+    let denoted = check_operand(env, alloc, expr, notes)?;
+    let rule = increment_rule(env, alloc, argument_of(denoted))?;
+    note_fault(&mut notes.faults, start(expr), rule)
+}
+
+/// Checks an assignment.
+pub(crate) fn check_assign<E: Exprs>(
+    env: &E,
+    alloc: Global,
+    assignment: &Assignment,
+    notes: &mut Notes<E::Decl, E::Path>,
+) -> Result<(), AllocError>
+    ensures uses { OnOk result (notes.new.uses.items ≡ notes.old.uses.items ++ statements.assign_uses (everywhere (E.types env.now) (E.names env.now) (E.literals env.now) (E.written env.now)) (shape_exprs assignment.now.targets) (shape_exprs assignment.now.values)) }
+    ensures faults { OnOk result (notes.new.faults.items ≡ notes.old.faults.items ++ statements.assign_faults (everywhere (E.types env.now) (E.names env.now) (E.literals env.now) (E.written env.now)) (shape_exprs assignment.now.targets) (shape_exprs assignment.now.values)) }
+{
+    let targets = check_targets(env, alloc, &assignment.targets, notes)?;
+    let given = check_list(env, alloc, &assignment.values, notes)?;
+    let rule = assignment_rule(env, alloc, &targets, given.is_unknown, &given.values)?;
+    note_fault(&mut notes.faults, list_start(&assignment.targets), rule)
+}
+
+/// Checks an operation with `=`.
+pub(crate) fn check_update<E: Exprs>(
+    env: &E,
+    alloc: Global,
+    update: &Update,
+    notes: &mut Notes<E::Decl, E::Path>,
+) -> Result<(), AllocError>
+    ensures uses { OnOk result (notes.new.uses.items ≡ notes.old.uses.items ++ statements.update_uses (everywhere (E.types env.now) (E.names env.now) (E.literals env.now) (E.written env.now)) (shape update.now.target) (shape update.now.value)) }
+    ensures faults { OnOk result (notes.new.faults.items ≡ notes.old.faults.items ++ statements.update_faults (everywhere (E.types env.now) (E.names env.now) (E.literals env.now) (E.written env.now)) (shape update.now.target) update.now.operator (shape update.now.value)) }
+{
+    let target = check_operand(env, alloc, &update.target, notes)?;
+    let value = check_operand(env, alloc, &update.value, notes)?;
+    let operator = update.operator;
+    let left = argument_of(target);
+    let right = argument_of(value);
+    let rule = update_rule(env, alloc, operator, left, right)?;
+    note_fault(&mut notes.faults, start(&update.target), rule)
+}
+
+/// Notes what the condition of an `if` or a `for` has and breaks. The Go specification, "If statements", "For statements".
+///
+/// # Errors
+///
+/// `AllocError` where memory is wanting; then some may be noted.
+pub fn check_condition<E: Exprs>(
+    env: &E,
+    alloc: Global,
+    condition: &Expr,
+    notes: &mut Notes<E::Decl, E::Path>,
+) -> Result<(), AllocError>
+    ensures uses { OnOk result (notes.new.uses.items ≡ notes.old.uses.items ++ uses (everywhere (E.types env.now) (E.names env.now) (E.literals env.now) (E.written env.now)) stands.«Value» (shape condition.now)) }
+    ensures faults { OnOk result (notes.new.faults.items ≡ notes.old.faults.items ++ statements.condition_faults (everywhere (E.types env.now) (E.names env.now) (E.literals env.now) (E.written env.now)) (shape condition.now)) }
+{
+    let denoted = check_expr(env, alloc, Place::Value, condition, notes)?;
+    let rule = condition_rule(env, &denoted);
+    note_fault(&mut notes.faults, start(condition), rule)
+}
