@@ -1,0 +1,5 @@
+pub mod Numbers
+pub mod Members
+pub mod Order
+pub mod Settled
+pub mod Found
