@@ -1,0 +1,11 @@
+pub mod Ascending
+pub mod Displaying
+pub mod Keyed
+pub mod Listing
+pub mod Locality
+pub mod Placed
+pub mod Places
+pub mod Searching
+pub mod Seeing
+pub mod Starring
+pub mod Worked

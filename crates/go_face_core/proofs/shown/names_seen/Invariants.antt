@@ -1,0 +1,8 @@
+use Rattle.std.proofs.Common.{◌≡◌, [], map, take}
+use Rattle.go_block_core.specs.Exports.{name_and_decl}
+use Rattle.go_block_core.specs.Tables.{table_of}
+use Rattle.go_face_core.specs.Packages.{seen_after}
+use Rattle.go_face_core.proofs.shown.names_seen.Given as goal
+
+abbrev pub invariant-loop-named : goal.invariant-loop-named
+invariant-loop-named l = table_of l.names ≡ seen_after [] (map name_and_decl (take l.named-index l.block))

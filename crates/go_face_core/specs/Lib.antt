@@ -1,0 +1,10 @@
+pub mod Faces
+pub mod Held
+pub mod Laws
+pub mod Names
+pub mod Packages
+pub mod Sample
+pub mod Showing
+pub mod Written
+pub mod codes
+pub mod mirrors

@@ -1,0 +1,28 @@
+//! Faces: what the declarations of a package are to those that name them.
+//!
+//! A type is its type, a function its signature, a constant or a variable an operand. A package's faces as they are written, and those of
+//! other packages, which show some names and hide the others.
+//! The Go specification, "Declarations and scope", "Exported identifiers".
+#![tactic(auto)]
+
+mod face;
+mod holding;
+mod laws;
+mod lending;
+mod making;
+mod settling;
+mod shown;
+mod table;
+mod written;
+
+pub use face::Face;
+pub use holding::hold;
+pub use laws::{
+    packages_show_their_faces, positions_are_exact, tables_show_their_packages, worked_faces,
+    written_are_local,
+};
+pub use lending::lend;
+pub use making::written_faces;
+pub use shown::{DeclaredFace, PackageFaces, ShownFace};
+pub use table::FaceTable;
+pub use written::WrittenFaces;

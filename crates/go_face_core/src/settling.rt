@@ -1,0 +1,74 @@
+//! Types and signatures as they are written, settled.
+ghost use Rattle.std.specs.Prelude.{◌≡◌, IfOk};
+ghost use Rattle.std.specs.Option.{option_map};
+ghost use Rattle.go_tree_nodes.specs.TypeShapes.{shape_type, shape_signature};
+ghost use Rattle.go_term_core.specs.Shapes.{shape, sign_of};
+ghost use Rattle.go_table_core.specs.Entries.{find};
+ghost use Rattle.go_settle_core.specs.Settled.{settled_sign};
+ghost use Rattle.go_written_core.specs.Written.{in_file, signature_of};
+ghost use Rattle.go_decide_core.specs.Conversion.{is_nothing};
+ghost use Rattle.go_decide_core.specs.Rules.{typed};
+ghost use Rattle.go_face_core.specs.Written.{kinds_in, type_written};
+
+use go_settle_core::{settle, settle_signature};
+use go_table_core::TypeTable;
+use go_term_core::{Signature, TypeTerm, close};
+use go_tree_nodes::TypeExpr;
+use go_written_core::{TypeNames, WrittenIn, write_signature, write_type};
+use std::alloc::{AllocError, Global};
+
+// Whether it is no type.
+fn is_nothing(term: &TypeTerm) -> bool
+    ensures { result ≡ is_nothing (shape term.now) }
+{
+    match term {
+        TypeTerm::NoType => true,
+        TypeTerm::Basic(_)
+        | TypeTerm::Error
+        | TypeTerm::Defined(_)
+        | TypeTerm::Pointer(_)
+        | TypeTerm::Struct(_, _, _)
+        | TypeTerm::Interface(_, _) => false,
+    }
+}
+
+/// A type, where it is one in a table.
+pub(crate) fn typed(types: &TypeTable, term: TypeTerm) -> Option<TypeTerm>
+    ensures { option_map shape result ≡ typed (find types.now) (shape term) }
+{
+    if is_nothing(types.underlying(&term)) {
+        close(term);
+        return None;
+    }
+    Some(term)
+}
+
+/// A type that is written in a file, settled: none where it is no type.
+pub(crate) fn settled_type<N: TypeNames>(
+    alloc: Global,
+    names: &N,
+    at: &WrittenIn<'_>,
+    types: &TypeTable,
+    tree: &TypeExpr,
+) -> Result<Option<TypeTerm>, AllocError>
+    ensures { IfOk result (λ t. option_map shape t ≡ type_written (N.meaning names.now) (in_file at.now) types.now (shape_type tree.now)) }
+{
+    let written = write_type(alloc, names, at, tree)?;
+    let settled = settle(alloc, types, &written);
+    close(written);
+    Ok(typed(types, settled?))
+}
+
+/// A signature that is written in a file, settled.
+pub(crate) fn settled_signature<N: TypeNames>(
+    alloc: Global,
+    names: &N,
+    at: &WrittenIn<'_>,
+    types: &TypeTable,
+    tree: &go_tree_nodes::Signature,
+) -> Result<Signature, AllocError>
+    ensures { IfOk result (λ g. sign_of g ≡ settled_sign (kinds_in types.now) (signature_of (N.meaning names.now) (in_file at.now) (shape_signature tree.now))) }
+{
+    let written = write_signature(alloc, names, at, tree)?;
+    settle_signature(alloc, types, &written)
+}

@@ -1,0 +1,68 @@
+//! What packages show, by their paths.
+ghost use Rattle.std.specs.Prelude.{◌≡◌, [], OnOk, OnErr, option_copied};
+ghost use Rattle.go_face_core.specs.Packages.{package_in, with_faces};
+
+use crate::shown::PackageFaces;
+use go_path_core::ImportPath;
+use indexmap::IndexMap;
+use std::alloc::{AllocError, Global};
+use std::marker::Model;
+
+/// What packages show to those that import them, by their paths. It holds one handle for each package, and copies no name and no face.
+/// Contracts see what the packages show, in the order in which their paths were added first.
+#[derive(Drop)]
+pub struct FaceTable {
+    packages: IndexMap<String, PackageFaces>,
+}
+
+impl Model for FaceTable {
+    ghost use Rattle.std.specs.Prelude.{List};
+    ghost use Rattle.std.specs.Coded.{coded_list};
+    ghost use Rattle.go_block_core.specs.Tables.{table_of};
+    ghost use Rattle.go_face_core.specs.Packages.{PackageFacesModel};
+    ghost use Rattle.go_face_core.specs.codes.FaceCodes.{coded_package_faces};
+    ghost use Rattle.go_face_core.specs.mirrors.Tables.{AreKeyed, packages_of};
+
+    ghost Value = { List PackageFacesModel };
+
+    ghost coded = { coded_list coded_package_faces };
+
+    ghost view = { λ t. packages_of (table_of t.packages) };
+
+    ghost invariant = { λ t. AreKeyed (table_of t.packages) };
+}
+
+impl FaceTable {
+    /// No packages.
+    pub fn new(alloc: Global) -> FaceTable
+        ensures { result ≡ [] }
+    {
+        FaceTable {
+            packages: IndexMap::new(alloc),
+        }
+    }
+
+    /// Adds what a package shows, behind the other packages or in place of what was there under the package's path.
+    ///
+    /// # Errors
+    ///
+    /// `AllocError` where memory is wanting; the table is then as it was.
+    pub fn add(&mut self, faces: PackageFaces) -> Result<(), AllocError>
+        ensures ok { OnOk result (self.new ≡ with_faces self.old faces) }
+        ensures err { OnErr result (self.new ≡ self.old) }
+    {
+        let alloc = *self.packages.allocator();
+        let path = String::from_str(alloc, faces.path().as_str())?;
+        match self.packages.insert(path, faces) {
+            Ok(_) => Ok(()),
+            Err(_) => Err(AllocError),
+        }
+    }
+
+    /// What the package of a path shows, or none where the table has no such package.
+    pub fn locate(&self, path: &ImportPath) -> Option<&PackageFaces>
+        ensures { option_copied result ≡ package_in self.now path.now }
+    {
+        self.packages.get(path.as_str())
+    }
+}
