@@ -1,0 +1,12 @@
+pub mod ByIntervals
+pub mod FaultLemmas
+pub mod Found
+pub mod Kept
+pub mod ListLemmas
+pub mod LocalLemmas
+pub mod Lookups
+pub mod NoteLemmas
+pub mod Outlines
+pub mod Spread
+pub mod Tellings
+pub mod WalkLemmas

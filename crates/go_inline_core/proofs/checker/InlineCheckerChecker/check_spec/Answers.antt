@@ -1,0 +1,17 @@
+use Rattle.go_tree_nodes.specs.TypeShapes.{shape_idents}
+use Rattle.go_local_core.specs.Outline.{idents}
+use Rattle.go_names_core.specs.Scope.{look_of}
+use Rattle.go_written_core.specs.Written.{in_file}
+use Rattle.go_inline_core.specs.Functions.{inlines_in, scoped_outside}
+use Rattle.go_inline_core.proofs.LocalLemmas.{means_by}
+use Rattle.go_inline_core.proofs.NoteLemmas.{noted_list, when_ok}
+use Rattle.go_inline_core.proofs.checker.InlineCheckerChecker.check_spec.Goals as goal
+
+pub returns-clause-notes : goal.returns-clause-notes
+returns-clause-notes g c =
+    let self = c.args.self.now in
+    let noted = inlines_in (g.K.Kinds.kinds self.kinds.now) (in_file self.at.now) (g.N.TypeNames.meaning self.top.now) (look_of scoped_outside c.args.names.now) in
+    when_ok c.locals.result (noted_list c.new-list.result c.list_spec.new.list _ noted _ _ c.new-list.ensures.trees c.list_spec.ensures c.in_ok-note.ensures.memory c.in_ok-note.ensures.notes)
+
+pub returns-clause-means : goal.returns-clause-means
+returns-clause-means g c = means_by c.locals.result c.as_slice.result.now c.in_ok-idents.idents.items (idents (shape_idents c.args.spec.now.names)) c.as_slice.ensures.value c.in_ok-idents.ensures c.locals.ensures

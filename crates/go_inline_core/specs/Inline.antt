@@ -1,0 +1,89 @@
+-- What a type is that is written inside a function or in an initialiser, and what is broken in it.
+--
+-- docs/RULES.md, "Types inside functions". The Go specification, "Types", "Declarations and scope", "Struct types", "Interface types".
+use Rattle.std.specs.Prelude.{◌≡◌, ℕ, List, [], ◌∷◌, ◌++◌, map, Option, Some, None, slice_get, if◌then◌else◌}
+use Rattle.go_text_core.specs.declared.rule.Rule.TheVariants as rules
+use Rattle.go_tree_nodes.specs.declared.names.Ident.{Ident}
+use Rattle.go_tree_nodes.specs.Trees.{TypeTree, NamedType, Pointer, ParenType, Struct, Interface, FieldTrees, NoFields, NamedFields, EmbeddedField, MethodTrees, NoMethods, Method, SignatureTree, Signed, ResultTree, NoResult, OneResult, Results, ParamTrees, NoParams, Param}
+use Rattle.go_decl_core.specs.declared.keys.DeclKey.{DeclKey}
+use Rattle.go_decl_core.specs.declared.places.Place.{Place}
+use Rattle.go_term_core.specs.declared.term.MemberPlace.{MemberPlace}
+use Rattle.go_term_core.specs.declared.term.MemberPlace.TheVariants as places
+use Rattle.go_settle_core.specs.declared.kind.Kind.{Kind}
+use Rattle.go_settle_core.specs.Settled.{settled, repeats}
+use Rattle.go_embed_core.specs.declared.faults.MemberFault.{MemberFault}
+use Rattle.go_embed_core.specs.Faults.{term_faults}
+use Rattle.go_written_core.specs.Written.{InFile, Meaning, term_of}
+use Rattle.go_local_core.specs.declared.Fault.{Fault}
+use Rattle.go_local_core.specs.Faults.{fault_at}
+use Rattle.go_local_core.specs.Outline.{signature_idents}
+use Rattle.go_inline_core.specs.Types.{InlineOf, inline_at}
+use Rattle.go_inline_core.specs.Trees.{type_start}
+
+-- faults
+
+abbrev pub at_place : Option Place → ℕ
+at_place None = 0
+at_place (Some p) = p.at
+
+-- the offset of a member's identifier in a file that declares these outside function bodies
+abbrev pub offset_of : List Place → MemberPlace → ℕ
+offset_of ps (places.Declared d) = at_place (slice_get ps d.number)
+offset_of ps (places.Local l) = l.offset
+
+abbrev pub fault_in : List Place → MemberFault → Fault
+fault_in ps f = record { offset = offset_of ps f.place; rule = f.rule }
+
+-- parameters and results that are not blank and have the name of an earlier one of their signature
+abbrev pub repeated : List (List ℕ) → List Ident → List Fault
+repeated seen [] = []
+repeated seen (x ∷ xs) = (if repeats seen x.name then fault_at x rules.B1 ∷ [] else []) ++ repeated (x.name ∷ seen) xs
+
+-- those of the methods of the interface types in a type, at any depth
+abbrev mutual
+  pub repeated_params : TypeTree → List Fault
+  repeated_params (NamedType n) = []
+  repeated_params (Pointer star t) = repeated_params t
+  repeated_params (ParenType first t last) = repeated_params t
+  repeated_params (Struct k first ls last) = repeated_in_fields ls
+  repeated_params (Interface k first ms last) = repeated_in_methods ms
+
+  pub repeated_in_fields : FieldTrees → List Fault
+  repeated_in_fields NoFields = []
+  repeated_in_fields (NamedFields xs t tag s rest) = repeated_params t ++ repeated_in_fields rest
+  repeated_in_fields (EmbeddedField star n tag s rest) = repeated_in_fields rest
+
+  -- of a method its own come before those in its types
+  pub repeated_in_methods : MethodTrees → List Fault
+  repeated_in_methods NoMethods = []
+  repeated_in_methods (Method x g s rest) = (repeated [] (signature_idents g) ++ repeated_in_signature g) ++ repeated_in_methods rest
+
+  pub repeated_in_signature : SignatureTree → List Fault
+  repeated_in_signature (Signed first params last result) = repeated_in_entries params ++ repeated_in_result result
+
+  pub repeated_in_result : ResultTree → List Fault
+  repeated_in_result NoResult = []
+  repeated_in_result (OneResult t) = repeated_params t
+  repeated_in_result (Results first params last) = repeated_in_entries params
+
+  pub repeated_in_entries : ParamTrees → List Fault
+  repeated_in_entries NoParams = []
+  repeated_in_entries (Param xs t comma rest) = repeated_params t ++ repeated_in_entries rest
+
+-- types
+
+-- what a type is, by what is known of declared types, by the file where it is written, and by what names of types mean there
+abbrev pub inline_of : (DeclKey → Kind) → InFile → Meaning → TypeTree → InlineOf
+inline_of kind f mean t =
+    record { term = settled kind (term_of mean f t); faults = map (fault_in f.places) (term_faults kind (term_of mean f t)) ++ repeated_params t }
+
+-- types by their first bytes
+abbrev pub inline_with : (DeclKey → Kind) → InFile → Meaning → TypeTree → ℕ × InlineOf
+inline_with kind f mean t = (type_start t, inline_of kind f mean t)
+
+abbrev pub inlines : (DeclKey → Kind) → InFile → Meaning → List TypeTree → List (ℕ × InlineOf)
+inlines kind f mean ts = map (inline_with kind f mean) ts
+
+-- the same is found at each offset
+abbrev pub AreAlike : List (ℕ × InlineOf) → List (ℕ × InlineOf) → Type 0
+AreAlike types other = (offset : ℕ) → inline_at types offset ≡ inline_at other offset

@@ -1,0 +1,4 @@
+pub mod Alike
+pub mod Gathering
+pub mod Listing
+pub mod Names

@@ -1,0 +1,23 @@
+//! A file of a package whose types are written inside functions and in initialisers.
+use go_block_core::Blocks;
+use go_decl_core::Places;
+use go_entry_core::ImportedNames;
+use go_path_core::ImportPath;
+use go_table_core::TypeTable;
+
+/// What is known of a file of a package where types are written in it. All is lent.
+#[derive(Drop)]
+pub struct Ground<'a, P> {
+    /// The path of the package.
+    pub path: &'a ImportPath,
+    /// The package's blocks.
+    pub blocks: &'a Blocks,
+    /// The file's number among those of the package in order of name, from 0.
+    pub file: usize,
+    /// What other packages show.
+    pub imported: &'a P,
+    /// The identifiers that the file declares outside function bodies.
+    pub places: &'a Places,
+    /// The types of the package and of those that it reaches.
+    pub types: &'a TypeTable,
+}

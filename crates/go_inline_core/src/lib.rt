@@ -1,0 +1,24 @@
+//! Types that are written inside functions and in initialisers, by their places: made before a function is checked, so that all that is known of
+//! them is lent from one place.
+//!
+//! The Go specification, "Types", "Declarations and scope", "Composite literals".
+#![tactic(auto)]
+
+mod checker;
+mod function;
+mod ground;
+mod idents;
+mod laws;
+mod listing;
+mod making;
+mod repeated;
+mod scoped;
+mod types;
+
+pub use function::{function_types, initialiser_types};
+pub use ground::Ground;
+pub use laws::{any_table_tells, types_are_found};
+pub use making::type_start;
+pub use repeated::repeated_params;
+pub use scoped::Scoped;
+pub use types::{InlineType, InlineTypes};
