@@ -1,0 +1,3 @@
+pub mod Predeclared
+pub mod Seeing
+pub mod Standing

@@ -1,0 +1,86 @@
+-- All that an expression is judged by at a place of a package, by what names mean where they stand.
+use Rattle.std.specs.Prelude.{◌≡◌, ℕ, List, [], Option, Some, None, map}
+use Rattle.go_term_core.specs.Terms.{Term, Sign}
+use Rattle.go_table_core.specs.Entries.{Entry, find}
+use Rattle.go_operand_core.specs.TypeRules.{TypeRules}
+use Rattle.go_decide_core.specs.Rules.{term_rules, params_of, results_of, typed}
+use Rattle.go_denote_core.specs.Look.{NameRules}
+use Rattle.go_handle_core.specs.Declarations.{Declaration}
+use Rattle.go_handle_core.specs.Names.{selection_in}
+use Rattle.go_local_core.specs.declared.Fault.{Fault as LocalFault}
+use Rattle.go_local_core.specs.Binding.{Look}
+use Rattle.go_literal_core.specs.Look.{LiteralRules}
+use Rattle.go_expr_core.specs.declared.things.Fault.{Fault}
+use Rattle.go_expr_core.specs.Looks.{Looks, WrittenRules, everywhere}
+use Rattle.go_expr_core.specs.Places.{type_start}
+use Rattle.go_inline_core.specs.Types.{InlineOf, inline_at}
+use Rattle.go_face_core.specs.Faces.{TheFace}
+use Rattle.go_names_core.specs.Scope.{look_of}
+use Rattle.go_env_core.specs.declared.here.Here.{Here}
+use Rattle.go_env_core.specs.declared.meaning.Meaning.{Meaning}
+use Rattle.go_env_core.specs.declared.meaning.Meaning.TheVariants as meanings
+use Rattle.go_env_core.specs.Scenes.{SceneModel, scene_shown}
+use Rattle.go_env_core.specs.Found.{found_of, found_exported}
+use Rattle.go_env_core.specs.Fields.{literals_in}
+
+abbrev pub TheLooks : Type 0
+TheLooks = Looks Term Sign Declaration (List ℕ)
+
+-- types that are written inside a function or in an initialiser: what stands at their first byte
+abbrev pub inline_type : List Entry → Option InlineOf → Option Term
+inline_type es None = None
+inline_type es (Some i) = typed (find es) i.term
+
+abbrev pub fault_of : LocalFault → Fault
+fault_of f = record { offset = f.offset; rule = f.rule }
+
+abbrev pub inline_faults : Option InlineOf → List Fault
+inline_faults None = []
+inline_faults (Some i) = map fault_of i.faults
+
+abbrev pub inline_rules : SceneModel → List (ℕ × InlineOf) → WrittenRules Term
+inline_rules s types = record { type_of = λ named t. inline_type s.types (inline_at types (type_start t)); faults_of = λ named t. inline_faults (inline_at types (type_start t)) }
+
+-- what names stand for where they mean this; struct types that are written out come as an argument
+abbrev pub looks_in : SceneModel → ℕ → List (Option TheFace) → WrittenRules Term → Look Meaning → TheLooks
+looks_in s file known written look = record {
+  find = λ name offset. found_of s file known name (look name offset);
+  exported = found_exported s;
+  select = selection_in s.types s.path;
+  params = params_of (find s.types);
+  results = results_of (find s.types);
+  types = term_rules s.types s.path;
+  literals = literals_in s;
+  written = written;
+}
+
+-- at a place
+
+abbrev pub here_look : Here → Look Meaning
+here_look h = look_of meanings.Outside h.names.now
+
+abbrev pub here_looks : Here → TheLooks
+here_looks h = looks_in (scene_shown h.scene.now) h.file h.known.now (inline_rules (scene_shown h.scene.now) h.inline.now) (here_look h)
+
+-- the parts of these look-ups
+abbrev pub types_at : Here → TypeRules Term
+types_at h = (here_looks h).types
+
+abbrev pub names_at : Here → NameRules Term Sign Declaration (List ℕ)
+names_at h = record {
+  find = λ name. (here_looks h).find name 0;
+  exported = (here_looks h).exported;
+  select = (here_looks h).select;
+  params = (here_looks h).params;
+  results = (here_looks h).results;
+}
+
+abbrev pub literals_at : Here → LiteralRules Term Declaration
+literals_at h = (here_looks h).literals
+
+abbrev pub written_at : Here → WrittenRules Term
+written_at h = (here_looks h).written
+
+-- together they are the look-ups of the place, since a name that is open means the same wherever it stands
+abbrev pub PartsAreLooks : Type 0
+PartsAreLooks = (h : Here) → everywhere (types_at h) (names_at h) (literals_at h) (written_at h) ≡ here_looks h

@@ -1,0 +1,263 @@
+//! The fields of struct types, as a place sees them.
+ghost use Rattle.std.specs.Prelude.{◌≡◌, ◌<◌, List, Some, length, map, not, option_map, slice_get};
+ghost use Rattle.std.specs.List.{count_by};
+ghost use Rattle.go_literal_core.specs.Fields.{named_field};
+ghost use Rattle.go_term_core.specs.Shapes.{Line, fields_in, lines_of, shape};
+ghost use Rattle.go_table_core.specs.Entries.{find, has_method, same_id};
+ghost use Rattle.go_table_core.specs.Shown.{member_shown};
+ghost use Rattle.go_embed_core.specs.Owners.{owner_in};
+ghost use Rattle.go_embed_core.specs.OwnersShown.{entry_owner};
+ghost use Rattle.go_env_core.specs.Scenes.{SceneModel, scene_shown};
+ghost use Rattle.go_env_core.specs.Fields.{fields_seen, is_visible, literals_in, owner_seen, term_seen};
+ghost use Rattle.go_env_core.specs.mirrors.Seen.{hider_shown, is_kept, listed_field, named_if, seen_shown, some_seen};
+
+use crate::scene::Scene;
+use go_handle_core::{Decl, DeclSite, TypeRef, typed};
+use go_literal_core::{LiteralField, NamedField};
+use go_path_core::ImportPath;
+use go_table_core::{DeclaredMethod, DefinedType, StructField, TypeTable};
+use go_term_core::{Field, FieldLine, TypeTerm};
+use go_text_core::is_exported;
+
+/// The fields of a struct type, as a type that lies over it has them.
+#[derive(Clone, Copy)]
+pub(crate) struct SeenFields<'p> {
+    /// The package where the struct type is written.
+    home: &'p ImportPath,
+    fields: &'p [Field],
+    lines: &'p [FieldLine],
+    /// The defined type that has them, where one of its methods may keep a field from it.
+    hider: Option<&'p DefinedType>,
+}
+
+// Whether two identifiers are the same, each with the package where it is written.
+fn is_same_id(a: &str, a_path: &ImportPath, b: &str, b_path: &ImportPath) -> bool
+    ensures { result ≡ same_id a.now a_path.now b.now b_path.now }
+{
+    go_text_core::same_id(a, a_path.as_str(), b, b_path.as_str())
+}
+
+// Whether a method of a type of a package has the identifier that is written in another.
+fn has_method(path: &ImportPath, methods: &[DeclaredMethod], name: &str, from: &ImportPath) -> bool
+    ensures { result ≡ has_method path.now (map member_shown methods.now) name.now from.now }
+{
+    for method in methods {
+        if is_same_id(method.name.as_str(), path, name, from) {
+            return true;
+        }
+    }
+    false
+}
+
+// Whether a field of a struct type is kept from the type that has its fields.
+fn is_hidden(hider: Option<&DefinedType>, name: &str, home: &ImportPath) -> bool
+    ensures { result ≡ is_kept (hider_shown hider.entry) name.now home.now }
+{
+    match hider {
+        Some(defined) => has_method(&defined.key().path, defined.methods(), name, home),
+        None => false,
+    }
+}
+
+// How many fields are not kept from the type.
+fn count_kept(hider: Option<&DefinedType>, home: &ImportPath, fields: &[Field]) -> usize
+    ensures { result ≡ count_by (λ f. not (is_kept (hider_shown hider.entry) f.name home.now)) fields.now }
+{
+    let mut count = 0;
+    for field in fields {
+        if !is_hidden(hider, field.name.as_str(), home) {
+            count += 1;
+        }
+    }
+    count
+}
+
+// The field of a number among those that are not kept from the type.
+fn kept_at<'p>(
+    hider: Option<&DefinedType>,
+    home: &ImportPath,
+    fields: &'p [Field],
+    at: usize,
+) -> Option<&'p Field>
+    ensures { (s : SceneModel) (ls : List Line) → option_map (λ f. listed_field s home.now ls f.now) result ≡ slice_get (fields_seen s (hider_shown hider.entry) home.now (fields_in ls fields.now)) at }
+{
+    let mut left = at;
+    for field in fields {
+        if !is_hidden(hider, field.name.as_str(), home) {
+            if left == 0 {
+                return Some(field);
+            }
+            left -= 1;
+        }
+    }
+    None
+}
+
+// The first field of a name that is not kept from the type.
+fn kept_named<'p>(
+    hider: Option<&DefinedType>,
+    home: &ImportPath,
+    fields: &'p [Field],
+    name: &str,
+) -> Option<&'p Field>
+    ensures { (s : SceneModel) (ls : List Line) → named_if s home.now ls result ≡ named_field (fields_seen s (hider_shown hider.entry) home.now (fields_in ls fields.now)) name.now }
+{
+    for field in fields {
+        if field.name.as_str() == name && !is_hidden(hider, field.name.as_str(), home) {
+            return Some(field);
+        }
+    }
+    None
+}
+
+// The fields of a term, where it is a struct type, as a type over it has them.
+fn term_fields<'p>(term: &'p TypeTerm, hider: Option<&'p DefinedType>) -> Option<SeenFields<'p>>
+    ensures { (s : SceneModel) → some_seen s result ≡ term_seen s (hider_shown hider.entry) (shape term.now) }
+{
+    match term {
+        TypeTerm::Struct(home, fields, lines) => Some(SeenFields {
+            home,
+            fields: fields.as_slice(),
+            lines: lines.as_slice(),
+            hider,
+        }),
+        TypeTerm::NoType
+        | TypeTerm::Basic(_)
+        | TypeTerm::Error
+        | TypeTerm::Defined(_)
+        | TypeTerm::Pointer(_)
+        | TypeTerm::Interface(_, _) => None,
+    }
+}
+
+// The fields that a defined type has.
+fn defined_fields<'p>(defined: &'p DefinedType) -> Option<SeenFields<'p>>
+    ensures { (s : SceneModel) → some_seen s result ≡ owner_seen s (entry_owner defined.now) }
+{
+    if defined.hides_fields() {
+        term_fields(defined.underlying(), Some(defined))
+    } else {
+        term_fields(defined.underlying(), None)
+    }
+}
+
+// The fields that the type of a term has.
+fn owner_fields<'p>(table: &'p TypeTable, term: &'p TypeTerm) -> Option<SeenFields<'p>>
+    ensures { (s : SceneModel) → some_seen s result ≡ owner_seen s (owner_in (find table.now) (shape term.now)) }
+{
+    match term {
+        TypeTerm::Defined(key) => match table.locate(key) {
+            Some(located) => defined_fields(located.defined),
+            None => None,
+        },
+        TypeTerm::NoType
+        | TypeTerm::Basic(_)
+        | TypeTerm::Error
+        | TypeTerm::Pointer(_)
+        | TypeTerm::Struct(_, _, _)
+        | TypeTerm::Interface(_, _) => term_fields(term, None),
+    }
+}
+
+/// The fields of a type; none of what is no struct type. It takes no memory.
+pub(crate) fn seen_fields<'p>(scene: &Scene<'p>, t: &TypeRef<'p>) -> Option<SeenFields<'p>>
+    ensures { some_seen (scene_shown scene.now) result ≡ (literals_in (scene_shown scene.now)).fields t.now }
+{
+    let parts = t.parts();
+    if parts.stars > 0 {
+        return None;
+    }
+    owner_fields(scene.types, parts.term)
+}
+
+// Whether a field that is written in a package may be named or given a value.
+fn is_visible(scene: &Scene<'_>, home: &ImportPath, name: &str) -> bool
+    ensures { result ≡ is_visible (scene_shown scene.now) home.now name.now }
+{
+    is_exported(name) || home.as_str() == scene.home.path().as_str()
+}
+
+// What is known of a field.
+fn known_field<'p>(
+    scene: &Scene<'p>,
+    seen: &SeenFields<'p>,
+    field: &'p Field,
+) -> LiteralField<TypeRef<'p>, Decl<'p>>
+    ensures { result ≡ (listed_field (scene_shown scene.now) seen.now.home.now (lines_of seen.now.lines.now) field.now).known }
+{
+    LiteralField {
+        decl: Decl::at(DeclSite::InFile(seen.home, field.place)),
+        field_type: typed(scene.types, StructField::of(field, seen.lines).term()),
+        is_visible: is_visible(scene, seen.home, field.name.as_str()),
+    }
+}
+
+/// How many fields there are. It takes constant time where no method keeps one from the type.
+pub(crate) fn field_count(seen: Option<SeenFields<'_>>) -> usize
+    ensures { (s : SceneModel) → result ≡ length (some_seen s seen.entry) }
+{
+    let Some(seen) = seen else {
+        return 0;
+    };
+    match seen.hider {
+        Some(_) => count_kept(seen.hider, seen.home, seen.fields),
+        None => seen.fields.len(),
+    }
+}
+
+// The item of a number, if there is one.
+fn item<'p>(fields: &'p [Field], at: usize) -> Option<&'p Field>
+    ensures { option_map (λ f. f.now) result ≡ slice_get fields.now at }
+{
+    fields.get(at)
+}
+
+// The field of a number. It takes constant time where no method keeps one from the type.
+fn numbered<'p>(seen: &SeenFields<'p>, at: usize) -> Option<&'p Field>
+    ensures { (s : SceneModel) → option_map (λ f. listed_field s seen.now.home.now (lines_of seen.now.lines.now) f.now) result ≡ slice_get (seen_shown s seen.now) at }
+{
+    match seen.hider {
+        Some(_) => kept_at(seen.hider, seen.home, seen.fields, at),
+        None => item(seen.fields, at),
+    }
+}
+
+/// A field, by its number from 0.
+pub(crate) fn field_at<'p>(
+    scene: &Scene<'p>,
+    seen: Option<SeenFields<'p>>,
+    at: usize,
+) -> LiteralField<TypeRef<'p>, Decl<'p>>
+    requires { at < length (some_seen (scene_shown scene.now) seen) }
+    ensures { option_map (λ f. f.known) (slice_get (some_seen (scene_shown scene.now) seen.entry) at) ≡ Some result }
+{
+    let Some(seen) = seen else {
+        unreachable!();
+    };
+    match numbered(&seen, at) {
+        Some(field) => known_field(scene, &seen, field),
+        None => unreachable!(),
+    }
+}
+
+/// The field that is spelled as a name. It takes no memory.
+pub(crate) fn field_named<'p>(
+    scene: &Scene<'p>,
+    seen: Option<SeenFields<'p>>,
+    name: &str,
+) -> NamedField<TypeRef<'p>, Decl<'p>>
+    ensures { result ≡ named_field (some_seen (scene_shown scene.now) seen.entry) name.now }
+{
+    let Some(seen) = seen else {
+        return NamedField::Missing;
+    };
+    let Some(field) = kept_named(seen.hider, seen.home, seen.fields, name) else {
+        return NamedField::Missing;
+    };
+    let known = known_field(scene, &seen, field);
+    if known.is_visible {
+        NamedField::Visible(known)
+    } else {
+        NamedField::Hidden
+    }
+}

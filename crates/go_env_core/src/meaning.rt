@@ -1,0 +1,34 @@
+//! What names mean inside a function.
+ghost use Rattle.std.specs.Prelude.{◌≡◌, IfOk};
+
+use crate::copies::value_again;
+use go_handle_core::TypeRef;
+use go_names_core::{Meant, Outside};
+use go_operand_core::Operand;
+use std::alloc::AllocError;
+
+/// What a name means at a place.
+#[derive(Drop)]
+pub enum Meaning<'p> {
+    /// What is declared outside the function.
+    Outside(Outside),
+    /// A local of the function, by the offset in bytes of its declared identifier, as an operand: none where it has no type.
+    Local(usize, Option<Operand<TypeRef<'p>>>),
+}
+
+impl<'p> Meant for Meaning<'p> {
+    ghost use Rattle.go_env_core.specs.declared.meaning.Meaning.TheVariants as meanings;
+
+    ghost outside = { λ o. meanings.Outside o };
+
+    fn of_outside(found: Outside) -> Self {
+        Meaning::Outside(found)
+    }
+
+    fn again(&self) -> Result<Self, AllocError> {
+        match self {
+            Meaning::Outside(found) => Ok(Meaning::Outside(*found)),
+            Meaning::Local(at, value) => Ok(Meaning::Local(*at, value_again(value)?)),
+        }
+    }
+}
