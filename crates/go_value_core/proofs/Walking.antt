@@ -1,0 +1,98 @@
+-- The walk over the identifiers that expressions and types need.
+use Rattle.std.proofs.Common.{◌≡◌, ℕ, ◌+◌, ◌<◌, ◌≤◌, List, [], ◌∷◌, ◌++◌, map, length, get_or, drop, refl, sym, ap, ◌∙◌, append_assoc, append-nil}
+use Rattle.std.specs.Prelude.{Option, Result, OnOk}
+use Rattle.std.specs.Global.{Box}
+use Rattle.std.proofs.lemmas.List.{drop_more, drop_all}
+use Rattle.std.proofs.lemmas.Result.{on_ok_weaker}
+use Rattle.go_text_core.specs.declared.span.Span.{Span}
+use Rattle.go_tree_nodes.specs.declared.names.Ident.{Ident}
+use Rattle.go_tree_nodes.specs.declared.names.TextLiteral.{TextLiteral}
+use Rattle.go_tree_nodes.specs.declared.types.TypeExpr.{TypeExpr}
+use Rattle.go_tree_nodes.specs.declared.types.TypeExpr.TheVariants as types
+use Rattle.go_tree_nodes.specs.declared.types.FieldLine.{FieldLine}
+use Rattle.go_tree_nodes.specs.declared.types.Fields.{Fields}
+use Rattle.go_tree_nodes.specs.declared.types.Fields.TheVariants as fields
+use Rattle.go_tree_nodes.specs.declared.types.MethodLine.{MethodLine, MethodLine', out-MethodLine, is-MethodLine'}
+use Rattle.go_tree_nodes.specs.declared.types.Signature.{Signature, out-Signature}
+use Rattle.go_tree_nodes.specs.declared.types.Results as declared_results
+use Rattle.go_tree_nodes.specs.declared.types.Results.TheVariants as results
+use Rattle.go_tree_nodes.specs.declared.types.Params.{Params, out-Params}
+use Rattle.go_tree_nodes.specs.declared.types.«Param» as declared_param
+use Rattle.go_tree_nodes.specs.declared.exprs.Expr.{Expr}
+use Rattle.go_tree_nodes.specs.declared.exprs.Expr.TheVariants as expr
+use Rattle.go_tree_nodes.specs.declared.exprs.CallExpr.{CallExpr, out-CallExpr}
+use Rattle.go_tree_nodes.specs.declared.exprs.«Item» as declared_item
+use Rattle.go_tree_nodes.specs.declared.exprs.LiteralExpr.{LiteralExpr, out-LiteralExpr}
+use Rattle.go_tree_nodes.specs.declared.exprs.StructLiteralExpr.{StructLiteralExpr, out-StructLiteralExpr}
+use Rattle.go_tree_nodes.specs.Trees.{FieldTrees}
+use Rattle.go_tree_nodes.specs.TypeShapes.{shape_type, shape_signature, shape_results, fields_before, fields_of, methods_of, params_of}
+use Rattle.go_tree_nodes.specs.Shapes.{shape, items_of}
+use Rattle.go_tree_nodes.proofs.TypeShapes.{shape_struct, shape_interface, listed_parts, signature_parts}
+use Rattle.go_tree_nodes.proofs.ShapeLemmas.{call_parts, literal_parts, struct_literal_parts}
+use Rattle.go_expr_core.specs.Laws.{type_name_idents, type_idents, fields_idents, methods_idents, signature_idents, result_idents, params_idents}
+use Rattle.go_expr_core.specs.Needed.{needed_idents, needed_by_args}
+use Rattle.go_value_core.specs.mirrors.Walked.{line_idents}
+
+-- one turn of a loop that adds what an element has
+pub step : {A X : Type 0} (whole : List A → List X) (one : A → List X) → ((x : A) (xs : List A) → whole (x ∷ xs) ≡ one x ++ whole xs)
+    → (xs : List A) (i : ℕ) (x : A) → i < length xs → x ≡ get_or xs i x → (u0 u1 : List X) → u1 ≡ u0 ++ one x → u1 ++ whole (drop (i + 1) xs) ≡ u0 ++ whole (drop i xs)
+step whole one more xs i x h is u0 u1 e =
+    let rest = drop (i + 1) xs in
+    ap (λ l. l ++ whole rest) e ∙ (append_assoc u0 (one x) (whole rest)
+    ∙ ap (λ l. u0 ++ l) (sym (more x rest) ∙ ap whole (ap (λ y. y ∷ rest) is ∙ sym (drop_more xs i x h))))
+
+-- a loop that is at its end
+pub ended : {A X : Type 0} (whole : List A → List X) → whole [] ≡ [] → (xs : List A) (i : ℕ) → length xs ≤ i → (u0 u1 : List X) → u1 ++ whole (drop i xs) ≡ u0 ++ whole xs → u1 ≡ u0 ++ whole xs
+ended whole none xs i h u0 u1 e = sym (append-nil u1) ∙ (ap (λ l. u1 ++ l) (sym none ∙ ap whole (sym (drop_all i xs h))) ∙ e)
+
+pub adds : {T E A : Type 0} (r : Result T E) (u1 u0 xs ys : List A) → xs ≡ ys → OnOk r (u1 ≡ u0 ++ xs) → OnOk r (u1 ≡ u0 ++ ys)
+adds r u1 u0 xs ys q h = on_ok_weaker r (λ e. e ∙ ap (λ l. u0 ++ l) q) h
+
+-- two pieces that are added in turn
+pub both : {T E A : Type 0} (r : Result T E) (u0 u1 u2 xs ys zs : List A) → u1 ≡ u0 ++ xs → xs ++ ys ≡ zs → OnOk r (u2 ≡ u1 ++ ys) → OnOk r (u2 ≡ u0 ++ zs)
+both r u0 u1 u2 xs ys zs first q h = on_ok_weaker r (λ e. e ∙ (ap (λ l. l ++ ys) first ∙ (append_assoc u0 xs ys ∙ ap (λ l. u0 ++ l) q))) h
+
+-- types
+
+before : (f : Fields) (tag : Option TextLiteral) (s : Option Span) (rest : FieldTrees) → fields_idents (fields_before f tag s rest) ≡ line_idents f ++ fields_idents rest
+before (fields.Named xs t) tag s rest = refl
+before (fields.Embedded star n) tag s rest = refl
+
+pub lines_more : (l : FieldLine) (ls : List FieldLine) → fields_idents (fields_of (l ∷ ls)) ≡ line_idents l.fields ++ fields_idents (fields_of ls)
+lines_more l ls = before l.fields l.tag l.semicolon (fields_of ls)
+
+abbrev method_idents : MethodLine → List Ident
+method_idents (MethodLine' x signature s) = signature_idents (shape_signature signature)
+
+method_more : (m : MethodLine) (ms : List MethodLine) → methods_idents (methods_of (m ∷ ms)) ≡ method_idents m ++ methods_idents (methods_of ms)
+method_more (MethodLine' x signature s) ms = refl
+
+pub methods_more : (m : MethodLine) (ms : List MethodLine) → methods_idents (methods_of (m ∷ ms)) ≡ signature_idents (shape_signature (out-MethodLine m).signature) ++ methods_idents (methods_of ms)
+methods_more m ms = method_more m ms ∙ ap (λ l. l ++ methods_idents (methods_of ms)) (ap method_idents (is-MethodLine' m))
+
+pub params_more : (p : declared_param.Param) (ps : List declared_param.Param) → params_idents (params_of (p ∷ ps)) ≡ type_idents (shape_type p.type_expr) ++ params_idents (params_of ps)
+params_more p ps = refl
+
+pub signature_has : (s : Signature) → signature_idents (shape_signature s) ≡ params_idents (params_of (out-Params (out-Signature s).params).entries.items) ++ result_idents (shape_results (out-Signature s).results)
+signature_has s = ap signature_idents (signature_parts s)
+
+pub listed_has : (r : declared_results.Results) (p : Params) → r ≡ results.Listed p → result_idents (shape_results r) ≡ params_idents (params_of (out-Params p).entries.items)
+listed_has r p is = ap (λ r. result_idents (shape_results r)) is ∙ ap result_idents (listed_parts p)
+
+-- expressions
+
+pub args_more : (x : declared_item.Item) (xs : List declared_item.Item) → needed_by_args (items_of (x ∷ xs)) ≡ needed_idents (shape x.value) ++ needed_by_args (items_of xs)
+args_more x xs = refl
+
+pub call_has : (e : Expr) (c : Box CallExpr) (c1 c2 : CallExpr) → e ≡ expr.Call c → c1 ≡ c.value → c2 ≡ c.value
+    → needed_idents (shape (out-CallExpr c1).callee) ++ needed_by_args (items_of (out-CallExpr c2).args.items) ≡ needed_idents (shape e)
+call_has e c c1 c2 is d1 d2 =
+    ap (λ x. needed_idents (shape (out-CallExpr x).callee) ++ needed_by_args (items_of (out-CallExpr c2).args.items)) d1
+    ∙ (ap (λ x. needed_idents (shape (out-CallExpr c.value).callee) ++ needed_by_args (items_of (out-CallExpr x).args.items)) d2
+    ∙ sym (ap needed_idents (ap shape is ∙ call_parts c.value)))
+
+pub literal_has : (e : Expr) (c : Box LiteralExpr) (c1 : LiteralExpr) → e ≡ expr.Literal c → c1 ≡ c.value → type_name_idents (out-LiteralExpr c1).type_name ≡ needed_idents (shape e)
+literal_has e c c1 is d1 = ap (λ x. type_name_idents (out-LiteralExpr x).type_name) d1 ∙ sym (ap needed_idents (ap shape is ∙ literal_parts c.value))
+
+pub struct_has : (e : Expr) (c : Box StructLiteralExpr) (c1 : StructLiteralExpr) → e ≡ expr.StructLiteral c → c1 ≡ c.value → type_idents (shape_type (out-StructLiteralExpr c1).type_expr) ≡ needed_idents (shape e)
+struct_has e c c1 is d1 = ap (λ x. type_idents (shape_type (out-StructLiteralExpr x).type_expr)) d1 ∙ sym (ap needed_idents (ap shape is ∙ struct_literal_parts c.value))

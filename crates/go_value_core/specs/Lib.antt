@@ -1,0 +1,6 @@
+pub mod Around
+pub mod Initial
+pub mod Laws
+pub mod Package
+pub mod Sample
+pub mod mirrors

@@ -1,0 +1,5 @@
+-- Definitions that follow the code step by step, for its proof. No statement that a caller rests on needs them.
+pub mod Flags
+pub mod Kept
+pub mod Own
+pub mod Walked
