@@ -1,0 +1,382 @@
+package main
+
+import (
+	"bufio"
+	"fmt"
+	"os"
+	"path"
+	"sort"
+	"strconv"
+	"strings"
+)
+
+// An answer is what govisd_check says of a workspace.
+type answer struct {
+	uses     map[place]use
+	refused  map[place][]string // the rules of outcomes and faults
+	paths    map[place]string
+	consts   map[place]string
+	packages map[string]string
+}
+
+// readAnswers reads the answers to archives, in order.
+func readAnswers(name string) (map[string]*answer, error) {
+	file, err := os.Open(name)
+	if err != nil {
+		return nil, err
+	}
+	defer file.Close()
+	all := map[string]*answer{}
+	var one *answer
+	from, at := "", ""
+	lines := bufio.NewScanner(file)
+	lines.Buffer(make([]byte, 1<<20), 1<<26)
+	for lines.Scan() {
+		words := strings.SplitN(lines.Text(), " ", 3)
+		switch {
+		case words[0] == "==":
+			one = &answer{map[place]use{}, map[place][]string{}, map[place]string{}, map[place]string{}, map[string]string{}}
+			all[lines.Text()[3:]] = one
+		case words[0] == "package" && len(words) > 2:
+			from = words[1]
+			one.packages[from] = words[2]
+		case words[0] == "file":
+			at = from + "/" + words[1]
+		case len(words) == 3 && one != nil:
+			one.add(at, words[0], words[1], words[2])
+		default:
+			return nil, fmt.Errorf("no line of an answer: %q", lines.Text())
+		}
+	}
+	return all, lines.Err()
+}
+
+// add notes a line on a file.
+func (a *answer) add(file, first, second, rest string) {
+	switch first {
+	case "path":
+		a.paths[place{file, int(number(second))}] = rest
+	case "const":
+		a.consts[place{file, int(number(second))}] = rest
+	case "fault":
+		at := place{file, int(number(second))}
+		a.refused[at] = append(a.refused[at], rest)
+	default:
+		at := place{file, int(number(first))}
+		cut := strings.LastIndex(rest, " ")
+		spelling, decl := rest[:cut], rest[cut+1:]
+		if strings.HasSuffix(spelling, " package") {
+			spelling, decl = strings.TrimSuffix(spelling, " package"), "package "+decl
+		}
+		if isRule(decl) {
+			a.refused[at] = append(a.refused[at], decl)
+			return
+		}
+		a.uses[at] = use{spelling, decl}
+	}
+}
+
+// isRule tells whether an outcome is a rule.
+func isRule(word string) bool {
+	return len(word) >= 2 && len(word) <= 3 && word[0] >= 'A' && word[0] <= 'Z' && word[1] >= '0' && word[1] <= '9'
+}
+
+// onlyRefusals is set where the answers tell no more than what is refused.
+var onlyRefusals bool
+
+// A tally counts what agrees and what differs.
+type tally struct {
+	counts map[string]int
+	first  map[string]string
+	differ int
+}
+
+func (t *tally) add(what string) { t.counts[what]++ }
+
+// note notes a difference.
+func (t *tally) note(what, where string) {
+	t.differ++
+	t.counts["differ: "+what]++
+	if t.first["differ: "+what] == "" {
+		t.first["differ: "+what] = where
+	}
+}
+
+// named notes a difference that is on purpose.
+func (t *tally) named(what, where string) {
+	t.counts["on purpose: "+what]++
+	if t.first["on purpose: "+what] == "" {
+		t.first["on purpose: "+what] = where
+	}
+}
+
+// compareAll compares the answers to archives.
+func compareAll(answers string, files []string, show int) int {
+	all, err := readAnswers(answers)
+	if err != nil {
+		fail(err)
+	}
+	t := &tally{map[string]int{}, map[string]string{}, 0}
+	for _, file := range files {
+		text, err := os.ReadFile(file)
+		if err != nil {
+			fail(err)
+		}
+		if all[file] == nil {
+			fail(fmt.Errorf("no answer to %s", file))
+		}
+		t.compare(file, judge(string(text)), all[file])
+	}
+	t.write(show)
+	if t.differ > 0 {
+		return 1
+	}
+	return 0
+}
+
+// write writes the counts, and of each difference the first place.
+func (t *tally) write(show int) {
+	var names []string
+	for name := range t.counts {
+		names = append(names, name)
+	}
+	sort.Strings(names)
+	for _, name := range names {
+		line := fmt.Sprintf("%s: %d", name, t.counts[name])
+		if t.first[name] != "" && show > 0 {
+			line += " (" + t.first[name] + ")"
+		}
+		fmt.Println(line)
+	}
+	fmt.Printf("%d differ\n", t.differ)
+}
+
+// isSoft tells whether an error is none here: of variables and imports that are not used.
+func isSoft(odd oddity) bool { return odd.code == "UnusedVar" || odd.code == "UnusedImport" }
+
+// hard gives the first error of a package that is one here.
+func hard(errors []oddity) *oddity {
+	for i := range errors {
+		if !isSoft(errors[i]) {
+			return &errors[i]
+		}
+	}
+	return nil
+}
+
+// compare compares the answer to an archive, package by package.
+func (t *tally) compare(file string, j *judgement, a *answer) {
+	t.add("archives")
+	for _, from := range j.order {
+		t.add("packages")
+		first := hard(j.errors[from])
+		inPackage := func(at place) bool { return path.Dir(at.file) == from }
+		where := func(at place) string { return file + " " + at.String() }
+		if a.packages[from] == "" {
+			t.note("no answer to a package", file+" "+from)
+			continue
+		}
+		if !strings.HasPrefix(j.form, "changed:") {
+			t.compareFaults(j, a, inPackage, where)
+		} else if first == nil {
+			t.compareOwn(a, inPackage, where)
+		}
+		if !onlyRefusals {
+			t.compareNames(j, a, first == nil, inPackage, where)
+		}
+		if first == nil {
+			t.add("packages that go/types accepts")
+			if !onlyRefusals {
+				t.compareValues(j, a, inPackage, where)
+			}
+		} else {
+			t.add("packages that go/types refuses")
+			t.compareFirst(j, first, a, inPackage, file)
+			t.compareAll(j.errors[from], a, inPackage)
+		}
+	}
+}
+
+// compareFaults compares what is refused with the faults that were put in.
+func (t *tally) compareFaults(j *judgement, a *answer, inPackage func(place) bool, where func(place) string) {
+	rule := strings.SplitN(j.form, ":", 2)[0]
+	for at, rules := range j.put {
+		for _, put := range rules {
+			if inPackage(at) && !has(a.refused[at], put) {
+				t.note(fmt.Sprintf("put in, and not answered: %s (%s)", put, j.form), where(at))
+			} else if inPackage(at) {
+				t.add("put in and answered: " + put)
+			}
+		}
+	}
+	for at, rules := range a.refused {
+		for _, given := range rules {
+			if inPackage(at) && !has(j.put[at], given) {
+				t.note(fmt.Sprintf("answered, and not put in: %s (put in %s)", given, rule), where(at))
+			}
+		}
+	}
+}
+
+// compareOwn tells which rules refuse a changed package that go/types accepts.
+func (t *tally) compareOwn(a *answer, inPackage func(place) bool, where func(place) string) {
+	var rules []string
+	at := place{}
+	for one, given := range a.refused {
+		if inPackage(one) {
+			rules = append(rules, given...)
+			at = one
+		}
+	}
+	sort.Strings(rules)
+	switch {
+	case len(rules) == 0:
+	case has(rules, "X1") || has(rules, "N7") || has(rules, "C3"):
+		t.named("a changed package that go/types accepts is refused by "+strings.Join(rules, " "), where(at))
+	default:
+		t.note("a changed package that go/types accepts is refused by "+strings.Join(rules, " "), where(at))
+	}
+}
+
+func has(words []string, word string) bool {
+	for _, w := range words {
+		if w == word {
+			return true
+		}
+	}
+	return false
+}
+
+// compareNames compares what identifiers and calls denote.
+func (t *tally) compareNames(j *judgement, a *answer, isAccepted bool, inPackage func(place) bool, where func(place) string) {
+	for at, told := range j.uses {
+		if !inPackage(at) {
+			continue
+		}
+		own, ok := a.uses[at]
+		switch {
+		case ok && own == told:
+			t.add("names that agree")
+		case ok:
+			t.note("a name denotes something else: "+kindOfDecl(told.decl)+" by go/types, "+kindOfDecl(own.decl)+" by govisd", where(at)+" "+told.decl+" "+own.decl)
+		case len(a.refused[at]) > 0:
+			t.add("names that go/types alone resolves, refused by " + strings.Join(a.refused[at], " "))
+		case isAccepted:
+			t.note("a name has no answer", where(at)+" "+told.spelling)
+		default:
+			t.add("names that go/types alone resolves in a refused package")
+		}
+	}
+	for at, own := range a.uses {
+		if _, ok := j.uses[at]; ok || !inPackage(at) {
+			continue
+		}
+		if isAccepted {
+			t.note("go/types has no declaration for a name", where(at)+" "+own.spelling+" "+own.decl)
+		} else {
+			t.add("names that govisd alone resolves in a refused package")
+		}
+	}
+}
+
+// kindOfDecl tells where a declaration is.
+func kindOfDecl(decl string) string {
+	switch {
+	case strings.HasPrefix(decl, "universe."):
+		return decl
+	case strings.HasPrefix(decl, "package "):
+		return "a package"
+	}
+	return "a declaration"
+}
+
+// compareValues compares the paths of selectors and the values of constants.
+func (t *tally) compareValues(j *judgement, a *answer, inPackage func(place) bool, where func(place) string) {
+	for at, told := range j.paths {
+		if !inPackage(at) || len(a.refused[at]) > 0 {
+			continue
+		}
+		switch own, ok := a.paths[at]; {
+		case !ok:
+			t.note("a selector has no path", where(at))
+		case own != told:
+			t.note("a selector has another path", where(at)+" "+told+" "+own)
+		default:
+			t.add("selectors with the same path")
+			if told != "[]" {
+				t.add("of these through embedded fields")
+			}
+		}
+	}
+	for at := range a.paths {
+		if _, ok := j.paths[at]; !ok && inPackage(at) {
+			t.note("go/types has no path for a selector", where(at))
+		}
+	}
+	for at, told := range j.consts {
+		if !inPackage(at) {
+			continue
+		}
+		switch own, ok := a.consts[at]; {
+		case ok && own == told:
+			t.add("constants of the same value")
+		case ok:
+			t.note("a constant has another value", where(at)+" "+told+" "+own)
+		case j.outer[at]:
+			t.note("a constant has no value", where(at))
+		default:
+			t.add("constants of functions and initialisers that govisd_check does not show")
+		}
+	}
+	for at := range a.consts {
+		if _, ok := j.consts[at]; !ok && inPackage(at) {
+			t.note("go/types has no value for a constant", where(at))
+		}
+	}
+}
+
+// compareAll counts the errors of a package where a fault of ours stands, and the others.
+func (t *tally) compareAll(errors []oddity, a *answer, inPackage func(place) bool) {
+	for i := range errors {
+		if isSoft(errors[i]) {
+			continue
+		}
+		isFound := false
+		for _, form := range table[errors[i].code] {
+			if _, ok := form.matches(&errors[i], a, inPackage); ok {
+				isFound = true
+			}
+		}
+		if isFound {
+			t.add("errors of go/types, the first and others, where a fault stands")
+		} else {
+			t.add("errors of go/types where no fault stands")
+		}
+	}
+}
+
+// compareFirst finds a fault of ours where the first error of go/types stands.
+func (t *tally) compareFirst(j *judgement, first *oddity, a *answer, inPackage func(place) bool, file string) {
+	rules := table[first.code]
+	for _, form := range rules {
+		if _, ok := form.matches(first, a, inPackage); ok {
+			t.add("first errors where a fault stands: " + first.code + " " + form.rule)
+			return
+		}
+	}
+	// what X1 and N7 refuse go/types takes, and goes on to what it is given to
+	for _, rule := range []string{"X1", "N7"} {
+		if at, ok := (form{rule, "near"}).matches(first, a, inPackage); ok {
+			t.named("an error of go/types about what "+rule+" refuses: "+first.code, file+" "+at.String())
+			return
+		}
+	}
+	var near []string
+	for at, given := range a.refused {
+		if inPackage(at) {
+			near = append(near, strconv.Itoa(at.offset)+strings.Join(given, ","))
+		}
+	}
+	sort.Strings(near)
+	t.note(fmt.Sprintf("no fault where go/types has %s (%s)", first.code, j.form), fmt.Sprintf("%s %s %s %v", file, first.at, first.text, near))
+}
