@@ -1,0 +1,48 @@
+//! What the declarations of a package are.
+ghost use Rattle.std.specs.Prelude.{◌≡◌, IfOk, length, map};
+ghost use Rattle.go_entry_core.specs.Outlines.{outline_shown};
+ghost use Rattle.go_needs_core.specs.Needs.{AreValues};
+ghost use Rattle.go_face_core.specs.Faces.{TheFace};
+ghost use Rattle.go_env_core.specs.Scenes.{scene_shown};
+ghost use Rattle.go_value_core.specs.Package.{declared_face, package_needs, placed_decls};
+
+use crate::stage::Stage;
+use go_decl_core::Outline;
+use go_env_core::Scene;
+use go_face_core::Face;
+use go_handle_core::{SignatureRef, TypeRef};
+use go_inline_core::InlineTypes;
+use go_needs_core::values_of;
+use go_value_core::{package_needs, placed_decls};
+use std::alloc::{AllocError, Global};
+
+/// What the declarations of a package outside functions are, by their places in `scene.written`: a constant, and a variable without a
+/// written type, is what its initialiser makes it, and all others are as they are written. None for a declaration whose needs lead back to
+/// themselves.
+///
+/// `outlines` has an outline for each file of the package in order of name, and `inlines` the types that are written in the initialisers of
+/// each. Each initialiser is checked once for each name that it is the expression of, and names are looked up once.
+///
+/// The Go specification, "Constant declarations", "Variable declarations", "Package initialization".
+///
+/// # Errors
+///
+/// `AllocError` where memory is wanting.
+pub fn package_values<'p>(
+    alloc: Global,
+    scene: &Scene<'p>,
+    inlines: &'p [InlineTypes],
+    outlines: &[Outline<'p>],
+) -> Result<Vec<Option<Face<TypeRef<'p>, SignatureRef<'p>>>>, AllocError>
+    requires files { length inlines.now ≡ length outlines.now }
+    requires written { length (scene_shown scene.now).written ≡ length (placed_decls inlines.now (map outline_shown outlines.now)) }
+    ensures { IfOk result (λ table. AreValues TheFace (package_needs (scene_shown scene.now) (placed_decls inlines.now (map outline_shown outlines.now))) (declared_face (scene_shown scene.now) (placed_decls inlines.now (map outline_shown outlines.now))) table.items) }
+{
+    let decls = placed_decls(alloc, inlines, outlines)?;
+    let needs = package_needs(alloc, scene, &decls)?;
+    let stage = Stage {
+        scene,
+        decls: &decls,
+    };
+    values_of(alloc, &stage, &needs)
+}

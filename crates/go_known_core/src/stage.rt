@@ -1,0 +1,152 @@
+//! What each declaration of a package is, by those that it needs.
+ghost use Rattle.std.specs.Prelude.{◌≡◌, [], IfOk, map};
+ghost use Rattle.go_decl_core.specs.Shown.{form_shown};
+ghost use Rattle.go_tree_nodes.specs.Shapes.{shape_value_spec};
+ghost use Rattle.go_needs_core.specs.Needs.{known_in};
+ghost use Rattle.go_scope_core.specs.Models.{scopes_model};
+ghost use Rattle.go_face_core.specs.declared.face.Face.TheVariants as faces;
+ghost use Rattle.go_face_core.specs.Written.{written_at};
+ghost use Rattle.go_env_core.specs.Scenes.{scene_shown};
+ghost use Rattle.go_value_core.specs.Initial as initial;
+ghost use Rattle.go_value_core.specs.Package as package_values;
+
+use go_decl_core::DeclForm;
+use go_env_core::{Meaning, Scene, stand};
+use go_face_core::Face;
+use go_handle_core::{SignatureRef, TypeRef};
+use go_names_core::OpenNames;
+use go_needs_core::Needing;
+use go_operand_core::Operand;
+use go_scope_core::Scopes;
+use go_tree_nodes::{ValueKind, ValueSpec};
+use go_value_core::{PlacedDecl, initial_value};
+use std::alloc::{AllocError, Global};
+
+/// What is known of a package, and its declarations.
+#[derive(Clone, Copy)]
+pub(crate) struct Stage<'n, 'p> {
+    pub scene: &'n Scene<'p>,
+    pub decls: &'n [PlacedDecl<'p>],
+}
+
+// What is written of the declaration of a position.
+fn written_face<'p>(scene: &Scene<'p>, at: usize) -> Face<TypeRef<'p>, SignatureRef<'p>>
+    ensures { result ≡ package_values.written_face (written_at (scene_shown scene.now).written at) }
+{
+    match scene.written.face(at) {
+        None => Face::Value(None),
+        Some(face) => face,
+    }
+}
+
+// The names outside all functions, by the blocks of a file.
+fn outer_names<'s, 'p: 's>(scene: &Scene<'p>, scopes: &'s Scopes<'s>) -> OpenNames<'s, Meaning<'p>>
+    ensures scopes { result.scopes.now ≡ scopes.now }
+    ensures locals { result.locals.now ≡ [] }
+{
+    OpenNames::at_top(scopes)
+}
+
+// What the name of a number of a specification stands for, where names mean what they mean at the top of its file.
+fn place_value<'p>(
+    alloc: Global,
+    scene: &Scene<'p>,
+    placed: &PlacedDecl<'p>,
+    known: &[Option<Face<TypeRef<'p>, SignatureRef<'p>>>],
+    names: &OpenNames<Meaning<'p>>,
+    kind: ValueKind,
+    spec: &ValueSpec,
+    at: usize,
+) -> Result<Option<Operand<TypeRef<'p>>>, AllocError>
+    requires scopes { names.now.scopes.now ≡ scopes_model (scene_shown scene.now).blocks placed.now.file [] }
+    requires locals { names.now.locals.now ≡ [] }
+    ensures { IfOk result (λ o. o ≡ initial.initial (package_values.top_looks (scene_shown scene.now) placed.now.file placed.now.types.now (known_in known.now)) kind (shape_value_spec spec.now) at) }
+{
+    let here = stand(scene, placed.file, placed.types, known, names);
+    initial_value(&here, alloc, kind, spec, at)
+}
+
+// What the name of a number of a specification is, by its initialiser.
+fn initial_face<'p>(
+    alloc: Global,
+    scene: &Scene<'p>,
+    placed: &PlacedDecl<'p>,
+    known: &[Option<Face<TypeRef<'p>, SignatureRef<'p>>>],
+    kind: ValueKind,
+    spec: &ValueSpec,
+    at: usize,
+) -> Result<Face<TypeRef<'p>, SignatureRef<'p>>, AllocError>
+    ensures { IfOk result (λ f. f ≡ faces.«Value» (initial.initial (package_values.top_looks (scene_shown scene.now) placed.now.file placed.now.types.now (known_in known.now)) kind (shape_value_spec spec.now) at)) }
+{
+    let scopes = Scopes::begin(alloc, scene.blocks, placed.file);
+    let names = outer_names(scene, &scopes);
+    Ok(Face::Value(place_value(alloc, scene, placed, known, &names, kind, spec, at)?))
+}
+
+// What a constant or a variable is: a variable with a written type is as it is written.
+fn value_face<'p>(
+    alloc: Global,
+    scene: &Scene<'p>,
+    placed: &PlacedDecl<'p>,
+    known: &[Option<Face<TypeRef<'p>, SignatureRef<'p>>>],
+    node: usize,
+    kind: ValueKind,
+    spec: &ValueSpec,
+    at: usize,
+) -> Result<Face<TypeRef<'p>, SignatureRef<'p>>, AllocError>
+    ensures { IfOk result (λ f. f ≡ package_values.value_face (package_values.top_looks (scene_shown scene.now) placed.now.file placed.now.types.now (known_in known.now)) (written_at (scene_shown scene.now).written node) kind (shape_value_spec spec.now).type_expr (shape_value_spec spec.now) at) }
+{
+    match kind {
+        ValueKind::Const => initial_face(alloc, scene, placed, known, kind, spec, at),
+        ValueKind::Var => match &spec.type_expr {
+            None => initial_face(alloc, scene, placed, known, kind, spec, at),
+            Some(_) => Ok(written_face(scene, node)),
+        },
+    }
+}
+
+// What a declaration is.
+fn form_face<'p>(
+    alloc: Global,
+    scene: &Scene<'p>,
+    placed: &PlacedDecl<'p>,
+    known: &[Option<Face<TypeRef<'p>, SignatureRef<'p>>>],
+    node: usize,
+) -> Result<Face<TypeRef<'p>, SignatureRef<'p>>, AllocError>
+    ensures { IfOk result (λ f. f ≡ package_values.form_face (package_values.top_looks (scene_shown scene.now) placed.now.file placed.now.types.now (known_in known.now)) (written_at (scene_shown scene.now).written node) (form_shown placed.now.decl.form)) }
+{
+    match placed.decl.form {
+        DeclForm::Value(kind, spec, at) => {
+            value_face(alloc, scene, placed, known, node, kind, spec, at)
+        }
+        DeclForm::Type(_) => Ok(written_face(scene, node)),
+        DeclForm::Func(_) => Ok(written_face(scene, node)),
+    }
+}
+
+impl<'n, 'p> Needing for Stage<'n, 'p> {
+    ghost use Rattle.std.specs.Prelude.{map};
+    ghost use Rattle.go_env_core.specs.Scenes.{scene_shown};
+    ghost use Rattle.go_value_core.specs.Package.{declared_face, package_needs, placed_shown};
+    ghost use Rattle.go_value_core.proofs.Seeing.{looks_at_needs};
+
+    type Value = Face<TypeRef<'p>, SignatureRef<'p>>;
+
+    ghost rows = { λ s. package_needs (scene_shown s.scene.now) (map placed_shown s.decls.now) };
+
+    ghost value = { λ s. declared_face (scene_shown s.scene.now) (map placed_shown s.decls.now) };
+
+    ghost at_needs = { λ s. looks_at_needs (scene_shown s.scene.now) (map placed_shown s.decls.now) };
+
+    fn value_of(
+        &self,
+        alloc: Global,
+        known: &[Option<Face<TypeRef<'p>, SignatureRef<'p>>>],
+        node: usize,
+    ) -> Result<Face<TypeRef<'p>, SignatureRef<'p>>, AllocError> {
+        match self.decls.get(node) {
+            None => Ok(written_face(self.scene, node)),
+            Some(placed) => form_face(alloc, self.scene, placed, known, node),
+        }
+    }
+}
