@@ -1,0 +1,10 @@
+pub mod Agreement
+pub mod Bodies
+pub mod Ending
+pub mod Gathering
+pub mod Listed
+pub mod Meaning
+pub mod Places
+pub mod Standing
+pub mod Walks
+pub mod WellFormed

@@ -1,0 +1,9 @@
+pub mod Agreement
+pub mod Body
+pub mod Ends
+pub mod Laws
+pub mod Notes
+pub mod Pieces
+pub mod Rules
+pub mod WellFormed
+pub mod mirrors

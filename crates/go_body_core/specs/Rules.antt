@@ -1,0 +1,57 @@
+-- The rules by which the pieces of a function of a package are checked.
+--
+-- docs/RULES.md, "Bodies of functions". The Go specification, "Declarations and scope", "Statements", "Function declarations".
+use Rattle.std.specs.Prelude.{ℕ, zero, suc, Bool, List, [], ◌∷◌, Option, Some, None}
+use Rattle.go_tree_nodes.specs.Trees.{FuncTree}
+use Rattle.go_operand_core.specs.declared.types.Operand.{Operand}
+use Rattle.go_term_core.specs.Terms.{Term}
+use Rattle.go_tree_nodes.specs.declared.names.Ident.{Ident}
+use Rattle.go_local_core.specs.Law.{Rules}
+use Rattle.go_names_core.specs.Scope.{beyond_in}
+use Rattle.go_names_core.specs.Uses.{place_of}
+use Rattle.go_expr_core.specs.Looks.{WrittenRules}
+use Rattle.go_piece_core.specs.Pieces.{piece_uses, piece_faults, piece_values, piece_names}
+use Rattle.go_piece_core.specs.Headers.{returned_types, returned_names}
+use Rattle.go_face_core.specs.Faces.{TheFace}
+use Rattle.go_env_core.specs.declared.meaning.Meaning.{Meaning}
+use Rattle.go_env_core.specs.declared.meaning.Meaning.TheVariants as meanings
+use Rattle.go_env_core.specs.Scenes.{SceneModel, scene_shown}
+use Rattle.go_env_core.specs.Looks.{TheLooks, looks_in, inline_rules}
+use Rattle.go_body_core.specs.declared.pieces.Pieces.{Pieces}
+use Rattle.go_body_core.specs.Notes.{NoteOf, note}
+
+-- the n-th of some values
+abbrev pub value_at : List (Option (Operand Term)) → ℕ → Option (Operand Term)
+value_at [] n = None
+value_at (v ∷ vs) zero = v
+value_at (v ∷ vs) (suc n) = value_at vs n
+
+-- some names as locals, each by the offset of its identifier, which stand for these values in order
+abbrev pub locals_of : List Ident → List (Option (Operand Term)) → List Meaning
+locals_of [] vs = []
+locals_of (x ∷ xs) [] = meanings.Local x.span.start None ∷ locals_of xs []
+locals_of (x ∷ xs) (v ∷ vs) = meanings.Local x.span.start v ∷ locals_of xs vs
+
+-- in a file of a package, by its scene, the file's number, what is known of the package's own declarations, what stands for types that are
+-- written inside the function, the types of the function's results, and whether these have names: of a piece its uses and its faults are
+-- noted, and a name that it declares is a local, by the offset of its identifier, which stands for its value
+abbrev pub body_rules : SceneModel → ℕ → List (Option TheFace) → WrittenRules Term → List (Option Term) → Bool → Rules Meaning NoteOf
+body_rules s file known written results has_names = record {
+  notes = λ look firsts p. note (piece_uses (looks_in s file known written look) p) (piece_faults (looks_in s file known written look) results has_names firsts p) ∷ [];
+  means = λ look firsts p n. meanings.Local (place_of (piece_names p) n) (value_at (piece_values (looks_in s file known written look) firsts p) n);
+}
+
+-- what names mean outside the functions of a file
+abbrev pub outside_in : SceneModel → ℕ → List ℕ → Option Meaning
+outside_in s file = beyond_in meanings.Outside s.blocks file
+
+abbrev pub top_looks : SceneModel → ℕ → List (Option TheFace) → WrittenRules Term → TheLooks
+top_looks s file known written = looks_in s file known written (λ name place. outside_in s file name)
+
+-- the rules of a function: its results are those of its header, whose types are written outside it
+abbrev pub func_rules : SceneModel → ℕ → List (Option TheFace) → WrittenRules Term → FuncTree → Rules Meaning NoteOf
+func_rules s file known written f = body_rules s file known written (returned_types (top_looks s file known written) f.signature) (returned_names f.signature)
+
+-- those of the checker of pieces
+abbrev pub rules_of : Pieces → Rules Meaning NoteOf
+rules_of a = body_rules (scene_shown a.scene.now) a.file a.known.now (inline_rules (scene_shown a.scene.now) a.inline.now) a.results.now a.has_names
