@@ -3,8 +3,8 @@ ghost use Rattle.std.specs.Prelude.{◌≡◌, IfOk, map};
 ghost use Rattle.go_body_core.specs.Rules.{locals_of};
 
 use go_env_core::Meaning;
-use go_handle_core::TypeRef;
-use go_operand_core::Operand;
+use go_env_core::handle_core::TypeRef;
+use go_piece_core::operand_core::Operand;
 use go_tree_nodes::Ident;
 use std::alloc::{AllocError, Global};
 

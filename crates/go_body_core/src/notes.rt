@@ -3,11 +3,11 @@ ghost use Rattle.std.specs.Prelude.{◌≡◌, [], ◌∷◌, ◌++◌, IfOk, On
 ghost use Rattle.go_env_core.specs.Looks.{fault_of};
 ghost use Rattle.go_body_core.specs.Notes.{note, all_uses, all_faults};
 
-use go_expr_core::{Fault, Notes, Use};
-use go_handle_core::Decl;
-use go_local_core::Fault as LocalFault;
-use go_select_core::EmbedPath;
-use go_text_core::add;
+use go_env_core::handle_core::Decl;
+use go_env_core::select_core::EmbedPath;
+use go_piece_core::expr_core::{Fault, Notes, Use};
+use go_piece_core::local_core::Fault as LocalFault;
+use go_piece_core::text_core::add;
 use std::alloc::{AllocError, Global};
 use std::marker::Model;
 

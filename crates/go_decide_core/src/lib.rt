@@ -12,3 +12,14 @@ pub use laws::{
     implementation_is_decided, rules_are_decided, selections_are_decided, selectors_are_decided,
     worked_members, worked_types,
 };
+
+// Passed on, so that the crates above list this one alone.
+pub use go_decl_core as decl_core;
+pub use go_denote_core as denote_core;
+pub use go_embed_core as embed_core;
+pub use go_mset_core as mset_core;
+pub use go_operand_core as operand_core;
+pub use go_select_core as select_core;
+pub use go_table_core as table_core;
+pub use go_term_core as term_core;
+pub use go_text_core as text_core;

@@ -1,22 +1,20 @@
 -- The fields of a struct type that no method keeps from a type, one by one.
-use Rattle.std.proofs.Common.{◌≡◌, ℕ, zero, suc, ◌+◌, ◌-◌, ◌<◌, ◌≤◌, Bool, true, false, not, ◌||◌, List, [], ◌∷◌, length, drop, get_or, Option, Some, None, if◌then◌else◌, refl, sym, ap, ◌∙◌, arith}
+use Rattle.std.proofs.Common.{◌≡◌, ℕ, zero, suc, ◌+◌, ◌-◌, ◌<◌, ◌≤◌, Bool, true, false, not, ◌||◌, List, [], ◌∷◌, ◌++◌, map, length, drop, get_or, Option, Some, None, if◌then◌else◌, refl, sym, ap, ◌∙◌, arith}
 use Rattle.std.specs.Prelude.{slice_get, option_map, cond}
 use Rattle.std.specs.List.{count_by}
 use Rattle.std.specs.Borrow.{Bor}
-use Rattle.std.specs.Str.{bytes_eq}
 use Rattle.std.proofs.lemmas.Bool.{true≢false}
 use Rattle.std.proofs.lemmas.List.{drop_more, drop_all}
 use Rattle.std.proofs.lemmas.List.Recursion.{is_count_by}
 use Rattle.go_term_core.specs.declared.term.Field.{Field}
 use Rattle.go_term_core.specs.Terms.{Term, NoType, Predeclared, ErrorType, Defined, PointerTo, StructOf, InterfaceOf, Fields, NoField, AField}
 use Rattle.go_term_core.specs.Shapes.{Line, fields_in}
-use Rattle.go_table_core.specs.Entries.{has_method}
-use Rattle.go_table_core.specs.Shown.{hides_field, hides_some}
-use Rattle.go_embed_core.specs.Owners.{OwnerModel}
-use Rattle.go_literal_core.specs.Fields.{named_field, shown_field}
+use Rattle.go_face_core.specs.table_core.specs.Entries.{has_method}
+use Rattle.go_face_core.specs.table_core.specs.Shown.{hides_field, hides_some}
+use Rattle.go_face_core.specs.embed_core.specs.Owners.{OwnerModel}
 use Rattle.go_env_core.specs.Scenes.{SceneModel}
 use Rattle.go_env_core.specs.Fields.{TheField, field_seen, fields_seen, term_seen}
-use Rattle.go_env_core.specs.mirrors.Seen.{nobody, is_kept, listed_field}
+use Rattle.go_env_core.specs.mirrors.Seen.{nobody, is_kept, listed_field, name_unless}
 
 -- where no method of a type has the identifier of a field, all fields are seen
 
@@ -58,13 +56,6 @@ listed_numbered s home ls fs n r e = twice r ∙ (ap (option_map (listed_field s
     twice None = refl
     twice (Some f) = refl
 
--- the first field of a name
-pub name_passed : (f : TheField) (fs : List TheField) (name : List ℕ) → bytes_eq f.name name ≡ false → named_field (f ∷ fs) name ≡ named_field fs name
-name_passed f fs name off = ap (λ b. if b then shown_field f.known.is_visible f.known else named_field fs name) off
-
-pub name_found : (f : TheField) (fs : List TheField) (name : List ℕ) → bytes_eq f.name name ≡ true → named_field (f ∷ fs) name ≡ shown_field f.known.is_visible f.known
-name_found f fs name on = ap (λ b. if b then shown_field f.known.is_visible f.known else named_field fs name) on
-
 module _ (s : SceneModel) (o : OwnerModel) (home : List ℕ) (ls : List Line) where
   abbrev pub seen_in : List Field → List TheField
   seen_in fs = fields_seen s o home (fields_in ls fs)
@@ -82,21 +73,12 @@ module _ (s : SceneModel) (o : OwnerModel) (home : List ℕ) (ls : List Line) wh
     next_is : drop i fs ≡ f ∷ drop (i + 1) fs
     next_is = drop_more fs i f lt ∙ ap (λ g. g ∷ drop (i + 1) fs) (sym is)
 
-    pub next_kept : is_kept o f.name home ≡ true → seen_in (drop i fs) ≡ seen_in (drop (i + 1) fs)
-    next_kept on =
-        ap seen_in next_is ∙ ap (λ b. if b then seen_in (drop (i + 1) fs) else listed_field s home ls f ∷ seen_in (drop (i + 1) fs)) on
-
-    pub next_seen : is_kept o f.name home ≡ false → seen_in (drop i fs) ≡ listed_field s home ls f ∷ seen_in (drop (i + 1) fs)
-    next_seen off =
-        ap seen_in next_is ∙ ap (λ b. if b then seen_in (drop (i + 1) fs) else listed_field s home ls f ∷ seen_in (drop (i + 1) fs)) off
-
-    -- a field of another name is passed over, be it seen or not
-    pub other_name : (name : List ℕ) → bytes_eq f.name name ≡ false → named_field (seen_in (drop i fs)) name ≡ named_field (seen_in (drop (i + 1) fs)) name
-    other_name name off = by (is_kept o f.name home) refl
+    pub next_named : map (λ (g : TheField). g.name) (seen_in (drop i fs)) ≡ name_unless (is_kept o f.name home) f.name ++ map (λ (g : TheField). g.name) (seen_in (drop (i + 1) fs))
+    next_named = ap (λ l. map (λ (g : TheField). g.name) (seen_in l)) next_is ∙ by (is_kept o f.name home)
       where
-        by : (b : Bool) → is_kept o f.name home ≡ b → named_field (seen_in (drop i fs)) name ≡ named_field (seen_in (drop (i + 1) fs)) name
-        by true on = ap (λ l. named_field l name) (next_kept on)
-        by false not_kept = ap (λ l. named_field l name) (next_seen not_kept) ∙ name_passed (listed_field s home ls f) (seen_in (drop (i + 1) fs)) name off
+        by : (b : Bool) → map (λ (g : TheField). g.name) (if b then seen_in (drop (i + 1) fs) else listed_field s home ls f ∷ seen_in (drop (i + 1) fs)) ≡ name_unless b f.name ++ map (λ (g : TheField). g.name) (seen_in (drop (i + 1) fs))
+        by true = refl
+        by false = refl
 
   pub none_left : (fs : List Field) (i : ℕ) → length fs ≤ i → seen_in (drop i fs) ≡ []
   none_left fs i le = ap seen_in (drop_all i fs le)

@@ -1,23 +1,23 @@
 //! The fields of struct types, as a place sees them.
-ghost use Rattle.std.specs.Prelude.{◌≡◌, ◌<◌, List, Some, length, map, not, option_map, slice_get};
+ghost use Rattle.std.specs.Prelude.{◌≡◌, ◌<◌, ◌++◌, IfOk, List, OnOk, Some, length, map, not, option_map, slice_get};
 ghost use Rattle.std.specs.List.{count_by};
-ghost use Rattle.go_literal_core.specs.Fields.{named_field};
 ghost use Rattle.go_term_core.specs.Shapes.{Line, fields_in, lines_of, shape};
-ghost use Rattle.go_table_core.specs.Entries.{find, has_method, same_id};
-ghost use Rattle.go_table_core.specs.Shown.{member_shown};
-ghost use Rattle.go_embed_core.specs.Owners.{owner_in};
-ghost use Rattle.go_embed_core.specs.OwnersShown.{entry_owner};
+ghost use Rattle.go_face_core.specs.table_core.specs.Entries.{find, has_method, same_id};
+ghost use Rattle.go_face_core.specs.table_core.specs.Shown.{member_shown};
+ghost use Rattle.go_face_core.specs.embed_core.specs.Owners.{owner_in};
+ghost use Rattle.go_face_core.specs.embed_core.specs.OwnersShown.{entry_owner};
 ghost use Rattle.go_env_core.specs.Scenes.{SceneModel, scene_shown};
 ghost use Rattle.go_env_core.specs.Fields.{fields_seen, is_visible, literals_in, owner_seen, term_seen};
-ghost use Rattle.go_env_core.specs.mirrors.Seen.{hider_shown, is_kept, listed_field, named_if, seen_shown, some_seen};
+ghost use Rattle.go_env_core.specs.mirrors.Seen.{hider_shown, is_kept, listed_field, name_unless, seen_shown, some_seen};
 
 use crate::scene::Scene;
-use go_handle_core::{Decl, DeclSite, TypeRef, typed};
-use go_literal_core::{LiteralField, NamedField};
-use go_path_core::ImportPath;
-use go_table_core::{DeclaredMethod, DefinedType, StructField, TypeTable};
+use go_expr_core::literal_core::LiteralField;
+use go_expr_core::text_core::is_exported;
+use go_face_core::handle_core::{Decl, DeclSite, TypeRef, typed};
+use go_face_core::path_core::ImportPath;
+use go_face_core::table_core::{DeclaredMethod, DefinedType, StructField, TypeTable};
 use go_term_core::{Field, FieldLine, TypeTerm};
-use go_text_core::is_exported;
+use std::alloc::{AllocError, Global};
 
 /// The fields of a struct type, as a type that lies over it has them.
 #[derive(Clone, Copy)]
@@ -34,7 +34,7 @@ pub(crate) struct SeenFields<'p> {
 fn is_same_id(a: &str, a_path: &ImportPath, b: &str, b_path: &ImportPath) -> bool
     ensures { result ≡ same_id a.now a_path.now b.now b_path.now }
 {
-    go_text_core::same_id(a, a_path.as_str(), b, b_path.as_str())
+    go_expr_core::text_core::same_id(a, a_path.as_str(), b, b_path.as_str())
 }
 
 // Whether a method of a type of a package has the identifier that is written in another.
@@ -93,21 +93,37 @@ fn kept_at<'p>(
     None
 }
 
-// The first field of a name that is not kept from the type.
-fn kept_named<'p>(
+// Adds the name of a field, unless it is kept from the type.
+fn add_kept<'p>(
+    hider: Option<&DefinedType>,
+    home: &ImportPath,
+    field: &'p Field,
+    names: &mut Vec<&'p str>,
+) -> Result<(), AllocError>
+    ensures { OnOk result (map (λ n. n.now) names.new.items ≡ map (λ n. n.now) names.old.items ++ name_unless (is_kept (hider_shown hider.entry) field.now.name home.now) field.now.name) }
+{
+    let name = field.name.as_str();
+    if is_hidden(hider, name, home) {
+        return Ok(());
+    }
+    names.push(name)?;
+    Ok(())
+}
+
+// The names of the fields that are not kept from the type.
+fn kept_names<'p>(
+    alloc: Global,
     hider: Option<&DefinedType>,
     home: &ImportPath,
     fields: &'p [Field],
-    name: &str,
-) -> Option<&'p Field>
-    ensures { (s : SceneModel) (ls : List Line) → named_if s home.now ls result ≡ named_field (fields_seen s (hider_shown hider.entry) home.now (fields_in ls fields.now)) name.now }
+) -> Result<Vec<&'p str>, AllocError>
+    ensures { (s : SceneModel) (ls : List Line) → IfOk result (λ names. map (λ n. n.now) names.items ≡ map (λ f. f.name) (fields_seen s (hider_shown hider.entry) home.now (fields_in ls fields.now))) }
 {
+    let mut names = Vec::new(alloc);
     for field in fields {
-        if field.name.as_str() == name && !is_hidden(hider, field.name.as_str(), home) {
-            return Some(field);
-        }
+        add_kept(hider, home, field, &mut names)?;
     }
-    None
+    Ok(names)
 }
 
 // The fields of a term, where it is a struct type, as a type over it has them.
@@ -240,24 +256,19 @@ pub(crate) fn field_at<'p>(
     }
 }
 
-/// The field that is spelled as a name. It takes no memory.
-pub(crate) fn field_named<'p>(
-    scene: &Scene<'p>,
+/// The spellings of the fields in order, blank ones included.
+///
+/// # Errors
+///
+/// `AllocError` where memory is wanting.
+pub(crate) fn field_names<'p>(
+    alloc: Global,
     seen: Option<SeenFields<'p>>,
-    name: &str,
-) -> NamedField<TypeRef<'p>, Decl<'p>>
-    ensures { result ≡ named_field (some_seen (scene_shown scene.now) seen.entry) name.now }
+) -> Result<Vec<&'p str>, AllocError>
+    ensures { (s : SceneModel) → IfOk result (λ names. map (λ n. n.now) names.items ≡ map (λ f. f.name) (some_seen s seen.entry)) }
 {
     let Some(seen) = seen else {
-        return NamedField::Missing;
+        return Ok(Vec::new(alloc));
     };
-    let Some(field) = kept_named(seen.hider, seen.home, seen.fields, name) else {
-        return NamedField::Missing;
-    };
-    let known = known_field(scene, &seen, field);
-    if known.is_visible {
-        NamedField::Visible(known)
-    } else {
-        NamedField::Hidden
-    }
+    kept_names(alloc, seen.hider, seen.home, seen.fields)
 }

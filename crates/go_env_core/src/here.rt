@@ -1,29 +1,27 @@
 //! A place of a package.
 ghost use Rattle.std.specs.Prelude.{◌≡◌, ◌++◌, OnOk, map, option_map};
-ghost use Rattle.go_tree_nodes.specs.TypeShapes.{shape_type};
-ghost use Rattle.go_expr_core.specs.Places.{type_name_start, type_start};
 ghost use Rattle.go_inline_core.specs.Types.{inline_shown};
 ghost use Rattle.go_env_core.specs.Looks.{fault_of, inline_faults, inline_type};
 
-use crate::fields::{field_at, field_count, field_named, seen_fields};
+use crate::fields::{field_at, field_count, field_names, seen_fields};
 use crate::found::{found_exported, found_of};
 use crate::meaning::Meaning;
 use crate::scene::Scene;
-use go_denote_core::{Exported, Found, Names, Selection};
-use go_expr_core::{Exprs, Fault};
+use go_expr_core::denote_core::{Exported, Found, Names, Selection};
+use go_expr_core::literal_core::{LiteralField, Literals};
+use go_expr_core::operand_core::{TypeForm, TypeLooks};
+use go_expr_core::text_core::add;
+use go_expr_core::{Exprs, Fault, type_start};
 use go_face_core::Face;
-use go_handle_core::{
+use go_face_core::handle_core::{
     Decl, SignatureRef, TypeRef, is_assignable, is_convertible, is_identical, selection, typed,
 };
+use go_face_core::select_core::EmbedPath;
+use go_face_core::table_core::TypeTable;
+use go_inline_core::local_core::Fault as LocalFault;
+use go_inline_core::names_core::OpenNames;
 use go_inline_core::{InlineType, InlineTypes};
-use go_literal_core::{LiteralField, Literals, NamedField};
-use go_local_core::Fault as LocalFault;
-use go_names_core::OpenNames;
-use go_operand_core::{TypeForm, TypeLooks};
-use go_select_core::EmbedPath;
-use go_table_core::TypeTable;
-use go_text_core::add;
-use go_tree_nodes::{TypeExpr, TypeName};
+use go_tree_nodes::TypeExpr;
 use std::alloc::{AllocError, Global};
 
 /// A place of a file of a package, as its expressions see it.
@@ -61,29 +59,6 @@ pub fn stand<'n, 'p>(
         inline,
         known,
         names,
-    }
-}
-
-// The first byte of the name of a type.
-fn type_name_start(name: &TypeName) -> usize
-    ensures { result ≡ type_name_start name.now }
-{
-    match name {
-        TypeName::Plain(ident) => ident.span.start as usize,
-        TypeName::Qualified(ident, _, _) => ident.span.start as usize,
-    }
-}
-
-// The first byte of a type.
-fn type_start(t: &TypeExpr) -> usize
-    ensures { result ≡ type_start (shape_type t.now) }
-{
-    match t {
-        TypeExpr::Name(name) => type_name_start(name),
-        TypeExpr::Pointer(star, _) => star.start as usize,
-        TypeExpr::Paren(first, _, _) => first.start as usize,
-        TypeExpr::Struct(keyword, _, _, _) => keyword.start as usize,
-        TypeExpr::Interface(keyword, _, _, _) => keyword.start as usize,
     }
 }
 
@@ -253,8 +228,8 @@ impl<'n, 'p> Literals for Here<'n, 'p> {
         field_at(self.scene, seen_fields(self.scene, t), at)
     }
 
-    fn field_named(&self, t: &TypeRef<'p>, name: &str) -> NamedField<TypeRef<'p>, Decl<'p>> {
-        field_named(self.scene, seen_fields(self.scene, t), name)
+    fn field_names(&self, alloc: Global, t: &TypeRef<'p>) -> Result<Vec<&str>, AllocError> {
+        field_names(alloc, seen_fields(self.scene, t))
     }
 }
 

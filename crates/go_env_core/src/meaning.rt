@@ -2,9 +2,9 @@
 ghost use Rattle.std.specs.Prelude.{◌≡◌, IfOk};
 
 use crate::copies::value_again;
-use go_handle_core::TypeRef;
-use go_names_core::{Meant, Outside};
-use go_operand_core::Operand;
+use go_expr_core::operand_core::Operand;
+use go_face_core::handle_core::TypeRef;
+use go_inline_core::names_core::{Meant, Outside};
 use std::alloc::AllocError;
 
 /// What a name means at a place.

@@ -4,14 +4,17 @@ use Rattle.std.specs.Prelude.{Option, Some, None, if◌then◌else◌}
 use Rattle.std.specs.Str.{bytes_eq}
 use Rattle.std.proofs.lemmas.Slice.Eq.{bytes_eq-Decides}
 use Rattle.std.proofs.lemmas.List.{drop_more, take_more}
-use Rattle.go_text_core.specs.declared.span.Span.{Span}
+use Rattle.go_literal_core.specs.text_core.specs.declared.span.Span.{Span}
 use Rattle.go_tree_nodes.specs.declared.exprs.Key.{Key}
 use Rattle.go_tree_nodes.specs.declared.exprs.«Item» as declared_item
 use Rattle.go_tree_nodes.specs.Trees.{ExprTree, ItemTrees, NoItems, Item}
 use Rattle.go_tree_nodes.specs.Shapes.{shape, items_of, key_of}
-use Rattle.go_literal_core.specs.Repeats.{has_name, repeats, repeated}
-use Rattle.go_expr_core.specs.Elements.{key_names, all_keys, count, is_again}
-use Rattle.go_expr_core.specs.mirrors.Flags.{flags, spread}
+use Rattle.go_literal_core.specs.declared.things.KeyMark.{KeyMark}
+use Rattle.go_literal_core.specs.Look.{FieldOf}
+use Rattle.go_literal_core.specs.Marks.{made_mark, key_marks}
+use Rattle.go_literal_core.specs.Repeats.{has_name, repeats}
+use Rattle.go_expr_core.specs.Elements.{key_names, all_keys, count}
+use Rattle.go_expr_core.specs.mirrors.Marked.{unmarked, mark_of, marks_of, spread}
 
 bytes_same : (n : List ℕ) → bytes_eq n n ≡ true
 bytes_same n = (bytes_eq-Decides n n).1 refl
@@ -34,20 +37,21 @@ repeats_among k (n ∷ before) rest = by (bytes_eq n k) (has_mid k before rest) 
     by true there others = there
     by false there others = others
 
-known_marks : (before : List (List ℕ)) (items : ItemTrees) → spread (map (λ n. repeats n (before ++ all_keys items)) (all_keys items)) items ≡ flags before items
-known_marks before NoItems = refl
-known_marks before (Item None e comma rest) =
-    ap (λ l. false ∷ l) (known_marks before rest ∙ ap (λ l. flags l rest) (sym (append-nil before)))
-known_marks before (Item (Some k) e comma rest) =
-    let name = k.name.name in
-    ap (λ b. b ∷ spread (map (λ n. repeats n (before ++ name ∷ all_keys rest)) (all_keys rest)) rest) (repeats_among name before (all_keys rest))
-    ∙ ap (λ l. has_name name (before ++ all_keys rest) ∷ l)
-    (ap (λ ks. spread (map (λ n. repeats n ks) (all_keys rest)) rest) (sym (append_assoc before (name ∷ []) (all_keys rest)))
-    ∙ known_marks (before ++ name ∷ []) rest)
+module _ {T D : Type 0} (fields : List (FieldOf T D)) where
+  known_marks : (before : List (List ℕ)) (items : ItemTrees) → spread (map (λ n. made_mark fields (repeats n (before ++ all_keys items)) n) (all_keys items)) items ≡ marks_of fields before items
+  known_marks before NoItems = refl
+  known_marks before (Item None e comma rest) =
+      ap (λ l. unmarked ∷ l) (known_marks before rest ∙ ap (λ l. marks_of fields l rest) (sym (append-nil before)))
+  known_marks before (Item (Some k) e comma rest) =
+      let name = k.name.name in
+      ap (λ b. made_mark fields b name ∷ spread (map (λ n. made_mark fields (repeats n (before ++ name ∷ all_keys rest)) n) (all_keys rest)) rest) (repeats_among name before (all_keys rest))
+      ∙ ap (λ l. made_mark fields (has_name name (before ++ all_keys rest)) name ∷ l)
+      (ap (λ ks. spread (map (λ n. made_mark fields (repeats n ks) n) (all_keys rest)) rest) (sym (append_assoc before (name ∷ []) (all_keys rest)))
+      ∙ known_marks (before ++ name ∷ []) rest)
 
 -- the marks of a literal's keys
-pub literal_marks : (items : ItemTrees) → spread (repeated (all_keys items)) items ≡ flags [] items
-literal_marks items = known_marks [] items
+pub literal_marks : {T D : Type 0} (fields : List (FieldOf T D)) (items : ItemTrees) → spread (key_marks fields (all_keys items)) items ≡ marks_of fields [] items
+literal_marks fields items = known_marks fields [] items
 
 pub items_counted : (xs : List declared_item.Item) → count (items_of xs) ≡ length xs
 items_counted [] = refl
@@ -59,35 +63,36 @@ keys_first None e comma rest = refl
 keys_first (Some k) e comma rest = refl
 
 -- the marks behind the first elements
-flags_behind : (before : List (List ℕ)) (xs : List declared_item.Item) (i : ℕ) → drop i (flags before (items_of xs)) ≡ flags (before ++ all_keys (items_of (take i xs))) (items_of (drop i xs))
-flags_behind before [] zero = refl
-flags_behind before [] (suc i) = refl
-flags_behind before (x ∷ xs) zero = ap (λ l. flags l (items_of (x ∷ xs))) (sym (append-nil before))
-flags_behind before (x ∷ xs) (suc i) =
-    flags_behind (before ++ key_names (key_of x.key)) xs i
-    ∙ ap (λ l. flags l (items_of (drop i xs))) (append_assoc before (key_names (key_of x.key)) (all_keys (items_of (take i xs)))
+marks_behind : {T D : Type 0} (fields : List (FieldOf T D)) (before : List (List ℕ)) (xs : List declared_item.Item) (i : ℕ)
+    → drop i (marks_of fields before (items_of xs)) ≡ marks_of fields (before ++ all_keys (items_of (take i xs))) (items_of (drop i xs))
+marks_behind fields before [] zero = refl
+marks_behind fields before [] (suc i) = refl
+marks_behind fields before (x ∷ xs) zero = ap (λ l. marks_of fields l (items_of (x ∷ xs))) (sym (append-nil before))
+marks_behind fields before (x ∷ xs) (suc i) =
+    marks_behind fields (before ++ key_names (key_of x.key)) xs i
+    ∙ ap (λ l. marks_of fields l (items_of (drop i xs))) (append_assoc before (key_names (key_of x.key)) (all_keys (items_of (take i xs)))
     ∙ ap (λ l. before ++ l) (sym (keys_first (key_of x.key) (shape x.value) x.comma (items_of (take i xs)))))
 
-abbrev head_or : Bool → List Bool → Bool
+abbrev head_or : KeyMark → List KeyMark → KeyMark
 head_or d [] = d
-head_or d (b ∷ bs) = b
+head_or d (m ∷ ms) = m
 
-head_behind : (bs : List Bool) (i : ℕ) (d : Bool) → get_or bs i d ≡ head_or d (drop i bs)
+head_behind : (ms : List KeyMark) (i : ℕ) (d : KeyMark) → get_or ms i d ≡ head_or d (drop i ms)
 head_behind [] zero d = refl
 head_behind [] (suc i) d = refl
-head_behind (b ∷ bs) zero d = refl
-head_behind (b ∷ bs) (suc i) d = head_behind bs i d
+head_behind (m ∷ ms) zero d = refl
+head_behind (m ∷ ms) (suc i) d = head_behind ms i d
 
 pub first_item : (xs : List declared_item.Item) (i : ℕ) (x : declared_item.Item) → i < length xs → x ≡ get_or xs i x → items_of (drop i xs) ≡ Item (key_of x.key) (shape x.value) x.comma (items_of (drop (i + 1) xs))
 first_item xs i x h is = ap items_of (drop_more xs i x h ∙ ap (λ y. y ∷ drop (i + 1) xs) (sym is))
 
 -- the mark of an element
-pub mark_at : (bs : List Bool) (xs : List declared_item.Item) (i : ℕ) (x : declared_item.Item) → bs ≡ flags [] (items_of xs) → i < length xs → x ≡ get_or xs i x
-    → get_or bs i false ≡ is_again (key_of x.key) (all_keys (items_of (take i xs)) ++ all_keys (items_of (drop (i + 1) xs)))
-mark_at bs xs i x marks h is =
-    head_behind bs i false
-    ∙ (ap (λ l. head_or false (drop i l)) marks
-    ∙ ap (head_or false) (flags_behind [] xs i ∙ ap (flags (all_keys (items_of (take i xs)))) (first_item xs i x h is)))
+pub mark_there : {T D : Type 0} (fields : List (FieldOf T D)) (ms : List KeyMark) (xs : List declared_item.Item) (i : ℕ) (x : declared_item.Item) → ms ≡ marks_of fields [] (items_of xs) → i < length xs → x ≡ get_or xs i x
+    → get_or ms i unmarked ≡ mark_of fields (key_of x.key) (all_keys (items_of (take i xs)) ++ all_keys (items_of (drop (i + 1) xs)))
+mark_there fields ms xs i x marks h is =
+    head_behind ms i unmarked
+    ∙ (ap (λ l. head_or unmarked (drop i l)) marks
+    ∙ ap (head_or unmarked) (marks_behind fields [] xs i ∙ ap (marks_of fields (all_keys (items_of (take i xs)))) (first_item xs i x h is)))
 
 keys-append : (xs ys : List declared_item.Item) → all_keys (items_of (xs ++ ys)) ≡ all_keys (items_of xs) ++ all_keys (items_of ys)
 keys-append [] ys = refl

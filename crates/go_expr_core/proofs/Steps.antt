@@ -9,32 +9,33 @@ use Rattle.go_tree_nodes.specs.declared.exprs.«Item» as declared_item
 use Rattle.go_tree_nodes.specs.Shapes.{items_of, key_of}
 use Rattle.go_tree_core.specs.declared.occurrence.Role.{Role}
 use Rattle.go_tree_core.specs.declared.occurrence.Role.TheVariants as roles
-use Rattle.go_denote_core.specs.declared.things.Answer.{Answer}
-use Rattle.go_denote_core.specs.declared.things.Argument.{Argument}
-use Rattle.go_denote_core.specs.declared.things.Denoted.{Denoted}
-use Rattle.go_denote_core.specs.declared.things.Dot.{Dot}
-use Rattle.go_denote_core.specs.declared.things.Usage.{Usage}
-use Rattle.go_denote_core.specs.Look.{Look}
-use Rattle.go_denote_core.specs.Selectors.{selector_answer}
-use Rattle.go_denote_core.specs.Calls.{call_answer}
+use Rattle.go_literal_core.specs.denote_core.specs.declared.things.Answer.{Answer}
+use Rattle.go_literal_core.specs.denote_core.specs.declared.things.Argument.{Argument}
+use Rattle.go_literal_core.specs.denote_core.specs.declared.things.Denoted.{Denoted}
+use Rattle.go_literal_core.specs.denote_core.specs.declared.things.Dot.{Dot}
+use Rattle.go_literal_core.specs.denote_core.specs.declared.things.Usage.{Usage}
+use Rattle.go_literal_core.specs.denote_core.specs.Look.{Look}
+use Rattle.go_literal_core.specs.denote_core.specs.Selectors.{selector_answer}
+use Rattle.go_literal_core.specs.denote_core.specs.Calls.{call_answer}
 use Rattle.go_literal_core.specs.declared.things.KeyAnswer.{KeyAnswer}
-use Rattle.go_literal_core.specs.Keys.{key_answer}
+use Rattle.go_literal_core.specs.declared.things.KeyMark.{KeyMark}
+use Rattle.go_literal_core.specs.Marks.{marked_answer}
 use Rattle.go_expr_core.specs.declared.things.Use.{Use}
 use Rattle.go_expr_core.specs.Looks.{Looks, at, literals_at}
 use Rattle.go_expr_core.specs.Places.{role_usage, is_several, is_lone_call}
 use Rattle.go_expr_core.specs.Uses.{made_use, behind_use}
 use Rattle.go_tree_nodes.specs.Trees.{ExprTree}
-use Rattle.go_text_core.specs.declared.rule.Rule.{Rule}
-use Rattle.go_denote_core.specs.declared.things.Place.TheVariants as places
+use Rattle.go_literal_core.specs.text_core.specs.declared.rule.Rule.{Rule}
+use Rattle.go_literal_core.specs.denote_core.specs.declared.things.Place.TheVariants as places
 use Rattle.go_literal_core.specs.declared.things.Keys.{Keys}
 use Rattle.go_literal_core.specs.declared.things.Mode.{Mode}
 use Rattle.go_literal_core.specs.Literals.{literal_rule, literal_mode, element_target, keys_among}
 use Rattle.go_expr_core.specs.declared.things.Fault.{Fault}
 use Rattle.go_expr_core.specs.Places.{start, item_start}
 use Rattle.go_expr_core.specs.Denoting.{denoted}
-use Rattle.go_expr_core.specs.Elements.{all_keys, count, keys_of, is_mixed, key_target_by, element_rule, whole_rule, whole_mode}
+use Rattle.go_expr_core.specs.Elements.{all_keys, count, keys_of, is_mixed, element_rule, whole_rule, whole_mode}
 use Rattle.go_expr_core.specs.Faults.{fault_at, operand_faults, items_faults, literal_faults}
-use Rattle.go_expr_core.specs.mirrors.Turns.{key_uses_by, turn_faults}
+use Rattle.go_expr_core.specs.mirrors.Turns.{key_uses_marked, key_target_marked, turn_faults}
 use Rattle.std.proofs.Common.{map}
 use Rattle.std.proofs.lemmas.List.{length-map}
 use Rattle.go_expr_core.proofs.Marks.{items_counted}
@@ -63,13 +64,13 @@ pub selector_noted : {T S D P X E : Type 0} (r : Result X E) (looks : Looks T S 
 selector_noted {T} {S} {D} {P} r looks usage dot x name role a u0 u1 er en ea h =
     ok_adds r u1 u0 _ _ (ap (λ l. made_use x.span.start l a.outcome ∷ []) er ∙ ap (λ (b : Answer T S D P). made_use x.span.start (roles.Selector (role_usage usage)) b.outcome ∷ []) (ea ∙ ap (λ n. selector_answer (at looks x.span.start) usage dot n) en)) h
 
-pub key_noted : {T S D P : Type 0} (looks : Looks T S D P) (t : Option T) (m again : Bool) (key : Option (Box Key)) (k : Box Key) (k2 : Key) (name : List ℕ) (a : KeyAnswer T D P) (u0 u1 : List (Use D P))
-    → key ≡ Some k → name ≡ k.value.name.name → k2 ≡ k.value → a ≡ key_answer (literals_at looks k.value.name.span.start) t m again name
-    → u1 ≡ u0 ++ made_use k2.name.span.start roles.Key a.outcome ∷ [] → u1 ≡ u0 ++ key_uses_by looks t m again (key_of key)
-key_noted {T} {S} {D} {P} looks t m again key k k2 name a u0 u1 is en e2 ea h =
+pub key_noted : {T S D P : Type 0} (looks : Looks T S D P) (t : Option T) (m : Bool) (mark : KeyMark) (key : Option (Box Key)) (k : Box Key) (k2 : Key) (name : List ℕ) (a : KeyAnswer T D P) (u0 u1 : List (Use D P))
+    → key ≡ Some k → name ≡ k.value.name.name → k2 ≡ k.value → a ≡ marked_answer (literals_at looks k.value.name.span.start) t m mark name
+    → u1 ≡ u0 ++ made_use k2.name.span.start roles.Key a.outcome ∷ [] → u1 ≡ u0 ++ key_uses_marked looks t m mark (key_of key)
+key_noted {T} {S} {D} {P} looks t m mark key k k2 name a u0 u1 is en e2 ea h =
     h ∙ (ap (λ (x : Key). u0 ++ made_use x.name.span.start roles.Key a.outcome ∷ []) e2
-    ∙ (ap (λ (b : KeyAnswer T D P). u0 ++ made_use k.value.name.span.start roles.Key b.outcome ∷ []) (ea ∙ ap (λ n. key_answer (literals_at looks k.value.name.span.start) t m again n) en)
-    ∙ ap (λ o. u0 ++ key_uses_by looks t m again (key_of o)) (sym is)))
+    ∙ (ap (λ (b : KeyAnswer T D P). u0 ++ made_use k.value.name.span.start roles.Key b.outcome ∷ []) (ea ∙ ap (λ n. marked_answer (literals_at looks k.value.name.span.start) t m mark n) en)
+    ∙ ap (λ o. u0 ++ key_uses_marked looks t m mark (key_of o)) (sym is)))
 
 pub not_several : (xs : List declared_item.Item) → length xs < 2 → is_several (items_of xs) ≡ false
 not_several [] h = refl
@@ -90,17 +91,17 @@ pub keys_marked : {Y : Type 0} (f : Y → List ℕ) (names : List Y) (xs : List 
 keys_marked f names xs n m a b e =
     ap (λ x. keys_among x m) (a ∙ sym (items_counted xs)) ∙ ap (keys_among (count (items_of xs))) (b ∙ (sym (length-map names f) ∙ ap length e))
 
-pub element_noted : {T S D P X E : Type 0} (r : Result X E) (looks : Looks T S D P) (t : Option T) (mode : Mode) (m : Bool) (number : ℕ) (again : Bool) (key : Option Key) (e : ExprTree)
+pub element_noted : {T S D P X E : Type 0} (r : Result X E) (looks : Looks T S D P) (t : Option T) (mode : Mode) (m : Bool) (number : ℕ) (mark : KeyMark) (key : Option Key) (e : ExprTree)
     (offset : ℕ) (wanted by_key : Option T) (d : Denoted T S D) (f0 f1 f2 : List Fault)
-    → f1 ≡ f0 ++ operand_faults looks places.«Value» e → offset ≡ item_start key e → by_key ≡ key_target_by looks t m again key
+    → f1 ≡ f0 ++ operand_faults looks places.«Value» e → offset ≡ item_start key e → by_key ≡ key_target_marked looks t m mark key
     → wanted ≡ element_target (literals_at looks (start e)) t mode number by_key → d ≡ denoted looks places.«Value» e
-    → OnOk r (f2 ≡ f1 ++ fault_at offset (element_rule looks (start e) wanted d)) → OnOk r (f2 ≡ f0 ++ turn_faults looks t mode m number again key e)
-element_noted r looks t mode m number again key e offset wanted by_key d f0 f1 f2 a at_key of_key want has h =
+    → OnOk r (f2 ≡ f1 ++ fault_at offset (element_rule looks (start e) wanted d)) → OnOk r (f2 ≡ f0 ++ turn_faults looks t mode m number mark key e)
+element_noted r looks t mode m number mark key e offset wanted by_key d f0 f1 f2 a at_key of_key want has h =
     ok_both r f0 f1 f2 _ _ _ a
     (ap (λ l. operand_faults looks places.«Value» e ++ l)
     (ap (λ n. fault_at n (element_rule looks (start e) wanted d)) at_key
     ∙ (ap (λ w. fault_at (item_start key e) (element_rule looks (start e) w d)) (want ∙ ap (element_target (literals_at looks (start e)) t mode number) of_key)
-    ∙ ap (λ x. fault_at (item_start key e) (element_rule looks (start e) (element_target (literals_at looks (start e)) t mode number (key_target_by looks t m again key)) x)) has)))
+    ∙ ap (λ x. fault_at (item_start key e) (element_rule looks (start e) (element_target (literals_at looks (start e)) t mode number (key_target_marked looks t m mark key)) x)) has)))
     h
 
 pub elements_noted : {T S D P : Type 0} (looks : Looks T S D P) (t : Option T) (offset : ℕ) (xs : List declared_item.Item) (rule : Option Rule) (mode : Mode) (m : Bool) (ks : Keys) (n1 n2 : ℕ) (f0 f1 f2 : List Fault)

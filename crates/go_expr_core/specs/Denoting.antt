@@ -12,21 +12,21 @@ use Rattle.go_tree_nodes.specs.declared.types.TypeName.{TypeName}
 use Rattle.go_tree_nodes.specs.declared.types.TypeName.TheVariants as type_names
 use Rattle.go_tree_nodes.specs.Terminals.{value_of}
 use Rattle.go_tree_nodes.specs.Trees.{TypeTree, ExprTree, ItemTrees, Integer, Text, Named, Paren, Unary, Binary, Select, Call, Literal, StructLiteral, NoItems, Item}
-use Rattle.go_text_core.specs.declared.span.Span.{Span}
-use Rattle.go_operand_core.specs.declared.types.ValueType.{ValueType}
-use Rattle.go_operand_core.specs.declared.types.ValueType.TheVariants as value_types
-use Rattle.go_denote_core.specs.declared.things.Place.{Place}
-use Rattle.go_denote_core.specs.declared.things.Place.TheVariants as places
-use Rattle.go_denote_core.specs.declared.things.Usage.{Usage}
-use Rattle.go_denote_core.specs.declared.things.Dot.{Dot}
-use Rattle.go_denote_core.specs.declared.things.Usage.TheVariants as usages
-use Rattle.go_denote_core.specs.declared.things.Denoted.{Denoted}
-use Rattle.go_denote_core.specs.declared.things.Denoted.TheVariants as denotes
-use Rattle.go_denote_core.specs.declared.things.Answer.{Answer}
-use Rattle.go_denote_core.specs.Answers.{name_answer}
-use Rattle.go_denote_core.specs.Selectors.{dot_of, selector_answer}
-use Rattle.go_denote_core.specs.Arguments.{arguments_of, is_free}
-use Rattle.go_denote_core.specs.Calls.{call_answer}
+use Rattle.go_literal_core.specs.text_core.specs.declared.span.Span.{Span}
+use Rattle.go_literal_core.specs.operand_core.specs.declared.types.ValueType.{ValueType}
+use Rattle.go_literal_core.specs.operand_core.specs.declared.types.ValueType.TheVariants as value_types
+use Rattle.go_literal_core.specs.denote_core.specs.declared.things.Place.{Place}
+use Rattle.go_literal_core.specs.denote_core.specs.declared.things.Place.TheVariants as places
+use Rattle.go_literal_core.specs.denote_core.specs.declared.things.Usage.{Usage}
+use Rattle.go_literal_core.specs.denote_core.specs.declared.things.Dot.{Dot}
+use Rattle.go_literal_core.specs.denote_core.specs.declared.things.Usage.TheVariants as usages
+use Rattle.go_literal_core.specs.denote_core.specs.declared.things.Denoted.{Denoted}
+use Rattle.go_literal_core.specs.denote_core.specs.declared.things.Denoted.TheVariants as denotes
+use Rattle.go_literal_core.specs.denote_core.specs.declared.things.Answer.{Answer}
+use Rattle.go_literal_core.specs.denote_core.specs.Answers.{name_answer}
+use Rattle.go_literal_core.specs.denote_core.specs.Selectors.{dot_of, selector_answer}
+use Rattle.go_literal_core.specs.denote_core.specs.Arguments.{arguments_of, is_free}
+use Rattle.go_literal_core.specs.denote_core.specs.Calls.{call_answer}
 use Rattle.go_literal_core.specs.Literals.{literal_type, literal_denotes}
 use Rattle.go_expr_core.specs.declared.things.Judged.{Judged}
 use Rattle.go_expr_core.specs.Looks.{Looks, at}
@@ -92,6 +92,10 @@ binary_judged looks op a b = binary_of looks.types op (denoted looks places.«Va
 abbrev pub select_answer : {T S D P : Type 0} → Looks T S D P → Place → ExprTree → Ident → Answer T S D P
 select_answer looks p e x = selector_answer (at looks x.span.start) (whole p) (dot_of (is_name e) (denoted looks (left_place p e) e)) x.name
 
+-- what a call has, by what is called
+abbrev pub answer_by : {T S D P : Type 0} → Looks T S D P → Denoted T S D → Span → ItemTrees → Answer T S D P
+answer_by looks callee first items =
+    call_answer (at looks first.start) callee (is_free (is_lone_call items) (denoted_items looks items)) (arguments_of (at looks first.start) (denoted_items looks items))
+
 abbrev pub called_answer : {T S D P : Type 0} → Looks T S D P → ExprTree → Span → ItemTrees → Answer T S D P
-called_answer looks e first items =
-    call_answer (at looks first.start) (denoted looks places.Callee e) (is_free (is_lone_call items) (denoted_items looks items)) (arguments_of (at looks first.start) (denoted_items looks items))
+called_answer looks e first items = answer_by looks (denoted looks places.Callee e) first items

@@ -13,10 +13,10 @@ use Rattle.go_tree_core.specs.declared.occurrence.Role.{Role}
 use Rattle.go_tree_core.specs.declared.occurrence.Role.TheVariants as roles
 use Rattle.go_tree_core.specs.declared.occurrence.Usage as tree_usage
 use Rattle.go_tree_core.specs.declared.occurrence.Usage.TheVariants as tree_usages
-use Rattle.go_denote_core.specs.declared.things.Place.{Place}
-use Rattle.go_denote_core.specs.declared.things.Place.TheVariants as places
-use Rattle.go_denote_core.specs.declared.things.Usage.{Usage}
-use Rattle.go_denote_core.specs.declared.things.Usage.TheVariants as usages
+use Rattle.go_literal_core.specs.denote_core.specs.declared.things.Place.{Place}
+use Rattle.go_literal_core.specs.denote_core.specs.declared.things.Place.TheVariants as places
+use Rattle.go_literal_core.specs.denote_core.specs.declared.things.Usage.{Usage}
+use Rattle.go_literal_core.specs.denote_core.specs.declared.things.Usage.TheVariants as usages
 
 -- the place of what stands in parentheses: a name in them is no qualifier
 abbrev pub inside : Place → Place

@@ -1,4 +1,4 @@
 -- Definitions that follow the code step by step, for its proof. No statement that a caller rests on needs them.
-pub mod Flags
+pub mod Marked
 pub mod Turns
 pub mod Later

@@ -1,23 +1,24 @@
 //! Keys and elements of composite literals, and lists of arguments.
-ghost use Rattle.std.specs.Prelude.{◌≡◌, ◌++◌, [], ◌∷◌, map, get_or, false, IfOk, OnOk};
+ghost use Rattle.std.specs.Prelude.{◌≡◌, ◌++◌, [], ◌∷◌, map, get_or, IfOk, OnOk};
 ghost use Rattle.go_tree_nodes.specs.Shapes.{items_of, key_of};
-ghost use Rattle.go_denote_core.specs.Arguments as arguments;
-ghost use Rattle.go_denote_core.specs.Calls as calls;
-ghost use Rattle.go_denote_core.specs.Look.{look_of};
+ghost use Rattle.go_literal_core.specs.denote_core.specs.Arguments as arguments;
+ghost use Rattle.go_literal_core.specs.denote_core.specs.Calls as calls;
+ghost use Rattle.go_literal_core.specs.denote_core.specs.Look.{look_of};
+ghost use Rattle.go_literal_core.specs.Marks.{type_fields};
 ghost use Rattle.go_expr_core.specs.Looks.{everywhere};
 ghost use Rattle.go_expr_core.specs.Places as places;
 ghost use Rattle.go_expr_core.specs.Elements as elements;
 ghost use Rattle.go_expr_core.specs.Faults as all_faults;
-ghost use Rattle.go_expr_core.specs.mirrors.Flags as marks;
+ghost use Rattle.go_expr_core.specs.mirrors.Marked as marks;
 ghost use Rattle.go_expr_core.specs.mirrors.Turns as turns;
 
 use crate::looks::Exprs;
 use crate::notes::{note_fault, note_use};
 use crate::places::is_call;
 use crate::things::{Fault, Use};
-use go_denote_core::{Answer, Denoted, arguments_of, call_answer, is_free};
-use go_literal_core::{Keys, key_answer, keys_among, misfits, repeated};
-use go_text_core::Rule;
+use go_literal_core::denote_core::{Answer, Denoted, arguments_of, call_answer, is_free};
+use go_literal_core::text_core::Rule;
+use go_literal_core::{KeyMark, Keys, key_answer, key_marks, keys_among, misfits};
 use go_tree_core::Role;
 use go_tree_nodes::{Item, Key};
 use std::alloc::{AllocError, Global};
@@ -72,44 +73,60 @@ fn key_names(alloc: Global, items: &Vec<Item>) -> Result<Vec<&str>, AllocError>
     Ok(names)
 }
 
-/// Whether the key of each element is spelled as another.
-fn spread(alloc: Global, known: &[bool], items: &Vec<Item>) -> Result<Vec<bool>, AllocError>
-    ensures { IfOk result (λ flags. flags.items ≡ marks.spread known.now (items_of items.now.items)) }
+// The mark of an element without a key.
+fn unmarked() -> KeyMark
+    ensures { result ≡ marks.unmarked }
 {
-    let mut flags = Vec::new(alloc);
+    KeyMark {
+        is_repeated: false,
+        field: None,
+    }
+}
+
+// The marks of keys, put to the elements that have them.
+fn spread(alloc: Global, known: &[KeyMark], items: &Vec<Item>) -> Result<Vec<KeyMark>, AllocError>
+    ensures { IfOk result (λ all. all.items ≡ marks.spread known.now (items_of items.now.items)) }
+{
+    let mut all = Vec::new(alloc);
     let mut rest = known;
     for item in items {
         match &item.key {
-            None => flags.push(false)?,
+            None => all.push(unmarked())?,
             Some(_) => match rest.split_first() {
-                None => flags.push(false)?,
+                None => all.push(unmarked())?,
                 Some((first, more)) => {
-                    flags.push(*first)?;
+                    all.push(*first)?;
                     rest = more;
                 }
             },
         }
     }
-    Ok(flags)
+    Ok(all)
 }
 
-/// Which elements of a literal have keys, and whether the key of each is spelled as another.
+/// Which elements of a literal have keys, and the mark of the key of each.
 #[derive(Drop)]
 pub struct KeyMarks {
     pub keys: Keys,
-    pub again: Vec<bool>,
+    pub marks: Vec<KeyMark>,
 }
 
-/// The marks of the keys of a literal. Time grows with the number of elements.
-pub(crate) fn mark_keys(alloc: Global, items: &Vec<Item>) -> Result<KeyMarks, AllocError>
+/// The marks of the keys of a literal of a type. Time grows with the number of elements and, where one has a key, with the number of
+/// fields.
+pub(crate) fn mark_keys<E: Exprs>(
+    env: &E,
+    alloc: Global,
+    t: &Option<E::Type>,
+    items: &Vec<Item>,
+) -> Result<KeyMarks, AllocError>
     ensures keys { IfOk result (λ m. m.keys ≡ elements.keys_of (items_of items.now.items)) }
-    ensures again { IfOk result (λ m. m.again.items ≡ marks.flags [] (items_of items.now.items)) }
+    ensures marks { IfOk result (λ m. m.marks.items ≡ marks.marks_of (type_fields (E.literals env.now) t.now) [] (items_of items.now.items)) }
 {
     let names = key_names(alloc, items)?;
     let keys = keys_among(items.len(), names.len());
-    let known = repeated(alloc, &names)?;
-    let again = spread(alloc, &known, items)?;
-    Ok(KeyMarks { keys, again })
+    let known = key_marks(env, alloc, t, &names)?;
+    let marks = spread(alloc, &known, items)?;
+    Ok(KeyMarks { keys, marks })
 }
 
 /// Whether some elements have keys and some have not.
@@ -123,13 +140,13 @@ pub(crate) fn is_mixed(keys: Keys) -> bool
     }
 }
 
-/// A flag by its number.
-pub(crate) fn flag_at(flags: &[bool], at: usize) -> bool
-    ensures { result ≡ get_or flags.now at false }
+/// A mark by its number.
+pub(crate) fn mark_at(all: &[KeyMark], at: usize) -> KeyMark
+    ensures { result ≡ get_or all.now at marks.unmarked }
 {
-    match flags.get(at) {
-        None => false,
-        Some(flag) => *flag,
+    match all.get(at) {
+        None => unmarked(),
+        Some(mark) => *mark,
     }
 }
 
@@ -139,17 +156,17 @@ pub(crate) fn check_key<E: Exprs>(
     alloc: Global,
     t: &Option<E::Type>,
     is_mixed: bool,
-    is_again: bool,
+    mark: KeyMark,
     key: &Option<Box<Key>>,
     uses: &mut Vec<Use<E::Decl, E::Path>>,
 ) -> Result<Option<E::Type>, AllocError>
-    ensures target { IfOk result (λ wanted. wanted ≡ elements.key_target_by (everywhere (E.types env.now) (E.names env.now) (E.literals env.now) (E.written env.now)) t.now is_mixed is_again (key_of key.now)) }
-    ensures uses { OnOk result (uses.new.items ≡ uses.old.items ++ turns.key_uses_by (everywhere (E.types env.now) (E.names env.now) (E.literals env.now) (E.written env.now)) t.now is_mixed is_again (key_of key.now)) }
+    ensures target { IfOk result (λ wanted. wanted ≡ turns.key_target_marked (everywhere (E.types env.now) (E.names env.now) (E.literals env.now) (E.written env.now)) t.now is_mixed mark (key_of key.now)) }
+    ensures uses { OnOk result (uses.new.items ≡ uses.old.items ++ turns.key_uses_marked (everywhere (E.types env.now) (E.names env.now) (E.literals env.now) (E.written env.now)) t.now is_mixed mark (key_of key.now)) }
 {
     match key {
         None => Ok(None),
         Some(key) => {
-            let answer = key_answer(env, alloc, t, is_mixed, is_again, key.name.name.as_str())?;
+            let answer = key_answer(env, alloc, t, is_mixed, mark, key.name.name.as_str())?;
             note_use(
                 uses,
                 key.name.span.start as usize,

@@ -7,11 +7,11 @@ ghost use Rattle.go_expr_core.specs.Lists as lists;
 use crate::looks::Exprs;
 use crate::things::Notes;
 use crate::walk::check_member;
-use go_denote_core::Denoted;
+use go_literal_core::denote_core::Denoted;
 use std::alloc::{AllocError, Global};
 
-// Whether there are more than one.
-fn is_list(exprs: &go_tree_nodes::Exprs) -> bool
+/// Whether a list has more than one expression.
+pub fn is_list(exprs: &go_tree_nodes::Exprs) -> bool
     ensures { result ≡ lists.is_list (shape_exprs exprs.now) }
 {
     match exprs.more.as_slice() {

@@ -8,7 +8,9 @@ use crate::looks::Exprs;
 use crate::notes::note_answer;
 use crate::places::{place_role, selector_role};
 use crate::things::Use;
-use go_denote_core::{Denoted, Dot, Place, Usage, dot_of, name_answer, selector_answer};
+use go_literal_core::denote_core::{
+    Denoted, Dot, Place, Usage, dot_of, name_answer, selector_answer,
+};
 use go_literal_core::literal_type;
 use go_tree_nodes::{Ident, TypeName};
 use std::alloc::{AllocError, Global};

@@ -1,19 +1,23 @@
 //! What is noted on the way.
 ghost use Rattle.std.specs.Prelude.{◌≡◌, ◌<◌, ◌++◌, [], ◌∷◌, length, slice_set, IfOk, OnOk};
 ghost use Rattle.go_tree_core.specs.declared.occurrence.Role.TheVariants as roles;
-ghost use Rattle.go_denote_core.specs.declared.things.Outcome.TheVariants as outcomes;
-ghost use Rattle.go_text_core.specs.declared.rule.Rule.TheVariants as rules;
+ghost use Rattle.go_literal_core.specs.denote_core.specs.declared.things.Outcome.TheVariants as outcomes;
+ghost use Rattle.go_literal_core.specs.text_core.specs.declared.rule.Rule.TheVariants as rules;
 ghost use Rattle.go_expr_core.specs.Uses as all_uses;
 ghost use Rattle.go_expr_core.specs.Faults as all_faults;
 
 use crate::things::{Fault, Judged, Notes, Use};
-use go_denote_core::{Answer, Denoted, Outcome};
-use go_text_core::{Rule, Span};
+use go_literal_core::denote_core::{Answer, Denoted, Outcome};
+use go_literal_core::text_core::{Rule, Span};
 use go_tree_core::Role;
 use std::alloc::AllocError;
 
-/// Notes a rule that is broken at an offset, if one is.
-pub(crate) fn note_fault(
+/// Notes a rule that is broken at an offset in bytes from the file's start, if one is.
+///
+/// # Errors
+///
+/// `AllocError` where memory is wanting.
+pub fn note_fault(
     faults: &mut Vec<Fault>,
     offset: usize,
     rule: Option<Rule>,
@@ -101,8 +105,12 @@ pub(crate) fn note_single<T: Drop, S: Drop, D: Drop>(
     note_fault(faults, offset, single_rule(denoted))
 }
 
-/// Notes a member of a list that is not one value, where the list has several members.
-pub(crate) fn note_member<T: Drop, S: Drop, D: Drop>(
+/// Notes Y3 at an offset in bytes from the file's start, where a member of a list of several is not one value.
+///
+/// # Errors
+///
+/// `AllocError` where memory is wanting.
+pub fn note_member<T: Drop, S: Drop, D: Drop>(
     faults: &mut Vec<Fault>,
     offset: usize,
     is_several: bool,

@@ -5,7 +5,7 @@ ghost use Rattle.go_tree_nodes.specs.TypeShapes.{shape_type};
 ghost use Rattle.go_tree_core.specs.declared.occurrence.Role.TheVariants as roles;
 ghost use Rattle.go_expr_core.specs.Places as places;
 
-use go_denote_core::{Place, Usage};
+use go_literal_core::denote_core::{Place, Usage};
 use go_scan_core::Operator;
 use go_tree_core::Role;
 use go_tree_nodes::{Expr, Key, TypeExpr, TypeName};
@@ -109,8 +109,8 @@ pub(crate) fn is_literal(expr: &Expr) -> bool
     }
 }
 
-/// Whether it is a call, in parentheses or not.
-pub(crate) fn is_call(expr: &Expr) -> bool
+/// Whether an expression is a call, in parentheses or not.
+pub fn is_call(expr: &Expr) -> bool
     ensures { result ≡ places.is_call (shape expr.now) }
 {
     match expr {
@@ -150,8 +150,8 @@ pub(crate) fn selector_role(usage: Usage) -> Role
     }
 }
 
-/// The first byte of the name of a type.
-pub(crate) fn type_name_start(name: &TypeName) -> usize
+/// The first byte of the name of a type, in bytes from the file's start.
+pub fn type_name_start(name: &TypeName) -> usize
     ensures { result ≡ places.type_name_start name.now }
 {
     match name {

@@ -1,23 +1,26 @@
 //! The walk over an expression.
 ghost use Rattle.std.specs.Prelude.{◌≡◌, ◌<◌, ◌++◌, [], ◌∷◌, length, slice_set, IfOk, OnOk};
 ghost use Rattle.go_tree_core.specs.declared.occurrence.Role.TheVariants as roles;
-ghost use Rattle.go_denote_core.specs.declared.things.Place.TheVariants as stands;
+ghost use Rattle.go_literal_core.specs.denote_core.specs.declared.things.Place.TheVariants as stands;
 ghost use Rattle.go_literal_core.specs.Literals.{literal_denotes as type_denotes};
 ghost use Rattle.go_tree_nodes.specs.Shapes.{shape, items_of, key_of};
-ghost use Rattle.go_denote_core.specs.Arguments as arguments;
-ghost use Rattle.go_denote_core.specs.Calls as calls;
-ghost use Rattle.go_denote_core.specs.Look.{look_of};
+ghost use Rattle.go_tree_nodes.specs.TypeShapes.{shape_type};
+ghost use Rattle.go_literal_core.specs.Marks.{type_fields};
+ghost use Rattle.go_literal_core.specs.denote_core.specs.Arguments as arguments;
+ghost use Rattle.go_literal_core.specs.denote_core.specs.Calls as calls;
+ghost use Rattle.go_literal_core.specs.denote_core.specs.Look.{look_of};
 ghost use Rattle.go_expr_core.specs.Operators as operators;
 ghost use Rattle.go_expr_core.specs.Looks.{everywhere};
 ghost use Rattle.go_expr_core.specs.Places as places;
 ghost use Rattle.go_expr_core.specs.Denoting as denoting;
 ghost use Rattle.go_expr_core.specs.Uses as all_uses;
 ghost use Rattle.go_expr_core.specs.Faults as all_faults;
-ghost use Rattle.go_expr_core.specs.mirrors.Flags as marks;
+ghost use Rattle.go_expr_core.specs.TypeUses as type_uses;
+ghost use Rattle.go_expr_core.specs.mirrors.Marked as marks;
 ghost use Rattle.go_expr_core.specs.mirrors.Turns as turns;
 
 use crate::elements::{
-    answer_call, check_key, flag_at, is_lone_call, is_mixed, is_several, mark_keys, note_misfit,
+    answer_call, check_key, is_lone_call, is_mixed, is_several, mark_at, mark_keys, note_misfit,
 };
 use crate::looks::Exprs;
 use crate::names::{check_ident, check_selector, check_type_name};
@@ -30,12 +33,12 @@ use crate::places::{
 use crate::things::{Fault, Notes, Use};
 use crate::types::check_type;
 use go_constant_core::{Constant, ConstantText, natural};
-use go_denote_core::{Denoted, Place, dot_of};
-use go_literal_core::{Mode, element_target, literal_denotes, literal_mode, literal_rule};
-use go_operand_core::{Operand, ValueType};
+use go_literal_core::denote_core::{Denoted, Place, dot_of};
+use go_literal_core::operand_core::{Operand, ValueType};
+use go_literal_core::text_core::Span;
+use go_literal_core::{KeyMark, Mode, element_target, literal_denotes, literal_mode, literal_rule};
 use go_scan_core::Operator;
-use go_text_core::Span;
-use go_tree_nodes::{Expr, Ident, Item, Key, TextLiteral};
+use go_tree_nodes::{Expr, Ident, Item, Key, TextLiteral, TypeExpr, TypeName};
 use std::alloc::{AllocError, Global};
 
 fn untyped<T: Drop, S: Drop, D: Drop>(
@@ -126,54 +129,108 @@ pub fn check_expr<E: Exprs>(
             check_unary(env, alloc, place, *operator, *span, inner, notes)
         }
         Expr::Binary(binary) => {
-            let left = &binary.left;
-            let a = check_operand(env, alloc, Place::Value, left, notes)?;
+            let a = check_operand(env, alloc, Place::Value, &binary.left, notes)?;
             let b = check_operand(env, alloc, Place::Value, &binary.right, notes)?;
-            let operator = binary.operator;
-            finish_binary(env, alloc, &mut notes.faults, operator, start(left), a, b)
+            let offset = start(&binary.left);
+            finish_binary(env, alloc, &mut notes.faults, binary.operator, offset, a, b)
         }
         Expr::Select(select) => {
             check_select(env, alloc, place, &select.operand, &select.name, notes)
         }
         Expr::Call(call) => {
-            let function = check_expr(env, alloc, Place::Callee, &call.callee, notes)?;
-            let at = notes.uses.len();
-            let opening = call.open;
-            open_call(&mut notes.uses, opening)?;
-            let args = &call.args;
-            let members = check_args(env, alloc, args, notes)?;
-            let is_lone = is_lone_call(args);
-            finish_call(
-                env,
-                alloc,
-                &mut notes.uses,
-                at,
-                opening,
-                &function,
-                is_lone,
-                members,
-            )
+            let callee = check_expr(env, alloc, Place::Callee, &call.callee, notes)?;
+            check_called(env, alloc, &callee, call.open, &call.args, notes)
         }
         Expr::Literal(literal) => {
-            let name = &literal.type_name;
-            let t = check_type_name(env, alloc, name, &mut notes.uses)?;
-            let offset = type_name_start(name);
-            check_elements(env, alloc, offset, t, &literal.elements, notes)
+            check_literal(env, alloc, &literal.type_name, &literal.elements, notes)
         }
         Expr::StructLiteral(literal) => {
-            let tree = &literal.type_expr;
-            check_type(env, alloc, tree, &mut notes.uses)?;
-            env.add_type_faults(alloc, tree, &mut notes.faults)?;
-            let t = env.written(alloc, tree)?;
-            let offset = type_start(tree);
-            check_elements(env, alloc, offset, t, &literal.elements, notes)
+            check_struct_literal(env, alloc, &literal.elements, &literal.type_expr, notes)
         }
     }
 }
 
-// An operand, which is to be one value.
+/// Notes what a call has, by what is called, whose opening parenthesis is given, and what its arguments have, and their faults, and answers
+/// what it denotes. What stands before the parenthesis is noted before.
+///
+/// The Go specification, "Calls".
+///
+/// # Errors
+///
+/// `AllocError` where memory is wanting; then some may be noted.
 #[cycle(check)]
-fn check_operand<E: Exprs>(
+pub fn check_called<E: Exprs>(
+    env: &E,
+    alloc: Global,
+    callee: &Denoted<E::Type, E::Signature, E::Decl>,
+    opening: Span,
+    args: &Vec<Item>,
+    notes: &mut Notes<E::Decl, E::Path>,
+) -> Result<Denoted<E::Type, E::Signature, E::Decl>, AllocError>
+    ensures denoted { IfOk result (λ d. d ≡ (denoting.answer_by (everywhere (E.types env.now) (E.names env.now) (E.literals env.now) (E.written env.now)) callee.now opening (items_of args.now.items)).denoted) }
+    ensures uses { OnOk result (notes.new.uses.items ≡ notes.old.uses.items ++ all_uses.made_use opening.start roles.Call (denoting.answer_by (everywhere (E.types env.now) (E.names env.now) (E.literals env.now) (E.written env.now)) callee.now opening (items_of args.now.items)).outcome ∷ all_uses.args_uses (everywhere (E.types env.now) (E.names env.now) (E.literals env.now) (E.written env.now)) (items_of args.now.items)) }
+    ensures faults { OnOk result (notes.new.faults.items ≡ notes.old.faults.items ++ all_faults.args_faults (everywhere (E.types env.now) (E.names env.now) (E.literals env.now) (E.written env.now)) (places.is_several (items_of args.now.items)) (items_of args.now.items)) }
+{
+    let at = notes.uses.len();
+    open_call(&mut notes.uses, opening)?;
+    let members = check_args(env, alloc, args, notes)?;
+    let is_lone = is_lone_call(args);
+    finish_call(
+        env,
+        alloc,
+        &mut notes.uses,
+        at,
+        opening,
+        callee,
+        is_lone,
+        members,
+    )
+}
+
+// A literal of a type that is named.
+#[cycle(check)]
+fn check_literal<E: Exprs>(
+    env: &E,
+    alloc: Global,
+    name: &TypeName,
+    items: &Vec<Item>,
+    notes: &mut Notes<E::Decl, E::Path>,
+) -> Result<Denoted<E::Type, E::Signature, E::Decl>, AllocError>
+    ensures denoted { IfOk result (λ d. d ≡ type_denotes (denoting.named_type (everywhere (E.types env.now) (E.names env.now) (E.literals env.now) (E.written env.now)) name.now)) }
+    ensures uses { OnOk result (notes.new.uses.items ≡ notes.old.uses.items ++ (all_uses.type_name_uses (everywhere (E.types env.now) (E.names env.now) (E.literals env.now) (E.written env.now)) name.now ++ all_uses.elements_uses (everywhere (E.types env.now) (E.names env.now) (E.literals env.now) (E.written env.now)) (denoting.named_type (everywhere (E.types env.now) (E.names env.now) (E.literals env.now) (E.written env.now)) name.now) (items_of items.now.items))) }
+    ensures faults { OnOk result (notes.new.faults.items ≡ notes.old.faults.items ++ all_faults.literal_faults (everywhere (E.types env.now) (E.names env.now) (E.literals env.now) (E.written env.now)) (places.type_name_start name.now) (denoting.named_type (everywhere (E.types env.now) (E.names env.now) (E.literals env.now) (E.written env.now)) name.now) (items_of items.now.items)) }
+{
+    let t = check_type_name(env, alloc, name, &mut notes.uses)?;
+    check_elements(env, alloc, type_name_start(name), t, items, notes)
+}
+
+// A literal of a struct type that is written out.
+#[cycle(check)]
+fn check_struct_literal<E: Exprs>(
+    env: &E,
+    alloc: Global,
+    items: &Vec<Item>,
+    tree: &TypeExpr,
+    notes: &mut Notes<E::Decl, E::Path>,
+) -> Result<Denoted<E::Type, E::Signature, E::Decl>, AllocError>
+    ensures denoted { IfOk result (λ d. d ≡ type_denotes (denoting.written_type (everywhere (E.types env.now) (E.names env.now) (E.literals env.now) (E.written env.now)) (shape_type tree.now))) }
+    ensures uses { OnOk result (notes.new.uses.items ≡ notes.old.uses.items ++ (type_uses.type_uses (everywhere (E.types env.now) (E.names env.now) (E.literals env.now) (E.written env.now)) (shape_type tree.now) ++ all_uses.elements_uses (everywhere (E.types env.now) (E.names env.now) (E.literals env.now) (E.written env.now)) (denoting.written_type (everywhere (E.types env.now) (E.names env.now) (E.literals env.now) (E.written env.now)) (shape_type tree.now)) (items_of items.now.items))) }
+    ensures faults { OnOk result (notes.new.faults.items ≡ notes.old.faults.items ++ ((E.written env.now).faults_of (denoting.named_type (everywhere (E.types env.now) (E.names env.now) (E.literals env.now) (E.written env.now))) (shape_type tree.now) ++ all_faults.literal_faults (everywhere (E.types env.now) (E.names env.now) (E.literals env.now) (E.written env.now)) (places.type_start (shape_type tree.now)) (denoting.written_type (everywhere (E.types env.now) (E.names env.now) (E.literals env.now) (E.written env.now)) (shape_type tree.now)) (items_of items.now.items))) }
+{
+    check_type(env, alloc, tree, &mut notes.uses)?;
+    env.add_type_faults(alloc, tree, &mut notes.faults)?;
+    let t = env.written(alloc, tree)?;
+    check_elements(env, alloc, type_start(tree), t, items, notes)
+}
+
+/// Notes what the identifiers and the calls of an operand have, and its faults, and answers what it denotes at its place. What is not one
+/// value breaks Y3.
+///
+/// # Errors
+///
+/// `AllocError` where memory is wanting; then some may be noted.
+#[cycle(check)]
+pub fn check_operand<E: Exprs>(
     env: &E,
     alloc: Global,
     place: Place,
@@ -279,7 +336,7 @@ fn check_elements<E: Exprs>(
     ensures uses { OnOk result (notes.new.uses.items ≡ notes.old.uses.items ++ all_uses.elements_uses (everywhere (E.types env.now) (E.names env.now) (E.literals env.now) (E.written env.now)) t (items_of items.now.items)) }
     ensures faults { OnOk result (notes.new.faults.items ≡ notes.old.faults.items ++ all_faults.literal_faults (everywhere (E.types env.now) (E.names env.now) (E.literals env.now) (E.written env.now)) offset t (items_of items.now.items)) }
 {
-    let marks = mark_keys(alloc, items)?;
+    let marks = mark_keys(env, alloc, &t, items)?;
     let rule = literal_rule(env, &t, marks.keys, items.len());
     let mode = literal_mode(env, &t, marks.keys, items.len());
     note_fault(&mut notes.faults, offset, rule)?;
@@ -289,7 +346,7 @@ fn check_elements<E: Exprs>(
         &t,
         mode,
         is_mixed(marks.keys),
-        &marks.again,
+        &marks.marks,
         items,
         notes,
     )?;
@@ -304,11 +361,11 @@ fn check_each<E: Exprs>(
     t: &Option<E::Type>,
     mode: Mode,
     mixed: bool,
-    again: &[bool],
+    key_marks: &[KeyMark],
     items: &Vec<Item>,
     notes: &mut Notes<E::Decl, E::Path>,
 ) -> Result<(), AllocError>
-    requires { again.now ≡ marks.flags [] (items_of items.now.items) }
+    requires { key_marks.now ≡ marks.marks_of (type_fields (E.literals env.now) t.now) [] (items_of items.now.items) }
     ensures uses { OnOk result (notes.new.uses.items ≡ notes.old.uses.items ++ all_uses.items_uses (everywhere (E.types env.now) (E.names env.now) (E.literals env.now) (E.written env.now)) t.now mixed [] (items_of items.now.items)) }
     ensures faults { OnOk result (notes.new.faults.items ≡ notes.old.faults.items ++ all_faults.items_faults (everywhere (E.types env.now) (E.names env.now) (E.literals env.now) (E.written env.now)) t.now mode mixed 0 [] (items_of items.now.items)) }
 {
@@ -320,7 +377,7 @@ fn check_each<E: Exprs>(
             mode,
             mixed,
             at,
-            flag_at(again, at),
+            mark_at(key_marks, at),
             &item.key,
             &item.value,
             notes,
@@ -338,15 +395,15 @@ fn check_element<E: Exprs>(
     mode: Mode,
     mixed: bool,
     number: usize,
-    is_again: bool,
+    mark: KeyMark,
     key: &Option<Box<Key>>,
     value: &Expr,
     notes: &mut Notes<E::Decl, E::Path>,
 ) -> Result<(), AllocError>
-    ensures uses { OnOk result (notes.new.uses.items ≡ notes.old.uses.items ++ turns.turn_uses (everywhere (E.types env.now) (E.names env.now) (E.literals env.now) (E.written env.now)) t.now mixed is_again (key_of key.now) (shape value.now)) }
-    ensures faults { OnOk result (notes.new.faults.items ≡ notes.old.faults.items ++ turns.turn_faults (everywhere (E.types env.now) (E.names env.now) (E.literals env.now) (E.written env.now)) t.now mode mixed number is_again (key_of key.now) (shape value.now)) }
+    ensures uses { OnOk result (notes.new.uses.items ≡ notes.old.uses.items ++ turns.turn_uses (everywhere (E.types env.now) (E.names env.now) (E.literals env.now) (E.written env.now)) t.now mixed mark (key_of key.now) (shape value.now)) }
+    ensures faults { OnOk result (notes.new.faults.items ≡ notes.old.faults.items ++ turns.turn_faults (everywhere (E.types env.now) (E.names env.now) (E.literals env.now) (E.written env.now)) t.now mode mixed number mark (key_of key.now) (shape value.now)) }
 {
-    let by_key = check_key(env, alloc, t, mixed, is_again, key, &mut notes.uses)?;
+    let by_key = check_key(env, alloc, t, mixed, mark, key, &mut notes.uses)?;
     let denoted = check_operand(env, alloc, Place::Value, value, notes)?;
     let wanted = element_target(env, t, mode, number, by_key);
     note_misfit(

@@ -1,5 +1,5 @@
 //! What a package shows to those that import it, with faces.
-ghost use Rattle.std.specs.Prelude.{◌≡◌, IfOk, OnOk, map};
+ghost use Rattle.std.specs.Prelude.{◌≡◌, ◌↔◌, IfOk, IsTrue, OnOk, map, slice_get};
 ghost use Rattle.std.specs.Option.{option_map};
 ghost use Rattle.go_block_core.specs.Exports.{name_and_decl};
 ghost use Rattle.go_block_core.specs.Tables.{has, in_block, table_of, with_first};
@@ -12,10 +12,10 @@ use crate::face::Face;
 use crate::lending::lend;
 use crate::written::place_order;
 use go_block_core::{Blocks, DeclRef, NamedDecl};
+use go_handle_core::path_core::ImportPath;
+use go_handle_core::text_core::is_exported;
 use go_handle_core::{SignatureRef, TypeRef};
-use go_path_core::ImportPath;
 use go_term_core::{Signature, TypeTerm};
-use go_text_core::is_exported;
 use indexmap::IndexMap;
 use std::alloc::{AllocError, Global};
 use std::marker::Model;
@@ -132,6 +132,52 @@ fn names_seen(
     Ok(names)
 }
 
+// The name at a place of a table with what the table has there, and none past the end.
+fn name_in(
+    names: &IndexMap<String, Option<DeclRef>>,
+    place: usize,
+) -> Option<(&str, Option<DeclRef>)>
+    ensures { option_map (λ e. (e.0.now, e.1)) result ≡ slice_get (table_of names.now) place }
+{
+    match names.get_index(place) {
+        Some((name, decl)) => Some((name.as_str(), *decl)),
+        None => None,
+    }
+}
+
+// Whether two tables have the same at a place.
+fn is_same_at(
+    names: &IndexMap<String, Option<DeclRef>>,
+    others: &IndexMap<String, Option<DeclRef>>,
+    place: usize,
+) -> bool
+    ensures { IsTrue result ↔ (slice_get (table_of names.now) place ≡ slice_get (table_of others.now) place) }
+{
+    match (name_in(names, place), name_in(others, place)) {
+        (Some((name, decl)), Some((other, declared))) => name == other && decl == declared,
+        (None, None) => true,
+        (Some(_), None) | (None, Some(_)) => false,
+    }
+}
+
+// Whether two tables have the same names in the same order.
+fn are_same_names(
+    names: &IndexMap<String, Option<DeclRef>>,
+    others: &IndexMap<String, Option<DeclRef>>,
+) -> bool
+    ensures { IsTrue result ↔ (table_of names.now ≡ table_of others.now) }
+{
+    if names.len() != others.len() {
+        return false;
+    }
+    for place in 0..names.len() {
+        if !is_same_at(names, others, place) {
+            return false;
+        }
+    }
+    true
+}
+
 impl PackageFaces {
     /// What the package of a path shows: the names of its package block, where they are exported with their declarations, and these faces,
     /// which stand in order of file and number. The time that it takes is linear in the names of the block.
@@ -174,6 +220,21 @@ impl PackageFaces {
         ensures { result.now ≡ self.now.path }
     {
         &self.content.path
+    }
+
+    /// The faces, in order of file and number.
+    pub fn faces(&self) -> &[DeclaredFace]
+        ensures { map declared_shown result.now ≡ self.now.faces }
+    {
+        self.content.faces.as_slice()
+    }
+
+    /// Whether two packages have the same names in their package blocks, in the same order, as others see them. The time that it takes is
+    /// linear in the names. It takes no memory.
+    pub fn has_same_names(&self, other: &PackageFaces) -> bool
+        ensures { IsTrue result ↔ (self.now.names ≡ other.now.names) }
+    {
+        are_same_names(&self.content.names, &other.content.names)
     }
 
     /// What a declaration of the package is, by its file and its number: none where nothing is known of it. The time that it takes is

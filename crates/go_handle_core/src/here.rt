@@ -6,8 +6,8 @@ use crate::conversion::is_convertible;
 use crate::home::Home;
 use crate::identity::is_identical;
 use crate::types::TypeRef;
-use go_operand_core::{TypeForm, TypeLooks};
-use go_table_core::TypeTable;
+use go_decide_core::operand_core::{TypeForm, TypeLooks};
+use go_decide_core::table_core::TypeTable;
 use std::alloc::{AllocError, Global};
 
 /// The types of a table, as a place of a package sees them.

@@ -1,18 +1,18 @@
 //! What the declarations of a package are.
 ghost use Rattle.std.specs.Prelude.{◌≡◌, IfOk, length, map};
-ghost use Rattle.go_entry_core.specs.Outlines.{outline_shown};
-ghost use Rattle.go_needs_core.specs.Needs.{AreValues};
-ghost use Rattle.go_face_core.specs.Faces.{TheFace};
-ghost use Rattle.go_env_core.specs.Scenes.{scene_shown};
+ghost use Rattle.go_value_core.specs.entry_core.specs.Outlines.{outline_shown};
+ghost use Rattle.go_value_core.specs.needs_core.specs.Needs.{AreValues};
+ghost use Rattle.go_value_core.specs.face_core.specs.Faces.{TheFace};
+ghost use Rattle.go_value_core.specs.env_core.specs.Scenes.{scene_shown};
 ghost use Rattle.go_value_core.specs.Package.{declared_face, package_needs, placed_decls};
 
 use crate::stage::Stage;
-use go_decl_core::Outline;
-use go_env_core::Scene;
-use go_face_core::Face;
-use go_handle_core::{SignatureRef, TypeRef};
-use go_inline_core::InlineTypes;
-use go_needs_core::values_of;
+use go_value_core::decl_core::Outline;
+use go_value_core::env_core::Scene;
+use go_value_core::face_core::Face;
+use go_value_core::handle_core::{SignatureRef, TypeRef};
+use go_value_core::inline_core::InlineTypes;
+use go_value_core::needs_core::values_of;
 use go_value_core::{package_needs, placed_decls};
 use std::alloc::{AllocError, Global};
 
@@ -21,7 +21,8 @@ use std::alloc::{AllocError, Global};
 /// themselves.
 ///
 /// `outlines` has an outline for each file of the package in order of name, and `inlines` the types that are written in the initialisers of
-/// each. Each initialiser is checked once for each name that it is the expression of, and names are looked up once.
+/// each. Each initialiser is checked once for each name that it is the expression of: a call that gives values to several names, once for
+/// each of them, so time grows with the number of these names times the length of the call. Names are looked up once.
 ///
 /// The Go specification, "Constant declarations", "Variable declarations", "Package initialization".
 ///

@@ -1,4 +1,5 @@
 pub mod Names
+pub mod Marking
 pub mod Turns
 pub mod FieldLaws
 pub mod KeyLaws

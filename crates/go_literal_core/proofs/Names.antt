@@ -21,7 +21,7 @@ same_bools true b f g = sym (f refl)
 same_bools false true f g = g refl
 same_bools false false f g = refl
 
-bytes_turned : (x y : List ℕ) → bytes_eq x y ≡ bytes_eq y x
+pub bytes_turned : (x y : List ℕ) → bytes_eq x y ≡ bytes_eq y x
 bytes_turned x y = same_bools (bytes_eq x y) (bytes_eq y x) (λ h. bytes_itself y x (sym (bytes_same x y h))) (λ h. bytes_itself x y (sym (bytes_same y x h)))
 
 -- a name that is there changes nothing
@@ -87,7 +87,7 @@ noted_again seen again name seen' again' is_new is h same more = record { has_se
 
 -- the names seen, with one more behind them
 
-names_more : (xs : List (Bor (List ℕ))) (i : ℕ) (d : Bor (List ℕ)) → i < length xs
+pub names_more : (xs : List (Bor (List ℕ))) (i : ℕ) (d : Bor (List ℕ)) → i < length xs
     → map (λ y. y.now) (take (i + 1) xs) ≡ map (λ y. y.now) (take i xs) ++ (get_or xs i d).now ∷ []
 names_more xs i d lt =
     ap (λ j. map (λ y. y.now) (take j xs)) (add-one i)
@@ -127,15 +127,3 @@ again_turn xs i d seen again seen' again' lt before repeats_before noted n =
     ∙ (ap (λ b. (bytes_eq x n && b) || has_name n again) (before x)
     ∙ (ap (λ b. (bytes_eq x n && has_name x names) || b) (repeats_before n)
     ∙ (sym (repeats_last names x n) ∙ ap (repeats n) (sym (names_more xs i d lt)))))
-
--- a flag for one more
-pub flag_turn : (xs : List (Bor (List ℕ))) (i : ℕ) (d : Bor (List ℕ)) (again all : List (List ℕ)) (flags flags' : List Bool) (flag : Bool) → i < length xs
-    → HasRepeats again all → flag ≡ has_name (get_or xs i d).now again → flags ≡ map (λ n. repeats n all) (map (λ y. y.now) (take i xs)) → flags' ≡ flags ++ flag ∷ []
-    → flags' ≡ map (λ n. repeats n all) (map (λ y. y.now) (take (i + 1) xs))
-flag_turn xs i d again all flags flags' flag lt has this before after =
-    let names = map (λ y. y.now) (take i xs) in
-    let x = (get_or xs i d).now in
-    after
-    ∙ (ap (λ l. l ++ flag ∷ []) before
-    ∙ (ap (λ b. map (λ n. repeats n all) names ++ b ∷ []) (this ∙ has x)
-    ∙ (sym (map-append (λ n. repeats n all) names (x ∷ [])) ∙ ap (map (λ n. repeats n all)) (sym (names_more xs i d lt)))))

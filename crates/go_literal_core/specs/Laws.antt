@@ -21,6 +21,7 @@ use Rattle.go_literal_core.specs.Fields.{named_field}
 use Rattle.go_literal_core.specs.Literals.{keys_among, is_visible, literal_type, literal_denotes, literal_rule, literal_mode, element_target, misfits}
 use Rattle.go_literal_core.specs.Keys.{key_answer, KeyContext, key_rule}
 use Rattle.go_literal_core.specs.Repeats.{has_name, repeats, repeated, others}
+use Rattle.go_literal_core.specs.Marks.{type_fields, made_mark, marked_answer}
 use Rattle.go_literal_core.specs.Rules.{is_field, fields_in, key_rules, declaration_of_field, wanted, literal_rules}
 
 -- keys
@@ -50,6 +51,12 @@ pub record NamedFields (T D : Type 0) : Type 0 where
       → (named_field fields name ≡ nameds.Hidden) ↔ ((known : LiteralField T D) × IsSpelled T D fields name known × (known.is_visible ≡ false))
   pub missing : (fields : List (FieldOf T D)) (name : List ℕ)
       → (named_field fields name ≡ nameds.Missing) ↔ ((known : LiteralField T D) → IsSpelled T D fields name known → ⊥)
+
+-- a key has by its mark what it has by its name
+abbrev pub MarksTellKeys : (T S D P : Type 0) → Type 0
+MarksTellKeys T S D P =
+    (look : LiteralLook T S D P) (t : Option T) (is_mixed is_repeated : Bool) (name : List ℕ)
+    → marked_answer look t is_mixed (made_mark (type_fields look.literals t) is_repeated name) name ≡ key_answer look t is_mixed is_repeated name
 
 -- What a key has is its context's rule at its own name. The context is made of the other keys alone, and so is the same whatever the
 -- key's own name; and the rule looks at the name only for whether it is `_` or among the other keys, and for what the literal's type

@@ -2,10 +2,12 @@
 ghost use Rattle.std.specs.Prelude.{◌≡◌, IfOk};
 ghost use Rattle.go_literal_core.specs.Look.{literal_look_of};
 ghost use Rattle.go_literal_core.specs.Keys as keys;
+ghost use Rattle.go_literal_core.specs.Fields as fields;
+ghost use Rattle.go_literal_core.specs.Marks as marks;
 
 use crate::literals::is_struct;
 use crate::looks::Literals;
-use crate::things::{KeyAnswer, LiteralField, NamedField};
+use crate::things::{KeyAnswer, KeyMark, LiteralField, NamedField};
 use go_denote_core::{Outcome, Selection};
 use go_text_core::Rule;
 use std::alloc::{AllocError, Global};
@@ -40,21 +42,52 @@ fn missing_rule<T: Drop, S: Drop, D: Drop, P: Drop>(selection: Selection<T, S, D
     }
 }
 
+// A field that a name names.
+fn shown_field<T: Drop, D: Drop>(field: LiteralField<T, D>) -> NamedField<T, D>
+    ensures { result ≡ fields.shown_field field.is_visible field }
+{
+    if field.is_visible {
+        NamedField::Visible(field)
+    } else {
+        NamedField::Hidden
+    }
+}
+
+// The field of a number, if there is one.
+fn numbered_field<E: Literals>(
+    env: &E,
+    t: &E::Type,
+    number: Option<usize>,
+) -> NamedField<E::Type, E::Decl>
+    ensures { result ≡ marks.numbered_field ((E.literals env.now).fields t.now) number }
+{
+    match number {
+        None => NamedField::Missing,
+        Some(at) => {
+            if at < env.field_count(t) {
+                shown_field(env.field_at(t, at))
+            } else {
+                NamedField::Missing
+            }
+        }
+    }
+}
+
 // A key other than `_` of a struct type, where each element has one.
 fn named_key<E: Literals>(
     env: &E,
     alloc: Global,
     t: &E::Type,
-    is_repeated: bool,
+    mark: KeyMark,
     name: &str,
 ) -> Result<KeyAnswer<E::Type, E::Decl, E::Path>, AllocError>
-    ensures { IfOk result (λ answer. answer ≡ keys.named_key (literal_look_of (E.types env.now) (E.names env.now) (E.literals env.now)) t.now is_repeated name.now) }
+    ensures { IfOk result (λ answer. answer ≡ marks.marked_key (literal_look_of (E.types env.now) (E.names env.now) (E.literals env.now)) t.now mark name.now) }
 {
-    match env.field_named(t, name) {
+    match numbered_field(env, t, mark.field) {
         NamedField::Hidden => Ok(refused_key(Rule::F2)),
         NamedField::Missing => Ok(refused_key(missing_rule(env.select(alloc, t, name)?))),
         NamedField::Visible(field) => {
-            if is_repeated {
+            if mark.is_repeated {
                 Ok(refused_key(Rule::F4))
             } else {
                 Ok(field_key(field))
@@ -69,10 +102,10 @@ fn struct_key<E: Literals>(
     alloc: Global,
     t: &E::Type,
     is_mixed: bool,
-    is_repeated: bool,
+    mark: KeyMark,
     name: &str,
 ) -> Result<KeyAnswer<E::Type, E::Decl, E::Path>, AllocError>
-    ensures { IfOk result (λ answer. answer ≡ keys.struct_key (literal_look_of (E.types env.now) (E.names env.now) (E.literals env.now)) t.now is_mixed is_repeated name.now) }
+    ensures { IfOk result (λ answer. answer ≡ marks.marked_struct_key (literal_look_of (E.types env.now) (E.names env.now) (E.literals env.now)) t.now is_mixed mark name.now) }
 {
     if is_mixed {
         return Ok(refused_key(Rule::F5));
@@ -80,10 +113,10 @@ fn struct_key<E: Literals>(
     if name == "_" {
         return Ok(refused_key(Rule::F1));
     }
-    named_key(env, alloc, t, is_repeated, name)
+    named_key(env, alloc, t, mark, name)
 }
 
-/// What a key of a literal has, and the type that its element is to be assignable to.
+/// What a key of a literal has, by its mark, and the type that its element is to be assignable to.
 ///
 /// The first of these rules that it breaks, or else the declaration of the field that it names: F8, the literal's type is refused or
 /// no struct type; F5, some elements have keys and some have not; F2, the field of its name is non-exported and of another package;
@@ -98,16 +131,16 @@ pub fn key_answer<E: Literals>(
     alloc: Global,
     t: &Option<E::Type>,
     is_mixed: bool,
-    is_repeated: bool,
+    mark: KeyMark,
     name: &str,
 ) -> Result<KeyAnswer<E::Type, E::Decl, E::Path>, AllocError>
-    ensures { IfOk result (λ answer. answer ≡ keys.key_answer (literal_look_of (E.types env.now) (E.names env.now) (E.literals env.now)) t.now is_mixed is_repeated name.now) }
+    ensures { IfOk result (λ answer. answer ≡ marks.marked_answer (literal_look_of (E.types env.now) (E.names env.now) (E.literals env.now)) t.now is_mixed mark name.now) }
 {
     match t {
         None => Ok(refused_key(Rule::F8)),
         Some(t) => {
             if is_struct(env, t) {
-                struct_key(env, alloc, t, is_mixed, is_repeated, name)
+                struct_key(env, alloc, t, is_mixed, mark, name)
             } else {
                 Ok(refused_key(Rule::F8))
             }

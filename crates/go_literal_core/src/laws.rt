@@ -1,5 +1,5 @@
 //! Laws of composite literals.
-ghost use Rattle.go_literal_core.specs.Laws.{FirstRuleOfKey, NamedFields, OwnNameDecidesKey, KeysAreLocal, RepeatedNames};
+ghost use Rattle.go_literal_core.specs.Laws.{FirstRuleOfKey, NamedFields, OwnNameDecidesKey, KeysAreLocal, MarksTellKeys, RepeatedNames};
 ghost use Rattle.go_literal_core.specs.Laws.{KeysOfElements, FirstRuleOfLiteral, RulesOfLiterals, TargetsOfElements, TypesOfLiterals, ElementsFit, LiteralsAreLocal};
 ghost use Rattle.go_literal_core.specs.Samples.{WorkedLiterals};
 
@@ -14,6 +14,12 @@ pub fn first_rule_of_key<T, S, D, P>()
 /// visible or hidden, and none is found exactly where none is spelled so.
 pub fn fields_by_name<T, D>()
     ensures { NamedFields T D }
+{}
+
+/// A law, with nothing to run: a key's mark tells all that its answer asks of the other keys and of the spellings of fields: by its mark
+/// among them a key has what it has by its own name.
+pub fn marks_tell_keys<T, S, D, P>()
+    ensures { MarksTellKeys T S D P }
 {}
 
 /// A law, with nothing to run: what a key has is what its context gives for its name. The context has the spellings of the other keys

@@ -10,18 +10,24 @@ mod keys;
 mod laws;
 mod literals;
 mod looks;
+mod marks;
 mod repeats;
 mod things;
 
 pub use keys::key_answer;
 pub use laws::{
     elements_fit, fields_by_name, first_rule_of_key, first_rule_of_literal, keys_are_local,
-    keys_of_elements, literals_are_local, own_name_decides_key, repeated_names, rules_of_literals,
-    targets_of_elements, types_of_literals, worked_literals,
+    keys_of_elements, literals_are_local, marks_tell_keys, own_name_decides_key, repeated_names,
+    rules_of_literals, targets_of_elements, types_of_literals, worked_literals,
 };
 pub use literals::{
     element_target, keys_among, literal_denotes, literal_mode, literal_rule, literal_type, misfits,
 };
 pub use looks::Literals;
-pub use repeats::repeated;
-pub use things::{KeyAnswer, Keys, LiteralField, Mode, NamedField};
+pub use marks::key_marks;
+pub use things::{KeyAnswer, KeyMark, Keys, LiteralField, Mode, NamedField};
+
+// Passed on, so that the crates above list this one alone.
+pub use go_denote_core as denote_core;
+pub use go_operand_core as operand_core;
+pub use go_text_core as text_core;

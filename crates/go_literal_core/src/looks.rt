@@ -1,10 +1,10 @@
 //! What is asked of the fields of struct types.
-ghost use Rattle.std.specs.Prelude.{◌≡◌, ◌<◌, Some, length, option_map, slice_get};
+ghost use Rattle.std.specs.Prelude.{◌≡◌, ◌<◌, IfOk, Some, length, map, option_map, slice_get};
 ghost use Rattle.go_literal_core.specs.Look.{LiteralRules};
-ghost use Rattle.go_literal_core.specs.Fields.{named_field};
 
-use crate::things::{LiteralField, NamedField};
+use crate::things::LiteralField;
 use go_denote_core::Names;
+use std::alloc::{AllocError, Global};
 
 /// The fields of struct types, as a place sees them, beside what names stand for there and what types there are.
 ///
@@ -22,7 +22,11 @@ pub trait Literals: Names {
         requires { at < length ((literals self.now).fields t.now) }
         ensures { option_map (λ f. f.known) (slice_get ((literals self.now).fields t.now) at) ≡ Some result };
 
-    /// The field of a struct type that is spelled as a name other than `_`. It takes no memory.
-    fn field_named(&self, t: &Self::Type, name: &str) -> NamedField<Self::Type, Self::Decl>
-        ensures { result ≡ named_field ((literals self.now).fields t.now) name.now };
+    /// The spellings of the fields of a struct type in order, blank ones included. Time grows with their number.
+    ///
+    /// # Errors
+    ///
+    /// `AllocError` where memory is wanting.
+    fn field_names(&self, alloc: Global, t: &Self::Type) -> Result<Vec<&str>, AllocError>
+        ensures { IfOk result (λ names. map (λ n. n.now) names.items ≡ map (λ f. f.name) ((literals self.now).fields t.now)) };
 }

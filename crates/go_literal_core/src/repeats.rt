@@ -1,6 +1,6 @@
 //! Spellings that stand in a list more than once.
 ghost use Rattle.std.specs.Prelude.{◌≡◌, ℕ, List, ◌∷◌, IfOk, OnOk, map, not};
-ghost use Rattle.go_literal_core.specs.Repeats.{has_name, repeated as repeated_of};
+ghost use Rattle.go_literal_core.specs.Repeats.{has_name};
 ghost use Rattle.go_literal_core.specs.mirrors.Sets.{HasRepeats, Notes};
 
 use indexmap::IndexSet;
@@ -32,8 +32,11 @@ fn note<'a>(
     Ok(())
 }
 
-// The names that stand in a list more than once.
-fn names_again<'a>(alloc: Global, names: &[&'a str]) -> Result<IndexSet<&'a str>, AllocError>
+/// The names that stand in a list more than once.
+pub(crate) fn names_again<'a>(
+    alloc: Global,
+    names: &[&'a str],
+) -> Result<IndexSet<&'a str>, AllocError>
     ensures { IfOk result (λ again. HasRepeats (map (λ n. n.now) again.keys) (map (λ n. n.now) names.now)) }
 {
     let mut seen = IndexSet::new(alloc);
@@ -42,20 +45,4 @@ fn names_again<'a>(alloc: Global, names: &[&'a str]) -> Result<IndexSet<&'a str>
         note(&mut seen, &mut again, *name)?;
     }
     Ok(again)
-}
-
-/// Of each of some spellings whether it stands among them more than once. Time grows with the number of spellings.
-///
-/// # Errors
-///
-/// `AllocError` where memory is wanting.
-pub fn repeated(alloc: Global, names: &[&str]) -> Result<Vec<bool>, AllocError>
-    ensures { IfOk result (λ flags. flags.items ≡ repeated_of (map (λ n. n.now) names.now)) }
-{
-    let again = names_again(alloc, names)?;
-    let mut flags = Vec::with_capacity(alloc, names.len())?;
-    for name in names {
-        flags.push(again.contains(*name))?;
-    }
-    Ok(flags)
 }

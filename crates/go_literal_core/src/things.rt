@@ -44,6 +44,15 @@ pub struct KeyAnswer<T, D, P> {
     pub target: Option<T>,
 }
 
+/// What is known of a key among the keys of its literal and the fields of the literal's type.
+#[derive(Clone, Copy)]
+pub struct KeyMark {
+    /// Whether another key of the literal is spelled the same.
+    pub is_repeated: bool,
+    /// The number of the first field that is spelled so, from 0: none where no field is.
+    pub field: Option<usize>,
+}
+
 /// How the elements of a literal are tested against the fields of its type.
 #[derive(Clone, Copy)]
 pub enum Mode {

@@ -1,5 +1,5 @@
 -- Lists of names and of expressions, by the first and those behind it.
-use Rattle.std.proofs.Common.{◌≡◌, ◌+◌, ◌≤◌, Bool, true, false, List, [], ◌∷◌, ◌++◌, length, refl, sym, ap, append-nil, arith}
+use Rattle.std.proofs.Common.{◌≡◌, ◌+◌, ◌≤◌, Bool, false, List, [], ◌∷◌, ◌++◌, length, refl, sym, ap, append-nil, arith}
 use Rattle.go_tree_nodes.specs.declared.names.Ident.{Ident}
 use Rattle.go_tree_nodes.specs.declared.names.NextIdent.{NextIdent}
 use Rattle.go_tree_nodes.specs.declared.exprs.Expr.{Expr}
@@ -9,7 +9,6 @@ use Rattle.go_tree_nodes.specs.TypeShapes.{idents_from}
 use Rattle.go_local_core.specs.Outline.{idents}
 use Rattle.go_expr_core.specs.Looks.{Looks}
 use Rattle.go_expr_core.specs.Places.{is_call, start}
-use Rattle.go_expr_core.specs.Lists.{is_list}
 use Rattle.go_piece_core.specs.Values.{is_lone_call, list_start, behind}
 use Rattle.go_piece_core.specs.Targets.{target, target_uses, target_faults, targets, targets_uses, targets_faults}
 use Rattle.go_piece_core.specs.Specifications.{names_start}
@@ -34,10 +33,6 @@ list_begins e (n ∷ ns) = refl
 pub no_more : (e : Expr) (ns : List NextExpr) → length ns ≤ 0 → behind (exprs_from e ns) ≡ exprs_from e ns
 no_more e [] h = refl
 no_more e (n ∷ ns) h = absurd (omega (arith, h))
-
-pub more_than_one : (e : Expr) (ns : List NextExpr) → 1 ≤ length ns → is_list (exprs_from e ns) ≡ true
-more_than_one e [] h = absurd (omega (arith, h))
-more_than_one e (n ∷ ns) h = refl
 
 pub not_alone : (e : Expr) (ns : List NextExpr) → 1 ≤ length ns → is_lone_call (exprs_from e ns) ≡ false
 not_alone e [] h = absurd (omega (arith, h))

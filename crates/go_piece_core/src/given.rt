@@ -5,7 +5,7 @@ ghost use Rattle.go_expr_core.specs.Looks.{everywhere};
 ghost use Rattle.go_piece_core.specs.Values as values;
 
 use crate::starts::is_lone_call;
-use go_denote_core::{Argument, arguments_of, is_free};
+use go_expr_core::denote_core::{Argument, arguments_of, is_free};
 use go_expr_core::{Exprs, Notes, check_exprs};
 use std::alloc::{AllocError, Global};
 

@@ -10,13 +10,12 @@ ghost use Rattle.go_piece_core.specs.Targets as targets;
 ghost use Rattle.go_piece_core.specs.Statements as statements;
 
 use crate::given::check_list;
-use crate::notes::note_fault;
 use crate::starts::names_start;
 use crate::types::variables;
-use go_denote_core::{Place, name_answer};
-use go_expr_core::{Exprs, Notes};
+use go_expr_core::denote_core::{Place, name_answer};
+use go_expr_core::operand_core::Operand;
+use go_expr_core::{Exprs, Notes, note_fault};
 use go_open_core::NameList;
-use go_operand_core::Operand;
 use go_statement_core::{Target, assignment_rule, short_types, target_of};
 use go_tree_nodes::{Ident, Idents};
 use std::alloc::{AllocError, Global};

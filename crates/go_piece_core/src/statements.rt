@@ -1,51 +1,82 @@
 //! Statements that may stand in a header, and conditions.
-ghost use Rattle.std.specs.Prelude.{◌≡◌, ◌++◌, IfOk, OnOk};
+ghost use Rattle.std.specs.Prelude.{◌≡◌, ◌++◌, None, IfOk, OnOk};
 ghost use Rattle.go_tree_nodes.specs.Shapes.{shape, shape_exprs};
-ghost use Rattle.go_denote_core.specs.declared.things.Place.TheVariants as stands;
+ghost use Rattle.go_expr_core.specs.denote_core.specs.declared.things.Place.TheVariants as stands;
 ghost use Rattle.go_expr_core.specs.Looks.{everywhere};
+ghost use Rattle.go_expr_core.specs.Denoting.{denoted};
 ghost use Rattle.go_expr_core.specs.Uses.{uses};
+ghost use Rattle.go_expr_core.specs.Faults.{faults};
 ghost use Rattle.go_piece_core.specs.Values as values;
 ghost use Rattle.go_piece_core.specs.Targets as targets;
 ghost use Rattle.go_piece_core.specs.Statements as statements;
 
 use crate::given::check_list;
-use crate::notes::{check_operand, note_fault};
-use crate::starts::{list_start, start};
+use crate::starts::list_start;
 use crate::targets::check_targets;
-use go_denote_core::{Denoted, Place, argument_of};
-use go_expr_core::{Exprs, Notes, check_expr};
+use go_expr_core::denote_core::{Denoted, Place, argument_of};
+use go_expr_core::{Exprs, Notes, check_called, check_expr, check_operand, note_fault, start};
 use go_statement_core::{
     assignment_rule, condition_rule, increment_rule, statement_rule, update_rule,
 };
 use go_tree_nodes::{Assignment, Expr, Update};
 use std::alloc::{AllocError, Global};
 
-// What an expression calls, if it is a call.
-fn callee_of<E: Exprs>(
+// What an expression that stands for a statement denotes, and what it calls, if it is a call.
+#[derive(Drop)]
+struct Alone<T, S, D> {
+    callee: Option<Denoted<T, S, D>>,
+    denoted: Denoted<T, S, D>,
+}
+
+// Checks an expression that is no call.
+fn check_other<E: Exprs>(
     env: &E,
     alloc: Global,
     expr: &Expr,
-) -> Result<Option<Denoted<E::Type, E::Signature, E::Decl>>, AllocError>
-    ensures { IfOk result (λ c. c ≡ statements.callee_of (everywhere (E.types env.now) (E.names env.now) (E.literals env.now) (E.written env.now)) (shape expr.now)) }
+    notes: &mut Notes<E::Decl, E::Path>,
+) -> Result<Alone<E::Type, E::Signature, E::Decl>, AllocError>
+    ensures callee { IfOk result (λ a. a.callee ≡ None) }
+    ensures denoted { IfOk result (λ a. a.denoted ≡ denoted (everywhere (E.types env.now) (E.names env.now) (E.literals env.now) (E.written env.now)) stands.«Value» (shape expr.now)) }
+    ensures uses { OnOk result (notes.new.uses.items ≡ notes.old.uses.items ++ uses (everywhere (E.types env.now) (E.names env.now) (E.literals env.now) (E.written env.now)) stands.«Value» (shape expr.now)) }
+    ensures faults { OnOk result (notes.new.faults.items ≡ notes.old.faults.items ++ faults (everywhere (E.types env.now) (E.names env.now) (E.literals env.now) (E.written env.now)) stands.«Value» (shape expr.now)) }
+{
+    let denoted = check_expr(env, alloc, Place::Value, expr, notes)?;
+    Ok(Alone {
+        callee: None,
+        denoted,
+    })
+}
+
+// Checks an expression, and keeps what it calls, if it is a call.
+fn check_with_callee<E: Exprs>(
+    env: &E,
+    alloc: Global,
+    expr: &Expr,
+    notes: &mut Notes<E::Decl, E::Path>,
+) -> Result<Alone<E::Type, E::Signature, E::Decl>, AllocError>
+    ensures callee { IfOk result (λ a. a.callee ≡ statements.callee_of (everywhere (E.types env.now) (E.names env.now) (E.literals env.now) (E.written env.now)) (shape expr.now)) }
+    ensures denoted { IfOk result (λ a. a.denoted ≡ denoted (everywhere (E.types env.now) (E.names env.now) (E.literals env.now) (E.written env.now)) stands.«Value» (shape expr.now)) }
+    ensures uses { OnOk result (notes.new.uses.items ≡ notes.old.uses.items ++ uses (everywhere (E.types env.now) (E.names env.now) (E.literals env.now) (E.written env.now)) stands.«Value» (shape expr.now)) }
+    ensures faults { OnOk result (notes.new.faults.items ≡ notes.old.faults.items ++ faults (everywhere (E.types env.now) (E.names env.now) (E.literals env.now) (E.written env.now)) stands.«Value» (shape expr.now)) }
 {
     match expr {
         Expr::Call(call) => {
-            let mut notes = Notes {
-                uses: Vec::new(alloc),
-                faults: Vec::new(alloc),
-            };
-            let callee = check_expr(env, alloc, Place::Callee, &call.callee, &mut notes)?;
-            Ok(Some(callee))
+            let callee = check_expr(env, alloc, Place::Callee, &call.callee, notes)?;
+            let denoted = check_called(env, alloc, &callee, call.open, &call.args, notes)?;
+            Ok(Alone {
+                callee: Some(callee),
+                denoted,
+            })
         }
-        Expr::Paren(_, inner, _) => callee_of(env, alloc, inner),
-        Expr::Literal(_) => Ok(None),
-        Expr::StructLiteral(_) => Ok(None),
+        Expr::Paren(_, inner, _) => check_with_callee(env, alloc, inner, notes),
+        Expr::Literal(_) => check_other(env, alloc, expr, notes),
+        Expr::StructLiteral(_) => check_other(env, alloc, expr, notes),
         Expr::Integer(_, _)
         | Expr::Text(_)
         | Expr::Name(_)
         | Expr::Unary(_, _, _)
         | Expr::Binary(_)
-        | Expr::Select(_) => Ok(None),
+        | Expr::Select(_) => check_other(env, alloc, expr, notes),
     }
 }
 
@@ -59,9 +90,8 @@ pub(crate) fn check_alone<E: Exprs>(
     ensures uses { OnOk result (notes.new.uses.items ≡ notes.old.uses.items ++ uses (everywhere (E.types env.now) (E.names env.now) (E.literals env.now) (E.written env.now)) stands.«Value» (shape expr.now)) }
     ensures faults { OnOk result (notes.new.faults.items ≡ notes.old.faults.items ++ statements.alone_faults (everywhere (E.types env.now) (E.names env.now) (E.literals env.now) (E.written env.now)) (shape expr.now)) }
 {
-    let denoted = check_expr(env, alloc, Place::Value, expr, notes)?;
-    let callee = callee_of(env, alloc, expr)?;
-    let rule = statement_rule(&callee, &denoted);
+    let alone = check_with_callee(env, alloc, expr, notes)?;
+    let rule = statement_rule(&alone.callee, &alone.denoted);
     note_fault(&mut notes.faults, start(expr), rule)
 }
 
@@ -75,7 +105,7 @@ pub(crate) fn check_step<E: Exprs>(
     ensures uses { OnOk result (notes.new.uses.items ≡ notes.old.uses.items ++ uses (everywhere (E.types env.now) (E.names env.now) (E.literals env.now) (E.written env.now)) stands.«Value» (shape expr.now)) }
     ensures faults { OnOk result (notes.new.faults.items ≡ notes.old.faults.items ++ statements.step_faults (everywhere (E.types env.now) (E.names env.now) (E.literals env.now) (E.written env.now)) (shape expr.now)) }
 {
-    let denoted = check_operand(env, alloc, expr, notes)?;
+    let denoted = check_operand(env, alloc, Place::Value, expr, notes)?;
     let rule = increment_rule(env, alloc, argument_of(denoted))?;
     note_fault(&mut notes.faults, start(expr), rule)
 }
@@ -106,8 +136,8 @@ pub(crate) fn check_update<E: Exprs>(
     ensures uses { OnOk result (notes.new.uses.items ≡ notes.old.uses.items ++ statements.update_uses (everywhere (E.types env.now) (E.names env.now) (E.literals env.now) (E.written env.now)) (shape update.now.target) (shape update.now.value)) }
     ensures faults { OnOk result (notes.new.faults.items ≡ notes.old.faults.items ++ statements.update_faults (everywhere (E.types env.now) (E.names env.now) (E.literals env.now) (E.written env.now)) (shape update.now.target) update.now.operator (shape update.now.value)) }
 {
-    let target = check_operand(env, alloc, &update.target, notes)?;
-    let value = check_operand(env, alloc, &update.value, notes)?;
+    let target = check_operand(env, alloc, Place::Value, &update.target, notes)?;
+    let value = check_operand(env, alloc, Place::Value, &update.value, notes)?;
     let operator = update.operator;
     let left = argument_of(target);
     let right = argument_of(value);

@@ -8,11 +8,10 @@ ghost use Rattle.go_expr_core.specs.Looks.{everywhere};
 ghost use Rattle.go_piece_core.specs.Specifications as specifications;
 
 use crate::given::check_list;
-use crate::notes::note_fault;
 use crate::starts::names_start;
 use crate::types::{check_some_type, variables};
-use go_expr_core::{Exprs, Notes};
-use go_operand_core::Operand;
+use go_expr_core::operand_core::Operand;
+use go_expr_core::{Exprs, Notes, note_fault};
 use go_statement_core::{declared_types, variables_rule};
 use go_tree_nodes::{Idents, ValueSpec, Values};
 use std::alloc::{AllocError, Global};

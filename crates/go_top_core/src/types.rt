@@ -2,16 +2,19 @@
 ghost use Rattle.std.specs.Prelude.{◌≡◌, ◌++◌, OnOk, map};
 ghost use Rattle.std.specs.List.{flat_map};
 ghost use Rattle.go_tree_nodes.specs.Shapes.{shape_type_decl, shape_type_line, shape_type_spec};
-ghost use Rattle.go_expr_core.specs.Looks.{everywhere};
+ghost use Rattle.go_piece_core.specs.expr_core.specs.Looks.{everywhere};
 ghost use Rattle.go_top_core.specs.Tops as tops;
 
-use go_expr_core::{Exprs, Fault, Notes, check_type};
 use go_inline_core::repeated_params;
+use go_piece_core::expr_core::{Exprs, Fault, Notes, check_type};
 use go_tree_nodes::{TypeDecl, TypeLine, TypeSpec, TypeSpecs};
 use std::alloc::{AllocError, Global};
 
 // Adds faults to others.
-fn add_faults(faults: &mut Vec<Fault>, found: &[go_local_core::Fault]) -> Result<(), AllocError>
+fn add_faults(
+    faults: &mut Vec<Fault>,
+    found: &[go_piece_core::local_core::Fault],
+) -> Result<(), AllocError>
     ensures { OnOk result (faults.new.items ≡ faults.old.items ++ map tops.fault_of found.now) }
 {
     for fault in found {

@@ -5,7 +5,7 @@ use Rattle.std.specs.Option.{option_map}
 use Rattle.std.proofs.lemmas.Bool.{cases_lt, eqb-true, eq-eqb}
 use Rattle.std.proofs.lemmas.Bool.Decides.{eqb_tells}
 use Rattle.std.proofs.lemmas.List.{get_or-map, get_or-replicate, get_or_past, length-map, length-replicate}
-use Rattle.go_text_core.specs.declared.span.Span.{Span}
+use Rattle.go_piece_core.specs.text_core.specs.declared.span.Span.{Span}
 use Rattle.go_tree_nodes.specs.declared.names.Ident.{Ident}
 use Rattle.go_tree_nodes.specs.declared.names.NextIdent.{NextIdent}
 use Rattle.go_tree_nodes.specs.declared.exprs.Expr.{Expr}
@@ -15,25 +15,26 @@ use Rattle.go_tree_nodes.specs.declared.decls.ValueKind.TheVariants as kinds
 use Rattle.go_tree_nodes.specs.TypeShapes.{idents_from}
 use Rattle.go_tree_nodes.specs.Shapes.{shape, exprs_from}
 use Rattle.go_tree_nodes.specs.Trees.{Separated, One, Then, ExprTree, ValueSpecTree}
-use Rattle.go_local_core.specs.Outline.{idents}
-use Rattle.go_operand_core.specs.declared.types.Operand.{Operand}
-use Rattle.go_operand_core.specs.TypeRules.{TypeRules}
-use Rattle.go_denote_core.specs.declared.things.Found.{Found}
-use Rattle.go_denote_core.specs.declared.things.Place.TheVariants as places
-use Rattle.go_denote_core.specs.declared.things.Denoted as declared_denoted
-use Rattle.go_denote_core.specs.declared.things.Denoted.TheVariants as denotes
-use Rattle.go_denote_core.specs.declared.things.Argument.{Argument}
-use Rattle.go_denote_core.specs.declared.things.Argument.TheVariants as arguments
-use Rattle.go_denote_core.specs.Arguments.{argument_of, arguments_of}
-use Rattle.go_denote_core.specs.Look.{Look}
-use Rattle.go_statement_core.specs.Declarations.{given_type, declared_types}
-use Rattle.go_expr_core.specs.Looks.{Looks, at}
-use Rattle.go_expr_core.specs.Places.{start}
-use Rattle.go_expr_core.specs.Denoting.{denoted}
-use Rattle.go_expr_core.specs.Lists.{denoted_exprs}
-use Rattle.go_expr_core.specs.Laws.{Agree, LooksAtNames, finding}
-use Rattle.go_expr_core.proofs.Alike.{needed_names}
-use Rattle.go_value_core.specs.Initial.{count, some_type, values_given, variable, constant_value, constant_values, values_of, initial, exprs, expr_in, expr_behind, expr_of, some_needed, initial_idents}
+use Rattle.go_piece_core.specs.local_core.specs.Outline.{idents}
+use Rattle.go_piece_core.specs.operand_core.specs.declared.types.Operand.{Operand}
+use Rattle.go_piece_core.specs.operand_core.specs.TypeRules.{TypeRules}
+use Rattle.go_piece_core.specs.denote_core.specs.declared.things.Found.{Found}
+use Rattle.go_piece_core.specs.denote_core.specs.declared.things.Place.TheVariants as places
+use Rattle.go_piece_core.specs.denote_core.specs.declared.things.Denoted as declared_denoted
+use Rattle.go_piece_core.specs.denote_core.specs.declared.things.Denoted.TheVariants as denotes
+use Rattle.go_piece_core.specs.denote_core.specs.declared.things.Argument.{Argument}
+use Rattle.go_piece_core.specs.denote_core.specs.declared.things.Argument.TheVariants as arguments
+use Rattle.go_piece_core.specs.denote_core.specs.Arguments.{argument_of, arguments_of}
+use Rattle.go_piece_core.specs.denote_core.specs.Look.{Look}
+use Rattle.go_piece_core.specs.statement_core.specs.Declarations.{given_type, declared_types}
+use Rattle.go_piece_core.specs.expr_core.specs.Looks.{Looks, at}
+use Rattle.go_piece_core.specs.expr_core.specs.Places.{start}
+use Rattle.go_piece_core.specs.expr_core.specs.Denoting.{denoted}
+use Rattle.go_piece_core.specs.expr_core.specs.Lists.{denoted_exprs}
+use Rattle.go_piece_core.specs.expr_core.specs.Laws.{Agree, LooksAtNames, finding}
+use Rattle.go_piece_core.specs.expr_core.proofs.Alike.{needed_names}
+use Rattle.go_value_core.specs.Initial.{count, some_type, values_given, variable, constant_value, constant_values, values_of, spec_values, initial, exprs, expr_in, expr_behind, expr_of, some_needed, initial_idents}
+use Rattle.go_piece_core.specs.Specifications as pieces
 use Rattle.go_value_core.specs.mirrors.Own.{one_of, is_one, is_alone, given_by, own_argument, type_from, value_from}
 
 -- counts
@@ -188,6 +189,12 @@ initial_past looks kind v i h =
     let c : length l ≡ count v = values_counted looks.types kind (some_type looks v.type_expr) (count v) (values_given looks v.values) in
     let past : length l ≤ i = omega (arith, h, c) in
     get_or_past l i None past
+
+-- what the names of a specification stand for, inside functions and outside
+
+pub specifications_alike : {T S D P : Type 0} (looks : Looks T S D P) (kind : ValueKind) (v : ValueSpecTree) → spec_values looks kind v ≡ pieces.spec_values looks kind v
+specifications_alike looks kinds.Const v = refl
+specifications_alike looks kinds.Var v = refl
 
 -- it looks at the names that it needs
 

@@ -2,26 +2,22 @@
 --
 -- docs/RULES.md, "Constants and variables of a package". The Go specification, "Constant declarations", "Variable declarations",
 -- "Package initialization".
-use Rattle.std.specs.Prelude.{ℕ, List, [], ◌∷◌, ◌==◌, length, map, replicate, slice_get, slice_index_or, true, false, Option, Some, None, if◌then◌else◌}
-use Rattle.go_text_core.specs.declared.span.Span.{Span}
+use Rattle.std.specs.Prelude.{ℕ, List, [], ◌∷◌, ◌==◌, length, map, slice_get, slice_index_or, Option, Some, None, if◌then◌else◌}
+use Rattle.go_piece_core.specs.text_core.specs.declared.span.Span.{Span}
 use Rattle.go_tree_nodes.specs.declared.names.Ident.{Ident}
 use Rattle.go_tree_nodes.specs.declared.decls.ValueKind.{ValueKind}
 use Rattle.go_tree_nodes.specs.declared.decls.ValueKind.TheVariants as kinds
-use Rattle.go_tree_nodes.specs.Trees.{Separated, One, Then, TypeTree, ExprTree, ValueSpecTree}
-use Rattle.go_local_core.specs.Outline.{idents}
-use Rattle.go_operand_core.specs.declared.types.ValueType.TheVariants as value_types
-use Rattle.go_operand_core.specs.declared.types.Operand.{Operand}
-use Rattle.go_operand_core.specs.TypeRules.{TypeRules}
-use Rattle.go_denote_core.specs.declared.things.Argument.{Argument}
-use Rattle.go_denote_core.specs.declared.things.Argument.TheVariants as arguments
-use Rattle.go_denote_core.specs.Arguments.{arguments_of}
-use Rattle.go_statement_core.specs.Declarations.{declared_types}
-use Rattle.go_statement_core.specs.Constants.{constant_answer}
-use Rattle.go_expr_core.specs.Looks.{Looks, at}
-use Rattle.go_expr_core.specs.Places.{start}
-use Rattle.go_expr_core.specs.Denoting.{written_type}
-use Rattle.go_expr_core.specs.Lists.{denoted_exprs}
-use Rattle.go_expr_core.specs.Needed.{needed_idents}
+use Rattle.go_tree_nodes.specs.Trees.{Separated, One, Then, ExprTree, ValueSpecTree}
+use Rattle.go_piece_core.specs.local_core.specs.Outline.{idents}
+use Rattle.go_piece_core.specs.operand_core.specs.declared.types.Operand.{Operand}
+use Rattle.go_piece_core.specs.operand_core.specs.TypeRules.{TypeRules}
+use Rattle.go_piece_core.specs.denote_core.specs.declared.things.Argument.{Argument}
+use Rattle.go_piece_core.specs.statement_core.specs.Declarations.{declared_types}
+use Rattle.go_piece_core.specs.expr_core.specs.Looks.{Looks}
+use Rattle.go_piece_core.specs.expr_core.specs.Needed.{needed_idents}
+pub use Rattle.go_piece_core.specs.Types.{some_type}
+pub use Rattle.go_piece_core.specs.Values.{variable, list_start}
+pub use Rattle.go_piece_core.specs.Specifications.{constant_value, constant_values, values_given}
 
 -- a specification
 
@@ -29,34 +25,7 @@ use Rattle.go_expr_core.specs.Needed.{needed_idents}
 abbrev pub count : ValueSpecTree → ℕ
 count v = length (idents v.names)
 
--- the type that is written: none where none is, and `Some None` where what is written is no type
-abbrev pub some_type : {T S D P : Type 0} → Looks T S D P → Option TypeTree → Option (Option T)
-some_type looks None = None
-some_type looks (Some t) = Some (written_type looks t)
-
--- the first byte of a list
-abbrev pub list_start : Separated ExprTree → ℕ
-list_start (One e) = start e
-list_start (Then e comma more) = start e
-
--- the values behind `=`: a call alone with several results stands for these
-abbrev pub values_given : {T S D P : Type 0} → Looks T S D P → Option (Span × Separated ExprTree) → List (Argument T)
-values_given looks None = []
-values_given looks (Some v) = arguments_of (at looks (list_start v.1)) (denoted_exprs looks v.1)
-
 -- what the names stand for
-
--- a variable stands for an addressable operand of its type, if it has one
-abbrev pub variable : {T : Type 0} → Option T → Option (Operand T)
-variable None = None
-variable (Some t) = Some (record { value_type = value_types.Typed t; constant = None; addressable = true })
-
-abbrev pub constant_value : {T : Type 0} → TypeRules T → Option (Option T) → Argument T → Option (Operand T)
-constant_value rules written a = (constant_answer rules written a).value
-
--- each constant has the value of its own; where there is not one for each, they are as those of which it is refused
-abbrev pub constant_values : {T : Type 0} → TypeRules T → Option (Option T) → ℕ → List (Argument T) → List (Option (Operand T))
-constant_values rules written n given = if n == length given then map (constant_value rules written) given else replicate n (constant_value rules written arguments.Refused)
 
 -- each name of a specification, by the type that is written and the values that are given
 abbrev pub values_of : {T : Type 0} → TypeRules T → ValueKind → Option (Option T) → ℕ → List (Argument T) → List (Option (Operand T))

@@ -2,14 +2,15 @@
 use Rattle.std.specs.Prelude.{◌≡◌, ℕ, ⊤, List, [], ◌∷◌, Option, None, Contains}
 use Rattle.go_tree_nodes.specs.declared.decls.ValueKind.{ValueKind}
 use Rattle.go_tree_nodes.specs.Trees.{ValueSpecTree}
-use Rattle.go_decl_core.specs.TopDecls.{FormTree, ValueForm, TypeForm, FuncForm}
-use Rattle.go_denote_core.specs.declared.things.Found.{Found}
-use Rattle.go_expr_core.specs.Looks.{Looks}
-use Rattle.go_expr_core.specs.Laws.{Agree, LooksAtNames, finding}
-use Rattle.go_face_core.specs.Faces.{TheFace}
+use Rattle.go_env_core.specs.decl_core.specs.TopDecls.{FormTree, ValueForm, TypeForm, FuncForm}
+use Rattle.go_piece_core.specs.denote_core.specs.declared.things.Found.{Found}
+use Rattle.go_piece_core.specs.expr_core.specs.Looks.{Looks}
+use Rattle.go_piece_core.specs.expr_core.specs.Laws.{Agree, LooksAtNames, finding}
+use Rattle.go_env_core.specs.face_core.specs.Faces.{TheFace}
 use Rattle.go_env_core.specs.Scenes.{SceneModel}
 use Rattle.go_needs_core.specs.Needs.{AreValues, known_in, needed}
-use Rattle.go_value_core.specs.Initial.{initial, initial_idents, some_type}
+use Rattle.go_value_core.specs.Initial.{spec_values, initial, initial_idents, some_type}
+use Rattle.go_piece_core.specs.Specifications as pieces
 use Rattle.go_value_core.specs.Package.{PlacedOf, package_needs, declared_face, IsThroughItself}
 
 -- what the declarations of a package are, by their positions
@@ -34,6 +35,10 @@ abbrev pub NeededNamesDecide : (T S D P : Type 0) → Type 0
 NeededNamesDecide T S D P = (looks : Looks T S D P) (find : List ℕ → ℕ → Found T S D) (kind : ValueKind) (v : ValueSpecTree) (i : ℕ)
     → LooksAtNames T looks.written → some_type looks v.type_expr ≡ some_type (finding find looks) v.type_expr → Agree looks.find find (initial_idents v i)
     → initial looks kind v i ≡ initial (finding find looks) kind v i
+
+-- what the names of a specification stand for is what they stand for in a function
+abbrev pub SpecificationsAreAlike : (T S D P : Type 0) → Type 0
+SpecificationsAreAlike T S D P = (looks : Looks T S D P) (kind : ValueKind) (v : ValueSpecTree) → spec_values looks kind v ≡ pieces.spec_values looks kind v
 
 -- two declarations are the same, but that the trees of types and functions may differ
 abbrev pub FormsAlike : FormTree → FormTree → Type 0

@@ -1,5 +1,5 @@
 //! Laws of the constants and variables of a package.
-ghost use Rattle.go_value_core.specs.Laws.{BodiesDoNotCount, NeededNamesDecide, NeedsDecide, PackageHasOneTable, ThroughItselfHasNone};
+ghost use Rattle.go_value_core.specs.Laws.{BodiesDoNotCount, NeededNamesDecide, NeedsDecide, PackageHasOneTable, SpecificationsAreAlike, ThroughItselfHasNone};
 ghost use Rattle.go_value_core.specs.Sample.{SampleIsRight};
 
 /// A law, with nothing to run: there is one answer to what the declarations of a package are.
@@ -21,6 +21,12 @@ pub fn through_itself_has_none()
 /// others: those in the elements of literals and in the expressions of other names do not count.
 pub fn needed_names_decide<T, S, D, P>()
     ensures { NeededNamesDecide T S D P }
+{}
+
+/// A law, with nothing to run: what the names of a specification outside functions stand for is what those of one inside a function do, where
+/// names mean the same.
+pub fn specifications_are_alike<T, S, D, P>()
+    ensures { SpecificationsAreAlike T S D P }
 {}
 
 /// A law, with nothing to run: what functions and types are made of counts neither for what declarations need nor for what they are, beside

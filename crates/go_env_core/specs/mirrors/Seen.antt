@@ -1,18 +1,13 @@
 -- The fields of struct types, as the code has them.
-use Rattle.std.specs.Prelude.{ℕ, Bool, List, [], Option, Some, None}
+use Rattle.std.specs.Prelude.{ℕ, Bool, true, false, List, [], ◌∷◌, Option, Some, None}
 use Rattle.std.specs.Borrow.{Bor}
 use Rattle.go_term_core.specs.declared.term.Field.{Field}
-use Rattle.go_term_core.specs.Terms.{Term, NoType}
+use Rattle.go_term_core.specs.Terms.{NoType}
 use Rattle.go_term_core.specs.Shapes.{Line, fields_in, line_at, lines_of}
-use Rattle.go_table_core.specs.declared.entry.DefinedType.{DefinedType}
-use Rattle.go_table_core.specs.Entries.{has_method}
-use Rattle.go_embed_core.specs.Owners.{OwnerModel}
-use Rattle.go_embed_core.specs.OwnersShown.{entry_owner}
-use Rattle.go_literal_core.specs.declared.things.LiteralField.{LiteralField}
-use Rattle.go_literal_core.specs.declared.things.NamedField.{NamedField}
-use Rattle.go_literal_core.specs.declared.things.NamedField.TheVariants as nameds
-use Rattle.go_literal_core.specs.Fields.{shown_field}
-use Rattle.go_handle_core.specs.Declarations.{Declaration}
+use Rattle.go_face_core.specs.table_core.specs.declared.entry.DefinedType.{DefinedType}
+use Rattle.go_face_core.specs.table_core.specs.Entries.{has_method}
+use Rattle.go_face_core.specs.embed_core.specs.Owners.{OwnerModel}
+use Rattle.go_face_core.specs.embed_core.specs.OwnersShown.{entry_owner}
 use Rattle.go_env_core.specs.declared.fields.SeenFields.{SeenFields}
 use Rattle.go_env_core.specs.Scenes.{SceneModel}
 use Rattle.go_env_core.specs.Fields.{TheField, field_seen, fields_seen}
@@ -39,10 +34,7 @@ abbrev pub some_seen : SceneModel → Option SeenFields → List TheField
 some_seen s None = []
 some_seen s (Some x) = seen_shown s x
 
--- a field that may be, as the field of a name
-abbrev pub known_named : LiteralField Term Declaration → NamedField Term Declaration
-known_named k = shown_field k.is_visible k
-
-abbrev pub named_if : SceneModel → List ℕ → List Line → Option (Bor Field) → NamedField Term Declaration
-named_if s home ls None = nameds.Missing
-named_if s home ls (Some f) = known_named (listed_field s home ls f.now).known
+-- a name alone, unless it is kept
+abbrev pub name_unless : Bool → List ℕ → List (List ℕ)
+name_unless true name = []
+name_unless false name = name ∷ []

@@ -1,5 +1,5 @@
 use Rattle.std.proofs.Common.{◌≡◌, ◌++◌, map, take}
-use Rattle.go_decl_core.specs.Shown.{decl_shown}
+use Rattle.go_handle_core.specs.decl_core.specs.Shown.{decl_shown}
 use Rattle.go_written_core.specs.Written.{in_file}
 use Rattle.go_face_core.specs.Held.{written_shown}
 use Rattle.go_face_core.specs.Written.{file_written}

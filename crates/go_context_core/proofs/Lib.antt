@@ -1,0 +1,9 @@
+mod Bodies
+mod Checked
+mod Entries
+mod InFiles
+mod Initials
+mod Lengths
+mod Listed
+mod Outer
+mod Places

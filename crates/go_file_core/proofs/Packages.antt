@@ -1,0 +1,49 @@
+-- A walk over the files of a package and their trees, side by side.
+use Rattle.std.proofs.Common.{◌≡◌, List, [], ◌∷◌, ◌++◌, map, Bor, refl, sym, ap, subst, ◌∙◌, append_assoc, append-nil}
+use Rattle.std.specs.List.{AllZip}
+use Rattle.std.proofs.lemmas.List.{map-append}
+use Rattle.go_tree_nodes.specs.declared.files.File.{File}
+use Rattle.go_top_core.specs.entry_core.specs.Meanings.{Shows}
+use Rattle.go_top_core.specs.expr_core.specs.declared.things.Fault.{Fault}
+use Rattle.go_body_core.specs.Notes.{TheUse}
+use Rattle.go_file_core.specs.declared.file_at.FileAt.{FileAt}
+use Rattle.go_file_core.specs.declared.whole.CheckedFile.{CheckedFile}
+use Rattle.go_file_core.specs.Files.{file_uses, file_faults}
+use Rattle.go_file_core.specs.Stands.{stand_of}
+use Rattle.go_file_core.specs.Package.{IsReady, CheckedFileOf, tree_shown, checked_shown, file_checked, files_checked}
+
+abbrev noted : List TheUse → List Fault → CheckedFileOf
+noted us fs = record { uses = us; faults = fs }
+
+module _ {P : Type 0} (shows : P → Shows) where
+  -- the files that are left, each with its tree
+  abbrev pub AreLeft : List (FileAt P) → List (Bor File) → Type 0
+  AreLeft files trees = AllZip (IsReady shows) files (map tree_shown trees)
+
+  pub first_ready : (files more : List (FileAt P)) (trees rest : List (Bor File)) (a : FileAt P) (t : Bor File) → files ≡ a ∷ more → trees ≡ t ∷ rest → AreLeft files trees → IsReady shows a (tree_shown t) × AreLeft more rest
+  first_ready files more trees rest a t e f h = subst (λ l. AreLeft l (t ∷ rest)) e (subst (λ l. AreLeft files l) f h)
+
+  pub file_step : (files more : List (FileAt P)) (trees rest : List (Bor File)) (a : FileAt P) (t : Bor File) (c : CheckedFile) (old new : List CheckedFile) (all : List CheckedFileOf)
+      → files ≡ a ∷ more → trees ≡ t ∷ rest → c.uses.items ≡ file_uses (stand_of shows a) a.imports.now (tree_shown t) → c.faults.items ≡ file_faults (stand_of shows a) (tree_shown t)
+      → new ≡ old ++ c ∷ [] → map checked_shown old ++ files_checked shows files (map tree_shown trees) ≡ all → map checked_shown new ++ files_checked shows more (map tree_shown rest) ≡ all
+  file_step files more trees rest a t c old new all e f used broken added before =
+      let st = stand_of shows a in
+      let left = files_checked shows more (map tree_shown rest) in
+      let is : checked_shown c ≡ file_checked st a.imports.now (tree_shown t) = ap (λ us. noted us c.faults.items) used ∙ ap (λ fs. noted (file_uses st a.imports.now (tree_shown t)) fs) broken in
+      ap (λ l. map checked_shown l ++ left) added
+      ∙ (ap (λ l. l ++ left) (map-append checked_shown old (c ∷ []))
+      ∙ (append_assoc (map checked_shown old) (checked_shown c ∷ []) left
+      ∙ (ap (λ x. map checked_shown old ++ x ∷ left) is
+      ∙ (ap (λ l. map checked_shown old ++ files_checked shows l (map tree_shown (t ∷ rest))) (sym e)
+      ∙ (ap (λ l. map checked_shown old ++ files_checked shows files (map tree_shown l)) (sym f) ∙ before)))))
+
+  pub no_files : (files : List (FileAt P)) (trees : List (Bor File)) (now all : List CheckedFileOf) → files ≡ [] → now ++ files_checked shows files (map tree_shown trees) ≡ all → now ≡ all
+  no_files files trees now all e done = sym (append-nil now) ∙ (ap (λ l. now ++ files_checked shows l (map tree_shown trees)) (sym e) ∙ done)
+
+  nothing_checked : (files : List (FileAt P)) → files_checked shows files [] ≡ []
+  nothing_checked [] = refl
+  nothing_checked (a ∷ more) = refl
+
+  pub no_trees : (files : List (FileAt P)) (trees : List (Bor File)) (now all : List CheckedFileOf) → trees ≡ [] → now ++ files_checked shows files (map tree_shown trees) ≡ all → now ≡ all
+  no_trees files trees now all e done =
+      sym (append-nil now) ∙ (ap (λ l. now ++ l) (sym (nothing_checked files)) ∙ (ap (λ l. now ++ files_checked shows files (map tree_shown l)) (sym e) ∙ done))

@@ -1,0 +1,17 @@
+use Rattle.std.proofs.Common.{map, sym, subst}
+use Rattle.go_tree_nodes.specs.Shapes.{file_of, top_of}
+use Rattle.go_func_core.proofs.Seen.{types_are_seen_alike}
+use Rattle.go_file_core.specs.Stands.{stand_of}
+use Rattle.go_file_core.specs.mirrors.Steps.{AreMade}
+use Rattle.go_file_core.proofs.Placed.{funcs_placed}
+use Rattle.go_file_core.proofs.whole.check_file.Goals as goal
+
+pub check_decls-requires : goal.check_decls-requires
+check_decls-requires g c =
+    let at = c.args.at.now in
+    let st = stand_of g.P.ImportedNames.shows at in
+    let f = file_of c.args.tree.now in
+    record {
+      made = subst (λ ds. AreMade st at.initial.now at.functions.now (map top_of ds)) (sym c.as_slice.ensures.value)
+          (record { seen = types_are_seen_alike.in_file st at.initial.now f c.requires.placed c.requires.initial; placed = funcs_placed f c.requires.placed; typed = c.requires.functions });
+    }

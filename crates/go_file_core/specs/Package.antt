@@ -1,0 +1,43 @@
+-- The files of a package, each with its tree.
+use Rattle.std.specs.Prelude.{List, [], ◌∷◌}
+use denote.Ref.{Bor}
+use Rattle.go_tree_nodes.specs.declared.files.File.{File}
+use Rattle.go_tree_nodes.specs.Trees.{FileTree}
+use Rattle.go_tree_nodes.specs.Shapes.{file_of}
+use Rattle.go_top_core.specs.decl_core.specs.Outer.{IsPlaced}
+use Rattle.go_top_core.specs.block_core.specs.declared.imports.Imported.{Imported}
+use Rattle.go_top_core.specs.entry_core.specs.Meanings.{Shows}
+use Rattle.go_top_core.specs.expr_core.specs.declared.things.Fault.{Fault}
+use Rattle.go_body_core.specs.Notes.{TheUse}
+use Rattle.go_func_core.specs.Stands.{FileStand}
+use Rattle.go_file_core.specs.declared.file_at.FileAt.{FileAt}
+use Rattle.go_file_core.specs.declared.whole.CheckedFile.{CheckedFile}
+use Rattle.go_file_core.specs.Files.{file_uses, file_faults}
+use Rattle.go_file_core.specs.Stands.{AreInitialTypes, AreFunctionTypes, stand_of}
+
+-- the tree that a reference shows
+abbrev pub tree_shown : Bor File → FileTree
+tree_shown t = file_of t.now
+
+-- a file may be checked: its tokens follow one another, and the types that it writes are made
+pub record IsReady {P : Type 0} (shows : P → Shows) (at : FileAt P) (f : FileTree) : Type 0 where
+  pub placed : IsPlaced f
+  pub initial : AreInitialTypes (stand_of shows at) f at.initial.now
+  pub functions : AreFunctionTypes (stand_of shows at) f at.functions.now
+
+-- what the occurrences of a file have, and its faults
+pub record CheckedFileOf : Type 0 where
+  pub uses : List TheUse
+  pub faults : List Fault
+
+abbrev pub checked_shown : CheckedFile → CheckedFileOf
+checked_shown c = record { uses = c.uses.items; faults = c.faults.items }
+
+abbrev pub file_checked : FileStand → List Imported → FileTree → CheckedFileOf
+file_checked st imports f = record { uses = file_uses st imports f; faults = file_faults st f }
+
+-- of each file
+abbrev pub files_checked : {P : Type 0} → (P → Shows) → List (FileAt P) → List FileTree → List CheckedFileOf
+files_checked shows [] fs = []
+files_checked shows (a ∷ more) [] = []
+files_checked shows (a ∷ more) (f ∷ fs) = file_checked (stand_of shows a) a.imports.now f ∷ files_checked shows more fs

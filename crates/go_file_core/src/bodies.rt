@@ -1,0 +1,32 @@
+//! The check of the files of a package.
+ghost use Rattle.std.specs.Prelude.{◌≡◌, IfOk, map};
+ghost use Rattle.std.specs.List.{AllZip};
+ghost use Rattle.go_file_core.specs.Package.{IsReady, checked_shown, files_checked, tree_shown};
+
+use crate::file_at::FileAt;
+use crate::whole::{CheckedFile, check_file};
+use go_top_core::entry_core::ImportedNames;
+use go_top_core::text_core::add;
+use go_tree_nodes::File;
+use std::alloc::{AllocError, Global};
+
+/// Checks the files of a package, each with its tree, as [`check_file`] does.
+///
+/// # Errors
+///
+/// `AllocError` where memory is wanting.
+pub fn check_bodies<'n, 'p, P: ImportedNames>(
+    alloc: Global,
+    files: &[FileAt<'n, 'p, P>],
+    trees: &[&File],
+) -> Result<Vec<CheckedFile<'p>>, AllocError>
+    requires { AllZip (IsReady P.shows) files.now (map tree_shown trees.now) }
+    ensures { IfOk result (λ cs. map checked_shown cs.items ≡ files_checked P.shows files.now (map tree_shown trees.now)) }
+{
+    let mut checked = Vec::new(alloc);
+    for (at, tree) in files.iter().zip(trees) {
+        let file = check_file(alloc, at, tree)?;
+        add(&mut checked, file)?;
+    }
+    Ok(checked)
+}

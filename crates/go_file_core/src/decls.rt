@@ -1,0 +1,158 @@
+//! What the declarations of a file have and break.
+ghost use Rattle.std.specs.Prelude.{◌≡◌, ◌++◌, [], IfOk, OnOk, map};
+ghost use Rattle.go_tree_nodes.specs.Shapes.{decl_of, func_of, shape_type_decl, shape_value, top_of};
+ghost use Rattle.go_top_core.specs.local_core.specs.Tables.{IsFuncPlaced};
+ghost use Rattle.go_top_core.specs.inline_core.specs.Trees.{decl_types, specs_types};
+ghost use Rattle.go_top_core.specs.scope_core.specs.Models.{scopes_model};
+ghost use Rattle.go_body_core.specs.env_core.specs.Scenes.{scene_shown};
+ghost use Rattle.go_top_core.specs.Tops as tops;
+ghost use Rattle.go_func_core.specs.Stands.{outer_looks};
+ghost use Rattle.go_func_core.specs.Functions.{checked_func};
+ghost use Rattle.go_func_core.specs.Laws.{AreFuncTypes};
+ghost use Rattle.go_file_core.specs.Files.{decl_uses, decl_faults, tops_uses, tops_faults};
+ghost use Rattle.go_file_core.specs.Stands.{stand_of};
+ghost use Rattle.go_file_core.specs.mirrors.Steps.{AreMade, AreSeen, HasNext, behind};
+
+use crate::file_at::FileAt;
+use crate::notes::FileNotes;
+use go_body_core::check_body;
+use go_body_core::env_core::{Meaning, Scene, stand};
+use go_top_core::entry_core::ImportedNames;
+use go_top_core::inline_core::InlineTypes;
+use go_top_core::names_core::OpenNames;
+use go_top_core::scope_core::Scopes;
+use go_top_core::{check_type_decl, check_value_decl};
+use go_tree_nodes::{Decl, FuncDecl, TopDecl, TypeDecl, ValueDecl};
+use std::alloc::{AllocError, Global};
+
+// The names outside all functions, by the blocks of a file.
+fn outer_names<'s, 'p: 's>(scene: &Scene<'p>, scopes: &'s Scopes<'s>) -> OpenNames<'s, Meaning<'p>>
+    ensures scopes { result.scopes.now ≡ scopes.now }
+    ensures locals { result.locals.now ≡ [] }
+{
+    OpenNames::at_top(scopes)
+}
+
+// Notes what a declaration of constants or variables has and breaks.
+fn check_values<'p, P: ImportedNames>(
+    alloc: Global,
+    at: &FileAt<'_, 'p, P>,
+    names: &OpenNames<Meaning<'p>>,
+    decl: &ValueDecl,
+    notes: &mut FileNotes<'p>,
+) -> Result<(), AllocError>
+    requires scopes { names.now.scopes.now ≡ scopes_model (scene_shown at.now.scene.now).blocks at.now.file [] }
+    requires locals { names.now.locals.now ≡ [] }
+    requires types { AreSeen (stand_of P.shows at.now) at.now.initial.now (specs_types (shape_value decl.now).specs) }
+    ensures uses { OnOk result (notes.new.uses.items ≡ notes.old.uses.items ++ tops.value_decl_uses (outer_looks (stand_of P.shows at.now)) (shape_value decl.now)) }
+    ensures faults { OnOk result (notes.new.faults.items ≡ notes.old.faults.items ++ tops.value_decl_faults (outer_looks (stand_of P.shows at.now)) (shape_value decl.now)) }
+{
+    let here = stand(at.scene, at.file, at.initial, at.known, names);
+    check_value_decl(&here, alloc, decl, notes)
+}
+
+// Notes what a declaration of types has and breaks.
+fn check_types<'p, P: ImportedNames>(
+    alloc: Global,
+    at: &FileAt<'_, 'p, P>,
+    names: &OpenNames<Meaning<'p>>,
+    decl: &TypeDecl,
+    notes: &mut FileNotes<'p>,
+) -> Result<(), AllocError>
+    requires scopes { names.now.scopes.now ≡ scopes_model (scene_shown at.now.scene.now).blocks at.now.file [] }
+    requires locals { names.now.locals.now ≡ [] }
+    ensures uses { OnOk result (notes.new.uses.items ≡ notes.old.uses.items ++ tops.type_decl_uses (outer_looks (stand_of P.shows at.now)) (shape_type_decl decl.now)) }
+    ensures faults { OnOk result (notes.new.faults.items ≡ notes.old.faults.items ++ tops.type_decl_faults (shape_type_decl decl.now)) }
+{
+    let top = stand(at.scene, at.file, at.initial, at.known, names);
+    check_type_decl(&top, alloc, decl, notes)
+}
+
+// Notes what a function has and breaks, with the types that are written in it.
+fn check_func<'p, P: ImportedNames>(
+    alloc: Global,
+    at: &FileAt<'_, 'p, P>,
+    inline: &'p InlineTypes,
+    func: &FuncDecl,
+    notes: &mut FileNotes<'p>,
+) -> Result<(), AllocError>
+    requires placed { IsFuncPlaced (func_of func.now) }
+    requires types { AreFuncTypes (stand_of P.shows at.now) (func_of func.now) inline.now }
+    ensures uses { OnOk result (notes.new.uses.items ≡ notes.old.uses.items ++ (checked_func (stand_of P.shows at.now) (func_of func.now)).uses) }
+    ensures faults { OnOk result (notes.new.faults.items ≡ notes.old.faults.items ++ (checked_func (stand_of P.shows at.now) (func_of func.now)).faults) }
+{
+    let mut body = check_body(alloc, at.scene, at.file, inline, at.known, func)?;
+    notes.uses.append(&mut body.uses)?;
+    notes.faults.append(&mut body.faults)
+}
+
+// Notes what a declaration has and breaks, where the functions of the file that are not checked yet begin at this number. The answer is where
+// they begin behind it.
+fn check_decl<'p, P: ImportedNames>(
+    alloc: Global,
+    at: &FileAt<'_, 'p, P>,
+    names: &OpenNames<Meaning<'p>>,
+    next: usize,
+    decl: &Decl,
+    notes: &mut FileNotes<'p>,
+) -> Result<usize, AllocError>
+    requires scopes { names.now.scopes.now ≡ scopes_model (scene_shown at.now.scene.now).blocks at.now.file [] }
+    requires locals { names.now.locals.now ≡ [] }
+    requires types { AreSeen (stand_of P.shows at.now) at.now.initial.now (decl_types (decl_of decl.now)) }
+    requires functions { HasNext (stand_of P.shows at.now) (decl_of decl.now) at.now.functions.now next }
+    ensures uses { IfOk result (λ n. notes.new.uses.items ≡ notes.old.uses.items ++ decl_uses (stand_of P.shows at.now) (decl_of decl.now)) }
+    ensures faults { IfOk result (λ n. notes.new.faults.items ≡ notes.old.faults.items ++ decl_faults (stand_of P.shows at.now) (decl_of decl.now)) }
+    ensures next { IfOk result (λ n. n ≡ behind (decl_of decl.now) next) }
+{
+    match decl {
+        Decl::Value(values) => {
+            check_values(alloc, at, names, values, notes)?;
+            Ok(next)
+        }
+        Decl::Type(types) => {
+            check_types(alloc, at, names, types, notes)?;
+            Ok(next)
+        }
+        Decl::Func(func) => {
+            check_func(alloc, at, &at.functions[next], func, notes)?;
+            Ok(next + 1)
+        }
+    }
+}
+
+// Notes what declarations have and break, one behind another.
+fn check_tops<'p, P: ImportedNames>(
+    alloc: Global,
+    at: &FileAt<'_, 'p, P>,
+    names: &OpenNames<Meaning<'p>>,
+    decls: &[TopDecl],
+    notes: &mut FileNotes<'p>,
+) -> Result<(), AllocError>
+    requires scopes { names.now.scopes.now ≡ scopes_model (scene_shown at.now.scene.now).blocks at.now.file [] }
+    requires locals { names.now.locals.now ≡ [] }
+    requires made { AreMade (stand_of P.shows at.now) at.now.initial.now at.now.functions.now (map top_of decls.now) }
+    ensures uses { OnOk result (notes.new.uses.items ≡ notes.old.uses.items ++ tops_uses (stand_of P.shows at.now) (map top_of decls.now)) }
+    ensures faults { OnOk result (notes.new.faults.items ≡ notes.old.faults.items ++ tops_faults (stand_of P.shows at.now) (map top_of decls.now)) }
+{
+    let mut next = 0;
+    for top in decls {
+        next = check_decl(alloc, at, names, next, &top.decl, notes)?;
+    }
+    Ok(())
+}
+
+/// Notes what the declarations of a file have and break, one behind another.
+pub(crate) fn check_decls<'p, P: ImportedNames>(
+    alloc: Global,
+    at: &FileAt<'_, 'p, P>,
+    decls: &[TopDecl],
+    notes: &mut FileNotes<'p>,
+) -> Result<(), AllocError>
+    requires made { AreMade (stand_of P.shows at.now) at.now.initial.now at.now.functions.now (map top_of decls.now) }
+    ensures uses { OnOk result (notes.new.uses.items ≡ notes.old.uses.items ++ tops_uses (stand_of P.shows at.now) (map top_of decls.now)) }
+    ensures faults { OnOk result (notes.new.faults.items ≡ notes.old.faults.items ++ tops_faults (stand_of P.shows at.now) (map top_of decls.now)) }
+{
+    let scopes = Scopes::begin(alloc, at.scene.blocks, at.file);
+    let names = outer_names(at.scene, &scopes);
+    check_tops(alloc, at, &names, decls, notes)
+}

@@ -1,0 +1,18 @@
+//! What the occurrences of a file have, and its faults: its imports, and its declarations one by one.
+//!
+//! The Go specification, "Import declarations", "Declarations and scope", "Constant declarations", "Variable declarations", "Type
+//! declarations", "Function declarations".
+#![tactic(auto)]
+
+mod bodies;
+mod decls;
+mod file_at;
+mod imports;
+mod laws;
+mod notes;
+mod whole;
+
+pub use bodies::check_bodies;
+pub use file_at::FileAt;
+pub use laws::{declarations_stand_alone, files_have_occurrences, functions_are_placed};
+pub use whole::{CheckedFile, check_file};

@@ -1,0 +1,5 @@
+pub mod Functions
+pub mod Laws
+pub mod Stands
+pub mod Types
+pub mod Worked

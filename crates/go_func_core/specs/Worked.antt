@@ -1,0 +1,128 @@
+-- A function that hides a type by a parameter, with what each of its identifiers has and what its locals mean, worked out by hand. The n-th token of
+-- the function stands at n.
+--
+-- docs/RULES.md, "Types inside functions", "Bodies of functions". The Go specification, "Declarations and scope".
+use Rattle.std.specs.Prelude.{◌≡◌, ℕ, suc, false, List, [], ◌∷◌, map, Some, None, codes}
+use Rattle.go_body_core.specs.text_core.specs.declared.span.Span.{Span}
+use Rattle.go_body_core.specs.text_core.specs.declared.rule.Rule.TheVariants.{N6}
+use Rattle.go_body_core.specs.universe_core.specs.declared.Predeclared.TheVariants as predeclared
+use Rattle.go_body_core.specs.tree_nodes.specs.declared.names.Ident.{Ident}
+use Rattle.go_body_core.specs.tree_nodes.specs.declared.types.TypeName.TheVariants as type_name
+use Rattle.go_body_core.specs.tree_nodes.specs.declared.decls.ValueKind.TheVariants as kinds
+use Rattle.go_body_core.specs.tree_nodes.specs.Trees as tree
+use Rattle.go_body_core.specs.tree_nodes.specs.Trees.{One, TypeTree, NamedType, Struct, NoFields, NamedFields, Signed, OneResult, NoParams, Param, Named, ValueSpecTree, Single, Lines, Return, NoLines, Line, FuncTree}
+use Rattle.go_body_core.specs.tree_core.specs.declared.occurrence.Role.{Role}
+use Rattle.go_body_core.specs.tree_core.specs.declared.occurrence.Role.TheVariants as roles
+use Rattle.go_body_core.specs.decl_core.specs.declared.places.DeclKind.TheVariants as decl_kind
+use Rattle.go_body_core.specs.decl_core.specs.declared.keys.DeclRef.{DeclRef}
+use Rattle.go_body_core.specs.decl_core.specs.declared.keys.DeclKey.{DeclKey}
+use Rattle.go_body_core.specs.block_core.specs.Blocks.{BlocksModel, blocks_model}
+use Rattle.go_body_core.specs.term_core.specs.declared.term.Basic.TheVariants as basics
+use Rattle.go_body_core.specs.term_core.specs.declared.term.MemberPlace.{MemberPlace}
+use Rattle.go_body_core.specs.term_core.specs.declared.term.MemberPlace.TheVariants as places
+use Rattle.go_body_core.specs.term_core.specs.Terms.{NoType, Predeclared, Defined, StructOf, NoField, AField}
+use Rattle.go_body_core.specs.entry_core.specs.Meanings.{file_meaning}
+use Rattle.go_body_core.specs.denote_core.specs.declared.things.Outcome.{Outcome}
+use Rattle.go_body_core.specs.denote_core.specs.declared.things.Outcome.TheVariants as outcomes
+use Rattle.go_body_core.specs.handle_core.specs.Declarations.{Declaration, Universe, InFile}
+use Rattle.go_body_core.specs.face_core.specs.declared.face.Face.TheVariants as faces
+use Rattle.go_body_core.specs.piece_core.specs.Values.{variable}
+use Rattle.go_body_core.specs.env_core.specs.declared.meaning.Meaning.{Meaning}
+use Rattle.go_body_core.specs.env_core.specs.declared.meaning.Meaning.TheVariants as meanings
+use Rattle.go_body_core.specs.Notes.{TheUse}
+use Rattle.go_func_core.specs.Stands.{FileStand}
+use Rattle.go_func_core.specs.Functions.{walked_func, checked_func, func_by}
+
+abbrev at : ℕ → Span
+at n = record { start = n; end = suc n }
+
+abbrev called : List ℕ → ℕ → Ident
+called name n = record { name = name; span = at n }
+
+abbrev type_at : List ℕ → ℕ → TypeTree
+type_at name n = NamedType (type_name.Plain (called name n))
+
+-- the package p declares, in its only file, `type T int`
+abbrev type_decl : DeclRef
+type_decl = record { file = 0; number = 0; kind = decl_kind.«Type» }
+
+abbrev type_key : DeclKey
+type_key = record { path = codes "p"; decl = type_decl }
+
+abbrev blocks : BlocksModel
+blocks = blocks_model ((codes "T", type_decl) ∷ []) ([] ∷ []) []
+
+abbrev stand : FileStand
+stand = record {
+  scene = record {
+    path = codes "p";
+    blocks = blocks;
+    types = record { key = type_key; name = codes "T"; term = Predeclared basics.Int; methods = [] } ∷ [];
+    others = [];
+    written = record { decl = type_decl; face = Some (faces.«Type» (Some (Defined type_key))) } ∷ [];
+  };
+  known = Some (faces.«Type» (Some (Defined type_key))) ∷ [];
+  file = record { path = codes "p"; file = 0; places = [] };
+  top = file_meaning (λ path name. None) (codes "p") blocks 0;
+}
+
+abbrev variable_of : Ident → TypeTree → ValueSpecTree
+variable_of x t = record { names = One x; type_expr = Some t; values = None }
+
+-- func f(T T) T {
+--   var a T
+--   var b struct { x T; y int }
+--   return T
+-- }
+abbrev pub function : FuncTree
+function = record {
+  func = at 0;
+  receiver = None;
+  name = called (codes "f") 1;
+  signature = Signed (at 2) (Param (Some (One (called (codes "T") 3))) (type_at (codes "T") 4) None NoParams) (at 5) (OneResult (type_at (codes "T") 6));
+  open_brace = at 7;
+  body =
+      Line (tree.Declare (record { kind = kinds.Var; keyword = at 8; specs = Single (variable_of (called (codes "a") 9) (type_at (codes "T") 10)) })) (Some (at 11))
+      (Line (tree.Declare (record {
+        kind = kinds.Var;
+        keyword = at 12;
+        specs = Single (variable_of (called (codes "b") 13)
+            (Struct (at 14) (at 15) (NamedFields (One (called (codes "x") 16)) (type_at (codes "T") 17) None (Some (at 18)) (NamedFields (One (called (codes "y") 19)) (type_at (codes "int") 20) None None NoFields)) (at 21)));
+      })) (Some (at 22))
+      (Line (Return (at 23) (Some (One (Named (called (codes "T") 24))))) (Some (at 25)) NoLines));
+  close_brace = at 26;
+}
+
+abbrev local_at : ℕ → MemberPlace
+local_at n = places.Local (record { file = 0; offset = n })
+
+abbrev use_at : ℕ → Role → Outcome Declaration (List ℕ) → TheUse
+use_at n role outcome = record { offset = n; role = role; outcome = outcome }
+
+-- in the header T is the type, and in the body it is the parameter
+abbrev pub uses : List TheUse
+uses =
+    use_at 4 roles.«Type» (outcomes.Declared (InFile (codes "p") (places.Declared type_decl)))
+    ∷ use_at 6 roles.«Type» (outcomes.Declared (InFile (codes "p") (places.Declared type_decl)))
+    ∷ use_at 10 roles.«Type» (outcomes.Refused N6)
+    ∷ use_at 17 roles.«Type» (outcomes.Refused N6)
+    ∷ use_at 20 roles.«Type» (outcomes.Declared (Universe predeclared.Int))
+    ∷ use_at 24 roles.«Value» (outcomes.Declared (InFile (codes "p") (local_at 3)))
+    ∷ []
+
+-- a field of a type that is hidden has no type, and neither has a variable of it
+abbrev pub locals : List Meaning
+locals =
+    meanings.Local 3 (variable (Some (Defined type_key)))
+    ∷ meanings.Local 9 (variable None)
+    ∷ meanings.Local 13 (variable (Some (StructOf (codes "p") (AField (codes "x") (local_at 16) false NoType [] (AField (codes "y") (local_at 19) false (Predeclared basics.Int) [] NoField)))))
+    ∷ []
+
+-- each identifier has what is written here, the function breaks no rule beside, and each local means what is written here: on the way through it, and
+-- by the regions of its declarations
+pub record WorkedTypes : Type 0 where
+  pub uses_walked : (checked_func stand function).uses ≡ uses
+  pub faults_walked : (checked_func stand function).faults ≡ []
+  pub locals_are : map (λ d. d.means) (walked_func stand function).declares ≡ locals
+  pub uses_given : (func_by stand function (walked_func stand function).declares).uses ≡ uses
+  pub faults_given : (func_by stand function (walked_func stand function).declares).faults ≡ []

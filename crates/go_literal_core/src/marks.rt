@@ -1,0 +1,161 @@
+//! What is known of the keys of a literal among one another and among the fields of its type.
+ghost use Rattle.std.specs.Prelude.{◌≡◌, ℕ, List, Some, None, map, if◌then◌else◌, IfOk, OnOk};
+ghost use Rattle.std.specs.Str.{bytes_eq};
+ghost use Rattle.go_literal_core.specs.Marks as marks;
+ghost use Rattle.go_literal_core.specs.mirrors.Numbers.{first_known, mark_by, number_of, searched_mark};
+
+use crate::looks::Literals;
+use crate::repeats::names_again;
+use crate::things::KeyMark;
+use indexmap::{IndexMap, IndexSet};
+use std::alloc::{AllocError, Global};
+
+/// From how many keys on a table of the fields by their names is made; fewer are each looked for.
+const TABLE_FROM: usize = 9;
+
+// Adds a name with its number, unless it is there.
+fn add_name<'n>(
+    numbers: &mut IndexMap<&'n str, usize>,
+    name: &'n str,
+    at: usize,
+) -> Result<(), AllocError>
+    ensures { OnOk result ((n : List ℕ) → number_of numbers.new.entries n ≡ first_known (number_of numbers.old.entries n) (if bytes_eq name.now n then Some at else None)) }
+{
+    if numbers.contains_key(name) {
+        return Ok(());
+    }
+    match numbers.insert(name, at) {
+        Ok(_) => Ok(()),
+        Err(_) => Err(AllocError),
+    }
+}
+
+// Each of some names with the number of the first that is spelled so, from 0.
+fn numbers_of<'n>(
+    alloc: Global,
+    names: &Vec<&'n str>,
+) -> Result<IndexMap<&'n str, usize>, AllocError>
+    ensures { IfOk result (λ numbers. (n : List ℕ) → number_of numbers.entries n ≡ marks.number_from 0 (map (λ m. m.now) names.now.items) n) }
+{
+    let mut numbers = IndexMap::new(alloc);
+    for (at, name) in names.iter().enumerate() {
+        add_name(&mut numbers, *name, at)?;
+    }
+    Ok(numbers)
+}
+
+// The number of a name.
+fn number(numbers: &IndexMap<&str, usize>, name: &str) -> Option<usize>
+    ensures { result ≡ number_of numbers.now.entries name.now }
+{
+    match numbers.get(name) {
+        None => None,
+        Some(at) => Some(*at),
+    }
+}
+
+// The mark of a key, by the keys that are repeated and the numbers of fields.
+fn mark_of(again: &IndexSet<&str>, numbers: &IndexMap<&str, usize>, name: &str) -> KeyMark
+    ensures { result ≡ mark_by (map (λ n. n.now) again.now.keys) numbers.now.entries name.now }
+{
+    KeyMark {
+        is_repeated: again.contains(name),
+        field: number(numbers, name),
+    }
+}
+
+// The marks of some keys.
+fn mark_each(
+    alloc: Global,
+    again: &IndexSet<&str>,
+    numbers: &IndexMap<&str, usize>,
+    names: &[&str],
+) -> Result<Vec<KeyMark>, AllocError>
+    ensures { IfOk result (λ all. all.items ≡ map (mark_by (map (λ n. n.now) again.now.keys) numbers.now.entries) (map (λ n. n.now) names.now)) }
+{
+    let mut all = Vec::with_capacity(alloc, names.len())?;
+    for name in names {
+        all.push(mark_of(again, numbers, *name))?;
+    }
+    Ok(all)
+}
+
+// The number of the first of some names that is spelled so, from 0.
+fn search(names: &Vec<&str>, name: &str) -> Option<usize>
+    ensures { result ≡ marks.number_from 0 (map (λ m. m.now) names.now.items) name.now }
+{
+    for (at, other) in names.iter().enumerate() {
+        if *other == name {
+            return Some(at);
+        }
+    }
+    None
+}
+
+// The mark of a key, by the keys that are repeated and the names of fields.
+fn searched_mark(again: &IndexSet<&str>, fields: &Vec<&str>, name: &str) -> KeyMark
+    ensures { result ≡ searched_mark (map (λ n. n.now) again.now.keys) (map (λ n. n.now) fields.now.items) name.now }
+{
+    KeyMark {
+        is_repeated: again.contains(name),
+        field: search(fields, name),
+    }
+}
+
+// The marks of some keys, each of which is looked for among the fields.
+fn search_each(
+    alloc: Global,
+    again: &IndexSet<&str>,
+    fields: &Vec<&str>,
+    names: &[&str],
+) -> Result<Vec<KeyMark>, AllocError>
+    ensures { IfOk result (λ all. all.items ≡ map (searched_mark (map (λ n. n.now) again.now.keys) (map (λ n. n.now) fields.now.items)) (map (λ n. n.now) names.now)) }
+{
+    let mut all = Vec::with_capacity(alloc, names.len())?;
+    for name in names {
+        all.push(searched_mark(again, fields, *name))?;
+    }
+    Ok(all)
+}
+
+// The spellings of the fields of a literal's type.
+fn names_of<'n, E: Literals>(
+    env: &'n E,
+    alloc: Global,
+    t: &Option<E::Type>,
+) -> Result<Vec<&'n str>, AllocError>
+    ensures { IfOk result (λ names. map (λ n. n.now) names.items ≡ map (λ f. f.name) (marks.type_fields (E.literals env.now) t.now)) }
+{
+    match t {
+        None => Ok(Vec::new(alloc)),
+        Some(t) => env.field_names(alloc, t),
+    }
+}
+
+/// Of each of the keys of a literal, by their spellings in order, whether another is spelled the same, and which field of the literal's
+/// type is. Time grows with the number of keys and, where there is a key, with the number of fields; not with their product.
+///
+/// The Go specification, "Composite literals".
+///
+/// # Errors
+///
+/// `AllocError` where memory is wanting.
+pub fn key_marks<E: Literals>(
+    env: &E,
+    alloc: Global,
+    t: &Option<E::Type>,
+    names: &[&str],
+) -> Result<Vec<KeyMark>, AllocError>
+    ensures { IfOk result (λ all. all.items ≡ marks.key_marks (marks.type_fields (E.literals env.now) t.now) (map (λ n. n.now) names.now)) }
+{
+    if names.is_empty() {
+        return Ok(Vec::new(alloc));
+    }
+    let again = names_again(alloc, names)?;
+    let fields = names_of(env, alloc, t)?;
+    if names.len() < TABLE_FROM {
+        return search_each(alloc, &again, &fields, names);
+    }
+    let numbers = numbers_of(alloc, &fields)?;
+    mark_each(alloc, &again, &numbers, names)
+}

@@ -1,0 +1,12 @@
+pub mod Closing
+pub mod Agreeing
+pub mod Expressions
+pub mod Reaching
+pub mod Seeing
+pub mod Statements
+pub mod Pieces
+pub mod Walking
+pub mod Functions
+pub mod Tops
+pub mod Files
+pub mod Packages

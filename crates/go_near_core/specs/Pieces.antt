@@ -1,0 +1,13 @@
+-- What a piece of a function comes to is the same, and what its names stand for is near.
+use Rattle.std.specs.Prelude.{◌≡◌, Bool, List, Option}
+use Rattle.go_local_core.specs.Steps.{Piece}
+use Rattle.go_expr_core.specs.Looks.{Looks}
+use Rattle.go_piece_core.specs.Pieces.{piece_uses, piece_faults, piece_values}
+use Rattle.go_near_core.specs.Near.{Each, IfAny, NearOperand}
+
+-- in a function whose results have near types
+pub record IsPieceNearby {T S D P : Type 0} (Near : T → Type 0) (looks others : Looks T S D P) (p : Piece) : Type 0 where
+  pub near : (firsts : List Bool) → Each (IfAny (NearOperand Near)) (piece_values looks firsts p)
+  pub values : (firsts : List Bool) → piece_values looks firsts p ≡ piece_values others firsts p
+  pub uses : piece_uses looks p ≡ piece_uses others p
+  pub faults : (results : List (Option T)) (has_names : Bool) (firsts : List Bool) → Each (IfAny Near) results → piece_faults looks results has_names firsts p ≡ piece_faults others results has_names firsts p

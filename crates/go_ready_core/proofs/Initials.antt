@@ -1,0 +1,80 @@
+-- What a name of a specification stands for takes of the rules of types what they make of those that the specification writes.
+use Rattle.std.proofs.Common.{◌≡◌, ℕ, List, [], ◌∷◌, ◌++◌, refl, ap, subst, ◌∙◌}
+use Rattle.std.specs.Prelude.{Option, Some, None, slice_index_or}
+use Rattle.go_fault_core.specs.text_core.specs.declared.span.Span.{Span}
+use Rattle.go_fault_core.specs.tree_nodes.specs.declared.names.Ident.{Ident}
+use Rattle.go_fault_core.specs.tree_nodes.specs.declared.decls.ValueKind.{ValueKind}
+use Rattle.go_fault_core.specs.tree_nodes.specs.Trees.{Separated, One, Then, TypeTree, ExprTree, ItemTrees, Integer, Text, Named, Paren, Unary, Binary, Select, Call, Literal, StructLiteral, NoItems, Item, ValueSpecTree}
+use Rattle.go_value_core.specs.denote_core.specs.declared.things.Place.TheVariants as places
+use Rattle.go_value_core.specs.denote_core.specs.Arguments.{arguments_of}
+use Rattle.go_value_core.specs.expr_core.specs.Looks.{Looks, WrittenRules, at}
+use Rattle.go_value_core.specs.expr_core.specs.Denoting.{denoted}
+use Rattle.go_value_core.specs.expr_core.specs.Lists.{denoted_exprs}
+use Rattle.go_value_core.specs.expr_core.specs.Laws.{Agree, idents}
+use Rattle.go_value_core.specs.expr_core.specs.Locality.{struct_types, struct_types_in, SameWritten, seeing}
+use Rattle.go_value_core.specs.expr_core.proofs.Alike.{expressions_seen}
+use Rattle.go_value_core.specs.inline_core.specs.Trees as trees
+use Rattle.go_value_core.specs.inline_core.specs.Trees.{expr_types, items_types, exprs_types, values_types, spec_types}
+use Rattle.go_value_core.specs.Initial.{count, initial, list_start, some_type, values_given, values_of}
+
+pieces : (a b c d : List TypeTree) → a ≡ c → b ≡ d → a ++ b ≡ c ++ d
+pieces a b c d e f = ap (λ l. l ++ b) e ∙ ap (λ l. c ++ l) f
+
+-- the struct types before literals
+mutual
+  pub struct_types_are : (e : ExprTree) → expr_types e ≡ struct_types e
+  struct_types_are (Integer n span) = refl
+  struct_types_are (Text t) = refl
+  struct_types_are (Named x) = refl
+  struct_types_are (Paren first e last) = struct_types_are e
+  struct_types_are (Unary op span e) = struct_types_are e
+  struct_types_are (Binary a op span b) = pieces (expr_types a) (expr_types b) (struct_types a) (struct_types b) (struct_types_are a) (struct_types_are b)
+  struct_types_are (Select e dot x) = struct_types_are e
+  struct_types_are (Call e first items last) = pieces (expr_types e) (items_types items) (struct_types e) (struct_types_in items) (struct_types_are e) (item_types_are items)
+  struct_types_are (Literal n first items last) = item_types_are items
+  struct_types_are (StructLiteral t first items last) = ap (λ l. t ∷ l) (item_types_are items)
+
+  item_types_are : (is : ItemTrees) → items_types is ≡ struct_types_in is
+  item_types_are NoItems = refl
+  item_types_are (Item key e comma rest) = pieces (expr_types e) (items_types rest) (struct_types e) (struct_types_in rest) (struct_types_are e) (item_types_are rest)
+
+module _ {T S D P : Type 0} (looks : Looks T S D P) (written : WrittenRules T) where
+  abbrev other : Looks T S D P
+  other = seeing looks.find written looks
+
+  abbrev Makes : List TypeTree → Type 0
+  Makes ts = SameWritten looks other ts
+
+  pub makes_left : (ts us : List TypeTree) → Makes (ts ++ us) → Makes ts
+  makes_left [] us h = tt
+  makes_left (t ∷ ts) us h = (h.0, makes_left ts us h.1)
+
+  pub makes_right : (ts us : List TypeTree) → Makes (ts ++ us) → Makes us
+  makes_right [] us h = h
+  makes_right (t ∷ ts) us h = makes_right ts us h.1
+
+  agrees : (xs : List Ident) → Agree looks.find looks.find xs
+  agrees [] = tt
+  agrees (x ∷ xs) = (refl, agrees xs)
+
+  expr_same : (e : ExprTree) → Makes (expr_types e) → denoted looks places.«Value» e ≡ denoted other places.«Value» e
+  expr_same e h = ((expressions_seen T S D P).whole looks looks.find written places.«Value» e (agrees (idents e)) (subst Makes (struct_types_are e) h)).denoted
+
+  exprs_same : (es : Separated ExprTree) → Makes (exprs_types es) → denoted_exprs looks es ≡ denoted_exprs other es
+  exprs_same (One e) h = ap (λ d. d ∷ []) (expr_same e h)
+  exprs_same (Then e comma more) h =
+      ap (λ d. d ∷ denoted_exprs looks more) (expr_same e (makes_left (expr_types e) (exprs_types more) h))
+      ∙ ap (λ l. denoted other places.«Value» e ∷ l) (exprs_same more (makes_right (expr_types e) (exprs_types more) h))
+
+  values_same : (vs : Option (Span × Separated ExprTree)) → Makes (values_types vs) → values_given looks vs ≡ values_given other vs
+  values_same None h = refl
+  values_same (Some v) h = ap (arguments_of (at looks (list_start v.1))) (exprs_same v.1 h)
+
+  type_same : (t : Option TypeTree) → Makes (trees.some_type t) → some_type looks t ≡ some_type other t
+  type_same None h = refl
+  type_same (Some t) h = ap Some h.0.type_of
+
+  pub initial_seen : (k : ValueKind) (v : ValueSpecTree) (i : ℕ) → Makes (spec_types v) → initial looks k v i ≡ initial other k v i
+  initial_seen k v i h =
+      ap (λ w. slice_index_or (values_of looks.types k w (count v) (values_given looks v.values)) i None) (type_same v.type_expr (makes_left (trees.some_type v.type_expr) (values_types v.values) h))
+      ∙ ap (λ g. slice_index_or (values_of looks.types k (some_type other v.type_expr) (count v) g) i None) (values_same v.values (makes_right (trees.some_type v.type_expr) (values_types v.values) h))

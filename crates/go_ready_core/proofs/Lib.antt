@@ -1,0 +1,8 @@
+mod Forms
+mod Initials
+pub mod Lists
+mod Made
+mod Placing
+pub mod Tables
+mod Typed
+pub mod Values

@@ -1,0 +1,10 @@
+use Rattle.std.proofs.Common.{map, take}
+use Rattle.std.specs.List.{AllZip}
+use Rattle.go_fault_core.specs.decl_core.specs.Shown.{decl_shown}
+use Rattle.go_value_core.specs.inline_core.specs.Functions as functions
+use Rattle.go_ready_core.specs.Inlines.{outline_funcs}
+use Rattle.go_ready_core.proofs.inlines.decl_functions.Given as goal
+
+abbrev pub invariant-loop-decl : goal.invariant-loop-decl
+invariant-loop-decl g l =
+    AllZip (functions.AreInlines (functions.kinds_in l.ground) (functions.file_in l.ground) (functions.top_in g.P.ImportedNames.shows l.ground) (functions.beyond l.ground)) (outline_funcs (map decl_shown (take l.decl-index l.decls))) l.written.items

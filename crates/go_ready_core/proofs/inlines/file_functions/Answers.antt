@@ -1,0 +1,22 @@
+use Rattle.std.proofs.Common.{map, sym, subst}
+use Rattle.std.specs.Prelude.{IfOk}
+use Rattle.std.specs.List.{AllByRecursion, AllZip}
+use Rattle.go_fault_core.specs.decl_core.specs.Shown.{decl_shown}
+use Rattle.go_value_core.specs.local_core.specs.Tables.{IsFuncPlaced}
+use Rattle.go_fault_core.specs.entry_core.specs.Outlines.{outline_shown}
+use Rattle.go_ready_core.specs.Inlines.{outline_funcs}
+use Rattle.go_ready_core.specs.Packages.{package_in}
+use Rattle.go_ready_core.proofs.Placing.{outline_placed}
+use Rattle.go_ready_core.proofs.Made.{MadeOf}
+use Rattle.go_ready_core.proofs.inlines.file_functions.Goals as goal
+
+pub decl_functions-requires : goal.decl_functions-requires
+decl_functions-requires g c =
+    subst (λ ds. AllByRecursion IsFuncPlaced (outline_funcs (map decl_shown ds))) (sym c.deref.ensures.value) (outline_placed (outline_shown c.args.outline.now) c.requires)
+
+pub returns : goal.returns
+returns g c =
+    let p = package_in g.P.ImportedNames.shows c.args.at.now in
+    let Made = MadeOf p.shows p.blocks c.args.types.now c.args.file c.args.outline.now.places in
+    subst (λ ds. IfOk c.decl_functions.result (λ w. AllZip (Made p.path) (outline_funcs (map decl_shown ds)) w.items)) c.deref.ensures.value
+    (subst (λ path. IfOk c.decl_functions.result (λ w. AllZip (Made path) (outline_funcs (map decl_shown c.deref.result.now)) w.items)) c.path.ensures c.decl_functions.ensures)

@@ -1,0 +1,25 @@
+use Rattle.std.proofs.Common.{map, ap, sym, ◌∙◌}
+use Rattle.std.proofs.lemmas.Result.{IfOk-weaker}
+use Rattle.go_fault_core.specs.decl_core.specs.Shown.{decl_shown}
+use Rattle.go_fault_core.specs.entry_core.specs.Meanings.{file_meaning}
+use Rattle.go_fault_core.specs.decl_core.specs.declared.keys.DeclKey.{DeclKey}
+use Rattle.go_fault_core.specs.settle_core.specs.Settled.{kind_of_term}
+use Rattle.go_fault_core.specs.table_core.specs.Entries.{find, term_in}
+use Rattle.go_value_core.specs.inline_core.specs.Inline.{inlines}
+use Rattle.go_value_core.specs.inline_core.specs.Trees.{file_types, outline_types}
+use Rattle.go_value_core.specs.inline_core.proofs.Outlines.{outline_all}
+use Rattle.go_ready_core.specs.Packages.{package_in}
+use Rattle.go_ready_core.proofs.inlines.file_initial.Goals as goal
+
+pub returns : goal.returns
+returns g c =
+    let p = package_in g.P.ImportedNames.shows c.args.at.now in
+    let kind = λ (k : DeclKey). kind_of_term (term_in (find c.args.types.now k)) in
+    let f = c.requires.file in
+    let decls = ap (λ o. o.decls) c.requires.is in
+    IfOk-weaker c.initialiser_types.result _ _
+    (λ w made.
+    made f c.requires.placed (ap (map decl_shown) c.deref.ensures.value ∙ decls)
+    ∙ (ap (λ path. inlines kind (record { path = path; file = c.args.file; places = c.args.outline.now.places }) (file_meaning p.shows path p.blocks c.args.file) (file_types f)) c.path.ensures
+    ∙ ap (inlines kind (record { path = p.path; file = c.args.file; places = c.args.outline.now.places }) (file_meaning p.shows p.path p.blocks c.args.file)) (sym (ap outline_types decls ∙ outline_all f))))
+    c.initialiser_types.ensures.placed

@@ -1,0 +1,39 @@
+use Rattle.std.proofs.Common.{map, ap, refl, sym, subst, ◌∙◌}
+use Rattle.std.specs.Prelude.{All}
+use Rattle.std.specs.List.{AllByRecursion}
+use Rattle.std.proofs.lemmas.Result.{IfOk-weaker}
+use Rattle.std.proofs.lemmas.List.Elements.{All-from_recursion, recursion_from_All}
+use Rattle.go_graph_core.specs.Packages.{trees_of, tree_shown}
+use Rattle.go_graph_core.specs.Sources.{IsPlacedSource}
+use Rattle.go_fault_core.specs.decl_core.specs.Outer.{IsPlaced}
+use Rattle.go_fault_core.specs.entry_core.specs.Outlines.{outline_of}
+use Rattle.go_ready_core.specs.Inlines.{IsPlacedOutline}
+use Rattle.go_ready_core.specs.Packages.{trees_in}
+use Rattle.go_ready_core.proofs.Lists.{map_map}
+use Rattle.go_ready_core.proofs.Placing.{outlines_placed}
+use Rattle.go_ready_core.proofs.Made.{trees_placed}
+use Rattle.go_ready_core.proofs.package_at.package_outlines.Goals as goal
+
+pub returns-clause-outlines : goal.returns-clause-outlines
+returns-clause-outlines g c =
+    let files = c.args.at.now.package.now.1 in
+    IfOk-weaker c.outlines.result _ _
+    (λ os e. e ∙ (ap (λ fs. map (λ t. outline_of t.1) (trees_of fs)) c.files.ensures.files ∙ sym (map_map tree_shown outline_of (λ t. outline_of t.1) (λ t. refl) (trees_of files))))
+    c.outlines.ensures.files
+
+pub returns-clause-placed : goal.returns-clause-placed
+returns-clause-placed g c =
+    let files = c.args.at.now.package.now.1 in
+    IfOk-weaker c.outlines.result _ _
+    (λ os e.
+    subst (AllByRecursion IsPlacedOutline)
+    (sym (e ∙ (ap (λ fs. map (λ t. outline_of t.1) (trees_of fs)) c.files.ensures.files ∙ sym (map_map tree_shown outline_of (λ t. outline_of t.1) (λ t. refl) (trees_of files)))))
+    (outlines_placed (trees_in c.args.at.now.package.now) (trees_placed files (recursion_from_All IsPlacedSource files c.files.ensures.well.contents))))
+    c.outlines.ensures.files
+
+pub returns-clause-trees : goal.returns-clause-trees
+returns-clause-trees g c =
+    let files = c.args.at.now.package.now.1 in
+    IfOk-weaker c.outlines.result _ (λ os. All IsPlaced (trees_in c.args.at.now.package.now))
+    (λ os e. All-from_recursion IsPlaced (trees_in c.args.at.now.package.now) (trees_placed files (recursion_from_All IsPlacedSource files c.files.ensures.well.contents)))
+    c.outlines.ensures.files

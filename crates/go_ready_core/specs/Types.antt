@@ -1,0 +1,18 @@
+-- The types of a package, with their faults.
+--
+-- docs/RULES.md, "Types". The Go specification, "Type declarations", "Underlying types".
+use Rattle.std.specs.Prelude.{◌≡◌, ◌++◌, List}
+use Rattle.go_fault_core.specs.table_core.specs.Entries.{Entry, find}
+use Rattle.go_fault_core.specs.type_core.specs.declared.build.TypeFault.{TypeFault}
+use Rattle.go_fault_core.specs.type_core.specs.Built.{IsBuilt}
+use Rattle.go_fault_core.specs.entry_core.specs.Entries.{package_meanings}
+use Rattle.go_fault_core.specs.declared.places.PackageFault.{PackageFault}
+use Rattle.go_fault_core.specs.TypeFaults.{faults_of_types}
+use Rattle.go_ready_core.specs.Packages.{PackageIn, outlines_in, entries_in}
+
+-- what the types of a package are over those of the packages that it reaches, and the faults of their declarations
+pub record AreTypes (p : PackageIn) (far own : List Entry) (faults : List PackageFault) : Type 0 where
+  -- those that reach themselves
+  pub loops : List TypeFault
+  pub built : IsBuilt (find far) (entries_in p) own loops
+  pub faults_are : faults ≡ faults_of_types (far ++ own) (package_meanings p.shows p.path p.blocks) p.path (outlines_in p) (entries_in p) loops

@@ -1,0 +1,148 @@
+//! The types that the files of a package write in initialisers and in functions.
+ghost use Rattle.std.specs.Prelude.{◌≡◌, [], IfOk, OnOk, map};
+ghost use Rattle.std.specs.List.{AllByRecursion, AllZip};
+ghost use Rattle.go_fault_core.specs.decl_core.specs.Shown.{decl_shown, form_shown};
+ghost use Rattle.go_value_core.specs.local_core.specs.Tables.{IsFuncPlaced};
+ghost use Rattle.go_fault_core.specs.entry_core.specs.Outlines.{outline_shown};
+ghost use Rattle.go_value_core.specs.inline_core.specs.Functions as functions;
+ghost use Rattle.go_ready_core.specs.Inlines.{AreFunctionTypes, AreFunctionsIn, IsPlacedOutline, form_funcs, initial_in, initial_types, outline_funcs};
+ghost use Rattle.go_ready_core.specs.Packages.{outlines_in, package_in, stand_in};
+ghost use Rattle.go_ready_core.specs.mirrors.Adding.{Adds};
+
+use crate::package_at::PackageAt;
+use go_fault_core::decl_core::{DeclForm, Outline, TopDecl};
+use go_fault_core::entry_core::ImportedNames;
+use go_fault_core::text_core::add;
+use go_fault_core::type_core::TypeTable;
+use go_value_core::inline_core::{Ground, InlineTypes, function_types, initialiser_types};
+use std::alloc::{AllocError, Global};
+
+// The types in the initialisers of a file.
+fn file_initial<P: ImportedNames>(
+    alloc: Global,
+    at: &PackageAt<'_, P>,
+    types: &TypeTable,
+    file: usize,
+    outline: &Outline<'_>,
+) -> Result<InlineTypes, AllocError>
+    requires { IsPlacedOutline (outline_shown outline.now) }
+    ensures { IfOk result (λ written. written ≡ initial_types (stand_in (package_in P.shows at.now) types.now [] file (outline_shown outline.now)) (outline_shown outline.now)) }
+{
+    let ground = Ground {
+        path: at.package.path(),
+        blocks: at.blocks,
+        file,
+        imported: at.shown,
+        places: &outline.places,
+        types,
+    };
+    initialiser_types(alloc, &ground, &outline.decls)
+}
+
+/// The types that each file of a package writes in the specifications of constants and variables outside functions, in order of name.
+/// `outlines` are those of the package's files, and `types` has the types of the package and of those that it reaches.
+///
+/// The Go specification, "Constant declarations", "Variable declarations", "Composite literals".
+///
+/// # Errors
+///
+/// `AllocError` where memory is wanting.
+pub fn package_initial<P: ImportedNames>(
+    alloc: Global,
+    at: &PackageAt<'_, P>,
+    outlines: &[Outline<'_>],
+    types: &TypeTable,
+) -> Result<Vec<InlineTypes>, AllocError>
+    requires outlines { map outline_shown outlines.now ≡ outlines_in (package_in P.shows at.now) }
+    requires placed { AllByRecursion IsPlacedOutline (map outline_shown outlines.now) }
+    ensures { IfOk result (λ written. written.items ≡ initial_in (package_in P.shows at.now) types.now) }
+{
+    let mut written = Vec::new(alloc);
+    for (file, outline) in outlines.iter().enumerate() {
+        add(&mut written, file_initial(alloc, at, types, file, outline)?)?;
+    }
+    Ok(written)
+}
+
+// Adds the types of a function, where a declaration is one.
+fn add_function<P: ImportedNames>(
+    alloc: Global,
+    ground: &Ground<'_, P>,
+    form: DeclForm<'_>,
+    written: &mut Vec<InlineTypes>,
+) -> Result<(), AllocError>
+    requires { AllByRecursion IsFuncPlaced (form_funcs (form_shown form)) }
+    ensures { OnOk result (Adds (functions.AreInlines (functions.kinds_in ground.now) (functions.file_in ground.now) (functions.top_in P.shows ground.now) (functions.beyond ground.now)) (form_funcs (form_shown form.entry)) written.old.items written.new.items) }
+{
+    match form {
+        DeclForm::Func(func) => add(written, function_types(alloc, ground, func)?),
+        DeclForm::Value(_, _, _) => Ok(()),
+        DeclForm::Type(_) => Ok(()),
+    }
+}
+
+// The types of the functions among declarations.
+fn decl_functions<P: ImportedNames>(
+    alloc: Global,
+    ground: &Ground<'_, P>,
+    decls: &[TopDecl<'_>],
+) -> Result<Vec<InlineTypes>, AllocError>
+    requires { AllByRecursion IsFuncPlaced (outline_funcs (map decl_shown decls.now)) }
+    ensures { IfOk result (λ written. AllZip (functions.AreInlines (functions.kinds_in ground.now) (functions.file_in ground.now) (functions.top_in P.shows ground.now) (functions.beyond ground.now)) (outline_funcs (map decl_shown decls.now)) written.items) }
+{
+    let mut written = Vec::new(alloc);
+    for decl in decls {
+        add_function(alloc, ground, decl.form, &mut written)?;
+    }
+    Ok(written)
+}
+
+// The types of the functions of a file.
+fn file_functions<P: ImportedNames>(
+    alloc: Global,
+    at: &PackageAt<'_, P>,
+    types: &TypeTable,
+    file: usize,
+    outline: &Outline<'_>,
+) -> Result<Vec<InlineTypes>, AllocError>
+    requires { IsPlacedOutline (outline_shown outline.now) }
+    ensures { IfOk result (λ written. AreFunctionTypes (stand_in (package_in P.shows at.now) types.now [] file (outline_shown outline.now)) (outline_shown outline.now) written.items) }
+{
+    let ground = Ground {
+        path: at.package.path(),
+        blocks: at.blocks,
+        file,
+        imported: at.shown,
+        places: &outline.places,
+        types,
+    };
+    decl_functions(alloc, &ground, &outline.decls)
+}
+
+/// The types that each file of a package writes in each of its functions: the files in order of name, the functions of each in order of place.
+/// `outlines` are those of the package's files, and `types` has the types of the package and of those that it reaches.
+///
+/// The Go specification, "Types", "Declarations and scope", "Composite literals".
+///
+/// # Errors
+///
+/// `AllocError` where memory is wanting.
+pub fn package_functions<P: ImportedNames>(
+    alloc: Global,
+    at: &PackageAt<'_, P>,
+    outlines: &[Outline<'_>],
+    types: &TypeTable,
+) -> Result<Vec<Vec<InlineTypes>>, AllocError>
+    requires outlines { map outline_shown outlines.now ≡ outlines_in (package_in P.shows at.now) }
+    requires placed { AllByRecursion IsPlacedOutline (map outline_shown outlines.now) }
+    ensures { IfOk result (λ written. AreFunctionsIn (package_in P.shows at.now) types.now (map (λ of_file. of_file.items) written.items)) }
+{
+    let mut written = Vec::new(alloc);
+    for (file, outline) in outlines.iter().enumerate() {
+        add(
+            &mut written,
+            file_functions(alloc, at, types, file, outline)?,
+        )?;
+    }
+    Ok(written)
+}

@@ -1,0 +1,62 @@
+//! What is made of a package before its files are checked.
+ghost use Rattle.std.specs.Prelude.{◌≡◌, IfOk, map};
+ghost use Rattle.std.specs.List.{AllByRecursion};
+ghost use Rattle.go_fault_core.specs.entry_core.specs.Outlines.{outline_shown};
+ghost use Rattle.go_ready_core.specs.Inlines.{AreFunctionsIn, IsPlacedOutline, initial_in};
+ghost use Rattle.go_ready_core.specs.Packages.{outlines_in, package_in, scene_in};
+
+use crate::inlines::{package_functions, package_initial};
+use crate::package_at::PackageAt;
+use go_fault_core::decl_core::Outline;
+use go_fault_core::entry_core::ImportedNames;
+use go_fault_core::type_core::TypeTable;
+use go_value_core::face_core::{WrittenFaces, written_faces};
+use go_value_core::handle_core::Home;
+use go_value_core::inline_core::InlineTypes;
+use std::alloc::{AllocError, Global};
+
+/// What is made of a package before its files are checked, beside its types.
+#[derive(Drop)]
+pub struct Ready {
+    /// The package's path, and the predeclared types.
+    pub home: Home,
+    /// Its declarations outside functions, as far as they are written.
+    pub written: WrittenFaces,
+    /// Of each file, in order of name, the types in its initialisers.
+    pub initial: Vec<InlineTypes>,
+    /// Of each file the types in each of its functions, in order of place.
+    pub functions: Vec<Vec<InlineTypes>>,
+}
+
+/// Makes what is to be known of a package before its files are checked. `outlines` are those of its files, in order of name, and `types` has
+/// the types of the package and of those that it reaches.
+///
+/// The Go specification, "Declarations and scope", "Types".
+///
+/// # Errors
+///
+/// `AllocError` where memory is wanting.
+pub fn make_ready<P: ImportedNames>(
+    alloc: Global,
+    at: &PackageAt<'_, P>,
+    outlines: &[Outline<'_>],
+    types: &TypeTable,
+) -> Result<Ready, AllocError>
+    requires outlines { map outline_shown outlines.now ≡ outlines_in (package_in P.shows at.now) }
+    requires placed { AllByRecursion IsPlacedOutline (map outline_shown outlines.now) }
+    ensures home { IfOk result (λ ready. ready.home ≡ (package_in P.shows at.now).path) }
+    ensures written { IfOk result (λ ready. ready.written ≡ (scene_in (package_in P.shows at.now) types.now).written) }
+    ensures initial { IfOk result (λ ready. ready.initial.items ≡ initial_in (package_in P.shows at.now) types.now) }
+    ensures functions { IfOk result (λ ready. AreFunctionsIn (package_in P.shows at.now) types.now (map (λ of_file. of_file.items) ready.functions.items)) }
+{
+    let path = at.package.path();
+    let initial = package_initial(alloc, at, outlines, types)?;
+    let functions = package_functions(alloc, at, outlines, types)?;
+    let written = written_faces(alloc, path, at.blocks, at.shown, types, outlines)?;
+    Ok(Ready {
+        home: Home::new(alloc, path.share()?)?,
+        written,
+        initial,
+        functions,
+    })
+}

@@ -1,0 +1,11 @@
+pub mod Anew
+pub mod Changes
+pub mod InLists
+pub mod Looking
+pub mod Pieces
+pub mod Plain
+pub mod Splits
+pub mod Staying
+pub mod Treading
+pub mod Types
+pub mod Walks

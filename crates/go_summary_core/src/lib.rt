@@ -1,0 +1,20 @@
+//! What a package tells the packages that reach it by imports, and what a package sees by what others tell.
+//!
+//! A summary is compared with an earlier one of its package: where they are the same, nothing has to be checked again that the package
+//! does not declare itself. The Go specification, "Import declarations", "Exported identifiers".
+#![tactic(auto)]
+
+mod entries;
+mod faces;
+mod laws;
+mod names;
+mod summary;
+mod terms;
+mod view;
+
+pub use laws::{
+    hidden_names_are_known, hidden_names_do_not_count, views_tell_nothing_else,
+    views_tell_what_summaries_do,
+};
+pub use summary::{Summary, import_view, summarize};
+pub use view::{View, view_of};
