@@ -1,0 +1,5 @@
+mod Funcs
+mod Meanings
+mod Numbered
+mod Stages
+mod Steps

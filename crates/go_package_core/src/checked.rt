@@ -1,0 +1,28 @@
+//! What the check of a package gives.
+use go_answer_core::Answer;
+use go_answer_core::expr_core::Fault;
+use go_answer_core::face_core::{Face, PackageFaces};
+use go_answer_core::type_core::PackageTypes;
+use go_term_core::{Signature, TypeTerm};
+
+/// What stands in a file of a package. It holds what it names, and lends nothing of the package.
+#[derive(Drop)]
+pub struct FileAnswers {
+    /// What its occurrences have, in order of place: imports, then identifiers and calls, each at its offset in bytes from the file's start.
+    pub answers: Vec<Answer>,
+    /// Its faults in order of place, then of the rule's number, each once, without those that an outcome at the same place says.
+    pub faults: Vec<Fault>,
+}
+
+/// A package that was checked. It holds what it names, and lends nothing of the package.
+#[derive(Drop)]
+pub struct CheckedPackage {
+    /// The types that it declares.
+    pub types: PackageTypes,
+    /// What it shows to the packages that import it.
+    pub faces: PackageFaces,
+    /// What its declarations outside functions are, in order of file and number: none where what one needs leads back to itself.
+    pub declared: Vec<Option<Face<TypeTerm, Signature>>>,
+    /// What stands in its files, in order of name.
+    pub files: Vec<FileAnswers>,
+}

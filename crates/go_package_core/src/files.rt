@@ -1,0 +1,118 @@
+//! The check of the files of a package.
+ghost use Rattle.std.specs.Prelude.{◌≡◌, ◌++◌, [], ℕ, List, IfOk, drop, length, map, slice_index_or};
+ghost use Rattle.std.specs.List.{AllZip, enumerate_from};
+ghost use Rattle.go_answer_core.specs.decl_core.specs.Outer.{IsPlaced};
+ghost use Rattle.go_answer_core.specs.decl_core.specs.Shown.{decl_shown};
+ghost use Rattle.go_tree_nodes.specs.Shapes.{file_of};
+ghost use Rattle.go_answer_core.specs.entry_core.specs.Outlines.{outline_shown};
+ghost use Rattle.go_answer_core.specs.handle_core.specs.Declarations.{Declaration};
+ghost use Rattle.go_answer_core.specs.report_core.specs.Faults.{IsSettled};
+ghost use Rattle.go_env_core.specs.Scenes.{scene_shown};
+ghost use Rattle.go_file_core.specs.Files.{file_faults, file_uses};
+ghost use Rattle.go_file_core.specs.Stands.{AreFunctionTypes, AreInitialTypes, stand_of};
+ghost use Rattle.go_answer_core.specs.Outer.{outer_faults};
+ghost use Rattle.go_ready_core.specs.Packages.{outlines_in, package_in, scene_in};
+ghost use Rattle.go_ready_core.specs.Values.{decls_in};
+ghost use Rattle.go_package_core.specs.Checked.{IsFileChecked, answers_shown};
+ghost use Rattle.go_package_core.specs.mirrors.Stages.{IsReady};
+
+use crate::checked::FileAnswers;
+use go_answer_core::block_core::Imported;
+use go_answer_core::decl_core::Outline;
+use go_answer_core::entry_core::ImportedNames;
+use go_answer_core::face_core::Face;
+use go_answer_core::fault_core::PackageFault;
+use go_answer_core::handle_core::{SignatureRef, TypeRef};
+use go_answer_core::report_core::settle_faults;
+use go_answer_core::text_core::add;
+use go_answer_core::{OuterAt, answers_of, outer_faults};
+use go_env_core::Scene;
+use go_file_core::{FileAt, check_file};
+use go_ready_core::{PackageAt, Ready};
+use go_tree_nodes::File;
+use std::alloc::{AllocError, Global};
+
+/// What the declarations of a package outside functions are, in order of file and number.
+#[derive(Drop)]
+pub(crate) struct Declared<'p> {
+    /// None where what one needs leads back to itself.
+    pub known: Vec<Option<Face<TypeRef<'p>, SignatureRef<'p>>>>,
+    /// Whether one is a constant that is defined through itself.
+    pub looped: Vec<bool>,
+}
+
+// What the imports of the file of a number come to: nothing where there is no such file.
+fn imports_at(imports: &[Vec<Imported>], file: usize) -> &[Imported]
+    ensures { result.now ≡ slice_index_or (map (λ of_file. of_file.items) imports.now) file [] }
+{
+    match imports.get(file) {
+        Some(of_file) => of_file.as_slice(),
+        None => &[],
+    }
+}
+
+// What stands in a file: its occurrences, and its faults with those that are asked of the package as a whole.
+fn file_answers<'n, 'p, P: ImportedNames>(
+    alloc: Global,
+    at: &FileAt<'n, 'p, P>,
+    tree: &File,
+    outer: &OuterAt<'_, '_>,
+) -> Result<FileAnswers, AllocError>
+    requires placed { IsPlaced (file_of tree.now) }
+    requires initial { AreInitialTypes (stand_of P.shows at.now) (file_of tree.now) at.now.initial.now }
+    requires functions { AreFunctionTypes (stand_of P.shows at.now) (file_of tree.now) at.now.functions.now }
+    ensures uses { IfOk result (λ a. a.answers.items ≡ file_uses (stand_of P.shows at.now) at.now.imports.now (file_of tree.now)) }
+    ensures faults { IfOk result (λ a. IsSettled Declaration (List ℕ) a.answers.items (file_faults (stand_of P.shows at.now) (file_of tree.now) ++ outer_faults outer.now.file outer.now.blocks.now outer.now.type_faults.now (map decl_shown outer.now.decls.now) (drop outer.now.first outer.now.looped.now)) a.faults.items) }
+{
+    let mut checked = check_file(alloc, at, tree)?;
+    let mut whole = outer_faults(alloc, outer)?;
+    checked.faults.append(&mut whole)?;
+    let faults = settle_faults(alloc, &checked.uses, &checked.faults)?;
+    let answers = answers_of(alloc, checked.uses)?;
+    Ok(FileAnswers { answers, faults })
+}
+
+/// What stands in the files of a package, in order of name, where this is ready of it, these are its declarations, and its types have these
+/// faults.
+pub(crate) fn check_files<'n, 'p, P: ImportedNames>(
+    alloc: Global,
+    at: &'p PackageAt<'_, P>,
+    scene: &'n Scene<'p>,
+    outlines: &'n [Outline<'p>],
+    ready: &'p Ready,
+    declared: &'n Declared<'p>,
+    type_faults: &'n [PackageFault],
+) -> Result<Vec<FileAnswers>, AllocError>
+    requires outlines { map outline_shown outlines.now ≡ outlines_in (package_in P.shows at.now) }
+    requires scene { scene_shown scene.now ≡ scene_in (package_in P.shows at.now) (scene_shown scene.now).types }
+    requires ready { IsReady (package_in P.shows at.now) (scene_shown scene.now).types ready.now }
+    requires looped { length declared.now.looped.items ≡ length (decls_in (package_in P.shows at.now)) }
+    ensures { IfOk result (λ files. AllZip (IsFileChecked (package_in P.shows at.now) (scene_shown scene.now).types declared.now.known.items type_faults.now declared.now.looped.items) (enumerate_from 0 (package_in P.shows at.now).trees) (map answers_shown files.items)) }
+{
+    let mut files = Vec::new(alloc);
+    let mut first = 0;
+    for (file, outline) in outlines.iter().enumerate() {
+        let place = FileAt {
+            scene,
+            file,
+            places: &outline.places,
+            imported: at.shown,
+            imports: imports_at(at.imports, file),
+            initial: &ready.initial[file],
+            functions: &ready.functions[file],
+            known: &declared.known,
+        };
+        let outer = OuterAt {
+            file,
+            blocks: at.blocks,
+            type_faults,
+            decls: &outline.decls,
+            first,
+            looped: &declared.looped,
+        };
+        let answers = file_answers(alloc, &place, at.package.tree(file), &outer)?;
+        add(&mut files, answers)?;
+        first += outline.decls.len();
+    }
+    Ok(files)
+}
