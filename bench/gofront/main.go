@@ -2,7 +2,8 @@
 // denotes: the peer of `govisd resolve`, in its format as far as go/types answers. With the argument `parse` it
 // only parses the file, by go/parser: the peer of `govisd_probe parse`. With `sources FILE` it parses all files of an
 // archive, holds their trees, and counts them: the peer of `govisd_probe sources`. With `names FILE` it tells by go/types
-// what each identifier that a function of an archive uses denotes: the peer of `govisd_probe names` (names.go).
+// what each identifier that a function of an archive uses denotes: the peer of `govisd_probe names` (names.go). With `check FILE` it parses and checks
+// the packages of an archive, and counts what it finds: the peer of `govisd_check count` (checked.go).
 //
 // Each line is OFFSET ROLE TEXT ANSWER. ROLE is type or value. ANSWER is universe.NAME,
 // local/in.go:OFFSET, or ? where go/types finds no declaration. Errors go to standard error, but that a
@@ -234,7 +235,7 @@ func sources(name string) error {
 }
 
 func run() int {
-	modes := map[string]func(string) error{"sources": sources, "names": names}
+	modes := map[string]func(string) error{"sources": sources, "names": names, "check": checkAll}
 	if len(os.Args) == 3 && modes[os.Args[1]] != nil {
 		if err := modes[os.Args[1]](os.Args[2]); err != nil {
 			fmt.Fprintln(os.Stderr, err)

@@ -40,15 +40,25 @@ func readAnswers(name string) (map[string]*answer, error) {
 		case words[0] == "package" && len(words) > 2:
 			from = words[1]
 			one.packages[from] = words[2]
+			one.addFault(from, words[2])
 		case words[0] == "file":
 			at = from + "/" + words[1]
 		case len(words) == 3 && one != nil:
 			one.add(at, words[0], words[1], words[2])
+		case len(words) == 1 && (words[0] == "P1" || words[0] == "P2"):
 		default:
 			return nil, fmt.Errorf("no line of an answer: %q", lines.Text())
 		}
 	}
 	return all, lines.Err()
+}
+
+// addFault notes why a package does not assemble, RULE FILE:OFFSET. K4 says no more than the fault of the file.
+func (a *answer) addFault(from, said string) {
+	if words := strings.Fields(said); len(words) == 2 && words[0] != "K4" {
+		at := placeOf(from + "/" + words[1])
+		a.refused[at] = append(a.refused[at], words[0])
+	}
 }
 
 // add notes a line on a file.
@@ -74,6 +84,16 @@ func (a *answer) add(file, first, second, rest string) {
 		}
 		a.uses[at] = use{spelling, decl}
 	}
+}
+
+// hasRule tells whether a rule refuses anything in the workspace.
+func (a *answer) hasRule(rule string) bool {
+	for _, rules := range a.refused {
+		if has(rules, rule) {
+			return true
+		}
+	}
+	return false
 }
 
 // isRule tells whether an outcome is a rule.
@@ -110,6 +130,16 @@ func (t *tally) named(what, where string) {
 	}
 }
 
+// judged says what go/types says of an archive, or nothing where go/types panics: that of Go 1.19 does so on some packages with errors.
+func judged(archive string) (j *judgement) {
+	defer func() {
+		if recover() != nil {
+			j = nil
+		}
+	}()
+	return judge(archive)
+}
+
 // compareAll compares the answers to archives.
 func compareAll(answers string, files []string, show int) int {
 	all, err := readAnswers(answers)
@@ -125,7 +155,11 @@ func compareAll(answers string, files []string, show int) int {
 		if all[file] == nil {
 			fail(fmt.Errorf("no answer to %s", file))
 		}
-		t.compare(file, judge(string(text)), all[file])
+		if j := judged(string(text)); j != nil {
+			t.compare(file, j, all[file])
+		} else {
+			t.named("an archive on which go/types panics", file)
+		}
 	}
 	t.write(show)
 	if t.differ > 0 {
@@ -185,10 +219,15 @@ func (t *tally) compare(file string, j *judgement, a *answer) {
 			t.compareNames(j, a, first == nil, inPackage, where)
 		}
 		if first == nil {
+			if j.form == "worked" {
+				t.compareLines(j, nil, a, inPackage, where)
+			}
 			t.add("packages that go/types accepts")
 			if !onlyRefusals {
 				t.compareValues(j, a, inPackage, where)
 			}
+		} else if j.form == "worked" {
+			t.compareLines(j, j.errors[from], a, inPackage, where)
 		} else {
 			t.add("packages that go/types refuses")
 			t.compareFirst(j, first, a, inPackage, file)
@@ -257,6 +296,10 @@ func (t *tally) compareNames(j *judgement, a *answer, isAccepted bool, inPackage
 		switch {
 		case ok && own == told:
 			t.add("names that agree")
+		case ok && !isAccepted && a.hasRule("B6"):
+			t.named("a method whose receiver is of no type that may have methods, which go/types finds all the same", where(at)+" "+told.decl+" "+own.decl)
+		case ok && !isAccepted && a.hasRule("B2"):
+			t.named("a name that the package declares and an import with a dot binds, of which go/types takes the import's", where(at)+" "+told.decl+" "+own.decl)
 		case ok:
 			t.note("a name denotes something else: "+kindOfDecl(told.decl)+" by go/types, "+kindOfDecl(own.decl)+" by govisd", where(at)+" "+told.decl+" "+own.decl)
 		case len(a.refused[at]) > 0:
@@ -313,6 +356,7 @@ func (t *tally) compareValues(j *judgement, a *answer, inPackage func(place) boo
 			t.note("go/types has no path for a selector", where(at))
 		}
 	}
+	isBehindX1 := a.hasRule("X1")
 	for at, told := range j.consts {
 		if !inPackage(at) {
 			continue
@@ -322,6 +366,8 @@ func (t *tally) compareValues(j *judgement, a *answer, inPackage func(place) boo
 			t.add("constants of the same value")
 		case ok:
 			t.note("a constant has another value", where(at)+" "+told+" "+own)
+		case j.outer[at] && isBehindX1:
+			t.named("a constant has no value where X1 refuses a constant", where(at))
 		case j.outer[at]:
 			t.note("a constant has no value", where(at))
 		default:
@@ -363,6 +409,14 @@ func (t *tally) compareFirst(j *judgement, first *oddity, a *answer, inPackage f
 			t.add("first errors where a fault stands: " + first.code + " " + form.rule)
 			return
 		}
+	}
+	if own, ok := a.uses[first.at]; ok && first.code == "MissingFieldOrMethod" && j.isBehindLatePointer(first) {
+		t.named("a field behind a pointer type that is defined by the name of another, which Go 1.19 does not find", file+" "+first.at.String()+" "+own.decl)
+		return
+	}
+	if has([]string{"InvalidInitDecl", "InvalidMainDecl"}, first.code) && first.isOfBare() {
+		t.named("an empty list of results, which go/types of Go 1.19 takes for results", file+" "+first.at.String())
+		return
 	}
 	// what X1 and N7 refuse go/types takes, and goes on to what it is given to
 	for _, rule := range []string{"X1", "N7"} {

@@ -38,8 +38,9 @@ type node struct {
 	kind   string
 	at     place
 	end    int
-	second place // of a call its opening parenthesis, of a selector the name behind the dot, of a specification its first value
+	second place // of a call its opening parenthesis, of a selector the name behind the dot, of a specification its first value, behind a star the last identifier of a name
 	third  place // of a function its name, of a field its type's name
+	isBare bool  // of a function, that it has an empty list of results and no parameters
 }
 
 // A use is what an identifier denotes.
@@ -52,6 +53,7 @@ type judgement struct {
 	fset    *token.FileSet
 	trees   map[string][]*ast.File
 	files   map[string]*ast.File
+	texts   map[string]string
 	checked map[string]*types.Package
 	info    *types.Info
 	uses    map[place]use
@@ -139,10 +141,13 @@ func (j *judgement) node(n ast.Node) node {
 		one.second = j.place(n.Lparen)
 	case *ast.FuncDecl:
 		one.third = j.place(n.Name.Pos())
+		one.isBare = n.Type.Results != nil && n.Type.Results.NumFields() == 0 && n.Type.Params.NumFields() == 0
 	case *ast.Field:
 		one.second, one.third = j.fieldPlaces(n)
 	case *ast.SelectorExpr:
 		one.second = j.place(n.Sel.Pos())
+	case *ast.StarExpr:
+		one.second = j.place(lastName(n.X))
 	case *ast.ImportSpec:
 		one.second = j.place(n.Path.Pos())
 	case *ast.ValueSpec:
@@ -151,6 +156,62 @@ func (j *judgement) node(n ast.Node) node {
 		}
 	}
 	return one
+}
+
+// isBehindLatePointer tells whether the selector of an error stands behind a defined pointer type that is defined by the name of another one. The Go
+// specification says that a field is selected there; go/types of Go 1.19 knows such a type for a pointer type only after it was asked for another reason.
+func (j *judgement) isBehindLatePointer(odd *oddity) bool {
+	for selector := range j.lateSelectors() {
+		if j.place(selector.Sel.Pos()) == odd.at {
+			return true
+		}
+	}
+	return false
+}
+
+// lateSelectors gives the selectors behind defined types that are defined by the name of a defined pointer type.
+func (j *judgement) lateSelectors() map[*ast.SelectorExpr]bool {
+	late, found := j.latePointers(), map[*ast.SelectorExpr]bool{}
+	for _, file := range j.files {
+		ast.Inspect(file, func(n ast.Node) bool {
+			if selector, ok := n.(*ast.SelectorExpr); ok {
+				if named, ok := j.info.Types[selector.X].Type.(*types.Named); ok && late[named.Obj()] {
+					found[selector] = true
+				}
+			}
+			return true
+		})
+	}
+	return found
+}
+
+// latePointers gives the types that are defined by the name of a type with a pointer type under it.
+func (j *judgement) latePointers() map[types.Object]bool {
+	found := map[types.Object]bool{}
+	for _, file := range j.files {
+		ast.Inspect(file, func(n ast.Node) bool {
+			if spec, ok := n.(*ast.TypeSpec); ok && isLiteralType(spec.Type) && !isStruct(spec.Type) {
+				if object := j.info.Defs[spec.Name]; object != nil && isPointer(object.Type()) {
+					found[object] = true
+				}
+			}
+			return true
+		})
+	}
+	return found
+}
+
+// isPointer tells whether a pointer type lies under a type, names passed.
+func isPointer(one types.Type) bool {
+	for steps := 0; steps < 100; steps++ {
+		named, ok := one.(*types.Named)
+		if !ok {
+			break
+		}
+		one = named.Underlying()
+	}
+	_, ok := one.(*types.Pointer)
+	return ok
 }
 
 // fieldPlaces gives where the name of a field's type begins, and its last identifier.
@@ -172,6 +233,10 @@ func (j *judgement) fieldPlaces(field *ast.Field) (place, place) {
 // add parses a file of an archive.
 func (j *judgement) add(where, text string) {
 	from := path.Dir(where)
+	j.texts[where] = text
+	if j.form == "worked" {
+		j.readNotes(where, text)
+	}
 	file, err := parser.ParseFile(j.fset, where, text, parser.SkipObjectResolution)
 	if err != nil {
 		j.errors[from] = append(j.errors[from], oddity{code: "parse", text: err.Error(), at: place{where, 0}})
@@ -264,7 +329,7 @@ func (j *judgement) decl(object types.Object) string {
 // judge says what go/types says of an archive.
 func judge(archive string) *judgement {
 	j := &judgement{
-		fset: token.NewFileSet(), trees: map[string][]*ast.File{}, files: map[string]*ast.File{}, checked: map[string]*types.Package{},
+		fset: token.NewFileSet(), trees: map[string][]*ast.File{}, files: map[string]*ast.File{}, texts: map[string]string{}, checked: map[string]*types.Package{},
 		uses: map[place]use{}, paths: map[place]string{}, consts: map[place]string{}, outer: map[place]bool{}, embedded: map[token.Pos]token.Pos{}, errors: map[string][]oddity{}, put: map[place][]string{},
 		info: &types.Info{Types: map[ast.Expr]types.TypeAndValue{}, Uses: map[*ast.Ident]types.Object{}, Defs: map[*ast.Ident]types.Object{},
 			Selections: map[*ast.SelectorExpr]*types.Selection{}},

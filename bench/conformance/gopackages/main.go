@@ -2,6 +2,7 @@
 // compares that with what `govisd_check` answers.
 //
 //	gopackages generate FOLDER COUNT SEED    writes COUNT archives of workspaces (the form of txtar), the same bytes for each seed
+//	gopackages table FOLDER                  writes the table of mistakes as a worked archive, table.txt, with the faults in it as comments
 //	gopackages judge FILE..                  what go/types says, in the format of govisd_check, with its errors
 //	gopackages fake FILE..                   an answer in the format of govisd_check: what go/types says of names, and the faults that were put in
 //	gopackages compare [-show N] [-refusals] ANSWERS FILE..    compares the answers of govisd_check to the archives with go/types
@@ -72,7 +73,7 @@ func main() {
 	show := flag.Int("show", 40, "how many differences are printed")
 	flag.BoolVar(&onlyRefusals, "refusals", false, "the answers tell no more than what is refused")
 	if len(os.Args) < 3 {
-		fail(fmt.Errorf("usage: gopackages generate FOLDER COUNT SEED | judge FILE.. | fake FILE.. | compare ANSWERS FILE.."))
+		fail(fmt.Errorf("usage: gopackages generate FOLDER COUNT SEED | table FOLDER | judge FILE.. | fake FILE.. | compare ANSWERS FILE.."))
 	}
 	mode := os.Args[1]
 	flag.CommandLine.Parse(os.Args[2:])
@@ -80,6 +81,8 @@ func main() {
 	switch {
 	case mode == "generate" && len(words) == 3:
 		generate(words[0], int(number(words[1])), number(words[2]))
+	case mode == "table" && len(words) == 1:
+		writeTable(words[0])
 	case mode == "judge":
 		tell(words, false)
 	case mode == "fake":

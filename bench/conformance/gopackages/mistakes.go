@@ -317,7 +317,7 @@ var mistakes = joined(
 		"const q9 = 1\n\nconst «B1»q9 = 2", "func q9() {}\n\nfunc «B1»q9() {}", "var q9, «B1»q9 int", "func q9(x int) {\n\tconst «B1»x = 1\n}", "func q9(a, «B1»a int) {}", "func q9() (r, «B1»r int) { return }", "type q9 interface {\n\tm(a int) («B1»a string)\n}"),
 	stmts("B1", "var d9x int\nvar «B1»d9x string\n_ = d9x", "a9x, «B1»a9x := 1, 2\n_ = a9x", "const d9x = 1\nvar «B1»d9x = 2\n_ = d9x", "var d9x, «B1»d9x int\n_ = d9x", "d9x := 1\nconst «B1»d9x = 2\n_ = d9x"),
 	files("B1", "package p\n\nimport \"ex.com/aid\"\nimport aid «B1»\"ex.com/lib\"\n\nvar _ = «X1»aid.V", "package p\n\nimport \"ex.com/aid\"\nimport «B1»\"ex.com/aid\"\n\nvar _ = aid.C"),
-	files("B2", "package p\n\nimport «B2»\"ex.com/aid\"\n\nvar aid int", "package p\n\nimport q9 «B2»\"ex.com/aid\"\n\nfunc q9() {}", "package p\n\nimport . «B2»\"ex.com/aid\"\n\nconst C = 1"),
+	files("B2", "package p\n\nimport «B2»\"ex.com/aid\"\n\nvar aid int", "package p\n\nimport q9 «B2»\"ex.com/aid\"\n\nfunc q9() {}", "package p\n\nimport . «B2»\"ex.com/aid\"\n\nconst V = 1"),
 	outers("B3", "var «B3»init = 1", "func «B3»init(x int) {}", "func «B3»init() int { return 1 }", "type «B3»init int", "const «B3»init = 1"),
 	stmts("B4", "n9 := 1\n«B4»n9 := 2\n_ = n9", "«B4»_ := 1", "n9, m9 := 1, 2\n«B4»n9, _, m9 := 1, 2, 3\n_, _ = n9, m9"),
 	outers("B4", "func q9(x int) {\n\t«B4»x := 1\n\t_ = x\n}", "func q9() (x int) {\n\t«B4»x := 1\n\treturn x\n}"),

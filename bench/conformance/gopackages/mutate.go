@@ -196,6 +196,10 @@ func isInGrammar(text string) bool {
 			for _, method := range n.Methods.List {
 				isRight = isRight && len(method.Names) == 1
 			}
+		case *ast.StructType:
+			for _, field := range n.Fields.List {
+				isRight = isRight && (len(field.Names) > 0 || isStarred(field.Type))
+			}
 		case *ast.CompositeLit:
 			isRight = isRight && isLiteralType(n.Type)
 		case *ast.ArrayType, *ast.MapType, *ast.ChanType, *ast.FuncLit, *ast.IndexExpr, *ast.SliceExpr, *ast.TypeAssertExpr, *ast.RangeStmt, *ast.LabeledStmt, *ast.Ellipsis, *ast.SendStmt, *ast.IndexListExpr:
@@ -221,7 +225,11 @@ func isReceiver(list *ast.FieldList) bool {
 	if len(list.List) != 1 || len(list.List[0].Names) > 1 {
 		return false
 	}
-	expr := list.List[0].Type
+	return isStarred(list.List[0].Type)
+}
+
+// isStarred tells whether a type is a name with a star or without, as the type of a receiver and of an embedded field.
+func isStarred(expr ast.Expr) bool {
 	if star, ok := expr.(*ast.StarExpr); ok {
 		expr = star.X
 	}

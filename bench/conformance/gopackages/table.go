@@ -11,73 +11,74 @@ type form struct {
 // The words of anchors: `at` and `start` are the places that go/types gives; `call` the opening parenthesis of a call round it, `callee` the first byte of one;
 // `statement`, `spec`, `binary`, `unary`, `literal`, `element` the first byte of a node of that kind round it, `value` the first value of a specification; `field` the
 // last identifier of an embedded field, `base` the name of a receiver's type, `func` the name of a function, `selector` the name behind a dot, `import` the string of an
-// import; `inner` the place behind parentheses that open where it stands, `near` any place in the same statement or specification, `package` any place in the package.
+// import; `inner` the place behind parentheses that open where it stands, `starred` the last identifier of a name behind a star, `near` any place in the same statement or specification, `package` any place in the package.
 var table = map[string][]form{
-	"InvalidPkgUse":           {{"N4", "at"}, {"N6", "at"}},
-	"BrokenImport":            {{"I1", "at"}, {"I2", "at"}, {"I3", "at"}, {"I4", "at"}, {"I5", "at"}, {"I6", "at"}},
-	"InvalidInitCycle":        {{"Y7", "at"}},
-	"DuplicateDecl":           {{"B1", "at import"}, {"B5", "at field"}, {"B2", "package"}},
-	"RepeatedDecl":            {{"B1", "at"}},
-	"InvalidDeclCycle":        {{"Y1", "at"}},
-	"InvalidTypeCycle":        {{"Y1", "at"}},
-	"InvalidConstInit":        {{"Y7", "at start"}},
-	"InvalidConstType":        {{"Y7", "value"}},
-	"UntypedNil":              {{"Y4", "statement spec"}, {"C3", "call"}},
-	"WrongAssignCount":        {{"Y4", "statement spec"}},
-	"UnassignableOperand":     {{"Y4", "statement"}, {"Y3", "statement"}},
-	"NoNewVar":                {{"B4", "start"}},
-	"IncompatibleAssign":      {{"Y4", "statement spec element at"}, {"C3", "call"}},
-	"InvalidIfaceAssign":      {{"Y4", "statement spec element at"}, {"C3", "call"}},
-	"NotAType":                {{"N6", "at selector"}},
-	"BlankIfaceMethod":        {{"B5", "at"}},
-	"InvalidPtrEmbed":         {{"Y2", "field"}},
-	"InvalidRecv":             {{"B6", "base"}},
-	"DuplicateFieldAndMethod": {{"B5", "package"}},
-	"DuplicateMethod":         {{"B5", "at"}},
-	"InvalidBlank":            {{"N8", "at"}},
-	"InvalidIota":             {{"N7", "at"}},
-	"InvalidInitDecl":         {{"B3", "at func"}},
-	"InvalidMainDecl":         {{"B3", "at func"}},
-	"TooManyValues":           {{"Y3", "at"}, {"S4", "selector"}, {"C2", "call"}, {"C3", "call"}, {"C4", "call"}, {"Y7", "at"}, {"Y4", "statement spec"}},
-	"NumericOverflow":         {{"Y7", "at start"}, {"X1", "near"}},
-	"UndefinedOp":             {{"Y3", "binary unary statement"}},
-	"MismatchedTypes":         {{"Y3", "binary statement"}},
-	"DivByZero":               {{"Y7", "binary statement"}},
-	"NonNumericIncDec":        {{"Y3", "statement"}},
-	"UnaddressableOperand":    {{"Y3", "unary"}},
-	"InvalidIndirection":      {{"Y3", "unary"}, {"N6", "at"}},
-	"DuplicateLitField":       {{"F4", "element"}},
-	"MixedStructLit":          {{"F5", "literal element"}},
-	"InvalidStructLit":        {{"F6", "literal"}},
-	"MissingLitField":         {{"F1", "at"}, {"F2", "at"}, {"F3", "at"}},
-	"UnexportedLitField":      {{"F7", "literal"}},
-	"InvalidLit":              {{"F8", "literal"}},
-	"AmbiguousSelector":       {{"S2", "at"}},
-	"UndeclaredImportedName":  {{"N3", "at"}},
-	"UnexportedName":          {{"N2", "at"}},
-	"UndeclaredName":          {{"N1", "at"}},
-	"MissingFieldOrMethod":    {{"S1", "at"}, {"S3", "at"}, {"S4", "at"}, {"S6", "at"}, {"S7", "at"}, {"S8", "at"}},
-	"InvalidMethodExpr":       {{"S5", "at"}},
-	"UncalledBuiltin":         {{"X1", "at inner"}},
-	"InvalidCap":              {{"N7", "callee"}},
-	"InvalidLen":              {{"C3", "call"}},
-	"InvalidConversion":       {{"C4", "call"}},
-	"InvalidCond":             {{"Y3", "at"}},
-	"UnusedExpr":              {{"Y8", "at"}},
-	"MissingReturn":           {{"Y5", "at"}},
-	"WrongResultCount":        {{"Y4", "statement"}},
-	"MisplacedBreak":          {{"Y6", "at"}},
-	"MisplacedContinue":       {{"Y6", "at"}},
-	"WrongArgCount":           {{"C2", "call"}},
-	"InvalidCall":             {{"C1", "call"}},
-	"NotAnExpr":               {{"N5", "at selector inner"}},
+	"InvalidPkgUse":            {{"N4", "at"}, {"N6", "at"}},
+	"BrokenImport":             {{"I1", "at"}, {"I2", "at"}, {"I3", "at"}, {"I4", "at"}, {"I5", "at"}, {"I6", "at"}},
+	"InvalidInitCycle":         {{"Y7", "at"}},
+	"DuplicateDecl":            {{"B1", "at import"}, {"B5", "at field"}, {"B2", "package"}},
+	"RepeatedDecl":             {{"B1", "at"}},
+	"InvalidDeclCycle":         {{"Y1", "at"}},
+	"InvalidTypeCycle":         {{"Y1", "at"}},
+	"InvalidConstInit":         {{"Y7", "at start"}},
+	"InvalidConstType":         {{"Y7", "value"}},
+	"UntypedNil":               {{"Y4", "statement spec"}, {"C3", "call"}},
+	"WrongAssignCount":         {{"Y4", "statement spec"}},
+	"UnassignableOperand":      {{"Y4", "statement"}, {"Y3", "statement"}},
+	"NoNewVar":                 {{"B4", "start"}},
+	"IncompatibleAssign":       {{"Y4", "statement spec element at"}, {"C3", "call"}, {"F6", "literal"}},
+	"InvalidIfaceAssign":       {{"Y4", "statement spec element at"}, {"C3", "call"}, {"F6", "literal"}},
+	"NotAType":                 {{"N6", "at selector"}},
+	"BlankIfaceMethod":         {{"B5", "at"}},
+	"InvalidPtrEmbed":          {{"Y2", "field"}},
+	"InvalidRecv":              {{"B6", "base"}},
+	"DuplicateFieldAndMethod":  {{"B5", "package"}},
+	"DuplicateMethod":          {{"B5", "at"}},
+	"InvalidBlank":             {{"N8", "at"}},
+	"InvalidIota":              {{"N7", "at"}},
+	"InvalidInitDecl":          {{"B3", "at func"}},
+	"InvalidMainDecl":          {{"B3", "at func"}},
+	"TooManyValues":            {{"Y3", "at"}, {"S4", "selector"}, {"C1", "call"}, {"C2", "call"}, {"C3", "call"}, {"C4", "call"}, {"Y7", "at"}, {"Y4", "statement spec"}},
+	"NumericOverflow":          {{"Y7", "at start"}, {"X1", "near"}},
+	"UndefinedOp":              {{"Y3", "binary unary statement"}},
+	"MismatchedTypes":          {{"Y3", "binary statement"}},
+	"DivByZero":                {{"Y7", "binary statement"}},
+	"NonNumericIncDec":         {{"Y3", "statement"}},
+	"UnaddressableOperand":     {{"Y3", "unary"}},
+	"InvalidIndirection":       {{"Y3", "unary"}, {"N6", "at"}},
+	"DuplicateLitField":        {{"F4", "element"}},
+	"MixedStructLit":           {{"F5", "literal element"}},
+	"InvalidStructLit":         {{"F6", "literal"}},
+	"MissingLitField":          {{"F1", "at"}, {"F2", "at"}, {"F3", "at"}},
+	"UnexportedLitField":       {{"F7", "literal"}},
+	"InvalidLit":               {{"F8", "literal"}},
+	"AmbiguousSelector":        {{"S2", "at"}},
+	"UndeclaredImportedName":   {{"N3", "at"}},
+	"UnexportedName":           {{"N2", "at"}},
+	"UndeclaredName":           {{"N1", "at"}},
+	"MissingFieldOrMethod":     {{"S1", "at"}, {"S3", "at"}, {"S4", "at"}, {"S6", "at"}, {"S7", "at"}, {"S8", "at"}},
+	"InvalidMethodExpr":        {{"S5", "at"}},
+	"UncalledBuiltin":          {{"X1", "at inner"}, {"S4", "at"}},
+	"InvalidCap":               {{"N7", "callee"}},
+	"InvalidLen":               {{"C3", "call"}},
+	"InvalidConversion":        {{"C4", "call"}},
+	"InvalidUntypedConversion": {{"Y3", "binary statement"}},
+	"InvalidCond":              {{"Y3", "at"}, {"Y7", "at"}},
+	"UnusedExpr":               {{"Y8", "at"}},
+	"MissingReturn":            {{"Y5", "at"}},
+	"WrongResultCount":         {{"Y4", "statement"}},
+	"MisplacedBreak":           {{"Y6", "at"}},
+	"MisplacedContinue":        {{"Y6", "at"}},
+	"WrongArgCount":            {{"C2", "call"}},
+	"InvalidCall":              {{"C1", "call"}},
+	"NotAnExpr":                {{"N5", "at selector inner starred"}},
 }
 
 // kinds are the nodes that the words of anchors mean.
 var kinds = map[string]string{
 	"call": "CallExpr", "callee": "CallExpr", "statement": "AssignStmt IncDecStmt ReturnStmt ExprStmt", "spec": "ValueSpec", "value": "ValueSpec", "binary": "BinaryExpr",
 	"unary": "UnaryExpr StarExpr", "literal": "CompositeLit", "element": "KeyValueExpr", "field": "Field", "base": "Field", "func": "FuncDecl",
-	"selector": "SelectorExpr", "import": "ImportSpec",
+	"selector": "SelectorExpr", "import": "ImportSpec", "starred": "StarExpr",
 }
 
 // isPlace tells whether a node has a place that an anchor means.
@@ -86,7 +87,7 @@ func isPlace(anchor string, n node, at place) bool {
 		return false
 	}
 	switch anchor {
-	case "call", "value", "field", "selector", "import":
+	case "call", "value", "field", "selector", "import", "starred":
 		return n.second == at
 	case "base", "func":
 		return n.third == at
@@ -99,6 +100,16 @@ func isInside(odd *oddity, at place) bool {
 	for _, n := range odd.nodes {
 		if strings.HasSuffix(n.kind, "Stmt") || n.kind == "ValueSpec" {
 			return n.at.file == at.file && n.at.offset <= at.offset && at.offset < n.end
+		}
+	}
+	return false
+}
+
+// isOfBare tells whether an error is about a function without parameters that has an empty list of results.
+func (odd *oddity) isOfBare() bool {
+	for _, n := range odd.nodes {
+		if n.isBare {
+			return true
 		}
 	}
 	return false
