@@ -44,13 +44,13 @@ func help() int { return 1 }
 var helpers = map[string]string{
 	"T9":    "type T9 struct {\n\ta, b int\n}\n\nfunc (t T9) m() int { return t.a }\n\nfunc (t *T9) pm() int { return t.b }\n",
 	"O9":    "type O9 struct {\n\tT9\n\tz string\n}\n",
-	"L9":    "type L9 struct{ f int }\n\ntype R9 struct{ f string }\n\ntype D9 struct {\n\tL9\n\tR9\n}\n",
+	"L9":    "type L9 struct{ f int }\n\ntype Q9 struct{ f string }\n\ntype V9 struct {\n\tL9\n\tQ9\n}\n",
 	"K9":    "type K9 int\n",
 	"I9":    "type I9 interface{ M() }\n",
 	"P9":    "type P9 *T9\n",
 	"v9":    "var v9 T9\n",
 	"w9":    "var w9 O9\n",
-	"d9":    "var d9 D9\n\nvar _ L9\n",
+	"d9":    "var d9 V9\n\nvar _ L9\n",
 	"i9":    "var i9 int\n",
 	"s9":    "var s9 string\n",
 	"b9":    "var b9 bool\n",
@@ -98,7 +98,7 @@ func (k *mistake) support(m *made) {
 	var need func(text string)
 	need = func(text string) {
 		for _, name := range word.FindAllString(text, -1) {
-			if name == "R9" || name == "D9" {
+			if name == "Q9" || name == "V9" {
 				name = "L9"
 			}
 			if helpers[name] != "" && !needed[name] {

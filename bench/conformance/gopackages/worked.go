@@ -118,7 +118,7 @@ func helpersOf(text string) string {
 	var need func(string)
 	need = func(text string) {
 		for _, name := range word.FindAllString(text, -1) {
-			if name == "R9" || name == "D9" {
+			if name == "Q9" || name == "V9" {
 				name = "L9"
 			}
 			if helpers[name] != "" && !needed[name] {
