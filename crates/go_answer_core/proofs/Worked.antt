@@ -4,7 +4,7 @@ use Rattle.std.specs.Str.{chars}
 use Rattle.unicode.specs.GeneralCategory.{general_category}
 use Rattle.unicode.specs.Rows.{value_in}
 use Rattle.ucd_category.specs.GeneralCategoryRows.{general_category_rows}
-use Rattle.go_fault_core.specs.text_core.specs.Text.{uppercase}
+use Rattle.go_text_core.specs.Text.{uppercase}
 use Rattle.go_answer_core.specs.Sample.{SampleIsRight}
 
 pub sample_is_right : SampleIsRight

@@ -5,10 +5,10 @@ ghost use Rattle.go_report_core.specs.Places.{Rise, IsNowhere};
 use crate::site::Site;
 use go_face_core::handle_core::Decl;
 use go_face_core::select_core::EmbedPath;
-use go_fault_core::text_core::add;
 use go_report_core::denote_core::Outcome;
 use go_report_core::expr_core::Use;
 use go_report_core::use_at;
+use go_text_core::add;
 use std::alloc::{AllocError, Global};
 
 /// What an occurrence has, held: an identifier at its first byte, a call at its opening parenthesis, an import at its string, each by its

@@ -19,23 +19,37 @@ pub use laws::{
 pub use outer::{OuterAt, outer_faults};
 pub use site::Site;
 
-// Passed on, so that the crates above list this one alone.
-pub use go_face_core as face_core;
-pub use go_face_core::{
-    decide_core as decide_core, handle_core as handle_core, mset_core as mset_core,
-    open_core as open_core, select_core as select_core, universe_core as universe_core,
-};
-pub use go_fault_core as fault_core;
-pub use go_fault_core::{
-    block_core as block_core, decl_core as decl_core, embed_core as embed_core,
-    entry_core as entry_core, path_core as path_core, settle_core as settle_core,
-    table_core as table_core, text_core as text_core, tree_nodes as tree_nodes,
-    type_core as type_core, written_core as written_core,
-};
-pub use go_report_core as report_core;
-pub use go_report_core::{
-    constant_core as constant_core, denote_core as denote_core, expr_core as expr_core,
-    literal_core as literal_core, operand_core as operand_core, scan_core as scan_core,
-    tree_core as tree_core,
-};
-pub use go_term_core as term_core;
+/// What the crates above name of `go_block_core`.
+pub mod block_core {
+    pub use go_fault_core::block_core::{Blocks, Imported};
+}
+
+/// What the crates above name of `go_entry_core`.
+pub mod entry_core {
+    pub use go_fault_core::entry_core::ImportedNames;
+}
+
+/// What the crates above name of `go_expr_core`.
+pub mod expr_core {
+    pub use go_report_core::expr_core::Fault;
+}
+
+/// What the crates above name of `go_face_core`.
+pub mod face_core {
+    pub use go_face_core::{Face, FaceTable, PackageFaces, WrittenFaces};
+}
+
+/// What the crates above name of `go_fault_core`.
+pub mod fault_core {
+    pub use go_fault_core::PackageFault;
+}
+
+/// What the crates above name of `go_handle_core`.
+pub mod handle_core {
+    pub use go_face_core::handle_core::{Home, SignatureRef, TypeRef};
+}
+
+/// What the crates above name of `go_report_core`.
+pub mod report_core {
+    pub use go_report_core::settle_faults;
+}

@@ -2,9 +2,9 @@
 use Rattle.std.proofs.Common.{◌≡◌, false, List, ◌++◌, map, sym, ap, ◌∙◌, append_assoc}
 use Rattle.std.proofs.lemmas.List.{map-append}
 use Rattle.go_tree_nodes.specs.Trees.{FuncTree}
-use Rattle.go_piece_core.specs.local_core.specs.declared.Fault.{Fault as LocalFault}
-use Rattle.go_piece_core.specs.walk_core.specs.Ends.{lines_loop_faults}
-use Rattle.go_piece_core.specs.expr_core.specs.declared.things.Fault.{Fault}
+use Rattle.go_piece_core.specs.local_core.declared.Fault.{Fault as LocalFault}
+use Rattle.go_piece_core.specs.walk_core.Ends.{lines_loop_faults}
+use Rattle.go_piece_core.specs.expr_core.declared.things.Fault.{Fault}
 use Rattle.go_env_core.specs.Looks.{fault_of}
 use Rattle.go_body_core.specs.Notes.{TheUse, NoteOf, all_uses, all_faults}
 use Rattle.go_body_core.specs.Ends.{end_faults}

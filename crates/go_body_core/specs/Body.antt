@@ -3,15 +3,15 @@
 -- docs/RULES.md, "Bodies of functions". The Go specification, "Blocks", "Declarations and scope", "Statements".
 use Rattle.std.specs.Prelude.{◌≡◌, ℕ, false, List, ◌++◌, map, Option}
 use Rattle.go_tree_nodes.specs.Trees.{FuncTree}
-use Rattle.go_piece_core.specs.term_core.specs.Terms.{Term}
-use Rattle.go_piece_core.specs.local_core.specs.declared.Fault.{Fault as LocalFault}
-use Rattle.go_piece_core.specs.local_core.specs.Binding.{Local}
-use Rattle.go_piece_core.specs.local_core.specs.Law.{Out}
-use Rattle.go_piece_core.specs.local_core.specs.Tables.{walked, given, IsTable}
-use Rattle.go_piece_core.specs.walk_core.specs.Ends.{lines_loop_faults}
-use Rattle.go_piece_core.specs.expr_core.specs.declared.things.Fault.{Fault}
-use Rattle.go_piece_core.specs.expr_core.specs.Looks.{WrittenRules}
-use Rattle.go_env_core.specs.face_core.specs.Faces.{TheFace}
+use Rattle.go_term_core.specs.Terms.{Term}
+use Rattle.go_piece_core.specs.local_core.declared.Fault.{Fault as LocalFault}
+use Rattle.go_piece_core.specs.local_core.Binding.{Local}
+use Rattle.go_piece_core.specs.local_core.Law.{Out}
+use Rattle.go_piece_core.specs.local_core.Tables.{walked, given, IsTable}
+use Rattle.go_piece_core.specs.walk_core.Ends.{lines_loop_faults}
+use Rattle.go_piece_core.specs.expr_core.declared.things.Fault.{Fault}
+use Rattle.go_piece_core.specs.expr_core.Looks.{WrittenRules}
+use Rattle.go_env_core.specs.face_core.Faces.{TheFace}
 use Rattle.go_env_core.specs.declared.meaning.Meaning.{Meaning}
 use Rattle.go_env_core.specs.Scenes.{SceneModel}
 use Rattle.go_env_core.specs.Looks.{fault_of}

@@ -3,15 +3,15 @@
 -- docs/RULES.md, "Bodies of functions". The Go specification, "Function declarations", "Terminating statements", "Handling panics".
 use Rattle.std.specs.Prelude.{ℕ, Bool, true, false, ◌&&◌, not, nat_eq, List, [], ◌∷◌, if◌then◌else◌}
 use Rattle.std.specs.List.{list_any}
-use Rattle.go_piece_core.specs.text_core.specs.declared.rule.Rule.TheVariants.{Y5}
-use Rattle.go_env_core.specs.universe_core.specs.declared.Predeclared.{Predeclared}
-use Rattle.go_env_core.specs.universe_core.specs.declared.Predeclared.TheVariants as predeclared
+use Rattle.go_text_core.specs.declared.rule.Rule.TheVariants.{Y5}
+use Rattle.go_universe_core.specs.declared.Predeclared.{Predeclared}
+use Rattle.go_universe_core.specs.declared.Predeclared.TheVariants as predeclared
 use Rattle.go_tree_nodes.specs.Trees.{SignatureTree, ResultTree, Signed, NoResult, OneResult, Results, NoParams, Param, ParamTrees, ExprTree, Integer, Text, Named, Paren, Unary, Binary, Select, Call, Literal, StructLiteral, FuncTree}
-use Rattle.go_env_core.specs.handle_core.specs.Declarations.{Declaration, Universe, OfError, Package, InFile}
-use Rattle.go_piece_core.specs.denote_core.specs.declared.things.Outcome.{Outcome}
-use Rattle.go_piece_core.specs.denote_core.specs.declared.things.Outcome.TheVariants as outcomes
-use Rattle.go_piece_core.specs.walk_core.specs.Ends.{are_terminating}
-use Rattle.go_piece_core.specs.expr_core.specs.declared.things.Fault.{Fault}
+use Rattle.go_env_core.specs.handle_core.Declarations.{Declaration, Universe, OfError, Package, InFile}
+use Rattle.go_piece_core.specs.denote_core.declared.things.Outcome.{Outcome}
+use Rattle.go_piece_core.specs.denote_core.declared.things.Outcome.TheVariants as outcomes
+use Rattle.go_piece_core.specs.walk_core.Ends.{are_terminating}
+use Rattle.go_piece_core.specs.expr_core.declared.things.Fault.{Fault}
 use Rattle.go_body_core.specs.Notes.{TheUse}
 
 -- a function has results

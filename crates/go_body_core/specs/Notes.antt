@@ -1,9 +1,9 @@
 -- What is noted of the pieces of a function.
 use Rattle.std.specs.Prelude.{ℕ, List}
 use Rattle.std.specs.List.{flat_map}
-use Rattle.go_env_core.specs.handle_core.specs.Declarations.{Declaration}
-use Rattle.go_piece_core.specs.expr_core.specs.declared.things.Use.{Use}
-use Rattle.go_piece_core.specs.expr_core.specs.declared.things.Fault.{Fault}
+use Rattle.go_env_core.specs.handle_core.Declarations.{Declaration}
+use Rattle.go_piece_core.specs.expr_core.declared.things.Use.{Use}
+use Rattle.go_piece_core.specs.expr_core.declared.things.Fault.{Fault}
 
 -- what an occurrence has
 abbrev pub TheUse : Type 0

@@ -3,16 +3,16 @@
 -- docs/RULES.md, "Bodies of functions". The Go specification, "Declarations and scope", "Statements", "Function declarations".
 use Rattle.std.specs.Prelude.{ℕ, zero, suc, Bool, List, [], ◌∷◌, Option, Some, None}
 use Rattle.go_tree_nodes.specs.Trees.{FuncTree}
-use Rattle.go_piece_core.specs.operand_core.specs.declared.types.Operand.{Operand}
-use Rattle.go_piece_core.specs.term_core.specs.Terms.{Term}
+use Rattle.go_piece_core.specs.operand_core.declared.types.Operand.{Operand}
+use Rattle.go_term_core.specs.Terms.{Term}
 use Rattle.go_tree_nodes.specs.declared.names.Ident.{Ident}
-use Rattle.go_piece_core.specs.local_core.specs.Law.{Rules}
-use Rattle.go_env_core.specs.names_core.specs.Scope.{beyond_in}
-use Rattle.go_env_core.specs.names_core.specs.Uses.{place_of}
-use Rattle.go_piece_core.specs.expr_core.specs.Looks.{WrittenRules}
+use Rattle.go_piece_core.specs.local_core.Law.{Rules}
+use Rattle.go_env_core.specs.names_core.Scope.{beyond_in}
+use Rattle.go_env_core.specs.names_core.Uses.{place_of}
+use Rattle.go_piece_core.specs.expr_core.Looks.{WrittenRules}
 use Rattle.go_piece_core.specs.Pieces.{piece_uses, piece_faults, piece_values, piece_names}
 use Rattle.go_piece_core.specs.Headers.{returned_types, returned_names}
-use Rattle.go_env_core.specs.face_core.specs.Faces.{TheFace}
+use Rattle.go_env_core.specs.face_core.Faces.{TheFace}
 use Rattle.go_env_core.specs.declared.meaning.Meaning.{Meaning}
 use Rattle.go_env_core.specs.declared.meaning.Meaning.TheVariants as meanings
 use Rattle.go_env_core.specs.Scenes.{SceneModel, scene_shown}

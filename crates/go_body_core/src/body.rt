@@ -2,7 +2,7 @@
 ghost use Rattle.std.specs.Prelude.{◌≡◌, [], IfOk};
 ghost use Rattle.go_tree_nodes.specs.Shapes.{func_of};
 ghost use Rattle.go_tree_nodes.specs.TypeShapes.{shape_signature};
-ghost use Rattle.go_piece_core.specs.local_core.specs.Tables.{IsFuncPlaced};
+ghost use Rattle.go_piece_core.specs.local_core.Tables.{IsFuncPlaced};
 ghost use Rattle.go_env_core.specs.Scenes.{scene_shown};
 ghost use Rattle.go_env_core.specs.Looks.{inline_rules};
 ghost use Rattle.go_piece_core.specs.Headers.{returned_types};

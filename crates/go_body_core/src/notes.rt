@@ -7,7 +7,7 @@ use go_env_core::handle_core::Decl;
 use go_env_core::select_core::EmbedPath;
 use go_piece_core::expr_core::{Fault, Notes, Use};
 use go_piece_core::local_core::Fault as LocalFault;
-use go_piece_core::text_core::add;
+use go_text_core::add;
 use std::alloc::{AllocError, Global};
 use std::marker::Model;
 

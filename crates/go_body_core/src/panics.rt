@@ -7,10 +7,10 @@ ghost use Rattle.go_body_core.specs.Ends.{is_panic, has_panic, panics_at, names_
 use crate::notes::BodyUse;
 use go_env_core::handle_core::{Decl, DeclSite};
 use go_env_core::select_core::EmbedPath;
-use go_env_core::universe_core::Predeclared;
 use go_piece_core::denote_core::Outcome;
 use go_piece_core::walk_core::Panics;
 use go_tree_nodes::Expr;
+use go_universe_core::Predeclared;
 use indexmap::IndexSet;
 use std::alloc::{AllocError, Global};
 

@@ -1,7 +1,7 @@
 //! The checker of the pieces of a function.
 ghost use Rattle.std.specs.Prelude.{◌≡◌, [], IfOk};
 ghost use Rattle.go_tree_nodes.specs.TypeShapes.{shape_signature};
-ghost use Rattle.go_env_core.specs.scope_core.specs.Models.{scopes_model};
+ghost use Rattle.go_env_core.specs.scope_core.Models.{scopes_model};
 ghost use Rattle.go_env_core.specs.Scenes.{scene_shown};
 ghost use Rattle.go_env_core.specs.Looks.{inline_rules};
 ghost use Rattle.go_piece_core.specs.Headers.{returned_types};
@@ -14,11 +14,11 @@ use go_env_core::handle_core::{SignatureRef, TypeRef};
 use go_env_core::inline_core::InlineTypes;
 use go_env_core::names_core::{Checker, OpenNames, header_idents, listed_idents};
 use go_env_core::{Here, Meaning, Scene, stand};
-use go_piece_core::text_core::Span;
 use go_piece_core::{
     check_condition, check_header, check_returned, check_short, check_simple, check_spec,
     function_results,
 };
+use go_text_core::Span;
 use go_tree_nodes::{Definition, Expr, Exprs, FuncDecl, Simple, ValueKind, ValueSpec};
 use std::alloc::{AllocError, Global};
 

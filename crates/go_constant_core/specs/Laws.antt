@@ -1,7 +1,7 @@
 -- Laws of constants, in integers, lists of bytes and truths.
 use Rattle.std.specs.Prelude.{◌≡◌, ℕ, ◌<◌, ◌^◌, ◌⊎◌, ⊤, Bool, true, false, IsTrue, List, [], ◌∷◌, ◌++◌, ℤ, pos, ◌+ℤ◌, ◌-ℤ◌, ◌*ℤ◌, neg_ℤ, ◌<ℤ◌, ◌≤ℤ◌, unsigned_abs, Option, Some, None}
-use Rattle.go_scan_core.specs.declared.kind.Operator.{Operator}
-use Rattle.go_scan_core.specs.declared.kind.Operator.TheVariants as operators
+use Rattle.go_token_core.specs.declared.kind.Operator.{Operator}
+use Rattle.go_token_core.specs.declared.kind.Operator.TheVariants as operators
 use Rattle.go_constant_core.specs.declared.values.Constant.{Constant}
 use Rattle.go_constant_core.specs.declared.values.Constant.TheVariants as constants
 use Rattle.go_constant_core.specs.Values.{binary, unary}

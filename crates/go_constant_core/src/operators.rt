@@ -5,7 +5,7 @@ ghost use Rattle.go_constant_core.specs.Values as values;
 use crate::ints;
 use crate::texts::{ConstantText, is_less, is_same, joined};
 use crate::values::Constant;
-use go_scan_core::Operator;
+use go_token_core::Operator;
 use std::alloc::{AllocError, Global};
 
 fn of_ints(operator: Operator, a: i64, b: i64) -> Option<Constant>

@@ -2,34 +2,34 @@
 use Rattle.std.proofs.Common.{◌≡◌, ◌⊎◌, ℕ, zero, suc, ◌+◌, inl, inr, List, [], ◌∷◌, ◌++◌, map, length, slice_get, refl, sym, ap, subst, ◌∙◌}
 use Rattle.std.specs.Prelude.{⊤, Option, Some}
 use Rattle.std.specs.List.{flat_map, enumerate_from}
-use Rattle.go_top_core.specs.tree_nodes.specs.declared.names.Ident.{Ident}
-use Rattle.go_top_core.specs.tree_nodes.specs.Trees.{FuncTree, Lines, TopTree, FileTree}
-use Rattle.go_top_core.specs.decl_core.specs.declared.places.Place.{Place}
-use Rattle.go_top_core.specs.decl_core.specs.Outer.{decl_outers, tops_outers, places_of, place_of}
-use Rattle.go_top_core.specs.decl_core.specs.TopDecls.{TopDeclTree, FormTree, FuncForm, kind_of_form, decl_decls, tops_decls}
-use Rattle.go_top_core.specs.block_core.specs.Blocks.{BlocksModel}
-use Rattle.go_top_core.specs.table_core.specs.Entries.{Entry}
-use Rattle.go_top_core.specs.term_core.specs.Terms.{Term, Sign}
-use Rattle.go_top_core.specs.entry_core.specs.Entries.{decl_ref}
-use Rattle.go_top_core.specs.entry_core.specs.Meanings.{Shows, file_meaning}
-use Rattle.go_top_core.specs.written_core.specs.Written.{InFile}
-use Rattle.go_top_core.specs.entry_core.specs.Outlines.{FileOutline, outline_of}
-use Rattle.go_body_core.specs.handle_core.specs.Declarations.{Declaration}
-use Rattle.go_body_core.specs.face_core.specs.Faces.{TheFace}
-use Rattle.go_body_core.specs.face_core.specs.Laws.{FileDecl, file_decl, written_there}
-use Rattle.go_body_core.specs.face_core.specs.Written.{WrittenOf, form_face, package_written}
-use Rattle.go_body_core.specs.face_core.proofs.Places.{positions_are_exact}
-use Rattle.go_body_core.specs.env_core.specs.Scenes.{SceneModel}
-use Rattle.go_needs_core.specs.Needs.{AreValues, known_in}
-use Rattle.go_needs_core.proofs.Needed.{one_table}
-use Rattle.go_func_core.specs.Stands.{FileStand, looks_where}
-use Rattle.go_func_core.specs.Functions.{checked_func}
+use Rattle.go_tree_nodes.specs.declared.names.Ident.{Ident}
+use Rattle.go_tree_nodes.specs.Trees.{FuncTree, Lines, TopTree, FileTree}
+use Rattle.go_term_core.specs.decl_core.declared.places.Place.{Place}
+use Rattle.go_term_core.specs.decl_core.Outer.{decl_outers, tops_outers, places_of, place_of}
+use Rattle.go_term_core.specs.decl_core.TopDecls.{TopDeclTree, FormTree, FuncForm, kind_of_form, decl_decls, tops_decls}
+use Rattle.go_respell_core.specs.block_core.Blocks.{BlocksModel}
+use Rattle.go_ready_core.specs.table_core.Entries.{Entry}
+use Rattle.go_term_core.specs.Terms.{Term, Sign}
+use Rattle.go_file_core.specs.entry_core.Entries.{decl_ref}
+use Rattle.go_file_core.specs.entry_core.Meanings.{Shows, file_meaning}
+use Rattle.go_respell_core.specs.written_core.Written.{InFile}
+use Rattle.go_file_core.specs.entry_core.Outlines.{FileOutline, outline_of}
+use Rattle.go_respell_core.specs.handle_core.Declarations.{Declaration}
+use Rattle.go_respell_core.specs.face_core.Faces.{TheFace}
+use Rattle.go_respell_core.specs.face_core.Laws.{FileDecl, file_decl, written_there}
+use Rattle.go_respell_core.specs.face_core.Written.{WrittenOf, form_face, package_written}
+use Rattle.go_respell_core.specs.face_core.Places.{positions_are_exact}
+use Rattle.go_respell_core.specs.env_core.Scenes.{SceneModel}
+use Rattle.go_respell_core.specs.needs_core.Needs.{AreValues, known_in}
+use Rattle.go_respell_core.specs.needs_core.Needed.{one_table}
+use Rattle.go_file_core.specs.func_core.Stands.{FileStand, looks_where}
+use Rattle.go_file_core.specs.func_core.Functions.{checked_func}
 use Rattle.go_ready_core.specs.Packages.{PackageIn, outlines_in, scene_in, stand_in}
 use Rattle.go_ready_core.specs.Values.{decls_in, AreDeclared}
 use Rattle.go_respell_core.specs.Contexts.{ContextStays}
 use Rattle.go_respell_core.specs.Package.{FileForm, all_needs, form_needs, face_of, face_by, AreFacesOf}
 use Rattle.go_respell_core.specs.Trees.{RespellsLines, RespellsSteps, InFuncBody, with_body}
-use Rattle.go_top_core.specs.local_core.specs.Outline.{func_steps}
+use Rattle.go_respell_core.specs.local_core.Outline.{func_steps}
 use Rattle.go_file_core.specs.Files.{tops_uses}
 use Rattle.go_context_core.specs.Spots.{tops_spots}
 use Rattle.go_respell_core.proofs.Looking.{looks_at_needs}

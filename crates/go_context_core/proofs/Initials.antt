@@ -1,31 +1,31 @@
 -- The initialisers of a package in which one identifier is spelled anew.
 use Rattle.std.proofs.Common.{◌≡◌, ◌⊎◌, ℕ, zero, suc, inl, inr, List, [], ◌∷◌, ◌++◌, map, length, slice_get, refl, sym, ap, subst, ◌∙◌}
 use Rattle.std.specs.Prelude.{Option}
-use Rattle.go_top_core.specs.tree_nodes.specs.declared.names.Ident.{Ident}
-use Rattle.go_top_core.specs.tree_nodes.specs.declared.decls.ValueKind.{ValueKind}
-use Rattle.go_top_core.specs.tree_nodes.specs.Trees.{TypeTree, ValueSpecTree, TopTree, FileTree}
-use Rattle.go_top_core.specs.decl_core.specs.declared.places.Place.{Place}
-use Rattle.go_top_core.specs.decl_core.specs.Outer.{places_of, kind_of_value}
-use Rattle.go_top_core.specs.decl_core.specs.TopDecls.{FormTree, ValueForm, TypeForm, FuncForm, TopDeclTree, kind_of_form}
-use Rattle.go_top_core.specs.block_core.specs.Blocks.{BlocksModel}
-use Rattle.go_top_core.specs.table_core.specs.Entries.{Entry}
-use Rattle.go_top_core.specs.term_core.specs.Terms.{Term, Sign}
-use Rattle.go_top_core.specs.written_core.specs.Written.{InFile}
-use Rattle.go_top_core.specs.entry_core.specs.Outlines.{outline_of}
-use Rattle.go_top_core.specs.entry_core.specs.Entries.{decl_ref}
-use Rattle.go_top_core.specs.entry_core.specs.Meanings.{Shows, file_meaning}
-use Rattle.go_body_core.specs.handle_core.specs.Declarations.{Declaration}
-use Rattle.go_top_core.specs.expr_core.specs.Looks.{WrittenRules}
-use Rattle.go_body_core.specs.face_core.specs.Faces.{TheFace}
-use Rattle.go_body_core.specs.face_core.specs.Laws.{FileDecl, written_there}
-use Rattle.go_body_core.specs.face_core.specs.Written.{WrittenOf, form_face, value_face, package_written}
-use Rattle.go_body_core.specs.face_core.proofs.Places.{positions_are_exact}
-use Rattle.go_body_core.specs.env_core.specs.Scenes.{SceneModel}
-use Rattle.go_body_core.specs.env_core.specs.Looks.{TheLooks}
-use Rattle.go_needs_core.specs.Needs.{AreValues, known_in}
-use Rattle.go_top_core.specs.piece_core.specs.Specifications.{spec_uses}
-use Rattle.go_value_core.specs.Laws.{FormsAlike}
-use Rattle.go_func_core.specs.Stands.{FileStand, types_where, outer_look, outer_looks}
+use Rattle.go_tree_nodes.specs.declared.names.Ident.{Ident}
+use Rattle.go_tree_nodes.specs.declared.decls.ValueKind.{ValueKind}
+use Rattle.go_tree_nodes.specs.Trees.{TypeTree, ValueSpecTree, TopTree, FileTree}
+use Rattle.go_term_core.specs.decl_core.declared.places.Place.{Place}
+use Rattle.go_term_core.specs.decl_core.Outer.{places_of, kind_of_value}
+use Rattle.go_term_core.specs.decl_core.TopDecls.{FormTree, ValueForm, TypeForm, FuncForm, TopDeclTree, kind_of_form}
+use Rattle.go_respell_core.specs.block_core.Blocks.{BlocksModel}
+use Rattle.go_ready_core.specs.table_core.Entries.{Entry}
+use Rattle.go_term_core.specs.Terms.{Term, Sign}
+use Rattle.go_respell_core.specs.written_core.Written.{InFile}
+use Rattle.go_file_core.specs.entry_core.Outlines.{outline_of}
+use Rattle.go_file_core.specs.entry_core.Entries.{decl_ref}
+use Rattle.go_file_core.specs.entry_core.Meanings.{Shows, file_meaning}
+use Rattle.go_respell_core.specs.handle_core.Declarations.{Declaration}
+use Rattle.go_respell_core.specs.expr_core.Looks.{WrittenRules}
+use Rattle.go_respell_core.specs.face_core.Faces.{TheFace}
+use Rattle.go_respell_core.specs.face_core.Laws.{FileDecl, written_there}
+use Rattle.go_respell_core.specs.face_core.Written.{WrittenOf, form_face, value_face, package_written}
+use Rattle.go_respell_core.specs.face_core.Places.{positions_are_exact}
+use Rattle.go_respell_core.specs.env_core.Scenes.{SceneModel}
+use Rattle.go_respell_core.specs.env_core.Looks.{TheLooks}
+use Rattle.go_respell_core.specs.needs_core.Needs.{AreValues, known_in}
+use Rattle.go_respell_core.specs.piece_core.Specifications.{spec_uses}
+use Rattle.go_respell_core.specs.value_core.Laws.{FormsAlike}
+use Rattle.go_file_core.specs.func_core.Stands.{FileStand, types_where, outer_look, outer_looks}
 use Rattle.go_ready_core.specs.Packages.{PackageIn, outlines_in, scene_in, stand_in}
 use Rattle.go_ready_core.specs.Values.{decl_needs, decls_in, some_face, AreDeclared}
 use Rattle.go_respell_core.specs.Contexts.{ContextStays}

@@ -2,27 +2,27 @@
 use Rattle.std.proofs.Common.{◌≡◌, ℕ, Bool, true, false, List, [], ◌∷◌, ◌++◌, refl, sym, ap, ◌∙◌, if◌then◌else◌}
 use Rattle.std.specs.Prelude.{Option, Some, None}
 use Rattle.std.specs.List.{flat_map}
-use Rattle.go_top_core.specs.text_core.specs.declared.span.Span.{Span}
-use Rattle.go_top_core.specs.tree_nodes.specs.declared.names.Ident.{Ident}
-use Rattle.go_top_core.specs.tree_nodes.specs.declared.files.Receiver.{Receiver}
-use Rattle.go_top_core.specs.tree_nodes.specs.declared.decls.ValueKind.TheVariants as kinds
-use Rattle.go_top_core.specs.tree_nodes.specs.Trees.{Separated, One, Then, TypeTree, ExprTree, ValueSpecTree, TypeSpecTree, Specs, Single, Group, SimpleTree, Alone, Step, Assign, Update, Define, FuncTree, DeclTree, Value, Types, Func}
-use Rattle.go_top_core.specs.walk_core.specs.Ends.{is_blank_target}
-use Rattle.go_top_core.specs.local_core.specs.Binding.{Look}
-use Rattle.go_top_core.specs.local_core.specs.Outline.{func_steps, func_opens, func_closes}
-use Rattle.go_top_core.specs.local_core.specs.Steps.{Piece, Header, Spec, Act, Condition, Given, Steps, Done, Check, Declare, Inner}
-use Rattle.go_top_core.specs.local_core.specs.mirrors.Walk.{Names, look_in, with_names, news, names_of, walk_out}
-use Rattle.go_top_core.specs.operand_core.specs.declared.types.Operand.{Operand}
-use Rattle.go_top_core.specs.denote_core.specs.declared.things.Place.TheVariants as places
-use Rattle.go_top_core.specs.expr_core.specs.Looks.{Looks}
-use Rattle.go_top_core.specs.expr_core.specs.TypeUses.{type_uses}
-use Rattle.go_top_core.specs.expr_core.specs.Uses.{Spot, use_of, spots, type_name_spots, type_spots, signature_spots}
-use Rattle.go_top_core.specs.piece_core.specs.Headers.{receiver_uses}
-use Rattle.go_top_core.specs.piece_core.specs.Pieces.{piece_values}
-use Rattle.go_top_core.specs.piece_core.specs.Specifications.{spec_uses}
-use Rattle.go_top_core.specs.Tops.{of_specs}
-use Rattle.go_func_core.specs.Stands.{FileStand, looks_where, outer_names, outer_looks}
-use Rattle.go_func_core.specs.Functions.{checked_func}
+use Rattle.go_text_core.specs.declared.span.Span.{Span}
+use Rattle.go_tree_nodes.specs.declared.names.Ident.{Ident}
+use Rattle.go_tree_nodes.specs.declared.files.Receiver.{Receiver}
+use Rattle.go_tree_nodes.specs.declared.decls.ValueKind.TheVariants as kinds
+use Rattle.go_tree_nodes.specs.Trees.{Separated, One, Then, TypeTree, ExprTree, ValueSpecTree, TypeSpecTree, Specs, Single, Group, SimpleTree, Alone, Step, Assign, Update, Define, FuncTree, DeclTree, Value, Types, Func}
+use Rattle.go_respell_core.specs.walk_core.Ends.{is_blank_target}
+use Rattle.go_respell_core.specs.local_core.Binding.{Look}
+use Rattle.go_respell_core.specs.local_core.Outline.{func_steps, func_opens, func_closes}
+use Rattle.go_respell_core.specs.local_core.Steps.{Piece, Header, Spec, Act, Condition, Given, Steps, Done, Check, Declare, Inner}
+use Rattle.go_respell_core.specs.local_core.mirrors.Walk.{Names, look_in, with_names, news, names_of, walk_out}
+use Rattle.go_respell_core.specs.operand_core.declared.types.Operand.{Operand}
+use Rattle.go_respell_core.specs.denote_core.declared.things.Place.TheVariants as places
+use Rattle.go_respell_core.specs.expr_core.Looks.{Looks}
+use Rattle.go_respell_core.specs.expr_core.TypeUses.{type_uses}
+use Rattle.go_respell_core.specs.expr_core.Uses.{Spot, use_of, spots, type_name_spots, type_spots, signature_spots}
+use Rattle.go_respell_core.specs.piece_core.Headers.{receiver_uses}
+use Rattle.go_respell_core.specs.piece_core.Pieces.{piece_values}
+use Rattle.go_respell_core.specs.piece_core.Specifications.{spec_uses}
+use Rattle.go_file_core.specs.top_core.Tops.{of_specs}
+use Rattle.go_file_core.specs.func_core.Stands.{FileStand, looks_where, outer_names, outer_looks}
+use Rattle.go_file_core.specs.func_core.Functions.{checked_func}
 use Rattle.go_file_core.specs.Files.{decl_uses}
 use Rattle.go_respell_core.specs.Functions.{spot_rules}
 use Rattle.go_respell_core.specs.Spots.{exprs_spots, some_type_spots, values_spots, spec_spots, target_spots, targets_spots, simple_spots, receiver_spots, given_spots, piece_spots}

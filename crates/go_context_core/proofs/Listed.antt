@@ -2,14 +2,14 @@
 use Rattle.std.proofs.Common.{◌≡◌, ◌⊎◌, ℕ, ◌+◌, inl, inr, List, [], ◌∷◌, ◌++◌, map, length, refl, subst, arith}
 use Rattle.std.specs.Prelude.{⊤, Option}
 use Rattle.std.specs.List.{flat_map, enumerate_from}
-use Rattle.go_top_core.specs.text_core.specs.declared.span.Span.{Span}
-use Rattle.go_top_core.specs.tree_nodes.specs.declared.names.Ident.{Ident}
-use Rattle.go_top_core.specs.tree_nodes.specs.declared.decls.ValueKind.{ValueKind}
-use Rattle.go_top_core.specs.tree_nodes.specs.Trees.{Separated, One, Then, ValueSpecTree, Specs, TopTree, FileTree}
-use Rattle.go_top_core.specs.decl_core.specs.Outer.{value_spec_outers, specs_outers, decl_outers}
-use Rattle.go_top_core.specs.decl_core.specs.TopDecls.{TopDeclTree, ValueForm, numbered, named_decls, value_spec_decls, specs_decls, decl_decls, tops_decls}
-use Rattle.go_top_core.specs.entry_core.specs.Outlines.{FileOutline, outline_of}
-use Rattle.go_body_core.specs.face_core.specs.Laws.{FileDecl, file_decl, package_decls}
+use Rattle.go_text_core.specs.declared.span.Span.{Span}
+use Rattle.go_tree_nodes.specs.declared.names.Ident.{Ident}
+use Rattle.go_tree_nodes.specs.declared.decls.ValueKind.{ValueKind}
+use Rattle.go_tree_nodes.specs.Trees.{Separated, One, Then, ValueSpecTree, Specs, TopTree, FileTree}
+use Rattle.go_term_core.specs.decl_core.Outer.{value_spec_outers, specs_outers, decl_outers}
+use Rattle.go_term_core.specs.decl_core.TopDecls.{TopDeclTree, ValueForm, numbered, named_decls, value_spec_decls, specs_decls, decl_decls, tops_decls}
+use Rattle.go_file_core.specs.entry_core.Outlines.{FileOutline, outline_of}
+use Rattle.go_respell_core.specs.face_core.Laws.{FileDecl, file_decl, package_decls}
 use Rattle.go_respell_core.specs.Trees.{RespellsValues, InValues}
 use Rattle.go_context_core.specs.Files.{WritesInGroup, AtFirst, AtLater, WritesInSpecs, InTheOnly, InTheGroup, WritesInTops, InTop, InLaterTops, with_decls}
 use Rattle.go_context_core.proofs.Places.{same_long, spec_same, specs_same, tops_same}

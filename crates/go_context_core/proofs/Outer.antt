@@ -2,25 +2,25 @@
 use Rattle.std.proofs.Common.{◌≡◌, ℕ, List, [], sym, subst}
 use Rattle.std.specs.Prelude.{Option, Some}
 use Rattle.std.specs.List.{flat_map}
-use Rattle.go_top_core.specs.text_core.specs.declared.span.Span.{Span}
-use Rattle.go_top_core.specs.tree_nodes.specs.declared.names.Ident.{Ident}
-use Rattle.go_top_core.specs.tree_nodes.specs.declared.files.Receiver.{Receiver}
-use Rattle.go_top_core.specs.tree_nodes.specs.declared.types.TypeName.{TypeName}
-use Rattle.go_top_core.specs.tree_nodes.specs.Trees.{TypeTree, SignatureTree, TypeSpecTree, Specs, FuncTree, DeclTree, TopTree}
-use Rattle.go_top_core.specs.local_core.specs.Outline.{header_idents, lines_steps, func_opens, func_closes}
-use Rattle.go_top_core.specs.local_core.specs.Steps.{Header, Done}
-use Rattle.go_top_core.specs.term_core.specs.Terms.{Term, Sign}
-use Rattle.go_body_core.specs.handle_core.specs.Declarations.{Declaration}
-use Rattle.go_top_core.specs.expr_core.specs.Respelling.{RespellsName, RespellsType, RespellsSignature}
-use Rattle.go_top_core.specs.expr_core.specs.TypeUses.{type_uses, signature_uses}
-use Rattle.go_top_core.specs.expr_core.specs.Uses.{type_name_spots, type_name_uses, type_spots, signature_spots}
-use Rattle.go_body_core.specs.env_core.specs.Looks.{TheLooks}
-use Rattle.go_body_core.specs.Notes.{TheUse}
-use Rattle.go_top_core.specs.piece_core.specs.Headers.{receiver_uses, header_uses}
-use Rattle.go_top_core.specs.piece_core.specs.Specifications.{values_uses}
-use Rattle.go_top_core.specs.Tops.{of_specs}
-use Rattle.go_func_core.specs.Stands.{FileStand, types_where, outer_look, outer_looks, looks_where, outer_names}
-use Rattle.go_func_core.specs.Functions.{checked_func}
+use Rattle.go_text_core.specs.declared.span.Span.{Span}
+use Rattle.go_tree_nodes.specs.declared.names.Ident.{Ident}
+use Rattle.go_tree_nodes.specs.declared.files.Receiver.{Receiver}
+use Rattle.go_tree_nodes.specs.declared.types.TypeName.{TypeName}
+use Rattle.go_tree_nodes.specs.Trees.{TypeTree, SignatureTree, TypeSpecTree, Specs, FuncTree, DeclTree, TopTree}
+use Rattle.go_respell_core.specs.local_core.Outline.{header_idents, lines_steps, func_opens, func_closes}
+use Rattle.go_respell_core.specs.local_core.Steps.{Header, Done}
+use Rattle.go_term_core.specs.Terms.{Term, Sign}
+use Rattle.go_respell_core.specs.handle_core.Declarations.{Declaration}
+use Rattle.go_respell_core.specs.expr_core.Respelling.{RespellsName, RespellsType, RespellsSignature}
+use Rattle.go_respell_core.specs.expr_core.TypeUses.{type_uses, signature_uses}
+use Rattle.go_respell_core.specs.expr_core.Uses.{type_name_spots, type_name_uses, type_spots, signature_spots}
+use Rattle.go_respell_core.specs.env_core.Looks.{TheLooks}
+use Rattle.go_file_core.specs.body_core.Notes.{TheUse}
+use Rattle.go_respell_core.specs.piece_core.Headers.{receiver_uses, header_uses}
+use Rattle.go_respell_core.specs.piece_core.Specifications.{values_uses}
+use Rattle.go_file_core.specs.top_core.Tops.{of_specs}
+use Rattle.go_file_core.specs.func_core.Stands.{FileStand, types_where, outer_look, outer_looks, looks_where, outer_names}
+use Rattle.go_file_core.specs.func_core.Functions.{checked_func}
 use Rattle.go_file_core.specs.Files.{decl_uses, tops_uses}
 use Rattle.go_respell_core.specs.Contexts.{ContextStays}
 use Rattle.go_respell_core.specs.Package.{file_looks}

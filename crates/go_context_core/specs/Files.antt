@@ -1,8 +1,8 @@
 -- Files and packages in which one specification is written anew: it stands in one place, and all else is the same.
 use Rattle.std.specs.Prelude.{◌≡◌, ℕ, List, ◌∷◌, ◌++◌, Option, length}
-use Rattle.go_top_core.specs.text_core.specs.declared.span.Span.{Span}
-use Rattle.go_top_core.specs.tree_nodes.specs.declared.decls.ValueKind.{ValueKind}
-use Rattle.go_top_core.specs.tree_nodes.specs.Trees.{ValueSpecTree, Specs, Single, Group, Value, Func, FuncTree, Lines, TopTree, FileTree}
+use Rattle.go_text_core.specs.declared.span.Span.{Span}
+use Rattle.go_tree_nodes.specs.declared.decls.ValueKind.{ValueKind}
+use Rattle.go_tree_nodes.specs.Trees.{ValueSpecTree, Specs, Single, Group, Value, Func, FuncTree, Lines, TopTree, FileTree}
 use Rattle.go_ready_core.specs.Packages.{PackageIn}
 use Rattle.go_respell_core.specs.Trees.{with_body}
 

@@ -2,23 +2,23 @@
 --
 -- docs/RULES.md, "Bodies of functions", "Types inside functions", "Occurrences". The Go specification, "Blocks", "Declarations and scope".
 use Rattle.std.specs.Prelude.{ℕ, List, [], Option}
-use Rattle.go_top_core.specs.tree_nodes.specs.declared.names.Ident.{Ident}
-use Rattle.go_top_core.specs.tree_nodes.specs.Trees.{FuncTree}
-use Rattle.go_top_core.specs.local_core.specs.Binding.{Look}
-use Rattle.go_top_core.specs.local_core.specs.Outline.{func_steps}
-use Rattle.go_top_core.specs.local_core.specs.Steps.{Piece}
-use Rattle.go_top_core.specs.local_core.specs.Tables.{walked}
-use Rattle.go_top_core.specs.names_core.specs.Uses.{place_of}
-use Rattle.go_top_core.specs.operand_core.specs.declared.types.Operand.{Operand}
-use Rattle.go_top_core.specs.term_core.specs.Terms.{Term, Sign}
-use Rattle.go_body_core.specs.handle_core.specs.Declarations.{Declaration}
-use Rattle.go_top_core.specs.expr_core.specs.Uses.{Spot}
-use Rattle.go_top_core.specs.piece_core.specs.Pieces.{piece_names}
-use Rattle.go_body_core.specs.env_core.specs.declared.meaning.Meaning.{Meaning}
-use Rattle.go_body_core.specs.env_core.specs.declared.meaning.Meaning.TheVariants as meanings
-use Rattle.go_body_core.specs.Rules.{value_at}
-use Rattle.go_func_core.specs.Stands.{FileStand, looks_where, outer_names}
-use Rattle.go_func_core.specs.Functions.{checked_func}
+use Rattle.go_tree_nodes.specs.declared.names.Ident.{Ident}
+use Rattle.go_tree_nodes.specs.Trees.{FuncTree}
+use Rattle.go_respell_core.specs.local_core.Binding.{Look}
+use Rattle.go_respell_core.specs.local_core.Outline.{func_steps}
+use Rattle.go_respell_core.specs.local_core.Steps.{Piece}
+use Rattle.go_respell_core.specs.local_core.Tables.{walked}
+use Rattle.go_respell_core.specs.names_core.Uses.{place_of}
+use Rattle.go_respell_core.specs.operand_core.declared.types.Operand.{Operand}
+use Rattle.go_term_core.specs.Terms.{Term, Sign}
+use Rattle.go_respell_core.specs.handle_core.Declarations.{Declaration}
+use Rattle.go_respell_core.specs.expr_core.Uses.{Spot}
+use Rattle.go_respell_core.specs.piece_core.Pieces.{piece_names}
+use Rattle.go_respell_core.specs.env_core.declared.meaning.Meaning.{Meaning}
+use Rattle.go_respell_core.specs.env_core.declared.meaning.Meaning.TheVariants as meanings
+use Rattle.go_file_core.specs.body_core.Rules.{value_at}
+use Rattle.go_file_core.specs.func_core.Stands.{FileStand, looks_where, outer_names}
+use Rattle.go_file_core.specs.func_core.Functions.{checked_func}
 use Rattle.go_respell_core.specs.Contexts.{ContextStays}
 use Rattle.go_respell_core.specs.Functions.{use_rules, spot_rules, names_there}
 use Rattle.go_respell_core.specs.Trees.{RespellsSteps, RespellsFunc}

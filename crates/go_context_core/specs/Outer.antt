@@ -2,16 +2,16 @@
 --
 -- docs/RULES.md, "Types", "Declarations outside functions". The Go specification, "Types", "Qualified identifiers", "Function declarations".
 use Rattle.std.specs.Prelude.{◌≡◌, ℕ, List, ◌∷◌, Option, Some}
-use Rattle.go_top_core.specs.text_core.specs.declared.span.Span.{Span}
-use Rattle.go_top_core.specs.tree_nodes.specs.declared.names.Ident.{Ident}
-use Rattle.go_top_core.specs.tree_nodes.specs.declared.decls.ValueKind.{ValueKind}
-use Rattle.go_top_core.specs.tree_nodes.specs.declared.files.Receiver.{Receiver}
-use Rattle.go_top_core.specs.tree_nodes.specs.declared.types.TypeName.{TypeName}
-use Rattle.go_top_core.specs.tree_nodes.specs.Trees.{Separated, TypeTree, SignatureTree, ExprTree, ValueSpecTree, TypeSpecTree, Specs, Single, Group, FuncTree, DeclTree, Value, Types, Func, TopTree}
-use Rattle.go_top_core.specs.term_core.specs.Terms.{Term, Sign}
-use Rattle.go_body_core.specs.handle_core.specs.Declarations.{Declaration}
-use Rattle.go_top_core.specs.expr_core.specs.Respelling.{RespellsName, RespellsType, RespellsSignature}
-use Rattle.go_func_core.specs.Stands.{FileStand, outer_looks}
+use Rattle.go_text_core.specs.declared.span.Span.{Span}
+use Rattle.go_tree_nodes.specs.declared.names.Ident.{Ident}
+use Rattle.go_tree_nodes.specs.declared.decls.ValueKind.{ValueKind}
+use Rattle.go_tree_nodes.specs.declared.files.Receiver.{Receiver}
+use Rattle.go_tree_nodes.specs.declared.types.TypeName.{TypeName}
+use Rattle.go_tree_nodes.specs.Trees.{Separated, TypeTree, SignatureTree, ExprTree, ValueSpecTree, TypeSpecTree, Specs, Single, Group, FuncTree, DeclTree, Value, Types, Func, TopTree}
+use Rattle.go_term_core.specs.Terms.{Term, Sign}
+use Rattle.go_respell_core.specs.handle_core.Declarations.{Declaration}
+use Rattle.go_respell_core.specs.expr_core.Respelling.{RespellsName, RespellsType, RespellsSignature}
+use Rattle.go_file_core.specs.func_core.Stands.{FileStand, outer_looks}
 use Rattle.go_file_core.specs.Files.{tops_uses}
 use Rattle.go_respell_core.specs.Contexts.{ContextStays}
 use Rattle.go_respell_core.specs.Trees.{spec, with_base, with_receiver, with_signature}

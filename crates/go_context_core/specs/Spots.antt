@@ -3,10 +3,10 @@
 -- docs/RULES.md, "Occurrences", "Declarations outside functions". The Go specification, "Declarations and scope".
 use Rattle.std.specs.Prelude.{List}
 use Rattle.std.specs.List.{flat_map}
-use Rattle.go_top_core.specs.tree_nodes.specs.Trees.{DeclTree, Value, Types, Func, TopTree}
-use Rattle.go_top_core.specs.expr_core.specs.Uses.{type_spots}
-use Rattle.go_top_core.specs.Tops.{of_specs}
-use Rattle.go_func_core.specs.Stands.{FileStand, outer_looks}
+use Rattle.go_tree_nodes.specs.Trees.{DeclTree, Value, Types, Func, TopTree}
+use Rattle.go_respell_core.specs.expr_core.Uses.{type_spots}
+use Rattle.go_file_core.specs.top_core.Tops.{of_specs}
+use Rattle.go_file_core.specs.func_core.Stands.{FileStand, outer_looks}
 use Rattle.go_respell_core.specs.Spots.{spec_spots}
 use Rattle.go_context_core.specs.Functions.{TheSpot, func_spots}
 

@@ -6,8 +6,8 @@ use Rattle.go_term_core.specs.declared.term.MemberPlace.{MemberPlace}
 use Rattle.go_term_core.specs.Terms.{Term, NoType, Predeclared, ErrorType, Defined, PointerTo, StructOf, InterfaceOf, Fields, NoField, AField, Methods, NoMethod, AMethod, Sign, SignOf, Terms, NoTerm, ATerm}
 use Rattle.go_term_core.specs.Identity.{IsMethod, method_count, IdenticalBy, SameFieldsBy, HasAllBy, SameSignBy, SameTermsBy}
 use Rattle.go_term_core.specs.mirrors.Alike.{HasAlike}
-use Rattle.go_table_core.specs.Entries.{same_id}
-use Rattle.go_embed_core.proofs.Ids.{same_id_is, same_id_from}
+use Rattle.go_mset_core.specs.table_core.Entries.{same_id}
+use Rattle.go_mset_core.specs.embed_core.Ids.{same_id_is, same_id_from}
 use Rattle.go_decide_core.specs.Identity.{same_flag, tags_agree, has_alike, identical_by, same_fields, has_all, same_sign, same_terms}
 use Rattle.go_decide_core.specs.Laws.{IdentityIsDecided}
 use Rattle.go_decide_core.proofs.Tests.{both_decide, some_decide, never, decides_number, decides_flag, decides_tags, decides_basic, decides_key}

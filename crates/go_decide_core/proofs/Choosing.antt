@@ -4,14 +4,14 @@ use Rattle.go_text_core.specs.Text.{is_blank}
 use Rattle.go_text_core.specs.declared.rule.Rule.{Rule}
 use Rattle.go_text_core.specs.declared.rule.Rule.TheVariants.{M0, S8}
 use Rattle.go_term_core.specs.Terms.{Term}
-use Rattle.go_table_core.specs.Entries.{Entry, Look, find}
-use Rattle.go_embed_core.specs.Owners.{Found, AFieldOf, AMethodOf, AnInterfaces, TheErrorMethod}
-use Rattle.go_embed_core.specs.OwnersShown.{found_shown}
-use Rattle.go_select_core.specs.declared.search.Selected.{Selected}
-use Rattle.go_select_core.specs.Paths.{IsSelected}
-use Rattle.go_select_core.specs.Selectors.{Searched, Refused, In, FieldsIn, searched, IsFieldFound, IsFoundAs, IsDenoted, IsRefused, IsRule, IsAnswer}
-use Rattle.go_select_core.proofs.ListLemmas.{true_false}
-use Rattle.go_select_core.proofs.Meanings.{selected_same, missing_or_selected, one_answer}
+use Rattle.go_mset_core.specs.table_core.Entries.{Entry, Look, find}
+use Rattle.go_mset_core.specs.embed_core.Owners.{Found, AFieldOf, AMethodOf, AnInterfaces, TheErrorMethod}
+use Rattle.go_mset_core.specs.embed_core.OwnersShown.{found_shown}
+use Rattle.go_mset_core.specs.select_core.declared.search.Selected.{Selected}
+use Rattle.go_mset_core.specs.select_core.Paths.{IsSelected}
+use Rattle.go_mset_core.specs.select_core.Selectors.{Searched, Refused, In, FieldsIn, searched, IsFieldFound, IsFoundAs, IsDenoted, IsRefused, IsRule, IsAnswer}
+use Rattle.go_mset_core.specs.select_core.ListLemmas.{true_false}
+use Rattle.go_mset_core.specs.select_core.Meanings.{selected_same, missing_or_selected, one_answer}
 use Rattle.go_decide_core.specs.Selecting.{Choice, choice, match_in, passing, field_alone, fields_alone, match_where, selected_of, chosen_of}
 use Rattle.go_decide_core.specs.Laws.{SelectorsAreDecided}
 use Rattle.go_decide_core.proofs.Searching.{IsMatched, matched_in}

@@ -2,9 +2,9 @@
 use Rattle.std.proofs.Common.{◌≡◌, ℕ, Bool, List, Ok, Err, ap}
 use Rattle.go_text_core.specs.declared.rule.Rule.{Rule}
 use Rattle.go_term_core.specs.Terms.{Term}
-use Rattle.go_table_core.specs.Entries.{Entry, find}
-use Rattle.go_embed_core.specs.Owners.{Found, AFieldOf, AMethodOf, AnInterfaces, TheErrorMethod}
-use Rattle.go_select_core.specs.Selectors.{IsDenoted, IsRule}
+use Rattle.go_mset_core.specs.table_core.Entries.{Entry, find}
+use Rattle.go_mset_core.specs.embed_core.Owners.{Found, AFieldOf, AMethodOf, AnInterfaces, TheErrorMethod}
+use Rattle.go_mset_core.specs.select_core.Selectors.{IsDenoted, IsRule}
 use Rattle.go_decide_core.specs.Selecting.{choice, selected_of}
 use Rattle.go_decide_core.specs.Rules.{selection_of}
 use Rattle.go_decide_core.specs.Laws.{SelectionsAreDecided}

@@ -5,9 +5,9 @@ use Rattle.go_text_core.specs.declared.rule.Rule.{Rule}
 use Rattle.go_term_core.specs.declared.term.MemberPlace.{MemberPlace}
 use Rattle.go_term_core.specs.Terms.{Term, NoType, Predeclared, ErrorType, Defined, PointerTo, StructOf, InterfaceOf, Methods, NoMethod, AMethod, Sign}
 use Rattle.go_term_core.specs.Identity.{IsMethod}
-use Rattle.go_table_core.specs.Entries.{Entry, Look, find, underlying_in}
-use Rattle.go_embed_core.specs.Owners.{Found, AFieldOf, AMethodOf, AnInterfaces, TheErrorMethod}
-use Rattle.go_select_core.specs.Selectors.{Searched, Refused, In, FieldsIn, searched, IsFieldFound, IsFoundAs}
+use Rattle.go_mset_core.specs.table_core.Entries.{Entry, Look, find, underlying_in}
+use Rattle.go_mset_core.specs.embed_core.Owners.{Found, AFieldOf, AMethodOf, AnInterfaces, TheErrorMethod}
+use Rattle.go_mset_core.specs.select_core.Selectors.{Searched, Refused, In, FieldsIn, searched, IsFieldFound, IsFoundAs}
 use Rattle.go_mset_core.specs.MethodSets.{IsCallable, IsMethodFound}
 use Rattle.go_mset_core.specs.Implementing.{IsSigned, HasMethod, HasMethodsOf, error_sign}
 use Rattle.go_mset_core.proofs.Answering.{error_has}

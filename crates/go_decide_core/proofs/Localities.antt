@@ -2,17 +2,17 @@
 use Rattle.std.proofs.Common.{◌≡◌, ◌↔◌, ℕ, Bool, true, false, not, ◌&&◌, ◌||◌, List, [], ◌∷◌, Result, Ok, Err, IsTrue, refl, sym, ap, ◌∙◌, subst, ◌⊎◌, inl, inr}
 use Rattle.go_text_core.specs.declared.rule.Rule.{Rule}
 use Rattle.go_text_core.specs.declared.rule.Rule.TheVariants.{M0}
-use Rattle.go_decl_core.specs.declared.keys.DeclKey.{DeclKey}
+use Rattle.go_term_core.specs.decl_core.declared.keys.DeclKey.{DeclKey}
 use Rattle.go_term_core.specs.declared.term.Basic.TheVariants as basics
 use Rattle.go_term_core.specs.Terms.{Term, NoType, Predeclared, PointerTo, term_keys}
-use Rattle.go_table_core.specs.Entries.{Entry, Look, find, underlying_in}
-use Rattle.go_table_core.specs.Assign.{Assigned, AValue, ANil, AnInteger, AText, ABoolean}
-use Rattle.go_table_core.specs.Laws.{LeadsTo, AgreeFrom, AssignedAgrees}
-use Rattle.go_table_core.proofs.Meanings.{underlying_local}
-use Rattle.go_select_core.specs.Selectors.{IsRule}
-use Rattle.go_select_core.proofs.ListLemmas.{in_contained}
-use Rattle.go_select_core.proofs.Local.{agree_back, denoted_there, local}
-use Rattle.go_select_core.proofs.Meanings.{one_answer}
+use Rattle.go_mset_core.specs.table_core.Entries.{Entry, Look, find, underlying_in}
+use Rattle.go_mset_core.specs.table_core.Assign.{Assigned, AValue, ANil, AnInteger, AText, ABoolean}
+use Rattle.go_mset_core.specs.table_core.Laws.{LeadsTo, AgreeFrom, AssignedAgrees}
+use Rattle.go_mset_core.specs.table_core.Meanings.{underlying_local}
+use Rattle.go_mset_core.specs.select_core.Selectors.{IsRule}
+use Rattle.go_mset_core.specs.select_core.ListLemmas.{in_contained}
+use Rattle.go_mset_core.specs.select_core.Local.{agree_back, denoted_there, local}
+use Rattle.go_mset_core.specs.select_core.Meanings.{one_answer}
 use Rattle.go_mset_core.proofs.Locality.{local as implementation_local}
 use Rattle.go_decide_core.specs.Identity.{identical_of, identical_but_for_tags_of}
 use Rattle.go_decide_core.specs.Conversion.{is_nothing, is_type, are_alike, pointers_alike, convertible_of}

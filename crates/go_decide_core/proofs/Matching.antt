@@ -3,12 +3,12 @@ use Rattle.std.proofs.Common.{◌≡◌, ℕ, zero, suc, ◌+◌, ◌≤◌, Boo
 use Rattle.std.specs.Prelude.{slice_get}
 use Rattle.go_text_core.specs.Text.{SameId}
 use Rattle.go_term_core.specs.Terms.{Term, NoType, Predeclared, ErrorType, Defined, PointerTo, StructOf, InterfaceOf, Fields, NoField, AField}
-use Rattle.go_table_core.specs.Entries.{Look, same_id, has_method}
-use Rattle.go_embed_core.specs.Owners.{OwnerModel, Edge, edge, owner_in, fields_embedded, term_embedded, embedded_in, Found, Named, members_of}
-use Rattle.go_embed_core.specs.OwnersShown.{IsNamedAt}
-use Rattle.go_select_core.specs.Paths.{Step, Leads, Hit}
-use Rattle.go_select_core.proofs.ListLemmas.{In, contained_in}
-use Rattle.go_select_core.proofs.Edges.{step_edge}
+use Rattle.go_mset_core.specs.table_core.Entries.{Look, same_id, has_method}
+use Rattle.go_mset_core.specs.embed_core.Owners.{OwnerModel, Edge, edge, owner_in, fields_embedded, term_embedded, embedded_in, Found, Named, members_of}
+use Rattle.go_mset_core.specs.embed_core.OwnersShown.{IsNamedAt}
+use Rattle.go_mset_core.specs.select_core.Paths.{Step, Leads, Hit}
+use Rattle.go_mset_core.specs.select_core.ListLemmas.{In, contained_in}
+use Rattle.go_mset_core.specs.select_core.Edges.{step_edge}
 use Rattle.go_decide_core.specs.Selecting.{Trail, trail, behind_edge, behind_edges, trails_of, Match, match_at, matches_among, matches_behind, matches_of}
 use Rattle.go_decide_core.proofs.Lists.{in_append, in_front, in_back, in_mapped, mapped_in, Apart, apart_append, apart_map}
 use Rattle.go_decide_core.proofs.Alike.{decides_id}

@@ -2,17 +2,17 @@
 use Rattle.std.proofs.Common.{◌≡◌, ℕ, zero, suc, ◌+◌, ◌*◌, ◌<◌, ◌≤◌, Bool, true, false, not, ◌&&◌, ◌||◌, List, [], ◌∷◌, ◌++◌, length, max, Option, Some, None, refl, sym, ap, ◌∙◌, subst, arith, ◌⊎◌, inl, inr, if◌then◌else◌}
 use Rattle.std.specs.Prelude.{nat_eq}
 use Rattle.std.specs.Map.{lookup}
-use Rattle.go_decl_core.specs.declared.keys.DeclKey.{DeclKey}
+use Rattle.go_term_core.specs.decl_core.declared.keys.DeclKey.{DeclKey}
 use Rattle.go_term_core.specs.Terms.{Term, NoType, Predeclared, ErrorType, Defined, PointerTo, StructOf, InterfaceOf, Fields, NoField, AField}
-use Rattle.go_table_core.specs.Entries.{Entry, find, same_key, term_in, underlying_in, has_method}
-use Rattle.go_embed_core.specs.Owners.{OwnerModel, Edge, edge, off, owner_in, fields_embedded, term_embedded, embedded_in}
-use Rattle.go_select_core.specs.Paths.{Step, Leads}
-use Rattle.go_select_core.specs.mirrors.Ways.{At, IsNumbered}
-use Rattle.go_select_core.specs.mirrors.Levels.{left_below, left}
-use Rattle.go_select_core.proofs.ListLemmas.{In}
-use Rattle.go_select_core.proofs.Edges.{step_edge}
-use Rattle.go_select_core.proofs.Weights.{lookup_more, lookup_new, left_falls}
-use Rattle.go_select_core.proofs.Growing.{numbered_same}
+use Rattle.go_mset_core.specs.table_core.Entries.{Entry, find, same_key, term_in, underlying_in, has_method}
+use Rattle.go_mset_core.specs.embed_core.Owners.{OwnerModel, Edge, edge, off, owner_in, fields_embedded, term_embedded, embedded_in}
+use Rattle.go_mset_core.specs.select_core.Paths.{Step, Leads}
+use Rattle.go_mset_core.specs.select_core.mirrors.Ways.{At, IsNumbered}
+use Rattle.go_mset_core.specs.select_core.mirrors.Levels.{left_below, left}
+use Rattle.go_mset_core.specs.select_core.ListLemmas.{In}
+use Rattle.go_mset_core.specs.select_core.Edges.{step_edge}
+use Rattle.go_mset_core.specs.select_core.Weights.{lookup_more, lookup_new, left_falls}
+use Rattle.go_mset_core.specs.select_core.Growing.{numbered_same}
 use Rattle.go_decide_core.specs.Selecting.{nesting, fields_nesting, deepest, last_depth}
 use Rattle.go_decide_core.proofs.Tests.{decides_key}
 

@@ -6,13 +6,13 @@ use Rattle.std.specs.Prelude.{nat_eq}
 use Rattle.std.specs.Str.{bytes_eq}
 use Rattle.std.proofs.lemmas.Bool.{and_parts, and_from, or_cases, or_left, or_right}
 use Rattle.std.proofs.lemmas.Slice.Eq.{bytes_eq-Decides}
-use Rattle.go_decl_core.specs.contracts.places.DeclKind as decl_kind
-use Rattle.go_decl_core.specs.declared.keys.DeclKey.{DeclKey}
+use Rattle.go_term_core.specs.decl_core.contracts.places.DeclKind as decl_kind
+use Rattle.go_term_core.specs.decl_core.declared.keys.DeclKey.{DeclKey}
 use Rattle.go_term_core.specs.declared.term.Basic.{Basic}
 use Rattle.go_term_core.specs.declared.term.Basic.TheVariants as basics
 use Rattle.go_term_core.specs.Identity.{TagsAgree}
-use Rattle.go_table_core.specs.Entries.{same_key, same_decl}
-use Rattle.go_operand_core.specs.Values.{is_basic}
+use Rattle.go_mset_core.specs.table_core.Entries.{same_key, same_decl}
+use Rattle.go_denote_core.specs.operand_core.Values.{is_basic}
 use Rattle.go_decide_core.specs.Identity.{same_flag, tags_agree}
 
 -- both of two tests

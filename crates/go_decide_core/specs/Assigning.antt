@@ -3,9 +3,9 @@ use Rattle.std.specs.Prelude.{Bool, true, false, not, ◌&&◌, ◌||◌, List}
 use Rattle.go_term_core.specs.declared.term.Basic.{Basic}
 use Rattle.go_term_core.specs.declared.term.Basic.TheVariants as basics
 use Rattle.go_term_core.specs.Terms.{Term, NoType, Predeclared, ErrorType, Defined, PointerTo, StructOf, InterfaceOf}
-use Rattle.go_table_core.specs.Entries.{Entry, Look, find, underlying_in}
-use Rattle.go_table_core.specs.Assign.{Assigned, AValue, ANil, AnInteger, AText, ABoolean}
-use Rattle.go_operand_core.specs.Values.{is_basic}
+use Rattle.go_mset_core.specs.table_core.Entries.{Entry, Look, find, underlying_in}
+use Rattle.go_mset_core.specs.table_core.Assign.{Assigned, AValue, ANil, AnInteger, AText, ABoolean}
+use Rattle.go_denote_core.specs.operand_core.Values.{is_basic}
 use Rattle.go_decide_core.specs.Identity.{identical_of}
 use Rattle.go_decide_core.specs.Conversion.{is_type}
 use Rattle.go_decide_core.specs.Implementing.{implements_of}

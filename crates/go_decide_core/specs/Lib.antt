@@ -6,12 +6,11 @@ pub mod Assigning
 pub mod Rules
 pub mod Worked
 pub mod Laws
-pub use Rattle.go_decl_core as decl_core
-pub use Rattle.go_denote_core as denote_core
-pub use Rattle.go_embed_core as embed_core
-pub use Rattle.go_mset_core as mset_core
-pub use Rattle.go_operand_core as operand_core
-pub use Rattle.go_select_core as select_core
-pub use Rattle.go_table_core as table_core
-pub use Rattle.go_term_core as term_core
-pub use Rattle.go_text_core as text_core
+pub mod constant_core
+pub mod denote_core
+pub mod embed_core
+pub mod mset_core
+pub mod operand_core
+pub mod select_core
+pub mod settle_core
+pub mod table_core

@@ -3,13 +3,13 @@ use Rattle.std.specs.Prelude.{ℕ, Bool, false, List, [], ◌∷◌, Option, Som
 use Rattle.go_text_core.specs.declared.rule.Rule.{Rule}
 use Rattle.go_term_core.specs.declared.term.Basic.TheVariants as basics
 use Rattle.go_term_core.specs.Terms.{Term, NoType, Predeclared, ErrorType, Defined, PointerTo, StructOf, InterfaceOf, NoMethod, Sign, SignOf, Terms, NoTerm, ATerm}
-use Rattle.go_table_core.specs.Entries.{Entry, Look, find, underlying_in}
-use Rattle.go_table_core.specs.Assign.{AValue}
-use Rattle.go_embed_core.specs.Owners.{Found, AFieldOf, AMethodOf, AnInterfaces, TheErrorMethod}
+use Rattle.go_mset_core.specs.table_core.Entries.{Entry, Look, find, underlying_in}
+use Rattle.go_mset_core.specs.table_core.Assign.{AValue}
+use Rattle.go_mset_core.specs.embed_core.Owners.{Found, AFieldOf, AMethodOf, AnInterfaces, TheErrorMethod}
 use Rattle.go_mset_core.specs.Implementing.{error_sign}
-use Rattle.go_operand_core.specs.declared.types.TypeForm.{TypeForm}
-use Rattle.go_operand_core.specs.declared.types.TypeForm.TheVariants as forms
-use Rattle.go_operand_core.specs.TypeRules.{TypeRules}
+use Rattle.go_denote_core.specs.operand_core.declared.types.TypeForm.{TypeForm}
+use Rattle.go_denote_core.specs.operand_core.declared.types.TypeForm.TheVariants as forms
+use Rattle.go_denote_core.specs.operand_core.TypeRules.{TypeRules}
 use Rattle.go_denote_core.specs.declared.things.Selection.{Selection}
 use Rattle.go_denote_core.specs.declared.things.Selection.TheVariants as selections
 use Rattle.go_decide_core.specs.Identity.{identical_of}

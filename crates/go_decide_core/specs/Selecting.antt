@@ -4,11 +4,11 @@ use Rattle.go_text_core.specs.Text.{is_blank}
 use Rattle.go_text_core.specs.declared.rule.Rule.{Rule}
 use Rattle.go_text_core.specs.declared.rule.Rule.TheVariants.{S1, S2, S3, S7, S8}
 use Rattle.go_term_core.specs.Terms.{Term, NoType, Predeclared, ErrorType, Defined, PointerTo, StructOf, InterfaceOf, Fields, NoField, AField}
-use Rattle.go_table_core.specs.Entries.{Entry, Look, find, same_id}
-use Rattle.go_embed_core.specs.Owners.{Edge, owner_in, embedded_in, Found, AFieldOf, AMethodOf, AnInterfaces, TheErrorMethod, Named, members_of, has_spelled}
-use Rattle.go_embed_core.specs.OwnersShown.{found_shown}
-use Rattle.go_select_core.specs.declared.search.Selected.{Selected}
-use Rattle.go_select_core.specs.Selectors.{Searched, Refused, In, FieldsIn, searched}
+use Rattle.go_mset_core.specs.table_core.Entries.{Entry, Look, find, same_id}
+use Rattle.go_mset_core.specs.embed_core.Owners.{Edge, owner_in, embedded_in, Found, AFieldOf, AMethodOf, AnInterfaces, TheErrorMethod, Named, members_of, has_spelled}
+use Rattle.go_mset_core.specs.embed_core.OwnersShown.{found_shown}
+use Rattle.go_mset_core.specs.select_core.declared.search.Selected.{Selected}
+use Rattle.go_mset_core.specs.select_core.Selectors.{Searched, Refused, In, FieldsIn, searched}
 
 -- a type that embedded fields lead to: these, whether one of them has a star, and the type
 pub record Trail : Type 0 where

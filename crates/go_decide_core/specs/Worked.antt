@@ -1,17 +1,17 @@
 -- A package with what is decided of its types, worked out by hand.
 use Rattle.std.specs.Prelude.{◌≡◌, ℕ, Bool, true, false, List, [], ◌∷◌, Ok, Err, Some, None, codes}
 use Rattle.go_text_core.specs.declared.rule.Rule.TheVariants as rules
-use Rattle.go_decl_core.specs.declared.places.DeclKind.TheVariants as kinds
-use Rattle.go_decl_core.specs.declared.keys.DeclKey.{DeclKey}
+use Rattle.go_term_core.specs.decl_core.declared.places.DeclKind.TheVariants as kinds
+use Rattle.go_term_core.specs.decl_core.declared.keys.DeclKey.{DeclKey}
 use Rattle.go_term_core.specs.declared.term.Basic.TheVariants as basics
 use Rattle.go_term_core.specs.declared.term.MemberPlace.{MemberPlace}
 use Rattle.go_term_core.specs.declared.term.MemberPlace.TheVariants as places
 use Rattle.go_term_core.specs.Terms.{Term, NoType, Predeclared, ErrorType, Defined, PointerTo, StructOf, InterfaceOf, Fields, NoField, AField, NoMethod, AMethod, Sign, SignOf, NoTerm, ATerm}
-use Rattle.go_table_core.specs.Entries.{Member, Entry, find}
-use Rattle.go_table_core.specs.Assign.{AValue, ANil, AnInteger, AText, ABoolean}
-use Rattle.go_embed_core.specs.Owners.{AFieldOf, AMethodOf, AnInterfaces, TheErrorMethod}
+use Rattle.go_mset_core.specs.table_core.Entries.{Member, Entry, find}
+use Rattle.go_mset_core.specs.table_core.Assign.{AValue, ANil, AnInteger, AText, ABoolean}
+use Rattle.go_mset_core.specs.embed_core.Owners.{AFieldOf, AMethodOf, AnInterfaces, TheErrorMethod}
 use Rattle.go_mset_core.specs.Implementing.{error_sign}
-use Rattle.go_operand_core.specs.declared.types.TypeForm.TheVariants as forms
+use Rattle.go_denote_core.specs.operand_core.declared.types.TypeForm.TheVariants as forms
 use Rattle.go_denote_core.specs.declared.things.Selection.TheVariants as selections
 use Rattle.go_decide_core.specs.Identity.{identical_of, identical_but_for_tags_of, same_sign_of}
 use Rattle.go_decide_core.specs.Conversion.{convertible_of}

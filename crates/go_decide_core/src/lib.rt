@@ -13,13 +13,39 @@ pub use laws::{
     worked_members, worked_types,
 };
 
-// Passed on, so that the crates above list this one alone.
-pub use go_decl_core as decl_core;
-pub use go_denote_core as denote_core;
-pub use go_embed_core as embed_core;
-pub use go_mset_core as mset_core;
-pub use go_operand_core as operand_core;
-pub use go_select_core as select_core;
-pub use go_table_core as table_core;
-pub use go_term_core as term_core;
-pub use go_text_core as text_core;
+/// What the crates above name of `go_constant_core`.
+pub mod constant_core {
+    pub use go_denote_core::constant_core::Constant;
+}
+
+/// What the crates above name of `go_denote_core`.
+pub mod denote_core {
+    pub use go_denote_core::Selection;
+}
+
+/// What the crates above name of `go_mset_core`.
+pub mod mset_core {
+    pub use go_mset_core::{implements, implements_by_pointer};
+}
+
+/// What the crates above name of `go_operand_core`.
+pub mod operand_core {
+    pub use go_denote_core::operand_core::{Operand, TypeForm, TypeLooks, ValueType};
+}
+
+/// What the crates above name of `go_select_core`.
+pub mod select_core {
+    pub use go_mset_core::select_core::{
+        EmbedPath, Member, Selected, select, select_behind_pointer,
+    };
+}
+
+/// What the crates above name of `go_settle_core`.
+pub mod settle_core {
+    pub use go_mset_core::settle_core::{Kind, kind_of, settle, settle_signature};
+}
+
+/// What the crates above name of `go_table_core`.
+pub mod table_core {
+    pub use go_mset_core::table_core::{DeclaredMethod, DefinedType, PackageTypes, TypeTable};
+}

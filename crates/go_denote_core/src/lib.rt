@@ -28,3 +28,16 @@ pub use selectors::{dot_of, selector_answer, type_name_answer};
 pub use things::{
     Answer, Argument, Builtin, Denoted, Dot, Exported, Found, Outcome, Place, Selection, Usage,
 };
+
+/// What the crates above name of `go_constant_core`.
+pub mod constant_core {
+    pub use go_constant_core::{Constant, ConstantText, natural};
+}
+
+/// What the crates above name of `go_operand_core`.
+pub mod operand_core {
+    pub use go_operand_core::{
+        Operand, TypeForm, TypeLooks, ValueType, assignable_to, binary, refused_binary,
+        refused_unary, unary,
+    };
+}

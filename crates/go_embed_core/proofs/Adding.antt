@@ -4,11 +4,11 @@ use Rattle.std.proofs.lemmas.List.{drop_more, drop_all, append_assoc, append-nil
 use Rattle.go_term_core.specs.declared.term.Field.{Field}
 use Rattle.go_term_core.specs.Terms.{StructOf}
 use Rattle.go_term_core.specs.Shapes.{Line, line_at, fields_in}
-use Rattle.go_table_core.specs.Entries.{has_method}
-use Rattle.go_table_core.specs.Shown.{hides_some}
+use Rattle.go_type_core.specs.table_core.Entries.{has_method}
+use Rattle.go_type_core.specs.table_core.Shown.{hides_some}
 use Rattle.std.specs.Borrow.{Bor}
-use Rattle.go_table_core.specs.declared.fields.StructField.{StructField}
-use Rattle.go_table_core.specs.Shown.{line_shown}
+use Rattle.go_type_core.specs.table_core.declared.fields.StructField.{StructField}
+use Rattle.go_type_core.specs.table_core.Shown.{line_shown}
 use Rattle.go_embed_core.specs.declared.member.Member as declared_member
 use Rattle.go_embed_core.specs.declared.member.Member.TheVariants as members
 use Rattle.go_embed_core.specs.Owners.{OwnerModel, AFieldOf, Named, fields_found, declared_found, term_found, members_of}

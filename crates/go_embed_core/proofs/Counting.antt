@@ -9,9 +9,9 @@ use Rattle.go_text_core.specs.Text.{SameId}
 use Rattle.go_term_core.specs.declared.term.Field.{Field}
 use Rattle.go_term_core.specs.declared.term.Method.{Method}
 use Rattle.go_term_core.specs.Shapes.{Line, fields_in, methods_of}
-use Rattle.go_table_core.specs.declared.entry.DeclaredMethod.{DeclaredMethod}
-use Rattle.go_table_core.specs.Entries.{same_id, has_method}
-use Rattle.go_table_core.specs.Shown.{member_shown}
+use Rattle.go_type_core.specs.table_core.declared.entry.DeclaredMethod.{DeclaredMethod}
+use Rattle.go_type_core.specs.table_core.Entries.{same_id, has_method}
+use Rattle.go_type_core.specs.table_core.Shown.{member_shown}
 use Rattle.go_embed_core.specs.declared.member.Hits.{Hits}
 use Rattle.go_embed_core.specs.declared.member.Hits.TheVariants as hits
 use Rattle.go_embed_core.specs.Owners.{OwnerModel, Found, Named, fields_found, methods_found, declared_found, term_found, members_of, is_spelled_in}

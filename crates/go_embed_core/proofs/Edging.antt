@@ -6,8 +6,8 @@ use Rattle.std.proofs.lemmas.List.{append_assoc, append-nil, map-append}
 use Rattle.go_term_core.specs.declared.term.Field.{Field}
 use Rattle.go_term_core.specs.Terms.{Term, NoType, Predeclared, ErrorType, Defined, PointerTo, StructOf, InterfaceOf, Fields, NoField, AField}
 use Rattle.go_term_core.specs.Shapes.{Line, line_at, fields_in}
-use Rattle.go_table_core.specs.Entries.{has_method}
-use Rattle.go_table_core.specs.Shown.{hides_field, hides_some}
+use Rattle.go_type_core.specs.table_core.Entries.{has_method}
+use Rattle.go_type_core.specs.table_core.Shown.{hides_field, hides_some}
 use Rattle.go_embed_core.specs.declared.owner.Embedded.{Embedded}
 use Rattle.go_embed_core.specs.Owners.{OwnerModel, Edge, edge, fields_embedded, term_embedded, embedded_in, edge_at, embeds_at, count_fields, term_fields, field_count}
 use Rattle.go_embed_core.specs.OwnersShown.{embedded_shown}

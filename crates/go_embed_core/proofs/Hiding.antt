@@ -7,13 +7,13 @@ use Rattle.std.proofs.lemmas.List.Elements.{Contains-append_left, Contains-appen
 use Rattle.std.proofs.lemmas.Slice.Eq.{bytes_eq-Decides}
 use Rattle.go_text_core.specs.Text.{SameId, exported, is_blank}
 use Rattle.go_text_core.specs.declared.rule.Rule.TheVariants as rules
-use Rattle.go_decl_core.specs.declared.keys.DeclKey.{DeclKey}
+use Rattle.go_term_core.specs.decl_core.declared.keys.DeclKey.{DeclKey}
 use Rattle.go_term_core.specs.declared.term.MemberPlace.{MemberPlace}
 use Rattle.go_term_core.specs.Terms.{Term, StructOf, Fields, NoField, AField}
-use Rattle.go_settle_core.specs.declared.kind.Kind.{Kind}
-use Rattle.go_settle_core.specs.Settled.{has_name}
-use Rattle.go_table_core.specs.Entries.{Member, same_id, has_method}
-use Rattle.go_table_core.specs.Methods.{is_before, field_before, has_field_before}
+use Rattle.go_type_core.specs.settle_core.declared.kind.Kind.{Kind}
+use Rattle.go_type_core.specs.settle_core.Settled.{has_name}
+use Rattle.go_type_core.specs.table_core.Entries.{Member, same_id, has_method}
+use Rattle.go_type_core.specs.table_core.Methods.{is_before, field_before, has_field_before}
 use Rattle.go_type_core.specs.Built.{kept, settled_member}
 use Rattle.go_embed_core.specs.declared.faults.MemberFault.{MemberFault}
 use Rattle.go_embed_core.specs.Faults.{fault, fault_if, is_left_out, own_names, named_faults}

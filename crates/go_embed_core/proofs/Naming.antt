@@ -6,10 +6,10 @@ use Rattle.go_text_core.specs.declared.rule.Rule.TheVariants as rules
 use Rattle.go_term_core.specs.declared.term.Field.{Field}
 use Rattle.go_term_core.specs.Terms.{Term, StructOf}
 use Rattle.go_term_core.specs.Shapes.{Line, fields_in}
-use Rattle.go_settle_core.specs.Settled.{has_name}
-use Rattle.go_table_core.specs.declared.entry.DeclaredMethod.{DeclaredMethod}
-use Rattle.go_table_core.specs.Entries.{Member}
-use Rattle.go_table_core.specs.Shown.{member_shown}
+use Rattle.go_type_core.specs.settle_core.Settled.{has_name}
+use Rattle.go_type_core.specs.table_core.declared.entry.DeclaredMethod.{DeclaredMethod}
+use Rattle.go_type_core.specs.table_core.Entries.{Member}
+use Rattle.go_type_core.specs.table_core.Shown.{member_shown}
 use Rattle.go_embed_core.specs.declared.faults.MemberFault.{MemberFault}
 use Rattle.go_embed_core.specs.Faults.{fault_if, is_left_out, own_names, named_faults, hidden_faults}
 use Rattle.go_embed_core.specs.mirrors.Passing.{SameNames, names_with}

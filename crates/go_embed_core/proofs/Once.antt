@@ -5,11 +5,11 @@ use Rattle.std.proofs.lemmas.List.Elements.{Contains-append_left, Contains-appen
 use Rattle.go_text_core.specs.Text.{is_blank}
 use Rattle.go_text_core.specs.declared.rule.Rule.{Rule}
 use Rattle.go_text_core.specs.declared.rule.Rule.TheVariants as rules
-use Rattle.go_decl_core.specs.declared.keys.DeclKey.{DeclKey}
+use Rattle.go_term_core.specs.decl_core.declared.keys.DeclKey.{DeclKey}
 use Rattle.go_term_core.specs.declared.term.MemberPlace.{MemberPlace}
 use Rattle.go_term_core.specs.Terms.{Term, NoType, Predeclared, ErrorType, Defined, PointerTo, StructOf, InterfaceOf, Fields, NoField, AField, Methods, NoMethod, AMethod, Sign, SignOf, Terms, NoTerm, ATerm}
-use Rattle.go_settle_core.specs.declared.kind.Kind.{Kind}
-use Rattle.go_settle_core.specs.Settled.{can_be_embedded, has_name, repeats}
+use Rattle.go_type_core.specs.settle_core.declared.kind.Kind.{Kind}
+use Rattle.go_type_core.specs.settle_core.Settled.{can_be_embedded, has_name, repeats}
 use Rattle.go_embed_core.specs.declared.faults.MemberFault.{MemberFault}
 use Rattle.go_embed_core.specs.Faults.{fault, fault_if, first_place, is_shared, term_faults, fields_faults, methods_faults, sign_faults, terms_faults, line_faults}
 use Rattle.go_embed_core.specs.Laws.{term_places, fields_places, methods_places, sign_places, terms_places, line_places, AreApart, EachFaultOnce}

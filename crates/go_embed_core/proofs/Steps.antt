@@ -5,7 +5,7 @@ use Rattle.std.proofs.lemmas.Bool.{true≢false, and_parts, and_from, not-true, 
 use Rattle.std.proofs.lemmas.List.Elements.{Contains-append_right, Contains-append_cases}
 use Rattle.go_term_core.specs.declared.term.MemberPlace.{MemberPlace}
 use Rattle.go_term_core.specs.Terms.{Term, NoType, Predeclared, ErrorType, Defined, PointerTo, StructOf, InterfaceOf, Fields, NoField, AField}
-use Rattle.go_table_core.specs.Entries.{Entry, Look, has_method, methods_in, term_in, underlying_in}
+use Rattle.go_type_core.specs.table_core.Entries.{Entry, Look, has_method, methods_in, term_in, underlying_in}
 use Rattle.go_embed_core.specs.Owners.{OwnerModel, Edge, edge, owner_in, is_starred, off, fields_embedded, term_embedded, embedded_in}
 use Rattle.go_embed_core.specs.Laws.{IsField, IsStep, EmbeddingIsAStep, OwnerIsLocal}
 

@@ -4,15 +4,15 @@ use Rattle.std.specs.Str.{bytes_eq}
 use Rattle.go_text_core.specs.Text.{is_blank}
 use Rattle.go_text_core.specs.declared.rule.Rule.{Rule}
 use Rattle.go_text_core.specs.declared.rule.Rule.TheVariants as rules
-use Rattle.go_decl_core.specs.declared.keys.DeclKey.{DeclKey}
+use Rattle.go_term_core.specs.decl_core.declared.keys.DeclKey.{DeclKey}
 use Rattle.go_term_core.specs.declared.term.MemberPlace.{MemberPlace}
 use Rattle.go_term_core.specs.declared.term.MemberPlace.TheVariants as places
 use Rattle.go_term_core.specs.Terms.{Term, NoType, Predeclared, ErrorType, Defined, PointerTo, StructOf, InterfaceOf, Fields, NoField, AField, Methods, NoMethod, AMethod, Sign, SignOf, Terms, NoTerm, ATerm}
-use Rattle.go_settle_core.specs.declared.kind.Kind.{Kind}
-use Rattle.go_settle_core.specs.declared.kind.Kind.TheVariants as kinds
-use Rattle.go_settle_core.specs.Settled.{can_be_embedded, has_name, repeats}
-use Rattle.go_table_core.specs.Entries.{Member, same_decl}
-use Rattle.go_table_core.specs.Methods.{has_field_before}
+use Rattle.go_type_core.specs.settle_core.declared.kind.Kind.{Kind}
+use Rattle.go_type_core.specs.settle_core.declared.kind.Kind.TheVariants as kinds
+use Rattle.go_type_core.specs.settle_core.Settled.{can_be_embedded, has_name, repeats}
+use Rattle.go_type_core.specs.table_core.Entries.{Member, same_decl}
+use Rattle.go_type_core.specs.table_core.Methods.{has_field_before}
 use Rattle.go_embed_core.specs.declared.faults.MemberFault.{MemberFault}
 
 abbrev pub fault : MemberPlace → Rule → MemberFault

@@ -2,13 +2,13 @@
 use Rattle.std.specs.Prelude.{◌≡◌, ◌<◌, ◌⊎◌, ◌↔◌, ℕ, zero, suc, Bool, true, false, List, [], ◌∷◌, ◌++◌, Option, None, Contains, ⊤, if◌then◌else◌}
 use Rattle.go_text_core.specs.Text.{SameId, is_blank}
 use Rattle.go_text_core.specs.declared.rule.Rule.TheVariants as rules
-use Rattle.go_decl_core.specs.declared.keys.DeclKey.{DeclKey}
+use Rattle.go_term_core.specs.decl_core.declared.keys.DeclKey.{DeclKey}
 use Rattle.go_term_core.specs.declared.term.MemberPlace.{MemberPlace}
 use Rattle.go_term_core.specs.Terms.{Term, NoType, Predeclared, ErrorType, Defined, PointerTo, StructOf, InterfaceOf, Fields, NoField, AField, Methods, NoMethod, AMethod, Sign, SignOf, Terms, NoTerm, ATerm, term_keys}
-use Rattle.go_settle_core.specs.declared.kind.Kind.{Kind}
-use Rattle.go_settle_core.specs.declared.kind.Kind.TheVariants as kinds
-use Rattle.go_table_core.specs.Entries.{Member, Look, underlying_in, declared_methods, has_method}
-use Rattle.go_table_core.specs.Methods.{is_before}
+use Rattle.go_type_core.specs.settle_core.declared.kind.Kind.{Kind}
+use Rattle.go_type_core.specs.settle_core.declared.kind.Kind.TheVariants as kinds
+use Rattle.go_type_core.specs.table_core.Entries.{Member, Look, underlying_in, declared_methods, has_method}
+use Rattle.go_type_core.specs.table_core.Methods.{is_before}
 use Rattle.go_type_core.specs.Built.{kept}
 use Rattle.go_embed_core.specs.Owners.{Edge, owner_in, path_in, off, is_starred, embedded_in}
 use Rattle.go_embed_core.specs.Faults.{fault, first_place, is_shared, term_faults, hidden_faults}

@@ -4,7 +4,7 @@ use Rattle.std.specs.Str.{bytes_eq}
 use Rattle.go_text_core.specs.Text.{SameId}
 use Rattle.go_term_core.specs.declared.term.MemberPlace.{MemberPlace}
 use Rattle.go_term_core.specs.Terms.{Term, NoType, Predeclared, ErrorType, Defined, PointerTo, StructOf, InterfaceOf, Fields, NoField, AField, Methods, NoMethod, AMethod, Sign}
-use Rattle.go_table_core.specs.Entries.{Member, Look, underlying_in, declared_methods, has_method}
+use Rattle.go_type_core.specs.table_core.Entries.{Member, Look, underlying_in, declared_methods, has_method}
 
 -- a type as a table has it: the path of its package and the methods that are declared of it where it is a defined type, and its
 -- underlying type

@@ -2,17 +2,17 @@
 ghost use Rattle.std.specs.Prelude.{◌≡◌, ◌++◌, ◌∷◌, [], true, false, not, ◌&&◌, ◌||◌, IfOk, OnOk, IfErr, map, List};
 ghost use Rattle.go_text_core.specs.Text.{is_blank};
 ghost use Rattle.go_term_core.specs.Shapes.{Line, shape, sign_of, fields_in, line_at, lines_of, methods_of, term_at, terms_in};
-ghost use Rattle.go_settle_core.specs.Settled.{can_be_embedded, has_name};
-ghost use Rattle.go_table_core.specs.Methods.{has_field_before};
-ghost use Rattle.go_table_core.specs.Shown.{member_shown};
+ghost use Rattle.go_type_core.specs.settle_core.Settled.{can_be_embedded, has_name};
+ghost use Rattle.go_type_core.specs.table_core.Methods.{has_field_before};
+ghost use Rattle.go_type_core.specs.table_core.Shown.{member_shown};
 ghost use Rattle.go_embed_core.specs.Faults.{fault_if, same_place, first_field, first_method, first_place, is_shared, line_faults, term_faults, fields_faults, methods_faults, sign_faults, terms_faults, declared_faults, is_open_base, can_be_base};
 ghost use Rattle.go_embed_core.specs.mirrors.Passing.{SameNames, field_own, method_own, declared_own};
 
 use go_path_core::ImportPath;
-use go_settle_core::SeenNames;
-use go_table_core::FieldTable;
 use go_term_core::FieldLine;
 use go_text_core::{Name, Rule, add};
+use go_type_core::settle_core::SeenNames;
+use go_type_core::table_core::FieldTable;
 use go_type_core::{
     DeclaredMethod, Field, Kind, Kinds, MemberPlace, Method, Signature, TypeTerm, can_embed,
 };

@@ -1,7 +1,7 @@
 //! The methods of a type, listed.
 ghost use Rattle.std.specs.Prelude.{◌≡◌, ◌++◌, OnOk, map};
 ghost use Rattle.go_term_core.specs.Shapes.{methods_of};
-ghost use Rattle.go_table_core.specs.Shown.{member_shown};
+ghost use Rattle.go_type_core.specs.table_core.Shown.{member_shown};
 ghost use Rattle.go_embed_core.specs.Owners.{declared_found, methods_found};
 ghost use Rattle.go_embed_core.specs.OwnersShown.{named_shown};
 

@@ -2,8 +2,8 @@
 ghost use Rattle.std.specs.Prelude.{◌≡◌, ◌++◌, ◌∷◌, [], IfOk, OnOk, map, option_map, option_to_list};
 ghost use Rattle.go_term_core.specs.Terms.{Defined, NoField, StructOf};
 ghost use Rattle.go_term_core.specs.Shapes.{shape, fields_in, line_at, lines_of};
-ghost use Rattle.go_table_core.specs.Entries.{find};
-ghost use Rattle.go_table_core.specs.Shown.{line_shown, member_shown};
+ghost use Rattle.go_type_core.specs.table_core.Entries.{find};
+ghost use Rattle.go_type_core.specs.table_core.Shown.{line_shown, member_shown};
 ghost use Rattle.go_embed_core.specs.Owners.{AFieldOf, owner_in, embeds_at, embedded_in, field_count, has_spelled, declared_found, fields_found, term_found, members_of, is_spelled_in, edge};
 ghost use Rattle.go_embed_core.specs.OwnersShown.{owner_shown, source_shown, entry_owner, embedded_shown, named_shown, AreHits};
 ghost use Rattle.go_embed_core.specs.mirrors.Edges.{under_shown, struct_fields, hidden_in, IsHiding, edge_if};
@@ -13,11 +13,11 @@ use crate::member::{
     Hits, Member, has_method, is_method_spelled, is_spelled, method_hits, term_hits,
 };
 use crate::members::{add_interface, add_methods};
-use go_decl_core::DeclKey;
 use go_path_core::ImportPath;
-use go_table_core::{StructField, StructFields};
 use go_term_core::FieldLine;
+use go_term_core::decl_core::DeclKey;
 use go_text_core::add;
+use go_type_core::table_core::{StructField, StructFields};
 use go_type_core::{DeclaredMethod, DefinedType, Field, TypeTable, TypeTerm};
 use std::alloc::{AllocError, Global};
 

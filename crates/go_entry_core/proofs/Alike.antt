@@ -5,8 +5,8 @@ use Rattle.std.specs.List.{flat_map, enumerate_from}
 use Rattle.go_tree_nodes.specs.declared.files.Receiver.{Receiver}
 use Rattle.go_tree_nodes.specs.declared.types.TypeName.{TypeName}
 use Rattle.go_tree_nodes.specs.Trees.{TypeTree, NamedType, Pointer, ParenType, Struct, Interface, FieldTrees, NoFields, NamedFields, EmbeddedField, MethodTrees, NoMethods, Method, SignatureTree, Signed, ResultTree, NoResult, OneResult, Results, ParamTrees, NoParams, Param, FuncTree}
-use Rattle.go_decl_core.specs.declared.places.DeclKind.TheVariants as kinds
-use Rattle.go_decl_core.specs.TopDecls.{TopDeclTree, FormTree, ValueForm, TypeForm, FuncForm}
+use Rattle.go_term_core.specs.decl_core.declared.places.DeclKind.TheVariants as kinds
+use Rattle.go_term_core.specs.decl_core.TopDecls.{TopDeclTree, FormTree, ValueForm, TypeForm, FuncForm}
 use Rattle.go_term_core.specs.Terms.{PointerTo, StructOf, InterfaceOf, AField, AMethod, SignOf, NoTerm, ATerm}
 use Rattle.go_table_core.specs.Entries.{Entry}
 use Rattle.go_written_core.specs.Written.{InFile, Meaning, member_place, last_ident, starred, tag_of, named_fields, for_names, term_of, fields_of_tree, methods_of_tree, signature_of, results_of_tree, params_of_tree}

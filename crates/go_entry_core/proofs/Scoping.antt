@@ -3,10 +3,10 @@ use Rattle.std.proofs.Common.{◌≡◌, ℕ, List, [], Option, Some, None, is_s
 use Rattle.std.specs.Prelude.{option_map}
 use Rattle.go_universe_core.specs.declared.Predeclared.{Predeclared}
 use Rattle.go_universe_core.specs.Universe.{found}
-use Rattle.go_decl_core.specs.declared.keys.DeclRef.{DeclRef}
-use Rattle.go_block_core.specs.declared.binding.Binding.{Binding}
-use Rattle.go_block_core.specs.Blocks.{BlocksModel, file_binding, file_has}
-use Rattle.go_block_core.specs.Tables.{in_block}
+use Rattle.go_term_core.specs.decl_core.declared.keys.DeclRef.{DeclRef}
+use Rattle.go_scope_core.specs.block_core.declared.binding.Binding.{Binding}
+use Rattle.go_scope_core.specs.block_core.Blocks.{BlocksModel, file_binding, file_has}
+use Rattle.go_scope_core.specs.block_core.Tables.{in_block}
 use Rattle.go_scope_core.specs.Models.{scopes_model}
 use Rattle.go_scope_core.specs.Scopes.{Universe}
 use Rattle.go_scope_core.proofs.Lookups.{by_parts, in_scope}

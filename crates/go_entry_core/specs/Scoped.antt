@@ -3,7 +3,7 @@ use Rattle.std.specs.Prelude.{◌≡◌, ℕ, List, [], Option, Some, None}
 use Rattle.go_text_core.specs.declared.span.Span.{Span}
 use Rattle.go_tree_nodes.specs.declared.names.Ident.{Ident}
 use Rattle.go_tree_nodes.specs.declared.types.TypeName.TheVariants as type_names
-use Rattle.go_block_core.specs.Blocks.{BlocksModel}
+use Rattle.go_scope_core.specs.block_core.Blocks.{BlocksModel}
 use Rattle.go_scope_core.specs.Laws.{denotes}
 use Rattle.go_scope_core.specs.Models.{scopes_model}
 use Rattle.go_scope_core.specs.Scopes.{Denoted, Universe, Package, File, Local}

@@ -2,11 +2,11 @@
 use Rattle.std.specs.Prelude.{◌≡◌, ℕ, List, [], ◌∷◌, Option, None, if◌then◌else◌}
 use Rattle.std.specs.Str.{bytes_eq, chars}
 use Rattle.go_text_core.specs.Text.{exported}
-use Rattle.go_decl_core.specs.declared.keys.DeclRef.{DeclRef}
-use Rattle.go_block_core.specs.Blocks.{BlocksModel, exports_of}
-use Rattle.go_block_core.specs.Exports.{ExportsModel}
-use Rattle.go_block_core.specs.Tables.{in_block}
-use Rattle.go_graph_core.specs.Workspaces.{PackageModel}
+use Rattle.go_term_core.specs.decl_core.declared.keys.DeclRef.{DeclRef}
+use Rattle.go_scope_core.specs.block_core.Blocks.{BlocksModel, exports_of}
+use Rattle.go_scope_core.specs.block_core.Exports.{ExportsModel}
+use Rattle.go_scope_core.specs.block_core.Tables.{in_block}
+use Rattle.go_scope_core.specs.graph_core.Workspaces.{PackageModel}
 
 -- the names that the package of a path shows with their declarations, and none where there is no such package
 abbrev pub names_shown : List ExportsModel → List ℕ → List (List ℕ × DeclRef)

@@ -1,13 +1,13 @@
 //! What the names of types mean at the top of a file.
 ghost use Rattle.std.specs.Prelude.{◌≡◌, IfOk, option_copied};
-ghost use Rattle.go_block_core.specs.Blocks.{file_binding};
-ghost use Rattle.go_block_core.specs.Tables.{in_block};
+ghost use Rattle.go_scope_core.specs.block_core.Blocks.{file_binding};
+ghost use Rattle.go_scope_core.specs.block_core.Tables.{in_block};
 ghost use Rattle.go_term_core.specs.Shapes.{shape};
 ghost use Rattle.go_universe_core.specs.Universe.{found};
 ghost use Rattle.go_entry_core.specs.Meanings.{key_of, outside_meaning, plain_meaning, qualified_meaning, shown_type, type_in_binding, type_in_target, type_of_key, type_of_target, type_of_universe};
 
-use go_block_core::{Binding, Blocks, DeclKey, DeclKind, DeclRef, Target};
 use go_path_core::ImportPath;
+use go_scope_core::block_core::{Binding, Blocks, DeclKey, DeclKind, DeclRef, Target};
 use go_term_core::{Basic, TypeTerm};
 use go_tree_nodes::TypeName;
 use go_universe_core::{Predeclared, find_predeclared};
@@ -17,7 +17,7 @@ use std::alloc::{AllocError, Global};
 /// What packages show to those that import them.
 pub trait ImportedNames {
     ghost use Rattle.std.specs.Prelude.{List, ℕ, Option, ◌≡◌};
-    ghost use Rattle.go_decl_core.specs.declared.keys.DeclRef.{DeclRef as TheRef};
+    ghost use Rattle.go_term_core.specs.decl_core.declared.keys.DeclRef.{DeclRef as TheRef};
 
     ghost shows: { Self → List ℕ → List ℕ → Option TheRef };
 

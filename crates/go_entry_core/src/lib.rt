@@ -18,3 +18,20 @@ pub use laws::{
     packages_show_their_blocks, worked_entries,
 };
 pub use shown_packages::ShownPackages;
+
+/// What the crates above name of `go_block_core`.
+pub mod block_core {
+    pub use go_scope_core::block_core::{
+        BlockFault, Blocks, DeclRef, Exports, Imported, NamedDecl,
+    };
+}
+
+/// What the crates above name of `go_graph_core`.
+pub mod graph_core {
+    pub use go_scope_core::graph_core::{Package, SourceFile};
+}
+
+/// What the crates above name of `go_written_core`.
+pub mod written_core {
+    pub use go_written_core::{TypeNames, WrittenIn, write_signature, write_type};
+}

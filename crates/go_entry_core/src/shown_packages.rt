@@ -1,14 +1,14 @@
 //! What packages show to those that import them, by their paths.
 ghost use Rattle.std.specs.Prelude.{◌≡◌, ◌≤◌, ◌<◌, [], IfOk, OnOk, OnErr, All, map, length, true, false, slice_get};
 ghost use Rattle.std.specs.List.Sorted.{IsPartitionPoint};
-ghost use Rattle.go_block_core.specs.Exports.{name_and_decl};
-ghost use Rattle.go_block_core.specs.Tables.{in_block};
+ghost use Rattle.go_scope_core.specs.block_core.Exports.{name_and_decl};
+ghost use Rattle.go_scope_core.specs.block_core.Tables.{in_block};
 ghost use Rattle.go_entry_core.specs.Showing.{shown_in, with_shown};
 ghost use Rattle.go_entry_core.specs.mirrors.Indexing.{by_spelling, decl_if, HasPlaces, is_below, IsNameOrder, spelling_at};
 
 use crate::file_names::ImportedNames;
-use go_block_core::{DeclRef, Exports, NamedDecl};
 use go_path_core::ImportPath;
+use go_scope_core::block_core::{DeclRef, Exports, NamedDecl};
 use go_text_core::is_exported;
 use indexmap::IndexMap;
 use std::alloc::{AllocError, Global};
@@ -24,7 +24,7 @@ struct Indexed {
 }
 
 impl Model for Indexed {
-    ghost use Rattle.go_block_core.specs.Exports.{ExportsModel, coded_exports};
+    ghost use Rattle.go_scope_core.specs.block_core.Exports.{ExportsModel, coded_exports};
     ghost use Rattle.go_entry_core.specs.mirrors.Indexing.{IsNameOrder};
 
     ghost Value = { ExportsModel };
@@ -46,8 +46,8 @@ pub struct ShownPackages {
 impl Model for ShownPackages {
     ghost use Rattle.std.specs.Prelude.{List};
     ghost use Rattle.std.specs.Coded.{coded_list};
-    ghost use Rattle.go_block_core.specs.Exports.{ExportsModel, coded_exports};
-    ghost use Rattle.go_block_core.specs.Tables.{table_of};
+    ghost use Rattle.go_scope_core.specs.block_core.Exports.{ExportsModel, coded_exports};
+    ghost use Rattle.go_scope_core.specs.block_core.Tables.{table_of};
     ghost use Rattle.go_entry_core.specs.mirrors.Indexing.{shown_of, AreKeyed};
 
     ghost Value = { List ExportsModel };

@@ -1,11 +1,11 @@
 -- The predeclared names, one by one.
 use Rattle.std.proofs.Common.{◌≡◌, ◌↔◌, inl, inr, ℕ, true, false, List, refl, sym}
 use Rattle.std.proofs.lemmas.Bool.{true≢false}
-use Rattle.go_face_core.specs.universe_core.specs.declared.Predeclared.{Predeclared}
-use Rattle.go_face_core.specs.universe_core.specs.declared.Predeclared.TheVariants as universe
-use Rattle.go_face_core.specs.universe_core.specs.Universe.{kind_of, spelling_of, usable}
-use Rattle.go_expr_core.specs.denote_core.specs.declared.things.Builtin.TheVariants as builtins
-use Rattle.go_expr_core.specs.denote_core.specs.declared.things.Found.TheVariants as founds
+use Rattle.go_universe_core.specs.declared.Predeclared.{Predeclared}
+use Rattle.go_universe_core.specs.declared.Predeclared.TheVariants as universe
+use Rattle.go_universe_core.specs.Universe.{kind_of, spelling_of, usable}
+use Rattle.go_expr_core.specs.denote_core.declared.things.Builtin.TheVariants as builtins
+use Rattle.go_expr_core.specs.denote_core.declared.things.Found.TheVariants as founds
 use Rattle.go_env_core.specs.Found.{found_universe}
 use Rattle.go_env_core.specs.Laws.{IsPredeclared, UniverseIsThis}
 

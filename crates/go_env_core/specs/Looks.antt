@@ -1,21 +1,21 @@
 -- All that an expression is judged by at a place of a package, by what names mean where they stand.
 use Rattle.std.specs.Prelude.{◌≡◌, ℕ, List, [], Option, Some, None, map}
 use Rattle.go_term_core.specs.Terms.{Term, Sign}
-use Rattle.go_face_core.specs.table_core.specs.Entries.{Entry, find}
-use Rattle.go_expr_core.specs.operand_core.specs.TypeRules.{TypeRules}
-use Rattle.go_face_core.specs.decide_core.specs.Rules.{term_rules, params_of, results_of, typed}
-use Rattle.go_expr_core.specs.denote_core.specs.Look.{NameRules}
-use Rattle.go_face_core.specs.handle_core.specs.Declarations.{Declaration}
-use Rattle.go_face_core.specs.handle_core.specs.Names.{selection_in}
-use Rattle.go_inline_core.specs.local_core.specs.declared.Fault.{Fault as LocalFault}
-use Rattle.go_inline_core.specs.local_core.specs.Binding.{Look}
-use Rattle.go_expr_core.specs.literal_core.specs.Look.{LiteralRules}
+use Rattle.go_inline_core.specs.table_core.Entries.{Entry, find}
+use Rattle.go_expr_core.specs.operand_core.TypeRules.{TypeRules}
+use Rattle.go_face_core.specs.decide_core.Rules.{term_rules, params_of, results_of, typed}
+use Rattle.go_expr_core.specs.denote_core.Look.{NameRules}
+use Rattle.go_face_core.specs.handle_core.Declarations.{Declaration}
+use Rattle.go_face_core.specs.handle_core.Names.{selection_in}
+use Rattle.go_inline_core.specs.local_core.declared.Fault.{Fault as LocalFault}
+use Rattle.go_inline_core.specs.local_core.Binding.{Look}
+use Rattle.go_expr_core.specs.literal_core.Look.{LiteralRules}
 use Rattle.go_expr_core.specs.declared.things.Fault.{Fault}
 use Rattle.go_expr_core.specs.Looks.{Looks, WrittenRules, everywhere}
 use Rattle.go_expr_core.specs.Places.{type_start}
 use Rattle.go_inline_core.specs.Types.{InlineOf, inline_at}
 use Rattle.go_face_core.specs.Faces.{TheFace}
-use Rattle.go_inline_core.specs.names_core.specs.Scope.{look_of}
+use Rattle.go_inline_core.specs.names_core.Scope.{look_of}
 use Rattle.go_env_core.specs.declared.here.Here.{Here}
 use Rattle.go_env_core.specs.declared.meaning.Meaning.{Meaning}
 use Rattle.go_env_core.specs.declared.meaning.Meaning.TheVariants as meanings

@@ -2,21 +2,21 @@
 ghost use Rattle.std.specs.Prelude.{◌≡◌, ◌<◌, ◌++◌, IfOk, List, OnOk, Some, length, map, not, option_map, slice_get};
 ghost use Rattle.std.specs.List.{count_by};
 ghost use Rattle.go_term_core.specs.Shapes.{Line, fields_in, lines_of, shape};
-ghost use Rattle.go_face_core.specs.table_core.specs.Entries.{find, has_method, same_id};
-ghost use Rattle.go_face_core.specs.table_core.specs.Shown.{member_shown};
-ghost use Rattle.go_face_core.specs.embed_core.specs.Owners.{owner_in};
-ghost use Rattle.go_face_core.specs.embed_core.specs.OwnersShown.{entry_owner};
+ghost use Rattle.go_inline_core.specs.table_core.Entries.{find, has_method, same_id};
+ghost use Rattle.go_inline_core.specs.table_core.Shown.{member_shown};
+ghost use Rattle.go_inline_core.specs.embed_core.Owners.{owner_in};
+ghost use Rattle.go_inline_core.specs.embed_core.OwnersShown.{entry_owner};
 ghost use Rattle.go_env_core.specs.Scenes.{SceneModel, scene_shown};
 ghost use Rattle.go_env_core.specs.Fields.{fields_seen, is_visible, literals_in, owner_seen, term_seen};
 ghost use Rattle.go_env_core.specs.mirrors.Seen.{hider_shown, is_kept, listed_field, name_unless, seen_shown, some_seen};
 
 use crate::scene::Scene;
 use go_expr_core::literal_core::LiteralField;
-use go_expr_core::text_core::is_exported;
 use go_face_core::handle_core::{Decl, DeclSite, TypeRef, typed};
-use go_face_core::path_core::ImportPath;
-use go_face_core::table_core::{DeclaredMethod, DefinedType, StructField, TypeTable};
+use go_inline_core::table_core::{DeclaredMethod, DefinedType, StructField, TypeTable};
+use go_path_core::ImportPath;
 use go_term_core::{Field, FieldLine, TypeTerm};
+use go_text_core::is_exported;
 use std::alloc::{AllocError, Global};
 
 /// The fields of a struct type, as a type that lies over it has them.
@@ -34,7 +34,7 @@ pub(crate) struct SeenFields<'p> {
 fn is_same_id(a: &str, a_path: &ImportPath, b: &str, b_path: &ImportPath) -> bool
     ensures { result ≡ same_id a.now a_path.now b.now b_path.now }
 {
-    go_expr_core::text_core::same_id(a, a_path.as_str(), b, b_path.as_str())
+    go_text_core::same_id(a, a_path.as_str(), b, b_path.as_str())
 }
 
 // Whether a method of a type of a package has the identifier that is written in another.

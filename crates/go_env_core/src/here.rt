@@ -10,17 +10,17 @@ use crate::scene::Scene;
 use go_expr_core::denote_core::{Exported, Found, Names, Selection};
 use go_expr_core::literal_core::{LiteralField, Literals};
 use go_expr_core::operand_core::{TypeForm, TypeLooks};
-use go_expr_core::text_core::add;
 use go_expr_core::{Exprs, Fault, type_start};
 use go_face_core::Face;
 use go_face_core::handle_core::{
     Decl, SignatureRef, TypeRef, is_assignable, is_convertible, is_identical, selection, typed,
 };
 use go_face_core::select_core::EmbedPath;
-use go_face_core::table_core::TypeTable;
 use go_inline_core::local_core::Fault as LocalFault;
 use go_inline_core::names_core::OpenNames;
+use go_inline_core::table_core::TypeTable;
 use go_inline_core::{InlineType, InlineTypes};
+use go_text_core::add;
 use go_tree_nodes::TypeExpr;
 use std::alloc::{AllocError, Global};
 

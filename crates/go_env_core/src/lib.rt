@@ -21,24 +21,44 @@ pub use laws::{
 pub use meaning::Meaning;
 pub use scene::Scene;
 
-// Passed on, so that the crates above list this one alone.
-pub use go_expr_core as expr_core;
-pub use go_expr_core::{
-    constant_core as constant_core, denote_core as denote_core, literal_core as literal_core,
-    operand_core as operand_core, scan_core as scan_core, text_core as text_core,
-    tree_core as tree_core,
-};
-pub use go_face_core as face_core;
-pub use go_face_core::{
-    block_core as block_core, decide_core as decide_core, decl_core as decl_core,
-    embed_core as embed_core, entry_core as entry_core, handle_core as handle_core,
-    mset_core as mset_core, open_core as open_core, path_core as path_core,
-    select_core as select_core, settle_core as settle_core, table_core as table_core,
-    universe_core as universe_core, written_core as written_core,
-};
-pub use go_inline_core as inline_core;
-pub use go_inline_core::{
-    local_core as local_core, names_core as names_core, scope_core as scope_core,
-};
-pub use go_term_core as term_core;
-pub use go_tree_nodes as tree_nodes;
+/// What the crates above name of `go_block_core`.
+pub mod block_core {
+    pub use go_inline_core::block_core::{DeclRef, Imported};
+}
+
+/// What the crates above name of `go_entry_core`.
+pub mod entry_core {
+    pub use go_inline_core::entry_core::ImportedNames;
+}
+
+/// What the crates above name of `go_face_core`.
+pub mod face_core {
+    pub use go_face_core::{Face, FaceTable, WrittenFaces, written_faces};
+}
+
+/// What the crates above name of `go_handle_core`.
+pub mod handle_core {
+    pub use go_face_core::handle_core::{Decl, DeclSite, Home, SignatureRef, TypeRef};
+}
+
+/// What the crates above name of `go_inline_core`.
+pub mod inline_core {
+    pub use go_inline_core::{Ground, InlineTypes, function_types, initialiser_types};
+}
+
+/// What the crates above name of `go_names_core`.
+pub mod names_core {
+    pub use go_inline_core::names_core::{
+        Checker, OpenNames, check_function, header_idents, listed_idents,
+    };
+}
+
+/// What the crates above name of `go_scope_core`.
+pub mod scope_core {
+    pub use go_inline_core::scope_core::{InScope, Scopes};
+}
+
+/// What the crates above name of `go_select_core`.
+pub mod select_core {
+    pub use go_face_core::select_core::EmbedPath;
+}

@@ -2,11 +2,11 @@
 --
 -- docs/RULES.md, "Composite literals". The Go specification, "Composite literals".
 use Rattle.std.specs.Prelude.{ℕ, suc, Bool, true, false, List, [], ◌∷◌, length, Option, Some, None}
-use Rattle.go_literal_core.specs.text_core.specs.declared.rule.Rule.{Rule}
-use Rattle.go_literal_core.specs.text_core.specs.declared.rule.Rule.TheVariants.{Y4}
+use Rattle.go_text_core.specs.declared.rule.Rule.{Rule}
+use Rattle.go_text_core.specs.declared.rule.Rule.TheVariants.{Y4}
 use Rattle.go_tree_nodes.specs.declared.exprs.Key.{Key}
 use Rattle.go_tree_nodes.specs.Trees.{ItemTrees, NoItems, Item}
-use Rattle.go_literal_core.specs.denote_core.specs.declared.things.Denoted.{Denoted}
+use Rattle.go_literal_core.specs.denote_core.declared.things.Denoted.{Denoted}
 use Rattle.go_literal_core.specs.declared.things.Keys.{Keys}
 use Rattle.go_literal_core.specs.declared.things.Keys.TheVariants as keys
 use Rattle.go_literal_core.specs.declared.things.Mode.{Mode}

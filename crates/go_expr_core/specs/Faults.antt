@@ -2,15 +2,15 @@
 --
 -- docs/RULES.md, "Expressions: roles, order, faults of parts". The Go specification, "Operators", "Calls", "Composite literals".
 use Rattle.std.specs.Prelude.{ℕ, suc, Bool, true, false, List, [], ◌∷◌, ◌++◌, Option, Some, None}
-use Rattle.go_literal_core.specs.text_core.specs.declared.span.Span.{Span}
-use Rattle.go_literal_core.specs.text_core.specs.declared.rule.Rule.{Rule}
-use Rattle.go_literal_core.specs.text_core.specs.declared.rule.Rule.TheVariants.{Y3}
-use Rattle.go_scan_core.specs.declared.kind.Operator.{Operator}
+use Rattle.go_text_core.specs.declared.span.Span.{Span}
+use Rattle.go_text_core.specs.declared.rule.Rule.{Rule}
+use Rattle.go_text_core.specs.declared.rule.Rule.TheVariants.{Y3}
+use Rattle.go_token_core.specs.declared.kind.Operator.{Operator}
 use Rattle.go_tree_nodes.specs.Trees.{ExprTree, ItemTrees, Integer, Text, Named, Paren, Unary, Binary, Select, Call, Literal, StructLiteral, NoItems, Item}
-use Rattle.go_literal_core.specs.denote_core.specs.declared.things.Place.{Place}
-use Rattle.go_literal_core.specs.denote_core.specs.declared.things.Place.TheVariants as places
-use Rattle.go_literal_core.specs.denote_core.specs.declared.things.Denoted.{Denoted}
-use Rattle.go_literal_core.specs.denote_core.specs.declared.things.Denoted.TheVariants as denotes
+use Rattle.go_literal_core.specs.denote_core.declared.things.Place.{Place}
+use Rattle.go_literal_core.specs.denote_core.declared.things.Place.TheVariants as places
+use Rattle.go_literal_core.specs.denote_core.declared.things.Denoted.{Denoted}
+use Rattle.go_literal_core.specs.denote_core.declared.things.Denoted.TheVariants as denotes
 use Rattle.go_literal_core.specs.declared.things.Mode.{Mode}
 use Rattle.go_expr_core.specs.declared.things.Fault.{Fault}
 use Rattle.go_expr_core.specs.Looks.{Looks}

@@ -3,8 +3,8 @@
 -- docs/RULES.md, "Expressions: roles, order, faults of parts". The Go specification, "Struct types", "Composite literals".
 use Rattle.std.specs.Prelude.{◌≡◌, ℕ, ⊤, List, [], ◌∷◌, ◌++◌}
 use Rattle.go_tree_nodes.specs.Trees.{TypeTree, ExprTree, ItemTrees, Integer, Text, Named, Paren, Unary, Binary, Select, Call, Literal, StructLiteral, NoItems, Item}
-use Rattle.go_literal_core.specs.denote_core.specs.declared.things.Place.{Place}
-use Rattle.go_literal_core.specs.denote_core.specs.declared.things.Found.{Found}
+use Rattle.go_literal_core.specs.denote_core.declared.things.Place.{Place}
+use Rattle.go_literal_core.specs.denote_core.declared.things.Found.{Found}
 use Rattle.go_expr_core.specs.Looks.{Looks, WrittenRules}
 use Rattle.go_expr_core.specs.Denoting.{named_type, written_type, denoted}
 use Rattle.go_expr_core.specs.Laws.{idents, Agree, Same}

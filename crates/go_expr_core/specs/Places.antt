@@ -3,8 +3,8 @@
 -- docs/RULES.md, "Occurrences", "Expressions: roles, order, faults of parts". The Go specification, "Operands", "Qualified identifiers",
 -- "Selectors", "Conversions".
 use Rattle.std.specs.Prelude.{ℕ, Bool, true, false, Option, Some, None}
-use Rattle.go_scan_core.specs.declared.kind.Operator.{Operator}
-use Rattle.go_scan_core.specs.declared.kind.Operator.TheVariants as operators
+use Rattle.go_token_core.specs.declared.kind.Operator.{Operator}
+use Rattle.go_token_core.specs.declared.kind.Operator.TheVariants as operators
 use Rattle.go_tree_nodes.specs.declared.types.TypeName.{TypeName}
 use Rattle.go_tree_nodes.specs.declared.types.TypeName.TheVariants as type_names
 use Rattle.go_tree_nodes.specs.declared.exprs.Key.{Key}
@@ -13,10 +13,10 @@ use Rattle.go_tree_core.specs.declared.occurrence.Role.{Role}
 use Rattle.go_tree_core.specs.declared.occurrence.Role.TheVariants as roles
 use Rattle.go_tree_core.specs.declared.occurrence.Usage as tree_usage
 use Rattle.go_tree_core.specs.declared.occurrence.Usage.TheVariants as tree_usages
-use Rattle.go_literal_core.specs.denote_core.specs.declared.things.Place.{Place}
-use Rattle.go_literal_core.specs.denote_core.specs.declared.things.Place.TheVariants as places
-use Rattle.go_literal_core.specs.denote_core.specs.declared.things.Usage.{Usage}
-use Rattle.go_literal_core.specs.denote_core.specs.declared.things.Usage.TheVariants as usages
+use Rattle.go_literal_core.specs.denote_core.declared.things.Place.{Place}
+use Rattle.go_literal_core.specs.denote_core.declared.things.Place.TheVariants as places
+use Rattle.go_literal_core.specs.denote_core.declared.things.Usage.{Usage}
+use Rattle.go_literal_core.specs.denote_core.declared.things.Usage.TheVariants as usages
 
 -- the place of what stands in parentheses: a name in them is no qualifier
 abbrev pub inside : Place → Place

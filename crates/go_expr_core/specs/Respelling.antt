@@ -1,14 +1,14 @@
 -- A tree with another spelling of one identifier, and that this leaves what its outcome depends on as it was.
 use Rattle.std.specs.Prelude.{◌≡◌, ◌⊎◌, ℕ, List, [], ◌∷◌, Option, Some, slice_get}
-use Rattle.go_literal_core.specs.text_core.specs.declared.span.Span.{Span}
-use Rattle.go_scan_core.specs.declared.kind.Operator.{Operator}
+use Rattle.go_text_core.specs.declared.span.Span.{Span}
+use Rattle.go_token_core.specs.declared.kind.Operator.{Operator}
 use Rattle.go_tree_nodes.specs.declared.names.Ident.{Ident}
 use Rattle.go_tree_nodes.specs.declared.names.TextLiteral.{TextLiteral}
 use Rattle.go_tree_nodes.specs.declared.exprs.Key.{Key}
 use Rattle.go_tree_nodes.specs.declared.types.TypeName.{TypeName}
 use Rattle.go_tree_nodes.specs.declared.types.TypeName.TheVariants as type_names
 use Rattle.go_tree_nodes.specs.Trees.{Separated, TypeTree, FieldTrees, MethodTrees, SignatureTree, ResultTree, ParamTrees, NamedType, Pointer, ParenType, Struct, Interface, NamedFields, EmbeddedField, Method, Signed, OneResult, Results, Param, ExprTree, ItemTrees, Named, Paren, Unary, Binary, Select, Call, Literal, StructLiteral, Item}
-use Rattle.go_literal_core.specs.denote_core.specs.declared.things.Place.{Place}
+use Rattle.go_literal_core.specs.denote_core.declared.things.Place.{Place}
 use Rattle.go_expr_core.specs.Looks.{Looks}
 use Rattle.go_expr_core.specs.Uses.{Context, Spot, Identifier, CallAt, rule, role_of, made_use, spots, uses}
 

@@ -3,10 +3,10 @@
 -- h() E, two() (int, int), k(int, int) int; a variable x of type int; the predeclared int and nil. Declarations are numbers.
 use Rattle.std.specs.Prelude.{◌≡◌, ℕ, ◌+◌, Bool, true, false, List, [], ◌∷◌, Option, Some, None, codes, if◌then◌else◌}
 use Rattle.std.specs.Str.{bytes_eq}
-use Rattle.go_literal_core.specs.text_core.specs.declared.span.Span.{Span}
-use Rattle.go_literal_core.specs.text_core.specs.declared.rule.Rule.{Rule}
-use Rattle.go_literal_core.specs.text_core.specs.declared.rule.Rule.TheVariants.{N1, N6, S1, S5, C1, C2, X1, F2, F3, F4, F5, F6, F7, Y3, Y4, Y7}
-use Rattle.go_scan_core.specs.declared.kind.Operator.TheVariants as operators
+use Rattle.go_text_core.specs.declared.span.Span.{Span}
+use Rattle.go_text_core.specs.declared.rule.Rule.{Rule}
+use Rattle.go_text_core.specs.declared.rule.Rule.TheVariants.{N1, N6, S1, S5, C1, C2, X1, F2, F3, F4, F5, F6, F7, Y3, Y4, Y7}
+use Rattle.go_token_core.specs.declared.kind.Operator.TheVariants as operators
 use Rattle.go_term_core.specs.declared.term.Basic.TheVariants as basics
 use Rattle.go_tree_nodes.specs.declared.names.Ident.{Ident}
 use Rattle.go_tree_nodes.specs.declared.exprs.Key.{Key}
@@ -15,18 +15,18 @@ use Rattle.go_tree_nodes.specs.Trees.{One, NamedType, Struct, NoFields, NamedFie
 use Rattle.go_tree_core.specs.declared.occurrence.Role.{Role}
 use Rattle.go_tree_core.specs.declared.occurrence.Role.TheVariants as roles
 use Rattle.go_tree_core.specs.declared.occurrence.Usage.TheVariants as tree_usages
-use Rattle.go_literal_core.specs.operand_core.specs.declared.types.TypeForm.{TypeForm}
-use Rattle.go_literal_core.specs.operand_core.specs.declared.types.TypeForm.TheVariants as forms
-use Rattle.go_literal_core.specs.operand_core.specs.declared.types.ValueType.TheVariants as value_types
-use Rattle.go_literal_core.specs.denote_core.specs.declared.things.Place.TheVariants as places
-use Rattle.go_literal_core.specs.denote_core.specs.declared.things.Outcome.TheVariants as outcomes
-use Rattle.go_literal_core.specs.denote_core.specs.declared.things.Denoted.TheVariants as denotes
-use Rattle.go_literal_core.specs.denote_core.specs.declared.things.Found.{Found}
-use Rattle.go_literal_core.specs.denote_core.specs.declared.things.Found.TheVariants as founds
-use Rattle.go_literal_core.specs.denote_core.specs.declared.things.Exported.{Exported}
-use Rattle.go_literal_core.specs.denote_core.specs.declared.things.Exported.TheVariants as exporteds
-use Rattle.go_literal_core.specs.denote_core.specs.declared.things.Selection.{Selection}
-use Rattle.go_literal_core.specs.denote_core.specs.declared.things.Selection.TheVariants as selections
+use Rattle.go_literal_core.specs.operand_core.declared.types.TypeForm.{TypeForm}
+use Rattle.go_literal_core.specs.operand_core.declared.types.TypeForm.TheVariants as forms
+use Rattle.go_literal_core.specs.operand_core.declared.types.ValueType.TheVariants as value_types
+use Rattle.go_literal_core.specs.denote_core.declared.things.Place.TheVariants as places
+use Rattle.go_literal_core.specs.denote_core.declared.things.Outcome.TheVariants as outcomes
+use Rattle.go_literal_core.specs.denote_core.declared.things.Denoted.TheVariants as denotes
+use Rattle.go_literal_core.specs.denote_core.declared.things.Found.{Found}
+use Rattle.go_literal_core.specs.denote_core.declared.things.Found.TheVariants as founds
+use Rattle.go_literal_core.specs.denote_core.declared.things.Exported.{Exported}
+use Rattle.go_literal_core.specs.denote_core.declared.things.Exported.TheVariants as exporteds
+use Rattle.go_literal_core.specs.denote_core.declared.things.Selection.{Selection}
+use Rattle.go_literal_core.specs.denote_core.declared.things.Selection.TheVariants as selections
 use Rattle.go_literal_core.specs.Look.{FieldOf}
 use Rattle.go_expr_core.specs.declared.things.Use.{Use}
 use Rattle.go_expr_core.specs.declared.things.Fault.{Fault}

@@ -26,13 +26,27 @@ pub use things::{Fault, Notes, Use};
 pub use types::{check_signature, check_type};
 pub use walk::{check_called, check_expr, check_operand};
 
-// Passed on, so that the crates above list this one alone.
-pub use go_constant_core as constant_core;
-pub use go_literal_core as literal_core;
-pub use go_literal_core::{
-    denote_core as denote_core, operand_core as operand_core, text_core as text_core,
-};
-pub use go_scan_core as scan_core;
-pub use go_term_core as term_core;
-pub use go_tree_core as tree_core;
-pub use go_tree_nodes as tree_nodes;
+/// What the crates above name of `go_constant_core`.
+pub mod constant_core {
+    pub use go_literal_core::constant_core::Constant;
+}
+
+/// What the crates above name of `go_denote_core`.
+pub mod denote_core {
+    pub use go_literal_core::denote_core::{Builtin, Exported, Found, Names, Outcome, Selection};
+}
+
+/// What the crates above name of `go_literal_core`.
+pub mod literal_core {
+    pub use go_literal_core::{LiteralField, Literals};
+}
+
+/// What the crates above name of `go_operand_core`.
+pub mod operand_core {
+    pub use go_literal_core::operand_core::{Operand, TypeForm, TypeLooks, ValueType};
+}
+
+/// What the crates above name of `go_tree_core`.
+pub mod tree_core {
+    pub use go_tree_core::Role;
+}

@@ -6,7 +6,7 @@ ghost use Rattle.go_tree_core.specs.declared.occurrence.Role.TheVariants as role
 ghost use Rattle.go_expr_core.specs.Places as places;
 
 use go_literal_core::denote_core::{Place, Usage};
-use go_scan_core::Operator;
+use go_token_core::Operator;
 use go_tree_core::Role;
 use go_tree_nodes::{Expr, Key, TypeExpr, TypeName};
 

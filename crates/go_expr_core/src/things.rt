@@ -1,6 +1,6 @@
 //! What is noted of an expression.
 use go_literal_core::denote_core::{Denoted, Outcome};
-use go_literal_core::text_core::Rule;
+use go_text_core::Rule;
 use go_tree_core::Role;
 
 /// What an occurrence has: an identifier at its first byte, or a call at its opening parenthesis.

@@ -1,14 +1,14 @@
 //! The walk over an expression.
 ghost use Rattle.std.specs.Prelude.{◌≡◌, ◌<◌, ◌++◌, [], ◌∷◌, length, slice_set, IfOk, OnOk};
 ghost use Rattle.go_tree_core.specs.declared.occurrence.Role.TheVariants as roles;
-ghost use Rattle.go_literal_core.specs.denote_core.specs.declared.things.Place.TheVariants as stands;
+ghost use Rattle.go_literal_core.specs.denote_core.declared.things.Place.TheVariants as stands;
 ghost use Rattle.go_literal_core.specs.Literals.{literal_denotes as type_denotes};
 ghost use Rattle.go_tree_nodes.specs.Shapes.{shape, items_of, key_of};
 ghost use Rattle.go_tree_nodes.specs.TypeShapes.{shape_type};
 ghost use Rattle.go_literal_core.specs.Marks.{type_fields};
-ghost use Rattle.go_literal_core.specs.denote_core.specs.Arguments as arguments;
-ghost use Rattle.go_literal_core.specs.denote_core.specs.Calls as calls;
-ghost use Rattle.go_literal_core.specs.denote_core.specs.Look.{look_of};
+ghost use Rattle.go_literal_core.specs.denote_core.Arguments as arguments;
+ghost use Rattle.go_literal_core.specs.denote_core.Calls as calls;
+ghost use Rattle.go_literal_core.specs.denote_core.Look.{look_of};
 ghost use Rattle.go_expr_core.specs.Operators as operators;
 ghost use Rattle.go_expr_core.specs.Looks.{everywhere};
 ghost use Rattle.go_expr_core.specs.Places as places;
@@ -32,12 +32,12 @@ use crate::places::{
 };
 use crate::things::{Fault, Notes, Use};
 use crate::types::check_type;
-use go_constant_core::{Constant, ConstantText, natural};
+use go_literal_core::constant_core::{Constant, ConstantText, natural};
 use go_literal_core::denote_core::{Denoted, Place, dot_of};
 use go_literal_core::operand_core::{Operand, ValueType};
-use go_literal_core::text_core::Span;
 use go_literal_core::{KeyMark, Mode, element_target, literal_denotes, literal_mode, literal_rule};
-use go_scan_core::Operator;
+use go_text_core::Span;
+use go_token_core::Operator;
 use go_tree_nodes::{Expr, Ident, Item, Key, TextLiteral, TypeExpr, TypeName};
 use std::alloc::{AllocError, Global};
 

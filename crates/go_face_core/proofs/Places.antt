@@ -4,10 +4,10 @@ use Rattle.std.specs.Prelude.{slice_get}
 use Rattle.std.specs.List.{enumerate_from}
 use Rattle.std.specs.Option.{option_map}
 use Rattle.std.proofs.lemmas.Option.{slice_get_within}
-use Rattle.go_handle_core.specs.decl_core.specs.declared.keys.DeclRef.{DeclRef}
-use Rattle.go_handle_core.specs.decl_core.specs.TopDecls.{TopDeclTree, kind_of_form}
-use Rattle.go_block_core.specs.Blocks.{BlocksModel}
-use Rattle.go_handle_core.specs.table_core.specs.Entries.{Entry}
+use Rattle.go_term_core.specs.decl_core.declared.keys.DeclRef.{DeclRef}
+use Rattle.go_term_core.specs.decl_core.TopDecls.{TopDeclTree, kind_of_form}
+use Rattle.go_entry_core.specs.block_core.Blocks.{BlocksModel}
+use Rattle.go_handle_core.specs.table_core.Entries.{Entry}
 use Rattle.go_entry_core.specs.Entries.{decl_ref, file_at, package_meanings}
 use Rattle.go_entry_core.specs.Laws.{IsDeclared}
 use Rattle.go_entry_core.specs.Meanings.{Shows, file_meaning}

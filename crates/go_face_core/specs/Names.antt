@@ -5,8 +5,8 @@ use Rattle.go_tree_nodes.specs.declared.decls.ValueKind.{ValueKind}
 use Rattle.go_tree_nodes.specs.declared.decls.ValueKind.TheVariants as value_kinds
 use Rattle.go_tree_nodes.specs.declared.types.TypeName.{TypeName}
 use Rattle.go_tree_nodes.specs.Trees.{TypeTree}
-use Rattle.go_handle_core.specs.decl_core.specs.TopDecls.{FormTree, ValueForm, TypeForm, FuncForm}
-use Rattle.go_written_core.specs.Laws.{type_names_in, signature_names_in}
+use Rattle.go_term_core.specs.decl_core.TopDecls.{FormTree, ValueForm, TypeForm, FuncForm}
+use Rattle.go_entry_core.specs.written_core.Laws.{type_names_in, signature_names_in}
 use Rattle.go_entry_core.specs.Outlines.{FileOutline}
 
 -- a variable whose type is written

@@ -8,19 +8,19 @@ use Rattle.std.specs.Option.{option_map}
 use Rattle.go_tree_nodes.specs.declared.decls.ValueKind.{ValueKind}
 use Rattle.go_tree_nodes.specs.declared.decls.ValueKind.TheVariants as value_kinds
 use Rattle.go_tree_nodes.specs.Trees.{TypeTree}
-use Rattle.go_handle_core.specs.decl_core.specs.declared.keys.DeclKey.{DeclKey}
-use Rattle.go_handle_core.specs.decl_core.specs.declared.keys.DeclRef.{DeclRef}
-use Rattle.go_handle_core.specs.decl_core.specs.TopDecls.{TopDeclTree, FormTree, ValueForm, TypeForm, FuncForm, kind_of_form}
-use Rattle.go_block_core.specs.Blocks.{BlocksModel}
-use Rattle.go_handle_core.specs.settle_core.specs.declared.kind.Kind.{Kind}
-use Rattle.go_handle_core.specs.settle_core.specs.Settled.{kind_of_term, settled, settled_sign}
+use Rattle.go_term_core.specs.decl_core.declared.keys.DeclKey.{DeclKey}
+use Rattle.go_term_core.specs.decl_core.declared.keys.DeclRef.{DeclRef}
+use Rattle.go_term_core.specs.decl_core.TopDecls.{TopDeclTree, FormTree, ValueForm, TypeForm, FuncForm, kind_of_form}
+use Rattle.go_entry_core.specs.block_core.Blocks.{BlocksModel}
+use Rattle.go_handle_core.specs.settle_core.declared.kind.Kind.{Kind}
+use Rattle.go_handle_core.specs.settle_core.Settled.{kind_of_term, settled, settled_sign}
 use Rattle.go_term_core.specs.Terms.{Term, Defined}
-use Rattle.go_handle_core.specs.table_core.specs.Entries.{Entry, find, term_in}
-use Rattle.go_written_core.specs.Written.{InFile, Meaning, term_of, signature_of}
+use Rattle.go_handle_core.specs.table_core.Entries.{Entry, find, term_in}
+use Rattle.go_entry_core.specs.written_core.Written.{InFile, Meaning, term_of, signature_of}
 use Rattle.go_entry_core.specs.Outlines.{FileOutline}
 use Rattle.go_entry_core.specs.Entries.{Meanings, decl_ref, file_at, package_meanings, type_key}
 use Rattle.go_entry_core.specs.Meanings.{Shows}
-use Rattle.go_handle_core.specs.decide_core.specs.Rules.{typed}
+use Rattle.go_handle_core.specs.decide_core.Rules.{typed}
 use Rattle.go_face_core.specs.declared.face.Face.TheVariants as faces
 use Rattle.go_face_core.specs.Faces.{TheFace, variable_face}
 

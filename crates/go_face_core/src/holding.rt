@@ -8,9 +8,9 @@ ghost use Rattle.go_face_core.specs.Faces.{face_shown, operand_shown, value_type
 
 use crate::face::Face;
 use go_handle_core::operand_core::{Operand, ValueType};
-use go_handle_core::text_core::boxed;
 use go_handle_core::{SignatureRef, TypeRef};
 use go_term_core::{Signature, TypeTerm, copy, copy_signature};
+use go_text_core::boxed;
 use std::alloc::{AllocError, Global};
 
 // The type of pointers to a type.

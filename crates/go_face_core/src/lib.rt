@@ -27,18 +27,45 @@ pub use shown::{DeclaredFace, PackageFaces, ShownFace};
 pub use table::FaceTable;
 pub use written::WrittenFaces;
 
-// Passed on, so that the crates above list this one alone.
-pub use go_block_core as block_core;
-pub use go_constant_core as constant_core;
-pub use go_entry_core as entry_core;
-pub use go_handle_core as handle_core;
-pub use go_handle_core::{
-    decide_core as decide_core, decl_core as decl_core, denote_core as denote_core,
-    embed_core as embed_core, mset_core as mset_core, operand_core as operand_core,
-    path_core as path_core, select_core as select_core, settle_core as settle_core,
-    table_core as table_core, text_core as text_core, universe_core as universe_core,
-};
-pub use go_open_core as open_core;
-pub use go_term_core as term_core;
-pub use go_tree_nodes as tree_nodes;
-pub use go_written_core as written_core;
+/// What the crates above name of `go_block_core`.
+pub mod block_core {
+    pub use go_entry_core::block_core::{Blocks, Exports, Imported, NamedDecl};
+}
+
+/// What the crates above name of `go_constant_core`.
+pub mod constant_core {
+    pub use go_handle_core::constant_core::Constant;
+}
+
+/// What the crates above name of `go_entry_core`.
+pub mod entry_core {
+    pub use go_entry_core::ShownPackages;
+}
+
+/// What the crates above name of `go_graph_core`.
+pub mod graph_core {
+    pub use go_entry_core::graph_core::{Package, SourceFile};
+}
+
+/// What the crates above name of `go_handle_core`.
+pub mod handle_core {
+    pub use go_handle_core::{
+        Decl, DeclSite, Home, SignatureRef, TypeRef, is_assignable, is_convertible, is_identical,
+        selection, typed,
+    };
+}
+
+/// What the crates above name of `go_operand_core`.
+pub mod operand_core {
+    pub use go_handle_core::operand_core::{Operand, ValueType};
+}
+
+/// What the crates above name of `go_select_core`.
+pub mod select_core {
+    pub use go_handle_core::select_core::EmbedPath;
+}
+
+/// What the crates above name of `go_table_core`.
+pub mod table_core {
+    pub use go_handle_core::table_core::{DeclaredMethod, DefinedType, PackageTypes, TypeTable};
+}

@@ -3,18 +3,18 @@ ghost use Rattle.std.specs.Prelude.{◌≡◌, IfOk};
 ghost use Rattle.std.specs.Option.{option_map};
 ghost use Rattle.go_tree_nodes.specs.TypeShapes.{shape_type, shape_signature};
 ghost use Rattle.go_term_core.specs.Shapes.{shape, sign_of};
-ghost use Rattle.go_handle_core.specs.table_core.specs.Entries.{find};
-ghost use Rattle.go_handle_core.specs.settle_core.specs.Settled.{settled_sign};
-ghost use Rattle.go_written_core.specs.Written.{in_file, signature_of};
-ghost use Rattle.go_handle_core.specs.decide_core.specs.Conversion.{is_nothing};
-ghost use Rattle.go_handle_core.specs.decide_core.specs.Rules.{typed};
+ghost use Rattle.go_handle_core.specs.table_core.Entries.{find};
+ghost use Rattle.go_handle_core.specs.settle_core.Settled.{settled_sign};
+ghost use Rattle.go_entry_core.specs.written_core.Written.{in_file, signature_of};
+ghost use Rattle.go_handle_core.specs.decide_core.Conversion.{is_nothing};
+ghost use Rattle.go_handle_core.specs.decide_core.Rules.{typed};
 ghost use Rattle.go_face_core.specs.Written.{kinds_in, type_written};
 
+use go_entry_core::written_core::{TypeNames, WrittenIn, write_signature, write_type};
 use go_handle_core::settle_core::{settle, settle_signature};
 use go_handle_core::table_core::TypeTable;
 use go_term_core::{Signature, TypeTerm, close};
 use go_tree_nodes::TypeExpr;
-use go_written_core::{TypeNames, WrittenIn, write_signature, write_type};
 use std::alloc::{AllocError, Global};
 
 // Whether it is no type.

@@ -3,7 +3,7 @@ ghost use Rattle.std.specs.Prelude.{◌≡◌, [], OnOk, OnErr, option_copied};
 ghost use Rattle.go_face_core.specs.Packages.{package_in, with_faces};
 
 use crate::shown::PackageFaces;
-use go_handle_core::path_core::ImportPath;
+use go_path_core::ImportPath;
 use indexmap::IndexMap;
 use std::alloc::{AllocError, Global};
 use std::marker::Model;
@@ -18,7 +18,7 @@ pub struct FaceTable {
 impl Model for FaceTable {
     ghost use Rattle.std.specs.Prelude.{List};
     ghost use Rattle.std.specs.Coded.{coded_list};
-    ghost use Rattle.go_block_core.specs.Tables.{table_of};
+    ghost use Rattle.go_entry_core.specs.block_core.Tables.{table_of};
     ghost use Rattle.go_face_core.specs.Packages.{PackageFacesModel};
     ghost use Rattle.go_face_core.specs.codes.FaceCodes.{coded_package_faces};
     ghost use Rattle.go_face_core.specs.mirrors.Tables.{AreKeyed, packages_of};

@@ -7,8 +7,8 @@ ghost use Rattle.go_face_core.specs.mirrors.Ordering.{place_cmp};
 
 use crate::face::Face;
 use crate::lending::{lend_type, variable};
-use go_handle_core::decl_core::DeclRef;
 use go_handle_core::{SignatureRef, TypeRef};
+use go_term_core::decl_core::DeclRef;
 use go_term_core::{Signature, TypeTerm};
 use std::cmp::Ordering;
 use std::marker::Model;

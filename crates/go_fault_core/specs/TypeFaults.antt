@@ -9,16 +9,16 @@ use Rattle.go_tree_nodes.specs.declared.files.Receiver.{Receiver}
 use Rattle.go_tree_nodes.specs.declared.types.TypeName.{TypeName}
 use Rattle.go_tree_nodes.specs.declared.types.TypeName.TheVariants as type_names
 use Rattle.go_tree_nodes.specs.Trees.{FuncTree}
-use Rattle.go_decl_core.specs.declared.keys.DeclKey.{DeclKey}
-use Rattle.go_decl_core.specs.TopDecls.{TopDeclTree, FormTree, ValueForm, TypeForm, FuncForm}
-use Rattle.go_settle_core.specs.declared.kind.Kind.{Kind}
-use Rattle.go_settle_core.specs.Settled.{kind_of_term}
+use Rattle.go_term_core.specs.decl_core.declared.keys.DeclKey.{DeclKey}
+use Rattle.go_term_core.specs.decl_core.TopDecls.{TopDeclTree, FormTree, ValueForm, TypeForm, FuncForm}
+use Rattle.go_embed_core.specs.settle_core.declared.kind.Kind.{Kind}
+use Rattle.go_embed_core.specs.settle_core.Settled.{kind_of_term}
 use Rattle.go_term_core.specs.declared.term.MemberPlace.TheVariants as places
 use Rattle.go_term_core.specs.Terms.{Term, NoType, Predeclared, ErrorType, Defined, PointerTo, StructOf, InterfaceOf}
-use Rattle.go_table_core.specs.Entries.{Entry, find, term_in}
-use Rattle.go_type_core.specs.declared.build.TypeFault.{TypeFault}
+use Rattle.go_embed_core.specs.table_core.Entries.{Entry, find, term_in}
+use Rattle.go_embed_core.specs.type_core.declared.build.TypeFault.{TypeFault}
 use Rattle.go_embed_core.specs.Faults.{term_faults, declared_faults, hidden_faults, can_be_base}
-use Rattle.go_written_core.specs.Written.{Meaning}
+use Rattle.go_entry_core.specs.written_core.Written.{Meaning}
 use Rattle.go_entry_core.specs.Entries.{Meanings}
 use Rattle.go_entry_core.specs.Outlines.{FileOutline}
 use Rattle.go_fault_core.specs.declared.places.PackageFault.{PackageFault}

@@ -11,16 +11,22 @@ mod receivers;
 pub use entries::{WrittenTypes, type_faults};
 pub use places::PackageFault;
 
-// Passed on, so that the crates above list this one alone.
-pub use go_block_core as block_core;
-pub use go_decl_core as decl_core;
-pub use go_embed_core as embed_core;
-pub use go_entry_core as entry_core;
-pub use go_path_core as path_core;
-pub use go_settle_core as settle_core;
-pub use go_table_core as table_core;
-pub use go_term_core as term_core;
-pub use go_text_core as text_core;
-pub use go_tree_nodes as tree_nodes;
-pub use go_type_core as type_core;
-pub use go_written_core as written_core;
+/// What the crates above name of `go_block_core`.
+pub mod block_core {
+    pub use go_entry_core::block_core::{BlockFault, Blocks, Imported, NamedDecl};
+}
+
+/// What the crates above name of `go_entry_core`.
+pub mod entry_core {
+    pub use go_entry_core::{ImportedNames, outlines, type_entries};
+}
+
+/// What the crates above name of `go_graph_core`.
+pub mod graph_core {
+    pub use go_entry_core::graph_core::Package;
+}
+
+/// What the crates above name of `go_type_core`.
+pub mod type_core {
+    pub use go_embed_core::type_core::{PackageTypes, TypeTable, build_types};
+}

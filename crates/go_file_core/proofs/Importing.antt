@@ -2,8 +2,8 @@
 use Rattle.std.proofs.Common.{◌≡◌, List, [], ◌∷◌, ◌++◌, map, Bor, refl, sym, ap, ◌∙◌, append_assoc, append-nil}
 use Rattle.go_tree_nodes.specs.declared.files.ImportSpec.{ImportSpec}
 use Rattle.go_tree_nodes.specs.Trees.{ImportSpecTree}
-use Rattle.go_top_core.specs.block_core.specs.declared.imports.Imported.{Imported}
-use Rattle.go_body_core.specs.Notes.{TheUse}
+use Rattle.go_func_core.specs.block_core.declared.imports.Imported.{Imported}
+use Rattle.go_func_core.specs.body_core.Notes.{TheUse}
 use Rattle.go_file_core.specs.Imports.{import_use, imports_uses}
 use Rattle.go_file_core.specs.mirrors.Shown.{spec_shown}
 

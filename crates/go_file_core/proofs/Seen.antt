@@ -3,30 +3,30 @@
 use Rattle.std.proofs.Common.{◌≡◌, ℕ, List, [], ◌∷◌, ◌++◌, length, false, ◌<◌, Option, Some, None, refl, sym, ap, subst, arith}
 use Rattle.std.specs.List.{flat_map}
 use Rattle.std.proofs.lemmas.List.Elements.{Contains-append_left, Contains-append_right}
-use Rattle.go_top_core.specs.text_core.specs.declared.span.Span.{Span}
+use Rattle.go_text_core.specs.declared.span.Span.{Span}
 use Rattle.go_tree_nodes.specs.declared.names.Ident.{Ident}
 use Rattle.go_tree_nodes.specs.declared.decls.ValueKind.{ValueKind}
 use Rattle.go_tree_nodes.specs.declared.decls.ValueKind.TheVariants as kinds
 use Rattle.go_tree_nodes.specs.Trees.{Separated, One, Then, TypeTree, ExprTree, ValueSpecTree, TypeSpecTree, Specs, Single, Group, ValueTree, TypeDeclTree}
-use Rattle.go_top_core.specs.term_core.specs.Terms.{Term, Sign}
-use Rattle.go_body_core.specs.handle_core.specs.Declarations.{Declaration}
-use Rattle.go_top_core.specs.local_core.specs.Steps.{Spec, Condition}
-use Rattle.go_top_core.specs.denote_core.specs.declared.things.Place.TheVariants as places
-use Rattle.go_top_core.specs.expr_core.specs.Places.{start}
-use Rattle.go_top_core.specs.expr_core.specs.Faults.{fault_at}
-use Rattle.go_top_core.specs.expr_core.specs.Denoting.{named_type}
-use Rattle.go_top_core.specs.expr_core.specs.Laws.{Agree, idents}
-use Rattle.go_top_core.specs.expr_core.specs.Locality.{struct_types, SameWritten}
-use Rattle.go_top_core.specs.expr_core.proofs.Alike.{expressions_seen}
-use Rattle.go_top_core.specs.inline_core.specs.Types.{InlineOf}
-use Rattle.go_top_core.specs.inline_core.specs.Trees.{expr_types, exprs_types, values_types, some_type, spec_types, specs_types}
-use Rattle.go_top_core.specs.piece_core.specs.Laws.{SamePiece, piece_types, piece_idents}
-use Rattle.go_top_core.specs.piece_core.specs.Specifications.{spec_uses}
-use Rattle.go_top_core.specs.piece_core.proofs.Local.{pieces_local}
-use Rattle.go_body_core.specs.env_core.specs.Looks.{TheLooks, inline_rules}
+use Rattle.go_term_core.specs.Terms.{Term, Sign}
+use Rattle.go_func_core.specs.handle_core.Declarations.{Declaration}
+use Rattle.go_top_core.specs.local_core.Steps.{Spec, Condition}
+use Rattle.go_top_core.specs.denote_core.declared.things.Place.TheVariants as places
+use Rattle.go_top_core.specs.expr_core.Places.{start}
+use Rattle.go_top_core.specs.expr_core.Faults.{fault_at}
+use Rattle.go_top_core.specs.expr_core.Denoting.{named_type}
+use Rattle.go_top_core.specs.expr_core.Laws.{Agree, idents}
+use Rattle.go_top_core.specs.expr_core.Locality.{struct_types, SameWritten}
+use Rattle.go_top_core.specs.expr_core.Alike.{expressions_seen}
+use Rattle.go_top_core.specs.inline_core.Types.{InlineOf}
+use Rattle.go_top_core.specs.inline_core.Trees.{expr_types, exprs_types, values_types, some_type, spec_types, specs_types}
+use Rattle.go_top_core.specs.piece_core.Laws.{SamePiece, piece_types, piece_idents}
+use Rattle.go_top_core.specs.piece_core.Specifications.{spec_uses}
+use Rattle.go_top_core.specs.piece_core.Local.{pieces_local}
+use Rattle.go_func_core.specs.env_core.Looks.{TheLooks, inline_rules}
 use Rattle.go_top_core.specs.Initial.{initial_rule, expr_initial_faults, list_initial_faults, values_initial_faults, initial_faults}
 use Rattle.go_top_core.specs.Tops.{of_specs, top_spec_faults, value_decl_uses, value_decl_faults, type_spec_uses, type_decl_uses}
-use Rattle.go_body_core.specs.Rules.{top_looks}
+use Rattle.go_func_core.specs.body_core.Rules.{top_looks}
 use Rattle.go_func_core.specs.Stands.{FileStand, outer_looks}
 use Rattle.go_func_core.proofs.Listed.{piece_listed}
 use Rattle.go_file_core.specs.mirrors.Steps.{AreSeen}

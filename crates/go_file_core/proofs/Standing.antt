@@ -4,21 +4,21 @@ use Rattle.std.specs.Prelude.{if◌then◌else◌}
 use Rattle.std.specs.Result.{OnOk, is_ok}
 use Rattle.std.proofs.lemmas.Result.{on_ok_weaker}
 use Rattle.go_tree_nodes.specs.Trees.{FuncTree, ValueTree, TypeDeclTree}
-use Rattle.go_top_core.specs.scope_core.specs.Models.{scopes_model}
-use Rattle.go_top_core.specs.entry_core.specs.Meanings.{Shows}
-use Rattle.go_top_core.specs.names_core.specs.declared.look.OpenNames.{OpenNames}
-use Rattle.go_top_core.specs.local_core.specs.Tables.{IsFuncPlaced}
-use Rattle.go_top_core.specs.inline_core.specs.Types.{InlineOf}
-use Rattle.go_top_core.specs.inline_core.specs.Trees.{specs_types}
-use Rattle.go_top_core.specs.expr_core.specs.declared.things.Fault.{Fault}
-use Rattle.go_body_core.specs.env_core.specs.declared.here.Here.{Here}
-use Rattle.go_body_core.specs.env_core.specs.declared.meaning.Meaning.{Meaning}
-use Rattle.go_body_core.specs.env_core.specs.Scenes.{scene_shown}
-use Rattle.go_body_core.specs.env_core.specs.Looks.{here_looks, inline_rules}
+use Rattle.go_func_core.specs.scope_core.Models.{scopes_model}
+use Rattle.go_func_core.specs.entry_core.Meanings.{Shows}
+use Rattle.go_func_core.specs.names_core.declared.look.OpenNames.{OpenNames}
+use Rattle.go_top_core.specs.local_core.Tables.{IsFuncPlaced}
+use Rattle.go_top_core.specs.inline_core.Types.{InlineOf}
+use Rattle.go_top_core.specs.inline_core.Trees.{specs_types}
+use Rattle.go_top_core.specs.expr_core.declared.things.Fault.{Fault}
+use Rattle.go_func_core.specs.env_core.declared.here.Here.{Here}
+use Rattle.go_func_core.specs.env_core.declared.meaning.Meaning.{Meaning}
+use Rattle.go_func_core.specs.env_core.Scenes.{scene_shown}
+use Rattle.go_func_core.specs.env_core.Looks.{here_looks, inline_rules}
 use Rattle.go_top_core.specs.Tops.{value_decl_uses, value_decl_faults, type_decl_uses}
-use Rattle.go_body_core.specs.Notes.{TheUse}
-use Rattle.go_body_core.specs.Body.{IsGivenBody}
-use Rattle.go_body_core.proofs.Standing.{on_ok, top_standing}
+use Rattle.go_func_core.specs.body_core.Notes.{TheUse}
+use Rattle.go_func_core.specs.body_core.Body.{IsGivenBody}
+use Rattle.go_func_core.specs.body_core.Standing.{on_ok, top_standing}
 use Rattle.go_func_core.specs.Stands.{FileStand, outer_looks}
 use Rattle.go_func_core.specs.Functions.{checked_func}
 use Rattle.go_func_core.specs.Laws.{AreFuncTypes}

@@ -4,11 +4,11 @@ use denote.Ref.{Bor}
 use Rattle.go_tree_nodes.specs.declared.files.File.{File}
 use Rattle.go_tree_nodes.specs.Trees.{FileTree}
 use Rattle.go_tree_nodes.specs.Shapes.{file_of}
-use Rattle.go_top_core.specs.decl_core.specs.Outer.{IsPlaced}
-use Rattle.go_top_core.specs.block_core.specs.declared.imports.Imported.{Imported}
-use Rattle.go_top_core.specs.entry_core.specs.Meanings.{Shows}
-use Rattle.go_top_core.specs.expr_core.specs.declared.things.Fault.{Fault}
-use Rattle.go_body_core.specs.Notes.{TheUse}
+use Rattle.go_term_core.specs.decl_core.Outer.{IsPlaced}
+use Rattle.go_func_core.specs.block_core.declared.imports.Imported.{Imported}
+use Rattle.go_func_core.specs.entry_core.Meanings.{Shows}
+use Rattle.go_top_core.specs.expr_core.declared.things.Fault.{Fault}
+use Rattle.go_func_core.specs.body_core.Notes.{TheUse}
 use Rattle.go_func_core.specs.Stands.{FileStand}
 use Rattle.go_file_core.specs.declared.file_at.FileAt.{FileAt}
 use Rattle.go_file_core.specs.declared.whole.CheckedFile.{CheckedFile}

@@ -4,11 +4,11 @@
 use Rattle.std.specs.Prelude.{◌≡◌, ℕ, List, [], ◌∷◌}
 use Rattle.std.specs.List.{flat_map, AllZip}
 use Rattle.go_tree_nodes.specs.Trees.{FuncTree, DeclTree, Value, Types, Func, TopTree, FileTree}
-use Rattle.go_top_core.specs.entry_core.specs.Meanings.{Shows, file_meaning}
-use Rattle.go_top_core.specs.inline_core.specs.Types.{InlineOf}
-use Rattle.go_top_core.specs.inline_core.specs.Trees.{file_types}
-use Rattle.go_top_core.specs.inline_core.specs.Inline.{inlines}
-use Rattle.go_body_core.specs.env_core.specs.Scenes.{scene_shown}
+use Rattle.go_func_core.specs.entry_core.Meanings.{Shows, file_meaning}
+use Rattle.go_top_core.specs.inline_core.Types.{InlineOf}
+use Rattle.go_top_core.specs.inline_core.Trees.{file_types}
+use Rattle.go_top_core.specs.inline_core.Inline.{inlines}
+use Rattle.go_func_core.specs.env_core.Scenes.{scene_shown}
 use Rattle.go_func_core.specs.Stands.{FileStand, kinds_in}
 use Rattle.go_func_core.specs.Laws.{AreFuncTypes}
 use Rattle.go_file_core.specs.declared.file_at.FileAt.{FileAt}

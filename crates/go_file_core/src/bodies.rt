@@ -5,8 +5,8 @@ ghost use Rattle.go_file_core.specs.Package.{IsReady, checked_shown, files_check
 
 use crate::file_at::FileAt;
 use crate::whole::{CheckedFile, check_file};
-use go_top_core::entry_core::ImportedNames;
-use go_top_core::text_core::add;
+use go_func_core::entry_core::ImportedNames;
+use go_text_core::add;
 use go_tree_nodes::File;
 use std::alloc::{AllocError, Global};
 

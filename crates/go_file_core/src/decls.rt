@@ -1,10 +1,10 @@
 //! What the declarations of a file have and break.
 ghost use Rattle.std.specs.Prelude.{◌≡◌, ◌++◌, [], IfOk, OnOk, map};
 ghost use Rattle.go_tree_nodes.specs.Shapes.{decl_of, func_of, shape_type_decl, shape_value, top_of};
-ghost use Rattle.go_top_core.specs.local_core.specs.Tables.{IsFuncPlaced};
-ghost use Rattle.go_top_core.specs.inline_core.specs.Trees.{decl_types, specs_types};
-ghost use Rattle.go_top_core.specs.scope_core.specs.Models.{scopes_model};
-ghost use Rattle.go_body_core.specs.env_core.specs.Scenes.{scene_shown};
+ghost use Rattle.go_top_core.specs.local_core.Tables.{IsFuncPlaced};
+ghost use Rattle.go_top_core.specs.inline_core.Trees.{decl_types, specs_types};
+ghost use Rattle.go_func_core.specs.scope_core.Models.{scopes_model};
+ghost use Rattle.go_func_core.specs.env_core.Scenes.{scene_shown};
 ghost use Rattle.go_top_core.specs.Tops as tops;
 ghost use Rattle.go_func_core.specs.Stands.{outer_looks};
 ghost use Rattle.go_func_core.specs.Functions.{checked_func};
@@ -15,12 +15,12 @@ ghost use Rattle.go_file_core.specs.mirrors.Steps.{AreMade, AreSeen, HasNext, be
 
 use crate::file_at::FileAt;
 use crate::notes::FileNotes;
-use go_body_core::check_body;
-use go_body_core::env_core::{Meaning, Scene, stand};
-use go_top_core::entry_core::ImportedNames;
+use go_func_core::body_core::check_body;
+use go_func_core::entry_core::ImportedNames;
+use go_func_core::env_core::{Meaning, Scene, stand};
+use go_func_core::names_core::OpenNames;
+use go_func_core::scope_core::Scopes;
 use go_top_core::inline_core::InlineTypes;
-use go_top_core::names_core::OpenNames;
-use go_top_core::scope_core::Scopes;
 use go_top_core::{check_type_decl, check_value_decl};
 use go_tree_nodes::{Decl, FuncDecl, TopDecl, TypeDecl, ValueDecl};
 use std::alloc::{AllocError, Global};

@@ -1,18 +1,18 @@
 //! What the imports of a file have.
 ghost use Rattle.std.specs.Prelude.{◌≡◌, ◌++◌, ◌∷◌, [], IfOk, OnOk, map};
 ghost use Rattle.go_tree_nodes.specs.Shapes.{import_of, shape_import_spec, shape_import_specs};
-ghost use Rattle.go_top_core.specs.block_core.specs.Naming.{specs_in, specs_of};
+ghost use Rattle.go_func_core.specs.block_core.Naming.{specs_in, specs_of};
 ghost use Rattle.go_file_core.specs.Imports as has;
 ghost use Rattle.go_file_core.specs.mirrors.Shown.{spec_shown};
 
-use go_body_core::BodyUse;
-use go_body_core::handle_core::{Decl, DeclSite};
-use go_body_core::select_core::EmbedPath;
-use go_top_core::block_core::Imported;
+use go_func_core::block_core::Imported;
+use go_func_core::body_core::BodyUse;
+use go_func_core::handle_core::{Decl, DeclSite};
+use go_func_core::select_core::EmbedPath;
+use go_func_core::tree_core::Role;
+use go_text_core::add;
 use go_top_core::denote_core::Outcome;
 use go_top_core::expr_core::Use;
-use go_top_core::text_core::add;
-use go_top_core::tree_core::Role;
 use go_tree_nodes::{ImportDecl, ImportSpec, ImportSpecs};
 use std::alloc::{AllocError, Global};
 

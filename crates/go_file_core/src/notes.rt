@@ -1,8 +1,8 @@
 //! What is noted of a file.
 ghost use Rattle.std.specs.Prelude.{◌≡◌, []};
 
-use go_body_core::handle_core::Decl;
-use go_body_core::select_core::EmbedPath;
+use go_func_core::handle_core::Decl;
+use go_func_core::select_core::EmbedPath;
 use go_top_core::expr_core::Notes;
 use std::alloc::Global;
 

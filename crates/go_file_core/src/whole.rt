@@ -1,7 +1,7 @@
 //! The check of a file.
 ghost use Rattle.std.specs.Prelude.{◌≡◌, IfOk};
 ghost use Rattle.go_tree_nodes.specs.Shapes.{file_of};
-ghost use Rattle.go_top_core.specs.decl_core.specs.Outer.{IsPlaced};
+ghost use Rattle.go_term_core.specs.decl_core.Outer.{IsPlaced};
 ghost use Rattle.go_file_core.specs.Files.{file_uses, file_faults};
 ghost use Rattle.go_file_core.specs.Stands.{AreInitialTypes, AreFunctionTypes, stand_of};
 
@@ -9,8 +9,8 @@ use crate::decls::check_decls;
 use crate::file_at::FileAt;
 use crate::imports::add_imports;
 use crate::notes::nothing;
-use go_body_core::BodyUse;
-use go_top_core::entry_core::ImportedNames;
+use go_func_core::body_core::BodyUse;
+use go_func_core::entry_core::ImportedNames;
 use go_top_core::expr_core::{Fault, Notes};
 use go_tree_nodes::File;
 use std::alloc::{AllocError, Global};

@@ -1,36 +1,36 @@
 -- Where the names of a piece mean the same, the types that it writes are the same, and the rules of a function say the same of it.
 use Rattle.std.proofs.Common.{◌≡◌, ℕ, List, [], ◌∷◌, Option, Some, None, refl, sym, ap, subst, ◌∙◌}
 use Rattle.std.specs.Prelude.{if◌then◌else◌}
-use Rattle.go_body_core.specs.text_core.proofs.Each.{Each}
-use Rattle.go_body_core.specs.text_core.specs.declared.span.Span.{Span}
-use Rattle.go_body_core.specs.tree_nodes.specs.Terminals.{Terminal, TerminalKind, Spelled, Number, Quoted, Word, Mark, Stray}
-use Rattle.go_body_core.specs.tree_nodes.specs.Trees.{TypeTree, FuncTree}
-use Rattle.go_body_core.specs.decl_core.specs.declared.keys.DeclKey.{DeclKey}
-use Rattle.go_body_core.specs.term_core.specs.Terms.{Term, Sign, NoType}
-use Rattle.go_body_core.specs.settle_core.specs.declared.kind.Kind.{Kind}
-use Rattle.go_body_core.specs.written_core.specs.Written as types
-use Rattle.go_body_core.specs.written_core.specs.Written.{InFile}
-use Rattle.go_body_core.specs.handle_core.specs.Declarations.{Declaration}
-use Rattle.go_body_core.specs.local_core.specs.Steps.{Piece, spell_piece}
-use Rattle.go_body_core.specs.local_core.specs.Binding.{Look}
-use Rattle.go_body_core.specs.local_core.specs.Alike.{Alike, AlikeAt, LookAtNames}
-use Rattle.go_body_core.specs.names_core.specs.Uses.{place_of}
-use Rattle.go_body_core.specs.expr_core.specs.Locality.{SameWritten}
-use Rattle.go_body_core.specs.inline_core.specs.declared.scoped.Scoped.{Scoped}
-use Rattle.go_body_core.specs.inline_core.specs.declared.scoped.Scoped.TheVariants as scoped
-use Rattle.go_body_core.specs.inline_core.specs.Types.{InlineOf}
-use Rattle.go_body_core.specs.inline_core.specs.Trees as inline
-use Rattle.go_body_core.specs.inline_core.specs.Inline.{inline_of, inlines}
-use Rattle.go_body_core.specs.inline_core.specs.Functions.{looked_up, is_local, meaning_in}
-use Rattle.go_body_core.specs.inline_core.specs.mirrors.Alike.{inlines_alike}
-use Rattle.go_body_core.specs.piece_core.specs.Pieces.{piece_names}
-use Rattle.go_body_core.specs.piece_core.specs.Headers.{returned_types, returned_names}
-use Rattle.go_body_core.specs.piece_core.specs.Laws.{FindByNames}
-use Rattle.go_body_core.specs.piece_core.proofs.Shown.{pieces_look}
-use Rattle.go_body_core.specs.env_core.specs.declared.meaning.Meaning.{Meaning}
-use Rattle.go_body_core.specs.env_core.specs.declared.meaning.Meaning.TheVariants as meanings
-use Rattle.go_body_core.specs.env_core.specs.Found.{found_of}
-use Rattle.go_body_core.specs.env_core.specs.Looks.{inline_type, inline_faults}
+use Rattle.go_text_core.proofs.Each.{Each}
+use Rattle.go_text_core.specs.declared.span.Span.{Span}
+use Rattle.go_tree_nodes.specs.Terminals.{Terminal, TerminalKind, Spelled, Number, Quoted, Word, Mark, Stray}
+use Rattle.go_tree_nodes.specs.Trees.{TypeTree, FuncTree}
+use Rattle.go_term_core.specs.decl_core.declared.keys.DeclKey.{DeclKey}
+use Rattle.go_term_core.specs.Terms.{Term, Sign, NoType}
+use Rattle.go_body_core.specs.settle_core.declared.kind.Kind.{Kind}
+use Rattle.go_body_core.specs.written_core.Written as types
+use Rattle.go_body_core.specs.written_core.Written.{InFile}
+use Rattle.go_body_core.specs.handle_core.Declarations.{Declaration}
+use Rattle.go_body_core.specs.local_core.Steps.{Piece, spell_piece}
+use Rattle.go_body_core.specs.local_core.Binding.{Look}
+use Rattle.go_body_core.specs.local_core.Alike.{Alike, AlikeAt, LookAtNames}
+use Rattle.go_body_core.specs.names_core.Uses.{place_of}
+use Rattle.go_body_core.specs.expr_core.Locality.{SameWritten}
+use Rattle.go_body_core.specs.inline_core.declared.scoped.Scoped.{Scoped}
+use Rattle.go_body_core.specs.inline_core.declared.scoped.Scoped.TheVariants as scoped
+use Rattle.go_body_core.specs.inline_core.Types.{InlineOf}
+use Rattle.go_body_core.specs.inline_core.Trees as inline
+use Rattle.go_body_core.specs.inline_core.Inline.{inline_of, inlines}
+use Rattle.go_body_core.specs.inline_core.Functions.{looked_up, is_local, meaning_in}
+use Rattle.go_body_core.specs.inline_core.mirrors.Alike.{inlines_alike}
+use Rattle.go_body_core.specs.piece_core.Pieces.{piece_names}
+use Rattle.go_body_core.specs.piece_core.Headers.{returned_types, returned_names}
+use Rattle.go_body_core.specs.piece_core.Laws.{FindByNames}
+use Rattle.go_body_core.specs.piece_core.Shown.{pieces_look}
+use Rattle.go_body_core.specs.env_core.declared.meaning.Meaning.{Meaning}
+use Rattle.go_body_core.specs.env_core.declared.meaning.Meaning.TheVariants as meanings
+use Rattle.go_body_core.specs.env_core.Found.{found_of}
+use Rattle.go_body_core.specs.env_core.Looks.{inline_type, inline_faults}
 use Rattle.go_body_core.specs.Notes.{NoteOf, note}
 use Rattle.go_body_core.specs.Rules.{value_at}
 use Rattle.go_func_core.specs.Types.{is_inside, named_where}

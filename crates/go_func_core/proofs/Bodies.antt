@@ -1,32 +1,32 @@
 -- What is given of a function by a table of its types is what it has with each type as it is written.
 use Rattle.std.proofs.Common.{◌≡◌, ℕ, Bool, List, [], ◌∷◌, map, Option, Some, Contains, refl, sym, ap, subst, ◌∙◌}
 use Rattle.std.proofs.lemmas.List.Elements.{Contains-append_left, Contains-append_right, Contains-push}
-use Rattle.go_body_core.specs.text_core.proofs.Each.{Each}
-use Rattle.go_body_core.specs.tree_nodes.specs.declared.names.Ident.{Ident}
-use Rattle.go_body_core.specs.tree_nodes.specs.Trees.{TypeTree, FuncTree}
-use Rattle.go_body_core.specs.term_core.specs.Terms.{Term, Sign}
-use Rattle.go_body_core.specs.handle_core.specs.Declarations.{Declaration}
-use Rattle.go_body_core.specs.denote_core.specs.declared.things.Found.{Found}
-use Rattle.go_body_core.specs.local_core.specs.Steps.{Piece, Header, Steps, Done, Check, Declare, Inner}
-use Rattle.go_body_core.specs.local_core.specs.Outline.{func_steps, func_opens}
-use Rattle.go_body_core.specs.local_core.specs.Binding.{Local, Look, bound, is_first}
-use Rattle.go_body_core.specs.local_core.specs.Law.{Rules}
-use Rattle.go_body_core.specs.local_core.specs.Tables.{IsFuncPlaced, walked, given}
-use Rattle.go_body_core.specs.local_core.proofs.Tables.{one_table}
-use Rattle.go_body_core.specs.names_core.specs.Uses.{place_of}
-use Rattle.go_body_core.specs.expr_core.specs.Laws.{Agree}
-use Rattle.go_body_core.specs.expr_core.specs.Locality.{SameWritten}
-use Rattle.go_body_core.specs.inline_core.specs.Types.{InlineOf}
-use Rattle.go_body_core.specs.inline_core.specs.Trees as inline
-use Rattle.go_body_core.specs.inline_core.specs.Inline.{inline_of}
-use Rattle.go_body_core.specs.inline_core.proofs.ByIntervals.{steps_types, func_all}
-use Rattle.go_body_core.specs.piece_core.specs.Pieces.{piece_uses, piece_faults, piece_names}
-use Rattle.go_body_core.specs.piece_core.specs.Headers.{returned_types, returned_names}
-use Rattle.go_body_core.specs.piece_core.specs.Laws.{SamePiece, piece_idents}
-use Rattle.go_body_core.specs.piece_core.proofs.Local.{pieces_local}
-use Rattle.go_body_core.specs.env_core.specs.declared.meaning.Meaning.{Meaning}
-use Rattle.go_body_core.specs.env_core.specs.declared.meaning.Meaning.TheVariants as meanings
-use Rattle.go_body_core.specs.env_core.specs.Looks.{TheLooks, looks_in, inline_rules, inline_type, inline_faults}
+use Rattle.go_text_core.proofs.Each.{Each}
+use Rattle.go_tree_nodes.specs.declared.names.Ident.{Ident}
+use Rattle.go_tree_nodes.specs.Trees.{TypeTree, FuncTree}
+use Rattle.go_term_core.specs.Terms.{Term, Sign}
+use Rattle.go_body_core.specs.handle_core.Declarations.{Declaration}
+use Rattle.go_body_core.specs.denote_core.declared.things.Found.{Found}
+use Rattle.go_body_core.specs.local_core.Steps.{Piece, Header, Steps, Done, Check, Declare, Inner}
+use Rattle.go_body_core.specs.local_core.Outline.{func_steps, func_opens}
+use Rattle.go_body_core.specs.local_core.Binding.{Local, Look, bound, is_first}
+use Rattle.go_body_core.specs.local_core.Law.{Rules}
+use Rattle.go_body_core.specs.local_core.Tables.{IsFuncPlaced, walked, given}
+use Rattle.go_body_core.specs.local_core.TablesProofs.{one_table}
+use Rattle.go_body_core.specs.names_core.Uses.{place_of}
+use Rattle.go_body_core.specs.expr_core.Laws.{Agree}
+use Rattle.go_body_core.specs.expr_core.Locality.{SameWritten}
+use Rattle.go_body_core.specs.inline_core.Types.{InlineOf}
+use Rattle.go_body_core.specs.inline_core.Trees as inline
+use Rattle.go_body_core.specs.inline_core.Inline.{inline_of}
+use Rattle.go_body_core.specs.inline_core.ByIntervals.{steps_types, func_all}
+use Rattle.go_body_core.specs.piece_core.Pieces.{piece_uses, piece_faults, piece_names}
+use Rattle.go_body_core.specs.piece_core.Headers.{returned_types, returned_names}
+use Rattle.go_body_core.specs.piece_core.Laws.{SamePiece, piece_idents}
+use Rattle.go_body_core.specs.piece_core.Local.{pieces_local}
+use Rattle.go_body_core.specs.env_core.declared.meaning.Meaning.{Meaning}
+use Rattle.go_body_core.specs.env_core.declared.meaning.Meaning.TheVariants as meanings
+use Rattle.go_body_core.specs.env_core.Looks.{TheLooks, looks_in, inline_rules, inline_type, inline_faults}
 use Rattle.go_body_core.specs.Agreement.{AreAlike}
 use Rattle.go_body_core.specs.Notes.{NoteOf, note}
 use Rattle.go_body_core.specs.Rules as body

@@ -1,13 +1,13 @@
 -- The types that a piece writes, as they are listed to be made and as a piece is judged by them, and where they begin.
 use Rattle.std.proofs.Common.{◌≡◌, ◌++◌, ◌∷◌, Option, Some, None, refl, ap, ◌∙◌}
-use Rattle.go_body_core.specs.text_core.specs.declared.span.Span.{Span}
-use Rattle.go_body_core.specs.tree_nodes.specs.declared.types.TypeName.TheVariants as type_names
-use Rattle.go_body_core.specs.tree_nodes.specs.Trees.{Separated, One, Then, TypeTree, NamedType, Pointer, ParenType, Struct, Interface, SignatureTree, ResultTree, ParamTrees, Signed, NoResult, OneResult, Results, NoParams, Param, ExprTree, ItemTrees, Integer, Text, Named, Paren, Unary, Binary, Select, Call, Literal, StructLiteral, NoItems, Item, SimpleTree, Alone, Step, Assign, Update, Define}
-use Rattle.go_body_core.specs.local_core.specs.Steps.{Piece, Header, Spec, Act, Condition, Given}
-use Rattle.go_body_core.specs.expr_core.specs.Locality.{struct_types, struct_types_in}
-use Rattle.go_body_core.specs.expr_core.specs.Places as places
-use Rattle.go_body_core.specs.inline_core.specs.Trees as inline
-use Rattle.go_body_core.specs.piece_core.specs.Laws as pieces
+use Rattle.go_text_core.specs.declared.span.Span.{Span}
+use Rattle.go_tree_nodes.specs.declared.types.TypeName.TheVariants as type_names
+use Rattle.go_tree_nodes.specs.Trees.{Separated, One, Then, TypeTree, NamedType, Pointer, ParenType, Struct, Interface, SignatureTree, ResultTree, ParamTrees, Signed, NoResult, OneResult, Results, NoParams, Param, ExprTree, ItemTrees, Integer, Text, Named, Paren, Unary, Binary, Select, Call, Literal, StructLiteral, NoItems, Item, SimpleTree, Alone, Step, Assign, Update, Define}
+use Rattle.go_body_core.specs.local_core.Steps.{Piece, Header, Spec, Act, Condition, Given}
+use Rattle.go_body_core.specs.expr_core.Locality.{struct_types, struct_types_in}
+use Rattle.go_body_core.specs.expr_core.Places as places
+use Rattle.go_body_core.specs.inline_core.Trees as inline
+use Rattle.go_body_core.specs.piece_core.Laws as pieces
 
 pub starts_alike : (t : TypeTree) → places.type_start t ≡ inline.type_start t
 starts_alike (NamedType (type_names.Plain x)) = refl

@@ -2,18 +2,18 @@
 use Rattle.std.proofs.Common.{◌≡◌, ℕ, true, List, [], ◌∷◌, ◌++◌, map, refl, sym, ap, ◌∙◌, append-nil}
 use Rattle.std.specs.List.{flat_map}
 use Rattle.std.proofs.lemmas.List.{map-append}
-use Rattle.go_body_core.specs.tree_nodes.specs.Trees.{FuncTree}
-use Rattle.go_body_core.specs.tree_core.specs.declared.occurrence.Role.{Role}
-use Rattle.go_body_core.specs.term_core.specs.Terms.{Term, Sign}
-use Rattle.go_body_core.specs.handle_core.specs.Declarations.{Declaration}
-use Rattle.go_body_core.specs.local_core.specs.Steps.{Piece, Header, Spec, Act, Condition, Given, Steps, Done, Check, Declare, Inner}
-use Rattle.go_body_core.specs.local_core.specs.Outline.{func_steps, func_opens, func_closes}
-use Rattle.go_body_core.specs.expr_core.specs.Laws.{use_place, occurrence_place}
-use Rattle.go_body_core.specs.piece_core.specs.Pieces.{piece_uses}
-use Rattle.go_body_core.specs.piece_core.specs.Laws.{piece_occs, steps_occs}
-use Rattle.go_body_core.specs.piece_core.proofs.Occurring.{pieces_occur}
-use Rattle.go_body_core.specs.env_core.specs.declared.meaning.Meaning.{Meaning}
-use Rattle.go_body_core.specs.env_core.specs.Looks.{TheLooks}
+use Rattle.go_tree_nodes.specs.Trees.{FuncTree}
+use Rattle.go_body_core.specs.tree_core.declared.occurrence.Role.{Role}
+use Rattle.go_term_core.specs.Terms.{Term, Sign}
+use Rattle.go_body_core.specs.handle_core.Declarations.{Declaration}
+use Rattle.go_body_core.specs.local_core.Steps.{Piece, Header, Spec, Act, Condition, Given, Steps, Done, Check, Declare, Inner}
+use Rattle.go_body_core.specs.local_core.Outline.{func_steps, func_opens, func_closes}
+use Rattle.go_body_core.specs.expr_core.Laws.{use_place, occurrence_place}
+use Rattle.go_body_core.specs.piece_core.Pieces.{piece_uses}
+use Rattle.go_body_core.specs.piece_core.Laws.{piece_occs, steps_occs}
+use Rattle.go_body_core.specs.piece_core.Occurring.{pieces_occur}
+use Rattle.go_body_core.specs.env_core.declared.meaning.Meaning.{Meaning}
+use Rattle.go_body_core.specs.env_core.Looks.{TheLooks}
 use Rattle.go_body_core.specs.Notes.{NoteOf, all_uses}
 use Rattle.go_body_core.specs.Pieces.{of_pieces}
 use Rattle.go_body_core.specs.WellFormed.{IsOfGrammar}

@@ -1,11 +1,11 @@
 -- What a function returns has the types that its table has, since no local of the function is seen in its header.
 use Rattle.std.proofs.Common.{◌≡◌, true, List, [], ◌∷◌, ◌++◌, refl, ap, ◌∙◌}
-use Rattle.go_body_core.specs.text_core.proofs.Each.{Each}
-use Rattle.go_body_core.specs.tree_nodes.specs.Trees.{TypeTree, SignatureTree, ResultTree, ParamTrees, Signed, NoResult, OneResult, Results, NoParams, Param}
-use Rattle.go_body_core.specs.expr_core.specs.Denoting.{written_type}
-use Rattle.go_body_core.specs.inline_core.specs.Trees as inline
-use Rattle.go_body_core.specs.piece_core.specs.Headers.{of_entry, entry_types, result_types, returned_types}
-use Rattle.go_body_core.specs.env_core.specs.Looks.{TheLooks}
+use Rattle.go_text_core.proofs.Each.{Each}
+use Rattle.go_tree_nodes.specs.Trees.{TypeTree, SignatureTree, ResultTree, ParamTrees, Signed, NoResult, OneResult, Results, NoParams, Param}
+use Rattle.go_body_core.specs.expr_core.Denoting.{written_type}
+use Rattle.go_body_core.specs.inline_core.Trees as inline
+use Rattle.go_body_core.specs.piece_core.Headers.{of_entry, entry_types, result_types, returned_types}
+use Rattle.go_body_core.specs.env_core.Looks.{TheLooks}
 
 pub each_left : {A : Type 0} (P : A → Type 0) (xs ys : List A) → Each P (xs ++ ys) → Each P xs
 each_left P [] ys h = tt

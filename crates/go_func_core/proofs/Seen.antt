@@ -1,22 +1,22 @@
 -- What a table of types has at the first byte of a type is what the type's names make it where they stand.
 use Rattle.std.proofs.Common.{◌≡◌, ℕ, List, Some, Contains, refl, sym, ap, ◌∙◌}
 use Rattle.std.specs.Prelude.{if◌then◌else◌}
-use Rattle.go_body_core.specs.tree_nodes.specs.declared.types.TypeName.{TypeName}
-use Rattle.go_body_core.specs.tree_nodes.specs.Trees.{TypeTree, FuncTree}
-use Rattle.go_body_core.specs.term_core.specs.Terms.{NoType}
-use Rattle.go_body_core.specs.written_core.specs.Written as types
-use Rattle.go_body_core.specs.local_core.specs.Binding.{Local, Look, bound}
-use Rattle.go_body_core.specs.local_core.specs.Tables.{IsFuncPlaced}
-use Rattle.go_body_core.specs.expr_core.specs.Places as places
-use Rattle.go_body_core.specs.inline_core.specs.Types.{InlineOf, inline_at}
-use Rattle.go_body_core.specs.inline_core.specs.Trees.{type_start, func_types}
-use Rattle.go_body_core.specs.inline_core.specs.Inline.{inline_of, inlines}
-use Rattle.go_body_core.specs.inline_core.specs.Functions.{looked_up}
-use Rattle.go_body_core.specs.inline_core.specs.Hiding.{meaning_beside}
-use Rattle.go_body_core.specs.inline_core.proofs.Found.{types_are_found}
-use Rattle.go_body_core.specs.inline_core.proofs.Tellings.{any_table_tells}
-use Rattle.go_body_core.specs.env_core.specs.declared.meaning.Meaning.{Meaning}
-use Rattle.go_body_core.specs.env_core.specs.Looks.{inline_type, inline_faults, inline_rules}
+use Rattle.go_tree_nodes.specs.declared.types.TypeName.{TypeName}
+use Rattle.go_tree_nodes.specs.Trees.{TypeTree, FuncTree}
+use Rattle.go_term_core.specs.Terms.{NoType}
+use Rattle.go_body_core.specs.written_core.Written as types
+use Rattle.go_body_core.specs.local_core.Binding.{Local, Look, bound}
+use Rattle.go_body_core.specs.local_core.Tables.{IsFuncPlaced}
+use Rattle.go_body_core.specs.expr_core.Places as places
+use Rattle.go_body_core.specs.inline_core.Types.{InlineOf, inline_at}
+use Rattle.go_body_core.specs.inline_core.Trees.{type_start, func_types}
+use Rattle.go_body_core.specs.inline_core.Inline.{inline_of, inlines}
+use Rattle.go_body_core.specs.inline_core.Functions.{looked_up}
+use Rattle.go_body_core.specs.inline_core.Hiding.{meaning_beside}
+use Rattle.go_body_core.specs.inline_core.Found.{types_are_found}
+use Rattle.go_body_core.specs.inline_core.Tellings.{any_table_tells}
+use Rattle.go_body_core.specs.env_core.declared.meaning.Meaning.{Meaning}
+use Rattle.go_body_core.specs.env_core.Looks.{inline_type, inline_faults, inline_rules}
 use Rattle.go_body_core.specs.Notes.{NoteOf}
 use Rattle.go_func_core.specs.Types.{named_where}
 use Rattle.go_func_core.specs.Stands.{FileStand, kinds_in, types_where, outer_names, outer_look}

@@ -2,16 +2,16 @@
 --
 -- docs/RULES.md, "Bodies of functions", "Types inside functions". The Go specification, "Blocks", "Declarations and scope", "Types", "Statements".
 use Rattle.std.specs.Prelude.{Bool, List, [], ◌∷◌, Option}
-use Rattle.go_body_core.specs.tree_nodes.specs.Trees.{FuncTree}
-use Rattle.go_body_core.specs.term_core.specs.Terms.{Term}
-use Rattle.go_body_core.specs.local_core.specs.Binding.{Local}
-use Rattle.go_body_core.specs.local_core.specs.Law.{Rules, Out}
-use Rattle.go_body_core.specs.local_core.specs.Tables.{walked, given, IsTable}
-use Rattle.go_body_core.specs.names_core.specs.Uses.{place_of}
-use Rattle.go_body_core.specs.piece_core.specs.Pieces.{piece_uses, piece_faults, piece_values, piece_names}
-use Rattle.go_body_core.specs.piece_core.specs.Headers.{returned_types, returned_names}
-use Rattle.go_body_core.specs.env_core.specs.declared.meaning.Meaning.{Meaning}
-use Rattle.go_body_core.specs.env_core.specs.declared.meaning.Meaning.TheVariants as meanings
+use Rattle.go_tree_nodes.specs.Trees.{FuncTree}
+use Rattle.go_term_core.specs.Terms.{Term}
+use Rattle.go_body_core.specs.local_core.Binding.{Local}
+use Rattle.go_body_core.specs.local_core.Law.{Rules, Out}
+use Rattle.go_body_core.specs.local_core.Tables.{walked, given, IsTable}
+use Rattle.go_body_core.specs.names_core.Uses.{place_of}
+use Rattle.go_body_core.specs.piece_core.Pieces.{piece_uses, piece_faults, piece_values, piece_names}
+use Rattle.go_body_core.specs.piece_core.Headers.{returned_types, returned_names}
+use Rattle.go_body_core.specs.env_core.declared.meaning.Meaning.{Meaning}
+use Rattle.go_body_core.specs.env_core.declared.meaning.Meaning.TheVariants as meanings
 use Rattle.go_body_core.specs.Notes.{NoteOf, note}
 use Rattle.go_body_core.specs.Rules.{value_at}
 use Rattle.go_body_core.specs.Body.{BodyOf, body_of}

@@ -2,20 +2,20 @@
 --
 -- docs/RULES.md, "Types inside functions", "Bodies of functions". The Go specification, "Declarations and scope", "Types".
 use Rattle.std.specs.Prelude.{ℕ, List, Option, Some}
-use Rattle.go_body_core.specs.decl_core.specs.declared.keys.DeclKey.{DeclKey}
-use Rattle.go_body_core.specs.term_core.specs.Terms.{Term}
-use Rattle.go_body_core.specs.settle_core.specs.declared.kind.Kind.{Kind}
-use Rattle.go_body_core.specs.settle_core.specs.Settled.{kind_of_term}
-use Rattle.go_body_core.specs.table_core.specs.Entries.{find, term_in}
-use Rattle.go_body_core.specs.written_core.specs.Written as types
-use Rattle.go_body_core.specs.written_core.specs.Written.{InFile}
-use Rattle.go_body_core.specs.local_core.specs.Binding.{Look}
-use Rattle.go_body_core.specs.expr_core.specs.Looks.{WrittenRules}
-use Rattle.go_body_core.specs.inline_core.specs.Inline.{inline_of}
-use Rattle.go_body_core.specs.face_core.specs.Faces.{TheFace}
-use Rattle.go_body_core.specs.env_core.specs.declared.meaning.Meaning.{Meaning}
-use Rattle.go_body_core.specs.env_core.specs.Scenes.{SceneModel}
-use Rattle.go_body_core.specs.env_core.specs.Looks.{TheLooks, looks_in, inline_type, inline_faults}
+use Rattle.go_term_core.specs.decl_core.declared.keys.DeclKey.{DeclKey}
+use Rattle.go_term_core.specs.Terms.{Term}
+use Rattle.go_body_core.specs.settle_core.declared.kind.Kind.{Kind}
+use Rattle.go_body_core.specs.settle_core.Settled.{kind_of_term}
+use Rattle.go_body_core.specs.table_core.Entries.{find, term_in}
+use Rattle.go_body_core.specs.written_core.Written as types
+use Rattle.go_body_core.specs.written_core.Written.{InFile}
+use Rattle.go_body_core.specs.local_core.Binding.{Look}
+use Rattle.go_body_core.specs.expr_core.Looks.{WrittenRules}
+use Rattle.go_body_core.specs.inline_core.Inline.{inline_of}
+use Rattle.go_body_core.specs.face_core.Faces.{TheFace}
+use Rattle.go_body_core.specs.env_core.declared.meaning.Meaning.{Meaning}
+use Rattle.go_body_core.specs.env_core.Scenes.{SceneModel}
+use Rattle.go_body_core.specs.env_core.Looks.{TheLooks, looks_in, inline_type, inline_faults}
 use Rattle.go_body_core.specs.Rules.{outside_in}
 use Rattle.go_func_core.specs.Types.{named_where}
 

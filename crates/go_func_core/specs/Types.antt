@@ -2,12 +2,12 @@
 --
 -- docs/RULES.md, "Types inside functions". The Go specification, "Types", "Declarations and scope".
 use Rattle.std.specs.Prelude.{Bool, true, false, Option, Some, None, if◌then◌else◌}
-use Rattle.go_body_core.specs.term_core.specs.Terms.{NoType}
-use Rattle.go_body_core.specs.written_core.specs.Written as types
-use Rattle.go_body_core.specs.local_core.specs.Binding.{Look}
-use Rattle.go_body_core.specs.inline_core.specs.Functions.{looked_up}
-use Rattle.go_body_core.specs.env_core.specs.declared.meaning.Meaning.{Meaning}
-use Rattle.go_body_core.specs.env_core.specs.declared.meaning.Meaning.TheVariants as meanings
+use Rattle.go_term_core.specs.Terms.{NoType}
+use Rattle.go_body_core.specs.written_core.Written as types
+use Rattle.go_body_core.specs.local_core.Binding.{Look}
+use Rattle.go_body_core.specs.inline_core.Functions.{looked_up}
+use Rattle.go_body_core.specs.env_core.declared.meaning.Meaning.{Meaning}
+use Rattle.go_body_core.specs.env_core.declared.meaning.Meaning.TheVariants as meanings
 
 -- whether a name means a local of the function
 abbrev pub is_inside : Option Meaning → Bool

@@ -3,32 +3,32 @@
 --
 -- docs/RULES.md, "Types inside functions", "Bodies of functions". The Go specification, "Declarations and scope".
 use Rattle.std.specs.Prelude.{◌≡◌, ℕ, suc, false, List, [], ◌∷◌, map, Some, None, codes}
-use Rattle.go_body_core.specs.text_core.specs.declared.span.Span.{Span}
-use Rattle.go_body_core.specs.text_core.specs.declared.rule.Rule.TheVariants.{N6}
-use Rattle.go_body_core.specs.universe_core.specs.declared.Predeclared.TheVariants as predeclared
-use Rattle.go_body_core.specs.tree_nodes.specs.declared.names.Ident.{Ident}
-use Rattle.go_body_core.specs.tree_nodes.specs.declared.types.TypeName.TheVariants as type_name
-use Rattle.go_body_core.specs.tree_nodes.specs.declared.decls.ValueKind.TheVariants as kinds
-use Rattle.go_body_core.specs.tree_nodes.specs.Trees as tree
-use Rattle.go_body_core.specs.tree_nodes.specs.Trees.{One, TypeTree, NamedType, Struct, NoFields, NamedFields, Signed, OneResult, NoParams, Param, Named, ValueSpecTree, Single, Lines, Return, NoLines, Line, FuncTree}
-use Rattle.go_body_core.specs.tree_core.specs.declared.occurrence.Role.{Role}
-use Rattle.go_body_core.specs.tree_core.specs.declared.occurrence.Role.TheVariants as roles
-use Rattle.go_body_core.specs.decl_core.specs.declared.places.DeclKind.TheVariants as decl_kind
-use Rattle.go_body_core.specs.decl_core.specs.declared.keys.DeclRef.{DeclRef}
-use Rattle.go_body_core.specs.decl_core.specs.declared.keys.DeclKey.{DeclKey}
-use Rattle.go_body_core.specs.block_core.specs.Blocks.{BlocksModel, blocks_model}
-use Rattle.go_body_core.specs.term_core.specs.declared.term.Basic.TheVariants as basics
-use Rattle.go_body_core.specs.term_core.specs.declared.term.MemberPlace.{MemberPlace}
-use Rattle.go_body_core.specs.term_core.specs.declared.term.MemberPlace.TheVariants as places
-use Rattle.go_body_core.specs.term_core.specs.Terms.{NoType, Predeclared, Defined, StructOf, NoField, AField}
-use Rattle.go_body_core.specs.entry_core.specs.Meanings.{file_meaning}
-use Rattle.go_body_core.specs.denote_core.specs.declared.things.Outcome.{Outcome}
-use Rattle.go_body_core.specs.denote_core.specs.declared.things.Outcome.TheVariants as outcomes
-use Rattle.go_body_core.specs.handle_core.specs.Declarations.{Declaration, Universe, InFile}
-use Rattle.go_body_core.specs.face_core.specs.declared.face.Face.TheVariants as faces
-use Rattle.go_body_core.specs.piece_core.specs.Values.{variable}
-use Rattle.go_body_core.specs.env_core.specs.declared.meaning.Meaning.{Meaning}
-use Rattle.go_body_core.specs.env_core.specs.declared.meaning.Meaning.TheVariants as meanings
+use Rattle.go_text_core.specs.declared.span.Span.{Span}
+use Rattle.go_text_core.specs.declared.rule.Rule.TheVariants.{N6}
+use Rattle.go_universe_core.specs.declared.Predeclared.TheVariants as predeclared
+use Rattle.go_tree_nodes.specs.declared.names.Ident.{Ident}
+use Rattle.go_tree_nodes.specs.declared.types.TypeName.TheVariants as type_name
+use Rattle.go_tree_nodes.specs.declared.decls.ValueKind.TheVariants as kinds
+use Rattle.go_tree_nodes.specs.Trees as tree
+use Rattle.go_tree_nodes.specs.Trees.{One, TypeTree, NamedType, Struct, NoFields, NamedFields, Signed, OneResult, NoParams, Param, Named, ValueSpecTree, Single, Lines, Return, NoLines, Line, FuncTree}
+use Rattle.go_body_core.specs.tree_core.declared.occurrence.Role.{Role}
+use Rattle.go_body_core.specs.tree_core.declared.occurrence.Role.TheVariants as roles
+use Rattle.go_term_core.specs.decl_core.declared.places.DeclKind.TheVariants as decl_kind
+use Rattle.go_term_core.specs.decl_core.declared.keys.DeclRef.{DeclRef}
+use Rattle.go_term_core.specs.decl_core.declared.keys.DeclKey.{DeclKey}
+use Rattle.go_body_core.specs.block_core.Blocks.{BlocksModel, blocks_model}
+use Rattle.go_term_core.specs.declared.term.Basic.TheVariants as basics
+use Rattle.go_term_core.specs.declared.term.MemberPlace.{MemberPlace}
+use Rattle.go_term_core.specs.declared.term.MemberPlace.TheVariants as places
+use Rattle.go_term_core.specs.Terms.{NoType, Predeclared, Defined, StructOf, NoField, AField}
+use Rattle.go_body_core.specs.entry_core.Meanings.{file_meaning}
+use Rattle.go_body_core.specs.denote_core.declared.things.Outcome.{Outcome}
+use Rattle.go_body_core.specs.denote_core.declared.things.Outcome.TheVariants as outcomes
+use Rattle.go_body_core.specs.handle_core.Declarations.{Declaration, Universe, InFile}
+use Rattle.go_body_core.specs.face_core.declared.face.Face.TheVariants as faces
+use Rattle.go_body_core.specs.piece_core.Values.{variable}
+use Rattle.go_body_core.specs.env_core.declared.meaning.Meaning.{Meaning}
+use Rattle.go_body_core.specs.env_core.declared.meaning.Meaning.TheVariants as meanings
 use Rattle.go_body_core.specs.Notes.{TheUse}
 use Rattle.go_func_core.specs.Stands.{FileStand}
 use Rattle.go_func_core.specs.Functions.{walked_func, checked_func, func_by}

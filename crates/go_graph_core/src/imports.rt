@@ -2,7 +2,7 @@
 ghost use Rattle.std.specs.Prelude.{◌≡◌, IfOk, OnOk, OnErr};
 ghost use Rattle.std.specs.List.{AllZip};
 ghost use Rattle.std.specs.Map.{keys_of};
-ghost use Rattle.go_scan_core.specs.Values.{IsPlain};
+ghost use Rattle.go_token_core.specs.Values.{IsPlain};
 ghost use Rattle.go_tree_nodes.specs.Shapes.{shape_import_specs};
 ghost use Rattle.go_tree_nodes.specs.Terminals.{value_of};
 ghost use Rattle.go_graph_core.specs.Workspaces.{IsWorkspace};

@@ -2,17 +2,17 @@
 use Rattle.std.proofs.Common.{◌≡◌, ◌↔◌, ℕ, zero, suc, Bool, true, false, ◌&&◌, List, [], ◌∷◌, length, IsTrue, Result, Ok, Err, inl, inr, refl, sym, ap, ◌∙◌, subst, ◌<◌, arith}
 use borrow.Author.Tests.{eqb-true}
 use Rattle.std.specs.Prelude.{nat_eq, codes, if◌then◌else◌}
-use Rattle.go_decide_core.specs.text_core.specs.Text.{is_blank}
-use Rattle.go_decide_core.specs.text_core.specs.declared.rule.Rule.{Rule}
-use Rattle.go_decide_core.specs.text_core.specs.declared.rule.Rule.TheVariants.{M0, S6, S8}
+use Rattle.go_text_core.specs.Text.{is_blank}
+use Rattle.go_text_core.specs.declared.rule.Rule.{Rule}
+use Rattle.go_text_core.specs.declared.rule.Rule.TheVariants.{M0, S6, S8}
 use Rattle.go_term_core.specs.declared.term.Method.{Method}
 use Rattle.go_term_core.specs.Terms.{Term, NoType, Predeclared, ErrorType, Defined, PointerTo, StructOf, InterfaceOf, NoMethod, AMethod, Sign}
 use Rattle.go_term_core.specs.Shapes.{methods_of}
-use Rattle.go_decide_core.specs.table_core.specs.Entries.{Entry, find, underlying_in}
-use Rattle.go_decide_core.specs.select_core.specs.declared.search.Selected.{Selected}
-use Rattle.go_decide_core.specs.select_core.specs.Selectors.{IsAnswer, Refused, searched}
-use Rattle.go_decide_core.specs.mset_core.specs.declared.interface.Missing.{Missing}
-use Rattle.go_decide_core.specs.mset_core.specs.Implementing.{error_sign, Implements, IsImplementing}
+use Rattle.go_decide_core.specs.table_core.Entries.{Entry, find, underlying_in}
+use Rattle.go_decide_core.specs.select_core.declared.search.Selected.{Selected}
+use Rattle.go_decide_core.specs.select_core.Selectors.{IsAnswer, Refused, searched}
+use Rattle.go_decide_core.specs.mset_core.declared.interface.Missing.{Missing}
+use Rattle.go_decide_core.specs.mset_core.Implementing.{error_sign, Implements, IsImplementing}
 use Rattle.go_decide_core.specs.Selecting.{selected_of, chosen_of}
 use Rattle.go_decide_core.specs.Implementing.{is_method_chosen, has_method_of, has_methods, has_methods_under, implements_of}
 use Rattle.go_decide_core.proofs.Choosing.{selectors_decided}

@@ -1,9 +1,9 @@
 -- What a selector chooses, with declarations.
 use Rattle.std.specs.Prelude.{ℕ, List, Result}
-use Rattle.go_decide_core.specs.text_core.specs.declared.rule.Rule.{Rule}
+use Rattle.go_text_core.specs.declared.rule.Rule.{Rule}
 use Rattle.go_term_core.specs.Terms.{Term, Sign}
-use Rattle.go_decide_core.specs.table_core.specs.Entries.{Entry, Look, find}
-use Rattle.go_decide_core.specs.denote_core.specs.declared.things.Selection.{Selection}
+use Rattle.go_decide_core.specs.table_core.Entries.{Entry, Look, find}
+use Rattle.go_decide_core.specs.denote_core.declared.things.Selection.{Selection}
 use Rattle.go_decide_core.specs.Selecting.{Choice, selected_of}
 use Rattle.go_decide_core.specs.Rules.{selection_of}
 use Rattle.go_handle_core.specs.Declarations.{Declaration, declaration_found}

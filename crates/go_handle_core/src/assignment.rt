@@ -1,8 +1,8 @@
 //! Which values are assignable to variables of a type.
 ghost use Rattle.std.specs.Prelude.{◌≡◌, ◌&&◌, not, true, false, MatchOption, IfOk};
 ghost use Rattle.go_term_core.specs.Shapes.{shape};
-ghost use Rattle.go_decide_core.specs.table_core.specs.Entries.{find, underlying_in};
-ghost use Rattle.go_decide_core.specs.table_core.specs.Assign.{AValue};
+ghost use Rattle.go_decide_core.specs.table_core.Entries.{find, underlying_in};
+ghost use Rattle.go_decide_core.specs.table_core.Assign.{AValue};
 ghost use Rattle.go_decide_core.specs.Identity.{identical_of};
 ghost use Rattle.go_decide_core.specs.Assigning.{is_named, is_interface, value_fits, assignable_of};
 ghost use Rattle.go_decide_core.specs.Implementing.{implements_of};
@@ -11,8 +11,8 @@ use crate::conversion::is_type;
 use crate::identity::is_identical;
 use crate::implementing::is_implementing;
 use crate::types::TypeRef;
+use go_decide_core::settle_core::{Kind, kind_of};
 use go_decide_core::table_core::TypeTable;
-use go_settle_core::{Kind, kind_of};
 use go_term_core::TypeTerm;
 use std::alloc::{AllocError, Global};
 

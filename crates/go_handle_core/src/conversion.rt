@@ -1,12 +1,12 @@
 //! Which types are convertible to one another.
 ghost use Rattle.std.specs.Prelude.{◌≡◌};
-ghost use Rattle.go_decide_core.specs.table_core.specs.Entries.{find};
+ghost use Rattle.go_decide_core.specs.table_core.Entries.{find};
 ghost use Rattle.go_decide_core.specs.Conversion.{is_nothing, is_type, are_alike, pointers_alike, convertible_of};
 
 use crate::identity::is_identical_but_for_tags;
 use crate::types::TypeRef;
+use go_decide_core::settle_core::{Kind, kind_of};
 use go_decide_core::table_core::TypeTable;
-use go_settle_core::{Kind, kind_of};
 
 // Whether it is no type.
 fn is_nothing(t: &TypeRef<'_>) -> bool

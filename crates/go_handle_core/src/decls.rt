@@ -1,7 +1,7 @@
 //! Declarations.
 ghost use Rattle.std.specs.Prelude.{◌≡◌};
 ghost use Rattle.go_handle_core.specs.Declarations.{site_shown, declaration_found};
-ghost use Rattle.go_decide_core.specs.embed_core.specs.OwnersShown.{found_shown};
+ghost use Rattle.go_decide_core.specs.embed_core.OwnersShown.{found_shown};
 
 use crate::inside::member_site;
 use go_decide_core::select_core::Member;

@@ -1,8 +1,8 @@
 //! The signature of the method of `error`, and where members are declared.
 ghost use Rattle.std.specs.Prelude.{◌≡◌, IfOk};
 ghost use Rattle.go_term_core.specs.Shapes.{sign_of};
-ghost use Rattle.go_decide_core.specs.mset_core.specs.Implementing.{error_sign};
-ghost use Rattle.go_decide_core.specs.embed_core.specs.OwnersShown.{found_shown};
+ghost use Rattle.go_decide_core.specs.mset_core.Implementing.{error_sign};
+ghost use Rattle.go_decide_core.specs.embed_core.OwnersShown.{found_shown};
 ghost use Rattle.go_handle_core.specs.Declarations.{site_shown, declaration_found};
 
 use crate::decls::DeclSite;

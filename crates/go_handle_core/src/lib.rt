@@ -26,14 +26,27 @@ pub use selecting::selection;
 pub use signatures::{SignatureRef, typed};
 pub use types::{TypeParts, TypeRef};
 
-// Passed on, so that the crates above list this one alone.
-pub use go_decide_core as decide_core;
-pub use go_decide_core::{
-    decl_core as decl_core, denote_core as denote_core, embed_core as embed_core,
-    mset_core as mset_core, operand_core as operand_core, select_core as select_core,
-    table_core as table_core, text_core as text_core,
-};
-pub use go_path_core as path_core;
-pub use go_settle_core as settle_core;
-pub use go_term_core as term_core;
-pub use go_universe_core as universe_core;
+/// What the crates above name of `go_constant_core`.
+pub mod constant_core {
+    pub use go_decide_core::constant_core::Constant;
+}
+
+/// What the crates above name of `go_operand_core`.
+pub mod operand_core {
+    pub use go_decide_core::operand_core::{Operand, ValueType};
+}
+
+/// What the crates above name of `go_select_core`.
+pub mod select_core {
+    pub use go_decide_core::select_core::EmbedPath;
+}
+
+/// What the crates above name of `go_settle_core`.
+pub mod settle_core {
+    pub use go_decide_core::settle_core::{settle, settle_signature};
+}
+
+/// What the crates above name of `go_table_core`.
+pub mod table_core {
+    pub use go_decide_core::table_core::{DeclaredMethod, DefinedType, PackageTypes, TypeTable};
+}

@@ -1,7 +1,7 @@
 //! What selectors choose.
 ghost use Rattle.std.specs.Prelude.{◌≡◌, ◌↔◌, IsTrue, IfOk, Ok};
-ghost use Rattle.go_decide_core.specs.table_core.specs.Entries.{find};
-ghost use Rattle.go_decide_core.specs.select_core.specs.Selectors.{IsAnswer};
+ghost use Rattle.go_decide_core.specs.table_core.Entries.{find};
+ghost use Rattle.go_decide_core.specs.select_core.Selectors.{IsAnswer};
 ghost use Rattle.go_decide_core.specs.Selecting.{chosen_of};
 ghost use Rattle.go_handle_core.specs.Names.{shown_choice, selection_in};
 
@@ -12,8 +12,8 @@ use crate::types::TypeRef;
 use go_decide_core::denote_core::Selection;
 use go_decide_core::select_core::{EmbedPath, Member, Selected, select, select_behind_pointer};
 use go_decide_core::table_core::TypeTable;
-use go_decide_core::text_core::Rule;
 use go_path_core::ImportPath;
+use go_text_core::Rule;
 use std::alloc::{AllocError, Global};
 
 // Whether memory was wanting.

@@ -1,7 +1,7 @@
 //! Signatures that are lent.
 ghost use Rattle.std.specs.Prelude.{◌≡◌, ◌<◌, length, slice_get, Some};
 ghost use Rattle.go_term_core.specs.Shapes.{sign_of, shape_found};
-ghost use Rattle.go_decide_core.specs.table_core.specs.Entries.{find};
+ghost use Rattle.go_decide_core.specs.table_core.Entries.{find};
 ghost use Rattle.go_decide_core.specs.Rules.{typed, params_of, results_of};
 
 use crate::conversion::is_type;

@@ -2,7 +2,7 @@
 ghost use Rattle.std.specs.Prelude.{◌≡◌, ◌≤◌, ◌^◌, suc, IfOk, OnErr};
 ghost use Rattle.go_term_core.specs.Shapes.{shape};
 ghost use Rattle.go_term_core.specs.Terms.{PointerTo};
-ghost use Rattle.go_decide_core.specs.table_core.specs.Entries.{find, underlying_in};
+ghost use Rattle.go_decide_core.specs.table_core.Entries.{find, underlying_in};
 ghost use Rattle.go_handle_core.specs.Stars.{base_in, star_count, starred};
 ghost use Rattle.go_decide_core.specs.Rules.{form_of, form_under};
 

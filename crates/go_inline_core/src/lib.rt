@@ -23,20 +23,34 @@ pub use repeated::repeated_params;
 pub use scoped::Scoped;
 pub use types::{InlineType, InlineTypes};
 
-// Passed on, so that the crates above list this one alone.
-pub use go_block_core as block_core;
-pub use go_decl_core as decl_core;
-pub use go_embed_core as embed_core;
-pub use go_entry_core as entry_core;
-pub use go_local_core as local_core;
-pub use go_names_core as names_core;
-pub use go_open_core as open_core;
-pub use go_path_core as path_core;
-pub use go_scan_core as scan_core;
-pub use go_scope_core as scope_core;
-pub use go_settle_core as settle_core;
-pub use go_table_core as table_core;
-pub use go_term_core as term_core;
-pub use go_text_core as text_core;
-pub use go_tree_nodes as tree_nodes;
-pub use go_written_core as written_core;
+/// What the crates above name of `go_block_core`.
+pub mod block_core {
+    pub use go_names_core::block_core::{Binding, Blocks, DeclRef, Imported, Target};
+}
+
+/// What the crates above name of `go_entry_core`.
+pub mod entry_core {
+    pub use go_entry_core::ImportedNames;
+}
+
+/// What the crates above name of `go_local_core`.
+pub mod local_core {
+    pub use go_names_core::local_core::Fault;
+}
+
+/// What the crates above name of `go_names_core`.
+pub mod names_core {
+    pub use go_names_core::{
+        Checker, Meant, OpenNames, Outside, check_function, header_idents, listed_idents,
+    };
+}
+
+/// What the crates above name of `go_scope_core`.
+pub mod scope_core {
+    pub use go_names_core::scope_core::{InScope, Scopes};
+}
+
+/// What the crates above name of `go_table_core`.
+pub mod table_core {
+    pub use go_embed_core::table_core::{DeclaredMethod, DefinedType, StructField, TypeTable};
+}

@@ -3,16 +3,16 @@
 ghost use Rattle.std.specs.Prelude.{◌≡◌, ◌++◌, ◌∷◌, [], false, not, ◌&&◌, map, IfOk, OnOk, if◌then◌else◌};
 ghost use Rattle.go_text_core.specs.Text.{is_blank};
 ghost use Rattle.go_tree_nodes.specs.TypeShapes.{shape_type, shape_signature, shape_results, fields_of, methods_of, params_of};
-ghost use Rattle.go_settle_core.specs.Settled.{repeats};
-ghost use Rattle.go_local_core.specs.Faults.{fault_at};
-ghost use Rattle.go_local_core.specs.Outline.{signature_idents};
+ghost use Rattle.go_embed_core.specs.settle_core.Settled.{repeats};
+ghost use Rattle.go_names_core.specs.local_core.Faults.{fault_at};
+ghost use Rattle.go_names_core.specs.local_core.Outline.{signature_idents};
 ghost use Rattle.go_inline_core.specs.Inline as inline;
 ghost use Rattle.go_inline_core.specs.mirrors.Listing.{Breaks};
 ghost use Rattle.go_inline_core.specs.mirrors.Names.{SameNames, names_of, field_repeated};
 
 use crate::idents::signature_idents;
-use go_local_core::Fault;
-use go_settle_core::SeenNames;
+use go_embed_core::settle_core::SeenNames;
+use go_names_core::local_core::Fault;
 use go_text_core::{Rule, add};
 use go_tree_nodes::{FieldLine, Fields, Ident, MethodLine, Param, Results, Signature, TypeExpr};
 use std::alloc::{AllocError, Global};

@@ -1,17 +1,17 @@
 //! What each declaration of a package is, by those that it needs.
 ghost use Rattle.std.specs.Prelude.{◌≡◌, [], IfOk, map};
-ghost use Rattle.go_value_core.specs.decl_core.specs.Shown.{form_shown};
+ghost use Rattle.go_term_core.specs.decl_core.Shown.{form_shown};
 ghost use Rattle.go_tree_nodes.specs.Shapes.{shape_value_spec};
-ghost use Rattle.go_value_core.specs.needs_core.specs.Needs.{known_in};
-ghost use Rattle.go_value_core.specs.scope_core.specs.Models.{scopes_model};
-ghost use Rattle.go_value_core.specs.face_core.specs.declared.face.Face.TheVariants as faces;
-ghost use Rattle.go_value_core.specs.face_core.specs.Written.{written_at};
-ghost use Rattle.go_value_core.specs.env_core.specs.Scenes.{scene_shown};
+ghost use Rattle.go_value_core.specs.needs_core.Needs.{known_in};
+ghost use Rattle.go_value_core.specs.scope_core.Models.{scopes_model};
+ghost use Rattle.go_value_core.specs.face_core.declared.face.Face.TheVariants as faces;
+ghost use Rattle.go_value_core.specs.face_core.Written.{written_at};
+ghost use Rattle.go_value_core.specs.env_core.Scenes.{scene_shown};
 ghost use Rattle.go_value_core.specs.Initial as initial;
 ghost use Rattle.go_value_core.specs.Package as package_values;
 
+use go_term_core::decl_core::DeclForm;
 use go_tree_nodes::{ValueKind, ValueSpec};
-use go_value_core::decl_core::DeclForm;
 use go_value_core::env_core::{Meaning, Scene, stand};
 use go_value_core::face_core::Face;
 use go_value_core::handle_core::{SignatureRef, TypeRef};
@@ -126,7 +126,7 @@ fn form_face<'p>(
 
 impl<'n, 'p> Needing for Stage<'n, 'p> {
     ghost use Rattle.std.specs.Prelude.{map};
-    ghost use Rattle.go_value_core.specs.env_core.specs.Scenes.{scene_shown};
+    ghost use Rattle.go_value_core.specs.env_core.Scenes.{scene_shown};
     ghost use Rattle.go_value_core.specs.Package.{declared_face, package_needs, placed_shown};
     ghost use Rattle.go_value_core.proofs.Seeing.{looks_at_needs};
 

@@ -8,6 +8,6 @@ pub mod Rules
 pub mod Laws
 pub mod Samples
 pub mod mirrors
-pub use Rattle.go_denote_core as denote_core
-pub use Rattle.go_operand_core as operand_core
-pub use Rattle.go_text_core as text_core
+pub mod constant_core
+pub mod denote_core
+pub mod operand_core

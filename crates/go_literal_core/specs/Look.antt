@@ -1,7 +1,7 @@
 -- The fields of struct types at a place of a program, as look-ups beside those of names: T are types, S signatures, D declarations,
 -- P paths of embedded fields.
 use Rattle.std.specs.Prelude.{ℕ, List}
-use Rattle.go_operand_core.specs.TypeRules.{TypeRules}
+use Rattle.go_denote_core.specs.operand_core.TypeRules.{TypeRules}
 use Rattle.go_denote_core.specs.Look.{NameRules}
 use Rattle.go_literal_core.specs.declared.things.LiteralField.{LiteralField}
 

@@ -27,7 +27,22 @@ pub use looks::Literals;
 pub use marks::key_marks;
 pub use things::{KeyAnswer, KeyMark, Keys, LiteralField, Mode, NamedField};
 
-// Passed on, so that the crates above list this one alone.
-pub use go_denote_core as denote_core;
-pub use go_operand_core as operand_core;
-pub use go_text_core as text_core;
+/// What the crates above name of `go_constant_core`.
+pub mod constant_core {
+    pub use go_denote_core::constant_core::{Constant, ConstantText, natural};
+}
+
+/// What the crates above name of `go_denote_core`.
+pub mod denote_core {
+    pub use go_denote_core::{
+        Answer, Builtin, Denoted, Dot, Exported, Found, Names, Outcome, Place, Selection, Usage,
+        arguments_of, call_answer, dot_of, is_free, name_answer, selector_answer,
+    };
+}
+
+/// What the crates above name of `go_operand_core`.
+pub mod operand_core {
+    pub use go_denote_core::operand_core::{
+        Operand, TypeForm, TypeLooks, ValueType, binary, refused_binary, refused_unary, unary,
+    };
+}

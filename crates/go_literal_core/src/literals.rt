@@ -7,7 +7,7 @@ ghost use Rattle.go_literal_core.specs.Literals as literals;
 use crate::looks::Literals;
 use crate::things::{Keys, Mode};
 use go_denote_core::Denoted;
-use go_operand_core::{Operand, TypeForm, ValueType, assignable_to};
+use go_denote_core::operand_core::{Operand, TypeForm, ValueType, assignable_to};
 use go_text_core::Rule;
 use std::alloc::{AllocError, Global};
 

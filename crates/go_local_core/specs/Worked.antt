@@ -2,7 +2,7 @@
 use Rattle.std.specs.Prelude.{◌≡◌, ℕ, zero, suc, List, [], ◌∷◌, ◌++◌, Option, Some, None, codes}
 use Rattle.go_text_core.specs.declared.span.Span.{Span}
 use Rattle.go_text_core.specs.declared.rule.Rule.TheVariants.{B1, B4}
-use Rattle.go_scan_core.specs.declared.kind.Operator.TheVariants as operator
+use Rattle.go_token_core.specs.declared.kind.Operator.TheVariants as operator
 use Rattle.go_tree_nodes.specs.declared.names.Ident.{Ident}
 use Rattle.go_tree_nodes.specs.declared.decls.ValueKind.TheVariants as kinds
 use Rattle.go_tree_nodes.specs.Terminals.{Terminal, TerminalKind, Spelled, Number, Quoted, Word, Mark, Stray}

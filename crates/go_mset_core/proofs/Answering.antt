@@ -15,8 +15,8 @@ use Rattle.go_term_core.specs.declared.term.MemberPlace.{MemberPlace}
 use Rattle.go_term_core.specs.Terms.{Term, NoType, Predeclared, ErrorType, Defined, PointerTo, StructOf, InterfaceOf, Methods, Sign, SignOf, Terms, NoTerm, ATerm, term_list, sign_params, sign_results}
 use Rattle.go_term_core.specs.Identity.{IsMethod, SameSign, SameTerms, Identical}
 use Rattle.go_term_core.specs.Shapes.{shape, sign_of, methods_of}
-use Rattle.go_table_core.specs.Entries.{Look, underlying_in}
-use Rattle.go_embed_core.specs.OwnersShown.{found_shown}
+use Rattle.go_select_core.specs.table_core.Entries.{Look, underlying_in}
+use Rattle.go_select_core.specs.embed_core.OwnersShown.{found_shown}
 use Rattle.go_select_core.specs.declared.search.Selected.{Selected}
 use Rattle.go_select_core.specs.Selectors.{IsAnswer, IsRule}
 use Rattle.go_select_core.proofs.ListLemmas.{not_same}

@@ -7,10 +7,10 @@ use Rattle.go_term_core.specs.Terms.{Term, NoType, Predeclared, ErrorType, Defin
 use Rattle.go_term_core.specs.Identity.{IsMethod, SameSign, SameTerms}
 use Rattle.go_term_core.specs.Laws.{HasNone}
 use Rattle.go_term_core.proofs.Meanings.{itself, onward}
-use Rattle.go_table_core.specs.Assign.{IsInterface}
-use Rattle.go_table_core.specs.Entries.{Look, underlying_in}
-use Rattle.go_embed_core.specs.Owners.{OwnerModel, Edge, Found, AFieldOf, AMethodOf, AnInterfaces, TheErrorMethod, Named, owner_in, path_in, term_embedded, declared_found, methods_found, term_found, members_of}
-use Rattle.go_embed_core.specs.OwnersShown.{IsNamedAt}
+use Rattle.go_select_core.specs.table_core.Assign.{IsInterface}
+use Rattle.go_select_core.specs.table_core.Entries.{Look, underlying_in}
+use Rattle.go_select_core.specs.embed_core.Owners.{OwnerModel, Edge, Found, AFieldOf, AMethodOf, AnInterfaces, TheErrorMethod, Named, owner_in, path_in, term_embedded, declared_found, methods_found, term_found, members_of}
+use Rattle.go_select_core.specs.embed_core.OwnersShown.{IsNamedAt}
 use Rattle.go_select_core.specs.Paths.{Step, Leads, IsSelected}
 use Rattle.go_select_core.proofs.Walks.{selects_here}
 use Rattle.go_mset_core.specs.MethodSets.{IsCallable}

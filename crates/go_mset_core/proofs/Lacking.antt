@@ -1,11 +1,11 @@
 -- Types that have no methods.
 use Rattle.std.proofs.Common.{◌≡◌, List, ℕ, true, subst}
-use Rattle.go_decl_core.specs.declared.keys.DeclKey.{DeclKey}
+use Rattle.go_term_core.specs.decl_core.declared.keys.DeclKey.{DeclKey}
 use Rattle.go_term_core.specs.Terms.{Term, NoType, Predeclared, ErrorType, Defined, PointerTo, StructOf, InterfaceOf}
-use Rattle.go_settle_core.specs.declared.kind.Kind.{Kind}
-use Rattle.go_settle_core.specs.declared.kind.Kind.TheVariants as kinds
-use Rattle.go_table_core.specs.Entries.{Look, underlying_in}
-use Rattle.go_embed_core.specs.Owners.{Found}
+use Rattle.go_select_core.specs.settle_core.declared.kind.Kind.{Kind}
+use Rattle.go_select_core.specs.settle_core.declared.kind.Kind.TheVariants as kinds
+use Rattle.go_select_core.specs.table_core.Entries.{Look, underlying_in}
+use Rattle.go_select_core.specs.embed_core.Owners.{Found}
 use Rattle.go_select_core.specs.Selectors.{In, FieldsIn, unless_refused, kind_in, searched_under}
 use Rattle.go_mset_core.specs.MethodSets.{IsMethodFound, IsInMethodSet}
 use Rattle.go_mset_core.specs.Laws.{HaveNoMethods}

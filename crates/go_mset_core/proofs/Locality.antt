@@ -1,10 +1,10 @@
 -- Method sets depend on what a type reaches alone.
 use Rattle.std.proofs.Common.{ℕ, List, Result, Ok, Err, sym, subst}
 use Rattle.go_term_core.specs.Terms.{Term, Sign}
-use Rattle.go_table_core.specs.Entries.{Look, underlying_in}
-use Rattle.go_table_core.specs.Laws.{AgreeFrom}
-use Rattle.go_table_core.proofs.Meanings.{underlying_local}
-use Rattle.go_embed_core.specs.Owners.{Found}
+use Rattle.go_select_core.specs.table_core.Entries.{Look, underlying_in}
+use Rattle.go_select_core.specs.table_core.Laws.{AgreeFrom}
+use Rattle.go_select_core.specs.table_core.Meanings.{underlying_local}
+use Rattle.go_select_core.specs.embed_core.Owners.{Found}
 use Rattle.go_select_core.specs.Selectors.{Searched, Refused, In, FieldsIn, searched}
 use Rattle.go_select_core.proofs.Local.{ReachesWhat, agree_along, agree_back, selected_there, searched_same, reach_searched}
 use Rattle.go_mset_core.specs.declared.interface.Missing.{Missing}

@@ -3,11 +3,11 @@ use Rattle.std.proofs.Common.{◌≡◌, ◌↔◌, ℕ, Bool, true, false, ◌|
 use Rattle.std.specs.Prelude.{map}
 use Rattle.go_text_core.specs.Text.{SameId}
 use Rattle.go_term_core.specs.Terms.{Term}
-use Rattle.go_table_core.specs.Entries.{Look}
-use Rattle.go_embed_core.specs.declared.member.Member.{Member}
-use Rattle.go_embed_core.specs.declared.member.Member.TheVariants as members
-use Rattle.go_embed_core.specs.Owners.{Found, AFieldOf, AMethodOf, AnInterfaces, TheErrorMethod, Named}
-use Rattle.go_embed_core.specs.OwnersShown.{found_shown, name_shown, package_shown}
+use Rattle.go_select_core.specs.table_core.Entries.{Look}
+use Rattle.go_select_core.specs.embed_core.declared.member.Member.{Member}
+use Rattle.go_select_core.specs.embed_core.declared.member.Member.TheVariants as members
+use Rattle.go_select_core.specs.embed_core.Owners.{Found, AFieldOf, AMethodOf, AnInterfaces, TheErrorMethod, Named}
+use Rattle.go_select_core.specs.embed_core.OwnersShown.{found_shown, name_shown, package_shown}
 use Rattle.go_select_core.specs.declared.search.Selected.{Selected}
 use Rattle.go_select_core.specs.Selectors.{Searched, Refused, In as InType, FieldsIn, searched, IsFoundAs}
 use Rattle.go_select_core.proofs.ListLemmas.{In, in_contained, contained_in}

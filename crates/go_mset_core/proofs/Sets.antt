@@ -4,12 +4,12 @@ use Rattle.std.specs.Str.{chars}
 use Rattle.go_text_core.specs.Text.{exported, SameId, is_blank}
 use Rattle.go_text_core.specs.declared.rule.Rule.{Rule}
 use Rattle.go_term_core.specs.Terms.{Term, NoType, Predeclared, ErrorType, Defined, PointerTo, StructOf, InterfaceOf, Sign}
-use Rattle.go_settle_core.specs.declared.kind.Kind.TheVariants as kinds
-use Rattle.go_settle_core.specs.Settled.{kind_of_term}
-use Rattle.go_table_core.specs.Entries.{Look, underlying_in}
-use Rattle.go_table_core.specs.Assign.{IsInterface}
-use Rattle.go_embed_core.specs.Owners.{OwnerModel, Found, AFieldOf, AMethodOf, AnInterfaces, TheErrorMethod}
-use Rattle.go_embed_core.specs.OwnersShown.{IsNamedAt, found_shown}
+use Rattle.go_select_core.specs.settle_core.declared.kind.Kind.TheVariants as kinds
+use Rattle.go_select_core.specs.settle_core.Settled.{kind_of_term}
+use Rattle.go_select_core.specs.table_core.Entries.{Look, underlying_in}
+use Rattle.go_select_core.specs.table_core.Assign.{IsInterface}
+use Rattle.go_select_core.specs.embed_core.Owners.{OwnerModel, Found, AFieldOf, AMethodOf, AnInterfaces, TheErrorMethod}
+use Rattle.go_select_core.specs.embed_core.OwnersShown.{IsNamedAt, found_shown}
 use Rattle.go_select_core.specs.declared.search.Selected.{Selected}
 use Rattle.go_select_core.specs.Paths.{Hit, IsSelected}
 use Rattle.go_select_core.specs.Selectors.{Searched, Refused, In, FieldsIn, unless_refused, searched_under, searched, IsFieldFound, IsMissing, ambiguous, hidden, absent, IsFound, IsRefused, IsRule}

@@ -7,8 +7,8 @@ use Rattle.go_term_core.specs.declared.term.Basic.TheVariants as basics
 use Rattle.go_term_core.specs.declared.term.MemberPlace.{MemberPlace}
 use Rattle.go_term_core.specs.Terms.{Term, Predeclared, ErrorType, InterfaceOf, Sign, SignOf, NoTerm, ATerm}
 use Rattle.go_term_core.specs.Identity.{IsMethod, SameSign}
-use Rattle.go_table_core.specs.Entries.{Look, underlying_in}
-use Rattle.go_embed_core.specs.Owners.{Found, AFieldOf, AMethodOf, AnInterfaces, TheErrorMethod}
+use Rattle.go_select_core.specs.table_core.Entries.{Look, underlying_in}
+use Rattle.go_select_core.specs.embed_core.Owners.{Found, AFieldOf, AMethodOf, AnInterfaces, TheErrorMethod}
 use Rattle.go_mset_core.specs.declared.interface.Missing.{Missing}
 use Rattle.go_mset_core.specs.MethodSets.{IsInMethodSet}
 

@@ -2,16 +2,16 @@
 use Rattle.std.specs.Prelude.{◌≡◌, ◌↔◌, ℕ, Bool, true, false, List, [], ◌∷◌, Result, Ok, Err, map, ⊤}
 use Rattle.go_text_core.specs.Text.{SameId, is_blank}
 use Rattle.go_text_core.specs.declared.rule.Rule.{Rule}
-use Rattle.go_decl_core.specs.declared.keys.DeclKey.{DeclKey}
+use Rattle.go_term_core.specs.decl_core.declared.keys.DeclKey.{DeclKey}
 use Rattle.go_term_core.specs.declared.term.MemberPlace.{MemberPlace}
 use Rattle.go_term_core.specs.Terms.{Term, NoType, Defined, PointerTo, InterfaceOf, Methods, NoMethod, AMethod, Sign}
 use Rattle.go_term_core.specs.Laws.{HasNone}
-use Rattle.go_settle_core.specs.declared.kind.Kind.TheVariants as kinds
-use Rattle.go_table_core.specs.Assign.{IsInterface}
-use Rattle.go_table_core.specs.Entries.{Look, underlying_in, declared_methods}
-use Rattle.go_table_core.specs.Laws.{AgreeFrom}
-use Rattle.go_embed_core.specs.Owners.{Found, AMethodOf, Named, owner_in}
-use Rattle.go_embed_core.specs.OwnersShown.{IsNamedAt, found_shown, named_shown}
+use Rattle.go_select_core.specs.settle_core.declared.kind.Kind.TheVariants as kinds
+use Rattle.go_select_core.specs.table_core.Assign.{IsInterface}
+use Rattle.go_select_core.specs.table_core.Entries.{Look, underlying_in, declared_methods}
+use Rattle.go_select_core.specs.table_core.Laws.{AgreeFrom}
+use Rattle.go_select_core.specs.embed_core.Owners.{Found, AMethodOf, Named, owner_in}
+use Rattle.go_select_core.specs.embed_core.OwnersShown.{IsNamedAt, found_shown, named_shown}
 use Rattle.go_select_core.specs.declared.search.Selected.{Selected}
 use Rattle.go_select_core.specs.Paths.{Step, IsSelected}
 use Rattle.go_select_core.specs.Selectors.{IsAnswer, IsRule, kind_in}

@@ -2,9 +2,9 @@
 use Rattle.std.specs.Prelude.{◌≡◌, ℕ, List, Contains, AllPairs}
 use Rattle.go_text_core.specs.Text.{SameId}
 use Rattle.go_term_core.specs.Terms.{Term}
-use Rattle.go_table_core.specs.Entries.{Look}
-use Rattle.go_embed_core.specs.Owners.{Found}
-use Rattle.go_embed_core.specs.OwnersShown.{found_shown, name_shown, package_shown}
+use Rattle.go_select_core.specs.table_core.Entries.{Look}
+use Rattle.go_select_core.specs.embed_core.Owners.{Found}
+use Rattle.go_select_core.specs.embed_core.OwnersShown.{found_shown, name_shown, package_shown}
 use Rattle.go_select_core.specs.Selections.{IsIdBefore}
 use Rattle.go_mset_core.specs.declared.methods.SetMethod.{SetMethod}
 use Rattle.go_mset_core.specs.MethodSets.{IsInMethodSet}

@@ -1,6 +1,6 @@
 //! Which types implement an interface type.
 ghost use Rattle.std.specs.Prelude.{◌≡◌, ◌↔◌, IfOk, IsTrue};
-ghost use Rattle.go_table_core.specs.Entries.{find};
+ghost use Rattle.go_select_core.specs.table_core.Entries.{find};
 ghost use Rattle.go_term_core.specs.Terms.{PointerTo, ErrorType, InterfaceOf};
 ghost use Rattle.go_term_core.specs.Shapes.{shape, sign_of, methods_of};
 ghost use Rattle.go_select_core.specs.Selectors.{IsAnswer};
@@ -9,9 +9,9 @@ ghost use Rattle.go_mset_core.specs.mirrors.Asking.{holder_shown, sign_wanted, t
 
 use crate::wanted::{Wanted, is_wanted};
 use go_path_core::ImportPath;
+use go_select_core::type_core::{Method, TypeTable, TypeTerm};
 use go_select_core::{Selected, select, select_behind_pointer};
 use go_text_core::Rule;
-use go_type_core::{Method, TypeTable, TypeTerm};
 use std::alloc::{AllocError, Global};
 use std::cmp::Ordering;
 

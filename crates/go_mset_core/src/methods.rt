@@ -1,14 +1,14 @@
 //! The method set of a type.
 ghost use Rattle.std.specs.Prelude.{◌≡◌, ◌++◌, ◌∷◌, [], IfOk, OnOk};
-ghost use Rattle.go_table_core.specs.Entries.{find};
+ghost use Rattle.go_select_core.specs.table_core.Entries.{find};
 ghost use Rattle.go_term_core.specs.Shapes.{shape};
 ghost use Rattle.go_mset_core.specs.MethodLists.{IsMethodSet};
 ghost use Rattle.go_mset_core.specs.mirrors.Keeping.{kept};
 
 use crate::wanted::is_callable;
+use go_select_core::type_core::{TypeTable, TypeTerm};
 use go_select_core::{EmbedPath, Member, Selected, selections};
 use go_text_core::add;
-use go_type_core::{TypeTable, TypeTerm};
 use std::alloc::{AllocError, Global};
 
 /// A method of a method set.

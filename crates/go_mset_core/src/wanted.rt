@@ -4,13 +4,13 @@ ghost use Rattle.go_term_core.specs.Identity.{SameSign};
 ghost use Rattle.go_term_core.specs.Shapes.{shape, sign_of};
 ghost use Rattle.go_term_core.specs.Terms.{Predeclared, sign_params, sign_results};
 ghost use Rattle.go_term_core.specs.declared.term.Basic.TheVariants as basics;
-ghost use Rattle.go_embed_core.specs.OwnersShown.{found_shown};
+ghost use Rattle.go_select_core.specs.embed_core.OwnersShown.{found_shown};
 ghost use Rattle.go_mset_core.specs.MethodSets.{IsCallable};
 ghost use Rattle.go_mset_core.specs.Implementing.{IsSigned, error_sign};
 ghost use Rattle.go_mset_core.specs.mirrors.Asking.{sign_wanted};
 
 use go_select_core::Member;
-use go_type_core::{Basic, Signature, TypeTerm, has_same_signature};
+use go_select_core::type_core::{Basic, Signature, TypeTerm, has_same_signature};
 
 /// The signature of a method that is asked for.
 #[derive(Clone, Copy)]

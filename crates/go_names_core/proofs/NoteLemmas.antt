@@ -27,7 +27,7 @@ use Rattle.go_tree_nodes.specs.TypeShapes.{shape_type, shape_signature, shape_re
 use Rattle.go_tree_nodes.specs.Shapes.{shape, items_of, exprs_from}
 use Rattle.go_tree_nodes.proofs.TypeShapes.{listed_parts, signature_parts}
 use Rattle.go_tree_nodes.proofs.ShapeLemmas.{call_parts, literal_parts, struct_literal_parts}
-use Rattle.go_local_core.specs.Binding.{Look}
+use Rattle.go_walk_core.specs.local_core.Binding.{Look}
 use Rattle.go_names_core.specs.declared.names.Denoted.{Denoted}
 use Rattle.go_names_core.specs.Uses.{type_name_uses, type_uses, field_uses, fields_uses, methods_uses, signature_uses, result_uses, params_uses, expr_uses, items_uses, exprs_uses, target_uses, targets_uses, use_of}
 use Rattle.go_names_core.specs.mirrors.Noting.{Notes, Adds}

@@ -2,8 +2,8 @@
 use Rattle.std.proofs.Common.{◌≡◌, ℕ, Bool, true, false, List, [], ◌∷◌, ◌++◌, Option, Some, None, if◌then◌else◌, refl, sym, ap, ◌∙◌, append_assoc, append-nil}
 use Rattle.go_text_core.specs.Text.{is_blank}
 use Rattle.go_text_core.specs.declared.span.Span.{Span}
-use Rattle.go_scan_core.specs.declared.kind.Operator.{Operator}
-use Rattle.go_scan_core.specs.declared.kind.Operator.TheVariants as operator
+use Rattle.go_token_core.specs.declared.kind.Operator.{Operator}
+use Rattle.go_token_core.specs.declared.kind.Operator.TheVariants as operator
 use Rattle.go_tree_nodes.specs.declared.names.Ident.{Ident}
 use Rattle.go_tree_nodes.specs.declared.types.TypeName.{TypeName}
 use Rattle.go_tree_nodes.specs.declared.types.TypeName.TheVariants as type_name
@@ -19,8 +19,8 @@ use Rattle.go_tree_core.specs.declared.occurrence.Context.{Context}
 use Rattle.go_tree_core.specs.declared.occurrence.Context.TheVariants as context
 use Rattle.go_tree_core.specs.declared.occurrence.Occ.{Occ}
 use Rattle.go_tree_core.specs.Occurrences.{occurrence, call_at, type_name_occs, type_occs, fields_occs, methods_occs, signature_occs, result_occs, params_occs, key_occs, named_occs, expr_occs, items_occs, exprs_occs, inside, under, some_type_occs, values_occs, value_spec_occs, group_occs, specs_occs, simple_occs, some_simple_occs, some_expr_occs, some_exprs_occs, init_occs, if_occs, for_occs, stmt_occs, branch_occs, else_occs, lines_occs, receiver_occs}
-use Rattle.go_local_core.specs.Steps.{Piece, Spec, Act, Condition, Given, Manner, EachFirst, OneNew, Steps, Done, Check, Declare, Inner}
-use Rattle.go_local_core.specs.Outline.{idents, end_of, spec_steps, group_steps, specs_steps, simple_steps, some_simple_steps, init_steps, some_condition_steps, if_steps, for_steps, stmt_steps, branch_steps, else_steps, lines_steps}
+use Rattle.go_walk_core.specs.local_core.Steps.{Piece, Spec, Act, Condition, Given, Manner, EachFirst, OneNew, Steps, Done, Check, Declare, Inner}
+use Rattle.go_walk_core.specs.local_core.Outline.{idents, end_of, spec_steps, group_steps, specs_steps, simple_steps, some_simple_steps, init_steps, some_condition_steps, if_steps, for_steps, stmt_steps, branch_steps, else_steps, lines_steps}
 use Rattle.go_names_core.specs.Uses.{type_name_uses, type_uses, fields_uses, methods_uses, signature_uses, result_uses, params_uses, receiver_uses, expr_uses, items_uses, exprs_uses, some_exprs_uses, target_uses, targets_uses, some_type_uses, values_uses, value_spec_uses, simple_uses, piece_uses}
 use Rattle.go_names_core.specs.Occurrences.{is_looked_up, looked_up, steps_uses, UsesAreOccurrences}
 

@@ -1,11 +1,11 @@
 -- What names mean at a place of a function, by the blocks that are open there.
 use Rattle.std.specs.Prelude.{ℕ, List, [], Option, Some, None, slice_get}
-use Rattle.go_block_core.specs.Blocks.{BlocksModel}
+use Rattle.go_scope_core.specs.block_core.Blocks.{BlocksModel}
 use Rattle.go_scope_core.specs.Scopes as scopes
 use Rattle.go_scope_core.specs.Scopes.{Denoted}
 use Rattle.go_scope_core.specs.Models.{ScopesModel, scopes_model}
 use Rattle.go_scope_core.specs.Laws.{denotes}
-use Rattle.go_local_core.specs.Binding.{Look}
+use Rattle.go_walk_core.specs.local_core.Binding.{Look}
 use Rattle.go_names_core.specs.declared.meaning.Outside.{Outside}
 use Rattle.go_names_core.specs.declared.meaning.Outside.TheVariants as outside
 use Rattle.go_names_core.specs.declared.look.OpenNames.{OpenNames}

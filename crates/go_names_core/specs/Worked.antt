@@ -2,19 +2,19 @@
 use Rattle.std.specs.Prelude.{◌≡◌, ℕ, suc, List, [], ◌∷◌, Option, Some, None, codes}
 use Rattle.go_text_core.specs.declared.span.Span.{Span}
 use Rattle.go_text_core.specs.declared.rule.Rule.TheVariants.{B4, I1}
-use Rattle.go_scan_core.specs.declared.kind.Operator.TheVariants as operator
+use Rattle.go_token_core.specs.declared.kind.Operator.TheVariants as operator
 use Rattle.go_universe_core.specs.declared.Predeclared.TheVariants as predeclared
 use Rattle.go_tree_nodes.specs.declared.names.Ident.{Ident}
 use Rattle.go_tree_nodes.specs.declared.types.TypeName.TheVariants as type_name
 use Rattle.go_tree_nodes.specs.declared.decls.ValueKind.TheVariants as kinds
 use Rattle.go_tree_nodes.specs.Trees as tree
 use Rattle.go_tree_nodes.specs.Trees.{Separated, One, Then, NamedType, Signed, NoResult, NoParams, Param, ExprTree, Named, Binary, Select, Call, Literal, NoItems, Item, ValueSpecTree, Group, Assign, Define, Lines, Simple, Return, If, Branch, NoElse, ElseIf, NoLines, Line, FuncTree}
-use Rattle.go_decl_core.specs.declared.places.DeclKind.TheVariants as decl_kind
-use Rattle.go_decl_core.specs.declared.keys.DeclRef.{DeclRef}
-use Rattle.go_block_core.specs.declared.binding.Target.TheVariants as target
-use Rattle.go_block_core.specs.Blocks.{BlocksModel, blocks_model}
-use Rattle.go_local_core.specs.declared.Fault.{Fault}
-use Rattle.go_local_core.specs.Tables.{walked, given}
+use Rattle.go_scope_core.specs.decl_core.declared.places.DeclKind.TheVariants as decl_kind
+use Rattle.go_scope_core.specs.decl_core.declared.keys.DeclRef.{DeclRef}
+use Rattle.go_scope_core.specs.block_core.declared.binding.Target.TheVariants as target
+use Rattle.go_scope_core.specs.block_core.Blocks.{BlocksModel, blocks_model}
+use Rattle.go_walk_core.specs.local_core.declared.Fault.{Fault}
+use Rattle.go_walk_core.specs.local_core.Tables.{walked, given}
 use Rattle.go_names_core.specs.declared.meaning.Outside.TheVariants as outside
 use Rattle.go_names_core.specs.declared.names.Denoted.{Denoted}
 use Rattle.go_names_core.specs.declared.names.Denoted.TheVariants as denoted

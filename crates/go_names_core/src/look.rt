@@ -4,7 +4,7 @@ ghost use Rattle.go_scope_core.specs.Scopes.{denoted_of};
 ghost use Rattle.go_names_core.specs.Scope.{meaning_of, look_of};
 
 use crate::meaning::{Meant, Outside};
-use go_open_core::DeclId;
+use go_scope_core::open_core::DeclId;
 use go_scope_core::{InScope, Scopes};
 use std::alloc::AllocError;
 

@@ -1,7 +1,7 @@
 //! What names mean that are declared outside a function.
 ghost use Rattle.std.specs.Prelude.{◌≡◌, IfOk};
 
-use go_block_core::DeclRef;
+use go_scope_core::block_core::DeclRef;
 use go_universe_core::Predeclared;
 use std::alloc::AllocError;
 

@@ -4,53 +4,53 @@ use Rattle.std.specs.Prelude.{Option, Some, None, Result, Ok, Err, ⊤, MatchOpt
 use Rattle.go_text_core.specs.Text.{is_blank}
 use Rattle.go_text_core.specs.declared.rule.Rule.{Rule}
 use Rattle.go_text_core.specs.declared.rule.Rule.TheVariants.{Y3, Y7, N8, F1, F5, F8}
-use Rattle.go_scan_core.specs.declared.kind.Operator.{Operator}
-use Rattle.go_constant_core.specs.declared.values.Constant.{Constant}
+use Rattle.go_token_core.specs.declared.kind.Operator.{Operator}
+use Rattle.go_file_core.specs.constant_core.declared.values.Constant.{Constant}
 use Rattle.go_term_core.specs.declared.term.Basic.{Basic}
 use Rattle.go_term_core.specs.declared.term.Basic.TheVariants as basics
 use Rattle.go_tree_nodes.specs.declared.exprs.Key.{Key}
-use Rattle.go_operand_core.specs.declared.types.ValueType.{ValueType}
-use Rattle.go_operand_core.specs.declared.types.ValueType.TheVariants as types
-use Rattle.go_operand_core.specs.declared.types.Operand.{Operand}
-use Rattle.go_operand_core.specs.declared.operators.Group.{Group}
-use Rattle.go_operand_core.specs.declared.operators.Group.TheVariants as groups
-use Rattle.go_operand_core.specs.declared.prefixes.Prefix.{Prefix}
-use Rattle.go_operand_core.specs.declared.prefixes.Prefix.TheVariants as prefixes
-use Rattle.go_operand_core.specs.TypeRules.{TypeRules}
-use Rattle.go_operand_core.specs.Values.{is_over, form_basic, basic_under, default_type, untyped, basic_type}
-use Rattle.go_operand_core.specs.Assign.{takes_nil, takes_untyped, untyped_assignable, assignable, taken, common_typed, common_untyped, common_nil, common, comparable_typed, comparable_untyped, comparable_nil, comparable}
-use Rattle.go_operand_core.specs.Operators.{group, divides, takes, is_zero, with_constants, value, arithmetic, ordered, equated, binary_in, binary}
-use Rattle.go_operand_core.specs.Prefixes.{prefix, refused_unary, signed, pointed, indirection, address, signed_over, unary_in, unary}
-use Rattle.go_denote_core.specs.declared.things.Place.{Place}
-use Rattle.go_denote_core.specs.declared.things.Usage.{Usage}
-use Rattle.go_denote_core.specs.declared.things.Builtin.TheVariants as builtins
-use Rattle.go_denote_core.specs.declared.things.Dot.{Dot}
-use Rattle.go_denote_core.specs.declared.things.Dot.TheVariants as dots
-use Rattle.go_denote_core.specs.declared.things.Argument.{Argument}
-use Rattle.go_denote_core.specs.declared.things.Argument.TheVariants as arguments
-use Rattle.go_denote_core.specs.declared.things.Denoted.{Denoted}
-use Rattle.go_denote_core.specs.declared.things.Denoted.TheVariants as denotes
-use Rattle.go_denote_core.specs.Answers.{refused, found_answer, name_answer}
-use Rattle.go_denote_core.specs.Selectors.{selector_answer}
-use Rattle.go_denote_core.specs.Arguments.{argument_of_result, arguments_of}
-use Rattle.go_denote_core.specs.Calls.{call_answer}
-use Rattle.go_denote_core.specs.Laws.{SaysAlike, ValueAlike, GivenAlike, EachAlike, ArgumentAlike, ArgumentsAlike, CallsAlike}
-use Rattle.go_denote_core.proofs.Locality.{selectors_local, calls_local}
-use Rattle.go_literal_core.specs.declared.things.KeyAnswer.{KeyAnswer}
-use Rattle.go_literal_core.specs.declared.things.Keys.{Keys}
-use Rattle.go_literal_core.specs.declared.things.Mode.{Mode}
-use Rattle.go_literal_core.specs.declared.things.Mode.TheVariants as modes
-use Rattle.go_literal_core.specs.declared.things.NamedField.{NamedField}
-use Rattle.go_literal_core.specs.declared.things.NamedField.TheVariants as nameds
-use Rattle.go_literal_core.specs.Look.{FieldOf}
-use Rattle.go_literal_core.specs.Fields.{shown_field, named_field}
-use Rattle.go_literal_core.specs.Literals.{is_struct, struct_rule, struct_mode, type_at, literal_rule, literal_mode, element_target}
-use Rattle.go_literal_core.specs.Keys.{refused_key, missing_rule, found_key, key_answer}
-use Rattle.go_expr_core.specs.declared.things.Judged.{Judged}
-use Rattle.go_expr_core.specs.Looks.{Looks, at, literals_at}
-use Rattle.go_expr_core.specs.Operators.{of_operand, pointer_type, is_star, passed, unary_of, operand_of, binary_operands, binary_of}
-use Rattle.go_expr_core.specs.Elements.{key_target_by, is_again, target, misfit_rule, element_rule}
-use Rattle.go_near_core.specs.Near.{Each, IfAny, IfFine, NearValue, NearOperand, NearArgument, NearDot, NearField, NearDenoted}
+use Rattle.go_file_core.specs.operand_core.declared.types.ValueType.{ValueType}
+use Rattle.go_file_core.specs.operand_core.declared.types.ValueType.TheVariants as types
+use Rattle.go_file_core.specs.operand_core.declared.types.Operand.{Operand}
+use Rattle.go_file_core.specs.operand_core.declared.operators.Group.{Group}
+use Rattle.go_file_core.specs.operand_core.declared.operators.Group.TheVariants as groups
+use Rattle.go_file_core.specs.operand_core.declared.prefixes.Prefix.{Prefix}
+use Rattle.go_file_core.specs.operand_core.declared.prefixes.Prefix.TheVariants as prefixes
+use Rattle.go_file_core.specs.operand_core.TypeRules.{TypeRules}
+use Rattle.go_file_core.specs.operand_core.Values.{is_over, form_basic, basic_under, default_type, untyped, basic_type}
+use Rattle.go_file_core.specs.operand_core.Assign.{takes_nil, takes_untyped, untyped_assignable, assignable, taken, common_typed, common_untyped, common_nil, common, comparable_typed, comparable_untyped, comparable_nil, comparable}
+use Rattle.go_file_core.specs.operand_core.Operators.{group, divides, takes, is_zero, with_constants, value, arithmetic, ordered, equated, binary_in, binary}
+use Rattle.go_file_core.specs.operand_core.Prefixes.{prefix, refused_unary, signed, pointed, indirection, address, signed_over, unary_in, unary}
+use Rattle.go_file_core.specs.denote_core.declared.things.Place.{Place}
+use Rattle.go_file_core.specs.denote_core.declared.things.Usage.{Usage}
+use Rattle.go_file_core.specs.denote_core.declared.things.Builtin.TheVariants as builtins
+use Rattle.go_file_core.specs.denote_core.declared.things.Dot.{Dot}
+use Rattle.go_file_core.specs.denote_core.declared.things.Dot.TheVariants as dots
+use Rattle.go_file_core.specs.denote_core.declared.things.Argument.{Argument}
+use Rattle.go_file_core.specs.denote_core.declared.things.Argument.TheVariants as arguments
+use Rattle.go_file_core.specs.denote_core.declared.things.Denoted.{Denoted}
+use Rattle.go_file_core.specs.denote_core.declared.things.Denoted.TheVariants as denotes
+use Rattle.go_file_core.specs.denote_core.Answers.{refused, found_answer, name_answer}
+use Rattle.go_file_core.specs.denote_core.Selectors.{selector_answer}
+use Rattle.go_file_core.specs.denote_core.Arguments.{argument_of_result, arguments_of}
+use Rattle.go_file_core.specs.denote_core.Calls.{call_answer}
+use Rattle.go_file_core.specs.denote_core.Laws.{SaysAlike, ValueAlike, GivenAlike, EachAlike, ArgumentAlike, ArgumentsAlike, CallsAlike}
+use Rattle.go_file_core.specs.denote_core.Locality.{selectors_local, calls_local}
+use Rattle.go_file_core.specs.literal_core.declared.things.KeyAnswer.{KeyAnswer}
+use Rattle.go_file_core.specs.literal_core.declared.things.Keys.{Keys}
+use Rattle.go_file_core.specs.literal_core.declared.things.Mode.{Mode}
+use Rattle.go_file_core.specs.literal_core.declared.things.Mode.TheVariants as modes
+use Rattle.go_file_core.specs.literal_core.declared.things.NamedField.{NamedField}
+use Rattle.go_file_core.specs.literal_core.declared.things.NamedField.TheVariants as nameds
+use Rattle.go_file_core.specs.literal_core.Look.{FieldOf}
+use Rattle.go_file_core.specs.literal_core.Fields.{shown_field, named_field}
+use Rattle.go_file_core.specs.literal_core.Literals.{is_struct, struct_rule, struct_mode, type_at, literal_rule, literal_mode, element_target}
+use Rattle.go_file_core.specs.literal_core.Keys.{refused_key, missing_rule, found_key, key_answer}
+use Rattle.go_file_core.specs.expr_core.declared.things.Judged.{Judged}
+use Rattle.go_file_core.specs.expr_core.Looks.{Looks, at, literals_at}
+use Rattle.go_file_core.specs.expr_core.Operators.{of_operand, pointer_type, is_star, passed, unary_of, operand_of, binary_operands, binary_of}
+use Rattle.go_file_core.specs.expr_core.Elements.{key_target_by, is_again, target, misfit_rule, element_rule}
+use Rattle.go_near_core.specs.Near.{NearRest, Each, IfAny, IfFine, NearValue, NearOperand, NearArgument, NearDot, NearField, NearDenoted}
 use Rattle.go_near_core.specs.Looks.{AreRulesClosed, AreClosed, RulesAgree, LooksAgree}
 use Rattle.go_near_core.proofs.Closing.{either, common_near, unary_near, binary_near}
 
@@ -232,71 +232,71 @@ module _ {T : Type 0} (Near : T → Type 0) (rules others : TypeRules T) (law : 
   pointer_same None h = refl
   pointer_same (Some t) h = λ j. Some (agree.pointer_to t h j)
 
-  pub unary_judged : {S D : Type 0} (NearSign : S → Type 0) (op : Operator) (literal : Bool) (d : Denoted T S D) → NearDenoted Near NearSign d → unary_of rules op literal d ≡ unary_of others op literal d
-  unary_judged NearSign op literal (denotes.«Value» o) h = λ j. of_operand (unary_same op literal o h j)
-  unary_judged NearSign op literal (denotes.«Type» d t) h = λ j. if is_star op then record { denoted = denotes.«Type» d (pointer_same t h j); fault = None } else passed (refused_unary op)
-  unary_judged NearSign op literal denotes.Refused h = refl
-  unary_judged NearSign op literal denotes.Typeless h = refl
-  unary_judged NearSign op literal (denotes.«Package» d) h = refl
-  unary_judged NearSign op literal (denotes.Several s) h = refl
-  unary_judged NearSign op literal denotes.Nothing h = refl
-  unary_judged NearSign op literal (denotes.Func d s) h = refl
-  unary_judged NearSign op literal (denotes.Builtin d b) h = refl
+  pub unary_judged : {S D : Type 0} (Rest : NearRest S D) (op : Operator) (literal : Bool) (d : Denoted T S D) → NearDenoted Near Rest d → unary_of rules op literal d ≡ unary_of others op literal d
+  unary_judged Rest op literal (denotes.«Value» o) h = λ j. of_operand (unary_same op literal o h j)
+  unary_judged Rest op literal (denotes.«Type» d t) h = λ j. if is_star op then record { denoted = denotes.«Type» d (pointer_same t h j); fault = None } else passed (refused_unary op)
+  unary_judged Rest op literal denotes.Refused h = refl
+  unary_judged Rest op literal denotes.Typeless h = refl
+  unary_judged Rest op literal (denotes.«Package» d) h = refl
+  unary_judged Rest op literal (denotes.Several s) h = refl
+  unary_judged Rest op literal denotes.Nothing h = refl
+  unary_judged Rest op literal (denotes.Func d s) h = refl
+  unary_judged Rest op literal (denotes.Builtin d b) h = refl
 
-  operand_near : {S D : Type 0} (NearSign : S → Type 0) (d : Denoted T S D) → NearDenoted Near NearSign d → IfAny (NearOperand Near) (operand_of d)
-  operand_near NearSign (denotes.«Value» o) h = h
-  operand_near NearSign (denotes.«Type» d t) h = tt
-  operand_near NearSign denotes.Refused h = tt
-  operand_near NearSign denotes.Typeless h = tt
-  operand_near NearSign (denotes.«Package» d) h = tt
-  operand_near NearSign (denotes.Several s) h = tt
-  operand_near NearSign denotes.Nothing h = tt
-  operand_near NearSign (denotes.Func d s) h = tt
-  operand_near NearSign (denotes.Builtin d b) h = tt
+  operand_near : {S D : Type 0} (Rest : NearRest S D) (d : Denoted T S D) → NearDenoted Near Rest d → IfAny (NearOperand Near) (operand_of d)
+  operand_near Rest (denotes.«Value» o) h = h
+  operand_near Rest (denotes.«Type» d t) h = tt
+  operand_near Rest denotes.Refused h = tt
+  operand_near Rest denotes.Typeless h = tt
+  operand_near Rest (denotes.«Package» d) h = tt
+  operand_near Rest (denotes.Several s) h = tt
+  operand_near Rest denotes.Nothing h = tt
+  operand_near Rest (denotes.Func d s) h = tt
+  operand_near Rest (denotes.Builtin d b) h = tt
 
   operands_same : {S D : Type 0} (op : Operator) (a b : Option (Operand T)) → IfAny (NearOperand Near) a → IfAny (NearOperand Near) b → binary_operands {S = S} {D = D} rules op a b ≡ binary_operands others op a b
   operands_same op (Some a) (Some b) h k = λ j. of_operand (binary_same op a b h k j)
   operands_same op (Some a) None h k = refl
   operands_same op None b h k = refl
 
-  pub binary_judged : {S D : Type 0} (NearSign : S → Type 0) (op : Operator) (a b : Denoted T S D) → NearDenoted Near NearSign a → NearDenoted Near NearSign b → binary_of rules op a b ≡ binary_of others op a b
-  binary_judged NearSign op a b h k = operands_same op (operand_of a) (operand_of b) (operand_near NearSign a h) (operand_near NearSign b k)
+  pub binary_judged : {S D : Type 0} (Rest : NearRest S D) (op : Operator) (a b : Denoted T S D) → NearDenoted Near Rest a → NearDenoted Near Rest b → binary_of rules op a b ≡ binary_of others op a b
+  binary_judged Rest op a b h k = operands_same op (operand_of a) (operand_of b) (operand_near Rest a h) (operand_near Rest b k)
 
-  operand_judged : (S D : Type 0) (NearSign : S → Type 0) (r : Result (Operand T) Rule) → IfFine (NearOperand Near) r → NearDenoted Near NearSign (of_operand {S = S} {D = D} r).denoted
-  operand_judged S D NearSign (Ok o) h = h
-  operand_judged S D NearSign (Err rule) h = tt
+  operand_judged : (S D : Type 0) (Rest : NearRest S D) (r : Result (Operand T) Rule) → IfFine (NearOperand Near) r → NearDenoted Near Rest (of_operand {S = S} {D = D} r).denoted
+  operand_judged S D Rest (Ok o) h = h
+  operand_judged S D Rest (Err rule) h = tt
 
   pointer_near : (t : Option T) → IfAny Near t → IfAny Near (pointer_type rules t)
   pointer_near None h = tt
   pointer_near (Some t) h = law.pointer_to t h
 
-  pub unary_of_near : {S D : Type 0} (NearSign : S → Type 0) (op : Operator) (literal : Bool) (d : Denoted T S D) → NearDenoted Near NearSign d → NearDenoted Near NearSign (unary_of rules op literal d).denoted
-  unary_of_near NearSign op literal (denotes.«Value» o) h = operand_judged _ _ NearSign (unary rules op literal o) (unary_near Near rules law op literal o h)
-  unary_of_near {S = S} {D = D} NearSign op literal (denotes.«Type» d t) h = either (λ (x : Judged T S D). NearDenoted Near NearSign x.denoted) (is_star op) _ _ (pointer_near t h) tt
-  unary_of_near NearSign op literal denotes.Refused h = tt
-  unary_of_near NearSign op literal denotes.Typeless h = tt
-  unary_of_near NearSign op literal (denotes.«Package» d) h = tt
-  unary_of_near NearSign op literal (denotes.Several s) h = tt
-  unary_of_near NearSign op literal denotes.Nothing h = tt
-  unary_of_near NearSign op literal (denotes.Func d s) h = tt
-  unary_of_near NearSign op literal (denotes.Builtin d b) h = tt
+  pub unary_of_near : {S D : Type 0} (Rest : NearRest S D) (op : Operator) (literal : Bool) (d : Denoted T S D) → NearDenoted Near Rest d → NearDenoted Near Rest (unary_of rules op literal d).denoted
+  unary_of_near Rest op literal (denotes.«Value» o) h = operand_judged _ _ Rest (unary rules op literal o) (unary_near Near rules law op literal o h)
+  unary_of_near {S = S} {D = D} Rest op literal (denotes.«Type» d t) h = either (λ (x : Judged T S D). NearDenoted Near Rest x.denoted) (is_star op) _ _ (pointer_near t h) tt
+  unary_of_near Rest op literal denotes.Refused h = tt
+  unary_of_near Rest op literal denotes.Typeless h = tt
+  unary_of_near Rest op literal (denotes.«Package» d) h = tt
+  unary_of_near Rest op literal (denotes.Several s) h = tt
+  unary_of_near Rest op literal denotes.Nothing h = tt
+  unary_of_near Rest op literal (denotes.Func d s) h = tt
+  unary_of_near Rest op literal (denotes.Builtin d b) h = tt
 
-  operands_near : (S D : Type 0) (NearSign : S → Type 0) (op : Operator) (a b : Option (Operand T)) → IfAny (NearOperand Near) a → IfAny (NearOperand Near) b → NearDenoted Near NearSign (binary_operands {S = S} {D = D} rules op a b).denoted
-  operands_near S D NearSign op (Some a) (Some b) h k = operand_judged _ _ NearSign (binary rules op a b) (binary_near Near rules law op a b h k)
-  operands_near S D NearSign op (Some a) None h k = tt
-  operands_near S D NearSign op None b h k = tt
+  operands_near : (S D : Type 0) (Rest : NearRest S D) (op : Operator) (a b : Option (Operand T)) → IfAny (NearOperand Near) a → IfAny (NearOperand Near) b → NearDenoted Near Rest (binary_operands {S = S} {D = D} rules op a b).denoted
+  operands_near S D Rest op (Some a) (Some b) h k = operand_judged _ _ Rest (binary rules op a b) (binary_near Near rules law op a b h k)
+  operands_near S D Rest op (Some a) None h k = tt
+  operands_near S D Rest op None b h k = tt
 
-  pub binary_of_near : {S D : Type 0} (NearSign : S → Type 0) (op : Operator) (a b : Denoted T S D) → NearDenoted Near NearSign a → NearDenoted Near NearSign b → NearDenoted Near NearSign (binary_of rules op a b).denoted
-  binary_of_near NearSign op a b h k = operands_near _ _ NearSign op (operand_of a) (operand_of b) (operand_near NearSign a h) (operand_near NearSign b k)
+  pub binary_of_near : {S D : Type 0} (Rest : NearRest S D) (op : Operator) (a b : Denoted T S D) → NearDenoted Near Rest a → NearDenoted Near Rest b → NearDenoted Near Rest (binary_of rules op a b).denoted
+  binary_of_near Rest op a b h k = operands_near _ _ Rest op (operand_of a) (operand_of b) (operand_near Rest a h) (operand_near Rest b k)
 
 -- names, selectors, calls and literals
 
-module _ {T S D P : Type 0} (Near : T → Type 0) (NearSign : S → Type 0) (looks others : Looks T S D P) (law : AreClosed Near NearSign looks) (agree : LooksAgree Near NearSign looks others) where
+module _ {T S D P : Type 0} (Near : T → Type 0) (Rest : NearRest S D) (looks others : Looks T S D P) (law : AreClosed Near Rest looks) (agree : LooksAgree Near Rest looks others) where
   pub name_same : (o : ℕ) (p : Place) (name : List ℕ) → name_answer (at looks o) p name ≡ name_answer (at others o) p name
   name_same o p name = λ j. if is_blank name then refused N8 else found_answer p (agree.find name o j)
 
-  says_alike : (o : ℕ) (dot : Dot T D) (name : List ℕ) → NearDot Near dot → SaysAlike (at looks o) (at others o) dot name name
-  says_alike o (dots.«Package» d) name h = agree.exported d name
+  says_alike : (o : ℕ) (dot : Dot T D) (name : List ℕ) → NearDot Near Rest dot → SaysAlike (at looks o) (at others o) dot name name
+  says_alike o (dots.«Package» d) name h = agree.exported d name h
   says_alike o dots.Refused name h = tt
   says_alike o dots.Untyped name h = tt
   says_alike o (dots.«Value» operand) name h = (
@@ -304,7 +304,7 @@ module _ {T S D P : Type 0} (Near : T → Type 0) (NearSign : S → Type 0) (loo
     default_each Near looks.types others.types law.types agree.types (λ v. looks.select v name ≡ others.select v name) (λ v near. agree.select v name near) operand.value_type h,
   )
 
-  pub selector_same : (o : ℕ) (u : Usage) (dot : Dot T D) (name : List ℕ) → NearDot Near dot → selector_answer (at looks o) u dot name ≡ selector_answer (at others o) u dot name
+  pub selector_same : (o : ℕ) (u : Usage) (dot : Dot T D) (name : List ℕ) → NearDot Near Rest dot → selector_answer (at looks o) u dot name ≡ selector_answer (at others o) u dot name
   selector_same o u dot name h = selectors_local (at looks o) (at others o) u dot name (says_alike o dot name h)
 
   -- calls
@@ -332,7 +332,7 @@ module _ {T S D P : Type 0} (Near : T → Type 0) (NearSign : S → Type 0) (loo
   arguments_alike (a ∷ given) [] h k = tt
   arguments_alike (a ∷ given) (param ∷ params) h k = (argument_alike a param h.0 k.0, arguments_alike given params h.1 k.1)
 
-  calls_alike : (o : ℕ) (d : Denoted T S D) (given : List (Argument T)) → NearDenoted Near NearSign d → Each (NearArgument Near) given → CallsAlike (at looks o) (at others o) d given
+  calls_alike : (o : ℕ) (d : Denoted T S D) (given : List (Argument T)) → NearDenoted Near Rest d → Each (NearArgument Near) given → CallsAlike (at looks o) (at others o) d given
   calls_alike o (denotes.«Type» d None) given h k = tt
   calls_alike o (denotes.«Type» d (Some t)) given h k = each_alike _ (λ v near. given_to v t near h) given k
   calls_alike o (denotes.Func d s) given h k =
@@ -347,11 +347,11 @@ module _ {T S D P : Type 0} (Near : T → Type 0) (NearSign : S → Type 0) (loo
   calls_alike o (denotes.Several s) given h k = tt
   calls_alike o denotes.Nothing given h k = tt
 
-  pub call_same : (o : ℕ) (d : Denoted T S D) (free : Bool) (given : List (Argument T)) → NearDenoted Near NearSign d → Each (NearArgument Near) given
+  pub call_same : (o : ℕ) (d : Denoted T S D) (free : Bool) (given : List (Argument T)) → NearDenoted Near Rest d → Each (NearArgument Near) given
       → call_answer (at looks o) d free given ≡ call_answer (at others o) d free given
   call_same o d free given h k = calls_local (at looks o) (at others o) d free given (calls_alike o d given h k)
 
-  pub arguments_same : (o : ℕ) (ds : List (Denoted T S D)) → Each (NearDenoted Near NearSign) ds → arguments_of (at looks o) ds ≡ arguments_of (at others o) ds
+  pub arguments_same : (o : ℕ) (ds : List (Denoted T S D)) → Each (NearDenoted Near Rest) ds → arguments_of (at looks o) ds ≡ arguments_of (at others o) ds
   arguments_same o [] h = refl
   arguments_same o (denotes.Several s ∷ []) h = λ j. map argument_of_result (agree.results s h.0 j)
   arguments_same o (denotes.Nothing ∷ []) h = refl
@@ -400,7 +400,7 @@ module _ {T S D P : Type 0} (Near : T → Type 0) (NearSign : S → Type 0) (loo
       by_mode_same o t mode n (key_target_by looks t m (is_again key keys) key) h
       ∙ ap (element_target (literals_at others o) t mode n) (key_target_same t m (is_again key keys) key h)
 
-  pub misfit_same : (o : ℕ) (wanted : Option T) (d : Denoted T S D) → IfAny Near wanted → NearDenoted Near NearSign d → element_rule looks o wanted d ≡ element_rule others o wanted d
+  pub misfit_same : (o : ℕ) (wanted : Option T) (d : Denoted T S D) → IfAny Near wanted → NearDenoted Near Rest d → element_rule looks o wanted d ≡ element_rule others o wanted d
   misfit_same o None d h k = refl
   misfit_same o (Some t) (denotes.«Value» operand) h k = λ j. misfit_rule (not (assignable_same Near looks.types others.types law.types agree.types operand.value_type t k h j))
   misfit_same o (Some t) (denotes.«Type» d u) h k = refl

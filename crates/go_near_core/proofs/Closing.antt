@@ -4,50 +4,50 @@ use Rattle.std.specs.Prelude.{Option, Some, None, Result, Ok, Err, if◌then◌e
 use Rattle.std.specs.List.{list_all}
 use Rattle.go_text_core.specs.Text.{is_blank}
 use Rattle.go_text_core.specs.declared.rule.Rule.{Rule}
-use Rattle.go_scan_core.specs.declared.kind.Operator.{Operator}
-use Rattle.go_constant_core.specs.declared.values.Constant.{Constant}
+use Rattle.go_token_core.specs.declared.kind.Operator.{Operator}
+use Rattle.go_file_core.specs.constant_core.declared.values.Constant.{Constant}
 use Rattle.go_term_core.specs.declared.term.Basic.{Basic}
 use Rattle.go_term_core.specs.declared.term.Basic.TheVariants as basics
-use Rattle.go_operand_core.specs.declared.types.TypeForm.{TypeForm}
-use Rattle.go_operand_core.specs.declared.types.TypeForm.TheVariants as forms
-use Rattle.go_operand_core.specs.declared.types.ValueType.{ValueType}
-use Rattle.go_operand_core.specs.declared.types.ValueType.TheVariants as types
-use Rattle.go_operand_core.specs.declared.types.Operand.{Operand}
-use Rattle.go_operand_core.specs.declared.operators.Group.{Group}
-use Rattle.go_operand_core.specs.declared.operators.Group.TheVariants as groups
-use Rattle.go_operand_core.specs.declared.prefixes.Prefix.{Prefix}
-use Rattle.go_operand_core.specs.declared.prefixes.Prefix.TheVariants as prefixes
-use Rattle.go_operand_core.specs.TypeRules.{TypeRules}
-use Rattle.go_operand_core.specs.Values.{is_basic, is_over, basic_under, default_type, untyped}
-use Rattle.go_operand_core.specs.Assign.{assignable, taken, common_typed, common_kind, common_untyped, common_nil, common}
-use Rattle.go_operand_core.specs.Operators.{group, divides, takes, is_zero, computed, with_constants, arithmetic, ordered, equated, binary_in, binary}
-use Rattle.go_operand_core.specs.Prefixes.{prefix, signed, pointed, indirection, address, signed_over, unary_in, unary}
-use Rattle.go_operand_core.specs.Conversions.{makes_text, fits, convert, length_of}
-use Rattle.go_denote_core.specs.declared.things.Place.{Place}
-use Rattle.go_denote_core.specs.declared.things.Place.TheVariants as places
-use Rattle.go_denote_core.specs.declared.things.Usage.{Usage}
-use Rattle.go_denote_core.specs.declared.things.Usage.TheVariants as usages
-use Rattle.go_denote_core.specs.declared.things.Builtin.{Builtin}
-use Rattle.go_denote_core.specs.declared.things.Builtin.TheVariants as builtins
-use Rattle.go_denote_core.specs.declared.things.Dot.{Dot}
-use Rattle.go_denote_core.specs.declared.things.Dot.TheVariants as dots
-use Rattle.go_denote_core.specs.declared.things.Found.{Found}
-use Rattle.go_denote_core.specs.declared.things.Found.TheVariants as founds
-use Rattle.go_denote_core.specs.declared.things.Exported.{Exported}
-use Rattle.go_denote_core.specs.declared.things.Exported.TheVariants as exporteds
-use Rattle.go_denote_core.specs.declared.things.Selection.{Selection}
-use Rattle.go_denote_core.specs.declared.things.Selection.TheVariants as selections
-use Rattle.go_denote_core.specs.declared.things.Argument.{Argument}
-use Rattle.go_denote_core.specs.declared.things.Argument.TheVariants as arguments
-use Rattle.go_denote_core.specs.declared.things.Denoted.{Denoted}
-use Rattle.go_denote_core.specs.declared.things.Denoted.TheVariants as denotes
-use Rattle.go_denote_core.specs.declared.things.Answer.{Answer}
-use Rattle.go_denote_core.specs.Answers.{of_value, value_of_type, package_answer, type_answer, func_answer, value_answer, found_answer, name_answer}
-use Rattle.go_denote_core.specs.Selectors.{place_of, exported_answer, dot_of, field_answer, method_answer, member_answer, value_selector, selector_answer}
-use Rattle.go_denote_core.specs.Arguments.{argument_of_result, argument_of, arguments_alone, arguments_of}
-use Rattle.go_denote_core.specs.Calls.{of_results, all_fit, func_call, of_conversion, convert_argument, conversion, of_length, length_argument, fits_type, is_printable, builtin_call, judged_call, of_builtin, free_call, call_answer}
-use Rattle.go_expr_core.specs.Looks.{Looks, at}
-use Rattle.go_near_core.specs.Near.{Each, IfAny, IfFine, NearForm, NearValue, NearOperand, NearArgument, NearDot, NearFound, NearExported, NearSelection, NearDenoted}
+use Rattle.go_file_core.specs.operand_core.declared.types.TypeForm.{TypeForm}
+use Rattle.go_file_core.specs.operand_core.declared.types.TypeForm.TheVariants as forms
+use Rattle.go_file_core.specs.operand_core.declared.types.ValueType.{ValueType}
+use Rattle.go_file_core.specs.operand_core.declared.types.ValueType.TheVariants as types
+use Rattle.go_file_core.specs.operand_core.declared.types.Operand.{Operand}
+use Rattle.go_file_core.specs.operand_core.declared.operators.Group.{Group}
+use Rattle.go_file_core.specs.operand_core.declared.operators.Group.TheVariants as groups
+use Rattle.go_file_core.specs.operand_core.declared.prefixes.Prefix.{Prefix}
+use Rattle.go_file_core.specs.operand_core.declared.prefixes.Prefix.TheVariants as prefixes
+use Rattle.go_file_core.specs.operand_core.TypeRules.{TypeRules}
+use Rattle.go_file_core.specs.operand_core.Values.{is_basic, is_over, basic_under, default_type, untyped}
+use Rattle.go_file_core.specs.operand_core.Assign.{assignable, taken, common_typed, common_kind, common_untyped, common_nil, common}
+use Rattle.go_file_core.specs.operand_core.Operators.{group, divides, takes, is_zero, computed, with_constants, arithmetic, ordered, equated, binary_in, binary}
+use Rattle.go_file_core.specs.operand_core.Prefixes.{prefix, signed, pointed, indirection, address, signed_over, unary_in, unary}
+use Rattle.go_file_core.specs.operand_core.Conversions.{makes_text, fits, convert, length_of}
+use Rattle.go_file_core.specs.denote_core.declared.things.Place.{Place}
+use Rattle.go_file_core.specs.denote_core.declared.things.Place.TheVariants as places
+use Rattle.go_file_core.specs.denote_core.declared.things.Usage.{Usage}
+use Rattle.go_file_core.specs.denote_core.declared.things.Usage.TheVariants as usages
+use Rattle.go_file_core.specs.denote_core.declared.things.Builtin.{Builtin}
+use Rattle.go_file_core.specs.denote_core.declared.things.Builtin.TheVariants as builtins
+use Rattle.go_file_core.specs.denote_core.declared.things.Dot.{Dot}
+use Rattle.go_file_core.specs.denote_core.declared.things.Dot.TheVariants as dots
+use Rattle.go_file_core.specs.denote_core.declared.things.Found.{Found}
+use Rattle.go_file_core.specs.denote_core.declared.things.Found.TheVariants as founds
+use Rattle.go_file_core.specs.denote_core.declared.things.Exported.{Exported}
+use Rattle.go_file_core.specs.denote_core.declared.things.Exported.TheVariants as exporteds
+use Rattle.go_file_core.specs.denote_core.declared.things.Selection.{Selection}
+use Rattle.go_file_core.specs.denote_core.declared.things.Selection.TheVariants as selections
+use Rattle.go_file_core.specs.denote_core.declared.things.Argument.{Argument}
+use Rattle.go_file_core.specs.denote_core.declared.things.Argument.TheVariants as arguments
+use Rattle.go_file_core.specs.denote_core.declared.things.Denoted.{Denoted}
+use Rattle.go_file_core.specs.denote_core.declared.things.Denoted.TheVariants as denotes
+use Rattle.go_file_core.specs.denote_core.declared.things.Answer.{Answer}
+use Rattle.go_file_core.specs.denote_core.Answers.{of_value, value_of_type, package_answer, type_answer, func_answer, value_answer, found_answer, name_answer}
+use Rattle.go_file_core.specs.denote_core.Selectors.{place_of, exported_answer, dot_of, field_answer, method_answer, member_answer, value_selector, selector_answer}
+use Rattle.go_file_core.specs.denote_core.Arguments.{argument_of_result, argument_of, arguments_alone, arguments_of}
+use Rattle.go_file_core.specs.denote_core.Calls.{of_results, all_fit, func_call, of_conversion, convert_argument, conversion, of_length, length_argument, fits_type, is_printable, builtin_call, judged_call, of_builtin, free_call, call_answer}
+use Rattle.go_file_core.specs.expr_core.Looks.{Looks, at}
+use Rattle.go_near_core.specs.Near.{NearRest, Each, IfAny, IfFine, NearForm, NearValue, NearOperand, NearArgument, NearDot, NearFound, NearExported, NearSelection, NearDenoted}
 use Rattle.go_near_core.specs.Looks.{AreRulesClosed, AreClosed}
 
 pub either : {A : Type 0} (Is : A → Type 0) (b : Bool) (x y : A) → Is x → Is y → Is (if b then x else y)
@@ -187,12 +187,12 @@ module _ {T : Type 0} (Near : T → Type 0) (rules : TypeRules T) (law : AreRule
 
 -- names, selectors and calls
 
-module _ {T S D P : Type 0} (Near : T → Type 0) (NearSign : S → Type 0) (looks : Looks T S D P) (law : AreClosed Near NearSign looks) where
+module _ {T S D P : Type 0} (Near : T → Type 0) (Rest : NearRest S D) (looks : Looks T S D P) (law : AreClosed Near Rest looks) where
   abbrev Denotes : Denoted T S D → Type 0
-  Denotes d = NearDenoted Near NearSign d
+  Denotes d = NearDenoted Near Rest d
 
   abbrev Answers : Answer T S D P → Type 0
-  Answers a = NearDenoted Near NearSign a.denoted
+  Answers a = NearDenoted Near Rest a.denoted
 
   value_near : (o : Option (Operand T)) → IfAny (NearOperand Near) o → Denotes (of_value o)
   value_near None h = tt
@@ -202,12 +202,12 @@ module _ {T S D P : Type 0} (Near : T → Type 0) (NearSign : S → Type 0) (loo
   of_type_near b None h = tt
   of_type_near b (Some t) h = h
 
-  package_near : (p : Place) (d : D) → Answers (package_answer p d)
-  package_near places.BeforeDot d = tt
-  package_near places.TypeDot d = tt
-  package_near places.«Type» d = tt
-  package_near places.«Value» d = tt
-  package_near places.Callee d = tt
+  package_near : (p : Place) (d : D) → Rest.decl d → Answers (package_answer p d)
+  package_near places.BeforeDot d h = h
+  package_near places.TypeDot d h = h
+  package_near places.«Type» d h = tt
+  package_near places.«Value» d h = tt
+  package_near places.Callee d h = tt
 
   type_near : (p : Place) (d : D) (t : Option T) → IfAny Near t → Answers (type_answer p d t)
   type_near places.BeforeDot d t h = tt
@@ -230,11 +230,11 @@ module _ {T S D P : Type 0} (Near : T → Type 0) (NearSign : S → Type 0) (loo
   valued_near places.«Value» d o h = value_near o h
   valued_near places.Callee d o h = tt
 
-  found_near : (p : Place) (f : Found T S D) → NearFound Near NearSign f → Answers (found_answer p f)
+  found_near : (p : Place) (f : Found T S D) → NearFound Near Rest f → Answers (found_answer p f)
   found_near p founds.Missing h = tt
   found_near p founds.BadImport h = tt
   found_near p founds.Outside h = tt
-  found_near p (founds.«Package» d) h = package_near p d
+  found_near p (founds.«Package» d) h = package_near p d h
   found_near p (founds.«Type» d t) h = type_near p d t h
   found_near p (founds.Func d s) h = func_near p d (denotes.Func d s) h
   found_near p (founds.Builtin d b) h = func_near p d (denotes.Builtin d b) tt
@@ -243,7 +243,7 @@ module _ {T S D P : Type 0} (Near : T → Type 0) (NearSign : S → Type 0) (loo
   pub name_near : (o : ℕ) (p : Place) (name : List ℕ) → Answers (name_answer (at looks o) p name)
   name_near o p name = either Answers (is_blank name) _ _ tt (found_near p (looks.find name o) (law.find name o))
 
-  exported_near : (u : Usage) (e : Exported T S D) → NearExported Near NearSign e → Answers (exported_answer u e)
+  exported_near : (u : Usage) (e : Exported T S D) → NearExported Near Rest e → Answers (exported_answer u e)
   exported_near u exporteds.Absent h = tt
   exported_near u exporteds.Hidden h = tt
   exported_near u (exporteds.«Type» d t) h = type_near (place_of u) d t h
@@ -255,12 +255,12 @@ module _ {T S D P : Type 0} (Near : T → Type 0) (NearSign : S → Type 0) (loo
   field_near usages.«Type» d path t b h = of_type_near b t h
   field_near usages.«Value» d path t b h = of_type_near b t h
 
-  method_near : (u : Usage) (d : D) (path : P) (s : S) (b : Bool) → NearSign s → Answers (method_answer u d path s b)
+  method_near : (u : Usage) (d : D) (path : P) (s : S) (b : Bool) → Rest.sign s → Answers (method_answer u d path s b)
   method_near usages.Callee d path s b h = either Answers b _ _ h tt
   method_near usages.«Type» d path s b h = tt
   method_near usages.«Value» d path s b h = tt
 
-  member_near : (u : Usage) (b : Bool) (s : Selection T S D P) → NearSelection Near NearSign s → Answers (member_answer u b s)
+  member_near : (u : Usage) (b : Bool) (s : Selection T S D P) → NearSelection Near Rest s → Answers (member_answer u b s)
   member_near u b (selections.Missing rule) h = tt
   member_near u b (selections.«Field» d path t by_pointer) h = field_near u d path t (by_pointer || b) h
   member_near u b (selections.Method d path s needs by_pointer) h = method_near u d path s (not needs || (by_pointer || b)) h
@@ -269,17 +269,17 @@ module _ {T S D P : Type 0} (Near : T → Type 0) (NearSign : S → Type 0) (loo
   behind_near o u b None name h = tt
   behind_near o u b (Some t) name h = member_near u b (looks.select t name) (law.select t name h)
 
-  pub selector_near : (o : ℕ) (u : Usage) (dot : Dot T D) (name : List ℕ) → NearDot Near dot → Answers (selector_answer (at looks o) u dot name)
-  selector_near o u (dots.«Package» d) name h = either Answers (is_blank name) _ _ tt (exported_near u (looks.exported d name) (law.exported d name))
+  pub selector_near : (o : ℕ) (u : Usage) (dot : Dot T D) (name : List ℕ) → NearDot Near Rest dot → Answers (selector_answer (at looks o) u dot name)
+  selector_near o u (dots.«Package» d) name h = either Answers (is_blank name) _ _ tt (exported_near u (looks.exported d name) (law.exported d name h))
   selector_near o u dots.Refused name h = tt
   selector_near o u dots.Untyped name h = either Answers (is_blank name) _ _ tt tt
   selector_near o u (dots.«Value» operand) name h =
       either Answers (is_blank name) _ _ tt (behind_near o u operand.addressable (default_type looks.types operand.value_type) name (default_near Near looks.types law.types operand.value_type h))
 
-  pub dot_near : (b : Bool) (d : Denoted T S D) → Denotes d → NearDot {D = D} Near (dot_of b d)
-  dot_near b (denotes.«Package» d) h = tt
+  pub dot_near : (b : Bool) (d : Denoted T S D) → Denotes d → NearDot Near Rest (dot_of b d)
+  dot_near b (denotes.«Package» d) h = h
   dot_near b (denotes.«Value» o) h = h
-  dot_near b denotes.Refused h = either (NearDot Near) b _ _ tt tt
+  dot_near b denotes.Refused h = either (NearDot Near Rest) b _ _ tt tt
   dot_near b denotes.Typeless h = tt
   dot_near b (denotes.«Type» d t) h = tt
   dot_near b (denotes.Several s) h = tt
@@ -327,7 +327,7 @@ module _ {T S D P : Type 0} (Near : T → Type 0) (NearSign : S → Type 0) (loo
 
   -- calls
 
-  called_near : (s : S) (ts : List (Option T)) → NearSign s → Each (IfAny Near) ts → Denotes (of_results s ts)
+  called_near : (s : S) (ts : List (Option T)) → Rest.sign s → Each (IfAny Near) ts → Denotes (of_results s ts)
   called_near s [] h k = tt
   called_near s (t ∷ []) h k = of_type_near false t k.0
   called_near s (t ∷ u ∷ ts) h k = h
@@ -365,7 +365,7 @@ module _ {T S D P : Type 0} (Near : T → Type 0) (NearSign : S → Type 0) (loo
   builtin_near o d builtins.Panic (a ∷ b ∷ more) = tt
   builtin_near o d builtins.Print given = either Answers (list_all (is_printable (at looks o)) given) _ _ tt tt
 
-  func_call_near : (o : ℕ) (d : D) (s : S) (given : List (Argument T)) → NearSign s → Answers (func_call (at looks o) d s given)
+  func_call_near : (o : ℕ) (d : D) (s : S) (given : List (Argument T)) → Rest.sign s → Answers (func_call (at looks o) d s given)
   func_call_near o d s given h =
       either Answers (length given == length (looks.params s)) _ _
       (either Answers (all_fit (at looks o) given (looks.params s)) _ _ (called_near s (looks.results s) h (law.results s h)) tt) tt

@@ -2,35 +2,35 @@
 use Rattle.std.proofs.Common.{◌≡◌, ℕ, suc, Bool, true, List, [], ◌∷◌, ◌++◌, map, refl, sym, ap, ◌∙◌}
 use Rattle.std.specs.Prelude.{Option, Some, None}
 use Rattle.std.proofs.lemmas.List.{map-append}
-use Rattle.go_scan_core.specs.declared.kind.Operator.{Operator}
+use Rattle.go_token_core.specs.declared.kind.Operator.{Operator}
 use Rattle.go_tree_nodes.specs.declared.names.Ident.{Ident}
 use Rattle.go_tree_nodes.specs.declared.exprs.Key.{Key}
 use Rattle.go_tree_nodes.specs.declared.types.TypeName.{TypeName}
 use Rattle.go_tree_nodes.specs.declared.types.TypeName.TheVariants as type_names
 use Rattle.go_tree_nodes.specs.Trees.{TypeTree, FieldTrees, MethodTrees, SignatureTree, ResultTree, ParamTrees, NamedType, Pointer, ParenType, Struct, Interface, NoFields, NamedFields, EmbeddedField, NoMethods, Method, Signed, NoResult, OneResult, Results, NoParams, Param, ExprTree, ItemTrees, Integer, Text, Named, Paren, Unary, Binary, Select, Call, Literal, StructLiteral, NoItems, Item}
-use Rattle.go_tree_core.specs.declared.occurrence.Role.TheVariants as roles
-use Rattle.go_denote_core.specs.declared.things.Place.{Place}
-use Rattle.go_denote_core.specs.declared.things.Place.TheVariants as places
-use Rattle.go_denote_core.specs.declared.things.Usage.TheVariants as usages
-use Rattle.go_denote_core.specs.declared.things.Denoted as things
-use Rattle.go_denote_core.specs.declared.things.Denoted.TheVariants as denotes
-use Rattle.go_denote_core.specs.declared.things.Answer.{Answer}
-use Rattle.go_denote_core.specs.Selectors.{dot_of, selector_answer}
-use Rattle.go_denote_core.specs.Arguments.{arguments_of, is_free}
-use Rattle.go_denote_core.specs.Calls.{call_answer}
-use Rattle.go_literal_core.specs.declared.things.KeyAnswer.{KeyAnswer}
-use Rattle.go_literal_core.specs.declared.things.Mode.{Mode}
-use Rattle.go_literal_core.specs.Literals.{literal_type, literal_denotes}
-use Rattle.go_literal_core.specs.Repeats.{has_name}
-use Rattle.go_expr_core.specs.Looks.{Looks, at}
-use Rattle.go_expr_core.specs.Places.{inside, under_place, left_place, whole, is_name, is_literal, is_lone_call, is_several, start, item_start, type_name_start, type_start, place_role, role_usage}
-use Rattle.go_expr_core.specs.Operators.{unary_of, binary_of}
-use Rattle.go_expr_core.specs.Denoting.{ident_answer, type_name_answer, named_type, written_type, denoted, denoted_items, select_answer}
-use Rattle.go_expr_core.specs.Elements.{key_names, all_keys, count, keys_of, is_mixed, target, element_rule, whole_mode}
-use Rattle.go_expr_core.specs.Uses.{made_use, use_of, uses, spots, type_name_spots, type_name_uses, type_spots, fields_spots, methods_spots, signature_spots, result_spots, params_spots, key_spots, key_uses, args_spots, args_uses, items_spots, items_uses}
-use Rattle.go_expr_core.specs.TypeUses.{type_uses, fields_uses, methods_uses, signature_uses, result_uses, params_uses}
-use Rattle.go_expr_core.specs.Faults.{fault_at, single_rule, listed_rule, faults, args_faults, items_faults, operand_faults, literal_faults}
-use Rattle.go_near_core.specs.Near.{Each, IfAny, NearArgument, NearDot, NearDenoted}
+use Rattle.go_file_core.specs.tree_core.declared.occurrence.Role.TheVariants as roles
+use Rattle.go_file_core.specs.denote_core.declared.things.Place.{Place}
+use Rattle.go_file_core.specs.denote_core.declared.things.Place.TheVariants as places
+use Rattle.go_file_core.specs.denote_core.declared.things.Usage.TheVariants as usages
+use Rattle.go_file_core.specs.denote_core.declared.things.Denoted as things
+use Rattle.go_file_core.specs.denote_core.declared.things.Denoted.TheVariants as denotes
+use Rattle.go_file_core.specs.denote_core.declared.things.Answer.{Answer}
+use Rattle.go_file_core.specs.denote_core.Selectors.{dot_of, selector_answer}
+use Rattle.go_file_core.specs.denote_core.Arguments.{arguments_of, is_free}
+use Rattle.go_file_core.specs.denote_core.Calls.{call_answer}
+use Rattle.go_file_core.specs.literal_core.declared.things.KeyAnswer.{KeyAnswer}
+use Rattle.go_file_core.specs.literal_core.declared.things.Mode.{Mode}
+use Rattle.go_file_core.specs.literal_core.Literals.{literal_type, literal_denotes}
+use Rattle.go_file_core.specs.literal_core.Repeats.{has_name}
+use Rattle.go_file_core.specs.expr_core.Looks.{Looks, at}
+use Rattle.go_file_core.specs.expr_core.Places.{inside, under_place, left_place, whole, is_name, is_literal, is_lone_call, is_several, start, item_start, type_name_start, type_start, place_role, role_usage}
+use Rattle.go_file_core.specs.expr_core.Operators.{unary_of, binary_of}
+use Rattle.go_file_core.specs.expr_core.Denoting.{ident_answer, type_name_answer, named_type, written_type, denoted, denoted_items, select_answer}
+use Rattle.go_file_core.specs.expr_core.Elements.{key_names, all_keys, count, keys_of, is_mixed, target, element_rule, whole_mode}
+use Rattle.go_file_core.specs.expr_core.Uses.{made_use, use_of, uses, spots, type_name_spots, type_name_uses, type_spots, fields_spots, methods_spots, signature_spots, result_spots, params_spots, key_spots, key_uses, args_spots, args_uses, items_spots, items_uses}
+use Rattle.go_file_core.specs.expr_core.TypeUses.{type_uses, fields_uses, methods_uses, signature_uses, result_uses, params_uses}
+use Rattle.go_file_core.specs.expr_core.Faults.{fault_at, single_rule, listed_rule, faults, args_faults, items_faults, operand_faults, literal_faults}
+use Rattle.go_near_core.specs.Near.{NearRest, Each, IfAny, NearArgument, NearDot, NearDenoted}
 use Rattle.go_near_core.specs.Looks.{AreClosed, LooksAgree}
 use Rattle.go_near_core.specs.Laws.{IsNearby}
 use Rattle.go_near_core.proofs.Closing.{name_near, selector_near, dot_near, arguments_near, call_near}
@@ -39,29 +39,29 @@ use Rattle.go_near_core.proofs.Agreeing.{unary_judged, binary_judged, unary_of_n
 pub mapped : {A B : Type 0} (f g : A → B) (xs ys zs ws : List A) → map f xs ≡ map g zs → map f ys ≡ map g ws → map f (xs ++ ys) ≡ map g (zs ++ ws)
 mapped f g xs ys zs ws e h = map-append f xs ys ∙ ((λ j. e j ++ h j) ∙ sym (map-append g zs ws))
 
-module _ {T S D P : Type 0} (Near : T → Type 0) (NearSign : S → Type 0) (looks others : Looks T S D P) (law : AreClosed Near NearSign looks) (agree : LooksAgree Near NearSign looks others) where
+module _ {T S D P : Type 0} (Near : T → Type 0) (Rest : NearRest S D) (looks others : Looks T S D P) (law : AreClosed Near Rest looks) (agree : LooksAgree Near Rest looks others) where
   abbrev Denotes : things.Denoted T S D → Type 0
-  Denotes d = NearDenoted Near NearSign d
+  Denotes d = NearDenoted Near Rest d
 
   -- names
 
   pub ident_near : (p : Place) (x : Ident) → Denotes (ident_answer looks p x).denoted
-  ident_near p x = name_near Near NearSign looks law x.span.start p x.name
+  ident_near p x = name_near Near Rest looks law x.span.start p x.name
 
   pub ident_same : (p : Place) (x : Ident) → ident_answer looks p x ≡ ident_answer others p x
-  ident_same p x = name_same Near NearSign looks others law agree x.span.start p x.name
+  ident_same p x = name_same Near Rest looks others law agree x.span.start p x.name
 
-  qualifier_near : (x : Ident) → NearDot {D = D} Near (dot_of true (ident_answer looks places.TypeDot x).denoted)
-  qualifier_near x = dot_near Near NearSign looks law true (ident_answer looks places.TypeDot x).denoted (ident_near places.TypeDot x)
+  qualifier_near : (x : Ident) → NearDot Near Rest (dot_of true (ident_answer looks places.TypeDot x).denoted)
+  qualifier_near x = dot_near Near Rest looks law true (ident_answer looks places.TypeDot x).denoted (ident_near places.TypeDot x)
 
   type_name_near : (n : TypeName) → Denotes (type_name_answer looks n).denoted
   type_name_near (type_names.Plain x) = ident_near places.«Type» x
-  type_name_near (type_names.Qualified q dot x) = selector_near Near NearSign looks law x.span.start usages.«Type» (dot_of true (ident_answer looks places.TypeDot q).denoted) x.name (qualifier_near q)
+  type_name_near (type_names.Qualified q dot x) = selector_near Near Rest looks law x.span.start usages.«Type» (dot_of true (ident_answer looks places.TypeDot q).denoted) x.name (qualifier_near q)
 
   type_name_same : (n : TypeName) → type_name_answer looks n ≡ type_name_answer others n
   type_name_same (type_names.Plain x) = ident_same places.«Type» x
   type_name_same (type_names.Qualified q dot x) =
-      selector_same Near NearSign looks others law agree x.span.start usages.«Type» (dot_of true (ident_answer looks places.TypeDot q).denoted) x.name (qualifier_near q)
+      selector_same Near Rest looks others law agree x.span.start usages.«Type» (dot_of true (ident_answer looks places.TypeDot q).denoted) x.name (qualifier_near q)
       ∙ ap (λ (a : Answer T S D P). selector_answer (at others x.span.start) usages.«Type» (dot_of true a.denoted) x.name) (ident_same places.TypeDot q)
 
   literal_near : (d : things.Denoted T S D) → Denotes d → IfAny Near (literal_type d)
@@ -99,13 +99,13 @@ module _ {T S D P : Type 0} (Near : T → Type 0) (NearSign : S → Type 0) (loo
     denoted_near p (Text t) = tt
     denoted_near p (Named x) = ident_near p x
     denoted_near p (Paren first e last) = denoted_near (inside p) e
-    denoted_near p (Unary op span e) = unary_of_near Near looks.types others.types law.types agree.types NearSign op (is_literal e) (denoted looks (under_place op p) e) (denoted_near (under_place op p) e)
+    denoted_near p (Unary op span e) = unary_of_near Near looks.types others.types law.types agree.types Rest op (is_literal e) (denoted looks (under_place op p) e) (denoted_near (under_place op p) e)
     denoted_near p (Binary a op span b) =
-        binary_of_near Near looks.types others.types law.types agree.types NearSign op (denoted looks places.«Value» a) (denoted looks places.«Value» b) (denoted_near places.«Value» a) (denoted_near places.«Value» b)
+        binary_of_near Near looks.types others.types law.types agree.types Rest op (denoted looks places.«Value» a) (denoted looks places.«Value» b) (denoted_near places.«Value» a) (denoted_near places.«Value» b)
     denoted_near p (Select e dot x) =
-        selector_near Near NearSign looks law x.span.start (whole p) (dot_of (is_name e) (denoted looks (left_place p e) e)) x.name (dot_near Near NearSign looks law (is_name e) (denoted looks (left_place p e) e) (denoted_near (left_place p e) e))
+        selector_near Near Rest looks law x.span.start (whole p) (dot_of (is_name e) (denoted looks (left_place p e) e)) x.name (dot_near Near Rest looks law (is_name e) (denoted looks (left_place p e) e) (denoted_near (left_place p e) e))
     denoted_near p (Call e first items last) =
-        call_near Near NearSign looks law first.start (denoted looks places.Callee e) (is_free (is_lone_call items) (denoted_items looks items)) (arguments_of (at looks first.start) (denoted_items looks items)) (denoted_near places.Callee e)
+        call_near Near Rest looks law first.start (denoted looks places.Callee e) (is_free (is_lone_call items) (denoted_items looks items)) (arguments_of (at looks first.start) (denoted_items looks items)) (denoted_near places.Callee e)
     denoted_near p (Literal n first items last) = literal_denotes_near (named_type looks n) (named_near n)
     denoted_near p (StructLiteral t first items last) = literal_denotes_near (written_type looks t) (written_near t)
 
@@ -114,32 +114,32 @@ module _ {T S D P : Type 0} (Near : T → Type 0) (NearSign : S → Type 0) (loo
     items_near (Item key e comma rest) = (denoted_near places.«Value» e, items_near rest)
 
   called_near : (first : ℕ) (items : ItemTrees) → Each (NearArgument Near) (arguments_of (at looks first) (denoted_items looks items))
-  called_near first items = arguments_near Near NearSign looks law first (denoted_items looks items) (items_near items)
+  called_near first items = arguments_near Near Rest looks law first (denoted_items looks items) (items_near items)
 
-  left_near : (p : Place) (e : ExprTree) → NearDot {D = D} Near (dot_of (is_name e) (denoted looks (left_place p e) e))
-  left_near p e = dot_near Near NearSign looks law (is_name e) (denoted looks (left_place p e) e) (denoted_near (left_place p e) e)
+  left_near : (p : Place) (e : ExprTree) → NearDot Near Rest (dot_of (is_name e) (denoted looks (left_place p e) e))
+  left_near p e = dot_near Near Rest looks law (is_name e) (denoted looks (left_place p e) e) (denoted_near (left_place p e) e)
 
   select_by : (p : Place) (e : ExprTree) (x : Ident) → denoted looks (left_place p e) e ≡ denoted others (left_place p e) e → select_answer looks p e x ≡ select_answer others p e x
   select_by p e x same =
-      selector_same Near NearSign looks others law agree x.span.start (whole p) (dot_of (is_name e) (denoted looks (left_place p e) e)) x.name (left_near p e)
+      selector_same Near Rest looks others law agree x.span.start (whole p) (dot_of (is_name e) (denoted looks (left_place p e) e)) x.name (left_near p e)
       ∙ ap (λ d. selector_answer (at others x.span.start) (whole p) (dot_of (is_name e) d) x.name) same
 
   call_by : (e : ExprTree) (o : ℕ) (items : ItemTrees) → denoted looks places.Callee e ≡ denoted others places.Callee e → denoted_items looks items ≡ denoted_items others items
       → call_answer (at looks o) (denoted looks places.Callee e) (is_free (is_lone_call items) (denoted_items looks items)) (arguments_of (at looks o) (denoted_items looks items))
       ≡ call_answer (at others o) (denoted others places.Callee e) (is_free (is_lone_call items) (denoted_items others items)) (arguments_of (at others o) (denoted_items others items))
   call_by e o items same all =
-      call_same Near NearSign looks others law agree o (denoted looks places.Callee e) (is_free (is_lone_call items) (denoted_items looks items)) (arguments_of (at looks o) (denoted_items looks items)) (denoted_near places.Callee e) (called_near o items)
-      ∙ (ap (λ l. call_answer (at others o) (denoted looks places.Callee e) (is_free (is_lone_call items) (denoted_items looks items)) l) (arguments_same Near NearSign looks others law agree o (denoted_items looks items) (items_near items))
+      call_same Near Rest looks others law agree o (denoted looks places.Callee e) (is_free (is_lone_call items) (denoted_items looks items)) (arguments_of (at looks o) (denoted_items looks items)) (denoted_near places.Callee e) (called_near o items)
+      ∙ (ap (λ l. call_answer (at others o) (denoted looks places.Callee e) (is_free (is_lone_call items) (denoted_items looks items)) l) (arguments_same Near Rest looks others law agree o (denoted_items looks items) (items_near items))
       ∙ (λ j. call_answer (at others o) (same j) (is_free (is_lone_call items) (all j)) (arguments_of (at others o) (all j))))
 
   unary_by : (p : Place) (op : Operator) (e : ExprTree) → denoted looks p e ≡ denoted others p e → unary_of looks.types op (is_literal e) (denoted looks p e) ≡ unary_of others.types op (is_literal e) (denoted others p e)
   unary_by p op e same =
-      unary_judged Near looks.types others.types law.types agree.types NearSign op (is_literal e) (denoted looks p e) (denoted_near p e) ∙ ap (unary_of others.types op (is_literal e)) same
+      unary_judged Near looks.types others.types law.types agree.types Rest op (is_literal e) (denoted looks p e) (denoted_near p e) ∙ ap (unary_of others.types op (is_literal e)) same
 
   binary_by : (op : Operator) (a b : ExprTree) → denoted looks places.«Value» a ≡ denoted others places.«Value» a → denoted looks places.«Value» b ≡ denoted others places.«Value» b
       → binary_of looks.types op (denoted looks places.«Value» a) (denoted looks places.«Value» b) ≡ binary_of others.types op (denoted others places.«Value» a) (denoted others places.«Value» b)
   binary_by op a b one two =
-      binary_judged Near looks.types others.types law.types agree.types NearSign op (denoted looks places.«Value» a) (denoted looks places.«Value» b) (denoted_near places.«Value» a) (denoted_near places.«Value» b)
+      binary_judged Near looks.types others.types law.types agree.types Rest op (denoted looks places.«Value» a) (denoted looks places.«Value» b) (denoted_near places.«Value» a) (denoted_near places.«Value» b)
       ∙ (λ j. binary_of others.types op (one j) (two j))
 
   mutual
@@ -199,7 +199,7 @@ module _ {T S D P : Type 0} (Near : T → Type 0) (NearSign : S → Type 0) (loo
   key_used : (t : Option T) (m : Bool) (before : List (List ℕ)) (key : Option Key) → IfAny Near t → key_uses looks t m before key ≡ key_uses others t m before key
   key_used t m before None h = refl
   key_used t m before (Some k) h =
-      ap (λ (a : KeyAnswer T D P). made_use k.name.span.start roles.Key a.outcome ∷ []) (key_same Near NearSign looks others law agree k.name.span.start t m (has_name k.name.name before) k.name.name h)
+      ap (λ (a : KeyAnswer T D P). made_use k.name.span.start roles.Key a.outcome ∷ []) (key_same Near Rest looks others law agree k.name.span.start t m (has_name k.name.name before) k.name.name h)
 
   mutual
     pub used_same : (p : Place) (e : ExprTree) → uses looks p e ≡ uses others p e
@@ -242,14 +242,14 @@ module _ {T S D P : Type 0} (Near : T → Type 0) (NearSign : S → Type 0) (loo
       → items_faults looks t (whole_mode looks offset t items) (is_mixed (keys_of items)) 0 [] items ≡ items_faults others t (whole_mode looks offset t items) (is_mixed (keys_of items)) 0 [] items
       → literal_faults looks offset t items ≡ literal_faults others offset t items
   literal_with offset t items h same =
-      let elements = same ∙ ap (λ m. items_faults others t m (is_mixed (keys_of items)) 0 [] items) (mode_same Near NearSign looks others law agree offset t (keys_of items) (count items) h) in
-      λ j. fault_at offset (rule_same Near NearSign looks others law agree offset t (keys_of items) (count items) h j) ++ elements j
+      let elements = same ∙ ap (λ m. items_faults others t m (is_mixed (keys_of items)) 0 [] items) (mode_same Near Rest looks others law agree offset t (keys_of items) (count items) h) in
+      λ j. fault_at offset (rule_same Near Rest looks others law agree offset t (keys_of items) (count items) h j) ++ elements j
 
   element_by : (t : Option T) (mode : Mode) (m : Bool) (n : ℕ) (keys : List (List ℕ)) (key : Option Key) (e : ExprTree) → IfAny Near t
       → element_rule looks (start e) (target looks (start e) t mode m n keys key) (denoted looks places.«Value» e) ≡ element_rule others (start e) (target others (start e) t mode m n keys key) (denoted others places.«Value» e)
   element_by t mode m n keys key e h =
-      misfit_same Near NearSign looks others law agree (start e) (target looks (start e) t mode m n keys key) (denoted looks places.«Value» e) (target_near Near NearSign looks others law agree (start e) t mode m n keys key h) (denoted_near places.«Value» e)
-      ∙ (λ j. element_rule others (start e) (target_same Near NearSign looks others law agree (start e) t mode m n keys key h j) (denoted_same places.«Value» e j))
+      misfit_same Near Rest looks others law agree (start e) (target looks (start e) t mode m n keys key) (denoted looks places.«Value» e) (target_near Near Rest looks others law agree (start e) t mode m n keys key h) (denoted_near places.«Value» e)
+      ∙ (λ j. element_rule others (start e) (target_same Near Rest looks others law agree (start e) t mode m n keys key h j) (denoted_same places.«Value» e j))
 
   pub written_faults : (t : TypeTree) → looks.written.faults_of (named_type looks) t ≡ others.written.faults_of (named_type others) t
   written_faults t = agree.faults_of (named_type looks) t ∙ (λ j. others.written.faults_of (λ n. named_same n j) t)
@@ -283,5 +283,5 @@ module _ {T S D P : Type 0} (Near : T → Type 0) (NearSign : S → Type 0) (loo
     elements_same t mode m n before (Item key e comma rest) h =
         λ j. (operand_with places.«Value» e (faults_same places.«Value» e) j ++ fault_at (item_start key e) (element_by t mode m n (before ++ all_keys rest) key e h j)) ++ elements_same t mode m (suc n) (before ++ key_names key) rest h j
 
-  pub nearby : (p : Place) (e : ExprTree) → IsNearby Near NearSign looks others p e
+  pub nearby : (p : Place) (e : ExprTree) → IsNearby Near Rest looks others p e
   nearby p e = record { near = denoted_near p e; denoted = denoted_same p e; uses = used_same p e; faults = faults_same p e }

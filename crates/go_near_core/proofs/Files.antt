@@ -2,32 +2,31 @@
 use Rattle.std.proofs.Common.{◌≡◌, List, ◌++◌, refl}
 use Rattle.std.specs.Prelude.{Option}
 use Rattle.std.specs.List.{flat_map}
-use Rattle.go_decl_core.specs.declared.keys.DeclKey.{DeclKey}
 use Rattle.go_tree_nodes.specs.Trees.{DeclTree, Value, Types, Func, FileTree}
-use Rattle.go_block_core.specs.declared.imports.Imported.{Imported}
-use Rattle.go_block_core.specs.Naming.{file_specs}
-use Rattle.go_written_core.specs.Written as types
-use Rattle.go_written_core.specs.Written.{InFile}
-use Rattle.go_face_core.specs.Faces.{TheFace}
-use Rattle.go_env_core.specs.Scenes.{SceneModel}
-use Rattle.go_func_core.specs.Stands.{outer_looks}
+use Rattle.go_file_core.specs.block_core.declared.imports.Imported.{Imported}
+use Rattle.go_file_core.specs.block_core.Naming.{file_specs}
+use Rattle.go_file_core.specs.written_core.Written as types
+use Rattle.go_file_core.specs.written_core.Written.{InFile}
+use Rattle.go_file_core.specs.face_core.Faces.{TheFace}
+use Rattle.go_file_core.specs.env_core.Scenes.{SceneModel}
+use Rattle.go_file_core.specs.func_core.Stands.{outer_looks}
 use Rattle.go_file_core.specs.Imports.{imports_uses}
 use Rattle.go_file_core.specs.Files.{decl_uses, decl_faults, file_uses, file_faults}
-use Rattle.go_table_core.specs.Entries.{Entry}
-use Rattle.go_near_core.specs.Tables.{IsNear, IsNearSign, AgreeOn}
+use Rattle.go_file_core.specs.table_core.Entries.{Entry}
+use Rattle.go_near_core.specs.Tables.{near_by, Nearby, IsNear, near_rest, AgreeOn}
 use Rattle.go_near_core.specs.Functions.{stand, with_types, IsStandNear, StandsAgree}
 use Rattle.go_near_core.specs.Laws.{FunctionsLookNearby, FilesLookNearby, OtherTypesDoNotCount}
 use Rattle.go_near_core.proofs.Functions.{outer_closed, outer_agree, function_same}
 use Rattle.go_near_core.proofs.Tops.{values_used, values_break, types_used}
 
-module _ (near : List DeclKey) (file : InFile) (s t : SceneModel) (known others : List (Option TheFace)) (top other : types.Meaning) (law : StandsAgree near file s t known others top other) where
+module _ (near : Nearby) (file : InFile) (s t : SceneModel) (known others : List (Option TheFace)) (top other : types.Meaning) (law : StandsAgree near file s t known others top other) where
   decl_used : (d : DeclTree) → decl_uses (stand file s known top) d ≡ decl_uses (stand file t others other) d
-  decl_used (Value v) = values_used (IsNear near) (IsNearSign near) (outer_looks (stand file s known top)) (outer_looks (stand file t others other)) (outer_closed near file s t known others top other law) (outer_agree near file s t known others top other law) v
-  decl_used (Types d) = types_used (IsNear near) (IsNearSign near) (outer_looks (stand file s known top)) (outer_looks (stand file t others other)) (outer_closed near file s t known others top other law) (outer_agree near file s t known others top other law) d
+  decl_used (Value v) = values_used (IsNear near) (near_rest near) (outer_looks (stand file s known top)) (outer_looks (stand file t others other)) (outer_closed near file s t known others top other law) (outer_agree near file s t known others top other law) v
+  decl_used (Types d) = types_used (IsNear near) (near_rest near) (outer_looks (stand file s known top)) (outer_looks (stand file t others other)) (outer_closed near file s t known others top other law) (outer_agree near file s t known others top other law) d
   decl_used (Func f) = λ j. (function_same near file s t known others top other law f j).uses
 
   decl_breaks : (d : DeclTree) → decl_faults (stand file s known top) d ≡ decl_faults (stand file t others other) d
-  decl_breaks (Value v) = values_break (IsNear near) (IsNearSign near) (outer_looks (stand file s known top)) (outer_looks (stand file t others other)) (outer_closed near file s t known others top other law) (outer_agree near file s t known others top other law) v
+  decl_breaks (Value v) = values_break (IsNear near) (near_rest near) (outer_looks (stand file s known top)) (outer_looks (stand file t others other)) (outer_closed near file s t known others top other law) (outer_agree near file s t known others top other law) v
   decl_breaks (Types d) = refl
   decl_breaks (Func f) = λ j. (function_same near file s t known others top other law f j).faults
 
@@ -38,20 +37,20 @@ module _ (near : List DeclKey) (file : InFile) (s t : SceneModel) (known others 
   file_breaks f = λ j. flat_map (λ d. decl_breaks d.decl j) f.decls
 
 pub functions_nearby : FunctionsLookNearby
-functions_nearby near file s t known others top other f law = function_same near file s t known others top other law f
+functions_nearby near file s t known others top other f law = function_same (near_by near) file s t known others top other law f
 
 pub files_nearby : FilesLookNearby
 files_nearby = record {
-  uses = λ near file s t known others top other imports f law. file_used near file s t known others top other law imports f;
-  faults = λ near file s t known others top other f law. file_breaks near file s t known others top other law f;
+  uses = λ near file s t known others top other imports f law. file_used (near_by near) file s t known others top other law imports f;
+  faults = λ near file s t known others top other f law. file_breaks (near_by near) file s t known others top other law f;
 }
 
 -- with another table of types alone
 
-with_table : (near : List DeclKey) (file : InFile) (s : SceneModel) (es : List Entry) (known : List (Option TheFace)) (top : types.Meaning)
+with_table : (near : Nearby) (file : InFile) (s : SceneModel) (es : List Entry) (known : List (Option TheFace)) (top : types.Meaning)
     → IsStandNear near file s known top → AgreeOn near s.types es → StandsAgree near file s (with_types s es) known known top top
 with_table near file s es known top law agree = record {
-  scenes = record { path = refl; types = agree; exported = λ d name. refl; exported_near = law.exported };
+  scenes = record { path = refl; types = agree; exported = λ d name h. refl; exported_near = law.exported };
   names = λ name. refl;
   outside = λ name o. refl;
   outside_near = law.outside;
@@ -61,6 +60,6 @@ with_table near file s es known top law agree = record {
 
 pub other_types : OtherTypesDoNotCount
 other_types = record {
-  uses = λ near file s es known top imports f law agree. file_used near file s (with_types s es) known known top top (with_table near file s es known top law agree) imports f;
-  faults = λ near file s es known top f law agree. file_breaks near file s (with_types s es) known known top top (with_table near file s es known top law agree) f;
+  uses = λ near file s es known top imports f law agree. file_used (near_by near) file s (with_types s es) known known top top (with_table (near_by near) file s es known top law agree) imports f;
+  faults = λ near file s es known top f law agree. file_breaks (near_by near) file s (with_types s es) known known top top (with_table (near_by near) file s es known top law agree) f;
 }

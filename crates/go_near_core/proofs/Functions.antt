@@ -1,51 +1,51 @@
 -- A function is the same in two stands of a file that agree on what is near.
-use Rattle.std.proofs.Common.{◌≡◌, ℕ, zero, suc, Bool, List, [], ◌∷◌, ◌++◌, map, refl, ap, ◌∙◌, Contains, arith}
+use Rattle.std.proofs.Common.{◌≡◌, ℕ, zero, suc, Bool, List, [], ◌∷◌, ◌++◌, map, refl, ap, ◌∙◌, arith}
 use Rattle.std.specs.Prelude.{Option, Some, None, ⊤, if◌then◌else◌}
-use Rattle.go_decl_core.specs.declared.keys.DeclKey.{DeclKey}
+use Rattle.go_term_core.specs.decl_core.declared.keys.DeclKey.{DeclKey}
 use Rattle.go_tree_nodes.specs.declared.types.TypeName.{TypeName}
 use Rattle.go_tree_nodes.specs.Trees.{TypeTree, FuncTree}
 use Rattle.go_term_core.specs.declared.term.MemberPlace.TheVariants as places
 use Rattle.go_term_core.specs.Terms.{Term, NoType}
-use Rattle.go_table_core.specs.Entries.{term_in}
-use Rattle.go_settle_core.specs.Settled.{kind_of_term, settled}
-use Rattle.go_settle_core.proofs.Local.{settling_is_local}
-use Rattle.go_settle_core.proofs.Mentions.{settled_mentions_written}
-use Rattle.go_embed_core.proofs.Telling.{faults_local}
-use Rattle.go_written_core.specs.Written as types
-use Rattle.go_written_core.specs.Written.{InFile, term_of}
-use Rattle.go_written_core.proofs.ByNames.{written_by_names}
-use Rattle.go_local_core.specs.Binding.{Look}
-use Rattle.go_local_core.specs.Steps.{Piece}
-use Rattle.go_local_core.specs.Outline.{func_steps, func_opens, func_closes}
-use Rattle.go_local_core.specs.mirrors.Walk.{walk_out}
-use Rattle.go_operand_core.specs.declared.types.Operand.{Operand}
-use Rattle.go_denote_core.specs.declared.things.Found.TheVariants as founds
-use Rattle.go_face_core.specs.Faces.{TheFace}
-use Rattle.go_handle_core.specs.Declarations.{InFile as DeclaredIn}
-use Rattle.go_names_core.specs.Uses.{place_of}
-use Rattle.go_names_core.specs.Scope.{some_meaning}
-use Rattle.go_scope_core.specs.Scopes as scopes
-use Rattle.go_scope_core.specs.Scopes.{Denoted}
-use Rattle.go_scope_core.specs.Models.{scopes_model}
-use Rattle.go_scope_core.specs.Laws.{denotes}
-use Rattle.go_inline_core.specs.Functions.{looked_up}
-use Rattle.go_inline_core.specs.Inline.{inline_of, fault_in, repeated_params}
-use Rattle.go_env_core.specs.declared.meaning.Meaning.{Meaning}
-use Rattle.go_env_core.specs.declared.meaning.Meaning.TheVariants as meanings
-use Rattle.go_env_core.specs.Scenes.{SceneModel}
-use Rattle.go_env_core.specs.Found.{found_of}
-use Rattle.go_env_core.specs.Looks.{inline_type, inline_faults}
-use Rattle.go_piece_core.specs.Headers.{returned_types, returned_names}
-use Rattle.go_piece_core.specs.Pieces.{piece_values, piece_names}
-use Rattle.go_body_core.specs.Body.{body_of}
-use Rattle.go_body_core.specs.Notes.{note}
-use Rattle.go_body_core.specs.Rules.{value_at}
-use Rattle.go_func_core.specs.Types.{is_inside, named_where}
-use Rattle.go_func_core.specs.Stands.{FileStand, kinds_in, types_where, looks_where, outer_names, outer_look, outer_looks}
-use Rattle.go_func_core.specs.Functions.{own_rules, walked_func, checked_func}
+use Rattle.go_file_core.specs.table_core.Entries.{term_in}
+use Rattle.go_file_core.specs.settle_core.Settled.{kind_of_term, settled}
+use Rattle.go_file_core.specs.settle_core.Local.{settling_is_local}
+use Rattle.go_file_core.specs.settle_core.Mentions.{settled_mentions_written}
+use Rattle.go_file_core.specs.embed_core.Telling.{faults_local}
+use Rattle.go_file_core.specs.written_core.Written as types
+use Rattle.go_file_core.specs.written_core.Written.{InFile, term_of}
+use Rattle.go_file_core.specs.written_core.ByNames.{written_by_names}
+use Rattle.go_file_core.specs.local_core.Binding.{Look}
+use Rattle.go_file_core.specs.local_core.Steps.{Piece}
+use Rattle.go_file_core.specs.local_core.Outline.{func_steps, func_opens, func_closes}
+use Rattle.go_file_core.specs.local_core.mirrors.Walk.{walk_out}
+use Rattle.go_file_core.specs.operand_core.declared.types.Operand.{Operand}
+use Rattle.go_file_core.specs.denote_core.declared.things.Found.TheVariants as founds
+use Rattle.go_file_core.specs.face_core.Faces.{TheFace}
+use Rattle.go_file_core.specs.handle_core.Declarations.{InFile as DeclaredIn}
+use Rattle.go_file_core.specs.names_core.Uses.{place_of}
+use Rattle.go_file_core.specs.names_core.Scope.{some_meaning}
+use Rattle.go_file_core.specs.scope_core.Scopes as scopes
+use Rattle.go_file_core.specs.scope_core.Scopes.{Denoted}
+use Rattle.go_file_core.specs.scope_core.Models.{scopes_model}
+use Rattle.go_file_core.specs.scope_core.Laws.{denotes}
+use Rattle.go_file_core.specs.inline_core.Functions.{looked_up}
+use Rattle.go_file_core.specs.inline_core.Inline.{inline_of, fault_in, repeated_params}
+use Rattle.go_file_core.specs.env_core.declared.meaning.Meaning.{Meaning}
+use Rattle.go_file_core.specs.env_core.declared.meaning.Meaning.TheVariants as meanings
+use Rattle.go_file_core.specs.env_core.Scenes.{SceneModel}
+use Rattle.go_file_core.specs.env_core.Found.{found_of}
+use Rattle.go_file_core.specs.env_core.Looks.{inline_type, inline_faults}
+use Rattle.go_file_core.specs.piece_core.Headers.{returned_types, returned_names}
+use Rattle.go_file_core.specs.piece_core.Pieces.{piece_values, piece_names}
+use Rattle.go_file_core.specs.body_core.Body.{body_of}
+use Rattle.go_file_core.specs.body_core.Notes.{note}
+use Rattle.go_file_core.specs.body_core.Rules.{value_at}
+use Rattle.go_file_core.specs.func_core.Types.{is_inside, named_where}
+use Rattle.go_file_core.specs.func_core.Stands.{FileStand, kinds_in, types_where, looks_where, outer_names, outer_look, outer_looks}
+use Rattle.go_file_core.specs.func_core.Functions.{own_rules, walked_func, checked_func}
 use Rattle.go_near_core.specs.Near.{Each, IfAny, NearOperand, NearFound}
 use Rattle.go_near_core.specs.Looks.{AreClosed, LooksAgree}
-use Rattle.go_near_core.specs.Tables.{IsNear, IsNearSign}
+use Rattle.go_near_core.specs.Tables.{Nearby, IsNear, near_rest}
 use Rattle.go_near_core.specs.Scenes.{NamesAgree, WrittenAgree}
 use Rattle.go_near_core.specs.Pieces.{IsPieceNearby}
 use Rattle.go_near_core.specs.Functions.{stand, StandsAgree}
@@ -55,7 +55,7 @@ use Rattle.go_near_core.proofs.Seeing.{scene_closed, scenes_agree}
 use Rattle.go_near_core.proofs.Pieces.{pieces_nearby, returned_near, returned_same}
 use Rattle.go_near_core.proofs.Walking.{MeansNear, SayAlike, walk_same}
 
-module _ (near : List DeclKey) (file : InFile) (s t : SceneModel) (known others : List (Option TheFace)) (top other : types.Meaning) (law : StandsAgree near file s t known others top other) where
+module _ (near : Nearby) (file : InFile) (s t : SceneModel) (known others : List (Option TheFace)) (top other : types.Meaning) (law : StandsAgree near file s t known others top other) where
   abbrev one : FileStand
   one = stand file s known top
 
@@ -68,7 +68,7 @@ module _ (near : List DeclKey) (file : InFile) (s t : SceneModel) (known others 
   NearMeaning (meanings.Outside o) = ⊤
   NearMeaning (meanings.Local at value) = IfAny (NearOperand (IsNear near)) value
 
-  found_near : (name : List ℕ) (m : Option Meaning) → IfAny NearMeaning m → NearFound (IsNear near) (IsNearSign near) (found_of s file.file known name m)
+  found_near : (name : List ℕ) (m : Option Meaning) → IfAny NearMeaning m → NearFound (IsNear near) (near_rest near) (found_of s file.file known name m)
   found_near name None h = tt
   found_near name (Some (meanings.Outside o)) h = law.outside_near name o
   found_near name (Some (meanings.Local at value)) h = h
@@ -80,7 +80,7 @@ module _ (near : List DeclKey) (file : InFile) (s t : SceneModel) (known others 
 
   -- types that are written
 
-  kind_same : (k : DeclKey) → Contains near k → kinds_in s k ≡ kinds_in t k
+  kind_same : (k : DeclKey) → near.types k → kinds_in s k ≡ kinds_in t k
   kind_same k h = ap (λ e. kind_of_term (term_in e)) (law.scenes.types.same k h)
 
   module _ (look again : Look Meaning) (same : look ≡ again) where
@@ -117,14 +117,14 @@ module _ (near : List DeclKey) (file : InFile) (s t : SceneModel) (known others 
         are_near = λ name offset. found_near name (look name offset) (sees name offset);
       }
 
-      closed : AreClosed (IsNear near) (IsNearSign near) (looks_where one look)
+      closed : AreClosed (IsNear near) (near_rest near) (looks_where one look)
       closed = scene_closed near s t law.scenes file.file known others look again (types_where one look) (types_where two again) names_agree types_agree
 
-      agree : LooksAgree (IsNear near) (IsNearSign near) (looks_where one look) (looks_where two again)
+      agree : LooksAgree (IsNear near) (near_rest near) (looks_where one look) (looks_where two again)
       agree = scenes_agree near s t law.scenes file.file known others look again (types_where one look) (types_where two again) names_agree types_agree
 
       piece : (p : Piece) → IsPieceNearby (IsNear near) (looks_where one look) (looks_where two again) p
-      piece p = pieces_nearby (IsNear near) (IsNearSign near) (looks_where one look) (looks_where two again) closed agree p
+      piece p = pieces_nearby (IsNear near) (near_rest near) (looks_where one look) (looks_where two again) closed agree p
 
   -- outside functions
 
@@ -141,10 +141,10 @@ module _ (near : List DeclKey) (file : InFile) (s t : SceneModel) (known others 
   outer_near : MeansNear NearMeaning (outer_look one)
   outer_near name place = meant_near (denotes (scopes_model s.blocks file.file []) name)
 
-  pub outer_closed : AreClosed (IsNear near) (IsNearSign near) (outer_looks one)
+  pub outer_closed : AreClosed (IsNear near) (near_rest near) (outer_looks one)
   outer_closed = closed (outer_look one) (outer_look two) outer_same outer_near
 
-  pub outer_agree : LooksAgree (IsNear near) (IsNearSign near) (outer_looks one) (outer_looks two)
+  pub outer_agree : LooksAgree (IsNear near) (near_rest near) (outer_looks one) (outer_looks two)
   outer_agree = agree (outer_look one) (outer_look two) outer_same outer_near
 
   -- the rules of a function
@@ -166,9 +166,9 @@ module _ (near : List DeclKey) (file : InFile) (s t : SceneModel) (known others 
   walked_same f =
       let results = returned_types (outer_looks one) f.signature in
       let names = returned_names f.signature in
-      let inside = returned_near (IsNear near) (IsNearSign near) (outer_looks one) (outer_looks two) outer_closed outer_agree f.signature in
+      let inside = returned_near (IsNear near) (near_rest near) (outer_looks one) (outer_looks two) outer_closed outer_agree f.signature in
       walk_same NearMeaning (outer_names one) (λ name. outer_near name 0) (own_rules one results names) (own_rules two results names) (own_alike results names inside) [] [] (func_opens f) (func_closes f) (func_steps f) tt tt
-      ∙ (λ j. walk_out (own_rules two (returned_same (IsNear near) (IsNearSign near) (outer_looks one) (outer_looks two) outer_closed outer_agree f.signature j) names) (λ name. law.names name j) [] [] (func_opens f) (func_closes f) (func_steps f))
+      ∙ (λ j. walk_out (own_rules two (returned_same (IsNear near) (near_rest near) (outer_looks one) (outer_looks two) outer_closed outer_agree f.signature j) names) (λ name. law.names name j) [] [] (func_opens f) (func_closes f) (func_steps f))
 
   pub function_same : (f : FuncTree) → checked_func one f ≡ checked_func two f
   function_same f = ap (body_of f) (walked_same f)

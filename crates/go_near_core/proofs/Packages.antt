@@ -1,23 +1,22 @@
 -- The files of a package are the same over two tables of types that agree on what is near.
 use Rattle.std.proofs.Common.{◌≡◌, ℕ, List, refl, ap}
 use Rattle.std.specs.Prelude.{Option}
-use Rattle.go_decl_core.specs.declared.keys.DeclKey.{DeclKey}
-use Rattle.go_table_core.specs.Entries.{Entry}
-use Rattle.go_entry_core.specs.Entries.{file_at}
-use Rattle.go_entry_core.specs.Meanings.{file_meaning}
-use Rattle.go_entry_core.specs.Outlines.{FileOutline}
-use Rattle.go_face_core.specs.Faces.{TheFace}
-use Rattle.go_face_core.specs.Laws.{LookAlike}
-use Rattle.go_face_core.specs.Written.{WrittenOf, package_written}
-use Rattle.go_face_core.proofs.Locality.{written_are_local}
-use Rattle.go_env_core.specs.Found.{found_outside}
-use Rattle.go_near_core.specs.Tables.{AgreeOn}
+use Rattle.go_file_core.specs.table_core.Entries.{Entry}
+use Rattle.go_file_core.specs.entry_core.Entries.{file_at}
+use Rattle.go_file_core.specs.entry_core.Meanings.{file_meaning}
+use Rattle.go_file_core.specs.entry_core.Outlines.{FileOutline}
+use Rattle.go_file_core.specs.face_core.Faces.{TheFace}
+use Rattle.go_file_core.specs.face_core.Laws.{LookAlike}
+use Rattle.go_file_core.specs.face_core.Written.{WrittenOf, package_written}
+use Rattle.go_file_core.specs.face_core.Locality.{written_are_local}
+use Rattle.go_file_core.specs.env_core.Found.{found_outside}
+use Rattle.go_near_core.specs.Tables.{near_by, Nearby, AgreeOn}
 use Rattle.go_near_core.specs.Functions.{StandsAgree}
 use Rattle.go_near_core.specs.Packages.{PackageOf, scene_over, IsPackageNear}
 use Rattle.go_near_core.specs.Laws.{PackagesLookNearby}
 use Rattle.go_near_core.proofs.Files.{file_used, file_breaks}
 
-module _ (near : List DeclKey) (p : PackageOf) (es fs : List Entry) (known : List (Option TheFace)) (law : IsPackageNear near p es known) (agree : AgreeOn near es fs) where
+module _ (near : Nearby) (p : PackageOf) (es fs : List Entry) (known : List (Option TheFace)) (law : IsPackageNear near p es known) (agree : AgreeOn near es fs) where
   alike : LookAlike p.shows p.path p.blocks es fs p.outlines
   alike = record {
     own = λ n o d t there form. agree.same _ (law.own n o d t there form);
@@ -29,7 +28,7 @@ module _ (near : List DeclKey) (p : PackageOf) (es fs : List Entry) (known : Lis
 
   stands : (n : ℕ) (o : FileOutline) → StandsAgree near (file_at p.path n o) (scene_over p es) (scene_over p fs) known known (file_meaning p.shows p.path p.blocks n) (file_meaning p.shows p.path p.blocks n)
   stands n o = record {
-    scenes = record { path = refl; types = agree; exported = λ d name. refl; exported_near = law.exported };
+    scenes = record { path = refl; types = agree; exported = λ d name h. refl; exported_near = law.exported };
     names = λ name. refl;
     outside = λ name x. ap (λ (ws : List WrittenOf). found_outside (record { path = p.path; blocks = p.blocks; types = es; others = p.others; written = ws }) n known name x) written_same;
     outside_near = λ name x. law.outside n name x;
@@ -39,7 +38,7 @@ module _ (near : List DeclKey) (p : PackageOf) (es fs : List Entry) (known : Lis
 
 pub packages_nearby : PackagesLookNearby
 packages_nearby = record {
-  written = λ near p es fs known law agree. written_same near p es fs known law agree;
-  uses = λ near p es fs known n o imports f law agree. file_used near (file_at p.path n o) (scene_over p es) (scene_over p fs) known known (file_meaning p.shows p.path p.blocks n) (file_meaning p.shows p.path p.blocks n) (stands near p es fs known law agree n o) imports f;
-  faults = λ near p es fs known n o f law agree. file_breaks near (file_at p.path n o) (scene_over p es) (scene_over p fs) known known (file_meaning p.shows p.path p.blocks n) (file_meaning p.shows p.path p.blocks n) (stands near p es fs known law agree n o) f;
+  written = λ near p es fs known law agree. written_same (near_by near) p es fs known law agree;
+  uses = λ near p es fs known n o imports f law agree. file_used (near_by near) (file_at p.path n o) (scene_over p es) (scene_over p fs) known known (file_meaning p.shows p.path p.blocks n) (file_meaning p.shows p.path p.blocks n) (stands (near_by near) p es fs known law agree n o) imports f;
+  faults = λ near p es fs known n o f law agree. file_breaks (near_by near) (file_at p.path n o) (scene_over p es) (scene_over p fs) known known (file_meaning p.shows p.path p.blocks n) (file_meaning p.shows p.path p.blocks n) (stands (near_by near) p es fs known law agree n o) f;
 }

@@ -8,43 +8,43 @@ use Rattle.go_tree_nodes.specs.declared.files.Receiver.{Receiver}
 use Rattle.go_tree_nodes.specs.declared.decls.ValueKind.{ValueKind}
 use Rattle.go_tree_nodes.specs.declared.decls.ValueKind.TheVariants as kinds
 use Rattle.go_tree_nodes.specs.Trees.{Separated, One, Then, TypeTree, ExprTree, Integer, Text, Named, Paren, Unary, Binary, Select, Call, Literal, StructLiteral, SignatureTree, ResultTree, ParamTrees, Signed, NoResult, OneResult, Results, NoParams, Param, SimpleTree, Alone, Step, Assign, Update, Define, ValueSpecTree}
-use Rattle.go_open_core.specs.Blocks.{is_listed, list_name}
-use Rattle.go_walk_core.specs.Ends.{is_blank_target}
-use Rattle.go_local_core.specs.Outline.{idents}
-use Rattle.go_local_core.specs.Steps.{Piece, Header, Spec, Act, Condition, Given}
-use Rattle.go_operand_core.specs.TypeRules.{TypeRules}
-use Rattle.go_denote_core.specs.declared.things.Place.TheVariants as places
-use Rattle.go_denote_core.specs.declared.things.Denoted.{Denoted}
-use Rattle.go_denote_core.specs.declared.things.Argument.{Argument}
-use Rattle.go_denote_core.specs.declared.things.Argument.TheVariants as arguments
-use Rattle.go_denote_core.specs.Arguments.{argument_of, arguments_of, is_free}
-use Rattle.go_statement_core.specs.declared.targets.Target.{Target}
-use Rattle.go_statement_core.specs.declared.targets.Target.TheVariants as targets
-use Rattle.go_statement_core.specs.Targets.{target_of}
-use Rattle.go_statement_core.specs.Assignments.{assignment_rule}
-use Rattle.go_statement_core.specs.Declarations.{declared_types, variables_rule, short_types}
-use Rattle.go_statement_core.specs.Returns.{return_rule}
-use Rattle.go_statement_core.specs.Statements.{statement_rule, condition_rule}
-use Rattle.go_statement_core.specs.Updates.{update_rule, increment_rule}
-use Rattle.go_statement_core.specs.Constants.{constants_rule, constant_answer}
-use Rattle.go_statement_core.specs.Locality.{written_type, StatementsAreLocal}
-use Rattle.go_statement_core.proofs.Alike.{local}
-use Rattle.go_expr_core.specs.Looks.{Looks, at}
-use Rattle.go_expr_core.specs.Places.{start}
-use Rattle.go_expr_core.specs.Lists.{is_list, denoted_exprs, exprs_faults}
-use Rattle.go_expr_core.specs.Denoting as denoting
-use Rattle.go_expr_core.specs.Denoting.{denoted, ident_answer}
-use Rattle.go_expr_core.specs.Uses.{uses}
-use Rattle.go_expr_core.specs.Faults.{fault_at, listed_rule, faults, member_faults, operand_faults}
-use Rattle.go_piece_core.specs.Values.{variable, is_lone_call, list_start, behind, given, is_unknown, list_uses, list_faults}
-use Rattle.go_piece_core.specs.Types.{type_faults, some_type, some_type_uses, some_type_faults}
-use Rattle.go_piece_core.specs.Targets.{target, target_uses, target_faults, targets_uses, targets_faults, old_target, short_target, flag_of, flags_behind, short_targets}
-use Rattle.go_piece_core.specs.Targets as lefts
-use Rattle.go_piece_core.specs.Specifications.{names_start, values_uses, values_faults, values_given, spec_faults, variables_faults, variable_types, constant_fault, each_constant_faults, constants_faults, constant_value, constant_values, own_faults, names_values}
-use Rattle.go_piece_core.specs.Headers.{receiver_uses, receiver_type, starred, named_receiver, receiver_types, of_entry, entry_types, result_types, signature_types, params_faults, result_faults, signature_faults, header_types, returned_types}
-use Rattle.go_piece_core.specs.Statements.{callee_of, operand, simple_uses, simple_faults, short_name_types}
-use Rattle.go_piece_core.specs.Pieces.{piece_uses, piece_faults, piece_values, simple_values}
-use Rattle.go_near_core.specs.Near.{Each, IfAny, NearOperand, NearArgument, NearDenoted}
+use Rattle.go_file_core.specs.open_core.Blocks.{is_listed, list_name}
+use Rattle.go_file_core.specs.walk_core.Ends.{is_blank_target}
+use Rattle.go_file_core.specs.local_core.Outline.{idents}
+use Rattle.go_file_core.specs.local_core.Steps.{Piece, Header, Spec, Act, Condition, Given}
+use Rattle.go_file_core.specs.operand_core.TypeRules.{TypeRules}
+use Rattle.go_file_core.specs.denote_core.declared.things.Place.TheVariants as places
+use Rattle.go_file_core.specs.denote_core.declared.things.Denoted.{Denoted}
+use Rattle.go_file_core.specs.denote_core.declared.things.Argument.{Argument}
+use Rattle.go_file_core.specs.denote_core.declared.things.Argument.TheVariants as arguments
+use Rattle.go_file_core.specs.denote_core.Arguments.{argument_of, arguments_of, is_free}
+use Rattle.go_file_core.specs.statement_core.declared.targets.Target.{Target}
+use Rattle.go_file_core.specs.statement_core.declared.targets.Target.TheVariants as targets
+use Rattle.go_file_core.specs.statement_core.Targets.{target_of}
+use Rattle.go_file_core.specs.statement_core.Assignments.{assignment_rule}
+use Rattle.go_file_core.specs.statement_core.Declarations.{declared_types, variables_rule, short_types}
+use Rattle.go_file_core.specs.statement_core.Returns.{return_rule}
+use Rattle.go_file_core.specs.statement_core.Statements.{statement_rule, condition_rule}
+use Rattle.go_file_core.specs.statement_core.Updates.{update_rule, increment_rule}
+use Rattle.go_file_core.specs.statement_core.Constants.{constants_rule, constant_answer}
+use Rattle.go_file_core.specs.statement_core.Locality.{written_type, StatementsAreLocal}
+use Rattle.go_file_core.specs.statement_core.Alike.{local}
+use Rattle.go_file_core.specs.expr_core.Looks.{Looks, at}
+use Rattle.go_file_core.specs.expr_core.Places.{start}
+use Rattle.go_file_core.specs.expr_core.Lists.{is_list, denoted_exprs, exprs_faults}
+use Rattle.go_file_core.specs.expr_core.Denoting as denoting
+use Rattle.go_file_core.specs.expr_core.Denoting.{denoted, ident_answer}
+use Rattle.go_file_core.specs.expr_core.Uses.{uses}
+use Rattle.go_file_core.specs.expr_core.Faults.{fault_at, listed_rule, faults, member_faults, operand_faults}
+use Rattle.go_file_core.specs.piece_core.Values.{variable, is_lone_call, list_start, behind, given, is_unknown, list_uses, list_faults}
+use Rattle.go_file_core.specs.piece_core.Types.{type_faults, some_type, some_type_uses, some_type_faults}
+use Rattle.go_file_core.specs.piece_core.Targets.{target, target_uses, target_faults, targets_uses, targets_faults, old_target, short_target, flag_of, flags_behind, short_targets}
+use Rattle.go_file_core.specs.piece_core.Targets as lefts
+use Rattle.go_file_core.specs.piece_core.Specifications.{names_start, values_uses, values_faults, values_given, spec_faults, variables_faults, variable_types, constant_fault, each_constant_faults, constants_faults, constant_value, constant_values, own_faults, names_values}
+use Rattle.go_file_core.specs.piece_core.Headers.{receiver_uses, receiver_type, starred, named_receiver, receiver_types, of_entry, entry_types, result_types, signature_types, params_faults, result_faults, signature_faults, header_types, returned_types}
+use Rattle.go_file_core.specs.piece_core.Statements.{callee_of, operand, simple_uses, simple_faults, short_name_types}
+use Rattle.go_file_core.specs.piece_core.Pieces.{piece_uses, piece_faults, piece_values, simple_values}
+use Rattle.go_near_core.specs.Near.{NearRest, Each, IfAny, NearOperand, NearArgument, NearDenoted}
 use Rattle.go_near_core.specs.Looks.{AreClosed, LooksAgree}
 use Rattle.go_near_core.specs.Pieces.{IsPieceNearby}
 use Rattle.go_near_core.proofs.Closing.{either, argument_near, arguments_near}
@@ -56,7 +56,7 @@ pub each_both : {X : Type 0} (Is : X → Type 0) (xs ys : List X) → Each Is xs
 each_both Is [] ys h k = k
 each_both Is (x ∷ xs) ys h k = (h.0, each_both Is xs ys h.1 k)
 
-module _ {T S D P : Type 0} (Near : T → Type 0) (NearSign : S → Type 0) (looks others : Looks T S D P) (law : AreClosed Near NearSign looks) (agree : LooksAgree Near NearSign looks others) where
+module _ {T S D P : Type 0} (Near : T → Type 0) (Rest : NearRest S D) (looks others : Looks T S D P) (law : AreClosed Near Rest looks) (agree : LooksAgree Near Rest looks others) where
   abbrev rules : TypeRules T
   rules = looks.types
 
@@ -67,22 +67,22 @@ module _ {T S D P : Type 0} (Near : T → Type 0) (NearSign : S → Type 0) (loo
   alike = local
 
   abbrev Denotes : Denoted T S D → Type 0
-  Denotes d = NearDenoted Near NearSign d
+  Denotes d = NearDenoted Near Rest d
 
   value_near : (e : ExprTree) → Denotes (denoted looks places.«Value» e)
-  value_near e = denoted_near Near NearSign looks others law agree places.«Value» e
+  value_near e = denoted_near Near Rest looks others law agree places.«Value» e
 
   value_same : (e : ExprTree) → denoted looks places.«Value» e ≡ denoted others places.«Value» e
-  value_same e = denoted_same Near NearSign looks others law agree places.«Value» e
+  value_same e = denoted_same Near Rest looks others law agree places.«Value» e
 
   value_used : (e : ExprTree) → uses looks places.«Value» e ≡ uses others places.«Value» e
-  value_used e = used_same Near NearSign looks others law agree places.«Value» e
+  value_used e = used_same Near Rest looks others law agree places.«Value» e
 
   value_faults : (e : ExprTree) → faults looks places.«Value» e ≡ faults others places.«Value» e
-  value_faults e = faults_same Near NearSign looks others law agree places.«Value» e
+  value_faults e = faults_same Near Rest looks others law agree places.«Value» e
 
   operand_breaks : (e : ExprTree) → operand_faults looks places.«Value» e ≡ operand_faults others places.«Value» e
-  operand_breaks e = operand_with Near NearSign looks others law agree places.«Value» e (value_faults e)
+  operand_breaks e = operand_with Near Rest looks others law agree places.«Value» e (value_faults e)
 
   member_breaks : (b : Bool) (e : ExprTree) → member_faults looks b e ≡ member_faults others b e
   member_breaks b e = λ j. value_faults e j ++ fault_at (start e) (listed_rule b (value_same e j))
@@ -109,11 +109,11 @@ module _ {T S D P : Type 0} (Near : T → Type 0) (NearSign : S → Type 0) (loo
   list_breaks es = exprs_break (is_list es) es
 
   given_near : (es : Separated ExprTree) → Each (NearArgument Near) (given looks es)
-  given_near es = arguments_near Near NearSign looks law (list_start es) (denoted_exprs looks es) (exprs_near es)
+  given_near es = arguments_near Near Rest looks law (list_start es) (denoted_exprs looks es) (exprs_near es)
 
   given_same : (es : Separated ExprTree) → given looks es ≡ given others es
   given_same es =
-      arguments_same Near NearSign looks others law agree (list_start es) (denoted_exprs looks es) (exprs_near es) ∙ ap (arguments_of (at others (list_start es))) (exprs_same es)
+      arguments_same Near Rest looks others law agree (list_start es) (denoted_exprs looks es) (exprs_near es) ∙ ap (arguments_of (at others (list_start es))) (exprs_same es)
 
   unknown_same : (es : Separated ExprTree) → is_unknown looks es ≡ is_unknown others es
   unknown_same es = ap (is_free (is_lone_call es)) (exprs_same es)
@@ -121,13 +121,13 @@ module _ {T S D P : Type 0} (Near : T → Type 0) (NearSign : S → Type 0) (loo
   -- types
 
   type_near : (t : TypeTree) → IfAny Near (denoting.written_type looks t)
-  type_near t = written_near Near NearSign looks others law agree t
+  type_near t = written_near Near Rest looks others law agree t
 
   type_same : (t : TypeTree) → denoting.written_type looks t ≡ denoting.written_type others t
-  type_same t = written_same Near NearSign looks others law agree t
+  type_same t = written_same Near Rest looks others law agree t
 
   type_breaks : (t : TypeTree) → type_faults looks t ≡ type_faults others t
-  type_breaks t = written_faults Near NearSign looks others law agree t
+  type_breaks t = written_faults Near Rest looks others law agree t
 
   some_near : (t : Option TypeTree) → IfAny (IfAny Near) (some_type looks t)
   some_near None = tt
@@ -139,7 +139,7 @@ module _ {T S D P : Type 0} (Near : T → Type 0) (NearSign : S → Type 0) (loo
 
   some_used : (t : Option TypeTree) → some_type_uses looks t ≡ some_type_uses others t
   some_used None = refl
-  some_used (Some t) = type_used Near NearSign looks others law agree t
+  some_used (Some t) = type_used Near Rest looks others law agree t
 
   some_breaks : (t : Option TypeTree) → some_type_faults looks t ≡ some_type_faults others t
   some_breaks None = refl
@@ -158,11 +158,11 @@ module _ {T S D P : Type 0} (Near : T → Type 0) (NearSign : S → Type 0) (loo
   starred_same (Some star) (Some t) h = λ j. Some (agree.types.pointer_to t h j)
 
   receiver_near : (r : Receiver) → IfAny Near (receiver_type looks r)
-  receiver_near r = starred_near r.star (denoting.named_type looks r.base) (named_near Near NearSign looks others law agree r.base)
+  receiver_near r = starred_near r.star (denoting.named_type looks r.base) (named_near Near Rest looks others law agree r.base)
 
   receiver_same : (r : Receiver) → receiver_type looks r ≡ receiver_type others r
   receiver_same r =
-      starred_same r.star (denoting.named_type looks r.base) (named_near Near NearSign looks others law agree r.base) ∙ ap (starred other_rules r.star) (named_same Near NearSign looks others law agree r.base)
+      starred_same r.star (denoting.named_type looks r.base) (named_near Near Rest looks others law agree r.base) ∙ ap (starred other_rules r.star) (named_same Near Rest looks others law agree r.base)
 
   name_near : (x : Option Ident) (t : Option T) → IfAny Near t → Each (IfAny Near) (named_receiver x t)
   name_near None t h = tt
@@ -178,7 +178,7 @@ module _ {T S D P : Type 0} (Near : T → Type 0) (NearSign : S → Type 0) (loo
 
   receivers_used : (r : Option Receiver) → receiver_uses looks r ≡ receiver_uses others r
   receivers_used None = refl
-  receivers_used (Some r) = name_uses Near NearSign looks others law agree r.base
+  receivers_used (Some r) = name_uses Near Rest looks others law agree r.base
 
   entry_near : (all : Bool) (xs : Option (Separated Ident)) (t : Option T) → IfAny Near t → Each (IfAny Near) (of_entry all xs t)
   entry_near all None t h = either (Each (IfAny Near)) all _ _ (h, tt) tt
@@ -322,7 +322,7 @@ module _ {T S D P : Type 0} (Near : T → Type 0) (NearSign : S → Type 0) (loo
   -- targets
 
   left_near : (several : Bool) (e : ExprTree) → NearTarget Near (target looks several e)
-  left_near several e = either (NearTarget Near) (is_blank_target e) _ _ tt (target_near Near rules other_rules law.types agree.types NearSign (denoted looks places.«Value» e) (not several) (value_near e))
+  left_near several e = either (NearTarget Near) (is_blank_target e) _ _ tt (target_near Near rules other_rules law.types agree.types Rest (denoted looks places.«Value» e) (not several) (value_near e))
 
   left_same : (several : Bool) (e : ExprTree) → target looks several e ≡ target others several e
   left_same several e = λ j. if is_blank_target e then targets.Blank else target_of (value_same e j) (not several)
@@ -350,10 +350,10 @@ module _ {T S D P : Type 0} (Near : T → Type 0) (NearSign : S → Type 0) (loo
   lefts_break several (Then e comma more) = λ j. left_breaks several e j ++ lefts_break several more j
 
   old_near : (x : Ident) → NearTarget Near (old_target looks x)
-  old_near x = target_near Near rules other_rules law.types agree.types NearSign (ident_answer looks places.«Value» x).denoted true (ident_near Near NearSign looks others law agree places.«Value» x)
+  old_near x = target_near Near rules other_rules law.types agree.types Rest (ident_answer looks places.«Value» x).denoted true (ident_near Near Rest looks others law agree places.«Value» x)
 
   old_same : (x : Ident) → old_target looks x ≡ old_target others x
-  old_same x = λ j. target_of (ident_same Near NearSign looks others law agree places.«Value» x j).denoted true
+  old_same x = λ j. target_of (ident_same Near Rest looks others law agree places.«Value» x j).denoted true
 
   new_near : (first : Bool) (before : List (List ℕ)) (x : Ident) → NearTarget Near (short_target looks first before x)
   new_near first before x = either (NearTarget Near) (is_blank x.name) _ _ tt (either (NearTarget Near) first _ _ tt (either (NearTarget Near) (is_listed before x.name) _ _ tt (old_near x)))
@@ -372,7 +372,7 @@ module _ {T S D P : Type 0} (Near : T → Type 0) (NearSign : S → Type 0) (loo
   -- statements
 
   callee_same : (e : ExprTree) → callee_of looks e ≡ callee_of others e
-  callee_same (Call e first items last) = λ j. Some (denoted_same Near NearSign looks others law agree places.Callee e j)
+  callee_same (Call e first items last) = λ j. Some (denoted_same Near Rest looks others law agree places.Callee e j)
   callee_same (Paren first e last) = callee_same e
   callee_same (Integer n span) = refl
   callee_same (Text t) = refl
@@ -384,7 +384,7 @@ module _ {T S D P : Type 0} (Near : T → Type 0) (NearSign : S → Type 0) (loo
   callee_same (StructLiteral t first items last) = refl
 
   operand_near : (e : ExprTree) → NearArgument Near (operand looks e)
-  operand_near e = argument_near Near NearSign looks law (denoted looks places.«Value» e) (value_near e)
+  operand_near e = argument_near Near Rest looks law (denoted looks places.«Value» e) (value_near e)
 
   operand_same : (e : ExprTree) → operand looks e ≡ operand others e
   operand_same e = ap argument_of (value_same e)
@@ -438,7 +438,7 @@ module _ {T S D P : Type 0} (Near : T → Type 0) (NearSign : S → Type 0) (loo
   -- pieces
 
   piece_used : (p : Piece) → piece_uses looks p ≡ piece_uses others p
-  piece_used (Header r s) = λ j. receivers_used r j ++ signature_used Near NearSign looks others law agree s j
+  piece_used (Header r s) = λ j. receivers_used r j ++ signature_used Near Rest looks others law agree s j
   piece_used (Spec kind v) = λ j. some_used v.type_expr j ++ values_used v.values j
   piece_used (Act s) = simple_used s
   piece_used (Condition e) = value_used e
@@ -447,7 +447,7 @@ module _ {T S D P : Type 0} (Near : T → Type 0) (NearSign : S → Type 0) (loo
 
   condition_same : (e : ExprTree) → condition_rule rules (denoted looks places.«Value» e) ≡ condition_rule other_rules (denoted others places.«Value» e)
   condition_same e =
-      alike.conditions rules other_rules (denoted looks places.«Value» e) (condition_alike Near rules other_rules law.types agree.types NearSign (denoted looks places.«Value» e) (value_near e))
+      alike.conditions rules other_rules (denoted looks places.«Value» e) (condition_alike Near rules other_rules law.types agree.types Rest (denoted looks places.«Value» e) (value_near e))
       ∙ ap (condition_rule other_rules) (value_same e)
 
   piece_breaks : (results : List (Option T)) (has_names : Bool) (firsts : List Bool) (p : Piece) → Each (IfAny Near) results → piece_faults looks results has_names firsts p ≡ piece_faults others results has_names firsts p

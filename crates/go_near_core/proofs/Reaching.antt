@@ -2,42 +2,42 @@
 use Rattle.std.proofs.Common.{◌≡◌, ℕ, Bool, List, [], ◌∷◌, refl, sym, ap, ◌∙◌, arith, Contains}
 use Rattle.std.specs.Prelude.{Some, None, Result, Ok, Err, ⊤, if◌then◌else◌, not}
 use Rattle.std.proofs.lemmas.List.Elements.{Contains-append_left, Contains-append_right}
-use Rattle.go_decl_core.specs.declared.keys.DeclKey.{DeclKey}
+use Rattle.go_term_core.specs.decl_core.declared.keys.DeclKey.{DeclKey}
 use Rattle.go_term_core.specs.Terms.{Term, NoType, Predeclared, ErrorType, Defined, PointerTo, StructOf, InterfaceOf, Sign, SignOf, Terms, NoTerm, ATerm, term_keys, terms_keys}
-use Rattle.go_table_core.specs.Entries.{Entry, find, underlying_in, entry_keys}
-use Rattle.go_table_core.specs.Assign.{AValue}
-use Rattle.go_table_core.specs.Laws.{LeadsTo, IsReached, AgreeFrom}
-use Rattle.go_table_core.proofs.Meanings.{underlying_local}
-use Rattle.go_embed_core.specs.Owners.{Found, AFieldOf, AMethodOf, AnInterfaces, TheErrorMethod}
-use Rattle.go_select_core.specs.Selectors.{Searched, Refused, In, FieldsIn, searched, IsFoundAs}
-use Rattle.go_select_core.specs.Laws.{found_keys}
-use Rattle.go_select_core.proofs.Local.{ReachesWhat, reach_searched, leads_covered, named_covered}
+use Rattle.go_file_core.specs.table_core.Entries.{Entry, find, underlying_in, entry_keys}
+use Rattle.go_file_core.specs.table_core.Assign.{AValue}
+use Rattle.go_file_core.specs.table_core.Laws.{LeadsTo, IsReached, AgreeFrom}
+use Rattle.go_file_core.specs.table_core.Meanings.{underlying_local}
+use Rattle.go_file_core.specs.embed_core.Owners.{Found, AFieldOf, AMethodOf, AnInterfaces, TheErrorMethod}
+use Rattle.go_file_core.specs.select_core.Selectors.{Searched, Refused, In, FieldsIn, searched, IsFoundAs}
+use Rattle.go_file_core.specs.select_core.Laws.{found_keys}
+use Rattle.go_file_core.specs.select_core.Local.{ReachesWhat, reach_searched, leads_covered, named_covered}
 use Rattle.go_text_core.specs.declared.rule.Rule.{Rule}
-use Rattle.go_decide_core.specs.Conversion.{is_nothing, is_type}
-use Rattle.go_decide_core.specs.Selecting.{Choice, selected_of}
-use Rattle.go_decide_core.specs.Rules.{form_under, term_rules, typed, all_typed, params_of, results_of, member_selection}
-use Rattle.go_decide_core.proofs.Localities.{decisions_local}
-use Rattle.go_decide_core.proofs.Choosing.{IsOutcome, outcome}
-use Rattle.go_denote_core.specs.declared.things.Selection.{Selection}
-use Rattle.go_denote_core.specs.declared.things.Selection.TheVariants as selections
-use Rattle.go_handle_core.specs.Declarations.{Declaration, declaration_found}
-use Rattle.go_handle_core.specs.Names.{shown_choice, selection_in}
+use Rattle.go_file_core.specs.decide_core.Conversion.{is_nothing, is_type}
+use Rattle.go_file_core.specs.decide_core.Selecting.{Choice, selected_of}
+use Rattle.go_file_core.specs.decide_core.Rules.{form_under, term_rules, typed, all_typed, params_of, results_of, member_selection}
+use Rattle.go_file_core.specs.decide_core.Localities.{decisions_local}
+use Rattle.go_file_core.specs.decide_core.Choosing.{IsOutcome, outcome}
+use Rattle.go_file_core.specs.denote_core.declared.things.Selection.{Selection}
+use Rattle.go_file_core.specs.denote_core.declared.things.Selection.TheVariants as selections
+use Rattle.go_file_core.specs.handle_core.Declarations.{Declaration, declaration_found}
+use Rattle.go_file_core.specs.handle_core.Names.{shown_choice, selection_in}
 use Rattle.go_near_core.specs.Near.{Each, IfAny, NearForm, NearSelection}
 use Rattle.go_near_core.specs.Looks.{AreRulesClosed, RulesAgree}
-use Rattle.go_near_core.specs.Tables.{IsNear, IsNearSign, AgreeOn}
+use Rattle.go_near_core.specs.Tables.{Nearby, IsNear, IsNearSign, near_rest, AgreeOn}
 use Rattle.go_near_core.proofs.Closing.{either}
 
-none_in : (near : List DeclKey) (k : DeclKey) → Contains [] k → Contains near k
+none_in : (near : Nearby) (k : DeclKey) → Contains [] k → near.types k
 none_in near k h = absurd (omega (arith, h.1))
 
 -- what is reached from near types is near
 
-module _ (near : List DeclKey) (es others : List Entry) (law : AgreeOn near es others) where
-  led_near : (mentioned : List DeclKey) (through : List DeclKey) (k : DeclKey) → ((j : DeclKey) → Contains mentioned j → Contains near j) → LeadsTo (find es) mentioned through k → Contains near k
+module _ (near : Nearby) (es others : List Entry) (law : AgreeOn near es others) where
+  led_near : (mentioned : List DeclKey) (through : List DeclKey) (k : DeclKey) → ((j : DeclKey) → Contains mentioned j → near.types j) → LeadsTo (find es) mentioned through k → near.types k
   led_near mentioned [] k h r = h k r
   led_near mentioned (j ∷ js) k h r = led_near (entry_keys r.1.0) js k (law.closed j r.1.0 (h j r.0) r.1.1) r.1.2
 
-  pub reached_near : (t : Term) (k : DeclKey) → IsNear near t → IsReached (find es) t k → Contains near k
+  pub reached_near : (t : Term) (k : DeclKey) → IsNear near t → IsReached (find es) t k → near.types k
   reached_near t k h r = led_near (term_keys t) r.0 k h r.1
 
   pub agree_from : (t : Term) → IsNear near t → AgreeFrom (find es) (find others) t
@@ -94,17 +94,17 @@ module _ (near : List DeclKey) (es others : List Entry) (law : AgreeOn near es o
   pub typed_same : (t : Term) → IsNear near t → typed (find es) t ≡ typed (find others) t
   typed_same t h = λ j. if not (is_nothing (under_same t h j)) then Some t else None
 
-  first_near : (t : Term) (ts : Terms) → ((k : DeclKey) → Contains (terms_keys (ATerm t ts)) k → Contains near k) → IsNear near t
+  first_near : (t : Term) (ts : Terms) → ((k : DeclKey) → Contains (terms_keys (ATerm t ts)) k → near.types k) → IsNear near t
   first_near t ts h k m = h k (Contains-append_left (term_keys t) (terms_keys ts) k m)
 
-  more_near : (t : Term) (ts : Terms) → ((k : DeclKey) → Contains (terms_keys (ATerm t ts)) k → Contains near k) → (k : DeclKey) → Contains (terms_keys ts) k → Contains near k
+  more_near : (t : Term) (ts : Terms) → ((k : DeclKey) → Contains (terms_keys (ATerm t ts)) k → near.types k) → (k : DeclKey) → Contains (terms_keys ts) k → near.types k
   more_near t ts h k m = h k (Contains-append_right (term_keys t) (terms_keys ts) k m)
 
-  all_near : (ts : Terms) → ((k : DeclKey) → Contains (terms_keys ts) k → Contains near k) → Each (IfAny (IsNear near)) (all_typed (find es) ts)
+  all_near : (ts : Terms) → ((k : DeclKey) → Contains (terms_keys ts) k → near.types k) → Each (IfAny (IsNear near)) (all_typed (find es) ts)
   all_near NoTerm h = tt
   all_near (ATerm t ts) h = (typed_near t (first_near t ts h), all_near ts (more_near t ts h))
 
-  all_same : (ts : Terms) → ((k : DeclKey) → Contains (terms_keys ts) k → Contains near k) → all_typed (find es) ts ≡ all_typed (find others) ts
+  all_same : (ts : Terms) → ((k : DeclKey) → Contains (terms_keys ts) k → near.types k) → all_typed (find es) ts ≡ all_typed (find others) ts
   all_same NoTerm h = refl
   all_same (ATerm t ts) h = λ j. typed_same t (first_near t ts h) j ∷ all_same ts (more_near t ts h) j
 
@@ -134,7 +134,7 @@ module _ (near : List DeclKey) (es others : List Entry) (law : AgreeOn near es o
 
   -- what a choice has is near
   abbrev IsChosen : Result Choice Rule → Type 0
-  IsChosen (Ok c) = (k : DeclKey) → Contains (found_keys c.member) k → Contains near k
+  IsChosen (Ok c) = (k : DeclKey) → Contains (found_keys c.member) k → near.types k
   IsChosen (Err rule) = ⊤
 
   chosen_by : (t : Term) (name from : List ℕ) (r : Result Choice Rule) → IsNear near t → IsOutcome (find es) t name from r → IsChosen r
@@ -145,15 +145,15 @@ module _ (near : List DeclKey) (es others : List Entry) (law : AgreeOn near es o
   chosen t name from h = chosen_by t name from (selected_of es t name from) h (outcome es t name from)
 
   abbrev Picks : Selection Term Sign Declaration (List ℕ) → Type 0
-  Picks s = NearSelection (IsNear near) (IsNearSign near) s
+  Picks s = NearSelection (IsNear near) (near_rest near) s
 
-  member_near : (path : List ℕ) (passes : Bool) (f : Found) → ((k : DeclKey) → Contains (found_keys f) k → Contains near k) → Picks (member_selection declaration_found (λ p. p) (find es) path passes f)
+  member_near : (path : List ℕ) (passes : Bool) (f : Found) → ((k : DeclKey) → Contains (found_keys f) k → near.types k) → Picks (member_selection declaration_found (λ p. p) (find es) path passes f)
   member_near path passes (AFieldOf home place t) h = typed_near t h
   member_near path passes (AMethodOf home place pointer g) h = h
   member_near path passes (AnInterfaces home place g) h = h
   member_near path passes TheErrorMethod h = none_in near
 
-  member_same : (path : List ℕ) (passes : Bool) (f : Found) → ((k : DeclKey) → Contains (found_keys f) k → Contains near k)
+  member_same : (path : List ℕ) (passes : Bool) (f : Found) → ((k : DeclKey) → Contains (found_keys f) k → near.types k)
       → member_selection declaration_found (λ (p : List ℕ). p) (find es) path passes f ≡ member_selection declaration_found (λ (p : List ℕ). p) (find others) path passes f
   member_same path passes (AFieldOf home place t) h =
       ap (λ u. selections.«Field» (declaration_found (AFieldOf home place t)) path u passes) (typed_same t h)

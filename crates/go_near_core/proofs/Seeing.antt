@@ -4,34 +4,34 @@ use Rattle.std.specs.Prelude.{Option, if◌then◌else◌, bytes_eq}
 use Rattle.std.specs.Str.{chars}
 use Rattle.std.proofs.lemmas.List.Elements.{Contains-append_left, Contains-append_right}
 use Rattle.go_text_core.specs.Text.{exported}
-use Rattle.go_decl_core.specs.declared.keys.DeclKey.{DeclKey}
+use Rattle.go_term_core.specs.decl_core.declared.keys.DeclKey.{DeclKey}
 use Rattle.go_term_core.specs.declared.term.MemberPlace.{MemberPlace}
 use Rattle.go_term_core.specs.Terms.{Term, NoType, Predeclared, ErrorType, Defined, PointerTo, StructOf, InterfaceOf, Fields, NoField, AField, term_keys, fields_keys}
-use Rattle.go_table_core.specs.Entries.{find, has_method}
-use Rattle.go_table_core.proofs.Meanings.{underlying_local}
-use Rattle.go_embed_core.specs.Owners.{OwnerModel, path_in, owner_in}
-use Rattle.go_decide_core.specs.Rules.{term_rules}
-use Rattle.go_handle_core.specs.Declarations.{InFile}
-use Rattle.go_handle_core.specs.Names.{selection_in}
-use Rattle.go_expr_core.specs.Looks.{WrittenRules}
-use Rattle.go_face_core.specs.Faces.{TheFace}
-use Rattle.go_local_core.specs.Binding as binding
-use Rattle.go_env_core.specs.declared.meaning.Meaning.{Meaning}
-use Rattle.go_env_core.specs.Scenes.{SceneModel}
-use Rattle.go_env_core.specs.Fields.{field_known, fields_seen, term_seen, owner_seen}
-use Rattle.go_env_core.specs.Looks.{looks_in}
+use Rattle.go_file_core.specs.table_core.Entries.{find, has_method}
+use Rattle.go_file_core.specs.table_core.Meanings.{underlying_local}
+use Rattle.go_file_core.specs.embed_core.Owners.{OwnerModel, path_in, owner_in}
+use Rattle.go_file_core.specs.decide_core.Rules.{term_rules}
+use Rattle.go_file_core.specs.handle_core.Declarations.{InFile}
+use Rattle.go_file_core.specs.handle_core.Names.{selection_in}
+use Rattle.go_file_core.specs.expr_core.Looks.{WrittenRules}
+use Rattle.go_file_core.specs.face_core.Faces.{TheFace}
+use Rattle.go_file_core.specs.local_core.Binding as binding
+use Rattle.go_file_core.specs.env_core.declared.meaning.Meaning.{Meaning}
+use Rattle.go_file_core.specs.env_core.Scenes.{SceneModel}
+use Rattle.go_file_core.specs.env_core.Fields.{field_known, fields_seen, term_seen, owner_seen}
+use Rattle.go_file_core.specs.env_core.Looks.{looks_in}
 use Rattle.go_near_core.specs.Near.{Each, NearField}
 use Rattle.go_near_core.specs.Looks.{AreClosed, RulesAgree, LooksAgree}
-use Rattle.go_near_core.specs.Tables.{IsNear, IsNearSign}
+use Rattle.go_near_core.specs.Tables.{near_by, Nearby, IsNear, near_rest}
 use Rattle.go_near_core.specs.Scenes.{ScenesAgree, WrittenAgree, NamesAgree}
 use Rattle.go_near_core.specs.Laws.{TablesLookNearby, ScenesLookNearby}
 use Rattle.go_near_core.proofs.Closing.{either}
 use Rattle.go_near_core.proofs.Reaching.{agree_from, turned, under_near, under_same, rules_closed, rules_agree, typed_near, typed_same, params_near, results_near, params_same, results_same, select_near, select_same}
 use Rattle.go_near_core.proofs.Expressions.{nearby}
 
-module _ (near : List DeclKey) (s t : SceneModel) (law : ScenesAgree near s t) where
+module _ (near : Nearby) (s t : SceneModel) (law : ScenesAgree near s t) where
   abbrev NearFields : Fields → Type 0
-  NearFields fs = (k : DeclKey) → Contains (fields_keys fs) k → Contains near k
+  NearFields fs = (k : DeclKey) → Contains (fields_keys fs) k → near.types k
 
   first_near : (name : List ℕ) (place : MemberPlace) (embedded : Bool) (u : Term) (tag : List ℕ) (fs : Fields) → NearFields (AField name place embedded u tag fs) → IsNear near u
   first_near name place embedded u tag fs h k m = h k (Contains-append_left (term_keys u) (fields_keys fs) k m)
@@ -89,7 +89,7 @@ module _ (near : List DeclKey) (s t : SceneModel) (law : ScenesAgree near s t) w
       term_same (owner_in (find s.types) u) (owner_in (find s.types) u).underlying (under_near near s.types t.types law.types u h) ∙ ap (owner_seen t) (owner_same u h)
 
   module _ (file : ℕ) (known others : List (Option TheFace)) (look other : binding.Look Meaning) (written made : WrittenRules Term) (names : NamesAgree near s t file known others look other) (types : WrittenAgree near written made) where
-    pub scene_closed : AreClosed (IsNear near) (IsNearSign near) (looks_in s file known written look)
+    pub scene_closed : AreClosed (IsNear near) (near_rest near) (looks_in s file known written look)
     scene_closed = record {
       find = names.are_near;
       exported = law.exported_near;
@@ -101,7 +101,7 @@ module _ (near : List DeclKey) (s t : SceneModel) (law : ScenesAgree near s t) w
       type_of = types.are_near;
     }
 
-    pub scenes_agree : LooksAgree (IsNear near) (IsNearSign near) (looks_in s file known written look) (looks_in t file others made other)
+    pub scenes_agree : LooksAgree (IsNear near) (near_rest near) (looks_in s file known written look) (looks_in t file others made other)
     scenes_agree = record {
       find = names.same;
       exported = law.exported;
@@ -118,17 +118,17 @@ module _ (near : List DeclKey) (s t : SceneModel) (law : ScenesAgree near s t) w
 
 pub tables_nearby : TablesLookNearby
 tables_nearby = record {
-  reached = λ near es others t law h. agree_from near es others law t h;
-  turned = λ near es others law. turned near es others law;
-  closed = λ near es others path law. rules_closed near es others law path;
-  same = λ near es others path law. rules_agree near es others law path;
-  selected = λ near es others from t name law h. (select_near near es others law from t name h, select_same near es others law from t name h);
-  params = λ near es others g law h. (params_near near es others law g h, params_same near es others law g h);
-  results = λ near es others g law h. (results_near near es others law g h, results_same near es others law g h);
-  fields = λ near s t u law h. (seen_near near s t law u h, seen_same near s t law u h);
+  reached = λ near es others t law h. agree_from (near_by near) es others law t h;
+  turned = λ near es others law. turned (near_by near) es others law;
+  closed = λ near es others path law. rules_closed (near_by near) es others law path;
+  same = λ near es others path law. rules_agree (near_by near) es others law path;
+  selected = λ near es others from t name law h. (select_near (near_by near) es others law from t name h, select_same (near_by near) es others law from t name h);
+  params = λ near es others g law h. (params_near (near_by near) es others law g h, params_same (near_by near) es others law g h);
+  results = λ near es others g law h. (results_near (near_by near) es others law g h, results_same (near_by near) es others law g h);
+  fields = λ near s t u law h. (seen_near (near_by near) s t law u h, seen_same (near_by near) s t law u h);
 }
 
 pub scenes_nearby : ScenesLookNearby
 scenes_nearby near s t file known others look other written made p e law names types =
-    nearby (IsNear near) (IsNearSign near) (looks_in s file known written look) (looks_in t file others made other) (scene_closed near s t law file known others look other written made names types)
-    (scenes_agree near s t law file known others look other written made names types) p e
+    nearby (IsNear (near_by near)) (near_rest (near_by near)) (looks_in s file known written look) (looks_in t file others made other) (scene_closed (near_by near) s t law file known others look other written made names types)
+    (scenes_agree (near_by near) s t law file known others look other written made names types) p e

@@ -4,32 +4,32 @@ use Rattle.std.specs.Prelude.{Option, Some, None, ⊤, if◌then◌else◌, not,
 use Rattle.std.specs.List.{list_all}
 use Rattle.go_text_core.specs.declared.rule.Rule.{Rule}
 use Rattle.go_text_core.specs.declared.rule.Rule.TheVariants.{Y3, Y4}
-use Rattle.go_scan_core.specs.declared.kind.Operator.{Operator}
-use Rattle.go_scan_core.specs.declared.kind.Operator.TheVariants as operators
-use Rattle.go_constant_core.specs.declared.values.Constant.{Constant}
-use Rattle.go_constant_core.specs.declared.values.Constant.TheVariants as constants
+use Rattle.go_token_core.specs.declared.kind.Operator.{Operator}
+use Rattle.go_token_core.specs.declared.kind.Operator.TheVariants as operators
+use Rattle.go_file_core.specs.constant_core.declared.values.Constant.{Constant}
+use Rattle.go_file_core.specs.constant_core.declared.values.Constant.TheVariants as constants
 use Rattle.go_term_core.specs.declared.term.Basic.{Basic}
-use Rattle.go_operand_core.specs.declared.types.ValueType.{ValueType}
-use Rattle.go_operand_core.specs.declared.types.ValueType.TheVariants as value_types
-use Rattle.go_operand_core.specs.declared.types.Operand.{Operand}
-use Rattle.go_operand_core.specs.TypeRules.{TypeRules}
-use Rattle.go_operand_core.specs.Values.{form_basic}
-use Rattle.go_operand_core.specs.Assign.{assignable_to}
-use Rattle.go_operand_core.specs.Updates.{broken, update_with, operator_of}
-use Rattle.go_operand_core.specs.Operators.{refused_binary, value}
-use Rattle.go_denote_core.specs.declared.things.Argument.{Argument}
-use Rattle.go_denote_core.specs.declared.things.Argument.TheVariants as arguments
-use Rattle.go_denote_core.specs.declared.things.Denoted.{Denoted}
-use Rattle.go_denote_core.specs.declared.things.Denoted.TheVariants as denotes
-use Rattle.go_statement_core.specs.declared.targets.Target.{Target}
-use Rattle.go_statement_core.specs.declared.targets.Target.TheVariants as targets
-use Rattle.go_statement_core.specs.declared.constants.ConstantAnswer.{ConstantAnswer}
-use Rattle.go_statement_core.specs.Targets.{target_of_value, no_single_value, target_of}
-use Rattle.go_statement_core.specs.Updates.{update_rule, increment_rule}
-use Rattle.go_statement_core.specs.Declarations.{given_type, declared_types, type_after, paired_types, short_types}
-use Rattle.go_statement_core.specs.Constants.{is_constant, constants_rule, constant_of, own_value, of_own_type, of_no_type, assigned_value, value_of, of_basic_type, of_type, constant_answer}
-use Rattle.go_statement_core.specs.Locality.{FitsAlike, GivenAlike, wanted, EachPair, Each as AllAlike, TypeAlike, UnderAlike, FormAlike, ConditionAlike}
-use Rattle.go_near_core.specs.Near.{Each, IfAny, NearValue, NearOperand, NearArgument, NearDenoted}
+use Rattle.go_file_core.specs.operand_core.declared.types.ValueType.{ValueType}
+use Rattle.go_file_core.specs.operand_core.declared.types.ValueType.TheVariants as value_types
+use Rattle.go_file_core.specs.operand_core.declared.types.Operand.{Operand}
+use Rattle.go_file_core.specs.operand_core.TypeRules.{TypeRules}
+use Rattle.go_file_core.specs.operand_core.Values.{form_basic}
+use Rattle.go_file_core.specs.operand_core.Assign.{assignable_to}
+use Rattle.go_file_core.specs.operand_core.Updates.{broken, update_with, operator_of}
+use Rattle.go_file_core.specs.operand_core.Operators.{refused_binary, value}
+use Rattle.go_file_core.specs.denote_core.declared.things.Argument.{Argument}
+use Rattle.go_file_core.specs.denote_core.declared.things.Argument.TheVariants as arguments
+use Rattle.go_file_core.specs.denote_core.declared.things.Denoted.{Denoted}
+use Rattle.go_file_core.specs.denote_core.declared.things.Denoted.TheVariants as denotes
+use Rattle.go_file_core.specs.statement_core.declared.targets.Target.{Target}
+use Rattle.go_file_core.specs.statement_core.declared.targets.Target.TheVariants as targets
+use Rattle.go_file_core.specs.statement_core.declared.constants.ConstantAnswer.{ConstantAnswer}
+use Rattle.go_file_core.specs.statement_core.Targets.{target_of_value, no_single_value, target_of}
+use Rattle.go_file_core.specs.statement_core.Updates.{update_rule, increment_rule}
+use Rattle.go_file_core.specs.statement_core.Declarations.{given_type, declared_types, type_after, paired_types, short_types}
+use Rattle.go_file_core.specs.statement_core.Constants.{is_constant, constants_rule, constant_of, own_value, of_own_type, of_no_type, assigned_value, value_of, of_basic_type, of_type, constant_answer}
+use Rattle.go_file_core.specs.statement_core.Locality.{FitsAlike, GivenAlike, wanted, EachPair, Each as AllAlike, TypeAlike, UnderAlike, FormAlike, ConditionAlike}
+use Rattle.go_near_core.specs.Near.{NearRest, Each, IfAny, NearValue, NearOperand, NearArgument, NearDenoted}
 use Rattle.go_near_core.specs.Looks.{AreRulesClosed, RulesAgree}
 use Rattle.go_near_core.proofs.Closing.{either, default_near}
 use Rattle.go_near_core.proofs.Agreeing.{default_same, default_each, value_alike, basic_same, binary_same}
@@ -92,16 +92,16 @@ module _ {T : Type 0} (Near : T → Type 0) (rules others : TypeRules T) (law : 
   form_alike None h = tt
   form_alike (Some t) h = agree.form t h
 
-  pub condition_alike : {S D : Type 0} (NearSign : S → Type 0) (d : Denoted T S D) → NearDenoted Near NearSign d → ConditionAlike rules others d
-  condition_alike NearSign (denotes.«Value» o) h = value_alike Near rules others law agree o.value_type h
-  condition_alike NearSign (denotes.«Type» d t) h = tt
-  condition_alike NearSign denotes.Refused h = tt
-  condition_alike NearSign denotes.Typeless h = tt
-  condition_alike NearSign (denotes.«Package» d) h = tt
-  condition_alike NearSign (denotes.Several s) h = tt
-  condition_alike NearSign denotes.Nothing h = tt
-  condition_alike NearSign (denotes.Func d s) h = tt
-  condition_alike NearSign (denotes.Builtin d b) h = tt
+  pub condition_alike : {S D : Type 0} (Rest : NearRest S D) (d : Denoted T S D) → NearDenoted Near Rest d → ConditionAlike rules others d
+  condition_alike Rest (denotes.«Value» o) h = value_alike Near rules others law agree o.value_type h
+  condition_alike Rest (denotes.«Type» d t) h = tt
+  condition_alike Rest denotes.Refused h = tt
+  condition_alike Rest denotes.Typeless h = tt
+  condition_alike Rest (denotes.«Package» d) h = tt
+  condition_alike Rest (denotes.Several s) h = tt
+  condition_alike Rest denotes.Nothing h = tt
+  condition_alike Rest (denotes.Func d s) h = tt
+  condition_alike Rest (denotes.Builtin d b) h = tt
 
   -- updates
 
@@ -223,13 +223,13 @@ module _ {T : Type 0} (Near : T → Type 0) (rules others : TypeRules T) (law : 
   single_near true = tt
   single_near false = tt
 
-  pub target_near : {S D : Type 0} (NearSign : S → Type 0) (d : Denoted T S D) (alone : Bool) → NearDenoted Near NearSign d → NearTarget Near (target_of d alone)
-  target_near NearSign (denotes.«Value» o) alone h = valued_near o.addressable o.value_type h
-  target_near NearSign (denotes.Several s) alone h = single_near alone
-  target_near NearSign denotes.Nothing alone h = single_near alone
-  target_near NearSign denotes.Refused alone h = tt
-  target_near NearSign denotes.Typeless alone h = tt
-  target_near NearSign (denotes.«Package» d) alone h = tt
-  target_near NearSign (denotes.«Type» d t) alone h = tt
-  target_near NearSign (denotes.Func d s) alone h = tt
-  target_near NearSign (denotes.Builtin d b) alone h = tt
+  pub target_near : {S D : Type 0} (Rest : NearRest S D) (d : Denoted T S D) (alone : Bool) → NearDenoted Near Rest d → NearTarget Near (target_of d alone)
+  target_near Rest (denotes.«Value» o) alone h = valued_near o.addressable o.value_type h
+  target_near Rest (denotes.Several s) alone h = single_near alone
+  target_near Rest denotes.Nothing alone h = single_near alone
+  target_near Rest denotes.Refused alone h = tt
+  target_near Rest denotes.Typeless alone h = tt
+  target_near Rest (denotes.«Package» d) alone h = tt
+  target_near Rest (denotes.«Type» d t) alone h = tt
+  target_near Rest (denotes.Func d s) alone h = tt
+  target_near Rest (denotes.Builtin d b) alone h = tt

@@ -6,14 +6,15 @@ use Rattle.go_text_core.specs.declared.span.Span.{Span}
 use Rattle.go_tree_nodes.specs.declared.decls.ValueKind.{ValueKind}
 use Rattle.go_tree_nodes.specs.declared.decls.ValueKind.TheVariants as kinds
 use Rattle.go_tree_nodes.specs.Trees.{Separated, One, Then, ExprTree, Specs, ValueSpecTree, ValueTree, TypeDeclTree}
-use Rattle.go_local_core.specs.Steps.{Spec}
-use Rattle.go_denote_core.specs.declared.things.Place.TheVariants as places
-use Rattle.go_expr_core.specs.Looks.{Looks}
-use Rattle.go_expr_core.specs.Places.{start}
-use Rattle.go_expr_core.specs.Faults.{fault_at}
-use Rattle.go_top_core.specs.Initial.{initial_rule, list_initial_faults, values_initial_faults, initial_faults}
-use Rattle.go_top_core.specs.Tops.{of_specs, top_spec_faults, value_decl_uses, value_decl_faults, type_spec_uses, type_decl_uses}
-use Rattle.go_piece_core.specs.Specifications.{spec_uses}
+use Rattle.go_file_core.specs.local_core.Steps.{Spec}
+use Rattle.go_file_core.specs.denote_core.declared.things.Place.TheVariants as places
+use Rattle.go_file_core.specs.expr_core.Looks.{Looks}
+use Rattle.go_file_core.specs.expr_core.Places.{start}
+use Rattle.go_file_core.specs.expr_core.Faults.{fault_at}
+use Rattle.go_file_core.specs.top_core.Initial.{initial_rule, list_initial_faults, values_initial_faults, initial_faults}
+use Rattle.go_file_core.specs.top_core.Tops.{of_specs, top_spec_faults, value_decl_uses, value_decl_faults, type_spec_uses, type_decl_uses}
+use Rattle.go_file_core.specs.piece_core.Specifications.{spec_uses}
+use Rattle.go_near_core.specs.Near.{NearRest}
 use Rattle.go_near_core.specs.Looks.{AreClosed, LooksAgree}
 use Rattle.go_near_core.proofs.Expressions.{denoted_same, type_used}
 use Rattle.go_near_core.proofs.Pieces.{pieces_nearby}
@@ -24,16 +25,16 @@ flat_same f g xs h = λ j. flat_map (λ x. h x j) xs
 specs_same : {A B : Type 0} (f g : A → List B) (xs : Specs A) → ((x : A) → f x ≡ g x) → of_specs f xs ≡ of_specs g xs
 specs_same f g xs h = λ j. of_specs (λ x. h x j) xs
 
-module _ {T S D P : Type 0} (Near : T → Type 0) (NearSign : S → Type 0) (looks others : Looks T S D P) (law : AreClosed Near NearSign looks) (agree : LooksAgree Near NearSign looks others) where
+module _ {T S D P : Type 0} (Near : T → Type 0) (Rest : NearRest S D) (looks others : Looks T S D P) (law : AreClosed Near Rest looks) (agree : LooksAgree Near Rest looks others) where
   spec_used : (v : ValueSpecTree) → spec_uses looks v ≡ spec_uses others v
-  spec_used v = (pieces_nearby Near NearSign looks others law agree (Spec kinds.Var v)).uses
+  spec_used v = (pieces_nearby Near Rest looks others law agree (Spec kinds.Var v)).uses
 
   pub values_used : (d : ValueTree) → value_decl_uses looks d ≡ value_decl_uses others d
   values_used d = specs_same (spec_uses looks) (spec_uses others) d.specs spec_used
 
   initial_list : (es : Separated ExprTree) → list_initial_faults looks es ≡ list_initial_faults others es
-  initial_list (One e) = λ j. fault_at (start e) (initial_rule (denoted_same Near NearSign looks others law agree places.«Value» e j))
-  initial_list (Then e comma more) = λ j. fault_at (start e) (initial_rule (denoted_same Near NearSign looks others law agree places.«Value» e j)) ++ initial_list more j
+  initial_list (One e) = λ j. fault_at (start e) (initial_rule (denoted_same Near Rest looks others law agree places.«Value» e j))
+  initial_list (Then e comma more) = λ j. fault_at (start e) (initial_rule (denoted_same Near Rest looks others law agree places.«Value» e j)) ++ initial_list more j
 
   initial_values : (es : Option (Span × Separated ExprTree)) → values_initial_faults looks es ≡ values_initial_faults others es
   initial_values None = refl
@@ -44,10 +45,10 @@ module _ {T S D P : Type 0} (Near : T → Type 0) (NearSign : S → Type 0) (loo
   initial_same kinds.Var v = initial_values v.values
 
   top_same : (k : ValueKind) (v : ValueSpecTree) → top_spec_faults looks k v ≡ top_spec_faults others k v
-  top_same k v = λ j. (pieces_nearby Near NearSign looks others law agree (Spec k v)).faults [] false [] tt j ++ initial_same k v j
+  top_same k v = λ j. (pieces_nearby Near Rest looks others law agree (Spec k v)).faults [] false [] tt j ++ initial_same k v j
 
   pub values_break : (d : ValueTree) → value_decl_faults looks d ≡ value_decl_faults others d
   values_break d = specs_same (top_spec_faults looks d.kind) (top_spec_faults others d.kind) d.specs (top_same d.kind)
 
   pub types_used : (d : TypeDeclTree) → type_decl_uses looks d ≡ type_decl_uses others d
-  types_used d = specs_same (type_spec_uses looks) (type_spec_uses others) d.specs (λ x. type_used Near NearSign looks others law agree x.type_expr)
+  types_used d = specs_same (type_spec_uses looks) (type_spec_uses others) d.specs (λ x. type_used Near Rest looks others law agree x.type_expr)

@@ -2,9 +2,9 @@
 use Rattle.std.specs.Prelude.{◌≡◌, ℕ, List, Option}
 use Rattle.go_tree_nodes.specs.declared.types.TypeName.{TypeName}
 use Rattle.go_tree_nodes.specs.Trees.{TypeTree}
-use Rattle.go_operand_core.specs.TypeRules.{TypeRules}
-use Rattle.go_expr_core.specs.Looks.{Looks}
-use Rattle.go_near_core.specs.Near.{Each, IfAny, NearForm, NearField, NearFound, NearExported, NearSelection}
+use Rattle.go_file_core.specs.operand_core.TypeRules.{TypeRules}
+use Rattle.go_file_core.specs.expr_core.Looks.{Looks}
+use Rattle.go_near_core.specs.Near.{NearRest, Each, IfAny, NearForm, NearField, NearFound, NearExported, NearSelection}
 
 -- the rules of types lead from near types to near ones, and the predeclared types are near
 pub record AreRulesClosed {T : Type 0} (Near : T → Type 0) (rules : TypeRules T) : Type 0 where
@@ -16,12 +16,12 @@ pub record AreRulesClosed {T : Type 0} (Near : T → Type 0) (rules : TypeRules 
   pub any : Near rules.any
 
 -- names stand for near things, and what is asked of near things is near
-pub record AreClosed {T S D P : Type 0} (Near : T → Type 0) (NearSign : S → Type 0) (looks : Looks T S D P) : Type 0 where
-  pub find : (name : List ℕ) (offset : ℕ) → NearFound Near NearSign (looks.find name offset)
-  pub exported : (d : D) (name : List ℕ) → NearExported Near NearSign (looks.exported d name)
-  pub select : (t : T) (name : List ℕ) → Near t → NearSelection Near NearSign (looks.select t name)
-  pub params : (s : S) → NearSign s → Each (IfAny Near) (looks.params s)
-  pub results : (s : S) → NearSign s → Each (IfAny Near) (looks.results s)
+pub record AreClosed {T S D P : Type 0} (Near : T → Type 0) (Rest : NearRest S D) (looks : Looks T S D P) : Type 0 where
+  pub find : (name : List ℕ) (offset : ℕ) → NearFound Near Rest (looks.find name offset)
+  pub exported : (d : D) (name : List ℕ) → Rest.decl d → NearExported Near Rest (looks.exported d name)
+  pub select : (t : T) (name : List ℕ) → Near t → NearSelection Near Rest (looks.select t name)
+  pub params : (s : S) → Rest.sign s → Each (IfAny Near) (looks.params s)
+  pub results : (s : S) → Rest.sign s → Each (IfAny Near) (looks.results s)
   pub types : AreRulesClosed Near looks.types
   pub fields : (t : T) → Near t → Each (NearField Near) (looks.literals.fields t)
   pub type_of : (named : TypeName → Option T) (t : TypeTree) → IfAny Near (looks.written.type_of named t)
@@ -39,12 +39,12 @@ pub record RulesAgree {T : Type 0} (Near : T → Type 0) (rules others : TypeRul
   pub convertible : (s t : T) → Near s → Near t → rules.convertible s t ≡ others.convertible s t
 
 -- names stand for the same, written types are the same, and the same is known of what is near
-pub record LooksAgree {T S D P : Type 0} (Near : T → Type 0) (NearSign : S → Type 0) (looks others : Looks T S D P) : Type 0 where
+pub record LooksAgree {T S D P : Type 0} (Near : T → Type 0) (Rest : NearRest S D) (looks others : Looks T S D P) : Type 0 where
   pub find : (name : List ℕ) (offset : ℕ) → looks.find name offset ≡ others.find name offset
-  pub exported : (d : D) (name : List ℕ) → looks.exported d name ≡ others.exported d name
+  pub exported : (d : D) (name : List ℕ) → Rest.decl d → looks.exported d name ≡ others.exported d name
   pub select : (t : T) (name : List ℕ) → Near t → looks.select t name ≡ others.select t name
-  pub params : (s : S) → NearSign s → looks.params s ≡ others.params s
-  pub results : (s : S) → NearSign s → looks.results s ≡ others.results s
+  pub params : (s : S) → Rest.sign s → looks.params s ≡ others.params s
+  pub results : (s : S) → Rest.sign s → looks.results s ≡ others.results s
   pub types : RulesAgree Near looks.types others.types
   pub fields : (t : T) → Near t → looks.literals.fields t ≡ others.literals.fields t
   pub type_of : (named : TypeName → Option T) (t : TypeTree) → looks.written.type_of named t ≡ others.written.type_of named t

@@ -1,23 +1,29 @@
--- What expressions are judged by, where all types and signatures in it are near: near is any property of types, and one of signatures.
+-- What expressions are judged by, where all types, signatures and packages in it are near: near is any property of types, one of signatures and one of
+-- the packages that names stand for.
 use Rattle.std.specs.Prelude.{List, [], ◌∷◌, Option, Some, None, Result, Ok, Err, ⊤}
-use Rattle.go_operand_core.specs.declared.types.ValueType.{ValueType}
-use Rattle.go_operand_core.specs.declared.types.ValueType.TheVariants as value_types
-use Rattle.go_operand_core.specs.declared.types.TypeForm.{TypeForm}
-use Rattle.go_operand_core.specs.declared.types.TypeForm.TheVariants as forms
-use Rattle.go_operand_core.specs.declared.types.Operand.{Operand}
-use Rattle.go_denote_core.specs.declared.things.Found.{Found}
-use Rattle.go_denote_core.specs.declared.things.Found.TheVariants as founds
-use Rattle.go_denote_core.specs.declared.things.Exported.{Exported}
-use Rattle.go_denote_core.specs.declared.things.Exported.TheVariants as exporteds
-use Rattle.go_denote_core.specs.declared.things.Selection.{Selection}
-use Rattle.go_denote_core.specs.declared.things.Selection.TheVariants as selections
-use Rattle.go_denote_core.specs.declared.things.Denoted.{Denoted}
-use Rattle.go_denote_core.specs.declared.things.Denoted.TheVariants as denotes
-use Rattle.go_denote_core.specs.declared.things.Dot.{Dot}
-use Rattle.go_denote_core.specs.declared.things.Dot.TheVariants as dots
-use Rattle.go_denote_core.specs.declared.things.Argument.{Argument}
-use Rattle.go_denote_core.specs.declared.things.Argument.TheVariants as arguments
-use Rattle.go_literal_core.specs.Look.{FieldOf}
+use Rattle.go_file_core.specs.operand_core.declared.types.ValueType.{ValueType}
+use Rattle.go_file_core.specs.operand_core.declared.types.ValueType.TheVariants as value_types
+use Rattle.go_file_core.specs.operand_core.declared.types.TypeForm.{TypeForm}
+use Rattle.go_file_core.specs.operand_core.declared.types.TypeForm.TheVariants as forms
+use Rattle.go_file_core.specs.operand_core.declared.types.Operand.{Operand}
+use Rattle.go_file_core.specs.denote_core.declared.things.Found.{Found}
+use Rattle.go_file_core.specs.denote_core.declared.things.Found.TheVariants as founds
+use Rattle.go_file_core.specs.denote_core.declared.things.Exported.{Exported}
+use Rattle.go_file_core.specs.denote_core.declared.things.Exported.TheVariants as exporteds
+use Rattle.go_file_core.specs.denote_core.declared.things.Selection.{Selection}
+use Rattle.go_file_core.specs.denote_core.declared.things.Selection.TheVariants as selections
+use Rattle.go_file_core.specs.denote_core.declared.things.Denoted.{Denoted}
+use Rattle.go_file_core.specs.denote_core.declared.things.Denoted.TheVariants as denotes
+use Rattle.go_file_core.specs.denote_core.declared.things.Dot.{Dot}
+use Rattle.go_file_core.specs.denote_core.declared.things.Dot.TheVariants as dots
+use Rattle.go_file_core.specs.denote_core.declared.things.Argument.{Argument}
+use Rattle.go_file_core.specs.denote_core.declared.things.Argument.TheVariants as arguments
+use Rattle.go_file_core.specs.literal_core.Look.{FieldOf}
+
+-- what is near beside types: signatures, and the packages that names stand for
+pub record NearRest (S D : Type 0) : Type 1 where
+  pub sign : S → Type 0
+  pub decl : D → Type 0
 
 -- each of a list
 abbrev pub Each : {X : Type 0} → (X → Type 0) → List X → Type 0
@@ -58,47 +64,47 @@ NearArgument Near (arguments.«Value» o) = NearOperand Near o
 NearArgument Near arguments.Void = ⊤
 NearArgument Near arguments.Refused = ⊤
 
-abbrev pub NearDot : {T D : Type 0} → (T → Type 0) → Dot T D → Type 0
-NearDot Near (dots.«Package» d) = ⊤
-NearDot Near dots.Refused = ⊤
-NearDot Near dots.Untyped = ⊤
-NearDot Near (dots.«Value» o) = NearOperand Near o
+abbrev pub NearDot : {T S D : Type 0} → (T → Type 0) → NearRest S D → Dot T D → Type 0
+NearDot Near Rest (dots.«Package» d) = Rest.decl d
+NearDot Near Rest dots.Refused = ⊤
+NearDot Near Rest dots.Untyped = ⊤
+NearDot Near Rest (dots.«Value» o) = NearOperand Near o
 
 abbrev pub NearField : {T D : Type 0} → (T → Type 0) → FieldOf T D → Type 0
 NearField Near f = IfAny Near f.known.field_type
 
 -- what a name stands for
-abbrev pub NearFound : {T S D : Type 0} → (T → Type 0) → (S → Type 0) → Found T S D → Type 0
-NearFound Near NearSign founds.Missing = ⊤
-NearFound Near NearSign founds.BadImport = ⊤
-NearFound Near NearSign founds.Outside = ⊤
-NearFound Near NearSign (founds.«Package» d) = ⊤
-NearFound Near NearSign (founds.«Type» d t) = IfAny Near t
-NearFound Near NearSign (founds.Func d s) = NearSign s
-NearFound Near NearSign (founds.Builtin d b) = ⊤
-NearFound Near NearSign (founds.«Value» d o) = IfAny (NearOperand Near) o
+abbrev pub NearFound : {T S D : Type 0} → (T → Type 0) → NearRest S D → Found T S D → Type 0
+NearFound Near Rest founds.Missing = ⊤
+NearFound Near Rest founds.BadImport = ⊤
+NearFound Near Rest founds.Outside = ⊤
+NearFound Near Rest (founds.«Package» d) = Rest.decl d
+NearFound Near Rest (founds.«Type» d t) = IfAny Near t
+NearFound Near Rest (founds.Func d s) = Rest.sign s
+NearFound Near Rest (founds.Builtin d b) = ⊤
+NearFound Near Rest (founds.«Value» d o) = IfAny (NearOperand Near) o
 
-abbrev pub NearExported : {T S D : Type 0} → (T → Type 0) → (S → Type 0) → Exported T S D → Type 0
-NearExported Near NearSign exporteds.Absent = ⊤
-NearExported Near NearSign exporteds.Hidden = ⊤
-NearExported Near NearSign (exporteds.«Type» d t) = IfAny Near t
-NearExported Near NearSign (exporteds.Func d s) = NearSign s
-NearExported Near NearSign (exporteds.«Value» d o) = IfAny (NearOperand Near) o
+abbrev pub NearExported : {T S D : Type 0} → (T → Type 0) → NearRest S D → Exported T S D → Type 0
+NearExported Near Rest exporteds.Absent = ⊤
+NearExported Near Rest exporteds.Hidden = ⊤
+NearExported Near Rest (exporteds.«Type» d t) = IfAny Near t
+NearExported Near Rest (exporteds.Func d s) = Rest.sign s
+NearExported Near Rest (exporteds.«Value» d o) = IfAny (NearOperand Near) o
 
 -- the member that a selector chooses
-abbrev pub NearSelection : {T S D P : Type 0} → (T → Type 0) → (S → Type 0) → Selection T S D P → Type 0
-NearSelection Near NearSign (selections.Missing rule) = ⊤
-NearSelection Near NearSign (selections.«Field» d path t by_pointer) = IfAny Near t
-NearSelection Near NearSign (selections.Method d path s needs_pointer by_pointer) = NearSign s
+abbrev pub NearSelection : {T S D P : Type 0} → (T → Type 0) → NearRest S D → Selection T S D P → Type 0
+NearSelection Near Rest (selections.Missing rule) = ⊤
+NearSelection Near Rest (selections.«Field» d path t by_pointer) = IfAny Near t
+NearSelection Near Rest (selections.Method d path s needs_pointer by_pointer) = Rest.sign s
 
 -- what an expression denotes
-abbrev pub NearDenoted : {T S D : Type 0} → (T → Type 0) → (S → Type 0) → Denoted T S D → Type 0
-NearDenoted Near NearSign denotes.Refused = ⊤
-NearDenoted Near NearSign denotes.Typeless = ⊤
-NearDenoted Near NearSign (denotes.«Package» d) = ⊤
-NearDenoted Near NearSign (denotes.«Type» d t) = IfAny Near t
-NearDenoted Near NearSign (denotes.«Value» o) = NearOperand Near o
-NearDenoted Near NearSign (denotes.Several s) = NearSign s
-NearDenoted Near NearSign denotes.Nothing = ⊤
-NearDenoted Near NearSign (denotes.Func d s) = NearSign s
-NearDenoted Near NearSign (denotes.Builtin d b) = ⊤
+abbrev pub NearDenoted : {T S D : Type 0} → (T → Type 0) → NearRest S D → Denoted T S D → Type 0
+NearDenoted Near Rest denotes.Refused = ⊤
+NearDenoted Near Rest denotes.Typeless = ⊤
+NearDenoted Near Rest (denotes.«Package» d) = Rest.decl d
+NearDenoted Near Rest (denotes.«Type» d t) = IfAny Near t
+NearDenoted Near Rest (denotes.«Value» o) = NearOperand Near o
+NearDenoted Near Rest (denotes.Several s) = Rest.sign s
+NearDenoted Near Rest denotes.Nothing = ⊤
+NearDenoted Near Rest (denotes.Func d s) = Rest.sign s
+NearDenoted Near Rest (denotes.Builtin d b) = ⊤

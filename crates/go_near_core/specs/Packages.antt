@@ -1,25 +1,24 @@
 -- A package over tables of types that agree on what is near.
-use Rattle.std.specs.Prelude.{◌≡◌, ℕ, List, Option, Contains}
-use Rattle.go_decl_core.specs.declared.keys.DeclKey.{DeclKey}
-use Rattle.go_decl_core.specs.TopDecls.{TopDeclTree, TypeForm}
+use Rattle.std.specs.Prelude.{◌≡◌, ℕ, List, Option}
+use Rattle.go_term_core.specs.decl_core.TopDecls.{TopDeclTree, TypeForm}
 use Rattle.go_tree_nodes.specs.declared.types.TypeName.{TypeName}
 use Rattle.go_tree_nodes.specs.Trees.{TypeSpecTree}
-use Rattle.go_block_core.specs.Blocks.{BlocksModel}
-use Rattle.go_table_core.specs.Entries.{Entry}
-use Rattle.go_entry_core.specs.Entries.{file_at, type_key}
-use Rattle.go_entry_core.specs.Laws.{IsDeclared}
-use Rattle.go_entry_core.specs.Meanings.{Shows, file_meaning}
-use Rattle.go_entry_core.specs.Outlines.{FileOutline}
-use Rattle.go_names_core.specs.declared.meaning.Outside.{Outside}
-use Rattle.go_handle_core.specs.Declarations.{Declaration}
-use Rattle.go_face_core.specs.Faces.{TheFace}
-use Rattle.go_face_core.specs.Packages.{PackageFacesModel}
-use Rattle.go_face_core.specs.Written.{package_written}
-use Rattle.go_env_core.specs.Scenes.{SceneModel}
-use Rattle.go_env_core.specs.Found.{found_outside, found_exported}
-use Rattle.go_func_core.specs.Stands.{FileStand}
+use Rattle.go_file_core.specs.block_core.Blocks.{BlocksModel}
+use Rattle.go_file_core.specs.table_core.Entries.{Entry}
+use Rattle.go_file_core.specs.entry_core.Entries.{file_at, type_key}
+use Rattle.go_file_core.specs.entry_core.Laws.{IsDeclared}
+use Rattle.go_file_core.specs.entry_core.Meanings.{Shows, file_meaning}
+use Rattle.go_file_core.specs.entry_core.Outlines.{FileOutline}
+use Rattle.go_file_core.specs.names_core.declared.meaning.Outside.{Outside}
+use Rattle.go_file_core.specs.handle_core.Declarations.{Declaration}
+use Rattle.go_file_core.specs.face_core.Faces.{TheFace}
+use Rattle.go_file_core.specs.face_core.Packages.{PackageFacesModel}
+use Rattle.go_file_core.specs.face_core.Written.{package_written}
+use Rattle.go_file_core.specs.env_core.Scenes.{SceneModel}
+use Rattle.go_file_core.specs.env_core.Found.{found_outside, found_exported}
+use Rattle.go_file_core.specs.func_core.Stands.{FileStand}
 use Rattle.go_near_core.specs.Near.{NearFound, NearExported}
-use Rattle.go_near_core.specs.Tables.{IsNear, IsNearSign}
+use Rattle.go_near_core.specs.Tables.{Nearby, IsNear, IsNearPackage, near_rest}
 
 -- a package: the names that other packages show, its path, what its blocks bind, what the others' names are, and the outlines of its files in order
 -- of name
@@ -38,9 +37,9 @@ scene_over p es = record { path = p.path; blocks = p.blocks; types = es; others 
 abbrev pub stand_over : PackageOf → List Entry → List (Option TheFace) → ℕ → FileOutline → FileStand
 stand_over p es known n o = record { scene = scene_over p es; known = known; file = file_at p.path n o; top = file_meaning p.shows p.path p.blocks n }
 
--- its own types are near, what names of types mean in its files, what its declarations are, and what other packages show
-pub record IsPackageNear (near : List DeclKey) (p : PackageOf) (es : List Entry) (known : List (Option TheFace)) : Type 0 where
-  pub own : (n : ℕ) (o : FileOutline) (d : TopDeclTree) (t : TypeSpecTree) → IsDeclared p.outlines n o d → d.form ≡ TypeForm t → Contains near (type_key (file_at p.path n o) d.number)
+-- its own types are near, what names of types mean in its files, what its declarations are, and what near packages show
+pub record IsPackageNear (near : Nearby) (p : PackageOf) (es : List Entry) (known : List (Option TheFace)) : Type 0 where
+  pub own : (n : ℕ) (o : FileOutline) (d : TopDeclTree) (t : TypeSpecTree) → IsDeclared p.outlines n o d → d.form ≡ TypeForm t → near.types (type_key (file_at p.path n o) d.number)
   pub meanings : (n : ℕ) (x : TypeName) → IsNear near (file_meaning p.shows p.path p.blocks n x)
-  pub exported : (d : Declaration) (name : List ℕ) → NearExported (IsNear near) (IsNearSign near) (found_exported (scene_over p es) d name)
-  pub outside : (n : ℕ) (name : List ℕ) (x : Outside) → NearFound (IsNear near) (IsNearSign near) (found_outside (scene_over p es) n known name x)
+  pub exported : (d : Declaration) (name : List ℕ) → IsNearPackage near d → NearExported (IsNear near) (near_rest near) (found_exported (scene_over p es) d name)
+  pub outside : (n : ℕ) (name : List ℕ) (x : Outside) → NearFound (IsNear near) (near_rest near) (found_outside (scene_over p es) n known name x)

@@ -1,5 +1,5 @@
 mod Funcs
-mod Meanings
+pub mod Meanings
 mod Numbered
 mod Stages
 mod Steps

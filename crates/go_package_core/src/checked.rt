@@ -2,7 +2,7 @@
 use go_answer_core::Answer;
 use go_answer_core::expr_core::Fault;
 use go_answer_core::face_core::{Face, PackageFaces};
-use go_answer_core::type_core::PackageTypes;
+use go_ready_core::type_core::PackageTypes;
 use go_term_core::{Signature, TypeTerm};
 
 /// What stands in a file of a package. It holds what it names, and lends nothing of the package.

@@ -1,13 +1,13 @@
 //! The check of the files of a package.
 ghost use Rattle.std.specs.Prelude.{◌≡◌, ◌++◌, [], ℕ, List, IfOk, drop, length, map, slice_index_or};
 ghost use Rattle.std.specs.List.{AllZip, enumerate_from};
-ghost use Rattle.go_answer_core.specs.decl_core.specs.Outer.{IsPlaced};
-ghost use Rattle.go_answer_core.specs.decl_core.specs.Shown.{decl_shown};
+ghost use Rattle.go_term_core.specs.decl_core.Outer.{IsPlaced};
+ghost use Rattle.go_term_core.specs.decl_core.Shown.{decl_shown};
 ghost use Rattle.go_tree_nodes.specs.Shapes.{file_of};
-ghost use Rattle.go_answer_core.specs.entry_core.specs.Outlines.{outline_shown};
-ghost use Rattle.go_answer_core.specs.handle_core.specs.Declarations.{Declaration};
-ghost use Rattle.go_answer_core.specs.report_core.specs.Faults.{IsSettled};
-ghost use Rattle.go_env_core.specs.Scenes.{scene_shown};
+ghost use Rattle.go_answer_core.specs.entry_core.Outlines.{outline_shown};
+ghost use Rattle.go_answer_core.specs.handle_core.Declarations.{Declaration};
+ghost use Rattle.go_answer_core.specs.report_core.Faults.{IsSettled};
+ghost use Rattle.go_known_core.specs.env_core.Scenes.{scene_shown};
 ghost use Rattle.go_file_core.specs.Files.{file_faults, file_uses};
 ghost use Rattle.go_file_core.specs.Stands.{AreFunctionTypes, AreInitialTypes, stand_of};
 ghost use Rattle.go_answer_core.specs.Outer.{outer_faults};
@@ -18,17 +18,17 @@ ghost use Rattle.go_package_core.specs.mirrors.Stages.{IsReady};
 
 use crate::checked::FileAnswers;
 use go_answer_core::block_core::Imported;
-use go_answer_core::decl_core::Outline;
 use go_answer_core::entry_core::ImportedNames;
 use go_answer_core::face_core::Face;
 use go_answer_core::fault_core::PackageFault;
 use go_answer_core::handle_core::{SignatureRef, TypeRef};
 use go_answer_core::report_core::settle_faults;
-use go_answer_core::text_core::add;
 use go_answer_core::{OuterAt, answers_of, outer_faults};
-use go_env_core::Scene;
 use go_file_core::{FileAt, check_file};
+use go_known_core::env_core::Scene;
 use go_ready_core::{PackageAt, Ready};
+use go_term_core::decl_core::Outline;
+use go_text_core::add;
 use go_tree_nodes::File;
 use std::alloc::{AllocError, Global};
 

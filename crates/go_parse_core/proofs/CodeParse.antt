@@ -1,7 +1,7 @@
 -- What the answers of the parser mean.
 use Rattle.std.proofs.Common.{◌≡◌, ℕ, ◌<◌, ◌≤◌, ◌^◌, List, length, Ok, Err, sym, ap, subst, arith, inl, inr}
 use Rattle.std.specs.List.{All}
-use Rattle.go_scan_core.specs.declared.token.Token.{Token}
+use Rattle.go_token_core.specs.declared.token.Token.{Token}
 use Rattle.go_scan_core.specs.Texts.{IsFilled}
 use Rattle.go_scan_core.proofs.Answered.{one_list}
 use Rattle.go_scan_core.specs.Tokens as scanned

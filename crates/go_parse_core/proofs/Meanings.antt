@@ -1,8 +1,8 @@
 -- What each answer of reading means.
 use Rattle.std.proofs.Common.{◌≡◌, ℕ, ◌+◌, ◌≤◌, List, Result, Ok, Err, subst, arith, inl, inr}
 use Rattle.go_parse_types.proofs.Marks.{ok_same}
-use Rattle.go_scan_core.specs.declared.token.LexFault.{LexFault}
-use Rattle.go_scan_core.specs.declared.token.Token.{Token}
+use Rattle.go_token_core.specs.declared.token.LexFault.{LexFault}
+use Rattle.go_token_core.specs.declared.token.Token.{Token}
 use Rattle.go_scan_core.specs.Tokens.{IsAnswer}
 use Rattle.go_scan_core.proofs.Answered.{one_list, not_both}
 use Rattle.go_tree_nodes.specs.Terminals.{Terminal, terminals}

@@ -2,7 +2,7 @@
 use Rattle.std.specs.Prelude.{◌≡◌, ℕ, List, Result, Ok, Err}
 use Rattle.go_text_core.specs.declared.rule.Rule.{Rule}
 use Rattle.go_text_core.specs.declared.rule.Rule.TheVariants.{P1, P2}
-use Rattle.go_scan_core.specs.declared.token.Token.{Token}
+use Rattle.go_token_core.specs.declared.token.Token.{Token}
 use Rattle.go_scan_core.specs.Tokens.{IsAnswer}
 use Rattle.go_tree_nodes.specs.Terminals.{terminals}
 use Rattle.go_tree_nodes.specs.declared.files.File.{File}

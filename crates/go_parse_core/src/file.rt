@@ -8,7 +8,7 @@ use crate::funcs::func;
 use crate::imports::imports;
 use go_parse_stmts::{type_decl, value_decl, value_keyword};
 use go_parse_types::{Ahead, Stop, add, fitted};
-use go_scan_core::{Keyword, Operator};
+use go_token_core::{Keyword, Operator};
 use go_tree_nodes::{Decl, File, TopDecl};
 use std::alloc::Global;
 

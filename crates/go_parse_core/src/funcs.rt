@@ -1,6 +1,6 @@
 //! Functions and methods.
 ghost use Rattle.std.specs.Prelude.{◌≡◌, ◌<◌, ◌^◌, IfOk};
-ghost use Rattle.go_scan_core.specs.declared.kind.Operator.TheVariants as operator;
+ghost use Rattle.go_token_core.specs.declared.kind.Operator.TheVariants as operator;
 ghost use Rattle.go_tree_nodes.specs.Shapes.{func_of};
 ghost use Rattle.go_parse_types.specs.mirrors.Giving.{Gives};
 ghost use Rattle.go_parse_types.specs.mirrors.Marks.{mark_at, name_at};
@@ -9,8 +9,8 @@ ghost use Rattle.go_parse_core.specs.mirrors.FileReading.{func_at, is_receiver_n
 
 use go_parse_stmts::block;
 use go_parse_types::{Ahead, Stop, signature, type_name};
-use go_scan_core::Operator;
 use go_text_core::Span;
+use go_token_core::Operator;
 use go_tree_nodes::{FuncDecl, Ident, Receiver};
 use std::alloc::{AllocError, Global};
 

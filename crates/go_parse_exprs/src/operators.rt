@@ -5,8 +5,8 @@ ghost use Rattle.go_parse_types.specs.mirrors.Marks.{mark_that};
 ghost use Rattle.go_parse_exprs.specs.mirrors.ExprReading.{has_rank};
 
 use go_parse_types::Ahead;
-use go_scan_core::Operator;
 use go_text_core::Span;
+use go_token_core::Operator;
 
 /// The rank of the operators that bind most weakly.
 pub const LOWEST: u32 = 1;

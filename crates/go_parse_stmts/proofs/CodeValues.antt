@@ -1,7 +1,7 @@
 -- What reading the specification of a value gives, where it is known before its values whether enough is declared.
 use Rattle.std.proofs.Common.{◌≡◌, ℕ, suc, true, false, List, length, Option, Some, None, Ok, Err, refl, ap, ◌∙◌, cond}
 use Rattle.go_text_core.specs.declared.span.Span.{Span}
-use Rattle.go_scan_core.specs.declared.kind.Operator.TheVariants as operator
+use Rattle.go_token_core.specs.declared.kind.Operator.TheVariants as operator
 use Rattle.go_tree_nodes.specs.declared.names.Ident.{Ident}
 use Rattle.go_tree_nodes.specs.declared.decls.ValueKind.{ValueKind}
 use Rattle.go_tree_nodes.specs.declared.decls.ValueKind.TheVariants as kinds

@@ -1,7 +1,7 @@
 -- Reading finds the specifications that are spelled, one or a group, and no others, given that it does so for each.
 use Rattle.std.proofs.Common.{◌≡◌, ℕ, suc, ◌<◌, List, [], ◌∷◌, ◌++◌, length, Option, Some, None, Ok, refl, sym, ap, ◌∙◌, subst, inl, append_assoc, ◌≤◌, arith, length-append}
 use Rattle.go_text_core.specs.declared.span.Span.{Span}
-use Rattle.go_scan_core.specs.declared.kind.Operator.TheVariants as operator
+use Rattle.go_token_core.specs.declared.kind.Operator.TheVariants as operator
 use Rattle.go_tree_nodes.specs.Terminals.{Terminal}
 use Rattle.go_tree_nodes.specs.Trees.{Specs, Single, Group}
 use Rattle.go_tree_nodes.specs.Spelling.{mark, spell_specs_of, spell_specs}

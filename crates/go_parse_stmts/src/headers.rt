@@ -9,13 +9,13 @@ ghost use Rattle.go_parse_types.specs.mirrors.Marks.{mark_at};
 ghost use Rattle.go_parse_stmts.specs.mirrors.CodeShapes.{init_at, condition_at, test_at, post_at, clauses_at};
 ghost use Rattle.go_parse_stmts.specs.mirrors.StmtReading.{if_at, for_at};
 ghost use Rattle.go_parse_stmts.specs.mirrors.StmtReading as reading;
-ghost use Rattle.go_scan_core.specs.declared.kind.Operator.TheVariants as operator;
+ghost use Rattle.go_token_core.specs.declared.kind.Operator.TheVariants as operator;
 
 use crate::simple_stmts::{header_simple, single};
 use go_parse_exprs::{expr, exprs};
 use go_parse_types::{Ahead, Stop};
-use go_scan_core::Operator;
 use go_text_core::Span;
+use go_token_core::Operator;
 use go_tree_nodes::{Expr, Exprs, ForHead, IfHead, InitPart, Simple};
 use std::alloc::Global;
 

@@ -15,8 +15,8 @@ ghost use Rattle.go_parse_stmts.specs.mirrors.StmtReading.{name_of, names_of, st
 
 use go_parse_exprs::{expr, exprs};
 use go_parse_types::{Ahead, Stop, add, boxed, fitted};
-use go_scan_core::Operator;
 use go_text_core::Span;
+use go_token_core::Operator;
 use go_tree_nodes::{
     Assignment, Definition, Expr, Exprs, Ident, Idents, NextExpr, NextIdent, Simple, Update,
 };

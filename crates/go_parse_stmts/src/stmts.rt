@@ -2,8 +2,8 @@
 //!
 //! What was read is dropped by name where reading stops behind it. That is one call; a `?` writes out the tree's drop.
 ghost use Rattle.std.specs.Prelude.{◌≡◌, ◌<◌, ◌+◌, ◌^◌};
-ghost use Rattle.go_scan_core.specs.declared.kind.Keyword.TheVariants as keyword;
-ghost use Rattle.go_scan_core.specs.declared.kind.Operator.TheVariants as operator;
+ghost use Rattle.go_token_core.specs.declared.kind.Keyword.TheVariants as keyword;
+ghost use Rattle.go_token_core.specs.declared.kind.Operator.TheVariants as operator;
 ghost use Rattle.go_tree_nodes.specs.Shapes.{shape_stmt, shape_branch, shape_else, lines_of};
 ghost use Rattle.go_parse_types.specs.mirrors.Giving.{Gives};
 ghost use Rattle.go_parse_types.specs.mirrors.Marks.{mark_at, keyword_at};
@@ -16,8 +16,8 @@ use crate::simple_stmts::simple;
 use crate::value_decls::{value_decl, value_keyword};
 use go_parse_exprs::exprs;
 use go_parse_types::{Ahead, Stop, add, boxed, fitted};
-use go_scan_core::{Keyword, Operator};
 use go_text_core::Span;
+use go_token_core::{Keyword, Operator};
 use go_tree_nodes::{Branch, Line, Loop, Otherwise, Stmt, ValueKind};
 use std::alloc::Global;
 

@@ -2,10 +2,10 @@
 use Rattle.std.proofs.Common.{◌≡◌, ℕ, ◌<◌, Bool, true, false, List, ◌∷◌, ◌++◌, [], length, Option, Some, None, Result, Ok, Err, refl, sym, ap, ◌∙◌, subst, arith, rules, cond, ◌⊎◌, inl, inr}
 use denote.Enum.Bare.{same_true, true_same}
 use Rattle.go_text_core.specs.declared.span.Span.{Span}
-use Rattle.go_scan_core.specs.contracts.kind.Keyword as keyword_contracts
-use Rattle.go_scan_core.specs.contracts.kind.Operator as operator_contracts
-use Rattle.go_scan_core.specs.declared.kind.Keyword.{Keyword}
-use Rattle.go_scan_core.specs.declared.kind.Operator.{Operator}
+use Rattle.go_token_core.specs.contracts.kind.Keyword as keyword_contracts
+use Rattle.go_token_core.specs.contracts.kind.Operator as operator_contracts
+use Rattle.go_token_core.specs.declared.kind.Keyword.{Keyword}
+use Rattle.go_token_core.specs.declared.kind.Operator.{Operator}
 use Rattle.go_tree_nodes.specs.declared.names.Ident.{Ident}
 use Rattle.go_tree_nodes.specs.declared.names.TextLiteral.{TextLiteral}
 use Rattle.go_tree_nodes.specs.Terminals.{TerminalKind, Spelled, Quoted, Word, Mark, Terminal, terminal}

@@ -9,8 +9,8 @@ ghost use Rattle.go_tree_nodes.specs.Terminals.{terminals};
 ghost use Rattle.go_parse_types.specs.mirrors.TypeReading as reading;
 
 use crate::stop::Stop;
-use go_scan_core::{Keyword, Operator, Token, TokenKind, integer_value};
 use go_text_core::{Name, Span};
+use go_token_core::{Keyword, Operator, Token, TokenKind, integer_value};
 use go_tree_nodes::{Ident, TextLiteral};
 use std::alloc::{AllocError, Global};
 use std::marker::Model;

@@ -9,7 +9,8 @@ use Rattle.std.proofs.lemmas.Bool.{and_parts, and_from, ltb-true, ltb-false}
 use Rattle.std.proofs.lemmas.Slice.Eq.{bytes_eq-Decides}
 use Rattle.go_text_core.proofs.Each.{true_or_false}
 use lib.Dec.{ltb}
-use Rattle.go_path_core.specs.Path.{elements, IsElement, internal, IsPrefix, MayImport, is_first, tail_of, has_internal, importable}
+use Rattle.go_path_core.specs.Path.{elements, IsElement, internal, IsPrefix, MayImport}
+use Rattle.go_path_core.specs.mirrors.Steps.{is_first, tail_of, has_internal, importable}
 
 -- what position says, in terms of where the first slash stands
 cases_of : (p : ℕ → Bool) (xs : List ℕ) → ((position_or_len p xs < length xs) × (position p xs ≡ Some (position_or_len p xs))) ⊎ ((length xs ≤ position_or_len p xs) × (position p xs ≡ None))

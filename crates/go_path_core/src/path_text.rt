@@ -1,6 +1,7 @@
 //! The text of a path: its elements, and the tests along them.
 ghost use Rattle.std.specs.Prelude.{◌≡◌, ◌≤◌, ◌↔◌, ◌∷◌, ◌==◌, true, position, IsTrue, All, length};
-ghost use Rattle.go_path_core.specs.Path.{elements, left_of, is_shorter, IsPathByte, IsElement, IsPath, has_internal, importable, IsPrefix};
+ghost use Rattle.go_path_core.specs.Path.{elements, IsPathByte, IsElement, IsPath, IsPrefix};
+ghost use Rattle.go_path_core.specs.mirrors.Steps.{left_of, is_shorter, has_internal, importable};
 
 /// The most bytes of a path.
 const MOST_BYTES: usize = 255;

@@ -1,8 +1,8 @@
 -- A piece looks at the names in it and at the types that it writes alone.
 use Rattle.std.proofs.Common.{◌≡◌, ℕ, Bool, true, false, not, List, [], ◌∷◌, ◌++◌, map, length, refl, sym, ap, ◌∙◌}
 use Rattle.std.specs.Prelude.{Option, Some, None, if◌then◌else◌}
-use Rattle.go_expr_core.specs.text_core.specs.Text.{is_blank}
-use Rattle.go_expr_core.specs.text_core.specs.declared.span.Span.{Span}
+use Rattle.go_text_core.specs.Text.{is_blank}
+use Rattle.go_text_core.specs.declared.span.Span.{Span}
 use Rattle.go_tree_nodes.specs.declared.names.Ident.{Ident}
 use Rattle.go_tree_nodes.specs.declared.types.TypeName.{TypeName}
 use Rattle.go_tree_nodes.specs.declared.types.TypeName.TheVariants as type_names
@@ -12,14 +12,14 @@ use Rattle.go_tree_nodes.specs.declared.files.Receiver.{Receiver}
 use Rattle.go_tree_nodes.specs.Trees.{Separated, One, Then, TypeTree, ExprTree, Integer, Text, Named, Paren, Unary, Binary, Select, Call, Literal, StructLiteral, NoItems, SignatureTree, ResultTree, ParamTrees, Signed, NoResult, OneResult, Results, NoParams, Param, SimpleTree, Alone, Step, Assign, Update, Define}
 use Rattle.go_open_core.specs.Blocks.{is_listed, list_name}
 use Rattle.go_walk_core.specs.Ends.{is_blank_target}
-use Rattle.go_local_core.specs.Steps.{Piece, Header, Spec, Act, Condition, Given}
-use Rattle.go_local_core.specs.Outline as outline
-use Rattle.go_expr_core.specs.denote_core.specs.declared.things.Place.TheVariants as places
-use Rattle.go_expr_core.specs.denote_core.specs.declared.things.Denoted.{Denoted}
-use Rattle.go_expr_core.specs.denote_core.specs.declared.things.Denoted.TheVariants as denotes
-use Rattle.go_expr_core.specs.denote_core.specs.declared.things.Found.{Found}
-use Rattle.go_expr_core.specs.denote_core.specs.Arguments.{argument_of, arguments_of, is_free}
-use Rattle.go_expr_core.specs.literal_core.specs.Literals.{literal_type}
+use Rattle.go_walk_core.specs.local_core.Steps.{Piece, Header, Spec, Act, Condition, Given}
+use Rattle.go_walk_core.specs.local_core.Outline as outline
+use Rattle.go_statement_core.specs.denote_core.declared.things.Place.TheVariants as places
+use Rattle.go_statement_core.specs.denote_core.declared.things.Denoted.{Denoted}
+use Rattle.go_statement_core.specs.denote_core.declared.things.Denoted.TheVariants as denotes
+use Rattle.go_statement_core.specs.denote_core.declared.things.Found.{Found}
+use Rattle.go_statement_core.specs.denote_core.Arguments.{argument_of, arguments_of, is_free}
+use Rattle.go_expr_core.specs.literal_core.Literals.{literal_type}
 use Rattle.go_statement_core.specs.declared.targets.Target.TheVariants as targets_are
 use Rattle.go_statement_core.specs.Targets.{target_of}
 use Rattle.go_statement_core.specs.Assignments.{assignment_rule}

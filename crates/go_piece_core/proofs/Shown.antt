@@ -1,8 +1,8 @@
 -- The names of a piece that are looked up are among those that it writes.
 use Rattle.std.proofs.Common.{Bool, true, false, List, [], ◌∷◌, ◌++◌, Option, Some, None, sym, ap, subst, ◌∙◌}
 use Rattle.std.specs.Prelude.{if◌then◌else◌}
-use Rattle.go_expr_core.specs.text_core.specs.declared.span.Span.{Span}
-use Rattle.go_expr_core.specs.scan_core.specs.declared.kind.Operator.TheVariants as operator
+use Rattle.go_text_core.specs.declared.span.Span.{Span}
+use Rattle.go_token_core.specs.declared.kind.Operator.TheVariants as operator
 use Rattle.go_tree_nodes.specs.declared.names.Ident.{Ident}
 use Rattle.go_tree_nodes.specs.declared.types.TypeName.{TypeName}
 use Rattle.go_tree_nodes.specs.declared.types.TypeName.TheVariants as type_name
@@ -10,10 +10,10 @@ use Rattle.go_tree_nodes.specs.declared.files.Receiver.{Receiver}
 use Rattle.go_tree_nodes.specs.Terminals.{Terminal}
 use Rattle.go_tree_nodes.specs.Trees.{Separated, One, Then, TypeTree, FieldTrees, MethodTrees, SignatureTree, ResultTree, ParamTrees, NamedType, Pointer, ParenType, Struct, Interface, NoFields, NamedFields, EmbeddedField, NoMethods, Method, Signed, NoResult, OneResult, Results, NoParams, Param, ExprTree, ItemTrees, Integer, Text, Named, Paren, Unary, Binary, Select, Call, Literal, StructLiteral, NoItems, Item, SimpleTree, Alone, Step, Assign, Update, Define}
 use Rattle.go_tree_nodes.specs.Spelling.{spell_ident, spell_idents, spell_some, spell_type_name, spell_tag, spell_names, spell_type, spell_fields, spell_methods, spell_signature, spell_result, spell_params, spell_key, spell, spell_items, spell_exprs, spell_some_type, spell_values, spell_simple, spell_receiver_name, spell_receiver}
-use Rattle.go_local_core.specs.Steps.{Piece, Header, Spec, Act, Condition, Given, spell_piece}
-use Rattle.go_local_core.specs.Outline as outline
-use Rattle.go_local_core.specs.Binding.{Look}
-use Rattle.go_local_core.specs.Alike.{Alike}
+use Rattle.go_walk_core.specs.local_core.Steps.{Piece, Header, Spec, Act, Condition, Given, spell_piece}
+use Rattle.go_walk_core.specs.local_core.Outline as outline
+use Rattle.go_walk_core.specs.local_core.Binding.{Look}
+use Rattle.go_walk_core.specs.local_core.Alike.{Alike}
 use Rattle.go_walk_core.specs.Ends.{is_blank_target}
 use Rattle.go_expr_core.specs.Looks.{Looks}
 use Rattle.go_expr_core.specs.Laws.{Agree, type_name_idents, type_idents, fields_idents, methods_idents, signature_idents, result_idents, params_idents, idents, items_idents}

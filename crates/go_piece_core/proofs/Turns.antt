@@ -5,8 +5,8 @@ use Rattle.std.proofs.lemmas.List.{drop_more, drop_all}
 use Rattle.go_tree_nodes.specs.declared.names.NextIdent.{NextIdent}
 use Rattle.go_tree_nodes.specs.Trees.{Separated, ExprTree}
 use Rattle.go_open_core.specs.Blocks.{list_name}
-use Rattle.go_expr_core.specs.operand_core.specs.TypeRules.{TypeRules}
-use Rattle.go_expr_core.specs.denote_core.specs.declared.things.Argument.{Argument}
+use Rattle.go_statement_core.specs.operand_core.TypeRules.{TypeRules}
+use Rattle.go_statement_core.specs.denote_core.declared.things.Argument.{Argument}
 use Rattle.go_statement_core.specs.declared.targets.Target.{Target}
 use Rattle.go_statement_core.specs.Constants.{constant_answer}
 use Rattle.go_expr_core.specs.declared.things.Fault.{Fault}

@@ -3,13 +3,13 @@
 -- docs/RULES.md, "Types", "Expressions: roles, order, faults of parts", "Assignments, declarations, returns, statements". The Go
 -- specification, "Function types", "Method declarations", "Return statements".
 use Rattle.std.specs.Prelude.{Bool, true, false, List, [], ◌∷◌, ◌++◌, length, replicate, Option, Some, None, if◌then◌else◌}
-use Rattle.go_expr_core.specs.text_core.specs.declared.span.Span.{Span}
+use Rattle.go_text_core.specs.declared.span.Span.{Span}
 use Rattle.go_tree_nodes.specs.declared.names.Ident.{Ident}
 use Rattle.go_tree_nodes.specs.declared.files.Receiver.{Receiver}
 use Rattle.go_tree_nodes.specs.Trees.{Separated, SignatureTree, ResultTree, ParamTrees, Signed, NoResult, OneResult, Results, NoParams, Param}
 use Rattle.go_tree_nodes.specs.Rules.{is_grouped}
-use Rattle.go_local_core.specs.Outline.{idents}
-use Rattle.go_expr_core.specs.operand_core.specs.TypeRules.{TypeRules}
+use Rattle.go_walk_core.specs.local_core.Outline.{idents}
+use Rattle.go_statement_core.specs.operand_core.TypeRules.{TypeRules}
 use Rattle.go_expr_core.specs.declared.things.Use.{Use}
 use Rattle.go_expr_core.specs.declared.things.Fault.{Fault}
 use Rattle.go_expr_core.specs.Looks.{Looks}

@@ -3,23 +3,23 @@
 -- docs/RULES.md, "Occurrences", "Expressions: roles, order, faults of parts", "Assignments, declarations, returns, statements". The Go
 -- specification, "Declarations and scope".
 use Rattle.std.specs.Prelude.{◌≡◌, ℕ, ⊤, Bool, List, [], ◌∷◌, ◌++◌, length, map, Option, Some, None, if◌then◌else◌}
-use Rattle.go_expr_core.specs.text_core.specs.declared.span.Span.{Span}
+use Rattle.go_text_core.specs.declared.span.Span.{Span}
 use Rattle.go_tree_nodes.specs.declared.names.Ident.{Ident}
 use Rattle.go_tree_nodes.specs.declared.files.Receiver.{Receiver}
 use Rattle.go_tree_nodes.specs.Trees.{Separated, One, Then, TypeTree, ExprTree, SignatureTree, ResultTree, ParamTrees, Signed, NoResult, OneResult, Results, NoParams, Param, SimpleTree, Alone, Step, Assign, Update, Define, FuncTree}
 use Rattle.go_tree_nodes.specs.Rules.{Wf, Wf_values, Wf_simple, Wf_some_exprs}
-use Rattle.go_expr_core.specs.tree_core.specs.declared.occurrence.Context.TheVariants as contexts
-use Rattle.go_expr_core.specs.tree_core.specs.declared.occurrence.Occ.{Occ}
-use Rattle.go_expr_core.specs.tree_core.specs.Occurrences.{receiver_occs, signature_occs, value_spec_occs, simple_occs, expr_occs, some_exprs_occs, func_occs}
+use Rattle.go_expr_core.specs.tree_core.declared.occurrence.Context.TheVariants as contexts
+use Rattle.go_expr_core.specs.tree_core.declared.occurrence.Occ.{Occ}
+use Rattle.go_expr_core.specs.tree_core.Occurrences.{receiver_occs, signature_occs, value_spec_occs, simple_occs, expr_occs, some_exprs_occs, func_occs}
 use Rattle.go_walk_core.specs.Ends.{is_blank_target}
-use Rattle.go_local_core.specs.Steps.{Piece, Header, Spec, Act, Condition, Given, Steps, Done, Check, Declare, Inner, spell_piece}
-use Rattle.go_local_core.specs.Outline.{func_steps}
-use Rattle.go_local_core.specs.Outline as outline
-use Rattle.go_local_core.specs.Binding.{Look}
-use Rattle.go_local_core.specs.Law.{Rules}
-use Rattle.go_local_core.specs.Alike.{Alike, LookAtNames}
-use Rattle.go_expr_core.specs.operand_core.specs.declared.types.Operand.{Operand}
-use Rattle.go_expr_core.specs.denote_core.specs.declared.things.Found.{Found}
+use Rattle.go_walk_core.specs.local_core.Steps.{Piece, Header, Spec, Act, Condition, Given, Steps, Done, Check, Declare, Inner, spell_piece}
+use Rattle.go_walk_core.specs.local_core.Outline.{func_steps}
+use Rattle.go_walk_core.specs.local_core.Outline as outline
+use Rattle.go_walk_core.specs.local_core.Binding.{Look}
+use Rattle.go_walk_core.specs.local_core.Law.{Rules}
+use Rattle.go_walk_core.specs.local_core.Alike.{Alike, LookAtNames}
+use Rattle.go_statement_core.specs.operand_core.declared.types.Operand.{Operand}
+use Rattle.go_statement_core.specs.denote_core.declared.things.Found.{Found}
 use Rattle.go_expr_core.specs.declared.things.Use.{Use}
 use Rattle.go_expr_core.specs.declared.things.Fault.{Fault}
 use Rattle.go_expr_core.specs.Looks.{Looks, WrittenRules}

@@ -5,10 +5,10 @@
 use Rattle.std.specs.Prelude.{Bool, List, [], map, Option}
 use Rattle.go_tree_nodes.specs.declared.names.Ident.{Ident}
 use Rattle.go_tree_nodes.specs.Trees.{SimpleTree, Alone, Step, Assign, Update, Define}
-use Rattle.go_local_core.specs.Steps.{Piece, Header, Spec, Act, Condition, Given}
-use Rattle.go_local_core.specs.Outline.{idents, header_idents}
-use Rattle.go_expr_core.specs.operand_core.specs.declared.types.Operand.{Operand}
-use Rattle.go_expr_core.specs.denote_core.specs.declared.things.Place.TheVariants as places
+use Rattle.go_walk_core.specs.local_core.Steps.{Piece, Header, Spec, Act, Condition, Given}
+use Rattle.go_walk_core.specs.local_core.Outline.{idents, header_idents}
+use Rattle.go_statement_core.specs.operand_core.declared.types.Operand.{Operand}
+use Rattle.go_statement_core.specs.denote_core.declared.things.Place.TheVariants as places
 use Rattle.go_expr_core.specs.declared.things.Use.{Use}
 use Rattle.go_expr_core.specs.declared.things.Fault.{Fault}
 use Rattle.go_expr_core.specs.Looks.{Looks}

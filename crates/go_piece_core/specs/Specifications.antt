@@ -2,18 +2,18 @@
 --
 -- docs/RULES.md, "Assignments, declarations, returns, statements". The Go specification, "Variable declarations", "Constant declarations".
 use Rattle.std.specs.Prelude.{ℕ, List, [], ◌∷◌, ◌++◌, ◌==◌, length, map, replicate, Option, Some, None, if◌then◌else◌}
-use Rattle.go_expr_core.specs.text_core.specs.declared.span.Span.{Span}
-use Rattle.go_expr_core.specs.text_core.specs.declared.rule.Rule.{Rule}
-use Rattle.go_expr_core.specs.text_core.specs.declared.rule.Rule.TheVariants.{Y7}
+use Rattle.go_text_core.specs.declared.span.Span.{Span}
+use Rattle.go_text_core.specs.declared.rule.Rule.{Rule}
+use Rattle.go_text_core.specs.declared.rule.Rule.TheVariants.{Y7}
 use Rattle.go_tree_nodes.specs.declared.names.Ident.{Ident}
 use Rattle.go_tree_nodes.specs.declared.decls.ValueKind.{ValueKind}
 use Rattle.go_tree_nodes.specs.declared.decls.ValueKind.TheVariants as kinds
 use Rattle.go_tree_nodes.specs.Trees.{Separated, One, Then, ExprTree, ValueSpecTree}
-use Rattle.go_local_core.specs.Outline.{idents}
-use Rattle.go_expr_core.specs.operand_core.specs.declared.types.Operand.{Operand}
-use Rattle.go_expr_core.specs.operand_core.specs.TypeRules.{TypeRules}
-use Rattle.go_expr_core.specs.denote_core.specs.declared.things.Argument.{Argument}
-use Rattle.go_expr_core.specs.denote_core.specs.declared.things.Argument.TheVariants as arguments
+use Rattle.go_walk_core.specs.local_core.Outline.{idents}
+use Rattle.go_statement_core.specs.operand_core.declared.types.Operand.{Operand}
+use Rattle.go_statement_core.specs.operand_core.TypeRules.{TypeRules}
+use Rattle.go_statement_core.specs.denote_core.declared.things.Argument.{Argument}
+use Rattle.go_statement_core.specs.denote_core.declared.things.Argument.TheVariants as arguments
 use Rattle.go_statement_core.specs.Declarations.{declared_types, variables_rule}
 use Rattle.go_statement_core.specs.Constants.{constants_rule, constant_answer}
 use Rattle.go_expr_core.specs.declared.things.Use.{Use}

@@ -3,15 +3,15 @@
 -- docs/RULES.md, "Assignments, declarations, returns, statements". The Go specification, "Expression statements", "IncDec statements",
 -- "Assignment statements", "Short variable declarations", "If statements", "For statements", "Return statements".
 use Rattle.std.specs.Prelude.{Bool, false, List, [], ◌++◌, Option, Some, None}
-use Rattle.go_expr_core.specs.text_core.specs.declared.span.Span.{Span}
-use Rattle.go_expr_core.specs.scan_core.specs.declared.kind.Operator.{Operator}
+use Rattle.go_text_core.specs.declared.span.Span.{Span}
+use Rattle.go_token_core.specs.declared.kind.Operator.{Operator}
 use Rattle.go_tree_nodes.specs.declared.names.Ident.{Ident}
 use Rattle.go_tree_nodes.specs.Trees.{Separated, ExprTree, Paren, Call, SimpleTree, Alone, Step, Assign, Update, Define}
-use Rattle.go_local_core.specs.Outline.{idents}
-use Rattle.go_expr_core.specs.denote_core.specs.declared.things.Place.TheVariants as places
-use Rattle.go_expr_core.specs.denote_core.specs.declared.things.Denoted.{Denoted}
-use Rattle.go_expr_core.specs.denote_core.specs.declared.things.Argument.{Argument}
-use Rattle.go_expr_core.specs.denote_core.specs.Arguments.{argument_of}
+use Rattle.go_walk_core.specs.local_core.Outline.{idents}
+use Rattle.go_statement_core.specs.denote_core.declared.things.Place.TheVariants as places
+use Rattle.go_statement_core.specs.denote_core.declared.things.Denoted.{Denoted}
+use Rattle.go_statement_core.specs.denote_core.declared.things.Argument.{Argument}
+use Rattle.go_statement_core.specs.denote_core.Arguments.{argument_of}
 use Rattle.go_statement_core.specs.Assignments.{assignment_rule}
 use Rattle.go_statement_core.specs.Declarations.{short_types}
 use Rattle.go_statement_core.specs.Returns.{return_rule}

@@ -3,12 +3,12 @@
 -- docs/RULES.md, "Assignments, declarations, returns, statements". The Go specification, "Assignment statements", "Short variable
 -- declarations", "Blank identifier".
 use Rattle.std.specs.Prelude.{ℕ, Bool, true, false, not, List, [], ◌∷◌, ◌++◌, if◌then◌else◌}
-use Rattle.go_expr_core.specs.text_core.specs.Text.{is_blank}
+use Rattle.go_text_core.specs.Text.{is_blank}
 use Rattle.go_tree_nodes.specs.declared.names.Ident.{Ident}
 use Rattle.go_tree_nodes.specs.Trees.{Separated, One, Then, ExprTree}
 use Rattle.go_open_core.specs.Blocks.{is_listed, list_name}
 use Rattle.go_walk_core.specs.Ends.{is_blank_target}
-use Rattle.go_expr_core.specs.denote_core.specs.declared.things.Place.TheVariants as places
+use Rattle.go_statement_core.specs.denote_core.declared.things.Place.TheVariants as places
 use Rattle.go_statement_core.specs.declared.targets.Target.{Target}
 use Rattle.go_statement_core.specs.declared.targets.Target.TheVariants as kinds
 use Rattle.go_statement_core.specs.Targets.{target_of}

@@ -4,10 +4,10 @@
 -- "Return statements".
 use Rattle.std.specs.Prelude.{ℕ, Bool, true, false, List, Option, Some, None}
 use Rattle.go_tree_nodes.specs.Trees.{Separated, One, Then, ExprTree}
-use Rattle.go_expr_core.specs.operand_core.specs.declared.types.ValueType.TheVariants as value_types
-use Rattle.go_expr_core.specs.operand_core.specs.declared.types.Operand.{Operand}
-use Rattle.go_expr_core.specs.denote_core.specs.declared.things.Argument.{Argument}
-use Rattle.go_expr_core.specs.denote_core.specs.Arguments.{arguments_of, is_free}
+use Rattle.go_statement_core.specs.operand_core.declared.types.ValueType.TheVariants as value_types
+use Rattle.go_statement_core.specs.operand_core.declared.types.Operand.{Operand}
+use Rattle.go_statement_core.specs.denote_core.declared.things.Argument.{Argument}
+use Rattle.go_statement_core.specs.denote_core.Arguments.{arguments_of, is_free}
 use Rattle.go_expr_core.specs.declared.things.Use.{Use}
 use Rattle.go_expr_core.specs.declared.things.Fault.{Fault}
 use Rattle.go_expr_core.specs.Looks.{Looks, at}

@@ -2,25 +2,25 @@
 -- g() one, two() two of type int, nope is not declared), a variable s of type string, a constant c of value 1, and the predeclared string,
 -- true and len.
 use Rattle.std.specs.Prelude.{◌≡◌, ℕ, ◌+◌, Bool, true, false, List, [], ◌∷◌, Option, Some, None, codes, pos}
-use Rattle.go_expr_core.specs.text_core.specs.declared.rule.Rule.TheVariants.{N1, N8, B5, X1, Y3, Y4, Y7, Y8}
-use Rattle.go_expr_core.specs.scan_core.specs.declared.kind.Operator.{Operator}
-use Rattle.go_expr_core.specs.scan_core.specs.declared.kind.Operator.TheVariants as operators
+use Rattle.go_text_core.specs.declared.rule.Rule.TheVariants.{N1, N8, B5, X1, Y3, Y4, Y7, Y8}
+use Rattle.go_token_core.specs.declared.kind.Operator.{Operator}
+use Rattle.go_token_core.specs.declared.kind.Operator.TheVariants as operators
 use Rattle.go_tree_nodes.specs.declared.names.Ident.{Ident}
 use Rattle.go_tree_nodes.specs.declared.types.TypeName.{TypeName}
 use Rattle.go_tree_nodes.specs.declared.types.TypeName.TheVariants as type_names
 use Rattle.go_tree_nodes.specs.declared.decls.ValueKind.{ValueKind}
 use Rattle.go_tree_nodes.specs.declared.decls.ValueKind.TheVariants as kinds
 use Rattle.go_tree_nodes.specs.Trees.{Separated, One, Then, TypeTree, NamedType, Pointer, ParenType, Struct, Interface, NoFields, ExprTree, Paren, Binary, NoItems, SignatureTree, ResultTree, Signed, OneResult, Results, NoParams, Param, Alone, Step, Assign, Update, Define}
-use Rattle.go_expr_core.specs.tree_core.specs.declared.occurrence.Role.TheVariants as roles
-use Rattle.go_local_core.specs.Steps.{Piece, Header, Spec, Act, Condition, Given}
-use Rattle.go_expr_core.specs.constant_core.specs.declared.values.Constant.{Constant}
-use Rattle.go_expr_core.specs.constant_core.specs.declared.values.Constant.TheVariants as constant
-use Rattle.go_expr_core.specs.operand_core.specs.declared.types.ValueType.{ValueType}
-use Rattle.go_expr_core.specs.operand_core.specs.declared.types.ValueType.TheVariants as value_types
-use Rattle.go_expr_core.specs.operand_core.specs.declared.types.Operand.{Operand}
-use Rattle.go_expr_core.specs.denote_core.specs.declared.things.Builtin.TheVariants as builtins
-use Rattle.go_expr_core.specs.denote_core.specs.declared.things.Found.{Found}
-use Rattle.go_expr_core.specs.denote_core.specs.declared.things.Found.TheVariants as founds
+use Rattle.go_expr_core.specs.tree_core.declared.occurrence.Role.TheVariants as roles
+use Rattle.go_walk_core.specs.local_core.Steps.{Piece, Header, Spec, Act, Condition, Given}
+use Rattle.go_statement_core.specs.constant_core.declared.values.Constant.{Constant}
+use Rattle.go_statement_core.specs.constant_core.declared.values.Constant.TheVariants as constant
+use Rattle.go_statement_core.specs.operand_core.declared.types.ValueType.{ValueType}
+use Rattle.go_statement_core.specs.operand_core.declared.types.ValueType.TheVariants as value_types
+use Rattle.go_statement_core.specs.operand_core.declared.types.Operand.{Operand}
+use Rattle.go_statement_core.specs.denote_core.declared.things.Builtin.TheVariants as builtins
+use Rattle.go_statement_core.specs.denote_core.declared.things.Found.{Found}
+use Rattle.go_statement_core.specs.denote_core.declared.things.Found.TheVariants as founds
 use Rattle.go_expr_core.specs.declared.things.Fault.{Fault}
 use Rattle.go_expr_core.specs.Looks.{Looks}
 use Rattle.go_expr_core.specs.Locality.{seeing}

@@ -8,9 +8,9 @@ ghost use Rattle.go_piece_core.specs.Headers as headers;
 
 use crate::types::{make_type, type_again, variables};
 use crate::variables::count_names;
-use go_expr_core::operand_core::{Operand, TypeLooks};
-use go_expr_core::text_core::Span;
 use go_expr_core::{Exprs, Fault, Notes, check_signature, check_type_name};
+use go_statement_core::operand_core::{Operand, TypeLooks};
+use go_text_core::Span;
 use go_tree_nodes::{Idents, Param, Receiver, Results, Signature};
 use std::alloc::{AllocError, Global};
 

@@ -27,15 +27,39 @@ pub use returns::check_returned;
 pub use shorts::check_short;
 pub use statements::check_condition;
 
-// Passed on, so that the crates above list this one alone.
-pub use go_expr_core as expr_core;
-pub use go_expr_core::{
-    constant_core as constant_core, denote_core as denote_core, literal_core as literal_core,
-    operand_core as operand_core, scan_core as scan_core, term_core as term_core,
-    text_core as text_core, tree_core as tree_core,
-};
-pub use go_local_core as local_core;
-pub use go_open_core as open_core;
-pub use go_statement_core as statement_core;
-pub use go_tree_nodes as tree_nodes;
-pub use go_walk_core as walk_core;
+/// What the crates above name of `go_denote_core`.
+pub mod denote_core {
+    pub use go_statement_core::denote_core::{
+        Argument, Denoted, Outcome, Place, argument_of, arguments_of,
+    };
+}
+
+/// What the crates above name of `go_expr_core`.
+pub mod expr_core {
+    pub use go_expr_core::{Exprs, Fault, Notes, Use, check_expr, check_type, start};
+}
+
+/// What the crates above name of `go_local_core`.
+pub mod local_core {
+    pub use go_walk_core::local_core::Fault;
+}
+
+/// What the crates above name of `go_operand_core`.
+pub mod operand_core {
+    pub use go_statement_core::operand_core::{Operand, ValueType};
+}
+
+/// What the crates above name of `go_statement_core`.
+pub mod statement_core {
+    pub use go_statement_core::{constant_answer, declared_types};
+}
+
+/// What the crates above name of `go_tree_core`.
+pub mod tree_core {
+    pub use go_expr_core::tree_core::Role;
+}
+
+/// What the crates above name of `go_walk_core`.
+pub mod walk_core {
+    pub use go_walk_core::{Panics, are_terminating, lines_loop_faults};
+}

@@ -5,9 +5,9 @@ ghost use Rattle.go_expr_core.specs.Looks.{everywhere};
 ghost use Rattle.go_piece_core.specs.Statements as statements;
 
 use crate::given::check_list;
-use go_expr_core::text_core::Span;
 use go_expr_core::{Exprs, Notes, note_fault};
 use go_statement_core::return_rule;
+use go_text_core::Span;
 use std::alloc::{AllocError, Global};
 
 /// Notes what is returned has and breaks, by the place of its `return`, in a function whose results have these types, and have names or

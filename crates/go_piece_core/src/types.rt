@@ -7,8 +7,8 @@ ghost use Rattle.go_expr_core.specs.Denoting.{written_type};
 ghost use Rattle.go_piece_core.specs.Values as values;
 ghost use Rattle.go_piece_core.specs.Types as types;
 
-use go_expr_core::operand_core::{Operand, TypeLooks, ValueType};
 use go_expr_core::{Exprs, Fault, Notes, check_type};
+use go_statement_core::operand_core::{Operand, TypeLooks, ValueType};
 use go_tree_nodes::TypeExpr;
 use std::alloc::{AllocError, Global};
 

@@ -1,20 +1,20 @@
 -- What a name of a specification stands for takes of the rules of types what they make of those that the specification writes.
 use Rattle.std.proofs.Common.{◌≡◌, ℕ, List, [], ◌∷◌, ◌++◌, refl, ap, subst, ◌∙◌}
 use Rattle.std.specs.Prelude.{Option, Some, None, slice_index_or}
-use Rattle.go_fault_core.specs.text_core.specs.declared.span.Span.{Span}
-use Rattle.go_fault_core.specs.tree_nodes.specs.declared.names.Ident.{Ident}
-use Rattle.go_fault_core.specs.tree_nodes.specs.declared.decls.ValueKind.{ValueKind}
-use Rattle.go_fault_core.specs.tree_nodes.specs.Trees.{Separated, One, Then, TypeTree, ExprTree, ItemTrees, Integer, Text, Named, Paren, Unary, Binary, Select, Call, Literal, StructLiteral, NoItems, Item, ValueSpecTree}
-use Rattle.go_value_core.specs.denote_core.specs.declared.things.Place.TheVariants as places
-use Rattle.go_value_core.specs.denote_core.specs.Arguments.{arguments_of}
-use Rattle.go_value_core.specs.expr_core.specs.Looks.{Looks, WrittenRules, at}
-use Rattle.go_value_core.specs.expr_core.specs.Denoting.{denoted}
-use Rattle.go_value_core.specs.expr_core.specs.Lists.{denoted_exprs}
-use Rattle.go_value_core.specs.expr_core.specs.Laws.{Agree, idents}
-use Rattle.go_value_core.specs.expr_core.specs.Locality.{struct_types, struct_types_in, SameWritten, seeing}
-use Rattle.go_value_core.specs.expr_core.proofs.Alike.{expressions_seen}
-use Rattle.go_value_core.specs.inline_core.specs.Trees as trees
-use Rattle.go_value_core.specs.inline_core.specs.Trees.{expr_types, items_types, exprs_types, values_types, spec_types}
+use Rattle.go_text_core.specs.declared.span.Span.{Span}
+use Rattle.go_tree_nodes.specs.declared.names.Ident.{Ident}
+use Rattle.go_tree_nodes.specs.declared.decls.ValueKind.{ValueKind}
+use Rattle.go_tree_nodes.specs.Trees.{Separated, One, Then, TypeTree, ExprTree, ItemTrees, Integer, Text, Named, Paren, Unary, Binary, Select, Call, Literal, StructLiteral, NoItems, Item, ValueSpecTree}
+use Rattle.go_func_core.specs.denote_core.declared.things.Place.TheVariants as places
+use Rattle.go_func_core.specs.denote_core.Arguments.{arguments_of}
+use Rattle.go_func_core.specs.expr_core.Looks.{Looks, WrittenRules, at}
+use Rattle.go_func_core.specs.expr_core.Denoting.{denoted}
+use Rattle.go_func_core.specs.expr_core.Lists.{denoted_exprs}
+use Rattle.go_func_core.specs.expr_core.Laws.{Agree, idents}
+use Rattle.go_func_core.specs.expr_core.Locality.{struct_types, struct_types_in, SameWritten, seeing}
+use Rattle.go_func_core.specs.expr_core.Alike.{expressions_seen}
+use Rattle.go_func_core.specs.inline_core.Trees as trees
+use Rattle.go_func_core.specs.inline_core.Trees.{expr_types, items_types, exprs_types, values_types, spec_types}
 use Rattle.go_value_core.specs.Initial.{count, initial, list_start, some_type, values_given, values_of}
 
 pieces : (a b c d : List TypeTree) → a ≡ c → b ≡ d → a ++ b ≡ c ++ d

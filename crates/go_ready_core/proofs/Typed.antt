@@ -2,35 +2,35 @@
 use Rattle.std.proofs.Common.{◌≡◌, ℕ, false, inl, inr, List, [], ◌∷◌, refl, sym, ap, subst, ◌∙◌}
 use Rattle.std.specs.Prelude.{Option, Some, None, ⊤, if◌then◌else◌}
 use Rattle.std.specs.List.{AllByRecursion, flat_map}
-use Rattle.go_fault_core.specs.tree_nodes.specs.declared.types.TypeName.{TypeName}
-use Rattle.go_fault_core.specs.tree_nodes.specs.declared.types.TypeName.TheVariants as type_names
-use Rattle.go_fault_core.specs.tree_nodes.specs.declared.decls.ValueKind.{ValueKind}
-use Rattle.go_fault_core.specs.tree_nodes.specs.declared.decls.ValueKind.TheVariants as kinds
-use Rattle.go_fault_core.specs.tree_nodes.specs.Trees.{TypeTree, NamedType, Pointer, ParenType, Struct, Interface, ValueSpecTree, Specs, Single, Group, DeclTree, Value, Types, Func, TopTree, FileTree}
-use Rattle.go_fault_core.specs.text_core.specs.declared.span.Span.{Span}
-use Rattle.go_fault_core.specs.decl_core.specs.Outer.{IsPlaced}
-use Rattle.go_fault_core.specs.decl_core.specs.TopDecls.{TopDeclTree, FormTree, ValueForm, TypeForm, FuncForm, top_decls}
-use Rattle.go_value_core.specs.scope_core.specs.Models.{scopes_model}
-use Rattle.go_value_core.specs.scope_core.specs.Scopes as scopes
-use Rattle.go_value_core.specs.scope_core.specs.Scopes.{Denoted}
-use Rattle.go_value_core.specs.scope_core.specs.Laws.{denotes}
-use Rattle.go_value_core.specs.names_core.specs.Scope.{some_meaning}
-use Rattle.go_fault_core.specs.term_core.specs.Terms.{Term, Sign, NoType}
-use Rattle.go_value_core.specs.handle_core.specs.Declarations.{Declaration}
-use Rattle.go_value_core.specs.expr_core.specs.Looks.{WrittenRules}
-use Rattle.go_value_core.specs.expr_core.specs.Places as places
-use Rattle.go_value_core.specs.expr_core.specs.Locality.{SameType, SameWritten}
-use Rattle.go_fault_core.specs.entry_core.proofs.Among.{Among, among_to}
-use Rattle.go_value_core.specs.inline_core.specs.Types.{InlineOf, inline_at}
-use Rattle.go_value_core.specs.inline_core.specs.Trees as trees
-use Rattle.go_value_core.specs.inline_core.specs.Trees.{spec_types, specs_types, decl_types, file_types}
-use Rattle.go_value_core.specs.inline_core.specs.Inline.{inline_of, inlines}
-use Rattle.go_value_core.specs.inline_core.specs.Functions.{looked_up}
-use Rattle.go_value_core.specs.inline_core.proofs.Found.{types_are_found}
-use Rattle.go_value_core.specs.face_core.specs.Faces.{TheFace}
-use Rattle.go_value_core.specs.face_core.specs.declared.face.Face.TheVariants as faces
-use Rattle.go_value_core.specs.env_core.specs.declared.meaning.Meaning.TheVariants as meanings
-use Rattle.go_value_core.specs.env_core.specs.Looks.{TheLooks, looks_in, inline_rules, inline_type, inline_faults}
+use Rattle.go_tree_nodes.specs.declared.types.TypeName.{TypeName}
+use Rattle.go_tree_nodes.specs.declared.types.TypeName.TheVariants as type_names
+use Rattle.go_tree_nodes.specs.declared.decls.ValueKind.{ValueKind}
+use Rattle.go_tree_nodes.specs.declared.decls.ValueKind.TheVariants as kinds
+use Rattle.go_tree_nodes.specs.Trees.{TypeTree, NamedType, Pointer, ParenType, Struct, Interface, ValueSpecTree, Specs, Single, Group, DeclTree, Value, Types, Func, TopTree, FileTree}
+use Rattle.go_text_core.specs.declared.span.Span.{Span}
+use Rattle.go_term_core.specs.decl_core.Outer.{IsPlaced}
+use Rattle.go_term_core.specs.decl_core.TopDecls.{TopDeclTree, FormTree, ValueForm, TypeForm, FuncForm, top_decls}
+use Rattle.go_func_core.specs.scope_core.Models.{scopes_model}
+use Rattle.go_func_core.specs.scope_core.Scopes as scopes
+use Rattle.go_func_core.specs.scope_core.Scopes.{Denoted}
+use Rattle.go_func_core.specs.scope_core.Laws.{denotes}
+use Rattle.go_func_core.specs.names_core.Scope.{some_meaning}
+use Rattle.go_term_core.specs.Terms.{Term, Sign, NoType}
+use Rattle.go_func_core.specs.handle_core.Declarations.{Declaration}
+use Rattle.go_func_core.specs.expr_core.Looks.{WrittenRules}
+use Rattle.go_func_core.specs.expr_core.Places as places
+use Rattle.go_func_core.specs.expr_core.Locality.{SameType, SameWritten}
+use Rattle.go_fault_core.specs.entry_core.Among.{Among, among_to}
+use Rattle.go_func_core.specs.inline_core.Types.{InlineOf, inline_at}
+use Rattle.go_func_core.specs.inline_core.Trees as trees
+use Rattle.go_func_core.specs.inline_core.Trees.{spec_types, specs_types, decl_types, file_types}
+use Rattle.go_func_core.specs.inline_core.Inline.{inline_of, inlines}
+use Rattle.go_func_core.specs.inline_core.Functions.{looked_up}
+use Rattle.go_func_core.specs.inline_core.Found.{types_are_found}
+use Rattle.go_func_core.specs.face_core.Faces.{TheFace}
+use Rattle.go_func_core.specs.face_core.declared.face.Face.TheVariants as faces
+use Rattle.go_func_core.specs.env_core.declared.meaning.Meaning.TheVariants as meanings
+use Rattle.go_func_core.specs.env_core.Looks.{TheLooks, looks_in, inline_rules, inline_type, inline_faults}
 use Rattle.go_value_core.specs.Package.{value_face, form_face}
 use Rattle.go_func_core.specs.Types.{is_inside, named_where}
 use Rattle.go_func_core.specs.Stands.{FileStand, kinds_in, types_where, outer_look, outer_looks}

@@ -15,3 +15,8 @@ pub use laws::{declarations_have_one_table, values_are_as_written};
 pub use package_at::{PackageAt, package_outlines};
 pub use ready::{Ready, make_ready};
 pub use types::{OwnTypes, package_types};
+
+/// What the crates above name of `go_type_core`.
+pub mod type_core {
+    pub use go_fault_core::type_core::{PackageTypes, TypeTable};
+}

@@ -2,31 +2,31 @@
 use Rattle.std.proofs.Common.{◌≡◌, ◌⊎◌, ℕ, zero, suc, ◌<◌, inl, inr, List, [], ◌∷◌, ◌++◌, length, slice_get, refl, sym, ap, ◌∙◌, subst, arith}
 use Rattle.std.specs.Prelude.{⊤, Option, Some, None, Contains}
 use Rattle.std.proofs.lemmas.List.{same_lists, get_or_default, length-map}
-use Rattle.go_value_core.specs.text_core.specs.declared.span.Span.{Span}
-use Rattle.go_value_core.specs.tree_nodes.specs.declared.decls.ValueKind.{ValueKind}
-use Rattle.go_value_core.specs.tree_nodes.specs.declared.decls.ValueKind.TheVariants as kinds
-use Rattle.go_value_core.specs.tree_nodes.specs.declared.names.Ident.{Ident}
-use Rattle.go_value_core.specs.tree_nodes.specs.Trees.{Separated, TypeTree, ExprTree, Named, ValueSpecTree}
-use Rattle.go_value_core.specs.decl_core.specs.TopDecls.{FormTree, ValueForm, TypeForm, FuncForm}
-use Rattle.go_value_core.specs.handle_core.specs.Declarations.{Declaration}
-use Rattle.go_value_core.specs.denote_core.specs.declared.things.Found.{Found}
-use Rattle.go_value_core.specs.denote_core.specs.declared.things.Place.TheVariants as places
-use Rattle.go_value_core.specs.term_core.specs.Terms.{Term, Sign}
-use Rattle.go_value_core.specs.expr_core.specs.Looks.{WrittenRules}
-use Rattle.go_value_core.specs.expr_core.specs.Denoting.{denoted}
-use Rattle.go_value_core.specs.expr_core.specs.Laws.{Agree}
-use Rattle.go_value_core.specs.expr_core.specs.Needed.{needed_idents}
-use Rattle.go_value_core.specs.expr_core.specs.Uses.{use_of, spots, uses, type_spots}
-use Rattle.go_value_core.specs.expr_core.proofs.Alike.{needed_names}
-use Rattle.go_value_core.specs.expr_core.proofs.Independence.{own_name}
-use Rattle.go_value_core.specs.face_core.specs.declared.face.Face.TheVariants as faces
-use Rattle.go_value_core.specs.face_core.specs.Faces.{TheFace}
-use Rattle.go_value_core.specs.face_core.specs.Written.{written_at}
-use Rattle.go_value_core.specs.env_core.specs.Scenes.{SceneModel}
-use Rattle.go_value_core.specs.env_core.specs.Looks.{TheLooks}
-use Rattle.go_value_core.specs.needs_core.specs.Needs.{known_in}
-use Rattle.go_value_core.specs.piece_core.specs.Specifications.{spec_uses, values_uses}
-use Rattle.go_value_core.specs.piece_core.specs.Types.{some_type_uses}
+use Rattle.go_text_core.specs.declared.span.Span.{Span}
+use Rattle.go_tree_nodes.specs.declared.decls.ValueKind.{ValueKind}
+use Rattle.go_tree_nodes.specs.declared.decls.ValueKind.TheVariants as kinds
+use Rattle.go_tree_nodes.specs.declared.names.Ident.{Ident}
+use Rattle.go_tree_nodes.specs.Trees.{Separated, TypeTree, ExprTree, Named, ValueSpecTree}
+use Rattle.go_term_core.specs.decl_core.TopDecls.{FormTree, ValueForm, TypeForm, FuncForm}
+use Rattle.go_value_core.specs.handle_core.Declarations.{Declaration}
+use Rattle.go_value_core.specs.denote_core.declared.things.Found.{Found}
+use Rattle.go_value_core.specs.denote_core.declared.things.Place.TheVariants as places
+use Rattle.go_term_core.specs.Terms.{Term, Sign}
+use Rattle.go_value_core.specs.expr_core.Looks.{WrittenRules}
+use Rattle.go_value_core.specs.expr_core.Denoting.{denoted}
+use Rattle.go_value_core.specs.expr_core.Laws.{Agree}
+use Rattle.go_value_core.specs.expr_core.Needed.{needed_idents}
+use Rattle.go_value_core.specs.expr_core.Uses.{use_of, spots, uses, type_spots}
+use Rattle.go_value_core.specs.expr_core.Alike.{needed_names}
+use Rattle.go_value_core.specs.expr_core.Independence.{own_name}
+use Rattle.go_value_core.specs.face_core.declared.face.Face.TheVariants as faces
+use Rattle.go_value_core.specs.face_core.Faces.{TheFace}
+use Rattle.go_value_core.specs.face_core.Written.{written_at}
+use Rattle.go_value_core.specs.env_core.Scenes.{SceneModel}
+use Rattle.go_value_core.specs.env_core.Looks.{TheLooks}
+use Rattle.go_value_core.specs.needs_core.Needs.{known_in}
+use Rattle.go_value_core.specs.piece_core.Specifications.{spec_uses, values_uses}
+use Rattle.go_value_core.specs.piece_core.Types.{some_type_uses}
 use Rattle.go_value_core.specs.Initial.{initial, expr_of, some_needed, initial_idents}
 use Rattle.go_value_core.specs.Laws.{FormsAlike}
 use Rattle.go_value_core.specs.mirrors.Own.{own_argument}

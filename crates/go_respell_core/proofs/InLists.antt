@@ -2,20 +2,20 @@
 use Rattle.std.proofs.Common.{◌≡◌, ◌⊎◌, ℕ, zero, suc, Bool, true, false, inl, inr, List, [], ◌∷◌, ◌==◌, length, slice_get, refl, sym, ap, subst, ◌∙◌, if◌then◌else◌}
 use Rattle.std.specs.Prelude.{Option, Some, None}
 use Rattle.std.proofs.lemmas.Bool.{cases_lt}
-use Rattle.go_value_core.specs.text_core.specs.declared.span.Span.{Span}
-use Rattle.go_value_core.specs.tree_nodes.specs.declared.names.Ident.{Ident}
-use Rattle.go_value_core.specs.tree_nodes.specs.declared.decls.ValueKind.{ValueKind}
-use Rattle.go_value_core.specs.tree_nodes.specs.Trees.{Separated, TypeTree, ExprTree, ValueSpecTree}
-use Rattle.go_value_core.specs.denote_core.specs.declared.things.Place.TheVariants as places
-use Rattle.go_value_core.specs.denote_core.specs.declared.things.Denoted.{Denoted}
-use Rattle.go_value_core.specs.denote_core.specs.declared.things.Denoted.TheVariants as denotes
-use Rattle.go_value_core.specs.denote_core.specs.Arguments.{argument_of, arguments_of}
-use Rattle.go_value_core.specs.expr_core.specs.Looks.{Looks, at}
-use Rattle.go_value_core.specs.expr_core.specs.Places.{start}
-use Rattle.go_value_core.specs.expr_core.specs.Denoting.{denoted}
-use Rattle.go_value_core.specs.expr_core.specs.Lists.{exprs_uses}
-use Rattle.go_value_core.specs.expr_core.specs.Uses.{use_of, uses, spots}
-use Rattle.go_value_core.specs.expr_core.specs.Respelling.{Respells}
+use Rattle.go_text_core.specs.declared.span.Span.{Span}
+use Rattle.go_tree_nodes.specs.declared.names.Ident.{Ident}
+use Rattle.go_tree_nodes.specs.declared.decls.ValueKind.{ValueKind}
+use Rattle.go_tree_nodes.specs.Trees.{Separated, TypeTree, ExprTree, ValueSpecTree}
+use Rattle.go_value_core.specs.denote_core.declared.things.Place.TheVariants as places
+use Rattle.go_value_core.specs.denote_core.declared.things.Denoted.{Denoted}
+use Rattle.go_value_core.specs.denote_core.declared.things.Denoted.TheVariants as denotes
+use Rattle.go_value_core.specs.denote_core.Arguments.{argument_of, arguments_of}
+use Rattle.go_value_core.specs.expr_core.Looks.{Looks, at}
+use Rattle.go_value_core.specs.expr_core.Places.{start}
+use Rattle.go_value_core.specs.expr_core.Denoting.{denoted}
+use Rattle.go_value_core.specs.expr_core.Lists.{exprs_uses}
+use Rattle.go_value_core.specs.expr_core.Uses.{use_of, uses, spots}
+use Rattle.go_value_core.specs.expr_core.Respelling.{Respells}
 use Rattle.go_value_core.specs.Initial.{count, some_type, initial, exprs, expr_in, expr_of}
 use Rattle.go_value_core.specs.mirrors.Own.{one_of, is_one, given_by, own_argument, value_from}
 use Rattle.go_value_core.proofs.Owning.{initial_is, initial_past}

@@ -1,19 +1,19 @@
 -- What a declaration is looks at the declarations that it needs alone, for whatever rules of the types that files write.
 use Rattle.std.proofs.Common.{◌≡◌, ℕ, zero, suc, ◌<◌, List, [], ◌∷◌, length, slice_get, refl, sym, ap, ◌∙◌, subst}
 use Rattle.std.specs.Prelude.{⊤, Option, Some, None, Contains}
-use Rattle.go_value_core.specs.tree_nodes.specs.declared.decls.ValueKind.{ValueKind}
-use Rattle.go_value_core.specs.tree_nodes.specs.declared.decls.ValueKind.TheVariants as kinds
-use Rattle.go_value_core.specs.tree_nodes.specs.declared.names.Ident.{Ident}
-use Rattle.go_value_core.specs.tree_nodes.specs.Trees.{TypeTree, ValueSpecTree}
-use Rattle.go_value_core.specs.decl_core.specs.TopDecls.{FormTree, ValueForm, TypeForm, FuncForm}
-use Rattle.go_value_core.specs.term_core.specs.Terms.{Term}
-use Rattle.go_value_core.specs.expr_core.specs.Looks.{WrittenRules}
-use Rattle.go_value_core.specs.expr_core.specs.Laws.{LooksAtNames}
-use Rattle.go_value_core.specs.face_core.specs.declared.face.Face.TheVariants as faces
-use Rattle.go_value_core.specs.face_core.specs.Faces.{TheFace}
-use Rattle.go_value_core.specs.face_core.specs.Written.{written_at}
-use Rattle.go_value_core.specs.env_core.specs.Scenes.{SceneModel}
-use Rattle.go_value_core.specs.needs_core.specs.Needs.{LooksAtNeeds, needed, known_in}
+use Rattle.go_tree_nodes.specs.declared.decls.ValueKind.{ValueKind}
+use Rattle.go_tree_nodes.specs.declared.decls.ValueKind.TheVariants as kinds
+use Rattle.go_tree_nodes.specs.declared.names.Ident.{Ident}
+use Rattle.go_tree_nodes.specs.Trees.{TypeTree, ValueSpecTree}
+use Rattle.go_term_core.specs.decl_core.TopDecls.{FormTree, ValueForm, TypeForm, FuncForm}
+use Rattle.go_term_core.specs.Terms.{Term}
+use Rattle.go_value_core.specs.expr_core.Looks.{WrittenRules}
+use Rattle.go_value_core.specs.expr_core.Laws.{LooksAtNames}
+use Rattle.go_value_core.specs.face_core.declared.face.Face.TheVariants as faces
+use Rattle.go_value_core.specs.face_core.Faces.{TheFace}
+use Rattle.go_value_core.specs.face_core.Written.{written_at}
+use Rattle.go_value_core.specs.env_core.Scenes.{SceneModel}
+use Rattle.go_value_core.specs.needs_core.Needs.{LooksAtNeeds, needed, known_in}
 use Rattle.go_value_core.specs.Initial.{initial, initial_idents, some_type}
 use Rattle.go_value_core.specs.Package.{idents_need, value_idents, form_idents, first_values, value_face, form_face}
 use Rattle.go_value_core.proofs.Owning.{initial_alike}

@@ -3,11 +3,11 @@ use Rattle.std.proofs.Common.{◌≡◌, ℕ, zero, suc, List, [], ◌∷◌, �
 use Rattle.std.specs.Prelude.{Some, None, slice_get, is_some}
 use Rattle.std.proofs.lemmas.Bool.{both_ways}
 use Rattle.std.proofs.lemmas.List.{map-append}
-use Rattle.go_value_core.specs.tree_nodes.specs.declared.names.Ident.{Ident}
-use Rattle.go_value_core.specs.expr_core.specs.declared.things.Use.{Use}
-use Rattle.go_value_core.specs.expr_core.specs.Looks.{Looks}
-use Rattle.go_value_core.specs.expr_core.specs.Uses.{Context, Spot, Identifier, use_of}
-use Rattle.go_value_core.specs.expr_core.specs.Respelling.{respelled}
+use Rattle.go_tree_nodes.specs.declared.names.Ident.{Ident}
+use Rattle.go_value_core.specs.expr_core.declared.things.Use.{Use}
+use Rattle.go_value_core.specs.expr_core.Looks.{Looks}
+use Rattle.go_value_core.specs.expr_core.Uses.{Context, Spot, Identifier, use_of}
+use Rattle.go_value_core.specs.expr_core.Respelling.{respelled}
 use Rattle.go_respell_core.specs.Contexts.{ContextStays}
 
 abbrev pub len : {A : Type 0} → List A → ℕ

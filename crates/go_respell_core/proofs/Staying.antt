@@ -3,8 +3,8 @@ use Rattle.std.proofs.Common.{◌≡◌, ◌⊎◌, ℕ, zero, suc, ◌<◌, inl
 use Rattle.std.specs.List.{Contains}
 use Rattle.std.proofs.lemmas.Bool.{cases_lt}
 use Rattle.std.proofs.lemmas.List.{get_or_past}
-use Rattle.go_value_core.specs.needs_core.specs.Needs.{needed, Leads, IsEndless, EndsWithin, known_in, LooksAtNeeds, AreValues}
-use Rattle.go_value_core.specs.needs_core.proofs.Needed.{endless_never}
+use Rattle.go_value_core.specs.needs_core.Needs.{needed, Leads, IsEndless, EndsWithin, known_in, LooksAtNeeds, AreValues}
+use Rattle.go_value_core.specs.needs_core.Needed.{endless_never}
 use Rattle.go_respell_core.specs.Values.{IsSame, NeedsInBoth, NeededStays, UntouchedStays}
 
 -- a path and one node more

@@ -1,16 +1,16 @@
 -- An identifier of a function that is spelled anew, on the way through the function.
 use Rattle.std.proofs.Common.{◌≡◌, ℕ, List, [], ◌++◌, refl}
 use Rattle.std.specs.Prelude.{Option}
-use Rattle.go_value_core.specs.tree_nodes.specs.declared.names.Ident.{Ident}
-use Rattle.go_value_core.specs.local_core.specs.Binding.{Look}
-use Rattle.go_value_core.specs.local_core.specs.Outline.{func_steps, func_opens, func_closes}
-use Rattle.go_value_core.specs.local_core.specs.Steps.{Piece, Steps, Done, Check, Declare, Inner}
-use Rattle.go_value_core.specs.local_core.specs.mirrors.Walk.{Names, look_in, with_names, news, names_of, walk_out}
-use Rattle.go_value_core.specs.operand_core.specs.declared.types.Operand.{Operand}
-use Rattle.go_value_core.specs.expr_core.specs.declared.things.Use.{Use}
-use Rattle.go_value_core.specs.expr_core.specs.Looks.{Looks}
-use Rattle.go_value_core.specs.expr_core.specs.Uses.{Spot}
-use Rattle.go_value_core.specs.piece_core.specs.Pieces.{piece_uses, piece_values}
+use Rattle.go_tree_nodes.specs.declared.names.Ident.{Ident}
+use Rattle.go_value_core.specs.local_core.Binding.{Look}
+use Rattle.go_value_core.specs.local_core.Outline.{func_steps, func_opens, func_closes}
+use Rattle.go_value_core.specs.local_core.Steps.{Piece, Steps, Done, Check, Declare, Inner}
+use Rattle.go_value_core.specs.local_core.mirrors.Walk.{Names, look_in, with_names, news, names_of, walk_out}
+use Rattle.go_value_core.specs.operand_core.declared.types.Operand.{Operand}
+use Rattle.go_value_core.specs.expr_core.declared.things.Use.{Use}
+use Rattle.go_value_core.specs.expr_core.Looks.{Looks}
+use Rattle.go_value_core.specs.expr_core.Uses.{Spot}
+use Rattle.go_value_core.specs.piece_core.Pieces.{piece_uses, piece_values}
 use Rattle.go_respell_core.specs.Contexts.{ContextStays}
 use Rattle.go_respell_core.specs.Functions.{use_rules, spot_rules, names_there, FunctionContextsStay}
 use Rattle.go_respell_core.specs.Spots.{piece_spots}

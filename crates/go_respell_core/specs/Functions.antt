@@ -2,20 +2,20 @@
 --
 -- docs/RULES.md, "Bodies of functions", "Occurrences". The Go specification, "Blocks", "Declarations and scope".
 use Rattle.std.specs.Prelude.{◌≡◌, ℕ, false, List, [], ◌++◌, map, Option}
-use Rattle.go_value_core.specs.tree_nodes.specs.declared.names.Ident.{Ident}
-use Rattle.go_value_core.specs.tree_nodes.specs.Trees.{FuncTree}
-use Rattle.go_value_core.specs.local_core.specs.Binding.{Look}
-use Rattle.go_value_core.specs.local_core.specs.Law.{Rules}
-use Rattle.go_value_core.specs.local_core.specs.Outline.{func_steps}
-use Rattle.go_value_core.specs.local_core.specs.Steps.{Piece, Steps}
-use Rattle.go_value_core.specs.local_core.specs.Tables.{walked}
-use Rattle.go_value_core.specs.local_core.specs.mirrors.Walk.{Names, look_in, with_names, news, names_of}
-use Rattle.go_value_core.specs.operand_core.specs.declared.types.Operand.{Operand}
-use Rattle.go_value_core.specs.expr_core.specs.declared.things.Use.{Use}
-use Rattle.go_value_core.specs.expr_core.specs.Looks.{Looks}
-use Rattle.go_value_core.specs.expr_core.specs.Uses.{Spot, use_of}
-use Rattle.go_value_core.specs.piece_core.specs.Laws.{piece_rules}
-use Rattle.go_value_core.specs.piece_core.specs.Pieces.{piece_uses, piece_values}
+use Rattle.go_tree_nodes.specs.declared.names.Ident.{Ident}
+use Rattle.go_tree_nodes.specs.Trees.{FuncTree}
+use Rattle.go_value_core.specs.local_core.Binding.{Look}
+use Rattle.go_value_core.specs.local_core.Law.{Rules}
+use Rattle.go_value_core.specs.local_core.Outline.{func_steps}
+use Rattle.go_value_core.specs.local_core.Steps.{Piece, Steps}
+use Rattle.go_value_core.specs.local_core.Tables.{walked}
+use Rattle.go_value_core.specs.local_core.mirrors.Walk.{Names, look_in, with_names, news, names_of}
+use Rattle.go_value_core.specs.operand_core.declared.types.Operand.{Operand}
+use Rattle.go_value_core.specs.expr_core.declared.things.Use.{Use}
+use Rattle.go_value_core.specs.expr_core.Looks.{Looks}
+use Rattle.go_value_core.specs.expr_core.Uses.{Spot, use_of}
+use Rattle.go_value_core.specs.piece_core.Laws.{piece_rules}
+use Rattle.go_value_core.specs.piece_core.Pieces.{piece_uses, piece_values}
 use Rattle.go_respell_core.specs.Contexts.{ContextStays}
 use Rattle.go_respell_core.specs.Spots.{piece_spots}
 use Rattle.go_respell_core.specs.Trees.{RespellsPiece, RespellsSteps, AtCheck, AtDeclare, BehindCheck, BehindDeclare, InBlock, BehindBlock, RespellsFunc}

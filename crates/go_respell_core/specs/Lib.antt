@@ -5,3 +5,17 @@ pub mod Package
 pub mod Spots
 pub mod Trees
 pub mod Values
+pub mod block_core
+pub mod denote_core
+pub mod env_core
+pub mod expr_core
+pub mod face_core
+pub mod handle_core
+pub mod local_core
+pub mod names_core
+pub mod needs_core
+pub mod operand_core
+pub mod piece_core
+pub mod value_core
+pub mod walk_core
+pub mod written_core

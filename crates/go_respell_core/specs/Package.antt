@@ -4,17 +4,17 @@
 -- docs/RULES.md, "Constants and variables of a package". The Go specification, "Constant declarations", "Variable declarations", "Package
 -- initialization".
 use Rattle.std.specs.Prelude.{◌≡◌, ◌⊎◌, ⊤, ℕ, List, [], ◌∷◌, map, length, slice_get, Option, Some, None}
-use Rattle.go_value_core.specs.tree_nodes.specs.declared.decls.ValueKind.{ValueKind}
-use Rattle.go_value_core.specs.tree_nodes.specs.declared.types.TypeName.{TypeName}
-use Rattle.go_value_core.specs.tree_nodes.specs.Trees.{TypeTree, ValueSpecTree}
-use Rattle.go_value_core.specs.decl_core.specs.TopDecls.{FormTree, ValueForm}
-use Rattle.go_value_core.specs.term_core.specs.Terms.{Term}
-use Rattle.go_value_core.specs.expr_core.specs.Looks.{WrittenRules}
-use Rattle.go_value_core.specs.face_core.specs.Faces.{TheFace}
-use Rattle.go_value_core.specs.face_core.specs.Written.{written_at}
-use Rattle.go_value_core.specs.env_core.specs.Scenes.{SceneModel}
-use Rattle.go_value_core.specs.env_core.specs.Looks.{TheLooks, looks_in, inline_rules}
-use Rattle.go_value_core.specs.needs_core.specs.Needs.{AreValues}
+use Rattle.go_tree_nodes.specs.declared.decls.ValueKind.{ValueKind}
+use Rattle.go_tree_nodes.specs.declared.types.TypeName.{TypeName}
+use Rattle.go_tree_nodes.specs.Trees.{TypeTree, ValueSpecTree}
+use Rattle.go_term_core.specs.decl_core.TopDecls.{FormTree, ValueForm}
+use Rattle.go_term_core.specs.Terms.{Term}
+use Rattle.go_value_core.specs.expr_core.Looks.{WrittenRules}
+use Rattle.go_value_core.specs.face_core.Faces.{TheFace}
+use Rattle.go_value_core.specs.face_core.Written.{written_at}
+use Rattle.go_value_core.specs.env_core.Scenes.{SceneModel}
+use Rattle.go_value_core.specs.env_core.Looks.{TheLooks, looks_in, inline_rules}
+use Rattle.go_value_core.specs.needs_core.Needs.{AreValues}
 use Rattle.go_value_core.specs.Package.{PlacedOf, top_look, first_values, form_idents, idents_need, form_face, written_face}
 use Rattle.go_value_core.specs.Laws.{FormsAlike}
 

@@ -3,17 +3,17 @@
 --
 -- docs/RULES.md, "Occurrences".
 use Rattle.std.specs.Prelude.{◌≡◌, ℕ, false, List, ◌∷◌, Option, Some}
-use Rattle.go_value_core.specs.scan_core.specs.declared.kind.Operator.{Operator}
-use Rattle.go_value_core.specs.text_core.specs.declared.span.Span.{Span}
-use Rattle.go_value_core.specs.tree_nodes.specs.declared.names.Ident.{Ident}
-use Rattle.go_value_core.specs.tree_nodes.specs.declared.decls.ValueKind.{ValueKind}
-use Rattle.go_value_core.specs.tree_nodes.specs.declared.files.Receiver.{Receiver}
-use Rattle.go_value_core.specs.tree_nodes.specs.declared.types.TypeName.{TypeName}
-use Rattle.go_value_core.specs.tree_nodes.specs.Trees as tree
-use Rattle.go_value_core.specs.tree_nodes.specs.Trees.{Separated, One, Then, TypeTree, SignatureTree, ExprTree, ValueSpecTree, Specs, Single, Group, SimpleTree, Alone, Step, Assign, Update, Define, IfTree, ForTree, While, Clauses, StmtTree, BranchTree, ElseTree, Lines, Simple, Return, Block, If, For, Branch, ElseBlock, ElseIf, Line, FuncTree}
-use Rattle.go_value_core.specs.walk_core.specs.Ends.{is_blank_target}
-use Rattle.go_value_core.specs.local_core.specs.Steps.{Piece, Header, Spec, Act, Condition, Given, Manner, Steps, Check, Declare, Inner}
-use Rattle.go_value_core.specs.expr_core.specs.Respelling.{Respells, RespellsName, RespellsType, RespellsSignature}
+use Rattle.go_token_core.specs.declared.kind.Operator.{Operator}
+use Rattle.go_text_core.specs.declared.span.Span.{Span}
+use Rattle.go_tree_nodes.specs.declared.names.Ident.{Ident}
+use Rattle.go_tree_nodes.specs.declared.decls.ValueKind.{ValueKind}
+use Rattle.go_tree_nodes.specs.declared.files.Receiver.{Receiver}
+use Rattle.go_tree_nodes.specs.declared.types.TypeName.{TypeName}
+use Rattle.go_tree_nodes.specs.Trees as tree
+use Rattle.go_tree_nodes.specs.Trees.{Separated, One, Then, TypeTree, SignatureTree, ExprTree, ValueSpecTree, Specs, Single, Group, SimpleTree, Alone, Step, Assign, Update, Define, IfTree, ForTree, While, Clauses, StmtTree, BranchTree, ElseTree, Lines, Simple, Return, Block, If, For, Branch, ElseBlock, ElseIf, Line, FuncTree}
+use Rattle.go_value_core.specs.walk_core.Ends.{is_blank_target}
+use Rattle.go_value_core.specs.local_core.Steps.{Piece, Header, Spec, Act, Condition, Given, Manner, Steps, Check, Declare, Inner}
+use Rattle.go_value_core.specs.expr_core.Respelling.{Respells, RespellsName, RespellsType, RespellsSignature}
 
 pub data RespellsExprs (x : Ident) (name : List ℕ) : Separated ExprTree → Separated ExprTree → Type 0 where
   InOnly : {e f : ExprTree} → Respells x name e f → RespellsExprs x name (One e) (One f)

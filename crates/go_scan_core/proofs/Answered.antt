@@ -1,8 +1,8 @@
 -- The answers to a text and what is computed are the same.
 use Rattle.std.proofs.Common.{◌≡◌, ℕ, List, Result, Ok, Err, sym, subst}
-use Rattle.go_scan_core.specs.declared.token.Comment.{Comment}
-use Rattle.go_scan_core.specs.declared.token.Token.{Token}
-use Rattle.go_scan_core.specs.declared.token.LexFault.{LexFault}
+use Rattle.go_token_core.specs.declared.token.Comment.{Comment}
+use Rattle.go_token_core.specs.declared.token.Token.{Token}
+use Rattle.go_token_core.specs.declared.token.LexFault.{LexFault}
 use Rattle.go_scan_core.specs.Answered.{CommentsAreTheAnswer, OneListOfComments, TokensAreTheAnswer}
 use Rattle.go_scan_core.specs.Cutting.{comments_of, tokens_of}
 use Rattle.go_scan_core.specs.Parts.{comments_in}

@@ -6,13 +6,14 @@ use Rattle.go_scan_core.specs.declared.enclosed.Flaw.{Flaw}
 use Rattle.go_scan_core.specs.declared.enclosed.Flaw.TheVariants.{Forbidden, Bad, Open}
 use Rattle.go_scan_core.specs.declared.enclosed.Item.{Item}
 use Rattle.go_scan_core.specs.declared.enclosed.Item.TheVariants as items
-use Rattle.go_scan_core.specs.declared.escape.Meaning.{Meaning}
-use Rattle.go_scan_core.specs.Characters.{first_passes, is_forbidden}
+use Rattle.go_token_core.specs.declared.escapes.Meaning.{Meaning}
+use Rattle.go_token_core.specs.Characters.{first_passes, is_forbidden}
 use Rattle.go_scan_core.specs.Enclosed.{closing}
 use Rattle.go_scan_core.specs.mirrors.Enclosed.{behind, body, body_next, escape_item, item_at, one_more}
-use Rattle.go_scan_core.specs.Escapes.{escape_at}
-use Rattle.go_scan_core.proofs.FrontLemmas.{and_true, chosen}
-use Rattle.go_scan_core.proofs.EscapeLemmas.{escape_within}
+use Rattle.go_token_core.specs.Escapes.{escape_at}
+use Rattle.go_token_core.proofs.Choices.{chosen}
+use Rattle.go_scan_core.proofs.FrontLemmas.{and_true}
+use Rattle.go_token_core.proofs.EscapeLemmas.{escape_within}
 
 abbrev pub Fits : ℕ → List ℕ → Type 0
 Fits n cs = (0 < n) × (n ≤ length cs)

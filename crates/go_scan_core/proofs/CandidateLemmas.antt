@@ -7,12 +7,12 @@ use Rattle.std.proofs.Math.ListN.{get_or}
 use Rattle.std.proofs.lemmas.Bool.Decides.{Decides-eqb, nat_tests}
 use Rattle.std.proofs.lemmas.Slice.Eq.{bytes_eq-Decides, starts_is}
 use Rattle.go_text_core.proofs.Each.{true_or_false}
-use Rattle.go_scan_core.specs.declared.kind.Keyword.{Keyword}
-use Rattle.go_scan_core.specs.declared.kind.Operator.{Operator}
-use Rattle.go_scan_core.specs.declared.kind.TheConstants.{KEYWORDS, OPERATORS}
+use Rattle.go_token_core.specs.declared.kind.Keyword.{Keyword}
+use Rattle.go_token_core.specs.declared.kind.Operator.{Operator}
+use Rattle.go_token_core.specs.declared.kind.TheConstants.{KEYWORDS, OPERATORS}
 use Rattle.go_scan_core.specs.mirrors.Candidates.{keywords_with, operators_with}
-use Rattle.go_scan_core.specs.Spelling.{keyword_spelling, operator_spelling}
-use Rattle.go_scan_core.specs.Characters.{first_passes}
+use Rattle.go_token_core.specs.Spelling.{keyword_spelling, operator_spelling}
+use Rattle.go_token_core.specs.Characters.{first_passes}
 use Rattle.go_scan_core.specs.mirrors.Reading.{keyword_spelled, longest_operator}
 use Rattle.go_scan_core.proofs.FrontLemmas.{and_true, is_mark, not_true, operator_marks, same_number}
 

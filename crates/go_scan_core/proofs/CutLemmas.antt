@@ -1,24 +1,21 @@
 -- Steps of the cutting of a text.
 use Rattle.std.proofs.Common.{◌≡◌, ℕ, zero, suc, ◌+◌, ◌-◌, ◌<◌, ◌≤◌, Bool, true, false, cond, ◌==◌, List, [], ◌∷◌, ◌++◌, length, take, drop, Option, Some, None, Result, Ok, Err, refl, sym, ap, ◌∙◌, subst, arith, rules}
 use Rattle.std.specs.Char.{len_utf8}
-use Rattle.std.proofs.lemmas.List.Sums.{sum_by-cons}
+use Rattle.go_token_core.proofs.CharacterLemmas.{width-cons}
 use Rattle.go_text_core.specs.declared.rule.Rule.{Rule}
-use Rattle.go_scan_core.specs.declared.kind.CommentKind.{CommentKind}
-use Rattle.go_scan_core.specs.declared.kind.TokenKind.{TokenKind}
+use Rattle.go_token_core.specs.declared.kind.CommentKind.{CommentKind}
+use Rattle.go_token_core.specs.declared.kind.TokenKind.{TokenKind}
 use Rattle.go_scan_core.specs.declared.piece.Piece.{Piece}
 use Rattle.go_scan_core.specs.declared.piece.Piece.TheVariants.{Space, LineEnd, Lexeme, Remark}
-use Rattle.go_scan_core.specs.declared.token.Comment.{Comment}
-use Rattle.go_scan_core.specs.declared.token.LexFault.{LexFault}
-use Rattle.go_scan_core.specs.declared.token.Token.{Token}
-use Rattle.go_scan_core.specs.Characters.{first_passes}
+use Rattle.go_token_core.specs.declared.token.Comment.{Comment}
+use Rattle.go_token_core.specs.declared.token.LexFault.{LexFault}
+use Rattle.go_token_core.specs.declared.token.Token.{Token}
+use Rattle.go_token_core.specs.Characters.{first_passes}
 use Rattle.go_scan_core.specs.Parts.{Break, Gap, Note, Part, Word, comments_in, holds_line_end, span_between, semicolon_after, width}
 use Rattle.go_scan_core.specs.mirrors.Cutting.{close, closed, cut, cut_next, part_of, remarked, with_front}
 use Rattle.go_scan_core.specs.mirrors.Reading.{piece_at}
-use Rattle.std.specs.Prelude.{encode_utf8, encode_utf8_all}
-use Rattle.std.specs.Str.{chars, IsUtf8}
 use borrow.Author.Tests.{tests}
-use Rattle.std.proofs.lemmas.Str.{length-encode, encodes-chars}
-use Rattle.std.proofs.lemmas.List.{append-nil, append_assoc, length-append}
+use Rattle.std.proofs.lemmas.List.{append-nil, append_assoc}
 use Rattle.go_scan_core.proofs.PieceLemmas.{IsSound, piece_sound}
 
 -- a piece is not empty and lies in the text
@@ -28,9 +25,6 @@ piece_within cs x some e = let sound = subst (IsSound cs) e (piece_sound cs some
 -- and so does what stands before the place of a fault
 pub fault_within : (cs : List ℕ) (x : Rule × ℕ) → 0 < length cs → piece_at cs ≡ Err x → x.1 ≤ length cs
 fault_within cs x some e = let sound = subst (IsSound cs) e (piece_sound cs some) in sound.1
-
-pub width-cons : (c : ℕ) (cs : List ℕ) → width (c ∷ cs) ≡ len_utf8 c + width cs
-width-cons c cs = sum_by-cons len_utf8 c cs
 
 -- to skip is to drop
 pub cut-skip : (cs : List ℕ) (skip start : ℕ) → skip ≤ length cs → cut cs skip start ≡ cut (drop skip cs) 0 (start + width (take skip cs))
@@ -173,14 +167,6 @@ turn_end tokens last (c ∷ cs) start e = absurd (omega arith)
 pub turn_comments_end : (comments : List Comment) (cs : List ℕ) (start : ℕ) → length cs ≡ 0 → with_front comments (remarked (cut cs 0 start)) ≡ Ok comments
 turn_comments_end comments [] start e = unfold cut in unfold comments_in in ap Ok (append-nil comments)
 turn_comments_end comments (c ∷ cs) start e = absurd (omega arith)
-
--- the characters of a text are as wide as the text
-pub width-encodes : (cs : List ℕ) → width cs ≡ length (encode_utf8_all cs)
-width-encodes [] = refl
-width-encodes (c ∷ cs) = width-cons c cs ∙ (omega (arith, width-encodes cs, length-encode c, length-append (encode_utf8 c) (encode_utf8_all cs)))
-
-pub width-chars : (bs : List ℕ) → IsUtf8 bs → width (chars bs) ≡ length bs
-width-chars bs u = width-encodes (chars bs) ∙ ap length (encodes-chars bs u)
 
 -- what follows a mark of three bytes
 pub width_behind_mark : (cs : List ℕ) → first_passes (λ c. c == 65279) cs ≡ true → 3 + width (drop 1 cs) ≡ width cs

@@ -9,14 +9,15 @@ use Rattle.go_scan_core.specs.declared.enclosed.Flaw.{Flaw}
 use Rattle.go_scan_core.specs.declared.enclosed.Flaw.TheVariants.{Forbidden, Bad, Open}
 use Rattle.go_scan_core.specs.declared.enclosed.Item.{Item}
 use Rattle.go_scan_core.specs.declared.enclosed.Item.TheVariants as items
-use Rattle.go_scan_core.specs.declared.escape.Meaning.{Meaning}
-use Rattle.go_scan_core.specs.Characters.{first_passes, is_forbidden}
+use Rattle.go_token_core.specs.declared.escapes.Meaning.{Meaning}
+use Rattle.go_token_core.specs.Characters.{first_passes, is_forbidden}
 use Rattle.go_scan_core.specs.Enclosed.{closing, opening}
 use Rattle.go_scan_core.specs.mirrors.Enclosed.{behind, body, enclosed_at, escape_item, item_at, placed}
-use Rattle.go_scan_core.specs.Escapes.{escape_at}
+use Rattle.go_token_core.specs.Escapes.{escape_at}
 use Rattle.go_scan_core.specs.Tokens.{AreItems, IsBadEscape, IsEnclosed, IsEscape, IsFlawed, IsItem, IsOpen, is_special, joined}
-use Rattle.go_scan_core.proofs.FrontLemmas.{and_true, chosen, or_false, same_number}
-use Rattle.go_scan_core.proofs.EscapeLemmas.{escape_longer, escape_shorter, escape_within}
+use Rattle.go_token_core.proofs.Choices.{chosen}
+use Rattle.go_scan_core.proofs.FrontLemmas.{and_true, or_false, same_number}
+use Rattle.go_token_core.proofs.EscapeLemmas.{escape_longer, escape_shorter, escape_within}
 use Rattle.go_scan_core.proofs.EscapedLemmas.{escape_read, escape_words}
 use Rattle.go_scan_core.proofs.BodyLemmas.{behind-behind, behind-zero, body_end, body_none, body_step, item_within}
 

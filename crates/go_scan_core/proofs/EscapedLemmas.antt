@@ -4,15 +4,16 @@ use Rattle.std.specs.Char.{digit_value}
 use Rattle.std.specs.List.{AllByRecursion}
 use Rattle.std.proofs.lemmas.Bool.Decides.{nat_tests}
 use Rattle.go_text_core.proofs.Each.{true_or_false}
-use Rattle.go_scan_core.specs.declared.escape.Meaning.{Meaning}
-use Rattle.go_scan_core.specs.declared.escape.Meaning.TheVariants.{Byte, Char}
-use Rattle.go_scan_core.specs.Escapes.{byte_read, digits_at, digits_next, escape_at, scalar_read, simple_of}
-use Rattle.go_scan_core.specs.Numbers.{next_number, number_in}
+use Rattle.go_token_core.specs.declared.escapes.Meaning.{Meaning}
+use Rattle.go_token_core.specs.declared.escapes.Meaning.TheVariants.{Byte, Char}
+use Rattle.go_token_core.specs.Escapes.{byte_read, digits_at, digits_next, escape_at, scalar_read, simple_of}
+use Rattle.go_token_core.specs.Numbers.{next_number, number_in}
 use Rattle.go_scan_core.specs.Tokens.{AreDigits, IsEscape, IsScalar, is_escape_letter}
 use Rattle.go_scan_core.proofs.CandidateLemmas.{step}
-use Rattle.go_scan_core.proofs.EscapeLemmas.{byte_is, scalar_is, simple_is}
-use Rattle.go_scan_core.proofs.FrontLemmas.{and_true, chosen, or_true, same_number}
-use Rattle.go_scan_core.proofs.NumberLemmas.{grows}
+use Rattle.go_token_core.proofs.EscapeLemmas.{byte_is, scalar_is, simple_is}
+use Rattle.go_token_core.proofs.Choices.{chosen}
+use Rattle.go_scan_core.proofs.FrontLemmas.{and_true, or_true, same_number}
+use Rattle.go_token_core.proofs.NumberLemmas.{grows}
 
 -- what reads as one escape, to its end
 abbrev pub ReadsWhole : List ℕ → Type 0

@@ -8,17 +8,18 @@ use Rattle.unicode.specs.Rows.{value_in}
 use Rattle.std.proofs.lemmas.Bool.Decides.{nat_tests}
 use Rattle.go_text_core.specs.Text.{letter, digit}
 use Rattle.go_text_core.proofs.Each.{true_or_false}
-use Rattle.go_scan_core.specs.declared.kind.Keyword.{Keyword}
-use Rattle.go_scan_core.specs.declared.kind.Keyword.TheVariants.{Break, Case, Chan, Const, Continue, Default, Defer, Else, Fallthrough, For, Func, Go, Goto, If, Import, Interface, Map, Package, Range, Return, Select, Struct, Switch, «Type», Var}
-use Rattle.go_scan_core.specs.declared.kind.Operator.{Operator}
-use Rattle.go_scan_core.specs.declared.kind.Operator.TheVariants.{ShiftLeftAssign, ShiftRightAssign, AndNotAssign, Ellipsis, ShiftLeft, ShiftRight, AndNot, PlusAssign, MinusAssign, StarAssign, SlashAssign, PercentAssign, AndAssign, OrAssign, CaretAssign, LogicalAnd, LogicalOr, Arrow, Increment, Decrement, Equal, NotEqual, LessEqual, GreaterEqual, Define, Plus, Minus, Star, Slash, Percent, And, Or, Caret, Less, Greater, Assign, Not, Tilde, OpenParen, OpenBracket, OpenBrace, Comma, Dot, CloseParen, CloseBracket, CloseBrace, Semicolon, Colon}
+use Rattle.go_token_core.proofs.Choices.{chosen}
+use Rattle.go_token_core.specs.declared.kind.Keyword.{Keyword}
+use Rattle.go_token_core.specs.declared.kind.Keyword.TheVariants.{Break, Case, Chan, Const, Continue, Default, Defer, Else, Fallthrough, For, Func, Go, Goto, If, Import, Interface, Map, Package, Range, Return, Select, Struct, Switch, «Type», Var}
+use Rattle.go_token_core.specs.declared.kind.Operator.{Operator}
+use Rattle.go_token_core.specs.declared.kind.Operator.TheVariants.{ShiftLeftAssign, ShiftRightAssign, AndNotAssign, Ellipsis, ShiftLeft, ShiftRight, AndNot, PlusAssign, MinusAssign, StarAssign, SlashAssign, PercentAssign, AndAssign, OrAssign, CaretAssign, LogicalAnd, LogicalOr, Arrow, Increment, Decrement, Equal, NotEqual, LessEqual, GreaterEqual, Define, Plus, Minus, Star, Slash, Percent, And, Or, Caret, Less, Greater, Assign, Not, Tilde, OpenParen, OpenBracket, OpenBrace, Comma, Dot, CloseParen, CloseBracket, CloseBrace, Semicolon, Colon}
 use Rattle.go_scan_core.specs.declared.front.Front.{Front}
 use Rattle.go_scan_core.specs.declared.front.Front.TheVariants as fronts
-use Rattle.go_scan_core.specs.Characters.{first_passes, in_line, is_space, letter_or_digit}
+use Rattle.go_token_core.specs.Characters.{first_passes, in_line, is_space, letter_or_digit}
 use Rattle.go_scan_core.specs.mirrors.Front.{front_of}
 use Rattle.go_scan_core.specs.mirrors.Reading.{keyword_spelled, longest_operator}
 use Rattle.go_scan_core.specs.Tokens.{BeginsComment, BeginsRefused}
-use Rattle.go_scan_core.specs.Spelling.{keyword_spelling, operator_spelling}
+use Rattle.go_token_core.specs.Spelling.{keyword_spelling, operator_spelling}
 
 pub and_true : (a b : Bool) → (a && b) ≡ true → (a ≡ true) × (b ≡ true)
 and_true true b h = (refl, h)
@@ -38,11 +39,6 @@ not_true false h = refl
 
 pub same_number : (a b : ℕ) → (a == b) ≡ true → a ≡ b
 same_number a b h = grind (arith, nat_tests)
-
--- which way a choice went
-pub chosen : {X : Type 0} (b : Bool) (x y z : X) → cond b x y ≡ z → ((b ≡ true) × (x ≡ z)) ⊎ ((b ≡ false) × (y ≡ z))
-chosen true x y z e = inl (refl, e)
-chosen false x y z e = inr (refl, e)
 
 -- ---- the tables
 

@@ -10,16 +10,17 @@ use Rattle.std.proofs.lemmas.List.Sums.{prefix_len-le-length}
 use Rattle.std.proofs.lemmas.Slice.Eq.{bytes_eq-Decides, starts_is}
 use Rattle.go_text_core.specs.Text.{letter, digit}
 use Rattle.go_text_core.proofs.Each.{true_or_false}
-use Rattle.go_scan_core.specs.declared.kind.Keyword.{Keyword}
-use Rattle.go_scan_core.specs.declared.kind.Operator.{Operator}
-use Rattle.go_scan_core.specs.declared.kind.TheConstants.{KEYWORDS, OPERATORS}
-use Rattle.go_scan_core.specs.Spelling.{keyword_spelling, operator_spelling}
-use Rattle.go_scan_core.specs.Characters.{first_passes, in_line, letter_or_digit}
-use Rattle.go_scan_core.specs.Numbers.{first_digit, is_in_run, radix_letter}
+use Rattle.go_token_core.specs.declared.kind.Keyword.{Keyword}
+use Rattle.go_token_core.specs.declared.kind.Operator.{Operator}
+use Rattle.go_token_core.specs.declared.kind.TheConstants.{KEYWORDS, OPERATORS}
+use Rattle.go_token_core.specs.Spelling.{keyword_spelling, operator_spelling}
+use Rattle.go_token_core.specs.Characters.{first_passes, in_line, letter_or_digit}
+use Rattle.go_token_core.specs.Numbers.{first_digit, is_in_run, radix_letter}
 use Rattle.go_scan_core.specs.mirrors.Numbers.{based_len, digits_run, named_radix, number_len, zero_len}
 use Rattle.go_scan_core.specs.mirrors.Reading.{keyword_spelled, longest_operator, word_kind}
 use Rattle.go_scan_core.specs.Tokens.{IsInteger, IsLexeme, IsRun, IsWord}
-use Rattle.go_scan_core.proofs.FrontLemmas.{and_true, chosen, is_mark, keyword_again, keyword_letters, operator_again, operator_marks, or_true, same_number}
+use Rattle.go_token_core.proofs.Choices.{chosen}
+use Rattle.go_scan_core.proofs.FrontLemmas.{and_true, is_mark, keyword_again, keyword_letters, operator_again, operator_marks, or_true, same_number}
 
 pub find_passes : {X : Type 0} (p : X → Bool) (xs : List X) (x : X) → find p xs ≡ Some x → p x ≡ true
 find_passes p [] x e = cc

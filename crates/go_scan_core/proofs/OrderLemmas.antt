@@ -4,14 +4,15 @@ use Rattle.std.specs.Str.{chars, IsUtf8}
 use Rattle.std.proofs.lemmas.List.Sums.{sum_by-append}
 use Rattle.std.specs.Char.{len_utf8}
 use Rattle.go_text_core.proofs.Each.{true_or_false}
-use Rattle.go_scan_core.specs.declared.token.Comment.{Comment}
-use Rattle.go_scan_core.specs.declared.token.Token.{Token}
-use Rattle.go_scan_core.specs.Characters.{first_passes}
+use Rattle.go_token_core.specs.declared.token.Comment.{Comment}
+use Rattle.go_token_core.specs.declared.token.Token.{Token}
+use Rattle.go_token_core.specs.Characters.{first_passes}
 use Rattle.go_scan_core.specs.Parts.{Break, Gap, Note, Part, Word, comments_in, ends_statement, semicolon_after, semicolon_behind, width}
 use Rattle.go_scan_core.specs.mirrors.Cutting.{close}
 use Rattle.go_scan_core.specs.Tokens.{AreParts, CommentsInOrder, TokensInOrder, IsAnswer, IsAnswerFrom, IsAnswerOf, tokens_by_line}
 use Rattle.go_scan_core.proofs.AnswerLemmas.{tokens_by_line-close}
-use Rattle.go_scan_core.proofs.CutLemmas.{width-chars, width_behind_mark}
+use Rattle.go_token_core.proofs.CharacterLemmas.{width-chars}
+use Rattle.go_scan_core.proofs.CutLemmas.{width_behind_mark}
 
 -- the last token of the line ends here
 abbrev EndsAt : Option Token → ℕ → Type 0

@@ -7,14 +7,15 @@ use Rattle.std.proofs.lemmas.Bool.Decides.{nat_tests}
 use Rattle.std.proofs.lemmas.List.Elements.{All-from_recursion}
 use Rattle.std.proofs.lemmas.Str.{encodes-IsAscii}
 use Rattle.std.proofs.lemmas.Str.Ascii.{IsAscii-from_all}
-use Rattle.go_scan_core.specs.declared.kind.Operator.{Operator}
-use Rattle.go_scan_core.specs.declared.kind.Operator.TheVariants as operators
-use Rattle.go_scan_core.specs.declared.kind.TokenKind.{TokenKind}
-use Rattle.go_scan_core.specs.declared.kind.TokenKind.TheVariants as kinds
-use Rattle.go_scan_core.specs.Numbers.{first_digit, integer_value_of, radix_letter}
+use Rattle.go_token_core.specs.declared.kind.Operator.{Operator}
+use Rattle.go_token_core.specs.declared.kind.Operator.TheVariants as operators
+use Rattle.go_token_core.specs.declared.kind.TokenKind.{TokenKind}
+use Rattle.go_token_core.specs.declared.kind.TokenKind.TheVariants as kinds
+use Rattle.go_token_core.specs.Numbers.{first_digit, integer_value_of, radix_letter}
 use Rattle.go_scan_core.specs.Texts.{IsInReach, IsSpelled}
 use Rattle.go_scan_core.specs.Tokens.{IsGood, IsInteger, IsLexeme, IsRun}
-use Rattle.go_scan_core.proofs.FrontLemmas.{and_true, chosen, or_true, same_number}
+use Rattle.go_token_core.proofs.Choices.{chosen}
+use Rattle.go_scan_core.proofs.FrontLemmas.{and_true, or_true, same_number}
 
 abbrev AreAscii : List ℕ → Type 0
 AreAscii w = AllByRecursion (λ c. c < 128) w

@@ -6,14 +6,15 @@ use Rattle.std.proofs.lemmas.List.Sums.{prefix_len-le-length}
 use Rattle.std.proofs.lemmas.Str.{len_utf8_ascii}
 use Rattle.go_text_core.proofs.Each.{true_or_false}
 use Rattle.go_scan_core.specs.declared.piece.Piece.TheVariants.{Space}
-use Rattle.go_scan_core.specs.declared.token.Comment.{Comment}
-use Rattle.go_scan_core.specs.declared.token.LexFault.{LexFault}
-use Rattle.go_scan_core.specs.declared.token.Token.{Token}
-use Rattle.go_scan_core.specs.Characters.{is_space}
+use Rattle.go_token_core.specs.declared.token.Comment.{Comment}
+use Rattle.go_token_core.specs.declared.token.LexFault.{LexFault}
+use Rattle.go_token_core.specs.declared.token.Token.{Token}
+use Rattle.go_token_core.specs.Characters.{is_space}
 use Rattle.go_scan_core.specs.Parts.{Gap, Part, width}
 use Rattle.go_scan_core.specs.mirrors.Cutting.{closed, cut, remarked, with_front}
 use Rattle.go_scan_core.specs.mirrors.Reading.{piece_at, piece_by}
-use Rattle.go_scan_core.proofs.CutLemmas.{closed_gap, cut_step, remarked_part, width-cons, with_none}
+use Rattle.go_token_core.proofs.CharacterLemmas.{width-cons}
+use Rattle.go_scan_core.proofs.CutLemmas.{closed_gap, cut_step, remarked_part, with_none}
 use Rattle.go_scan_core.proofs.FrontLemmas.{or_true, same_number, space_front}
 
 space_piece : (c : ℕ) (cs : List ℕ) → is_space c ≡ true → piece_at (c ∷ cs) ≡ Ok (Space, 1)

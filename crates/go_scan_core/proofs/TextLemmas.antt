@@ -10,22 +10,23 @@ use Rattle.std.proofs.lemmas.Str.{encodes-append, encodes-chars, IsCharBoundary-
 use Rattle.go_text_core.specs.Boundaries.{is_boundary_of}
 use Rattle.go_text_core.specs.Slices.{slice_of}
 use Rattle.go_text_core.specs.declared.span.Span.{Span}
-use Rattle.go_scan_core.specs.declared.kind.TokenKind.{TokenKind}
-use Rattle.go_scan_core.specs.declared.token.Token.{Token}
-use Rattle.go_scan_core.specs.Characters.{first_passes}
+use Rattle.go_token_core.specs.declared.kind.TokenKind.{TokenKind}
+use Rattle.go_token_core.specs.declared.token.Token.{Token}
+use Rattle.go_token_core.specs.Characters.{first_passes}
 use Rattle.go_scan_core.specs.Parts.{Break, Gap, Note, Part, Word, comments_in, ends_statement, span_between, semicolon_after, semicolon_behind, width}
 use Rattle.go_scan_core.specs.mirrors.Cutting.{close}
 use Rattle.go_scan_core.specs.Tokens.{AreParts, IsAnswer, IsAnswerFrom, IsAnswerOf, IsComment, IsGood, IsLexeme, tokens_by_line}
 use Rattle.go_scan_core.specs.Texts.{CommentHasItsText, HasItsText, IsEncodedComment, IsFilled, IsSpelled}
 use Rattle.go_scan_core.proofs.AnswerLemmas.{tokens_by_line-close}
-use Rattle.go_scan_core.proofs.FrontLemmas.{and_true, chosen}
+use Rattle.go_token_core.proofs.Choices.{chosen}
+use Rattle.go_scan_core.proofs.FrontLemmas.{and_true}
 use Rattle.go_scan_core.proofs.LexemeLemmas.{keyword_word, operator_some}
-use Rattle.go_scan_core.proofs.CutLemmas.{width-encodes}
+use Rattle.go_token_core.proofs.CharacterLemmas.{width-encodes}
 use Rattle.go_scan_core.proofs.ReachLemmas.{lexeme_in_reach}
 use Rattle.go_scan_core.specs.declared.enclosed.Enclosure.{Enclosure}
 use Rattle.go_scan_core.specs.declared.enclosed.Enclosure.TheVariants.{General, Quoted, Raw}
-use Rattle.go_scan_core.specs.declared.kind.TokenKind.TheVariants as kinds
-use Rattle.go_scan_core.specs.declared.token.Comment.{Comment}
+use Rattle.go_token_core.specs.declared.kind.TokenKind.TheVariants as kinds
+use Rattle.go_token_core.specs.declared.token.Comment.{Comment}
 use Rattle.go_scan_core.specs.Tokens.{IsEnclosed, IsWord}
 use Rattle.go_text_core.specs.Text.{letter}
 use Rattle.go_text_core.proofs.Each.{true_or_false}

@@ -3,9 +3,9 @@ use Rattle.std.proofs.Common.{◌≡◌, ℕ, List, length, Result, Ok, subst}
 use Rattle.std.specs.List.{All}
 use Rattle.std.specs.Str.{IsUtf8}
 use Rattle.std.proofs.lemmas.List.Elements.{All-weaker}
-use Rattle.go_scan_core.specs.declared.token.Comment.{Comment}
-use Rattle.go_scan_core.specs.declared.token.Token.{Token}
-use Rattle.go_scan_core.specs.declared.token.LexFault.{LexFault}
+use Rattle.go_token_core.specs.declared.token.Comment.{Comment}
+use Rattle.go_token_core.specs.declared.token.Token.{Token}
+use Rattle.go_token_core.specs.declared.token.LexFault.{LexFault}
 use Rattle.go_scan_core.specs.Cutting.{comments_of, tokens_of}
 use Rattle.go_scan_core.specs.Parts.{comments_in}
 use Rattle.go_scan_core.specs.Texts.{CommentHasItsText, HasItsText, IsFilled}

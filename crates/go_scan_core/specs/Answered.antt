@@ -1,8 +1,8 @@
 -- The tokens and the comments that are computed are the one answer to a text.
 use Rattle.std.specs.Prelude.{◌≡◌, ◌↔◌, ℕ, List, Result}
-use Rattle.go_scan_core.specs.declared.token.Comment.{Comment}
-use Rattle.go_scan_core.specs.declared.token.Token.{Token}
-use Rattle.go_scan_core.specs.declared.token.LexFault.{LexFault}
+use Rattle.go_token_core.specs.declared.token.Comment.{Comment}
+use Rattle.go_token_core.specs.declared.token.Token.{Token}
+use Rattle.go_token_core.specs.declared.token.LexFault.{LexFault}
 use Rattle.go_scan_core.specs.Cutting.{comments_of, tokens_of}
 use Rattle.go_scan_core.specs.Parts.{comments_in}
 use Rattle.go_scan_core.specs.Tokens.{IsAnswer, IsAnswerOf}

@@ -1,12 +1,7 @@
 pub mod Answered
-pub mod Characters
 pub mod Cutting
 pub mod Enclosed
-pub mod Escapes
-pub mod Numbers
 pub mod Parts
-pub mod Spelling
 pub mod Texts
 pub mod Tokens
-pub mod Values
 pub mod mirrors

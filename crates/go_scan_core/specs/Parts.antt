@@ -3,14 +3,14 @@ use Rattle.std.specs.Prelude.{true, false, ℕ, Bool, ◌==◌, if◌then◌else
 use Rattle.std.specs.Char.{len_utf8}
 use Rattle.std.specs.List.{list_any, sum_by}
 use Rattle.go_text_core.specs.declared.span.Span.{Span}
-use Rattle.go_scan_core.specs.declared.kind.TokenKind.{TokenKind}
-use Rattle.go_scan_core.specs.declared.kind.TokenKind.TheVariants as kinds
-use Rattle.go_scan_core.specs.declared.kind.Operator.TheVariants as operators
-use Rattle.go_scan_core.specs.declared.kind.Keyword.TheVariants as keywords
-use Rattle.go_scan_core.specs.declared.token.Token.{Token}
-use Rattle.go_scan_core.specs.declared.kind.Keyword.{Keyword}
-use Rattle.go_scan_core.specs.declared.kind.Operator.{Operator}
-use Rattle.go_scan_core.specs.declared.token.Comment.{Comment}
+use Rattle.go_token_core.specs.declared.kind.TokenKind.{TokenKind}
+use Rattle.go_token_core.specs.declared.kind.TokenKind.TheVariants as kinds
+use Rattle.go_token_core.specs.declared.kind.Operator.TheVariants as operators
+use Rattle.go_token_core.specs.declared.kind.Keyword.TheVariants as keywords
+use Rattle.go_token_core.specs.declared.token.Token.{Token}
+use Rattle.go_token_core.specs.declared.kind.Keyword.{Keyword}
+use Rattle.go_token_core.specs.declared.kind.Operator.{Operator}
+use Rattle.go_token_core.specs.declared.token.Comment.{Comment}
 
 -- how many bytes characters take
 abbrev pub width : List ℕ → ℕ

@@ -1,13 +1,13 @@
 -- The piece of a text that a token covers.
 use Rattle.std.specs.Prelude.{◌≡◌, ℕ, ◌<◌, ◌≤◌, ◌⊎◌, List, [], encode_utf8_all, MatchOption}
 use Rattle.go_text_core.specs.Slices.{slice_of}
-use Rattle.go_scan_core.specs.declared.kind.TokenKind.{TokenKind}
-use Rattle.go_scan_core.specs.declared.kind.TokenKind.TheVariants as kinds
-use Rattle.go_scan_core.specs.declared.kind.Operator.TheVariants as operators
-use Rattle.go_scan_core.specs.declared.token.Token.{Token}
-use Rattle.go_scan_core.specs.declared.kind.CommentKind.{CommentKind}
-use Rattle.go_scan_core.specs.declared.token.Comment.{Comment}
-use Rattle.go_scan_core.specs.Numbers.{integer_value_of}
+use Rattle.go_token_core.specs.declared.kind.TokenKind.{TokenKind}
+use Rattle.go_token_core.specs.declared.kind.TokenKind.TheVariants as kinds
+use Rattle.go_token_core.specs.declared.kind.Operator.TheVariants as operators
+use Rattle.go_token_core.specs.declared.token.Token.{Token}
+use Rattle.go_token_core.specs.declared.kind.CommentKind.{CommentKind}
+use Rattle.go_token_core.specs.declared.token.Comment.{Comment}
+use Rattle.go_token_core.specs.Numbers.{integer_value_of}
 use Rattle.go_scan_core.specs.Tokens.{IsComment, IsLexeme}
 
 -- the value of an integer literal is at most 2^63 - 1

@@ -2,7 +2,7 @@
 ghost use Rattle.std.specs.Prelude.{◌≡◌};
 ghost use Rattle.go_scan_core.specs.mirrors.Candidates.{keywords_with, operators_with};
 
-use crate::kind::{Keyword, Operator};
+use go_token_core::{Keyword, Operator};
 
 /// The keywords that begin with the character.
 #[tactic(auto, unfolding(crate::specs::mirrors::Candidates::keywords_with))]

@@ -1,10 +1,7 @@
-//! Integer literals, and the numbers that they write.
+//! How many characters integer literals have.
 ghost use Rattle.std.specs.Prelude.{◌≡◌, ◌≤◌, ◌+◌, length, IfSome};
-ghost use Rattle.go_scan_core.specs.Numbers.{first_digit, integer_value_of, next_number, number_in, radix_of, up_to_greatest};
+ghost use Rattle.go_token_core.specs.Numbers.{first_digit};
 ghost use Rattle.go_scan_core.specs.mirrors.Numbers.{digits_run, named_radix, number_len, zero_len};
-
-/// The greatest integer literal.
-const GREATEST: u64 = 9223372036854775807;
 
 /// Whether a digit of the radix stands at the front.
 fn begins_digit(text: &[char], radix: u32) -> bool
@@ -77,59 +74,4 @@ pub fn number_width(text: &[char]) -> usize
         return zero_width(behind);
     }
     1 + run_width(behind, 10)
-}
-
-/// The number behind one more character, where it is no greater than the greatest literal. A
-/// character that is no digit changes nothing.
-pub fn number_behind(value: u64, c: char, radix: u32) -> Option<u64>
-    requires low { 2 ≤ radix }
-    requires high { radix ≤ 16 }
-    requires small { value ≤ 9223372036854775807 }
-    ensures value { result ≡ up_to_greatest (next_number radix value c) }
-    ensures small { IfSome result (λ n. n ≤ 9223372036854775807) }
-{
-    let Some(digit) = c.to_digit(radix) else {
-        return Some(value);
-    };
-    let more = value
-        .checked_mul(u64::from(radix))?
-        .checked_add(u64::from(digit))?;
-    if more > GREATEST { None } else { Some(more) }
-}
-
-/// The radix of the literal: 16, 2 or 8 where it begins with 0, and 10 otherwise.
-fn radix(text: &[char]) -> u32
-    ensures value { result ≡ radix_of text.now }
-    ensures low { 2 ≤ result }
-    ensures high { result ≤ 16 }
-{
-    match text {
-        ['0', 'x' | 'X', ..] => 16,
-        ['0', 'b' | 'B', ..] => 2,
-        ['0', ..] => 8,
-        _ => 10,
-    }
-}
-
-/// The number that the digits among the characters write, where it is no greater than the greatest.
-fn number_of(text: &[char], radix: u32) -> Option<u64>
-    requires low { 2 ≤ radix }
-    requires high { radix ≤ 16 }
-    ensures { result ≡ up_to_greatest (number_in radix text.now) }
-{
-    let mut value: u64 = 0;
-    for c in text {
-        let Some(more) = number_behind(value, *c, radix) else {
-            return None;
-        };
-        value = more;
-    }
-    Some(value)
-}
-
-/// The number that the literal writes, where it is no greater than the greatest.
-pub fn literal_value(text: &[char]) -> Option<u64>
-    ensures { result ≡ up_to_greatest (integer_value_of text.now) }
-{
-    number_of(text, radix(text))
 }

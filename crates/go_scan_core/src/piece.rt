@@ -3,7 +3,7 @@ ghost use Rattle.std.specs.Prelude.{◌≡◌, ◌^◌, ◌<◌};
 ghost use Rattle.std.specs.Char.{is_ascii, len_utf8};
 ghost use Rattle.std.specs.List.{list_all, sum_by};
 
-use crate::kind::{CommentKind, TokenKind};
+use go_token_core::{CommentKind, TokenKind};
 
 /// What a piece of a text is.
 #[derive(Clone, Copy)]

@@ -2,19 +2,19 @@
 ghost use Rattle.std.specs.Prelude.{◌≡◌, ◌≤◌, nat_eq, find, length};
 ghost use Rattle.std.specs.List.{prefix_len, starts_with};
 ghost use Rattle.std.specs.Str.{bytes_eq};
-ghost use Rattle.go_scan_core.specs.Characters.{continues, first_passes, in_line, letter_or_digit};
+ghost use Rattle.go_token_core.specs.Characters.{continues, first_passes, in_line, letter_or_digit};
 ghost use Rattle.go_scan_core.specs.Enclosed.{opening};
 ghost use Rattle.go_scan_core.specs.mirrors.Enclosed.{enclosed_at};
 ghost use Rattle.go_scan_core.specs.mirrors.Reading.{keyword_spelled, integer_at, operator_at, longest_operator, piece_at, piece_from, identifier_at};
-ghost use Rattle.go_scan_core.specs.Spelling.{keyword_spelling, operator_spelling};
+ghost use Rattle.go_token_core.specs.Spelling.{keyword_spelling, operator_spelling};
 
 use crate::candidates::{keywords_with, operators_with};
 use crate::enclosed::{Enclosure, enclosed_len};
 use crate::front::{Front, front_at};
-use crate::kind::{CommentKind, Keyword, Operator, TokenKind};
-use crate::number::{literal_value, number_width};
+use crate::number::number_width;
 use crate::piece::Piece;
 use go_text_core::{Rule, is_digit, is_letter};
+use go_token_core::{CommentKind, Keyword, Operator, TokenKind, literal_value};
 
 /// Whether an identifier may have the character behind its first.
 fn is_letter_or_digit(c: char) -> bool

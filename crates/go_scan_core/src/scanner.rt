@@ -2,18 +2,19 @@
 ghost use Rattle.std.specs.Prelude.{◌≡◌, ℕ, ◌+◌, ◌^◌, ◌<◌, ◌≤◌, [], ◌++◌, ◌==◌, if◌then◌else◌, None, length, take, drop, All, OnOk, IfOk};
 ghost use Rattle.std.specs.List.{prefix_len};
 ghost use Rattle.std.specs.Str.{chars};
-ghost use Rattle.go_scan_core.specs.Characters.{first_passes, is_space};
+ghost use Rattle.go_token_core.specs.Characters.{first_passes, is_space};
 ghost use Rattle.go_scan_core.specs.Cutting.{Answers, AnswersBy, comments_of, tokens_of};
 ghost use Rattle.go_scan_core.specs.Parts.{ends_statement, holds_line_end, semicolon_after, semicolon_behind, width};
 ghost use Rattle.go_scan_core.specs.mirrors.Cutting.{closed, cut, fault_of, parts_of, remarked};
 ghost use Rattle.go_scan_core.specs.Texts.{CommentHasItsText, HasItsText, IsFilled};
 ghost use Rattle.go_scan_core.specs.Tokens.{CommentsInOrder, FindsComments, Scans, TokensInOrder};
 
-use crate::kind::{Keyword, Operator, TokenKind};
 use crate::piece::{Piece, width};
 use crate::reading::front_piece;
-use crate::token::{Comment, LexFault, ScanError, Token};
 use go_text_core::{Rule, Span};
+use go_token_core::{
+    Comment, Keyword, LexFault, Operator, ScanError, Token, TokenKind, characters_of,
+};
 use std::alloc::{AllocError, Global};
 
 // The most bytes of a text that is scanned: the offsets of spans have 32 bits.
@@ -162,14 +163,6 @@ fn read_characters(
     }
     end_line(&mut tokens, last)?;
     Ok((tokens, comments))
-}
-
-/// The characters of a text.
-pub fn characters_of(alloc: Global, text: &str) -> Result<Vec<char>, AllocError>
-    ensures items { IfOk result (λ v. v.items ≡ chars text.now) }
-    ensures size { width (chars text.now) ≡ length text.now }
-{
-    text.chars().collect(alloc)
 }
 
 /// Whether a byte order mark is first.

@@ -16,3 +16,21 @@ pub use laws::{
     universe_is_outermost,
 };
 pub use scope::{InScope, Scopes};
+
+/// What the crates above name of `go_block_core`.
+pub mod block_core {
+    pub use go_block_core::{
+        Binding, BlockFault, Blocks, DeclKey, DeclKind, DeclRef, Exports, Imported, NamedDecl,
+        Target,
+    };
+}
+
+/// What the crates above name of `go_graph_core`.
+pub mod graph_core {
+    pub use go_graph_core::{Package, SourceFile};
+}
+
+/// What the crates above name of `go_open_core`.
+pub mod open_core {
+    pub use go_open_core::{DeclId, NameList, ShortName};
+}

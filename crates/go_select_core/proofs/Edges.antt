@@ -2,7 +2,7 @@
 use Rattle.std.proofs.Common.{◌≡◌, ℕ, suc, ◌+◌, ◌<◌, ◌≤◌, Bool, true, false, not, ◌&&◌, List, [], ◌∷◌, Some, refl, sym, ap, ◌∙◌, subst, arith, inl, inr, if◌then◌else◌, eq-eqb}
 use Rattle.std.proofs.lemmas.Bool.Decides.{eqb_tells}
 use Rattle.go_term_core.specs.Terms.{Term, NoType, Predeclared, ErrorType, Defined, PointerTo, StructOf, InterfaceOf, Fields, NoField, AField}
-use Rattle.go_table_core.specs.Entries.{Look, has_method}
+use Rattle.go_embed_core.specs.table_core.Entries.{Look, has_method}
 use Rattle.go_embed_core.specs.Owners.{OwnerModel, Edge, edge, owner_in, fields_embedded, term_embedded, embedded_in, edge_at, embeds_at, count_fields, term_fields, field_count}
 use Rattle.go_select_core.specs.Paths.{Step}
 use Rattle.go_select_core.proofs.ListLemmas.{In, in_contained, contained_in, not_same}

@@ -3,7 +3,7 @@ use Rattle.std.proofs.Common.{◌≡◌, ℕ, zero, suc, ◌+◌, ◌<◌, ◌�
 use Rattle.std.specs.Prelude.{slice_get, nat_eq}
 use Rattle.std.specs.Map.{lookup}
 use Rattle.go_term_core.specs.Terms.{Term, Defined}
-use Rattle.go_table_core.specs.Entries.{Entry, find}
+use Rattle.go_embed_core.specs.table_core.Entries.{Entry, find}
 use Rattle.go_embed_core.specs.Owners.{OwnerModel, Edge, owner_in, embeds_at, field_count}
 use Rattle.go_select_core.specs.Paths.{Step, Leads}
 use Rattle.go_select_core.specs.declared.level.Reached.{Reached}

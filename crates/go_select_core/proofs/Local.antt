@@ -2,13 +2,13 @@
 use Rattle.std.proofs.Common.{◌≡◌, ℕ, suc, Bool, true, false, not, ◌&&◌, List, [], ◌∷◌, ◌++◌, Option, Some, None, Result, Ok, Err, Contains, refl, sym, ap, ◌∙◌, subst, arith, ◌⊎◌, inl, inr, if◌then◌else◌}
 use Rattle.std.proofs.lemmas.List.Elements.{Contains-append_left, Contains-append_right}
 use Rattle.go_text_core.specs.declared.rule.Rule.{Rule}
-use Rattle.go_decl_core.specs.declared.keys.DeclKey.{DeclKey}
+use Rattle.go_term_core.specs.decl_core.declared.keys.DeclKey.{DeclKey}
 use Rattle.go_term_core.specs.Terms.{Term, NoType, Predeclared, ErrorType, Defined, PointerTo, StructOf, InterfaceOf, Fields, NoField, AField, Methods, NoMethod, AMethod, term_keys, fields_keys, methods_keys, sign_keys}
-use Rattle.go_table_core.specs.Entries.{Member, Entry, Look, term_in, methods_in, underlying_in, declared_methods, has_method, members_keys, entry_keys}
-use Rattle.go_table_core.specs.Laws.{LeadsTo, IsReached, AgreeFrom}
-use Rattle.go_settle_core.specs.declared.kind.Kind.{Kind}
-use Rattle.go_settle_core.specs.declared.kind.Kind.TheVariants as kinds
-use Rattle.go_settle_core.specs.Settled.{kind_of_term}
+use Rattle.go_embed_core.specs.table_core.Entries.{Member, Entry, Look, term_in, methods_in, underlying_in, declared_methods, has_method, members_keys, entry_keys}
+use Rattle.go_embed_core.specs.table_core.Laws.{LeadsTo, IsReached, AgreeFrom}
+use Rattle.go_embed_core.specs.settle_core.declared.kind.Kind.{Kind}
+use Rattle.go_embed_core.specs.settle_core.declared.kind.Kind.TheVariants as kinds
+use Rattle.go_embed_core.specs.settle_core.Settled.{kind_of_term}
 use Rattle.go_embed_core.specs.Owners.{OwnerModel, Edge, edge, off, owner_in, fields_embedded, term_embedded, embedded_in, has_spelled, Found, Named, AFieldOf, fields_found, methods_found, declared_found, term_found, members_of}
 use Rattle.go_embed_core.specs.OwnersShown.{IsNamedAt, found_shown}
 use Rattle.go_select_core.specs.declared.search.Selected.{Selected}

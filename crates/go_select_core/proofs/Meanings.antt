@@ -4,7 +4,7 @@ use Rattle.go_text_core.specs.declared.rule.Rule.{Rule}
 use Rattle.go_text_core.specs.declared.rule.Rule.TheVariants as rules
 use Rattle.go_text_core.specs.Text.{is_blank}
 use Rattle.go_term_core.specs.Terms.{Term}
-use Rattle.go_table_core.specs.Entries.{Look}
+use Rattle.go_embed_core.specs.table_core.Entries.{Look}
 use Rattle.go_embed_core.specs.Owners.{OwnerModel, Found, Named, owner_in}
 use Rattle.go_embed_core.specs.OwnersShown.{IsNamedAt, found_shown}
 use Rattle.go_select_core.specs.declared.search.Selected.{Selected}

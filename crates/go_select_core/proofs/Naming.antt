@@ -4,7 +4,7 @@ use Rattle.std.specs.Prelude.{slice_get}
 use Rattle.std.proofs.lemmas.Bool.{true≢false}
 use Rattle.go_text_core.specs.Text.{SameId}
 use Rattle.go_term_core.specs.Shapes.{shape}
-use Rattle.go_table_core.specs.Entries.{Look}
+use Rattle.go_embed_core.specs.table_core.Entries.{Look}
 use Rattle.go_embed_core.specs.declared.member.Member as declared_member
 use Rattle.go_embed_core.specs.Owners.{OwnerModel, Found, Named, members_of, owner_in}
 use Rattle.go_embed_core.specs.OwnersShown.{IsNamedAt, found_shown, name_shown, package_shown, named_shown}

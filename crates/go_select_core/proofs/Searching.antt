@@ -3,7 +3,7 @@ use Rattle.std.proofs.Common.{◌≡◌, ℕ, zero, suc, ◌+◌, ◌<◌, ◌�
 use Rattle.go_term_core.specs.Terms.{Term, NoType, Predeclared, ErrorType, Defined, PointerTo, StructOf, InterfaceOf}
 use Rattle.go_term_core.specs.Shapes.{shape}
 use Rattle.go_text_core.specs.declared.rule.Rule.TheVariants as rules
-use Rattle.go_table_core.specs.Entries.{Entry, Look, find}
+use Rattle.go_embed_core.specs.table_core.Entries.{Entry, Look, find}
 use Rattle.go_embed_core.specs.Owners.{Found, owner_in, has_spelled}
 use Rattle.go_embed_core.specs.OwnersShown.{IsNamedAt}
 use Rattle.go_select_core.specs.declared.level.Reached.{Reached}

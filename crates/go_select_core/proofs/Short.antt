@@ -6,10 +6,10 @@ use Rattle.std.specs.Prelude.{nat_eq}
 use Rattle.std.specs.Map.{lookup}
 use Rattle.std.specs.Str.{bytes_eq}
 use Rattle.std.proofs.lemmas.Slice.Eq.{bytes_eq-Decides}
-use Rattle.go_decl_core.specs.contracts.places.DeclKind as decl_kind
-use Rattle.go_decl_core.specs.declared.keys.DeclKey.{DeclKey}
+use Rattle.go_term_core.specs.decl_core.contracts.places.DeclKind as decl_kind
+use Rattle.go_term_core.specs.decl_core.declared.keys.DeclKey.{DeclKey}
 use Rattle.go_term_core.specs.Terms.{Term, NoType, Predeclared, ErrorType, Defined, PointerTo, StructOf, InterfaceOf, Fields}
-use Rattle.go_table_core.specs.Entries.{Entry, find, same_key, same_decl, term_in, underlying_in}
+use Rattle.go_embed_core.specs.table_core.Entries.{Entry, find, same_key, same_decl, term_in, underlying_in}
 use Rattle.go_embed_core.specs.Owners.{Edge, Found, owner_in, term_embedded, embedded_in}
 use Rattle.go_select_core.specs.Paths.{Step, Leads, Hit}
 use Rattle.go_select_core.specs.Laws.{ShortPathsSuffice}

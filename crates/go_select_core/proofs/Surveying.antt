@@ -1,7 +1,7 @@
 -- All names, level by level.
 use Rattle.std.proofs.Common.{◌≡◌, ℕ, zero, suc, ◌+◌, ◌<◌, ◌≤◌, List, [], ◌∷◌, length, Option, Some, None, sym, ap, ◌∙◌, subst, arith}
 use Rattle.go_term_core.specs.Terms.{Term}
-use Rattle.go_table_core.specs.Entries.{Entry, find}
+use Rattle.go_embed_core.specs.table_core.Entries.{Entry, find}
 use Rattle.go_embed_core.specs.declared.member.Member as declared_member
 use Rattle.go_embed_core.specs.Owners.{owner_in}
 use Rattle.go_embed_core.specs.OwnersShown.{IsNamedAt, found_shown, name_shown, package_shown}

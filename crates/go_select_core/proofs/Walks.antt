@@ -1,7 +1,7 @@
 -- Paths put together and cut, and what a level says of hits.
 use Rattle.std.proofs.Common.{◌≡◌, ℕ, zero, suc, ◌+◌, ◌<◌, ◌≤◌, Bool, false, ◌||◌, List, [], ◌∷◌, ◌++◌, length, refl, sym, ap, ◌∙◌, subst, arith, ◌⊎◌, inl, inr, length-append}
 use Rattle.go_term_core.specs.Terms.{Term}
-use Rattle.go_table_core.specs.Entries.{Look}
+use Rattle.go_embed_core.specs.table_core.Entries.{Look}
 use Rattle.go_embed_core.specs.Owners.{Found, owner_in}
 use Rattle.go_embed_core.specs.OwnersShown.{IsNamedAt}
 use Rattle.go_select_core.specs.Paths.{Step, Leads, Hit, IsSelected, IsAmbiguous}

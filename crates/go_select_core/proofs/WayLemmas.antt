@@ -5,7 +5,7 @@ use Rattle.std.specs.Map.{lookup}
 use Rattle.std.proofs.lemmas.List.{append-nil, reverse-append}
 use Rattle.go_term_core.specs.Shapes.{shape}
 use Rattle.go_term_core.specs.Terms.{Term}
-use Rattle.go_table_core.specs.Entries.{Entry}
+use Rattle.go_embed_core.specs.table_core.Entries.{Entry}
 use Rattle.go_embed_core.specs.Owners.{Edge}
 use Rattle.go_select_core.specs.declared.level.Reached.{Reached}
 use Rattle.go_select_core.specs.declared.trails.Link.{Link}

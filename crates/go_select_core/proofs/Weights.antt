@@ -2,9 +2,9 @@
 use Rattle.std.proofs.Common.{◌≡◌, ℕ, zero, suc, ◌+◌, ◌*◌, ◌<◌, ◌≤◌, Bool, true, false, not, ◌&&◌, List, [], ◌∷◌, ◌++◌, length, Option, Some, None, cond, max, refl, sym, ap, ◌∙◌, subst, arith, ◌⊎◌, inl, inr, if◌then◌else◌, eq-eqb}
 use Rattle.std.specs.Prelude.{nat_eq}
 use Rattle.std.specs.Map.{lookup}
-use Rattle.go_decl_core.specs.declared.keys.DeclKey.{DeclKey}
+use Rattle.go_term_core.specs.decl_core.declared.keys.DeclKey.{DeclKey}
 use Rattle.go_term_core.specs.Terms.{Term, NoType, Predeclared, ErrorType, Defined, PointerTo, StructOf, InterfaceOf, Fields, NoField, AField}
-use Rattle.go_table_core.specs.Entries.{Entry, find, same_key, term_in, underlying_in, has_method}
+use Rattle.go_embed_core.specs.table_core.Entries.{Entry, find, same_key, term_in, underlying_in, has_method}
 use Rattle.go_embed_core.specs.Owners.{OwnerModel, Edge, edge, off, owner_in, fields_embedded, term_embedded, embedded_in}
 use Rattle.go_select_core.specs.Paths.{Step}
 use Rattle.go_select_core.specs.mirrors.Ways.{At, Way, IsNumber, IsNumbered}

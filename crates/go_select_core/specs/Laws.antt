@@ -1,11 +1,11 @@
 -- Laws of selectors.
 use Rattle.std.specs.Prelude.{◌≡◌, ◌↔◌, ◌≤◌, ℕ, suc, Bool, List, ◌∷◌, length, map, Contains, Result, Ok}
-use Rattle.go_decl_core.specs.declared.keys.DeclKey.{DeclKey}
+use Rattle.go_term_core.specs.decl_core.declared.keys.DeclKey.{DeclKey}
 use Rattle.go_text_core.specs.declared.name.Name.{Name}
 use Rattle.go_text_core.specs.declared.rule.Rule.{Rule}
 use Rattle.go_term_core.specs.Terms.{Term, StructOf, Fields, term_keys, sign_keys}
-use Rattle.go_table_core.specs.Entries.{Entry, Look, find}
-use Rattle.go_table_core.specs.Laws.{AgreeFrom, IsReached}
+use Rattle.go_embed_core.specs.table_core.Entries.{Entry, Look, find}
+use Rattle.go_embed_core.specs.table_core.Laws.{AgreeFrom, IsReached}
 use Rattle.go_embed_core.specs.Owners.{Found, AFieldOf, AMethodOf, AnInterfaces, TheErrorMethod}
 use Rattle.go_embed_core.specs.OwnersShown.{found_shown}
 use Rattle.go_select_core.specs.declared.search.Selected.{Selected}

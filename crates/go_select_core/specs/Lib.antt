@@ -3,3 +3,6 @@ pub mod Selectors
 pub mod Selections
 pub mod Laws
 pub mod mirrors
+pub mod embed_core
+pub mod settle_core
+pub mod table_core

@@ -6,7 +6,7 @@ use Rattle.std.specs.Cmp.Lexicographic.{slice_cmp}
 use Rattle.std.specs.Str.{chars}
 use Rattle.go_text_core.specs.Text.{exported, SameId}
 use Rattle.go_text_core.specs.declared.name.Name.{Name}
-use Rattle.go_table_core.specs.Entries.{Look}
+use Rattle.go_embed_core.specs.table_core.Entries.{Look}
 use Rattle.go_term_core.specs.Terms.{Term}
 use Rattle.go_embed_core.specs.Owners.{Found}
 use Rattle.go_embed_core.specs.OwnersShown.{name_shown, package_shown}

@@ -4,10 +4,10 @@ use Rattle.go_text_core.specs.Text.{is_blank}
 use Rattle.go_text_core.specs.declared.rule.Rule.{Rule}
 use Rattle.go_text_core.specs.declared.rule.Rule.TheVariants as rules
 use Rattle.go_term_core.specs.Terms.{Term, NoType, Predeclared, ErrorType, Defined, PointerTo, StructOf, InterfaceOf}
-use Rattle.go_settle_core.specs.declared.kind.Kind.{Kind}
-use Rattle.go_settle_core.specs.declared.kind.Kind.TheVariants as kinds
-use Rattle.go_settle_core.specs.Settled.{kind_of_term}
-use Rattle.go_table_core.specs.Entries.{Look, underlying_in}
+use Rattle.go_embed_core.specs.settle_core.declared.kind.Kind.{Kind}
+use Rattle.go_embed_core.specs.settle_core.declared.kind.Kind.TheVariants as kinds
+use Rattle.go_embed_core.specs.settle_core.Settled.{kind_of_term}
+use Rattle.go_embed_core.specs.table_core.Entries.{Look, underlying_in}
 use Rattle.go_embed_core.specs.Owners.{Found, AFieldOf}
 use Rattle.go_embed_core.specs.OwnersShown.{found_shown}
 use Rattle.go_select_core.specs.declared.search.Selected.{Selected}

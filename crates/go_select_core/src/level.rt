@@ -1,6 +1,6 @@
 //! The types that paths of embedded fields reach, level by level.
 ghost use Rattle.std.specs.Prelude.{◌≡◌, ◌<◌, ◌≤◌, ◌∷◌, [], length, OnOk, IfOk};
-ghost use Rattle.go_table_core.specs.Entries.{find};
+ghost use Rattle.go_embed_core.specs.table_core.Entries.{find};
 ghost use Rattle.go_term_core.specs.Shapes.{shape};
 ghost use Rattle.go_embed_core.specs.OwnersShown.{embedded_shown};
 ghost use Rattle.go_select_core.specs.mirrors.Ways.{ways, root, IsNumber, IsRight, Begins, Entered, Marked, Pushed};
@@ -8,9 +8,9 @@ ghost use Rattle.go_select_core.specs.mirrors.Levels.{IsNext, IsJudged};
 
 use crate::numbers::Numbers;
 use crate::trails::Trails;
+use go_embed_core::type_core::{TypeTable, TypeTerm};
 use go_embed_core::{Embedded, Hits, Member, Owner};
 use go_path_core::ImportPath;
-use go_type_core::{TypeTable, TypeTerm};
 use std::alloc::{AllocError, Global};
 
 /// A type that a path reaches.

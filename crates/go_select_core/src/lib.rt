@@ -20,3 +20,20 @@ pub use laws::{
 pub use listing::{selectable, selections};
 pub use path::EmbedPath;
 pub use search::{Selected, select, select_behind_pointer};
+
+/// What the crates above name of `go_settle_core`.
+pub mod settle_core {
+    pub use go_embed_core::settle_core::{Kind, kind_of, settle, settle_signature};
+}
+
+/// What the crates above name of `go_table_core`.
+pub mod table_core {
+    pub use go_embed_core::table_core::{DeclaredMethod, DefinedType, PackageTypes, TypeTable};
+}
+
+/// What the crates above name of `go_type_core`.
+pub mod type_core {
+    pub use go_embed_core::type_core::{
+        Basic, Method, Signature, TypeTable, TypeTerm, has_same_signature,
+    };
+}

@@ -1,6 +1,6 @@
 //! All that selectors may denote behind an operand.
 ghost use Rattle.std.specs.Prelude.{◌≡◌, length, option_to_list, IfOk, OnOk};
-ghost use Rattle.go_table_core.specs.Entries.{find};
+ghost use Rattle.go_embed_core.specs.table_core.Entries.{find};
 ghost use Rattle.go_term_core.specs.Shapes.{shape};
 ghost use Rattle.go_select_core.specs.Selections.{AreSelections, IsListing};
 ghost use Rattle.go_select_core.specs.mirrors.Names.{names_of, AreBefore, AreNamed, AreSaid, AreKnown};
@@ -11,9 +11,9 @@ use crate::names::{Known, Names};
 use crate::operand::{Operand, behind};
 use crate::search::{Selected, is_field};
 use go_embed_core::Owner;
+use go_embed_core::type_core::{TypeTable, TypeTerm};
 use go_path_core::ImportPath;
 use go_text_core::{Name, add};
-use go_type_core::{TypeTable, TypeTerm};
 use std::alloc::{AllocError, Global};
 
 /// The types that paths reach from a type, and the identifiers of their members.

@@ -1,12 +1,12 @@
 //! Where a selector is searched.
 ghost use Rattle.std.specs.Prelude.{◌≡◌};
-ghost use Rattle.go_table_core.specs.Entries.{find};
+ghost use Rattle.go_embed_core.specs.table_core.Entries.{find};
 ghost use Rattle.go_term_core.specs.Shapes.{shape};
 ghost use Rattle.go_select_core.specs.Selectors.{searched, searched_under, unless_refused, kind_in};
 ghost use Rattle.go_select_core.specs.mirrors.Operands.{operand_shown, searched_shown};
 
+use go_embed_core::type_core::{Kind, TypeTable, TypeTerm, kind_of};
 use go_text_core::Rule;
-use go_type_core::{Kind, TypeTable, TypeTerm, kind_of};
 
 /// Where a selector is searched.
 #[derive(Drop)]

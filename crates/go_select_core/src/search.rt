@@ -1,6 +1,6 @@
 //! A selector, searched by one level after another.
 ghost use Rattle.std.specs.Prelude.{◌≡◌, ◌↔◌, IsTrue, IfOk};
-ghost use Rattle.go_table_core.specs.Entries.{find};
+ghost use Rattle.go_embed_core.specs.table_core.Entries.{find};
 ghost use Rattle.go_term_core.specs.Shapes.{shape};
 ghost use Rattle.go_embed_core.specs.Owners.{owner_in, has_spelled};
 ghost use Rattle.go_embed_core.specs.OwnersShown.{found_shown};
@@ -12,10 +12,10 @@ ghost use Rattle.go_select_core.specs.mirrors.Searches.{IsSearched, IsSearchedOr
 use crate::level::{Judged, Levels, expand, judge};
 use crate::operand::{Operand, behind, behind_pointer};
 use crate::path::EmbedPath;
+use go_embed_core::type_core::{TypeTable, TypeTerm};
 use go_embed_core::{Hits, Member, Owner};
 use go_path_core::ImportPath;
 use go_text_core::Rule;
-use go_type_core::{TypeTable, TypeTerm};
 use std::alloc::{AllocError, Global};
 
 /// What a selector denotes.

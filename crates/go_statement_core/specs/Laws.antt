@@ -1,8 +1,8 @@
 -- Laws of assignments, declarations, returns and statements.
 use Rattle.std.specs.Prelude.{◌≡◌, ◌≢◌, ◌↔◌, ◌⊎◌, ◌<◌, ℕ, Bool, true, false, List, [], ◌∷◌, length, replicate, slice_get, Option, Some, None, IfSome}
 use Rattle.go_text_core.specs.declared.rule.Rule.TheVariants.{Y3, Y4, Y7, Y8, X1}
-use Rattle.go_scan_core.specs.declared.kind.Operator.{Operator}
-use Rattle.go_scan_core.specs.declared.kind.Operator.TheVariants as operators
+use Rattle.go_token_core.specs.declared.kind.Operator.{Operator}
+use Rattle.go_token_core.specs.declared.kind.Operator.TheVariants as operators
 use Rattle.go_constant_core.specs.declared.values.Constant.{Constant}
 use Rattle.go_term_core.specs.declared.term.Basic.{Basic}
 use Rattle.go_term_core.specs.declared.term.Basic.TheVariants as basics

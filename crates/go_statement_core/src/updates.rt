@@ -4,8 +4,8 @@ ghost use Rattle.go_statement_core.specs.Updates as updates;
 
 use go_denote_core::Argument;
 use go_operand_core::{Operand, TypeLooks, increment, update};
-use go_scan_core::Operator;
 use go_text_core::Rule;
+use go_token_core::Operator;
 use std::alloc::{AllocError, Global};
 
 fn bits_rule(operator: Operator) -> Option<Rule>

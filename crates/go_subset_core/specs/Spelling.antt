@@ -1,7 +1,7 @@
 -- What a tree of the subset writes: what it writes as a tree of the whole grammar.
 use Rattle.std.specs.Prelude.{List, Option, map}
 use Rattle.go_text_core.specs.declared.span.Span.{Span}
-use Rattle.go_scan_core.specs.declared.kind.Operator.TheVariants as operator
+use Rattle.go_token_core.specs.declared.kind.Operator.TheVariants as operator
 use Rattle.go_tree_nodes.specs.Terminals.{Terminal}
 pub use Rattle.go_tree_nodes.specs.Spelling.{spell_ident, spell_idents}
 use Rattle.go_tree_nodes.specs.Spelling as wide

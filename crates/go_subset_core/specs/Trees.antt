@@ -1,7 +1,7 @@
 -- Trees of the subset, without where they lie in memory.
 use Rattle.std.specs.Prelude.{ℕ, List, Option}
 use Rattle.go_text_core.specs.declared.span.Span.{Span}
-use Rattle.go_scan_core.specs.declared.kind.Operator.{Operator}
+use Rattle.go_token_core.specs.declared.kind.Operator.{Operator}
 use Rattle.go_tree_nodes.specs.declared.names.Ident.{Ident}
 pub use Rattle.go_tree_nodes.specs.Trees.{Separated, One, Then}
 use Rattle.go_subset_core.specs.declared.tree.TypeExpr.{TypeExpr}

@@ -5,8 +5,8 @@ ghost use Rattle.std.specs.Char.{is_ascii_digit};
 ghost use Rattle.std.specs.List.{list_all};
 ghost use Rattle.go_subset_core.specs.Subset.{is_decimal, is_plain, is_arithmetic};
 
-use go_scan_core::Operator;
 use go_text_core::Span;
+use go_token_core::Operator;
 
 fn are_digits(bytes: &[u8]) -> bool
     ensures { result ≡ list_all is_ascii_digit bytes.now }

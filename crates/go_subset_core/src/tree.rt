@@ -1,6 +1,6 @@
 //! The tree of a file of the subset. Each token that the grammar writes keeps its span, and each name its spelling.
-use go_scan_core::Operator;
 use go_text_core::Span;
+use go_token_core::Operator;
 use go_tree_nodes::{Ident, Idents, ValueKind};
 
 /// An expression.

@@ -1,17 +1,17 @@
 //! Summaries.
 ghost use Rattle.std.specs.Prelude.{◌≡◌, ◌↔◌, IfOk, IsTrue};
-ghost use Rattle.go_graph_core.specs.Workspaces.{names_of_files};
-ghost use Rattle.go_block_core.specs.declared.imports.Imported.TheVariants as imported;
+ghost use Rattle.go_face_core.specs.graph_core.Workspaces.{names_of_files};
+ghost use Rattle.go_face_core.specs.block_core.declared.imports.Imported.TheVariants as imported;
 ghost use Rattle.go_summary_core.specs.Summaries.{IsOfOne, path_of, summary_of};
 
 use crate::entries::same_types;
 use crate::faces::same_faces;
 use crate::names::{same_exports, same_names};
-use go_block_core::{Blocks, Exports, Imported};
 use go_face_core::PackageFaces;
-use go_graph_core::{Package, SourceFile};
+use go_face_core::block_core::{Blocks, Exports, Imported};
+use go_face_core::graph_core::{Package, SourceFile};
+use go_face_core::table_core::PackageTypes;
 use go_path_core::ImportPath;
-use go_table_core::PackageTypes;
 use go_text_core::{Name, add};
 use std::alloc::{AllocError, Global};
 use std::marker::Model;

@@ -6,3 +6,4 @@ pub mod Tables
 pub mod Assign
 pub mod Laws
 pub mod mirrors
+pub mod settle_core

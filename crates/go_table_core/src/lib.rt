@@ -19,3 +19,10 @@ pub use laws::{
     nothing_is_assignable_to_no_type, reach_is_closed, underlying_is_local,
 };
 pub use table::{Located, PackageTypes, TypeTable};
+
+/// What the crates above name of `go_settle_core`.
+pub mod settle_core {
+    pub use go_settle_core::{
+        Kind, Kinds, SeenNames, can_embed, kind_of, settle, settle_signature,
+    };
+}

@@ -6,3 +6,4 @@ pub mod Laws
 pub mod Forms
 pub mod mirrors
 pub mod codes
+pub mod decl_core

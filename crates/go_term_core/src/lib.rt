@@ -22,3 +22,10 @@ pub use tag::Tag;
 pub use term::{
     Basic, Field, FieldLine, LocalPlace, MemberPlace, Method, Params, Signature, TypeTerm,
 };
+
+/// What the crates above name of `go_decl_core`.
+pub mod decl_core {
+    pub use go_decl_core::{
+        DeclForm, DeclKey, DeclKind, DeclRef, Outline, Places, TopDecl, outline,
+    };
+}

@@ -6,11 +6,11 @@ use Rattle.std.specs.Prelude.{List, ◌++◌, map}
 use Rattle.std.specs.List.{flat_map}
 use Rattle.go_tree_nodes.specs.declared.decls.ValueKind.{ValueKind}
 use Rattle.go_tree_nodes.specs.Trees.{Specs, Single, Group, ValueSpecTree, ValueTree, TypeSpecTree, TypeDeclTree}
-use Rattle.go_piece_core.specs.local_core.specs.declared.Fault as local
-use Rattle.go_piece_core.specs.expr_core.specs.declared.things.Use.{Use}
-use Rattle.go_piece_core.specs.expr_core.specs.declared.things.Fault.{Fault}
-use Rattle.go_piece_core.specs.expr_core.specs.Looks.{Looks}
-use Rattle.go_piece_core.specs.expr_core.specs.TypeUses.{type_uses}
+use Rattle.go_piece_core.specs.local_core.declared.Fault as local
+use Rattle.go_piece_core.specs.expr_core.declared.things.Use.{Use}
+use Rattle.go_piece_core.specs.expr_core.declared.things.Fault.{Fault}
+use Rattle.go_piece_core.specs.expr_core.Looks.{Looks}
+use Rattle.go_piece_core.specs.expr_core.TypeUses.{type_uses}
 use Rattle.go_piece_core.specs.Specifications.{spec_uses, spec_faults}
 use Rattle.go_inline_core.specs.Inline.{repeated_params}
 use Rattle.go_top_core.specs.Initial.{initial_faults}

@@ -2,7 +2,7 @@
 ghost use Rattle.std.specs.Prelude.{◌≡◌, ◌++◌, OnOk, map};
 ghost use Rattle.std.specs.List.{flat_map};
 ghost use Rattle.go_tree_nodes.specs.Shapes.{shape_type_decl, shape_type_line, shape_type_spec};
-ghost use Rattle.go_piece_core.specs.expr_core.specs.Looks.{everywhere};
+ghost use Rattle.go_piece_core.specs.expr_core.Looks.{everywhere};
 ghost use Rattle.go_top_core.specs.Tops as tops;
 
 use go_inline_core::repeated_params;

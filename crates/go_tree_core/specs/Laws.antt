@@ -2,7 +2,7 @@
 use Rattle.std.specs.Prelude.{◌≡◌, ℕ, List, [], ◌∷◌, Option, Some, None, if◌then◌else◌}
 use Rattle.std.specs.List.{filter_map}
 use Rattle.go_text_core.specs.declared.span.Span.{Span}
-use Rattle.go_scan_core.specs.declared.kind.Operator.TheVariants as operator
+use Rattle.go_token_core.specs.declared.kind.Operator.TheVariants as operator
 use Rattle.go_tree_nodes.specs.declared.names.Ident.{Ident}
 use Rattle.go_tree_nodes.specs.declared.names.TextLiteral.{TextLiteral}
 use Rattle.go_tree_nodes.specs.Terminals.{Terminal, TerminalKind, Spelled, Quoted, Mark}

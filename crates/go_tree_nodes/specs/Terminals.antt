@@ -2,14 +2,14 @@
 use Rattle.std.specs.Prelude.{ℕ, ◌+◌, ◌≤◌, nat_le, List, [], ◌∷◌, map, Option, Some, None, if◌then◌else◌}
 use Rattle.go_text_core.specs.declared.span.Span.{Span}
 use Rattle.go_text_core.specs.Slices.{slice_of}
-use Rattle.go_scan_core.specs.declared.kind.Keyword.{Keyword}
-use Rattle.go_scan_core.specs.declared.kind.Operator.{Operator}
-use Rattle.go_scan_core.specs.declared.kind.Operator.TheVariants as operator
-use Rattle.go_scan_core.specs.declared.kind.TokenKind.{TokenKind}
-use Rattle.go_scan_core.specs.declared.kind.TokenKind.TheVariants as token
-use Rattle.go_scan_core.specs.declared.token.Token.{Token}
-use Rattle.go_scan_core.specs.Numbers.{integer_value_of}
-use Rattle.go_scan_core.specs.Values.{string_value_of}
+use Rattle.go_token_core.specs.declared.kind.Keyword.{Keyword}
+use Rattle.go_token_core.specs.declared.kind.Operator.{Operator}
+use Rattle.go_token_core.specs.declared.kind.Operator.TheVariants as operator
+use Rattle.go_token_core.specs.declared.kind.TokenKind.{TokenKind}
+use Rattle.go_token_core.specs.declared.kind.TokenKind.TheVariants as token
+use Rattle.go_token_core.specs.declared.token.Token.{Token}
+use Rattle.go_token_core.specs.Numbers.{integer_value_of}
+use Rattle.go_token_core.specs.Values.{string_value_of}
 use Rattle.std.specs.Str.{chars}
 use Rattle.go_tree_nodes.specs.declared.names.TextLiteral.{TextLiteral}
 

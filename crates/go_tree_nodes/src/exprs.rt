@@ -1,8 +1,8 @@
 //! Expressions.
 use crate::names::{Ident, TextLiteral};
 use crate::types::{TypeExpr, TypeName};
-use go_scan_core::Operator;
 use go_text_core::Span;
+use go_token_core::Operator;
 
 /// An expression.
 #[cycle(expr)]

@@ -1,10 +1,10 @@
 //! Names, literals and lists of names.
 ghost use Rattle.std.specs.Prelude.{◌≡◌, ◌↔◌, IfOk, IfSome, IsTrue, is_some};
-ghost use Rattle.go_scan_core.specs.Values.{IsPlain};
+ghost use Rattle.go_token_core.specs.Values.{IsPlain};
 ghost use Rattle.go_tree_nodes.specs.Terminals.{value_of};
 
-use go_scan_core::{plain_value, string_value};
 use go_text_core::{Name, Span};
+use go_token_core::{plain_value, string_value};
 use std::alloc::{AllocError, Global};
 
 /// A name, and where it stands.

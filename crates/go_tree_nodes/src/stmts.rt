@@ -2,8 +2,8 @@
 use crate::decls::ValueDecl;
 use crate::exprs::{Expr, Exprs};
 use crate::names::Idents;
-use go_scan_core::Operator;
 use go_text_core::Span;
+use go_token_core::Operator;
 
 /// A statement that may stand in the header of an `if` or a `for`.
 #[derive(Drop)]

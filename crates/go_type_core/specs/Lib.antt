@@ -2,3 +2,5 @@ pub mod Built
 pub mod Laws
 pub mod Sample
 pub mod mirrors
+pub mod settle_core
+pub mod table_core

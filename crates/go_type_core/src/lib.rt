@@ -15,7 +15,7 @@ mod roots;
 mod settled;
 
 pub use build::{TypeFault, build_types};
-pub use go_settle_core::{Kind, Kinds, can_embed, kind_of, settle, settle_signature};
+pub use go_table_core::settle_core::{Kind, Kinds, can_embed, kind_of, settle, settle_signature};
 pub use go_table_core::{
     DeclaredMethod, DefinedType, Located, Operand, PackageTypes, TypeEntry, TypeTable, assignable,
 };
@@ -26,3 +26,18 @@ pub use go_term_core::{
 pub use laws::{
     building_is_local, built_mentions_written, one_settled, underlying_as_defined, worked_types,
 };
+
+/// What the crates above name of `go_settle_core`.
+pub mod settle_core {
+    pub use go_table_core::settle_core::{
+        Kind, Kinds, SeenNames, kind_of, settle, settle_signature,
+    };
+}
+
+/// What the crates above name of `go_table_core`.
+pub mod table_core {
+    pub use go_table_core::{
+        DeclaredMethod, DefinedType, FieldTable, PackageTypes, StructField, StructFields,
+        TypeEntry, TypeTable,
+    };
+}

@@ -10,8 +10,8 @@ ghost use Rattle.go_type_core.specs.mirrors.Numbers.{keys_of};
 
 use crate::own_keys::OwnKeys;
 use go_cycle_core::{Edge, Ranked, rank_and_order};
-use go_decl_core::DeclKey;
 use go_table_core::TypeEntry;
+use go_term_core::decl_core::DeclKey;
 use go_term_core::{Field, FieldLine, TypeTerm};
 use std::alloc::{AllocError, Global};
 

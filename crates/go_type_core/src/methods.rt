@@ -1,6 +1,6 @@
 //! The methods of a type that are its own.
 ghost use Rattle.std.specs.Prelude.{◌≡◌, [], ℕ, List, IfOk, map, not};
-ghost use Rattle.go_settle_core.specs.Settled.{has_name, kind_of_term};
+ghost use Rattle.go_table_core.specs.settle_core.Settled.{has_name, kind_of_term};
 ghost use Rattle.go_table_core.specs.Methods.{has_field_before};
 ghost use Rattle.go_table_core.specs.Shown.{member_shown};
 ghost use Rattle.go_term_core.specs.Shapes.{shape};
@@ -9,7 +9,7 @@ ghost use Rattle.go_type_core.specs.Built.{kept, kept_over, settled_member};
 ghost use Rattle.go_type_core.specs.mirrors.Making.{is_left_out, seen_after};
 
 use go_path_core::ImportPath;
-use go_settle_core::{Kind, Kinds, SeenNames, kind_of, settle_signature};
+use go_table_core::settle_core::{Kind, Kinds, SeenNames, kind_of, settle_signature};
 use go_table_core::{DeclaredMethod, FieldTable};
 use go_term_core::TypeTerm;
 use std::alloc::{AllocError, Global};

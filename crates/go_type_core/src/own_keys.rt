@@ -5,9 +5,9 @@ ghost use Rattle.go_table_core.specs.Shown.{entry_shown};
 ghost use Rattle.go_table_core.specs.Tables.{AreOf, Rise};
 ghost use Rattle.go_type_core.specs.mirrors.Numbers.{is_ref_before, keys_in, keys_of, number_of, RefsRise};
 
-use go_decl_core::{DeclKey, DeclRef};
 use go_path_core::ImportPath;
 use go_table_core::TypeEntry;
+use go_term_core::decl_core::{DeclKey, DeclRef};
 use std::alloc::{AllocError, Global};
 use std::marker::Model;
 
@@ -20,7 +20,7 @@ pub(crate) struct OwnKeys {
 
 impl Model for OwnKeys {
     ghost use Rattle.std.specs.Prelude.{List};
-    ghost use Rattle.go_decl_core.specs.declared.keys.DeclKey.{DeclKey as TheKey};
+    ghost use Rattle.go_term_core.specs.decl_core.declared.keys.DeclKey.{DeclKey as TheKey};
     ghost use Rattle.go_type_core.specs.mirrors.Numbers.{keys_in, RefsRise};
 
     ghost Value = { List TheKey };

@@ -4,7 +4,7 @@ use Rattle.std.specs.Prelude.{Option, Result, OnOk}
 use Rattle.std.specs.Global.{Box}
 use Rattle.std.proofs.lemmas.List.{drop_more, drop_all}
 use Rattle.std.proofs.lemmas.Result.{on_ok_weaker}
-use Rattle.go_piece_core.specs.text_core.specs.declared.span.Span.{Span}
+use Rattle.go_text_core.specs.declared.span.Span.{Span}
 use Rattle.go_tree_nodes.specs.declared.names.Ident.{Ident}
 use Rattle.go_tree_nodes.specs.declared.names.TextLiteral.{TextLiteral}
 use Rattle.go_tree_nodes.specs.declared.types.TypeExpr.{TypeExpr}
@@ -29,8 +29,8 @@ use Rattle.go_tree_nodes.specs.TypeShapes.{shape_type, shape_signature, shape_re
 use Rattle.go_tree_nodes.specs.Shapes.{shape, items_of}
 use Rattle.go_tree_nodes.proofs.TypeShapes.{shape_struct, shape_interface, listed_parts, signature_parts}
 use Rattle.go_tree_nodes.proofs.ShapeLemmas.{call_parts, literal_parts, struct_literal_parts}
-use Rattle.go_piece_core.specs.expr_core.specs.Laws.{type_name_idents, type_idents, fields_idents, methods_idents, signature_idents, result_idents, params_idents}
-use Rattle.go_piece_core.specs.expr_core.specs.Needed.{needed_idents, needed_by_args}
+use Rattle.go_piece_core.specs.expr_core.Laws.{type_name_idents, type_idents, fields_idents, methods_idents, signature_idents, result_idents, params_idents}
+use Rattle.go_piece_core.specs.expr_core.Needed.{needed_idents, needed_by_args}
 use Rattle.go_value_core.specs.mirrors.Walked.{line_idents}
 
 -- one turn of a loop that adds what an element has

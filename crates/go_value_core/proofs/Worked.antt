@@ -1,8 +1,8 @@
 -- The sample is computed.
 use Rattle.std.proofs.Common.{◌≡◌, ℕ, ◌<◌, List, [], ◌∷◌, length, refl, arith, subst}
 use Rattle.std.specs.Prelude.{Contains}
-use Rattle.go_env_core.specs.universe_core.specs.Universe.{found, spelling_of}
-use Rattle.go_env_core.specs.scope_core.specs.Scopes.{universe}
+use Rattle.go_universe_core.specs.Universe.{found, spelling_of}
+use Rattle.go_env_core.specs.scope_core.Scopes.{universe}
 use Rattle.go_needs_core.specs.Needs.{Leads}
 use Rattle.go_value_core.specs.Around.{LeadsBack}
 use Rattle.go_value_core.specs.Package.{package_needs, IsThroughItself}

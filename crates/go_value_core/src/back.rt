@@ -5,7 +5,7 @@ ghost use Rattle.go_needs_core.specs.mirrors.Filling.{edges_at, edges_from};
 ghost use Rattle.go_value_core.specs.Around.{AreLeadingBack};
 ghost use Rattle.go_value_core.specs.mirrors.Flags.{flags_from, has_own_rank};
 
-use go_cycle_core::{Edge, rank_and_order};
+use go_needs_core::cycle_core::{Edge, rank_and_order};
 use std::alloc::{AllocError, Global};
 
 // Adds an edge from a node to each one that it needs.

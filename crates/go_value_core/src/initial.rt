@@ -1,9 +1,9 @@
 //! What a name of a specification of constants or variables stands for.
 ghost use Rattle.std.specs.Prelude.{◌≡◌, IfOk, Some, true};
 ghost use Rattle.go_tree_nodes.specs.Shapes.{shape, shape_some_type, shape_value_spec};
-ghost use Rattle.go_piece_core.specs.denote_core.specs.declared.things.Place.TheVariants as stands;
-ghost use Rattle.go_piece_core.specs.expr_core.specs.Looks.{everywhere};
-ghost use Rattle.go_piece_core.specs.expr_core.specs.Denoting as denoting;
+ghost use Rattle.go_piece_core.specs.denote_core.declared.things.Place.TheVariants as stands;
+ghost use Rattle.go_piece_core.specs.expr_core.Looks.{everywhere};
+ghost use Rattle.go_piece_core.specs.expr_core.Denoting as denoting;
 ghost use Rattle.go_value_core.specs.Initial as values;
 ghost use Rattle.go_value_core.specs.mirrors.Own as own;
 

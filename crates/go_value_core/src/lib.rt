@@ -24,23 +24,42 @@ pub use needs::package_needs;
 pub use placed::{PlacedDecl, placed_decls};
 pub use through::through_itself;
 
-// Passed on, so that the crates above list this one alone.
-pub use go_cycle_core as cycle_core;
-pub use go_env_core as env_core;
-pub use go_env_core::{
-    block_core as block_core, decide_core as decide_core, decl_core as decl_core,
-    embed_core as embed_core, entry_core as entry_core, face_core as face_core,
-    handle_core as handle_core, inline_core as inline_core, mset_core as mset_core,
-    names_core as names_core, path_core as path_core, scope_core as scope_core,
-    select_core as select_core, settle_core as settle_core, table_core as table_core,
-    universe_core as universe_core, written_core as written_core,
-};
-pub use go_needs_core as needs_core;
-pub use go_piece_core as piece_core;
-pub use go_piece_core::{
-    constant_core as constant_core, denote_core as denote_core, expr_core as expr_core,
-    literal_core as literal_core, local_core as local_core, open_core as open_core,
-    operand_core as operand_core, scan_core as scan_core, statement_core as statement_core,
-    term_core as term_core, text_core as text_core, tree_core as tree_core, walk_core as walk_core,
-};
-pub use go_tree_nodes as tree_nodes;
+/// What the crates above name of `go_env_core`.
+pub mod env_core {
+    pub use go_env_core::{Meaning, Scene, stand};
+}
+
+/// What the crates above name of `go_face_core`.
+pub mod face_core {
+    pub use go_env_core::face_core::Face;
+}
+
+/// What the crates above name of `go_handle_core`.
+pub mod handle_core {
+    pub use go_env_core::handle_core::{SignatureRef, TypeRef};
+}
+
+/// What the crates above name of `go_inline_core`.
+pub mod inline_core {
+    pub use go_env_core::inline_core::InlineTypes;
+}
+
+/// What the crates above name of `go_names_core`.
+pub mod names_core {
+    pub use go_env_core::names_core::OpenNames;
+}
+
+/// What the crates above name of `go_needs_core`.
+pub mod needs_core {
+    pub use go_needs_core::{Needing, values_of};
+}
+
+/// What the crates above name of `go_operand_core`.
+pub mod operand_core {
+    pub use go_piece_core::operand_core::Operand;
+}
+
+/// What the crates above name of `go_scope_core`.
+pub mod scope_core {
+    pub use go_env_core::scope_core::Scopes;
+}

@@ -1,7 +1,7 @@
 //! The identifiers that are looked up in a type that is written out.
 ghost use Rattle.std.specs.Prelude.{◌≡◌, ◌++◌, [], ◌∷◌, map, OnOk};
 ghost use Rattle.go_tree_nodes.specs.TypeShapes.{shape_type, shape_signature, shape_results, fields_of, methods_of, params_of};
-ghost use Rattle.go_piece_core.specs.expr_core.specs.Laws.{type_name_idents, type_idents, fields_idents, methods_idents, signature_idents, result_idents, params_idents};
+ghost use Rattle.go_piece_core.specs.expr_core.Laws.{type_name_idents, type_idents, fields_idents, methods_idents, signature_idents, result_idents, params_idents};
 ghost use Rattle.go_value_core.specs.mirrors.Walked.{line_idents};
 
 use go_tree_nodes::{

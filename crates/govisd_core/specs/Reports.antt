@@ -4,8 +4,8 @@ use Rattle.std.specs.Str.{IsUtf8}
 use Rattle.std.specs.Io.KnownBytes.{Appends, Consumes, Keeps}
 use Rattle.go_text_core.specs.declared.rule.Rule.{Rule}
 use Rattle.go_text_core.specs.declared.rule.Rule.TheVariants.{E3, L1, P1, P2, X1}
-use Rattle.go_scan_core.specs.declared.token.LexFault.{LexFault}
-use Rattle.go_scan_core.specs.declared.token.Token.{Token}
+use Rattle.go_token_core.specs.declared.token.LexFault.{LexFault}
+use Rattle.go_token_core.specs.declared.token.Token.{Token}
 use Rattle.go_scan_core.specs.Tokens.{IsAnswer}
 use Rattle.go_tree_nodes.specs.Trees as wide
 use Rattle.go_tree_nodes.specs.Heights.{file_height}

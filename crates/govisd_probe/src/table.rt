@@ -1,6 +1,7 @@
 //! A table of cases: what is asked, of which texts.
 use crate::answers::add_answer;
-use go_scan_core::{Operator, Token, TokenKind, integer_value, scan, string_value};
+use go_scan_core::scan;
+use go_token_core::{Operator, Token, TokenKind, integer_value, string_value};
 use govisd_show::Lines;
 use std::alloc::Global;
 

@@ -1,6 +1,7 @@
 //! What is answered of tokens and comments.
-use go_scan_core::{
-    Comment, CommentKind, ScanError, Token, TokenKind, comments, integer_value, scan, string_value,
+use go_scan_core::{comments, scan};
+use go_token_core::{
+    Comment, CommentKind, ScanError, Token, TokenKind, integer_value, string_value,
 };
 use govisd_show::Lines;
 use std::alloc::Global;

@@ -1,18 +1,18 @@
 -- The rules of the checker look at the names of a piece alone.
 use Rattle.std.proofs.Common.{◌≡◌, ℕ, List, [], ◌∷◌, Option, refl, ap}
 use Rattle.go_tree_nodes.specs.Trees.{TypeTree}
-use Rattle.go_piece_core.specs.term_core.specs.Terms.{Term, Sign}
-use Rattle.go_env_core.specs.handle_core.specs.Declarations.{Declaration}
-use Rattle.go_piece_core.specs.local_core.specs.Binding.{Look}
-use Rattle.go_piece_core.specs.local_core.specs.Alike.{LookAtNames}
-use Rattle.go_env_core.specs.names_core.specs.Uses.{place_of}
-use Rattle.go_piece_core.specs.expr_core.specs.Locality.{SameType}
+use Rattle.go_term_core.specs.Terms.{Term, Sign}
+use Rattle.go_env_core.specs.handle_core.Declarations.{Declaration}
+use Rattle.go_piece_core.specs.local_core.Binding.{Look}
+use Rattle.go_piece_core.specs.local_core.Alike.{LookAtNames}
+use Rattle.go_env_core.specs.names_core.Uses.{place_of}
+use Rattle.go_piece_core.specs.expr_core.Locality.{SameType}
 use Rattle.go_piece_core.specs.Pieces.{piece_names}
 use Rattle.go_piece_core.specs.Laws.{FindByNames, piece_types}
 use Rattle.go_piece_core.proofs.Shown.{pieces_look}
 use Rattle.go_piece_core.proofs.Local.{all_made}
-use Rattle.go_env_core.specs.face_core.specs.Faces.{TheFace}
-use Rattle.go_env_core.specs.inline_core.specs.Types.{InlineOf}
+use Rattle.go_env_core.specs.face_core.Faces.{TheFace}
+use Rattle.go_env_core.specs.inline_core.Types.{InlineOf}
 use Rattle.go_env_core.specs.declared.meaning.Meaning.{Meaning}
 use Rattle.go_env_core.specs.declared.meaning.Meaning.TheVariants as meanings
 use Rattle.go_env_core.specs.Scenes.{SceneModel, scene_shown}

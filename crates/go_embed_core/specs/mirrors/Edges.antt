@@ -4,8 +4,8 @@ use Rattle.std.specs.Borrow.{Bor}
 use Rattle.go_term_core.specs.declared.term.TypeTerm.{TypeTerm}
 use Rattle.go_term_core.specs.Terms.{Term, NoType, Predeclared, ErrorType, Defined, PointerTo, StructOf, InterfaceOf, Fields, NoField}
 use Rattle.go_term_core.specs.Shapes.{shape}
-use Rattle.go_table_core.specs.Entries.{Member, has_method}
-use Rattle.go_table_core.specs.Shown.{hides_some}
+use Rattle.go_type_core.specs.table_core.Entries.{Member, has_method}
+use Rattle.go_type_core.specs.table_core.Shown.{hides_some}
 use Rattle.go_embed_core.specs.Owners.{OwnerModel, Edge, edge}
 
 -- an underlying type, or none

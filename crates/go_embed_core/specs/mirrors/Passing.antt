@@ -2,17 +2,17 @@
 use Rattle.std.specs.Prelude.{◌≡◌, ℕ, not, ◌&&◌, ◌||◌, List, ◌∷◌, ◌++◌, if◌then◌else◌}
 use Rattle.go_text_core.specs.Text.{is_blank}
 use Rattle.go_text_core.specs.declared.rule.Rule.TheVariants as rules
-use Rattle.go_decl_core.specs.declared.keys.DeclKey.{DeclKey}
+use Rattle.go_term_core.specs.decl_core.declared.keys.DeclKey.{DeclKey}
 use Rattle.go_term_core.specs.declared.term.Field.{Field}
 use Rattle.go_term_core.specs.declared.term.Method.{Method}
 use Rattle.go_term_core.specs.Terms.{Term}
 use Rattle.go_term_core.specs.Shapes.{Line, line_at}
-use Rattle.go_settle_core.specs.declared.kind.Kind.{Kind}
-use Rattle.go_settle_core.specs.Settled.{can_be_embedded, has_name, repeats}
-use Rattle.go_table_core.specs.declared.entry.DeclaredMethod.{DeclaredMethod}
-use Rattle.go_table_core.specs.Entries.{Member}
-use Rattle.go_table_core.specs.Methods.{has_field_before}
-use Rattle.go_table_core.specs.Shown.{member_shown}
+use Rattle.go_type_core.specs.settle_core.declared.kind.Kind.{Kind}
+use Rattle.go_type_core.specs.settle_core.Settled.{can_be_embedded, has_name, repeats}
+use Rattle.go_type_core.specs.table_core.declared.entry.DeclaredMethod.{DeclaredMethod}
+use Rattle.go_type_core.specs.table_core.Entries.{Member}
+use Rattle.go_type_core.specs.table_core.Methods.{has_field_before}
+use Rattle.go_type_core.specs.table_core.Shown.{member_shown}
 use Rattle.go_embed_core.specs.declared.faults.MemberFault.{MemberFault}
 use Rattle.go_embed_core.specs.Faults.{fault_if, is_left_out}
 

@@ -4,8 +4,8 @@ use Rattle.go_term_core.specs.declared.term.Field.{Field}
 use Rattle.go_term_core.specs.declared.term.Method.{Method}
 use Rattle.go_term_core.specs.Terms.{NoType}
 use Rattle.go_term_core.specs.Shapes.{Line, line_at, sign_of}
-use Rattle.go_table_core.specs.declared.entry.DeclaredMethod.{DeclaredMethod}
-use Rattle.go_table_core.specs.Entries.{same_id}
+use Rattle.go_type_core.specs.table_core.declared.entry.DeclaredMethod.{DeclaredMethod}
+use Rattle.go_type_core.specs.table_core.Entries.{same_id}
 use Rattle.go_embed_core.specs.declared.member.Hits.{Hits}
 use Rattle.go_embed_core.specs.declared.member.Hits.TheVariants as hits
 use Rattle.go_embed_core.specs.Owners.{OwnerModel, Found, AFieldOf, AMethodOf, AnInterfaces, Named}

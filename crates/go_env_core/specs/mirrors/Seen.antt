@@ -4,10 +4,10 @@ use Rattle.std.specs.Borrow.{Bor}
 use Rattle.go_term_core.specs.declared.term.Field.{Field}
 use Rattle.go_term_core.specs.Terms.{NoType}
 use Rattle.go_term_core.specs.Shapes.{Line, fields_in, line_at, lines_of}
-use Rattle.go_face_core.specs.table_core.specs.declared.entry.DefinedType.{DefinedType}
-use Rattle.go_face_core.specs.table_core.specs.Entries.{has_method}
-use Rattle.go_face_core.specs.embed_core.specs.Owners.{OwnerModel}
-use Rattle.go_face_core.specs.embed_core.specs.OwnersShown.{entry_owner}
+use Rattle.go_inline_core.specs.table_core.declared.entry.DefinedType.{DefinedType}
+use Rattle.go_inline_core.specs.table_core.Entries.{has_method}
+use Rattle.go_inline_core.specs.embed_core.Owners.{OwnerModel}
+use Rattle.go_inline_core.specs.embed_core.OwnersShown.{entry_owner}
 use Rattle.go_env_core.specs.declared.fields.SeenFields.{SeenFields}
 use Rattle.go_env_core.specs.Scenes.{SceneModel}
 use Rattle.go_env_core.specs.Fields.{TheField, field_seen, fields_seen}

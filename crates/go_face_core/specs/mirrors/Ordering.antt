@@ -1,7 +1,7 @@
 -- The order in which declarations are kept.
 use Rattle.std.specs.Ordering.{nat_cmp, ordering_then}
 use Rattle.std.specs.declared.cmp.Ordering.{Ordering}
-use Rattle.go_handle_core.specs.decl_core.specs.declared.keys.DeclRef.{DeclRef}
+use Rattle.go_term_core.specs.decl_core.declared.keys.DeclRef.{DeclRef}
 
 -- declarations by file, then by number there
 abbrev pub place_cmp : DeclRef → DeclRef → Ordering

@@ -8,7 +8,7 @@ use Rattle.go_term_core.specs.declared.term.MemberPlace.{MemberPlace}
 use Rattle.go_term_core.specs.Terms.{Term, PointerTo, Methods, Sign}
 use Rattle.go_term_core.specs.Identity.{IsMethod}
 use Rattle.go_term_core.specs.Shapes.{shape, sign_of}
-use Rattle.go_table_core.specs.Entries.{Look}
+use Rattle.go_select_core.specs.table_core.Entries.{Look}
 use Rattle.go_mset_core.specs.declared.interface.Holder.{Holder}
 use Rattle.go_mset_core.specs.declared.interface.Holder.TheVariants as holders
 use Rattle.go_mset_core.specs.declared.wanted.Wanted.{Wanted}

@@ -13,8 +13,8 @@ use Rattle.go_tree_nodes.specs.Heights.{type_height}
 use Rattle.go_tree_nodes.specs.TypeShapes.{shape_idents, shape_type, shape_signature}
 use Rattle.go_parse_types.specs.declared.entries.Entry.{Entry}
 use Rattle.go_tree_nodes.specs.Terminals.{Terminal}
-use Rattle.go_scan_core.specs.declared.kind.Operator.{Operator}
-use Rattle.go_scan_core.specs.declared.kind.Operator.TheVariants as operator
+use Rattle.go_token_core.specs.declared.kind.Operator.{Operator}
+use Rattle.go_token_core.specs.declared.kind.Operator.TheVariants as operator
 use Rattle.go_parse_types.specs.mirrors.Marks.{◌>>=◌, Reading, mark_at, mark_or_end, list_go}
 use Rattle.go_parse_types.specs.mirrors.TypeReading.{EntryTree, params_at, results_by, LineTree, NamedLine, EmbeddedLine, paren_by}
 

@@ -1,8 +1,8 @@
 -- Faults against those that outcomes say.
 use Rattle.std.specs.Prelude.{ℕ, Bool, false, List, [], ◌∷◌, ◌||◌, not, Contains}
 use Rattle.std.specs.Ordering.{is_eq}
-use Rattle.go_expr_core.specs.denote_core.specs.declared.things.Outcome.{Outcome}
-use Rattle.go_expr_core.specs.denote_core.specs.declared.things.Outcome.TheVariants as outcomes
+use Rattle.go_expr_core.specs.denote_core.declared.things.Outcome.{Outcome}
+use Rattle.go_expr_core.specs.denote_core.declared.things.Outcome.TheVariants as outcomes
 use Rattle.go_expr_core.specs.declared.things.Use.{Use}
 use Rattle.go_expr_core.specs.declared.things.Fault.{Fault}
 use Rattle.go_report_core.specs.Faults.{fault_order, IsSaid}

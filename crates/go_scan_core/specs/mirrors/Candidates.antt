@@ -1,9 +1,9 @@
 -- Keywords and operators by their first characters.
 use Rattle.std.specs.Prelude.{ℕ, ◌==◌, if◌then◌else◌, List, [], ◌∷◌}
-use Rattle.go_scan_core.specs.declared.kind.Keyword.{Keyword}
-use Rattle.go_scan_core.specs.declared.kind.Keyword.TheVariants.{Break, Case, Chan, Const, Continue, Default, Defer, Else, Fallthrough, For, Func, Go, Goto, If, Import, Interface, Map, Package, Range, Return, Select, Struct, Switch, «Type», Var}
-use Rattle.go_scan_core.specs.declared.kind.Operator.{Operator}
-use Rattle.go_scan_core.specs.declared.kind.Operator.TheVariants.{ShiftLeftAssign, ShiftRightAssign, AndNotAssign, Ellipsis, ShiftLeft, ShiftRight, AndNot, PlusAssign, MinusAssign, StarAssign, SlashAssign, PercentAssign, AndAssign, OrAssign, CaretAssign, LogicalAnd, LogicalOr, Arrow, Increment, Decrement, Equal, NotEqual, LessEqual, GreaterEqual, Define, Plus, Minus, Star, Slash, Percent, And, Or, Caret, Less, Greater, Assign, Not, Tilde, OpenParen, OpenBracket, OpenBrace, Comma, Dot, CloseParen, CloseBracket, CloseBrace, Semicolon, Colon}
+use Rattle.go_token_core.specs.declared.kind.Keyword.{Keyword}
+use Rattle.go_token_core.specs.declared.kind.Keyword.TheVariants.{Break, Case, Chan, Const, Continue, Default, Defer, Else, Fallthrough, For, Func, Go, Goto, If, Import, Interface, Map, Package, Range, Return, Select, Struct, Switch, «Type», Var}
+use Rattle.go_token_core.specs.declared.kind.Operator.{Operator}
+use Rattle.go_token_core.specs.declared.kind.Operator.TheVariants.{ShiftLeftAssign, ShiftRightAssign, AndNotAssign, Ellipsis, ShiftLeft, ShiftRight, AndNot, PlusAssign, MinusAssign, StarAssign, SlashAssign, PercentAssign, AndAssign, OrAssign, CaretAssign, LogicalAnd, LogicalOr, Arrow, Increment, Decrement, Equal, NotEqual, LessEqual, GreaterEqual, Define, Plus, Minus, Star, Slash, Percent, And, Or, Caret, Less, Greater, Assign, Not, Tilde, OpenParen, OpenBracket, OpenBrace, Comma, Dot, CloseParen, CloseBracket, CloseBrace, Semicolon, Colon}
 
 -- the keywords that begin with the character
 unfoldable pub keywords_with : ℕ → List Keyword

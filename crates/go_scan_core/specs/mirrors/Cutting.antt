@@ -6,10 +6,10 @@ use Rattle.go_text_core.specs.declared.rule.Rule.{Rule}
 use Rattle.go_text_core.specs.declared.span.Span.{Span}
 use Rattle.go_scan_core.specs.declared.piece.Piece.{Piece}
 use Rattle.go_scan_core.specs.declared.piece.Piece.TheVariants.{Space, LineEnd, Lexeme, Remark}
-use Rattle.go_scan_core.specs.declared.token.Token.{Token}
-use Rattle.go_scan_core.specs.declared.token.LexFault.{LexFault}
-use Rattle.go_scan_core.specs.declared.token.Comment.{Comment}
-use Rattle.go_scan_core.specs.Characters.{first_passes}
+use Rattle.go_token_core.specs.declared.token.Token.{Token}
+use Rattle.go_token_core.specs.declared.token.LexFault.{LexFault}
+use Rattle.go_token_core.specs.declared.token.Comment.{Comment}
+use Rattle.go_token_core.specs.Characters.{first_passes}
 use Rattle.go_scan_core.specs.Parts.{Break, Gap, Note, Part, Word, comments_in, holds_line_end, span_between, semicolon_after, width}
 use Rattle.go_scan_core.specs.mirrors.Reading.{piece_at}
 

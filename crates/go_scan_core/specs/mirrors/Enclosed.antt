@@ -2,16 +2,16 @@
 use Rattle.std.specs.Prelude.{◌≤◌, ℕ, zero, suc, ◌+◌, ◌-◌, ◌==◌, ◌&&◌, if◌then◌else◌, List, [], ◌∷◌, length, drop, Option, Some, None, Result, Ok, Err}
 use Rattle.go_text_core.specs.declared.rule.Rule.{Rule}
 use Rattle.go_text_core.specs.declared.rule.Rule.TheVariants.{L1, L2, L3}
-use Rattle.go_scan_core.specs.declared.escape.Meaning.{Meaning}
+use Rattle.go_token_core.specs.declared.escapes.Meaning.{Meaning}
 use Rattle.go_scan_core.specs.declared.enclosed.Enclosure.{Enclosure}
 use Rattle.go_scan_core.specs.declared.enclosed.Enclosure.TheVariants.{General, Quoted, Raw}
 use Rattle.go_scan_core.specs.declared.enclosed.Flaw.{Flaw}
 use Rattle.go_scan_core.specs.declared.enclosed.Flaw.TheVariants.{Forbidden, Bad, Open}
 use Rattle.go_scan_core.specs.declared.enclosed.Item.{Item}
 use Rattle.go_scan_core.specs.declared.enclosed.Item.TheVariants as items
-use Rattle.go_scan_core.specs.Characters.{first_passes, is_forbidden}
+use Rattle.go_token_core.specs.Characters.{first_passes, is_forbidden}
 use Rattle.go_scan_core.specs.Enclosed.{closing, opening}
-use Rattle.go_scan_core.specs.Escapes.{escape_at}
+use Rattle.go_token_core.specs.Escapes.{escape_at}
 
 abbrev pub comment_item : List ℕ → Item
 comment_item [] = items.Open

@@ -4,7 +4,7 @@ use Rattle.std.specs.Char.{is_ascii_digit}
 use Rattle.go_text_core.specs.Text.{letter}
 use Rattle.go_scan_core.specs.declared.front.Front.{Front}
 use Rattle.go_scan_core.specs.declared.front.Front.TheVariants.{Nothing, Space, LineEnd, Quote, Backquote, LineComment, GeneralComment, Refused, Letter, Digit, Other}
-use Rattle.go_scan_core.specs.Characters.{first_passes, is_space}
+use Rattle.go_token_core.specs.Characters.{first_passes, is_space}
 
 unfoldable pub front_of : List ℕ → Front
 front_of [] = Nothing

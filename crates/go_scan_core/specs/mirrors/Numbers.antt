@@ -1,6 +1,6 @@
 -- How many characters integer literals have.
 use Rattle.std.specs.Prelude.{ℕ, ◌+◌, ◌==◌, if◌then◌else◌, List, [], ◌∷◌, drop, Option, Some, None}
-use Rattle.go_scan_core.specs.Numbers.{is_in_run, radix_letter}
+use Rattle.go_token_core.specs.Numbers.{is_in_run, radix_letter}
 
 -- how many characters are digits, or a `_` before one
 abbrev pub digits_run : ℕ → List ℕ → ℕ

@@ -7,17 +7,17 @@ use Rattle.go_text_core.specs.declared.rule.Rule.TheVariants.{L1, L3}
 use Rattle.go_scan_core.specs.declared.enclosed.Enclosure.TheVariants.{General, Quoted, Raw}
 use Rattle.go_scan_core.specs.declared.front.Front.{Front}
 use Rattle.go_scan_core.specs.declared.front.Front.TheVariants as fronts
-use Rattle.go_scan_core.specs.declared.kind.CommentKind.TheVariants as remarks
-use Rattle.go_scan_core.specs.declared.kind.Keyword.{Keyword}
-use Rattle.go_scan_core.specs.declared.kind.Operator.{Operator}
-use Rattle.go_scan_core.specs.declared.kind.TokenKind.{TokenKind}
-use Rattle.go_scan_core.specs.declared.kind.TokenKind.TheVariants as kinds
-use Rattle.go_scan_core.specs.declared.kind.TheConstants.{KEYWORDS, OPERATORS}
+use Rattle.go_token_core.specs.declared.kind.CommentKind.TheVariants as remarks
+use Rattle.go_token_core.specs.declared.kind.Keyword.{Keyword}
+use Rattle.go_token_core.specs.declared.kind.Operator.{Operator}
+use Rattle.go_token_core.specs.declared.kind.TokenKind.{TokenKind}
+use Rattle.go_token_core.specs.declared.kind.TokenKind.TheVariants as kinds
+use Rattle.go_token_core.specs.declared.kind.TheConstants.{KEYWORDS, OPERATORS}
 use Rattle.go_scan_core.specs.declared.piece.Piece.{Piece}
 use Rattle.go_scan_core.specs.declared.piece.Piece.TheVariants.{Space, LineEnd, Lexeme, Remark}
-use Rattle.go_scan_core.specs.Characters.{continues, first_passes, in_line, letter_or_digit}
-use Rattle.go_scan_core.specs.Numbers.{integer_value_of}
-use Rattle.go_scan_core.specs.Spelling.{keyword_spelling, operator_spelling}
+use Rattle.go_token_core.specs.Characters.{continues, first_passes, in_line, letter_or_digit}
+use Rattle.go_token_core.specs.Numbers.{integer_value_of}
+use Rattle.go_token_core.specs.Spelling.{keyword_spelling, operator_spelling}
 use Rattle.go_scan_core.specs.mirrors.Enclosed.{enclosed_at}
 use Rattle.go_scan_core.specs.mirrors.Front.{front_of}
 use Rattle.go_scan_core.specs.mirrors.Numbers.{number_len}

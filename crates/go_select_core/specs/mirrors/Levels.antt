@@ -3,7 +3,7 @@ use Rattle.std.specs.Prelude.{◌≡◌, ℕ, zero, suc, ◌+◌, ◌*◌, ◌<�
 use Rattle.std.specs.Map.{lookup}
 use Rattle.go_term_core.specs.Terms.{Term, NoType, Predeclared, ErrorType, Defined, PointerTo, StructOf, InterfaceOf, Fields, NoField, AField}
 use Rattle.go_term_core.specs.Shapes.{shape}
-use Rattle.go_table_core.specs.Entries.{Entry, Look, find}
+use Rattle.go_embed_core.specs.table_core.Entries.{Entry, Look, find}
 use Rattle.go_embed_core.specs.Owners.{Found, owner_in, has_spelled}
 use Rattle.go_embed_core.specs.OwnersShown.{IsNamedAt, found_shown}
 use Rattle.go_select_core.specs.Paths.{Step, Leads}

@@ -8,7 +8,7 @@ use Rattle.std.specs.Map.{lookup}
 use Rattle.std.specs.Str.{bytes_eq, chars}
 use Rattle.go_text_core.specs.Text.{exported}
 use Rattle.go_term_core.specs.Terms.{Term}
-use Rattle.go_table_core.specs.Entries.{Look}
+use Rattle.go_embed_core.specs.table_core.Entries.{Look}
 use Rattle.go_embed_core.specs.declared.member.Member.{Member}
 use Rattle.go_embed_core.specs.Owners.{Found}
 use Rattle.go_embed_core.specs.OwnersShown.{found_shown, name_shown, package_shown}

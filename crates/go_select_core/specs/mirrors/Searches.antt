@@ -3,7 +3,7 @@ use Rattle.std.specs.Prelude.{◌≡◌, ◌⊎◌, ℕ, List, Result, Ok, Err}
 use Rattle.go_text_core.specs.declared.rule.Rule.{Rule}
 use Rattle.go_text_core.specs.declared.rule.Rule.TheVariants as rules
 use Rattle.go_term_core.specs.Terms.{Term}
-use Rattle.go_table_core.specs.Entries.{Look}
+use Rattle.go_embed_core.specs.table_core.Entries.{Look}
 use Rattle.go_embed_core.specs.OwnersShown.{found_shown}
 use Rattle.go_select_core.specs.declared.search.Selected.{Selected}
 use Rattle.go_select_core.specs.Paths.{IsSelected}

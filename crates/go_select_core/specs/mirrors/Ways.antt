@@ -1,10 +1,10 @@
 -- The types that are reached, each with a path.
 use Rattle.std.specs.Prelude.{◌≡◌, ◌<◌, ◌≤◌, ℕ, Bool, true, false, ◌||◌, List, [], ◌∷◌, ◌++◌, length, set, slice_get, Option, Some, None, nat_eq}
 use Rattle.std.specs.Map.{lookup}
-use Rattle.go_decl_core.specs.declared.keys.DeclKey.{DeclKey}
+use Rattle.go_term_core.specs.decl_core.declared.keys.DeclKey.{DeclKey}
 use Rattle.go_term_core.specs.Terms.{Term, Defined}
 use Rattle.go_term_core.specs.Shapes.{shape}
-use Rattle.go_table_core.specs.Entries.{Entry, find}
+use Rattle.go_embed_core.specs.table_core.Entries.{Entry, find}
 use Rattle.go_embed_core.specs.Owners.{Edge}
 use Rattle.go_select_core.specs.declared.level.Reached.{Reached}
 

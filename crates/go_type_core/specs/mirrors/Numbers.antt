@@ -1,7 +1,7 @@
 -- The numbers of a package's types, and lists that are made item by item.
 use Rattle.std.specs.Prelude.{◌≡◌, ℕ, suc, ◌<◌, ◌&&◌, ◌||◌, true, Bool, List, [], ◌∷◌, Option, Some, None, option_map, map, length, slice_get, slice_index_or, nat_eq, nat_lt, if◌then◌else◌}
-use Rattle.go_decl_core.specs.declared.keys.DeclKey.{DeclKey}
-use Rattle.go_decl_core.specs.declared.keys.DeclRef.{DeclRef}
+use Rattle.go_term_core.specs.decl_core.declared.keys.DeclKey.{DeclKey}
+use Rattle.go_term_core.specs.decl_core.declared.keys.DeclRef.{DeclRef}
 use Rattle.go_term_core.specs.Terms.{Term}
 use Rattle.go_table_core.specs.Entries.{Entry, same_key, term_in}
 

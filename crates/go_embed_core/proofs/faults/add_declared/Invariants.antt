@@ -1,5 +1,5 @@
 use Rattle.std.proofs.Common.{◌≡◌, ◌++◌, drop, map}
-use Rattle.go_table_core.specs.Shown.{member_shown}
+use Rattle.go_type_core.specs.table_core.Shown.{member_shown}
 use Rattle.go_embed_core.specs.Faults.{declared_faults}
 use Rattle.go_embed_core.proofs.faults.add_declared.Given as goal
 

@@ -1,4 +1,4 @@
-use Rattle.go_settle_core.proofs.Names.{inserted}
+use Rattle.go_type_core.specs.settle_core.Names.{inserted}
 use Rattle.go_embed_core.proofs.hidden.add_name.Goals as goal
 
 pub returns-in-Ok : goal.returns-in-Ok

@@ -2,7 +2,7 @@ use Rattle.std.proofs.Common.{map, sym, ap, ◌∙◌}
 use Rattle.std.proofs.lemmas.Result.{IfOk-weaker}
 use Rattle.go_term_core.specs.Shapes.{shape, fields_in, lines_of}
 use Rattle.go_term_core.proofs.TermShapes.{shape_struct}
-use Rattle.go_table_core.specs.Shown.{member_shown}
+use Rattle.go_type_core.specs.table_core.Shown.{member_shown}
 use Rattle.go_embed_core.specs.Faults.{own_names, named_faults}
 use Rattle.go_embed_core.proofs.Naming.{hidden_struct}
 use Rattle.go_embed_core.proofs.hidden.check_hidden_fields.Goals as goal

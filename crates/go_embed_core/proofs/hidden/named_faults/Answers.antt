@@ -1,7 +1,7 @@
 use Rattle.std.proofs.Common.{map, refl, ap, ◌∙◌, ◌++◌}
 use Rattle.go_text_core.specs.declared.rule.Rule.TheVariants as rules
 use Rattle.go_term_core.specs.Shapes.{fields_in}
-use Rattle.go_settle_core.specs.Settled.{has_name}
+use Rattle.go_type_core.specs.settle_core.Settled.{has_name}
 use Rattle.go_embed_core.specs.Faults.{fault_if, named_faults}
 use Rattle.go_embed_core.proofs.Naming.{named_step}
 use Rattle.go_embed_core.proofs.Noting.{notes_end}

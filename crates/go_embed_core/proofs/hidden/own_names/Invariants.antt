@@ -1,6 +1,6 @@
 use Rattle.std.proofs.Common.{◌≡◌, ◌||◌, ℕ, List, drop, map}
-use Rattle.go_settle_core.specs.Settled.{has_name}
-use Rattle.go_table_core.specs.Shown.{member_shown}
+use Rattle.go_type_core.specs.settle_core.Settled.{has_name}
+use Rattle.go_type_core.specs.table_core.Shown.{member_shown}
 use Rattle.go_embed_core.specs.Faults.{own_names}
 use Rattle.go_embed_core.proofs.hidden.own_names.Given as goal
 

@@ -1,5 +1,5 @@
 use Rattle.std.proofs.Common.{ap, sym, ◌∙◌}
-use Rattle.go_table_core.specs.Entries.{same_id}
+use Rattle.go_type_core.specs.table_core.Entries.{same_id}
 use Rattle.go_embed_core.proofs.Counting.{any_step, any_here, any_end, method_had}
 use Rattle.go_embed_core.proofs.member.has_method.Goals as goal
 

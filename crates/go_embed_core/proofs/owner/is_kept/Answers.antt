@@ -1,7 +1,7 @@
 use Rattle.std.proofs.Common.{ap, map, ◌∙◌}
-use Rattle.go_decl_core.specs.declared.keys.DeclKey.{DeclKey}
+use Rattle.go_term_core.specs.decl_core.declared.keys.DeclKey.{DeclKey}
 use Rattle.go_term_core.specs.Shapes.{shape}
-use Rattle.go_table_core.specs.Shown.{member_shown}
+use Rattle.go_type_core.specs.table_core.Shown.{member_shown}
 use Rattle.go_embed_core.specs.OwnersShown.{entry_owner}
 use Rattle.go_embed_core.specs.mirrors.Edges.{hidden_in}
 use Rattle.go_embed_core.proofs.Keeping.{asked_hiding, no_hiding}

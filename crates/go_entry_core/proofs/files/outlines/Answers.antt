@@ -1,7 +1,7 @@
 use Rattle.std.proofs.Common.{map, sym, ap, ◌∙◌}
 use Rattle.std.proofs.lemmas.List.{take_all}
 use Rattle.go_tree_nodes.specs.Shapes.{file_of}
-use Rattle.go_graph_core.specs.Packages.{trees_of}
+use Rattle.go_scope_core.specs.graph_core.Packages.{trees_of}
 use Rattle.go_entry_core.specs.Outlines.{outline_of, outline_shown}
 use Rattle.go_entry_core.proofs.Outlining.{are_outlines, outline_more, outline_same}
 use Rattle.go_entry_core.proofs.files.outlines.Goals.{in-Ok+in_ok-outline-in-Ok+in_ok-add-in-Ok, in-Err}

@@ -1,5 +1,5 @@
 use Rattle.std.proofs.Common.{◌≡◌, map, take}
-use Rattle.go_graph_core.specs.Packages.{trees_of}
+use Rattle.go_scope_core.specs.graph_core.Packages.{trees_of}
 use Rattle.go_entry_core.specs.Outlines.{outline_of, outline_shown}
 use Rattle.go_entry_core.proofs.files.outlines.Given as goal
 

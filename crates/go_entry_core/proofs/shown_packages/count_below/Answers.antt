@@ -1,6 +1,6 @@
 use Rattle.std.proofs.Common.{map, rules, of_calls}
 use Rattle.std.proofs.lemmas.Fn.{always_returns_same}
-use Rattle.go_block_core.specs.Exports.{name_and_decl}
+use Rattle.go_scope_core.specs.block_core.Exports.{name_and_decl}
 use Rattle.go_entry_core.specs.mirrors.Indexing.{is_below}
 use Rattle.go_entry_core.proofs.Spelled.{order_split}
 use Rattle.go_entry_core.proofs.shown_packages.count_below.Goals as goal

@@ -1,6 +1,6 @@
 use Rattle.std.proofs.Common.{map, length, refl, ◌∙◌}
 use Rattle.std.proofs.lemmas.Option.{slice_get_read, slice_get_past}
-use Rattle.go_block_core.specs.Exports.{name_and_decl}
+use Rattle.go_scope_core.specs.block_core.Exports.{name_and_decl}
 use Rattle.go_entry_core.proofs.Spelled.{found_at, found_past}
 use Rattle.go_entry_core.proofs.shown_packages.decl_of.Goals as goal
 

@@ -2,7 +2,7 @@ use Rattle.std.proofs.Common.{map, rules, of_calls, subst, sym}
 use Rattle.std.specs.Ordering.{is_lt}
 use Rattle.std.proofs.lemmas.Fn.{always_returns_same}
 use Rattle.std.proofs.lemmas.List.{length-map}
-use Rattle.go_block_core.specs.Exports.{name_and_decl}
+use Rattle.go_scope_core.specs.block_core.Exports.{name_and_decl}
 use Rattle.go_entry_core.specs.mirrors.Indexing.{HasPlaces, by_spelling}
 use Rattle.go_entry_core.proofs.Spelled.{by_weak, order_made}
 use Rattle.go_entry_core.proofs.shown_packages.order_of.Goals as goal

@@ -1,5 +1,5 @@
 use Rattle.std.proofs.Common.{ap, ◌∙◌}
-use Rattle.go_face_core.specs.embed_core.specs.OwnersShown.{entry_owner}
+use Rattle.go_inline_core.specs.embed_core.OwnersShown.{entry_owner}
 use Rattle.go_env_core.specs.Fields.{term_seen}
 use Rattle.go_env_core.specs.mirrors.Seen.{nobody}
 use Rattle.go_env_core.proofs.Seeing.{none_kept}

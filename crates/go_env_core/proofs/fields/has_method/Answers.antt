@@ -1,6 +1,6 @@
 use Rattle.std.proofs.Common.{ap, sym, ◌∙◌}
-use Rattle.go_face_core.specs.table_core.specs.Entries.{same_id}
-use Rattle.go_face_core.specs.embed_core.proofs.Counting.{any_step, any_here, any_end, method_had}
+use Rattle.go_inline_core.specs.table_core.Entries.{same_id}
+use Rattle.go_inline_core.specs.embed_core.Counting.{any_step, any_here, any_end, method_had}
 use Rattle.go_env_core.proofs.fields.has_method.Goals as goal
 
 pub loop-method-init : goal.loop-method-init

@@ -1,7 +1,7 @@
 use Rattle.std.proofs.Common.{◌≡◌, map, drop}
 use Rattle.std.specs.List.{list_any}
-use Rattle.go_face_core.specs.table_core.specs.Entries.{same_id, has_method}
-use Rattle.go_face_core.specs.table_core.specs.Shown.{member_shown}
+use Rattle.go_inline_core.specs.table_core.Entries.{same_id, has_method}
+use Rattle.go_inline_core.specs.table_core.Shown.{member_shown}
 use Rattle.go_env_core.proofs.fields.has_method.Given as goal
 
 abbrev pub invariant-loop-method : goal.invariant-loop-method

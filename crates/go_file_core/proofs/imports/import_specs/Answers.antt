@@ -5,9 +5,9 @@ use Rattle.std.proofs.lemmas.List.Folds.{flat_map-map}
 use Rattle.go_tree_nodes.specs.declared.files.ImportDecl.{ImportDecl}
 use Rattle.go_tree_nodes.specs.Trees.{ImportTree}
 use Rattle.go_tree_nodes.specs.Shapes.{import_of, shape_import_specs}
-use Rattle.go_top_core.specs.block_core.specs.Naming.{specs_in}
+use Rattle.go_func_core.specs.block_core.Naming.{specs_in}
 use Rattle.go_file_core.specs.mirrors.Shown.{spec_shown}
-use Rattle.go_top_core.specs.block_core.proofs.Pieces.{piece_more}
+use Rattle.go_func_core.specs.block_core.Pieces.{piece_more}
 use Rattle.go_file_core.proofs.imports.import_specs.Goals as goal
 
 pub loop-import-init : goal.loop-import-init

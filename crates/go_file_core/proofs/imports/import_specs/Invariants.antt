@@ -2,7 +2,7 @@ use Rattle.std.proofs.Common.{◌≡◌, take, map}
 use Rattle.std.specs.List.{flat_map}
 use Rattle.go_tree_nodes.specs.declared.files.ImportDecl.{ImportDecl}
 use Rattle.go_tree_nodes.specs.Shapes.{shape_import_specs}
-use Rattle.go_top_core.specs.block_core.specs.Naming.{specs_in}
+use Rattle.go_func_core.specs.block_core.Naming.{specs_in}
 use Rattle.go_file_core.specs.mirrors.Shown.{spec_shown}
 use Rattle.go_file_core.proofs.imports.import_specs.Given as goal
 

@@ -1,9 +1,9 @@
 use Rattle.std.proofs.Common.{◌++◌, map, refl, sym, ap, ◌∙◌}
 use Rattle.std.proofs.lemmas.List.{take_all}
 use Rattle.go_tree_nodes.specs.Shapes.{shape_import_specs}
-use Rattle.go_top_core.specs.block_core.specs.Naming.{specs_in}
+use Rattle.go_func_core.specs.block_core.Naming.{specs_in}
 use Rattle.go_file_core.specs.mirrors.Shown.{spec_shown}
-use Rattle.go_top_core.specs.block_core.proofs.SpecLemmas.{line_spec, line_more, group_lines}
+use Rattle.go_func_core.specs.block_core.SpecLemmas.{line_spec, line_more, group_lines}
 use Rattle.go_file_core.proofs.imports.list_specs.Goals as goal
 
 pub loop-line-preserved : goal.loop-line-preserved

@@ -1,6 +1,6 @@
 use Rattle.std.proofs.Common.{◌≡◌, ◌++◌, take, map}
 use Rattle.go_file_core.specs.mirrors.Shown.{spec_shown}
-use Rattle.go_top_core.specs.block_core.proofs.SpecLemmas.{line_spec}
+use Rattle.go_func_core.specs.block_core.SpecLemmas.{line_spec}
 use Rattle.go_file_core.proofs.imports.list_specs.Given as goal
 
 abbrev pub invariant-loop-line : goal.invariant-loop-line

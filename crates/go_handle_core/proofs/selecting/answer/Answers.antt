@@ -1,8 +1,8 @@
 use Rattle.std.proofs.Common.{sym, ◌∙◌}
-use Rattle.go_decide_core.specs.text_core.specs.declared.rule.Rule.TheVariants.{S6}
+use Rattle.go_text_core.specs.declared.rule.Rule.TheVariants.{S6}
 use Rattle.go_term_core.specs.Shapes.{shape}
-use Rattle.go_decide_core.specs.table_core.specs.Entries.{find}
-use Rattle.go_decide_core.specs.select_core.proofs.Answering.{answers_refused}
+use Rattle.go_decide_core.specs.table_core.Entries.{find}
+use Rattle.go_decide_core.specs.select_core.Answering.{answers_refused}
 use Rattle.go_handle_core.proofs.Telling.{two_stars, no_member}
 use Rattle.go_handle_core.proofs.selecting.answer.Goals as goal
 

@@ -1,5 +1,5 @@
 use Rattle.std.proofs.Common.{◌≡◌, true, false, sym, ap, ◌∙◌}
-use Rattle.go_decide_core.specs.table_core.specs.Entries.{find}
+use Rattle.go_decide_core.specs.table_core.Entries.{find}
 use Rattle.go_decide_core.specs.Selecting.{selected_of}
 use Rattle.go_handle_core.specs.Names.{shown_choice}
 use Rattle.go_handle_core.proofs.Telling.{told_member, told_rule}

@@ -1,7 +1,7 @@
 use Rattle.std.proofs.Common.{◌≡◌, ◌+◌, ◌∷◌, [], ◌++◌, take, sym, ap, ◌∙◌, subst}
 use Rattle.std.proofs.lemmas.List.{take_more}
 use Rattle.go_term_core.specs.Shapes.{methods_of}
-use Rattle.go_table_core.specs.Entries.{find}
+use Rattle.go_select_core.specs.table_core.Entries.{find}
 use Rattle.go_mset_core.specs.mirrors.Asking.{holder_shown, text_shown, IsLeastMissing}
 use Rattle.go_mset_core.proofs.Answering.{least_next}
 use Rattle.go_mset_core.proofs.interface.first_missing.Goals as goal

@@ -1,6 +1,6 @@
 use Rattle.std.proofs.Common.{take}
 use Rattle.go_term_core.specs.Shapes.{methods_of}
-use Rattle.go_table_core.specs.Entries.{find}
+use Rattle.go_select_core.specs.table_core.Entries.{find}
 use Rattle.go_mset_core.specs.mirrors.Asking.{holder_shown, text_shown, IsLeastMissing}
 use Rattle.go_mset_core.proofs.interface.first_missing.Given as goal
 

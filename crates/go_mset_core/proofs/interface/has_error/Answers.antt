@@ -1,5 +1,5 @@
 use Rattle.std.proofs.Common.{◌≡◌, true, false, sym, ◌∙◌}
-use Rattle.go_table_core.specs.Entries.{find}
+use Rattle.go_select_core.specs.table_core.Entries.{find}
 use Rattle.go_mset_core.specs.mirrors.Asking.{holder_shown}
 use Rattle.go_mset_core.proofs.Answering.{error_has, error_lacks}
 use Rattle.go_mset_core.proofs.interface.has_error.Goals as goal

@@ -1,6 +1,6 @@
 use Rattle.std.proofs.Common.{◌≡◌, true, false, inl, inr}
 use Rattle.go_term_core.proofs.SameLists.{fails}
-use Rattle.go_table_core.specs.Entries.{find}
+use Rattle.go_select_core.specs.table_core.Entries.{find}
 use Rattle.go_mset_core.specs.mirrors.Asking.{holder_shown, sign_wanted}
 use Rattle.go_mset_core.proofs.Answering.{answer_has, rule_lacks}
 use Rattle.go_mset_core.proofs.interface.has_method.Goals as goal

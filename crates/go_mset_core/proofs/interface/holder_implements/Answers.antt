@@ -2,7 +2,7 @@ use Rattle.std.proofs.Common.{IfOk, sym, ap, ◌∙◌, subst}
 use Rattle.go_term_core.specs.Terms.{InterfaceOf}
 use Rattle.go_term_core.specs.Shapes.{shape, methods_of}
 use Rattle.go_term_core.proofs.TermShapes.{shape_interface}
-use Rattle.go_table_core.specs.Entries.{find}
+use Rattle.go_select_core.specs.table_core.Entries.{find}
 use Rattle.go_mset_core.specs.Implementing.{IsAnswerOf}
 use Rattle.go_mset_core.specs.mirrors.Asking.{holder_shown}
 use Rattle.go_mset_core.proofs.interface.holder_implements.Goals as goal

@@ -1,5 +1,5 @@
 use Rattle.std.proofs.Common.{◌≡◌, sym, subst}
-use Rattle.go_table_core.specs.Entries.{find}
+use Rattle.go_select_core.specs.table_core.Entries.{find}
 use Rattle.go_term_core.specs.Shapes.{shape}
 use Rattle.go_mset_core.specs.MethodLists.{IsMethodSet}
 use Rattle.go_mset_core.specs.mirrors.Keeping.{kept}

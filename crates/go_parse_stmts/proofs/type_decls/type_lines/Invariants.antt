@@ -1,5 +1,5 @@
 use Rattle.std.proofs.Common.{length, map}
-use Rattle.go_scan_core.specs.declared.kind.Operator.TheVariants as operator
+use Rattle.go_token_core.specs.declared.kind.Operator.TheVariants as operator
 use Rattle.go_tree_nodes.specs.Shapes.{shape_type_line}
 use Rattle.go_tree_nodes.specs.Trees.{TypeSpecTree}
 use Rattle.go_parse_types.proofs.CodeLists.{ListSoFar}

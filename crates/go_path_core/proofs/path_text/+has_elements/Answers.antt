@@ -1,5 +1,6 @@
 use Rattle.std.proofs.Common.{◌≡◌, ◌∷◌, ◌<◌, true, false, ap, ◌∙◌, arith}
-use Rattle.go_path_core.specs.Path.{elements, left_of}
+use Rattle.go_path_core.specs.Path.{elements}
+use Rattle.go_path_core.specs.mirrors.Steps.{left_of}
 use Rattle.go_path_core.proofs.Paths.{none_fits, first_fits, rest_fits, more_fits, FitsIn}
 use Rattle.go_path_core.proofs.path_text.+has_elements.Goals as goal
 

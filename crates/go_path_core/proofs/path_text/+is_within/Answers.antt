@@ -1,6 +1,7 @@
 use Rattle.std.proofs.Common.{◌≡◌, ◌∷◌, [], true, false, refl, sym, ap, ◌∙◌}
 use Rattle.std.proofs.lemmas.Slice.Eq.{bytes_eq-Decides}
-use Rattle.go_path_core.specs.Path.{elements, left_of}
+use Rattle.go_path_core.specs.Path.{elements}
+use Rattle.go_path_core.specs.mirrors.Steps.{left_of}
 use Rattle.go_path_core.proofs.Paths.{first_only, ends_early, unnot}
 use Rattle.go_path_core.proofs.path_text.+is_within.Goals as goal
 

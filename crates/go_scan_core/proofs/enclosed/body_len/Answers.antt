@@ -2,7 +2,7 @@ use Rattle.std.proofs.Common.{◌≡◌, ◌+◌, drop, sym, ap, ◌∙◌, arit
 use Rattle.std.proofs.lemmas.List.{length-drop}
 use Rattle.go_scan_core.specs.declared.enclosed.Flaw.TheVariants.{Forbidden}
 use Rattle.go_scan_core.specs.mirrors.Enclosed.{behind, body}
-use Rattle.go_scan_core.proofs.EmptyLemmas.{filled, emptied}
+use Rattle.go_token_core.proofs.EmptyLemmas.{filled, emptied}
 use Rattle.go_scan_core.proofs.BodyLemmas.{behind-behind, body_end, body_none, body_step, end_within, item_within}
 use Rattle.go_scan_core.proofs.enclosed.body_len.Goals as goal
 

@@ -1,7 +1,7 @@
 use Rattle.std.proofs.Common.{ap, ◌∙◌}
 use Rattle.std.specs.List.{find}
 use Rattle.std.specs.Str.{bytes_eq}
-use Rattle.go_scan_core.specs.Spelling.{keyword_spelling}
+use Rattle.go_token_core.specs.Spelling.{keyword_spelling}
 use Rattle.go_scan_core.proofs.CandidateLemmas.{keyword_empty, keyword_here}
 use Rattle.go_scan_core.proofs.reading.keyword.Goals as goal
 

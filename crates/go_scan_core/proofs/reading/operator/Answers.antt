@@ -1,6 +1,6 @@
 use Rattle.std.proofs.Common.{nat_eq, ap, ◌∙◌}
 use Rattle.std.specs.List.{find, starts_with}
-use Rattle.go_scan_core.specs.Spelling.{operator_spelling}
+use Rattle.go_token_core.specs.Spelling.{operator_spelling}
 use Rattle.go_scan_core.proofs.CandidateLemmas.{operator_empty, operator_here}
 use Rattle.go_scan_core.proofs.reading.operator.Goals as goal
 

@@ -2,7 +2,8 @@
 use Rattle.std.proofs.Common.{◌+◌, ◌++◌, ◌∷◌, [], Some, None, take, refl, sym, ap, ◌∙◌, Ok, Err}
 use Rattle.std.specs.Char.{len_utf8}
 use Rattle.std.proofs.lemmas.List.Sums.{sum_by-take-drop}
-use Rattle.go_scan_core.proofs.EmptyLemmas.{filled, emptied, shorter, place_behind, fits_as}
+use Rattle.go_scan_core.proofs.PlaceLemmas.{shorter, place_behind, fits_as}
+use Rattle.go_token_core.proofs.EmptyLemmas.{filled, emptied}
 use Rattle.go_scan_core.specs.Parts.{Break, Gap, Note, Word, span_between, semicolon_after, width}
 use Rattle.go_scan_core.specs.mirrors.Cutting.{closed, cut, part_of, remarked, with_front}
 use Rattle.go_scan_core.proofs.CutLemmas.{far_of, fault_within, piece_within, token_between, turned, turn_comments, turn_comments_end, turn_comments_fault, turn_end, turn_fault, turn_line, turn_no_comments, turn_note, turn_space, turn_word}

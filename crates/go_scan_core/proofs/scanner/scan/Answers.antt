@@ -1,7 +1,7 @@
 use Rattle.std.proofs.Common.{◌≡◌, List, ℕ, Result, Ok, Err, Vec, IfOk, subst}
-use Rattle.go_scan_core.specs.declared.token.ScanError.{ScanError}
-use Rattle.go_scan_core.specs.declared.token.ScanError.TheVariants as errors
-use Rattle.go_scan_core.specs.declared.token.Token.{Token}
+use Rattle.go_token_core.specs.declared.token.ScanError.{ScanError}
+use Rattle.go_token_core.specs.declared.token.ScanError.TheVariants as errors
+use Rattle.go_token_core.specs.declared.token.Token.{Token}
 use Rattle.go_scan_core.specs.Cutting.{Answers, tokens_of}
 use Rattle.go_scan_core.specs.Tokens.{IsAnswer, Scans}
 use Rattle.go_scan_core.proofs.AnswerLemmas.{answer_is_computed}

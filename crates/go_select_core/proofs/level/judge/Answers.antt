@@ -1,5 +1,5 @@
 use Rattle.std.proofs.Common.{◌+◌, ◌||◌, Some, subst, sym, ap, ◌∙◌, refl, arith}
-use Rattle.go_table_core.specs.Entries.{find}
+use Rattle.go_embed_core.specs.table_core.Entries.{find}
 use Rattle.go_embed_core.specs.Owners.{has_spelled}
 use Rattle.go_embed_core.specs.OwnersShown.{owner_shown}
 use Rattle.go_select_core.proofs.ListLemmas.{at_read}

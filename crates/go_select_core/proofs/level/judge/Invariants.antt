@@ -1,4 +1,4 @@
-use Rattle.go_table_core.specs.Entries.{find}
+use Rattle.go_embed_core.specs.table_core.Entries.{find}
 use Rattle.go_select_core.proofs.Judging.{JudgedTo}
 use Rattle.go_select_core.proofs.level.judge.Given as goal
 

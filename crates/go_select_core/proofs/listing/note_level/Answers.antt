@@ -1,6 +1,6 @@
 use Rattle.std.proofs.Common.{length, map, ap, ◌∙◌, arith}
 use Rattle.std.proofs.lemmas.List.{length-map}
-use Rattle.go_table_core.specs.Entries.{find}
+use Rattle.go_embed_core.specs.table_core.Entries.{find}
 use Rattle.go_embed_core.specs.Owners.{members_of}
 use Rattle.go_embed_core.specs.OwnersShown.{owner_shown, named_shown}
 use Rattle.go_select_core.specs.mirrors.Names.{names_of}

@@ -1,7 +1,7 @@
 use Rattle.std.proofs.Common.{true, false, sym, ap, ◌∙◌}
 use Rattle.std.proofs.lemmas.Result.{IfOk-weaker}
 use Rattle.go_term_core.specs.Shapes.{shape}
-use Rattle.go_table_core.specs.Entries.{find}
+use Rattle.go_embed_core.specs.table_core.Entries.{find}
 use Rattle.go_select_core.specs.Selections.{AreSelections}
 use Rattle.go_select_core.specs.mirrors.Operands.{operand_shown}
 use Rattle.go_select_core.specs.mirrors.Listings.{AreSelectionsIn}

@@ -1,6 +1,6 @@
 use Rattle.std.proofs.Common.{false, subst, sym, inr}
 use Rattle.go_term_core.specs.Shapes.{shape}
-use Rattle.go_table_core.specs.Entries.{find}
+use Rattle.go_embed_core.specs.table_core.Entries.{find}
 use Rattle.go_embed_core.specs.OwnersShown.{IsNamedAt, found_shown}
 use Rattle.go_select_core.specs.Paths.{IsSelected}
 use Rattle.go_select_core.specs.Selectors.{ambiguous}

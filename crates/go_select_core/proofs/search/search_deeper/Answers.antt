@@ -1,6 +1,6 @@
 use Rattle.std.proofs.Common.{◌≤◌, ◌||◌, length, subst, sym, ap, ◌∙◌, arith}
 use Rattle.go_term_core.specs.Shapes.{shape}
-use Rattle.go_table_core.specs.Entries.{find}
+use Rattle.go_embed_core.specs.table_core.Entries.{find}
 use Rattle.go_embed_core.specs.OwnersShown.{found_shown}
 use Rattle.go_select_core.specs.Selectors.{IsMissing}
 use Rattle.go_select_core.proofs.ListLemmas.{at_read}

@@ -1,6 +1,6 @@
 use Rattle.std.proofs.Common.{sym, ap, ◌∙◌}
 use Rattle.go_term_core.specs.Shapes.{shape}
-use Rattle.go_table_core.specs.Entries.{find}
+use Rattle.go_embed_core.specs.table_core.Entries.{find}
 use Rattle.go_select_core.specs.Selectors.{In, FieldsIn}
 use Rattle.go_select_core.specs.mirrors.Operands.{operand_shown}
 use Rattle.go_select_core.proofs.Answering.{answers, answers_refused}

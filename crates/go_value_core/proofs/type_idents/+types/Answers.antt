@@ -6,7 +6,7 @@ use Rattle.go_tree_nodes.specs.declared.types.FieldLine.{FieldLine}
 use Rattle.go_tree_nodes.specs.declared.types.«Param» as declared_param
 use Rattle.go_tree_nodes.specs.declared.types.Params.{out-Params}
 use Rattle.go_tree_nodes.proofs.TypeShapes.{shape_struct, shape_interface}
-use Rattle.go_piece_core.specs.expr_core.specs.Laws.{type_idents, fields_idents, methods_idents, signature_idents, params_idents, result_idents}
+use Rattle.go_piece_core.specs.expr_core.Laws.{type_idents, fields_idents, methods_idents, signature_idents, params_idents, result_idents}
 use Rattle.go_value_core.specs.mirrors.Walked.{line_idents}
 use Rattle.go_value_core.proofs.Walking.{step, adds, both, lines_more, methods_more, params_more, signature_has, listed_has}
 use Rattle.go_value_core.proofs.type_idents.+types.Goals as goal

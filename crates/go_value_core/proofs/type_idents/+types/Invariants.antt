@@ -1,6 +1,6 @@
 use Rattle.std.proofs.Common.{◌≡◌, ◌++◌, drop, map}
 use Rattle.go_tree_nodes.specs.TypeShapes.{fields_of, methods_of, params_of}
-use Rattle.go_piece_core.specs.expr_core.specs.Laws.{fields_idents, methods_idents, params_idents}
+use Rattle.go_piece_core.specs.expr_core.Laws.{fields_idents, methods_idents, params_idents}
 use Rattle.go_value_core.proofs.type_idents.+types.Given as goal
 
 abbrev pub invariant-add_lines-loop-line : goal.invariant-add_lines-loop-line

@@ -1,6 +1,6 @@
 use Rattle.std.proofs.Common.{[]}
 use Rattle.go_tree_nodes.specs.Shapes.{shape}
-use Rattle.go_piece_core.specs.local_core.specs.Steps.{Condition}
+use Rattle.go_piece_core.specs.local_core.Steps.{Condition}
 use Rattle.go_body_core.proofs.Standing.{noted, if_ok}
 use Rattle.go_body_core.proofs.pieces.PiecesChecker.check_condition.Goals as goal
 

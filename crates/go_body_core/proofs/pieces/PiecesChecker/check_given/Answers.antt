@@ -1,6 +1,6 @@
 use Rattle.std.proofs.Common.{[]}
 use Rattle.go_tree_nodes.specs.Shapes.{shape_some_exprs}
-use Rattle.go_piece_core.specs.local_core.specs.Steps.{Given}
+use Rattle.go_piece_core.specs.local_core.Steps.{Given}
 use Rattle.go_body_core.proofs.Standing.{noted, if_ok}
 use Rattle.go_body_core.proofs.pieces.PiecesChecker.check_given.Goals as goal
 

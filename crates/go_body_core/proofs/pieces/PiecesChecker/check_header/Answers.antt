@@ -1,5 +1,5 @@
-use Rattle.go_env_core.specs.names_core.specs.Body.{func_idents, func_header}
-use Rattle.go_env_core.specs.names_core.specs.Scope.{look_of}
+use Rattle.go_env_core.specs.names_core.Body.{func_idents, func_header}
+use Rattle.go_env_core.specs.names_core.Scope.{look_of}
 use Rattle.go_env_core.specs.declared.meaning.Meaning.TheVariants as meanings
 use Rattle.go_env_core.specs.Scenes.{scene_shown}
 use Rattle.go_env_core.specs.Looks.{looks_in, inline_rules}

@@ -1,9 +1,9 @@
 use Rattle.go_tree_nodes.specs.Trees.{Define}
 use Rattle.go_tree_nodes.specs.Shapes.{shape_exprs}
 use Rattle.go_tree_nodes.specs.TypeShapes.{shape_idents}
-use Rattle.go_piece_core.specs.local_core.specs.Steps.{Act}
-use Rattle.go_piece_core.specs.local_core.specs.Outline.{idents}
-use Rattle.go_env_core.specs.names_core.specs.Scope.{look_of}
+use Rattle.go_piece_core.specs.local_core.Steps.{Act}
+use Rattle.go_piece_core.specs.local_core.Outline.{idents}
+use Rattle.go_env_core.specs.names_core.Scope.{look_of}
 use Rattle.go_env_core.specs.declared.meaning.Meaning.TheVariants as meanings
 use Rattle.go_env_core.specs.Scenes.{scene_shown}
 use Rattle.go_env_core.specs.Looks.{looks_in, inline_rules}

@@ -1,6 +1,6 @@
 use Rattle.std.proofs.Common.{[]}
 use Rattle.go_tree_nodes.specs.Shapes.{shape_simple}
-use Rattle.go_piece_core.specs.local_core.specs.Steps.{Act}
+use Rattle.go_piece_core.specs.local_core.Steps.{Act}
 use Rattle.go_body_core.proofs.Standing.{noted, if_ok}
 use Rattle.go_body_core.proofs.pieces.PiecesChecker.check_simple.Goals as goal
 

@@ -1,6 +1,6 @@
 use Rattle.std.proofs.Common.{◌≡◌, sym, ap, ◌∙◌}
 use Rattle.std.specs.Prelude.{string_bytes}
-use Rattle.go_block_core.specs.Exports.{ExportsModel}
+use Rattle.go_scope_core.specs.block_core.Exports.{ExportsModel}
 use Rattle.go_entry_core.specs.Showing.{with_shown}
 use Rattle.go_entry_core.proofs.Shown.{table_more}
 use Rattle.go_entry_core.proofs.shown_packages.ShownPackages.add.Goals as goal

@@ -1,7 +1,7 @@
 use Rattle.std.proofs.Common.{sym, ap, ◌∙◌}
 use Rattle.std.specs.Prelude.{length}
 use Rattle.go_term_core.specs.Shapes.{params_of as shown}
-use Rattle.go_decide_core.specs.table_core.specs.Entries.{find}
+use Rattle.go_decide_core.specs.table_core.Entries.{find}
 use Rattle.go_decide_core.specs.Rules.{results_of}
 use Rattle.go_handle_core.proofs.Listed.{typed_length}
 use Rattle.go_handle_core.proofs.signatures.SignatureRef.result_count.Goals as goal

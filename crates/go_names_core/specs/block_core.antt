@@ -1,0 +1,7 @@
+-- What the crates above name of go_block_core.
+pub use Rattle.go_scope_core.specs.block_core.Blocks as Blocks
+pub use Rattle.go_scope_core.specs.block_core.Naming as Naming
+pub use Rattle.go_scope_core.specs.block_core.Pieces as Pieces
+pub use Rattle.go_scope_core.specs.block_core.Rising as Rising
+pub use Rattle.go_scope_core.specs.block_core.SpecLemmas as SpecLemmas
+pub use Rattle.go_scope_core.specs.block_core.declared as declared

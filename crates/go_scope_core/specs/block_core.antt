@@ -1,0 +1,10 @@
+-- What the crates above name of go_block_core.
+pub use Rattle.go_block_core.specs.Blocks as Blocks
+pub use Rattle.go_block_core.specs.Exports as Exports
+pub use Rattle.go_block_core.specs.Faults as Faults
+pub use Rattle.go_block_core.specs.Naming as Naming
+pub use Rattle.go_block_core.proofs.Pieces as Pieces
+pub use Rattle.go_block_core.proofs.Rising as Rising
+pub use Rattle.go_block_core.proofs.SpecLemmas as SpecLemmas
+pub use Rattle.go_block_core.specs.Tables as Tables
+pub use Rattle.go_block_core.specs.declared as declared

@@ -1,0 +1,5 @@
+-- What the crates above name of go_graph_core.
+pub use Rattle.go_graph_core.specs.Packages as Packages
+pub use Rattle.go_graph_core.specs.Sources as Sources
+pub use Rattle.go_graph_core.proofs.Views as ViewsProofs
+pub use Rattle.go_graph_core.specs.Workspaces as Workspaces

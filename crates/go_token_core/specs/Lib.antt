@@ -1,0 +1,5 @@
+pub mod Characters
+pub mod Escapes
+pub mod Numbers
+pub mod Spelling
+pub mod Values
