@@ -1,4 +1,4 @@
-//! What is kept of a checked package: answers that own what they hold, the faces that the package shows to those that import it, and the
+//! What is kept of a checked package: answers and locals that own what they hold, the faces that the package shows to those that import it, and the
 //! faults of a file that are asked of the package as a whole.
 //!
 //! The Go specification, "Declarations and scope", "Exported identifiers".
@@ -7,6 +7,7 @@
 mod answers;
 mod faces;
 mod laws;
+mod locals;
 mod outer;
 mod site;
 
@@ -16,6 +17,7 @@ pub use laws::{
     exported_names_show_their_faces, hidden_declarations_do_not_count, outer_faults_are_these,
     shown_faces_are_exported, worked_package,
 };
+pub use locals::{HeldLocal, hold_local};
 pub use outer::{OuterAt, outer_faults};
 pub use site::Site;
 

@@ -1,5 +1,6 @@
 pub mod Agreement
 pub mod Bodies
+pub mod Declaring
 pub mod Ending
 pub mod Gathering
 pub mod Listed

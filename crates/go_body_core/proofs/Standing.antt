@@ -20,9 +20,9 @@ use Rattle.go_env_core.specs.declared.meaning.Meaning.{Meaning}
 use Rattle.go_env_core.specs.declared.meaning.Meaning.TheVariants as meanings
 use Rattle.go_env_core.specs.Scenes.{scene_shown}
 use Rattle.go_env_core.specs.Looks.{TheLooks, here_looks, looks_in, inline_rules}
-use Rattle.go_body_core.specs.Notes.{TheUse, NoteOf, note}
+use Rattle.go_body_core.specs.Notes.{TheUse, TheLocal, NoteOf, note}
 use Rattle.go_body_core.specs.declared.pieces.Pieces.{Pieces}
-use Rattle.go_body_core.specs.Rules.{top_looks, rules_of}
+use Rattle.go_body_core.specs.Rules.{local_at, piece_locals, top_looks, rules_of}
 
 module _ (h : Here) (scene : Scene) (file : ℕ) (inline : List (ℕ × InlineOf)) (known : List (Option TheFace)) (names : OpenNames Meaning)
     (a : h.scene.now ≡ scene) (b : h.file ≡ file) (c : h.inline.now ≡ inline) (d : h.known.now ≡ known) (e : h.names.now ≡ names) where
@@ -50,14 +50,14 @@ module _ (a : Pieces) (h : Here) (names : OpenNames Meaning) (scene : h.scene.no
   looks_same : here_looks h ≡ looks_of
   looks_same = standing_looks h a.scene.now a.file a.inline.now a.known.now names scene file inline known open_names
 
-  pub noted : (firsts : List Bool) (p : Piece) (old new : List NoteOf) (us us-before : List TheUse) (fs fs-before : List Fault)
+  pub noted : (firsts : List Bool) (p : Piece) (old new : List NoteOf) (us us-before : List TheUse) (fs fs-before : List Fault) (ls : List TheLocal)
       → us-before ≡ [] → fs-before ≡ [] → us ≡ us-before ++ piece_uses (here_looks h) p → fs ≡ fs-before ++ piece_faults (here_looks h) a.results.now a.has_names firsts p
-      → new ≡ old ++ note us fs ∷ [] → new ≡ old ++ (rules_of a).notes (look_of meanings.Outside names) firsts p
-  noted firsts p old new us us-before fs fs-before u f i j added =
+      → ls ≡ piece_locals firsts p (local_at p (piece_values looks_of firsts p)) → new ≡ old ++ note us fs ls ∷ [] → new ≡ old ++ (rules_of a).notes (look_of meanings.Outside names) firsts p
+  noted firsts p old new us us-before fs fs-before ls u f i j k added =
       let used : us ≡ piece_uses looks_of p = i ∙ (ap (λ l. l ++ piece_uses (here_looks h) p) u ∙ ap (λ l. piece_uses l p) looks_same) in
       let broken : fs ≡ piece_faults looks_of a.results.now a.has_names firsts p =
       j ∙ (ap (λ l. l ++ piece_faults (here_looks h) a.results.now a.has_names firsts p) f ∙ ap (λ l. piece_faults l a.results.now a.has_names firsts p) looks_same) in
-      added ∙ (ap (λ l. old ++ note l fs ∷ []) used ∙ ap (λ l. old ++ note (piece_uses looks_of p) l ∷ []) broken)
+      added ∙ (λ n. old ++ note (used n) (broken n) (k n) ∷ [])
 
   pub valued : (firsts : List Bool) (p : Piece) (vs : List (Option (Operand Term))) → vs ≡ piece_values (here_looks h) firsts p → vs ≡ piece_values looks_of firsts p
   valued firsts p vs i = i ∙ ap (λ l. piece_values l firsts p) looks_same

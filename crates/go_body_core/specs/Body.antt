@@ -15,26 +15,29 @@ use Rattle.go_env_core.specs.face_core.Faces.{TheFace}
 use Rattle.go_env_core.specs.declared.meaning.Meaning.{Meaning}
 use Rattle.go_env_core.specs.Scenes.{SceneModel}
 use Rattle.go_env_core.specs.Looks.{fault_of}
-use Rattle.go_body_core.specs.Notes.{TheUse, NoteOf, all_uses, all_faults}
+use Rattle.go_body_core.specs.Notes.{TheUse, TheLocal, NoteOf, all_uses, all_faults, all_locals}
 use Rattle.go_body_core.specs.Rules.{func_rules, outside_in}
 use Rattle.go_body_core.specs.Ends.{end_faults}
 
--- what its occurrences have, in order of their places, and its faults
+-- what its occurrences have, in order of their places, its faults, and the locals that it declares
 pub record BodyOf : Type 0 where
   pub uses : List TheUse
   pub faults : List Fault
+  pub locals : List TheLocal
 
 -- by what comes of its pieces: their uses; their faults, those of the names that they declare, `break` and `continue` outside a `for`, and
--- the end of the function
+-- the end of the function; their locals
 abbrev pub body_of : FuncTree → Out Meaning NoteOf → BodyOf
 body_of f o = record {
   uses = all_uses o.notes;
   faults = all_faults o.notes ++ (map fault_of (o.faults ++ lines_loop_faults false f.body) ++ end_faults (all_uses o.notes) f);
+  locals = all_locals o.notes;
 }
 
--- these are what its occurrences have, and its faults, by the notes of its pieces and the faults of the names that they declare
-abbrev pub IsBody : FuncTree → List NoteOf → List LocalFault → List TheUse → List Fault → Type 0
-IsBody f notes names us fs = (us ≡ all_uses notes) × (fs ≡ all_faults notes ++ (map fault_of (names ++ lines_loop_faults false f.body) ++ end_faults (all_uses notes) f))
+-- these are what its occurrences have, its faults and its locals, by the notes of its pieces and the faults of the names that they declare
+abbrev pub IsBody : FuncTree → List NoteOf → List LocalFault → List TheUse → List Fault → List TheLocal → Type 0
+IsBody f notes names us fs ls =
+    (us ≡ all_uses notes) × (fs ≡ all_faults notes ++ (map fault_of (names ++ lines_loop_faults false f.body) ++ end_faults (all_uses notes) f)) × (ls ≡ all_locals notes)
 
 -- on the way through the function, with the names that are open
 abbrev pub walked_body : SceneModel → ℕ → List (Option TheFace) → WrittenRules Term → FuncTree → BodyOf
@@ -49,9 +52,11 @@ abbrev pub AreDeclarations : SceneModel → ℕ → List (Option TheFace) → Wr
 AreDeclarations s file known written f all = IsTable (func_rules s file known written f) (outside_in s file) f all
 
 -- what is noted of a function, on the way through it, and by the regions of its declarations, whichever list of them is right
-abbrev pub IsWalkedBody : SceneModel → ℕ → List (Option TheFace) → WrittenRules Term → FuncTree → List TheUse → List Fault → Type 0
-IsWalkedBody s file known written f us fs = (us ≡ (walked_body s file known written f).uses) × (fs ≡ (walked_body s file known written f).faults)
+abbrev pub IsWalkedBody : SceneModel → ℕ → List (Option TheFace) → WrittenRules Term → FuncTree → List TheUse → List Fault → List TheLocal → Type 0
+IsWalkedBody s file known written f us fs ls =
+    (us ≡ (walked_body s file known written f).uses) × (fs ≡ (walked_body s file known written f).faults) × (ls ≡ (walked_body s file known written f).locals)
 
-abbrev pub IsGivenBody : SceneModel → ℕ → List (Option TheFace) → WrittenRules Term → FuncTree → List TheUse → List Fault → Type 0
-IsGivenBody s file known written f us fs =
-    (all : List (Local Meaning)) → AreDeclarations s file known written f all → (us ≡ (given_body s file known written f all).uses) × (fs ≡ (given_body s file known written f all).faults)
+abbrev pub IsGivenBody : SceneModel → ℕ → List (Option TheFace) → WrittenRules Term → FuncTree → List TheUse → List Fault → List TheLocal → Type 0
+IsGivenBody s file known written f us fs ls =
+    (all : List (Local Meaning)) → AreDeclarations s file known written f all
+    → (us ≡ (given_body s file known written f all).uses) × (fs ≡ (given_body s file known written f all).faults) × (ls ≡ (given_body s file known written f all).locals)

@@ -6,6 +6,7 @@ pub mod Notes
 pub mod Pieces
 pub mod Rules
 pub mod WellFormed
+pub mod codes
 pub mod mirrors
 pub mod block_core
 pub mod decide_core

@@ -1,21 +1,33 @@
 -- What is noted of the pieces of a function.
-use Rattle.std.specs.Prelude.{ℕ, List}
+use Rattle.std.specs.Prelude.{ℕ, List, Option}
 use Rattle.std.specs.List.{flat_map}
+use Rattle.go_term_core.specs.Terms.{Term}
 use Rattle.go_env_core.specs.handle_core.Declarations.{Declaration}
+use Rattle.go_piece_core.specs.operand_core.declared.types.Operand.{Operand}
 use Rattle.go_piece_core.specs.expr_core.declared.things.Use.{Use}
 use Rattle.go_piece_core.specs.expr_core.declared.things.Fault.{Fault}
+use Rattle.go_body_core.specs.declared.locals.Local.{Local}
 
 -- what an occurrence has
 abbrev pub TheUse : Type 0
 TheUse = Use Declaration (List ℕ)
 
--- of one piece: what its occurrences have, in order of their places, and its faults
+-- what a local stands for: a variable of a type, or a constant with its value; nothing where it has no type
+abbrev pub TheValue : Type 0
+TheValue = Option (Operand Term)
+
+-- a local that a function declares: the offset of its identifier, and what it stands for
+abbrev pub TheLocal : Type 0
+TheLocal = Local
+
+-- of one piece: what its occurrences have, in order of their places, its faults, and the locals that it declares
 pub record NoteOf : Type 0 where
   pub uses : List TheUse
   pub faults : List Fault
+  pub locals : List TheLocal
 
-abbrev pub note : List TheUse → List Fault → NoteOf
-note us fs = record { uses = us; faults = fs }
+abbrev pub note : List TheUse → List Fault → List TheLocal → NoteOf
+note us fs ls = record { uses = us; faults = fs; locals = ls }
 
 -- of several pieces, in order
 abbrev pub all_uses : List NoteOf → List TheUse
@@ -23,3 +35,6 @@ all_uses ns = flat_map (λ n. n.uses) ns
 
 abbrev pub all_faults : List NoteOf → List Fault
 all_faults ns = flat_map (λ n. n.faults) ns
+
+abbrev pub all_locals : List NoteOf → List TheLocal
+all_locals ns = flat_map (λ n. n.locals) ns

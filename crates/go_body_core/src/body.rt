@@ -10,6 +10,7 @@ ghost use Rattle.go_body_core.specs.Rules.{top_looks};
 ghost use Rattle.go_body_core.specs.Body.{IsBody, IsWalkedBody, IsGivenBody};
 
 use crate::ends::add_end;
+use crate::locals::Local;
 use crate::notes::{BodyUse, Note, add_local_faults, joined};
 use crate::pieces::Pieces;
 use go_env_core::face_core::Face;
@@ -18,7 +19,7 @@ use go_env_core::inline_core::InlineTypes;
 use go_env_core::names_core::{OpenNames, check_function};
 use go_env_core::scope_core::Scopes;
 use go_env_core::{Meaning, Scene};
-use go_piece_core::expr_core::{Fault, Notes};
+use go_piece_core::expr_core::Fault;
 use go_piece_core::has_named_results;
 use go_piece_core::local_core::Fault as LocalFault;
 use go_piece_core::walk_core::lines_loop_faults;
@@ -33,6 +34,9 @@ pub struct CheckedBody<'p> {
     /// Its faults beside these outcomes: those of its pieces in order, those of the names that it declares, Y6 and Y5. A pair of a place and a
     /// rule may stand there twice, and as an outcome too.
     pub faults: Vec<Fault>,
+    /// The locals that it declares, in order of their identifiers' places: one for each that is not blank and is the first of its name in its
+    /// block. A name that a short declaration uses again has none there.
+    pub locals: Vec<Local<'p>>,
 }
 
 // The names outside all functions, by the blocks of a file.
@@ -75,22 +79,30 @@ fn gathered<'p>(
     names: &[LocalFault],
     func: &FuncDecl,
 ) -> Result<CheckedBody<'p>, AllocError>
-    ensures { IfOk result (λ body. IsBody (func_of func.now) notes.entry.items names.now body.uses.items body.faults.items) }
+    ensures { IfOk result (λ body. IsBody (func_of func.now) notes.entry.items names.now body.uses.items body.faults.items body.locals.items) }
 {
-    let Notes { uses, mut faults } = joined(alloc, notes)?;
+    let CheckedBody {
+        uses,
+        mut faults,
+        locals,
+    } = joined(alloc, notes)?;
     add_local_faults(&mut faults, names)?;
     let mut loops = Vec::new(alloc);
     lines_loop_faults(&mut loops, false, &func.body)?;
     add_local_faults(&mut faults, loops.as_slice())?;
     add_end(alloc, uses.as_slice(), func, &mut faults)?;
-    Ok(CheckedBody { uses, faults })
+    Ok(CheckedBody {
+        uses,
+        faults,
+        locals,
+    })
 }
 
 /// Checks a function of a package: in a file, by the file's number in order of name, from 0, with the types that are written inside the
 /// function, and with what the package's own declarations are, by their places in `scene.written`.
 ///
-/// What its occurrences have and its faults are what the rules of pieces give on the way through the function, and what they give by the
-/// regions of its declarations, where each means what its piece gives under the names as these very regions bind them.
+/// What its occurrences have, its faults and its locals are what the rules of pieces give on the way through the function, and what they give by
+/// the regions of its declarations, where each means what its piece gives under the names as these very regions bind them.
 ///
 /// The Go specification, "Blocks", "Declarations and scope", "Statements", "Terminating statements".
 ///
@@ -106,8 +118,8 @@ pub fn check_body<'n, 'p>(
     func: &FuncDecl,
 ) -> Result<CheckedBody<'p>, AllocError>
     requires placed { IsFuncPlaced (func_of func.now) }
-    ensures walked { IfOk result (λ body. IsWalkedBody (scene_shown scene.now) file known.now (inline_rules (scene_shown scene.now) inline.now) (func_of func.now) body.uses.items body.faults.items) }
-    ensures given { IfOk result (λ body. IsGivenBody (scene_shown scene.now) file known.now (inline_rules (scene_shown scene.now) inline.now) (func_of func.now) body.uses.items body.faults.items) }
+    ensures walked { IfOk result (λ body. IsWalkedBody (scene_shown scene.now) file known.now (inline_rules (scene_shown scene.now) inline.now) (func_of func.now) body.uses.items body.faults.items body.locals.items) }
+    ensures given { IfOk result (λ body. IsGivenBody (scene_shown scene.now) file known.now (inline_rules (scene_shown scene.now) inline.now) (func_of func.now) body.uses.items body.faults.items body.locals.items) }
 {
     let results = results(alloc, scene, file, inline, known, func)?;
     let pieces = Pieces {

@@ -1,4 +1,4 @@
-//! The check of function bodies: what each occurrence has, and the faults.
+//! The check of function bodies: what each occurrence has, the faults, and what the locals are.
 //!
 //! The Go specification, "Blocks", "Declarations and scope", "Statements", "Terminating statements".
 #![tactic(auto)]
@@ -13,6 +13,7 @@ mod pieces;
 
 pub use body::{CheckedBody, check_body};
 pub use laws::{alike_rules_give_one, bodies_have_occurrences, pieces_are_of_grammar};
+pub use locals::Local;
 pub use notes::BodyUse;
 
 /// What the crates above name of `go_block_core`.

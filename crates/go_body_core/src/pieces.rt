@@ -7,8 +7,7 @@ ghost use Rattle.go_env_core.specs.Looks.{inline_rules};
 ghost use Rattle.go_piece_core.specs.Headers.{returned_types};
 ghost use Rattle.go_body_core.specs.Rules.{top_looks};
 
-use crate::locals::locals;
-use crate::notes::{Note, add_note, nothing};
+use crate::notes::{Note, add_note, declare, nothing};
 use go_env_core::face_core::Face;
 use go_env_core::handle_core::{SignatureRef, TypeRef};
 use go_env_core::inline_core::InlineTypes;
@@ -68,15 +67,14 @@ impl<'c, 'p> Checker for Pieces<'c, 'p> {
         &self,
         names: &OpenNames<Meaning<'p>>,
         func: &FuncDecl,
-        _: &[bool],
+        firsts: &[bool],
         notes: &mut Vec<Note<'p>>,
     ) -> Result<Vec<Meaning<'p>>, AllocError> {
         let here = stand(self.scene, self.file, self.inline, self.known, names);
         let mut own = nothing(self.alloc);
         let values = check_header(&here, self.alloc, &func.receiver, &func.signature, &mut own)?;
-        add_note(notes, own)?;
         let idents = header_idents(self.alloc, func)?;
-        locals(self.alloc, idents.as_slice(), values)
+        declare(self.alloc, idents.as_slice(), firsts, values, own, notes)
     }
 
     fn check_spec(
@@ -84,15 +82,14 @@ impl<'c, 'p> Checker for Pieces<'c, 'p> {
         names: &OpenNames<Meaning<'p>>,
         kind: ValueKind,
         spec: &ValueSpec,
-        _: &[bool],
+        firsts: &[bool],
         notes: &mut Vec<Note<'p>>,
     ) -> Result<Vec<Meaning<'p>>, AllocError> {
         let here = stand(self.scene, self.file, self.inline, self.known, names);
         let mut own = nothing(self.alloc);
         let values = check_spec(&here, self.alloc, kind, spec, &mut own)?;
-        add_note(notes, own)?;
         let idents = listed_idents(self.alloc, &spec.names)?;
-        locals(self.alloc, idents.as_slice(), values)
+        declare(self.alloc, idents.as_slice(), firsts, values, own, notes)
     }
 
     fn check_short(
@@ -113,9 +110,8 @@ impl<'c, 'p> Checker for Pieces<'c, 'p> {
             firsts,
             &mut own,
         )?;
-        add_note(notes, own)?;
         let idents = listed_idents(self.alloc, names)?;
-        locals(self.alloc, idents.as_slice(), values)
+        declare(self.alloc, idents.as_slice(), firsts, values, own, notes)
     }
 
     fn check_simple(
@@ -127,7 +123,7 @@ impl<'c, 'p> Checker for Pieces<'c, 'p> {
         let here = stand(self.scene, self.file, self.inline, self.known, names);
         let mut own = nothing(self.alloc);
         check_simple(&here, self.alloc, simple, &mut own)?;
-        add_note(notes, own)
+        add_note(notes, own, Vec::new(self.alloc))
     }
 
     fn check_condition(
@@ -139,7 +135,7 @@ impl<'c, 'p> Checker for Pieces<'c, 'p> {
         let here = stand(self.scene, self.file, self.inline, self.known, names);
         let mut own = nothing(self.alloc);
         check_condition(&here, self.alloc, condition, &mut own)?;
-        add_note(notes, own)
+        add_note(notes, own, Vec::new(self.alloc))
     }
 
     fn check_given(
@@ -160,7 +156,7 @@ impl<'c, 'p> Checker for Pieces<'c, 'p> {
             self.has_names,
             &mut own,
         )?;
-        add_note(notes, own)
+        add_note(notes, own, Vec::new(self.alloc))
     }
 
     ghost at_names = { rules_look_at_names };

@@ -49,7 +49,7 @@ pub mod inline_core {
 /// What the crates above name of `go_names_core`.
 pub mod names_core {
     pub use go_inline_core::names_core::{
-        Checker, OpenNames, check_function, header_idents, listed_idents,
+        Checker, Meant, OpenNames, check_function, header_idents, listed_idents,
     };
 }
 

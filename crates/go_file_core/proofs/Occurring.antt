@@ -26,7 +26,7 @@ use Rattle.go_func_core.specs.body_core.Notes.{TheUse}
 use Rattle.go_func_core.specs.Stands.{FileStand, outer_looks}
 use Rattle.go_func_core.proofs.Occurring.{functions_have_occurrences}
 use Rattle.go_file_core.specs.Imports.{imports_uses}
-use Rattle.go_file_core.specs.Files.{decl_uses, decl_faults, tops_uses}
+use Rattle.go_file_core.specs.Files.{decl_uses, decl_faults, decl_locals, tops_uses}
 use Rattle.go_file_core.specs.Laws.{FilesHaveOccurrences, DeclarationsStandAlone}
 
 abbrev used : List TheUse → List (ℕ × Role)
@@ -98,4 +98,5 @@ pub declarations_stand_alone : DeclarationsStandAlone
 declarations_stand_alone = record {
   uses = λ st front rest d. flat_map-append (λ (x : TopTree). decl_uses st x.decl) front (d ∷ rest);
   faults = λ st front rest d. flat_map-append (λ (x : TopTree). decl_faults st x.decl) front (d ∷ rest);
+  locals = λ st front rest d. flat_map-append (λ (x : TopTree). decl_locals st x.decl) front (d ∷ rest);
 }

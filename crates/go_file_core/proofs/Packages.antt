@@ -5,15 +5,15 @@ use Rattle.std.proofs.lemmas.List.{map-append}
 use Rattle.go_tree_nodes.specs.declared.files.File.{File}
 use Rattle.go_func_core.specs.entry_core.Meanings.{Shows}
 use Rattle.go_top_core.specs.expr_core.declared.things.Fault.{Fault}
-use Rattle.go_func_core.specs.body_core.Notes.{TheUse}
+use Rattle.go_func_core.specs.body_core.Notes.{TheUse, TheLocal}
 use Rattle.go_file_core.specs.declared.file_at.FileAt.{FileAt}
 use Rattle.go_file_core.specs.declared.whole.CheckedFile.{CheckedFile}
-use Rattle.go_file_core.specs.Files.{file_uses, file_faults}
+use Rattle.go_file_core.specs.Files.{file_uses, file_faults, file_locals}
 use Rattle.go_file_core.specs.Stands.{stand_of}
 use Rattle.go_file_core.specs.Package.{IsReady, CheckedFileOf, tree_shown, checked_shown, file_checked, files_checked}
 
-abbrev noted : List TheUse → List Fault → CheckedFileOf
-noted us fs = record { uses = us; faults = fs }
+abbrev noted : List TheUse → List Fault → List TheLocal → CheckedFileOf
+noted us fs ls = record { uses = us; faults = fs; locals = ls }
 
 module _ {P : Type 0} (shows : P → Shows) where
   -- the files that are left, each with its tree
@@ -25,11 +25,12 @@ module _ {P : Type 0} (shows : P → Shows) where
 
   pub file_step : (files more : List (FileAt P)) (trees rest : List (Bor File)) (a : FileAt P) (t : Bor File) (c : CheckedFile) (old new : List CheckedFile) (all : List CheckedFileOf)
       → files ≡ a ∷ more → trees ≡ t ∷ rest → c.uses.items ≡ file_uses (stand_of shows a) a.imports.now (tree_shown t) → c.faults.items ≡ file_faults (stand_of shows a) (tree_shown t)
+      → c.locals.items ≡ file_locals (stand_of shows a) (tree_shown t)
       → new ≡ old ++ c ∷ [] → map checked_shown old ++ files_checked shows files (map tree_shown trees) ≡ all → map checked_shown new ++ files_checked shows more (map tree_shown rest) ≡ all
-  file_step files more trees rest a t c old new all e f used broken added before =
+  file_step files more trees rest a t c old new all e f used broken declared added before =
       let st = stand_of shows a in
       let left = files_checked shows more (map tree_shown rest) in
-      let is : checked_shown c ≡ file_checked st a.imports.now (tree_shown t) = ap (λ us. noted us c.faults.items) used ∙ ap (λ fs. noted (file_uses st a.imports.now (tree_shown t)) fs) broken in
+      let is : checked_shown c ≡ file_checked st a.imports.now (tree_shown t) = (λ i. noted (used i) (broken i) (declared i)) in
       ap (λ l. map checked_shown l ++ left) added
       ∙ (ap (λ l. l ++ left) (map-append checked_shown old (c ∷ []))
       ∙ (append_assoc (map checked_shown old) (checked_shown c ∷ []) left

@@ -16,7 +16,7 @@ use Rattle.go_func_core.specs.env_core.declared.meaning.Meaning.{Meaning}
 use Rattle.go_func_core.specs.env_core.Scenes.{scene_shown}
 use Rattle.go_func_core.specs.env_core.Looks.{here_looks, inline_rules}
 use Rattle.go_top_core.specs.Tops.{value_decl_uses, value_decl_faults, type_decl_uses}
-use Rattle.go_func_core.specs.body_core.Notes.{TheUse}
+use Rattle.go_func_core.specs.body_core.Notes.{TheUse, TheLocal}
 use Rattle.go_func_core.specs.body_core.Body.{IsGivenBody}
 use Rattle.go_func_core.specs.body_core.Standing.{on_ok, top_standing}
 use Rattle.go_func_core.specs.Stands.{FileStand, outer_looks}
@@ -54,10 +54,13 @@ same_added (Ok x) old new xs ys e h = h ∙ ap (λ l. old ++ l) e
 same_added (Err x) old new xs ys e h = tt
 
 -- a function, by what its check gives with the types that are written in it
-module _ (st : FileStand) (types : List (ℕ × InlineOf)) (f : FuncTree) (us : List TheUse) (fs : List Fault) (placed : IsFuncPlaced f) (made : AreFuncTypes st f types)
-    (given : IsGivenBody st.scene st.file.file st.known (inline_rules st.scene types) f us fs) where
+module _ (st : FileStand) (types : List (ℕ × InlineOf)) (f : FuncTree) (us : List TheUse) (fs : List Fault) (ls : List TheLocal) (placed : IsFuncPlaced f) (made : AreFuncTypes st f types)
+    (given : IsGivenBody st.scene st.file.file st.known (inline_rules st.scene types) f us fs ls) where
   pub func_used : {E : Type 0} (r : Result (Unit {0}) E) (old new : List TheUse) → new ≡ old ++ us → OnOk r (new ≡ old ++ (checked_func st f).uses)
-  func_used r old new e = on_ok r (e ∙ ap (λ l. old ++ l) (bodies_are_as_written st types f us fs placed made given).0)
+  func_used r old new e = on_ok r (e ∙ ap (λ l. old ++ l) (bodies_are_as_written st types f us fs ls placed made given).0)
+
+  pub func_declares : {E : Type 0} (r : Result (Unit {0}) E) (old new : List TheLocal) → new ≡ old ++ ls → OnOk r (new ≡ old ++ (checked_func st f).locals)
+  func_declares r old new e = on_ok r (e ∙ ap (λ l. old ++ l) (bodies_are_as_written st types f us fs ls placed made given).2)
 
   pub func_broken : {E : Type 0} (r : Result (Unit {0}) E) (old new : List Fault) → new ≡ (if is_ok r then old ++ fs else old) → OnOk r (new ≡ old ++ (checked_func st f).faults)
-  func_broken r old new = same_added r old new fs (checked_func st f).faults (bodies_are_as_written st types f us fs placed made given).1
+  func_broken r old new = same_added r old new fs (checked_func st f).faults (bodies_are_as_written st types f us fs ls placed made given).1

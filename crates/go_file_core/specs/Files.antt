@@ -1,15 +1,15 @@
--- What the occurrences of a file have, and its faults beside these outcomes.
+-- What the occurrences of a file have, its faults beside these outcomes, and the locals of its functions.
 --
 -- docs/RULES.md, "Occurrences", "Imports", "Types inside functions", "Bodies of functions", "Declarations outside functions". The Go
 -- specification, "Import declarations", "Declarations and scope", "Package initialization", "Function declarations".
-use Rattle.std.specs.Prelude.{List, ◌++◌}
+use Rattle.std.specs.Prelude.{List, [], ◌++◌}
 use Rattle.std.specs.List.{flat_map}
 use Rattle.go_tree_nodes.specs.Trees.{DeclTree, Value, Types, Func, TopTree, FileTree}
 use Rattle.go_func_core.specs.block_core.declared.imports.Imported.{Imported}
 use Rattle.go_func_core.specs.block_core.Naming.{file_specs}
 use Rattle.go_top_core.specs.expr_core.declared.things.Fault.{Fault}
 use Rattle.go_top_core.specs.Tops.{value_decl_uses, value_decl_faults, type_decl_uses, type_decl_faults}
-use Rattle.go_func_core.specs.body_core.Notes.{TheUse}
+use Rattle.go_func_core.specs.body_core.Notes.{TheUse, TheLocal}
 use Rattle.go_func_core.specs.Stands.{FileStand, outer_looks}
 use Rattle.go_func_core.specs.Functions.{checked_func}
 use Rattle.go_file_core.specs.Imports.{imports_uses}
@@ -25,6 +25,12 @@ decl_faults st (Value v) = value_decl_faults (outer_looks st) v
 decl_faults st (Types t) = type_decl_faults t
 decl_faults st (Func f) = (checked_func st f).faults
 
+-- the locals that it declares: those of a function
+abbrev pub decl_locals : FileStand → DeclTree → List TheLocal
+decl_locals st (Value v) = []
+decl_locals st (Types t) = []
+decl_locals st (Func f) = (checked_func st f).locals
+
 -- declarations, one behind another
 abbrev pub tops_uses : FileStand → List TopTree → List TheUse
 tops_uses st ds = flat_map (λ d. decl_uses st d.decl) ds
@@ -32,9 +38,15 @@ tops_uses st ds = flat_map (λ d. decl_uses st d.decl) ds
 abbrev pub tops_faults : FileStand → List TopTree → List Fault
 tops_faults st ds = flat_map (λ d. decl_faults st d.decl) ds
 
+abbrev pub tops_locals : FileStand → List TopTree → List TheLocal
+tops_locals st ds = flat_map (λ d. decl_locals st d.decl) ds
+
 -- a file, whose imports come to these
 abbrev pub file_uses : FileStand → List Imported → FileTree → List TheUse
 file_uses st imports f = imports_uses (file_specs f) imports ++ tops_uses st f.decls
 
 abbrev pub file_faults : FileStand → FileTree → List Fault
 file_faults st f = tops_faults st f.decls
+
+abbrev pub file_locals : FileStand → FileTree → List TheLocal
+file_locals st f = tops_locals st f.decls

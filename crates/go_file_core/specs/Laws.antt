@@ -11,7 +11,7 @@ use Rattle.go_func_core.specs.block_core.Naming.{file_specs}
 use Rattle.go_top_core.specs.local_core.Tables.{IsFuncPlaced}
 use Rattle.go_top_core.specs.expr_core.Laws.{use_place, occurrence_place}
 use Rattle.go_func_core.specs.Stands.{FileStand}
-use Rattle.go_file_core.specs.Files.{decl_uses, decl_faults, tops_uses, tops_faults, file_uses}
+use Rattle.go_file_core.specs.Files.{decl_uses, decl_faults, decl_locals, tops_uses, tops_faults, tops_locals, file_uses}
 use Rattle.go_file_core.specs.Stands.{file_funcs}
 
 -- what is noted of a file of the grammar, of whose imports each comes to something, stands where its occurrences stand, with their roles and in
@@ -25,6 +25,7 @@ FilesHaveOccurrences =
 pub record DeclarationsStandAlone : Type 0 where
   pub uses : (st : FileStand) (front rest : List TopTree) (d : TopTree) → tops_uses st (front ++ d ∷ rest) ≡ tops_uses st front ++ (decl_uses st d.decl ++ tops_uses st rest)
   pub faults : (st : FileStand) (front rest : List TopTree) (d : TopTree) → tops_faults st (front ++ d ∷ rest) ≡ tops_faults st front ++ (decl_faults st d.decl ++ tops_faults st rest)
+  pub locals : (st : FileStand) (front rest : List TopTree) (d : TopTree) → tops_locals st (front ++ d ∷ rest) ≡ tops_locals st front ++ (decl_locals st d.decl ++ tops_locals st rest)
 
 -- the tokens of each function of a file follow one another where those of the file do
 abbrev pub FunctionsArePlaced : Type 0

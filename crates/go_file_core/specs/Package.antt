@@ -8,11 +8,11 @@ use Rattle.go_term_core.specs.decl_core.Outer.{IsPlaced}
 use Rattle.go_func_core.specs.block_core.declared.imports.Imported.{Imported}
 use Rattle.go_func_core.specs.entry_core.Meanings.{Shows}
 use Rattle.go_top_core.specs.expr_core.declared.things.Fault.{Fault}
-use Rattle.go_func_core.specs.body_core.Notes.{TheUse}
+use Rattle.go_func_core.specs.body_core.Notes.{TheUse, TheLocal}
 use Rattle.go_func_core.specs.Stands.{FileStand}
 use Rattle.go_file_core.specs.declared.file_at.FileAt.{FileAt}
 use Rattle.go_file_core.specs.declared.whole.CheckedFile.{CheckedFile}
-use Rattle.go_file_core.specs.Files.{file_uses, file_faults}
+use Rattle.go_file_core.specs.Files.{file_uses, file_faults, file_locals}
 use Rattle.go_file_core.specs.Stands.{AreInitialTypes, AreFunctionTypes, stand_of}
 
 -- the tree that a reference shows
@@ -25,16 +25,17 @@ pub record IsReady {P : Type 0} (shows : P → Shows) (at : FileAt P) (f : FileT
   pub initial : AreInitialTypes (stand_of shows at) f at.initial.now
   pub functions : AreFunctionTypes (stand_of shows at) f at.functions.now
 
--- what the occurrences of a file have, and its faults
+-- what the occurrences of a file have, its faults, and the locals of its functions
 pub record CheckedFileOf : Type 0 where
   pub uses : List TheUse
   pub faults : List Fault
+  pub locals : List TheLocal
 
 abbrev pub checked_shown : CheckedFile → CheckedFileOf
-checked_shown c = record { uses = c.uses.items; faults = c.faults.items }
+checked_shown c = record { uses = c.uses.items; faults = c.faults.items; locals = c.locals.items }
 
 abbrev pub file_checked : FileStand → List Imported → FileTree → CheckedFileOf
-file_checked st imports f = record { uses = file_uses st imports f; faults = file_faults st f }
+file_checked st imports f = record { uses = file_uses st imports f; faults = file_faults st f; locals = file_locals st f }
 
 -- of each file
 abbrev pub files_checked : {P : Type 0} → (P → Shows) → List (FileAt P) → List FileTree → List CheckedFileOf

@@ -9,13 +9,13 @@ ghost use Rattle.go_top_core.specs.Tops as tops;
 ghost use Rattle.go_func_core.specs.Stands.{outer_looks};
 ghost use Rattle.go_func_core.specs.Functions.{checked_func};
 ghost use Rattle.go_func_core.specs.Laws.{AreFuncTypes};
-ghost use Rattle.go_file_core.specs.Files.{decl_uses, decl_faults, tops_uses, tops_faults};
+ghost use Rattle.go_file_core.specs.Files.{decl_uses, decl_faults, decl_locals, tops_uses, tops_faults, tops_locals};
 ghost use Rattle.go_file_core.specs.Stands.{stand_of};
 ghost use Rattle.go_file_core.specs.mirrors.Steps.{AreMade, AreSeen, HasNext, behind};
 
 use crate::file_at::FileAt;
 use crate::notes::FileNotes;
-use go_func_core::body_core::check_body;
+use go_func_core::body_core::{Local, check_body};
 use go_func_core::entry_core::ImportedNames;
 use go_func_core::env_core::{Meaning, Scene, stand};
 use go_func_core::names_core::OpenNames;
@@ -68,26 +68,29 @@ fn check_types<'p, P: ImportedNames>(
     check_type_decl(&top, alloc, decl, notes)
 }
 
-// Notes what a function has and breaks, with the types that are written in it.
+// Notes what a function has and breaks, with the types that are written in it, and adds the locals that it declares.
 fn check_func<'p, P: ImportedNames>(
     alloc: Global,
     at: &FileAt<'_, 'p, P>,
     inline: &'p InlineTypes,
     func: &FuncDecl,
     notes: &mut FileNotes<'p>,
+    locals: &mut Vec<Local<'p>>,
 ) -> Result<(), AllocError>
     requires placed { IsFuncPlaced (func_of func.now) }
     requires types { AreFuncTypes (stand_of P.shows at.now) (func_of func.now) inline.now }
     ensures uses { OnOk result (notes.new.uses.items ≡ notes.old.uses.items ++ (checked_func (stand_of P.shows at.now) (func_of func.now)).uses) }
     ensures faults { OnOk result (notes.new.faults.items ≡ notes.old.faults.items ++ (checked_func (stand_of P.shows at.now) (func_of func.now)).faults) }
+    ensures locals { OnOk result (locals.new.items ≡ locals.old.items ++ (checked_func (stand_of P.shows at.now) (func_of func.now)).locals) }
 {
     let mut body = check_body(alloc, at.scene, at.file, inline, at.known, func)?;
     notes.uses.append(&mut body.uses)?;
+    locals.append(&mut body.locals)?;
     notes.faults.append(&mut body.faults)
 }
 
-// Notes what a declaration has and breaks, where the functions of the file that are not checked yet begin at this number. The answer is where
-// they begin behind it.
+// Notes what a declaration has and breaks, and adds the locals that it declares, where the functions of the file that are not checked yet begin at
+// this number. The answer is where they begin behind it.
 fn check_decl<'p, P: ImportedNames>(
     alloc: Global,
     at: &FileAt<'_, 'p, P>,
@@ -95,6 +98,7 @@ fn check_decl<'p, P: ImportedNames>(
     next: usize,
     decl: &Decl,
     notes: &mut FileNotes<'p>,
+    declared: &mut Vec<Local<'p>>,
 ) -> Result<usize, AllocError>
     requires scopes { names.now.scopes.now ≡ scopes_model (scene_shown at.now.scene.now).blocks at.now.file [] }
     requires locals { names.now.locals.now ≡ [] }
@@ -102,6 +106,7 @@ fn check_decl<'p, P: ImportedNames>(
     requires functions { HasNext (stand_of P.shows at.now) (decl_of decl.now) at.now.functions.now next }
     ensures uses { IfOk result (λ n. notes.new.uses.items ≡ notes.old.uses.items ++ decl_uses (stand_of P.shows at.now) (decl_of decl.now)) }
     ensures faults { IfOk result (λ n. notes.new.faults.items ≡ notes.old.faults.items ++ decl_faults (stand_of P.shows at.now) (decl_of decl.now)) }
+    ensures declared { IfOk result (λ n. declared.new.items ≡ declared.old.items ++ decl_locals (stand_of P.shows at.now) (decl_of decl.now)) }
     ensures next { IfOk result (λ n. n ≡ behind (decl_of decl.now) next) }
 {
     match decl {
@@ -114,45 +119,49 @@ fn check_decl<'p, P: ImportedNames>(
             Ok(next)
         }
         Decl::Func(func) => {
-            check_func(alloc, at, &at.functions[next], func, notes)?;
+            check_func(alloc, at, &at.functions[next], func, notes, declared)?;
             Ok(next + 1)
         }
     }
 }
 
-// Notes what declarations have and break, one behind another.
+// Notes what declarations have and break, and adds the locals that they declare, one behind another.
 fn check_tops<'p, P: ImportedNames>(
     alloc: Global,
     at: &FileAt<'_, 'p, P>,
     names: &OpenNames<Meaning<'p>>,
     decls: &[TopDecl],
     notes: &mut FileNotes<'p>,
+    declared: &mut Vec<Local<'p>>,
 ) -> Result<(), AllocError>
     requires scopes { names.now.scopes.now ≡ scopes_model (scene_shown at.now.scene.now).blocks at.now.file [] }
     requires locals { names.now.locals.now ≡ [] }
     requires made { AreMade (stand_of P.shows at.now) at.now.initial.now at.now.functions.now (map top_of decls.now) }
     ensures uses { OnOk result (notes.new.uses.items ≡ notes.old.uses.items ++ tops_uses (stand_of P.shows at.now) (map top_of decls.now)) }
     ensures faults { OnOk result (notes.new.faults.items ≡ notes.old.faults.items ++ tops_faults (stand_of P.shows at.now) (map top_of decls.now)) }
+    ensures declared { OnOk result (declared.new.items ≡ declared.old.items ++ tops_locals (stand_of P.shows at.now) (map top_of decls.now)) }
 {
     let mut next = 0;
     for top in decls {
-        next = check_decl(alloc, at, names, next, &top.decl, notes)?;
+        next = check_decl(alloc, at, names, next, &top.decl, notes, declared)?;
     }
     Ok(())
 }
 
-/// Notes what the declarations of a file have and break, one behind another.
+/// Notes what the declarations of a file have and break, and adds the locals that they declare, one behind another.
 pub(crate) fn check_decls<'p, P: ImportedNames>(
     alloc: Global,
     at: &FileAt<'_, 'p, P>,
     decls: &[TopDecl],
     notes: &mut FileNotes<'p>,
+    declared: &mut Vec<Local<'p>>,
 ) -> Result<(), AllocError>
     requires made { AreMade (stand_of P.shows at.now) at.now.initial.now at.now.functions.now (map top_of decls.now) }
     ensures uses { OnOk result (notes.new.uses.items ≡ notes.old.uses.items ++ tops_uses (stand_of P.shows at.now) (map top_of decls.now)) }
     ensures faults { OnOk result (notes.new.faults.items ≡ notes.old.faults.items ++ tops_faults (stand_of P.shows at.now) (map top_of decls.now)) }
+    ensures declared { OnOk result (declared.new.items ≡ declared.old.items ++ tops_locals (stand_of P.shows at.now) (map top_of decls.now)) }
 {
     let scopes = Scopes::begin(alloc, at.scene.blocks, at.file);
     let names = outer_names(at.scene, &scopes);
-    check_tops(alloc, at, &names, decls, notes)
+    check_tops(alloc, at, &names, decls, notes, declared)
 }

@@ -7,8 +7,8 @@ pub fn files_have_occurrences()
     ensures { FilesHaveOccurrences }
 {}
 
-/// What a declaration has and breaks depends on the file's other declarations by what is known of them alone: whatever stands before it and
-/// behind it, it adds the same.
+/// What a declaration has and breaks, and the locals that it declares, depend on the file's other declarations by what is known of them alone:
+/// whatever stands before it and behind it, it adds the same.
 pub fn declarations_stand_alone()
     ensures { DeclarationsStandAlone }
 {}

@@ -1,4 +1,4 @@
-//! What the occurrences of a file have, and its faults: its imports, and its declarations one by one.
+//! What the occurrences of a file have, its faults, and the locals of its functions: its imports, and its declarations one by one.
 //!
 //! The Go specification, "Import declarations", "Declarations and scope", "Constant declarations", "Variable declarations", "Type
 //! declarations", "Function declarations".
@@ -16,3 +16,8 @@ pub use bodies::check_bodies;
 pub use file_at::FileAt;
 pub use laws::{declarations_stand_alone, files_have_occurrences, functions_are_placed};
 pub use whole::{CheckedFile, check_file};
+
+/// What the crates above name of `go_body_core`.
+pub mod body_core {
+    pub use go_func_core::body_core::Local;
+}

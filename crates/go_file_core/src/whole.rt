@@ -2,14 +2,14 @@
 ghost use Rattle.std.specs.Prelude.{◌≡◌, IfOk};
 ghost use Rattle.go_tree_nodes.specs.Shapes.{file_of};
 ghost use Rattle.go_term_core.specs.decl_core.Outer.{IsPlaced};
-ghost use Rattle.go_file_core.specs.Files.{file_uses, file_faults};
+ghost use Rattle.go_file_core.specs.Files.{file_uses, file_faults, file_locals};
 ghost use Rattle.go_file_core.specs.Stands.{AreInitialTypes, AreFunctionTypes, stand_of};
 
 use crate::decls::check_decls;
 use crate::file_at::FileAt;
 use crate::imports::add_imports;
 use crate::notes::nothing;
-use go_func_core::body_core::BodyUse;
+use go_func_core::body_core::{BodyUse, Local};
 use go_func_core::entry_core::ImportedNames;
 use go_top_core::expr_core::{Fault, Notes};
 use go_tree_nodes::File;
@@ -24,6 +24,8 @@ pub struct CheckedFile<'p> {
     /// Its faults beside these outcomes, one declaration behind another. A pair of a place and a rule may stand there twice, and as an outcome
     /// too. What is asked of the package as a whole is not among them.
     pub faults: Vec<Fault>,
+    /// The locals that its functions declare, in order of their identifiers' places.
+    pub locals: Vec<Local<'p>>,
 }
 
 /// Checks a file of a package.
@@ -49,10 +51,16 @@ pub fn check_file<'n, 'p, P: ImportedNames>(
     requires functions { AreFunctionTypes (stand_of P.shows at.now) (file_of tree.now) at.now.functions.now }
     ensures uses { IfOk result (λ c. c.uses.items ≡ file_uses (stand_of P.shows at.now) at.now.imports.now (file_of tree.now)) }
     ensures faults { IfOk result (λ c. c.faults.items ≡ file_faults (stand_of P.shows at.now) (file_of tree.now)) }
+    ensures locals { IfOk result (λ c. c.locals.items ≡ file_locals (stand_of P.shows at.now) (file_of tree.now)) }
 {
     let mut notes = nothing(alloc);
     add_imports(alloc, &tree.imports, at.imports, &mut notes.uses)?;
-    check_decls(alloc, at, tree.decls.as_slice(), &mut notes)?;
+    let mut locals = Vec::new(alloc);
+    check_decls(alloc, at, tree.decls.as_slice(), &mut notes, &mut locals)?;
     let Notes { uses, faults } = notes;
-    Ok(CheckedFile { uses, faults })
+    Ok(CheckedFile {
+        uses,
+        faults,
+        locals,
+    })
 }

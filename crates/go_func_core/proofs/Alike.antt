@@ -14,7 +14,6 @@ use Rattle.go_body_core.specs.handle_core.Declarations.{Declaration}
 use Rattle.go_body_core.specs.local_core.Steps.{Piece, spell_piece}
 use Rattle.go_body_core.specs.local_core.Binding.{Look}
 use Rattle.go_body_core.specs.local_core.Alike.{Alike, AlikeAt, LookAtNames}
-use Rattle.go_body_core.specs.names_core.Uses.{place_of}
 use Rattle.go_body_core.specs.expr_core.Locality.{SameWritten}
 use Rattle.go_body_core.specs.inline_core.declared.scoped.Scoped.{Scoped}
 use Rattle.go_body_core.specs.inline_core.declared.scoped.Scoped.TheVariants as scoped
@@ -23,16 +22,14 @@ use Rattle.go_body_core.specs.inline_core.Trees as inline
 use Rattle.go_body_core.specs.inline_core.Inline.{inline_of, inlines}
 use Rattle.go_body_core.specs.inline_core.Functions.{looked_up, is_local, meaning_in}
 use Rattle.go_body_core.specs.inline_core.mirrors.Alike.{inlines_alike}
-use Rattle.go_body_core.specs.piece_core.Pieces.{piece_names}
 use Rattle.go_body_core.specs.piece_core.Headers.{returned_types, returned_names}
 use Rattle.go_body_core.specs.piece_core.Laws.{FindByNames}
-use Rattle.go_body_core.specs.piece_core.Shown.{pieces_look}
 use Rattle.go_body_core.specs.env_core.declared.meaning.Meaning.{Meaning}
 use Rattle.go_body_core.specs.env_core.declared.meaning.Meaning.TheVariants as meanings
 use Rattle.go_body_core.specs.env_core.Found.{found_of}
 use Rattle.go_body_core.specs.env_core.Looks.{inline_type, inline_faults}
-use Rattle.go_body_core.specs.Notes.{NoteOf, note}
-use Rattle.go_body_core.specs.Rules.{value_at}
+use Rattle.go_body_core.specs.Notes.{NoteOf}
+use Rattle.go_body_core.specs.mirrors.Names.{look_at_names}
 use Rattle.go_func_core.specs.Types.{is_inside, named_where}
 use Rattle.go_func_core.specs.Stands.{FileStand, kinds_in, looks_where, outer_looks}
 use Rattle.go_func_core.specs.Functions.{func_rules}
@@ -112,5 +109,4 @@ module _ (st : FileStand) where
 
   pub rules_look_at_names : (f : FuncTree) → LookAtNames Meaning NoteOf (func_rules st f)
   rules_look_at_names f =
-      pieces_look Meaning NoteOf Term Sign Declaration (List ℕ) (looks_where st) (returned_types (outer_looks st) f.signature) (returned_names f.signature)
-      (λ p us fs. note us fs ∷ []) (λ p vs n. meanings.Local (place_of (piece_names p) n) (value_at vs n)) by_names
+      look_at_names (looks_where st) (returned_types (outer_looks st) f.signature) (returned_names f.signature) by_names

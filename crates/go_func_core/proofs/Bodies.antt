@@ -13,24 +13,21 @@ use Rattle.go_body_core.specs.local_core.Binding.{Local, Look, bound, is_first}
 use Rattle.go_body_core.specs.local_core.Law.{Rules}
 use Rattle.go_body_core.specs.local_core.Tables.{IsFuncPlaced, walked, given}
 use Rattle.go_body_core.specs.local_core.TablesProofs.{one_table}
-use Rattle.go_body_core.specs.names_core.Uses.{place_of}
 use Rattle.go_body_core.specs.expr_core.Laws.{Agree}
 use Rattle.go_body_core.specs.expr_core.Locality.{SameWritten}
 use Rattle.go_body_core.specs.inline_core.Types.{InlineOf}
 use Rattle.go_body_core.specs.inline_core.Trees as inline
 use Rattle.go_body_core.specs.inline_core.Inline.{inline_of}
 use Rattle.go_body_core.specs.inline_core.ByIntervals.{steps_types, func_all}
-use Rattle.go_body_core.specs.piece_core.Pieces.{piece_uses, piece_faults, piece_names}
 use Rattle.go_body_core.specs.piece_core.Headers.{returned_types, returned_names}
 use Rattle.go_body_core.specs.piece_core.Laws.{SamePiece, piece_idents}
 use Rattle.go_body_core.specs.piece_core.Local.{pieces_local}
 use Rattle.go_body_core.specs.env_core.declared.meaning.Meaning.{Meaning}
-use Rattle.go_body_core.specs.env_core.declared.meaning.Meaning.TheVariants as meanings
 use Rattle.go_body_core.specs.env_core.Looks.{TheLooks, looks_in, inline_rules, inline_type, inline_faults}
 use Rattle.go_body_core.specs.Agreement.{AreAlike}
 use Rattle.go_body_core.specs.Notes.{NoteOf, note}
 use Rattle.go_body_core.specs.Rules as body
-use Rattle.go_body_core.specs.Rules.{value_at, top_looks}
+use Rattle.go_body_core.specs.Rules.{local_at, piece_locals, top_looks}
 use Rattle.go_body_core.specs.Body.{body_of}
 use Rattle.go_body_core.proofs.Agreement.{alike_rules_give_one}
 use Rattle.go_func_core.specs.Types.{named_where}
@@ -91,11 +88,10 @@ module _ (st : FileStand) (types : List (ℕ × InlineOf)) (all : List (Local Me
     theirs = body.body_rules st.scene st.file.file st.known (inline_rules st.scene types) results has_names
 
     noted : (firsts : List Bool) (p : Piece) → SamePiece Term Sign Declaration (List ℕ) written listed p → own.notes look firsts p ≡ theirs.notes look firsts p
-    noted firsts p same =
-        ap (λ us. note us (piece_faults written results has_names firsts p) ∷ []) same.uses ∙ ap (λ fs. note (piece_uses listed p) fs ∷ []) (same.faults results has_names firsts)
+    noted firsts p same = (λ j. note (same.uses j) (same.faults results has_names firsts j) (piece_locals firsts p (local_at p (same.values firsts j))) ∷ [])
 
     meant : (firsts : List Bool) (p : Piece) → SamePiece Term Sign Declaration (List ℕ) written listed p → own.means look firsts p ≡ theirs.means look firsts p
-    meant firsts p same = ap (λ vs n. meanings.Local (place_of (piece_names p) n) (value_at vs n)) (same.values firsts)
+    meant firsts p same = ap (local_at p) (same.values firsts)
 
     steps_same : (opens : ℕ) (steps : Steps) → Each Has (steps_types steps) → AreAlike own theirs (outer_names st) all opens steps
     steps_same opens Done h = tt
@@ -132,7 +128,7 @@ module _ (st : FileStand) (types : List (ℕ × InlineOf)) (f : FuncTree) (place
       (steps_same st types all (returned_types (outer_looks st) f.signature) (returned_names f.signature) (func_opens f) (func_steps f) (subst (Each (HasAt st types (here_named st all))) (sym (func_all f)) each_at))
 
 pub bodies_are_as_written : BodiesAreAsWritten
-bodies_are_as_written st types f us fs placed are is =
+bodies_are_as_written st types f us fs ls placed are is =
     let rules = func_rules st f in
     let other = body.func_rules st.scene st.file.file st.known (inline_rules st.scene types) f in
     let beyond = outer_names st in
@@ -142,4 +138,4 @@ bodies_are_as_written st types f us fs placed are is =
     let both = alike_rules_give_one Meaning NoteOf rules other beyond f all table (alike st types f placed are all table) in
     let theirs = is all both.0 in
     let same : given other beyond f all ≡ walked rules beyond f = both.1 ∙ one.1 in
-    (theirs.0 ∙ ap (λ o. (body_of f o).uses) same, theirs.1 ∙ ap (λ o. (body_of f o).faults) same)
+    (theirs.0 ∙ ap (λ o. (body_of f o).uses) same, theirs.1 ∙ ap (λ o. (body_of f o).faults) same, theirs.2 ∙ ap (λ o. (body_of f o).locals) same)

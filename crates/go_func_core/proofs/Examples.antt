@@ -6,4 +6,4 @@ use Rattle.go_func_core.specs.Worked.{WorkedTypes}
 
 pub worked_types : WorkedTypes
 unfolding universe spelling_of found
-worked_types = record { uses_walked = refl; faults_walked = refl; locals_are = refl; uses_given = refl; faults_given = refl }
+worked_types = record { uses_walked = refl; faults_walked = refl; locals_are = refl; locals_walked = refl; uses_given = refl; faults_given = refl }

@@ -1,8 +1,13 @@
 pub mod Alike
 pub mod Bodies
+pub mod Declared
+pub mod Denoted
 pub mod Examples
 pub mod Listed
+pub mod Locals
+pub mod Named
 pub mod Occurring
 pub mod Regions
 pub mod Returned
+pub mod Rising
 pub mod Seen

@@ -1,29 +1,24 @@
--- What the occurrences of a function have, and its faults, with the types that it writes: by what names mean where they stand, and nothing else.
+-- What the occurrences of a function have, its faults and its locals, with the types that it writes: by what names mean where they stand, and
+-- nothing else.
 --
 -- docs/RULES.md, "Bodies of functions", "Types inside functions". The Go specification, "Blocks", "Declarations and scope", "Types", "Statements".
-use Rattle.std.specs.Prelude.{Bool, List, [], ◌∷◌, Option}
+use Rattle.std.specs.Prelude.{Bool, List, Option}
 use Rattle.go_tree_nodes.specs.Trees.{FuncTree}
 use Rattle.go_term_core.specs.Terms.{Term}
 use Rattle.go_body_core.specs.local_core.Binding.{Local}
 use Rattle.go_body_core.specs.local_core.Law.{Rules, Out}
 use Rattle.go_body_core.specs.local_core.Tables.{walked, given, IsTable}
-use Rattle.go_body_core.specs.names_core.Uses.{place_of}
-use Rattle.go_body_core.specs.piece_core.Pieces.{piece_uses, piece_faults, piece_values, piece_names}
 use Rattle.go_body_core.specs.piece_core.Headers.{returned_types, returned_names}
 use Rattle.go_body_core.specs.env_core.declared.meaning.Meaning.{Meaning}
-use Rattle.go_body_core.specs.env_core.declared.meaning.Meaning.TheVariants as meanings
-use Rattle.go_body_core.specs.Notes.{NoteOf, note}
-use Rattle.go_body_core.specs.Rules.{value_at}
+use Rattle.go_body_core.specs.Notes.{NoteOf}
+use Rattle.go_body_core.specs.Rules.{rules_by}
 use Rattle.go_body_core.specs.Body.{BodyOf, body_of}
 use Rattle.go_func_core.specs.Stands.{FileStand, looks_where, outer_names, outer_looks}
 
--- the rules of a function's pieces, by the types of its results, and whether these have names: of a piece its uses and its faults are noted, and
--- a name that it declares is a local, by the offset of its identifier, which stands for its value
+-- the rules of a function's pieces, by the types of its results, and whether these have names: of a piece its uses, its faults and the locals that
+-- it declares are noted, and a name that it declares is a local, by the offset of its identifier, which stands for its value
 abbrev pub own_rules : FileStand → List (Option Term) → Bool → Rules Meaning NoteOf
-own_rules st results has_names = record {
-  notes = λ look firsts p. note (piece_uses (looks_where st look) p) (piece_faults (looks_where st look) results has_names firsts p) ∷ [];
-  means = λ look firsts p n. meanings.Local (place_of (piece_names p) n) (value_at (piece_values (looks_where st look) firsts p) n);
-}
+own_rules st = rules_by (looks_where st)
 
 -- those of a function: its results are those of its header, whose types are written outside it
 abbrev pub func_rules : FileStand → FuncTree → Rules Meaning NoteOf
@@ -33,7 +28,8 @@ func_rules st f = own_rules st (returned_types (outer_looks st) f.signature) (re
 abbrev pub walked_func : FileStand → FuncTree → Out Meaning NoteOf
 walked_func st f = walked (func_rules st f) (outer_names st) f
 
--- what the occurrences of a function have, in order of their places, and its faults: on the way through it, with the names that are open
+-- what the occurrences of a function have, in order of their places, its faults, and the locals that it declares: on the way through it, with the
+-- names that are open
 abbrev pub checked_func : FileStand → FuncTree → BodyOf
 checked_func st f = body_of f (walked_func st f)
 

@@ -19,7 +19,7 @@ use Rattle.go_body_core.specs.inline_core.Inline.{inlines}
 use Rattle.go_body_core.specs.inline_core.Functions.{scoped_outside, AreInlines}
 use Rattle.go_body_core.specs.env_core.declared.meaning.Meaning.{Meaning}
 use Rattle.go_body_core.specs.env_core.Looks.{inline_rules}
-use Rattle.go_body_core.specs.Notes.{TheUse}
+use Rattle.go_body_core.specs.Notes.{TheUse, TheLocal}
 use Rattle.go_body_core.specs.WellFormed.{IsFuncOfGrammar}
 use Rattle.go_body_core.specs.Body.{IsGivenBody}
 use Rattle.go_func_core.specs.Types.{named_where}
@@ -30,11 +30,12 @@ use Rattle.go_func_core.specs.Functions.{walked_func, checked_func, func_by, Are
 abbrev pub AreFuncTypes : FileStand → FuncTree → List (ℕ × InlineOf) → Type 0
 AreFuncTypes st f types = AreInlines (kinds_in st.scene) st.file st.top (beyond_in scoped_outside st.scene.blocks st.file.file) f types
 
--- what is given of a function by a table of its types is what its occurrences have, and its faults, with each type as it is written
+-- what is given of a function by a table of its types is what its occurrences have, its faults and its locals, with each type as it is written
 abbrev pub BodiesAreAsWritten : Type 0
 BodiesAreAsWritten =
-    (st : FileStand) (types : List (ℕ × InlineOf)) (f : FuncTree) (us : List TheUse) (fs : List Fault) → IsFuncPlaced f → AreFuncTypes st f types
-    → IsGivenBody st.scene st.file.file st.known (inline_rules st.scene types) f us fs → (us ≡ (checked_func st f).uses) × (fs ≡ (checked_func st f).faults)
+    (st : FileStand) (types : List (ℕ × InlineOf)) (f : FuncTree) (us : List TheUse) (fs : List Fault) (ls : List TheLocal) → IsFuncPlaced f → AreFuncTypes st f types
+    → IsGivenBody st.scene st.file.file st.known (inline_rules st.scene types) f us fs ls
+    → (us ≡ (checked_func st f).uses) × (fs ≡ (checked_func st f).faults) × (ls ≡ (checked_func st f).locals)
 
 -- there is one list of a function's declarations that is right, and by the regions of its declarations the function has what it has on the way
 -- through it

@@ -3,6 +3,7 @@
 --
 -- docs/RULES.md, "Types inside functions", "Bodies of functions". The Go specification, "Declarations and scope".
 use Rattle.std.specs.Prelude.{◌≡◌, ℕ, suc, false, List, [], ◌∷◌, map, Some, None, codes}
+use Rattle.std.specs.List.{flat_map}
 use Rattle.go_text_core.specs.declared.span.Span.{Span}
 use Rattle.go_text_core.specs.declared.rule.Rule.TheVariants.{N6}
 use Rattle.go_universe_core.specs.declared.Predeclared.TheVariants as predeclared
@@ -30,6 +31,7 @@ use Rattle.go_body_core.specs.piece_core.Values.{variable}
 use Rattle.go_body_core.specs.env_core.declared.meaning.Meaning.{Meaning}
 use Rattle.go_body_core.specs.env_core.declared.meaning.Meaning.TheVariants as meanings
 use Rattle.go_body_core.specs.Notes.{TheUse}
+use Rattle.go_body_core.specs.Rules.{local_meant}
 use Rattle.go_func_core.specs.Stands.{FileStand}
 use Rattle.go_func_core.specs.Functions.{walked_func, checked_func, func_by}
 
@@ -124,5 +126,6 @@ pub record WorkedTypes : Type 0 where
   pub uses_walked : (checked_func stand function).uses ≡ uses
   pub faults_walked : (checked_func stand function).faults ≡ []
   pub locals_are : map (λ d. d.means) (walked_func stand function).declares ≡ locals
+  pub locals_walked : (checked_func stand function).locals ≡ flat_map local_meant locals
   pub uses_given : (func_by stand function (walked_func stand function).declares).uses ≡ uses
   pub faults_given : (func_by stand function (walked_func stand function).declares).faults ≡ []

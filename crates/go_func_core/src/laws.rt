@@ -1,9 +1,10 @@
 //! Laws of functions and the types that they write, with nothing to run.
 ghost use Rattle.go_func_core.specs.Laws.{BodiesAreAsWritten, FunctionsHaveOccurrences, FunctionsHaveOneTable, TypesAreSeenAlike};
+ghost use Rattle.go_func_core.specs.Locals.{LocalsAreDeclarations};
 ghost use Rattle.go_func_core.specs.Worked.{WorkedTypes};
 
 /// What the check of a function's body gives, by the regions of its declarations and by a table of the types that it writes, is what its
-/// occurrences have and its faults, where each type is what its names mean at their places. No table is named there.
+/// occurrences have, its faults and its locals, where each type is what its names mean at their places. No table is named there.
 ///
 /// The Go specification, "Declarations and scope", "Types".
 pub fn bodies_are_as_written()
@@ -22,6 +23,14 @@ pub fn functions_have_one_table()
 /// exactly one outcome.
 pub fn functions_have_occurrences()
     ensures { FunctionsHaveOccurrences }
+{}
+
+/// The locals of a function are its declarations that hold, each at its identifier, in order, no two at one offset. A name that denotes a local
+/// where it stands denotes one of them, and stands for what that one stands for.
+///
+/// The Go specification, "Declarations and scope", "Short variable declarations".
+pub fn locals_are_declarations()
+    ensures { LocalsAreDeclarations }
 {}
 
 /// What a table of types has at the first byte of a type is what the type's names make it where they stand: inside a function by the regions

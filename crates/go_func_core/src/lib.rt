@@ -8,7 +8,7 @@ mod laws;
 
 pub use laws::{
     bodies_are_as_written, functions_have_occurrences, functions_have_one_table,
-    types_are_seen_alike, worked_types,
+    locals_are_declarations, types_are_seen_alike, worked_types,
 };
 
 /// What the crates above name of `go_block_core`.
@@ -18,7 +18,7 @@ pub mod block_core {
 
 /// What the crates above name of `go_body_core`.
 pub mod body_core {
-    pub use go_body_core::{BodyUse, check_body};
+    pub use go_body_core::{BodyUse, Local, check_body};
 }
 
 /// What the crates above name of `go_entry_core`.

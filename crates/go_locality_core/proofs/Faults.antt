@@ -13,18 +13,18 @@ use Rattle.go_term_core.specs.decl_core.declared.keys.DeclKey.{DeclKey}
 use Rattle.go_term_core.specs.decl_core.TopDecls.{TopDeclTree, FormTree, ValueForm, TypeForm, FuncForm}
 use Rattle.go_term_core.specs.declared.term.MemberPlace.{MemberPlace}
 use Rattle.go_term_core.specs.Terms.{Term, NoType, Predeclared, ErrorType, Defined, PointerTo, StructOf, InterfaceOf, AMethod, NoMethod, Sign, term_keys, sign_keys}
-use Rattle.go_embed_core.specs.settle_core.declared.kind.Kind.{Kind}
-use Rattle.go_embed_core.specs.settle_core.Settled.{kind_of_term, has_name}
-use Rattle.go_table_core.specs.Entries.{Entry, Member, find, members_keys, term_in}
-use Rattle.go_table_core.specs.Methods.{has_field_before}
-use Rattle.go_type_core.specs.declared.build.TypeFault.{TypeFault}
-use Rattle.go_embed_core.specs.Faults.{can_be_base, declared_faults, fault_if, hidden_faults, is_open_base, sign_faults, term_faults}
-use Rattle.go_embed_core.proofs.Telling.{faults_local}
-use Rattle.go_fault_core.specs.entry_core.Entries.{Meanings}
-use Rattle.go_fault_core.specs.entry_core.Outlines.{FileOutline}
-use Rattle.go_fault_core.specs.entry_core.Among.{Among}
-use Rattle.go_fault_core.specs.Places.{all_located, fault_in}
-use Rattle.go_fault_core.specs.TypeFaults.{base_start, entries_faults, entry_faults, faults_of_types, form_fault, kind_in, loops_faults, met_in, met_type, received_fault, receivers_faults}
+use Rattle.go_near_core.specs.settle_core.declared.kind.Kind.{Kind}
+use Rattle.go_near_core.specs.settle_core.Settled.{kind_of_term, has_name}
+use Rattle.go_near_core.specs.table_core.Entries.{Entry, Member, find, members_keys, term_in}
+use Rattle.go_near_core.specs.table_core.Methods.{has_field_before}
+use Rattle.go_package_core.specs.type_core.declared.build.TypeFault.{TypeFault}
+use Rattle.go_near_core.specs.embed_core.Faults.{can_be_base, declared_faults, fault_if, hidden_faults, is_open_base, sign_faults, term_faults}
+use Rattle.go_near_core.specs.embed_core.Telling.{faults_local}
+use Rattle.go_near_core.specs.entry_core.Entries.{Meanings}
+use Rattle.go_near_core.specs.entry_core.Outlines.{FileOutline}
+use Rattle.go_near_core.specs.entry_core.Among.{Among}
+use Rattle.go_package_core.specs.fault_core.Places.{all_located, fault_in}
+use Rattle.go_package_core.specs.fault_core.TypeFaults.{base_start, entries_faults, entry_faults, faults_of_types, form_fault, kind_in, loops_faults, met_in, met_type, received_fault, receivers_faults}
 use Rattle.go_locality_core.proofs.Names.{AllInside, none_inside}
 use Rattle.go_locality_core.proofs.Types.{IsEntryInside}
 

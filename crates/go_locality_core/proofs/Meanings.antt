@@ -1,9 +1,9 @@
 -- Laws of what the check of a package looks at in other packages.
 use Rattle.std.proofs.Common.{◌≡◌, ℕ, List, [], ◌∷◌, refl, sym, subst}
 use Rattle.std.specs.Prelude.{Contains}
-use Rattle.go_block_core.specs.declared.binding.Target.{Target}
-use Rattle.go_block_core.specs.declared.binding.Target.TheVariants as targets
-use Rattle.go_ready_core.specs.Packages.{PackageIn}
+use Rattle.go_near_core.specs.block_core.declared.binding.Target.{Target}
+use Rattle.go_near_core.specs.block_core.declared.binding.Target.TheVariants as targets
+use Rattle.go_package_core.specs.ready_core.Packages.{PackageIn}
 use Rattle.go_locality_core.specs.Known.{Known, BindsInside, IsTargetIn, MentionsInside}
 use Rattle.go_locality_core.specs.Reached.{LeadsBy, Reaches}
 use Rattle.go_locality_core.specs.Laws.{CheckIsLocal, OnlyReachedPackagesCount, StandsWithin}

@@ -10,15 +10,15 @@ use Rattle.go_term_core.specs.decl_core.declared.places.DeclKind.{DeclKind}
 use Rattle.go_term_core.specs.decl_core.declared.places.DeclKind.TheVariants as kinds
 use Rattle.go_term_core.specs.decl_core.declared.keys.DeclKey.{DeclKey}
 use Rattle.go_term_core.specs.decl_core.declared.keys.DeclRef.{DeclRef}
-use Rattle.go_block_core.specs.declared.binding.Binding.{Binding}
-use Rattle.go_block_core.specs.declared.binding.Target.{Target}
-use Rattle.go_block_core.specs.declared.binding.Target.TheVariants as targets
-use Rattle.go_block_core.specs.Blocks.{BlocksModel, file_binding}
-use Rattle.go_block_core.specs.Tables.{in_block}
+use Rattle.go_near_core.specs.block_core.declared.binding.Binding.{Binding}
+use Rattle.go_near_core.specs.block_core.declared.binding.Target.{Target}
+use Rattle.go_near_core.specs.block_core.declared.binding.Target.TheVariants as targets
+use Rattle.go_near_core.specs.block_core.Blocks.{BlocksModel, file_binding}
+use Rattle.go_near_core.specs.block_core.Tables.{in_block}
 use Rattle.go_term_core.specs.Terms.{term_keys}
-use Rattle.go_fault_core.specs.entry_core.Entries.{package_meanings}
-use Rattle.go_fault_core.specs.entry_core.Meanings.{Shows, file_meaning, key_of, outside_meaning, plain_meaning, qualified_meaning, shown_type, type_in_binding, type_in_target, type_of_kind, type_of_predeclared, type_of_target, type_of_universe}
-use Rattle.go_fault_core.specs.entry_core.Among.{among_from}
+use Rattle.go_near_core.specs.entry_core.Entries.{package_meanings}
+use Rattle.go_near_core.specs.entry_core.Meanings.{Shows, file_meaning, key_of, outside_meaning, plain_meaning, qualified_meaning, shown_type, type_in_binding, type_in_target, type_of_kind, type_of_predeclared, type_of_target, type_of_universe}
+use Rattle.go_near_core.specs.entry_core.Among.{among_from}
 use Rattle.go_locality_core.specs.Known.{IsTargetIn}
 
 module _ (Inside : List ℕ → Type 0) where

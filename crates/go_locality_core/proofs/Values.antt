@@ -10,39 +10,39 @@ use Rattle.go_tree_nodes.specs.declared.types.TypeName.{TypeName}
 use Rattle.go_tree_nodes.specs.Trees.{TypeTree, ValueSpecTree}
 use Rattle.go_term_core.specs.decl_core.Outer.{IsPlaced}
 use Rattle.go_term_core.specs.decl_core.TopDecls.{TopDeclTree, FormTree, ValueForm, TypeForm, FuncForm}
-use Rattle.go_embed_core.specs.settle_core.Settled.{settled}
-use Rattle.go_embed_core.specs.settle_core.Mentions.{settled_mentions_written, sign_mentions}
+use Rattle.go_near_core.specs.settle_core.Settled.{settled}
+use Rattle.go_near_core.specs.settle_core.Mentions.{settled_mentions_written, sign_mentions}
 use Rattle.go_term_core.specs.Terms.{Term, Defined, term_keys}
-use Rattle.go_table_core.specs.Entries.{Entry, find}
-use Rattle.go_func_core.specs.decide_core.Conversion.{is_type}
-use Rattle.go_func_core.specs.decide_core.Rules.{typed}
-use Rattle.go_value_core.specs.operand_core.declared.types.ValueType.{ValueType}
-use Rattle.go_value_core.specs.operand_core.declared.types.ValueType.TheVariants as value_types
-use Rattle.go_value_core.specs.operand_core.declared.types.Operand.{Operand}
-use Rattle.go_func_core.specs.written_core.Written.{InFile, Meaning, term_of, signature_of}
-use Rattle.go_func_core.specs.written_core.ByNames.{written_by_names}
-use Rattle.go_fault_core.specs.entry_core.Entries.{Meanings, file_at, type_key}
-use Rattle.go_fault_core.specs.entry_core.Meanings.{file_meaning}
-use Rattle.go_fault_core.specs.entry_core.Outlines.{FileOutline}
-use Rattle.go_fault_core.specs.entry_core.Among.{Among, among_from, among_to, among_flat, among_map}
-use Rattle.go_func_core.specs.face_core.declared.face.Face.TheVariants as faces
-use Rattle.go_func_core.specs.face_core.Faces.{TheFace, variable_face}
-use Rattle.go_func_core.specs.face_core.Laws.{FileDecl}
-use Rattle.go_func_core.specs.face_core.Written as writing
-use Rattle.go_func_core.specs.face_core.Written.{WrittenOf, face_found, file_written, kinds_in, type_written, written_at, written_of, written_with}
-use Rattle.go_func_core.specs.env_core.Looks.{TheLooks}
-use Rattle.go_func_core.specs.Stands.{outer_looks}
-use Rattle.go_value_core.specs.needs_core.Needs.{AreValues, EndsWithin, known_in, needed}
-use Rattle.go_value_core.specs.local_core.Steps.{Spec}
-use Rattle.go_func_core.specs.scope_core.Laws.{denotes}
-use Rattle.go_func_core.specs.scope_core.Models.{scopes_model}
-use Rattle.go_value_core.specs.Around.{LeadsBack}
-use Rattle.go_value_core.specs.Initial.{initial}
-use Rattle.go_value_core.specs.Package as values
-use Rattle.go_value_core.specs.Package.{first_values, form_face, written_face}
-use Rattle.go_value_core.proofs.Owning.{specifications_alike}
-use Rattle.go_value_core.proofs.Deciding.{needs_decide}
-use Rattle.go_value_core.specs.piece_core.Pieces.{piece_values}
+use Rattle.go_near_core.specs.table_core.Entries.{Entry, find}
+use Rattle.go_near_core.specs.decide_core.Conversion.{is_type}
+use Rattle.go_near_core.specs.decide_core.Rules.{typed}
+use Rattle.go_near_core.specs.operand_core.declared.types.ValueType.{ValueType}
+use Rattle.go_near_core.specs.operand_core.declared.types.ValueType.TheVariants as value_types
+use Rattle.go_near_core.specs.operand_core.declared.types.Operand.{Operand}
+use Rattle.go_near_core.specs.written_core.Written.{InFile, Meaning, term_of, signature_of}
+use Rattle.go_near_core.specs.written_core.ByNames.{written_by_names}
+use Rattle.go_near_core.specs.entry_core.Entries.{Meanings, file_at, type_key}
+use Rattle.go_near_core.specs.entry_core.Meanings.{file_meaning}
+use Rattle.go_near_core.specs.entry_core.Outlines.{FileOutline}
+use Rattle.go_near_core.specs.entry_core.Among.{Among, among_from, among_to, among_flat, among_map}
+use Rattle.go_near_core.specs.face_core.declared.face.Face.TheVariants as faces
+use Rattle.go_near_core.specs.face_core.Faces.{TheFace, variable_face}
+use Rattle.go_near_core.specs.face_core.Laws.{FileDecl}
+use Rattle.go_near_core.specs.face_core.Written as writing
+use Rattle.go_near_core.specs.face_core.Written.{WrittenOf, face_found, file_written, kinds_in, type_written, written_at, written_of, written_with}
+use Rattle.go_near_core.specs.env_core.Looks.{TheLooks}
+use Rattle.go_near_core.specs.func_core.Stands.{outer_looks}
+use Rattle.go_package_core.specs.needs_core.Needs.{AreValues, EndsWithin, known_in, needed}
+use Rattle.go_near_core.specs.local_core.Steps.{Spec}
+use Rattle.go_near_core.specs.scope_core.Laws.{denotes}
+use Rattle.go_near_core.specs.scope_core.Models.{scopes_model}
+use Rattle.go_package_core.specs.value_core.Around.{LeadsBack}
+use Rattle.go_package_core.specs.value_core.Initial.{initial}
+use Rattle.go_package_core.specs.value_core.Package as values
+use Rattle.go_package_core.specs.value_core.Package.{first_values, form_face, written_face}
+use Rattle.go_package_core.specs.value_core.Owning.{specifications_alike}
+use Rattle.go_package_core.specs.value_core.Deciding.{needs_decide}
+use Rattle.go_near_core.specs.piece_core.Pieces.{piece_values}
 use Rattle.go_near_core.specs.Near.{Each, IfAny, NearValue, NearOperand}
 use Rattle.go_near_core.specs.Pieces.{IsPieceNearby}
 use Rattle.go_near_core.specs.Tables.{IsNear, near_rest}
@@ -50,11 +50,11 @@ use Rattle.go_near_core.specs.Functions.{StandsAgree}
 use Rattle.go_near_core.proofs.Closing.{either}
 use Rattle.go_near_core.proofs.Pieces.{pieces_nearby}
 use Rattle.go_near_core.proofs.Functions.{outer_closed, outer_agree}
-use Rattle.go_ready_core.specs.Laws.{placed_in}
-use Rattle.go_ready_core.specs.Packages.{PackageIn, scene_in, stand_in}
-use Rattle.go_ready_core.specs.Values.{AreDeclared, AreLooped, declared_in, decls_in, needs_in, some_face}
-use Rattle.go_ready_core.proofs.Lists.{among_at}
-use Rattle.go_ready_core.proofs.Values.{needs_same, faces_same}
+use Rattle.go_package_core.specs.ready_core.Laws.{placed_in}
+use Rattle.go_package_core.specs.ready_core.Packages.{PackageIn, scene_in, stand_in}
+use Rattle.go_package_core.specs.ready_core.Values.{AreDeclared, AreLooped, declared_in, decls_in, needs_in, some_face}
+use Rattle.go_package_core.specs.ready_core.Lists.{among_at}
+use Rattle.go_package_core.specs.ready_core.ValuesProofs.{needs_same, faces_same}
 use Rattle.go_locality_core.specs.Known.{Known, package_with, type_keys, value_type_keys}
 use Rattle.go_locality_core.proofs.Names.{AllInside, none_inside, one_inside}
 use Rattle.go_locality_core.proofs.Types.{near_of}

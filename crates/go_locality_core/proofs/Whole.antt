@@ -9,29 +9,29 @@ use Rattle.go_term_core.specs.decl_core.declared.keys.DeclKey.{DeclKey}
 use Rattle.go_term_core.specs.decl_core.declared.keys.DeclRef.{DeclRef}
 use Rattle.go_term_core.specs.decl_core.TopDecls.{top_decls}
 use Rattle.go_term_core.specs.Terms.{term_keys}
-use Rattle.go_table_core.specs.Entries.{Entry, find, entry_keys}
-use Rattle.go_type_core.specs.Built.{IsBuilt}
-use Rattle.go_type_core.specs.Laws.{written_keys}
-use Rattle.go_fault_core.specs.entry_core.Entries.{Meanings, entries_with, file_at, package_meanings, package_methods, type_key}
-use Rattle.go_fault_core.specs.entry_core.Meanings.{file_meaning}
-use Rattle.go_fault_core.specs.entry_core.Outlines.{FileOutline, outline_of}
-use Rattle.go_fault_core.specs.entry_core.Among.{Among}
-use Rattle.go_fault_core.specs.TypeFaults.{faults_of_types}
-use Rattle.go_answer_core.specs.handle_core.Declarations.{Declaration}
-use Rattle.go_answer_core.specs.expr_core.declared.things.Fault.{Fault}
-use Rattle.go_answer_core.specs.report_core.Faults.{IsSettled}
-use Rattle.go_func_core.specs.face_core.Faces.{TheFace}
-use Rattle.go_func_core.specs.face_core.Packages.{PackageFacesModel, face_among, face_by, face_in}
-use Rattle.go_func_core.specs.face_core.Written.{decls_of, package_written, same_place, written_at}
-use Rattle.go_func_core.specs.face_core.Locality.{written_are_local}
-use Rattle.go_answer_core.specs.Outer.{outer_faults}
-use Rattle.go_answer_core.specs.Shown.{exported_decls, is_listed, package_shown, shown_among, shown_if}
+use Rattle.go_near_core.specs.table_core.Entries.{Entry, find, entry_keys}
+use Rattle.go_package_core.specs.type_core.Built.{IsBuilt}
+use Rattle.go_package_core.specs.type_core.Laws.{written_keys}
+use Rattle.go_near_core.specs.entry_core.Entries.{Meanings, entries_with, file_at, package_meanings, package_methods, type_key}
+use Rattle.go_near_core.specs.entry_core.Meanings.{file_meaning}
+use Rattle.go_near_core.specs.entry_core.Outlines.{FileOutline, outline_of}
+use Rattle.go_near_core.specs.entry_core.Among.{Among}
+use Rattle.go_package_core.specs.fault_core.TypeFaults.{faults_of_types}
+use Rattle.go_near_core.specs.handle_core.Declarations.{Declaration}
+use Rattle.go_near_core.specs.expr_core.declared.things.Fault.{Fault}
+use Rattle.go_package_core.specs.report_core.Faults.{IsSettled}
+use Rattle.go_near_core.specs.face_core.Faces.{TheFace}
+use Rattle.go_near_core.specs.face_core.Packages.{PackageFacesModel, face_among, face_by, face_in}
+use Rattle.go_near_core.specs.face_core.Written.{decls_of, package_written, same_place, written_at}
+use Rattle.go_near_core.specs.face_core.Locality.{written_are_local}
+use Rattle.go_package_core.specs.answer_core.Outer.{outer_faults}
+use Rattle.go_package_core.specs.answer_core.Shown.{exported_decls, is_listed, package_shown, shown_among, shown_if}
 use Rattle.go_near_core.specs.Tables.{AgreeOn}
 use Rattle.go_near_core.specs.Functions.{StandsAgree}
-use Rattle.go_near_core.proofs.Files.{file_used, file_breaks}
-use Rattle.go_ready_core.specs.Packages.{PackageIn, entries_in, outlines_in, scene_in}
-use Rattle.go_ready_core.specs.Types.{AreTypes}
-use Rattle.go_ready_core.specs.Values.{AreDeclared, AreLooped}
+use Rattle.go_near_core.proofs.Files.{file_used, file_breaks, file_declares}
+use Rattle.go_package_core.specs.ready_core.Packages.{PackageIn, entries_in, outlines_in, scene_in}
+use Rattle.go_package_core.specs.ready_core.Types.{AreTypes}
+use Rattle.go_package_core.specs.ready_core.Values.{AreDeclared, AreLooped}
 use Rattle.go_package_core.specs.Checked.{AnswersOf, CheckedOf, IsFileChecked, decls_before, imports_at}
 use Rattle.go_package_core.proofs.Meanings.{one_check}
 use Rattle.go_locality_core.specs.Known.{Known, package_with, Gives, KnownAlike, BindsInside, MentionsInside, GivesInside}
@@ -200,6 +200,7 @@ module _ (Inside : List ℕ → Type 0) (p : PackageIn) (one other : Known) (c :
         settled =
             subst (λ (fs : List Fault). IsSettled Declaration (List ℕ) a.uses fs a.faults)
             (λ j. breaks j ++ outer_faults f.0 p.blocks given.type_faults (top_decls f.1) (drop (decls_before p f.0) given.looped)) h.settled;
+        locals = h.locals ∙ file_declares (near_of Inside) file s t c.declared c.declared top under law f.1;
       }
 
   -- all of it

@@ -2,12 +2,12 @@
 --
 -- The Go specification, "Packages", "Import declarations", "Exported identifiers".
 use Rattle.std.specs.Prelude.{◌≡◌, ℕ, List, All, Contains}
-use Rattle.go_fault_core.specs.graph_core.Packages.{Trees}
+use Rattle.go_package_core.specs.graph_core.Packages.{Trees}
 use Rattle.go_term_core.specs.decl_core.Outer.{IsPlaced}
-use Rattle.go_block_core.specs.declared.imports.Imported.{Imported}
-use Rattle.go_block_core.specs.Blocks.{BlocksModel, AreBlocks}
-use Rattle.go_block_core.specs.Naming.{package_named}
-use Rattle.go_ready_core.specs.Packages.{PackageIn}
+use Rattle.go_near_core.specs.block_core.declared.imports.Imported.{Imported}
+use Rattle.go_near_core.specs.block_core.Blocks.{BlocksModel, AreBlocks}
+use Rattle.go_near_core.specs.block_core.Naming.{package_named}
+use Rattle.go_package_core.specs.ready_core.Packages.{PackageIn}
 use Rattle.go_package_core.specs.Checked.{CheckedOf}
 use Rattle.go_locality_core.specs.Known.{Known, Gives, KnownAlike, BindsInside, MentionsInside, GivesInside, IsImported}
 use Rattle.go_locality_core.specs.Reached.{Reaches}

@@ -11,7 +11,7 @@ use Rattle.go_file_core.specs.face_core.Faces.{TheFace}
 use Rattle.go_file_core.specs.env_core.Scenes.{SceneModel}
 use Rattle.go_file_core.specs.func_core.Stands.{outer_looks}
 use Rattle.go_file_core.specs.Imports.{imports_uses}
-use Rattle.go_file_core.specs.Files.{decl_uses, decl_faults, file_uses, file_faults}
+use Rattle.go_file_core.specs.Files.{decl_uses, decl_faults, decl_locals, file_uses, file_faults, file_locals}
 use Rattle.go_file_core.specs.table_core.Entries.{Entry}
 use Rattle.go_near_core.specs.Tables.{near_by, Nearby, IsNear, near_rest, AgreeOn}
 use Rattle.go_near_core.specs.Functions.{stand, with_types, IsStandNear, StandsAgree}
@@ -30,11 +30,19 @@ module _ (near : Nearby) (file : InFile) (s t : SceneModel) (known others : List
   decl_breaks (Types d) = refl
   decl_breaks (Func f) = λ j. (function_same near file s t known others top other law f j).faults
 
+  decl_declares : (d : DeclTree) → decl_locals (stand file s known top) d ≡ decl_locals (stand file t others other) d
+  decl_declares (Value v) = refl
+  decl_declares (Types d) = refl
+  decl_declares (Func f) = λ j. (function_same near file s t known others top other law f j).locals
+
   pub file_used : (imports : List Imported) (f : FileTree) → file_uses (stand file s known top) imports f ≡ file_uses (stand file t others other) imports f
   file_used imports f = λ j. imports_uses (file_specs f) imports ++ flat_map (λ d. decl_used d.decl j) f.decls
 
   pub file_breaks : (f : FileTree) → file_faults (stand file s known top) f ≡ file_faults (stand file t others other) f
   file_breaks f = λ j. flat_map (λ d. decl_breaks d.decl j) f.decls
+
+  pub file_declares : (f : FileTree) → file_locals (stand file s known top) f ≡ file_locals (stand file t others other) f
+  file_declares f = λ j. flat_map (λ d. decl_declares d.decl j) f.decls
 
 pub functions_nearby : FunctionsLookNearby
 functions_nearby near file s t known others top other f law = function_same (near_by near) file s t known others top other law f
@@ -43,6 +51,7 @@ pub files_nearby : FilesLookNearby
 files_nearby = record {
   uses = λ near file s t known others top other imports f law. file_used (near_by near) file s t known others top other law imports f;
   faults = λ near file s t known others top other f law. file_breaks (near_by near) file s t known others top other law f;
+  locals = λ near file s t known others top other f law. file_declares (near_by near) file s t known others top other law f;
 }
 
 -- with another table of types alone
@@ -62,4 +71,5 @@ pub other_types : OtherTypesDoNotCount
 other_types = record {
   uses = λ near file s es known top imports f law agree. file_used (near_by near) file s (with_types s es) known known top top (with_table (near_by near) file s es known top law agree) imports f;
   faults = λ near file s es known top f law agree. file_breaks (near_by near) file s (with_types s es) known known top top (with_table (near_by near) file s es known top law agree) f;
+  locals = λ near file s es known top f law agree. file_declares (near_by near) file s (with_types s es) known known top top (with_table (near_by near) file s es known top law agree) f;
 }

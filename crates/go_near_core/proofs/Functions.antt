@@ -39,7 +39,7 @@ use Rattle.go_file_core.specs.piece_core.Headers.{returned_types, returned_names
 use Rattle.go_file_core.specs.piece_core.Pieces.{piece_values, piece_names}
 use Rattle.go_file_core.specs.body_core.Body.{body_of}
 use Rattle.go_file_core.specs.body_core.Notes.{note}
-use Rattle.go_file_core.specs.body_core.Rules.{value_at}
+use Rattle.go_file_core.specs.body_core.Rules.{value_at, local_at, piece_locals}
 use Rattle.go_file_core.specs.func_core.Types.{is_inside, named_where}
 use Rattle.go_file_core.specs.func_core.Stands.{FileStand, kinds_in, types_where, looks_where, outer_names, outer_look, outer_looks}
 use Rattle.go_file_core.specs.func_core.Functions.{own_rules, walked_func, checked_func}
@@ -157,7 +157,8 @@ module _ (near : Nearby) (file : InFile) (s t : SceneModel) (known others : List
   module _ (results : List (Option Term)) (has_names : Bool) (inside : Each (IfAny (IsNear near)) results) where
     own_alike : SayAlike NearMeaning (own_rules one results has_names) (own_rules two results has_names)
     own_alike = record {
-      notes = λ look firsts p sees. (λ j. note ((piece look look refl sees p).uses j) ((piece look look refl sees p).faults results has_names firsts inside j) ∷ []);
+      notes = λ look firsts p sees.
+          (λ j. note ((piece look look refl sees p).uses j) ((piece look look refl sees p).faults results has_names firsts inside j) (piece_locals firsts p (local_at p ((piece look look refl sees p).values firsts j))) ∷ []);
       means = λ look firsts p sees. (λ j n. meanings.Local (place_of (piece_names p) n) (value_at ((piece look look refl sees p).values firsts j) n));
       are_near = λ look firsts p n sees. value_near (piece_values (looks_where one look) firsts p) n ((piece look look refl sees p).near firsts);
     }

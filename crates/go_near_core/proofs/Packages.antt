@@ -14,7 +14,7 @@ use Rattle.go_near_core.specs.Tables.{near_by, Nearby, AgreeOn}
 use Rattle.go_near_core.specs.Functions.{StandsAgree}
 use Rattle.go_near_core.specs.Packages.{PackageOf, scene_over, IsPackageNear}
 use Rattle.go_near_core.specs.Laws.{PackagesLookNearby}
-use Rattle.go_near_core.proofs.Files.{file_used, file_breaks}
+use Rattle.go_near_core.proofs.Files.{file_used, file_breaks, file_declares}
 
 module _ (near : Nearby) (p : PackageOf) (es fs : List Entry) (known : List (Option TheFace)) (law : IsPackageNear near p es known) (agree : AgreeOn near es fs) where
   alike : LookAlike p.shows p.path p.blocks es fs p.outlines
@@ -41,4 +41,5 @@ packages_nearby = record {
   written = λ near p es fs known law agree. written_same (near_by near) p es fs known law agree;
   uses = λ near p es fs known n o imports f law agree. file_used (near_by near) (file_at p.path n o) (scene_over p es) (scene_over p fs) known known (file_meaning p.shows p.path p.blocks n) (file_meaning p.shows p.path p.blocks n) (stands (near_by near) p es fs known law agree n o) imports f;
   faults = λ near p es fs known n o f law agree. file_breaks (near_by near) (file_at p.path n o) (scene_over p es) (scene_over p fs) known known (file_meaning p.shows p.path p.blocks n) (file_meaning p.shows p.path p.blocks n) (stands (near_by near) p es fs known law agree n o) f;
+  locals = λ near p es fs known n o f law agree. file_declares (near_by near) (file_at p.path n o) (scene_over p es) (scene_over p fs) known known (file_meaning p.shows p.path p.blocks n) (file_meaning p.shows p.path p.blocks n) (stands (near_by near) p es fs known law agree n o) f;
 }

@@ -27,7 +27,7 @@ use Rattle.go_near_core.specs.Tables.{NearTests, near_by, IsNear, IsNearSign, ne
 use Rattle.go_file_core.specs.local_core.Steps.{Piece}
 use Rattle.go_near_core.specs.Pieces.{IsPieceNearby}
 use Rattle.go_file_core.specs.func_core.Functions.{checked_func}
-use Rattle.go_file_core.specs.Files.{file_uses, file_faults}
+use Rattle.go_file_core.specs.Files.{file_uses, file_faults, file_locals}
 use Rattle.go_file_core.specs.entry_core.Outlines.{FileOutline}
 use Rattle.go_file_core.specs.face_core.Written.{package_written}
 use Rattle.go_near_core.specs.Packages.{PackageOf, stand_over, IsPackageNear}
@@ -87,6 +87,8 @@ pub record FilesLookNearby : Type 0 where
       → StandsAgree (near_by near) file s t known others top other → file_uses (stand file s known top) imports f ≡ file_uses (stand file t others other) imports f
   pub faults : (near : NearTests) (file : InFile) (s t : SceneModel) (known others : List (Option TheFace)) (top other : types.Meaning) (f : FileTree)
       → StandsAgree (near_by near) file s t known others top other → file_faults (stand file s known top) f ≡ file_faults (stand file t others other) f
+  pub locals : (near : NearTests) (file : InFile) (s t : SceneModel) (known others : List (Option TheFace)) (top other : types.Meaning) (f : FileTree)
+      → StandsAgree (near_by near) file s t known others top other → file_locals (stand file s known top) f ≡ file_locals (stand file t others other) f
 
 -- so a file comes to the same over any table that has the same of what its names mean and of what that leads to: what else a table has does not
 -- count, be it there or not
@@ -95,6 +97,8 @@ pub record OtherTypesDoNotCount : Type 0 where
       → IsStandNear (near_by near) file s known top → AgreeOn (near_by near) s.types es → file_uses (stand file s known top) imports f ≡ file_uses (stand file (with_types s es) known top) imports f
   pub faults : (near : NearTests) (file : InFile) (s : SceneModel) (es : List Entry) (known : List (Option TheFace)) (top : types.Meaning) (f : FileTree)
       → IsStandNear (near_by near) file s known top → AgreeOn (near_by near) s.types es → file_faults (stand file s known top) f ≡ file_faults (stand file (with_types s es) known top) f
+  pub locals : (near : NearTests) (file : InFile) (s : SceneModel) (es : List Entry) (known : List (Option TheFace)) (top : types.Meaning) (f : FileTree)
+      → IsStandNear (near_by near) file s known top → AgreeOn (near_by near) s.types es → file_locals (stand file s known top) f ≡ file_locals (stand file (with_types s es) known top) f
 
 -- what is written of a package, and what stands in its files where the same is known of its declarations, are the same over two tables of types that
 -- agree on what is near
@@ -105,3 +109,5 @@ pub record PackagesLookNearby : Type 0 where
       → IsPackageNear (near_by near) p es known → AgreeOn (near_by near) es fs → file_uses (stand_over p es known n o) imports f ≡ file_uses (stand_over p fs known n o) imports f
   pub faults : (near : NearTests) (p : PackageOf) (es fs : List Entry) (known : List (Option TheFace)) (n : ℕ) (o : FileOutline) (f : FileTree)
       → IsPackageNear (near_by near) p es known → AgreeOn (near_by near) es fs → file_faults (stand_over p es known n o) f ≡ file_faults (stand_over p fs known n o) f
+  pub locals : (near : NearTests) (p : PackageOf) (es fs : List Entry) (known : List (Option TheFace)) (n : ℕ) (o : FileOutline) (f : FileTree)
+      → IsPackageNear (near_by near) p es known → AgreeOn (near_by near) es fs → file_locals (stand_over p es known n o) f ≡ file_locals (stand_over p fs known n o) f

@@ -40,7 +40,7 @@ one_file p types known faults looped f a b h k =
     let all = all_faults p types known faults looped f in
     let other : IsSettled Declaration (List ℕ) a.uses all b.faults = subst (λ us. IsSettled Declaration (List ℕ) us all b.faults) (sym same) k.settled in
     let settled = settled_are_one Declaration (List ℕ) a.uses a.uses all all a.faults b.faults (λ g. ((λ x. x), (λ x. x))) (λ g. ((λ x. x), (λ x. x))) h.settled other in
-    λ i. record { uses = same i; faults = settled i }
+    λ i. record { uses = same i; faults = settled i; locals = (h.locals ∙ sym k.locals) i }
 
 pub one_check : OneCheck
 one_check p far one other placed h k =

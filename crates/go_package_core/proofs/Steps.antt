@@ -33,7 +33,7 @@ use Rattle.go_answer_core.specs.face_core.Laws.{FileDecl, file_decl, package_dec
 use Rattle.go_known_core.specs.env_core.Scenes.{SceneModel}
 use Rattle.go_file_core.specs.func_core.Stands.{FileStand, kinds_in}
 use Rattle.go_file_core.specs.func_core.Laws.{AreFuncTypes}
-use Rattle.go_file_core.specs.Files.{file_uses, file_faults}
+use Rattle.go_file_core.specs.Files.{file_uses, file_faults, file_locals}
 use Rattle.go_file_core.specs.Stands.{AreFunctionTypes, AreInitialTypes, file_funcs}
 use Rattle.go_answer_core.specs.Outer.{outer_faults}
 use Rattle.go_ready_core.specs.Inlines as inside
@@ -90,8 +90,10 @@ module _ (p : PackageIn) (types : List Entry) (s : SceneModel) (known : List (Op
       → imports ≡ imports_at p n → ds ≡ o.decls → first ≡ decls_before p n → flags ≡ looped
       → a.uses ≡ file_uses (stand_by p s known n places) imports f
       → IsSettled Declaration (List ℕ) a.uses (file_faults (stand_by p s known n places) f ++ outer_faults n p.blocks faults ds (drop first flags)) a.faults
+      → a.locals ≡ file_locals (stand_by p s known n places) f
       → IsFileChecked p types known faults looped (n, f) a
-  checked_there faults looped flags imports ds first a of_imports of_decls of_first of_flags uses settled = record {
+  checked_there faults looped flags imports ds first a of_imports of_decls of_first of_flags uses settled locals = record {
+    locals = locals ∙ ap (λ st. file_locals st f) stand_tree;
     uses = uses ∙ (ap (λ st. file_uses st imports f) stand_tree ∙ ap (λ is. file_uses (stand_at p types known (n, f)) is f) of_imports);
     settled =
         subst (λ l. IsSettled Declaration (List ℕ) a.uses l a.faults)

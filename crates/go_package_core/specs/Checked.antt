@@ -14,13 +14,14 @@ use Rattle.go_answer_core.specs.fault_core.declared.places.PackageFault.{Package
 use Rattle.go_answer_core.specs.handle_core.Declarations.{Declaration}
 use Rattle.go_answer_core.specs.expr_core.declared.things.Fault.{Fault}
 use Rattle.go_answer_core.specs.report_core.Faults.{IsSettled}
-use Rattle.go_answer_core.specs.face_core.Faces.{TheFace, face_shown}
+use Rattle.go_answer_core.specs.declared.locals.HeldLocal.{HeldLocal}
+use Rattle.go_answer_core.specs.face_core.Faces.{TheFace, face_shown, operand_shown}
 use Rattle.go_answer_core.specs.face_core.Laws.{package_decls}
 use Rattle.go_answer_core.specs.face_core.Packages.{PackageFacesModel}
 use Rattle.go_answer_core.specs.face_core.Written.{decls_of}
-use Rattle.go_file_core.specs.body_core.Notes.{TheUse}
+use Rattle.go_file_core.specs.body_core.Notes.{TheUse, TheLocal}
 use Rattle.go_file_core.specs.func_core.Stands.{FileStand}
-use Rattle.go_file_core.specs.Files.{file_uses, file_faults}
+use Rattle.go_file_core.specs.Files.{file_uses, file_faults, file_locals}
 use Rattle.go_answer_core.specs.Outer.{outer_faults}
 use Rattle.go_answer_core.specs.Shown.{package_shown}
 use Rattle.go_ready_core.specs.Packages.{PackageIn, outlines_in, scene_in, stand_in}
@@ -29,10 +30,11 @@ use Rattle.go_ready_core.specs.Values.{AreDeclared, AreLooped}
 use Rattle.go_package_core.specs.declared.checked.CheckedPackage.{CheckedPackage}
 use Rattle.go_package_core.specs.declared.checked.FileAnswers.{FileAnswers}
 
--- of a file what its occurrences have, and its faults that are no outcome of one
+-- of a file what its occurrences have, its faults that are no outcome of one, and the locals that its functions declare
 pub record AnswersOf : Type 0 where
   pub uses : List TheUse
   pub faults : List Fault
+  pub locals : List TheLocal
 
 -- of a package its types, what its declarations outside functions are, by their places among these, what it shows to those that import it, and
 -- what stands in its files, in order of name
@@ -42,8 +44,12 @@ pub record CheckedOf : Type 0 where
   pub faces : PackageFacesModel
   pub files : List AnswersOf
 
+-- a local that is held, as contracts see it
+abbrev pub local_shown : HeldLocal → TheLocal
+local_shown l = record { offset = l.offset; value = option_map operand_shown l.value }
+
 abbrev pub answers_shown : FileAnswers → AnswersOf
-answers_shown a = record { uses = a.answers.items; faults = a.faults.items }
+answers_shown a = record { uses = a.answers.items; faults = a.faults.items; locals = map local_shown a.locals.items }
 
 abbrev pub checked_shown : CheckedPackage → CheckedOf
 checked_shown c = record { types = c.types.entries; declared = map (option_map face_shown) c.declared.items; faces = c.faces; files = map answers_shown c.files.items }
@@ -68,10 +74,12 @@ abbrev pub all_faults : PackageIn → List Entry → List (Option TheFace) → L
 all_faults p types known faults looped f =
     file_faults (stand_at p types known f) f.1 ++ outer_faults f.0 p.blocks faults (top_decls f.1) (drop (decls_before p f.0) looped)
 
--- what stands in a file: each occurrence has what its place gives it, and the faults are in order, each once, without those that an outcome says
+-- what stands in a file: each occurrence has what its place gives it, the faults are in order, each once, without those that an outcome says, and each
+-- local is what its declaration makes it
 pub record IsFileChecked (p : PackageIn) (types : List Entry) (known : List (Option TheFace)) (faults : List PackageFault) (looped : List Bool) (f : ℕ × FileTree) (a : AnswersOf) : Type 0 where
   pub uses : a.uses ≡ file_uses (stand_at p types known f) (imports_at p f.0) f.1
   pub settled : IsSettled Declaration (List ℕ) a.uses (all_faults p types known faults looped f) a.faults
+  pub locals : a.locals ≡ file_locals (stand_at p types known f) f.1
 
 -- a package, where these are the types of those that it reaches
 pub record IsChecked (p : PackageIn) (far : List Entry) (c : CheckedOf) : Type 0 where

@@ -1,3 +1,11 @@
 pub mod Checked
 pub mod Laws
 pub mod mirrors
+pub mod answer_core
+pub mod fault_core
+pub mod graph_core
+pub mod needs_core
+pub mod ready_core
+pub mod report_core
+pub mod type_core
+pub mod value_core

@@ -1,7 +1,7 @@
 //! What the check of a package gives.
-use go_answer_core::Answer;
 use go_answer_core::expr_core::Fault;
 use go_answer_core::face_core::{Face, PackageFaces};
+use go_answer_core::{Answer, HeldLocal};
 use go_ready_core::type_core::PackageTypes;
 use go_term_core::{Signature, TypeTerm};
 
@@ -12,6 +12,9 @@ pub struct FileAnswers {
     pub answers: Vec<Answer>,
     /// Its faults in order of place, then of the rule's number, each once, without those that an outcome at the same place says.
     pub faults: Vec<Fault>,
+    /// The locals that its functions declare, in order of their identifiers' places: one for each receiver, parameter, result, constant and
+    /// variable that is not blank and is the first of its name in its block. A name that a short declaration uses again has none there.
+    pub locals: Vec<HeldLocal>,
 }
 
 /// A package that was checked. It holds what it names, and lends nothing of the package.

@@ -8,15 +8,16 @@ ghost use Rattle.go_answer_core.specs.entry_core.Outlines.{outline_shown};
 ghost use Rattle.go_answer_core.specs.handle_core.Declarations.{Declaration};
 ghost use Rattle.go_answer_core.specs.report_core.Faults.{IsSettled};
 ghost use Rattle.go_known_core.specs.env_core.Scenes.{scene_shown};
-ghost use Rattle.go_file_core.specs.Files.{file_faults, file_uses};
+ghost use Rattle.go_file_core.specs.Files.{file_faults, file_locals, file_uses};
 ghost use Rattle.go_file_core.specs.Stands.{AreFunctionTypes, AreInitialTypes, stand_of};
 ghost use Rattle.go_answer_core.specs.Outer.{outer_faults};
 ghost use Rattle.go_ready_core.specs.Packages.{outlines_in, package_in, scene_in};
 ghost use Rattle.go_ready_core.specs.Values.{decls_in};
-ghost use Rattle.go_package_core.specs.Checked.{IsFileChecked, answers_shown};
+ghost use Rattle.go_package_core.specs.Checked.{IsFileChecked, answers_shown, local_shown};
 ghost use Rattle.go_package_core.specs.mirrors.Stages.{IsReady};
 
 use crate::checked::FileAnswers;
+use crate::locals::held_locals;
 use go_answer_core::block_core::Imported;
 use go_answer_core::entry_core::ImportedNames;
 use go_answer_core::face_core::Face;
@@ -51,7 +52,7 @@ fn imports_at(imports: &[Vec<Imported>], file: usize) -> &[Imported]
     }
 }
 
-// What stands in a file: its occurrences, and its faults with those that are asked of the package as a whole.
+// What stands in a file: its occurrences, its faults with those that are asked of the package as a whole, and the locals of its functions.
 fn file_answers<'n, 'p, P: ImportedNames>(
     alloc: Global,
     at: &FileAt<'n, 'p, P>,
@@ -63,13 +64,19 @@ fn file_answers<'n, 'p, P: ImportedNames>(
     requires functions { AreFunctionTypes (stand_of P.shows at.now) (file_of tree.now) at.now.functions.now }
     ensures uses { IfOk result (λ a. a.answers.items ≡ file_uses (stand_of P.shows at.now) at.now.imports.now (file_of tree.now)) }
     ensures faults { IfOk result (λ a. IsSettled Declaration (List ℕ) a.answers.items (file_faults (stand_of P.shows at.now) (file_of tree.now) ++ outer_faults outer.now.file outer.now.blocks.now outer.now.type_faults.now (map decl_shown outer.now.decls.now) (drop outer.now.first outer.now.looped.now)) a.faults.items) }
+    ensures locals { IfOk result (λ a. map local_shown a.locals.items ≡ file_locals (stand_of P.shows at.now) (file_of tree.now)) }
 {
     let mut checked = check_file(alloc, at, tree)?;
     let mut whole = outer_faults(alloc, outer)?;
     checked.faults.append(&mut whole)?;
     let faults = settle_faults(alloc, &checked.uses, &checked.faults)?;
     let answers = answers_of(alloc, checked.uses)?;
-    Ok(FileAnswers { answers, faults })
+    let locals = held_locals(alloc, checked.locals)?;
+    Ok(FileAnswers {
+        answers,
+        faults,
+        locals,
+    })
 }
 
 /// What stands in the files of a package, in order of name, where this is ready of it, these are its declarations, and its types have these

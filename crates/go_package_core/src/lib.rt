@@ -1,5 +1,5 @@
-//! The check of a package: its types, what its declarations are, what each occurrence in its files has, its faults, and what it shows to those
-//! that import it.
+//! The check of a package: its types, what its declarations are, what each occurrence in its files has, its faults, the locals of its functions, and
+//! what it shows to those that import it.
 //!
 //! The Go specification, "Packages", "Declarations and scope", "Types", "Package initialization".
 #![tactic(auto)]
@@ -7,6 +7,7 @@
 mod checked;
 mod files;
 mod laws;
+mod locals;
 mod package;
 
 pub use checked::{CheckedPackage, FileAnswers};

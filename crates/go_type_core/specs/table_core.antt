@@ -1,5 +1,6 @@
 -- What the crates above name of go_table_core.
 pub use Rattle.go_table_core.specs.Assign as Assign
+pub use Rattle.go_table_core.proofs.ByRule as ByRule
 pub use Rattle.go_table_core.specs.Entries as Entries
 pub use Rattle.go_table_core.proofs.Finding as Finding
 pub use Rattle.go_table_core.specs.Laws as Laws

@@ -4,8 +4,9 @@
 //!
 //! | Kind | The answers |
 //! |---|---|
-//! | `answers` | all lines |
+//! | `answers` | all lines but those of locals |
 //! | `refusals` | those that tell an archive, a package, a file, a fault, or an occurrence that breaks a rule |
+//! | `locals` | those that tell an archive, a package, a file, or a local of a function |
 //! | `counts` | one line: how many packages were checked, how many occurrences they have, how many of these break a rule, and how many faults there are beside |
 //!
 //! Behind a line `== FILE` stands for each package, behind those that it imports, `package PATH NAME`; for each of its files, in order of name,
@@ -17,6 +18,10 @@
 //! | `OFFSET ROLE TEXT ANSWER` | an occurrence: its declaration, or the rule that it breaks |
 //! | `path OFFSET STEPS` | a selector that denotes a member: the places of the embedded fields that lead to it |
 //! | `fault OFFSET RULE` | a fault that is no answer of an occurrence |
+//! | `local OFFSET NAME TYPE` | a variable that a function declares, a receiver, a parameter and a result too, at its identifier: its type, `none` where it has none |
+//! | `local OFFSET NAME TYPE = VALUE` | a constant that a function declares: its type and its value |
+//!
+//! A defined type stands as the place of its declaration, and a type that is written out as `struct` or `interface`.
 //!
 //! The packages that do not assemble stand behind the others, as `package PATH RULE FILE:OFFSET`, with the faults of their files.
 //!
@@ -25,6 +30,7 @@
 
 mod checking;
 mod importing;
+mod locals;
 mod printing;
 
 use checking::add_packages;
@@ -40,6 +46,7 @@ fn find(name: &str) -> Option<Kind> {
     match name {
         "answers" => Some(Kind::Answers),
         "refusals" => Some(Kind::Refusals),
+        "locals" => Some(Kind::Locals),
         "counts" => Some(Kind::Counts),
         _ => None,
     }
@@ -90,7 +97,7 @@ fn show_all(rt: &HostRuntime, first: Kind, words: &[String]) -> io::Result<()> {
 
 /// Writes which kinds there are.
 fn refuse(rt: &HostRuntime) -> io::Result<ExitCode> {
-    eprintln!(rt; "usage: govisd_check answers|refusals|counts FILE.. [KIND FILE..]..")?;
+    eprintln!(rt; "usage: govisd_check answers|refusals|locals|counts FILE.. [KIND FILE..]..")?;
     Ok(ExitCode::from(2))
 }
 

@@ -23,6 +23,8 @@ pub enum Kind {
     Answers,
     /// Those that tell an archive, a package, a file, a fault, or an occurrence that breaks a rule.
     Refusals,
+    /// Those that tell a local of a function, beside archives, packages and files.
+    Locals,
     /// One line of counts.
     Counts,
 }
@@ -92,8 +94,8 @@ fn is_known(constant: &Constant) -> bool {
     !matches!(constant, Constant::Unknown)
 }
 
-/// Adds the value of a constant.
-fn add_value(out: &mut Lines, constant: &Constant) {
+/// Adds the value of a constant, and ends the line.
+pub fn add_value(out: &mut Lines, constant: &Constant) {
     match constant {
         Constant::Unknown => out.line("unknown"),
         Constant::Int(value) => out.end("", *value),
@@ -147,7 +149,7 @@ fn add_text_faults(out: &mut Lines, files: &[SourceFile]) {
 
 impl Sheet<'_> {
     /// Adds an identifier of a package.
-    fn add_site(&mut self, path: &ImportPath, place: MemberPlace) {
+    pub fn add_site(&mut self, path: &ImportPath, place: MemberPlace) {
         let found = self
             .named
             .binary_search_by(|named| named.path.as_str().cmp(path.as_str()));
@@ -224,6 +226,10 @@ impl Sheet<'_> {
         {
             self.out.add("file ");
             self.out.line(source.name());
+            if self.kind == Kind::Locals {
+                self.add_locals(source, file);
+                continue;
+            }
             if self.kind == Kind::Answers {
                 add_constants(self.out, outline, declared);
             }

@@ -1,26 +1,23 @@
 -- The rules of the checker look at the names of a piece alone.
-use Rattle.std.proofs.Common.{◌≡◌, ℕ, List, [], ◌∷◌, Option, refl, ap}
+use Rattle.std.proofs.Common.{◌≡◌, ℕ, Bool, List, [], ◌∷◌, Option, refl, ap}
 use Rattle.go_tree_nodes.specs.Trees.{TypeTree}
 use Rattle.go_term_core.specs.Terms.{Term, Sign}
 use Rattle.go_env_core.specs.handle_core.Declarations.{Declaration}
 use Rattle.go_piece_core.specs.local_core.Binding.{Look}
 use Rattle.go_piece_core.specs.local_core.Alike.{LookAtNames}
-use Rattle.go_env_core.specs.names_core.Uses.{place_of}
 use Rattle.go_piece_core.specs.expr_core.Locality.{SameType}
-use Rattle.go_piece_core.specs.Pieces.{piece_names}
 use Rattle.go_piece_core.specs.Laws.{FindByNames, piece_types}
 use Rattle.go_piece_core.proofs.Shown.{pieces_look}
 use Rattle.go_piece_core.proofs.Local.{all_made}
 use Rattle.go_env_core.specs.face_core.Faces.{TheFace}
 use Rattle.go_env_core.specs.inline_core.Types.{InlineOf}
 use Rattle.go_env_core.specs.declared.meaning.Meaning.{Meaning}
-use Rattle.go_env_core.specs.declared.meaning.Meaning.TheVariants as meanings
 use Rattle.go_env_core.specs.Scenes.{SceneModel, scene_shown}
 use Rattle.go_env_core.specs.Found.{found_of}
 use Rattle.go_env_core.specs.Looks.{TheLooks, looks_in, inline_rules}
 use Rattle.go_body_core.specs.declared.pieces.Pieces.{Pieces}
-use Rattle.go_body_core.specs.Notes.{NoteOf, note}
-use Rattle.go_body_core.specs.Rules.{value_at, rules_of}
+use Rattle.go_body_core.specs.Notes.{TheLocal, NoteOf, note}
+use Rattle.go_body_core.specs.Rules.{local_at, piece_locals, rules_by, rules_of}
 
 module _ (s : SceneModel) (file : ℕ) (known : List (Option TheFace)) (types : List (ℕ × InlineOf)) where
   abbrev looks : Look Meaning → TheLooks
@@ -37,8 +34,21 @@ module _ (s : SceneModel) (file : ℕ) (known : List (Option TheFace)) (types : 
     written = λ look other p h. all_made (looks look) (looks other) (type_same look other) (piece_types p);
   }
 
+-- what is noted, with other locals
+abbrev with_locals : List TheLocal → List NoteOf → List NoteOf
+with_locals ls [] = []
+with_locals ls (n ∷ ns) = note n.uses n.faults ls ∷ with_locals ls ns
+
+-- rules by look-ups that find what names mean look at the names of a piece alone
+pub look_at_names : (looks : Look Meaning → TheLooks) (results : List (Option Term)) (has_names : Bool) → FindByNames Meaning Term Sign Declaration (List ℕ) looks → LookAtNames Meaning NoteOf (rules_by looks results has_names)
+look_at_names looks results has_names law =
+    let plain = pieces_look Meaning NoteOf Term Sign Declaration (List ℕ) looks results has_names (λ p us fs. note us fs [] ∷ []) (λ p vs. local_at p vs) law in
+    record {
+      notes = λ look other firsts p h. (λ j. with_locals (piece_locals firsts p (plain.means look other firsts p h j)) (plain.notes look other firsts p h j));
+      means = plain.means;
+    }
+
 pub rules_look_at_names : (a : Pieces) → LookAtNames Meaning NoteOf (rules_of a)
 rules_look_at_names a =
     let s = scene_shown a.scene.now in
-    pieces_look Meaning NoteOf Term Sign Declaration (List ℕ) (λ look. looks_in s a.file a.known.now (inline_rules s a.inline.now) look) a.results.now a.has_names
-    (λ p us fs. note us fs ∷ []) (λ p vs n. meanings.Local (place_of (piece_names p) n) (value_at vs n)) (by_names s a.file a.known.now a.inline.now)
+    look_at_names (λ look. looks_in s a.file a.known.now (inline_rules s a.inline.now) look) a.results.now a.has_names (by_names s a.file a.known.now a.inline.now)

@@ -11,4 +11,5 @@ returns c =
       gathers (func_of c.args.func.now) c.args.notes.items c.args.names.now c.lines_loop_faults.new.faults.items c.as_slice.result.now c.in_ok-uses.field-0.uses.items c.as_slice-2.result.now
           c.in_ok-uses.field-0.faults.items c.add_local_faults.new.all.items c.add_local_faults-2.new.all.items c.add_end.new.faults.items
           c.in_ok-uses.ensures.uses c.in_ok-uses.ensures.faults c.in_ok-add_local_faults.ensures loops_are c.as_slice.ensures.value c.in_ok-add_local_faults-2.ensures c.as_slice-2.ensures.value c.in_ok-add_end.ensures,
+      c.in_ok-uses.ensures.locals,
     )

@@ -13,7 +13,7 @@ loop-at-preserved g c =
     let all = files_checked shows c.args.files.now (map tree_shown c.args.trees.now) in
     record {
       checked = file_step shows left.a.rest.now rest.a.rest.now left.b.rest.now rest.b.rest.now c.in-Some.at.now c.in-Some.tree.now c.in_ok-file.file c.loop-at.checked.items c.add.new.all.items all more.0 more.1
-          c.in_ok-file.ensures.uses c.in_ok-file.ensures.faults c.in_ok-add.ensures c.loop-at.invariant.checked;
+          c.in_ok-file.ensures.uses c.in_ok-file.ensures.faults c.in_ok-file.ensures.locals c.in_ok-add.ensures c.loop-at.invariant.checked;
       left = (first_ready shows left.a.rest.now rest.a.rest.now left.b.rest.now rest.b.rest.now c.in-Some.at.now c.in-Some.tree.now more.0 more.1 c.loop-at.invariant.left).1;
     }
 

@@ -3,7 +3,7 @@ use Rattle.std.specs.List.{AllZip}
 use Rattle.go_tree_nodes.specs.Trees.{TopTree}
 use Rattle.go_tree_nodes.specs.Shapes.{top_of}
 use Rattle.go_func_core.specs.Laws.{AreFuncTypes}
-use Rattle.go_file_core.specs.Files.{decl_uses, decl_faults}
+use Rattle.go_file_core.specs.Files.{decl_uses, decl_faults, decl_locals}
 use Rattle.go_file_core.specs.Stands.{stand_of, tops_funcs}
 use Rattle.go_file_core.proofs.Steps.{item_step, seen_at, next_at}
 use Rattle.go_file_core.proofs.decls.check_tops.Goals as goal
@@ -30,5 +30,6 @@ loop-top-preserved g c =
     record {
       used = item_step top_of (λ (x : TopTree). decl_uses st x.decl) ds i d c.args.notes.now.uses.items c.loop-top.notes.uses.items c.check_decl.new.notes.uses.items lt c.top-item.is c.in_ok-next.ensures.uses c.loop-top.invariant.used;
       noted = item_step top_of (λ (x : TopTree). decl_faults st x.decl) ds i d c.args.notes.now.faults.items c.loop-top.notes.faults.items c.check_decl.new.notes.faults.items lt c.top-item.is c.in_ok-next.ensures.faults c.loop-top.invariant.noted;
+      listed = item_step top_of (λ (x : TopTree). decl_locals st x.decl) ds i d c.args.declared.now.items c.loop-top.declared.items c.check_decl.new.declared.items lt c.top-item.is c.in_ok-next.ensures.declared c.loop-top.invariant.listed;
       typed = subst (λ m. AllZip (AreFuncTypes st) (tops_funcs (map top_of (drop (i + 1) ds))) (drop m at.functions.now)) (sym c.in_ok-next.ensures.next) rest;
     }

@@ -2,7 +2,7 @@ use Rattle.std.proofs.Common.{◌≡◌, ◌++◌, map, take, drop}
 use Rattle.std.specs.List.{AllZip}
 use Rattle.go_tree_nodes.specs.Shapes.{top_of}
 use Rattle.go_func_core.specs.Laws.{AreFuncTypes}
-use Rattle.go_file_core.specs.Files.{tops_uses, tops_faults}
+use Rattle.go_file_core.specs.Files.{tops_uses, tops_faults, tops_locals}
 use Rattle.go_file_core.specs.Stands.{stand_of, tops_funcs}
 use Rattle.go_file_core.proofs.decls.check_tops.Given as goal
 
@@ -12,5 +12,6 @@ invariant-loop-top g l =
     record {
       used : l.notes.uses.items ≡ l.fn.notes.uses.items ++ tops_uses st (map top_of (take l.top-index l.decls));
       noted : l.notes.faults.items ≡ l.fn.notes.faults.items ++ tops_faults st (map top_of (take l.top-index l.decls));
+      listed : l.declared.items ≡ l.fn.declared.items ++ tops_locals st (map top_of (take l.top-index l.decls));
       typed : AllZip (AreFuncTypes st) (tops_funcs (map top_of (drop l.top-index l.decls))) (drop l.next l.at.functions.now);
     }

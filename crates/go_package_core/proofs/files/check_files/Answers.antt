@@ -121,7 +121,7 @@ loop-file-preserved g c =
     let one =
     checked_there p types (scene_shown c.args.scene.now) c.deref-in-loop-file.result.now n f (outline_shown outline) outline.places c.requires.scene refl same there c.args.type_faults.now d.looped.items
     c.deref-in-loop-file-3.result.now c.imports_at.result.now (map decl_shown c.deref-in-loop-file-2.result.now) c.loop-file.first answers c.imports_at.ensures (ap (map decl_shown) c.deref-in-loop-file-2.ensures.value) first
-    c.deref-in-loop-file-3.ensures.value c.in_ok-answers.ensures.uses c.in_ok-answers.ensures.faults in
+    c.deref-in-loop-file-3.ensures.value c.in_ok-answers.ensures.uses c.in_ok-answers.ensures.faults c.in_ok-answers.ensures.locals in
     let known = subst (λ k. IsFileChecked p types k c.args.type_faults.now d.looped.items (n, f) answers) c.deref-in-loop-file.ensures.value one in
     let count = c.len-first.ensures in
     let held = outline.decls.ok.0 in

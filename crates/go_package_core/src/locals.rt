@@ -1,0 +1,30 @@
+//! The locals of a file's functions, held.
+ghost use Rattle.std.specs.Prelude.{◌≡◌, ◌++◌, [], ◌∷◌, IfOk, OnOk, map};
+ghost use Rattle.go_package_core.specs.Checked.{local_shown};
+
+use go_answer_core::{HeldLocal, hold_local};
+use go_file_core::body_core::Local;
+use go_text_core::add;
+use std::alloc::{AllocError, Global};
+
+// Adds a local, held.
+fn add_held(alloc: Global, held: &mut Vec<HeldLocal>, local: Local<'_>) -> Result<(), AllocError>
+    ensures { OnOk result (map local_shown held.new.items ≡ map local_shown held.old.items ++ local.entry ∷ []) }
+{
+    let local = hold_local(alloc, local.offset, local.value)?;
+    add(held, local)
+}
+
+/// Locals, held, in their order.
+pub(crate) fn held_locals(
+    alloc: Global,
+    locals: Vec<Local<'_>>,
+) -> Result<Vec<HeldLocal>, AllocError>
+    ensures { IfOk result (λ held. map local_shown held.items ≡ locals.entry.items) }
+{
+    let mut held = Vec::new(alloc);
+    for local in locals {
+        add_held(alloc, &mut held, local)?;
+    }
+    Ok(held)
+}
