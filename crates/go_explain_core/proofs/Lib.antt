@@ -1,0 +1,3 @@
+pub mod Everywhere
+mod LineLemmas
+pub mod Numbers

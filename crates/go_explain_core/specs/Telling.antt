@@ -1,0 +1,37 @@
+-- What is written of rules.
+use Rattle.std.specs.Prelude.{ℕ, ◌==◌, List, [], ◌++◌, length, codes, flat_map, if◌then◌else◌}
+use Rattle.go_text_core.specs.Rules.{rule_number}
+use Rattle.go_text_core.specs.declared.rule.Rule.{Rule}
+use Rattle.go_explain_core.specs.Examples.{example_of}
+use Rattle.go_explain_core.specs.Meanings.{meaning_of}
+use Rattle.go_explain_core.specs.Mendings.{mending_of}
+use Rattle.go_explain_core.specs.Naming.{all_rules, near}
+
+-- a rule: what it means, an example that breaks it, and the example mended
+abbrev pub explained_text : Rule → List ℕ
+explained_text rule =
+    rule_number rule ++ codes ": " ++ meaning_of rule ++ codes "\n\nExample:\n\n" ++ example_of rule ++ codes "\nHow to mend it:\n\n" ++ mending_of rule
+
+-- a rule in the list of all
+abbrev pub list_line : Rule → List ℕ
+list_line rule = rule_number rule ++ codes "  " ++ meaning_of rule ++ codes "\n"
+
+-- all rules, one a line
+abbrev pub list_text : List ℕ
+list_text = flat_map list_line all_rules
+
+-- the number of a rule behind a space, where it is near a word
+abbrev pub near_piece : List ℕ → Rule → List ℕ
+near_piece word rule = if near word rule then codes " " ++ rule_number rule else []
+
+-- the rules near a word
+abbrev pub near_text : List ℕ → List ℕ
+near_text word = flat_map (near_piece word) all_rules
+
+-- which rules are near, where there are any
+abbrev pub hint : List ℕ → List ℕ
+hint near = if length near == 0 then [] else codes ". Near it:" ++ near
+
+-- no rule has this name
+abbrev pub unknown_text : List ℕ → List ℕ
+unknown_text word = codes "govisd: there is no rule " ++ word ++ hint (near_text word) ++ codes "\ngovisd: govisd explain lists all rules\n"

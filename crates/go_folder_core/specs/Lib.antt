@@ -1,0 +1,4 @@
+pub mod Folders
+pub mod Names
+pub mod Places
+pub mod mirrors
