@@ -1,0 +1,5 @@
+mod Bound
+mod Members
+mod Said
+mod Steps
+mod Using

@@ -1,0 +1,23 @@
+-- Steps of the loops.
+use Rattle.std.specs.Prelude.{ℕ, List, [], ◌∷◌, ◌++◌, Option, Some, None}
+use Rattle.go_tree_core.specs.declared.occurrence.Occ.{Occ}
+use Rattle.go_block_core.specs.Blocks.{BlocksModel}
+use Rattle.go_denote_core.specs.declared.things.Outcome.TheVariants as outcomes
+use Rattle.go_report_core.specs.expr_core.declared.things.Fault.{Fault}
+use Rattle.go_used_core.specs.Used.{TheOutcome, TheUse, used_by}
+
+-- the place of the import that an occurrence uses, if it has something
+abbrev pub some_used : BlocksModel → ℕ → Occ → Option TheUse → Option TheUse → List ℕ
+some_used b file o None next = []
+some_used b file o (Some u) next = used_by b file o u next
+
+-- the fault that an outcome at an offset says
+abbrev pub said_at : ℕ → TheOutcome → List Fault
+said_at offset (outcomes.Refused rule) = record { offset = offset; rule = rule } ∷ []
+said_at offset (outcomes.Declared d) = []
+said_at offset (outcomes.Selected d path) = []
+
+-- the faults that occurrences say
+abbrev pub said : List TheUse → List Fault
+said [] = []
+said (u ∷ us) = said_at u.offset u.outcome ++ said us
