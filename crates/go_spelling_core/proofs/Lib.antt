@@ -1,0 +1,5 @@
+mod Bodies
+mod Listed
+mod Noted
+mod Staying
+mod Walking
