@@ -1,1 +1,5 @@
+pub mod CommandLemmas
+pub mod MadeLemmas
+pub mod PlainWords
+pub mod RunLemmas
 pub mod WordLemmas

@@ -1,41 +1,85 @@
 -- What the words of a command line ask for. How words are read is `clap`'s to say (its `specs/Faults.antt`): what it
--- refuses them for, and which subcommand they name.
-use Rattle.std.specs.Prelude.{◌≡◌, ◌≢◌, ◌⊎◌, Bool, true, false, List, [], ◌∷◌, Option, Some, None, Result, Ok, Err, codes, option_map}
+-- refuses them for, and which subcommand they name with what behind it.
+use Rattle.std.specs.Prelude.{◌≡◌, ◌≢◌, ◌⊎◌, ◌==◌, ◌||◌, Bool, true, not, List, [], ◌∷◌, Option, Some, None, Result, Ok, Err, codes, option_and_then, option_map, slice_get, if◌then◌else◌}
 use Rattle.std.specs.Str.{bytes_eq}
-use Rattle.clap.specs.Walk.{Text}
-use Rattle.clap.specs.Simple.{App, Shape, new_shape, subcommand_of, with_subcommand}
+use Rattle.std.specs.Option.{option_map_or}
+use Rattle.clap.specs.Walk.{Row, Text, first_of}
+use Rattle.clap.specs.Simple.{App, Shape, new_app, new_rule, new_shape, subcommand_of, with_rule, with_subcommand}
 use Rattle.clap.specs.Faults.{fault_of}
 use Rattle.clap.specs.Kinds.{Kinds, IsAmong}
 use Rattle.clap.specs.Values.{kind_of}
 use Rattle.clap.specs.declared.error.Error.{Error}
 use Rattle.clap.specs.declared.error.kind.ErrorKind.TheVariants as kind
 use Rattle.govisd.specs.declared.words.Request.{Request}
-use Rattle.govisd.specs.declared.words.Request.TheVariants.{Resolve, Help, Version}
+use Rattle.govisd.specs.declared.words.Request.TheVariants.{Resolve, Explain, Help, Version}
 
--- the program has a version, and wants one of two subcommands
+-- what is asked for
+pub data Asked : Type 0 where
+  ToResolve : Asked
+  ToExplain : (rule : Option Text) → Asked
+  ToHelp : (topic : Option Text) → Asked
+  ToTellVersion : Asked
+
+-- what a request asks for
+abbrev pub said : Request → Asked
+said Resolve = ToResolve
+said (Explain rule) = ToExplain (option_map (λ word. word.now) rule)
+said (Help topic) = ToHelp (option_map (λ word. word.now) topic)
+said Version = ToTellVersion
+
+-- `explain`, and behind it maybe a rule
+abbrev pub explain_app : App
+explain_app = with_rule (new_app (codes "explain")) (new_rule (codes "rule"))
+
+-- `help`, and behind it maybe a command
+abbrev pub help_app : App
+help_app = with_rule (new_app (codes "help")) (new_rule (codes "command"))
+
+-- the program has a version, and wants one of its subcommands
 abbrev pub govisd_shape : Shape
 govisd_shape = record (new_shape (codes "govisd")) { has_version = true; subcommand_required = true; disable_help_subcommand = true }
 
 abbrev pub govisd_app : App
-govisd_app = with_subcommand (with_subcommand (record { top = govisd_shape; subs = [] }) (new_shape (codes "resolve"))) (new_shape (codes "help"))
+govisd_app =
+    with_subcommand (with_subcommand (with_subcommand (record { top = govisd_shape; subs = [] }) (new_shape (codes "resolve"))) explain_app.top) help_app.top
 
 -- why the words are refused, and nothing where they are not
 abbrev pub refusals : List Text → Kinds
 refusals words = fault_of govisd_app words
 
--- the name of the subcommand
-abbrev pub named : List Text → Option Text
-named words = option_map (λ s. s.0) (subcommand_of govisd_app words)
+-- what a subcommand asks for, by its name and what stands behind it
+abbrev pub asked_in : Text × List Row → Asked
+asked_in (name, rows) =
+    if bytes_eq name (codes "explain") then ToExplain (first_of (codes "rule") rows)
+    else (if bytes_eq name (codes "help") then ToHelp (first_of (codes "command") rows) else ToResolve)
 
-abbrev pub asks_help : Option Text → Bool
-asks_help None = false
-asks_help (Some name) = bytes_eq name (codes "help")
+-- what the subcommand asks for that the words name
+abbrev pub named : List Text → Asked
+named words = option_map_or asked_in (subcommand_of govisd_app words) (ToHelp None)
 
--- what words ask for: `resolve` and `help` by the subcommand that they name, help and the version also by flags
+-- a command has this name
+abbrev pub names_command : Text → Bool
+names_command word = bytes_eq word (codes "resolve") || (bytes_eq word (codes "explain") || bytes_eq word (codes "help"))
+
+abbrev pub if_command : Text → Option Text
+if_command word = if names_command word then Some word else None
+
+-- the command whose name stands behind the program's
+abbrev pub command_behind : List Text → Option Text
+command_behind words = option_and_then if_command (slice_get words 1)
+
+-- a word that is no flag: it is empty, or begins with another byte than a hyphen
+abbrev pub is_plain : Text → Bool
+is_plain [] = true
+is_plain (b ∷ bs) = not (b == 45)
+
+-- what words ask for: by the subcommand that they name, and help and the version also by flags. The help is that of the
+-- command whose name stands behind the program's
 abbrev pub Asks : List Text → Result Request Error → Type 0
-Asks words (Ok Resolve) = (refusals words ≡ []) × (asks_help (named words) ≡ false)
-Asks words (Ok Help) = ((refusals words ≡ []) × (asks_help (named words) ≡ true)) ⊎ IsAmong kind.DisplayHelp (refusals words)
-Asks words (Ok Version) = IsAmong kind.DisplayVersion (refusals words)
+Asks words (Ok request) =
+    ((refusals words ≡ []) × (said request ≡ named words))
+    ⊎ (IsAmong kind.DisplayHelp (refusals words) × (said request ≡ ToHelp (command_behind words)))
+    ⊎ (IsAmong kind.DisplayVersion (refusals words) × (said request ≡ ToTellVersion))
 Asks words (Err e) = (kind_of e ≡ kind.OutOfMemory) ⊎ (IsAmong (kind_of e) (refusals words) × (kind_of e ≢ kind.DisplayHelp) × (kind_of e ≢ kind.DisplayVersion))
 
 abbrev pub line : Text → List Text → List Text
@@ -44,16 +88,23 @@ line program words = program ∷ words
 -- what command lines of each form ask for
 pub record AskAs (program : Text) : Type 0 where
   pub resolve : refusals (line program (codes "resolve" ∷ [])) ≡ []
-  pub resolve_named : named (line program (codes "resolve" ∷ [])) ≡ Some (codes "resolve")
+  pub resolve_named : named (line program (codes "resolve" ∷ [])) ≡ ToResolve
+  pub explain : refusals (line program (codes "explain" ∷ [])) ≡ []
+  pub explain_named : named (line program (codes "explain" ∷ [])) ≡ ToExplain None
+  pub explain_word : (word : Text) → is_plain word ≡ true → refusals (line program (codes "explain" ∷ (word ∷ []))) ≡ []
+  pub explain_word_named : (word : Text) → is_plain word ≡ true → named (line program (codes "explain" ∷ (word ∷ []))) ≡ ToExplain (Some word)
   pub help : refusals (line program (codes "help" ∷ [])) ≡ []
-  pub help_named : named (line program (codes "help" ∷ [])) ≡ Some (codes "help")
+  pub help_named : named (line program (codes "help" ∷ [])) ≡ ToHelp None
+  pub help_word : (word : Text) → is_plain word ≡ true → refusals (line program (codes "help" ∷ (word ∷ []))) ≡ []
+  pub help_word_named : (word : Text) → is_plain word ≡ true → named (line program (codes "help" ∷ (word ∷ []))) ≡ ToHelp (Some word)
   pub help_flag : refusals (line program (codes "--help" ∷ [])) ≡ kind.DisplayHelp ∷ []
   pub short_help_flag : refusals (line program (codes "-h" ∷ [])) ≡ kind.DisplayHelp ∷ []
   pub resolve_help_flag : refusals (line program (codes "resolve" ∷ (codes "--help" ∷ []))) ≡ kind.DisplayHelp ∷ []
   pub version_flag : refusals (line program (codes "--version" ∷ [])) ≡ kind.DisplayVersion ∷ []
   pub short_version_flag : refusals (line program (codes "-V" ∷ [])) ≡ kind.DisplayVersion ∷ []
   pub nothing : refusals (line program []) ≡ kind.MissingSubcommand ∷ []
-  pub too_many : refusals (line program (codes "resolve" ∷ (codes "x" ∷ []))) ≡ kind.UnknownArgument ∷ []
+  pub resolve_word : (word : Text) → is_plain word ≡ true → refusals (line program (codes "resolve" ∷ (word ∷ []))) ≡ kind.UnknownArgument ∷ []
+  pub two_rules : refusals (line program (codes "explain" ∷ (codes "N1" ∷ (codes "N2" ∷ [])))) ≡ kind.UnknownArgument ∷ []
 
 abbrev pub Forms : Type 0
 Forms = (program : Text) → AskAs program

@@ -1,6 +1,7 @@
 -- What the program does: its status, what it writes and where, and what it reads.
-use Rattle.std.specs.Prelude.{◌≡◌, ◌+◌, ◌++◌, ◌⊎◌, ℕ, Bool, true, false, List, take, Option, Result, Ok, Err, IfSome}
+use Rattle.std.specs.Prelude.{◌≡◌, ◌+◌, ◌++◌, ◌⊎◌, ℕ, Bool, true, false, List, [], ◌∷◌, take, Option, Some, None, Result, Ok, Err, IfSome, MatchResult, codes, option_map, string_bytes}
 use Rattle.std.specs.Io.KnownBytes.{Appends, Keeps}
+use Rattle.std.specs.declared.string.String.{String}
 use Rattle.clap.specs.Walk.{Text}
 use Rattle.clap.specs.Values.{kind_of}
 use Rattle.clap.specs.declared.error.Error.{Error}
@@ -13,10 +14,14 @@ use Rattle.govisd_core.specs.declared.run.ResolveEnd.{ResolveEnd}
 use Rattle.govisd_core.specs.declared.run.ResolveEnd.TheVariants.{WriteFault, Memory}
 use Rattle.govisd.specs.declared.program.Ran.{Ran}
 use Rattle.govisd.specs.declared.words.Request.{Request}
-use Rattle.govisd.specs.declared.words.Request.TheVariants.{Resolve, Help, Version}
-use Rattle.govisd.specs.Asking.{Asks}
+use Rattle.govisd.specs.declared.words.Request.TheVariants.{Resolve, Explain, Help, Version}
+use Rattle.go_explain_core.specs.Naming.{named}
+use Rattle.go_text_core.specs.Rules.{rule_number}
+use Rattle.go_text_core.specs.declared.rule.Rule.{Rule}
+use Rattle.govisd.specs.Asking.{Asks, is_plain, line}
+use Rattle.go_explain_core.specs.Telling.{explained_text, list_text, unknown_text}
 use Rattle.govisd.specs.Statuses.{end_status, refusal_status}
-use Rattle.govisd.specs.Texts.{end_text, help_text, refused_text, version_text}
+use Rattle.govisd.specs.Texts.{end_text, help_of, program_help_text, refused_text, unknown_command_text, version_text}
 
 -- all of a text was written, or the first bytes alone
 abbrev pub Tells : Bool → List ℕ → Option (List ℕ) → Option (List ℕ) → Type 0
@@ -38,6 +43,47 @@ Shows ran text out out' err err' =
     ((ran.status ≡ 0) × (ran.is_told ≡ true) × Appends out out' text × Keeps err err')
     ⊎ ((ran.status ≡ 1) × IsCutShort out out' text × Tells ran.is_told (end_text WriteFault) err err')
 
+-- memory ran out, and that is said
+abbrev pub RunsOut : Ran → Option (List ℕ) → Option (List ℕ) → Type 0
+RunsOut ran err err' = (ran.status ≡ 1) × Tells ran.is_told (end_text Memory) err err'
+
+-- a text that was made is shown
+abbrev pub ShowsMade : {Z E : Type 0} → Result (String Z) E → Ran → Option (List ℕ) → Option (List ℕ) → Option (List ℕ) → Option (List ℕ) → Type 0
+ShowsMade made ran out out' err err' =
+    MatchResult made (λ text. Shows ran (string_bytes text) out out' err err') (λ _. RunsOut ran err err' × Keeps out out')
+
+-- a text is shown, where memory does not run out
+abbrev pub ShowsOrRunsOut : List ℕ → Ran → Option (List ℕ) → Option (List ℕ) → Option (List ℕ) → Option (List ℕ) → Type 0
+ShowsOrRunsOut text ran out out' err err' = Shows ran text out out' err err' ⊎ (RunsOut ran err err' × Keeps out out')
+
+-- nothing has a name, and that is said by a text that was made
+abbrev pub RefusesMade : {Z E : Type 0} → Result (String Z) E → Ran → Option (List ℕ) → Option (List ℕ) → Type 0
+RefusesMade made ran err err' = MatchResult made (λ text. (ran.status ≡ 2) × Tells ran.is_told (string_bytes text) err err') (λ _. RunsOut ran err err')
+
+-- nothing has a name, and that is said, where memory does not run out
+abbrev pub RefusesName : List ℕ → Ran → Option (List ℕ) → Option (List ℕ) → Type 0
+RefusesName text ran err err' = ((ran.status ≡ 2) × Tells ran.is_told text err err') ⊎ RunsOut ran err err'
+
+-- what is written of the rule that a word names
+abbrev pub ExplainsFound : Text → Option Rule → Ran → Option (List ℕ) → Option (List ℕ) → Option (List ℕ) → Option (List ℕ) → Type 0
+ExplainsFound word None ran out out' err err' = RefusesName (unknown_text word) ran err err' × Keeps out out'
+ExplainsFound word (Some rule) ran out out' err err' = ShowsOrRunsOut (explained_text rule) ran out out' err err'
+
+-- a rule is explained, or all are listed
+abbrev pub Explains : Option Text → Ran → Option (List ℕ) → Option (List ℕ) → Option (List ℕ) → Option (List ℕ) → Type 0
+Explains None ran out out' err err' = ShowsOrRunsOut list_text ran out out' err err'
+Explains (Some word) ran out out' err err' = ExplainsFound word (named word) ran out out' err err'
+
+-- the help of the command that has a name
+abbrev pub HelpsFound : Text → Option (List ℕ) → Ran → Option (List ℕ) → Option (List ℕ) → Option (List ℕ) → Option (List ℕ) → Type 0
+HelpsFound name None ran out out' err err' = RefusesName (unknown_command_text name) ran err err' × Keeps out out'
+HelpsFound name (Some text) ran out out' err err' = Shows ran text out out' err err'
+
+-- the program's help, or a command's
+abbrev pub Helps : Option Text → Ran → Option (List ℕ) → Option (List ℕ) → Option (List ℕ) → Option (List ℕ) → Type 0
+Helps None ran out out' err err' = Shows ran program_help_text out out' err err'
+Helps (Some name) ran out out' err err' = HelpsFound name (help_of name) ran out out' err err'
+
 -- what is said of a command line that is refused: why, and that it is
 abbrev pub RefusalSays : ErrorKind → Ran → Option (List ℕ) → Option (List ℕ) → Type 0
 RefusalSays OutOfMemory ran err err' = Tells ran.is_told (end_text Memory) err err'
@@ -50,7 +96,8 @@ pub record Refuses (kind : ErrorKind) (ran : Ran) (err err' : Option (List ℕ))
 -- what is done for what was asked for
 abbrev pub Does : Result Request Error → Ran → Option (List ℕ) → Option (List ℕ) → Option (List ℕ) → Option (List ℕ) → Option (List ℕ) → Option (List ℕ) → Type 0
 Does (Ok Resolve) ran given left out out' err err' = Resolves ran given left out out' err err'
-Does (Ok Help) ran given left out out' err err' = Shows ran help_text out out' err err' × Keeps given left
+Does (Ok (Explain rule)) ran given left out out' err err' = Explains (option_map (λ word. word.now) rule) ran out out' err err' × Keeps given left
+Does (Ok (Help topic)) ran given left out out' err err' = Helps (option_map (λ word. word.now) topic) ran out out' err err' × Keeps given left
 Does (Ok Version) ran given left out out' err err' = Shows ran version_text out out' err err' × Keeps given left
 Does (Err e) ran given left out out' err err' = Refuses (kind_of e) ran err err' × Keeps out out' × Keeps given left
 
@@ -59,3 +106,31 @@ pub record Runs (words : List Text) (ran : Ran) (given left out out' err err' : 
   pub asked : Result Request Error
   pub asks : Asks words asked
   pub does : Does asked ran given left out out' err err'
+
+-- one run of the program for some words
+abbrev pub RunsFor : List Text → (Ran → Option (List ℕ) → Option (List ℕ) → Option (List ℕ) → Option (List ℕ) → Type 0) → Type 0
+RunsFor words Happens =
+    (ran : Ran) (given left out out' err err' : Option (List ℕ)) → Runs words ran given left out out' err err' → Happens ran out out' err err' × Keeps given left
+
+-- `explain` with a rule's number writes what the rule means
+abbrev pub ExplainsEach : Type 0
+ExplainsEach = (program : Text) (rule : Rule) → RunsFor (line program (codes "explain" ∷ (rule_number rule ∷ []))) (ShowsOrRunsOut (explained_text rule))
+
+-- and with a word that names no rule says so
+abbrev pub RefusesOthers : Type 0
+RefusesOthers =
+    (program word : Text) → is_plain word ≡ true → named word ≡ None → RunsFor (line program (codes "explain" ∷ (word ∷ []))) (λ ran out out' err err'. RefusesName (unknown_text word) ran err err' × Keeps out out')
+
+-- and alone lists all rules
+abbrev pub ListsAll : Type 0
+ListsAll = (program : Text) → RunsFor (line program (codes "explain" ∷ [])) (ShowsOrRunsOut list_text)
+
+-- `help` with a command's name writes what the command takes
+abbrev pub HelpsEach : Type 0
+HelpsEach =
+    (program name text : Text) → is_plain name ≡ true → help_of name ≡ Some text → RunsFor (line program (codes "help" ∷ (name ∷ []))) (ShowsOrRunsOut text)
+
+-- and with a word that names none says so
+abbrev pub RefusesOtherCommands : Type 0
+RefusesOtherCommands =
+    (program name : Text) → is_plain name ≡ true → help_of name ≡ None → RunsFor (line program (codes "help" ∷ (name ∷ []))) (λ ran out out' err err'. RefusesName (unknown_command_text name) ran err err' × Keeps out out')

@@ -1,11 +1,29 @@
 -- What the program writes of itself.
-use Rattle.std.specs.Prelude.{ℕ, List, [], codes}
+use Rattle.std.specs.Prelude.{ℕ, List, [], ◌++◌, Option, Some, None, codes, if◌then◌else◌}
+use Rattle.std.specs.Str.{bytes_eq}
 use Rattle.govisd_core.specs.declared.run.ResolveEnd.{ResolveEnd}
 use Rattle.govisd_core.specs.declared.run.ResolveEnd.TheVariants.{Clean, Faults, ReadFault, WriteFault, Memory}
 
 -- what the program takes, and its exit statuses
-abbrev pub help_text : List ℕ
-help_text = codes "Answers questions on Go sources\n\nUsage: govisd <COMMAND>\n\nCommands:\n  resolve  Reads a Go file from standard input, and writes what each identifier in it denotes\n  help     Writes this text\n\nOptions:\n  -h, --help     Writes this text\n  -V, --version  Writes the version\n\nExit status: 0 where the source has no fault, 1 where it has one or the run failed, 2 for a command line that is refused\n"
+abbrev pub program_help_text : List ℕ
+program_help_text = codes "Answers questions on Go sources\n\nUsage: govisd <COMMAND>\n\nCommands:\n  resolve  Reads a Go file from standard input, and writes what each identifier in it denotes\n  explain  Says what a rule means, with an example that breaks it\n  help     Writes this text, or that of a command: govisd help explain\n\nOptions:\n  -h, --help     Writes this text\n  -V, --version  Writes the version\n\nExamples:\n  govisd resolve < a.go\n  govisd explain N1\n\nExit status: 0 where the source has no fault, 1 where it has one or the run failed, 2 for a command line that is refused\n"
+
+abbrev pub resolve_help_text : List ℕ
+resolve_help_text = codes "Reads a Go file from standard input, and writes what each identifier in it denotes\n\nUsage: govisd resolve\n\nIt writes a line for each identifier that is used, in order of place: its offset in bytes from 0, its role, the identifier,\nand the declaration that it denotes or the rule that it breaks. Behind these stand the other faults, as fault OFFSET RULE.\n\nExample:\n  govisd resolve < a.go\n\nExit status: 0 where the source has no fault, 1 where it has one or the run failed, 2 for a command line that is refused\n"
+
+abbrev pub explain_help_text : List ℕ
+explain_help_text = codes "Says what a rule means, with an example that breaks it and how to mend it\n\nUsage: govisd explain [RULE]\n\nArguments:\n  [RULE]  The name of a rule, as N1. Without it all rules are listed, one a line\n\nExamples:\n  govisd explain N1\n  govisd explain\n\nExit status: 0, or 2 where no rule has this name\n"
+
+-- what a command takes, by its name
+abbrev pub help_of : List ℕ → Option (List ℕ)
+help_of name =
+    if bytes_eq name (codes "resolve") then Some resolve_help_text
+    else (if bytes_eq name (codes "explain") then Some explain_help_text
+    else (if bytes_eq name (codes "help") then Some program_help_text else None))
+
+-- no command has this name
+abbrev pub unknown_command_text : List ℕ → List ℕ
+unknown_command_text name = codes "govisd: there is no command " ++ name ++ codes "\ngovisd: govisd help lists all commands\n"
 
 abbrev pub version_text : List ℕ
 version_text = codes "govisd 0.1.0\n"

@@ -1,14 +1,17 @@
 //! What the program does, over a reader and two writers.
-ghost use Rattle.std.specs.Prelude.{◌≡◌, ◌++◌, List, ℕ, map, string_bytes, IfOk};
+ghost use Rattle.std.specs.Prelude.{◌≡◌, ◌++◌, List, ℕ, map, option_map, string_bytes, IfOk};
 ghost use Rattle.clap.specs.Values.{kind_of};
 ghost use Rattle.govisd.specs.Texts.{refused_text as text_of_refused};
-ghost use Rattle.govisd.specs.Runs.{Refuses, Resolves, Runs, Shows, Tells};
+ghost use Rattle.govisd.specs.Runs.{Explains, Helps, Refuses, RefusesMade, Resolves, Runs, RunsOut, Shows, ShowsMade, Tells, ExplainsEach, HelpsEach, ListsAll, RefusesOtherCommands, RefusesOthers};
 
 use crate::status::{end_status, refusal_status};
-use crate::texts::{end_text, help_text, refused_text, version_text};
+use crate::texts::{
+    command_help, end_text, program_help, refused_text, unknown_command, version_text,
+};
 use crate::words::{Request, read_words};
 use clap::Error;
 use clap::error::ErrorKind;
+use go_explain_core::{explained, listed, rule_named, unknown};
 use govisd_core::{ResolveEnd, run_resolve, write_report};
 use std::alloc::{AllocError, Global};
 use std::convert::AsStr;
@@ -61,6 +64,68 @@ fn show<W: Write, E: Write>(out: &mut W, err: &mut E, text: &str) -> Ran
     Ran { status: 1, is_told }
 }
 
+// Says that memory ran out.
+fn run_out<E: Write>(err: &mut E) -> Ran
+    ensures { RunsOut result (E.contents err.old) (E.contents err.new) }
+{
+    let is_told = tell(err, end_text(ResolveEnd::Memory));
+    Ran { status: 1, is_told }
+}
+
+// Writes a text that was made, or says that memory ran out.
+fn show_made<W: Write, E: Write>(out: &mut W, err: &mut E, made: Result<String, AllocError>) -> Ran
+    ensures { ShowsMade made result (W.contents out.old) (W.contents out.new) (E.contents err.old) (E.contents err.new) }
+{
+    match made {
+        Ok(text) => show(out, err, text.as_str()),
+        Err(AllocError) => run_out(err),
+    }
+}
+
+// Says that nothing has a name, by a text that was made, or that memory ran out.
+fn refuse_name<E: Write>(err: &mut E, made: Result<String, AllocError>) -> Ran
+    ensures { RefusesMade made result (E.contents err.old) (E.contents err.new) }
+{
+    match made {
+        Ok(text) => {
+            let is_told = tell(err, text.as_str());
+            Ran { status: 2, is_told }
+        }
+        Err(AllocError) => run_out(err),
+    }
+}
+
+// Writes what a rule means, or the list of all.
+fn explain_rule<W: Write, E: Write>(
+    alloc: Global,
+    out: &mut W,
+    err: &mut E,
+    word: Option<&str>,
+) -> Ran
+    ensures { Explains (option_map (λ w. w.now) word.entry) result (W.contents out.old) (W.contents out.new) (E.contents err.old) (E.contents err.new) }
+{
+    match word {
+        None => show_made(out, err, listed(alloc)),
+        Some(word) => match rule_named(word) {
+            Some(rule) => show_made(out, err, explained(alloc, rule)),
+            None => refuse_name(err, unknown(alloc, word)),
+        },
+    }
+}
+
+// Writes what the program takes, or a command.
+fn help<W: Write, E: Write>(alloc: Global, out: &mut W, err: &mut E, topic: Option<&str>) -> Ran
+    ensures { Helps (option_map (λ w. w.now) topic.entry) result (W.contents out.old) (W.contents out.new) (E.contents err.old) (E.contents err.new) }
+{
+    match topic {
+        None => show(out, err, program_help()),
+        Some(name) => match command_help(name) {
+            Some(text) => show(out, err, text),
+            None => refuse_name(err, unknown_command(alloc, name)),
+        },
+    }
+}
+
 // What is wrong with the words of a command line, and a last line that says that it is refused.
 fn refusal_text(alloc: Global, error: &Error) -> Result<String, AllocError>
     ensures { IfOk result (λ text. (front : List ℕ) × (string_bytes text ≡ front ++ text_of_refused)) }
@@ -87,8 +152,8 @@ fn refuse<E: Write>(alloc: Global, err: &mut E, error: &Error) -> Ran
 }
 
 /// What the program does for the words of its command line, of which the first is its name: a run of `resolve`
-/// from the reader to the first writer, its help or its version on the first writer, or a refusal. What there is
-/// to say beside goes to the second writer.
+/// from the reader to the first writer, what a rule means, its help or its version on the first writer, or a refusal. What
+/// there is to say beside goes to the second writer.
 pub fn run<S: AsStr, R: Read, W: Write, E: Write>(
     alloc: Global,
     words: &[S],
@@ -100,8 +165,19 @@ pub fn run<S: AsStr, R: Read, W: Write, E: Write>(
 {
     match read_words(alloc, words) {
         Ok(Request::Resolve) => resolve(alloc, reader, out, err),
-        Ok(Request::Help) => show(out, err, help_text()),
+        Ok(Request::Explain(word)) => explain_rule(alloc, out, err, word),
+        Ok(Request::Help(topic)) => help(alloc, out, err, topic),
         Ok(Request::Version) => show(out, err, version_text()),
         Err(error) => refuse(alloc, err, &error),
     }
 }
+
+/// A law, with nothing to run: what a run of `explain` does for each rule, for a word that names none and without a word, and
+/// one of `help` for each command and for a word that names none.
+pub fn runs_answer_words()
+    ensures each { ExplainsEach }
+    ensures other { RefusesOthers }
+    ensures all { ListsAll }
+    ensures command { HelpsEach }
+    ensures no_command { RefusesOtherCommands }
+{}

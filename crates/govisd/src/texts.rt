@@ -1,14 +1,58 @@
 //! What the program writes of itself.
-ghost use Rattle.std.specs.Prelude.{◌≡◌};
-ghost use Rattle.govisd.specs.Texts.{help_text as text_of_help, version_text as text_of_version, refused_text as text_of_refused, end_text as text_of_end};
+ghost use Rattle.std.specs.Prelude.{◌≡◌, IfOk, option_map, string_bytes};
+ghost use Rattle.govisd.specs.Texts.{explain_help_text, help_of, program_help_text, unknown_command_text, resolve_help_text, version_text as text_of_version, refused_text as text_of_refused, end_text as text_of_end};
 
 use govisd_core::ResolveEnd;
+use std::alloc::{AllocError, Global};
 
 /// What the program takes, and its exit statuses.
-pub fn help_text() -> &'static str
-    ensures { result.now ≡ text_of_help }
+pub fn program_help() -> &'static str
+    ensures { result.now ≡ program_help_text }
 {
-    "Answers questions on Go sources\n\nUsage: govisd <COMMAND>\n\nCommands:\n  resolve  Reads a Go file from standard input, and writes what each identifier in it denotes\n  help     Writes this text\n\nOptions:\n  -h, --help     Writes this text\n  -V, --version  Writes the version\n\nExit status: 0 where the source has no fault, 1 where it has one or the run failed, 2 for a command line that is refused\n"
+    "Answers questions on Go sources\n\nUsage: govisd <COMMAND>\n\nCommands:\n  resolve  Reads a Go file from standard input, and writes what each identifier in it denotes\n  explain  Says what a rule means, with an example that breaks it\n  help     Writes this text, or that of a command: govisd help explain\n\nOptions:\n  -h, --help     Writes this text\n  -V, --version  Writes the version\n\nExamples:\n  govisd resolve < a.go\n  govisd explain N1\n\nExit status: 0 where the source has no fault, 1 where it has one or the run failed, 2 for a command line that is refused\n"
+}
+
+fn resolve_help() -> &'static str
+    ensures { result.now ≡ resolve_help_text }
+{
+    "Reads a Go file from standard input, and writes what each identifier in it denotes\n\nUsage: govisd resolve\n\nIt writes a line for each identifier that is used, in order of place: its offset in bytes from 0, its role, the identifier,\nand the declaration that it denotes or the rule that it breaks. Behind these stand the other faults, as fault OFFSET RULE.\n\nExample:\n  govisd resolve < a.go\n\nExit status: 0 where the source has no fault, 1 where it has one or the run failed, 2 for a command line that is refused\n"
+}
+
+fn explain_help() -> &'static str
+    ensures { result.now ≡ explain_help_text }
+{
+    "Says what a rule means, with an example that breaks it and how to mend it\n\nUsage: govisd explain [RULE]\n\nArguments:\n  [RULE]  The name of a rule, as N1. Without it all rules are listed, one a line\n\nExamples:\n  govisd explain N1\n  govisd explain\n\nExit status: 0, or 2 where no rule has this name\n"
+}
+
+/// What a command takes, if there is one of this name.
+pub fn command_help(name: &str) -> Option<&'static str>
+    ensures { option_map (λ text. text.now) result ≡ help_of name.now }
+{
+    if name == "resolve" {
+        return Some(resolve_help());
+    }
+    if name == "explain" {
+        return Some(explain_help());
+    }
+    if name == "help" {
+        return Some(program_help());
+    }
+    None
+}
+
+/// That no command has a name, as `govisd help` refuses it.
+///
+/// # Errors
+///
+/// `AllocError` for want of memory.
+pub fn unknown_command(alloc: Global, name: &str) -> Result<String, AllocError>
+    ensures { IfOk result (λ text. string_bytes text ≡ unknown_command_text name.now) }
+{
+    let mut text = String::new(alloc);
+    text.push_str("govisd: there is no command ")?;
+    text.push_str(name)?;
+    text.push_str("\ngovisd: govisd help lists all commands\n")?;
+    Ok(text)
 }
 
 /// The program's name and version.

@@ -1,21 +1,27 @@
 use Rattle.std.proofs.Common.{refl}
-use Rattle.std.specs.Str.{chars}
-use Rattle.clap.specs.Faults.{defaults_fault, flags_fault, walk_fault}
-use Rattle.clap.specs.Walk.{walked}
+use Rattle.clap.proofs.OnLiterals.{clap_on_literals}
+use Rattle.govisd.proofs.PlainWords.{explain_word, explain_word_named, help_word, help_word_named, resolve_word}
 use Rattle.govisd.proofs.words.forms.Goals as goal
 
 pub returns : goal.returns
-unfolding walk_fault walked defaults_fault flags_fault chars
+unfolding clap_on_literals
 returns c = λ program. record {
   resolve = refl;
   resolve_named = refl;
+  explain = refl;
+  explain_named = refl;
+  explain_word = explain_word program;
+  explain_word_named = explain_word_named program;
   help = refl;
   help_named = refl;
+  help_word = help_word program;
+  help_word_named = help_word_named program;
   help_flag = refl;
   short_help_flag = refl;
   resolve_help_flag = refl;
   version_flag = refl;
   short_version_flag = refl;
   nothing = refl;
-  too_many = refl;
+  resolve_word = resolve_word program;
+  two_rules = refl;
 }

@@ -1,11 +1,17 @@
-use Rattle.std.proofs.Common.{inl, true, false}
-use Rattle.govisd.proofs.WordLemmas.{asked, taken}
+use Rattle.std.proofs.Common.{◌∙◌, inl, inr, refl, ap}
+use Rattle.clap.specs.declared.error.kind.ErrorKind.TheVariants.{DisplayHelp, DisplayVersion}
+use Rattle.govisd.specs.Asking.{ToHelp}
+use Rattle.govisd.proofs.WordLemmas.{chosen, refused_by, taken}
 use Rattle.govisd.proofs.words.read_words.Goals as goal
 
-pub returns-then-asks_help : goal.returns-then-asks_help
-returns-then-asks_help g c =
-    inl (taken _ _ c.in_ok-command.ensures c.in-Ok.ensures.kinds, asked _ _ c.in-Ok.matches _ c.asks_help.result true c.in_ok-command.ensures c.in-Ok.ensures.matches c.subcommand_name.ensures c.asks_help.ensures c.if-asks_help.true)
+pub returns-in-Some : goal.returns-in-Some
+returns-in-Some g c =
+    inl (taken _ _ c.in_ok-command.ensures c.in-Ok.ensures.kinds, c.request_of.ensures ∙ chosen _ _ c.in-Ok.matches _ _ c.in_ok-command.ensures c.in-Ok.ensures.matches c.in-Some.ensures.name c.in-Some.ensures.rows)
 
-pub returns-else-asks_help : goal.returns-else-asks_help
-returns-else-asks_help g c =
-    (taken _ _ c.in_ok-command.ensures c.in-Ok.ensures.kinds, asked _ _ c.in-Ok.matches _ c.asks_help.result false c.in_ok-command.ensures c.in-Ok.ensures.matches c.subcommand_name.ensures c.asks_help.ensures c.if-asks_help.false)
+pub returns-in-DisplayHelp : goal.returns-in-DisplayHelp
+returns-in-DisplayHelp g c =
+    inr (inl (refused_by _ _ c.in-Err.error DisplayHelp c.in_ok-command.ensures c.in-Err.ensures.kinds c.in-DisplayHelp.ensures (λ e. cc), ap ToHelp c.second_command.ensures))
+
+pub returns-in-DisplayVersion : goal.returns-in-DisplayVersion
+returns-in-DisplayVersion g c =
+    inr (inr (refused_by _ _ c.in-Err.error DisplayVersion c.in_ok-command.ensures c.in-Err.ensures.kinds c.in-DisplayVersion.ensures (λ e. cc), refl))

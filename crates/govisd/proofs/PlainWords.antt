@@ -1,0 +1,98 @@
+-- What clap makes of words that are no flags.
+use Rattle.std.proofs.Common.{◌≡◌, ◌∙◌, ◌&&◌, ℕ, Bool, true, false, not, List, [], ◌∷◌, get_or, Some, None, refl, ap, ap₂}
+use Rattle.std.specs.Prelude.{◌==◌, codes, if◌then◌else◌, option_and_then}
+use Rattle.std.specs.Option.{option_map_or}
+use Rattle.std.specs.Str.{bytes_eq}
+use Rattle.clap.specs.Lexer.{long_of, long_of_rest, short_of, short_of_rest, strip_byte}
+use Rattle.clap.specs.Walk.{Held, Names, Rule, Step, Text, Walk, after_step, arg_by_index, first_of, finished, idle, long_or_other, nothing_held, settled, short_or_plain, subcommand_met, subcommand_or_other, to_positional, trailing, value, walked, word_met}
+use Rattle.clap.specs.Simple.{Shape, built}
+use Rattle.clap.specs.Kinds.{Kinds, or_else}
+use Rattle.clap.specs.Faults.{bundle_fault, check_fault, defaults_fault, flag_word_fault, level_fault, other_fault, settle_fault, step_fault, turn_fault, walk_fault, word_fault}
+use Rattle.clap.specs.declared.error.kind.ErrorKind.TheVariants as kind
+use Rattle.clap.proofs.OnLiterals.{clap_on_literals}
+use Rattle.govisd.specs.Asking.{ToExplain, ToHelp, explain_app, govisd_app, is_plain, line, named, refusals}
+
+not_true : (t : Bool) → not t ≡ true → t ≡ false
+not_true true h = absurd (cc)
+not_true false h = refl
+
+not_dashes : (word : Text) → is_plain word ≡ true → bytes_eq word (45 ∷ 45 ∷ []) ≡ false
+not_dashes [] plain = refl
+not_dashes (b ∷ bs) plain = ap (λ t. t && bytes_eq bs (45 ∷ [])) (not_true (b == 45) plain)
+
+not_long : (word : Text) → is_plain word ≡ true → long_of word ≡ None
+not_long [] plain = refl
+not_long (b ∷ bs) plain = ap (λ t. option_and_then long_of_rest (option_and_then (strip_byte 45) (if t then Some bs else None))) (not_true (b == 45) plain)
+
+not_short : (word : Text) → is_plain word ≡ true → short_of word ≡ None
+not_short [] plain = refl
+not_short (b ∷ bs) plain = ap (λ t. option_and_then short_of_rest (if t then Some bs else None)) (not_true (b == 45) plain)
+
+-- the walk stands at a position, and nothing waits
+abbrev at : ℕ → Held → Walk
+at position h = record { held = h; waiting = idle; position = position; is_trailing = false; stopped = None }
+
+-- such a word is a value
+met : (c : List Rule) (names : Names) (position : ℕ) (word : Text) (h : Held) → subcommand_met names idle word ≡ None → is_plain word ≡ true → word_met c names false idle position word h ≡ (h, value)
+met c names position word h none plain =
+    ap (λ o. subcommand_or_other c o idle position word h) none
+    ∙ ap (λ t. if t then (h, trailing position) else long_or_other c idle word (long_of word) h) (not_dashes word plain)
+    ∙ ap (λ o. long_or_other c idle word o h) (not_long word plain)
+    ∙ ap (λ o. short_or_plain c idle word o h) (not_short word plain)
+
+-- and by itself it is not refused
+no_fault : (s : Shape) (names : Names) (word : Text) (h : Held) → subcommand_met names idle word ≡ None → is_plain word ≡ true → word_fault s names false idle word h ≡ []
+no_fault s names word h none plain =
+    ap (λ o. other_fault s o word h) none
+    ∙ ap (λ t. if t then [] else flag_word_fault s.rules s.args_override_self (long_of word) word h) (not_dashes word plain)
+    ∙ ap (λ o. flag_word_fault s.rules s.args_override_self o word h) (not_long word plain)
+    ∙ ap (λ o. option_map_or (λ flags. bundle_fault s.rules s.args_override_self flags h) o []) (not_short word plain)
+
+turned : (s : Shape) (names : Names) (position : ℕ) (word : Text) (h : Held) → subcommand_met names idle word ≡ None → is_plain word ≡ true → turn_fault s names (at position h) word ≡ step_fault s position h value
+turned s names position word h none plain =
+    ap₂ (λ f (m : Held × Step). or_else f (step_fault s position m.0 m.1)) (no_fault s names word h none plain) (met s.rules names position word h none plain)
+
+passed : (c : List Rule) (names : Names) (position : ℕ) (word : Text) (h : Held) → subcommand_met names idle word ≡ None → is_plain word ≡ true → walked c names (at position h) word ≡ to_positional c (arg_by_index c position) word (at position h) h
+unfolding walked
+passed c names position word h none plain = ap (λ (m : Held × Step). after_step c word (at position h) m.0 m.1) (met c names position word h none plain)
+
+-- where the walk stands behind a first word
+abbrev behind : Shape → Text → Walk
+behind s word = to_positional s.rules (arg_by_index s.rules 1) word (at 1 nothing_held) nothing_held
+
+-- what comes behind the walk
+abbrev at_end : Shape → Held → Kinds
+at_end s h =
+    or_else (settle_fault s.rules s.args_override_self h) (or_else (defaults_fault (settled s.rules h).rows s.rules) (check_fault s (finished s.rules h) false))
+
+-- a command with one such word
+one_word : (s : Shape) (word : Text) → is_plain word ≡ true → level_fault s [] nothing_held (word ∷ []) false [] ≡ or_else (or_else (step_fault s 1 nothing_held value) []) (at_end s (behind s word).held)
+unfolding walked walk_fault
+one_word s word plain =
+    ap₂ (λ f (w : Walk). or_else (or_else f []) (at_end s w.held)) (turned s [] 1 word nothing_held refl plain) (passed s.rules [] 1 word nothing_held refl plain)
+
+-- a subcommand as it is built
+abbrev sub : ℕ → Shape
+sub i = get_or (built govisd_app).subs i explain_app.top
+
+pub explain_word : (program word : Text) → is_plain word ≡ true → refusals (line program (codes "explain" ∷ (word ∷ []))) ≡ []
+unfolding clap_on_literals
+explain_word program word plain = ap (λ k. or_else k []) (one_word (sub 1) word plain)
+
+pub explain_word_named : (program word : Text) → is_plain word ≡ true → named (line program (codes "explain" ∷ (word ∷ []))) ≡ ToExplain (Some word)
+unfolding clap_on_literals
+explain_word_named program word plain =
+    ap (λ (w : Walk). ToExplain (first_of (codes "rule") (finished (sub 1).rules w.held))) (passed (sub 1).rules [] 1 word nothing_held refl plain)
+
+pub help_word : (program word : Text) → is_plain word ≡ true → refusals (line program (codes "help" ∷ (word ∷ []))) ≡ []
+unfolding clap_on_literals
+help_word program word plain = ap (λ k. or_else k []) (one_word (sub 2) word plain)
+
+pub help_word_named : (program word : Text) → is_plain word ≡ true → named (line program (codes "help" ∷ (word ∷ []))) ≡ ToHelp (Some word)
+unfolding clap_on_literals
+help_word_named program word plain =
+    ap (λ (w : Walk). ToHelp (first_of (codes "command") (finished (sub 2).rules w.held))) (passed (sub 2).rules [] 1 word nothing_held refl plain)
+
+pub resolve_word : (program word : Text) → is_plain word ≡ true → refusals (line program (codes "resolve" ∷ (word ∷ []))) ≡ kind.UnknownArgument ∷ []
+unfolding clap_on_literals
+resolve_word program word plain = ap (λ k. or_else k []) (one_word (sub 0) word plain)

@@ -1,0 +1,132 @@
+-- What runs for one form of the words do.
+use Rattle.std.proofs.Common.{◌≡◌, ◌∙◌, ◌⊎◌, inl, inr, ℕ, true, List, [], ◌∷◌, Option, Some, None, Result, Ok, Err, refl, subst}
+use Rattle.std.specs.Prelude.{codes}
+use Rattle.std.specs.Io.KnownBytes.{Keeps}
+use Rattle.clap.specs.Walk.{Text}
+use Rattle.clap.specs.Kinds.{IsAmong}
+use Rattle.clap.specs.Values.{kind_of}
+use Rattle.clap.specs.declared.error.Error.{Error}
+use Rattle.clap.specs.declared.error.kind.ErrorKind.TheVariants as kind
+use Rattle.clap.proofs.OnLiterals.{clap_on_literals}
+use Rattle.go_text_core.specs.Rules.{rule_number}
+use Rattle.go_text_core.specs.declared.rule.Rule.{Rule}
+use Rattle.go_explain_core.specs.Naming.{named}
+use Rattle.go_explain_core.specs.Telling.{explained_text, list_text, unknown_text}
+use Rattle.go_explain_core.proofs.Everywhere.{everywhere}
+use Rattle.go_explain_core.proofs.Numbers.{names_each}
+use Rattle.govisd.specs.declared.program.Ran.{Ran}
+use Rattle.govisd.specs.declared.words.Request.{Request}
+use Rattle.govisd.specs.declared.words.Request.TheVariants.{Resolve, Explain, Help, Version}
+use Rattle.govisd.specs.Asking.{Asks, ToExplain, ToHelp, is_plain, line, named as asked_by, refusals, said}
+use Rattle.govisd.specs.Runs.{Does, Explains, ExplainsEach, ExplainsFound, Helps, HelpsEach, HelpsFound, ListsAll, Refuses, RefusesName, RefusesOtherCommands, RefusesOthers, Runs, RunsOut, ShowsOrRunsOut}
+use Rattle.govisd.specs.Texts.{help_of, unknown_command_text}
+use Rattle.govisd.proofs.PlainWords.{explain_word, explain_word_named, help_word, help_word_named}
+
+-- words that are not refused ask for what they name
+asked : (words : List Text) (request : Request) → refusals words ≡ [] → Asks words (Ok request) → said request ≡ asked_by words
+asked words request none (inl h) = h.1
+asked words request none (inr (inl h)) = absurd (subst (IsAmong kind.DisplayHelp) none h.0)
+asked words request none (inr (inr h)) = absurd (subst (IsAmong kind.DisplayVersion) none h.0)
+
+-- and only memory fails
+failed : (words : List Text) (e : Error) → refusals words ≡ [] → Asks words (Err e) → kind_of e ≡ kind.OutOfMemory
+failed words e none (inl h) = h
+failed words e none (inr h) = absurd (subst (IsAmong (kind_of e)) none h.0)
+
+same_rule : (a b : Option Text) → ToExplain a ≡ ToExplain b → a ≡ b
+same_rule a b e = cc
+
+same_topic : (a b : Option Text) → ToHelp a ≡ ToHelp b → a ≡ b
+same_topic a b e = cc
+
+-- one run
+module _ (ran : Ran) (given left out out' err err' : Option (List ℕ)) where
+  explains : (request : Request) (word : Option Text) → said request ≡ ToExplain word → Does (Ok request) ran given left out out' err err' → Explains word ran out out' err err' × Keeps given left
+  explains Resolve word is h = absurd (cc)
+  explains (Explain rule) word is h = (subst (λ w. Explains w ran out out' err err') (same_rule _ word is) h.0, h.1)
+  explains (Help topic) word is h = absurd (cc)
+  explains Version word is h = absurd (cc)
+
+  helps : (request : Request) (word : Option Text) → said request ≡ ToHelp word → Does (Ok request) ran given left out out' err err' → Helps word ran out out' err err' × Keeps given left
+  helps Resolve word is h = absurd (cc)
+  helps (Explain rule) word is h = absurd (cc)
+  helps (Help topic) word is h = (subst (λ w. Helps w ran out out' err err') (same_topic _ word is) h.0, h.1)
+  helps Version word is h = absurd (cc)
+
+  ran_out : (e : Error) → kind_of e ≡ kind.OutOfMemory → Refuses (kind_of e) ran err err' → RunsOut ran err err'
+  ran_out e is h =
+      let r : Refuses kind.OutOfMemory ran err err' = subst (λ k. Refuses k ran err err') is h in
+      (r.status, r.says)
+
+  -- a run for words that are not refused does what is done for what they name, or memory ran out
+  done : (words : List Text) (Happens : Type 0) → ((request : Request) → said request ≡ asked_by words → Does (Ok request) ran given left out out' err err' → Happens × Keeps given left) → refusals words ≡ [] → Runs words ran given left out out' err err' → (Happens ⊎ (RunsOut ran err err' × Keeps out out')) × Keeps given left
+  done words Happens does none r = by r.asked r.asks r.does
+    where
+      by : (a : Result Request Error) → Asks words a → Does a ran given left out out' err err' → (Happens ⊎ (RunsOut ran err err' × Keeps out out')) × Keeps given left
+      by (Ok request) asks did =
+          let h = does request (asked words request none asks) did in
+          (inl h.0, h.1)
+      by (Err e) asks did = (inr (ran_out e (failed words e none asks) did.0, did.1), did.2)
+
+  explained : (words : List Text) (word : Option Text) → refusals words ≡ [] → asked_by words ≡ ToExplain word → Runs words ran given left out out' err err' → (Explains word ran out out' err err' ⊎ (RunsOut ran err err' × Keeps out out')) × Keeps given left
+  explained words word none is r = done words (Explains word ran out out' err err') (λ request asks did. explains request word (asks ∙ is) did) none r
+
+  helped : (words : List Text) (word : Option Text) → refusals words ≡ [] → asked_by words ≡ ToHelp word → Runs words ran given left out out' err err' → (Helps word ran out out' err err' ⊎ (RunsOut ran err err' × Keeps out out')) × Keeps given left
+  helped words word none is r = done words (Helps word ran out out' err err') (λ request asks did. helps request word (asks ∙ is) did) none r
+
+  found : (word : Text) (rule : Rule) → named word ≡ Some rule → Explains (Some word) ran out out' err err' ⊎ (RunsOut ran err err' × Keeps out out') → ShowsOrRunsOut (explained_text rule) ran out out' err err'
+  found word rule is (inl h) = subst (λ f. ExplainsFound word f ran out out' err err') is h
+  found word rule is (inr h) = inr h
+
+  lost : (word : Text) → named word ≡ None → Explains (Some word) ran out out' err err' ⊎ (RunsOut ran err err' × Keeps out out') → RefusesName (unknown_text word) ran err err' × Keeps out out'
+  lost word is (inl h) = subst (λ f. ExplainsFound word f ran out out' err err') is h
+  lost word is (inr h) = (inr h.0, h.1)
+
+  whole : Explains None ran out out' err err' ⊎ (RunsOut ran err err' × Keeps out out') → ShowsOrRunsOut list_text ran out out' err err'
+  whole (inl h) = h
+  whole (inr h) = inr h
+
+  known : (name text : Text) → help_of name ≡ Some text → Helps (Some name) ran out out' err err' ⊎ (RunsOut ran err err' × Keeps out out') → ShowsOrRunsOut text ran out out' err err'
+  known name text is (inl h) = inl (subst (λ f. HelpsFound name f ran out out' err err') is h)
+  known name text is (inr h) = inr h
+
+  unknown : (name : Text) → help_of name ≡ None → Helps (Some name) ran out out' err err' ⊎ (RunsOut ran err err' × Keeps out out') → RefusesName (unknown_command_text name) ran err err' × Keeps out out'
+  unknown name is (inl h) = subst (λ f. HelpsFound name f ran out out' err err') is h
+  unknown name is (inr h) = (inr h.0, h.1)
+
+numbers_plain : (rule : Rule) → is_plain (rule_number rule) ≡ true
+numbers_plain = everywhere (λ rule. is_plain (rule_number rule)) refl
+
+pub each_rule : ExplainsEach
+each_rule program rule ran given left out out' err err' r =
+    let plain = numbers_plain rule in
+    let h = explained ran given left out out' err err' (line program (codes "explain" ∷ (rule_number rule ∷ []))) (Some (rule_number rule)) (explain_word program (rule_number rule) plain) (explain_word_named program (rule_number rule) plain) r in
+    (found ran given left out out' err err' (rule_number rule) rule (names_each rule) h.0, h.1)
+
+pub no_rule : RefusesOthers
+no_rule program word plain none ran given left out out' err err' r =
+    let h = explained ran given left out out' err err' (line program (codes "explain" ∷ (word ∷ []))) (Some word) (explain_word program word plain) (explain_word_named program word plain) r in
+    (lost ran given left out out' err err' word none h.0, h.1)
+
+alone : (program : Text) → refusals (line program (codes "explain" ∷ [])) ≡ []
+unfolding clap_on_literals
+alone program = refl
+
+alone_named : (program : Text) → asked_by (line program (codes "explain" ∷ [])) ≡ ToExplain None
+unfolding clap_on_literals
+alone_named program = refl
+
+pub all_rules : ListsAll
+all_rules program ran given left out out' err err' r =
+    let h = explained ran given left out out' err err' (line program (codes "explain" ∷ [])) None (alone program) (alone_named program) r in
+    (whole ran given left out out' err err' h.0, h.1)
+
+pub each_command : HelpsEach
+each_command program name text plain is ran given left out out' err err' r =
+    let h = helped ran given left out out' err err' (line program (codes "help" ∷ (name ∷ []))) (Some name) (help_word program name plain) (help_word_named program name plain) r in
+    (known ran given left out out' err err' name text is h.0, h.1)
+
+pub no_command : RefusesOtherCommands
+no_command program name plain none ran given left out out' err err' r =
+    let h = helped ran given left out out' err err' (line program (codes "help" ∷ (name ∷ []))) (Some name) (help_word program name plain) (help_word_named program name plain) r in
+    (unknown ran given left out out' err err' name none h.0, h.1)
