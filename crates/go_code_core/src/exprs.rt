@@ -1,7 +1,7 @@
 //! The code of expressions.
-ghost use Rattle.std.specs.Prelude.{◌≡◌, ◌++◌, ◌∷◌, length, IfOk, OnOk};
+ghost use Rattle.std.specs.Prelude.{◌≡◌, ◌++◌, IfOk, OnOk};
 ghost use Rattle.go_tree_nodes.specs.Shapes.{shape, shape_call, items_of};
-ghost use Rattle.go_code_core.specs.Code.{binary_code, call_end, expr_code, items_code, letter, letters, load, name_code, push, receiver_code, word_value};
+ghost use Rattle.go_code_core.specs.Code.{binary_code, call_end, expr_code, items_code, letters, name_code, push, receiver_code, word_value};
 ghost use Rattle.go_code_core.specs.Names.{frame_of};
 ghost use Rattle.go_code_core.specs.mirrors.Written.{applied};
 

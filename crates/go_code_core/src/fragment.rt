@@ -1,5 +1,5 @@
 //! Which expressions give values over `int` and `bool` alone.
-ghost use Rattle.std.specs.Prelude.{◌≡◌, is_some};
+ghost use Rattle.std.specs.Prelude.{◌≡◌};
 ghost use Rattle.go_tree_nodes.specs.Shapes.{shape, items_of, shape_some_type};
 ghost use Rattle.go_tree_nodes.specs.TypeShapes.{shape_type};
 ghost use Rattle.go_code_core.specs.Fragment.{all_ones, binary_word, call_gives, expr_gives, is_method, is_one, is_other, item_count, meaning_gives, over, receiver_fits, selected_gives, some_type_inside, type_name_word, type_of_meaning, type_word, unary_word};

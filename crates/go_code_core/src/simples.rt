@@ -3,7 +3,6 @@ ghost use Rattle.std.specs.Prelude.{◌≡◌, ◌++◌, OnOk};
 ghost use Rattle.go_tree_nodes.specs.Shapes.{shape, shape_exprs, shape_simple, shape_some_simple, shape_value, shape_value_spec, shape_values, shape_init};
 ghost use Rattle.go_tree_nodes.specs.TypeShapes.{shape_idents};
 ghost use Rattle.go_code_core.specs.Code.{declared, dropped, expr_code, init_code, initial_code, one_code, simple_code, some_simple_code, store, stored, updated, value_spec_code, value_specs_code};
-ghost use Rattle.go_code_core.specs.Fragment.{expr_gives};
 ghost use Rattle.go_code_core.specs.Names.{frame_of, target_of};
 ghost use Rattle.go_code_core.specs.Operators.{update_operator};
 
