@@ -1,0 +1,10 @@
+use Rattle.std.proofs.Common.{map}
+use Rattle.std.specs.Vec.Iter.{into_iter_items}
+use Rattle.go_ready_core.specs.Packages.{trees_in}
+use Rattle.go_package_core.specs.Checked.{answers_shown}
+use Rattle.go_part_core.specs.Parts.{file_shown}
+use Rattle.go_part_core.proofs.Numbering.{SoFar}
+use Rattle.go_part_core.proofs.files.files_made.Given as goal
+
+abbrev pub invariant-loop-answers : goal.invariant-loop-answers
+invariant-loop-answers l = SoFar l.blocks (trees_in l.«package») (map answers_shown l.fn.checked.items) (map answers_shown (into_iter_items l.answers-iterator)) (map file_shown l.files.items)

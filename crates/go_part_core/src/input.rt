@@ -1,0 +1,142 @@
+//! What a package's part is made from.
+ghost use Rattle.std.specs.Prelude.{◌≡◌, ◌↔◌, All, IfOk, IsTrue, map};
+ghost use Rattle.go_graph_core.specs.Packages.{trees_of};
+ghost use Rattle.go_graph_core.specs.Workspaces.{AreAllRead};
+ghost use Rattle.go_block_core.specs.Naming.{HaveOneEach, imported_in};
+ghost use Rattle.go_summary_core.specs.Summaries.{IsOfOne};
+ghost use Rattle.go_part_core.specs.Inputs.{AreReached, IsInput, input_with, path_in};
+
+use crate::same::{same_imports, same_summaries};
+use go_block_core::Imported;
+use go_graph_core::Package;
+use go_path_core::ImportPath;
+use go_summary_core::Summary;
+use std::alloc::{AllocError, Global};
+use std::marker::Model;
+use std::sync::Arc;
+
+// What is shared of an input.
+#[derive(Drop)]
+struct InputContent {
+    source: Package,
+    imports: Vec<Vec<Imported>>,
+    reached: Vec<Summary>,
+}
+
+/// What the part of a package is made from: its files, what their imports come to, and what the packages tell that it reaches. A handle over one
+/// shared pointer; trees and summaries are shared with the workspace and with other inputs. Contracts see the three.
+///
+/// The Go specification, "Import declarations".
+#[derive(Drop)]
+pub struct PartInput {
+    content: Arc<InputContent>,
+}
+
+impl Model for PartInput {
+    ghost use Rattle.std.specs.Prelude.{map};
+    ghost use Rattle.std.specs.Arc.{arc_value};
+    ghost use Rattle.go_block_core.specs.Naming.{imported_in};
+    ghost use Rattle.go_part_core.specs.Inputs.{InputModel, IsInput, coded_input, input_with};
+
+    ghost Value = { InputModel };
+
+    ghost coded = { coded_input };
+
+    ghost view = { λ i. input_with (arc_value i.content).source (map imported_in (arc_value i.content).imports.items) (arc_value i.content).reached.items };
+
+    ghost invariant = { λ i. IsInput (input_with (arc_value i.content).source (map imported_in (arc_value i.content).imports.items) (arc_value i.content).reached.items) };
+}
+
+// Goes over summaries, so that it is known of each that all of it is of one package.
+fn pass_over(reached: &[Summary])
+    ensures { All IsOfOne reached.now }
+{
+    for summary in reached {
+        let _path = summary.path();
+    }
+}
+
+impl PartInput {
+    /// The input of a package. `imports` has for each file, in order of name, what its imports come to, in order of place; `reached` what the
+    /// packages tell that passing imports lead to, in any number of steps, each once.
+    ///
+    /// # Errors
+    ///
+    /// `AllocError` where memory is wanting.
+    pub fn new(
+        alloc: Global,
+        source: Package,
+        imports: Vec<Vec<Imported>>,
+        reached: Vec<Summary>,
+    ) -> Result<PartInput, AllocError>
+        requires imports { HaveOneEach (trees_of source.1) (map imported_in imports.items) }
+        requires reached { AreReached source.0 reached.items }
+        ensures { IfOk result (λ i. i ≡ input_with source (map imported_in imports.items) reached.items) }
+    {
+        pass_over(&reached);
+        let content = InputContent {
+            source,
+            imports,
+            reached,
+        };
+        Ok(PartInput {
+            content: Arc::new(alloc, content)?,
+        })
+    }
+
+    /// The same input once more. It takes no memory.
+    ///
+    /// # Errors
+    ///
+    /// `AllocError` where it has too many owners.
+    pub fn share(&self) -> Result<PartInput, AllocError>
+        ensures { IfOk result (λ i. i ≡ self.now) }
+    {
+        Ok(PartInput {
+            content: Arc::try_clone(&self.content)?,
+        })
+    }
+
+    /// The path of the package.
+    pub fn path(&self) -> &ImportPath
+        ensures { result.now ≡ path_in self.now }
+    {
+        self.content.source.path()
+    }
+
+    /// The package: its files with their trees.
+    pub fn package(&self) -> &Package
+        ensures { result.now ≡ self.now.source }
+    {
+        &self.content.source
+    }
+
+    /// What the imports of each file come to: the files in order of name, the imports of each in order of place.
+    pub fn imports(&self) -> &[Vec<Imported>]
+        ensures value { map imported_in result.now ≡ self.now.imports }
+        ensures well { IsInput self.now }
+    {
+        self.content.imports.as_slice()
+    }
+
+    /// What the packages tell that the package reaches by passing imports, each once.
+    pub fn reached(&self) -> &[Summary]
+        ensures value { result.now ≡ self.now.reached }
+        ensures well { IsInput self.now }
+    {
+        self.content.reached.as_slice()
+    }
+
+    /// Whether two inputs, each file of which has the content that its text has, are the same: packages, what imports come to, and what the packages
+    /// tell that are reached, in order. A text has one tree at most, so of files names, texts and faults are compared. It takes no memory; the time
+    /// that it takes is linear in the one and in the other.
+    pub fn is_same(&self, other: &PartInput) -> bool
+        requires own { AreAllRead self.now.source }
+        requires other { AreAllRead other.now.source }
+        ensures { IsTrue result ↔ (self.now ≡ other.now) }
+    {
+        same_imports(self.imports(), other.imports())
+            && self.package().source().is_same(other.package().source())
+            && same_summaries(self.reached(), other.reached())
+    }
+}

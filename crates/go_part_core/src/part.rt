@@ -1,0 +1,115 @@
+//! The part of a package.
+ghost use Rattle.std.specs.Prelude.{◌≡◌, IfOk};
+ghost use Rattle.go_part_core.specs.Inputs.{path_in};
+ghost use Rattle.go_part_core.specs.Parts.{IsPart, content_shown, part_with};
+
+use crate::content::{PackageContent, compile_over};
+use crate::input::PartInput;
+use go_path_core::ImportPath;
+use go_summary_core::{Summary, view_of};
+use std::alloc::{AllocError, Global};
+use std::marker::Model;
+use std::sync::Arc;
+
+/// What one package has by its input alone: what each occurrence of its files has, its faults, the locals of its functions, and what it tells those
+/// that import it. A handle over shared pointers. Its content is what its input gives: no part says of a package what is not so. Contracts see
+/// the input and the content.
+#[derive(Drop)]
+pub struct Part {
+    input: PartInput,
+    content: Arc<PackageContent>,
+}
+
+impl Model for Part {
+    ghost use Rattle.std.specs.Arc.{arc_value};
+    ghost use Rattle.std.specs.Coded.{codes};
+    ghost use Rattle.go_block_core.specs.Blocks.{coded_blocks};
+    ghost use Rattle.go_face_core.specs.codes.FaceCodes.{coded_face, coded_operand};
+    ghost use Rattle.go_summary_core.specs.codes.SummaryCodes.{coded_summary};
+    ghost use Rattle.go_part_core.specs.Inputs.{coded_input};
+    ghost use Rattle.go_part_core.specs.Parts.{IsPart, PartModel, content_shown, part_with};
+
+    ghost Value = { PartModel };
+
+    ghost coded = { Prim.hlevel (codes, coded_input, coded_blocks, coded_face, coded_operand, coded_summary) };
+
+    ghost view = { λ p. part_with p.input (content_shown (arc_value p.content)) };
+
+    ghost invariant = { λ p. IsPart p.input (content_shown (arc_value p.content)) };
+}
+
+impl Part {
+    /// The part of an input, with what the input gives.
+    ///
+    /// # Errors
+    ///
+    /// `AllocError` where memory is wanting.
+    pub fn new(alloc: Global, input: PartInput, content: PackageContent) -> Result<Part, AllocError>
+        requires { IsPart input (content_shown content) }
+        ensures { IfOk result (λ p. p ≡ part_with input (content_shown content)) }
+    {
+        let content = Arc::new(alloc, content)?;
+        Ok(Part { input, content })
+    }
+
+    /// The same part once more. It takes no memory.
+    ///
+    /// # Errors
+    ///
+    /// `AllocError` where it has too many owners.
+    pub fn share(&self) -> Result<Part, AllocError>
+        ensures { IfOk result (λ p. p ≡ self.now) }
+    {
+        let input = self.input.share()?;
+        let content = Arc::try_clone(&self.content)?;
+        Ok(Part { input, content })
+    }
+
+    /// What the part was made from.
+    pub fn input(&self) -> &PartInput
+        ensures { result.now ≡ self.now.input }
+    {
+        &self.input
+    }
+
+    /// The path of the package.
+    pub fn path(&self) -> &ImportPath
+        ensures { result.now ≡ path_in self.now.input }
+    {
+        self.input.path()
+    }
+
+    /// What the package has. It is what the input gives.
+    pub fn content(&self) -> &PackageContent
+        ensures value { content_shown result.now ≡ self.now.content }
+        ensures made { IsPart self.now.input self.now.content }
+    {
+        &self.content
+    }
+
+    /// What the package tells those that reach it by imports.
+    pub fn summary(&self) -> &Summary
+        ensures { result.now ≡ self.now.content.summary }
+    {
+        &self.content.summary
+    }
+}
+
+/// The part of an input, by the input alone: no other package is looked at. It has the blocks of the package, what each occurrence of its files
+/// has, where an import that is not used has the rule I7, its faults in order, each once, the locals of its functions, and its summary.
+///
+/// The Go specification, "Packages", "Declarations and scope", "Import declarations".
+///
+/// # Errors
+///
+/// `AllocError` where memory is wanting.
+pub fn compile_part(alloc: Global, input: &PartInput) -> Result<Part, AllocError>
+    ensures input { IfOk result (λ p. p.input ≡ input.now) }
+    ensures made { IfOk result (λ p. IsPart input.now p.content) }
+{
+    let mut seen = view_of(alloc, input.reached())?;
+    let content = compile_over(alloc, input, &mut seen)?;
+    let shared = input.share()?;
+    let part = Part::new(alloc, shared, content)?;
+    Ok(part)
+}

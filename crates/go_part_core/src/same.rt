@@ -1,0 +1,110 @@
+//! Equality of what inputs hold.
+ghost use Rattle.std.specs.Prelude.{◌≡◌, ◌↔◌, IsTrue, map};
+ghost use Rattle.go_block_core.specs.Exports.{name_and_decl};
+ghost use Rattle.go_block_core.specs.Naming.{imported_in};
+
+use go_block_core::{Exports, Imported, NamedDecl};
+use go_summary_core::Summary;
+use go_text_core::Rule;
+
+// Whether two names are spelled alike, and have the same declaration.
+fn is_same_named(one: &NamedDecl, other: &NamedDecl) -> bool
+    ensures { IsTrue result ↔ (name_and_decl one.now ≡ name_and_decl other.now) }
+{
+    one.name.as_str() == other.name.as_str() && one.decl == other.decl
+}
+
+// Whether two lists have the same names with the same declarations, in order.
+fn same_decls(names: &[NamedDecl], others: &[NamedDecl]) -> bool
+    ensures { IsTrue result ↔ (map name_and_decl names.now ≡ map name_and_decl others.now) }
+{
+    if names.len() != others.len() {
+        return false;
+    }
+    for place in 0..names.len() {
+        if !is_same_named(&names[place], &others[place]) {
+            return false;
+        }
+    }
+    true
+}
+
+// Whether two packages have the same path, the same name in their clauses, and the same exported names with the same declarations.
+fn same_exports(one: &Exports, other: &Exports) -> bool
+    ensures { IsTrue result ↔ (one.now ≡ other.now) }
+{
+    one.path().is_same(other.path())
+        && one.name().as_str() == other.name().as_str()
+        && same_decls(one.names(), other.names())
+}
+
+// Whether two rules are the same.
+fn is_same_rule(one: Rule, other: Rule) -> bool
+    ensures { IsTrue result ↔ (one ≡ other) }
+{
+    one == other
+}
+
+// Whether two imports come to the same.
+fn is_same_imported(one: &Imported, other: &Imported) -> bool
+    ensures { IsTrue result ↔ (one.now ≡ other.now) }
+{
+    match (one, other) {
+        (Imported::Package(one), Imported::Package(other)) => same_exports(one, other),
+        (Imported::Refused(one), Imported::Refused(other)) => is_same_rule(*one, *other),
+        (Imported::Package(_), Imported::Refused(_)) => false,
+        (Imported::Refused(_), Imported::Package(_)) => false,
+    }
+}
+
+// Whether the imports of two files come to the same, in order.
+fn same_of_file(imports: &[Imported], others: &[Imported]) -> bool
+    ensures { IsTrue result ↔ (imports.now ≡ others.now) }
+{
+    if imports.len() != others.len() {
+        return false;
+    }
+    for place in 0..imports.len() {
+        if !is_same_imported(&imports[place], &others[place]) {
+            return false;
+        }
+    }
+    true
+}
+
+// Whether the imports of two files come to the same, in order.
+fn is_same_file(imports: &Vec<Imported>, others: &Vec<Imported>) -> bool
+    ensures { IsTrue result ↔ (imported_in imports.now ≡ imported_in others.now) }
+{
+    same_of_file(imports.as_slice(), others.as_slice())
+}
+
+/// Whether the imports of all files of two packages come to the same, in order.
+pub(crate) fn same_imports(files: &[Vec<Imported>], others: &[Vec<Imported>]) -> bool
+    ensures { IsTrue result ↔ (map imported_in files.now ≡ map imported_in others.now) }
+{
+    if files.len() != others.len() {
+        return false;
+    }
+    for place in 0..files.len() {
+        if !is_same_file(&files[place], &others[place]) {
+            return false;
+        }
+    }
+    true
+}
+
+/// Whether two lists have the same summaries in order.
+pub(crate) fn same_summaries(summaries: &[Summary], others: &[Summary]) -> bool
+    ensures { IsTrue result ↔ (summaries.now ≡ others.now) }
+{
+    if summaries.len() != others.len() {
+        return false;
+    }
+    for place in 0..summaries.len() {
+        if !summaries[place].is_same(&others[place]) {
+            return false;
+        }
+    }
+    true
+}
