@@ -1,0 +1,55 @@
+-- What follows from a workspace, and from a check.
+use Rattle.std.proofs.Common.{◌≡◌, ℕ, List, [], ◌∷◌, All, Some, map, ap, subst, ◌∙◌}
+use Rattle.std.specs.Prelude.{Result, Ok, Err, slice_get}
+use Rattle.std.specs.List.{AllByRecursion}
+use Rattle.std.proofs.lemmas.List.Elements.{All-from_recursion, recursion_from_All}
+use Rattle.std.proofs.lemmas.Option.{slice_get_within, get_or_from_slice_get}
+use Rattle.go_tree_nodes.specs.Trees.{FileTree}
+use Rattle.go_parse_core.specs.declared.error.SynFault.{SynFault}
+use Rattle.go_graph_core.specs.Packages.{trees_of, tree_shown}
+use Rattle.go_graph_core.specs.Sources.{SourceModel, source, IsPlacedContent, IsPlacedSource}
+use Rattle.go_graph_core.specs.Workspaces.{PackageModel, IsPackage, IsWorkspace}
+use Rattle.go_term_core.specs.decl_core.Outer.{IsPlaced}
+use Rattle.go_term_core.specs.decl_core.declared.keys.DeclKey.{DeclKey}
+use Rattle.go_table_core.specs.Entries.{Entry, Look, find}
+use Rattle.go_table_core.specs.settle_core.declared.kind.Kind.{Kind}
+use Rattle.go_table_core.specs.Tables.{AreOf}
+use Rattle.go_package_core.specs.type_core.Built.{AreEntries}
+use Rattle.go_entry_core.specs.Entries.{package_meanings, package_methods}
+use Rattle.go_entry_core.proofs.Ordered.{entries_own}
+use Rattle.go_face_core.specs.Packages.{PackageFacesModel}
+use Rattle.go_ready_core.specs.Packages.{PackageIn, entries_in, outlines_in, trees_in}
+use Rattle.go_package_core.specs.Checked.{CheckedOf, IsChecked}
+
+-- the trees of a package of a workspace are placed
+
+trees_placed : (ss : List SourceModel) → AllByRecursion IsPlacedSource ss → AllByRecursion IsPlaced (map tree_shown (trees_of ss))
+trees_placed [] h = tt
+trees_placed (s ∷ ss) h = by s.name s.text s.content h.0 (trees_placed ss h.1)
+  where
+    by : (name text : List ℕ) (r : Result FileTree SynFault) → IsPlacedContent r → AllByRecursion IsPlaced (map tree_shown (trees_of ss)) → AllByRecursion IsPlaced (map tree_shown (trees_of (source name text r ∷ ss)))
+    by name text (Ok f) one rest = (one, rest)
+    by name text (Err e) one rest = rest
+
+package_there : (ps : List PackageModel) (n : ℕ) (p : PackageModel) → All IsPackage ps → slice_get ps n ≡ Some p → IsPackage p
+package_there ps n p all at = subst IsPackage (get_or_from_slice_get ps n p p at) (all n p (slice_get_within ps n p at))
+
+pub trees_are_placed : (ps : List PackageModel) (n : ℕ) (p : PackageModel) → IsWorkspace ps → slice_get ps n ≡ Some p → All IsPlaced (trees_in p)
+trees_are_placed ps n p well at = All-from_recursion IsPlaced (trees_in p) (trees_placed p.1 (recursion_from_All IsPlacedSource p.1 (package_there ps n p well.packages at).contents))
+
+-- the types of a package are of its path
+
+own_built : (written : List Entry) (far : Look) (kind : DeclKey → Kind) (path : List ℕ) (ws es : List Entry) → AreOf path ws → AreEntries written far kind ws es → AreOf path es
+own_built written far kind path [] [] own h = tt
+own_built written far kind path [] (e ∷ es) own h = absurd h
+own_built written far kind path (w ∷ ws) [] own h = absurd h
+own_built written far kind path (w ∷ ws) (e ∷ es) own h = (ap (λ (k : DeclKey). k.path) h.0.key ∙ own.0, own_built written far kind path ws es own.1 h.1)
+
+pub types_own : (p : PackageIn) (far : List Entry) (c : CheckedOf) → IsChecked p far c → AreOf p.path c.types
+types_own p far c h =
+    let means = package_meanings p.shows p.path p.blocks in
+    own_built (entries_in p) (find far) h.types.built.kind p.path (entries_in p) c.types (entries_own means p.path (package_methods means p.path (outlines_in p)) (outlines_in p)) h.types.built.entries
+
+-- what a package shows is of its path
+pub faces_own : (p : PackageIn) (far : List Entry) (c : CheckedOf) → IsChecked p far c → c.faces.path ≡ p.path
+faces_own p far c h = ap (λ (f : PackageFacesModel). f.path) h.faces

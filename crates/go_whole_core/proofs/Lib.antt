@@ -1,0 +1,12 @@
+pub mod Lists
+pub mod Told
+pub mod Order
+pub mod Beside
+pub mod Theirs
+pub mod OneWhole
+pub mod Parts
+pub mod PartsWhole
+pub mod Making
+pub mod Inputting
+pub mod Next
+pub mod Checks

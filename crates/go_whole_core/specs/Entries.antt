@@ -1,0 +1,20 @@
+-- Parts beside what the trees of all packages give.
+--
+-- docs/RULES.md, "Whole workspaces".
+use Rattle.std.specs.Prelude.{◌≡◌, Option, Some, None, ⊤}
+use Rattle.go_ready_core.specs.Packages.{trees_in}
+use Rattle.go_part_core.specs.Parts.{AreFilesMade, PartModel}
+use Rattle.go_whole_core.specs.Whole.{WholeOf}
+
+-- a part has what the check of its package gives among all others, but that an import which is not used is refused
+pub record IsPartAmong (w : WholeOf) (p : PartModel) : Type 0 where
+  pub source : p.input.source ≡ w.source
+  pub blocks : p.content.blocks ≡ w.blocks
+  pub declared : p.content.declared ≡ w.checked.declared
+  pub files : AreFilesMade w.blocks (trees_in w.source) w.checked.files p.content.files
+
+abbrev pub IsPartEntry : Option WholeOf → Option PartModel → Type 0
+IsPartEntry None None = ⊤
+IsPartEntry None (Some p) = ⊥
+IsPartEntry (Some w) None = ⊥
+IsPartEntry (Some w) (Some p) = IsPartAmong w p
