@@ -1,6 +1,6 @@
 -- An input has one part.
 use Rattle.std.proofs.Common.{◌≡◌, ℕ, suc, List, [], ◌∷◌, Some, refl, sym, ap, subst, ◌∙◌}
-use Rattle.std.specs.Prelude.{◌↔◌, AllPairs, Contains, slice_get}
+use Rattle.std.specs.Prelude.{AllPairs}
 use Rattle.go_tree_nodes.specs.Trees.{FileTree}
 use Rattle.go_graph_core.specs.Lists.{AllNumbered}
 use Rattle.go_graph_core.specs.Packages.{trees_of}
@@ -9,7 +9,7 @@ use Rattle.go_block_core.specs.Naming.{package_named}
 use Rattle.go_block_core.proofs.OneBlocks.{one_blocks_alone}
 use Rattle.go_handle_core.specs.Declarations.{Declaration}
 use Rattle.go_report_core.specs.expr_core.declared.things.Fault.{Fault}
-use Rattle.go_report_core.specs.Faults.{ComesBefore, IsSaid, IsSettled}
+use Rattle.go_report_core.specs.Faults.{ComesBefore, IsSettled}
 use Rattle.go_report_core.proofs.Settled.{settled_are_one}
 use Rattle.go_used_core.specs.Reported.{IsReported}
 use Rattle.go_used_core.specs.Used.{TheUse}

@@ -1,5 +1,5 @@
 -- What is seen by an input alone.
-use Rattle.std.proofs.Common.{◌≡◌, ℕ, suc, List, [], ◌∷◌, All, refl, sym, ap, subst, ◌∙◌, arith}
+use Rattle.std.proofs.Common.{◌≡◌, ℕ, suc, List, [], ◌∷◌, All, sym, subst, arith}
 use Rattle.go_block_core.specs.Exports.{ExportsModel}
 use Rattle.go_table_core.specs.Entries.{Entry}
 use Rattle.go_entry_core.specs.Showing.{shown_in}

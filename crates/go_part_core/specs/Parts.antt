@@ -9,7 +9,7 @@ use Rattle.go_graph_core.specs.Packages.{trees_of}
 use Rattle.go_block_core.specs.Blocks.{BlocksModel, AreBlocks}
 use Rattle.go_block_core.specs.Naming.{package_named}
 use Rattle.go_table_core.specs.Entries.{Entry}
-use Rattle.go_table_core.specs.Tables.{PackageTypesModel, package_types}
+use Rattle.go_table_core.specs.Tables.{package_types}
 use Rattle.go_entry_core.specs.Meanings.{Shows}
 use Rattle.go_entry_core.specs.Showing.{shown_in}
 use Rattle.go_handle_core.specs.Declarations.{Declaration}

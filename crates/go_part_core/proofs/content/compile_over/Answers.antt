@@ -1,4 +1,4 @@
-use Rattle.std.proofs.Common.{Vec, Option, map, refl, sym, ap, ◌++◌, ◌∙◌}
+use Rattle.std.proofs.Common.{Vec, Option, map, refl, ap}
 use Rattle.std.specs.Global.{Global}
 use Rattle.std.specs.Option.{option_map}
 use Rattle.go_term_core.specs.declared.term.TypeTerm.{TypeTerm}
@@ -6,7 +6,6 @@ use Rattle.go_term_core.specs.declared.term.Signature.{Signature}
 use Rattle.go_entry_core.specs.Showing.{shown_in}
 use Rattle.go_face_core.specs.declared.face.Face.{Face}
 use Rattle.go_face_core.specs.Faces.{face_shown}
-use Rattle.go_summary_core.specs.Summaries.{SummaryModel}
 use Rattle.go_package_core.specs.Checked.{checked_shown}
 use Rattle.go_part_core.specs.Parts.{content_shown, seen_with}
 use Rattle.go_part_core.proofs.Checks.{files_many, of_path}
