@@ -105,7 +105,7 @@ fn content_of(
 ///
 /// # Errors
 ///
-/// `AllocError` where memory is wanting; the table of types has then the types of the package, or is as it was.
+/// `AllocError` where memory is wanting; nothing is said then of the types that are seen.
 pub fn compile_over(
     alloc: Global,
     input: &PartInput,
