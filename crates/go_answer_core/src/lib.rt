@@ -23,7 +23,12 @@ pub use site::Site;
 
 /// What the crates above name of `go_block_core`.
 pub mod block_core {
-    pub use go_fault_core::block_core::{Blocks, Imported};
+    pub use go_fault_core::block_core::{Binding, Blocks, Imported, Target};
+}
+
+/// What the crates above name of `go_denote_core`.
+pub mod denote_core {
+    pub use go_report_core::denote_core::Outcome;
 }
 
 /// What the crates above name of `go_entry_core`.
@@ -48,10 +53,15 @@ pub mod fault_core {
 
 /// What the crates above name of `go_handle_core`.
 pub mod handle_core {
-    pub use go_face_core::handle_core::{Home, SignatureRef, TypeRef};
+    pub use go_face_core::handle_core::{DeclSite, Home, SignatureRef, TypeRef};
 }
 
 /// What the crates above name of `go_report_core`.
 pub mod report_core {
     pub use go_report_core::settle_faults;
+}
+
+/// What the crates above name of `go_tree_core`.
+pub mod tree_core {
+    pub use go_report_core::tree_core::{Occ, Role, occurrences};
 }

@@ -22,7 +22,8 @@ pub use shown_packages::ShownPackages;
 /// What the crates above name of `go_block_core`.
 pub mod block_core {
     pub use go_scope_core::block_core::{
-        BlockFault, Blocks, DeclRef, Exports, Imported, NamedDecl,
+        Binding, BlockFault, Blocks, DeclRef, Exports, Imported, NamedDecl, Target, blocks,
+        import_names,
     };
 }
 

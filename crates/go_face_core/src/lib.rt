@@ -29,7 +29,9 @@ pub use written::WrittenFaces;
 
 /// What the crates above name of `go_block_core`.
 pub mod block_core {
-    pub use go_entry_core::block_core::{Blocks, Exports, Imported, NamedDecl};
+    pub use go_entry_core::block_core::{
+        Blocks, Exports, Imported, NamedDecl, blocks, import_names,
+    };
 }
 
 /// What the crates above name of `go_constant_core`.

@@ -3,5 +3,6 @@ pub use Rattle.go_entry_core.specs.block_core.Blocks as Blocks
 pub use Rattle.go_entry_core.specs.block_core.Exports as Exports
 pub use Rattle.go_entry_core.specs.block_core.Faults as Faults
 pub use Rattle.go_entry_core.specs.block_core.Naming as Naming
+pub use Rattle.go_entry_core.specs.block_core.Pieces as Pieces
 pub use Rattle.go_entry_core.specs.block_core.Tables as Tables
 pub use Rattle.go_entry_core.specs.block_core.declared as declared

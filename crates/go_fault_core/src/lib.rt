@@ -13,7 +13,7 @@ pub use places::PackageFault;
 
 /// What the crates above name of `go_block_core`.
 pub mod block_core {
-    pub use go_entry_core::block_core::{BlockFault, Blocks, Imported, NamedDecl};
+    pub use go_entry_core::block_core::{Binding, BlockFault, Blocks, Imported, NamedDecl, Target};
 }
 
 /// What the crates above name of `go_entry_core`.

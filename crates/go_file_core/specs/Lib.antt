@@ -7,6 +7,7 @@ pub mod mirrors
 pub mod block_core
 pub mod body_core
 pub mod constant_core
+pub mod cycle_core
 pub mod decide_core
 pub mod denote_core
 pub mod embed_core
@@ -23,6 +24,7 @@ pub mod names_core
 pub mod open_core
 pub mod operand_core
 pub mod piece_core
+pub mod reach_core
 pub mod scope_core
 pub mod select_core
 pub mod settle_core

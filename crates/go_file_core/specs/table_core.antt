@@ -5,3 +5,4 @@ pub use Rattle.go_func_core.specs.table_core.Entries as Entries
 pub use Rattle.go_func_core.specs.table_core.Laws as Laws
 pub use Rattle.go_func_core.specs.table_core.Meanings as Meanings
 pub use Rattle.go_func_core.specs.table_core.Methods as Methods
+pub use Rattle.go_func_core.specs.table_core.Tables as Tables

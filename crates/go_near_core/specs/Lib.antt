@@ -7,6 +7,7 @@ pub mod Functions
 pub mod Packages
 pub mod Laws
 pub mod block_core
+pub mod cycle_core
 pub mod decide_core
 pub mod embed_core
 pub mod entry_core
@@ -19,6 +20,7 @@ pub mod local_core
 pub mod names_core
 pub mod operand_core
 pub mod piece_core
+pub mod reach_core
 pub mod scope_core
 pub mod settle_core
 pub mod table_core

@@ -2,3 +2,4 @@
 pub use Rattle.go_file_core.specs.table_core.ByRule as ByRule
 pub use Rattle.go_file_core.specs.table_core.Entries as Entries
 pub use Rattle.go_file_core.specs.table_core.Methods as Methods
+pub use Rattle.go_file_core.specs.table_core.Tables as Tables

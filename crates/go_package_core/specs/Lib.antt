@@ -5,6 +5,7 @@ pub mod answer_core
 pub mod fault_core
 pub mod graph_core
 pub mod needs_core
+pub mod parse_core
 pub mod ready_core
 pub mod report_core
 pub mod type_core

@@ -4,14 +4,14 @@ use Rattle.std.specs.Prelude.{Vec, vec_len, slice_get, option_map}
 use Rattle.std.specs.Global.{Global}
 use Rattle.std.proofs.lemmas.List.{length-map, map-append, take_all}
 use Rattle.go_tree_nodes.specs.Trees.{FileTree}
-use Rattle.go_ready_core.specs.parse_core.declared.error.SynFault.{SynFault}
-use Rattle.go_graph_core.specs.Lists.{AllNumbered}
-use Rattle.go_graph_core.specs.Packages.{trees_of, tree_shown}
-use Rattle.go_graph_core.specs.Sources.{SourceModel, source}
-use Rattle.go_graph_core.specs.Workspaces.{PackageModel}
-use Rattle.go_block_core.specs.Blocks.{BlocksModel}
-use Rattle.go_block_core.proofs.GivenSteps.{numbered_next}
-use Rattle.go_ready_core.specs.Packages.{trees_in}
+use Rattle.go_package_core.specs.parse_core.declared.error.SynFault.{SynFault}
+use Rattle.go_summary_core.specs.graph_core.Lists.{AllNumbered}
+use Rattle.go_summary_core.specs.graph_core.Packages.{trees_of, tree_shown}
+use Rattle.go_summary_core.specs.graph_core.Sources.{SourceModel, source}
+use Rattle.go_summary_core.specs.graph_core.Workspaces.{PackageModel}
+use Rattle.go_summary_core.specs.block_core.Blocks.{BlocksModel}
+use Rattle.go_summary_core.specs.block_core.GivenSteps.{numbered_next}
+use Rattle.go_package_core.specs.ready_core.Packages.{trees_in}
 use Rattle.go_package_core.specs.Checked.{AnswersOf, answers_shown}
 use Rattle.go_package_core.specs.declared.checked.FileAnswers.{FileAnswers}
 use Rattle.go_part_core.specs.declared.files.PartFile.{PartFile}

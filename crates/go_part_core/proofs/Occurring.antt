@@ -4,15 +4,15 @@ use Rattle.std.specs.Prelude.{◌&&◌, not, nat_eq, if◌then◌else◌, slice_
 use Rattle.std.specs.List.{list_any}
 use Rattle.go_tree_nodes.specs.Trees.{FileTree}
 use Rattle.go_tree_nodes.specs.Rules.{Wf_file}
-use Rattle.go_tree_core.specs.Occurrences.{file_occs}
-use Rattle.go_graph_core.specs.Packages.{Trees, tree_shown, trees_of}
-use Rattle.go_graph_core.proofs.Zips.{numbered_at}
-use Rattle.go_block_core.specs.declared.imports.Imported.{Imported}
-use Rattle.go_block_core.specs.Blocks.{BlocksModel}
-use Rattle.go_block_core.specs.Naming.{HaveOneEach, file_specs}
-use Rattle.go_report_core.specs.expr_core.Laws.{use_place, occurrence_place}
+use Rattle.go_used_core.specs.tree_core.Occurrences.{file_occs}
+use Rattle.go_summary_core.specs.graph_core.Packages.{Trees, tree_shown, trees_of}
+use Rattle.go_summary_core.specs.graph_core.Zips.{numbered_at}
+use Rattle.go_summary_core.specs.block_core.declared.imports.Imported.{Imported}
+use Rattle.go_summary_core.specs.block_core.Blocks.{BlocksModel}
+use Rattle.go_summary_core.specs.block_core.Naming.{HaveOneEach, file_specs}
+use Rattle.go_used_core.specs.expr_core.Laws.{use_place, occurrence_place}
 use Rattle.go_used_core.specs.Used.{TheUse, blank_places, is_import, judged, refused_use, used_places, without_unused}
-use Rattle.go_ready_core.specs.Packages.{trees_in}
+use Rattle.go_package_core.specs.ready_core.Packages.{trees_in}
 use Rattle.go_package_core.proofs.Meanings.{has_occurrences}
 use Rattle.go_part_core.specs.Inputs.{InputModel, IsInput}
 use Rattle.go_part_core.specs.Laws.{PartHasOccurrences}

@@ -2,18 +2,18 @@
 use Rattle.std.proofs.Common.{◌≡◌, ℕ, suc, List, [], ◌∷◌, Some, refl, sym, ap, subst, ◌∙◌}
 use Rattle.std.specs.Prelude.{AllPairs}
 use Rattle.go_tree_nodes.specs.Trees.{FileTree}
-use Rattle.go_graph_core.specs.Lists.{AllNumbered}
-use Rattle.go_graph_core.specs.Packages.{trees_of}
-use Rattle.go_block_core.specs.Blocks.{BlocksModel}
-use Rattle.go_block_core.specs.Naming.{package_named}
-use Rattle.go_block_core.proofs.OneBlocks.{one_blocks_alone}
-use Rattle.go_handle_core.specs.Declarations.{Declaration}
-use Rattle.go_report_core.specs.expr_core.declared.things.Fault.{Fault}
-use Rattle.go_report_core.specs.Faults.{ComesBefore, IsSettled}
-use Rattle.go_report_core.proofs.Settled.{settled_are_one}
+use Rattle.go_summary_core.specs.graph_core.Lists.{AllNumbered}
+use Rattle.go_summary_core.specs.graph_core.Packages.{trees_of}
+use Rattle.go_summary_core.specs.block_core.Blocks.{BlocksModel}
+use Rattle.go_summary_core.specs.block_core.Naming.{package_named}
+use Rattle.go_summary_core.specs.block_core.OneBlocks.{one_blocks_alone}
+use Rattle.go_used_core.specs.handle_core.Declarations.{Declaration}
+use Rattle.go_used_core.specs.expr_core.declared.things.Fault.{Fault}
+use Rattle.go_used_core.specs.report_core.Faults.{ComesBefore, IsSettled}
+use Rattle.go_used_core.specs.report_core.Settled.{settled_are_one}
 use Rattle.go_used_core.specs.Reported.{IsReported}
 use Rattle.go_used_core.specs.Used.{TheUse}
-use Rattle.go_ready_core.specs.Packages.{trees_in}
+use Rattle.go_package_core.specs.ready_core.Packages.{trees_in}
 use Rattle.go_package_core.specs.Checked.{AnswersOf, CheckedOf, IsChecked}
 use Rattle.go_package_core.proofs.Meanings.{one_check}
 use Rattle.go_part_core.specs.Laws.{OnePart}

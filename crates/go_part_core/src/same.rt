@@ -1,10 +1,10 @@
 //! Equality of what inputs hold.
 ghost use Rattle.std.specs.Prelude.{◌≡◌, ◌↔◌, IsTrue, map};
-ghost use Rattle.go_block_core.specs.Exports.{name_and_decl};
-ghost use Rattle.go_block_core.specs.Naming.{imported_in};
+ghost use Rattle.go_summary_core.specs.block_core.Exports.{name_and_decl};
+ghost use Rattle.go_summary_core.specs.block_core.Naming.{imported_in};
 
-use go_block_core::{Exports, Imported, NamedDecl};
 use go_summary_core::Summary;
+use go_summary_core::block_core::{Exports, Imported, NamedDecl};
 use go_text_core::Rule;
 
 // Whether two names are spelled alike, and have the same declaration.

@@ -2,4 +2,6 @@ pub mod Faults
 pub mod Places
 pub mod Laws
 pub mod mirrors
+pub mod denote_core
 pub mod expr_core
+pub mod tree_core

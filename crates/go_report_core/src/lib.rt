@@ -19,3 +19,8 @@ pub mod denote_core {
 pub mod expr_core {
     pub use go_expr_core::{Fault, Use};
 }
+
+/// What the crates above name of `go_tree_core`.
+pub mod tree_core {
+    pub use go_expr_core::tree_core::{Occ, Role, occurrences};
+}

@@ -8,24 +8,24 @@ use Rattle.go_tree_nodes.specs.declared.names.Ident.{Ident}
 use Rattle.go_tree_nodes.specs.declared.decls.ValueKind.TheVariants as kinds
 use Rattle.go_tree_nodes.specs.Trees.{Specs, Single, Group, DeclTree, Value, Types, Func, FuncTree, TopTree}
 use Rattle.go_term_core.specs.Terms.{Term}
-use Rattle.go_respell_core.specs.local_core.Binding.{Look}
-use Rattle.go_respell_core.specs.local_core.Outline.{func_steps, func_opens, func_closes}
-use Rattle.go_respell_core.specs.local_core.Steps.{Piece, Spec, Steps, Done, Check, Declare, Inner}
-use Rattle.go_respell_core.specs.local_core.mirrors.Walk.{Names, look_in, with_names, news, names_of, walk_out}
-use Rattle.go_respell_core.specs.expr_core.TypeUses.{type_uses}
-use Rattle.go_respell_core.specs.expr_core.Uses.{use_of, type_spots}
-use Rattle.go_respell_core.specs.piece_core.Headers.{returned_types, returned_names}
-use Rattle.go_respell_core.specs.piece_core.Pieces.{piece_uses, piece_values}
-use Rattle.go_respell_core.specs.piece_core.Specifications.{spec_uses}
-use Rattle.go_respell_core.specs.env_core.declared.meaning.Meaning.{Meaning}
-use Rattle.go_file_core.specs.body_core.Notes.{NoteOf, all_uses}
-use Rattle.go_file_core.specs.top_core.Tops.{of_specs}
-use Rattle.go_file_core.specs.func_core.Stands.{FileStand, looks_where, outer_names, outer_look, outer_looks}
-use Rattle.go_file_core.specs.func_core.Functions.{own_rules, checked_func}
-use Rattle.go_file_core.specs.Files.{decl_uses, tops_uses}
-use Rattle.go_respell_core.specs.Functions.{spot_rules}
-use Rattle.go_respell_core.specs.Spots.{spec_spots, piece_spots}
-use Rattle.go_respell_core.proofs.Pieces.{piece_used}
+use Rattle.go_context_core.specs.local_core.Binding.{Look}
+use Rattle.go_context_core.specs.local_core.Outline.{func_steps, func_opens, func_closes}
+use Rattle.go_context_core.specs.local_core.Steps.{Piece, Spec, Steps, Done, Check, Declare, Inner}
+use Rattle.go_context_core.specs.local_core.mirrors.Walk.{Names, look_in, with_names, news, names_of, walk_out}
+use Rattle.go_context_core.specs.expr_core.TypeUses.{type_uses}
+use Rattle.go_context_core.specs.expr_core.Uses.{use_of, type_spots}
+use Rattle.go_context_core.specs.piece_core.Headers.{returned_types, returned_names}
+use Rattle.go_context_core.specs.piece_core.Pieces.{piece_uses, piece_values}
+use Rattle.go_context_core.specs.piece_core.Specifications.{spec_uses}
+use Rattle.go_context_core.specs.env_core.declared.meaning.Meaning.{Meaning}
+use Rattle.go_context_core.specs.body_core.Notes.{NoteOf, all_uses}
+use Rattle.go_context_core.specs.top_core.Tops.{of_specs}
+use Rattle.go_context_core.specs.func_core.Stands.{FileStand, looks_where, outer_names, outer_look, outer_looks}
+use Rattle.go_context_core.specs.func_core.Functions.{own_rules, checked_func}
+use Rattle.go_context_core.specs.file_core.Files.{decl_uses, tops_uses}
+use Rattle.go_context_core.specs.respell_core.Functions.{spot_rules}
+use Rattle.go_context_core.specs.respell_core.Spots.{spec_spots, piece_spots}
+use Rattle.go_context_core.specs.respell_core.Pieces.{piece_used}
 use Rattle.go_context_core.specs.Functions.{TheSpot, local_of}
 use Rattle.go_context_core.specs.Spots.{decl_spots, tops_spots}
 use Rattle.go_spelling_core.specs.Places.{PlacedSpot, placed, placed_use, piece_places, place_rules, func_places, decl_places, tops_places}

@@ -5,17 +5,17 @@ use Rattle.std.specs.List.{enumerate_from}
 use Rattle.go_tree_nodes.specs.declared.names.Ident.{Ident}
 use Rattle.go_tree_nodes.specs.Trees.{ValueSpecTree, FuncTree, Lines, TopTree, FileTree}
 use Rattle.go_term_core.specs.Terms.{Term, Sign}
-use Rattle.go_file_core.specs.entry_core.Outlines.{outline_of}
-use Rattle.go_ready_core.specs.table_core.Entries.{Entry}
-use Rattle.go_respell_core.specs.handle_core.Declarations.{Declaration}
-use Rattle.go_respell_core.specs.local_core.Binding.{Look}
-use Rattle.go_respell_core.specs.expr_core.Uses.{Context, Identifier, rule, role_of, made_use}
-use Rattle.go_respell_core.specs.env_core.declared.meaning.Meaning.{Meaning}
-use Rattle.go_file_core.specs.func_core.Stands.{FileStand, looks_where, outer_look, outer_looks}
-use Rattle.go_file_core.specs.Files.{tops_uses}
-use Rattle.go_respell_core.specs.Contexts.{ContextStays}
-use Rattle.go_ready_core.specs.Packages.{PackageIn, stand_in}
-use Rattle.go_ready_core.specs.Values.{AreDeclared}
+use Rattle.go_context_core.specs.entry_core.Outlines.{outline_of}
+use Rattle.go_context_core.specs.table_core.Entries.{Entry}
+use Rattle.go_context_core.specs.handle_core.Declarations.{Declaration}
+use Rattle.go_context_core.specs.local_core.Binding.{Look}
+use Rattle.go_context_core.specs.expr_core.Uses.{Context, Identifier, rule, role_of, made_use}
+use Rattle.go_context_core.specs.env_core.declared.meaning.Meaning.{Meaning}
+use Rattle.go_context_core.specs.func_core.Stands.{FileStand, looks_where, outer_look, outer_looks}
+use Rattle.go_context_core.specs.file_core.Files.{tops_uses}
+use Rattle.go_context_core.specs.respell_core.Contexts.{ContextStays}
+use Rattle.go_context_core.specs.ready_core.Packages.{PackageIn, stand_in}
+use Rattle.go_context_core.specs.ready_core.Values.{AreDeclared}
 use Rattle.go_package_core.specs.Checked.{CheckedOf, IsChecked, IsFileChecked}
 use Rattle.go_context_core.specs.Files.{IsWrittenIn, IsBodyIn, WritesInTops, WritesBody, with_decls, with_trees}
 use Rattle.go_context_core.specs.Outer.{OuterTypesInFilesStay}

@@ -6,18 +6,18 @@ use Rattle.std.proofs.lemmas.List.{map-append, length-map}
 use Rattle.go_tree_nodes.specs.declared.names.Ident.{Ident}
 use Rattle.go_tree_nodes.specs.Trees.{FuncTree, Lines, TopTree}
 use Rattle.go_term_core.specs.Terms.{Term}
-use Rattle.go_respell_core.specs.handle_core.Declarations.{Declaration}
-use Rattle.go_respell_core.specs.local_core.Binding.{Look}
-use Rattle.go_respell_core.specs.local_core.Outline.{func_steps, func_opens, func_closes}
-use Rattle.go_respell_core.specs.local_core.Steps.{Piece, Steps}
-use Rattle.go_respell_core.specs.local_core.mirrors.Walk.{Names}
-use Rattle.go_respell_core.specs.expr_core.Uses.{Context, Identifier, rule, role_of, made_use}
-use Rattle.go_respell_core.specs.env_core.declared.meaning.Meaning.{Meaning}
-use Rattle.go_file_core.specs.func_core.Stands.{FileStand, looks_where}
-use Rattle.go_respell_core.specs.Spots.{piece_spots}
-use Rattle.go_respell_core.specs.Trees.{RespellsPiece, RespellsSteps, AtCheck, AtDeclare, BehindCheck, BehindDeclare, InBlock, BehindBlock, RespellsLines, InFuncBody, with_body}
-use Rattle.go_respell_core.proofs.Pieces.{piece_stays}
-use Rattle.go_respell_core.proofs.Treading.{func_respelled}
+use Rattle.go_context_core.specs.handle_core.Declarations.{Declaration}
+use Rattle.go_context_core.specs.local_core.Binding.{Look}
+use Rattle.go_context_core.specs.local_core.Outline.{func_steps, func_opens, func_closes}
+use Rattle.go_context_core.specs.local_core.Steps.{Piece, Steps}
+use Rattle.go_context_core.specs.local_core.mirrors.Walk.{Names}
+use Rattle.go_context_core.specs.expr_core.Uses.{Context, Identifier, rule, role_of, made_use}
+use Rattle.go_context_core.specs.env_core.declared.meaning.Meaning.{Meaning}
+use Rattle.go_context_core.specs.func_core.Stands.{FileStand, looks_where}
+use Rattle.go_context_core.specs.respell_core.Spots.{piece_spots}
+use Rattle.go_context_core.specs.respell_core.Trees.{RespellsPiece, RespellsSteps, AtCheck, AtDeclare, BehindCheck, BehindDeclare, InBlock, BehindBlock, RespellsLines, InFuncBody, with_body}
+use Rattle.go_context_core.specs.respell_core.Pieces.{piece_stays}
+use Rattle.go_context_core.specs.respell_core.Treading.{func_respelled}
 use Rattle.go_context_core.specs.Files.{WritesBody, InFunc, BehindTop}
 use Rattle.go_spelling_core.specs.Places.{PlacedSpot, placed, placed_use, piece_places, func_places, decl_places, tops_places}
 use Rattle.go_spelling_core.proofs.Listed.{get_mapped, get_front, get_behind}

@@ -6,16 +6,16 @@ use Rattle.std.specs.Prelude.{◌≡◌, ⊤, ℕ, ◌+◌, List, [], ◌++◌, 
 use Rattle.go_tree_nodes.specs.declared.names.Ident.{Ident}
 use Rattle.go_tree_nodes.specs.Trees.{TopTree, FileTree}
 use Rattle.go_term_core.specs.Terms.{Term}
-use Rattle.go_file_core.specs.block_core.Naming.{file_specs}
-use Rattle.go_ready_core.specs.table_core.Entries.{Entry}
-use Rattle.go_respell_core.specs.handle_core.Declarations.{Declaration}
-use Rattle.go_respell_core.specs.local_core.Binding.{Look}
-use Rattle.go_respell_core.specs.expr_core.Uses.{Context, Identifier, rule, role_of, made_use}
-use Rattle.go_respell_core.specs.env_core.declared.meaning.Meaning.{Meaning}
-use Rattle.go_file_core.specs.body_core.Notes.{TheUse}
-use Rattle.go_file_core.specs.func_core.Stands.{FileStand, looks_where}
-use Rattle.go_file_core.specs.Imports.{imports_uses}
-use Rattle.go_ready_core.specs.Packages.{PackageIn}
+use Rattle.go_context_core.specs.block_core.Naming.{file_specs}
+use Rattle.go_context_core.specs.table_core.Entries.{Entry}
+use Rattle.go_context_core.specs.handle_core.Declarations.{Declaration}
+use Rattle.go_context_core.specs.local_core.Binding.{Look}
+use Rattle.go_context_core.specs.expr_core.Uses.{Context, Identifier, rule, role_of, made_use}
+use Rattle.go_context_core.specs.env_core.declared.meaning.Meaning.{Meaning}
+use Rattle.go_context_core.specs.body_core.Notes.{TheUse}
+use Rattle.go_context_core.specs.func_core.Stands.{FileStand, looks_where}
+use Rattle.go_context_core.specs.file_core.Imports.{imports_uses}
+use Rattle.go_context_core.specs.ready_core.Packages.{PackageIn}
 use Rattle.go_package_core.specs.Checked.{AnswersOf, CheckedOf, IsChecked, imports_at, stand_at}
 use Rattle.go_context_core.specs.Files.{with_decls}
 use Rattle.go_spelling_core.specs.Places.{placed, placed_use, tops_places, MeanThere}

@@ -5,17 +5,17 @@ use Rattle.std.specs.Prelude.{◌≡◌, ℕ, List, map}
 use Rattle.std.specs.List.{flat_map}
 use Rattle.go_tree_nodes.specs.declared.names.Ident.{Ident}
 use Rattle.go_tree_nodes.specs.Trees.{DeclTree, Value, Types, Func, FuncTree, TopTree}
-use Rattle.go_respell_core.specs.local_core.Binding.{Look}
-use Rattle.go_file_core.specs.local_core.Law.{Rules}
-use Rattle.go_respell_core.specs.local_core.Steps.{Piece}
-use Rattle.go_respell_core.specs.local_core.Tables.{walked}
-use Rattle.go_respell_core.specs.expr_core.Uses.{use_of, type_spots}
-use Rattle.go_respell_core.specs.piece_core.Pieces.{piece_values}
-use Rattle.go_respell_core.specs.env_core.declared.meaning.Meaning.{Meaning}
-use Rattle.go_file_core.specs.body_core.Notes.{TheUse}
-use Rattle.go_file_core.specs.top_core.Tops.{of_specs}
-use Rattle.go_file_core.specs.func_core.Stands.{FileStand, looks_where, outer_names, outer_look, outer_looks}
-use Rattle.go_respell_core.specs.Spots.{spec_spots, piece_spots}
+use Rattle.go_context_core.specs.local_core.Binding.{Look}
+use Rattle.go_context_core.specs.local_core.Law.{Rules}
+use Rattle.go_context_core.specs.local_core.Steps.{Piece}
+use Rattle.go_context_core.specs.local_core.Tables.{walked}
+use Rattle.go_context_core.specs.expr_core.Uses.{use_of, type_spots}
+use Rattle.go_context_core.specs.piece_core.Pieces.{piece_values}
+use Rattle.go_context_core.specs.env_core.declared.meaning.Meaning.{Meaning}
+use Rattle.go_context_core.specs.body_core.Notes.{TheUse}
+use Rattle.go_context_core.specs.top_core.Tops.{of_specs}
+use Rattle.go_context_core.specs.func_core.Stands.{FileStand, looks_where, outer_names, outer_look, outer_looks}
+use Rattle.go_context_core.specs.respell_core.Spots.{spec_spots, piece_spots}
 use Rattle.go_context_core.specs.Functions.{TheSpot, local_of}
 use Rattle.go_spelling_core.specs.Spellings.{RespellsTops, InInitialiser, InOuterTypes, InBody}
 

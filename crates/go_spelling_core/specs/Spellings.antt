@@ -4,8 +4,8 @@
 use Rattle.std.specs.Prelude.{◌≡◌, ℕ, List, ◌∷◌, ◌++◌, length}
 use Rattle.go_tree_nodes.specs.declared.names.Ident.{Ident}
 use Rattle.go_tree_nodes.specs.Trees.{ValueSpecTree, FuncTree, Lines, TopTree, FileTree}
-use Rattle.go_respell_core.specs.Trees.{RespellsValues, RespellsLines}
-use Rattle.go_ready_core.specs.Packages.{PackageIn}
+use Rattle.go_context_core.specs.respell_core.Trees.{RespellsValues, RespellsLines}
+use Rattle.go_context_core.specs.ready_core.Packages.{PackageIn}
 use Rattle.go_context_core.specs.Files.{WritesInTops, WritesBody, with_decls, with_trees}
 use Rattle.go_context_core.specs.Outer.{RespellsOuterTops}
 

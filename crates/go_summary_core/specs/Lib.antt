@@ -3,3 +3,8 @@ pub mod Summaries
 pub mod Views
 pub mod codes
 pub mod mirrors
+pub mod block_core
+pub mod entry_core
+pub mod face_core
+pub mod graph_core
+pub mod table_core

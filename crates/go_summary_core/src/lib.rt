@@ -18,3 +18,20 @@ pub use laws::{
 };
 pub use summary::{Summary, import_view, summarize};
 pub use view::{View, view_of};
+
+/// What the crates above name of `go_block_core`.
+pub mod block_core {
+    pub use go_face_core::block_core::{
+        Blocks, Exports, Imported, NamedDecl, blocks, import_names,
+    };
+}
+
+/// What the crates above name of `go_face_core`.
+pub mod face_core {
+    pub use go_face_core::Face;
+}
+
+/// What the crates above name of `go_graph_core`.
+pub mod graph_core {
+    pub use go_face_core::graph_core::Package;
+}

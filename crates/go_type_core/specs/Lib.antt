@@ -2,5 +2,6 @@ pub mod Built
 pub mod Laws
 pub mod Sample
 pub mod mirrors
+pub mod cycle_core
 pub mod settle_core
 pub mod table_core

@@ -2,3 +2,7 @@ pub mod Laws
 pub mod Reported
 pub mod Used
 pub mod mirrors
+pub mod expr_core
+pub mod handle_core
+pub mod report_core
+pub mod tree_core

@@ -12,3 +12,13 @@ mod used;
 pub use laws::{reports_are_one, used_imports_are_these};
 pub use reporting::report;
 pub use unused::refuse_unused;
+
+/// What the crates above name of `go_expr_core`.
+pub mod expr_core {
+    pub use go_answer_core::expr_core::Fault;
+}
+
+/// What the crates above name of `go_report_core`.
+pub mod report_core {
+    pub use go_answer_core::report_core::settle_faults;
+}

@@ -5,21 +5,21 @@ use Rattle.std.specs.List.{AllByRecursion}
 use Rattle.std.proofs.lemmas.List.Elements.{All-from_recursion, recursion_from_All}
 use Rattle.std.proofs.lemmas.Option.{slice_get_within, get_or_from_slice_get}
 use Rattle.go_tree_nodes.specs.Trees.{FileTree}
-use Rattle.go_parse_core.specs.declared.error.SynFault.{SynFault}
-use Rattle.go_graph_core.specs.Packages.{trees_of, tree_shown}
-use Rattle.go_graph_core.specs.Sources.{SourceModel, source, IsPlacedContent, IsPlacedSource}
-use Rattle.go_graph_core.specs.Workspaces.{PackageModel, IsPackage, IsWorkspace}
-use Rattle.go_term_core.specs.decl_core.Outer.{IsPlaced}
-use Rattle.go_term_core.specs.decl_core.declared.keys.DeclKey.{DeclKey}
-use Rattle.go_table_core.specs.Entries.{Entry, Look, find}
-use Rattle.go_table_core.specs.settle_core.declared.kind.Kind.{Kind}
-use Rattle.go_table_core.specs.Tables.{AreOf}
-use Rattle.go_package_core.specs.type_core.Built.{AreEntries}
-use Rattle.go_entry_core.specs.Entries.{package_meanings, package_methods}
-use Rattle.go_entry_core.proofs.Ordered.{entries_own}
-use Rattle.go_face_core.specs.Packages.{PackageFacesModel}
-use Rattle.go_ready_core.specs.Packages.{PackageIn, entries_in, outlines_in, trees_in}
-use Rattle.go_package_core.specs.Checked.{CheckedOf, IsChecked}
+use Rattle.go_part_core.specs.parse_core.declared.error.SynFault.{SynFault}
+use Rattle.go_locality_core.specs.graph_core.Packages.{trees_of, tree_shown}
+use Rattle.go_locality_core.specs.graph_core.Sources.{SourceModel, source, IsPlacedContent, IsPlacedSource}
+use Rattle.go_locality_core.specs.graph_core.Workspaces.{PackageModel, IsPackage, IsWorkspace}
+use Rattle.go_locality_core.specs.decl_core.Outer.{IsPlaced}
+use Rattle.go_locality_core.specs.decl_core.declared.keys.DeclKey.{DeclKey}
+use Rattle.go_locality_core.specs.table_core.Entries.{Entry, Look, find}
+use Rattle.go_locality_core.specs.settle_core.declared.kind.Kind.{Kind}
+use Rattle.go_locality_core.specs.table_core.Tables.{AreOf}
+use Rattle.go_locality_core.specs.type_core.Built.{AreEntries}
+use Rattle.go_locality_core.specs.entry_core.Entries.{package_meanings, package_methods}
+use Rattle.go_locality_core.specs.entry_core.Ordered.{entries_own}
+use Rattle.go_locality_core.specs.face_core.Packages.{PackageFacesModel}
+use Rattle.go_locality_core.specs.ready_core.Packages.{PackageIn, entries_in, outlines_in, trees_in}
+use Rattle.go_locality_core.specs.package_core.Checked.{CheckedOf, IsChecked}
 
 -- the trees of a package of a workspace are placed
 

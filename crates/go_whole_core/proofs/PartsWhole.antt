@@ -2,23 +2,23 @@
 use Rattle.std.proofs.Common.{◌≡◌, ◌≢◌, ℕ, suc, ◌+◌, List, [], ◌∷◌, Option, Some, None, refl, sym, ap, subst, ◌∙◌, arith}
 use Rattle.std.specs.Prelude.{slice_get, ⊤}
 use Rattle.std.specs.List.{AllZip}
-use Rattle.go_graph_core.specs.declared.imports.ImportAt.{ImportAt}
-use Rattle.go_graph_core.specs.Lists.{AllNumbered}
-use Rattle.go_graph_core.specs.Packages.{IsAssembled, trees_of}
-use Rattle.go_graph_core.specs.Plans.{PlanModel, IsPlan}
-use Rattle.go_graph_core.specs.Workspaces.{PackageModel, IsWorkspace}
-use Rattle.go_graph_core.proofs.PlanLaws.{has_plan}
-use Rattle.go_graph_core.proofs.Zips.{numbered_back, numbered_length, zip_at, zip_back, zip_length}
-use Rattle.go_block_core.specs.declared.imports.Imported.{Imported}
-use Rattle.go_block_core.specs.All.{IsImported, IsShown}
-use Rattle.go_block_core.specs.Exports.{ExportsModel}
-use Rattle.go_block_core.proofs.Growing.{given_weaker, package_weaker}
-use Rattle.go_entry_core.proofs.Among.{Among}
-use Rattle.go_summary_core.specs.Summaries.{SummaryModel, IsOfOne}
-use Rattle.go_summary_core.specs.Views.{exports_told, faces_told, types_told}
+use Rattle.go_locality_core.specs.graph_core.declared.imports.ImportAt.{ImportAt}
+use Rattle.go_locality_core.specs.graph_core.Lists.{AllNumbered}
+use Rattle.go_locality_core.specs.graph_core.Packages.{IsAssembled, trees_of}
+use Rattle.go_locality_core.specs.graph_core.Plans.{PlanModel, IsPlan}
+use Rattle.go_locality_core.specs.graph_core.Workspaces.{PackageModel, IsWorkspace}
+use Rattle.go_locality_core.specs.graph_core.PlanLaws.{has_plan}
+use Rattle.go_locality_core.specs.graph_core.Zips.{numbered_back, numbered_length, zip_at, zip_back, zip_length}
+use Rattle.go_locality_core.specs.block_core.declared.imports.Imported.{Imported}
+use Rattle.go_locality_core.specs.block_core.All.{IsImported, IsShown}
+use Rattle.go_locality_core.specs.block_core.Exports.{ExportsModel}
+use Rattle.go_locality_core.specs.block_core.Growing.{given_weaker, package_weaker}
+use Rattle.go_locality_core.specs.entry_core.Among.{Among}
+use Rattle.go_part_core.specs.summary_core.Summaries.{SummaryModel, IsOfOne}
+use Rattle.go_part_core.specs.summary_core.Views.{exports_told, faces_told, types_told}
 use Rattle.go_locality_core.specs.Known.{Gives}
 use Rattle.go_locality_core.specs.Laws.{CheckIsLocal, ImportsBindTheirs}
-use Rattle.go_ready_core.specs.Packages.{trees_in}
+use Rattle.go_locality_core.specs.ready_core.Packages.{trees_in}
 use Rattle.go_part_core.specs.Inputs.{InputModel}
 use Rattle.go_part_core.specs.Parts.{AreFilesMade, IsPart, PartModel, package_seen, seen_by}
 use Rattle.go_whole_core.specs.Whole.{AreWhole, IsWhole, IsWholeEntry, WholeOf, beside, blocks_in, exports_beside, faces_beside, types_beside, whole_with}

@@ -2,7 +2,7 @@
 --
 -- docs/RULES.md, "Whole workspaces".
 use Rattle.std.specs.Prelude.{◌≡◌, Option, Some, None, ⊤}
-use Rattle.go_ready_core.specs.Packages.{trees_in}
+use Rattle.go_locality_core.specs.ready_core.Packages.{trees_in}
 use Rattle.go_part_core.specs.Parts.{AreFilesMade, PartModel}
 use Rattle.go_whole_core.specs.Whole.{WholeOf}
 

@@ -1,9 +1,9 @@
 -- Steps of the loops.
 use Rattle.std.specs.Prelude.{ℕ, List, [], ◌∷◌, ◌++◌, Option, Some, None}
-use Rattle.go_tree_core.specs.declared.occurrence.Occ.{Occ}
-use Rattle.go_block_core.specs.Blocks.{BlocksModel}
-use Rattle.go_denote_core.specs.declared.things.Outcome.TheVariants as outcomes
-use Rattle.go_report_core.specs.expr_core.declared.things.Fault.{Fault}
+use Rattle.go_answer_core.specs.tree_core.declared.occurrence.Occ.{Occ}
+use Rattle.go_answer_core.specs.block_core.Blocks.{BlocksModel}
+use Rattle.go_answer_core.specs.denote_core.declared.things.Outcome.TheVariants as outcomes
+use Rattle.go_answer_core.specs.expr_core.declared.things.Fault.{Fault}
 use Rattle.go_used_core.specs.Used.{TheOutcome, TheUse, used_by}
 
 -- the place of the import that an occurrence uses, if it has something

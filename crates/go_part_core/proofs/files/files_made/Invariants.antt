@@ -1,6 +1,6 @@
 use Rattle.std.proofs.Common.{map}
 use Rattle.std.specs.Vec.Iter.{into_iter_items}
-use Rattle.go_ready_core.specs.Packages.{trees_in}
+use Rattle.go_package_core.specs.ready_core.Packages.{trees_in}
 use Rattle.go_package_core.specs.Checked.{answers_shown}
 use Rattle.go_part_core.specs.Parts.{file_shown}
 use Rattle.go_part_core.proofs.Numbering.{SoFar}
