@@ -63,5 +63,5 @@ pub mod report_core {
 
 /// What the crates above name of `go_tree_core`.
 pub mod tree_core {
-    pub use go_report_core::tree_core::{Occ, Role, occurrences};
+    pub use go_report_core::tree_core::{Occ, OccId, Role, occurrences};
 }

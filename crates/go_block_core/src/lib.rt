@@ -37,4 +37,4 @@ pub use laws::{
     one_blocks_alone, package_has_the_first, package_is_never_hidden,
 };
 pub use making::blocks;
-pub use naming::import_names;
+pub use naming::{import_names, import_specs};

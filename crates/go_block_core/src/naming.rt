@@ -33,8 +33,13 @@ fn add_specs<'a>(
     }
 }
 
-/// The imports of declarations, in order of place.
-pub(crate) fn import_specs<'a>(
+/// The imports that the import declarations of a file write, in order of place: those of a group one by one. What `blocks` is handed of a
+/// file has one entry for each of these, and an import's number in a file is its number in this list ("Import declarations").
+///
+/// # Errors
+///
+/// `AllocError` where memory is wanting.
+pub fn import_specs<'a>(
     alloc: Global,
     imports: &'a Vec<ImportDecl>,
 ) -> Result<Vec<&'a ImportSpec>, AllocError>

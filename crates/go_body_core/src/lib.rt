@@ -18,7 +18,7 @@ pub use notes::BodyUse;
 
 /// What the crates above name of `go_block_core`.
 pub mod block_core {
-    pub use go_env_core::block_core::Imported;
+    pub use go_env_core::block_core::{Imported, import_specs};
 }
 
 /// What the crates above name of `go_entry_core`.

@@ -1,5 +1,7 @@
 -- What the crates above name of go_graph_core.
 pub use Rattle.go_scope_core.specs.graph_core.Assemblies as Assemblies
+pub use Rattle.go_scope_core.specs.graph_core.AssemblyLaws as AssemblyLaws
+pub use Rattle.go_scope_core.specs.graph_core.ImportLaws as ImportLaws
 pub use Rattle.go_scope_core.specs.graph_core.Imports as Imports
 pub use Rattle.go_scope_core.specs.graph_core.Lists as Lists
 pub use Rattle.go_scope_core.specs.graph_core.OneTarget as OneTarget

@@ -23,7 +23,7 @@ pub use scene::Scene;
 
 /// What the crates above name of `go_block_core`.
 pub mod block_core {
-    pub use go_inline_core::block_core::{DeclRef, Imported};
+    pub use go_inline_core::block_core::{DeclRef, Imported, import_specs};
 }
 
 /// What the crates above name of `go_entry_core`.

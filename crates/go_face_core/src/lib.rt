@@ -30,7 +30,7 @@ pub use written::WrittenFaces;
 /// What the crates above name of `go_block_core`.
 pub mod block_core {
     pub use go_entry_core::block_core::{
-        Blocks, Exports, Imported, NamedDecl, blocks, import_names,
+        Blocks, Exports, Imported, NamedDecl, blocks, import_names, import_specs, one_blocks_alone,
     };
 }
 
@@ -46,7 +46,10 @@ pub mod entry_core {
 
 /// What the crates above name of `go_graph_core`.
 pub mod graph_core {
-    pub use go_entry_core::graph_core::{Package, SourceFile};
+    pub use go_entry_core::graph_core::{
+        ImportAt, ImportOutcome, Package, Plan, SourceFile, Workspace, assemble, one_outcome,
+        plan_imports,
+    };
 }
 
 /// What the crates above name of `go_handle_core`.

@@ -23,7 +23,15 @@ pub mod entry_core {
 
 /// What the crates above name of `go_graph_core`.
 pub mod graph_core {
-    pub use go_entry_core::graph_core::Package;
+    pub use go_entry_core::graph_core::{
+        ImportAt, ImportOutcome, Package, PackageSource, Plan, SourceFile, Workspace, assemble,
+        plan_imports,
+    };
+}
+
+/// What the crates above name of `go_parse_core`.
+pub mod parse_core {
+    pub use go_entry_core::parse_core::one_tree;
 }
 
 /// What the crates above name of `go_type_core`.

@@ -17,7 +17,22 @@ pub use file_at::FileAt;
 pub use laws::{declarations_stand_alone, files_have_occurrences, functions_are_placed};
 pub use whole::{CheckedFile, check_file};
 
+/// What the crates above name of `go_block_core`.
+pub mod block_core {
+    pub use go_func_core::block_core::{Imported, import_specs};
+}
+
 /// What the crates above name of `go_body_core`.
 pub mod body_core {
     pub use go_func_core::body_core::Local;
+}
+
+/// What the crates above name of `go_expr_core`.
+pub mod expr_core {
+    pub use go_top_core::expr_core::Fault;
+}
+
+/// What the crates above name of `go_reach_core`.
+pub mod reach_core {
+    pub use go_top_core::reach_core::{NumberSet, Reached};
 }

@@ -13,7 +13,7 @@ pub use laws::{
 
 /// What the crates above name of `go_block_core`.
 pub mod block_core {
-    pub use go_body_core::block_core::Imported;
+    pub use go_body_core::block_core::{Imported, import_specs};
 }
 
 /// What the crates above name of `go_body_core`.

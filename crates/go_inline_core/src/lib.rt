@@ -25,7 +25,7 @@ pub use types::{InlineType, InlineTypes};
 
 /// What the crates above name of `go_block_core`.
 pub mod block_core {
-    pub use go_names_core::block_core::{Binding, Blocks, DeclRef, Imported, Target};
+    pub use go_names_core::block_core::{Binding, Blocks, DeclRef, Imported, Target, import_specs};
 }
 
 /// What the crates above name of `go_entry_core`.
@@ -43,6 +43,11 @@ pub mod names_core {
     pub use go_names_core::{
         Checker, Meant, OpenNames, Outside, check_function, header_idents, listed_idents,
     };
+}
+
+/// What the crates above name of `go_reach_core`.
+pub mod reach_core {
+    pub use go_entry_core::reach_core::{NumberSet, Reached};
 }
 
 /// What the crates above name of `go_scope_core`.

@@ -5,11 +5,13 @@ pub mod block_core
 pub mod cycle_core
 pub mod decl_core
 pub mod entry_core
+pub mod expr_core
 pub mod face_core
 pub mod graph_core
 pub mod package_core
 pub mod reach_core
 pub mod ready_core
+pub mod report_core
 pub mod settle_core
 pub mod table_core
 pub mod type_core

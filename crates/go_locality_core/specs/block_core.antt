@@ -3,6 +3,7 @@ pub use Rattle.go_near_core.specs.block_core.All as All
 pub use Rattle.go_near_core.specs.block_core.AllLemmas as AllLemmas
 pub use Rattle.go_near_core.specs.block_core.Blocks as Blocks
 pub use Rattle.go_near_core.specs.block_core.Exports as Exports
+pub use Rattle.go_near_core.specs.block_core.GivenSteps as GivenSteps
 pub use Rattle.go_near_core.specs.block_core.Growing as Growing
 pub use Rattle.go_near_core.specs.block_core.Naming as Naming
 pub use Rattle.go_near_core.specs.block_core.NamingLemmas as NamingLemmas

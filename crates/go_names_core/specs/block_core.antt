@@ -5,6 +5,7 @@ pub use Rattle.go_scope_core.specs.block_core.BindingLemmas as BindingLemmas
 pub use Rattle.go_scope_core.specs.block_core.Bindings as Bindings
 pub use Rattle.go_scope_core.specs.block_core.Blocks as Blocks
 pub use Rattle.go_scope_core.specs.block_core.Exports as Exports
+pub use Rattle.go_scope_core.specs.block_core.GivenSteps as GivenSteps
 pub use Rattle.go_scope_core.specs.block_core.Growing as Growing
 pub use Rattle.go_scope_core.specs.block_core.Holding as Holding
 pub use Rattle.go_scope_core.specs.block_core.HoldingLaws as HoldingLaws

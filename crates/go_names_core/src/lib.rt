@@ -25,7 +25,7 @@ pub use names::{Denoted, FuncNames, NameUse, function_names};
 
 /// What the crates above name of `go_block_core`.
 pub mod block_core {
-    pub use go_scope_core::block_core::{Binding, Blocks, DeclRef, Imported, Target};
+    pub use go_scope_core::block_core::{Binding, Blocks, DeclRef, Imported, Target, import_specs};
 }
 
 /// What the crates above name of `go_local_core`.

@@ -9,3 +9,18 @@ pub use laws::{
     expressions_look_nearby, files_look_nearby, functions_look_nearby, other_types_do_not_count,
     packages_look_nearby, pieces_look_nearby, scenes_look_nearby, tables_look_nearby,
 };
+
+/// What the crates above name of `go_block_core`.
+pub mod block_core {
+    pub use go_file_core::block_core::{Imported, import_specs};
+}
+
+/// What the crates above name of `go_expr_core`.
+pub mod expr_core {
+    pub use go_file_core::expr_core::Fault;
+}
+
+/// What the crates above name of `go_reach_core`.
+pub mod reach_core {
+    pub use go_file_core::reach_core::{NumberSet, Reached};
+}

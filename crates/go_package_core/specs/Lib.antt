@@ -2,6 +2,7 @@ pub mod Checked
 pub mod Laws
 pub mod mirrors
 pub mod answer_core
+pub mod body_core
 pub mod fault_core
 pub mod graph_core
 pub mod needs_core

@@ -1,5 +1,12 @@
 pub mod Inputs
 pub mod Laws
 pub mod Parts
+pub mod block_core
+pub mod body_core
+pub mod graph_core
+pub mod package_core
 pub mod parse_core
+pub mod ready_core
+pub mod report_core
 pub mod summary_core
+pub mod used_core

@@ -1,5 +1,7 @@
 -- What the crates above name of go_graph_core.
 pub use Rattle.go_graph_core.proofs.Assemblies as Assemblies
+pub use Rattle.go_graph_core.proofs.AssemblyLaws as AssemblyLaws
+pub use Rattle.go_graph_core.specs.ImportLaws as ImportLaws
 pub use Rattle.go_graph_core.specs.Imports as Imports
 pub use Rattle.go_graph_core.specs.Lists as Lists
 pub use Rattle.go_graph_core.proofs.OneTarget as OneTarget

@@ -21,13 +21,16 @@ pub use scope::{InScope, Scopes};
 pub mod block_core {
     pub use go_block_core::{
         Binding, BlockFault, Blocks, DeclKey, DeclKind, DeclRef, Exports, Imported, NamedDecl,
-        Target, blocks, import_names,
+        Target, blocks, import_names, import_specs, one_blocks_alone,
     };
 }
 
 /// What the crates above name of `go_graph_core`.
 pub mod graph_core {
-    pub use go_graph_core::{Package, SourceFile};
+    pub use go_graph_core::{
+        ImportAt, ImportOutcome, Package, PackageSource, Plan, SourceFile, Workspace, assemble,
+        one_outcome, plan_imports,
+    };
 }
 
 /// What the crates above name of `go_open_core`.

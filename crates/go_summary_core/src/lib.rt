@@ -22,7 +22,7 @@ pub use view::{View, view_of};
 /// What the crates above name of `go_block_core`.
 pub mod block_core {
     pub use go_face_core::block_core::{
-        Blocks, Exports, Imported, NamedDecl, blocks, import_names,
+        Blocks, Exports, Imported, NamedDecl, blocks, import_names, import_specs, one_blocks_alone,
     };
 }
 
@@ -33,5 +33,8 @@ pub mod face_core {
 
 /// What the crates above name of `go_graph_core`.
 pub mod graph_core {
-    pub use go_face_core::graph_core::Package;
+    pub use go_face_core::graph_core::{
+        ImportAt, ImportOutcome, Package, Plan, SourceFile, Workspace, assemble, one_outcome,
+        plan_imports,
+    };
 }

@@ -24,3 +24,8 @@ pub mod expr_core {
 pub mod inline_core {
     pub use go_inline_core::InlineTypes;
 }
+
+/// What the crates above name of `go_reach_core`.
+pub mod reach_core {
+    pub use go_inline_core::reach_core::{NumberSet, Reached};
+}

@@ -22,3 +22,8 @@ pub mod expr_core {
 pub mod report_core {
     pub use go_answer_core::report_core::settle_faults;
 }
+
+/// What the crates above name of `go_tree_core`.
+pub mod tree_core {
+    pub use go_answer_core::tree_core::OccId;
+}

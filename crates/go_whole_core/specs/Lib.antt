@@ -3,3 +3,14 @@ pub mod Inputs
 pub mod Laws
 pub mod mirrors
 pub mod Whole
+pub mod block_core
+pub mod entry_core
+pub mod expr_core
+pub mod face_core
+pub mod graph_core
+pub mod parse_core
+pub mod part_core
+pub mod ready_core
+pub mod report_core
+pub mod summary_core
+pub mod used_core

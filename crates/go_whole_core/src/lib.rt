@@ -7,3 +7,51 @@
 mod laws;
 
 pub use laws::{one_whole, parts_are_whole};
+
+/// What the crates above name of `go_answer_core`.
+pub mod answer_core {
+    pub use go_locality_core::answer_core::Answer;
+}
+
+/// What the crates above name of `go_block_core`.
+pub mod block_core {
+    pub use go_locality_core::block_core::{Imported, import_specs};
+}
+
+/// What the crates above name of `go_expr_core`.
+pub mod expr_core {
+    pub use go_locality_core::expr_core::Fault;
+}
+
+/// What the crates above name of `go_graph_core`.
+pub mod graph_core {
+    pub use go_locality_core::graph_core::{
+        ImportAt, ImportOutcome, Package, PackageSource, Plan, SourceFile, Workspace, assemble,
+        plan_imports,
+    };
+}
+
+/// What the crates above name of `go_locality_core`.
+pub mod locality_core {
+    pub use go_locality_core::{check_is_local, imports_bind_theirs};
+}
+
+/// What the crates above name of `go_part_core`.
+pub mod part_core {
+    pub use go_part_core::{Part, PartInput, compile_over};
+}
+
+/// What the crates above name of `go_reach_core`.
+pub mod reach_core {
+    pub use go_locality_core::reach_core::{NumberSet, Reached};
+}
+
+/// What the crates above name of `go_summary_core`.
+pub mod summary_core {
+    pub use go_part_core::summary_core::{Summary, View, import_view, view_of};
+}
+
+/// What the crates above name of `go_tree_core`.
+pub mod tree_core {
+    pub use go_part_core::tree_core::OccId;
+}

@@ -1,0 +1,3 @@
+-- What the crates above name of go_package_core.
+pub use Rattle.go_package_core.specs.Checked as Checked
+pub use Rattle.go_package_core.specs.Laws as Laws

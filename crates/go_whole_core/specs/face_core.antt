@@ -1,0 +1,3 @@
+-- What the crates above name of go_face_core.
+pub use Rattle.go_locality_core.specs.face_core.Packages as Packages
+pub use Rattle.go_locality_core.specs.face_core.codes as codes
