@@ -24,6 +24,8 @@ WHOLE = set(
     go_operand_core go_denote_core go_statement_core go_subset_core go_resolve_core govisd govisd_show govisd_probe govisd_bench
     govisd_types govisd_check""".split()
 )
+# Modules that are named as a word of the library, which a reader would take them for: what they are passed on as.
+PASSED_AS = {"All": "AllPackages"}
 PASSED = re.compile(r"(?m)\n?/// What the crates above name of `\w+`\.\npub mod \w+ \{\n.*?\n\}\n", re.S)
 
 
@@ -84,6 +86,7 @@ class Repository:
         if through:
             crate = self.crates[through.split(".")[-1].removesuffix("_lemmas")]
         if part is None:
+            module = next((it for it, name in PASSED_AS.items() if name == module), module)
             if self.is_in(crate, "specs", module):
                 return crate, "specs", module
             # lemmas whose name is that of definitions too are passed on under another
@@ -111,6 +114,8 @@ class Repository:
         return alias(crate) + "_lemmas" * (part == "proofs" and self.leads_to_kit(crate, module, set()))
 
     def passed_name(self, crate, part, module):
+        if module in PASSED_AS:
+            return PASSED_AS[module]
         return module + "Proofs" if part == "proofs" and self.is_in(crate, "specs", module) else module
 
 

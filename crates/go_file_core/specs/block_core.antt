@@ -1,5 +1,5 @@
 -- What the crates above name of go_block_core.
-pub use Rattle.go_func_core.specs.block_core.All as All
+pub use Rattle.go_func_core.specs.block_core.AllPackages as AllPackages
 pub use Rattle.go_func_core.specs.block_core.AllLemmas as AllLemmas
 pub use Rattle.go_func_core.specs.block_core.BindingLemmas as BindingLemmas
 pub use Rattle.go_func_core.specs.block_core.Bindings as Bindings

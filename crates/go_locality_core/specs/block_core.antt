@@ -1,5 +1,5 @@
 -- What the crates above name of go_block_core.
-pub use Rattle.go_near_core.specs.block_core.All as All
+pub use Rattle.go_near_core.specs.block_core.AllPackages as AllPackages
 pub use Rattle.go_near_core.specs.block_core.AllLemmas as AllLemmas
 pub use Rattle.go_near_core.specs.block_core.Blocks as Blocks
 pub use Rattle.go_near_core.specs.block_core.Exports as Exports

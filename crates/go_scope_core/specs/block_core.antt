@@ -1,5 +1,5 @@
 -- What the crates above name of go_block_core.
-pub use Rattle.go_block_core.specs.All as All
+pub use Rattle.go_block_core.specs.All as AllPackages
 pub use Rattle.go_block_core.proofs.AllLemmas as AllLemmas
 pub use Rattle.go_block_core.proofs.BindingLemmas as BindingLemmas
 pub use Rattle.go_block_core.specs.Bindings as Bindings

@@ -1,5 +1,5 @@
 //! Imports that are not used.
-ghost use Rattle.std.specs.Prelude.{◌≡◌, ◌++◌, IfOk, OnOk, map};
+ghost use Rattle.std.specs.Prelude.{◌≡◌, ◌++◌, IfErr, IfOk, OnOk, map};
 ghost use Rattle.std.specs.List.{flat_map};
 ghost use Rattle.go_tree_nodes.specs.Shapes.{file_of, import_of, shape_import_spec, shape_import_specs};
 ghost use Rattle.go_answer_core.specs.block_core.Naming.{specs_in, specs_of};
@@ -100,7 +100,7 @@ fn judge_all(places: &[usize], answers: &mut [Answer])
 ///
 /// # Errors
 ///
-/// `AllocError` where memory is wanting.
+/// `AllocError` where memory is wanting: then the answers are as they were.
 pub fn refuse_unused(
     alloc: Global,
     blocks: &Blocks,
@@ -108,7 +108,8 @@ pub fn refuse_unused(
     tree: &File,
     answers: &mut [Answer],
 ) -> Result<(), AllocError>
-    ensures { OnOk result (answers.new ≡ without_unused blocks.now file (file_of tree.now) answers.old) }
+    ensures value { OnOk result (answers.new ≡ without_unused blocks.now file (file_of tree.now) answers.old) }
+    ensures kept { IfErr result (λ _. answers.new ≡ answers.old) }
 {
     let mut places = blank_places(alloc, &tree.imports)?;
     let occs = occurrences(alloc, tree)?;

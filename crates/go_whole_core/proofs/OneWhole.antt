@@ -9,7 +9,7 @@ use Rattle.go_locality_core.specs.graph_core.Workspaces.{PackageModel, IsWorkspa
 use Rattle.go_locality_core.specs.graph_core.PlanLaws.{has_plan}
 use Rattle.go_locality_core.specs.graph_core.Zips.{numbered_at, numbered_back, numbered_length}
 use Rattle.go_locality_core.specs.block_core.declared.imports.Imported.{Imported}
-use Rattle.go_locality_core.specs.block_core.All.{AreAllBlocks, AreImported, IsEntry, IsImported, IsShown}
+use Rattle.go_locality_core.specs.block_core.AllPackages.{AreAllBlocks, AreImported, IsEntry, IsImported, IsShown}
 use Rattle.go_locality_core.specs.block_core.Blocks.{BlocksModel, exports_of}
 use Rattle.go_locality_core.specs.block_core.Exports.{ExportsModel}
 use Rattle.go_locality_core.specs.block_core.OneBlocks.{one_blocks}

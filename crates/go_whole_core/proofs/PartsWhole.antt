@@ -10,7 +10,7 @@ use Rattle.go_locality_core.specs.graph_core.Workspaces.{PackageModel, IsWorkspa
 use Rattle.go_locality_core.specs.graph_core.PlanLaws.{has_plan}
 use Rattle.go_locality_core.specs.graph_core.Zips.{numbered_back, numbered_length, zip_at, zip_back, zip_length}
 use Rattle.go_locality_core.specs.block_core.declared.imports.Imported.{Imported}
-use Rattle.go_locality_core.specs.block_core.All.{IsImported, IsShown}
+use Rattle.go_locality_core.specs.block_core.AllPackages.{IsImported, IsShown}
 use Rattle.go_locality_core.specs.block_core.Exports.{ExportsModel}
 use Rattle.go_locality_core.specs.block_core.Growing.{given_weaker, package_weaker}
 use Rattle.go_locality_core.specs.entry_core.Among.{Among}

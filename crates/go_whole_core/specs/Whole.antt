@@ -8,7 +8,7 @@ use Rattle.go_locality_core.specs.graph_core.Lists.{AllNumbered}
 use Rattle.go_locality_core.specs.graph_core.Packages.{IsAssembled, trees_of}
 use Rattle.go_locality_core.specs.graph_core.Workspaces.{PackageModel}
 use Rattle.go_locality_core.specs.block_core.declared.imports.Imported.{Imported}
-use Rattle.go_locality_core.specs.block_core.All.{AreImported}
+use Rattle.go_locality_core.specs.block_core.AllPackages.{AreImported}
 use Rattle.go_locality_core.specs.block_core.Blocks.{BlocksModel, AreBlocks, exports_of}
 use Rattle.go_locality_core.specs.block_core.Exports.{ExportsModel}
 use Rattle.go_locality_core.specs.block_core.Naming.{package_named}

@@ -13,6 +13,6 @@ returns c =
     let new = c.refuse_unused.new.answers in
     let uses = (with_items c.args.checked.answers new).items in
     let settled = c.in_ok-answers.ensures in
-    let judged = refilled b n f c.args.checked.answers lent new c.deref_mut.ensures.value c.in_ok-refuse_unused.ensures in
+    let judged = refilled b n f c.args.checked.answers lent new c.deref_mut.ensures.value c.in_ok-refuse_unused.ensures.value in
     file_is b n f (answers_shown c.args.checked) lent uses c.deref.result.now c.deref-3.result.now c.deref-2.result.now c.in_ok-answers.field-0.items c.deref-4.result.now c.in_ok-report.report.items c.deref_mut.ensures.value judged c.deref.ensures.value
     c.deref-2.ensures.value (record { ordered = settled.ordered; kept = settled.kept; found = settled.found; unsaid = settled.unsaid }) c.deref-3.ensures.value c.deref-4.ensures.value c.in_ok-report.ensures
