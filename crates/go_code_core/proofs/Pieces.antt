@@ -11,18 +11,18 @@ use Rattle.go_tree_nodes.specs.declared.exprs.CallExpr.{CallExpr, out-CallExpr}
 use Rattle.go_tree_nodes.specs.Shapes.{shape, shape_call, items_of}
 use Rattle.go_tree_nodes.specs.Trees.{ExprTree, Integer, Text, Named, Paren, Unary, Binary, Select, Call, Literal, StructLiteral}
 use Rattle.go_tree_nodes.proofs.ShapeLemmas.{call_parts}
-use Rattle.go_instruction_core.specs.declared.instruction.Distance.TheVariants as distances
-use Rattle.go_instruction_core.specs.declared.instruction.Instruction.{Instruction}
-use Rattle.go_instruction_core.specs.declared.instruction.Instruction.TheVariants as instructions
-use Rattle.go_code_core.specs.declared.names.ConstantWord.{ConstantWord}
-use Rattle.go_code_core.specs.declared.names.Meaning.{Meaning}
-use Rattle.go_code_core.specs.declared.names.Meaning.TheVariants as meanings
+use Rattle.go_fragment_core.specs.instruction_core.declared.instruction.Distance.TheVariants as distances
+use Rattle.go_fragment_core.specs.instruction_core.declared.instruction.Instruction.{Instruction}
+use Rattle.go_fragment_core.specs.instruction_core.declared.instruction.Instruction.TheVariants as instructions
+use Rattle.go_fragment_core.specs.declared.names.ConstantWord.{ConstantWord}
+use Rattle.go_fragment_core.specs.declared.names.Meaning.{Meaning}
+use Rattle.go_fragment_core.specs.declared.names.Meaning.TheVariants as meanings
 use Rattle.go_code_core.specs.Code.{binary_code, call_end, constant_or, expr_code, items_code, name_code, push, receiver_code}
-use Rattle.go_code_core.specs.Constants.{folded, folded_name}
-use Rattle.go_code_core.specs.Names.{Frame, called}
-use Rattle.go_code_core.specs.Operators.{listed, unary_instruction}
+use Rattle.go_fragment_core.specs.Constants.{folded, folded_name}
+use Rattle.go_fragment_core.specs.Names.{Frame, called}
+use Rattle.go_fragment_core.specs.Operators.{listed, unary_instruction}
 use Rattle.go_code_core.specs.mirrors.Written.{applied}
-use Rattle.go_code_core.proofs.Forms.{call_form, call_tree}
+use Rattle.go_fragment_core.proofs.Forms.{call_form, call_tree}
 
 -- a piece in front of another
 joined : {X : Type 0} (a b old now new : List X) → now ≡ b ++ old → new ≡ a ++ now → new ≡ (a ++ b) ++ old

@@ -1,9 +1,4 @@
 pub mod Code
-pub mod Constants
-pub mod Fragment
-pub mod Inside
 pub mod Laws
-pub mod Names
-pub mod Operators
-pub mod Slots
+pub mod Samples
 pub mod mirrors

@@ -1,11 +1,14 @@
 //! Code that is written from its end, so that each jump forward is written when all that it passes stands.
-ghost use Rattle.std.specs.Prelude.{◌≡◌, ◌<◌, ◌++◌, [], ◌∷◌, length, List, OnOk};
-ghost use Rattle.go_instruction_core.specs.declared.instruction.Distance.TheVariants as distances;
-ghost use Rattle.go_instruction_core.specs.declared.instruction.Instruction.{Instruction};
-ghost use Rattle.go_instruction_core.specs.declared.instruction.Instruction.TheVariants as instructions;
-ghost use Rattle.go_code_core.specs.Operators.{listed};
+//!
+//! Where a function that writes code ends for want of memory, some end of what it was to write may stand in front of the code that was there.
+//! Nothing is made of that code: it is let go.
+ghost use Rattle.std.specs.Prelude.{◌≡◌, ◌<◌, ◌++◌, [], ◌∷◌, length, List, OnErr, OnOk};
+ghost use Rattle.go_fragment_core.specs.instruction_core.declared.instruction.Distance.TheVariants as distances;
+ghost use Rattle.go_fragment_core.specs.instruction_core.declared.instruction.Instruction.{Instruction};
+ghost use Rattle.go_fragment_core.specs.instruction_core.declared.instruction.Instruction.TheVariants as instructions;
+ghost use Rattle.go_fragment_core.specs.Operators.{listed};
 
-use go_instruction_core::{Distance, Instruction};
+use go_fragment_core::instruction_core::{Distance, Instruction};
 use std::alloc::{AllocError, Global};
 use std::marker::Model;
 
@@ -18,7 +21,7 @@ pub(crate) struct Code {
 
 impl Model for Code {
     ghost use Rattle.std.specs.Prelude.{List, reverse};
-    ghost use Rattle.go_instruction_core.specs.declared.instruction.Instruction.{Instruction};
+    ghost use Rattle.go_fragment_core.specs.instruction_core.declared.instruction.Instruction.{Instruction};
 
     ghost Value = { List Instruction };
 
@@ -41,17 +44,19 @@ impl Code {
         self.instructions.len()
     }
 
-    /// One more instruction, in front of all.
+    /// One more instruction, in front of all. Without memory for it the code is as it was.
     pub(crate) fn put(&mut self, instruction: Instruction) -> Result<(), AllocError>
-        ensures { OnOk result (self.new ≡ instruction ∷ self.old) }
+        ensures written { OnOk result (self.new ≡ instruction ∷ self.old) }
+        ensures kept { OnErr result (self.new ≡ self.old) }
     {
         self.instructions.push(instruction)?;
         Ok(())
     }
 
-    /// One more, where there is one.
+    /// One more, where there is one. Without memory for it the code is as it was.
     pub(crate) fn put_some(&mut self, instruction: Option<Instruction>) -> Result<(), AllocError>
-        ensures { OnOk result (self.new ≡ listed instruction ++ self.old) }
+        ensures written { OnOk result (self.new ≡ listed instruction ++ self.old) }
+        ensures kept { OnErr result (self.new ≡ self.old) }
     {
         match instruction {
             Some(instruction) => self.put(instruction),

@@ -2,17 +2,16 @@
 ghost use Rattle.std.specs.Prelude.{◌≡◌, ◌++◌, IfOk, OnOk};
 ghost use Rattle.go_tree_nodes.specs.Shapes.{shape, shape_call, items_of};
 ghost use Rattle.go_code_core.specs.Code.{binary_code, call_end, expr_code, items_code, letters, name_code, push, receiver_code, word_value};
-ghost use Rattle.go_code_core.specs.Names.{frame_of};
+ghost use Rattle.go_fragment_core.specs.Names.{frame_of};
 ghost use Rattle.go_code_core.specs.mirrors.Written.{applied};
 
 use crate::code::Code;
-use crate::constants::{called, folded};
-use crate::fragment::{expr_gives, is_method};
-use crate::names::{CodeNames, ConstantWord, Frame, Gives, Meaning};
-use crate::operators::{binary_instruction, unary_instruction};
-use crate::slots::slot_of;
-use go_constant_core::{Constant, natural};
-use go_instruction_core::{Distance, Instruction, Letters};
+use go_fragment_core::constant_core::{Constant, natural};
+use go_fragment_core::instruction_core::{Distance, Instruction, Letters};
+use go_fragment_core::{
+    CodeNames, ConstantWord, Frame, Gives, Meaning, binary_instruction, called, expr_gives, folded,
+    is_method, slot_of, unary_instruction,
+};
 use go_token_core::Operator;
 use go_tree_nodes::{BinaryExpr, CallExpr, Expr, Item};
 use std::alloc::AllocError;

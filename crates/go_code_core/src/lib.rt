@@ -6,19 +6,18 @@
 #![tactic(auto)]
 
 mod code;
-mod constants;
 mod exprs;
-mod fragment;
 mod function;
-mod inside;
 mod laws;
-mod names;
-mod operators;
+mod samples;
 mod simples;
-mod slots;
 mod stmts;
-mod targets;
 
 pub use function::{FunctionParts, function_code};
+pub use go_fragment_core::{CodeNames, ConstantWord, Gives, Meaning};
 pub use laws::{code_is_whole, jumps_stay_inside, outside_is_alone};
-pub use names::{CodeNames, ConstantWord, Gives, Meaning};
+pub use samples::{
+    calls_are_coded, choices_are_coded, constants_are_pushed, inner_blocks_have_slots,
+    loops_are_coded, operands_come_in_order, operands_have_short_cuts, outsiders_are_not_coded,
+    unnamed_have_slots,
+};

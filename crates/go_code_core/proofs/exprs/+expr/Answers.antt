@@ -1,10 +1,10 @@
 use Rattle.std.proofs.Common.{◌++◌, ◌-◌, sym, ap, ◌∙◌}
 use Rattle.std.proofs.lemmas.Result.{on_ok_weaker}
 use Rattle.go_tree_nodes.specs.Shapes.{shape, shape_call}
-use Rattle.go_code_core.specs.Names.{frame_of}
+use Rattle.go_fragment_core.specs.Names.{frame_of}
 use Rattle.go_code_core.specs.Code.{binary_code, expr_code, receiver_code}
 use Rattle.go_code_core.specs.mirrors.Written.{applied}
-use Rattle.go_code_core.proofs.Forms.{call_form, literal_form, struct_form}
+use Rattle.go_fragment_core.proofs.Forms.{call_form, literal_form, struct_form}
 use Rattle.go_code_core.proofs.Pieces.{applied_made, call_made, is_pushed, or_made}
 use Rattle.go_code_core.proofs.exprs.+expr.Goals as goal
 
@@ -46,4 +46,4 @@ operation-returns-in_ok-put-in-LogicalOr-3 g t c =
     on_ok_weaker c.expr-in-LogicalOr-2.result (λ e. e ∙ ap (λ o. binary_code o left right ++ c.args.code.now) (sym c.in-LogicalOr.is))
     (or_made c.expr-in-LogicalOr-2.result left right c.args.code.now c.expr-in-LogicalOr.new.code c.put-in-LogicalOr.new.self c.put-in-LogicalOr-2.new.self c.put-in-LogicalOr-3.new.self c.expr-in-LogicalOr-2.new.code
     c.len-end-in-LogicalOr.result (c.len-in-LogicalOr.result - c.len-end-in-LogicalOr.result) c.len-end-in-LogicalOr.ensures c.in_ok-expr-in-LogicalOr.ensures
-    (ap (λ n. n - c.len-end-in-LogicalOr.result) c.len-in-LogicalOr.ensures) c.in_ok-put-in-LogicalOr.ensures c.in_ok-put-in-LogicalOr-2.ensures c.in_ok-put-in-LogicalOr-3.ensures c.expr-in-LogicalOr-2.ensures)
+    (ap (λ n. n - c.len-end-in-LogicalOr.result) c.len-in-LogicalOr.ensures) c.in_ok-put-in-LogicalOr.ensures.written c.in_ok-put-in-LogicalOr-2.ensures.written c.in_ok-put-in-LogicalOr-3.ensures.written c.expr-in-LogicalOr-2.ensures)

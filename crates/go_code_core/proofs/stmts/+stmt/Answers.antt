@@ -2,9 +2,9 @@ use Rattle.std.proofs.Common.{◌++◌, ◌-◌, length, sym, ap, ◌∙◌}
 use Rattle.std.proofs.lemmas.Result.{on_ok_weaker}
 use Rattle.go_tree_nodes.specs.Shapes.{lines_of}
 use Rattle.go_code_core.specs.Code.{lines_code, stmt_code}
-use Rattle.go_code_core.specs.Names.{frame_of}
+use Rattle.go_fragment_core.specs.Names.{frame_of}
 use Rattle.go_code_core.specs.mirrors.Written.{else_code, exits_at}
-use Rattle.go_code_core.proofs.Forms.{block_form, else_form}
+use Rattle.go_fragment_core.proofs.Forms.{block_form, else_form}
 use Rattle.go_code_core.proofs.Looping.{branch_made, loop_made, over_else}
 use Rattle.go_code_core.proofs.stmts.+stmt.Goals as goal
 
@@ -16,7 +16,7 @@ branch-returns g t c =
 pub looped-returns : goal.looped-returns
 looped-returns g t c =
     on_ok_weaker c.loop_init.result (λ e x. loop_made (frame_of (g.N.CodeNames.looks c.args.frame.now.names.now) c.args.frame.now.slots.now) x c.args.turns.now c.args.code.now c.put.new.self c.loop_post.new.code c.lines.new.code c.loop_test.new.code c.turn.new.self c.loop_init.new.code
-    c.len-end.result c.len-goes_on.result (c.len.result - c.len-end.result) c.len-end.ensures c.in_ok-put.ensures c.in_ok-loop_post.ensures c.len-goes_on.ensures c.in_ok-lines.ensures c.in_ok-loop_test.ensures
+    c.len-end.result c.len-goes_on.result (c.len.result - c.len-end.result) c.len-end.ensures c.in_ok-put.ensures.written c.in_ok-loop_post.ensures c.len-goes_on.ensures c.in_ok-lines.ensures c.in_ok-loop_test.ensures
     (ap (λ n. n - c.len-end.result) c.len.ensures) c.turn.ensures e) c.loop_init.ensures
 
 pub otherwise-returns-in_ok-jump-in-Block-clause-mark : goal.otherwise-returns-in_ok-jump-in-Block-clause-mark

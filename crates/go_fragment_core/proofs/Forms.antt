@@ -1,0 +1,121 @@
+-- The forms of trees that the program takes apart.
+use Rattle.std.proofs.Common.{◌≡◌, Vec, Bool, true, false, ◌&&◌, ℕ, sym, ap, ◌∙◌}
+use Rattle.std.specs.Prelude.{if◌then◌else◌}
+use Rattle.std.specs.Global.{Box, Global}
+use Rattle.go_text_core.specs.declared.span.Span.{Span}
+use Rattle.go_tree_nodes.specs.declared.exprs.Expr.{Expr}
+use Rattle.go_tree_nodes.specs.declared.exprs.Expr.TheVariants as expr
+use Rattle.go_tree_nodes.specs.declared.exprs.CallExpr.{CallExpr, out-CallExpr}
+use Rattle.go_tree_nodes.specs.declared.exprs.LiteralExpr.{LiteralExpr, out-LiteralExpr}
+use Rattle.go_tree_nodes.specs.declared.exprs.StructLiteralExpr.{StructLiteralExpr, out-StructLiteralExpr}
+use Rattle.go_tree_nodes.specs.declared.stmts.«Line» as declared_line
+use Rattle.go_tree_nodes.specs.declared.stmts.Loop.{Loop, out-Loop}
+use Rattle.go_tree_nodes.specs.declared.stmts.Stmt.{Stmt}
+use Rattle.go_tree_nodes.specs.declared.stmts.Stmt.TheVariants as stmt
+use Rattle.go_tree_nodes.specs.declared.stmts.Otherwise.{Otherwise}
+use Rattle.go_tree_nodes.specs.declared.stmts.Otherwise.TheVariants as otherwise
+use Rattle.go_tree_nodes.specs.Trees.{ExprTree, Call, Literal, StructLiteral, Block, ElseBlock}
+use Rattle.go_tree_nodes.specs.declared.types.Params.{out-Params}
+use Rattle.go_tree_nodes.specs.declared.types.Signature.{Signature, out-Signature}
+use Rattle.go_tree_nodes.specs.TypeShapes.{params_of, shape_results, shape_signature, shape_type}
+use Rattle.go_tree_nodes.proofs.TypeShapes.{signature_parts}
+use Rattle.go_tree_nodes.specs.Shapes.{shape, items_of, shape_stmt, shape_else, shape_for, shape_loop, lines_of}
+use Rattle.go_fragment_core.specs.declared.names.Gives.{Gives}
+use Rattle.go_fragment_core.specs.declared.names.Gives.TheVariants as gives
+use Rattle.go_fragment_core.specs.declared.names.Meaning.{Meaning}
+use Rattle.go_fragment_core.specs.Fragment.{all_ones, call_gives, expr_gives, item_count, receiver_fits}
+use Rattle.go_fragment_core.specs.Inside.{head_inside, lines_inside, params_inside, results_inside, signature_inside, stmt_inside}
+use Rattle.go_fragment_core.specs.Names.{Frame, Looks, called}
+use Rattle.go_tree_nodes.proofs.ShapeLemmas.{call_parts, literal_parts, struct_literal_parts, shape_block, loop_parts, shape_else_block}
+
+abbrev pub call_tree : CallExpr → ExprTree
+call_tree c = Call (shape (out-CallExpr c).callee) (out-CallExpr c).«open» (items_of (out-CallExpr c).args.items) (out-CallExpr c).close
+
+abbrev pub literal_tree : LiteralExpr → ExprTree
+literal_tree l = Literal (out-LiteralExpr l).type_name (out-LiteralExpr l).«open» (items_of (out-LiteralExpr l).elements.items) (out-LiteralExpr l).close
+
+abbrev pub struct_tree : StructLiteralExpr → ExprTree
+struct_tree l = StructLiteral (shape_type (out-StructLiteralExpr l).type_expr) (out-StructLiteralExpr l).«open» (items_of (out-StructLiteralExpr l).elements.items) (out-StructLiteralExpr l).close
+
+pub call_form : (e : Expr) (c : Box CallExpr) → e ≡ expr.Call c → shape e ≡ call_tree c.value
+call_form e c is = ap shape is ∙ call_parts c.value
+
+pub literal_form : (e : Expr) (l : Box LiteralExpr) → e ≡ expr.Literal l → shape e ≡ literal_tree l.value
+literal_form e l is = ap shape is ∙ literal_parts l.value
+
+pub struct_form : (e : Expr) (l : Box StructLiteralExpr) → e ≡ expr.StructLiteral l → shape e ≡ struct_tree l.value
+struct_form e l is = ap shape is ∙ struct_literal_parts l.value
+
+pub block_form : (s : Stmt) (first : Span) (ls : Vec declared_line.Line Global) (last : Span) → s ≡ stmt.Block first ls last → shape_stmt s ≡ Block first (lines_of ls.items) last
+block_form s first ls last is = ap shape_stmt is ∙ shape_block first ls last
+
+pub else_form : (o : Otherwise) (k first : Span) (ls : Vec declared_line.Line Global) (last : Span) → o ≡ otherwise.Block k first ls last → shape_else o ≡ ElseBlock k first (lines_of ls.items) last
+else_form o k first ls last is = ap shape_else is ∙ shape_else_block k first ls last
+
+-- what calls give
+
+taken : (b : Bool) (x y : Gives) → b ≡ true → x ≡ (if b then x else y)
+taken b x y h = ap (λ c. if c then x else y) (sym h)
+
+passed : (b : Bool) (x y : Gives) → b ≡ false → y ≡ (if b then x else y)
+passed b x y h = ap (λ c. if c then x else y) (sym h)
+
+pub call_given : (f : Frame) (e : Expr) (c : Box CallExpr) → e ≡ expr.Call c → (p q r s : CallExpr) → p ≡ c.value → q ≡ c.value → r ≡ c.value → s ≡ c.value
+    → (fits ones : Bool) → fits ≡ receiver_fits f (shape (out-CallExpr p).callee) → fits ≡ true → ones ≡ all_ones f (items_of (out-CallExpr q).args.items) → ones ≡ true
+    → (m : Meaning) (n : ℕ) (g : Gives) → m ≡ called f.looks (shape (out-CallExpr r).callee) → n ≡ item_count (items_of (out-CallExpr s).args.items) → g ≡ call_gives m n → g ≡ expr_gives f (shape e)
+call_given f e c is p q r s ip iq ir is' fits ones h h' k k' m n g at many e' =
+    let callee = shape (out-CallExpr c.value).callee in
+    let items = items_of (out-CallExpr c.value).args.items in
+    let left : receiver_fits f callee ≡ true = sym (ap (λ x. receiver_fits f (shape (out-CallExpr x).callee)) ip) ∙ (sym h ∙ h') in
+    let right : all_ones f items ≡ true = sym (ap (λ x. all_ones f (items_of (out-CallExpr x).args.items)) iq) ∙ (sym k ∙ k') in
+    let both : (receiver_fits f callee && all_ones f items) ≡ true = ap (λ b. b && all_ones f items) left ∙ right in
+    let what : m ≡ called f.looks callee = at ∙ ap (λ x. called f.looks (shape (out-CallExpr x).callee)) ir in
+    let count : n ≡ item_count items = many ∙ ap (λ x. item_count (items_of (out-CallExpr x).args.items)) is' in
+    e' ∙ (ap (λ x. call_gives x n) what ∙ (ap (λ x. call_gives (called f.looks callee) x) count
+    ∙ (taken (receiver_fits f callee && all_ones f items) (call_gives (called f.looks callee) (item_count items)) gives.Other both ∙ sym (ap (expr_gives f) (call_form e c is)))))
+
+neither : (a b : Bool) → a ≡ false → (a && b) ≡ false
+neither a b h = ap (λ x. x && b) h
+
+second : (a b : Bool) → a ≡ true → b ≡ false → (a && b) ≡ false
+second a b h k = ap (λ x. x && b) h ∙ k
+
+not_given : (f : Frame) (e : Expr) (c : Box CallExpr) → e ≡ expr.Call c
+    → (receiver_fits f (shape (out-CallExpr c.value).callee) && all_ones f (items_of (out-CallExpr c.value).args.items)) ≡ false → gives.Other ≡ expr_gives f (shape e)
+not_given f e c is h =
+    let callee = shape (out-CallExpr c.value).callee in
+    let items = items_of (out-CallExpr c.value).args.items in
+    passed (receiver_fits f callee && all_ones f items) (call_gives (called f.looks callee) (item_count items)) gives.Other h ∙ sym (ap (expr_gives f) (call_form e c is))
+
+pub receiver_unfit : (f : Frame) (e : Expr) (c : Box CallExpr) → e ≡ expr.Call c → (p : CallExpr) → p ≡ c.value → (fits : Bool) → fits ≡ receiver_fits f (shape (out-CallExpr p).callee) → fits ≡ false → gives.Other ≡ expr_gives f (shape e)
+receiver_unfit f e c is p ip fits h h' =
+    not_given f e c is (neither _ _ (sym (ap (λ x. receiver_fits f (shape (out-CallExpr x).callee)) ip) ∙ (sym h ∙ h')))
+
+pub argument_unfit : (f : Frame) (e : Expr) (c : Box CallExpr) → e ≡ expr.Call c → (p q : CallExpr) → p ≡ c.value → q ≡ c.value
+    → (fits ones : Bool) → fits ≡ receiver_fits f (shape (out-CallExpr p).callee) → fits ≡ true → ones ≡ all_ones f (items_of (out-CallExpr q).args.items) → ones ≡ false → gives.Other ≡ expr_gives f (shape e)
+argument_unfit f e c is p q ip iq fits ones h h' k k' =
+    not_given f e c is
+    (second _ _ (sym (ap (λ x. receiver_fits f (shape (out-CallExpr x).callee)) ip) ∙ (sym h ∙ h')) (sym (ap (λ x. all_ones f (items_of (out-CallExpr x).args.items)) iq) ∙ (sym k ∙ k')))
+
+-- loops of which code is made
+
+pub loop_with : (f : Frame) (turns : Loop) (head body : Bool) → head ≡ head_inside f (shape_for (out-Loop turns).head) → head ≡ true → body ≡ lines_inside f (lines_of (out-Loop turns).body.items) → body ≡ stmt_inside f (shape_loop turns)
+loop_with f turns head body h h' k =
+    let rest = lines_inside f (lines_of (out-Loop turns).body.items) in
+    k ∙ (ap (λ b. b && rest) (sym (sym h ∙ h')) ∙ sym (ap (stmt_inside f) (loop_parts turns)))
+
+pub loop_without : (f : Frame) (turns : Loop) (head : Bool) → head ≡ head_inside f (shape_for (out-Loop turns).head) → head ≡ false → false ≡ stmt_inside f (shape_loop turns)
+loop_without f turns head h h' =
+    let rest = lines_inside f (lines_of (out-Loop turns).body.items) in
+    ap (λ b. b && rest) (sym (sym h ∙ h')) ∙ sym (ap (stmt_inside f) (loop_parts turns))
+
+-- signatures of which code is made
+
+pub signature_with : (looks : Looks) (s : Signature) (params results : Bool) → params ≡ params_inside looks (params_of (out-Params (out-Signature s).params).entries.items) → params ≡ true
+    → results ≡ results_inside looks (shape_results (out-Signature s).results) → results ≡ signature_inside looks (shape_signature s)
+signature_with looks s params results h h' k =
+    k ∙ (ap (λ b. b && results_inside looks (shape_results (out-Signature s).results)) (sym (sym h ∙ h')) ∙ sym (ap (signature_inside looks) (signature_parts s)))
+
+pub signature_without : (looks : Looks) (s : Signature) (params : Bool) → params ≡ params_inside looks (params_of (out-Params (out-Signature s).params).entries.items) → params ≡ false → false ≡ signature_inside looks (shape_signature s)
+signature_without looks s params h h' =
+    ap (λ b. b && results_inside looks (shape_results (out-Signature s).results)) (sym (sym h ∙ h')) ∙ sym (ap (signature_inside looks) (signature_parts s))

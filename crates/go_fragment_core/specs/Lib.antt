@@ -1,0 +1,8 @@
+pub mod Constants
+pub mod Fragment
+pub mod Inside
+pub mod Names
+pub mod Operators
+pub mod Slots
+pub mod mirrors
+pub mod instruction_core

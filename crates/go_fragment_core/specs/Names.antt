@@ -1,0 +1,94 @@
+-- What code asks of names, and the slots of a function.
+use Rattle.std.specs.Prelude.{ℕ, suc, Bool, true, false, nat_eq, List, [], ◌∷◌, Option, Some, None, if◌then◌else◌}
+use Rattle.go_text_core.specs.Text.{is_blank}
+use Rattle.go_tree_nodes.specs.declared.names.Ident.{Ident}
+use Rattle.go_tree_nodes.specs.Trees.{ExprTree, Integer, Text, Named, Paren, Unary, Binary, Select, Call, Literal, StructLiteral}
+use Rattle.go_instruction_core.specs.declared.letters.Word.{Word}
+use Rattle.go_instruction_core.specs.declared.letters.Word.TheVariants as words
+use Rattle.go_fragment_core.specs.declared.names.ConstantWord.{ConstantWord}
+use Rattle.go_fragment_core.specs.declared.names.ConstantWord.TheVariants as constants
+use Rattle.go_fragment_core.specs.declared.names.Meaning.{Meaning}
+use Rattle.go_fragment_core.specs.declared.names.Meaning.TheVariants as meanings
+use Rattle.go_fragment_core.specs.declared.targets.Target.{Target}
+use Rattle.go_fragment_core.specs.declared.targets.Target.TheVariants as targets
+
+-- what the identifier at an offset comes to; which reference of the function the call is whose opening parenthesis stands at an offset; and
+-- whether the identifier at an offset, to the left of `:=`, is declared there
+pub record Looks : Type 0 where
+  pub meaning : ℕ → Meaning
+  pub reference : ℕ → ℕ
+  pub is_new : ℕ → Bool
+
+-- a function: its names, and what its slots are for, each by the offset of its identifier
+pub record Frame : Type 0 where
+  pub looks : Looks
+  pub slots : List (Option ℕ)
+
+abbrev pub frame_of : Looks → List (Option ℕ) → Frame
+frame_of looks slots = record { looks = looks; slots = slots }
+
+-- the number of the first of some slots that is for what is declared at an offset, where the first of all has this number
+abbrev pub slot_from : ℕ → List (Option ℕ) → ℕ → Option ℕ
+slot_from n [] at = None
+slot_from n (None ∷ slots) at = slot_from (suc n) slots at
+slot_from n (Some declared ∷ slots) at = if nat_eq declared at then Some n else slot_from (suc n) slots at
+
+abbrev pub slot_of : List (Option ℕ) → ℕ → Option ℕ
+slot_of slots at = slot_from 0 slots at
+
+abbrev pub word_of : ConstantWord → Word
+word_of (constants.Int z) = words.Int
+word_of (constants.Bool b) = words.Bool
+
+-- what is called: a name, or what is selected, in parentheses too
+abbrev pub called : Looks → ExprTree → Meaning
+called looks (Named x) = looks.meaning x.span.start
+called looks (Select e dot x) = looks.meaning x.span.start
+called looks (Paren first e last) = called looks e
+called looks (Integer n s) = meanings.Other
+called looks (Text t) = meanings.Other
+called looks (Unary op s e) = meanings.Other
+called looks (Binary a op s b) = meanings.Other
+called looks (Call e first items last) = meanings.Other
+called looks (Literal n first items last) = meanings.Other
+called looks (StructLiteral t first items last) = meanings.Other
+
+-- what is assigned to: nothing, a variable of the function by its slot, or something else
+
+abbrev pub slot_target : Option ℕ → Target
+slot_target None = targets.Other
+slot_target (Some slot) = targets.Slot slot
+
+abbrev pub meant_target : List (Option ℕ) → Meaning → Target
+meant_target slots (meanings.Variable at word) = slot_target (slot_of slots at)
+meant_target slots _ = targets.Other
+
+-- a name that is assigned to, and one that is declared
+abbrev pub named_target : Frame → Ident → Target
+named_target f x = if is_blank x.name then targets.Blank else meant_target f.slots (f.looks.meaning x.span.start)
+
+abbrev pub declared_target : Frame → Ident → Target
+declared_target f x = if is_blank x.name then targets.Blank else slot_target (slot_of f.slots x.span.start)
+
+-- the left side of an assignment, in parentheses too
+abbrev pub target_of : Frame → ExprTree → Target
+target_of f (Named x) = named_target f x
+target_of f (Paren first e last) = target_of f e
+target_of f (Integer n s) = targets.Other
+target_of f (Text t) = targets.Other
+target_of f (Unary op s e) = targets.Other
+target_of f (Binary a op s b) = targets.Other
+target_of f (Select e dot x) = targets.Other
+target_of f (Call e first items last) = targets.Other
+target_of f (Literal n first items last) = targets.Other
+target_of f (StructLiteral t first items last) = targets.Other
+
+abbrev pub is_slot : Target → Bool
+is_slot (targets.Slot n) = true
+is_slot targets.Blank = false
+is_slot targets.Other = false
+
+abbrev pub is_target : Target → Bool
+is_target (targets.Slot n) = true
+is_target targets.Blank = true
+is_target targets.Other = false
