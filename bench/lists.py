@@ -15,13 +15,13 @@ from collections import defaultdict
 # Small crates at the bottom: whoever names one lists it.
 SMALL = set("go_text_core go_token_core go_scan_core go_tree_nodes go_path_core go_term_core go_universe_core".split())
 # Crates with types that contain themselves: whose code names one lists it (a type of this kind can't be passed on).
-RECURSIVE = {"go_tree_nodes", "go_term_core", "go_subset_core"}
+RECURSIVE = {"go_tree_nodes", "go_term_core"}
 # Crates that list all that they name: their lists are short enough, and programs are listed by none.
 WHOLE = set(
     """go_text_core go_token_core go_scan_core go_universe_core go_tree_nodes go_tree_copies go_tree_core go_parse_types go_parse_exprs
     go_parse_stmts go_parse_core go_path_core go_cycle_core go_decl_core go_reach_core go_graph_core go_block_core go_open_core go_local_core
     go_walk_core go_scope_core go_chain_core go_needs_core go_term_core go_settle_core go_table_core go_written_core go_constant_core
-    go_operand_core go_denote_core go_statement_core go_subset_core go_resolve_core govisd govisd_show govisd_probe govisd_bench
+    go_operand_core go_denote_core go_statement_core govisd govisd_show govisd_probe govisd_bench
     govisd_types govisd_check""".split()
 )
 # Modules that are named as a word of the library, which a reader would take them for: what they are passed on as.

@@ -1,5 +1,6 @@
 pub mod InputLemmas
 pub mod InputsAgree
-pub mod LineLemmas
+pub mod OneFound
 pub mod OutputLemmas
+pub mod Putting
 pub mod ReportLemmas

@@ -1,28 +1,25 @@
 -- The reports on a text with a fault and on a whole file.
-use Rattle.std.proofs.Common.{◌≡◌, ◌≤◌, ◌<◌, ℕ, Bool, false, ◌&&◌, List, ◌++◌, length, flat_map, take, inl, inr, sym, ap, subst, ◌∙◌, Option, Some, None, Result, Ok, Err, IfOk, IfSome}
+use Rattle.std.proofs.Common.{◌≡◌, ◌≢◌, ◌≤◌, ◌<◌, ℕ, zero, suc, Bool, false, List, [], ◌∷◌, length, take, inl, inr, refl, sym, ap, subst, ◌∙◌, arith, Option, Some, None, Result, Ok, Err, IfOk, IfSome}
+use Rattle.std.specs.Prelude.{slice_get}
 use Rattle.std.specs.declared.alloc.AllocError.{AllocError}
 use Rattle.std.specs.Str.{IsUtf8}
 use Rattle.std.specs.Io.KnownBytes.{Appends}
-use Rattle.std.specs.List.{list_all}
-use Rattle.go_text_core.specs.declared.rule.Rule.TheVariants.{E3, L1, X1}
-use Rattle.go_tree_nodes.specs.Trees as wide
-use Rattle.go_tree_nodes.specs.Heights.{file_height}
-use Rattle.go_tree_nodes.specs.Spelling.{spell_file}
-use Rattle.go_tree_nodes.specs.Terminals.{InOrder}
-use Rattle.go_subset_core.specs.declared.tree.File.{File}
-use Rattle.go_subset_core.specs.Shapes.{file_of}
-use Rattle.go_resolve_core.specs.Placed.{IsPlaced}
-use Rattle.std.specs.Prelude.{IfNone}
-use Rattle.go_subset_core.specs.Trees.{FileTree}
-use Rattle.go_subset_core.specs.Subset.{IsSubset, IsOutside}
-use Rattle.go_parse_core.specs.declared.error.SynFault.{SynFault}
-use Rattle.go_parse_core.specs.Correct.{HasTree, IsSynFault, IsTreeFault, max_height}
-use Rattle.go_resolve_core.specs.declared.declared.Fault.{Fault}
-use Rattle.go_resolve_core.specs.declared.declared.Use.{Use}
-use Rattle.go_resolve_core.specs.Outcomes.{uses_of}
-use Rattle.go_resolve_core.specs.Faults.{faults_of}
-use Rattle.govisd_core.specs.Lines.{use_line, fault_line, is_bound, is_empty}
-use Rattle.govisd_core.specs.Reports.{TooLong, NoText, BadToken, NoTree, TooHigh, Outside, Whole, IsText, HasTokens, IsReport, Reports, ReportsPart, the_fault, max_bytes}
+use Rattle.go_text_core.specs.declared.rule.Rule.TheVariants.{E3, K3, L1}
+use Rattle.go_tree_nodes.specs.declared.names.Ident.{Ident}
+use Rattle.go_tree_nodes.specs.Trees.{FileTree}
+use Rattle.go_part_core.specs.parse_core.declared.error.SynFault.{SynFault}
+use Rattle.go_part_core.specs.parse_core.Correct.{IsSynFault, IsTreeFault}
+use Rattle.go_part_core.specs.graph_core.declared.assembly.KFault.{KFault}
+use Rattle.go_part_core.specs.graph_core.Packages.{IsAssembled, IsAssembly, IsClause, blank}
+use Rattle.go_part_core.specs.graph_core.Sources.{SourceModel, IsContent, IsRead, clause_in, clause_of, source}
+use Rattle.go_part_core.specs.graph_core.Workspaces.{PackageModel}
+use Rattle.go_part_core.specs.block_core.Naming.{AreInFile}
+use Rattle.go_part_core.specs.Inputs.{InputModel, input_with}
+use Rattle.go_part_core.specs.Parts.{IsPart}
+use Rattle.govisd_lines.specs.Lines.{file_lines}
+use Rattle.govisd_core.specs.Alone.{IsRefused, file_alone, package_alone, the_name, workspace_alone}
+use Rattle.govisd_core.specs.Reports.{TooLong, NoText, BadToken, NoTree, TooHigh, NoName, Whole, IsText, IsFile, HasTokens, IsReport, Reports, ReportsPart, the_fault, max_bytes}
+use Rattle.govisd_core.specs.mirrors.Making.{IsAlone, IsInputIn, IsTold}
 use Rattle.govisd_core.specs.declared.run.Report.{Report}
 use Rattle.govisd_core.specs.Outputs.{IsCutShort}
 
@@ -40,30 +37,76 @@ text_fault_report bytes fault clean out text (inr tree) says written =
       | inr high ↦ record { input = TooHigh fault.offset; is = (tokens, high.1, tree.within); says = sym says; writes = written ∙ ap (the_fault fault.offset) high.0 }
     ]
 
--- the file that was found in the text, and none that was
-pub part_of : (text bytes : List ℕ) (g : wide.FileTree) (found : Option File) (s : File) → found ≡ Some s → text ≡ bytes → IfSome found (λ s. IsSubset text g (file_of s)) → IsSubset bytes g (file_of s)
-part_of text bytes g found s is same h = subst (λ text. IsSubset text g (file_of s)) same (subst (λ o. IfSome o (λ s. IsSubset text g (file_of s))) is h)
+-- the one file of a package, where its tree is that of its text
+file_of_text : (s : SourceModel) (f : FileTree) → IsText s.text → IsRead s → s.content ≡ Ok f → IsFile s.text f
+file_of_text s f text read tree = record { text = text; parse = subst (IsContent s.text) tree read }
 
-pub none_of : (text bytes : List ℕ) (g : wide.FileTree) (found : Option File) → found ≡ None → text ≡ bytes → IfNone found (IsOutside text g) → IsOutside bytes g
-none_of text bytes g found is same h = subst (λ text. IsOutside text g) same (subst (λ o. IfNone o (IsOutside text g)) is h)
+-- the one file that a list has
+the_one : (s x : SourceModel) (i : ℕ) → slice_get (s ∷ []) i ≡ Some x → s ≡ x
+the_one s x zero e = cc
+the_one s x (suc i) e = cc
 
--- the tokens of the file that was found follow one another, as those of the text do
-pub part_placed : (bytes : List ℕ) (g : wide.FileTree) (f : FileTree) → IsSubset bytes g f → InOrder 0 (spell_file g) (length bytes) → IsPlaced f
-part_placed bytes g f part placed = (length bytes, subst (λ g. InOrder 0 (spell_file g) (length bytes)) part.widened placed)
+-- its clause
+the_clause : (s x : SourceModel) (f : FileTree) (i : ℕ) (id : Ident) → s.content ≡ Ok f → slice_get (s ∷ []) i ≡ Some x → IsClause x id → f.name ≡ id
+the_clause s x f i id tree at clause =
+    let same : Some f.name ≡ Some id = sym (ap clause_in tree) ∙ (ap clause_of (the_one s x i at) ∙ clause) in
+    cc
 
--- a file outside the part of Go that is answered
-pub outside_reports : (bytes : List ℕ) (f : wide.FileTree) (result : Result Report AllocError) → IsText bytes → HasTree bytes f → file_height f ≤ max_height → IsOutside bytes f → IfOk result (λ r. r.text.items ≡ the_fault 0 X1) → IfOk result (λ r. r.clean ≡ false) → IfOk result (λ r. IsReport bytes r.clean r.text.items)
-outside_reports bytes f (Ok r) text tree low none written says = record { input = Outside f; is = (text, tree, low, none); says = sym says; writes = written }
-outside_reports bytes f (Err e) text tree low none written says = tt
+-- why the files of a package are none, where it has one, with a tree: its name is blank
+pub record IsNameless (f : FileTree) (fault : KFault) : Type 0 where
+  pub blank_name : f.name.name ≡ blank
+  pub offset : fault.offset ≡ f.name.span.start
+  pub rule : fault.rule ≡ K3
 
--- a whole file, with what its identifiers have and its faults
-pub whole_report : (bytes : List ℕ) (g : wide.FileTree) (f : FileTree) (uses : List Use) (faults : List Fault) (clean : Bool) (out : List ℕ) → IsText bytes → HasTree bytes g → file_height g ≤ max_height → IsSubset bytes g f → uses ≡ uses_of f → faults ≡ faults_of f → clean ≡ list_all (λ u. is_bound u.outcome) uses && is_empty faults → out ≡ flat_map (use_line bytes) uses ++ flat_map fault_line faults → IsReport bytes clean out
-whole_report bytes g f uses faults clean out text tree low part same_uses same_faults says written =
+nameless : (s : SourceModel) (f : FileTree) (fault : KFault) → s.content ≡ Ok f → IsAssembly (s ∷ []) (Err fault) → IsNameless f fault
+nameless s f fault tree (inl k) =
+    let some : Some f.name ≡ None = sym (ap clause_in tree) ∙ (ap clause_of (the_one s k.file fault.file k.first.at) ∙ k.first.holds) in
+    cc
+nameless s f fault tree (inr (inl k)) =
+    let id = k.offset in
+    let same = the_clause s k.file f fault.file id.0 tree k.first.at id.1 in
+    record { blank_name = ap (λ (x : Ident). x.name) same ∙ id.2; offset = id.3 ∙ ap (λ (x : Ident). x.span.start) (sym same); rule = k.rule }
+nameless s f fault tree (inr (inr k)) =
+    let id = k.offset in
+    let same = the_clause s k.file f fault.file id.0 tree k.first.at id.1 in
+    let first = k.is_name in
+    let named = the_clause s first.0 f 0 first.1 tree first.2 first.3 in
+    absurd (id.2 (ap (λ (x : Ident). x.name) (sym same ∙ named) ∙ sym first.4))
+
+-- a file whose package has the blank name
+pub no_name_reports : (s : SourceModel) (f : FileTree) (fault : KFault) (result : Result Report AllocError) → IsText s.text → IsRead s → s.content ≡ Ok f → IsAssembly (s ∷ []) (Err fault) → IfOk result (λ r. r.text.items ≡ the_fault fault.offset fault.rule) → IfOk result (λ r. r.clean ≡ false) → IfOk result (λ r. IsReport s.text r.clean r.text.items)
+no_name_reports s f fault (Ok r) text read tree none written says =
+    let why = nameless s f fault tree none in
+    record { input = NoName f; is = (file_of_text s f text read tree, why.blank_name); says = sym says; writes = written ∙ (ap (λ o. the_fault o fault.rule) why.offset ∙ ap (the_fault f.name.span.start) why.rule) }
+no_name_reports s f fault (Err e) text read tree none written says = tt
+
+has_name : (s : SourceModel) (f : FileTree) → s.content ≡ Ok f → IsAssembled (s ∷ []) → f.name.name ≢ blank
+has_name s f tree well = λ e. well.named 0 s (omega arith) (f.name.span.start, (f.name, ap clause_in tree, e, refl))
+
+file_is : (s : SourceModel) (f : FileTree) → s.name ≡ the_name → s.content ≡ Ok f → s ≡ file_alone s.text f
+file_is s f name tree = ap (λ n. source n s.text s.content) name ∙ ap (source the_name s.text) tree
+
+-- a whole file, with what stands in it
+pub whole_report : (s : SourceModel) (f : FileTree) (ps : List PackageModel) (p : PackageModel) (i : InputModel) (clean : Bool) (out : List ℕ)
+    → IsAlone s ps → IsText s.text → s.content ≡ Ok f → p ≡ package_alone s → IsAssembled p.1 → IsInputIn ps p f i → IsTold s.name f i clean out → IsReport s.text clean out
+whole_report s f ps p i clean out alone text tree is well input told =
+    let own : p ≡ package_alone (file_alone s.text f) = is ∙ ap package_alone (file_is s f alone.name tree) in
+    let whole : ps ≡ workspace_alone (file_alone s.text f) = alone.is ∙ ap workspace_alone (file_is s f alone.name tree) in
     record {
-      input = Whole f;
-      is = (text, subst (HasTree bytes) part.widened tree, subst (λ g. file_height g ≤ max_height) part.widened low, part.inside);
-      says = sym (says ∙ (ap (λ us. list_all (λ u. is_bound u.outcome) us && is_empty faults) same_uses ∙ ap (λ fs. list_all (λ u. is_bound u.outcome) (uses_of f) && is_empty fs) same_faults));
-      writes = written ∙ (ap (λ us. flat_map (use_line bytes) us ++ flat_map fault_line faults) same_uses ∙ ap (λ fs. flat_map (use_line bytes) (uses_of f) ++ flat_map fault_line fs) same_faults);
+      input = Whole f told.file;
+      is = (
+        file_of_text s f text alone.read tree,
+        has_name s f tree (subst (λ (q : PackageModel). IsAssembled q.1) is well),
+        record {
+          imports = input.imports;
+          refused = subst (λ ws. AreInFile (IsRefused ws) 0 0 f input.imports) whole input.refused;
+          content = told.content;
+          part = subst (λ x. IsPart x told.content) (input.is ∙ ap (λ q. input_with q (input.imports ∷ []) []) own) told.part;
+          files = told.files;
+        },
+      );
+      says = sym told.says;
+      writes = told.writes ∙ ap (λ n. file_lines n f told.file.answers.uses told.file.answers.faults) alone.name;
     }
 
 -- a text with a fault, where its report was made

@@ -1,4 +1,5 @@
+pub mod Alone
 pub mod Inputs
-pub mod Lines
 pub mod Outputs
 pub mod Reports
+pub mod mirrors

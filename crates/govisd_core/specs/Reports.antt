@@ -1,37 +1,37 @@
 -- What a run over some bytes writes, by the rules alone.
-use Rattle.std.specs.Prelude.{◌≡◌, ◌≤◌, ◌<◌, ℕ, Bool, true, false, List, length, Option, Ok, Err}
+use Rattle.std.specs.Prelude.{◌≡◌, ◌≢◌, ◌≤◌, ◌<◌, ℕ, Bool, true, false, List, [], ◌∷◌, length, Option, Ok, Err}
 use Rattle.std.specs.Str.{IsUtf8}
 use Rattle.std.specs.Io.KnownBytes.{Appends, Consumes, Keeps}
 use Rattle.go_text_core.specs.declared.rule.Rule.{Rule}
-use Rattle.go_text_core.specs.declared.rule.Rule.TheVariants.{E3, L1, P1, P2, X1}
+use Rattle.go_text_core.specs.declared.rule.Rule.TheVariants.{E3, K3, L1, P1, P2}
 use Rattle.go_token_core.specs.declared.token.LexFault.{LexFault}
 use Rattle.go_token_core.specs.declared.token.Token.{Token}
 use Rattle.go_scan_core.specs.Tokens.{IsAnswer}
-use Rattle.go_tree_nodes.specs.Trees as wide
-use Rattle.go_tree_nodes.specs.Heights.{file_height}
-use Rattle.go_subset_core.specs.Trees.{FileTree}
-use Rattle.go_subset_core.specs.Widening.{widen_file}
-use Rattle.go_subset_core.specs.Subset.{Inside_file, IsOutside}
-use Rattle.go_parse_core.specs.Correct.{HasTree, HasNoTree, HasNoLowTree, max_height}
+use Rattle.go_tree_nodes.specs.Trees.{FileTree}
+use Rattle.go_part_core.specs.graph_core.Packages.{blank}
+use Rattle.go_part_core.specs.Parts.{FileOf}
+use Rattle.govisd_lines.specs.Lines.{fault_line, file_lines}
+use Rattle.go_part_core.specs.parse_core.Correct.{HasNoTree, HasNoLowTree}
+use Rattle.go_part_core.specs.parse_core.Parsing.{IsParse}
 use Rattle.govisd_core.specs.declared.run.ResolveEnd.{ResolveEnd}
 use Rattle.govisd_core.specs.declared.run.ResolveEnd.TheVariants.{Clean, Faults, ReadFault, WriteFault, Memory}
 use Rattle.govisd_core.specs.Outputs.{IsCutShort}
-use Rattle.govisd_core.specs.Lines.{fault_line, lines_of, has_no_fault}
+use Rattle.govisd_core.specs.Alone.{IsFound, the_name}
 
 -- the most bytes that a text may have
 abbrev pub max_bytes : ℕ
 max_bytes = 1048576
 
 -- what bytes are: too many, no text, a text with a first fault of its tokens, a text whose tokens have no
--- tree or none that is low enough, a file outside the part of Go that is answered, or one inside it
+-- tree or none that is low enough, a file whose package has the blank name, or a file with what stands in it
 pub data Input : Type 0 where
   TooLong : Input
   NoText : Input
   BadToken : LexFault → Input
   NoTree : ℕ → Input
   TooHigh : ℕ → Input
-  Outside : wide.FileTree → Input
-  Whole : FileTree → Input
+  NoName : FileTree → Input
+  Whole : FileTree → FileOf → Input
 
 -- a text of a length that is allowed
 pub record IsText (bytes : List ℕ) : Type 0 where
@@ -44,14 +44,19 @@ pub record HasTokens (bytes : List ℕ) : Type 0 where
   pub tokens : List Token
   pub scanned : IsAnswer bytes (Ok tokens)
 
+-- a text with this tree, which is low enough
+pub record IsFile (bytes : List ℕ) (f : FileTree) : Type 0 where
+  pub text : IsText bytes
+  pub parse : IsParse bytes f
+
 abbrev pub IsInput : List ℕ → Input → Type 0
 IsInput bytes TooLong = max_bytes < length bytes
 IsInput bytes NoText = (length bytes ≤ max_bytes) × ¬ (IsUtf8 bytes)
 IsInput bytes (BadToken fault) = IsText bytes × IsAnswer bytes (Err fault)
 IsInput bytes (NoTree offset) = HasTokens bytes × HasNoTree bytes × (offset ≤ length bytes)
 IsInput bytes (TooHigh offset) = HasTokens bytes × HasNoLowTree bytes × (offset ≤ length bytes)
-IsInput bytes (Outside f) = IsText bytes × HasTree bytes f × (file_height f ≤ max_height) × IsOutside bytes f
-IsInput bytes (Whole f) = IsText bytes × HasTree bytes (widen_file f) × (file_height (widen_file f) ≤ max_height) × Inside_file bytes f
+IsInput bytes (NoName f) = IsFile bytes f × (f.name.name ≡ blank)
+IsInput bytes (Whole f found) = IsFile bytes f × (f.name.name ≢ blank) × IsFound bytes f found
 
 abbrev pub the_fault : ℕ → Rule → List ℕ
 the_fault offset rule = fault_line (record { offset = offset; rule = rule })
@@ -63,13 +68,22 @@ report bytes NoText = the_fault 0 L1
 report bytes (BadToken fault) = the_fault fault.offset fault.rule
 report bytes (NoTree offset) = the_fault offset P1
 report bytes (TooHigh offset) = the_fault offset P2
-report bytes (Outside f) = the_fault 0 X1
-report bytes (Whole f) = lines_of bytes f
+report bytes (NoName f) = the_fault f.name.span.start K3
+report bytes (Whole f found) = file_lines the_name f found.answers.uses found.answers.faults
 
--- the status is that of a source without fault
+abbrev pub is_empty : {A : Type 0} → List A → Bool
+is_empty [] = true
+is_empty (x ∷ xs) = false
+
+-- the status is that of a source without fault: nothing is reported of the file, neither a rule that an occurrence breaks nor a fault beside
 abbrev pub is_clean : Input → Bool
-is_clean (Whole f) = has_no_fault f
-is_clean _ = false
+is_clean TooLong = false
+is_clean NoText = false
+is_clean (BadToken fault) = false
+is_clean (NoTree offset) = false
+is_clean (TooHigh offset) = false
+is_clean (NoName f) = false
+is_clean (Whole f found) = is_empty found.report
 
 -- the report on the bytes was written, and it says whether there is a fault
 pub record Reports (clean : Bool) (bytes : List ℕ) (old new : Option (List ℕ)) : Type 0 where
@@ -114,8 +128,8 @@ but_for_place (TooHigh offset) = NoTree 0
 but_for_place TooLong = TooLong
 but_for_place NoText = NoText
 but_for_place (BadToken fault) = BadToken fault
-but_for_place (Outside f) = Outside f
-but_for_place (Whole f) = Whole f
+but_for_place (NoName f) = NoName f
+but_for_place (Whole f found) = Whole f found
 
 -- but for that, bytes are one input
 abbrev pub OneInput : Type 0

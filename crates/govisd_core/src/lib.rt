@@ -1,9 +1,9 @@
 //! The programs of govisd as functions over a reader and a writer.
 #![tactic(auto)]
 
+mod alone;
 mod input;
 mod laws;
-mod lines;
 mod output;
 mod run;
 

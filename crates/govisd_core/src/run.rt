@@ -1,15 +1,20 @@
 //! A run of `govisd resolve`, from a reader to a writer.
-ghost use Rattle.std.specs.Prelude.{◌≡◌, false, take, string_bytes, IfOk, IfSome};
+ghost use Rattle.std.specs.Prelude.{◌≡◌, false, take, string_bytes, IfOk, IfSome, Ok};
+ghost use Rattle.go_tree_nodes.specs.Shapes.{file_of};
+ghost use Rattle.govisd_lines.specs.decl_core.Outer.{IsPlaced};
 ghost use Rattle.govisd_core.specs.Inputs.{ReadsUpTo};
-ghost use Rattle.govisd_core.specs.Reports.{IsReport, IsEnd, IsText, ReadsAll, the_fault};
+ghost use Rattle.govisd_core.specs.Reports.{IsReport, IsEnd, IsText, ReadsAll, is_empty, the_fault};
+ghost use Rattle.govisd_core.specs.mirrors.Making.{HasOneFile, IsAlone, IsTold};
 
+use crate::alone::{part_of, workspace_of};
 use crate::input::{InputFault, LIMIT, read_input};
-use crate::lines::{fault_lines, has_no_fault, resolution_lines};
 use crate::output::write_report;
-use go_parse_core::{ParseError, Parsed, parse};
-use go_resolve_core::{Fault, resolve};
-use go_subset_core::subset;
+use go_part_core::Part;
+use go_part_core::graph_core::{SourceFile, Workspace, assemble};
 use go_text_core::Rule;
+use go_tree_nodes::File;
+use govisd_lines::expr_core::Fault;
+use govisd_lines::{fault_line, file_lines};
 use std::alloc::{AllocError, Global};
 use std::io::{Read, Write};
 
@@ -40,27 +45,70 @@ fn fault_report(alloc: Global, offset: usize, rule: Rule) -> Result<Report, Allo
     ensures text { IfOk result (λ r. r.text.items ≡ the_fault offset rule) }
     ensures clean { IfOk result (λ r. r.clean ≡ false) }
 {
-    let text = fault_lines(alloc, Fault { offset, rule })?;
+    let text = fault_line(alloc, Fault { offset, rule })?;
     Ok(Report { text, clean: false })
 }
 
-// The report on a file, which is inside the part of Go that is answered or not.
-fn file_report(alloc: Global, parsed: &Parsed) -> Result<Report, AllocError>
-    requires { IsText parsed.now }
-    ensures { IfOk result (λ r. IsReport parsed.now r.clean r.text.items) }
+// Whether nothing is reported.
+fn is_clean(report: &[Fault]) -> bool
+    ensures { result ≡ is_empty report.now }
 {
-    let Some(file) = subset(alloc, parsed.text(), parsed.tree())? else {
-        return fault_report(alloc, 0, Rule::X1);
-    };
-    let resolved = resolve(alloc, &file);
-    // Dropped here once, and not at each error below.
-    drop(file);
-    let resolution = resolved?;
-    let text = resolution_lines(alloc, parsed.text().as_bytes(), &resolution)?;
+    report.is_empty()
+}
+
+// The report on a part whose package has one file, by the name and the tree of the file.
+fn part_report(alloc: Global, name: &str, tree: &File, part: &Part) -> Result<Report, AllocError>
+    requires placed { IsPlaced (file_of tree.now) }
+    requires one { HasOneFile part.now.input }
+    ensures { IfOk result (λ r. IsTold name.now (file_of tree.now) part.now.input r.clean r.text.items) }
+{
+    let content = part.content();
+    let file = &content.files[0];
+    let answers = &file.answers;
+    let text = file_lines(alloc, name, tree, &answers.answers, &answers.faults)?;
     Ok(Report {
         text,
-        clean: has_no_fault(&resolution),
+        clean: is_clean(&file.report),
     })
+}
+
+// The report on the one file of a workspace, which has this tree.
+fn tree_report(
+    alloc: Global,
+    workspace: &Workspace,
+    file: &SourceFile,
+    tree: &File,
+) -> Result<Report, AllocError>
+    requires alone { IsAlone file.now workspace.now }
+    requires tree { file.now.content ≡ Ok (file_of tree.now) }
+    requires text { IsText file.now.text }
+    ensures { IfOk result (λ r. IsReport file.now.text r.clean r.text.items) }
+{
+    let packages = workspace.packages();
+    let source = packages[0].share()?;
+    match assemble(source) {
+        Ok(package) => {
+            let part = part_of(alloc, workspace, tree, package)?;
+            part_report(alloc, file.name(), tree, &part)
+        }
+        Err(fault) => fault_report(alloc, fault.offset, fault.rule),
+    }
+}
+
+// The report on the one file of a workspace.
+fn file_report(
+    alloc: Global,
+    workspace: &Workspace,
+    file: &SourceFile,
+) -> Result<Report, AllocError>
+    requires alone { IsAlone file.now workspace.now }
+    requires text { IsText file.now.text }
+    ensures { IfOk result (λ r. IsReport file.now.text r.clean r.text.items) }
+{
+    match file.tree() {
+        Ok(tree) => tree_report(alloc, workspace, file, tree),
+        Err(fault) => fault_report(alloc, fault.offset, fault.rule),
+    }
 }
 
 // The report on a text.
@@ -68,15 +116,12 @@ fn text_report(alloc: Global, text: String) -> Result<Report, AllocError>
     requires { IsText (string_bytes text) }
     ensures { IfOk result (λ r. IsReport (string_bytes text) r.clean r.text.items) }
 {
-    match parse(alloc, text) {
-        Ok(parsed) => {
-            let report = file_report(alloc, &parsed);
-            parsed.close();
-            report
-        }
-        Err(ParseError::Memory) => Err(AllocError),
-        Err(ParseError::Fault(fault)) => fault_report(alloc, fault.offset, fault.rule),
-    }
+    let workspace = workspace_of(alloc, text)?;
+    let packages = workspace.packages();
+    let files = packages[0].files();
+    let report = file_report(alloc, &workspace, &files[0]);
+    workspace.close();
+    report
 }
 
 // The report on bytes that may be too many, or no text.
@@ -92,16 +137,18 @@ fn report_of(alloc: Global, bytes: Vec<u8>) -> Result<Report, AllocError>
     }
 }
 
-/// Reads a Go file, and writes what each identifier that it uses denotes.
+/// Reads a Go file, and writes what each identifier, import and call in it denotes.
 ///
-/// A file of the part of Go that is answered, [`go_subset_core`], has a line `OFFSET ROLE TEXT ANSWER` for
-/// each such identifier, in order, and then a line `fault OFFSET RULE` for each fault. OFFSET counts bytes from 0; ROLE is `type` or `value`; TEXT is the
-/// identifier; ANSWER is `universe.` with a predeclared name, `local/in.go:` with the offset of the
-/// declaration, or the number of the rule that refuses the identifier. Any other file has the one line
-/// `fault 0 X1`. Bytes that are no file have one line `fault OFFSET RULE`: E3 at 0 for more than 1,048,576 bytes, of which one more is read at the most;
-/// L1 at 0 for no UTF-8; and else the fault of the text. The report is made before any of it is written,
-/// and where the writer fails, what it took is a first part of the report. Reads and writes that are
-/// interrupted are made again. What the reader has beyond 1,048,577 bytes stays in it.
+/// The file is taken as `in.go`, the one file of the package of the path `local`, in a workspace without other packages. A file has a line
+/// `OFFSET ROLE TEXT ANSWER` for each occurrence, in order, and then a line `fault OFFSET RULE` for each fault that no such line says, by offset,
+/// then by the bytes of the rule's number. OFFSET counts bytes from 0; ROLE is `import`, `type`, `value`, `callee`, `qualifier`, `selector`, `key`
+/// or `call`; TEXT is the identifier, the string of an import as it is spelled, or `(`; ANSWER is `universe.` with a predeclared name,
+/// `local/in.go:` with the offset of the identifier that is declared, or the number of the rule that the occurrence breaks. A file whose package
+/// has the name `_` has the one line `fault OFFSET K3`, at that name. Bytes that are no file have one line `fault OFFSET RULE`: E3 at 0 for more
+/// than 1,048,576 bytes, of which one more is read at the most; L1 at 0 for no UTF-8; and else the fault of the text.
+///
+/// The report is made before any of it is written, and where the writer fails, what it took is a first part of the report. Reads and writes that
+/// are interrupted are made again. What the reader has beyond 1,048,577 bytes stays in it.
 pub fn run_resolve<R: Read, W: Write>(alloc: Global, reader: &mut R, writer: &mut W) -> ResolveEnd
     ensures end { IfSome (R.remaining reader.old) (λ bytes. IsEnd result (take LIMIT bytes) (W.contents writer.old) (W.contents writer.new)) }
     ensures few { ReadsUpTo LIMIT (R.remaining reader.old) (R.remaining reader.new) }

@@ -1,8 +1,27 @@
-use Rattle.std.proofs.Common.{string_bytes}
-use Rattle.govisd_core.proofs.ReportLemmas.{text_fault_reports}
+use Rattle.std.proofs.Common.{IfOk, length, string_bytes, sym, ap, subst, ◌∙◌, arith}
+use Rattle.govisd_core.specs.Reports.{IsReport, IsText}
+use Rattle.govisd_core.proofs.Putting.{alone_at}
 use Rattle.govisd_core.proofs.run.text_report.Goals as goal
 
-pub returns-in-Err-Fault : goal.returns-in-Err-Fault
-returns-in-Err-Fault c =
-    let answer = rw c.in-Err-Fault.field-0-is at c.in-Err-Fault.ensures.answer in
-    text_fault_reports (string_bytes c.args.text) c.in-Err-Fault.fault c.fault_report.result c.requires answer c.fault_report.ensures.text c.fault_report.ensures.clean
+pub bounds-packages-0 : goal.bounds-packages-0
+bounds-packages-0 c = omega (arith, ap length (c.packages-packages.ensures.packages ∙ c.in_ok-workspace.ensures.alone.is))
+
+pub bounds-files-0 : goal.bounds-files-0
+bounds-files-0 c = omega (arith, ap length c.files-files.ensures.files, c.files-files.ensures.well.some)
+
+pub file_report-report-requires-clause-alone : goal.file_report-report-requires-clause-alone
+file_report-report-requires-clause-alone c =
+    (alone_at (string_bytes c.args.text) c.in_ok-workspace.workspace c.packages-packages.result.now c.index-packages-0.result _ c.files-files.result.now c.index-files-0.result _
+    c.in_ok-workspace.ensures c.packages-packages.ensures.packages c.index-packages-0.is c.files-files.ensures.files c.index-files-0.is).0
+
+pub file_report-report-requires-clause-text : goal.file_report-report-requires-clause-text
+file_report-report-requires-clause-text c =
+    let one = alone_at (string_bytes c.args.text) c.in_ok-workspace.workspace c.packages-packages.result.now c.index-packages-0.result _ c.files-files.result.now c.index-files-0.result _
+    c.in_ok-workspace.ensures c.packages-packages.ensures.packages c.index-packages-0.is c.files-files.ensures.files c.index-files-0.is in
+    subst IsText (sym one.1) c.requires
+
+pub returns : goal.returns
+returns c =
+    let one = alone_at (string_bytes c.args.text) c.in_ok-workspace.workspace c.packages-packages.result.now c.index-packages-0.result _ c.files-files.result.now c.index-files-0.result _
+    c.in_ok-workspace.ensures c.packages-packages.ensures.packages c.index-packages-0.is c.files-files.ensures.files c.index-files-0.is in
+    subst (λ bytes. IfOk c.file_report-report.result (λ r. IsReport bytes r.clean r.text.items)) one.1 c.file_report-report.ensures

@@ -1,0 +1,10 @@
+pub mod Reporting
+pub mod Adding
+pub mod Faulty
+pub mod Putting
+pub mod Telling
+pub mod Searching
+pub mod Finding
+pub mod Rising
+pub mod OneFaults
+pub mod OneSnapshot

@@ -1,0 +1,6 @@
+use Rattle.std.proofs.Common.{◌≡◌, ◌++◌, take}
+use Rattle.go_snap_core.specs.mirrors.Reports.{text_faults}
+use Rattle.go_snap_core.proofs.fault.add_texts.Given as goal
+
+abbrev pub invariant-loop-file : goal.invariant-loop-file
+invariant-loop-file l = l.faults.items ≡ l.fn.faults.items ++ text_faults l.«package» 0 (take l.file l.files)

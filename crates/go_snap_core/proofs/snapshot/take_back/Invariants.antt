@@ -1,0 +1,10 @@
+use Rattle.std.proofs.Common.{◌≡◌, ◌≤◌, ◌+◌, ◌++◌, length}
+use Rattle.std.specs.Prelude.{vec_capacity}
+use Rattle.std.specs.Vec.Iter.{into_iter_items}
+use Rattle.go_snap_core.specs.Snapshots.{somes}
+use Rattle.go_snap_core.proofs.snapshot.take_back.Given as goal
+
+abbrev pub invariant-loop-slot : goal.invariant-loop-slot
+invariant-loop-slot l =
+    (l.parts.items ++ somes (into_iter_items l.slot-iterator) ≡ somes l.fn.slots.items)
+    × (length l.parts.items + length (somes (into_iter_items l.slot-iterator)) ≤ vec_capacity l.parts)

@@ -1,0 +1,74 @@
+-- Snapshots of workspaces.
+--
+-- docs/RULES.md, "Snapshots".
+use Rattle.std.specs.Prelude.{◌≡◌, ℕ, List, [], ◌∷◌, Option, Some, None, map, slice_get, ⊤}
+use Rattle.std.specs.List.{AllZip, flat_map}
+use Rattle.std.specs.List.Sorted.{IsPermutation}
+use Rattle.std.specs.Option.{option_map}
+use Rattle.go_whole_core.specs.graph_core.Imports.{IsNumbered}
+use Rattle.go_whole_core.specs.graph_core.Sources.{SourceModel}
+use Rattle.go_whole_core.specs.graph_core.Workspaces.{PackageModel}
+use Rattle.go_whole_core.specs.ready_core.Packages.{trees_in}
+use Rattle.go_whole_core.specs.used_core.Used.{TheUse}
+use Rattle.go_whole_core.specs.part_core.Parts.{AreFilesMade, ContentOf, FileOf, PartModel}
+use Rattle.go_snap_core.specs.declared.fault.PlacedFault.{PlacedFault}
+use Rattle.go_snap_core.specs.Faults.{AreFaults}
+use Rattle.go_whole_core.specs.Inputs.{AreParts}
+use Rattle.go_whole_core.specs.Entries.{IsPartEntry}
+use Rattle.go_whole_core.specs.Whole.{AreWhole, WholeOf}
+
+abbrev pub contents_of : List (Option PartModel) → List (Option ContentOf)
+contents_of ps = map (option_map (λ (p : PartModel). p.content)) ps
+
+-- those that are there
+abbrev pub if_there : {A : Type 0} → Option A → List A
+if_there None = []
+if_there (Some x) = x ∷ []
+
+abbrev pub somes : {A : Type 0} → List (Option A) → List A
+somes xs = flat_map if_there xs
+
+-- the parts of the assembled packages of a workspace, of each its own, made from the input that this workspace gives it, and of no other: each once, in
+-- any order
+pub record ArePartsOf (ps : List PackageModel) (given : List PartModel) : Type 0 where
+  pub parts : List (Option PartModel)
+  pub are : AreParts ps parts
+  pub same : IsPermutation (somes parts) given
+
+-- each assembled package has the part that all trees give it, made from its input, and these are the faults
+pub record IsSnapshot (ps : List PackageModel) (parts : List (Option PartModel)) (faults : List PlacedFault) : Type 0 where
+  pub made : AreParts ps parts
+  pub whole : List (Option WholeOf)
+  pub is_whole : AreWhole ps whole
+  pub parts_are : AllZip IsPartEntry whole parts
+  pub faults_are : AreFaults ps (contents_of parts) faults
+
+-- a workspace with the parts of its packages, by their numbers, and its faults
+pub record SnapshotModel : Type 0 where
+  pub sources : List PackageModel
+  pub parts : List (Option PartModel)
+  pub faults : List PlacedFault
+
+abbrev pub snapshot_with : List PackageModel → List (Option PartModel) → List PlacedFault → SnapshotModel
+snapshot_with sources parts faults = record { sources = sources; parts = parts; faults = faults }
+
+-- look-ups
+
+-- the package of a path has this part
+pub record IsPartAt (ps : List PackageModel) (parts : List (Option PartModel)) (path : List ℕ) (p : PartModel) : Type 0 where
+  pub number : ℕ
+  pub files : List SourceModel
+  pub numbered : IsNumbered ps path number files
+  pub there : slice_get parts number ≡ Some (Some p)
+
+-- the occurrence of a number in the file of a name in the package of a path has this
+pub record IsAnswerAt (ps : List PackageModel) (parts : List (Option PartModel)) (path name : List ℕ) (n : ℕ) (u : TheUse) : Type 0 where
+  pub of_part : PartModel
+  pub in_workspace : IsPartAt ps parts path of_part
+  pub number : ℕ
+  pub source : SourceModel
+  pub in_package : slice_get of_part.input.source.1 number ≡ Some source
+  pub named : source.name ≡ name
+  pub file : FileOf
+  pub made : slice_get of_part.content.files number ≡ Some file
+  pub answer : slice_get file.answers.uses n ≡ Some u

@@ -1,0 +1,21 @@
+//! Snapshots of whole workspaces: what each occurrence has in each file of each package, and every fault, by what all packages show.
+//!
+//! The Go specification, "Packages", "Import declarations".
+#![tactic(auto)]
+
+mod fault;
+mod inputs;
+mod laws;
+mod making;
+mod snapshot;
+
+pub use fault::PlacedFault;
+pub use inputs::input_of;
+pub use laws::one_snapshot;
+pub use making::compile;
+pub use snapshot::{Snapshot, join};
+
+/// What the crates above name of `go_graph_core`.
+pub mod graph_core {
+    pub use go_whole_core::graph_core::{SourceFile, Workspace};
+}

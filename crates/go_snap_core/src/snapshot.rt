@@ -1,0 +1,253 @@
+//! Snapshots.
+ghost use Rattle.std.specs.Prelude.{◌≡◌, ◌≤◌, ◌+◌, ◌++◌, ℕ, List, [], All, IfErr, IfOk, MatchOption, None, Some, length, replicate, slice_get, slice_set, vec_capacity};
+ghost use Rattle.std.specs.List.Sorted.{IsPermutation, IsStrictlySortedBy};
+ghost use Rattle.std.specs.Map.{keys_of};
+ghost use Rattle.go_whole_core.specs.graph_core.Imports.{IsNowhere, IsNumbered};
+ghost use Rattle.go_whole_core.specs.graph_core.Sources.{SourceModel};
+ghost use Rattle.go_whole_core.specs.graph_core.Workspaces.{IsWorkspace, by_bytes, names_of_files};
+ghost use Rattle.go_whole_core.specs.used_core.Used.{TheUse};
+ghost use Rattle.go_whole_core.specs.part_core.Parts.{PartModel};
+ghost use Rattle.go_whole_core.specs.Inputs.{AreParts};
+ghost use Rattle.go_snap_core.specs.Snapshots.{ArePartsOf, IsAnswerAt, IsPartAt, IsSnapshot, if_there, snapshot_with, somes};
+
+use crate::fault::{PlacedFault, faults_of};
+use go_path_core::ImportPath;
+use go_text_core::add;
+use go_whole_core::answer_core::Answer;
+use go_whole_core::graph_core::{PackageSource, SourceFile, Workspace};
+use go_whole_core::part_core::{Part, PartInput};
+use go_whole_core::parts_are_whole;
+use go_whole_core::tree_core::OccId;
+use std::alloc::{AllocError, Global};
+use std::marker::Model;
+
+/// A workspace with the parts of its assembled packages, and all faults. Contracts see the three, and that they are what the trees of all packages
+/// give.
+#[derive(Drop)]
+pub struct Snapshot {
+    sources: Workspace,
+    /// By the numbers of packages; none where files are not assembled.
+    parts: Vec<Option<Part>>,
+    faults: Vec<PlacedFault>,
+}
+
+impl Model for Snapshot {
+    ghost use Rattle.std.specs.Coded.{codes};
+    ghost use Rattle.go_whole_core.specs.graph_core.Workspaces.{coded_package};
+    ghost use Rattle.go_whole_core.specs.block_core.Blocks.{coded_blocks};
+    ghost use Rattle.go_whole_core.specs.face_core.codes.FaceCodes.{coded_face, coded_operand};
+    ghost use Rattle.go_whole_core.specs.summary_core.codes.SummaryCodes.{coded_summary};
+    ghost use Rattle.go_whole_core.specs.part_core.Inputs.{coded_input};
+    ghost use Rattle.go_snap_core.specs.Snapshots.{IsSnapshot, SnapshotModel, snapshot_with};
+
+    ghost Value = { SnapshotModel };
+
+    ghost coded = { Prim.hlevel (codes, coded_package, coded_input, coded_blocks, coded_face, coded_operand, coded_summary) };
+
+    ghost view = { λ s. snapshot_with s.sources s.parts.items s.faults.items };
+
+    ghost invariant = { λ s. IsSnapshot s.sources s.parts.items s.faults.items };
+}
+
+// The number of the package of a path among packages in byte order of path.
+fn package_of(packages: &[PackageSource], path: &str) -> Option<usize>
+    requires { IsStrictlySortedBy by_bytes (keys_of packages.now) }
+    ensures { MatchOption result (IsNowhere packages.now path.now) (λ number. (files : List SourceModel) × IsNumbered packages.now path.now number files) }
+{
+    packages
+        .binary_search_by(|source| source.path().as_str().cmp(path))
+        .ok()
+}
+
+// The number of the file of a name among files in byte order of name.
+fn file_of(files: &[SourceFile], name: &str) -> Option<usize>
+    requires { IsStrictlySortedBy by_bytes (names_of_files files.now) }
+    ensures { MatchOption result (All (λ f. f.name ≡ name.now → ⊥) files.now) (λ number. (f : SourceModel) × (slice_get files.now number ≡ Some f) × (f.name ≡ name.now)) }
+{
+    files.binary_search_by(|file| file.name().cmp(name)).ok()
+}
+
+// The part of a number, if there is one.
+fn part_at(parts: &[Option<Part>], number: usize) -> Option<&Part>
+    ensures { MatchOption result ((p : PartModel) → ¬ (slice_get parts.now number ≡ Some (Some p))) (λ p. slice_get parts.now number ≡ Some (Some p.now)) }
+{
+    match parts.get(number) {
+        Some(Some(part)) => Some(part),
+        Some(None) => None,
+        None => None,
+    }
+}
+
+impl Snapshot {
+    /// A workspace with the parts of its assembled packages, by the numbers of packages, and with its faults.
+    pub(crate) fn new(
+        sources: Workspace,
+        parts: Vec<Option<Part>>,
+        faults: Vec<PlacedFault>,
+    ) -> Snapshot
+        requires { IsSnapshot sources parts.items faults.items }
+        ensures { result ≡ snapshot_with sources parts.items faults.items }
+    {
+        Snapshot {
+            sources,
+            parts,
+            faults,
+        }
+    }
+
+    /// The workspace that the snapshot is of.
+    pub fn sources(&self) -> &Workspace
+        ensures value { result.now ≡ self.now.sources }
+        ensures whole { IsSnapshot self.now.sources self.now.parts self.now.faults }
+    {
+        &self.sources
+    }
+
+    /// The parts of the packages, by their numbers in byte order of path; none where the files of a package are not assembled.
+    pub fn parts(&self) -> &[Option<Part>]
+        ensures { result.now ≡ self.now.parts }
+    {
+        self.parts.as_slice()
+    }
+
+    // The part of the assembled package of a path, of which no other package is.
+    fn find(&self, path: &ImportPath) -> Option<&Part>
+        ensures well { IsWorkspace self.now.sources }
+        ensures part { MatchOption result ((p : PartModel) → ¬ IsPartAt self.now.sources self.now.parts path.now p) (λ p. IsPartAt self.now.sources self.now.parts path.now p.now) }
+    {
+        let number = package_of(self.sources.packages(), path.as_str())?;
+        part_at(&self.parts, number)
+    }
+
+    /// The part of the assembled package of a path; `None` for any other path.
+    pub fn part(&self, path: &ImportPath) -> Option<&Part>
+        ensures { MatchOption result ((p : PartModel) → ¬ IsPartAt self.now.sources self.now.parts path.now p) (λ p. IsPartAt self.now.sources self.now.parts path.now p.now) }
+    {
+        self.find(path)
+    }
+
+    /// What the part of the assembled package of a path was made from; `None` for any other path.
+    pub fn input(&self, path: &ImportPath) -> Option<&PartInput>
+        ensures { MatchOption result ((p : PartModel) → ¬ IsPartAt self.now.sources self.now.parts path.now p) (λ i. (p : PartModel) → IsPartAt self.now.sources self.now.parts path.now p → i.now ≡ p.input) }
+    {
+        let part = self.find(path)?;
+        Some(part.input())
+    }
+
+    /// What an occurrence has, by its number among those of the file of a name in the package of a path: its declaration, or the first rule that it
+    /// breaks. `None` where there is no such occurrence.
+    ///
+    /// The Go specification, "Declarations and scope", "Qualified identifiers", "Selectors".
+    pub fn outcome(&self, path: &ImportPath, file: &str, occurrence: OccId) -> Option<&Answer>
+        ensures { MatchOption result ((u : TheUse) → ¬ IsAnswerAt self.now.sources self.now.parts path.now file.now occurrence.0 u) (λ answer. IsAnswerAt self.now.sources self.now.parts path.now file.now occurrence.0 answer.now) }
+    {
+        let part = self.find(path)?;
+        let number = file_of(part.input().package().files(), file)?;
+        let made = part.content().files.get(number)?;
+        made.answers.answers.get(occurrence.0)
+    }
+
+    /// All faults: the rules that occurrences break, and those that are broken beside; by package, file, offset, and the bytes of the rule's
+    /// number, each once. Packages and files are known by their numbers in the workspace.
+    pub fn faults(&self) -> &[PlacedFault]
+        ensures { result.now ≡ self.now.faults }
+    {
+        self.faults.as_slice()
+    }
+}
+
+/// None, for so many packages.
+pub(crate) fn no_parts(alloc: Global, count: usize) -> Result<Vec<Option<Part>>, AllocError>
+    ensures { IfOk result (λ parts. parts.items ≡ replicate count None) }
+{
+    let mut parts = Vec::with_capacity(alloc, count)?;
+    for _package in 0..count {
+        add(&mut parts, None)?;
+    }
+    Ok(parts)
+}
+
+/// Puts a part to the number of its package.
+fn put_part(packages: &[PackageSource], part: Part, slots: &mut [Option<Part>])
+    requires well { IsWorkspace packages.now }
+    requires many { length slots.old ≡ length packages.now }
+    ensures many { length slots.new ≡ length slots.old }
+    ensures put { (number : ℕ) (files : List SourceModel) → IsNumbered packages.now part.input.source.0 number files → slots.new ≡ slice_set slots.old number (Some part) }
+{
+    if let Some(number) = package_of(packages, part.path().as_str()) {
+        slots[number] = Some(part);
+    }
+}
+
+/// Puts parts to the numbers of their packages.
+fn put_parts(packages: &[PackageSource], parts: &mut Vec<Part>, slots: &mut [Option<Part>])
+    requires well { IsWorkspace packages.now }
+    requires none { slots.old ≡ replicate (length packages.now) None }
+    requires parts { ArePartsOf packages.now parts.old.items }
+    ensures many { length slots.new ≡ length slots.old }
+    ensures parts { AreParts packages.now slots.new }
+    ensures same { IsPermutation parts.old.items (somes slots.new) }
+    ensures empty { parts.new.items ≡ [] }
+    ensures room { length parts.old.items ≤ vec_capacity parts.new }
+{
+    while let Some(part) = parts.pop() {
+        put_part(packages, part, slots);
+    }
+}
+
+/// Puts a part back, if there is one, into a list that has room for it.
+fn put_back(slot: Option<Part>, parts: &mut Vec<Part>)
+    requires { length parts.old.items + length (if_there slot) ≤ vec_capacity parts.old }
+    ensures parts { parts.new.items ≡ parts.old.items ++ if_there slot }
+    ensures room { vec_capacity parts.old ≤ vec_capacity parts.new }
+{
+    let Some(part) = slot else {
+        return;
+    };
+    match parts.push(part) {
+        Ok(()) => {}
+        // There is room for it.
+        Err(_) => unreachable!(),
+    }
+}
+
+/// Puts parts back into a list that has room for them, in order of path.
+fn take_back(slots: Vec<Option<Part>>, parts: &mut Vec<Part>)
+    requires empty { parts.old.items ≡ [] }
+    requires room { length (somes slots.items) ≤ vec_capacity parts.old }
+    ensures { parts.new.items ≡ somes slots.items }
+{
+    for slot in slots {
+        put_back(slot, parts);
+    }
+}
+
+/// The snapshot of a workspace, of the parts of its assembled packages, each once, in any order: what `compile` gives.
+///
+/// # Errors
+///
+/// The workspace, and the parts in order of path, where memory is wanting.
+pub fn join(
+    alloc: Global,
+    workspace: Workspace,
+    parts: Vec<Part>,
+) -> Result<Snapshot, (Workspace, Vec<Part>)>
+    requires { ArePartsOf workspace parts.items }
+    ensures sources { IfOk result (λ s. s.sources ≡ workspace) }
+    ensures parts { IfOk result (λ s. IsPermutation parts.items (somes s.parts)) }
+    ensures given_back { IfErr result (λ back. (back.0 ≡ workspace) × IsPermutation parts.items back.1.items) }
+{
+    parts_are_whole();
+    let mut parts = parts;
+    let Ok(mut slots) = no_parts(alloc, workspace.packages().len()) else {
+        return Err((workspace, parts));
+    };
+    put_parts(workspace.packages(), &mut parts, &mut slots);
+    match faults_of(alloc, &workspace, &slots) {
+        Ok(faults) => Ok(Snapshot::new(workspace, slots, faults)),
+        Err(AllocError) => {
+            take_back(slots, &mut parts);
+            Err((workspace, parts))
+        }
+    }
+}

@@ -1,0 +1,13 @@
+//! The lines that tell what stands in a file: what each occurrence has, and the faults beside.
+#![tactic(auto)]
+
+mod bytes;
+mod lines;
+mod places;
+
+pub use lines::{fault_line, file_lines};
+
+/// What the crates above name of `go_expr_core`.
+pub mod expr_core {
+    pub use go_answer_core::expr_core::Fault;
+}
