@@ -68,14 +68,20 @@ def peak(words, file):
     return int(ran.stderr.split()[-1]) * 1024
 
 
-def processor(words):
-    """Seconds of the processor of one run, the program's own and the system's for it, and what it writes. A run that fails ends this one."""
+def watched(words):
+    """What the system counts of one run, and what the run writes. A run that fails ends this one."""
     with subprocess.Popen(words, stdout=subprocess.PIPE, stderr=subprocess.DEVNULL) as child:
         said = child.stdout.read().decode()
         _, ended, usage = os.wait4(child.pid, 0)
         child.returncode = os.waitstatus_to_exitcode(ended)
     if child.returncode:
         sys.exit(f"{os.path.basename(sys.argv[0])}: {words[0]} ended with {child.returncode}")
+    return usage, said
+
+
+def processor(words):
+    """Seconds of the processor of one run, the program's own and the system's for it, and what it writes."""
+    usage, said = watched(words)
     return usage.ru_utime + usage.ru_stime, said
 
 

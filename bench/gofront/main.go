@@ -235,7 +235,7 @@ func sources(name string) error {
 }
 
 func run() int {
-	modes := map[string]func(string) error{"sources": sources, "names": names, "check": checkAll}
+	modes := map[string]func(string) error{"sources": sources, "names": names, "check": checkAll, "compile": compileAll}
 	if len(os.Args) == 3 && modes[os.Args[1]] != nil {
 		if err := modes[os.Args[1]](os.Args[2]); err != nil {
 			fmt.Fprintln(os.Stderr, err)

@@ -201,19 +201,32 @@ func hard(errors []oddity) *oddity {
 // compare compares the answer to an archive, package by package.
 func (t *tally) compare(file string, j *judgement, a *answer) {
 	t.add("archives")
+	where := func(at place) string { return file + " " + at.String() }
+	if goList != nil {
+		t.compareList(j, file)
+		for _, from := range j.order {
+			if !j.broken[from] {
+				t.compareImports(j, a, from, hard(j.errors[from]) == nil, where)
+			}
+		}
+		a.without("I7")
+	}
 	for _, from := range j.order {
 		t.add("packages")
 		first := hard(j.errors[from])
 		inPackage := func(at place) bool { return path.Dir(at.file) == from }
-		where := func(at place) string { return file + " " + at.String() }
 		if a.packages[from] == "" {
 			t.note("no answer to a package", file+" "+from)
 			continue
 		}
-		if !strings.HasPrefix(j.form, "changed:") {
+		if j.broken[from] {
+			t.compareBroken(j, a, from, inPackage, where)
+			continue
+		}
+		if !strings.HasPrefix(j.form, "changed:") && !strings.HasPrefix(j.form, "imports:") {
 			t.compareFaults(j, a, inPackage, where)
 		} else if first == nil {
-			t.compareOwn(a, inPackage, where)
+			t.compareOwn(a, j.isAboveRefused(from), inPackage, where)
 		}
 		if !onlyRefusals {
 			t.compareNames(j, a, first == nil, inPackage, where)
@@ -258,7 +271,7 @@ func (t *tally) compareFaults(j *judgement, a *answer, inPackage func(place) boo
 }
 
 // compareOwn tells which rules refuse a changed package that go/types accepts.
-func (t *tally) compareOwn(a *answer, inPackage func(place) bool, where func(place) string) {
+func (t *tally) compareOwn(a *answer, isAbove bool, inPackage func(place) bool, where func(place) string) {
 	var rules []string
 	at := place{}
 	for one, given := range a.refused {
@@ -270,11 +283,23 @@ func (t *tally) compareOwn(a *answer, inPackage func(place) bool, where func(pla
 	sort.Strings(rules)
 	switch {
 	case len(rules) == 0:
+	case isAbove && isOnly(rules, "Y7 S4 C1"):
+		t.named("a name of another package that has no type since it is refused there: "+strings.Join(rules, " "), where(at))
 	case has(rules, "X1") || has(rules, "N7") || has(rules, "C3"):
 		t.named("a changed package that go/types accepts is refused by "+strings.Join(rules, " "), where(at))
 	default:
 		t.note("a changed package that go/types accepts is refused by "+strings.Join(rules, " "), where(at))
 	}
+}
+
+// isOnly tells whether all words are some of these.
+func isOnly(words []string, only string) bool {
+	for _, word := range words {
+		if !has(strings.Fields(only), word) {
+			return false
+		}
+	}
+	return true
 }
 
 func has(words []string, word string) bool {
@@ -424,6 +449,10 @@ func (t *tally) compareFirst(j *judgement, first *oddity, a *answer, inPackage f
 			t.named("an error of go/types about what "+rule+" refuses: "+first.code, file+" "+at.String())
 			return
 		}
+	}
+	if j.isAboveRefused(path.Dir(first.at.file)) {
+		t.named("an error of go/types that follows from what another package refuses: "+first.code, file+" "+first.at.String())
+		return
 	}
 	var near []string
 	for at, given := range a.refused {

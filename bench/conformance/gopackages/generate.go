@@ -51,6 +51,7 @@ type entry struct {
 type fileMade struct {
 	name    string
 	imports []string
+	targets []*made          // what these import
 	quals   map[*made]string // how packages are named: "." where their names stand alone
 	pieces  []string
 }
@@ -68,10 +69,12 @@ type made struct {
 	list   []*entry
 	known  []types.Type
 	member []string
-	types  []*typeMade
-	funcs  []*funcMade
-	wrong  *mistake
-	placed bool
+	// members has what was looked up
+	members map[behind]member
+	types   []*typeMade
+	funcs   []*funcMade
+	wrong   *mistake
+	placed  bool
 }
 
 // A type that is made.
@@ -522,7 +525,7 @@ func (m *made) final(f *fileMade) (string, []string) {
 // makePackage makes a package, with a mistake where one is given.
 func makePackage(r *rand.Rand, path, clause string, names pool, others []*made, wrong *mistake) *made {
 	for try := 0; ; try++ {
-		m := &made{r: r, path: path, clause: clause, names: names, others: others, top: map[string]*entry{}, wrong: wrong}
+		m := &made{r: r, path: path, clause: clause, names: names, others: others, top: map[string]*entry{}, members: map[behind]member{}, wrong: wrong}
 		for _, name := range []string{"a.go", "b.go", "c.go"}[:1+r.Intn(3)] {
 			m.files = append(m.files, m.newFile(name))
 		}
@@ -551,20 +554,27 @@ func makePackage(r *rand.Rand, path, clause string, names pool, others []*made, 
 // newFile makes a file and its imports.
 func (m *made) newFile(name string) *fileMade {
 	f := &fileMade{name: name, quals: map[*made]string{}}
-	for _, other := range m.others {
+	for at, other := range m.others {
+		qualifier := "q"
+		if len(m.others) > 1 {
+			qualifier += letters[at : at+1]
+		}
 		switch n := m.r.Intn(20); {
 		case n < 8:
 			f.imports = append(f.imports, fmt.Sprintf("import %q", other.path))
 			f.quals[other] = other.clause
 		case n < 12:
-			f.imports = append(f.imports, fmt.Sprintf("import (\n\tq %q\n)", other.path))
-			f.quals[other] = "q"
+			f.imports = append(f.imports, fmt.Sprintf("import (\n\t%s %q\n)", qualifier, other.path))
+			f.quals[other] = qualifier
 		case n < 15:
 			f.imports = append(f.imports, fmt.Sprintf("import . \"ex.com/\\x%02x%s\"", other.path[7], other.path[8:]))
 			f.quals[other] = "."
 		case n < 16:
 			f.imports = append(f.imports, fmt.Sprintf("import _ %q", other.path))
+		default:
+			continue
 		}
+		f.targets = append(f.targets, other)
 	}
 	return f
 }

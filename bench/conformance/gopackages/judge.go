@@ -66,6 +66,10 @@ type judgement struct {
 	put      map[place][]string  // the faults that were put in
 	form     string
 	order    []string // the packages by path
+	// refused has the rule of each import that the go command refuses, by its package and path, and broken the packages whose files are none for Go, where a
+	// listing is there.
+	refused map[string]map[string]string
+	broken  map[string]bool
 }
 
 func (j *judgement) place(at token.Pos) place {
@@ -86,7 +90,7 @@ func (j *judgement) Import(from string) (*types.Package, error) {
 		return nil, fmt.Errorf("no package %s", from)
 	}
 	j.checked[from] = nil
-	config := types.Config{Importer: j, Error: func(err error) { j.complain(from, err) }, Sizes: types.SizesFor("gc", "amd64")}
+	config := types.Config{Importer: importer{j, from}, Error: func(err error) { j.complain(from, err) }, Sizes: types.SizesFor("gc", "amd64")}
 	p, _ := config.Check(from, j.fset, trees, j.info)
 	j.checked[from] = p
 	return p, nil
@@ -238,7 +242,7 @@ func (j *judgement) add(where, text string) {
 		j.readNotes(where, text)
 	}
 	file, err := parser.ParseFile(j.fset, where, text, parser.SkipObjectResolution)
-	if err != nil {
+	if err != nil && (goList == nil || !isOfPaths(err)) {
 		j.errors[from] = append(j.errors[from], oddity{code: "parse", text: err.Error(), at: place{where, 0}})
 		return
 	}
@@ -335,8 +339,16 @@ func judge(archive string) *judgement {
 			Selections: map[*ast.SelectorExpr]*types.Selection{}},
 	}
 	j.read(archive)
+	if goList != nil {
+		j.refuseImports()
+	}
 	for from := range j.trees {
 		j.order = append(j.order, from)
+	}
+	for from := range j.broken {
+		if j.trees[from] == nil {
+			j.order = append(j.order, from)
+		}
 	}
 	sort.Strings(j.order)
 	for _, from := range j.order {
@@ -515,8 +527,12 @@ func (j *judgement) writeFake(out io.Writer) {
 		fmt.Fprintf(out, "package %s %s\n", from, path.Base(from))
 		for _, file := range j.filesOf(from) {
 			j.writeFile(out, file)
-			for _, at := range inOrder(j.put, file) {
-				for _, rule := range j.put[at] {
+			faults := j.put
+			if goList != nil {
+				faults = j.assumed(from)
+			}
+			for _, at := range inOrder(faults, file) {
+				for _, rule := range faults[at] {
 					fmt.Fprintf(out, "fault %d %s\n", at.offset, rule)
 				}
 			}

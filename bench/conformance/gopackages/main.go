@@ -4,8 +4,13 @@
 //	gopackages generate FOLDER COUNT SEED    writes COUNT archives of workspaces (the form of txtar), the same bytes for each seed
 //	gopackages table FOLDER                  writes the table of mistakes as a worked archive, table.txt, with the faults in it as comments
 //	gopackages judge FILE..                  what go/types says, in the format of govisd_check, with its errors
-//	gopackages fake FILE..                   an answer in the format of govisd_check: what go/types says of names, and the faults that were put in
-//	gopackages compare [-show N] [-refusals] ANSWERS FILE..    compares the answers of govisd_check to the archives with go/types
+//	gopackages fake [-list LISTING] FILE..   an answer in the format of govisd_check: what go/types says of names, and the faults that were put in
+//	gopackages compare [-show N] [-refusals] [-list LISTING] ANSWERS FILE..    compares the answers of govisd_check to the archives with go/types
+//	gopackages several FOLDER COUNT SEED     writes COUNT archives of workspaces of 2 to 12 packages, the same bytes for each seed
+//	gopackages ask PROGRAM FOLDER FILE..     what `govisd check` answers to these, in the format of govisd_check, each written into the folder
+//	gopackages list GO FOLDER FILE..         what `go list` refuses of these, all of them one module in the folder
+//	gopackages reduce MODULE FOLDER ROOT..   writes the packages below folders as a workspace of a module, without what is outside the grammar
+//	gopackages checked PROGRAM FOLDER MODULE what `govisd check` finds in it
 //
 // The status is 0 where nothing differs but in the ways that are named, 1 where something does, 2 where a run fails.
 package main
@@ -16,7 +21,9 @@ import (
 	"fmt"
 	"os"
 	"path/filepath"
+	"runtime"
 	"strconv"
+	"sync"
 )
 
 // number reads an argument that is a number.
@@ -35,18 +42,29 @@ func fail(err error) {
 }
 
 // generate writes the archives, and how many there are of each form.
-func generate(folder string, count int, seed int64) {
+func generate(folder string, count int, seed int64, make func(seed int64, n int) (string, string)) {
 	if err := os.MkdirAll(folder, 0o777); err != nil {
 		fail(err)
 	}
 	forms := map[string]int{}
-	for n := 0; n < count; n++ {
-		form, text := workspaceText(seed*1000003+int64(n), n)
-		forms[form]++
-		if err := os.WriteFile(filepath.Join(folder, fmt.Sprintf("%05d.txt", n)), []byte(text), 0o666); err != nil {
-			fail(err)
-		}
+	var lock sync.Mutex
+	var workers sync.WaitGroup
+	for first := 0; first < runtime.NumCPU(); first++ {
+		workers.Add(1)
+		go func(first int) {
+			defer workers.Done()
+			for n := first; n < count; n += runtime.NumCPU() {
+				form, text := make(seed*1000003+int64(n), n)
+				if err := os.WriteFile(filepath.Join(folder, fmt.Sprintf("%05d.txt", n)), []byte(text), 0o666); err != nil {
+					fail(err)
+				}
+				lock.Lock()
+				forms[form]++
+				lock.Unlock()
+			}
+		}(first)
 	}
+	workers.Wait()
 	writeCounts(os.Stdout, "form", forms)
 }
 
@@ -69,25 +87,50 @@ func tell(files []string, isFake bool) {
 	}
 }
 
+// tellAll writes on standard output.
+func tellAll(write func(out *bufio.Writer)) {
+	out := bufio.NewWriter(os.Stdout)
+	defer out.Flush()
+	write(out)
+}
+
 func main() {
 	show := flag.Int("show", 40, "how many differences are printed")
+	listed := flag.String("list", "", "what the go command refuses, for workspaces of several packages")
 	flag.BoolVar(&onlyRefusals, "refusals", false, "the answers tell no more than what is refused")
 	if len(os.Args) < 3 {
-		fail(fmt.Errorf("usage: gopackages generate FOLDER COUNT SEED | table FOLDER | judge FILE.. | fake FILE.. | compare ANSWERS FILE.."))
+		fail(fmt.Errorf("usage: gopackages generate FOLDER COUNT SEED | several FOLDER COUNT SEED | table FOLDER | ask PROGRAM FOLDER FILE.. | list GO FOLDER FILE.. | judge FILE.. | fake FILE.. | compare ANSWERS FILE.."))
 	}
 	mode := os.Args[1]
 	flag.CommandLine.Parse(os.Args[2:])
 	words := flag.Args()
 	switch {
 	case mode == "generate" && len(words) == 3:
-		generate(words[0], int(number(words[1])), number(words[2]))
+		generate(words[0], int(number(words[1])), number(words[2]), workspaceText)
+	case mode == "several" && len(words) == 3:
+		localNames = append(localNames, hidden...)
+		generate(words[0], int(number(words[1])), number(words[2]), severalText)
+	case mode == "ask" && len(words) > 2:
+		tellAll(func(out *bufio.Writer) { ask(words[0], words[1], words[2:], out) })
+	case mode == "list" && len(words) > 2:
+		tellAll(func(out *bufio.Writer) { list(words[0], words[1], words[2:], out) })
 	case mode == "table" && len(words) == 1:
 		writeTable(words[0])
 	case mode == "judge":
 		tell(words, false)
 	case mode == "fake":
+		if *listed != "" {
+			goList = readListing(*listed)
+		}
 		tell(words, true)
+	case mode == "reduce" && len(words) > 2:
+		reduceAll(words[0], words[1], words[2:])
+	case mode == "checked" && len(words) == 3:
+		os.Exit(checkReduced(words[0], words[1], words[2]))
 	case mode == "compare" && len(words) > 0:
+		if *listed != "" {
+			goList = readListing(*listed)
+		}
 		os.Exit(compareAll(words[0], words[1:], *show))
 	default:
 		fail(fmt.Errorf("no such mode: %s", mode))

@@ -165,55 +165,61 @@ func isInGrammar(text string) bool {
 	}
 	isRight := true
 	ast.Inspect(file, func(n ast.Node) bool {
-		switch n := n.(type) {
-		case *ast.AssignStmt:
-			if n.Tok == token.DEFINE {
-				for _, left := range n.Lhs {
-					_, isIdent := left.(*ast.Ident)
-					isRight = isRight && isIdent
-				}
-			}
-		case *ast.ForStmt:
-			if post, ok := n.Post.(*ast.AssignStmt); ok && post.Tok == token.DEFINE {
-				isRight = false
-			}
-		case *ast.ValueSpec:
-			isRight = isRight && (n.Type != nil || len(n.Values) > 0)
-		case *ast.GenDecl:
-			for _, spec := range n.Specs {
-				if value, ok := spec.(*ast.ValueSpec); ok && n.Tok == token.CONST && len(value.Values) == 0 {
-					isRight = false
-				}
-			}
-		case *ast.TypeSpec:
-			isRight = isRight && !n.Assign.IsValid()
-		case *ast.FuncDecl:
-			isRight = isRight && n.Body != nil && isReceiver(n.Recv)
-		case *ast.KeyValueExpr:
-			_, isIdent := n.Key.(*ast.Ident)
-			isRight = isRight && isIdent
-		case *ast.InterfaceType:
-			for _, method := range n.Methods.List {
-				isRight = isRight && len(method.Names) == 1
-			}
-		case *ast.StructType:
-			for _, field := range n.Fields.List {
-				isRight = isRight && (len(field.Names) > 0 || isStarred(field.Type))
-			}
-		case *ast.CompositeLit:
-			isRight = isRight && isLiteralType(n.Type)
-		case *ast.ArrayType, *ast.MapType, *ast.ChanType, *ast.FuncLit, *ast.IndexExpr, *ast.SliceExpr, *ast.TypeAssertExpr, *ast.RangeStmt, *ast.LabeledStmt, *ast.Ellipsis, *ast.SendStmt, *ast.IndexListExpr:
-			isRight = false
-		case *ast.CallExpr:
-			isRight = isRight && isCallee(n.Fun)
-		case *ast.BranchStmt:
-			isRight = isRight && n.Label == nil
-		case *ast.FuncType:
-			isRight = isRight && n.TypeParams == nil
-		case *ast.StarExpr:
-		}
+		isRight = isRight && isNodeInGrammar(n)
 		return isRight
 	})
+	return isRight
+}
+
+// isNodeInGrammar tells whether a node is of the grammar, but for what stands in it.
+func isNodeInGrammar(n ast.Node) bool {
+	isRight := true
+	switch n := n.(type) {
+	case *ast.AssignStmt:
+		if n.Tok == token.DEFINE {
+			for _, left := range n.Lhs {
+				_, isIdent := left.(*ast.Ident)
+				isRight = isRight && isIdent
+			}
+		}
+	case *ast.ForStmt:
+		if post, ok := n.Post.(*ast.AssignStmt); ok && post.Tok == token.DEFINE {
+			isRight = false
+		}
+	case *ast.ValueSpec:
+		isRight = isRight && (n.Type != nil || len(n.Values) > 0)
+	case *ast.GenDecl:
+		for _, spec := range n.Specs {
+			if value, ok := spec.(*ast.ValueSpec); ok && n.Tok == token.CONST && len(value.Values) == 0 {
+				isRight = false
+			}
+		}
+	case *ast.TypeSpec:
+		isRight = isRight && !n.Assign.IsValid()
+	case *ast.FuncDecl:
+		isRight = isRight && n.Body != nil && isReceiver(n.Recv)
+	case *ast.KeyValueExpr:
+		_, isIdent := n.Key.(*ast.Ident)
+		isRight = isRight && isIdent
+	case *ast.InterfaceType:
+		for _, method := range n.Methods.List {
+			isRight = isRight && len(method.Names) == 1
+		}
+	case *ast.StructType:
+		for _, field := range n.Fields.List {
+			isRight = isRight && (len(field.Names) > 0 || isStarred(field.Type))
+		}
+	case *ast.CompositeLit:
+		isRight = isRight && isLiteralType(n.Type)
+	case *ast.ArrayType, *ast.MapType, *ast.ChanType, *ast.FuncLit, *ast.IndexExpr, *ast.SliceExpr, *ast.TypeAssertExpr, *ast.RangeStmt, *ast.LabeledStmt, *ast.Ellipsis, *ast.SendStmt, *ast.IndexListExpr:
+		isRight = false
+	case *ast.CallExpr:
+		isRight = isRight && isCallee(n.Fun)
+	case *ast.BranchStmt:
+		isRight = isRight && n.Label == nil
+	case *ast.FuncType:
+		isRight = isRight && n.TypeParams == nil
+	}
 	return isRight
 }
 

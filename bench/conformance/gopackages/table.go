@@ -11,9 +11,13 @@ type form struct {
 // The words of anchors: `at` and `start` are the places that go/types gives; `call` the opening parenthesis of a call round it, `callee` the first byte of one;
 // `statement`, `spec`, `binary`, `unary`, `literal`, `element` the first byte of a node of that kind round it, `value` the first value of a specification; `field` the
 // last identifier of an embedded field, `base` the name of a receiver's type, `func` the name of a function, `selector` the name behind a dot, `import` the string of an
-// import; `inner` the place behind parentheses that open where it stands, `starred` the last identifier of a name behind a star, `near` any place in the same statement or specification, `package` any place in the package.
+// import; `inner` the place behind parentheses that open where it stands, `starred` the last identifier of a name behind a star, `near` any place in the same statement or specification, `file` any place in the file, `package` any place in the package.
 var table = map[string][]form{
+	"parse":                    {{"P1", "file"}, {"P2", "file"}, {"L1", "file"}, {"L2", "file"}, {"L3", "file"}},
+	"BlankPkgName":             {{"K3", "file"}},
+	"MismatchedPkgName":        {{"K2", "file"}, {"K3", "package"}},
 	"InvalidPkgUse":            {{"N4", "at"}, {"N6", "at"}},
+	"BadImportPath":            {{"I1", "at"}},
 	"BrokenImport":             {{"I1", "at"}, {"I2", "at"}, {"I3", "at"}, {"I4", "at"}, {"I5", "at"}, {"I6", "at"}},
 	"InvalidInitCycle":         {{"Y7", "at"}},
 	"DuplicateDecl":            {{"B1", "at import"}, {"B5", "at field"}, {"B2", "package"}},
@@ -132,6 +136,10 @@ func (f form) stands(odd *oddity, at place) bool {
 		switch anchor {
 		case "package":
 			return true
+		case "file":
+			if at.file == odd.at.file {
+				return true
+			}
 		case "at":
 			if at == odd.at {
 				return true

@@ -585,14 +585,37 @@ func (g *gen) throughMember(t types.Type, d int) (ex, bool) {
 	return ex{}, false
 }
 
+// A behind is a name behind an operand of a type.
+type behind struct {
+	typ  types.Type
+	addr bool
+	name string
+}
+
+// A member is what stands behind an operand, and whether the way to it passes a pointer.
+type member struct {
+	object   types.Object
+	indirect bool
+}
+
+// lookUp finds what a name denotes behind an operand, once.
+func (m *made) lookUp(one behind) member {
+	found, ok := m.members[one]
+	if !ok {
+		found.object, _, found.indirect = types.LookupFieldOrMethod(one.typ, one.addr, m.pkg, one.name)
+		m.members[one] = found
+	}
+	return found
+}
+
 // selectMember chooses a field, or calls a method with one result, behind an operand.
 func (g *gen) selectMember(e ex, d int, fits func(types.Type) bool) (ex, bool) {
 	for _, name := range g.some(g.member, len(g.member)) {
-		object, _, indirect := types.LookupFieldOrMethod(e.typ, e.addr, g.pkg, name)
-		switch object := object.(type) {
+		found := g.lookUp(behind{e.typ, e.addr, name})
+		switch object := found.object.(type) {
 		case *types.Var:
 			if fits(object.Type()) && name != "_" {
-				return ex{text: e.in(7) + "." + name, typ: object.Type(), addr: e.addr || indirect, prec: 7}, true
+				return ex{text: e.in(7) + "." + name, typ: object.Type(), addr: e.addr || found.indirect, prec: 7}, true
 			}
 		case *types.Func:
 			results := object.Type().(*types.Signature).Results()

@@ -1,16 +1,16 @@
 -- What clap makes of words that are no flags.
-use Rattle.std.proofs.Common.{◌≡◌, ◌∙◌, ◌&&◌, ℕ, Bool, true, false, not, List, [], ◌∷◌, get_or, Some, None, refl, ap, ap₂}
+use Rattle.std.proofs.Common.{◌≡◌, ◌∙◌, ◌&&◌, ℕ, Bool, true, false, not, List, [], ◌∷◌, get_or, fold, Some, None, refl, ap, ap₂}
 use Rattle.std.specs.Prelude.{◌==◌, codes, if◌then◌else◌, option_and_then}
 use Rattle.std.specs.Option.{option_map_or}
 use Rattle.std.specs.Str.{bytes_eq}
 use Rattle.clap.specs.Lexer.{long_of, long_of_rest, short_of, short_of_rest, strip_byte}
-use Rattle.clap.specs.Walk.{Held, Names, Rule, Step, Text, Walk, after_step, arg_by_index, first_of, finished, idle, long_or_other, nothing_held, settled, short_or_plain, subcommand_met, subcommand_or_other, to_positional, trailing, value, walked, word_met}
+use Rattle.clap.specs.Walk.{Held, Names, Rule, Step, Text, Walk, after_step, arg_by_index, first_of, finished, idle, long_or_other, nothing_held, option, plain_word, settled, short_or_plain, subcommand_met, subcommand_or_other, to_positional, trailing, value, walked, word_met}
 use Rattle.clap.specs.Simple.{Shape, built}
 use Rattle.clap.specs.Kinds.{Kinds, or_else}
 use Rattle.clap.specs.Faults.{bundle_fault, check_fault, defaults_fault, flag_word_fault, level_fault, other_fault, settle_fault, step_fault, turn_fault, walk_fault, word_fault}
 use Rattle.clap.specs.declared.error.kind.ErrorKind.TheVariants as kind
 use Rattle.clap.proofs.OnLiterals.{clap_on_literals}
-use Rattle.govisd.specs.Asking.{ToExplain, ToHelp, explain_app, govisd_app, is_plain, line, named, refusals}
+use Rattle.govisd.specs.Asking.{ToCheck, ToExplain, ToHelp, explain_app, govisd_app, is_plain, line, named, order_in, refusals}
 
 not_true : (t : Bool) → not t ≡ true → t ≡ false
 not_true true h = absurd (cc)
@@ -71,6 +71,49 @@ unfolding walked walk_fault
 one_word s word plain =
     ap₂ (λ f (w : Walk). or_else (or_else f []) (at_end s w.held)) (turned s [] 1 word nothing_held refl plain) (passed s.rules [] 1 word nothing_held refl plain)
 
+-- a command with one such word, and others behind it
+word_then : (s : Shape) (word : Text) (rest : List Text) → is_plain word ≡ true → level_fault s [] nothing_held (word ∷ rest) false [] ≡ or_else (or_else (step_fault s 1 nothing_held value) (walk_fault s [] (behind s word) rest)) (at_end s (fold (walked s.rules []) (behind s word) rest).held)
+unfolding walked walk_fault
+word_then s word rest plain =
+    ap₂ (λ f (w : Walk). or_else (or_else f (walk_fault s [] w rest)) (at_end s (fold (walked s.rules []) w rest).held)) (turned s [] 1 word nothing_held refl plain) (passed s.rules [] 1 word nothing_held refl plain)
+
+-- the walk stands at a position, and an option waits for a value
+abbrev waits : Text → ℕ → Held → Walk
+waits id position h = record { held = h; waiting = option id; position = position; is_trailing = false; stopped = None }
+
+-- such a word is the option's value
+value_met : (c : List Rule) (names : Names) (id : Text) (position : ℕ) (word : Text) (h : Held) → is_plain word ≡ true → word_met c names false (option id) position word h ≡ plain_word c (option id) word h
+value_met c names id position word h plain =
+    ap (λ t. if t then (h, trailing position) else long_or_other c (option id) word (long_of word) h) (not_dashes word plain)
+    ∙ ap (λ o. long_or_other c (option id) word o h) (not_long word plain)
+    ∙ ap (λ o. short_or_plain c (option id) word o h) (not_short word plain)
+
+-- and by itself it is not refused
+no_value_fault : (s : Shape) (names : Names) (id word : Text) (h : Held) → is_plain word ≡ true → word_fault s names false (option id) word h ≡ []
+no_value_fault s names id word h plain =
+    ap (λ t. if t then [] else flag_word_fault s.rules s.args_override_self (long_of word) word h) (not_dashes word plain)
+    ∙ ap (λ o. flag_word_fault s.rules s.args_override_self o word h) (not_long word plain)
+    ∙ ap (λ o. option_map_or (λ flags. bundle_fault s.rules s.args_override_self flags h) o []) (not_short word plain)
+
+value_turned : (s : Shape) (names : Names) (id : Text) (position : ℕ) (h : Held) (word : Text) → is_plain word ≡ true → turn_fault s names (waits id position h) word ≡ []
+value_turned s names id position h word plain =
+    ap₂ (λ f (m : Held × Step). or_else f (step_fault s position m.0 m.1)) (no_value_fault s names id word h plain) (value_met s.rules names id position word h plain)
+
+-- where the walk stands behind the value
+abbrev behind_value : Shape → Text → ℕ → Held → Text → Walk
+behind_value s id position h word =
+    after_step s.rules word (waits id position h) (plain_word s.rules (option id) word h).0 (plain_word s.rules (option id) word h).1
+
+value_passed : (s : Shape) (names : Names) (id : Text) (position : ℕ) (h : Held) (word : Text) → is_plain word ≡ true → walked s.rules names (waits id position h) word ≡ behind_value s id position h word
+unfolding walked
+value_passed s names id position h word plain = ap (λ (m : Held × Step). after_step s.rules word (waits id position h) m.0 m.1) (value_met s.rules names id position word h plain)
+
+-- the last word is such a value
+value_last : (s : Shape) (id : Text) (position : ℕ) (h : Held) (word : Text) → is_plain word ≡ true → or_else (walk_fault s [] (waits id position h) (word ∷ [])) (at_end s (walked s.rules [] (waits id position h) word).held) ≡ at_end s (behind_value s id position h word).held
+unfolding walked walk_fault
+value_last s id position h word plain =
+    ap₂ (λ f (w : Walk). or_else (or_else f []) (at_end s w.held)) (value_turned s [] id position h word plain) (value_passed s [] id position h word plain)
+
 -- a subcommand as it is built
 abbrev sub : ℕ → Shape
 sub i = get_or (built govisd_app).subs i explain_app.top
@@ -84,14 +127,47 @@ unfolding clap_on_literals
 explain_word_named program word plain =
     ap (λ (w : Walk). ToExplain (first_of (codes "rule") (finished (sub 1).rules w.held))) (passed (sub 1).rules [] 1 word nothing_held refl plain)
 
+pub check_folder : (program folder : Text) → is_plain folder ≡ true → refusals (line program (codes "check" ∷ (folder ∷ []))) ≡ []
+unfolding clap_on_literals
+check_folder program folder plain = ap (λ k. or_else k []) (one_word (sub 2) folder plain)
+
+pub check_folder_named : (program folder : Text) → is_plain folder ≡ true → named (line program (codes "check" ∷ (folder ∷ []))) ≡ ToCheck folder None false
+unfolding clap_on_literals
+check_folder_named program folder plain =
+    ap (λ (w : Walk). order_in (finished (sub 2).rules w.held)) (passed (sub 2).rules [] 1 folder nothing_held refl plain)
+
+pub check_json : (program folder : Text) → is_plain folder ≡ true → refusals (line program (codes "check" ∷ (folder ∷ (codes "--json" ∷ [])))) ≡ []
+unfolding clap_on_literals
+check_json program folder plain = ap (λ k. or_else k []) (word_then (sub 2) folder (codes "--json" ∷ []) plain)
+
+pub check_json_named : (program folder : Text) → is_plain folder ≡ true → named (line program (codes "check" ∷ (folder ∷ (codes "--json" ∷ [])))) ≡ ToCheck folder None true
+unfolding clap_on_literals
+check_json_named program folder plain =
+    ap (λ (w : Walk). order_in (finished (sub 2).rules (walked (sub 2).rules [] w (codes "--json")).held)) (passed (sub 2).rules [] 1 folder nothing_held refl plain)
+
+-- what is held where the path of a module is waited for
+abbrev held_behind : Text → Held
+held_behind folder = (walked (sub 2).rules [] (behind (sub 2) folder) (codes "--module")).held
+
+pub check_module : (program folder path : Text) → is_plain folder ≡ true → is_plain path ≡ true → refusals (line program (codes "check" ∷ (folder ∷ (codes "--module" ∷ (path ∷ []))))) ≡ []
+unfolding clap_on_literals
+check_module program folder path plain plain' =
+    ap (λ k. or_else k []) (word_then (sub 2) folder (codes "--module" ∷ (path ∷ [])) plain ∙ value_last (sub 2) (codes "module") 2 (held_behind folder) path plain')
+
+pub check_module_named : (program folder path : Text) → is_plain folder ≡ true → is_plain path ≡ true → named (line program (codes "check" ∷ (folder ∷ (codes "--module" ∷ (path ∷ []))))) ≡ ToCheck folder (Some path) false
+unfolding clap_on_literals
+check_module_named program folder path plain plain' =
+    ap (λ (w : Walk). order_in (finished (sub 2).rules (walked (sub 2).rules [] (walked (sub 2).rules [] w (codes "--module")) path).held)) (passed (sub 2).rules [] 1 folder nothing_held refl plain)
+    ∙ ap (λ (w : Walk). order_in (finished (sub 2).rules w.held)) (value_passed (sub 2) [] (codes "module") 2 (held_behind folder) path plain')
+
 pub help_word : (program word : Text) → is_plain word ≡ true → refusals (line program (codes "help" ∷ (word ∷ []))) ≡ []
 unfolding clap_on_literals
-help_word program word plain = ap (λ k. or_else k []) (one_word (sub 2) word plain)
+help_word program word plain = ap (λ k. or_else k []) (one_word (sub 3) word plain)
 
 pub help_word_named : (program word : Text) → is_plain word ≡ true → named (line program (codes "help" ∷ (word ∷ []))) ≡ ToHelp (Some word)
 unfolding clap_on_literals
 help_word_named program word plain =
-    ap (λ (w : Walk). ToHelp (first_of (codes "command") (finished (sub 2).rules w.held))) (passed (sub 2).rules [] 1 word nothing_held refl plain)
+    ap (λ (w : Walk). ToHelp (first_of (codes "command") (finished (sub 3).rules w.held))) (passed (sub 3).rules [] 1 word nothing_held refl plain)
 
 pub resolve_word : (program word : Text) → is_plain word ≡ true → refusals (line program (codes "resolve" ∷ (word ∷ []))) ≡ kind.UnknownArgument ∷ []
 unfolding clap_on_literals

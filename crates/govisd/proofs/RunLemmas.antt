@@ -1,6 +1,6 @@
 -- What runs for one form of the words do.
-use Rattle.std.proofs.Common.{◌≡◌, ◌∙◌, ◌⊎◌, inl, inr, ℕ, true, List, [], ◌∷◌, Option, Some, None, Result, Ok, Err, refl, subst}
-use Rattle.std.specs.Prelude.{codes}
+use Rattle.std.proofs.Common.{◌≡◌, ◌∙◌, ◌⊎◌, inl, inr, ℕ, Bool, true, false, List, [], ◌∷◌, Option, Some, None, Result, Ok, Err, refl, subst}
+use Rattle.std.specs.Prelude.{codes, option_map}
 use Rattle.std.specs.Io.KnownBytes.{Keeps}
 use Rattle.clap.specs.Walk.{Text}
 use Rattle.clap.specs.Kinds.{IsAmong}
@@ -16,11 +16,11 @@ use Rattle.go_explain_core.proofs.Everywhere.{everywhere}
 use Rattle.go_explain_core.proofs.Numbers.{names_each}
 use Rattle.govisd.specs.declared.program.Ran.{Ran}
 use Rattle.govisd.specs.declared.words.Request.{Request}
-use Rattle.govisd.specs.declared.words.Request.TheVariants.{Resolve, Explain, Help, Version}
-use Rattle.govisd.specs.Asking.{Asks, ToExplain, ToHelp, is_plain, line, named as asked_by, refusals, said}
-use Rattle.govisd.specs.Runs.{Does, Explains, ExplainsEach, ExplainsFound, Helps, HelpsEach, HelpsFound, ListsAll, Refuses, RefusesName, RefusesOtherCommands, RefusesOthers, Runs, RunsOut, ShowsOrRunsOut}
+use Rattle.govisd.specs.declared.words.Request.TheVariants.{Resolve, Explain, Check, Help, Version}
+use Rattle.govisd.specs.Asking.{Asks, ToCheck, ToExplain, ToHelp, is_plain, line, named as asked_by, refusals, said}
+use Rattle.govisd.specs.Runs.{ChecksEach, ChecksFolder, Does, Explains, ExplainsEach, ExplainsFound, Helps, HelpsEach, HelpsFound, ListsAll, Refuses, RefusesName, RefusesOtherCommands, RefusesOthers, Runs, RunsOut, ShowsOrRunsOut}
 use Rattle.govisd.specs.Texts.{help_of, unknown_command_text}
-use Rattle.govisd.proofs.PlainWords.{explain_word, explain_word_named, help_word, help_word_named}
+use Rattle.govisd.proofs.PlainWords.{check_folder, check_folder_named, explain_word, explain_word_named, help_word, help_word_named}
 
 -- words that are not refused ask for what they name
 asked : (words : List Text) (request : Request) → refusals words ≡ [] → Asks words (Ok request) → said request ≡ asked_by words
@@ -39,19 +39,35 @@ same_rule a b e = cc
 same_topic : (a b : Option Text) → ToHelp a ≡ ToHelp b → a ≡ b
 same_topic a b e = cc
 
+same_path : (a b : Text) (p q : Option Text) (i j : Bool) → ToCheck a p i ≡ ToCheck b q j → p ≡ q
+same_path a b p q i j e = cc
+
+same_form : (a b : Text) (p q : Option Text) (i j : Bool) → ToCheck a p i ≡ ToCheck b q j → i ≡ j
+same_form a b p q i j e = cc
+
 -- one run
 module _ (ran : Ran) (given left out out' err err' : Option (List ℕ)) where
   explains : (request : Request) (word : Option Text) → said request ≡ ToExplain word → Does (Ok request) ran given left out out' err err' → Explains word ran out out' err err' × Keeps given left
   explains Resolve word is h = absurd (cc)
   explains (Explain rule) word is h = (subst (λ w. Explains w ran out out' err err') (same_rule _ word is) h.0, h.1)
+  explains (Check order) word is h = absurd (cc)
   explains (Help topic) word is h = absurd (cc)
   explains Version word is h = absurd (cc)
 
   helps : (request : Request) (word : Option Text) → said request ≡ ToHelp word → Does (Ok request) ran given left out out' err err' → Helps word ran out out' err err' × Keeps given left
   helps Resolve word is h = absurd (cc)
   helps (Explain rule) word is h = absurd (cc)
+  helps (Check order) word is h = absurd (cc)
   helps (Help topic) word is h = (subst (λ w. Helps w ran out out' err err') (same_topic _ word is) h.0, h.1)
   helps Version word is h = absurd (cc)
+
+  checks : (request : Request) (folder : Text) (path : Option Text) (json : Bool) → said request ≡ ToCheck folder path json → Does (Ok request) ran given left out out' err err' → ChecksFolder json path ran out out' err err' × Keeps given left
+  checks Resolve folder path json is h = absurd (cc)
+  checks (Explain rule) folder path json is h = absurd (cc)
+  checks (Check order) folder path json is h =
+      (subst (λ p. ChecksFolder json p ran out out' err err') (same_path _ folder _ path _ json is) (subst (λ j. ChecksFolder j (option_map (λ word. word.now) order.module_path) ran out out' err err') (same_form _ folder _ path _ json is) h.0), h.1)
+  checks (Help topic) folder path json is h = absurd (cc)
+  checks Version folder path json is h = absurd (cc)
 
   ran_out : (e : Error) → kind_of e ≡ kind.OutOfMemory → Refuses (kind_of e) ran err err' → RunsOut ran err err'
   ran_out e is h =
@@ -73,6 +89,13 @@ module _ (ran : Ran) (given left out out' err err' : Option (List ℕ)) where
 
   helped : (words : List Text) (word : Option Text) → refusals words ≡ [] → asked_by words ≡ ToHelp word → Runs words ran given left out out' err err' → (Helps word ran out out' err err' ⊎ (RunsOut ran err err' × Keeps out out')) × Keeps given left
   helped words word none is r = done words (Helps word ran out out' err err') (λ request asks did. helps request word (asks ∙ is) did) none r
+
+  checked : (words : List Text) (folder : Text) (path : Option Text) (json : Bool) → refusals words ≡ [] → asked_by words ≡ ToCheck folder path json → Runs words ran given left out out' err err' → (ChecksFolder json path ran out out' err err' ⊎ (RunsOut ran err err' × Keeps out out')) × Keeps given left
+  checked words folder path json none is r = done words (ChecksFolder json path ran out out' err err') (λ request asks did. checks request folder path json (asks ∙ is) did) none r
+
+  answered : (path : Option Text) (json : Bool) → ChecksFolder json path ran out out' err err' ⊎ (RunsOut ran err err' × Keeps out out') → ChecksFolder json path ran out out' err err'
+  answered path json (inl h) = h
+  answered path json (inr h) = inr h
 
   found : (word : Text) (rule : Rule) → named word ≡ Some rule → Explains (Some word) ran out out' err err' ⊎ (RunsOut ran err err' × Keeps out out') → ShowsOrRunsOut (explained_text rule) ran out out' err err'
   found word rule is (inl h) = subst (λ f. ExplainsFound word f ran out out' err err') is h
@@ -120,6 +143,11 @@ pub all_rules : ListsAll
 all_rules program ran given left out out' err err' r =
     let h = explained ran given left out out' err err' (line program (codes "explain" ∷ [])) None (alone program) (alone_named program) r in
     (whole ran given left out out' err err' h.0, h.1)
+
+pub each_folder : ChecksEach
+each_folder program folder plain ran given left out out' err err' r =
+    let h = checked ran given left out out' err err' (line program (codes "check" ∷ (folder ∷ []))) folder None false (check_folder program folder plain) (check_folder_named program folder plain) r in
+    (answered ran given left out out' err err' None false h.0, h.1)
 
 pub each_command : HelpsEach
 each_command program name text plain is ran given left out out' err err' r =

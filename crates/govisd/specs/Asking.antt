@@ -1,35 +1,56 @@
 -- What the words of a command line ask for. How words are read is `clap`'s to say (its `specs/Faults.antt`): what it
 -- refuses them for, and which subcommand they name with what behind it.
-use Rattle.std.specs.Prelude.{◌≡◌, ◌≢◌, ◌⊎◌, ◌==◌, ◌||◌, Bool, true, not, List, [], ◌∷◌, Option, Some, None, Result, Ok, Err, codes, option_and_then, option_map, slice_get, if◌then◌else◌}
+use Rattle.std.specs.Prelude.{◌≡◌, ◌≢◌, ◌⊎◌, ◌==◌, ◌||◌, Bool, true, false, not, List, [], ◌∷◌, Option, Some, None, Result, Ok, Err, codes, option_and_then, option_map, slice_get, nat_lt, unwrap_or, if◌then◌else◌}
 use Rattle.std.specs.Str.{bytes_eq}
 use Rattle.std.specs.Option.{option_map_or}
-use Rattle.clap.specs.Walk.{Row, Text, first_of}
+use Rattle.clap.specs.Walk.{Row, Rule, Text, count_of, first_of}
 use Rattle.clap.specs.Simple.{App, Shape, new_app, new_rule, new_shape, subcommand_of, with_rule, with_subcommand}
 use Rattle.clap.specs.Faults.{fault_of}
 use Rattle.clap.specs.Kinds.{Kinds, IsAmong}
 use Rattle.clap.specs.Values.{kind_of}
+use Rattle.clap.specs.declared.builder.action.ArgAction.TheVariants.{Count}
 use Rattle.clap.specs.declared.error.Error.{Error}
 use Rattle.clap.specs.declared.error.kind.ErrorKind.TheVariants as kind
+use Rattle.govisd_folders.specs.declared.checking.Order.{Order}
 use Rattle.govisd.specs.declared.words.Request.{Request}
-use Rattle.govisd.specs.declared.words.Request.TheVariants.{Resolve, Explain, Help, Version}
+use Rattle.govisd.specs.declared.words.Request.TheVariants.{Resolve, Explain, Check, Help, Version}
 
 -- what is asked for
 pub data Asked : Type 0 where
   ToResolve : Asked
   ToExplain : (rule : Option Text) → Asked
+  ToCheck : (folder : Text) (path : Option Text) (json : Bool) → Asked
   ToHelp : (topic : Option Text) → Asked
   ToTellVersion : Asked
+
+-- the check that an order is of
+abbrev pub said_order : Order → Asked
+said_order order = ToCheck order.folder.now (option_map (λ word. word.now) order.module_path) order.json
 
 -- what a request asks for
 abbrev pub said : Request → Asked
 said Resolve = ToResolve
 said (Explain rule) = ToExplain (option_map (λ word. word.now) rule)
+said (Check order) = said_order order
 said (Help topic) = ToHelp (option_map (λ word. word.now) topic)
 said Version = ToTellVersion
 
 -- `explain`, and behind it maybe a rule
 abbrev pub explain_app : App
 explain_app = with_rule (new_app (codes "explain")) (new_rule (codes "rule"))
+
+-- `check`, behind it a folder, and among these maybe the path of its module, and whether JSON is wanted
+abbrev pub folder_rule : Rule
+folder_rule = record (new_rule (codes "folder")) { required = true }
+
+abbrev pub module_rule : Rule
+module_rule = record (new_rule (codes "module")) { long = Some (codes "module") }
+
+abbrev pub json_rule : Rule
+json_rule = record (new_rule (codes "json")) { long = Some (codes "json"); action = Some Count }
+
+abbrev pub check_app : App
+check_app = with_rule (with_rule (with_rule (new_app (codes "check")) folder_rule) module_rule) json_rule
 
 -- `help`, and behind it maybe a command
 abbrev pub help_app : App
@@ -41,17 +62,22 @@ govisd_shape = record (new_shape (codes "govisd")) { has_version = true; subcomm
 
 abbrev pub govisd_app : App
 govisd_app =
-    with_subcommand (with_subcommand (with_subcommand (record { top = govisd_shape; subs = [] }) (new_shape (codes "resolve"))) explain_app.top) help_app.top
+    with_subcommand (with_subcommand (with_subcommand (with_subcommand (record { top = govisd_shape; subs = [] }) (new_shape (codes "resolve"))) explain_app.top) check_app.top) help_app.top
 
 -- why the words are refused, and nothing where they are not
 abbrev pub refusals : List Text → Kinds
 refusals words = fault_of govisd_app words
 
+-- the check that stands behind the command
+abbrev pub order_in : List Row → Asked
+order_in rows = ToCheck (unwrap_or (first_of (codes "folder") rows) (codes ".")) (first_of (codes "module") rows) (nat_lt 0 (count_of (codes "json") rows))
+
 -- what a subcommand asks for, by its name and what stands behind it
 abbrev pub asked_in : Text × List Row → Asked
 asked_in (name, rows) =
     if bytes_eq name (codes "explain") then ToExplain (first_of (codes "rule") rows)
-    else (if bytes_eq name (codes "help") then ToHelp (first_of (codes "command") rows) else ToResolve)
+    else (if bytes_eq name (codes "check") then order_in rows
+    else (if bytes_eq name (codes "help") then ToHelp (first_of (codes "command") rows) else ToResolve))
 
 -- what the subcommand asks for that the words name
 abbrev pub named : List Text → Asked
@@ -59,7 +85,7 @@ named words = option_map_or asked_in (subcommand_of govisd_app words) (ToHelp No
 
 -- a command has this name
 abbrev pub names_command : Text → Bool
-names_command word = bytes_eq word (codes "resolve") || (bytes_eq word (codes "explain") || bytes_eq word (codes "help"))
+names_command word = bytes_eq word (codes "resolve") || (bytes_eq word (codes "check") || (bytes_eq word (codes "explain") || bytes_eq word (codes "help")))
 
 abbrev pub if_command : Text → Option Text
 if_command word = if names_command word then Some word else None
@@ -97,6 +123,13 @@ pub record AskAs (program : Text) : Type 0 where
   pub help_named : named (line program (codes "help" ∷ [])) ≡ ToHelp None
   pub help_word : (word : Text) → is_plain word ≡ true → refusals (line program (codes "help" ∷ (word ∷ []))) ≡ []
   pub help_word_named : (word : Text) → is_plain word ≡ true → named (line program (codes "help" ∷ (word ∷ []))) ≡ ToHelp (Some word)
+  pub check : refusals (line program (codes "check" ∷ [])) ≡ kind.MissingRequiredArgument ∷ []
+  pub check_folder : (folder : Text) → is_plain folder ≡ true → refusals (line program (codes "check" ∷ (folder ∷ []))) ≡ []
+  pub check_folder_named : (folder : Text) → is_plain folder ≡ true → named (line program (codes "check" ∷ (folder ∷ []))) ≡ ToCheck folder None false
+  pub check_json : (folder : Text) → is_plain folder ≡ true → refusals (line program (codes "check" ∷ (folder ∷ (codes "--json" ∷ [])))) ≡ []
+  pub check_json_named : (folder : Text) → is_plain folder ≡ true → named (line program (codes "check" ∷ (folder ∷ (codes "--json" ∷ [])))) ≡ ToCheck folder None true
+  pub check_module : (folder path : Text) → is_plain folder ≡ true → is_plain path ≡ true → refusals (line program (codes "check" ∷ (folder ∷ (codes "--module" ∷ (path ∷ []))))) ≡ []
+  pub check_module_named : (folder path : Text) → is_plain folder ≡ true → is_plain path ≡ true → named (line program (codes "check" ∷ (folder ∷ (codes "--module" ∷ (path ∷ []))))) ≡ ToCheck folder (Some path) false
   pub help_flag : refusals (line program (codes "--help" ∷ [])) ≡ kind.DisplayHelp ∷ []
   pub short_help_flag : refusals (line program (codes "-h" ∷ [])) ≡ kind.DisplayHelp ∷ []
   pub resolve_help_flag : refusals (line program (codes "resolve" ∷ (codes "--help" ∷ []))) ≡ kind.DisplayHelp ∷ []

@@ -14,8 +14,10 @@ use Rattle.govisd_core.specs.declared.run.ResolveEnd.{ResolveEnd}
 use Rattle.govisd_core.specs.declared.run.ResolveEnd.TheVariants.{WriteFault, Memory}
 use Rattle.govisd.specs.declared.program.Ran.{Ran}
 use Rattle.govisd.specs.declared.words.Request.{Request}
-use Rattle.govisd.specs.declared.words.Request.TheVariants.{Resolve, Explain, Help, Version}
+use Rattle.govisd.specs.declared.words.Request.TheVariants.{Resolve, Explain, Check, Help, Version}
 use Rattle.go_explain_core.specs.Naming.{named}
+use Rattle.govisd_folders.specs.Checks.{IsAnswer}
+use Rattle.govisd_folders.specs.declared.checking.Answer.{Answer}
 use Rattle.go_text_core.specs.Rules.{rule_number}
 use Rattle.go_text_core.specs.declared.rule.Rule.{Rule}
 use Rattle.govisd.specs.Asking.{Asks, is_plain, line}
@@ -74,6 +76,21 @@ abbrev pub Explains : Option Text → Ran → Option (List ℕ) → Option (List
 Explains None ran out out' err err' = ShowsOrRunsOut list_text ran out out' err err'
 Explains (Some word) ran out out' err err' = ExplainsFound word (named word) ran out out' err err'
 
+-- an answer was written, and what there is to say beside was said; or it could not be written whole
+abbrev pub Gives : Answer → Ran → Option (List ℕ) → Option (List ℕ) → Option (List ℕ) → Option (List ℕ) → Type 0
+Gives answer ran out out' err err' =
+    ((ran.status ≡ answer.status) × Appends out out' (string_bytes answer.text) × Tells ran.is_told (string_bytes answer.said) err err')
+    ⊎ ((ran.status ≡ 1) × IsCutShort out out' (string_bytes answer.text) × Tells ran.is_told (end_text WriteFault) err err')
+
+-- a folder was checked, and the answer was given; or memory ran out
+pub record GivesAnswer (json : Bool) (path : Option Text) (ran : Ran) (out out' err err' : Option (List ℕ)) : Type 0 where
+  pub answer : Answer
+  pub is : IsAnswer json path answer
+  pub gives : Gives answer ran out out' err err'
+
+abbrev pub ChecksFolder : Bool → Option Text → Ran → Option (List ℕ) → Option (List ℕ) → Option (List ℕ) → Option (List ℕ) → Type 0
+ChecksFolder json path ran out out' err err' = GivesAnswer json path ran out out' err err' ⊎ (RunsOut ran err err' × Keeps out out')
+
 -- the help of the command that has a name
 abbrev pub HelpsFound : Text → Option (List ℕ) → Ran → Option (List ℕ) → Option (List ℕ) → Option (List ℕ) → Option (List ℕ) → Type 0
 HelpsFound name None ran out out' err err' = RefusesName (unknown_command_text name) ran err err' × Keeps out out'
@@ -97,6 +114,8 @@ pub record Refuses (kind : ErrorKind) (ran : Ran) (err err' : Option (List ℕ))
 abbrev pub Does : Result Request Error → Ran → Option (List ℕ) → Option (List ℕ) → Option (List ℕ) → Option (List ℕ) → Option (List ℕ) → Option (List ℕ) → Type 0
 Does (Ok Resolve) ran given left out out' err err' = Resolves ran given left out out' err err'
 Does (Ok (Explain rule)) ran given left out out' err err' = Explains (option_map (λ word. word.now) rule) ran out out' err err' × Keeps given left
+Does (Ok (Check order)) ran given left out out' err err' =
+    ChecksFolder order.json (option_map (λ word. word.now) order.module_path) ran out out' err err' × Keeps given left
 Does (Ok (Help topic)) ran given left out out' err err' = Helps (option_map (λ word. word.now) topic) ran out out' err err' × Keeps given left
 Does (Ok Version) ran given left out out' err err' = Shows ran version_text out out' err err' × Keeps given left
 Does (Err e) ran given left out out' err err' = Refuses (kind_of e) ran err err' × Keeps out out' × Keeps given left
@@ -124,6 +143,10 @@ RefusesOthers =
 -- and alone lists all rules
 abbrev pub ListsAll : Type 0
 ListsAll = (program : Text) → RunsFor (line program (codes "explain" ∷ [])) (ShowsOrRunsOut list_text)
+
+-- `check` with a folder checks it
+abbrev pub ChecksEach : Type 0
+ChecksEach = (program folder : Text) → is_plain folder ≡ true → RunsFor (line program (codes "check" ∷ (folder ∷ []))) (ChecksFolder false None)
 
 -- `help` with a command's name writes what the command takes
 abbrev pub HelpsEach : Type 0

@@ -6,10 +6,24 @@ mod status;
 mod texts;
 mod words;
 
-use program::run;
+use govisd_folders::{Answer, Order, check_folder};
+use program::{Checks, run};
 use status::unread_status;
+use std::alloc::AllocError;
 use std::io;
 use std::process::ExitCode;
+
+/// The folders of the system.
+#[derive(Drop)]
+struct Folders<'a> {
+    rt: &'a HostRuntime,
+}
+
+impl Checks for Folders<'_> {
+    fn check(&self, order: &Order<'_>) -> Result<Answer, AllocError> {
+        check_folder(self.rt, order)
+    }
+}
 
 fn words_of(rt: &HostRuntime) -> io::Result<Vec<String>> {
     let words = std::env::args(rt)?.collect(rt.alloc())?;
@@ -28,6 +42,7 @@ fn main(rt: HostRuntime) -> ExitCode {
     let ran = run(
         rt.alloc(),
         words.as_slice(),
+        &Folders { rt: &rt },
         &mut rt.stdin(),
         &mut rt.stdout(),
         &mut rt.stderr(),

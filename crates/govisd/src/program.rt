@@ -1,8 +1,9 @@
 //! What the program does, over a reader and two writers.
 ghost use Rattle.std.specs.Prelude.{◌≡◌, ◌++◌, List, ℕ, map, option_map, string_bytes, IfOk};
 ghost use Rattle.clap.specs.Values.{kind_of};
+ghost use Rattle.govisd_folders.specs.Checks.{IsAnswer};
 ghost use Rattle.govisd.specs.Texts.{refused_text as text_of_refused};
-ghost use Rattle.govisd.specs.Runs.{Explains, Helps, Refuses, RefusesMade, Resolves, Runs, RunsOut, Shows, ShowsMade, Tells, ExplainsEach, HelpsEach, ListsAll, RefusesOtherCommands, RefusesOthers};
+ghost use Rattle.govisd.specs.Runs.{ChecksEach, ChecksFolder, Explains, Gives, Helps, Refuses, RefusesMade, Resolves, Runs, RunsOut, Shows, ShowsMade, Tells, ExplainsEach, HelpsEach, ListsAll, RefusesOtherCommands, RefusesOthers};
 
 use crate::status::{end_status, refusal_status};
 use crate::texts::{
@@ -13,6 +14,7 @@ use clap::Error;
 use clap::error::ErrorKind;
 use go_explain_core::{explained, listed, rule_named, unknown};
 use govisd_core::{ResolveEnd, run_resolve, write_report};
+use govisd_folders::{Answer, Order};
 use std::alloc::{AllocError, Global};
 use std::convert::AsStr;
 use std::io::{Read, Write};
@@ -24,6 +26,17 @@ pub struct Ran {
     pub status: u8,
     /// Whether the second writer took the whole of what was to be said on it, be it nothing.
     pub is_told: bool,
+}
+
+/// What checks folders.
+pub trait Checks {
+    /// Checks the Go packages of a folder.
+    ///
+    /// # Errors
+    ///
+    /// `AllocError` for want of memory.
+    fn check(&self, order: &Order<'_>) -> Result<Answer, AllocError>
+        ensures { IfOk result (λ a. IsAnswer order.now.json (option_map (λ m. m.now) order.now.module_path) a) };
 }
 
 // Writes what is to be said, and answers whether all of it was written.
@@ -126,6 +139,36 @@ fn help<W: Write, E: Write>(alloc: Global, out: &mut W, err: &mut E, topic: Opti
     }
 }
 
+// Writes an answer, and says what there is to say beside.
+fn give<W: Write, E: Write>(out: &mut W, err: &mut E, answer: &Answer) -> Ran
+    ensures { Gives answer.now result (W.contents out.old) (W.contents out.new) (E.contents err.old) (E.contents err.new) }
+{
+    if write_report(out, answer.text.as_bytes()).is_err() {
+        let is_told = tell(err, end_text(ResolveEnd::WriteFault));
+        return Ran { status: 1, is_told };
+    }
+    let is_told = tell(err, answer.said.as_str());
+    Ran {
+        status: answer.status,
+        is_told,
+    }
+}
+
+// Checks a folder.
+fn check<C: Checks, W: Write, E: Write>(
+    checks: &C,
+    out: &mut W,
+    err: &mut E,
+    order: &Order<'_>,
+) -> Ran
+    ensures { ChecksFolder order.now.json (option_map (λ m. m.now) order.now.module_path) result (W.contents out.old) (W.contents out.new) (E.contents err.old) (E.contents err.new) }
+{
+    match checks.check(order) {
+        Ok(answer) => give(out, err, &answer),
+        Err(AllocError) => run_out(err),
+    }
+}
+
 // What is wrong with the words of a command line, and a last line that says that it is refused.
 fn refusal_text(alloc: Global, error: &Error) -> Result<String, AllocError>
     ensures { IfOk result (λ text. (front : List ℕ) × (string_bytes text ≡ front ++ text_of_refused)) }
@@ -152,11 +195,12 @@ fn refuse<E: Write>(alloc: Global, err: &mut E, error: &Error) -> Ran
 }
 
 /// What the program does for the words of its command line, of which the first is its name: a run of `resolve`
-/// from the reader to the first writer, what a rule means, its help or its version on the first writer, or a refusal. What
+/// from the reader to the first writer, the check of a folder, what a rule means, its help or its version on the first writer, or a refusal. What
 /// there is to say beside goes to the second writer.
-pub fn run<S: AsStr, R: Read, W: Write, E: Write>(
+pub fn run<S: AsStr, C: Checks, R: Read, W: Write, E: Write>(
     alloc: Global,
     words: &[S],
+    checks: &C,
     reader: &mut R,
     out: &mut W,
     err: &mut E,
@@ -166,18 +210,20 @@ pub fn run<S: AsStr, R: Read, W: Write, E: Write>(
     match read_words(alloc, words) {
         Ok(Request::Resolve) => resolve(alloc, reader, out, err),
         Ok(Request::Explain(word)) => explain_rule(alloc, out, err, word),
+        Ok(Request::Check(order)) => check(checks, out, err, &order),
         Ok(Request::Help(topic)) => help(alloc, out, err, topic),
         Ok(Request::Version) => show(out, err, version_text()),
         Err(error) => refuse(alloc, err, &error),
     }
 }
 
-/// A law, with nothing to run: what a run of `explain` does for each rule, for a word that names none and without a word, and
-/// one of `help` for each command and for a word that names none.
+/// A law, with nothing to run: what a run of `explain` does for each rule, for a word that names none and without a word,
+/// one of `check` for a folder, and one of `help` for each command and for a word that names none.
 pub fn runs_answer_words()
     ensures each { ExplainsEach }
     ensures other { RefusesOthers }
     ensures all { ListsAll }
+    ensures folder { ChecksEach }
     ensures command { HelpsEach }
     ensures no_command { RefusesOtherCommands }
 {}

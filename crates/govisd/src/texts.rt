@@ -1,6 +1,6 @@
 //! What the program writes of itself.
 ghost use Rattle.std.specs.Prelude.{◌≡◌, IfOk, option_map, string_bytes};
-ghost use Rattle.govisd.specs.Texts.{explain_help_text, help_of, program_help_text, unknown_command_text, resolve_help_text, version_text as text_of_version, refused_text as text_of_refused, end_text as text_of_end};
+ghost use Rattle.govisd.specs.Texts.{check_help_text, explain_help_text, help_of, program_help_text, unknown_command_text, resolve_help_text, version_text as text_of_version, refused_text as text_of_refused, end_text as text_of_end};
 
 use govisd_core::ResolveEnd;
 use std::alloc::{AllocError, Global};
@@ -9,13 +9,19 @@ use std::alloc::{AllocError, Global};
 pub fn program_help() -> &'static str
     ensures { result.now ≡ program_help_text }
 {
-    "Answers questions on Go sources\n\nUsage: govisd <COMMAND>\n\nCommands:\n  resolve  Reads a Go file from standard input, and writes what each identifier in it denotes\n  explain  Says what a rule means, with an example that breaks it\n  help     Writes this text, or that of a command: govisd help explain\n\nOptions:\n  -h, --help     Writes this text\n  -V, --version  Writes the version\n\nExamples:\n  govisd resolve < a.go\n  govisd explain N1\n\nExit status: 0 where the source has no fault, 1 where it has one or the run failed, 2 for a command line that is refused\n"
+    "Answers questions on Go sources\n\nUsage: govisd <COMMAND>\n\nCommands:\n  resolve  Reads a Go file from standard input, and writes what each identifier in it denotes\n  check    Checks the Go packages of a folder, and tells each fault with its place\n  explain  Says what a rule means, with an example that breaks it\n  help     Writes this text, or that of a command: govisd help explain\n\nOptions:\n  -h, --help     Writes this text\n  -V, --version  Writes the version\n\nExamples:\n  govisd resolve < a.go\n  govisd check . --module example.com/mine\n  govisd explain N1\n\nExit status: 0 where the source has no fault, 1 where it has one or the run failed, 2 for a command line that is refused\n"
 }
 
 fn resolve_help() -> &'static str
     ensures { result.now ≡ resolve_help_text }
 {
     "Reads a Go file from standard input, and writes what each identifier in it denotes\n\nUsage: govisd resolve\n\nIt writes a line for each identifier that is used, in order of place: its offset in bytes from 0, its role, the identifier,\nand the declaration that it denotes or the rule that it breaks. Behind these stand the other faults, as fault OFFSET RULE.\n\nExample:\n  govisd resolve < a.go\n\nExit status: 0 where the source has no fault, 1 where it has one or the run failed, 2 for a command line that is refused\n"
+}
+
+fn check_help() -> &'static str
+    ensures { result.now ≡ check_help_text }
+{
+    "Checks the Go packages of a folder, and tells each fault with its place. Nothing is written into the folder\n\nUsage: govisd check [OPTIONS] <FOLDER>\n\nArguments:\n  <FOLDER>  The folder of a module. The .go files of each folder in it are a package, but for tests (_test.go), for names that begin\n            with . or _, and for the folders testdata and vendor\n\nOptions:\n  --module <PATH>  The import path of the module, as in its go.mod. Without it, the name of the folder\n  --json           One JSON object a line for each fault, and nothing else on standard output\n  -h, --help       Writes this text\n\nEach line is FILE:LINE:COLUMN: RULE and what the rule means: govisd explain RULE says more. Lines and bytes are counted from 1.\nWhat cannot be read is named on standard error, and all else is checked.\n\nExamples:\n  govisd check .\n  govisd check shop --module example.com/shop\n  govisd check shop --json\n\nExit status: 0 where there is no fault, 1 where there is one or something was left out, 2 where nothing was checked\n"
 }
 
 fn explain_help() -> &'static str
@@ -30,6 +36,9 @@ pub fn command_help(name: &str) -> Option<&'static str>
 {
     if name == "resolve" {
         return Some(resolve_help());
+    }
+    if name == "check" {
+        return Some(check_help());
     }
     if name == "explain" {
         return Some(explain_help());

@@ -2,10 +2,11 @@
 ghost use Rattle.std.specs.Prelude.{◌≡◌, IfOk, false, map, option_map};
 ghost use Rattle.clap.specs.Words.{app_of, found_of, rows_of};
 ghost use Rattle.clap.specs.declared.builder.command.Command.TheViews.{out-Command as fields_of};
-ghost use Rattle.govisd.specs.Asking.{Asks, Forms, asked_in, command_behind, explain_app, govisd_app, help_app, if_command, names_command, said};
+ghost use Rattle.govisd.specs.Asking.{Asks, Forms, asked_in, check_app, command_behind, explain_app, govisd_app, help_app, if_command, names_command, order_in, said, said_order};
 
 use clap::error::ErrorKind;
-use clap::{Arg, ArgMatches, Command, Error};
+use clap::{Arg, ArgAction, ArgMatches, Command, Error};
+use govisd_folders::Order;
 use std::alloc::{AllocError, Global};
 use std::convert::AsStr;
 
@@ -16,6 +17,8 @@ pub enum Request<'a> {
     Resolve,
     /// What a rule means, by its name, or all rules.
     Explain(Option<&'a str>),
+    /// The check of a folder.
+    Check(Order<'a>),
     /// The help of a command, by its name, or the program's.
     Help(Option<&'a str>),
     /// The program's version.
@@ -29,6 +32,22 @@ fn explain_command<'a>(alloc: Global) -> Result<Command<'a>, AllocError>
 {
     let rule = Arg::new(alloc, "rule");
     Command::new(alloc, "explain").arg(rule)
+}
+
+// The command `check`, with a folder, the path of its module, and how the faults are written.
+fn check_command<'a>(alloc: Global) -> Result<Command<'a>, AllocError>
+    ensures shape { IfOk result (λ c. app_of c ≡ check_app) }
+    ensures local { IfOk result (λ c. (fields_of c).has_globals ≡ false) }
+{
+    let folder = Arg::new(alloc, "folder").required(true);
+    let path = Arg::new(alloc, "module").long("module");
+    let json = Arg::new(alloc, "json")
+        .long("json")
+        .action(ArgAction::Count);
+    Command::new(alloc, "check")
+        .arg(folder)?
+        .arg(path)?
+        .arg(json)
 }
 
 // The command `help`, with the name of a command.
@@ -45,6 +64,7 @@ fn command<'a>(alloc: Global) -> Result<Command<'a>, AllocError>
     ensures { IfOk result (λ c. app_of c ≡ govisd_app) }
 {
     let explain = explain_command(alloc)?;
+    let check = check_command(alloc)?;
     let help = help_command(alloc)?;
     Command::new(alloc, "govisd")
         .version("0.1.0")
@@ -52,7 +72,20 @@ fn command<'a>(alloc: Global) -> Result<Command<'a>, AllocError>
         .disable_help_subcommand(true)
         .subcommand(Command::new(alloc, "resolve"))?
         .subcommand(explain)?
+        .subcommand(check)?
         .subcommand(help)
+}
+
+// The check that is asked for, by what stands behind the command.
+#[tactic(auto, using(crate::proofs::WordLemmas::value_in_rows))]
+fn order_of<'a>(found: &ArgMatches<'a>) -> Order<'a>
+    ensures { said_order result ≡ order_in (rows_of (found_of found.now)) }
+{
+    Order {
+        folder: found.get_str("folder").unwrap_or("."),
+        module_path: found.get_str("module"),
+        json: found.get_count("json") > 0,
+    }
 }
 
 // What a command asks for, by its name and what stands behind it.
@@ -62,6 +95,9 @@ fn request_of<'a>(name: &str, found: &ArgMatches<'a>) -> Request<'a>
 {
     if name == "explain" {
         return Request::Explain(found.get_str("rule"));
+    }
+    if name == "check" {
+        return Request::Check(order_of(found));
     }
     if name == "help" {
         return Request::Help(found.get_str("command"));
@@ -73,7 +109,7 @@ fn request_of<'a>(name: &str, found: &ArgMatches<'a>) -> Request<'a>
 fn is_command(name: &str) -> bool
     ensures { result ≡ names_command name.now }
 {
-    name == "resolve" || name == "explain" || name == "help"
+    name == "resolve" || name == "check" || name == "explain" || name == "help"
 }
 
 // A word, where it is the name of a command.

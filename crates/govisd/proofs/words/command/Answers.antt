@@ -8,4 +8,5 @@ returns c =
     let settled = without_help c.subcommand_required.result c.disable_help_subcommand.result _ c.disable_help_subcommand.ensures required in
     let resolve = added c.disable_help_subcommand.result c.new-2.result c.in_ok-subcommand.field-0 _ _ settled c.new-2.ensures.app c.new-2.ensures.local c.in_ok-subcommand.ensures in
     let explain = added c.in_ok-subcommand.field-0 c.in_ok-explain.explain c.in_ok-subcommand-2.field-0 _ _ resolve c.in_ok-explain.ensures.shape c.in_ok-explain.ensures.local c.in_ok-subcommand-2.ensures in
-    added_last c.subcommand-3.result c.in_ok-subcommand-2.field-0 c.in_ok-help.help _ _ explain c.in_ok-help.ensures.shape c.in_ok-help.ensures.local c.subcommand-3.ensures
+    let check = added c.in_ok-subcommand-2.field-0 c.in_ok-check.check c.in_ok-subcommand-3.field-0 _ _ explain c.in_ok-check.ensures.shape c.in_ok-check.ensures.local c.in_ok-subcommand-3.ensures in
+    added_last c.subcommand-4.result c.in_ok-subcommand-3.field-0 c.in_ok-help.help _ _ check c.in_ok-help.ensures.shape c.in_ok-help.ensures.local c.subcommand-4.ensures

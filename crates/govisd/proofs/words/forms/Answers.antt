@@ -1,6 +1,6 @@
 use Rattle.std.proofs.Common.{refl}
 use Rattle.clap.proofs.OnLiterals.{clap_on_literals}
-use Rattle.govisd.proofs.PlainWords.{explain_word, explain_word_named, help_word, help_word_named, resolve_word}
+use Rattle.govisd.proofs.PlainWords.{check_folder, check_folder_named, check_json, check_json_named, check_module, check_module_named, explain_word, explain_word_named, help_word, help_word_named, resolve_word}
 use Rattle.govisd.proofs.words.forms.Goals as goal
 
 pub returns : goal.returns
@@ -16,6 +16,13 @@ returns c = λ program. record {
   help_named = refl;
   help_word = help_word program;
   help_word_named = help_word_named program;
+  check = refl;
+  check_folder = check_folder program;
+  check_folder_named = check_folder_named program;
+  check_json = check_json program;
+  check_json_named = check_json_named program;
+  check_module = check_module program;
+  check_module_named = check_module_named program;
   help_flag = refl;
   short_help_flag = refl;
   resolve_help_flag = refl;

@@ -1,0 +1,618 @@
+package main
+
+import (
+	"fmt"
+	"go/ast"
+	"go/build"
+	"go/constant"
+	"go/parser"
+	"go/token"
+	"go/types"
+	"io/fs"
+	"os"
+	"path"
+	"path/filepath"
+	"sort"
+	"strconv"
+	"strings"
+)
+
+// A source is a file of a package, with the pieces that are left out of it: these are spaces, so that all places stay what they were.
+type source struct {
+	name string
+	text []byte
+	tree *ast.File
+}
+
+// A reduced is a package whose declarations outside the grammar, and those that name them, are left out.
+type reduced struct {
+	path    string
+	files   []*source
+	checked *types.Package
+	rounds  int
+}
+
+// A reducer reduces the packages of folder trees, each after those that it imports.
+type reducer struct {
+	module  string
+	folders map[string]string // of each path
+	done    map[string]*reduced
+	fset    *token.FileSet
+	out     map[string]int // what was left out, by reason
+}
+
+// most is the size of the largest text that govisd takes, and highest is near the height of the highest tree: what is higher counts as outside the grammar.
+const (
+	most    = 1_048_576
+	highest = 190
+)
+
+// find notes the folders with Go files below a root, by their paths. The folders `vendor` of Go's own sources hold packages of other paths.
+func (r *reducer) find(root string) {
+	root, err := filepath.EvalSymlinks(root)
+	if err != nil {
+		fail(err)
+	}
+	err = filepath.WalkDir(root, func(file string, entry fs.DirEntry, failed error) error {
+		if failed != nil || !entry.IsDir() {
+			return nil
+		}
+		name := entry.Name()
+		if file != root && (name == "testdata" || strings.HasPrefix(name, ".") || strings.HasPrefix(name, "_")) || file == filepath.Join(root, "cmd") {
+			return fs.SkipDir
+		}
+		below, _ := filepath.Rel(root, file)
+		below = strings.TrimPrefix(filepath.ToSlash(below), "vendor/")
+		if r.folders[below] == "" && below != "." {
+			r.folders[below] = file
+		}
+		return nil
+	})
+	if err != nil {
+		fail(err)
+	}
+}
+
+// read reads the files of a package that are built on Linux for amd64 without cgo.
+func (r *reducer) read(from string) *reduced {
+	context := build.Default
+	context.GOOS, context.GOARCH, context.CgoEnabled = "linux", "amd64", false
+	found, err := context.ImportDir(r.folders[from], 0)
+	if err != nil {
+		return nil
+	}
+	p := &reduced{path: from}
+	for _, name := range found.GoFiles {
+		text, err := os.ReadFile(filepath.Join(r.folders[from], name))
+		if err == nil && len(text) <= most {
+			p.files = append(p.files, &source{name: name, text: text})
+		}
+	}
+	return p
+}
+
+// Import gives a package, reduced.
+func (r *reducer) Import(to string) (*types.Package, error) {
+	if p := r.reduce(strings.TrimPrefix(to, r.module+"/")); p != nil && p.checked != nil {
+		return p.checked, nil
+	}
+	return nil, fmt.Errorf("no package %s", to)
+}
+
+// reduce leaves out of a package what is outside the grammar, then again and again what go/types refuses without it.
+func (r *reducer) reduce(from string) *reduced {
+	if p, ok := r.done[from]; ok {
+		return p
+	}
+	r.done[from] = nil
+	if r.folders[from] == "" || from == "unsafe" {
+		return nil
+	}
+	p := r.read(from)
+	if p == nil {
+		return nil
+	}
+	for isChanged := true; isChanged; p.rounds++ {
+		isChanged = r.round(p)
+	}
+	r.done[from] = p
+	return p
+}
+
+// round parses and checks a package, and leaves out what is refused. It tells whether anything was.
+func (r *reducer) round(p *reduced) bool {
+	isChanged := false
+	var trees []*ast.File
+	for _, f := range p.files {
+		tree, err := parser.ParseFile(r.fset, p.path+"/"+f.name, f.text, parser.SkipObjectResolution)
+		if err != nil {
+			fail(err)
+		}
+		f.tree = tree
+		trees = append(trees, tree)
+		if p.rounds == 0 {
+			r.imports(f)
+			isChanged = true
+			continue
+		}
+		isChanged = r.outside(f) || isChanged
+	}
+	if isChanged {
+		return true
+	}
+	info := &types.Info{Types: map[ast.Expr]types.TypeAndValue{}, Uses: map[*ast.Ident]types.Object{}, Selections: map[*ast.SelectorExpr]*types.Selection{}}
+	config := types.Config{Importer: r, Sizes: types.SizesFor("gc", "amd64"), Error: func(err error) {
+		if e, ok := err.(types.Error); ok && !strings.HasPrefix(e.Msg, "\t") {
+			isChanged = r.leaveOutAt(p, e.Pos, "what go/types refuses without it") || isChanged
+		}
+	}}
+	p.checked, _ = config.Check(r.module+"/"+p.path, r.fset, trees, info)
+	if isChanged {
+		return true
+	}
+	for _, f := range p.files {
+		isChanged = r.own(f, info) || isChanged
+	}
+	return isChanged
+}
+
+// imports makes the paths of a file those of the workspace, and leaves out the imports of packages that it has not.
+func (r *reducer) imports(f *source) {
+	for at := len(f.tree.Imports) - 1; at >= 0; at-- {
+		spec := f.tree.Imports[at]
+		to, _ := strconv.Unquote(spec.Path.Value)
+		if p := r.reduce(to); p == nil {
+			r.blank(f, f.cover(spec), "imports of packages that are not there")
+			continue
+		}
+		written := strconv.Quote(r.module + "/" + to)
+		behind := f.text[r.offset(spec.Path.End()):]
+		f.text = []byte(string(f.text[:r.offset(spec.Path.Pos())]) + written + string(behind))
+	}
+}
+
+func (r *reducer) offset(at token.Pos) int { return r.fset.Position(at).Offset }
+
+// cover is what is left out with a specification: the whole declaration, where it has no other.
+func (f *source) cover(spec ast.Node) ast.Node {
+	for _, decl := range f.tree.Decls {
+		if group, ok := decl.(*ast.GenDecl); ok && !group.Lparen.IsValid() && group.Specs[0] == spec {
+			return group
+		}
+	}
+	return spec
+}
+
+// blank leaves a node out, with a semicolon right behind it.
+func (r *reducer) blank(f *source, n ast.Node, why string) {
+	start, end := r.offset(n.Pos()), r.offset(n.End())
+	f.text = append([]byte{}, f.text...)
+	r.out[why]++
+	for at := start; at < end; at++ {
+		if f.text[at] != '\n' {
+			f.text[at] = ' '
+		}
+	}
+	for at := end; at < len(f.text) && (f.text[at] == ' ' || f.text[at] == ';'); at++ {
+		if f.text[at] == ';' {
+			f.text[at] = ' '
+			break
+		}
+	}
+}
+
+// A piece is what may be left out: an import, a specification, a function, a field or a method of a type.
+func (f *source) piece(at token.Pos) ast.Node {
+	var found ast.Node
+	ast.Inspect(f.tree, func(n ast.Node) bool {
+		if n == nil || at < n.Pos() || n.End() <= at && n.End() != at {
+			return false
+		}
+		switch n := n.(type) {
+		case *ast.FuncDecl:
+			found = n
+			return false
+		case ast.Spec:
+			found = f.cover(n)
+		case *ast.StructType:
+			for _, field := range n.Fields.List {
+				if field.Pos() <= at && at <= field.End() {
+					found = field
+				}
+			}
+		case *ast.InterfaceType:
+			for _, field := range n.Methods.List {
+				if field.Pos() <= at && at <= field.End() {
+					found = field
+				}
+			}
+		}
+		return true
+	})
+	return found
+}
+
+// leaveOutAt leaves out the piece that holds a place.
+func (r *reducer) leaveOutAt(p *reduced, at token.Pos, why string) bool {
+	for _, f := range p.files {
+		if f.tree.Pos() <= at && at <= f.tree.End() {
+			if piece := f.piece(at); piece != nil && !f.isBlank(r, piece) {
+				r.blank(f, piece, why)
+				return true
+			}
+		}
+	}
+	return false
+}
+
+// isBlank tells whether a piece is left out already in this round.
+func (f *source) isBlank(r *reducer, n ast.Node) bool {
+	return len(strings.TrimSpace(string(f.text[r.offset(n.Pos()):r.offset(n.End())]))) == 0
+}
+
+// outside leaves out what is outside the grammar.
+func (r *reducer) outside(f *source) bool {
+	isChanged := false
+	leave := func(n ast.Node, why string) {
+		r.blank(f, n, why)
+		isChanged = true
+	}
+	for _, decl := range f.tree.Decls {
+		switch decl := decl.(type) {
+		case *ast.FuncDecl:
+			if decl.Body == nil || !isReceiver(decl.Recv) || !isWithin(decl) {
+				leave(decl, "functions outside the grammar")
+			}
+		case *ast.GenDecl:
+			for _, spec := range decl.Specs {
+				r.outsideSpec(f, decl.Tok, spec, leave)
+			}
+		}
+	}
+	return isChanged
+}
+
+// outsideSpec leaves out a specification, or the fields and methods of its type that are outside the grammar.
+func (r *reducer) outsideSpec(f *source, word token.Token, spec ast.Spec, leave func(n ast.Node, why string)) {
+	switch spec := spec.(type) {
+	case *ast.ValueSpec:
+		if word == token.CONST && len(spec.Values) == 0 || !isWithin(spec) {
+			leave(f.cover(spec), "constants and variables outside the grammar")
+		}
+	case *ast.TypeSpec:
+		if spec.Assign.IsValid() || spec.TypeParams != nil || !isTypeWithin(spec.Type, func(n ast.Node) { leave(n, "fields and methods outside the grammar") }) {
+			leave(f.cover(spec), "types outside the grammar")
+		}
+	}
+}
+
+// isTypeWithin tells whether a type is of the grammar, but for its fields and methods that are not, which are given.
+func isTypeWithin(expr ast.Expr, outside func(n ast.Node)) bool {
+	switch expr := expr.(type) {
+	case *ast.StructType:
+		for _, field := range expr.Fields.List {
+			if len(field.Names) == 0 && !isStarred(field.Type) || !isWithin(field.Type) {
+				outside(field)
+			}
+		}
+		return true
+	case *ast.InterfaceType:
+		for _, method := range expr.Methods.List {
+			if len(method.Names) != 1 || !isWithin(method) {
+				outside(method)
+			}
+		}
+		return true
+	}
+	return isWithin(expr)
+}
+
+// isWithin tells whether a piece is written in the grammar of docs/RULES.md.
+func isWithin(root ast.Node) bool {
+	isRight, height := true, 0
+	ast.Inspect(root, func(n ast.Node) bool {
+		if n == nil {
+			height--
+			return true
+		}
+		height++
+		isRight = isRight && height < highest
+		switch n := n.(type) {
+		case *ast.BasicLit:
+			isRight = isRight && (n.Kind == token.STRING || n.Kind == token.INT && isInt64(n.Value))
+		case *ast.UnaryExpr:
+			isRight = isRight && n.Op != token.ARROW
+		case *ast.DeferStmt, *ast.GoStmt, *ast.SelectStmt, *ast.SwitchStmt, *ast.TypeSwitchStmt:
+			isRight = false
+		case *ast.BranchStmt:
+			isRight = isRight && (n.Tok == token.BREAK || n.Tok == token.CONTINUE)
+		case *ast.CallExpr:
+			isRight = isRight && !n.Ellipsis.IsValid()
+		case *ast.DeclStmt:
+			isRight = isRight && n.Decl.(*ast.GenDecl).Tok != token.TYPE
+		case *ast.FuncType:
+			isRight = isRight && isSignature(root, n)
+		}
+		isRight = isRight && isNodeInGrammar(n)
+		return true
+	})
+	return isRight
+}
+
+// isInt64 tells whether a literal is of an integer of 64 bits with a sign.
+func isInt64(text string) bool {
+	value := constant.MakeFromLiteral(text, token.INT, 0)
+	_, isExact := constant.Int64Val(value)
+	return value.Kind() == constant.Int && isExact
+}
+
+// isSignature tells whether the type of a function is the signature of a declaration or of a method, and no type by itself.
+func isSignature(root ast.Node, signature *ast.FuncType) bool {
+	method, isField := root.(*ast.Field)
+	isOne := isField && method.Type == signature
+	ast.Inspect(root, func(n ast.Node) bool {
+		switch n := n.(type) {
+		case *ast.FuncDecl:
+			isOne = isOne || n.Type == signature
+		case *ast.InterfaceType:
+			for _, method := range n.Methods.List {
+				isOne = isOne || method.Type == signature && len(method.Names) == 1
+			}
+		}
+		return !isOne
+	})
+	return isOne
+}
+
+// own leaves out what rules of docs/RULES.md refuse that Go does not have, and imports that are not used.
+func (r *reducer) own(f *source, info *types.Info) bool {
+	isChanged := false
+	leave := func(n ast.Node, why string) {
+		if !f.isBlank(r, n) {
+			r.blank(f, n, why)
+			isChanged = true
+		}
+	}
+	for _, decl := range f.tree.Decls {
+		switch decl := decl.(type) {
+		case *ast.FuncDecl:
+			if why := ownReason(decl, info); why != "" {
+				leave(decl, why)
+			}
+		case *ast.GenDecl:
+			for _, spec := range decl.Specs {
+				r.ownSpec(f, spec, info, leave)
+			}
+		}
+	}
+	return isChanged
+}
+
+// ownSpec leaves out a specification, or the fields and methods of its type, that own rules refuse. A variable with a written type loses its initialiser where
+// that is not constant.
+func (r *reducer) ownSpec(f *source, spec ast.Spec, info *types.Info, leave func(n ast.Node, why string)) {
+	switch spec := spec.(type) {
+	case *ast.ValueSpec:
+		why := ownReason(spec, info)
+		if why == "" && !isConstant(spec.Values, info) {
+			why = "initialisers that are not constant (X1)"
+			if spec.Type != nil {
+				leave(stretch{spec.Type.End(), spec.End()}, why)
+				return
+			}
+		}
+		if why != "" {
+			leave(f.cover(spec), why)
+		}
+	case *ast.TypeSpec:
+		fields := []*ast.Field{}
+		switch written := spec.Type.(type) {
+		case *ast.StructType:
+			fields = written.Fields.List
+		case *ast.InterfaceType:
+			fields = written.Methods.List
+		default:
+			if why := ownReason(spec, info); why != "" {
+				leave(f.cover(spec), why)
+			}
+		}
+		for _, field := range fields {
+			if why := ownReason(field, info); why != "" {
+				leave(field, why)
+			}
+		}
+	}
+}
+
+// A stretch is a part of a node.
+type stretch struct{ from, to token.Pos }
+
+func (s stretch) Pos() token.Pos { return s.from }
+
+func (s stretch) End() token.Pos { return s.to }
+
+// isConstant tells whether all of some expressions are constant.
+func isConstant(values []ast.Expr, info *types.Info) bool {
+	for _, value := range values {
+		if info.Types[value].Value == nil {
+			return false
+		}
+	}
+	return true
+}
+
+// profile are the predeclared names that may be used.
+var profile = map[string]bool{"any": true, "bool": true, "error": true, "int": true, "string": true, "true": true, "false": true, "nil": true, "len": true,
+	"panic": true, "print": true, "println": true, "Error": true}
+
+// bits are the operators that X1 refuses.
+var bits = map[token.Token]bool{token.AND: true, token.OR: true, token.XOR: true, token.SHL: true, token.SHR: true, token.AND_NOT: true,
+	token.AND_ASSIGN: true, token.OR_ASSIGN: true, token.XOR_ASSIGN: true, token.SHL_ASSIGN: true, token.SHR_ASSIGN: true, token.AND_NOT_ASSIGN: true}
+
+// ownReason tells by which own rule a piece is refused, if any.
+func ownReason(root ast.Node, info *types.Info) string {
+	why := ""
+	note := func(is bool, text string) {
+		if is && why == "" {
+			why = text
+		}
+	}
+	called := map[ast.Expr]bool{}
+	ast.Inspect(root, func(n ast.Node) bool {
+		switch n := n.(type) {
+		case *ast.CallExpr:
+			called[unparen(n.Fun)] = true
+			note(isIntToString(n, info), "conversions of integers to strings (X1)")
+			note(isPrintOfOther(n, info), "println of other types (C3)")
+		case *ast.Ident:
+			object := info.Uses[n]
+			_, isFunc := object.(*types.Func)
+			_, isBuiltin := object.(*types.Builtin)
+			note(object != nil && object.Pkg() == nil && !profile[object.Name()], "predeclared names outside the profile (N7)")
+			note((isFunc || isBuiltin) && !called[n], "functions as values (X1)")
+		case *ast.SelectorExpr:
+			selection := info.Selections[n]
+			note(selection != nil && selection.Kind() == types.MethodExpr, "method expressions (N5)")
+			note(selection != nil && selection.Kind() == types.MethodVal && !called[n], "methods as values (X1)")
+			if called[n] || selection != nil {
+				called[n.Sel] = true
+			}
+		case *ast.BinaryExpr:
+			note(bits[n.Op], "bit operators and shifts (X1)")
+		case *ast.AssignStmt:
+			note(bits[n.Tok], "bit operators and shifts (X1)")
+		case *ast.UnaryExpr:
+			note(n.Op == token.XOR, "bit operators and shifts (X1)")
+		}
+		if expr, ok := n.(ast.Expr); ok {
+			value := info.Types[expr].Value
+			note(value != nil && (value.Kind() == constant.Float || value.Kind() == constant.Complex || !fits64(value)), "constants beyond 64 bits (X1)")
+		}
+		return why == ""
+	})
+	return why
+}
+
+func unparen(expr ast.Expr) ast.Expr {
+	for {
+		inner, ok := expr.(*ast.ParenExpr)
+		if !ok {
+			return expr
+		}
+		expr = inner.X
+	}
+}
+
+// isIntToString tells whether a call converts an integer to a string.
+func isIntToString(call *ast.CallExpr, info *types.Info) bool {
+	to := info.Types[call.Fun]
+	if !to.IsType() || len(call.Args) != 1 || info.Types[call.Args[0]].Type == nil {
+		return false
+	}
+	return basicOf(to.Type) == 's' && basicOf(info.Types[call.Args[0]].Type) == 'i'
+}
+
+// isPrintOfOther tells whether a call prints what is over neither of `bool`, `int` nor `string`.
+func isPrintOfOther(call *ast.CallExpr, info *types.Info) bool {
+	ident, ok := unparen(call.Fun).(*ast.Ident)
+	if !ok || ident.Name != "println" && ident.Name != "print" {
+		return false
+	}
+	for _, argument := range call.Args {
+		if one := info.Types[argument].Type; one == nil || basicOf(one) == 0 {
+			return true
+		}
+	}
+	return false
+}
+
+// write writes the reduced packages, and tells how much is left of them.
+func (r *reducer) write(folder string) {
+	counts, decls := map[string]int{}, map[string]int{}
+	for from, p := range r.done {
+		if p == nil {
+			continue
+		}
+		counts["packages"]++
+		for _, f := range p.files {
+			file := filepath.Join(folder, from, f.name)
+			if err := os.MkdirAll(path.Dir(file), 0o777); err != nil {
+				fail(err)
+			}
+			if err := os.WriteFile(file, f.text, 0o666); err != nil {
+				fail(err)
+			}
+			counts["files"]++
+			counts["bytes"] += len(strings.Join(strings.Fields(string(f.text)), " "))
+			counts["imports"] += len(f.tree.Imports)
+			count(f.tree, decls)
+		}
+	}
+	writeCounts(os.Stdout, "kept", counts)
+	writeCounts(os.Stdout, "kept", decls)
+	writeCounts(os.Stdout, "left out:", r.out)
+}
+
+// count counts the declarations of a file.
+func count(tree *ast.File, decls map[string]int) {
+	for _, decl := range tree.Decls {
+		switch decl := decl.(type) {
+		case *ast.FuncDecl:
+			if decl.Recv != nil {
+				decls["methods"]++
+			} else {
+				decls["functions"]++
+			}
+		case *ast.GenDecl:
+			decls[map[token.Token]string{token.CONST: "constant specifications", token.VAR: "variable specifications", token.TYPE: "types", token.IMPORT: "import specifications"}[decl.Tok]] += len(decl.Specs)
+		}
+	}
+}
+
+// reduceAll reduces the packages below folders, and writes them as a workspace of a module.
+func reduceAll(module, folder string, roots []string) {
+	if err := os.RemoveAll(folder); err != nil {
+		fail(err)
+	}
+	r := &reducer{module: module, folders: map[string]string{}, done: map[string]*reduced{}, fset: token.NewFileSet(), out: map[string]int{}}
+	for _, root := range roots {
+		r.find(root)
+	}
+	var paths []string
+	for from := range r.folders {
+		paths = append(paths, from)
+	}
+	sort.Strings(paths)
+	for _, from := range paths {
+		r.reduce(from)
+	}
+	r.write(folder)
+}
+
+// ownRules are rules that Go does not have. What the reducer does not see of them is counted, and not a difference.
+var ownRules = []string{"X1", "N7"}
+
+// checkReduced checks a workspace that was reduced, and tells each rule that is broken in it, with the first place.
+func checkReduced(program, folder, module string) int {
+	counts, first := map[string]int{}, map[string]told{}
+	for _, one := range checkFolder(program, folder, module, folder) {
+		if counts[one.Rule]++; counts[one.Rule] == 1 {
+			first[one.Rule] = one
+		}
+	}
+	status := 0
+	for rule, many := range counts {
+		what := "differ"
+		if has(ownRules, rule) {
+			what = "on purpose"
+		} else {
+			status = 1
+		}
+		one := first[rule]
+		fmt.Printf("%s: %s: %d (%s:%d:%d %s)\n", what, rule, many, one.File, one.Line, one.Column, one.Meaning)
+	}
+	if len(counts) == 0 {
+		fmt.Println("no fault")
+	}
+	return status
+}

@@ -1,0 +1,5 @@
+use Rattle.std.proofs.Common.{inl}
+use Rattle.govisd.proofs.program.check.Goals as goal
+
+pub returns-in-Ok : goal.returns-in-Ok
+returns-in-Ok g c = inl (record { answer = c.in-Ok.answer; is = c.in-Ok.ensures; gives = c.give.ensures })

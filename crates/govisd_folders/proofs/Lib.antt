@@ -1,0 +1,5 @@
+mod FileNames
+mod FolderLemmas
+mod LineLemmas
+mod PuttingLemmas
+mod TellingLemmas

@@ -1,0 +1,4 @@
+pub mod Checks
+pub mod Notes
+pub mod Puts
+pub mod Telling

@@ -1,0 +1,25 @@
+-- What is said beside the answer.
+use Rattle.std.specs.Prelude.{ℕ, Bool, List, [], ◌++◌, ◌==◌, ◌&&◌, codes, decimal, if◌then◌else◌}
+use Rattle.go_text_core.specs.Rules.{rule_number}
+use Rattle.go_text_core.specs.declared.rule.Rule.{Rule}
+use Rattle.go_explain_core.specs.Meanings.{meaning_of}
+
+-- what is wrong with what lies at a path
+abbrev pub note_line : List ℕ → List ℕ → List ℕ
+note_line path what = codes "govisd: " ++ path ++ codes ": " ++ what ++ codes "\n"
+
+-- what lies at a path breaks a rule
+abbrev pub refusal_line : List ℕ → Rule → List ℕ
+refusal_line path rule = codes "govisd: " ++ path ++ codes ": " ++ rule_number rule ++ codes " " ++ meaning_of rule ++ codes "\n"
+
+-- nothing was passed over
+abbrev pub none_passed : ℕ → ℕ → Bool
+none_passed files folders = (files == 0) && (folders == 0)
+
+-- how many Go files and folders were passed over by their names
+abbrev pub counts_line : ℕ → ℕ → List ℕ
+counts_line files folders = codes "govisd: passed over by name: Go files " ++ decimal files ++ codes ", folders " ++ decimal folders ++ codes "\n"
+
+-- the same, where there are any
+abbrev pub passed_line : ℕ → ℕ → List ℕ
+passed_line files folders = if none_passed files folders then [] else counts_line files folders

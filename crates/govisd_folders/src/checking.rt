@@ -1,0 +1,265 @@
+//! From a folder to its faults.
+ghost use Rattle.std.specs.Prelude.{◌≡◌, IfOk, Some, map, option_map, string_bytes};
+ghost use Rattle.go_path_core.specs.Path.{IsPath};
+ghost use Rattle.govisd_folders.specs.Checks.{IsAnswer, IsAnswerFor, IsAnswerOn, IsChecked, IsOfFolders, IsOwn, IsRefused, status_of};
+ghost use Rattle.go_snap_core.specs.Snapshots.{IsSnapshot};
+ghost use Rattle.govisd_folders.specs.Puts.{folder_of};
+
+use crate::notes::{note, note_passed, note_rule, push};
+use crate::progress::Progress;
+use crate::putting::put_all;
+use crate::reading::{FolderFiles, Found, found_below};
+use crate::telling::told;
+use go_path_core::ImportPath;
+use go_snap_core::graph_core::Workspace;
+use go_snap_core::{PlacedFault, Snapshot, compile};
+use go_text_core::Rule;
+use std::alloc::{AllocError, Global};
+use std::path::PathBuf;
+use std::{fs, io};
+
+/// What is to be checked.
+#[derive(Clone, Copy)]
+pub struct Order<'a> {
+    /// The folder.
+    pub folder: &'a str,
+    /// The path of its module; the name of the folder, if none is given.
+    pub module_path: Option<&'a str>,
+    /// Whether the faults are written as JSON.
+    pub json: bool,
+}
+
+/// What came of a check.
+#[derive(Drop)]
+pub struct Answer {
+    /// 0 where nothing is amiss, 1 where there is a fault or something was left out, and 2 where nothing was checked.
+    pub status: u8,
+    /// What is to be written.
+    pub text: String,
+    /// What is to be said beside.
+    pub said: String,
+}
+
+// The status of a check that found these faults, with notes on what was left out.
+fn check_status(faults: &[PlacedFault], notes: &str) -> u8
+    ensures { result ≡ status_of faults.now notes.now }
+{
+    if !faults.is_empty() {
+        return 1;
+    }
+    if !notes.is_empty() {
+        return 1;
+    }
+    0
+}
+
+// The answer on a snapshot.
+fn answer_from(
+    alloc: Global,
+    json: bool,
+    module_path: &str,
+    snapshot: &Snapshot,
+    notes: &str,
+    passed: &str,
+) -> Result<Answer, AllocError>
+    requires { IsSnapshot snapshot.now.sources snapshot.now.parts snapshot.now.faults }
+    ensures { IfOk result (λ a. IsChecked json module_path.now snapshot.now.sources notes.now passed.now a) }
+{
+    let faults = snapshot.faults();
+    let text = told(alloc, json, module_path, snapshot.sources(), faults)?;
+    let mut said = String::from_str(alloc, notes)?;
+    push(&mut said, passed)?;
+    Ok(Answer {
+        status: check_status(faults, notes),
+        text,
+        said,
+    })
+}
+
+// Checks the packages of a workspace.
+fn check_workspace(
+    alloc: Global,
+    json: bool,
+    module_path: &str,
+    workspace: &Workspace,
+    notes: &str,
+    passed: &str,
+) -> Result<Answer, AllocError>
+    ensures { IfOk result (λ a. IsChecked json module_path.now workspace.now notes.now passed.now a) }
+{
+    let snapshot = compile(alloc, workspace)?;
+    answer_from(alloc, json, module_path, &snapshot, notes, passed)
+}
+
+// Nothing is checked, for a reason that stands behind what is said already.
+fn refused(alloc: Global, said: String, path: &str, why: &str) -> Result<Answer, AllocError>
+    ensures { IfOk result IsRefused }
+{
+    let mut said = said;
+    note(&mut said, path, why)?;
+    Ok(Answer {
+        status: 2,
+        text: String::new(alloc),
+        said,
+    })
+}
+
+// The answer on a workspace.
+fn answer_on(
+    alloc: Global,
+    order: &Order<'_>,
+    module_path: &str,
+    workspace: &Workspace,
+    notes: String,
+    passed: &str,
+) -> Result<Answer, AllocError>
+    ensures { IfOk result (λ a. IsAnswerOn order.now.json module_path.now workspace.now (string_bytes notes) passed.now a) }
+{
+    if workspace.packages().is_empty() {
+        return refused(alloc, notes, order.folder, "no Go files to check");
+    }
+    check_workspace(
+        alloc,
+        order.json,
+        module_path,
+        workspace,
+        notes.as_str(),
+        passed,
+    )
+}
+
+// The answer on folders that were found.
+fn check_found(
+    alloc: Global,
+    order: &Order<'_>,
+    module_path: &str,
+    found: Vec<FolderFiles>,
+    left_out: String,
+    passed: &str,
+    progress: &mut Progress<'_>,
+) -> Result<Answer, AllocError>
+    ensures { IfOk result (λ a. IsAnswerFor order.now.json module_path.now (map folder_of found.items) (string_bytes left_out) passed.now a) }
+{
+    let mut notes = left_out;
+    let mut workspace = Workspace::empty(alloc);
+    let Ok(()) = put_all(
+        alloc,
+        &mut workspace,
+        &mut notes,
+        progress,
+        module_path,
+        found,
+    ) else {
+        workspace.close();
+        return Err(AllocError);
+    };
+    progress.check(workspace.packages().len());
+    let answer = answer_on(alloc, order, module_path, &workspace, notes, passed);
+    workspace.close();
+    answer
+}
+
+// Checks the folder at a path, below a module.
+fn check_module(
+    rt: &HostRuntime,
+    order: &Order<'_>,
+    root: &str,
+    module_path: &str,
+    progress: &mut Progress<'_>,
+) -> Result<Answer, AllocError>
+    requires { IsPath module_path.now }
+    ensures { IfOk result (λ a. IsOfFolders order.now.json (Some module_path.now) a) }
+{
+    let alloc = rt.alloc();
+    let Found {
+        folders,
+        left_out,
+        passed_files,
+        passed_folders,
+    } = found_below(rt, root, progress)?;
+    let mut passed = String::new(alloc);
+    note_passed(alloc, &mut passed, passed_files, passed_folders)?;
+    check_found(
+        alloc,
+        order,
+        module_path,
+        folders,
+        left_out,
+        passed.as_str(),
+        progress,
+    )
+}
+
+// The path of the module: the one that is given, or the name of the folder.
+fn module_of<'a>(given: Option<&'a str>, root: &'a PathBuf) -> &'a str
+    ensures { IsOwn (option_map (λ m. m.now) given.entry) result.now }
+{
+    match given {
+        Some(module_path) => module_path,
+        None => root.file_name().unwrap_or(""),
+    }
+}
+
+// Nothing is checked, since the folder cannot be read.
+fn refuse_folder(alloc: Global, folder: &str, error: &io::Error) -> Result<Answer, AllocError>
+    ensures { IfOk result IsRefused }
+{
+    let why = error.to_string(alloc)?;
+    refused(alloc, String::new(alloc), folder, why.as_str())
+}
+
+// Nothing is checked, since the path of the module is none.
+fn refuse_module(alloc: Global, module_path: &str) -> Result<Answer, AllocError>
+    ensures { IfOk result IsRefused }
+{
+    let mut said = String::new(alloc);
+    note_rule(&mut said, module_path, Rule::O2)?;
+    refused(
+        alloc,
+        said,
+        "--module",
+        "gives the path of the module, as in --module example.com/mine",
+    )
+}
+
+// Checks the folder at a path.
+fn check_root(
+    rt: &HostRuntime,
+    order: &Order<'_>,
+    root: &PathBuf,
+    progress: &mut Progress<'_>,
+) -> Result<Answer, AllocError>
+    ensures { IfOk result (λ a. IsAnswer order.now.json (option_map (λ m. m.now) order.now.module_path) a) }
+{
+    let alloc = rt.alloc();
+    let module_path = module_of(order.module_path, root);
+    match ImportPath::read(alloc, module_path) {
+        Ok(_) => check_module(rt, order, root.as_str(), module_path, progress),
+        Err(Rule::M0) => Err(AllocError),
+        Err(_) => refuse_module(alloc, module_path),
+    }
+}
+
+/// Checks the Go packages of a folder: each `.go` file in it that is a source file of a package by its name is read, each package is
+/// compiled among all others, and the answer tells every fault with its place. Nothing is written into the folder. Where standard error is a
+/// terminal and the check takes over a second, a line there says how far it is.
+///
+/// # Errors
+///
+/// `AllocError` for want of memory.
+pub fn check_folder(rt: &HostRuntime, order: &Order<'_>) -> Result<Answer, AllocError>
+    ensures { IfOk result (λ a. IsAnswer order.now.json (option_map (λ m. m.now) order.now.module_path) a) }
+{
+    let alloc = rt.alloc();
+    let root = match fs::canonicalize(rt, order.folder) {
+        Ok(root) => root,
+        Err(error) => return refuse_folder(alloc, order.folder, &error),
+    };
+    if !root.is_dir(rt) {
+        return refused(alloc, String::new(alloc), order.folder, "this is no folder");
+    }
+    let mut progress = Progress::begin(rt);
+    let answer = check_root(rt, order, &root, &mut progress);
+    progress.end();
+    answer
+}

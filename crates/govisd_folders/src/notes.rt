@@ -1,0 +1,104 @@
+//! What is said beside the answer: lines, each of which names what lies at a path.
+ghost use Rattle.std.specs.Prelude.{◌≡◌, ◌++◌, OnOk, decimal, string_bytes};
+ghost use Rattle.govisd_folders.specs.Notes.{counts_line, none_passed, note_line, passed_line, refusal_line};
+
+use go_explain_core::meaning;
+use go_text_core::Rule;
+use std::alloc::{AllocError, Global};
+
+/// Adds bytes to a text.
+///
+/// # Errors
+///
+/// `AllocError` for want of memory.
+pub fn push(text: &mut String, piece: &str) -> Result<(), AllocError>
+    ensures { OnOk result (string_bytes text.new ≡ string_bytes text.old ++ piece.now) }
+{
+    text.push_str(piece)
+}
+
+/// Adds a number to a text, in decimal digits.
+///
+/// # Errors
+///
+/// `AllocError` for want of memory.
+pub fn push_number(alloc: Global, text: &mut String, number: usize) -> Result<(), AllocError>
+    ensures { OnOk result (string_bytes text.new ≡ string_bytes text.old ++ decimal number) }
+{
+    let digits = number.to_string(alloc)?;
+    push(text, digits.as_str())
+}
+
+/// Adds a line: what is wrong with what lies at a path.
+///
+/// # Errors
+///
+/// `AllocError` for want of memory.
+pub fn note(notes: &mut String, path: &str, what: &str) -> Result<(), AllocError>
+    ensures { OnOk result (string_bytes notes.new ≡ string_bytes notes.old ++ note_line path.now what.now) }
+{
+    push(notes, "govisd: ")?;
+    push(notes, path)?;
+    push(notes, ": ")?;
+    push(notes, what)?;
+    push(notes, "\n")
+}
+
+/// Adds a line: what lies at a path breaks a rule.
+///
+/// # Errors
+///
+/// `AllocError` for want of memory.
+pub fn note_rule(notes: &mut String, path: &str, rule: Rule) -> Result<(), AllocError>
+    ensures { OnOk result (string_bytes notes.new ≡ string_bytes notes.old ++ refusal_line path.now rule) }
+{
+    push(notes, "govisd: ")?;
+    push(notes, path)?;
+    push(notes, ": ")?;
+    push(notes, rule.number())?;
+    push(notes, " ")?;
+    push(notes, meaning(rule))?;
+    push(notes, "\n")
+}
+
+// Whether nothing was passed over.
+fn is_none_passed(files: usize, folders: usize) -> bool
+    ensures { result ≡ none_passed files folders }
+{
+    files == 0 && folders == 0
+}
+
+// Adds a line: how many Go files and folders were passed over.
+fn push_passed(
+    alloc: Global,
+    notes: &mut String,
+    files: usize,
+    folders: usize,
+) -> Result<(), AllocError>
+    ensures { OnOk result (string_bytes notes.new ≡ string_bytes notes.old ++ counts_line files folders) }
+{
+    push(notes, "govisd: passed over by name: Go files ")?;
+    push_number(alloc, notes, files)?;
+    push(notes, ", folders ")?;
+    push_number(alloc, notes, folders)?;
+    push(notes, "\n")
+}
+
+/// Adds a line: how many Go files and folders were passed over by their names, where there are any.
+///
+/// # Errors
+///
+/// `AllocError` for want of memory.
+pub fn note_passed(
+    alloc: Global,
+    notes: &mut String,
+    files: usize,
+    folders: usize,
+) -> Result<(), AllocError>
+    ensures { OnOk result (string_bytes notes.new ≡ string_bytes notes.old ++ passed_line files folders) }
+{
+    if is_none_passed(files, folders) {
+        return Ok(());
+    }
+    push_passed(alloc, notes, files, folders)
+}

@@ -1,0 +1,312 @@
+//! The source files below a folder.
+use crate::notes::{note, note_rule};
+use crate::progress::Progress;
+use go_folder_core::{FileKind, MAX_FILES, below, file_kind, is_passed_over};
+use go_text_core::Rule;
+use std::alloc::{AllocError, Global};
+use std::collections::BTreeMap;
+use std::fs::{DirEntry, Metadata};
+use std::{fs, io};
+
+/// The greatest number of folders that lie one in another, the one that is checked among them: a package's path has at most 16 elements.
+const MAX_DEPTH: usize = 16;
+
+/// The greatest number of bytes of a text.
+const MAX_BYTES: usize = 1_048_576;
+
+/// The source files of a folder: its path from the one that is checked, and the texts by their names.
+#[derive(Drop)]
+pub struct FolderFiles {
+    pub folder: String,
+    pub files: BTreeMap<String, String>,
+}
+
+/// What was found in a folder and below it.
+#[derive(Drop)]
+pub struct Found {
+    /// The folders with source files.
+    pub folders: Vec<FolderFiles>,
+    /// Lines that name what was left out.
+    pub left_out: String,
+    /// The number of Go files that were passed over by their names.
+    pub passed_files: usize,
+    /// The number of folders that were passed over by their names, but for those that begin with a dot.
+    pub passed_folders: usize,
+}
+
+/// What a name in a folder stands for.
+#[derive(Clone, Copy)]
+enum EntryKind {
+    Folder,
+    FolderLink,
+    File,
+    Other,
+}
+
+/// Where a reading stands: the system, and the path of the folder that is checked.
+#[derive(Clone, Copy)]
+struct Place<'a> {
+    rt: &'a HostRuntime,
+    root: &'a str,
+}
+
+fn kind_of(metadata: &Metadata) -> EntryKind {
+    if metadata.is_dir() {
+        return EntryKind::Folder;
+    }
+    if metadata.is_file() {
+        return EntryKind::File;
+    }
+    EntryKind::Other
+}
+
+/// What lies at a path: a link to a file is as the file, and one to nothing is no file.
+fn look(rt: &HostRuntime, path: &str) -> io::Result<EntryKind> {
+    let own = fs::symlink_metadata(rt, path)?;
+    if !own.is_symlink() {
+        return Ok(kind_of(&own));
+    }
+    let Ok(behind) = fs::metadata(rt, path) else {
+        return Ok(EntryKind::Other);
+    };
+    if behind.is_dir() {
+        return Ok(EntryKind::FolderLink);
+    }
+    Ok(kind_of(&behind))
+}
+
+/// Adds a line: why what lies at a path cannot be read.
+fn note_error(
+    alloc: Global,
+    notes: &mut String,
+    path: &str,
+    error: &io::Error,
+) -> Result<(), AllocError> {
+    let why = error.to_string(alloc)?;
+    note(notes, path, why.as_str())
+}
+
+/// Adds the name of an entry, or says why there is none.
+fn add_name(
+    alloc: Global,
+    notes: &mut String,
+    names: &mut Vec<String>,
+    folder: &str,
+    entry: io::Result<DirEntry<HostRuntime>>,
+) -> Result<(), AllocError> {
+    match entry {
+        Ok(entry) => {
+            names.push(String::from_str(alloc, entry.file_name())?)?;
+            Ok(())
+        }
+        Err(error) => note_error(alloc, notes, folder, &error),
+    }
+}
+
+/// The names in the folder at a path, in order, as far as they can be read.
+fn names_in(
+    rt: &HostRuntime,
+    notes: &mut String,
+    folder: &str,
+    path: &str,
+) -> Result<Vec<String>, AllocError> {
+    let alloc = rt.alloc();
+    let mut names = Vec::new(alloc);
+    match fs::read_dir(rt, path) {
+        Ok(entries) => {
+            for entry in entries {
+                add_name(alloc, notes, &mut names, folder, entry)?;
+            }
+        }
+        Err(error) => note_error(alloc, notes, folder, &error)?,
+    }
+    names.sort()?;
+    Ok(names)
+}
+
+/// The text of the file at a path, or the rule that refuses it.
+fn text_at(rt: &HostRuntime, path: &str) -> io::Result<Result<String, Rule>> {
+    let most = u64::try_from(MAX_BYTES).unwrap_or(u64::MAX);
+    if fs::metadata(rt, path)?.len() > most {
+        return Ok(Err(Rule::E3));
+    }
+    let bytes = fs::read(rt, path)?;
+    if bytes.len() > MAX_BYTES {
+        return Ok(Err(Rule::E3));
+    }
+    match String::from_utf8(bytes) {
+        Ok(text) => Ok(Ok(text)),
+        Err(_) => Ok(Err(Rule::L1)),
+    }
+}
+
+/// Adds the text of a source file, or says why it is left out.
+fn add_file(
+    place: Place<'_>,
+    notes: &mut String,
+    files: &mut BTreeMap<String, String>,
+    name: String,
+    own: &str,
+    path: &str,
+) -> Result<(), AllocError> {
+    if files.len() >= MAX_FILES {
+        return note_rule(notes, own, Rule::E4);
+    }
+    match text_at(place.rt, path) {
+        Ok(Ok(text)) => match files.insert(name, text) {
+            Ok(_) => Ok(()),
+            Err(_) => Err(AllocError),
+        },
+        Ok(Err(rule)) => note_rule(notes, own, rule),
+        Err(error) => note_error(place.rt.alloc(), notes, own, &error),
+    }
+}
+
+/// Adds what is no folder: the text of a source file, or why it is left out.
+fn add_other(
+    place: Place<'_>,
+    found: &mut Found,
+    files: &mut BTreeMap<String, String>,
+    kind: EntryKind,
+    name: String,
+    own: &str,
+    path: &str,
+) -> Result<(), AllocError> {
+    match (file_kind(name.as_str()), kind) {
+        (FileKind::Other, _) => {
+            if name.as_str().ends_with(".go") {
+                found.passed_files = found.passed_files.saturating_add(1);
+            }
+            Ok(())
+        }
+        (FileKind::BadName, _) => note_rule(&mut found.left_out, own, Rule::E2),
+        (FileKind::Source, EntryKind::File) => {
+            add_file(place, &mut found.left_out, files, name, own, path)
+        }
+        (FileKind::Source, _) => note(&mut found.left_out, own, "no regular file"),
+    }
+}
+
+/// Notes a folder that is passed over by its name, unless the name begins with a dot.
+fn pass_over(found: &mut Found, name: &str) {
+    if !name.starts_with('.') {
+        found.passed_folders = found.passed_folders.saturating_add(1);
+    }
+}
+
+/// Adds what lies in a folder by a name: a source file to the files, a folder to those that are read next.
+fn add_entry(
+    place: Place<'_>,
+    found: &mut Found,
+    files: &mut BTreeMap<String, String>,
+    next: &mut Vec<String>,
+    folder: &str,
+    name: String,
+) -> Result<(), AllocError> {
+    let alloc = place.rt.alloc();
+    let own = below(alloc, folder, name.as_str())?;
+    let path = below(alloc, place.root, own.as_str())?;
+    match look(place.rt, path.as_str()) {
+        Ok(EntryKind::Folder) => {
+            if is_passed_over(name.as_str()) {
+                pass_over(found, name.as_str());
+                return Ok(());
+            }
+            next.push(own)?;
+            Ok(())
+        }
+        Ok(EntryKind::FolderLink) => {
+            if is_passed_over(name.as_str()) {
+                pass_over(found, name.as_str());
+                return Ok(());
+            }
+            note(
+                &mut found.left_out,
+                own.as_str(),
+                "a link to a folder, which is not followed",
+            )
+        }
+        Ok(kind) => add_other(place, found, files, kind, name, own.as_str(), path.as_str()),
+        Err(error) => note_error(alloc, &mut found.left_out, own.as_str(), &error),
+    }
+}
+
+/// Adds the source files of a folder, and the folders in it to those that are read next.
+fn add_folder(
+    place: Place<'_>,
+    found: &mut Found,
+    next: &mut Vec<String>,
+    folder: String,
+) -> Result<(), AllocError> {
+    let alloc = place.rt.alloc();
+    let path = below(alloc, place.root, folder.as_str())?;
+    let said = if folder.as_str().is_empty() {
+        "."
+    } else {
+        folder.as_str()
+    };
+    let names = names_in(place.rt, &mut found.left_out, said, path.as_str())?;
+    let mut files = BTreeMap::new(alloc);
+    for name in names {
+        add_entry(place, found, &mut files, next, folder.as_str(), name)?;
+    }
+    if files.len() > 0 {
+        found.folders.push(FolderFiles { folder, files })?;
+    }
+    Ok(())
+}
+
+/// Adds the source files of folders that lie equally deep, and answers the folders in them, which are read next.
+fn add_level(
+    place: Place<'_>,
+    found: &mut Found,
+    progress: &mut Progress<'_>,
+    folders: Vec<String>,
+) -> Result<Vec<String>, AllocError> {
+    let mut next = Vec::new(place.rt.alloc());
+    for folder in folders {
+        add_folder(place, found, &mut next, folder)?;
+        progress.read(found.folders.len());
+    }
+    Ok(next)
+}
+
+/// Adds the source files of the folder that is checked and of all folders in it but those that are passed over. Folders that lie too deep for
+/// the path of a package are left out, and that is said.
+fn add_all(
+    place: Place<'_>,
+    found: &mut Found,
+    progress: &mut Progress<'_>,
+) -> Result<(), AllocError> {
+    let alloc = place.rt.alloc();
+    let mut folders = Vec::new(alloc);
+    folders.push(String::new(alloc))?;
+    for _depth in 0..MAX_DEPTH {
+        folders = add_level(place, found, progress, folders)?;
+    }
+    for folder in folders {
+        note_rule(&mut found.left_out, folder.as_str(), Rule::E1)?;
+    }
+    Ok(())
+}
+
+/// The source files of the folder at a path, and of all folders in it but those that are passed over.
+///
+/// # Errors
+///
+/// `AllocError` for want of memory.
+pub fn found_below(
+    rt: &HostRuntime,
+    root: &str,
+    progress: &mut Progress<'_>,
+) -> Result<Found, AllocError> {
+    let alloc = rt.alloc();
+    let mut found = Found {
+        folders: Vec::new(alloc),
+        left_out: String::new(alloc),
+        passed_files: 0,
+        passed_folders: 0,
+    };
+    add_all(Place { rt, root }, &mut found, progress)?;
+    Ok(found)
+}

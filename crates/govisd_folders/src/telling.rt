@@ -1,0 +1,221 @@
+//! How faults are written.
+ghost use Rattle.std.specs.Prelude.{◌≡◌, ◌++◌, ◌<◌, List, ℕ, IfOk, OnOk, length, option_map, string_bytes};
+ghost use Rattle.go_folder_core.specs.Folders.{joined};
+ghost use Rattle.govisd_folders.specs.Telling.{AddsFault, AddsLine, AddsLines, AreTold, count_text, faults_text, json_text, line_text, packages_text, place_text, source_at};
+
+use crate::notes::{push, push_number};
+use go_explain_core::meaning;
+use go_folder_core::{Position, below, position_of};
+use go_snap_core::PlacedFault;
+use go_snap_core::graph_core::{SourceFile, Workspace};
+use go_text_core::Rule;
+use std::alloc::{AllocError, Global};
+
+// The path of a package's folder from that of the module, where the package lies below the module.
+fn folder_of<'a>(module_path: &str, package: &'a str) -> &'a str
+    ensures { (folder : List ℕ) → 0 < length module_path.now → «package».now ≡ joined module_path.now folder → result.now ≡ folder }
+{
+    match package.strip_prefix(module_path) {
+        Some(behind) => match behind.strip_prefix('/') {
+            Some(folder) => folder,
+            None => "",
+        },
+        None => "",
+    }
+}
+
+// Adds a place, as `a.go:7:9`.
+fn push_place(alloc: Global, out: &mut String, file: &str, at: Position) -> Result<(), AllocError>
+    ensures { OnOk result (string_bytes out.new ≡ string_bytes out.old ++ place_text file.now at) }
+{
+    push(out, file)?;
+    push(out, ":")?;
+    push_number(alloc, out, at.line)?;
+    push(out, ":")?;
+    push_number(alloc, out, at.column)
+}
+
+// Adds the line of a fault.
+fn push_line(
+    alloc: Global,
+    out: &mut String,
+    file: &str,
+    at: Position,
+    rule: Rule,
+) -> Result<(), AllocError>
+    ensures { OnOk result (string_bytes out.new ≡ string_bytes out.old ++ line_text file.now at rule) }
+{
+    push_place(alloc, out, file, at)?;
+    push(out, ": ")?;
+    push(out, rule.number())?;
+    push(out, " ")?;
+    push(out, meaning(rule))?;
+    push(out, "\n")
+}
+
+// Adds the JSON object of a fault.
+fn push_json(
+    alloc: Global,
+    out: &mut String,
+    package: &str,
+    file: &str,
+    at: Position,
+    offset: usize,
+    rule: Rule,
+) -> Result<(), AllocError>
+    ensures { OnOk result (string_bytes out.new ≡ string_bytes out.old ++ json_text «package».now file.now at offset rule) }
+{
+    push(out, "{\"column\":")?;
+    push_number(alloc, out, at.column)?;
+    push(out, ",\"file\":\"")?;
+    push(out, file)?;
+    push(out, "\",\"line\":")?;
+    push_number(alloc, out, at.line)?;
+    push(out, ",\"meaning\":\"")?;
+    push(out, meaning(rule))?;
+    push(out, "\",\"offset\":")?;
+    push_number(alloc, out, offset)?;
+    push(out, ",\"package\":\"")?;
+    push(out, package)?;
+    push(out, "\",\"rule\":\"")?;
+    push(out, rule.number())?;
+    push(out, "\"}\n")
+}
+
+// Adds a fault in a file, in one of the two forms.
+fn push_fault(
+    alloc: Global,
+    out: &mut String,
+    json: bool,
+    package: &str,
+    file: &str,
+    text: &str,
+    fault: PlacedFault,
+) -> Result<(), AllocError>
+    ensures { OnOk result (AddsFault json «package».now file.now text.now fault.offset fault.rule (string_bytes out.old) (string_bytes out.new)) }
+{
+    let at = position_of(text, fault.offset);
+    if json {
+        return push_json(alloc, out, package, file, at, fault.offset, fault.rule);
+    }
+    push_line(alloc, out, file, at, fault.rule)
+}
+
+// The package and the file of a fault.
+fn source_of<'a>(workspace: &'a Workspace, fault: PlacedFault) -> Option<(&'a str, &'a SourceFile)>
+    ensures { option_map (λ s. (s.0.now, s.1.now)) result ≡ source_at workspace.now fault }
+{
+    match workspace.packages().get(fault.package) {
+        Some(package) => match package.files().get(fault.file) {
+            Some(file) => Some((package.path().as_str(), file)),
+            None => None,
+        },
+        None => None,
+    }
+}
+
+// Adds a fault of a workspace.
+fn push_placed(
+    alloc: Global,
+    out: &mut String,
+    json: bool,
+    module_path: &str,
+    workspace: &Workspace,
+    fault: PlacedFault,
+) -> Result<(), AllocError>
+    ensures { OnOk result (AddsLine json module_path.now workspace.now fault (string_bytes out.old) (string_bytes out.new)) }
+{
+    let Some((package, source)) = source_of(workspace, fault) else {
+        return Ok(());
+    };
+    let file = below(alloc, folder_of(module_path, package), source.name())?;
+    push_fault(
+        alloc,
+        out,
+        json,
+        package,
+        file.as_str(),
+        source.text(),
+        fault,
+    )
+}
+
+// Adds the faults of a workspace.
+fn push_all(
+    alloc: Global,
+    out: &mut String,
+    json: bool,
+    module_path: &str,
+    workspace: &Workspace,
+    faults: &[PlacedFault],
+) -> Result<(), AllocError>
+    ensures { OnOk result (AddsLines json module_path.now workspace.now faults.now (string_bytes out.old) (string_bytes out.new)) }
+{
+    for fault in faults {
+        push_placed(alloc, out, json, module_path, workspace, *fault)?;
+    }
+    Ok(())
+}
+
+// Adds how many faults there are.
+fn push_faults(alloc: Global, out: &mut String, faults: usize) -> Result<(), AllocError>
+    ensures { OnOk result (string_bytes out.new ≡ string_bytes out.old ++ faults_text faults) }
+{
+    if faults == 0 {
+        return push(out, "no faults");
+    }
+    if faults == 1 {
+        return push(out, "1 fault");
+    }
+    push_number(alloc, out, faults)?;
+    push(out, " faults")
+}
+
+// Adds how many packages there are.
+fn push_packages(alloc: Global, out: &mut String, packages: usize) -> Result<(), AllocError>
+    ensures { OnOk result (string_bytes out.new ≡ string_bytes out.old ++ packages_text packages) }
+{
+    if packages == 1 {
+        return push(out, "1 package");
+    }
+    push_number(alloc, out, packages)?;
+    push(out, " packages")
+}
+
+// Adds the line that says how many faults there are in how many packages.
+fn push_count(
+    alloc: Global,
+    out: &mut String,
+    faults: usize,
+    packages: usize,
+) -> Result<(), AllocError>
+    ensures { OnOk result (string_bytes out.new ≡ string_bytes out.old ++ count_text faults packages) }
+{
+    push_faults(alloc, out, faults)?;
+    push(out, " in ")?;
+    push_packages(alloc, out, packages)?;
+    push(out, "\n")
+}
+
+/// The faults of the packages below a module, as they are written: a line for each, and behind the lines how many there are.
+/// As JSON each is one object in a line, and nothing stands behind.
+///
+/// # Errors
+///
+/// `AllocError` for want of memory.
+pub fn told(
+    alloc: Global,
+    json: bool,
+    module_path: &str,
+    workspace: &Workspace,
+    faults: &[PlacedFault],
+) -> Result<String, AllocError>
+    ensures { IfOk result (λ text. AreTold json module_path.now workspace.now faults.now (string_bytes text)) }
+{
+    let mut out = String::new(alloc);
+    push_all(alloc, &mut out, json, module_path, workspace, faults)?;
+    if !json {
+        push_count(alloc, &mut out, faults.len(), workspace.packages().len())?;
+    }
+    Ok(out)
+}
