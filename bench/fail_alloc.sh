@@ -1,11 +1,22 @@
 #!/usr/bin/env bash
 # Makes each allocation of `govisd resolve` fail in turn, over the source of examples/shadowing.go (or the file that is
-# given): each run must end with the right report, or with none, a message and status 1; never with another report.
+# given), or of `govisd check` with what follows the word check: each run must end with the right report, or with none, a
+# message and status 1; never with another report.
+#
+#     bench/fail_alloc.sh
+#     bench/fail_alloc.sh FILE.go
+#     bench/fail_alloc.sh check examples/shop --module ex.com/shop
 set -euo pipefail
 
 here=$(cd "$(dirname "$0")" && pwd)
 govisd=${GOVISD:-$here/../crates/govisd/out/govisd}
-source=${1:-$here/../examples/shadowing.go}
+if [ "${1:-}" = check ]; then
+    source=/dev/null
+    words=("$@")
+else
+    source=${1:-$here/../examples/shadowing.go}
+    words=(resolve)
+fi
 [ -x "$govisd" ] || { echo "fail_alloc.sh: no program $govisd: run ./govisd once, or give GOVISD" >&2; exit 2; }
 
 work=$(mktemp -d)
@@ -16,7 +27,7 @@ cc -O1 -shared -fPIC -o "$work/fail.so" "$here/fail_alloc.c" -ldl
 run() {
     status=0
     FAIL_ALLOC=$1 FAIL_ALLOC_COUNT=$work/count LD_PRELOAD=$work/fail.so \
-        "$govisd" resolve <"$source" >"$work/out" 2>"$work/err" || status=$?
+        "$govisd" "${words[@]}" <"$source" >"$work/out" 2>"$work/err" || status=$?
 }
 
 run 0

@@ -57,7 +57,7 @@ var table = map[string][]form{
 	"UnexportedLitField":       {{"F7", "literal"}},
 	"InvalidLit":               {{"F8", "literal"}},
 	"AmbiguousSelector":        {{"S2", "at"}},
-	"UndeclaredImportedName":   {{"N3", "at"}},
+	"UndeclaredImportedName":   {{"N3", "at"}, {"S8", "at"}},
 	"UnexportedName":           {{"N2", "at"}},
 	"UndeclaredName":           {{"N1", "at"}},
 	"MissingFieldOrMethod":     {{"S1", "at"}, {"S3", "at"}, {"S4", "at"}, {"S6", "at"}, {"S7", "at"}, {"S8", "at"}},
