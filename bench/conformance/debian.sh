@@ -10,10 +10,7 @@
 set -u
 
 bench=$(dirname -- "$(dirname -- "$(readlink -f -- "$0")")")
-. "$bench/program.sh"
-mkdir -p "$out" || exit 2
-go=$("$bench/go_command.sh") || exit 2
-peer=$("$bench/go_peer.sh" conformance/gopackages) || exit 2
+. "$bench/conformance/checked_folders.sh"
 
 wanted='golang-golang-x-tools-dev golang-google-grpc-dev golang-github-prometheus-client-golang-dev golang-github-spf13-cobra-dev golang-github-docker-docker-dev golang-github-go-git-go-git-dev golang-go.uber-zap-dev'
 if [ "${INSTALL:-1}" = 1 ] && ! dpkg -s $wanted >/dev/null 2>&1; then

@@ -10,10 +10,7 @@
 set -u
 
 bench=$(dirname -- "$(dirname -- "$(readlink -f -- "$0")")")
-. "$bench/program.sh"
-mkdir -p "$out" || exit 2
-go=$("$bench/go_command.sh") || exit 2
-peer=$("$bench/go_peer.sh" conformance/gopackages) || exit 2
+. "$bench/conformance/checked_folders.sh"
 folder=$out/workspaces
 rm -rf "$folder"
 "$peer" several "$folder/archives" "${WORKSPACES:-1200}" 7 >"$out/workspaces_forms.txt" || exit 2
