@@ -2,14 +2,14 @@
 use Rattle.std.proofs.Common.{◌≡◌, ◌+◌, ℕ, List, Option, Some, None, refl, sym, ap, subst, ◌∙◌, arith}
 use Rattle.std.specs.Prelude.{slice_get}
 use Rattle.std.specs.List.{AllZip}
-use Rattle.go_locality_core.specs.Laws.{CheckIsLocal, ImportsBindTheirs}
-use Rattle.go_locality_core.specs.graph_core.PlanLaws.{has_plan}
-use Rattle.go_locality_core.specs.block_core.Exports.{ExportsModel}
-use Rattle.go_locality_core.specs.block_core.Growing.{given_weaker, package_weaker}
-use Rattle.go_part_core.specs.Laws.{OnePart}
-use Rattle.go_part_core.specs.summary_core.Summaries.{SummaryModel}
-use Rattle.go_part_core.specs.Inputs.{InputModel}
-use Rattle.go_part_core.specs.Parts.{IsPart, PartModel}
+use Rattle.go_whole_core.specs.locality_core.Laws.{CheckIsLocal, ImportsBindTheirs}
+use Rattle.go_whole_core.specs.graph_core.PlanLaws.{has_plan}
+use Rattle.go_whole_core.specs.block_core.Exports.{ExportsModel}
+use Rattle.go_whole_core.specs.block_core.Growing.{given_weaker, package_weaker}
+use Rattle.go_whole_core.specs.part_core.Laws.{OnePart}
+use Rattle.go_whole_core.specs.summary_core.Summaries.{SummaryModel}
+use Rattle.go_whole_core.specs.part_core.Inputs.{InputModel}
+use Rattle.go_whole_core.specs.part_core.Parts.{IsPart, PartModel}
 use Rattle.go_whole_core.specs.graph_core.declared.imports.ImportAt.{ImportAt}
 use Rattle.go_whole_core.specs.graph_core.Packages.{trees_of}
 use Rattle.go_whole_core.specs.graph_core.Workspaces.{PackageModel, IsWorkspace}

@@ -8,6 +8,7 @@ pub mod entry_core
 pub mod expr_core
 pub mod face_core
 pub mod graph_core
+pub mod locality_core
 pub mod parse_core
 pub mod part_core
 pub mod ready_core

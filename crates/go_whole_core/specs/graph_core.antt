@@ -4,6 +4,7 @@ pub use Rattle.go_locality_core.specs.graph_core.AssemblyLaws as AssemblyLaws
 pub use Rattle.go_locality_core.specs.graph_core.Imports as Imports
 pub use Rattle.go_locality_core.specs.graph_core.Lists as Lists
 pub use Rattle.go_locality_core.specs.graph_core.Packages as Packages
+pub use Rattle.go_locality_core.specs.graph_core.PlanLaws as PlanLaws
 pub use Rattle.go_locality_core.specs.graph_core.Plans as Plans
 pub use Rattle.go_locality_core.specs.graph_core.Sources as Sources
 pub use Rattle.go_locality_core.specs.graph_core.Workspaces as Workspaces

@@ -38,7 +38,7 @@ pub mod locality_core {
 
 /// What the crates above name of `go_part_core`.
 pub mod part_core {
-    pub use go_part_core::{Part, PartInput, compile_over};
+    pub use go_part_core::{Part, PartInput, compile_over, one_part};
 }
 
 /// What the crates above name of `go_reach_core`.

@@ -4,7 +4,7 @@ use Rattle.std.proofs.lemmas.List.{append-nil}
 use Rattle.go_text_core.specs.declared.rule.Rule.TheVariants.{E1}
 use Rattle.go_path_core.specs.Path.{IsPath}
 use Rattle.go_folder_core.specs.Folders.{joined}
-use Rattle.go_whole_core.specs.graph_core.Workspaces.{PackageModel, Puts}
+use Rattle.go_snap_core.specs.graph_core.Workspaces.{PackageModel, Puts}
 use Rattle.govisd_folders.specs.Notes.{refusal_line}
 use Rattle.govisd_folders.specs.Puts.{ArePut, FolderModel, IsPathOf, IsPut, StateModel}
 

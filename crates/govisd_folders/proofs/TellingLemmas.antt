@@ -1,7 +1,7 @@
 -- Faults that are written one behind another.
 use Rattle.std.proofs.Common.{◌∙◌, ℕ, ◌+◌, ◌<◌, ◌≤◌, Bool, List, [], ◌∷◌, ◌++◌, length, get_or, take, append_assoc, refl, sym, ap, subst}
 use Rattle.std.proofs.lemmas.List.{append-nil, take_more, take_all}
-use Rattle.go_whole_core.specs.graph_core.Workspaces.{PackageModel}
+use Rattle.go_snap_core.specs.graph_core.Workspaces.{PackageModel}
 use Rattle.go_snap_core.specs.declared.fault.PlacedFault.{PlacedFault}
 use Rattle.govisd_folders.specs.Telling.{AddsLine, AddsLines, AreLines, IsLine}
 

@@ -1,9 +1,9 @@
 -- What a check of folders answers.
 use Rattle.std.specs.Prelude.{◌≡◌, ◌⊎◌, ℕ, Bool, List, [], ◌∷◌, ◌++◌, Option, Some, None, string_bytes, ⊤}
 use Rattle.go_path_core.specs.Path.{IsPath}
-use Rattle.go_whole_core.specs.graph_core.Workspaces.{PackageModel}
+use Rattle.go_snap_core.specs.graph_core.Workspaces.{PackageModel}
 use Rattle.go_snap_core.specs.declared.fault.PlacedFault.{PlacedFault}
-use Rattle.go_whole_core.specs.part_core.Parts.{PartModel}
+use Rattle.go_snap_core.specs.part_core.Parts.{PartModel}
 use Rattle.go_snap_core.specs.Snapshots.{IsSnapshot}
 use Rattle.govisd_folders.specs.declared.checking.Answer.{Answer}
 use Rattle.govisd_folders.specs.Notes.{note_line}

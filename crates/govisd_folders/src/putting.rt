@@ -3,7 +3,7 @@ ghost use Rattle.std.specs.Prelude.{◌≡◌, IfOk, OnOk, [], map, string_bytes
 ghost use Rattle.std.specs.List.Sorted.{IsStrictlySortedBy};
 ghost use Rattle.std.specs.Map.{keys_of};
 ghost use Rattle.std.specs.String.{string_cmp};
-ghost use Rattle.go_whole_core.specs.graph_core.Workspaces.{HaveDistinctNames, given_files};
+ghost use Rattle.go_snap_core.specs.graph_core.Workspaces.{HaveDistinctNames, given_files};
 ghost use Rattle.govisd_folders.specs.Puts.{ArePut, IsPathOf, IsPut, folder_of};
 
 use crate::notes::note_rule;

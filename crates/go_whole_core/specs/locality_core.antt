@@ -1,0 +1,2 @@
+-- What the crates above name of go_locality_core.
+pub use Rattle.go_locality_core.specs.Laws as Laws
