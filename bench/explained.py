@@ -15,8 +15,6 @@ import tempfile
 BESIDE = {
     **{rule: {"K4"} for rule in ("L1", "L2", "L3", "P1", "P2")},
     "K4": {"P1"},
-    # an import whose one use is refused is not used
-    **{rule: {"I7"} for rule in ("N2", "N3", "N4")},
     "I6": {"K2"},
     "N9": {"I2", "S4"},
     "S5": {"C1"},

@@ -28,9 +28,9 @@ const EXAMPLES: [&str; 84] = [
     "package a\n\ntype T struct {\n\tname string\n\tname int\n}\n", // B5
     "package a\n\nfunc (n int) Double() int {\n\treturn n + n\n}\n", // B6
     "package a\n\nfunc f() int {\n\treturn x\n}\n", // N1
-    "-- ex.com/a/a.go --\npackage a\n\nimport \"ex.com/b\"\n\nconst n = b.size\n-- ex.com/b/b.go --\npackage b\n\nconst size = 1\n", // N2
-    "-- ex.com/a/a.go --\npackage a\n\nimport \"ex.com/b\"\n\nconst n = b.Size\n-- ex.com/b/b.go --\npackage b\n", // N3
-    "-- ex.com/a/a.go --\npackage a\n\nimport \"ex.com/b\"\n\nconst n = b\n-- ex.com/b/b.go --\npackage b\n\nconst Size = 1\n", // N4
+    "-- ex.com/a/a.go --\npackage a\n\nimport \"ex.com/b\"\n\nconst m = b.Limit\nconst n = b.size\n-- ex.com/b/b.go --\npackage b\n\nconst Limit = 2\nconst size = 1\n", // N2
+    "-- ex.com/a/a.go --\npackage a\n\nimport \"ex.com/b\"\n\nconst m = b.Limit\nconst n = b.Size\n-- ex.com/b/b.go --\npackage b\n\nconst Limit = 2\n", // N3
+    "-- ex.com/a/a.go --\npackage a\n\nimport \"ex.com/b\"\n\nconst m = b.Limit\nconst n = b\n-- ex.com/b/b.go --\npackage b\n\nconst Limit = 2\nconst Size = 1\n", // N4
     "package a\n\nfunc f() int {\n\treturn int\n}\n", // N5
     "package a\n\nconst size = 1\n\nfunc f(n size) {\n}\n", // N6
     "package a\n\nfunc f(x float64) {\n}\n", // N7

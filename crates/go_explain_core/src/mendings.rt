@@ -28,9 +28,9 @@ const MENDINGS: [&str; 84] = [
     "package a\n\ntype T struct {\n\tname string\n\tsize int\n}\n", // B5
     "package a\n\ntype Number int\n\nfunc (n Number) Double() Number {\n\treturn n + n\n}\n", // B6
     "package a\n\nfunc f(x int) int {\n\treturn x\n}\n", // N1
-    "-- ex.com/a/a.go --\npackage a\n\nimport \"ex.com/b\"\n\nconst n = b.Size\n-- ex.com/b/b.go --\npackage b\n\nconst Size = 1\n", // N2
-    "-- ex.com/a/a.go --\npackage a\n\nimport \"ex.com/b\"\n\nconst n = b.Size\n-- ex.com/b/b.go --\npackage b\n\nconst Size = 1\n", // N3
-    "-- ex.com/a/a.go --\npackage a\n\nimport \"ex.com/b\"\n\nconst n = b.Size\n-- ex.com/b/b.go --\npackage b\n\nconst Size = 1\n", // N4
+    "-- ex.com/a/a.go --\npackage a\n\nimport \"ex.com/b\"\n\nconst m = b.Limit\nconst n = b.Size\n-- ex.com/b/b.go --\npackage b\n\nconst Limit = 2\nconst Size = 1\n", // N2
+    "-- ex.com/a/a.go --\npackage a\n\nimport \"ex.com/b\"\n\nconst m = b.Limit\nconst n = b.Size\n-- ex.com/b/b.go --\npackage b\n\nconst Limit = 2\nconst Size = 1\n", // N3
+    "-- ex.com/a/a.go --\npackage a\n\nimport \"ex.com/b\"\n\nconst m = b.Limit\nconst n = b.Size\n-- ex.com/b/b.go --\npackage b\n\nconst Limit = 2\nconst Size = 1\n", // N4
     "package a\n\nfunc f() int {\n\treturn int(1)\n}\n", // N5
     "package a\n\ntype size int\n\nfunc f(n size) {\n}\n", // N6
     "package a\n\nfunc f(x int) {\n}\n", // N7
