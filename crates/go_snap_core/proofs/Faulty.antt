@@ -20,14 +20,14 @@ use Rattle.go_snap_core.specs.mirrors.Reports.{AddsUnassembled, AreFaultsTo, Are
 use Rattle.go_whole_core.proofs.Lists.{one_at}
 use Rattle.go_snap_core.proofs.Reporting.{all_faults, one_more, package_all}
 
-contents_at : (parts : List (Option PartModel)) (n : ℕ) (x : Option PartModel) → slice_get parts n ≡ Some x → slice_get (contents_of parts) n ≡ Some (option_map (λ (p : PartModel). p.content) x)
+pub contents_at : (parts : List (Option PartModel)) (n : ℕ) (x : Option PartModel) → slice_get parts n ≡ Some x → slice_get (contents_of parts) n ≡ Some (option_map (λ (p : PartModel). p.content) x)
 contents_at parts n x h = slice_get-map (option_map (λ (p : PartModel). p.content)) parts n ∙ ap (option_map (option_map (λ (p : PartModel). p.content))) h
 
 -- what is reported of each file of a part is in order
 reports_ordered : (i : InputModel) (c : ContentOf) → IsPart i c → (k : ℕ) (x : FileOf) → slice_get c.files k ≡ Some x → AllPairs report.ComesBefore x.report
 reports_ordered i c made k x at = (let b = numbered_back (IsFileMadeIn c.blocks made.checked.files) 0 (trees_in i.source) c.files k x made.files at in b.2.made_of.reported.ordered)
 
-read_there : (ps : List PackageModel) (n : ℕ) (p : PackageModel) → IsWorkspace ps → slice_get ps n ≡ Some p → All IsRead p.1
+pub read_there : (ps : List PackageModel) (n : ℕ) (p : PackageModel) → IsWorkspace ps → slice_get ps n ≡ Some p → All IsRead p.1
 read_there ps n p well at = subst AreAllRead (get_or_from_slice_get ps n p p at) (well.read n p (slice_get_within ps n p at))
 
 module _ (ps : List PackageModel) (parts : List (Option PartModel)) (well : IsWorkspace ps) (all : AreParts ps parts) where

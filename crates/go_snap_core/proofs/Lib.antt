@@ -8,3 +8,5 @@ pub mod Finding
 pub mod Rising
 pub mod OneFaults
 pub mod OneSnapshot
+pub mod Lying
+pub mod Placing

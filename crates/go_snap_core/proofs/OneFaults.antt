@@ -10,7 +10,7 @@ use Rattle.go_snap_core.proofs.Rising.{ordered_same}
 use Rattle.go_snap_core.proofs.Searching.{never_less}
 
 -- no two faults stand each before the other
-never_both : (f g : PlacedFault) → ComesBefore f g → ComesBefore g f → ⊥
+pub never_both : (f g : PlacedFault) → ComesBefore f g → ComesBefore g f → ⊥
 never_both f g (InPackage a) (InPackage b) = omega (arith, a, b)
 never_both f g (InPackage a) (InFile p b) = omega (arith, a, p)
 never_both f g (InPackage a) (ByOffset p q b) = omega (arith, a, p)

@@ -200,7 +200,7 @@ rule_of s fault read e = of_syntax s.text fault (subst (IsContent s.text) e read
 
 -- a package that is not assembled
 
-read_at : (ss : List SourceModel) (i : ℕ) (s : SourceModel) → All IsRead ss → slice_get ss i ≡ Some s → IsRead s
+pub read_at : (ss : List SourceModel) (i : ℕ) (s : SourceModel) → All IsRead ss → slice_get ss i ≡ Some s → IsRead s
 read_at ss i s all at = subst IsRead (get_or_from_slice_get ss i s s at) (all i s (slice_get_within ss i s at))
 
 no_clause : (s : SourceModel) (fault : SynFault) → s.content ≡ Err fault → HasNoClause s

@@ -51,7 +51,7 @@ rises x y q Greater up h = at_most (by_bytes x q)
     at_most Equal = omega arith
     at_most Greater = omega arith
 
-some_item : {A : Type 0} (xs : List A) (i : ℕ) → i < length xs → (x : A) × (slice_get xs i ≡ Some x)
+pub some_item : {A : Type 0} (xs : List A) (i : ℕ) → i < length xs → (x : A) × (slice_get xs i ≡ Some x)
 some_item [] i lt = absurd (omega arith)
 some_item (x ∷ xs) zero lt = (x, refl)
 some_item (x ∷ xs) (suc i) lt = some_item xs i (omega (arith, lt))

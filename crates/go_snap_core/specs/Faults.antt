@@ -59,6 +59,13 @@ pub data ComesBefore (f g : PlacedFault) : Type 0 where
   ByOffset : f.«package» ≡ g.«package» → f.file ≡ g.file → f.offset < g.offset → ComesBefore f g
   ByRule : f.«package» ≡ g.«package» → f.file ≡ g.file → f.offset ≡ g.offset → number_order f.rule g.rule ≡ Less → ComesBefore f g
 
+-- the file of the workspace in which it lies
+pub record LiesIn (ps : List PackageModel) (f : PlacedFault) : Type 0 where
+  pub of_package : PackageModel
+  pub there : slice_get ps f.«package» ≡ Some of_package
+  pub source : SourceModel
+  pub in_package : slice_get of_package.1 f.file ≡ Some source
+
 -- exactly the faults, in order, each once
 pub record AreFaults (ps : List PackageModel) (cs : List (Option ContentOf)) (faults : List PlacedFault) : Type 0 where
   pub ordered : AllPairs ComesBefore faults

@@ -1,5 +1,5 @@
 //! Laws of snapshots, with nothing to run.
-ghost use Rattle.go_snap_core.specs.Laws.{OneSnapshot};
+ghost use Rattle.go_snap_core.specs.Laws.{FaultsDiffer, FaultsLieInFiles, NoFaultNoRefusal, OneSnapshot, RefusalsAreFaults, UnassembledFaultsLieInTexts};
 
 use go_whole_core::locality_core::{check_is_local, imports_bind_theirs};
 use go_whole_core::part_core::one_part;
@@ -15,3 +15,24 @@ pub fn one_snapshot()
     imports_bind_theirs();
     one_part();
 }
+
+/// Each fault of a snapshot lies in a file of its workspace, by the numbers of its package and of its file. Where the files of a package do not
+/// assemble, it stands in the text of its file, or at its end.
+pub fn faults_lie_in_files()
+    ensures files { FaultsLieInFiles }
+    ensures texts { UnassembledFaultsLieInTexts }
+{}
+
+/// No two faults of a snapshot are the same.
+pub fn faults_differ()
+    ensures { FaultsDiffer }
+{}
+
+/// What an occurrence of a file is refused by is a fault of this file. Where there is no fault, each package is assembled and each occurrence of its
+/// files has a declaration.
+///
+/// The Go specification, "Declarations and scope", "Packages".
+pub fn refusals_are_faults()
+    ensures faults { RefusalsAreFaults }
+    ensures none { NoFaultNoRefusal }
+{}

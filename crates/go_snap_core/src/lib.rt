@@ -11,7 +11,7 @@ mod snapshot;
 
 pub use fault::PlacedFault;
 pub use inputs::input_of;
-pub use laws::one_snapshot;
+pub use laws::{faults_differ, faults_lie_in_files, one_snapshot, refusals_are_faults};
 pub use making::compile;
 pub use snapshot::{Snapshot, join};
 
