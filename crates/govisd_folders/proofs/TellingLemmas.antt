@@ -1,9 +1,63 @@
--- Faults that are written one behind another.
-use Rattle.std.proofs.Common.{◌∙◌, ℕ, ◌+◌, ◌<◌, ◌≤◌, Bool, List, [], ◌∷◌, ◌++◌, length, get_or, take, append_assoc, refl, sym, ap, subst}
+-- Faults that are written one behind another, each of the file in which it lies.
+use Rattle.std.proofs.Common.{◌≡◌, ◌∙◌, ℕ, ◌+◌, ◌<◌, ◌≤◌, Bool, List, [], ◌∷◌, ◌++◌, length, get_or, take, append_assoc, All, Option, Some, None, Result, Ok, Err, OnOk, refl, sym, ap, subst}
+use Rattle.std.specs.Prelude.{option_and_then, option_map, slice_get}
 use Rattle.std.proofs.lemmas.List.{append-nil, take_more, take_all}
+use Rattle.std.proofs.lemmas.Option.{none-some}
 use Rattle.go_snap_core.specs.graph_core.Workspaces.{PackageModel}
 use Rattle.go_snap_core.specs.declared.fault.PlacedFault.{PlacedFault}
-use Rattle.govisd_folders.specs.Telling.{AddsLine, AddsLines, AreLines, IsLine}
+use Rattle.go_folder_core.specs.Folders.{joined}
+use Rattle.go_folder_core.specs.Places.{IsPosition}
+use Rattle.go_snap_core.specs.Faults.{LiesIn}
+use Rattle.go_snap_core.specs.graph_core.Sources.{SourceModel}
+use Rattle.govisd_folders.specs.Telling.{AddsFault, AddsLine, AddsLines, AreLines, IsFolderOf, IsLine, fault_text, source_at}
+
+-- what is made of an answer, by what the answer is
+
+pub none_from : {A B : Type 0} (g : A → B) (o : Option A) (x : Option B) → option_map g o ≡ x → o ≡ None → x ≡ None
+none_from g o x is none = sym is ∙ ap (option_map g) none
+
+pub some_from : {A B : Type 0} (g : A → B) (o : Option A) (x : Option B) (a : A) → option_map g o ≡ x → o ≡ Some a → x ≡ Some (g a)
+some_from g o x a is some = sym is ∙ ap (option_map g) some
+
+-- a fault that lies in a file is found there
+source_there : (ps : List PackageModel) (f : PlacedFault) (h : LiesIn ps f) → source_at ps f ≡ Some (h.of_package.0, h.source)
+source_there ps f h =
+    ap (λ (o : Option PackageModel). option_and_then (λ p. option_map (λ s. (p.0, s)) (slice_get p.1 f.file)) o) h.there
+    ∙ ap (λ (o : Option SourceModel). option_map (λ s. (h.of_package.0, s)) o) h.in_package
+
+pub lies_somewhere : (ps : List PackageModel) (f : PlacedFault) → LiesIn ps f → source_at ps f ≡ None → ⊥
+lies_somewhere ps f h none = none-some _ (sym none ∙ source_there ps f h)
+
+-- the faults of a snapshot, as they are read
+pub lie_in_these : (ps qs : List PackageModel) (faults these : List PlacedFault) → qs ≡ ps → these ≡ faults → All (LiesIn ps) faults → All (LiesIn qs) these
+lie_in_these ps qs faults these packages same h = subst (λ (fs : List PlacedFault). All (LiesIn qs) fs) (sym same) (subst (λ (rs : List PackageModel). All (LiesIn rs) faults) (sym packages) h)
+
+-- the line of a fault
+module _ {X E : Type 0} (r : Result X E) (json : Bool) (own : List ℕ) (ps : List PackageModel) (f : PlacedFault) (path folder file text old new : List ℕ) (s : SourceModel) where
+  line_added : source_at ps f ≡ Some (path, s) → IsFolderOf own path folder → file ≡ joined folder s.name → text ≡ s.text → AddsFault json path file text f.offset f.rule old new → AddsLine json own ps f old new
+  line_added lies below named same h = (
+    fault_text json path file h.at f.offset f.rule,
+    record {
+      path = path;
+      source = s;
+      lies = lies;
+      text = record {
+        folder = folder;
+        below = below;
+        at = h.at;
+        place = subst (λ t. IsPosition (take f.offset t) h.at) same h.place;
+        is = ap (λ t. fault_text json path t h.at f.offset f.rule) named;
+      };
+    },
+    h.is,
+  )
+
+  pub adds_placed : source_at ps f ≡ Some (path, s) → IsFolderOf own path folder → file ≡ joined folder s.name → text ≡ s.text → OnOk r (AddsFault json path file text f.offset f.rule old new) → OnOk r (AddsLine json own ps f old new)
+  adds_placed lies below named same h = by r h
+    where
+      by : (r : Result X E) → OnOk r (AddsFault json path file text f.offset f.rule old new) → OnOk r (AddsLine json own ps f old new)
+      by (Ok x) k = line_added lies below named same k
+      by (Err e) k = tt
 
 module _ (json : Bool) (own : List ℕ) (ps : List PackageModel) where
   -- one more line

@@ -1,5 +1,7 @@
 -- What is said beside the answer.
-use Rattle.std.specs.Prelude.{ℕ, Bool, List, [], ◌++◌, ◌==◌, ◌&&◌, codes, decimal, if◌then◌else◌}
+use Rattle.std.specs.Prelude.{◌≡◌, ℕ, Bool, true, false, List, [], ◌++◌, ◌==◌, ◌&&◌, codes, decimal, if◌then◌else◌}
+use Rattle.std.specs.declared.io.ErrorKind.{ErrorKind}
+use Rattle.std.specs.declared.io.ErrorKind.TheVariants.{OutOfMemory}
 use Rattle.go_text_core.specs.Rules.{rule_number}
 use Rattle.go_text_core.specs.declared.rule.Rule.{Rule}
 use Rattle.go_explain_core.specs.Meanings.{meaning_of}
@@ -7,6 +9,17 @@ use Rattle.go_explain_core.specs.Meanings.{meaning_of}
 -- what is wrong with what lies at a path
 abbrev pub note_line : List ℕ → List ℕ → List ℕ
 note_line path what = codes "govisd: " ++ path ++ codes ": " ++ what ++ codes "\n"
+
+-- memory was wanting
+abbrev pub wants_memory : ErrorKind → Bool
+wants_memory OutOfMemory = true
+wants_memory _ = false
+
+-- it is said why what lies at a path cannot be read, which is not that memory was wanting
+pub record SaysUnread (path : List ℕ) (kind : ErrorKind) (old new : List ℕ) : Type 0 where
+  pub other : wants_memory kind ≡ false
+  pub why : List ℕ
+  pub is : new ≡ old ++ note_line path why
 
 -- what lies at a path breaks a rule
 abbrev pub refusal_line : List ℕ → Rule → List ℕ

@@ -1,5 +1,5 @@
 -- How faults are written.
-use Rattle.std.specs.Prelude.{◌≡◌, ◌<◌, ◌==◌, ℕ, Bool, true, false, List, [], ◌∷◌, ◌++◌, length, take, Option, Some, None, codes, decimal, slice_get, option_and_then, option_map, if◌then◌else◌}
+use Rattle.std.specs.Prelude.{◌≡◌, ◌<◌, ◌==◌, ℕ, Bool, true, false, List, [], ◌∷◌, ◌++◌, length, take, Option, Some, codes, decimal, slice_get, option_and_then, option_map, if◌then◌else◌}
 use Rattle.go_text_core.specs.Rules.{rule_number}
 use Rattle.go_text_core.specs.declared.rule.Rule.{Rule}
 use Rattle.go_explain_core.specs.Meanings.{meaning_of}
@@ -45,7 +45,7 @@ pub record AddsFault (json : Bool) (path file text : List ℕ) (offset : ℕ) (r
 abbrev pub IsFolderOf : List ℕ → List ℕ → List ℕ → Type 0
 IsFolderOf own path folder = (f : List ℕ) → 0 < length own → path ≡ joined own f → folder ≡ f
 
--- the path of the package and the file in which a fault lies
+-- the path of the package and the file in which a fault lies, if there is such a file
 abbrev pub source_at : List PackageModel → PlacedFault → Option (List ℕ × SourceModel)
 source_at ps f = option_and_then (λ p. option_map (λ s. (p.0, s)) (slice_get p.1 f.file)) (slice_get ps f.«package»)
 
@@ -57,15 +57,14 @@ pub record IsTextOf (json : Bool) (own path : List ℕ) (s : SourceModel) (f : P
   pub place : IsPosition (take f.offset s.text) at
   pub is : text ≡ fault_text json path (joined folder s.name) at f.offset f.rule
 
-abbrev pub IsTextIn : Bool → List ℕ → Option (List ℕ × SourceModel) → PlacedFault → List ℕ → Type 0
-IsTextIn json own None f text = text ≡ []
-IsTextIn json own (Some s) f text = IsTextOf json own s.0 s.1 f text
+-- what is written of a fault of a workspace, below a module: of the file in which it lies
+pub record IsLine (json : Bool) (own : List ℕ) (ps : List PackageModel) (f : PlacedFault) (line : List ℕ) : Type 0 where
+  pub path : List ℕ
+  pub source : SourceModel
+  pub lies : source_at ps f ≡ Some (path, source)
+  pub text : IsTextOf json own path source f line
 
--- what is written of a fault of a workspace, below a module
-abbrev pub IsLine : Bool → List ℕ → List PackageModel → PlacedFault → List ℕ → Type 0
-IsLine json own ps f line = IsTextIn json own (source_at ps f) f line
-
--- of faults, one behind another
+-- of faults, one line for each, one behind another
 abbrev pub AreLines : Bool → List ℕ → List PackageModel → List PlacedFault → List ℕ → Type 0
 AreLines json own ps [] text = text ≡ []
 AreLines json own ps (f ∷ fs) text = (line rest : List ℕ) × IsLine json own ps f line × AreLines json own ps fs rest × (text ≡ line ++ rest)

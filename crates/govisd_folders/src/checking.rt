@@ -1,18 +1,20 @@
 //! From a folder to its faults.
-ghost use Rattle.std.specs.Prelude.{◌≡◌, IfOk, Some, map, option_map, string_bytes};
+ghost use Rattle.std.specs.Prelude.{◌≡◌, IfOk, Some, false, map, option_map, string_bytes};
+ghost use Rattle.std.specs.IoError.{error_kind};
 ghost use Rattle.go_path_core.specs.Path.{IsPath};
 ghost use Rattle.govisd_folders.specs.Checks.{IsAnswer, IsAnswerFor, IsAnswerOn, IsChecked, IsOfFolders, IsOwn, IsRefused, status_of};
 ghost use Rattle.go_snap_core.specs.Snapshots.{IsSnapshot};
+ghost use Rattle.govisd_folders.specs.Notes.{wants_memory};
 ghost use Rattle.govisd_folders.specs.Puts.{folder_of};
 
-use crate::notes::{note, note_passed, note_rule, push};
+use crate::notes::{note, note_passed, note_rule, push, why_unread};
 use crate::progress::Progress;
 use crate::putting::put_all;
 use crate::reading::{FolderFiles, Found, found_below};
 use crate::telling::told;
 use go_path_core::ImportPath;
 use go_snap_core::graph_core::Workspace;
-use go_snap_core::{PlacedFault, Snapshot, compile};
+use go_snap_core::{PlacedFault, Snapshot, compile, faults_lie_in_files};
 use go_text_core::Rule;
 use std::alloc::{AllocError, Global};
 use std::path::PathBuf;
@@ -65,6 +67,7 @@ fn answer_from(
     requires { IsSnapshot snapshot.now.sources snapshot.now.parts snapshot.now.faults }
     ensures { IfOk result (λ a. IsChecked json module_path.now snapshot.now.sources notes.now passed.now a) }
 {
+    faults_lie_in_files();
     let faults = snapshot.faults();
     let text = told(alloc, json, module_path, snapshot.sources(), faults)?;
     let mut said = String::from_str(alloc, notes)?;
@@ -202,10 +205,12 @@ fn module_of<'a>(given: Option<&'a str>, root: &'a PathBuf) -> &'a str
 
 // Nothing is checked, since the folder cannot be read.
 fn refuse_folder(alloc: Global, folder: &str, error: &io::Error) -> Result<Answer, AllocError>
-    ensures { IfOk result IsRefused }
+    ensures refused { IfOk result IsRefused }
+    ensures other { IfOk result (λ _. wants_memory (error_kind error.now) ≡ false) }
 {
-    let why = error.to_string(alloc)?;
-    refused(alloc, String::new(alloc), folder, why.as_str())
+    let why = why_unread(alloc, error)?;
+    let answer = refused(alloc, String::new(alloc), folder, why.as_str())?;
+    Ok(answer)
 }
 
 // Nothing is checked, since the path of the module is none.

@@ -1,10 +1,12 @@
 //! What is said beside the answer: lines, each of which names what lies at a path.
-ghost use Rattle.std.specs.Prelude.{◌≡◌, ◌++◌, OnOk, decimal, string_bytes};
-ghost use Rattle.govisd_folders.specs.Notes.{counts_line, none_passed, note_line, passed_line, refusal_line};
+ghost use Rattle.std.specs.Prelude.{◌≡◌, ◌++◌, IfOk, OnOk, decimal, false, string_bytes};
+ghost use Rattle.std.specs.IoError.{error_kind};
+ghost use Rattle.govisd_folders.specs.Notes.{SaysUnread, counts_line, none_passed, note_line, passed_line, refusal_line, wants_memory};
 
 use go_explain_core::meaning;
 use go_text_core::Rule;
 use std::alloc::{AllocError, Global};
+use std::io;
 
 /// Adds bytes to a text.
 ///
@@ -42,6 +44,48 @@ pub fn note(notes: &mut String, path: &str, what: &str) -> Result<(), AllocError
     push(notes, ": ")?;
     push(notes, what)?;
     push(notes, "\n")
+}
+
+/// Whether memory was wanting.
+pub fn is_memory(kind: io::ErrorKind) -> bool
+    ensures { result ≡ wants_memory kind }
+{
+    match kind {
+        io::ErrorKind::OutOfMemory => true,
+        _ => false,
+    }
+}
+
+/// Why something cannot be read.
+///
+/// # Errors
+///
+/// `AllocError` for want of memory, also where that is why.
+pub fn why_unread(alloc: Global, error: &io::Error) -> Result<String, AllocError>
+    ensures { IfOk result (λ _. wants_memory (error_kind error.now) ≡ false) }
+{
+    if is_memory(error.kind()) {
+        return Err(AllocError);
+    }
+    let why = error.to_string(alloc)?;
+    Ok(why)
+}
+
+/// Adds a line: why what lies at a path cannot be read.
+///
+/// # Errors
+///
+/// `AllocError` for want of memory, also where that is why: the others would be told of as if nothing lay at this path.
+pub fn note_unread(
+    alloc: Global,
+    notes: &mut String,
+    path: &str,
+    error: &io::Error,
+) -> Result<(), AllocError>
+    ensures { OnOk result (SaysUnread path.now (error_kind error.now) (string_bytes notes.old) (string_bytes notes.new)) }
+{
+    let why = why_unread(alloc, error)?;
+    note(notes, path, why.as_str())
 }
 
 /// Adds a line: what lies at a path breaks a rule.

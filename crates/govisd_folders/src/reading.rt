@@ -1,5 +1,5 @@
 //! The source files below a folder.
-use crate::notes::{note, note_rule};
+use crate::notes::{is_memory, note, note_rule, note_unread};
 use crate::progress::Progress;
 use go_folder_core::{FileKind, MAX_FILES, below, file_kind, is_passed_over};
 use go_text_core::Rule;
@@ -60,30 +60,31 @@ fn kind_of(metadata: &Metadata) -> EntryKind {
     EntryKind::Other
 }
 
+/// What lies behind the link at a path.
+fn look_behind(rt: &HostRuntime, path: &str) -> io::Result<EntryKind> {
+    match fs::metadata(rt, path) {
+        Ok(behind) => {
+            if behind.is_dir() {
+                return Ok(EntryKind::FolderLink);
+            }
+            Ok(kind_of(&behind))
+        }
+        Err(error) => {
+            if is_memory(error.kind()) {
+                return Err(error);
+            }
+            Ok(EntryKind::Other)
+        }
+    }
+}
+
 /// What lies at a path: a link to a file is as the file, and one to nothing is no file.
 fn look(rt: &HostRuntime, path: &str) -> io::Result<EntryKind> {
     let own = fs::symlink_metadata(rt, path)?;
     if !own.is_symlink() {
         return Ok(kind_of(&own));
     }
-    let Ok(behind) = fs::metadata(rt, path) else {
-        return Ok(EntryKind::Other);
-    };
-    if behind.is_dir() {
-        return Ok(EntryKind::FolderLink);
-    }
-    Ok(kind_of(&behind))
-}
-
-/// Adds a line: why what lies at a path cannot be read.
-fn note_error(
-    alloc: Global,
-    notes: &mut String,
-    path: &str,
-    error: &io::Error,
-) -> Result<(), AllocError> {
-    let why = error.to_string(alloc)?;
-    note(notes, path, why.as_str())
+    look_behind(rt, path)
 }
 
 /// Adds the name of an entry, or says why there is none.
@@ -99,7 +100,7 @@ fn add_name(
             names.push(String::from_str(alloc, entry.file_name())?)?;
             Ok(())
         }
-        Err(error) => note_error(alloc, notes, folder, &error),
+        Err(error) => note_unread(alloc, notes, folder, &error),
     }
 }
 
@@ -118,7 +119,7 @@ fn names_in(
                 add_name(alloc, notes, &mut names, folder, entry)?;
             }
         }
-        Err(error) => note_error(alloc, notes, folder, &error)?,
+        Err(error) => note_unread(alloc, notes, folder, &error)?,
     }
     names.sort()?;
     Ok(names)
@@ -158,7 +159,7 @@ fn add_file(
             Err(_) => Err(AllocError),
         },
         Ok(Err(rule)) => note_rule(notes, own, rule),
-        Err(error) => note_error(place.rt.alloc(), notes, own, &error),
+        Err(error) => note_unread(place.rt.alloc(), notes, own, &error),
     }
 }
 
@@ -227,7 +228,7 @@ fn add_entry(
             )
         }
         Ok(kind) => add_other(place, found, files, kind, name, own.as_str(), path.as_str()),
-        Err(error) => note_error(alloc, &mut found.left_out, own.as_str(), &error),
+        Err(error) => note_unread(alloc, &mut found.left_out, own.as_str(), &error),
     }
 }
 

@@ -1,6 +1,7 @@
 //! How faults are written.
-ghost use Rattle.std.specs.Prelude.{◌≡◌, ◌++◌, ◌<◌, List, ℕ, IfOk, OnOk, length, option_map, string_bytes};
+ghost use Rattle.std.specs.Prelude.{◌≡◌, ◌++◌, ◌<◌, All, List, ℕ, IfOk, OnOk, length, option_map, string_bytes};
 ghost use Rattle.go_folder_core.specs.Folders.{joined};
+ghost use Rattle.go_snap_core.specs.Faults.{LiesIn};
 ghost use Rattle.govisd_folders.specs.Telling.{AddsFault, AddsLine, AddsLines, AreTold, count_text, faults_text, json_text, line_text, packages_text, place_text, source_at};
 
 use crate::notes::{push, push_number};
@@ -101,7 +102,7 @@ fn push_fault(
     push_line(alloc, out, file, at, fault.rule)
 }
 
-// The package and the file of a fault.
+// The path of the package and the file in which a fault lies, if there is such a file.
 fn source_of<'a>(workspace: &'a Workspace, fault: PlacedFault) -> Option<(&'a str, &'a SourceFile)>
     ensures { option_map (λ s. (s.0.now, s.1.now)) result ≡ source_at workspace.now fault }
 {
@@ -123,21 +124,14 @@ fn push_placed(
     workspace: &Workspace,
     fault: PlacedFault,
 ) -> Result<(), AllocError>
+    requires { LiesIn workspace.now fault }
     ensures { OnOk result (AddsLine json module_path.now workspace.now fault (string_bytes out.old) (string_bytes out.new)) }
 {
-    let Some((package, source)) = source_of(workspace, fault) else {
-        return Ok(());
+    let Some((path, source)) = source_of(workspace, fault) else {
+        unreachable!()
     };
-    let file = below(alloc, folder_of(module_path, package), source.name())?;
-    push_fault(
-        alloc,
-        out,
-        json,
-        package,
-        file.as_str(),
-        source.text(),
-        fault,
-    )
+    let file = below(alloc, folder_of(module_path, path), source.name())?;
+    push_fault(alloc, out, json, path, file.as_str(), source.text(), fault)
 }
 
 // Adds the faults of a workspace.
@@ -149,6 +143,7 @@ fn push_all(
     workspace: &Workspace,
     faults: &[PlacedFault],
 ) -> Result<(), AllocError>
+    requires { All (LiesIn workspace.now) faults.now }
     ensures { OnOk result (AddsLines json module_path.now workspace.now faults.now (string_bytes out.old) (string_bytes out.new)) }
 {
     for fault in faults {
@@ -197,7 +192,7 @@ fn push_count(
     push(out, "\n")
 }
 
-/// The faults of the packages below a module, as they are written: a line for each, and behind the lines how many there are.
+/// The faults of the packages below a module, as they are written: one line for each, and behind the lines how many there are.
 /// As JSON each is one object in a line, and nothing stands behind.
 ///
 /// # Errors
@@ -210,6 +205,7 @@ pub fn told(
     workspace: &Workspace,
     faults: &[PlacedFault],
 ) -> Result<String, AllocError>
+    requires { All (LiesIn workspace.now) faults.now }
     ensures { IfOk result (λ text. AreTold json module_path.now workspace.now faults.now (string_bytes text)) }
 {
     let mut out = String::new(alloc);
