@@ -128,7 +128,7 @@ impl Snapshot {
 
     /// What the part of the assembled package of a path was made from; `None` for any other path.
     pub fn input(&self, path: &ImportPath) -> Option<&PartInput>
-        ensures { MatchOption result ((p : PartModel) → ¬ IsPartAt self.now.sources self.now.parts path.now p) (λ i. (p : PartModel) → IsPartAt self.now.sources self.now.parts path.now p → i.now ≡ p.input) }
+        ensures { MatchOption result ((p : PartModel) → ¬ IsPartAt self.now.sources self.now.parts path.now p) (λ i. (p : PartModel) × IsPartAt self.now.sources self.now.parts path.now p × (i.now ≡ p.input)) }
     {
         let part = self.find(path)?;
         Some(part.input())
