@@ -1,6 +1,7 @@
 //! Listings.
-ghost use Rattle.std.specs.Prelude.{◌≡◌, ◌++◌, string_bytes, IfOk, OnOk};
+ghost use Rattle.std.specs.Prelude.{◌≡◌, ◌++◌, map, string_bytes, IfOk, OnOk};
 ghost use Rattle.go_object_core.specs.Listing.{code_lines, function_lines, listing_of, reference_lines};
+ghost use Rattle.go_object_core.specs.Objects.{function_shown};
 
 use crate::object::FunctionCode;
 use crate::words::{add_instruction, add_number};
@@ -60,7 +61,7 @@ fn add_function<D, S: Spelling<D>>(
     spelling: &S,
     function: &FunctionCode<D>,
 ) -> Result<(), AllocError>
-    ensures { OnOk result (string_bytes text.new ≡ string_bytes text.old ++ function_lines (S.text_of spelling.now) function.now) }
+    ensures { OnOk result (string_bytes text.new ≡ string_bytes text.old ++ function_lines (S.text_of spelling.now) (function_shown function.now)) }
 {
     text.push_str("func ")?;
     spelling.add_decl(text, &function.declaration)?;
@@ -82,7 +83,7 @@ pub fn listing<D, S: Spelling<D>>(
     spelling: &S,
     functions: &[FunctionCode<D>],
 ) -> Result<String, AllocError>
-    ensures { IfOk result (λ text. string_bytes text ≡ listing_of (S.text_of spelling.now) functions.now) }
+    ensures { IfOk result (λ text. string_bytes text ≡ listing_of (S.text_of spelling.now) (map function_shown functions.now)) }
 {
     let mut text = String::new(alloc);
     for function in functions {

@@ -3,6 +3,7 @@ ghost use Rattle.std.specs.Prelude.{◌≡◌, option_map, slice_get};
 ghost use Rattle.go_object_core.specs.Listing.{references_of};
 
 use go_instruction_core::Instruction;
+use go_path_core::ImportPath;
 use go_text_core::Name;
 
 /// A function as it runs. `D` says where something is declared.
@@ -19,9 +20,15 @@ pub struct FunctionCode<D> {
     pub code: Vec<Instruction>,
 }
 
-/// The functions of a package, in order of file and place.
+/// A package as it runs. `D` says where something is declared.
 #[derive(Drop)]
 pub struct Object<D> {
+    pub path: ImportPath,
+    /// The name in its clauses.
+    pub name: Name,
+    /// The packages that its imports come to: those of its files in order of name, those of a file in order of place.
+    pub imports: Vec<ImportPath>,
+    /// Its functions, in order of file and place.
     pub functions: Vec<FunctionCode<D>>,
 }
 

@@ -1,0 +1,61 @@
+-- The imports of an object are those that pass.
+use Rattle.std.proofs.Common.{◌≡◌, ◌↔◌, ◌⊎◌, inl, inr, ℕ, zero, suc, ◌<◌, Bool, true, false, if◌then◌else◌, List, [], ◌∷◌, ◌++◌, Contains, Option, Some, None, slice_get, refl, sym, ap, subst, ◌∙◌, arith}
+use Rattle.std.specs.Prelude.{slice_index_or}
+use Rattle.std.specs.List.{flat_map}
+use Rattle.std.proofs.lemmas.List.Elements.{Contains-append_left, Contains-append_right, Contains-append_cases}
+use Rattle.go_summary_core.specs.block_core.declared.imports.Imported.{Imported}
+use Rattle.go_summary_core.specs.block_core.declared.imports.Imported.TheVariants as imported
+use Rattle.go_handle_core.specs.Declarations.{Declaration}
+use Rattle.go_part_core.specs.Inputs.{InputModel}
+use Rattle.go_part_core.specs.Parts.{ContentOf}
+use Rattle.go_object_core.specs.Objects.{ObjectOf}
+use Rattle.go_emit_core.specs.Emitted.{are_clean, object_of, whole_object}
+use Rattle.go_emit_core.specs.Imports.{all_passing, passing}
+use Rattle.go_emit_core.specs.Laws.{ImportsPass, IsPassing}
+
+in_flat : {A B : Type 0} (g : A → List B) (xs : List A) (i : ℕ) (x : A) (y : B) → slice_get xs i ≡ Some x → Contains (g x) y → Contains (flat_map g xs) y
+in_flat g [] i x y e h = cc
+in_flat g (a ∷ xs) zero x y e h = (let same : a ≡ x = cc in Contains-append_left (g a) (flat_map g xs) y (subst (λ z. Contains (g z) y) (sym same) h))
+in_flat g (a ∷ xs) (suc i) x y e h = Contains-append_right (g a) (flat_map g xs) y (in_flat g xs i x y e h)
+
+from_flat : {A B : Type 0} (g : A → List B) (xs : List A) (y : B) → Contains (flat_map g xs) y → (i : ℕ) × (x : A) × (slice_get xs i ≡ Some x) × Contains (g x) y
+from_flat g [] y h = absurd (omega (arith, h.1))
+from_flat g (a ∷ xs) y h = elim (Contains-append_cases (g a) (flat_map g xs) y h) [
+  | inl k ↦ (0, a, refl, k)
+  | inr k ↦ (let rest = from_flat g xs y k in (suc rest.0, rest.1, rest.2, rest.3))
+]
+
+single : (x y : List ℕ) → Contains (x ∷ []) y → x ≡ y
+single x y h = by h.0 h.1 h.2
+  where
+    by : (k : ℕ) → k < 1 → slice_index_or (x ∷ []) k y ≡ y → x ≡ y
+    by zero lt e = e
+    by (suc k) lt e = (let no : ⊥ = omega (arith, lt) in absurd no)
+
+only : (import : Imported) (path : List ℕ) → Contains (passing import) path → passing import ≡ path ∷ []
+only (imported.«Package» e) path h = ap (λ (p : List ℕ). p ∷ []) (single e.path path h)
+only (imported.Refused rule) path h = absurd (omega (arith, h.1))
+
+itself : (path : List ℕ) → Contains (path ∷ []) path
+itself path = (let lt : 0 < 1 = omega arith in (0, lt, refl))
+
+is_passing : (i : InputModel) (path : List ℕ) → Contains (all_passing i.imports) path → IsPassing i path
+is_passing i path h =
+    let file = from_flat (λ is. flat_map passing is) i.imports path h in
+    let one = from_flat passing file.1 path file.3 in
+    record { file = file.0; number = one.0; of_file = file.1; import = one.1; there = file.2; here = one.2; comes_to = only one.1 path one.3 }
+
+passing_is : (i : InputModel) (path : List ℕ) → IsPassing i path → Contains (all_passing i.imports) path
+passing_is i path p =
+    let here : Contains (passing p.import) path = subst (λ (l : List (List ℕ)). Contains l path) (sym p.comes_to) (itself path) in
+    in_flat (λ is. flat_map passing is) i.imports p.file p.of_file path p.there (in_flat passing p.of_file p.number p.import path p.here here)
+
+held : (b : Bool) (w o : ObjectOf Declaration) → (if b then Some w else None) ≡ Some o → w ≡ o
+held true w o e = cc
+held false w o e = cc
+
+pub imports_pass : ImportsPass
+imports_pass i c o e path =
+    let same : whole_object i c ≡ o = held (are_clean c.files) (whole_object i c) o e in
+    let imports : all_passing i.imports ≡ o.imports = ap (λ (x : ObjectOf Declaration). x.imports) same in
+    ((λ h. is_passing i path (subst (λ (l : List (List ℕ)). Contains l path) (sym imports) h)), (λ p. subst (λ (l : List (List ℕ)). Contains l path) imports (passing_is i path p)))

@@ -1,0 +1,14 @@
+mod Between
+mod Bodies
+mod Calling
+mod Cutting
+mod Ending
+mod Faultless
+mod Filling
+mod Giving
+mod Importing
+mod Outlined
+mod Own
+mod Passing
+mod Referring
+mod Spots

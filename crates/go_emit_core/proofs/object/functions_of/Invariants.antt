@@ -1,0 +1,11 @@
+use Rattle.std.proofs.Common.{◌≡◌, ◌++◌, drop, map}
+use Rattle.go_entry_core.specs.Outlines.{outline_shown}
+use Rattle.go_object_core.specs.Objects.{function_shown}
+use Rattle.go_part_core.specs.Parts.{file_shown}
+use Rattle.go_emit_core.specs.mirrors.Listing.{outlines_functions}
+use Rattle.go_emit_core.specs.mirrors.Naming.{scene_shown}
+use Rattle.go_emit_core.proofs.object.functions_of.Given as goal
+
+abbrev pub invariant-loop-number : goal.invariant-loop-number
+invariant-loop-number l =
+    map function_shown l.functions.items ++ outlines_functions (scene_shown l.names) l.number (map outline_shown (drop l.number l.outlines)) (map file_shown (drop l.number l.files)) ≡ outlines_functions (scene_shown l.names) 0 (map outline_shown l.outlines) (map file_shown l.files)

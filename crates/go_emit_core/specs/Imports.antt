@@ -1,0 +1,14 @@
+-- The packages that the imports of a package come to.
+use Rattle.std.specs.Prelude.{ℕ, List, [], ◌∷◌}
+use Rattle.std.specs.List.{flat_map}
+use Rattle.go_summary_core.specs.block_core.declared.imports.Imported.{Imported}
+use Rattle.go_summary_core.specs.block_core.declared.imports.Imported.TheVariants as imported
+
+-- the package that an import comes to
+abbrev pub passing : Imported → List (List ℕ)
+passing (imported.«Package» e) = e.path ∷ []
+passing (imported.Refused rule) = []
+
+-- those of all imports: the files in order of name, the imports of each in order of place
+abbrev pub all_passing : List (List Imported) → List (List ℕ)
+all_passing files = flat_map (λ is. flat_map passing is) files

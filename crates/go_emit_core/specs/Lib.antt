@@ -1,0 +1,9 @@
+pub mod Words
+pub mod Meanings
+pub mod Scenes
+pub mod Looking
+pub mod Imports
+pub mod Emitted
+pub mod Laws
+pub mod Samples
+pub mod mirrors
