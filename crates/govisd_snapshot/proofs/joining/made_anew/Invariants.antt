@@ -1,0 +1,6 @@
+use Rattle.std.proofs.Common.{◌≡◌, ◌++◌, drop}
+use Rattle.go_snap_core.specs.Snapshots.{somes}
+use Rattle.govisd_snapshot.proofs.joining.made_anew.Given as goal
+
+abbrev pub invariant-loop-part : goal.invariant-loop-part
+invariant-loop-part l = l.made.items ++ somes (drop l.part-index l.parts) ≡ somes l.parts

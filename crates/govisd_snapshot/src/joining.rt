@@ -1,0 +1,91 @@
+//! What a snapshot has, and what a join of its parts has.
+ghost use Rattle.std.specs.Prelude.{◌≡◌, ◌++◌, All, IfOk, OnOk, reverse};
+ghost use Rattle.go_term_core.specs.decl_core.Outer.{IsPlaced};
+ghost use Rattle.go_whole_core.specs.ready_core.Packages.{trees_in};
+ghost use Rattle.go_snap_core.specs.Snapshots.{if_there, somes};
+
+use crate::answers::{add_faults, add_outcomes};
+use crate::shot::Shot;
+use go_part_core::{Part, compile_part, one_part};
+use go_snap_core::{Snapshot, join};
+use go_text_core::add;
+use govisd_show::{Lines, Named, add_counts, add_files};
+use std::alloc::{AllocError, Global};
+
+/// The part of the same input, made anew: it is the same.
+fn made(alloc: Global, part: &Part) -> Result<Part, AllocError>
+    requires { All IsPlaced (trees_in part.now.input.source) }
+    ensures { IfOk result (λ made. made ≡ part.now) }
+{
+    one_part();
+    let _content = part.content();
+    compile_part(alloc, part.input())
+}
+
+/// Adds a part that is made anew, where there is one.
+fn add_made(parts: &mut Vec<Part>, alloc: Global, part: &Option<Part>) -> Result<(), AllocError>
+    requires { All (λ p. All IsPlaced (trees_in p.input.source)) (if_there part.now) }
+    ensures { OnOk result (parts.new.items ≡ parts.old.items ++ if_there part.now) }
+{
+    match part {
+        Some(part) => add(parts, made(alloc, part)?),
+        None => Ok(()),
+    }
+}
+
+/// Parts that are made anew, the last one first.
+fn made_anew(alloc: Global, parts: &[Option<Part>]) -> Result<Vec<Part>, AllocError>
+    requires { All (λ part. All (λ p. All IsPlaced (trees_in p.input.source)) (if_there part)) parts.now }
+    ensures { IfOk result (λ made. made.items ≡ reverse (somes parts.now)) }
+{
+    let mut made = Vec::new(alloc);
+    for part in parts {
+        add_made(&mut made, alloc, part)?;
+    }
+    made.reverse();
+    Ok(made)
+}
+
+/// A snapshot of the same workspace, joined of parts that are made anew.
+fn joined(alloc: Global, snapshot: &Snapshot) -> Result<Snapshot, AllocError> {
+    let sources = snapshot.sources();
+    let _packages = sources.packages();
+    let parts = made_anew(alloc, snapshot.parts())?;
+    let workspace = sources.copy(alloc)?;
+    match join(alloc, workspace, parts) {
+        Ok(snapshot) => Ok(snapshot),
+        Err(_) => Err(AllocError),
+    }
+}
+
+/// All that a snapshot has: its sources, its faults, and what each occurrence has.
+fn written(alloc: Global, snapshot: &Snapshot, named: &[Named]) -> Result<String, AllocError> {
+    let mut out = Lines::new(alloc);
+    add_files(&mut out, snapshot.sources());
+    add_faults(&mut out, snapshot, named);
+    for source in snapshot.sources().packages() {
+        for file in source.files() {
+            add_outcomes(&mut out, snapshot, named, source.path(), file.name());
+        }
+    }
+    out.finish()
+}
+
+/// Whether a join of its parts has all that a snapshot has.
+fn is_joined_same(alloc: Global, shot: &Shot) -> Result<bool, AllocError> {
+    let other = joined(alloc, &shot.snapshot)?;
+    let again = written(alloc, &other, &shot.named);
+    drop(other);
+    Ok(again?.as_str() == written(alloc, &shot.snapshot, &shot.named)?.as_str())
+}
+
+/// Adds what a workspace has, its faults, and whether a join of its parts has the same.
+pub fn add_snapshot(out: &mut Lines, alloc: Global, shot: &Shot) {
+    add_counts(out, shot.snapshot.sources());
+    add_faults(out, &shot.snapshot, &shot.named);
+    match is_joined_same(alloc, shot) {
+        Ok(true) => out.line("joined same"),
+        Ok(false) => out.line("joined another"),
+        Err(AllocError) => out.cut(),
+    }
+}

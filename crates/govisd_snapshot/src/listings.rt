@@ -1,0 +1,98 @@
+//! Packages as they run, as they are listed.
+use crate::answers::add_site;
+use crate::shot::Shot;
+use go_answer_core::Site;
+use go_emit_core::emit;
+use go_object_core::{FunctionCode, Object, Spelling, listing};
+use go_path_core::ImportPath;
+use go_text_core::add;
+use govisd_show::{Lines, Named};
+use std::alloc::{AllocError, Global};
+
+/// Declarations that are texts already.
+struct Texts;
+
+impl Spelling<String> for Texts {
+    ghost use Rattle.std.specs.Prelude.{string_bytes};
+
+    ghost text_of = { λ _ text. string_bytes text };
+
+    fn add_decl(&self, text: &mut String, decl: &String) -> Result<(), AllocError> {
+        text.push_str(decl.as_str())
+    }
+}
+
+/// The text of a declaration.
+fn site_text(alloc: Global, named: &[Named], site: &Site) -> Result<String, AllocError> {
+    let mut out = Lines::new(alloc);
+    add_site(&mut out, named, site);
+    out.finish()
+}
+
+/// The texts of declarations.
+fn site_texts(alloc: Global, named: &[Named], sites: &[Site]) -> Result<Vec<String>, AllocError> {
+    let mut texts = Vec::new(alloc);
+    for site in sites {
+        add(&mut texts, site_text(alloc, named, site)?)?;
+    }
+    Ok(texts)
+}
+
+/// A function whose declarations are texts.
+fn spelled(
+    alloc: Global,
+    named: &[Named],
+    function: FunctionCode<Site>,
+) -> Result<FunctionCode<String>, AllocError> {
+    let declaration = site_text(alloc, named, &function.declaration)?;
+    let references = site_texts(alloc, named, &function.references)?;
+    Ok(FunctionCode {
+        declaration,
+        name: function.name,
+        has_receiver: function.has_receiver,
+        slots: function.slots,
+        references,
+        code: function.code,
+    })
+}
+
+/// The listing of some functions.
+fn listed(
+    alloc: Global,
+    named: &[Named],
+    functions: Vec<FunctionCode<Site>>,
+) -> Result<String, AllocError> {
+    let mut spelled_all = Vec::new(alloc);
+    for function in functions {
+        add(&mut spelled_all, spelled(alloc, named, function)?)?;
+    }
+    listing(alloc, &Texts, spelled_all.as_slice())
+}
+
+/// Adds an object: its path, its name, the packages that its imports come to, and its functions.
+fn add_object(out: &mut Lines, alloc: Global, named: &[Named], object: Object<Site>) {
+    out.add("object ");
+    out.word(object.path.as_str());
+    out.add(object.name.as_str());
+    for import in &object.imports {
+        out.add(" ");
+        out.add(import.as_str());
+    }
+    out.line("");
+    match listed(alloc, named, object.functions) {
+        Ok(text) => out.add(text.as_str()),
+        Err(AllocError) => out.cut(),
+    }
+}
+
+/// Adds the object of the package of a path.
+pub fn add_listing(out: &mut Lines, alloc: Global, shot: &Shot, path: &ImportPath) {
+    let Some(part) = shot.snapshot.part(path) else {
+        return out.line("no package");
+    };
+    match emit(alloc, part) {
+        Ok(Some(object)) => add_object(out, alloc, &shot.named, object),
+        Ok(None) => out.line("no object"),
+        Err(AllocError) => out.cut(),
+    }
+}
