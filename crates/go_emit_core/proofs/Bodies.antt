@@ -1,8 +1,7 @@
 -- The occurrences of a file of the grammar stand one behind another, so those of a body are those between its braces.
-use Rattle.std.proofs.Common.{◌≡◌, ℕ, suc, ◌+◌, ◌<◌, ◌≤◌, List, [], ◌∷◌, map, AllPairs, Some, filter, slice_get, refl, sym, ap, subst, ◌∙◌, arith}
-use Rattle.std.specs.Prelude.{⊤}
+use Rattle.std.proofs.Common.{◌≡◌, ℕ, suc, ◌≤◌, List, [], ◌∷◌, map, sym, ap, subst, arith}
 use Rattle.go_tree_nodes.specs.Terminals.{Terminal, TerminalKind, InOrder, least_width}
-use Rattle.go_tree_nodes.specs.Trees.{FileTree, FuncTree}
+use Rattle.go_tree_nodes.specs.Trees.{FuncTree}
 use Rattle.go_tree_nodes.specs.Spelling.{spell_file}
 use Rattle.go_tree_core.specs.declared.occurrence.Role.{Role}
 use Rattle.go_tree_core.specs.declared.occurrence.Role.TheVariants as roles

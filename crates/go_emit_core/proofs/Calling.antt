@@ -1,17 +1,15 @@
 -- In an object the references of a function are those of its own body's occurrences.
-use Rattle.std.proofs.Common.{◌≡◌, ℕ, ◌+◌, ◌-◌, ◌<◌, Bool, true, List, [], ◌∷◌, map, drop, take, All, AllPairs, Option, Some, is_some, slice_get, nat_eq, nat_lt, refl, sym, ap, subst, ◌∙◌, arith}
-use Rattle.std.specs.List.{prefix_len, position_from}
+use Rattle.std.proofs.Common.{◌≡◌, ℕ, ◌+◌, ◌-◌, true, List, drop, All, Option, Some, slice_get, nat_lt, refl, ap, subst, ◌∙◌, arith}
+use Rattle.std.specs.List.{prefix_len}
 use Rattle.std.proofs.lemmas.List.Elements.{All-drop, All-take, All-weaker}
 use Rattle.std.proofs.lemmas.Option.{get_or_from_slice_get, slice_get_within}
-use Rattle.go_tree_nodes.specs.Trees.{FuncTree}
 use Rattle.go_denote_core.specs.declared.things.Outcome.{Outcome}
 use Rattle.go_denote_core.specs.declared.things.Outcome.TheVariants as outcomes
 use Rattle.go_handle_core.specs.Declarations.{Declaration}
 use Rattle.go_part_core.specs.body_core.Notes.{TheUse}
 use Rattle.go_part_core.specs.used_core.Used.{is_declared}
-use Rattle.go_part_core.specs.Inputs.{InputModel}
-use Rattle.go_part_core.specs.Parts.{ContentOf, FileOf, IsPart}
-use Rattle.go_emit_core.specs.Emitted.{body_first, body_uses, declaration_in, scene_of}
+use Rattle.go_part_core.specs.Parts.{FileOf}
+use Rattle.go_emit_core.specs.Emitted.{body_first, body_uses, declaration_in, scene_over}
 use Rattle.go_emit_core.specs.Laws.{CallsNameTheirOwn, IsFaultless, declaration_of}
 use Rattle.go_emit_core.specs.Looking.{locals_meant, place_or_zero}
 use Rattle.go_emit_core.specs.Scenes.{outcome_meaning}
@@ -37,17 +35,17 @@ file_at : (fs : List FileOf) (n : ℕ) (f : FileOf) → All IsFaultless fs → s
 file_at fs n f h e = subst IsFaultless (get_or_from_slice_get fs n f f e) (h n f (slice_get_within fs n f e))
 
 pub calls_name_their_own : CallsNameTheirOwn
-calls_name_their_own i c part has n f there rise g number u at =
+calls_name_their_own all i c part has n f there rise g number u at =
     let uses = f.answers.uses in
-    let fine = file_at c.files n f (objects_faultless i c part has) there in
+    let fine = file_at c.files n f (objects_faultless all i c part has) there in
     let each : All (GivesOne gives one_of) uses = All-weaker (λ (v : TheUse). is_declared v.outcome ≡ true) (GivesOne gives one_of) gives_one uses fine.declared in
     let first = body_first uses g in
     let inside = drop first uses in
     let count = prefix_len (λ (v : TheUse). nat_lt v.offset g.close_brace.start) inside in
     let body : All (GivesOne gives one_of) (body_uses uses g) = All-take (GivesOne gives one_of) count inside (All-drop (GivesOne gives one_of) first uses each) in
     let whole : slice_get uses (first + number) ≡ Some u = in_drop first uses number u (in_take count inside number u at) in
-    let locals = locals_meant (scene_of i c).types f.answers.locals in
-    let place = placed (λ (v : TheUse). v.offset) (λ (v : TheUse). outcome_meaning (scene_of i c) n locals v.outcome) uses rise (first + number) 0 u whole in
+    let locals = locals_meant (scene_over all i c).types f.answers.locals in
+    let place = placed (λ (v : TheUse). v.offset) (λ (v : TheUse). outcome_meaning (scene_over all i c) n locals v.outcome) uses rise (first + number) 0 u whole in
     let counted : 0 + (first + number) - first ≡ number = omega arith in
     record {
       declared = given_at gives one_of (body_uses uses g) body number u at;

@@ -1,5 +1,5 @@
 -- What is reported of a file is nothing exactly where nothing is wrong with it.
-use Rattle.std.proofs.Common.{◌≡◌, ◌↔◌, ◌⊎◌, inl, inr, ℕ, suc, ◌<◌, ◌&&◌, Bool, true, false, if◌then◌else◌, List, [], ◌∷◌, length, All, Contains, Some, None, is_some, refl, sym, ap, subst, ◌∙◌, arith}
+use Rattle.std.proofs.Common.{◌≡◌, ◌↔◌, ◌⊎◌, inl, inr, ℕ, suc, ◌<◌, Bool, true, false, if◌then◌else◌, List, [], ◌∷◌, length, All, Contains, Some, None, is_some, refl, sym, ap, subst, ◌∙◌, arith}
 use Rattle.std.proofs.lemmas.Bool.{and_parts, and_from}
 use Rattle.std.proofs.lemmas.List.Elements.{All-nil, All-cons}
 use Rattle.go_tree_nodes.specs.Trees.{FileTree}
@@ -7,6 +7,7 @@ use Rattle.go_denote_core.specs.declared.things.Outcome.{Outcome}
 use Rattle.go_denote_core.specs.declared.things.Outcome.TheVariants as outcomes
 use Rattle.go_handle_core.specs.Declarations.{Declaration}
 use Rattle.go_answer_core.specs.expr_core.declared.things.Fault.{Fault}
+use Rattle.go_summary_core.specs.Summaries.{SummaryModel}
 use Rattle.go_part_core.specs.graph_core.Lists.{AllNumbered}
 use Rattle.go_part_core.specs.block_core.Blocks.{BlocksModel}
 use Rattle.go_part_core.specs.body_core.Notes.{TheUse}
@@ -17,7 +18,7 @@ use Rattle.go_part_core.specs.used_core.Used.{is_declared}
 use Rattle.go_part_core.specs.Inputs.{InputModel}
 use Rattle.go_part_core.specs.Parts.{ContentOf, FileOf, IsFileMadeIn, IsPart}
 use Rattle.go_object_core.specs.Objects.{ObjectOf}
-use Rattle.go_emit_core.specs.Emitted.{are_clean, is_clean, object_of, whole_object}
+use Rattle.go_emit_core.specs.Emitted.{are_clean, is_clean, object_over, scene_over, whole_object}
 use Rattle.go_emit_core.specs.Laws.{IsFaultless, ObjectsAreOfFaultless}
 
 abbrev IsDeclared : TheUse → Type 0
@@ -94,8 +95,9 @@ chosen : (b : Bool) (o : ObjectOf Declaration) → is_some (if b then Some o els
 chosen true o h = refl
 chosen false o h = h
 
-pub objects_faultless : (i : InputModel) (c : ContentOf) → IsPart i c → is_some (object_of i c) ≡ true → All IsFaultless c.files
-objects_faultless i c h e = all_faultless c.files (reported i c h) (chosen (are_clean c.files) (whole_object i c) e)
+pub objects_faultless : (all : List SummaryModel) (i : InputModel) (c : ContentOf) → IsPart i c → is_some (object_over all i c) ≡ true → All IsFaultless c.files
+objects_faultless all i c h e = all_faultless c.files (reported i c h) (chosen (are_clean c.files) (whole_object (scene_over all i c) i c) e)
 
 pub objects_are_of_faultless : ObjectsAreOfFaultless
-objects_are_of_faultless i c h = (objects_faultless i c h, (λ fine. ap (λ (b : Bool). is_some (if b then Some (whole_object i c) else None)) (all_clean c.files (reported i c h) fine)))
+objects_are_of_faultless all i c h =
+    (objects_faultless all i c h, (λ fine. ap (λ (b : Bool). is_some (if b then Some (whole_object (scene_over all i c) i c) else None)) (all_clean c.files (reported i c h) fine)))

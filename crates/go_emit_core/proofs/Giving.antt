@@ -1,5 +1,5 @@
 -- What a call gives, by how many results there are.
-use Rattle.std.proofs.Common.{◌≡◌, ℕ, ◌≤◌, List, [], ◌∷◌, length, Option, Some, slice_get, refl, sym, ap, ◌∙◌, arith}
+use Rattle.std.proofs.Common.{◌≡◌, ◌≤◌, List, [], ◌∷◌, length, Option, Some, slice_get, refl, sym, ap, arith}
 use Rattle.go_term_core.specs.Terms.{Term}
 use Rattle.go_table_core.specs.Entries.{Entry}
 use Rattle.go_fragment_core.specs.declared.names.Gives.TheVariants as gives

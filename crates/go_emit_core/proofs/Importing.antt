@@ -1,5 +1,5 @@
 -- The imports of an object are those that pass.
-use Rattle.std.proofs.Common.{◌≡◌, ◌↔◌, ◌⊎◌, inl, inr, ℕ, zero, suc, ◌<◌, Bool, true, false, if◌then◌else◌, List, [], ◌∷◌, ◌++◌, Contains, Option, Some, None, slice_get, refl, sym, ap, subst, ◌∙◌, arith}
+use Rattle.std.proofs.Common.{◌≡◌, inl, inr, ℕ, zero, suc, ◌<◌, Bool, true, false, if◌then◌else◌, List, [], ◌∷◌, Contains, Some, None, slice_get, refl, sym, ap, subst, arith}
 use Rattle.std.specs.Prelude.{slice_index_or}
 use Rattle.std.specs.List.{flat_map}
 use Rattle.std.proofs.lemmas.List.Elements.{Contains-append_left, Contains-append_right, Contains-append_cases}
@@ -7,9 +7,8 @@ use Rattle.go_summary_core.specs.block_core.declared.imports.Imported.{Imported}
 use Rattle.go_summary_core.specs.block_core.declared.imports.Imported.TheVariants as imported
 use Rattle.go_handle_core.specs.Declarations.{Declaration}
 use Rattle.go_part_core.specs.Inputs.{InputModel}
-use Rattle.go_part_core.specs.Parts.{ContentOf}
 use Rattle.go_object_core.specs.Objects.{ObjectOf}
-use Rattle.go_emit_core.specs.Emitted.{are_clean, object_of, whole_object}
+use Rattle.go_emit_core.specs.Emitted.{are_clean, scene_over, whole_object}
 use Rattle.go_emit_core.specs.Imports.{all_passing, passing}
 use Rattle.go_emit_core.specs.Laws.{ImportsPass, IsPassing}
 
@@ -55,7 +54,7 @@ held true w o e = cc
 held false w o e = cc
 
 pub imports_pass : ImportsPass
-imports_pass i c o e path =
-    let same : whole_object i c ≡ o = held (are_clean c.files) (whole_object i c) o e in
+imports_pass all i c o e path =
+    let same : whole_object (scene_over all i c) i c ≡ o = held (are_clean c.files) (whole_object (scene_over all i c) i c) o e in
     let imports : all_passing i.imports ≡ o.imports = ap (λ (x : ObjectOf Declaration). x.imports) same in
     ((λ h. is_passing i path (subst (λ (l : List (List ℕ)). Contains l path) (sym imports) h)), (λ p. subst (λ (l : List (List ℕ)). Contains l path) imports (passing_is i path p)))

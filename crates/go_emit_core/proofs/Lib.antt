@@ -11,4 +11,6 @@ mod Outlined
 mod Own
 mod Passing
 mod Referring
+mod Several
 mod Spots
+mod Tabled

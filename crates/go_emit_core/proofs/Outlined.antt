@@ -2,20 +2,19 @@
 use Rattle.std.proofs.Common.{◌≡◌, ℕ, suc, List, [], ◌∷◌, ◌++◌, map, Option, refl, ap, ◌∙◌}
 use Rattle.go_part_core.specs.graph_core.Packages.{Trees, tree_shown, trees_of}
 use Rattle.go_decl_core.specs.TopDecls.{top_decls}
-use Rattle.go_table_core.specs.Entries.{Entry}
 use Rattle.go_entry_core.specs.Outlines.{FileOutline, outline_of}
 use Rattle.go_face_core.specs.Faces.{TheFace}
 use Rattle.go_handle_core.specs.Declarations.{Declaration}
 use Rattle.go_object_core.specs.Objects.{ObjectOf}
 use Rattle.go_part_core.specs.ready_core.Packages.{trees_in}
-use Rattle.go_summary_core.specs.Summaries.{SummaryModel}
-use Rattle.go_summary_core.specs.Views.{faces_told, types_told}
 use Rattle.go_part_core.specs.Inputs.{InputModel, path_in}
 use Rattle.go_part_core.specs.Parts.{ContentOf, FileOf}
-use Rattle.go_emit_core.specs.Emitted.{file_functions, package_functions, scene_of, whole_object}
+use Rattle.go_emit_core.specs.Emitted.{file_functions, package_functions, whole_object}
 use Rattle.go_emit_core.specs.Imports.{all_passing}
-use Rattle.go_emit_core.specs.Scenes.{Scene, decl_at, package_decls, scene_by}
+use Rattle.go_emit_core.specs.Scenes.{Scene, decl_at, package_decls}
+use Rattle.go_emit_core.specs.declared.tables.Tables.{Tables}
 use Rattle.go_emit_core.specs.mirrors.Listing.{outlines_decls, outlines_functions}
+use Rattle.go_emit_core.specs.mirrors.Naming.{scene_in, scene_with}
 
 decls_outlined : (n : ℕ) (ts : Trees) → outlines_decls n (map (λ t. outline_of t.1) ts) ≡ package_decls n (map tree_shown ts)
 decls_outlined n [] = refl
@@ -27,20 +26,20 @@ functions_outlined s n (t ∷ ts) [] = refl
 functions_outlined s n (t ∷ ts) (f ∷ fs) = ap (λ l. file_functions s n (top_decls t.1) f ++ l) (functions_outlined s (suc n) ts fs)
 
 -- what is looked up in is the scene
-pub scene_made : (i : InputModel) (c : ContentOf) (s : Scene) (path : List ℕ) (known : List (Option TheFace)) (os : List FileOutline) (reached : List SummaryModel) (own : List Entry)
-    → s ≡ scene_by path (outlines_decls 0 os) known (types_told reached ++ own) (faces_told reached)
-    → path ≡ path_in i → os ≡ map (λ t. outline_of t.1) (trees_of i.source.1) → known ≡ c.declared → reached ≡ i.reached → own ≡ c.summary.types.entries → s ≡ scene_of i c
-scene_made i c s path known os reached own made at outlined ks rs es =
+pub scene_made : (t : Tables) (i : InputModel) (c : ContentOf) (s : Scene) (path : List ℕ) (known : List (Option TheFace)) (os : List FileOutline)
+    → s ≡ scene_in t path (outlines_decls 0 os) known
+    → path ≡ path_in i → os ≡ map (λ t. outline_of t.1) (trees_of i.source.1) → known ≡ c.declared → s ≡ scene_with t i c
+scene_made t i c s path known os made at outlined ks =
     let here : outlines_decls 0 os ≡ package_decls 0 (trees_in i.source) = ap (outlines_decls 0) outlined ∙ decls_outlined 0 (trees_of i.source.1) in
-    made ∙ (λ k. scene_by (at k) (here k) (ks k) (types_told (rs k) ++ es k) (faces_told (rs k)))
+    made ∙ (λ k. scene_in t (at k) (here k) (ks k))
 
 -- and so are the functions those of the package
-pub functions_made : (i : InputModel) (c : ContentOf) (s : Scene) (os : List FileOutline) (fs : List FileOf)
-    → s ≡ scene_of i c → os ≡ map (λ t. outline_of t.1) (trees_of i.source.1) → fs ≡ c.files
-    → outlines_functions s 0 os fs ≡ package_functions (scene_of i c) 0 (trees_in i.source) c.files
-functions_made i c s os fs scene outlined files = (λ k. outlines_functions (scene k) 0 (outlined k) (files k)) ∙ functions_outlined (scene_of i c) 0 (trees_of i.source.1) c.files
+pub functions_made : (i : InputModel) (c : ContentOf) (s in_scene : Scene) (os : List FileOutline) (fs : List FileOf)
+    → s ≡ in_scene → os ≡ map (λ t. outline_of t.1) (trees_of i.source.1) → fs ≡ c.files
+    → outlines_functions s 0 os fs ≡ package_functions in_scene 0 (trees_in i.source) c.files
+functions_made i c s in_scene os fs scene outlined files = (λ k. outlines_functions (scene k) 0 (outlined k) (files k)) ∙ functions_outlined in_scene 0 (trees_of i.source.1) c.files
 
 -- an object by its parts
-pub object_made : (i : InputModel) (c : ContentOf) (o : ObjectOf Declaration) → o.path ≡ path_in i → o.name ≡ c.summary.exports.name → o.imports ≡ all_passing i.imports → o.functions ≡ package_functions (scene_of i c) 0 (trees_in i.source) c.files
-    → o ≡ whole_object i c
-object_made i c o path name imports functions = λ k. record { path = path k; name = name k; imports = imports k; functions = functions k }
+pub object_made : (i : InputModel) (c : ContentOf) (s : Scene) (o : ObjectOf Declaration) → o.path ≡ path_in i → o.name ≡ c.summary.exports.name → o.imports ≡ all_passing i.imports
+    → o.functions ≡ package_functions s 0 (trees_in i.source) c.files → o ≡ whole_object s i c
+object_made i c s o path name imports functions = λ k. record { path = path k; name = name k; imports = imports k; functions = functions k }

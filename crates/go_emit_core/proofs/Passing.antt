@@ -1,5 +1,5 @@
 -- Occurrences before an offset, and those of a body.
-use Rattle.std.proofs.Common.{◌≡◌, ℕ, Bool, cond, ◌+◌, ◌-◌, ◌≤◌, List, [], ◌∷◌, length, take, drop, take_while, nat_lt, refl, sym, ap, subst, ◌∙◌, arith}
+use Rattle.std.proofs.Common.{◌≡◌, ℕ, Bool, cond, ◌+◌, ◌-◌, ◌≤◌, List, [], ◌∷◌, length, take, drop, take_while, nat_lt, refl, sym, ap, ◌∙◌, arith}
 use Rattle.std.specs.List.{prefix_len}
 use Rattle.std.proofs.lemmas.Bool.{le-ltb}
 use Rattle.std.proofs.lemmas.List.Sums.{prefix_len-le-length}

@@ -1,5 +1,5 @@
 -- What a list gives item by item, one of each.
-use Rattle.std.proofs.Common.{◌≡◌, ℕ, zero, suc, ◌+◌, ◌-◌, ◌++◌, List, [], ◌∷◌, length, map, take, drop, All, Option, Some, None, slice_get, refl, sym, ap, ◌∙◌, arith}
+use Rattle.std.proofs.Common.{◌≡◌, ℕ, zero, suc, ◌+◌, ◌++◌, List, [], ◌∷◌, take, drop, All, Option, Some, slice_get, sym, ap, ◌∙◌, arith}
 use Rattle.std.specs.List.{flat_map}
 
 module _ {X Y : Type 0} (f : X → List Y) (one : X → Option Y) where

@@ -1,5 +1,5 @@
 -- Two places of declarations are the same in either order.
-use Rattle.std.proofs.Common.{◌≡◌, ℕ, List, Bool, ◌&&◌, nat_eq, ap, ap₂, arith}
+use Rattle.std.proofs.Common.{◌≡◌, ℕ, List, ◌&&◌, nat_eq, ap₂, arith}
 use Rattle.std.specs.Str.{bytes_eq}
 use Rattle.std.proofs.lemmas.Cmp.{nat_eq_equiv}
 use Rattle.std.proofs.lemmas.Slice.Eq.{bytes_eq-Decides}

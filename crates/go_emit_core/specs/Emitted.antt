@@ -1,21 +1,21 @@
 -- The object of a package.
 --
 -- docs/RULES.md, "Stack code". The Go specification, "Packages", "Function declarations", "Method declarations".
-use Rattle.std.specs.Prelude.{ℕ, suc, Bool, true, false, ◌&&◌, nat_lt, List, [], ◌∷◌, ◌++◌, length, drop, take_while, Option, Some, None, is_some, if◌then◌else◌}
+use Rattle.std.specs.Prelude.{ℕ, suc, Bool, true, false, ◌&&◌, nat_lt, List, [], ◌∷◌, ◌++◌, length, map, drop, take_while, Option, Some, None, is_some, if◌then◌else◌}
 use Rattle.std.specs.List.{flat_map, prefix_len}
 use Rattle.go_tree_nodes.specs.Trees.{FileTree, FuncTree}
 use Rattle.go_decl_core.specs.TopDecls.{TopDeclTree, FormTree, ValueForm, TypeForm, FuncForm, top_decls}
 use Rattle.go_term_core.specs.declared.term.MemberPlace.TheVariants as places
-use Rattle.go_table_core.specs.Entries.{Entry}
 use Rattle.go_denote_core.specs.declared.things.Outcome.{Outcome}
 use Rattle.go_denote_core.specs.declared.things.Outcome.TheVariants as outcomes
 use Rattle.go_handle_core.specs.Declarations.{Declaration, InFile}
 use Rattle.go_answer_core.specs.expr_core.declared.things.Fault.{Fault}
 use Rattle.go_part_core.specs.body_core.Notes.{TheUse}
 use Rattle.go_part_core.specs.ready_core.Packages.{trees_in}
-use Rattle.go_summary_core.specs.Views.{faces_told, types_told}
+use Rattle.go_summary_core.specs.Summaries.{SummaryModel}
+use Rattle.go_summary_core.specs.Views.{AreApart, faces_told, types_told}
 use Rattle.go_part_core.specs.Inputs.{InputModel, path_in}
-use Rattle.go_part_core.specs.Parts.{ContentOf, FileOf}
+use Rattle.go_part_core.specs.Parts.{ContentOf, FileOf, PartModel}
 use Rattle.go_code_core.specs.Code.{code_of}
 use Rattle.go_fragment_core.specs.Names.{Looks}
 use Rattle.go_fragment_core.specs.Slots.{slots_of}
@@ -26,12 +26,9 @@ use Rattle.go_emit_core.specs.Scenes.{Scene, decl_at, package_decls, scene_by}
 
 -- the scene
 
--- the types that a package reaches, and its own
-abbrev pub types_of : InputModel → ContentOf → List Entry
-types_of i c = types_told i.reached ++ c.summary.types.entries
-
-abbrev pub scene_of : InputModel → ContentOf → Scene
-scene_of i c = scene_by (path_in i) (package_decls 0 (trees_in i.source)) c.declared (types_of i c) (faces_told i.reached)
+-- of a package, by its input and by what it has, over what some packages tell: its own declarations count before what they show
+abbrev pub scene_over : List SummaryModel → InputModel → ContentOf → Scene
+scene_over all i c = scene_by (path_in i) (package_decls 0 (trees_in i.source)) c.declared (types_told all) (faces_told all)
 
 -- functions
 
@@ -98,14 +95,53 @@ abbrev pub are_clean : List FileOf → Bool
 are_clean [] = true
 are_clean (f ∷ fs) = is_clean f.report && are_clean fs
 
-abbrev pub whole_object : InputModel → ContentOf → ObjectOf Declaration
-whole_object i c = record {
+-- the object of a package in a scene, whatever is reported of it
+abbrev pub whole_object : Scene → InputModel → ContentOf → ObjectOf Declaration
+whole_object s i c = record {
   path = path_in i;
   name = c.summary.exports.name;
   imports = all_passing i.imports;
-  functions = package_functions (scene_of i c) 0 (trees_in i.source) c.files;
+  functions = package_functions s 0 (trees_in i.source) c.files;
 }
 
--- the object of a package, by its input and by what it has: none where anything is reported of a file
+-- none where anything is reported of a file
+abbrev pub object_in : Scene → InputModel → ContentOf → Option (ObjectOf Declaration)
+object_in s i c = if are_clean c.files then Some (whole_object s i c) else None
+
+-- the object of a package, by its input and by what it has, over what some packages tell
+abbrev pub object_over : List SummaryModel → InputModel → ContentOf → Option (ObjectOf Declaration)
+object_over all i c = object_in (scene_over all i c) i c
+
+-- what the packages tell that a package reaches, and what it tells itself
+abbrev pub told_to : InputModel → ContentOf → List SummaryModel
+told_to i c = i.reached ++ (c.summary ∷ [])
+
+-- the object of a package by itself: over this
 abbrev pub object_of : InputModel → ContentOf → Option (ObjectOf Declaration)
-object_of i c = if are_clean c.files then Some (whole_object i c) else None
+object_of i c = object_over (told_to i c) i c
+
+-- the objects of several packages
+
+-- those that are there
+abbrev pub if_there : {A : Type 0} → Option A → List A
+if_there None = []
+if_there (Some x) = x ∷ []
+
+abbrev pub somes : {A : Type 0} → List (Option A) → List A
+somes xs = flat_map if_there xs
+
+-- what parts tell, in their order
+abbrev pub told_by : List PartModel → List SummaryModel
+told_by ps = map (λ p. p.content.summary) ps
+
+-- no two of these parts are of packages of one path
+abbrev pub AreOfDifferentPackages : List PartModel → Type 0
+AreOfDifferentPackages ps = AreApart (told_by ps)
+
+-- the objects of parts that have one, in their order, over what some packages tell
+abbrev pub objects_over : List SummaryModel → List PartModel → List (ObjectOf Declaration)
+objects_over all ps = flat_map (λ p. if_there (object_over all p.input p.content)) ps
+
+-- the same over what all of these parts tell
+abbrev pub objects_of : List PartModel → List (ObjectOf Declaration)
+objects_of ps = objects_over (told_by ps) ps

@@ -8,23 +8,22 @@
 -- It is the file `a.go` of the package `ex.com/a`. Offsets count from the file's start; places that no code asks for are one `s`, whatever it is.
 use Rattle.std.specs.Prelude.{◌≡◌, ℕ, List, [], ◌∷◌, Option, Some, None, false, true, pos, codes, map}
 use Rattle.go_text_core.specs.declared.span.Span.{Span}
-use Rattle.go_tree_nodes.specs.Trees.{Binary, Call, FuncTree, Integer, Lines, Line, NoItems, NoLines, NoParams, OneResult, ParamTrees, ResultTree, Signed}
+use Rattle.go_tree_nodes.specs.Trees.{Binary, Call, FuncTree, Integer, Lines, NoItems, NoLines, NoParams, OneResult, ParamTrees, ResultTree, Signed}
 use Rattle.go_token_core.specs.declared.kind.Operator.TheVariants as operators
 use Rattle.go_universe_core.specs.declared.Predeclared.TheVariants as predeclared
 use Rattle.go_tree_core.specs.declared.occurrence.Role.{Role}
 use Rattle.go_tree_core.specs.declared.occurrence.Role.TheVariants as roles
-use Rattle.go_decl_core.specs.declared.keys.DeclRef.{DeclRef}
 use Rattle.go_decl_core.specs.declared.places.DeclKind.TheVariants as kinds
 use Rattle.go_decl_core.specs.TopDecls.{TopDeclTree, FuncForm}
 use Rattle.go_term_core.specs.declared.term.Basic.TheVariants as basics
 use Rattle.go_term_core.specs.declared.term.MemberPlace.TheVariants as places
 use Rattle.go_term_core.specs.Terms.{Term, Predeclared, Sign, SignOf, NoTerm, ATerm}
 use Rattle.go_operand_core.specs.declared.types.ValueType.TheVariants as value_types
-use Rattle.go_denote_core.specs.declared.things.Outcome.{Outcome}
 use Rattle.go_denote_core.specs.declared.things.Outcome.TheVariants as outcomes
 use Rattle.go_handle_core.specs.Declarations.{Declaration, Universe, InFile}
 use Rattle.go_face_core.specs.declared.face.Face.TheVariants as faces
 use Rattle.go_face_core.specs.Faces.{TheFace}
+use Rattle.go_face_core.specs.Packages.{PackageFacesModel}
 use Rattle.go_part_core.specs.body_core.Notes.{TheUse, TheLocal}
 use Rattle.go_instruction_core.specs.declared.instruction.Instruction.TheVariants as instructions
 use Rattle.go_code_core.specs.Samples.{argument, ident, int_at, line, name, paren, returns, two_params}
@@ -70,8 +69,9 @@ five_sign = SignOf NoTerm (ATerm int_term NoTerm)
 abbrev pub known : List (Option TheFace)
 known = Some (faces.Func add_sign) ∷ Some (faces.Func five_sign) ∷ []
 
-abbrev pub scene : Span → Scene
-scene s = scene_by path (map (decl_at 0) (decls s)) known [] []
+-- the package and those that it reaches declare no types
+abbrev pub scene : Span → List PackageFacesModel → Scene
+scene s others = scene_by path (map (decl_at 0) (decls s)) known [] others
 
 abbrev pub of_file : ℕ → Declaration
 of_file number = InFile path (places.Declared (record { file = 0; number = number; kind = kinds.Func }))
@@ -125,6 +125,6 @@ five_function = record {
 abbrev pub emitted : List (FunctionOf Declaration)
 emitted = add_function ∷ five_function ∷ []
 
--- the two functions are the file's
+-- the two functions are the file's, whatever is shown: the package's own declarations count before
 abbrev pub SampleIsEmitted : Type 0
-SampleIsEmitted = (s : Span) → functions_of path 0 uses (looks_of (scene s) 0 uses locals) (decls s) ≡ emitted
+SampleIsEmitted = (s : Span) (others : List PackageFacesModel) → functions_of path 0 uses (looks_of (scene s others) 0 uses locals) (decls s) ≡ emitted

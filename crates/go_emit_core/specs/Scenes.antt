@@ -1,7 +1,7 @@
 -- What the occurrences of a package come to in code.
 --
 -- docs/RULES.md, "Stack code". The Go specification, "Declarations and scope", "Qualified identifiers", "Method sets", "Selectors".
-use Rattle.std.specs.Prelude.{ℕ, suc, Bool, true, false, ◌&&◌, nat_eq, List, [], ◌∷◌, ◌++◌, map, Option, Some, None, if◌then◌else◌}
+use Rattle.std.specs.Prelude.{ℕ, suc, Bool, ◌&&◌, nat_eq, List, [], ◌∷◌, ◌++◌, map, Option, Some, None, if◌then◌else◌}
 use Rattle.std.specs.List.{flat_map}
 use Rattle.std.specs.Map.{lookup}
 use Rattle.std.specs.Str.{bytes_eq}
@@ -42,8 +42,8 @@ Spotted = List (Spot × Meaning)
 abbrev pub meaning_at : Spotted → Spot → Option Meaning
 meaning_at ms s = lookup (same_spot s) ms
 
--- a package: its path; what its declarations outside functions come to; what the methods come to of all types that it knows; these types; and
--- what the packages show that it reaches
+-- a package over what some packages tell: its path; what its declarations outside functions come to; what the methods come to of the types of these
+-- packages; these types; and what these packages show
 pub record Scene : Type 0 where
   pub path : List ℕ
   pub own : Spotted
@@ -80,8 +80,7 @@ method_spotted es path ms = flat_map (λ m. method_at es path m m.place) ms
 abbrev pub methods_spotted : List Entry → List Entry → Spotted
 methods_spotted es declared = flat_map (λ e. method_spotted es e.key.path e.methods) declared
 
--- the package of a path with these declarations, where this is known of each, these are the types that it reaches, and its own, and these the faces of
--- the packages that it reaches
+-- the package of a path with these declarations, where this is known of each, over these types and what these packages show
 abbrev pub scene_by : List ℕ → List DeclRef → List (Option TheFace) → List Entry → List PackageFacesModel → Scene
 scene_by path decls known types others = record { path = path; own = own_spotted types path decls known; methods = methods_spotted types types; types = types; others = others }
 
@@ -95,7 +94,7 @@ abbrev pub own_or : Option Meaning → Meaning → Meaning
 own_or None m = m
 own_or (Some own) m = own
 
--- a declaration of a package outside functions: of this package, or of one that it reaches
+-- a declaration of a package outside functions: of this package, or of one that tells what it shows
 abbrev pub decl_meaning : Scene → List ℕ → DeclRef → Meaning
 decl_meaning s path d = own_or (meaning_at s.own (spot path d)) (some_meaning s.types (face_in s.others path d))
 

@@ -1,22 +1,27 @@
-//! The object of a package.
-ghost use Rattle.std.specs.Prelude.{◌≡◌, IfOk, map};
+//! The object of a package, and the objects of many.
+ghost use Rattle.std.specs.Prelude.{◌≡◌, ◌++◌, IfOk, OnOk, map};
+ghost use Rattle.std.specs.List.{flat_map};
 ghost use Rattle.std.specs.Option.{option_map};
 ghost use Rattle.go_entry_core.specs.Outlines.{outline_of, outline_shown};
+ghost use Rattle.go_summary_core.specs.Views.{AreApart};
 ghost use Rattle.go_part_core.specs.graph_core.Packages.{trees_of};
 ghost use Rattle.go_object_core.specs.Objects.{function_shown, object_shown};
 ghost use Rattle.go_part_core.specs.Parts.{file_shown};
-ghost use Rattle.go_emit_core.specs.Emitted.{are_clean, object_of, scene_of, whole_object};
+ghost use Rattle.go_emit_core.specs.Emitted.{AreOfDifferentPackages, are_clean, object_of, objects_of, somes, told_by, told_to, whole_object};
 ghost use Rattle.go_emit_core.specs.mirrors.Listing.{outlines_functions};
-ghost use Rattle.go_emit_core.specs.mirrors.Naming.{scene_shown};
+ghost use Rattle.go_emit_core.specs.mirrors.Naming.{objects_with, scene_shown, scene_with};
 
 use crate::functions::add_file;
 use crate::imports::passing_of;
 use crate::scene::{PackageNames, package_names, shorter};
+use crate::tables::Tables;
 use go_answer_core::Site;
 use go_decl_core::Outline;
 use go_entry_core::outlines;
 use go_object_core::{FunctionCode, Object};
 use go_part_core::{Part, PartFile};
+use go_summary_core::Summary;
+use go_text_core::add;
 use std::alloc::{AllocError, Global};
 
 // Whether nothing is reported of any of these files.
@@ -31,26 +36,18 @@ fn are_clean(files: &[PartFile]) -> bool
     true
 }
 
-// What the names of the package of a part are looked up in.
+// What the names of the package of a part are looked up in, by the tables of what some packages tell.
 fn names_of<'a>(
     alloc: Global,
+    tables: &'a Tables<'a>,
     part: &'a Part,
     outlines: &[Outline<'_>],
 ) -> Result<PackageNames<'a>, AllocError>
     requires { map outline_shown outlines.now ≡ map (λ t. outline_of t.1) (trees_of part.now.input.source.1) }
-    ensures { IfOk result (λ names. scene_shown names ≡ scene_of part.now.input part.now.content) }
+    ensures { IfOk result (λ names. scene_shown names ≡ scene_with tables.now part.now.input part.now.content) }
 {
-    let reached = part.input().reached();
     let content = part.content();
-    let own = part.summary();
-    let names = package_names(
-        alloc,
-        part.path(),
-        reached,
-        own,
-        &content.declared,
-        outlines,
-    )?;
+    let names = package_names(alloc, tables, part.path(), &content.declared, outlines)?;
     Ok(names)
 }
 
@@ -80,12 +77,12 @@ fn functions_of(
     Ok(functions)
 }
 
-// The object of the package of a part, whatever is reported of it.
-fn whole_object(alloc: Global, part: &Part) -> Result<Object<Site>, AllocError>
-    ensures { IfOk result (λ object. object_shown object ≡ whole_object part.now.input part.now.content) }
+// The object of the package of a part, whatever is reported of it, by the tables of what some packages tell.
+fn whole_object(alloc: Global, tables: &Tables<'_>, part: &Part) -> Result<Object<Site>, AllocError>
+    ensures { IfOk result (λ object. object_shown object ≡ whole_object (scene_with tables.now part.now.input part.now.content) part.now.input part.now.content) }
 {
     let outlines = outlines(alloc, part.input().package().files())?;
-    let names = names_of(alloc, part, &outlines)?;
+    let names = names_of(alloc, tables, part, &outlines)?;
     let functions = functions_of(alloc, &names, &outlines, &part.content().files)?;
     let imports = passing_of(alloc, part.input().imports())?;
     let path = part.path().share()?;
@@ -98,9 +95,22 @@ fn whole_object(alloc: Global, part: &Part) -> Result<Object<Site>, AllocError>
     })
 }
 
+// What the packages tell that the package of a part reaches, and what it tells itself.
+fn told_to(alloc: Global, part: &Part) -> Result<Vec<Summary>, AllocError>
+    ensures told { IfOk result (λ told. told.items ≡ told_to part.now.input part.now.content) }
+    ensures apart { IfOk result (λ told. AreApart told.items) }
+{
+    // Each path is there once, since a package does not reach itself.
+    let _content = part.content();
+    let mut told = part.input().reached().list(alloc)?;
+    add(&mut told, part.summary().share()?)?;
+    Ok(told)
+}
+
 /// The object of the package of a part: none where anything is reported of a file of it. Its functions stand in order of file name and offset. Each
 /// has its declaration, its name, whether it has a receiver, how many slots it has, its code, and its references: what the occurrences of its body
-/// come to, in order of offset. The time that it takes is linear in the package and in what the packages tell that it reaches, but for a logarithm.
+/// come to, in order of offset. The time that it takes is linear in the package and in what the packages tell that it reaches, but for a logarithm:
+/// the objects of many packages are `emit_all`'s.
 ///
 /// The Go specification, "Packages", "Function declarations", "Method declarations", "Statements", "Expressions".
 ///
@@ -111,9 +121,76 @@ pub fn emit(alloc: Global, part: &Part) -> Result<Option<Object<Site>>, AllocErr
     ensures { IfOk result (λ object. option_map object_shown object ≡ object_of part.now.input part.now.content) }
 {
     if are_clean(&part.content().files) {
-        let object = whole_object(alloc, part)?;
+        let told = told_to(alloc, part)?;
+        let tables = Tables::new(alloc, &told)?;
+        let object = whole_object(alloc, &tables, part)?;
         Ok(Some(object))
     } else {
         Ok(None)
     }
+}
+
+// What these parts tell, in their order.
+fn told_by(alloc: Global, parts: &[Option<Part>]) -> Result<Vec<Summary>, AllocError>
+    ensures { IfOk result (λ told. told.items ≡ told_by (somes parts.now)) }
+{
+    let mut told = Vec::new(alloc);
+    for part in parts {
+        if let Some(part) = part {
+            add(&mut told, part.summary().share()?)?;
+        }
+    }
+    Ok(told)
+}
+
+// Adds the object of the package of a part, where nothing is reported of a file of it.
+fn add_object(
+    alloc: Global,
+    objects: &mut Vec<Object<Site>>,
+    tables: &Tables<'_>,
+    part: &Part,
+) -> Result<(), AllocError>
+    ensures { OnOk result (map object_shown objects.new.items ≡ map object_shown objects.old.items ++ objects_with tables.now part.now) }
+{
+    if are_clean(&part.content().files) {
+        add(objects, whole_object(alloc, tables, part)?)
+    } else {
+        Ok(())
+    }
+}
+
+// The objects of the packages of parts, by the tables of what some packages tell.
+fn objects_in(
+    alloc: Global,
+    tables: &Tables<'_>,
+    parts: &[Option<Part>],
+) -> Result<Vec<Object<Site>>, AllocError>
+    ensures { IfOk result (λ objects. map object_shown objects.items ≡ flat_map (objects_with tables.now) (somes parts.now)) }
+{
+    let mut objects = Vec::new(alloc);
+    for part in parts {
+        if let Some(part) = part {
+            add_object(alloc, &mut objects, tables, part)?;
+        }
+    }
+    Ok(objects)
+}
+
+/// The objects of packages by their parts, as of a whole workspace, in the order of the parts: of each part that is there, and of which nothing is
+/// reported. Each is made over what all of these parts tell. The tables of that are made once, so that the time is linear in the packages together, but
+/// for a logarithm.
+///
+/// The Go specification, "Packages", "Import declarations", "Function declarations", "Method declarations".
+///
+/// # Errors
+///
+/// `AllocError` where memory is wanting.
+pub fn emit_all(alloc: Global, parts: &[Option<Part>]) -> Result<Vec<Object<Site>>, AllocError>
+    requires { AreOfDifferentPackages (somes parts.now) }
+    ensures { IfOk result (λ objects. map object_shown objects.items ≡ objects_of (somes parts.now)) }
+{
+    let told = told_by(alloc, parts)?;
+    let tables = Tables::new(alloc, &told)?;
+    let objects = objects_in(alloc, &tables, parts)?;
+    Ok(objects)
 }

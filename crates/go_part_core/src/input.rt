@@ -1,16 +1,15 @@
 //! What a package's part is made from.
-ghost use Rattle.std.specs.Prelude.{◌≡◌, ◌↔◌, All, IfOk, IsTrue, map};
+ghost use Rattle.std.specs.Prelude.{◌≡◌, ◌↔◌, IfOk, IsTrue, map};
 ghost use Rattle.go_summary_core.specs.graph_core.Packages.{trees_of};
 ghost use Rattle.go_summary_core.specs.graph_core.Workspaces.{AreAllRead};
 ghost use Rattle.go_summary_core.specs.block_core.Naming.{HaveOneEach, imported_in};
-ghost use Rattle.go_summary_core.specs.Summaries.{IsOfOne};
 ghost use Rattle.go_part_core.specs.Inputs.{AreReached, IsInput, input_with, path_in};
 
-use crate::same::{same_imports, same_summaries};
+use crate::same::same_imports;
 use go_path_core::ImportPath;
-use go_summary_core::Summary;
 use go_summary_core::block_core::Imported;
 use go_summary_core::graph_core::Package;
+use go_told_core::ReachedSummaries;
 use std::alloc::{AllocError, Global};
 use std::marker::Model;
 use std::sync::Arc;
@@ -20,7 +19,7 @@ use std::sync::Arc;
 struct InputContent {
     source: Package,
     imports: Vec<Vec<Imported>>,
-    reached: Vec<Summary>,
+    reached: ReachedSummaries,
 }
 
 /// What the part of a package is made from: its files, what their imports come to, and what the packages tell that it reaches. A handle over one
@@ -42,18 +41,9 @@ impl Model for PartInput {
 
     ghost coded = { coded_input };
 
-    ghost view = { λ i. input_with (arc_value i.content).source (map imported_in (arc_value i.content).imports.items) (arc_value i.content).reached.items };
+    ghost view = { λ i. input_with (arc_value i.content).source (map imported_in (arc_value i.content).imports.items) (arc_value i.content).reached };
 
-    ghost invariant = { λ i. IsInput (input_with (arc_value i.content).source (map imported_in (arc_value i.content).imports.items) (arc_value i.content).reached.items) };
-}
-
-// Goes over summaries, so that it is known of each that all of it is of one package.
-fn pass_over(reached: &[Summary])
-    ensures { All IsOfOne reached.now }
-{
-    for summary in reached {
-        let _path = summary.path();
-    }
+    ghost invariant = { λ i. IsInput (input_with (arc_value i.content).source (map imported_in (arc_value i.content).imports.items) (arc_value i.content).reached) };
 }
 
 impl PartInput {
@@ -67,13 +57,14 @@ impl PartInput {
         alloc: Global,
         source: Package,
         imports: Vec<Vec<Imported>>,
-        reached: Vec<Summary>,
+        reached: ReachedSummaries,
     ) -> Result<PartInput, AllocError>
         requires imports { HaveOneEach (trees_of source.1) (map imported_in imports.items) }
-        requires reached { AreReached source.0 reached.items }
-        ensures { IfOk result (λ i. i ≡ input_with source (map imported_in imports.items) reached.items) }
+        requires reached { AreReached source.0 reached }
+        ensures { IfOk result (λ i. i ≡ input_with source (map imported_in imports.items) reached) }
     {
-        pass_over(&reached);
+        // All of each summary is of one package.
+        let _count = reached.len();
         let content = InputContent {
             source,
             imports,
@@ -120,11 +111,11 @@ impl PartInput {
     }
 
     /// What the packages tell that the package reaches by passing imports, each once.
-    pub fn reached(&self) -> &[Summary]
+    pub fn reached(&self) -> &ReachedSummaries
         ensures value { result.now ≡ self.now.reached }
         ensures well { IsInput self.now }
     {
-        self.content.reached.as_slice()
+        &self.content.reached
     }
 
     /// Whether two inputs, each file of which has the content that its text has, are the same: packages, what imports come to, and what the packages
@@ -137,6 +128,6 @@ impl PartInput {
     {
         same_imports(self.imports(), other.imports())
             && self.package().source().is_same(other.package().source())
-            && same_summaries(self.reached(), other.reached())
+            && self.reached().is_same(other.reached())
     }
 }

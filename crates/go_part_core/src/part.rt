@@ -107,7 +107,8 @@ pub fn compile_part(alloc: Global, input: &PartInput) -> Result<Part, AllocError
     ensures input { IfOk result (λ p. p.input ≡ input.now) }
     ensures made { IfOk result (λ p. IsPart input.now p.content) }
 {
-    let mut seen = view_of(alloc, input.reached())?;
+    let summaries = input.reached().list(alloc)?;
+    let mut seen = view_of(alloc, &summaries)?;
     let content = compile_over(alloc, input, &mut seen)?;
     let shared = input.share()?;
     let part = Part::new(alloc, shared, content)?;

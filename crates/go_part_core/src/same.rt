@@ -3,7 +3,6 @@ ghost use Rattle.std.specs.Prelude.{◌≡◌, ◌↔◌, IsTrue, map};
 ghost use Rattle.go_summary_core.specs.block_core.Exports.{name_and_decl};
 ghost use Rattle.go_summary_core.specs.block_core.Naming.{imported_in};
 
-use go_summary_core::Summary;
 use go_summary_core::block_core::{Exports, Imported, NamedDecl};
 use go_text_core::Rule;
 
@@ -88,21 +87,6 @@ pub(crate) fn same_imports(files: &[Vec<Imported>], others: &[Vec<Imported>]) ->
     }
     for place in 0..files.len() {
         if !is_same_file(&files[place], &others[place]) {
-            return false;
-        }
-    }
-    true
-}
-
-/// Whether two lists have the same summaries in order.
-pub(crate) fn same_summaries(summaries: &[Summary], others: &[Summary]) -> bool
-    ensures { IsTrue result ↔ (summaries.now ≡ others.now) }
-{
-    if summaries.len() != others.len() {
-        return false;
-    }
-    for place in 0..summaries.len() {
-        if !summaries[place].is_same(&others[place]) {
             return false;
         }
     }

@@ -35,7 +35,7 @@ somes_from (Some v ∷ xs) x h = elim h [
   | inr a ↦ (let r = somes_from xs x a in (suc r.0, r.1))
 ]
 
-nothing_at : (n : ℕ) (xs : List (Option PartModel)) (i : ℕ) (x : PartModel) → xs ≡ replicate n None → slice_get xs i ≡ Some (Some x) → ⊥
+pub nothing_at : (n : ℕ) (xs : List (Option PartModel)) (i : ℕ) (x : PartModel) → xs ≡ replicate n None → slice_get xs i ≡ Some (Some x) → ⊥
 nothing_at n xs i x is h =
     let at : slice_get (replicate n None) i ≡ Some (Some x) = sym (ap (λ l. slice_get l i) is) ∙ h in
     let lt : i < n = omega (arith, slice_get_within _ i _ at, length-replicate {A = Option PartModel} n None) in

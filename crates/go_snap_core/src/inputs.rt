@@ -1,15 +1,15 @@
 //! What the parts of the packages of a workspace are made from.
 ghost use Rattle.std.specs.Prelude.{◌≡◌, IfOk, Some, length, map, slice_get};
-ghost use Rattle.std.specs.List.{AllZip};
-ghost use Rattle.std.specs.List.Sorted.{IsStrictlyIncreasing};
 ghost use Rattle.go_tree_nodes.specs.Shapes.{file_of};
 ghost use Rattle.go_whole_core.specs.graph_core.Packages.{trees_of};
 ghost use Rattle.go_whole_core.specs.graph_core.Plans.{AreReached, IsAssembledAt, IsPlan};
 ghost use Rattle.go_whole_core.specs.block_core.Naming.{AreInFile, AreInPackage, IsGiven, imported_in};
 ghost use Rattle.go_whole_core.specs.block_core.mirrors.Steps.{AreReady, AreReadyIn, HasExports, IsPlanned, IsReady, IsShownIn};
-ghost use Rattle.go_whole_core.specs.Inputs.{HasReached, IsInputAt, Tells};
-ghost use Rattle.go_whole_core.specs.mirrors.Steps.{AreReachedAt, AreToldBySet, HaveParts, exports_in};
+ghost use Rattle.go_whole_core.specs.Inputs.{HasReached, IsInputAt};
+ghost use Rattle.go_whole_core.specs.mirrors.Steps.{exports_in};
+ghost use Rattle.go_snap_core.specs.mirrors.Telling.{AreToldFor, AreToldOf, HavePlaces};
 
+use crate::told::Told;
 use go_text_core::add;
 use go_tree_nodes::File;
 use go_whole_core::block_core::{Imported, import_specs};
@@ -17,8 +17,9 @@ use go_whole_core::graph_core::{
     ImportAt, ImportOutcome, Package, PackageSource, Plan, Workspace, assemble,
 };
 use go_whole_core::part_core::{Part, PartInput};
-use go_whole_core::reach_core::{NumberSet, Reached};
-use go_whole_core::summary_core::{Summary, import_view};
+use go_whole_core::reach_core::Reached;
+use go_whole_core::summary_core::import_view;
+use go_whole_core::told_core::ReachedSummaries;
 use std::alloc::{AllocError, Global};
 
 /// What an import of this outcome comes to, where these are the parts of packages by their numbers.
@@ -92,41 +93,21 @@ fn package_imports(
     Ok(imported)
 }
 
-/// What the packages of a set tell, in order of number.
-fn told_by(
-    alloc: Global,
-    set: &NumberSet,
-    parts: &[Option<Part>],
-) -> Result<Vec<Summary>, AllocError>
-    requires { HaveParts parts.now set.now.members }
-    ensures rising { IfOk result (λ _. IsStrictlyIncreasing set.now.members) }
-    ensures told { IfOk result (λ summaries. AllZip (Tells parts.now) set.now.members summaries.items) }
-{
-    let numbers = set.list(alloc)?;
-    let mut summaries = Vec::with_capacity(alloc, numbers.len())?;
-    for number in &numbers {
-        match &parts[*number] {
-            Some(part) => add(&mut summaries, part.summary().share()?)?,
-            None => unreachable!(),
-        }
-    }
-    Ok(summaries)
-}
-
 /// What the packages tell that the package of a number reaches, in order of number.
 fn told_to(
     alloc: Global,
     reached: &Reached,
     number: usize,
-    parts: &[Option<Part>],
-) -> Result<Vec<Summary>, AllocError>
-    requires { AreReachedAt reached.now parts.now number }
-    ensures { IfOk result (λ summaries. AreToldBySet reached.now parts.now number summaries.items) }
+    told: &Told,
+) -> Result<ReachedSummaries, AllocError>
+    requires { AreToldFor reached.now told.now.summaries told.now.places.items number }
+    ensures { IfOk result (AreToldOf reached.now told.now.summaries told.now.places.items number) }
 {
     let Some(set) = reached.of(number) else {
         unreachable!()
     };
-    told_by(alloc, set, parts)
+    let summaries = told.by(alloc, set)?;
+    Ok(summaries)
 }
 
 /// The assembled package of a number.
@@ -140,31 +121,33 @@ fn package_at(packages: &[PackageSource], number: usize) -> Result<Package, Allo
     }
 }
 
-/// What the part of the package of a number is made from, where these are the plan of its workspace, what packages reach by it, and the parts of
-/// packages by their numbers, at least of those that this package reaches.
+/// What the part of the package of a number is made from, where these are the plan of its workspace, what packages reach by it, the parts of
+/// packages by their numbers, at least of those that this package reaches, and what the packages with parts tell.
 ///
 /// # Errors
 ///
 /// `AllocError` where memory is wanting.
-pub fn input_of(
+pub(crate) fn input_of(
     alloc: Global,
     workspace: &Workspace,
     plan: &Plan,
     reached: &Reached,
     number: usize,
     parts: &[Option<Part>],
+    told: &Told,
 ) -> Result<PartInput, AllocError>
     requires plan { IsPlan workspace.now plan.now }
     requires reached { AreReached plan.now reached.now }
     requires many { length reached.now ≡ length plan.now.outcomes }
     requires assembled { IsAssembledAt workspace.now number }
     requires parts { HasReached workspace.now parts.now number }
+    requires told { HavePlaces parts.now told.now.summaries told.now.places.items }
     ensures { IfOk result (IsInputAt workspace.now parts.now number) }
 {
     let packages = workspace.packages();
     let package = package_at(packages, number)?;
     let imports = package_imports(alloc, plan, number, &package, parts)?;
-    let told = told_to(alloc, reached, number, parts)?;
-    let input = PartInput::new(alloc, package, imports, told)?;
+    let summaries = told_to(alloc, reached, number, told)?;
+    let input = PartInput::new(alloc, package, imports, summaries)?;
     Ok(input)
 }

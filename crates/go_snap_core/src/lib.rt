@@ -8,9 +8,9 @@ mod inputs;
 mod laws;
 mod making;
 mod snapshot;
+mod told;
 
 pub use fault::PlacedFault;
-pub use inputs::input_of;
 pub use laws::{faults_differ, faults_lie_in_files, one_snapshot, refusals_are_faults};
 pub use making::compile;
 pub use snapshot::{Snapshot, join};

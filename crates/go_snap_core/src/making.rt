@@ -6,11 +6,13 @@ ghost use Rattle.go_whole_core.specs.entry_core.Showing.{with_shown};
 ghost use Rattle.go_whole_core.specs.face_core.Packages.{with_faces};
 ghost use Rattle.go_whole_core.specs.Inputs.{AreParts};
 ghost use Rattle.go_snap_core.specs.Snapshots.{IsSnapshot};
+ghost use Rattle.go_snap_core.specs.mirrors.Telling.{HavePlaces};
 ghost use Rattle.go_whole_core.specs.mirrors.Steps.{IsNext, IsRight};
 
 use crate::fault::faults_of;
 use crate::inputs::input_of;
 use crate::snapshot::{Snapshot, no_parts};
+use crate::told::Told;
 use go_whole_core::graph_core::{Plan, Workspace, plan_imports};
 use go_whole_core::locality_core::{check_is_local, imports_bind_theirs};
 use go_whole_core::part_core::{Part, compile_over};
@@ -28,8 +30,8 @@ fn learn(seen: &mut View, summary: &Summary) -> Result<(), AllocError>
     seen.shown.add(summary.exports().share()?)
 }
 
-/// The part of the package of a number, which is the next one of the plan, where these are the parts of those before it and this is seen of them.
-/// What the package tells is added to what is seen.
+/// The part of the package of a number, which is the next one of the plan, where these are the parts of those before it, this they tell, and this
+/// is seen of them. What the package tells is added to what is seen.
 fn next_part(
     alloc: Global,
     workspace: &Workspace,
@@ -37,12 +39,14 @@ fn next_part(
     reached: &Reached,
     number: usize,
     parts: &[Option<Part>],
+    told: &Told,
     seen: &mut View,
 ) -> Result<Part, AllocError>
     requires well { IsWorkspace workspace.now }
     requires plan { IsPlan workspace.now plan.now }
     requires reached { AreReached plan.now reached.now }
     requires many { length reached.now ≡ length plan.now.outcomes }
+    requires told { HavePlaces parts.now told.now.summaries told.now.places.items }
     requires next { IsNext workspace.now plan.now parts.now number seen.old.types seen.old.shown seen.old.faces }
     ensures right { IfOk result (λ p. IsRight workspace.now parts.now number p) }
     ensures types { IfOk result (λ p. seen.new.types ≡ seen.old.types ++ p.content.summary.types.entries) }
@@ -51,7 +55,7 @@ fn next_part(
 {
     check_is_local();
     imports_bind_theirs();
-    let input = input_of(alloc, workspace, plan, reached, number, parts)?;
+    let input = input_of(alloc, workspace, plan, reached, number, parts, told)?;
     let content = compile_over(alloc, &input, seen)?;
     let part = Part::new(alloc, input, content)?;
     learn(seen, part.summary())?;
@@ -67,11 +71,13 @@ fn parts_of(alloc: Global, workspace: &Workspace) -> Result<Vec<Option<Part>>, A
     let plan = plan_imports(alloc, workspace)?;
     let reached = plan.reached(alloc)?;
     let mut parts = no_parts(alloc, packages.len())?;
+    let mut told = Told::new(alloc, packages.len())?;
     let mut seen = view_of(alloc, &[])?;
     for number in plan.order() {
         let part = next_part(
-            alloc, workspace, &plan, &reached, *number, &parts, &mut seen,
+            alloc, workspace, &plan, &reached, *number, &parts, &told, &mut seen,
         )?;
+        told.add(*number, part.summary().share()?)?;
         parts[*number] = Some(part);
     }
     Ok(parts)

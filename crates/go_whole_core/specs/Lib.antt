@@ -11,6 +11,7 @@ pub mod graph_core
 pub mod locality_core
 pub mod parse_core
 pub mod part_core
+pub mod reach_core
 pub mod ready_core
 pub mod report_core
 pub mod summary_core

@@ -51,6 +51,11 @@ pub mod summary_core {
     pub use go_part_core::summary_core::{Summary, View, import_view, view_of};
 }
 
+/// What the crates above name of `go_told_core`.
+pub mod told_core {
+    pub use go_part_core::told_core::{ReachedSummaries, SummaryList};
+}
+
 /// What the crates above name of `go_tree_core`.
 pub mod tree_core {
     pub use go_part_core::tree_core::OccId;

@@ -8,6 +8,7 @@ ghost use Rattle.govisd_core.specs.mirrors.Making.{AreRefusedIn, HasText, IsGive
 
 use go_part_core::block_core::{Imported, import_specs};
 use go_part_core::graph_core::{ImportAt, ImportOutcome, Package, Plan, Workspace, plan_imports};
+use go_part_core::told_core::ReachedSummaries;
 use go_part_core::{Part, PartInput, compile_part};
 use go_path_core::ImportPath;
 use go_text_core::add;
@@ -96,6 +97,7 @@ pub(crate) fn part_of(
     let of_file = imports_of(alloc, &plan, tree)?;
     let mut imports = Vec::new(alloc);
     add(&mut imports, of_file)?;
-    let input = PartInput::new(alloc, package, imports, Vec::new(alloc))?;
+    let reached = ReachedSummaries::none(alloc);
+    let input = PartInput::new(alloc, package, imports, reached)?;
     compile_part(alloc, &input)
 }

@@ -1,4 +1,4 @@
-use Rattle.std.proofs.Common.{◌≡◌, ◌++◌, drop, map}
+use Rattle.std.proofs.Common.{◌≡◌, ◌++◌, drop}
 use Rattle.go_emit_core.specs.Emitted.{declarations_in}
 use Rattle.go_emit_core.proofs.functions.declarations_in.Given as goal
 

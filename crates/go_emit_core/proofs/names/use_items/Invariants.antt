@@ -1,4 +1,4 @@
-use Rattle.std.proofs.Common.{◌≡◌, ◌++◌, drop, map}
+use Rattle.std.proofs.Common.{◌≡◌, ◌++◌, drop}
 use Rattle.go_emit_core.specs.Looking.{uses_meant}
 use Rattle.go_emit_core.specs.mirrors.Naming.{scene_shown}
 use Rattle.go_emit_core.proofs.names.use_items.Given as goal

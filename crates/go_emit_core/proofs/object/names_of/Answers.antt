@@ -1,27 +1,17 @@
-use Rattle.std.proofs.Common.{List, Option, map, ap, subst, ◌∙◌}
+use Rattle.std.proofs.Common.{List, Option, map, ap, ◌∙◌}
 use Rattle.std.specs.Option.{option_map}
 use Rattle.go_term_core.specs.declared.term.TypeTerm.{TypeTerm}
 use Rattle.go_term_core.specs.declared.term.Signature.{Signature}
 use Rattle.go_entry_core.specs.Outlines.{outline_shown}
 use Rattle.go_face_core.specs.declared.face.Face.{Face}
 use Rattle.go_face_core.specs.Faces.{face_shown}
-use Rattle.go_summary_core.specs.Summaries.{SummaryModel}
-use Rattle.go_summary_core.specs.Views.{types_told}
-use Rattle.go_part_core.specs.Inputs.{InputModel, IsInput}
 use Rattle.go_part_core.specs.Parts.{ContentOf}
 use Rattle.go_emit_core.specs.mirrors.Naming.{scene_shown}
 use Rattle.go_emit_core.proofs.Outlined.{scene_made}
-use Rattle.go_emit_core.proofs.Own.{apart}
 use Rattle.go_emit_core.proofs.object.names_of.Goals as goal
-
-pub package_names-requires-clause-others : goal.package_names-requires-clause-others
-package_names-requires-clause-others c =
-    apart c.args.part.now.input c.args.part.now.content c.summary-own.result.now.types.path (types_told c.reached-reached.result.now) (subst IsInput c.input.ensures c.reached-reached.ensures.well) c.content-content.ensures.made
-    (ap (λ (s : SummaryModel). s.types.path) c.summary-own.ensures) (ap types_told (c.reached-reached.ensures.value ∙ ap (λ (x : InputModel). x.reached) c.input.ensures))
 
 pub returns : goal.returns
 returns c =
-    scene_made c.args.part.now.input c.args.part.now.content (scene_shown c.in_ok-names.names) c.path.result.now (map (option_map face_shown) c.deref.result.now) (map outline_shown c.args.outlines.now) c.reached-reached.result.now
-    c.summary-own.result.now.types.entries c.in_ok-names.ensures c.path.ensures c.requires
+    scene_made c.args.tables.now c.args.part.now.input c.args.part.now.content (scene_shown c.in_ok-names.names) c.path.result.now (map (option_map face_shown) c.deref.result.now) (map outline_shown c.args.outlines.now)
+    c.in_ok-names.ensures c.path.ensures c.requires
     (ap (λ (l : List (Option (Face TypeTerm Signature))). map (option_map face_shown) l) c.deref.ensures.value ∙ ap (λ (x : ContentOf). x.declared) c.content-content.ensures.value)
-    (c.reached-reached.ensures.value ∙ ap (λ (x : InputModel). x.reached) c.input.ensures) (ap (λ (s : SummaryModel). s.types.entries) c.summary-own.ensures)

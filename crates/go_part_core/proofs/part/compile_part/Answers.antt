@@ -1,4 +1,4 @@
-use Rattle.std.proofs.Common.{ap, sym, subst, ◌∙◌}
+use Rattle.std.proofs.Common.{◌≡◌, ap, sym, subst, ◌∙◌}
 use Rattle.go_summary_core.specs.table_core.Tables.{AreOthers}
 use Rattle.go_summary_core.specs.Views.{AreApart, exports_told, faces_told, types_told}
 use Rattle.go_part_core.specs.Inputs.{InputModel, path_in}
@@ -7,15 +7,19 @@ use Rattle.go_part_core.proofs.Seen.{others_told, part_is}
 use Rattle.go_part_core.proofs.part.compile_part.Goals as goal
 
 pub view_of-requires : goal.view_of-requires
-view_of-requires c = subst AreApart (sym c.reached.ensures.value) c.reached.ensures.well.reached.apart
+view_of-requires c =
+    let told : c.deref.result.now ≡ c.args.input.now.reached = c.deref.ensures.value ∙ (c.in_ok-summaries.ensures ∙ c.reached.ensures.value) in
+    subst AreApart (sym told) c.reached.ensures.well.reached.apart
 
 pub compile_over-requires : goal.compile_over-requires
-compile_over-requires c = subst (AreOthers (path_in c.args.input.now)) (sym (c.in_ok-seen.ensures.types ∙ ap types_told c.reached.ensures.value)) (others_told c.args.input.now c.reached.ensures.well)
+compile_over-requires c =
+    let told : c.deref.result.now ≡ c.args.input.now.reached = c.deref.ensures.value ∙ (c.in_ok-summaries.ensures ∙ c.reached.ensures.value) in
+    subst (AreOthers (path_in c.args.input.now)) (sym (c.in_ok-seen.ensures.types ∙ ap types_told told)) (others_told c.args.input.now c.reached.ensures.well)
 
 pub new-requires : goal.new-requires
 new-requires c =
     let seen = c.in_ok-seen.seen in
-    let told = c.reached.ensures.value in
+    let told : c.deref.result.now ≡ c.args.input.now.reached = c.deref.ensures.value ∙ (c.in_ok-summaries.ensures ∙ c.reached.ensures.value) in
     subst (λ (i : InputModel). IsPart i (content_shown c.in_ok-content.content)) (sym c.in_ok-shared.ensures)
     (part_is c.args.input.now seen.types seen.shown seen.faces (content_shown c.in_ok-content.content) (c.in_ok-seen.ensures.types ∙ ap types_told told) (c.in_ok-seen.ensures.shown ∙ ap exports_told told) (c.in_ok-seen.ensures.faces ∙ ap faces_told told) c.in_ok-content.ensures.made)
 
@@ -25,6 +29,6 @@ returns-clause-input c = ap (λ (p : PartModel). p.input) c.in_ok-part.ensures �
 pub returns-clause-made : goal.returns-clause-made
 returns-clause-made c =
     let seen = c.in_ok-seen.seen in
-    let told = c.reached.ensures.value in
+    let told : c.deref.result.now ≡ c.args.input.now.reached = c.deref.ensures.value ∙ (c.in_ok-summaries.ensures ∙ c.reached.ensures.value) in
     subst (λ (x : ContentOf). IsPart c.args.input.now x) (sym (ap (λ (p : PartModel). p.content) c.in_ok-part.ensures))
     (part_is c.args.input.now seen.types seen.shown seen.faces (content_shown c.in_ok-content.content) (c.in_ok-seen.ensures.types ∙ ap types_told told) (c.in_ok-seen.ensures.shown ∙ ap exports_told told) (c.in_ok-seen.ensures.faces ∙ ap faces_told told) c.in_ok-content.ensures.made)

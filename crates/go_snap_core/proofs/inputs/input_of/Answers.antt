@@ -9,6 +9,7 @@ use Rattle.go_whole_core.specs.part_core.Inputs.{InputModel}
 use Rattle.go_whole_core.specs.mirrors.Steps.{exports_in}
 use Rattle.go_whole_core.proofs.Inputting.{input_made, package_comes, package_ready, reached_there, told_apart, told_is, told_others}
 use Rattle.go_whole_core.proofs.Lists.{one_at}
+use Rattle.go_snap_core.proofs.Telling.{told_by_set, told_for}
 use Rattle.go_snap_core.proofs.inputs.input_of.Goals as goal
 
 pub package_imports-requires : goal.package_imports-requires
@@ -22,7 +23,9 @@ package_imports-requires c =
     package_ready ps c.args.plan.now c.requires.plan c.args.parts.now n c.requires.parts p numbered assembled
 
 pub told_to-requires : goal.told_to-requires
-told_to-requires c = reached_there c.args.workspace.now c.args.plan.now c.requires.plan c.args.parts.now c.args.number c.requires.parts c.args.reached.now c.packages-packages.ensures.well c.requires.reached c.requires.many c.requires.assembled
+told_to-requires c =
+    let there = reached_there c.args.workspace.now c.args.plan.now c.requires.plan c.args.parts.now c.args.number c.requires.parts c.args.reached.now c.packages-packages.ensures.well c.requires.reached c.requires.many c.requires.assembled in
+    told_for c.args.told.now.summaries c.args.told.now.places.items c.args.parts.now c.requires.told c.args.reached.now c.args.number there
 
 pub new-requires-clause-imports : goal.new-requires-clause-imports
 new-requires-clause-imports c = have_one_each (IsPlanned c.args.plan.now.outcomes (exports_in c.args.parts.now)) c.args.number (trees_of c.in_ok-package.package.1) (map imported_in c.in_ok-imports.imports.items) c.in_ok-imports.ensures
@@ -32,10 +35,12 @@ new-requires-clause-reached c =
     let ps = c.args.workspace.now in
     let n = c.args.number in
     let p = c.in_ok-package.package in
-    let ss = c.in_ok-told.told.items in
+    let ss = c.in_ok-summaries.summaries in
     let well = c.packages-packages.ensures.well in
     let numbered : slice_get ps n ≡ Some p = ap (λ l. slice_get l n) (sym c.packages-packages.ensures.packages) ∙ c.in_ok-package.ensures in
-    let told = told_is ps c.args.plan.now c.requires.plan c.args.parts.now n c.requires.parts c.args.reached.now ss well c.requires.reached c.in_ok-told.ensures in
+    let there = reached_there ps c.args.plan.now c.requires.plan c.args.parts.now n c.requires.parts c.args.reached.now well c.requires.reached c.requires.many c.requires.assembled in
+    let by_set = told_by_set c.args.told.now.summaries c.args.told.now.places.items c.args.parts.now c.requires.told c.args.reached.now n ss there c.in_ok-summaries.ensures in
+    let told = told_is ps c.args.plan.now c.requires.plan c.args.parts.now n c.requires.parts c.args.reached.now ss well c.requires.reached by_set in
     record {
       apart = told_apart ps c.args.plan.now c.requires.plan c.args.parts.now n c.requires.parts ss well told;
       others = told_others ps c.args.plan.now c.requires.plan c.args.parts.now n c.requires.parts p ss well numbered told;
@@ -47,10 +52,12 @@ returns c =
     let n = c.args.number in
     let p = c.in_ok-package.package in
     let imported = map imported_in c.in_ok-imports.imports.items in
-    let ss = c.in_ok-told.told.items in
+    let ss = c.in_ok-summaries.summaries in
     let well = c.packages-packages.ensures.well in
     let numbered : slice_get ps n ≡ Some p = ap (λ l. slice_get l n) (sym c.packages-packages.ensures.packages) ∙ c.in_ok-package.ensures in
-    let told = told_is ps c.args.plan.now c.requires.plan c.args.parts.now n c.requires.parts c.args.reached.now ss well c.requires.reached c.in_ok-told.ensures in
+    let there = reached_there ps c.args.plan.now c.requires.plan c.args.parts.now n c.requires.parts c.args.reached.now well c.requires.reached c.requires.many c.requires.assembled in
+    let by_set = told_by_set c.args.told.now.summaries c.args.told.now.places.items c.args.parts.now c.requires.told c.args.reached.now n ss there c.in_ok-summaries.ensures in
+    let told = told_is ps c.args.plan.now c.requires.plan c.args.parts.now n c.requires.parts c.args.reached.now ss well c.requires.reached by_set in
     let comes = package_comes ps c.args.plan.now c.requires.plan c.args.parts.now n c.requires.parts p imported c.in_ok-imports.ensures in
     let is = c.in_ok-input.ensures in
     input_made ps c.args.plan.now c.requires.plan c.args.parts.now n c.requires.parts p imported ss c.in_ok-input.input numbered comes told
