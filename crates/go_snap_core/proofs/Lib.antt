@@ -10,3 +10,4 @@ pub mod OneFaults
 pub mod OneSnapshot
 pub mod Lying
 pub mod Placing
+pub mod Apart

@@ -16,7 +16,7 @@ use Rattle.go_whole_core.specs.Inputs.{AreParts, IsPartOf}
 use Rattle.go_whole_core.proofs.Lists.{none_is_some, one_at, same_list}
 use Rattle.go_whole_core.proofs.Beside.{one_place}
 use Rattle.go_whole_core.proofs.Making.{set_back, set_here, set_there}
-use Rattle.go_snap_core.specs.Snapshots.{somes}
+use Rattle.go_emit_core.specs.Emitted.{somes}
 
 -- those that are there
 

@@ -1,10 +1,11 @@
 -- Snapshots of workspaces.
 --
 -- docs/RULES.md, "Snapshots".
-use Rattle.std.specs.Prelude.{◌≡◌, ℕ, List, [], ◌∷◌, Option, Some, None, map, slice_get, ⊤}
-use Rattle.std.specs.List.{AllZip, flat_map}
+use Rattle.std.specs.Prelude.{◌≡◌, ℕ, List, Option, Some, map, slice_get}
+use Rattle.std.specs.List.{AllZip}
 use Rattle.std.specs.List.Sorted.{IsPermutation}
 use Rattle.std.specs.Option.{option_map}
+use Rattle.go_emit_core.specs.Emitted.{somes}
 use Rattle.go_whole_core.specs.graph_core.Imports.{IsNumbered}
 use Rattle.go_whole_core.specs.graph_core.Sources.{SourceModel}
 use Rattle.go_whole_core.specs.graph_core.Workspaces.{PackageModel}
@@ -19,14 +20,6 @@ use Rattle.go_whole_core.specs.Whole.{AreWhole, WholeOf}
 
 abbrev pub contents_of : List (Option PartModel) → List (Option ContentOf)
 contents_of ps = map (option_map (λ (p : PartModel). p.content)) ps
-
--- those that are there
-abbrev pub if_there : {A : Type 0} → Option A → List A
-if_there None = []
-if_there (Some x) = x ∷ []
-
-abbrev pub somes : {A : Type 0} → List (Option A) → List A
-somes xs = flat_map if_there xs
 
 -- the parts of the assembled packages of a workspace, of each its own, made from the input that this workspace gives it, and of no other: each once, in
 -- any order

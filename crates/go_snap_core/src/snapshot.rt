@@ -1,5 +1,5 @@
 //! Snapshots.
-ghost use Rattle.std.specs.Prelude.{◌≡◌, ◌≤◌, ◌+◌, ◌++◌, ℕ, List, [], All, IfErr, IfOk, MatchOption, None, Some, length, replicate, slice_get, slice_set, vec_capacity};
+ghost use Rattle.std.specs.Prelude.{◌≡◌, ◌≤◌, ◌+◌, ◌++◌, ℕ, List, [], All, IfErr, IfOk, MatchOption, None, Some, length, map, replicate, slice_get, slice_set, vec_capacity};
 ghost use Rattle.std.specs.List.Sorted.{IsPermutation, IsStrictlySortedBy};
 ghost use Rattle.std.specs.Map.{keys_of};
 ghost use Rattle.go_whole_core.specs.graph_core.Imports.{IsNowhere, IsNumbered};
@@ -8,9 +8,14 @@ ghost use Rattle.go_whole_core.specs.graph_core.Workspaces.{IsWorkspace, by_byte
 ghost use Rattle.go_whole_core.specs.used_core.Used.{TheUse};
 ghost use Rattle.go_whole_core.specs.part_core.Parts.{PartModel};
 ghost use Rattle.go_whole_core.specs.Inputs.{AreParts};
-ghost use Rattle.go_snap_core.specs.Snapshots.{ArePartsOf, IsAnswerAt, IsPartAt, IsSnapshot, if_there, snapshot_with, somes};
+ghost use Rattle.go_object_core.specs.Objects.{object_shown};
+ghost use Rattle.go_emit_core.specs.Emitted.{if_there, objects_of, somes};
+ghost use Rattle.go_snap_core.specs.Snapshots.{ArePartsOf, IsAnswerAt, IsPartAt, IsSnapshot, snapshot_with};
 
 use crate::fault::{PlacedFault, faults_of};
+use go_answer_core::Site;
+use go_emit_core::emit_all;
+use go_object_core::Object;
 use go_path_core::ImportPath;
 use go_text_core::add;
 use go_whole_core::answer_core::Answer;
@@ -153,6 +158,24 @@ impl Snapshot {
         ensures { result.now ≡ self.now.faults }
     {
         self.faults.as_slice()
+    }
+
+    /// The objects of the packages, in byte order of path: of each assembled package of which nothing is reported. Each is made over what all packages
+    /// tell. The time is linear in the workspace, but for a logarithm.
+    ///
+    /// The Go specification, "Packages", "Function declarations", "Method declarations".
+    ///
+    /// # Errors
+    ///
+    /// `AllocError` where memory is wanting.
+    pub fn objects(&self, alloc: Global) -> Result<Vec<Object<Site>>, AllocError>
+        ensures { IfOk result (λ objects. map object_shown objects.items ≡ objects_of (somes self.now.parts)) }
+    {
+        // Packages of a workspace have different paths.
+        let sources = self.sources();
+        let _packages = sources.packages();
+        let objects = emit_all(alloc, self.parts())?;
+        Ok(objects)
     }
 }
 

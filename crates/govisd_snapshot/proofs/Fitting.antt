@@ -15,7 +15,8 @@ use Rattle.go_whole_core.specs.part_core.Inputs.{InputModel}
 use Rattle.go_whole_core.specs.part_core.Parts.{ContentOf, IsPart, PartModel, part_with}
 use Rattle.go_whole_core.specs.Inputs.{AreParts, IsPartOf}
 use Rattle.go_whole_core.proofs.Checks.{trees_are_placed}
-use Rattle.go_snap_core.specs.Snapshots.{ArePartsOf, IsPartAt, if_there, somes}
+use Rattle.go_emit_core.specs.Emitted.{if_there, somes}
+use Rattle.go_snap_core.specs.Snapshots.{ArePartsOf, IsPartAt}
 
 -- the trees of its package are placed
 abbrev pub HasPlaced : PartModel → Type 0

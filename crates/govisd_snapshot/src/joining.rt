@@ -2,7 +2,7 @@
 ghost use Rattle.std.specs.Prelude.{◌≡◌, ◌++◌, All, IfOk, OnOk, reverse};
 ghost use Rattle.go_term_core.specs.decl_core.Outer.{IsPlaced};
 ghost use Rattle.go_whole_core.specs.ready_core.Packages.{trees_in};
-ghost use Rattle.go_snap_core.specs.Snapshots.{if_there, somes};
+ghost use Rattle.go_emit_core.specs.Emitted.{if_there, somes};
 
 use crate::answers::{add_faults, add_outcomes};
 use crate::shot::Shot;

@@ -85,6 +85,18 @@ fn add_object(out: &mut Lines, alloc: Global, named: &[Named], object: Object<Si
     }
 }
 
+/// Adds the objects of all packages that have one, in order of path.
+pub fn add_objects(out: &mut Lines, alloc: Global, shot: &Shot) {
+    match shot.snapshot.objects(alloc) {
+        Ok(objects) => {
+            for object in objects {
+                add_object(out, alloc, &shot.named, object);
+            }
+        }
+        Err(AllocError) => out.cut(),
+    }
+}
+
 /// Adds the object of the package of a path.
 pub fn add_listing(out: &mut Lines, alloc: Global, shot: &Shot, path: &ImportPath) {
     let Some(part) = shot.snapshot.part(path) else {

@@ -9,6 +9,7 @@
 //! |---|---|
 //! | `outcomes PATH FILE` | what each occurrence of the file has, by its number: `NUMBER OFFSET ROLE DECLARATION`, where it selects a member with the places of the embedded fields that lead there, or the rule that it breaks; `NUMBER none` for the first number that no occurrence has |
 //! | `listing PATH` | `object PATH NAME IMPORTS`, and behind it the functions of the package as they run; `no object` where the package has a fault, and `no package` where the path has none |
+//! | `objects` | the same of all packages that have no fault, in order of path, as the snapshot makes them together |
 //! | `compare PATH` | whether the summary of the package and what its part is made from are the `same` as in the archive before, or `another`; `none` where one of the two archives has no such package |
 //!
 //! The status is 1 where a file cannot be read.

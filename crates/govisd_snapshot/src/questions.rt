@@ -1,7 +1,7 @@
 //! What is asked of a snapshot, in lines before the first file of an archive.
 use crate::answers::add_outcomes;
 use crate::comparing::add_comparison;
-use crate::listings::add_listing;
+use crate::listings::{add_listing, add_objects};
 use crate::shot::Shot;
 use go_path_core::ImportPath;
 use govisd_show::{Lines, member_place};
@@ -28,6 +28,9 @@ fn add_asked(
 /// Adds a line, and the answer behind it where it asks something.
 fn add_line(out: &mut Lines, alloc: Global, shot: &Shot, last: Option<&Shot>, line: &str) {
     out.line(line);
+    if line == "objects" {
+        return add_objects(out, alloc, shot);
+    }
     let (kind, rest) = line.split_once(' ').unwrap_or((line, ""));
     let (path, file) = rest.split_once(' ').unwrap_or((rest, ""));
     if let Ok(path) = ImportPath::read(alloc, path) {

@@ -2,7 +2,7 @@ use Rattle.std.proofs.Common.{◌≡◌, ◌≤◌, length, sym, subst, ◌∙�
 use Rattle.std.specs.Prelude.{vec_capacity}
 use Rattle.std.proofs.lemmas.List.{with_items_is}
 use Rattle.std.proofs.lemmas.List.Sorted.{length_permutation}
-use Rattle.go_snap_core.specs.Snapshots.{somes}
+use Rattle.go_emit_core.specs.Emitted.{somes}
 use Rattle.go_snap_core.proofs.snapshot.join.Goals as goal
 
 pub take_back-requires-clause-room : goal.take_back-requires-clause-room

@@ -1,7 +1,7 @@
 use Rattle.std.proofs.Common.{◌≡◌, ◌≤◌, ◌+◌, ◌++◌, length}
 use Rattle.std.specs.Prelude.{vec_capacity}
 use Rattle.std.specs.Vec.Iter.{into_iter_items}
-use Rattle.go_snap_core.specs.Snapshots.{somes}
+use Rattle.go_emit_core.specs.Emitted.{somes}
 use Rattle.go_snap_core.proofs.snapshot.take_back.Given as goal
 
 abbrev pub invariant-loop-slot : goal.invariant-loop-slot

@@ -1,6 +1,6 @@
 use Rattle.std.proofs.Common.{All, sym, ap, subst, ◌∙◌, reverse}
 use Rattle.go_whole_core.specs.graph_core.Workspaces.{IsWorkspace}
-use Rattle.go_snap_core.specs.Snapshots.{somes}
+use Rattle.go_emit_core.specs.Emitted.{somes}
 use Rattle.govisd_snapshot.proofs.Fitting.{IfPlaced, are_parts_of, parts_are_placed}
 use Rattle.govisd_snapshot.proofs.joining.joined.Goals as goal
 

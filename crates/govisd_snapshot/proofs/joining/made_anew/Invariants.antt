@@ -1,5 +1,5 @@
 use Rattle.std.proofs.Common.{◌≡◌, ◌++◌, drop}
-use Rattle.go_snap_core.specs.Snapshots.{somes}
+use Rattle.go_emit_core.specs.Emitted.{somes}
 use Rattle.govisd_snapshot.proofs.joining.made_anew.Given as goal
 
 abbrev pub invariant-loop-part : goal.invariant-loop-part
