@@ -39,11 +39,36 @@ impl Model for OpenBlocks {
     ghost view = { λ s. map block_of s.blocks.items };
 }
 
+// How many names are compared one by one, which is less work than a look-up by hash.
+const FEW: usize = 8;
+
+// The declaration of a name in one block, by its hash.
+fn find_hashed(block: &IndexMap<String, DeclId>, name: &str) -> Option<DeclId>
+    ensures { result ≡ in_block (block_of block.now) name.now }
+{
+    block.get(name).copied()
+}
+
+// The declaration of a name in one block, by comparing it with each.
+fn find_listed(block: &IndexMap<String, DeclId>, name: &str) -> Option<DeclId>
+    ensures { result ≡ in_block (block_of block.now) name.now }
+{
+    for (key, id) in block {
+        if name == key.as_str() {
+            return Some(*id);
+        }
+    }
+    None
+}
+
 // The declaration of a name in one block.
 fn find_in(block: &IndexMap<String, DeclId>, name: &str) -> Option<DeclId>
     ensures { result ≡ in_block (block_of block.now) name.now }
 {
-    block.get(name).copied()
+    if block.len() > FEW {
+        return find_hashed(block, name);
+    }
+    find_listed(block, name)
 }
 
 // The innermost declaration of a name in these blocks.

@@ -1,5 +1,5 @@
 //! Lists of names, each once.
-ghost use Rattle.std.specs.Prelude.{◌≡◌, [], IfOk, IfErr, OnOk, map, not};
+ghost use Rattle.std.specs.Prelude.{◌≡◌, [], ◌∷◌, ◌++◌, IfOk, IfErr, OnOk, map, not, false};
 ghost use Rattle.go_open_core.specs.Blocks.{is_listed, list_name, list_names};
 
 use go_text_core::Rule;
@@ -7,18 +7,24 @@ use indexmap::IndexSet;
 use std::alloc::Global;
 use std::marker::Model;
 
+/// How many names are compared one by one, which is less work than a look-up by hash.
+const FEW: usize = 8;
+
 /// Names, each once, in the order in which they were added first. Contracts see it as their list.
 #[derive(Drop)]
 pub struct NameList<'a> {
-    names: IndexSet<&'a str>,
+    /// The first of them, which are compared one by one.
+    few: Vec<&'a str>,
+    /// The others.
+    more: IndexSet<&'a str>,
 }
 
 impl<'a> Model for NameList<'a> {
-    ghost use Rattle.std.specs.Prelude.{ℕ, List, map};
+    ghost use Rattle.std.specs.Prelude.{ℕ, List, map, ◌++◌};
 
     ghost Value = { List (List ℕ) };
 
-    ghost view = { λ n. map (λ name. name.now) n.names.keys };
+    ghost view = { λ n. map (λ name. name.now) n.few.items ++ map (λ name. name.now) n.more.keys };
 }
 
 // Adds a name to a set, unless it is there, and answers whether it was not.
@@ -33,13 +39,56 @@ fn insert<'a>(names: &mut IndexSet<&'a str>, name: &'a str) -> Result<bool, Rule
     }
 }
 
+// Whether a name is among some.
+fn is_among(names: &[&str], name: &str) -> bool
+    ensures { result ≡ is_listed (map (λ n. n.now) names.now) name.now }
+{
+    for other in names {
+        if name == *other {
+            return true;
+        }
+    }
+    false
+}
+
+// Adds a name to a list.
+fn append<'a>(names: &mut Vec<&'a str>, name: &'a str) -> Result<(), Rule>
+    ensures ok { OnOk result (map (λ n. n.now) names.new.items ≡ map (λ n. n.now) names.old.items ++ name.now ∷ []) }
+    ensures err { IfErr result (λ rule. rule ≡ Rule.M0) }
+{
+    match names.push(name) {
+        Ok(()) => Ok(()),
+        Err(_) => Err(Rule::M0),
+    }
+}
+
+// Adds a name that is not among the few to these or to the others, unless it is there, and answers whether it was not.
+fn add_behind<'a>(
+    few: &mut Vec<&'a str>,
+    more: &mut IndexSet<&'a str>,
+    name: &'a str,
+) -> Result<bool, Rule>
+    requires { is_listed (map (λ n. n.now) few.old.items) name.now ≡ false }
+    ensures added { IfOk result (λ added. added ≡ not (is_listed (map (λ n. n.now) few.old.items ++ map (λ n. n.now) more.old.keys) name.now)) }
+    ensures ok { OnOk result (map (λ n. n.now) few.new.items ++ map (λ n. n.now) more.new.keys ≡ list_name (map (λ n. n.now) few.old.items ++ map (λ n. n.now) more.old.keys) name.now) }
+    ensures err { IfErr result (λ rule. rule ≡ Rule.M0) }
+{
+    if more.is_empty() && few.len() < FEW {
+        append(few, name)?;
+        return Ok(true);
+    }
+    let added = insert(more, name)?;
+    Ok(added)
+}
+
 impl<'a> NameList<'a> {
     /// No name.
     pub fn new(alloc: Global) -> Self
         ensures { result ≡ [] }
     {
         NameList {
-            names: IndexSet::new(alloc),
+            few: Vec::new(alloc),
+            more: IndexSet::new(alloc),
         }
     }
 
@@ -49,7 +98,10 @@ impl<'a> NameList<'a> {
         ensures ok { OnOk result (self.new ≡ list_name self.old name.now) }
         ensures err { IfErr result (λ rule. rule ≡ Rule.M0) }
     {
-        insert(&mut self.names, name)
+        if is_among(self.few.as_slice(), name) {
+            return Ok(false);
+        }
+        add_behind(&mut self.few, &mut self.more, name)
     }
 
     /// Adds names, each unless it is there. Errors: M0 where memory is wanting.
@@ -69,10 +121,11 @@ impl<'a> NameList<'a> {
         ensures err { IfErr result (λ rule. rule ≡ Rule.M0) }
     {
         let mut list = Vec::new(alloc);
-        for name in &self.names {
-            if list.push(*name).is_err() {
-                return Err(Rule::M0);
-            }
+        for name in &self.few {
+            append(&mut list, name)?;
+        }
+        for other in &self.more {
+            append(&mut list, other)?;
         }
         Ok(list)
     }
