@@ -1,7 +1,7 @@
 //! Bytes at the end of others.
-ghost use Rattle.std.specs.Prelude.{◌≡◌, ◌++◌, decimal, OnOk};
+ghost use Rattle.std.specs.Prelude.{◌≡◌, ◌+◌, ◌<◌, [], ◌∷◌, ◌++◌, decimal, OnOk};
 
-use std::alloc::{AllocError, Global};
+use std::alloc::AllocError;
 
 /// Adds bytes.
 ///
@@ -14,14 +14,25 @@ pub(crate) fn push(out: &mut Vec<u8>, bytes: &[u8]) -> Result<(), AllocError>
     out.extend_from_slice(bytes)
 }
 
+// Adds a digit.
+fn push_digit(out: &mut Vec<u8>, digit: usize) -> Result<(), AllocError>
+    requires { digit < 10 }
+    ensures { OnOk result (out.new.items ≡ out.old.items ++ (48 + digit) ∷ []) }
+{
+    push(out, &[b'0' + digit as u8])
+}
+
 /// Adds a number, in decimal digits.
 ///
 /// # Errors
 ///
 /// `AllocError` where memory is wanting.
-pub(crate) fn push_number(out: &mut Vec<u8>, alloc: Global, number: usize) -> Result<(), AllocError>
+pub(crate) fn push_number(out: &mut Vec<u8>, number: usize) -> Result<(), AllocError>
     ensures { OnOk result (out.new.items ≡ out.old.items ++ decimal number) }
 {
-    let digits = number.to_string(alloc)?;
-    push(out, digits.as_bytes())
+    if number < 10 {
+        return push_digit(out, number);
+    }
+    push_number(out, number / 10)?;
+    push_digit(out, number % 10)
 }

@@ -32,7 +32,6 @@ fn role_name(role: Role) -> &'static str
 // Adds what an occurrence has.
 fn push_answer(
     out: &mut Vec<u8>,
-    alloc: Global,
     name: &str,
     places: &Places,
     answer: &Answer,
@@ -40,14 +39,8 @@ fn push_answer(
     ensures { OnOk result (out.new.items ≡ out.old.items ++ answer_text name.now places.now answer.now.outcome) }
 {
     match &answer.outcome {
-        Outcome::Declared(site) => push_declaration(out, alloc, name, places, site.decl().site()),
-        Outcome::Selected(site, _) => push_declaration(
-            out,
-            alloc,
-            name,
-            places,
-            site.decl().site(),
-        ),
+        Outcome::Declared(site) => push_declaration(out, name, places, site.decl().site()),
+        Outcome::Selected(site, _) => push_declaration(out, name, places, site.decl().site()),
         Outcome::Refused(rule) => push(out, rule.number().as_bytes()),
     }
 }
@@ -55,7 +48,6 @@ fn push_answer(
 // Adds the line of an occurrence.
 fn push_occurrence(
     out: &mut Vec<u8>,
-    alloc: Global,
     name: &str,
     places: &Places,
     occ: &Occ,
@@ -63,20 +55,19 @@ fn push_occurrence(
 ) -> Result<(), AllocError>
     ensures { OnOk result (out.new.items ≡ out.old.items ++ occurrence_line name.now places.now occ.now answer.now) }
 {
-    push_number(out, alloc, occ.span.start as usize)?;
+    push_number(out, occ.span.start as usize)?;
     push(out, b" ")?;
     push(out, role_name(occ.role).as_bytes())?;
     push(out, b" ")?;
     push(out, occ.spelling.as_str().as_bytes())?;
     push(out, b" ")?;
-    push_answer(out, alloc, name, places, answer)?;
+    push_answer(out, name, places, answer)?;
     push(out, b"\n")
 }
 
 // Adds the lines of occurrences, each with what it has.
 fn push_occurrences(
     out: &mut Vec<u8>,
-    alloc: Global,
     name: &str,
     places: &Places,
     occs: &[Occ],
@@ -85,28 +76,28 @@ fn push_occurrences(
     ensures { OnOk result (out.new.items ≡ out.old.items ++ occurrence_lines name.now places.now occs.now answers.now) }
 {
     for (occ, answer) in occs.iter().zip(answers.iter()) {
-        push_occurrence(out, alloc, name, places, occ, answer)?;
+        push_occurrence(out, name, places, occ, answer)?;
     }
     Ok(())
 }
 
 // Adds the line of a fault.
-fn push_fault(out: &mut Vec<u8>, alloc: Global, fault: Fault) -> Result<(), AllocError>
+fn push_fault(out: &mut Vec<u8>, fault: Fault) -> Result<(), AllocError>
     ensures { OnOk result (out.new.items ≡ out.old.items ++ fault_line fault) }
 {
     push(out, b"fault ")?;
-    push_number(out, alloc, fault.offset)?;
+    push_number(out, fault.offset)?;
     push(out, b" ")?;
     push(out, fault.rule.number().as_bytes())?;
     push(out, b"\n")
 }
 
 // Adds the lines of faults.
-fn push_faults(out: &mut Vec<u8>, alloc: Global, faults: &[Fault]) -> Result<(), AllocError>
+fn push_faults(out: &mut Vec<u8>, faults: &[Fault]) -> Result<(), AllocError>
     ensures { OnOk result (out.new.items ≡ out.old.items ++ flat_map fault_line faults.now) }
 {
     for fault in faults {
-        push_fault(out, alloc, *fault)?;
+        push_fault(out, *fault)?;
     }
     Ok(())
 }
@@ -120,7 +111,7 @@ pub fn fault_line(alloc: Global, fault: Fault) -> Result<Vec<u8>, AllocError>
     ensures { IfOk result (λ out. out.items ≡ fault_line fault) }
 {
     let mut out = Vec::new(alloc);
-    push_fault(&mut out, alloc, fault)?;
+    push_fault(&mut out, fault)?;
     Ok(out)
 }
 
@@ -146,7 +137,7 @@ pub fn file_lines(
     let outline = outline(alloc, tree)?;
     let occs = occurrences(alloc, tree)?;
     let mut out = Vec::new(alloc);
-    push_occurrences(&mut out, alloc, name, &outline.places, &occs, answers)?;
-    push_faults(&mut out, alloc, faults)?;
+    push_occurrences(&mut out, name, &outline.places, &occs, answers)?;
+    push_faults(&mut out, faults)?;
     Ok(out)
 }

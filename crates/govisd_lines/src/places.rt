@@ -7,7 +7,7 @@ use crate::bytes::{push, push_number};
 use go_answer_core::handle_core::DeclSite;
 use go_term_core::MemberPlace;
 use go_term_core::decl_core::Places;
-use std::alloc::{AllocError, Global};
+use std::alloc::AllocError;
 
 // The offset of an identifier of a file, in bytes from the file's start.
 fn offset_in(places: &Places, place: MemberPlace) -> usize
@@ -23,20 +23,14 @@ fn offset_in(places: &Places, place: MemberPlace) -> usize
 }
 
 // Adds where an identifier of a file of the package of a path stands.
-fn push_place(
-    out: &mut Vec<u8>,
-    alloc: Global,
-    path: &str,
-    name: &str,
-    offset: usize,
-) -> Result<(), AllocError>
+fn push_place(out: &mut Vec<u8>, path: &str, name: &str, offset: usize) -> Result<(), AllocError>
     ensures { OnOk result (out.new.items ≡ out.old.items ++ place_text path.now name.now offset) }
 {
     push(out, path.as_bytes())?;
     push(out, b"/")?;
     push(out, name.as_bytes())?;
     push(out, b":")?;
-    push_number(out, alloc, offset)
+    push_number(out, offset)
 }
 
 /// Adds a declaration, where the file has this name and declares these identifiers outside functions.
@@ -46,7 +40,6 @@ fn push_place(
 /// `AllocError` where memory is wanting.
 pub(crate) fn push_declaration(
     out: &mut Vec<u8>,
-    alloc: Global,
     name: &str,
     places: &Places,
     site: DeclSite<'_>,
@@ -65,7 +58,7 @@ pub(crate) fn push_declaration(
         }
         DeclSite::InFile(path, place) => {
             let offset = offset_in(places, place);
-            push_place(out, alloc, path.as_str(), name, offset)
+            push_place(out, path.as_str(), name, offset)
         }
     }
 }
