@@ -23,7 +23,7 @@ use Rattle.go_part_core.specs.Inputs.{InputModel}
 use Rattle.go_part_core.specs.Parts.{AreFilesMade, IsPart, PartModel, package_seen, seen_by}
 use Rattle.go_whole_core.specs.Whole.{AreWhole, IsWhole, IsWholeEntry, WholeOf, beside, blocks_in, exports_beside, faces_beside, types_beside, whole_with}
 use Rattle.go_whole_core.specs.Inputs.{AreParts, ComesTo, IsInputOf, IsPartOf, Reaches, Shown}
-use Rattle.go_whole_core.specs.Entries.{IsPartEntry}
+use Rattle.go_whole_core.specs.Entries.{IsPartEntry, summary_by}
 use Rattle.go_whole_core.proofs.Lists.{numbered_from, one_at, zip_weaker}
 use Rattle.go_whole_core.proofs.Told.{known_by}
 use Rattle.go_whole_core.proofs.Order.{reaches_others}
@@ -77,6 +77,7 @@ entries_are (Some w) (Some part) h = record {
   blocks = ap (λ (v : WholeOf). v.blocks) (sym h.1);
   declared = h.0.declared ∙ ap (λ (v : WholeOf). v.checked.declared) (sym h.1);
   files = subst (λ (v : WholeOf). AreFilesMade v.blocks (trees_in v.source) v.checked.files part.content.files) (sym h.1) h.0.files;
+  summary = h.0.summary ∙ ap summary_by (sym h.1);
 }
 
 module _ (local : CheckIsLocal) (bind : ImportsBindTheirs) (ps : List PackageModel) (parts : List (Option PartModel)) (well : IsWorkspace ps) (all : AreParts ps parts) (plan : PlanModel) (planned : IsPlan ps plan) (ws : List (Option WholeOf)) (zip : AllZip IsWholeOfPart ws parts) where
