@@ -1,0 +1,5 @@
+mod Answering
+mod Given
+mod Grammar
+mod Lists
+mod Standing

@@ -1,0 +1,15 @@
+mod Terms
+mod Tables
+mod Selecting
+mod Answers
+mod Uses
+mod Walking
+mod Functions
+mod Meanings
+mod Packages
+mod Wider
+mod Methods
+mod Scenes
+mod Parts
+mod Objects
+mod Telling
