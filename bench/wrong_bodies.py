@@ -11,10 +11,13 @@ import subprocess
 import sys
 import time
 
+import together
+
 ROOT = os.path.dirname(os.path.dirname(os.path.realpath(__file__)))
 EDITS = os.path.join(ROOT, "bench", "wrong_bodies")
 PARTS = ("src", "specs", "proofs")
-REFUSED, PASSED, UNREADABLE, UNTRIED = "refused", "let-through", "unreadable", "untried"
+REFUSED, PASSED, UNREADABLE, UNTRIED = together.REFUSED, together.PASSED, together.UNREADABLE, "untried"
+SETTLED = (REFUSED, PASSED, together.LIMITED)
 TOLD = re.compile(r"must-fail (\w+)/(\S+)\.edit: (refused|NOT REFUSED|BAD EDIT)(.*)")
 ENDED = {"refused": REFUSED, "NOT REFUSED": PASSED, "BAD EDIT": UNREADABLE}
 
@@ -141,9 +144,26 @@ def try_edits(room, crate, edits, results, log):
             print(f"  {crate}/{edit.name}: {UNTRIED}; {log} says why", flush=True)
 
 
+def try_together(room, crate, edits, results, log):
+    """Tries edits of a crate in as few checks as they fit into, and keeps what came of those that are judged so."""
+    folder = os.path.join(room, "crates", crate)
+
+    def check(flags):
+        ran = subprocess.run(["rt", "check", *flags], cwd=folder, stdout=subprocess.PIPE, stderr=subprocess.STDOUT)
+        with open(log, "ab") as it:
+            it.write(ran.stdout)
+        return ran.stdout.decode(errors="replace")
+
+    def tell(name, end, said):
+        results.add(next(edit for edit in edits if edit.name == name), end, said)
+        print(f"  {crate}/{name}: {end}", flush=True)
+
+    together.try_edits(crate, folder, {edit.name: edit.file for edit in edits}, check, tell)
+
+
 def table(edits, results):
     """Prints how many edits of each crate were refused, and those that were not. Returns whether all were."""
-    ends = (REFUSED, PASSED, UNREADABLE, UNTRIED)
+    ends = (*SETTLED, together.NAMELESS, UNREADABLE, UNTRIED)
     print(f"{'crate':<18} {'edits':>6}" + "".join(f" {end:>12}" for end in ends))
     total = [0] * len(ends)
     for crate, tried in edits.items():
@@ -161,6 +181,7 @@ def table(edits, results):
 def main():
     arguments = argparse.ArgumentParser()
     arguments.add_argument("--out", required=True)
+    arguments.add_argument("--together", action="store_true")
     arguments.add_argument("crates", nargs="*")
     given = arguments.parse_args()
     uses = listed()
@@ -179,8 +200,11 @@ def main():
         edits = {crate: edits_of(crate, sources[crate]) for crate in uses if crate in given.crates or not given.crates}
         edits = {crate: tried for crate, tried in edits.items() if tried}
         for crate, tried in edits.items():
-            left = [edit for edit in tried if results.end(edit) not in (REFUSED, PASSED)]
+            left = [edit for edit in tried if results.end(edit) not in SETTLED]
             print(f"{crate}: {len(tried) - len(left)} of {len(tried)} edits are tried already", flush=True)
+            if left and given.together:
+                try_together(room, crate, left, results, os.path.join(home, f"{crate}.together.log"))
+                left = [edit for edit in left if results.end(edit) == UNTRIED]
             if left:
                 try_edits(room, crate, left, results, os.path.join(home, f"{crate}.log"))
                 copy_repository(room, uses)

@@ -4,6 +4,7 @@
 #
 #     bench/wrong_bodies.sh            of all crates
 #     bench/wrong_bodies.sh CRATE ..   of these
+#     bench/wrong_bodies.sh --together CRATE ..   many in one check
 #
 # What was tried before on the same sources is not tried again, so a run that was stopped goes on where it stopped. README.md
 # beside this file says where the results are kept. Status 0 where each edit is refused, 1 where not, 2 where nothing could be tried.
