@@ -1,5 +1,5 @@
 #!/usr/bin/env python3
-"""Compares the faults of types by `govisd_types ask` with the errors of go/types, over generated workspaces of type declarations with methods."""
+"""Compares the faults of types by `govisd_snapshot ask` with the errors of go/types, over generated workspaces of type declarations with methods."""
 import argparse
 import os
 import re
@@ -14,7 +14,7 @@ from type_faults_programs import Workspace  # noqa: E402
 BATCH = 100  # archives in one run of each program
 RULES = ("Y1", "Y2", "B5", "B6")
 
-# What go/types says, and the rule that it is. An error that is none of these is of names, and not compared.
+# What go/types says, and the rule that it is. An error that is none of these is of names: of these the number is compared.
 MESSAGES = (
     (re.compile(r"illegal cycle in declaration of|invalid recursive type"), "Y1"),
     (re.compile(r"embedded field type cannot be a pointer"), "Y2"),
@@ -119,7 +119,7 @@ class Told:
 
 
 def own_answers(lines, count):
-    """The faults that govisd answers to each archive of so many, of which each asks for its packages in turn."""
+    """The faults, of all rules, that govisd answers to each archive of so many, of which each asks for its packages in turn."""
     answers, place = [], 0
     for packages in count:
         faults = set()
@@ -354,8 +354,11 @@ def main():
         for (name, _, text, put), faults in zip(some, own):
             told = Told(Texts(text))
             told.add(errors_of[name])
-            compare(text, faults, told, counts, os.path.basename(name))
-            counts["clean"] += not faults and not told.faults
+            of_types = {(place, rule) for place, rule in faults if rule.split()[0] in RULES}
+            compare(text, of_types, told, counts, os.path.basename(name))
+            if len(faults - of_types) != told.of_names:
+                note(counts, None, f"faults of names: {sorted(faults - of_types)[:3]}, go/types says {told.of_names}", os.path.basename(name))
+            counts["clean"] += not of_types and not told.faults
             for form in put:
                 counts["put"][form] = counts["put"].get(form, 0) + 1
             if not put and (faults or told.faults or told.of_names):
@@ -363,7 +366,7 @@ def main():
     same = counts["same"]
     print(f"{len(files):,} workspaces, {counts['clean']:,} without a fault: {sum(same.values()):,} faults are the same, " + ", ".join(f"{rule} {same[rule]:,}" for rule in RULES))
     print("errors put in: " + ", ".join(f"{form} {count:,}" for form, count in sorted(counts["put"].items())))
-    print(f"go/types' errors of names, which are not compared: {counts['of names']:,}")
+    print(f"go/types' errors of names, of which each archive has as many faults of other rules: {counts['of names']:,}")
     for form, count in sorted(counts["forms"].items()):
         print(f"on purpose: {form}: {count:,}")
     print(f"{counts['differ']:,} differ otherwise")

@@ -3,7 +3,7 @@
 // only parses the file, by go/parser: the peer of `govisd_probe parse`. With `sources FILE` it parses all files of an
 // archive, holds their trees, and counts them: the peer of `govisd_probe sources`. With `names FILE` it tells by go/types
 // what each identifier that a function of an archive uses denotes: the peer of `govisd_probe names` (names.go). With `check FILE` it parses and checks
-// the packages of an archive, and counts what it finds: the peer of `govisd_check count` (checked.go).
+// the packages of an archive, and counts what it finds: the peer of `govisd_snapshot counts` (checked.go).
 //
 // Each line is OFFSET ROLE TEXT ANSWER. ROLE is type or value. ANSWER is universe.NAME,
 // local/in.go:OFFSET, or ? where go/types finds no declaration. Errors go to standard error, but that a

@@ -10,7 +10,7 @@ import (
 	"strings"
 )
 
-// An answer is what govisd_check says of a workspace.
+// An answer is what govisd_snapshot says of a workspace.
 type answer struct {
 	uses     map[place]use
 	refused  map[place][]string // the rules of outcomes and faults
@@ -202,15 +202,17 @@ func hard(errors []oddity) *oddity {
 func (t *tally) compare(file string, j *judgement, a *answer) {
 	t.add("archives")
 	where := func(at place) string { return file + " " + at.String() }
+	compareImports := t.compareUnused
 	if goList != nil {
 		t.compareList(j, file)
-		for _, from := range j.order {
-			if !j.broken[from] {
-				t.compareImports(j, a, from, hard(j.errors[from]) == nil, where)
-			}
-		}
-		a.without("I7")
+		compareImports = t.compareImports
 	}
+	for _, from := range j.order {
+		if !j.broken[from] {
+			compareImports(j, a, from, hard(j.errors[from]) == nil, where)
+		}
+	}
+	a.without("I7")
 	for _, from := range j.order {
 		t.add("packages")
 		first := hard(j.errors[from])
@@ -329,6 +331,8 @@ func (t *tally) compareNames(j *judgement, a *answer, isAccepted bool, inPackage
 			t.note("a name denotes something else: "+kindOfDecl(told.decl)+" by go/types, "+kindOfDecl(own.decl)+" by govisd", where(at)+" "+told.decl+" "+own.decl)
 		case len(a.refused[at]) > 0:
 			t.add("names that go/types alone resolves, refused by " + strings.Join(a.refused[at], " "))
+		case j.unused(path.Dir(at.file))[at]:
+			t.add("imports that are not used, which have no package")
 		case isAccepted:
 			t.note("a name has no answer", where(at)+" "+told.spelling)
 		default:
@@ -396,7 +400,7 @@ func (t *tally) compareValues(j *judgement, a *answer, inPackage func(place) boo
 		case j.outer[at]:
 			t.note("a constant has no value", where(at))
 		default:
-			t.add("constants of functions and initialisers that govisd_check does not show")
+			t.add("constants of functions and initialisers that govisd_snapshot does not show")
 		}
 	}
 	for at := range a.consts {

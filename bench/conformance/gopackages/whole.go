@@ -128,8 +128,8 @@ func (j *judgement) packages() map[string]bool {
 	return found
 }
 
-// compareImports compares which imports are refused, and which are not used.
-func (t *tally) compareImports(j *judgement, a *answer, from string, isAccepted bool, where func(place) string) {
+// unused gives the places of the imports of a package that go/types says are not used.
+func (j *judgement) unused(from string) map[place]bool {
 	unused := map[place]bool{}
 	for _, odd := range j.errors[from] {
 		for _, n := range odd.nodes {
@@ -138,14 +138,35 @@ func (t *tally) compareImports(j *judgement, a *answer, from string, isAccepted 
 			}
 		}
 	}
-	for _, one := range j.edges(from) {
-		given := ""
-		for _, rule := range a.refused[one.at] {
-			if strings.HasPrefix(rule, "I") {
-				given = rule
-			}
+	return unused
+}
+
+// ofImport gives the rule of imports that refuses the one at a place.
+func (a *answer) ofImport(at place) string {
+	given := ""
+	for _, rule := range a.refused[at] {
+		if strings.HasPrefix(rule, "I") {
+			given = rule
 		}
-		t.compareImport(j, one, j.refused[from][one.to], given, unused[one.at], isAccepted, where(one.at))
+	}
+	return given
+}
+
+// compareImports compares which imports are refused, and which are not used.
+func (t *tally) compareImports(j *judgement, a *answer, from string, isAccepted bool, where func(place) string) {
+	unused := j.unused(from)
+	for _, one := range j.edges(from) {
+		t.compareImport(j, one, j.refused[from][one.to], a.ofImport(one.at), unused[one.at], isAccepted, where(one.at))
+	}
+}
+
+// compareUnused compares which imports are not used of those that pass, where the go command is not asked which do.
+func (t *tally) compareUnused(j *judgement, a *answer, from string, isAccepted bool, where func(place) string) {
+	unused := j.unused(from)
+	for _, one := range j.edges(from) {
+		if given := a.ofImport(one.at); given == "I7" || given == "" && unused[one.at] {
+			t.compareImport(j, one, "", given, unused[one.at], isAccepted, where(one.at))
+		}
 	}
 }
 
@@ -238,6 +259,10 @@ func (a *answer) without(prefix string) {
 			if !strings.HasPrefix(rule, prefix) {
 				kept = append(kept, rule)
 			}
+		}
+		if len(kept) == 0 {
+			delete(a.refused, at)
+			continue
 		}
 		a.refused[at] = kept
 	}

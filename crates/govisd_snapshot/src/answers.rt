@@ -1,15 +1,16 @@
 //! How faults and what occurrences have are written.
 use go_answer_core::denote_core::Outcome;
 use go_answer_core::handle_core::DeclSite;
-use go_answer_core::tree_core::OccId;
+use go_answer_core::tree_core::{OccId, Role};
 use go_answer_core::{Answer, Site};
 use go_path_core::ImportPath;
-use go_snap_core::Snapshot;
+use go_snap_core::{PlacedFault, Snapshot};
 use go_term_core::MemberPlace;
+use go_text_core::{is_digit, is_letter};
 use govisd_show::{Lines, Named};
 
 /// Adds an identifier of the package of a path.
-fn add_place(out: &mut Lines, named: &[Named], path: &ImportPath, place: MemberPlace) {
+pub fn add_place(out: &mut Lines, named: &[Named], path: &ImportPath, place: MemberPlace) {
     for package in named {
         if package.path.as_str() == path.as_str() {
             match place {
@@ -37,19 +38,65 @@ pub fn add_site(out: &mut Lines, named: &[Named], site: &Site) {
     }
 }
 
-/// Adds the places of the embedded fields that lead to a member, and ends the line.
-fn end_steps(out: &mut Lines, steps: &[usize]) {
-    out.add(" path");
+/// Adds the places of the embedded fields that lead to a member.
+pub fn add_steps(out: &mut Lines, steps: &[usize]) {
+    out.add("[");
+    let mut before = "";
     for step in steps {
-        out.count(" ", *step, "");
+        out.count(before, *step, "");
+        before = " ";
     }
-    out.line("");
+    out.add("]");
 }
 
-/// Adds what an occurrence has.
-fn add_answer(out: &mut Lines, named: &[Named], answer: &Answer) {
+/// The name of a role.
+fn role_word(role: Role) -> &'static str {
+    match role {
+        Role::Import => "import",
+        Role::Type => "type",
+        Role::Value => "value",
+        Role::Callee => "callee",
+        Role::Qualifier => "qualifier",
+        Role::Selector(_) => "selector",
+        Role::Key => "key",
+        Role::Call => "call",
+    }
+}
+
+/// The identifier that a text begins with.
+fn first_name(text: &str) -> &str {
+    for (end, c) in text.char_indices() {
+        if !is_letter(c) && !is_digit(c) {
+            return text.get(..end).unwrap_or("");
+        }
+    }
+    text
+}
+
+/// The string that a text begins with, up to the next quote of this kind.
+fn first_string(text: &str, quote: char) -> &str {
+    match text.get(1..).unwrap_or("").split_once(quote) {
+        Some((inside, _)) => text.get(..inside.len().saturating_add(2)).unwrap_or(text),
+        None => text,
+    }
+}
+
+/// What stands at an offset of a text: a string, a parenthesis, or an identifier.
+pub fn spelling_at(text: &str, offset: usize) -> &str {
+    let rest = text.get(offset..).unwrap_or("");
+    match rest.as_bytes() {
+        [b'"', ..] => first_string(rest, '"'),
+        [b'`', ..] => first_string(rest, '`'),
+        [b'(', ..] => "(",
+        _ => first_name(rest),
+    }
+}
+
+/// Adds what an occurrence of a text has.
+pub fn add_answer(out: &mut Lines, named: &[Named], text: &str, answer: &Answer) {
     out.count("", answer.offset, " ");
-    out.name(answer.role);
+    out.word(role_word(answer.role));
+    out.word(spelling_at(text, answer.offset));
     match &answer.outcome {
         Outcome::Declared(site) => {
             add_site(out, named, site);
@@ -57,10 +104,26 @@ fn add_answer(out: &mut Lines, named: &[Named], answer: &Answer) {
         }
         Outcome::Selected(site, path) => {
             add_site(out, named, site);
-            end_steps(out, path.steps());
+            out.count("\npath ", answer.offset, " ");
+            add_steps(out, path.steps());
+            out.line("");
         }
         Outcome::Refused(rule) => out.refuse(*rule),
     }
+}
+
+/// The text of the file of a name in the package of a path, and nothing where there is none.
+fn text_of<'a>(snapshot: &'a Snapshot, path: &ImportPath, name: &str) -> &'a str {
+    for source in snapshot.sources().packages() {
+        if source.path().as_str() == path.as_str() {
+            for file in source.files() {
+                if file.name() == name {
+                    return file.text();
+                }
+            }
+        }
+    }
+    ""
 }
 
 /// Adds what the occurrences of a file of the package of a path have, by their numbers, up to the first number that none has.
@@ -71,23 +134,32 @@ pub fn add_outcomes(
     path: &ImportPath,
     file: &str,
 ) {
+    let text = text_of(snapshot, path, file);
     for number in 0..usize::MAX {
         out.count("", number, " ");
         match snapshot.outcome(path, file, OccId(number)) {
-            Some(answer) => add_answer(out, named, answer),
+            Some(answer) => add_answer(out, named, text, answer),
             None => return out.line("none"),
         }
     }
 }
 
-/// Adds all faults.
-pub fn add_faults(out: &mut Lines, snapshot: &Snapshot, named: &[Named]) {
-    for fault in snapshot.faults() {
+/// Adds the faults of the package of a path, or of all packages, each behind a piece.
+pub fn add_faults(
+    out: &mut Lines,
+    named: &[Named],
+    faults: &[PlacedFault],
+    before: &str,
+    path: Option<&str>,
+) {
+    for fault in faults {
         if let Some(package) = named.get(fault.package) {
-            out.add("fault ");
-            package.add_place(out, fault.file, fault.offset);
-            out.add(" ");
-            out.refuse(fault.rule);
+            if path.is_none() || path == Some(package.path.as_str()) {
+                out.add(before);
+                package.add_place(out, fault.file, fault.offset);
+                out.add(" ");
+                out.refuse(fault.rule);
+            }
         }
     }
 }

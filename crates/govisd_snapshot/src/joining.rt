@@ -62,7 +62,7 @@ fn joined(alloc: Global, snapshot: &Snapshot) -> Result<Snapshot, AllocError> {
 fn written(alloc: Global, snapshot: &Snapshot, named: &[Named]) -> Result<String, AllocError> {
     let mut out = Lines::new(alloc);
     add_files(&mut out, snapshot.sources());
-    add_faults(&mut out, snapshot, named);
+    add_faults(&mut out, named, snapshot.faults(), "fault ", None);
     for source in snapshot.sources().packages() {
         for file in source.files() {
             add_outcomes(&mut out, snapshot, named, source.path(), file.name());
@@ -82,7 +82,7 @@ fn is_joined_same(alloc: Global, shot: &Shot) -> Result<bool, AllocError> {
 /// Adds what a workspace has, its faults, and whether a join of its parts has the same.
 pub fn add_snapshot(out: &mut Lines, alloc: Global, shot: &Shot) {
     add_counts(out, shot.snapshot.sources());
-    add_faults(out, &shot.snapshot, &shot.named);
+    add_faults(out, &shot.named, shot.snapshot.faults(), "fault ", None);
     match is_joined_same(alloc, shot) {
         Ok(true) => out.line("joined same"),
         Ok(false) => out.line("joined another"),

@@ -1,39 +1,157 @@
 //! The program `govisd_snapshot`: the snapshots of workspaces.
 //!
-//! `govisd_snapshot FILE..` reads of each file the archive of a workspace. Behind a line `== FILE` it writes how many packages, files and trees the
-//! workspace has, a line `fault PLACE RULE` for each fault, and what comes of joining parts that are made anew of the inputs, the last one first:
-//! `joined same` where it has the sources, the faults and the outcomes that the snapshot has. Then each line before the archive's first file stands, with the
-//! answer behind it where it asks something:
+//! `govisd_snapshot FILE.. [KIND FILE..]..` reads of each file the archive of a workspace, makes its snapshot, and writes the answers of the kind before
+//! it in lines. Before the first kind stand archives of the kind `whole`.
+//!
+//! | Kind | The answers |
+//! |---|---|
+//! | `whole` | what the workspace has, its faults, and answers to the questions before the archive's first file |
+//! | `answers` | what stands in each file: all lines but those of locals |
+//! | `refusals` | the same lines as far as they tell an archive, a package, a file, a fault, or an occurrence that breaks a rule |
+//! | `locals` | those that tell an archive, a package, a file, or a local of a function |
+//! | `counts` | one line: how many packages were checked, how many occurrences they have, how many of these break a rule, and how many faults there are beside |
+//! | `ask` | to the questions before the archive's first file, a line each: `ex.com/p` asks for the faults of a package, `ex.com/p *ex.com/q.T` for the names that a selector may have in the package `ex.com/p` behind a pointer to `T`, `ex.com/p *ex.com/q.T f` for what the selector `f` denotes there |
+//! | `select` | for each type of each package, for a value of it, a pointer to it and a pointer to that, and for each package in which a selector may be written, what the name of each member in the workspace denotes |
+//! | `selectable` | in the same order, the names that a selector may have |
+//! | `faults` | all faults, by package, file and offset |
+//! | `first` | how many selectors resolve behind a value of the first type of each package, in that package, of the names of all members but those of embedded fields |
+//! | `first10` | the same, where each is asked ten times |
+//!
+//! The answers of the first five kinds stand behind a line `== FILE`.
+//!
+//! Of a whole archive it writes how many packages, files and trees the workspace has, a line `fault PLACE RULE` for each fault, and what comes of joining
+//! parts that are made anew of the inputs, the last one first: `joined same` where it has the sources, the faults and the outcomes that the
+//! snapshot has. Then each line before the archive's first file stands, with the answer behind it where it asks something:
 //!
 //! | Line | The answer |
 //! |---|---|
-//! | `outcomes PATH FILE` | what each occurrence of the file has, by its number: `NUMBER OFFSET ROLE DECLARATION`, where it selects a member with the places of the embedded fields that lead there, or the rule that it breaks; `NUMBER none` for the first number that no occurrence has |
+//! | `outcomes PATH FILE` | what each occurrence of the file has: its number, and then as below; `NUMBER none` for the first number that no occurrence has |
 //! | `listing PATH` | `object PATH NAME IMPORTS`, and behind it the functions of the package as they run; `no object` where the package has a fault, and `no package` where the path has none |
 //! | `objects` | the same of all packages that have no fault, in order of path, as the snapshot makes them together |
 //! | `compare PATH` | whether the summary of the package and what its part is made from are the `same` as in the archive before, or `another`; `none` where one of the two archives has no such package |
 //!
+//! Of files it writes for each package, in order of path, `package PATH NAME`; for each of its files, in order of name, `file NAME`; and of a file:
+//!
+//! | Line | Of |
+//! |---|---|
+//! | `const OFFSET VALUE` | a constant that is declared outside functions: its value, where it is known |
+//! | `OFFSET ROLE TEXT ANSWER` | an occurrence: its declaration, or the rule that it breaks |
+//! | `path OFFSET STEPS` | a selector that denotes a member: the places of the embedded fields that lead to it |
+//! | `fault OFFSET RULE` | a fault that is no answer of an occurrence |
+//! | `local OFFSET NAME TYPE` | a variable that a function declares, a receiver, a parameter and a result too, at its identifier: its type, `none` where it has none |
+//! | `local OFFSET NAME TYPE = VALUE` | a constant that a function declares: its type and its value |
+//!
+//! A defined type stands as the place of its declaration, and a type that is written out as `struct` or `interface`. A package that does not assemble
+//! stands as `package PATH RULE FILE:OFFSET`, with the faults of its files.
+//!
+//! What a selector denotes is a field or a method at the place of its declaration, the path to it as places of embedded fields, and whether a
+//! pointer is passed; or the rule that the selector breaks. Where the workspace has seven types at most, all paths are listed besides, and
+//! a line says where that finds another answer.
+//!
 //! The status is 1 where a file cannot be read.
 #![tactic(auto)]
 
+mod all_paths;
+mod all_types;
 mod answers;
 mod comparing;
+mod files;
 mod joining;
 mod listings;
 mod questions;
+mod selectors;
 mod shot;
+mod type_questions;
+mod types;
 
+use files::{Shown, add_packages, add_sums};
 use govisd_show::Lines;
-use questions::add_questions;
 use shot::{Shot, shot_of};
 use std::alloc::Global;
 use std::{env, fs, io};
+use types::types_of;
+
+/// What is written of an archive.
+#[derive(Clone, Copy)]
+enum Kind {
+    /// What the workspace has, and what is asked of it.
+    Whole,
+    /// What stands in its files.
+    Files(Shown),
+    /// How much stands in its files.
+    Counts,
+    /// What is asked of its types.
+    Types(Asked),
+}
+
+/// What is asked of the types of a workspace.
+#[derive(Clone, Copy)]
+enum Asked {
+    Questions,
+    Selectors,
+    Listings,
+    Faults,
+    /// How many selectors resolve that are asked so many times each.
+    Count(usize),
+}
+
+/// The kind of a name.
+fn find(name: &str) -> Option<Kind> {
+    match name {
+        "whole" => Some(Kind::Whole),
+        "answers" => Some(Kind::Files(Shown::Answers)),
+        "refusals" => Some(Kind::Files(Shown::Refusals)),
+        "locals" => Some(Kind::Files(Shown::Locals)),
+        "counts" => Some(Kind::Counts),
+        "ask" => Some(Kind::Types(Asked::Questions)),
+        "select" => Some(Kind::Types(Asked::Selectors)),
+        "selectable" => Some(Kind::Types(Asked::Listings)),
+        "faults" => Some(Kind::Types(Asked::Faults)),
+        "first" => Some(Kind::Types(Asked::Count(1))),
+        "first10" => Some(Kind::Types(Asked::Count(10))),
+        _ => None,
+    }
+}
+
+/// Adds what is asked of the types of a workspace. The text is that of its archive.
+fn add_types(out: &mut Lines, alloc: Global, asked: Asked, text: &str, shot: &Shot) {
+    let Ok(typed) = types_of(alloc, shot) else {
+        return out.cut();
+    };
+    match asked {
+        Asked::Questions => type_questions::add_questions(out, alloc, &typed, text),
+        Asked::Selectors => all_types::add_selectors(out, alloc, &typed),
+        Asked::Listings => all_types::add_listings(out, alloc, &typed),
+        Asked::Faults => answers::add_faults(out, typed.named, typed.faults, "", None),
+        Asked::Count(times) => all_types::add_count(out, alloc, &typed, times),
+    }
+}
+
+/// Adds what is answered of a snapshot.
+fn add_answer(
+    out: &mut Lines,
+    alloc: Global,
+    kind: Kind,
+    text: &str,
+    shot: &Shot,
+    last: Option<&Shot>,
+) {
+    match kind {
+        Kind::Whole => {
+            joining::add_snapshot(out, alloc, shot);
+            questions::add_questions(out, alloc, text, shot, last);
+        }
+        Kind::Files(shown) => add_packages(out, alloc, shown, shot),
+        Kind::Counts => add_sums(out, &shot.snapshot),
+        Kind::Types(asked) => add_types(out, alloc, asked, text, shot),
+    }
+}
 
 /// Adds what is answered to an archive, where the last snapshot is that of the one before it. Its own is the last then.
-fn add_archive(out: &mut Lines, alloc: Global, text: &str, last: &mut Option<Shot>) {
+fn add_archive(out: &mut Lines, alloc: Global, kind: Kind, text: &str, last: &mut Option<Shot>) {
     match shot_of(alloc, text) {
         Ok(shot) => {
-            joining::add_snapshot(out, alloc, &shot);
-            add_questions(out, alloc, text, &shot, last.as_ref());
+            add_answer(out, alloc, kind, text, &shot, last.as_ref());
             *last = Some(shot);
         }
         Err(rule) => out.refuse(rule),
@@ -41,20 +159,27 @@ fn add_archive(out: &mut Lines, alloc: Global, text: &str, last: &mut Option<Sho
 }
 
 /// Writes what is answered to the archive in a file.
-fn show(rt: &HostRuntime, file: &str, last: &mut Option<Shot>) -> io::Result<()> {
+fn show(rt: &HostRuntime, kind: Kind, file: &str, last: &mut Option<Shot>) -> io::Result<()> {
+    let alloc = rt.alloc();
     let text = fs::read_to_string(rt, file)?;
-    let mut out = Lines::new(rt.alloc());
-    out.add("== ");
-    out.line(file);
-    add_archive(&mut out, rt.alloc(), text.as_str(), last);
+    let mut out = Lines::new(alloc);
+    if !matches!(kind, Kind::Types(_)) {
+        out.add("== ");
+        out.line(file);
+    }
+    add_archive(&mut out, alloc, kind, text.as_str(), last);
     let lines = out.finish()?;
     print!(rt; "{lines}")
 }
 
-/// Writes what is answered to the archives in files, one behind the other.
-fn show_all(rt: &HostRuntime, files: &[String], last: &mut Option<Shot>) -> io::Result<()> {
-    for file in files {
-        show(rt, file.as_str(), last)?;
+/// Writes what is answered to the archives in files, one behind the other. A word that names a kind asks for this kind from there on.
+fn show_all(rt: &HostRuntime, words: &[String], last: &mut Option<Shot>) -> io::Result<()> {
+    let mut kind = Kind::Whole;
+    for word in words {
+        match find(word.as_str()) {
+            Some(next) => kind = next,
+            None => show(rt, kind, word.as_str(), last)?,
+        }
     }
     Ok(())
 }

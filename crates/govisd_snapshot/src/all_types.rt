@@ -1,12 +1,12 @@
 //! What is answered of all types of a workspace.
-use crate::packages::{Typed, TypedPackage};
 use crate::selectors::{add_operand, add_selectable, add_selector, starred};
+use crate::types::Typed;
+use go_embed_core::table_core::StructField;
 use go_path_core::ImportPath;
 use go_select_core::select;
-use go_table_core::StructField;
-use go_term_core::close;
-use go_type_core::{DefinedType, TypeTerm};
-use govisd_show::{Lines, Named};
+use go_select_core::table_core::DefinedType;
+use go_term_core::{TypeTerm, close};
+use govisd_show::Lines;
 use std::alloc::{AllocError, Global};
 use std::collections::BTreeSet;
 
@@ -39,11 +39,15 @@ fn add_members(
 }
 
 /// The names of all members of the types of a workspace, in order of their bytes, and `Error`; those of embedded fields where they are asked for.
-fn member_names(alloc: Global, typed: &Typed, embedded: bool) -> Result<Vec<String>, AllocError> {
+fn member_names(
+    alloc: Global,
+    typed: &Typed<'_>,
+    embedded: bool,
+) -> Result<Vec<String>, AllocError> {
     let mut names = BTreeSet::new(alloc);
     names.insert(String::from_str(alloc, "Error")?)?;
-    for package in typed.packages.values() {
-        for defined in package.types.types() {
+    for package in &typed.packages {
+        for defined in package.types() {
             add_members(&mut names, alloc, defined, embedded)?;
         }
     }
@@ -54,7 +58,7 @@ fn member_names(alloc: Global, typed: &Typed, embedded: bool) -> Result<Vec<Stri
 fn add_from(
     out: &mut Lines,
     alloc: Global,
-    typed: &Typed,
+    typed: &Typed<'_>,
     names: Option<&[String]>,
     operand: (&DefinedType, usize, &TypeTerm),
     from: &ImportPath,
@@ -82,16 +86,16 @@ fn add_from(
 fn add_of_type(
     out: &mut Lines,
     alloc: Global,
-    typed: &Typed,
+    typed: &Typed<'_>,
     names: Option<&[String]>,
     defined: &DefinedType,
 ) {
     for stars in 0..3usize {
         match starred(alloc, defined, stars) {
             Ok(term) => {
-                for package in typed.packages.values() {
+                for package in &typed.packages {
                     let operand = (defined, stars, &term);
-                    add_from(out, alloc, typed, names, operand, package.types.path());
+                    add_from(out, alloc, typed, names, operand, package.path());
                 }
                 close(term);
             }
@@ -101,9 +105,9 @@ fn add_of_type(
 }
 
 /// Adds what is asked of all types: what selectors of some names denote, or without names which names there are.
-fn add_of_types(out: &mut Lines, alloc: Global, typed: &Typed, names: Option<&[String]>) {
-    for package in typed.packages.values() {
-        for defined in package.types.types() {
+fn add_of_types(out: &mut Lines, alloc: Global, typed: &Typed<'_>, names: Option<&[String]>) {
+    for package in &typed.packages {
+        for defined in package.types() {
             add_of_type(out, alloc, typed, names, defined);
         }
     }
@@ -111,7 +115,7 @@ fn add_of_types(out: &mut Lines, alloc: Global, typed: &Typed, names: Option<&[S
 
 /// Adds for each type of each package, for a value of it, a pointer to it and a pointer to that, and for each package in which a selector may be
 /// written, what each name of a member of the workspace denotes.
-pub fn add_selectors(out: &mut Lines, alloc: Global, typed: &Typed) {
+pub fn add_selectors(out: &mut Lines, alloc: Global, typed: &Typed<'_>) {
     match member_names(alloc, typed, true) {
         Ok(names) => add_of_types(out, alloc, typed, Some(names.as_slice())),
         Err(_) => out.cut(),
@@ -119,32 +123,14 @@ pub fn add_selectors(out: &mut Lines, alloc: Global, typed: &Typed) {
 }
 
 /// Adds the same of the names that a selector may have.
-pub fn add_listings(out: &mut Lines, alloc: Global, typed: &Typed) {
+pub fn add_listings(out: &mut Lines, alloc: Global, typed: &Typed<'_>) {
     add_of_types(out, alloc, typed, None);
-}
-
-/// Adds the faults of a package.
-pub fn add_package_faults(out: &mut Lines, named: &Named, package: &TypedPackage) {
-    for fault in &package.faults {
-        named.add_place(out, fault.file, fault.offset);
-        out.add(" ");
-        out.refuse(fault.rule);
-    }
-}
-
-/// Adds the faults of all packages, in order of path.
-pub fn add_faults(out: &mut Lines, typed: &Typed) {
-    for (number, package) in &typed.packages {
-        if let Some(named) = typed.named.get(*number) {
-            add_package_faults(out, named, package);
-        }
-    }
 }
 
 /// How many of some names a selector resolves with behind a value of a type, in the package of a path.
 fn resolved(
     alloc: Global,
-    typed: &Typed,
+    typed: &Typed<'_>,
     term: &TypeTerm,
     names: &[String],
     from: &ImportPath,
@@ -158,13 +144,13 @@ fn resolved(
 }
 
 /// How many of some names a selector resolves with behind a value of the first type of each package, in that package.
-fn resolved_first(out: &mut Lines, alloc: Global, typed: &Typed, names: &[String]) -> usize {
+fn resolved_first(out: &mut Lines, alloc: Global, typed: &Typed<'_>, names: &[String]) -> usize {
     let mut count = 0usize;
-    for package in typed.packages.values() {
-        if let Some(defined) = package.types.types().first() {
+    for package in &typed.packages {
+        if let Some(defined) = package.types().first() {
             match starred(alloc, defined, 0) {
                 Ok(term) => {
-                    let more = resolved(alloc, typed, &term, names, package.types.path());
+                    let more = resolved(alloc, typed, &term, names, package.path());
                     close(term);
                     count = count.saturating_add(more);
                 }
@@ -177,7 +163,7 @@ fn resolved_first(out: &mut Lines, alloc: Global, typed: &Typed, names: &[String
 
 /// Adds how many selectors resolve of all names of members but those of embedded fields, behind a value of the first type of each package, in
 /// that package, if each is asked so many times.
-pub fn add_count(out: &mut Lines, alloc: Global, typed: &Typed, times: usize) {
+pub fn add_count(out: &mut Lines, alloc: Global, typed: &Typed<'_>, times: usize) {
     let Ok(names) = member_names(alloc, typed, false) else {
         return out.cut();
     };

@@ -1,4 +1,4 @@
-use Rattle.govisd_types.proofs.listing.+follow.Given as goal
+use Rattle.govisd_snapshot.proofs.all_paths.+follow.Given as goal
 
 -- how many more fields a path may have
 abbrev pub decreases-follow : goal.decreases-follow

@@ -1,9 +1,10 @@
 //! A second opinion on selectors: all paths of embedded fields, one after another.
 use go_embed_core::Hits;
 use go_path_core::ImportPath;
+use go_select_core::table_core::TypeTable;
 use go_select_core::{Member, Owner, Selected};
+use go_term_core::TypeTerm;
 use go_text_core::Rule;
-use go_type_core::{TypeTable, TypeTerm};
 use std::alloc::{AllocError, Global};
 
 /// How many types a table may have of which all paths are listed.

@@ -1,11 +1,13 @@
 //! Selectors, as lines.
-use crate::listing::differs;
-use crate::packages::Typed;
+use crate::all_paths::differs;
+use crate::answers::{add_place, add_steps};
+use crate::types::Typed;
 use go_path_core::ImportPath;
+use go_select_core::table_core::DefinedType;
 use go_select_core::{Member, Selected, select, selectable};
+use go_term_core::TypeTerm;
 use go_text_core::{Rule, boxed};
-use go_type_core::{DefinedType, MemberPlace, TypeTerm};
-use govisd_show::Lines;
+use govisd_show::{Lines, Named};
 use std::alloc::{AllocError, Global};
 
 /// The type of an operand: a defined type with as many stars before it.
@@ -27,52 +29,30 @@ pub fn add_operand(out: &mut Lines, defined: &DefinedType, stars: usize) {
     out.add(defined.name().as_str());
 }
 
-/// Adds where a member of a package is declared.
-fn add_place(out: &mut Lines, typed: &Typed, path: &ImportPath, place: MemberPlace) {
-    if let Some((named, _)) = typed.package(path.as_str()) {
-        match place {
-            MemberPlace::Declared(decl) => named.add_decl(out, decl),
-            MemberPlace::Local(local) => named.add_place(out, local.file, local.offset),
-        }
-    }
-}
-
 /// Adds a member: what it is, and where it is declared.
-fn add_member(out: &mut Lines, typed: &Typed, member: Member<'_>) {
+fn add_member(out: &mut Lines, named: &[Named], member: Member<'_>) {
     match member {
         Member::Field(path, field) => {
             out.add("field ");
-            add_place(out, typed, path, field.field.place);
+            add_place(out, named, path, field.field.place);
         }
         Member::Method(path, method) => {
             out.add("method ");
-            add_place(out, typed, path, method.place);
+            add_place(out, named, path, method.place);
         }
         Member::InterfaceMethod(path, method) => {
             out.add("method ");
-            add_place(out, typed, path, method.place);
+            add_place(out, named, path, method.place);
         }
         Member::ErrorMethod => out.add("method universe.error.Error"),
     }
 }
 
-/// Adds a path of embedded fields: their places among the fields of their struct types.
-fn add_steps(out: &mut Lines, steps: &[usize]) {
-    out.add("[");
-    for (n, step) in steps.iter().enumerate() {
-        if n > 0 {
-            out.add(" ");
-        }
-        out.show(*step);
-    }
-    out.add("]");
-}
-
 /// Adds what a selector denotes: the member, the path to it, and whether a pointer is passed; or the rule that it breaks.
-fn add_selected(out: &mut Lines, typed: &Typed, answer: &Result<Selected<'_>, Rule>) {
+fn add_selected(out: &mut Lines, named: &[Named], answer: &Result<Selected<'_>, Rule>) {
     match answer {
         Ok(selected) => {
-            add_member(out, typed, selected.member);
+            add_member(out, named, selected.member);
             out.add(" ");
             add_steps(out, selected.path.steps());
             out.line(if selected.through_pointer {
@@ -89,13 +69,13 @@ fn add_selected(out: &mut Lines, typed: &Typed, answer: &Result<Selected<'_>, Ru
 pub fn add_selector(
     out: &mut Lines,
     alloc: Global,
-    typed: &Typed,
+    typed: &Typed<'_>,
     term: &TypeTerm,
     name: &str,
     from: &ImportPath,
 ) {
     let answer = select(alloc, &typed.table, term, name, from);
-    add_selected(out, typed, &answer);
+    add_selected(out, typed.named, &answer);
     match differs(alloc, &typed.table, term, name, from, &answer) {
         Ok(true) => out.line("  a listing of all paths finds another answer"),
         Ok(false) => {}
@@ -108,7 +88,7 @@ pub fn add_selector(
 pub fn add_selectable(
     out: &mut Lines,
     alloc: Global,
-    typed: &Typed,
+    typed: &Typed<'_>,
     term: &TypeTerm,
     from: &ImportPath,
 ) {

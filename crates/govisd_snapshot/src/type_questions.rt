@@ -1,21 +1,11 @@
 //! Questions on the types of a workspace, which stand before the first file of its archive.
-use crate::packages::{Typed, TypedPackage};
+use crate::answers::add_faults;
 use crate::selectors::{add_selectable, add_selector, starred};
-use crate::workspaces::add_package_faults;
+use crate::types::{Typed, find_type};
+use go_path_core::ImportPath;
 use go_term_core::close;
-use go_type_core::DefinedType;
 use govisd_show::{Lines, member_place};
 use std::alloc::Global;
-
-/// The type of a name among the types of a package.
-fn find_type<'a>(package: &'a TypedPackage, name: &str) -> Option<&'a DefinedType> {
-    for defined in package.types.types() {
-        if defined.name().as_str() == name {
-            return Some(defined);
-        }
-    }
-    None
-}
 
 /// How many stars a text begins with, and what stands behind them.
 fn split_stars(text: &str) -> (usize, &str) {
@@ -28,14 +18,14 @@ fn split_stars(text: &str) -> (usize, &str) {
 fn add_of_operand(
     out: &mut Lines,
     alloc: Global,
-    typed: &Typed,
-    from: &TypedPackage,
+    typed: &Typed<'_>,
+    from: &ImportPath,
     operand: &str,
     name: Option<&str>,
 ) {
     let (stars, place) = split_stars(operand);
     let (path, type_name) = place.rsplit_once('.').unwrap_or((place, ""));
-    let Some((_, package)) = typed.package(path) else {
+    let Some(package) = typed.package(path) else {
         return out.line(" no package");
     };
     let Some(defined) = find_type(package, type_name) else {
@@ -47,34 +37,41 @@ fn add_of_operand(
     match name {
         Some(name) => {
             out.add(" ");
-            add_selector(out, alloc, typed, &term, name, from.types.path());
+            add_selector(out, alloc, typed, &term, name, from);
         }
-        None => add_selectable(out, alloc, typed, &term, from.types.path()),
+        None => add_selectable(out, alloc, typed, &term, from),
     }
     close(term);
 }
 
-/// Adds a question, and behind a colon the answer: `PATH` asks for the faults of a package, `PATH OPERAND` for the names that a selector may
+/// Adds a question, and behind a colon the answer: `PATH` asks for the faults of an assembled package, `PATH OPERAND` for the names that a selector may
 /// have there, and `PATH OPERAND NAME` for what a selector denotes.
-fn add_question(out: &mut Lines, alloc: Global, typed: &Typed, question: &str) {
+fn add_question(out: &mut Lines, alloc: Global, typed: &Typed<'_>, question: &str) {
     out.add(question);
     out.add(":");
     let (path, rest) = question.split_once(' ').unwrap_or((question, ""));
-    let Some((named, package)) = typed.package(path) else {
+    let Some(package) = typed.package(path) else {
         return out.line(" no package");
     };
     if rest.is_empty() {
         out.line("");
-        return add_package_faults(out, named, package);
+        return add_faults(out, typed.named, typed.faults, "", Some(path));
     }
     match rest.split_once(' ') {
-        Some((operand, name)) => add_of_operand(out, alloc, typed, package, operand, Some(name)),
-        None => add_of_operand(out, alloc, typed, package, rest, None),
+        Some((operand, name)) => add_of_operand(
+            out,
+            alloc,
+            typed,
+            package.path(),
+            operand,
+            Some(name),
+        ),
+        None => add_of_operand(out, alloc, typed, package.path(), rest, None),
     }
 }
 
 /// Adds the questions before the first file of an archive, a line each, with their answers.
-pub fn add_questions(out: &mut Lines, alloc: Global, typed: &Typed, text: &str) {
+pub fn add_questions(out: &mut Lines, alloc: Global, typed: &Typed<'_>, text: &str) {
     for line in text.lines() {
         if member_place(line).is_some() {
             return;
