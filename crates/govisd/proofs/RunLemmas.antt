@@ -18,7 +18,7 @@ use Rattle.govisd.specs.declared.program.Ran.{Ran}
 use Rattle.govisd.specs.declared.words.Request.{Request}
 use Rattle.govisd.specs.declared.words.Request.TheVariants.{Resolve, Explain, Check, Help, Version}
 use Rattle.govisd.specs.Asking.{Asks, ToCheck, ToExplain, ToHelp, is_plain, line, named as asked_by, refusals, said}
-use Rattle.govisd.specs.Runs.{ChecksEach, ChecksFolder, Does, Explains, ExplainsEach, ExplainsFound, Helps, HelpsEach, HelpsFound, ListsAll, Refuses, RefusesName, RefusesOtherCommands, RefusesOthers, Runs, RunsOut, ShowsOrRunsOut}
+use Rattle.govisd.specs.Runs.{Answering, ChecksEach, ChecksFolder, Does, Explains, ExplainsEach, ExplainsFound, Helps, HelpsEach, HelpsFound, ListsAll, Refuses, RefusesName, RefusesOtherCommands, RefusesOthers, Runs, RunsOut, ShowsOrRunsOut}
 use Rattle.govisd.specs.Texts.{help_of, unknown_command_text}
 use Rattle.govisd.proofs.PlainWords.{check_folder, check_folder_named, explain_word, explain_word_named, help_word, help_word_named}
 
@@ -39,6 +39,9 @@ same_rule a b e = cc
 same_topic : (a b : Option Text) → ToHelp a ≡ ToHelp b → a ≡ b
 same_topic a b e = cc
 
+same_folder : (a b : Text) (p q : Option Text) (i j : Bool) → ToCheck a p i ≡ ToCheck b q j → a ≡ b
+same_folder a b p q i j e = cc
+
 same_path : (a b : Text) (p q : Option Text) (i j : Bool) → ToCheck a p i ≡ ToCheck b q j → p ≡ q
 same_path a b p q i j e = cc
 
@@ -46,26 +49,29 @@ same_form : (a b : Text) (p q : Option Text) (i j : Bool) → ToCheck a p i ≡ 
 same_form a b p q i j e = cc
 
 -- one run
-module _ (ran : Ran) (given left out out' err err' : Option (List ℕ)) where
-  explains : (request : Request) (word : Option Text) → said request ≡ ToExplain word → Does (Ok request) ran given left out out' err err' → Explains word ran out out' err err' × Keeps given left
+module _ (Answers : Answering) (ran : Ran) (given left out out' err err' : Option (List ℕ)) where
+  explains : (request : Request) (word : Option Text) → said request ≡ ToExplain word → Does Answers (Ok request) ran given left out out' err err' → Explains word ran out out' err err' × Keeps given left
   explains Resolve word is h = absurd (cc)
   explains (Explain rule) word is h = (subst (λ w. Explains w ran out out' err err') (same_rule _ word is) h.0, h.1)
   explains (Check order) word is h = absurd (cc)
   explains (Help topic) word is h = absurd (cc)
   explains Version word is h = absurd (cc)
 
-  helps : (request : Request) (word : Option Text) → said request ≡ ToHelp word → Does (Ok request) ran given left out out' err err' → Helps word ran out out' err err' × Keeps given left
+  helps : (request : Request) (word : Option Text) → said request ≡ ToHelp word → Does Answers (Ok request) ran given left out out' err err' → Helps word ran out out' err err' × Keeps given left
   helps Resolve word is h = absurd (cc)
   helps (Explain rule) word is h = absurd (cc)
   helps (Check order) word is h = absurd (cc)
   helps (Help topic) word is h = (subst (λ w. Helps w ran out out' err err') (same_topic _ word is) h.0, h.1)
   helps Version word is h = absurd (cc)
 
-  checks : (request : Request) (folder : Text) (path : Option Text) (json : Bool) → said request ≡ ToCheck folder path json → Does (Ok request) ran given left out out' err err' → ChecksFolder json path ran out out' err err' × Keeps given left
+  checks : (request : Request) (folder : Text) (path : Option Text) (json : Bool) → said request ≡ ToCheck folder path json → Does Answers (Ok request) ran given left out out' err err' → ChecksFolder Answers folder json path ran out out' err err' × Keeps given left
   checks Resolve folder path json is h = absurd (cc)
   checks (Explain rule) folder path json is h = absurd (cc)
   checks (Check order) folder path json is h =
-      (subst (λ p. ChecksFolder json p ran out out' err err') (same_path _ folder _ path _ json is) (subst (λ j. ChecksFolder j (option_map (λ word. word.now) order.module_path) ran out out' err err') (same_form _ folder _ path _ json is) h.0), h.1)
+      let asked = option_map (λ word. word.now) order.module_path in
+      let here = subst (λ f. ChecksFolder Answers f order.json asked ran out out' err err') (same_folder _ folder _ path _ json is) h.0 in
+      let formed = subst (λ j. ChecksFolder Answers folder j asked ran out out' err err') (same_form _ folder _ path _ json is) here in
+      (subst (λ p. ChecksFolder Answers folder json p ran out out' err err') (same_path _ folder _ path _ json is) formed, h.1)
   checks (Help topic) folder path json is h = absurd (cc)
   checks Version folder path json is h = absurd (cc)
 
@@ -75,27 +81,23 @@ module _ (ran : Ran) (given left out out' err err' : Option (List ℕ)) where
       (r.status, r.says)
 
   -- a run for words that are not refused does what is done for what they name, or memory ran out
-  done : (words : List Text) (Happens : Type 0) → ((request : Request) → said request ≡ asked_by words → Does (Ok request) ran given left out out' err err' → Happens × Keeps given left) → refusals words ≡ [] → Runs words ran given left out out' err err' → (Happens ⊎ (RunsOut ran err err' × Keeps out out')) × Keeps given left
+  done : (words : List Text) (Happens : Type 0) → ((request : Request) → said request ≡ asked_by words → Does Answers (Ok request) ran given left out out' err err' → Happens × Keeps given left) → refusals words ≡ [] → Runs Answers words ran given left out out' err err' → (Happens ⊎ (RunsOut ran err err' × Keeps out out')) × Keeps given left
   done words Happens does none r = by r.asked r.asks r.does
     where
-      by : (a : Result Request Error) → Asks words a → Does a ran given left out out' err err' → (Happens ⊎ (RunsOut ran err err' × Keeps out out')) × Keeps given left
+      by : (a : Result Request Error) → Asks words a → Does Answers a ran given left out out' err err' → (Happens ⊎ (RunsOut ran err err' × Keeps out out')) × Keeps given left
       by (Ok request) asks did =
           let h = does request (asked words request none asks) did in
           (inl h.0, h.1)
       by (Err e) asks did = (inr (ran_out e (failed words e none asks) did.0, did.1), did.2)
 
-  explained : (words : List Text) (word : Option Text) → refusals words ≡ [] → asked_by words ≡ ToExplain word → Runs words ran given left out out' err err' → (Explains word ran out out' err err' ⊎ (RunsOut ran err err' × Keeps out out')) × Keeps given left
+  explained : (words : List Text) (word : Option Text) → refusals words ≡ [] → asked_by words ≡ ToExplain word → Runs Answers words ran given left out out' err err' → (Explains word ran out out' err err' ⊎ (RunsOut ran err err' × Keeps out out')) × Keeps given left
   explained words word none is r = done words (Explains word ran out out' err err') (λ request asks did. explains request word (asks ∙ is) did) none r
 
-  helped : (words : List Text) (word : Option Text) → refusals words ≡ [] → asked_by words ≡ ToHelp word → Runs words ran given left out out' err err' → (Helps word ran out out' err err' ⊎ (RunsOut ran err err' × Keeps out out')) × Keeps given left
+  helped : (words : List Text) (word : Option Text) → refusals words ≡ [] → asked_by words ≡ ToHelp word → Runs Answers words ran given left out out' err err' → (Helps word ran out out' err err' ⊎ (RunsOut ran err err' × Keeps out out')) × Keeps given left
   helped words word none is r = done words (Helps word ran out out' err err') (λ request asks did. helps request word (asks ∙ is) did) none r
 
-  checked : (words : List Text) (folder : Text) (path : Option Text) (json : Bool) → refusals words ≡ [] → asked_by words ≡ ToCheck folder path json → Runs words ran given left out out' err err' → (ChecksFolder json path ran out out' err err' ⊎ (RunsOut ran err err' × Keeps out out')) × Keeps given left
-  checked words folder path json none is r = done words (ChecksFolder json path ran out out' err err') (λ request asks did. checks request folder path json (asks ∙ is) did) none r
-
-  answered : (path : Option Text) (json : Bool) → ChecksFolder json path ran out out' err err' ⊎ (RunsOut ran err err' × Keeps out out') → ChecksFolder json path ran out out' err err'
-  answered path json (inl h) = h
-  answered path json (inr h) = inr h
+  checked : (words : List Text) (folder : Text) (path : Option Text) (json : Bool) → refusals words ≡ [] → asked_by words ≡ ToCheck folder path json → Runs Answers words ran given left out out' err err' → (ChecksFolder Answers folder json path ran out out' err err' ⊎ (RunsOut ran err err' × Keeps out out')) × Keeps given left
+  checked words folder path json none is r = done words (ChecksFolder Answers folder json path ran out out' err err') (λ request asks did. checks request folder path json (asks ∙ is) did) none r
 
   found : (word : Text) (rule : Rule) → named word ≡ Some rule → Explains (Some word) ran out out' err err' ⊎ (RunsOut ran err err' × Keeps out out') → ShowsOrRunsOut (explained_text rule) ran out out' err err'
   found word rule is (inl h) = subst (λ f. ExplainsFound word f ran out out' err err') is h
@@ -120,16 +122,16 @@ module _ (ran : Ran) (given left out out' err err' : Option (List ℕ)) where
 numbers_plain : (rule : Rule) → is_plain (rule_number rule) ≡ true
 numbers_plain = everywhere (λ rule. is_plain (rule_number rule)) refl
 
-pub each_rule : ExplainsEach
-each_rule program rule ran given left out out' err err' r =
+pub each_rule : (Answers : Answering) → ExplainsEach Answers
+each_rule Answers program rule ran given left out out' err err' r =
     let plain = numbers_plain rule in
-    let h = explained ran given left out out' err err' (line program (codes "explain" ∷ (rule_number rule ∷ []))) (Some (rule_number rule)) (explain_word program (rule_number rule) plain) (explain_word_named program (rule_number rule) plain) r in
-    (found ran given left out out' err err' (rule_number rule) rule (names_each rule) h.0, h.1)
+    let h = explained Answers ran given left out out' err err' (line program (codes "explain" ∷ (rule_number rule ∷ []))) (Some (rule_number rule)) (explain_word program (rule_number rule) plain) (explain_word_named program (rule_number rule) plain) r in
+    (found Answers ran given left out out' err err' (rule_number rule) rule (names_each rule) h.0, h.1)
 
-pub no_rule : RefusesOthers
-no_rule program word plain none ran given left out out' err err' r =
-    let h = explained ran given left out out' err err' (line program (codes "explain" ∷ (word ∷ []))) (Some word) (explain_word program word plain) (explain_word_named program word plain) r in
-    (lost ran given left out out' err err' word none h.0, h.1)
+pub no_rule : (Answers : Answering) → RefusesOthers Answers
+no_rule Answers program word plain none ran given left out out' err err' r =
+    let h = explained Answers ran given left out out' err err' (line program (codes "explain" ∷ (word ∷ []))) (Some word) (explain_word program word plain) (explain_word_named program word plain) r in
+    (lost Answers ran given left out out' err err' word none h.0, h.1)
 
 alone : (program : Text) → refusals (line program (codes "explain" ∷ [])) ≡ []
 unfolding clap_on_literals
@@ -139,22 +141,21 @@ alone_named : (program : Text) → asked_by (line program (codes "explain" ∷ [
 unfolding clap_on_literals
 alone_named program = refl
 
-pub all_rules : ListsAll
-all_rules program ran given left out out' err err' r =
-    let h = explained ran given left out out' err err' (line program (codes "explain" ∷ [])) None (alone program) (alone_named program) r in
-    (whole ran given left out out' err err' h.0, h.1)
+pub all_rules : (Answers : Answering) → ListsAll Answers
+all_rules Answers program ran given left out out' err err' r =
+    let h = explained Answers ran given left out out' err err' (line program (codes "explain" ∷ [])) None (alone program) (alone_named program) r in
+    (whole Answers ran given left out out' err err' h.0, h.1)
 
-pub each_folder : ChecksEach
-each_folder program folder plain ran given left out out' err err' r =
-    let h = checked ran given left out out' err err' (line program (codes "check" ∷ (folder ∷ []))) folder None false (check_folder program folder plain) (check_folder_named program folder plain) r in
-    (answered ran given left out out' err err' None false h.0, h.1)
+pub each_folder : (Answers : Answering) → ChecksEach Answers
+each_folder Answers program folder plain ran given left out out' err err' r =
+    checked Answers ran given left out out' err err' (line program (codes "check" ∷ (folder ∷ []))) folder None false (check_folder program folder plain) (check_folder_named program folder plain) r
 
-pub each_command : HelpsEach
-each_command program name text plain is ran given left out out' err err' r =
-    let h = helped ran given left out out' err err' (line program (codes "help" ∷ (name ∷ []))) (Some name) (help_word program name plain) (help_word_named program name plain) r in
-    (known ran given left out out' err err' name text is h.0, h.1)
+pub each_command : (Answers : Answering) → HelpsEach Answers
+each_command Answers program name text plain is ran given left out out' err err' r =
+    let h = helped Answers ran given left out out' err err' (line program (codes "help" ∷ (name ∷ []))) (Some name) (help_word program name plain) (help_word_named program name plain) r in
+    (known Answers ran given left out out' err err' name text is h.0, h.1)
 
-pub no_command : RefusesOtherCommands
-no_command program name plain none ran given left out out' err err' r =
-    let h = helped ran given left out out' err err' (line program (codes "help" ∷ (name ∷ []))) (Some name) (help_word program name plain) (help_word_named program name plain) r in
-    (unknown ran given left out out' err err' name none h.0, h.1)
+pub no_command : (Answers : Answering) → RefusesOtherCommands Answers
+no_command Answers program name plain none ran given left out out' err err' r =
+    let h = helped Answers ran given left out out' err err' (line program (codes "help" ∷ (name ∷ []))) (Some name) (help_word program name plain) (help_word_named program name plain) r in
+    (unknown Answers ran given left out out' err err' name none h.0, h.1)

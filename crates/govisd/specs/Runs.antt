@@ -82,14 +82,22 @@ Gives answer ran out out' err err' =
     ((ran.status ≡ answer.status) × Appends out out' (string_bytes answer.text) × Tells ran.is_told (string_bytes answer.said) err err')
     ⊎ ((ran.status ≡ 1) × IsCutShort out out' (string_bytes answer.text) × Tells ran.is_told (end_text WriteFault) err err')
 
--- a folder was checked, and the answer was given; or memory ran out
-pub record GivesAnswer (json : Bool) (path : Option Text) (ran : Ran) (out out' err err' : Option (List ℕ)) : Type 0 where
+-- what the check of a folder may answer: by the folder, by whether JSON is asked for, and by the path of the module, if one is given; none
+-- where memory runs out
+abbrev pub Answering : Type 1
+Answering = Text → Bool → Option Text → Option Answer → Type 0
+
+-- this folder was checked, and the answer was given
+pub record GivesAnswer (Answers : Answering) (folder : Text) (json : Bool) (path : Option Text) (ran : Ran) (out out' err err' : Option (List ℕ)) : Type 0 where
   pub answer : Answer
-  pub is : IsAnswer json path answer
+  pub answers : Answers folder json path (Some answer)
+  pub is : IsAnswer folder json path answer
   pub gives : Gives answer ran out out' err err'
 
-abbrev pub ChecksFolder : Bool → Option Text → Ran → Option (List ℕ) → Option (List ℕ) → Option (List ℕ) → Option (List ℕ) → Type 0
-ChecksFolder json path ran out out' err err' = GivesAnswer json path ran out out' err err' ⊎ (RunsOut ran err err' × Keeps out out')
+-- or memory ran out in its check
+abbrev pub ChecksFolder : Answering → Text → Bool → Option Text → Ran → Option (List ℕ) → Option (List ℕ) → Option (List ℕ) → Option (List ℕ) → Type 0
+ChecksFolder Answers folder json path ran out out' err err' =
+    GivesAnswer Answers folder json path ran out out' err err' ⊎ (Answers folder json path None × RunsOut ran err err' × Keeps out out')
 
 -- the help of the command that has a name
 abbrev pub HelpsFound : Text → Option (List ℕ) → Ran → Option (List ℕ) → Option (List ℕ) → Option (List ℕ) → Option (List ℕ) → Type 0
@@ -110,50 +118,50 @@ pub record Refuses (kind : ErrorKind) (ran : Ran) (err err' : Option (List ℕ))
   pub status : ran.status ≡ refusal_status kind
   pub says : RefusalSays kind ran err err'
 
--- what is done for what was asked for
-abbrev pub Does : Result Request Error → Ran → Option (List ℕ) → Option (List ℕ) → Option (List ℕ) → Option (List ℕ) → Option (List ℕ) → Option (List ℕ) → Type 0
-Does (Ok Resolve) ran given left out out' err err' = Resolves ran given left out out' err err'
-Does (Ok (Explain rule)) ran given left out out' err err' = Explains (option_map (λ word. word.now) rule) ran out out' err err' × Keeps given left
-Does (Ok (Check order)) ran given left out out' err err' =
-    ChecksFolder order.json (option_map (λ word. word.now) order.module_path) ran out out' err err' × Keeps given left
-Does (Ok (Help topic)) ran given left out out' err err' = Helps (option_map (λ word. word.now) topic) ran out out' err err' × Keeps given left
-Does (Ok Version) ran given left out out' err err' = Shows ran version_text out out' err err' × Keeps given left
-Does (Err e) ran given left out out' err err' = Refuses (kind_of e) ran err err' × Keeps out out' × Keeps given left
+-- what is done for what was asked for, where the checks of folders answer so
+abbrev pub Does : Answering → Result Request Error → Ran → Option (List ℕ) → Option (List ℕ) → Option (List ℕ) → Option (List ℕ) → Option (List ℕ) → Option (List ℕ) → Type 0
+Does Answers (Ok Resolve) ran given left out out' err err' = Resolves ran given left out out' err err'
+Does Answers (Ok (Explain rule)) ran given left out out' err err' = Explains (option_map (λ word. word.now) rule) ran out out' err err' × Keeps given left
+Does Answers (Ok (Check order)) ran given left out out' err err' =
+    ChecksFolder Answers order.folder.now order.json (option_map (λ word. word.now) order.module_path) ran out out' err err' × Keeps given left
+Does Answers (Ok (Help topic)) ran given left out out' err err' = Helps (option_map (λ word. word.now) topic) ran out out' err err' × Keeps given left
+Does Answers (Ok Version) ran given left out out' err err' = Shows ran version_text out out' err err' × Keeps given left
+Does Answers (Err e) ran given left out out' err err' = Refuses (kind_of e) ran err err' × Keeps out out' × Keeps given left
 
 -- it is done for what the words ask for
-pub record Runs (words : List Text) (ran : Ran) (given left out out' err err' : Option (List ℕ)) : Type 0 where
+pub record Runs (Answers : Answering) (words : List Text) (ran : Ran) (given left out out' err err' : Option (List ℕ)) : Type 0 where
   pub asked : Result Request Error
   pub asks : Asks words asked
-  pub does : Does asked ran given left out out' err err'
+  pub does : Does Answers asked ran given left out out' err err'
 
 -- one run of the program for some words
-abbrev pub RunsFor : List Text → (Ran → Option (List ℕ) → Option (List ℕ) → Option (List ℕ) → Option (List ℕ) → Type 0) → Type 0
-RunsFor words Happens =
-    (ran : Ran) (given left out out' err err' : Option (List ℕ)) → Runs words ran given left out out' err err' → Happens ran out out' err err' × Keeps given left
+abbrev pub RunsFor : Answering → List Text → (Ran → Option (List ℕ) → Option (List ℕ) → Option (List ℕ) → Option (List ℕ) → Type 0) → Type 0
+RunsFor Answers words Happens =
+    (ran : Ran) (given left out out' err err' : Option (List ℕ)) → Runs Answers words ran given left out out' err err' → Happens ran out out' err err' × Keeps given left
 
 -- `explain` with a rule's number writes what the rule means
-abbrev pub ExplainsEach : Type 0
-ExplainsEach = (program : Text) (rule : Rule) → RunsFor (line program (codes "explain" ∷ (rule_number rule ∷ []))) (ShowsOrRunsOut (explained_text rule))
+abbrev pub ExplainsEach : Answering → Type 0
+ExplainsEach Answers = (program : Text) (rule : Rule) → RunsFor Answers (line program (codes "explain" ∷ (rule_number rule ∷ []))) (ShowsOrRunsOut (explained_text rule))
 
 -- and with a word that names no rule says so
-abbrev pub RefusesOthers : Type 0
-RefusesOthers =
-    (program word : Text) → is_plain word ≡ true → named word ≡ None → RunsFor (line program (codes "explain" ∷ (word ∷ []))) (λ ran out out' err err'. RefusesName (unknown_text word) ran err err' × Keeps out out')
+abbrev pub RefusesOthers : Answering → Type 0
+RefusesOthers Answers =
+    (program word : Text) → is_plain word ≡ true → named word ≡ None → RunsFor Answers (line program (codes "explain" ∷ (word ∷ []))) (λ ran out out' err err'. RefusesName (unknown_text word) ran err err' × Keeps out out')
 
 -- and alone lists all rules
-abbrev pub ListsAll : Type 0
-ListsAll = (program : Text) → RunsFor (line program (codes "explain" ∷ [])) (ShowsOrRunsOut list_text)
+abbrev pub ListsAll : Answering → Type 0
+ListsAll Answers = (program : Text) → RunsFor Answers (line program (codes "explain" ∷ [])) (ShowsOrRunsOut list_text)
 
--- `check` with a folder checks it
-abbrev pub ChecksEach : Type 0
-ChecksEach = (program folder : Text) → is_plain folder ≡ true → RunsFor (line program (codes "check" ∷ (folder ∷ []))) (ChecksFolder false None)
+-- `check` with a folder checks this one, where memory does not run out before
+abbrev pub ChecksEach : Answering → Type 0
+ChecksEach Answers = (program folder : Text) → is_plain folder ≡ true → RunsFor Answers (line program (codes "check" ∷ (folder ∷ []))) (λ ran out out' err err'. ChecksFolder Answers folder false None ran out out' err err' ⊎ (RunsOut ran err err' × Keeps out out'))
 
 -- `help` with a command's name writes what the command takes
-abbrev pub HelpsEach : Type 0
-HelpsEach =
-    (program name text : Text) → is_plain name ≡ true → help_of name ≡ Some text → RunsFor (line program (codes "help" ∷ (name ∷ []))) (ShowsOrRunsOut text)
+abbrev pub HelpsEach : Answering → Type 0
+HelpsEach Answers =
+    (program name text : Text) → is_plain name ≡ true → help_of name ≡ Some text → RunsFor Answers (line program (codes "help" ∷ (name ∷ []))) (ShowsOrRunsOut text)
 
 -- and with a word that names none says so
-abbrev pub RefusesOtherCommands : Type 0
-RefusesOtherCommands =
-    (program name : Text) → is_plain name ≡ true → help_of name ≡ None → RunsFor (line program (codes "help" ∷ (name ∷ []))) (λ ran out out' err err'. RefusesName (unknown_command_text name) ran err err' × Keeps out out')
+abbrev pub RefusesOtherCommands : Answering → Type 0
+RefusesOtherCommands Answers =
+    (program name : Text) → is_plain name ≡ true → help_of name ≡ None → RunsFor Answers (line program (codes "help" ∷ (name ∷ []))) (λ ran out out' err err'. RefusesName (unknown_command_text name) ran err err' × Keeps out out')

@@ -20,6 +20,11 @@ struct Folders<'a> {
 }
 
 impl Checks for Folders<'_> {
+    ghost use Rattle.std.specs.Prelude.{IfSome};
+    ghost use Rattle.govisd_folders.specs.Checks.{IsAnswer};
+
+    ghost Answers = { λ folders folder json path answer. IfSome answer (IsAnswer folder json path) };
+
     fn check(&self, order: &Order<'_>) -> Result<Answer, AllocError> {
         check_folder(self.rt, order)
     }

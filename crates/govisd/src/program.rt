@@ -1,6 +1,7 @@
 //! What the program does, over a reader and two writers.
 ghost use Rattle.std.specs.Prelude.{◌≡◌, ◌++◌, List, ℕ, map, option_map, string_bytes, IfOk};
 ghost use Rattle.clap.specs.Values.{kind_of};
+ghost use Rattle.std.specs.Result.{result_ok};
 ghost use Rattle.govisd_folders.specs.Checks.{IsAnswer};
 ghost use Rattle.govisd.specs.Texts.{refused_text as text_of_refused};
 ghost use Rattle.govisd.specs.Runs.{ChecksEach, ChecksFolder, Explains, Gives, Helps, Refuses, RefusesMade, Resolves, Runs, RunsOut, Shows, ShowsMade, Tells, ExplainsEach, HelpsEach, ListsAll, RefusesOtherCommands, RefusesOthers};
@@ -30,13 +31,20 @@ pub struct Ran {
 
 /// What checks folders.
 pub trait Checks {
+    ghost use Rattle.std.specs.Prelude.{Bool, List, Option, ℕ};
+    ghost use Rattle.govisd_folders.specs.declared.checking.Answer.{Answer as TheAnswer};
+
+    // what it may answer: by the folder, by whether JSON is asked for, and by the path of the module, if one is given; none for want of memory
+    ghost Answers: { Self → List ℕ → Bool → Option (List ℕ) → Option TheAnswer → Type 0 };
+
     /// Checks the Go packages of a folder.
     ///
     /// # Errors
     ///
     /// `AllocError` for want of memory.
     fn check(&self, order: &Order<'_>) -> Result<Answer, AllocError>
-        ensures { IfOk result (λ a. IsAnswer order.now.json (option_map (λ m. m.now) order.now.module_path) a) };
+        ensures answers { Answers self.now order.now.folder.now order.now.json (option_map (λ m. m.now) order.now.module_path) (result_ok result) }
+        ensures is { IfOk result (IsAnswer order.now.folder.now order.now.json (option_map (λ m. m.now) order.now.module_path)) };
 }
 
 // Writes what is to be said, and answers whether all of it was written.
@@ -161,7 +169,7 @@ fn check<C: Checks, W: Write, E: Write>(
     err: &mut E,
     order: &Order<'_>,
 ) -> Ran
-    ensures { ChecksFolder order.now.json (option_map (λ m. m.now) order.now.module_path) result (W.contents out.old) (W.contents out.new) (E.contents err.old) (E.contents err.new) }
+    ensures { ChecksFolder (C.Answers checks.now) order.now.folder.now order.now.json (option_map (λ m. m.now) order.now.module_path) result (W.contents out.old) (W.contents out.new) (E.contents err.old) (E.contents err.new) }
 {
     match checks.check(order) {
         Ok(answer) => give(out, err, &answer),
@@ -195,8 +203,8 @@ fn refuse<E: Write>(alloc: Global, err: &mut E, error: &Error) -> Ran
 }
 
 /// What the program does for the words of its command line, of which the first is its name: a run of `resolve`
-/// from the reader to the first writer, the check of a folder, what a rule means, its help or its version on the first writer, or a refusal. What
-/// there is to say beside goes to the second writer.
+/// from the reader to the first writer, the check of the folder that the words name, what a rule means, its help or its version on the first
+/// writer, or a refusal. What there is to say beside goes to the second writer.
 pub fn run<S: AsStr, C: Checks, R: Read, W: Write, E: Write>(
     alloc: Global,
     words: &[S],
@@ -205,7 +213,7 @@ pub fn run<S: AsStr, C: Checks, R: Read, W: Write, E: Write>(
     out: &mut W,
     err: &mut E,
 ) -> Ran
-    ensures { Runs (map S.text words.now) result (R.remaining reader.old) (R.remaining reader.new) (W.contents out.old) (W.contents out.new) (E.contents err.old) (E.contents err.new) }
+    ensures { Runs (C.Answers checks.now) (map S.text words.now) result (R.remaining reader.old) (R.remaining reader.new) (W.contents out.old) (W.contents out.new) (E.contents err.old) (E.contents err.new) }
 {
     match read_words(alloc, words) {
         Ok(Request::Resolve) => resolve(alloc, reader, out, err),
@@ -218,12 +226,12 @@ pub fn run<S: AsStr, C: Checks, R: Read, W: Write, E: Write>(
 }
 
 /// A law, with nothing to run: what a run of `explain` does for each rule, for a word that names none and without a word,
-/// one of `check` for a folder, and one of `help` for each command and for a word that names none.
-pub fn runs_answer_words()
-    ensures each { ExplainsEach }
-    ensures other { RefusesOthers }
-    ensures all { ListsAll }
-    ensures folder { ChecksEach }
-    ensures command { HelpsEach }
-    ensures no_command { RefusesOtherCommands }
+/// one of `check` for each folder, and one of `help` for each command and for a word that names none, whatever checks folders.
+pub fn runs_answer_words<C: Checks>(_checks: &C)
+    ensures each { ExplainsEach (C.Answers _checks.now) }
+    ensures other { RefusesOthers (C.Answers _checks.now) }
+    ensures all { ListsAll (C.Answers _checks.now) }
+    ensures folder { ChecksEach (C.Answers _checks.now) }
+    ensures command { HelpsEach (C.Answers _checks.now) }
+    ensures no_command { RefusesOtherCommands (C.Answers _checks.now) }
 {}

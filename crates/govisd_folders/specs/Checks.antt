@@ -1,5 +1,6 @@
 -- What a check of folders answers.
-use Rattle.std.specs.Prelude.{◌≡◌, ◌⊎◌, ℕ, Bool, List, [], ◌∷◌, ◌++◌, Option, Some, None, string_bytes, ⊤}
+use Rattle.std.specs.Prelude.{◌≡◌, ◌⊎◌, ℕ, Bool, List, [], ◌∷◌, ◌++◌, Option, Some, None, codes, string_bytes, unwrap_or}
+use Rattle.std.specs.Path.{path_file_name}
 use Rattle.go_path_core.specs.Path.{IsPath}
 use Rattle.go_snap_core.specs.graph_core.Workspaces.{PackageModel}
 use Rattle.go_snap_core.specs.declared.fault.PlacedFault.{PlacedFault}
@@ -16,11 +17,11 @@ status_of [] [] = 0
 status_of [] (n ∷ notes) = 1
 status_of (f ∷ faults) notes = 1
 
--- nothing was checked: that is said, and nothing is written
-pub record IsRefused (a : Answer) : Type 0 where
+-- nothing was checked: that is said of what has a name, and nothing is written
+pub record IsRefused (name : List ℕ) (a : Answer) : Type 0 where
   pub status : a.status ≡ 2
   pub text : string_bytes a.text ≡ []
-  pub says : (front path why : List ℕ) × (string_bytes a.said ≡ front ++ note_line path why)
+  pub says : (front why : List ℕ) × (string_bytes a.said ≡ front ++ note_line name why)
 
 -- the packages of a workspace were checked: what is written are exactly its faults, and what is said is what was left out and passed over
 pub record IsChecked (json : Bool) (own : List ℕ) (ps : List PackageModel) (notes passed : List ℕ) (a : Answer) : Type 0 where
@@ -31,32 +32,47 @@ pub record IsChecked (json : Bool) (own : List ℕ) (ps : List PackageModel) (no
   pub text : AreTold json own ps faults (string_bytes a.text)
   pub said : string_bytes a.said ≡ notes ++ passed
 
-abbrev pub IsAnswerOn : Bool → List ℕ → List PackageModel → List ℕ → List ℕ → Answer → Type 0
-IsAnswerOn json own [] notes passed a = IsRefused a
-IsAnswerOn json own (p ∷ ps) notes passed a = IsChecked json own (p ∷ ps) notes passed a
+-- the answer on a workspace; where it has no package, the folder that was asked for is refused
+abbrev pub IsAnswerOn : List ℕ → Bool → List ℕ → List PackageModel → List ℕ → List ℕ → Answer → Type 0
+IsAnswerOn folder json own [] notes passed a = IsRefused folder a
+IsAnswerOn folder json own (p ∷ ps) notes passed a = IsChecked json own (p ∷ ps) notes passed a
 
 -- the answer on folders that were found, where this is said of what could not be read, and this of what was passed over
-pub record IsAnswerFor (json : Bool) (own : List ℕ) (found : List FolderModel) (left passed : List ℕ) (a : Answer) : Type 0 where
+pub record IsAnswerFor (folder : List ℕ) (json : Bool) (own : List ℕ) (found : List FolderModel) (left passed : List ℕ) (a : Answer) : Type 0 where
   pub packages : List PackageModel
   pub notes : List ℕ
   pub put : ArePut own found ([], left) (packages, notes)
-  pub answer : IsAnswerOn json own packages notes passed a
+  pub answer : IsAnswerOn folder json own packages notes passed a
 
--- the module's path is the one that is given, if one is
-abbrev pub IsOwn : Option (List ℕ) → List ℕ → Type 0
-IsOwn None own = ⊤
-IsOwn (Some m) own = own ≡ m
-
--- some folders were read, and this is the answer on them
-pub record IsOfFolders (json : Bool) (given : Option (List ℕ)) (a : Answer) : Type 0 where
-  pub own : List ℕ
+-- some folders were read as those of a module, and this is the answer on them
+pub record IsOfFolders (folder : List ℕ) (json : Bool) (own : List ℕ) (a : Answer) : Type 0 where
   pub path : IsPath own
-  pub is_own : IsOwn given own
   pub found : List FolderModel
   pub left : List ℕ
   pub passed : List ℕ
-  pub answer : IsAnswerFor json own found left passed a
+  pub answer : IsAnswerFor folder json own found left passed a
 
--- the answer of a check
-abbrev pub IsAnswer : Bool → Option (List ℕ) → Answer → Type 0
-IsAnswer json given a = IsRefused a ⊎ IsOfFolders json given a
+-- what is named where the path of the module is refused
+abbrev pub module_option : List ℕ
+module_option = codes "--module"
+
+-- the answer on a module: its path is none, and is refused, or folders were read
+abbrev pub IsAnswerBelow : List ℕ → Bool → List ℕ → Answer → Type 0
+IsAnswerBelow folder json own a = ((¬ IsPath own) × IsRefused module_option a) ⊎ IsOfFolders folder json own a
+
+-- the name of the folder at a path, which is the path's last component; no bytes, where it has none
+abbrev pub folder_name : List ℕ → List ℕ
+folder_name root = unwrap_or (path_file_name root) []
+
+-- the path of the module: the one that is given, or else the name of the folder at a path
+abbrev pub own_path : List ℕ → Option (List ℕ) → List ℕ
+own_path root given = unwrap_or given (folder_name root)
+
+-- the answer on the folder at a path
+abbrev pub IsAnswerAt : List ℕ → List ℕ → Bool → Option (List ℕ) → Answer → Type 0
+IsAnswerAt root folder json given a = IsAnswerBelow folder json (own_path root given) a
+
+-- the answer of a check of a folder: it is refused, or this is the answer on the folder at some path. Which path that is, without links and
+-- from the root, is the file system's to say
+abbrev pub IsAnswer : List ℕ → Bool → Option (List ℕ) → Answer → Type 0
+IsAnswer folder json given a = IsRefused folder a ⊎ ((root : List ℕ) × IsAnswerAt root folder json given a)

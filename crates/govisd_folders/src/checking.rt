@@ -1,8 +1,9 @@
 //! From a folder to its faults.
-ghost use Rattle.std.specs.Prelude.{◌≡◌, IfOk, Some, false, map, option_map, string_bytes};
+ghost use Rattle.std.specs.Prelude.{◌≡◌, IfOk, false, map, option_map, string_bytes};
 ghost use Rattle.std.specs.IoError.{error_kind};
+ghost use Rattle.std.specs.Path.{path_buf_bytes};
 ghost use Rattle.go_path_core.specs.Path.{IsPath};
-ghost use Rattle.govisd_folders.specs.Checks.{IsAnswer, IsAnswerFor, IsAnswerOn, IsChecked, IsOfFolders, IsOwn, IsRefused, status_of};
+ghost use Rattle.govisd_folders.specs.Checks.{IsAnswer, IsAnswerAt, IsAnswerFor, IsAnswerOn, IsChecked, IsOfFolders, IsRefused, folder_name, module_option, own_path, status_of};
 ghost use Rattle.go_snap_core.specs.Snapshots.{IsSnapshot};
 ghost use Rattle.govisd_folders.specs.Notes.{wants_memory};
 ghost use Rattle.govisd_folders.specs.Puts.{folder_of};
@@ -25,7 +26,7 @@ use std::{fs, io};
 pub struct Order<'a> {
     /// The folder.
     pub folder: &'a str,
-    /// The path of its module; the name of the folder, if none is given.
+    /// The path of its module; if none is given, the name of the folder, which is the last component of its path from the root, without links.
     pub module_path: Option<&'a str>,
     /// Whether the faults are written as JSON.
     pub json: bool,
@@ -94,12 +95,12 @@ fn check_workspace(
     answer_from(alloc, json, module_path, &snapshot, notes, passed)
 }
 
-// Nothing is checked, for a reason that stands behind what is said already.
-fn refused(alloc: Global, said: String, path: &str, why: &str) -> Result<Answer, AllocError>
-    ensures { IfOk result IsRefused }
+// Nothing is checked, for a reason of what has a name, which stands behind what is said already.
+fn refused(alloc: Global, said: String, name: &str, why: &str) -> Result<Answer, AllocError>
+    ensures { IfOk result (IsRefused name.now) }
 {
     let mut said = said;
-    note(&mut said, path, why)?;
+    note(&mut said, name, why)?;
     Ok(Answer {
         status: 2,
         text: String::new(alloc),
@@ -116,7 +117,7 @@ fn answer_on(
     notes: String,
     passed: &str,
 ) -> Result<Answer, AllocError>
-    ensures { IfOk result (λ a. IsAnswerOn order.now.json module_path.now workspace.now (string_bytes notes) passed.now a) }
+    ensures { IfOk result (λ a. IsAnswerOn order.now.folder.now order.now.json module_path.now workspace.now (string_bytes notes) passed.now a) }
 {
     if workspace.packages().is_empty() {
         return refused(alloc, notes, order.folder, "no Go files to check");
@@ -141,7 +142,7 @@ fn check_found(
     passed: &str,
     progress: &mut Progress<'_>,
 ) -> Result<Answer, AllocError>
-    ensures { IfOk result (λ a. IsAnswerFor order.now.json module_path.now (map folder_of found.items) (string_bytes left_out) passed.now a) }
+    ensures { IfOk result (λ a. IsAnswerFor order.now.folder.now order.now.json module_path.now (map folder_of found.items) (string_bytes left_out) passed.now a) }
 {
     let mut notes = left_out;
     let mut workspace = Workspace::empty(alloc);
@@ -171,7 +172,7 @@ fn check_module(
     progress: &mut Progress<'_>,
 ) -> Result<Answer, AllocError>
     requires { IsPath module_path.now }
-    ensures { IfOk result (λ a. IsOfFolders order.now.json (Some module_path.now) a) }
+    ensures { IfOk result (IsOfFolders order.now.folder.now order.now.json module_path.now) }
 {
     let alloc = rt.alloc();
     let Found {
@@ -193,19 +194,26 @@ fn check_module(
     )
 }
 
-// The path of the module: the one that is given, or the name of the folder.
+// The name of the folder at a path: its last component. The root has none.
+fn folder_name(root: &PathBuf) -> &str
+    ensures { result.now ≡ folder_name (path_buf_bytes root.now) }
+{
+    root.file_name().unwrap_or("")
+}
+
+// The path of the module: the one that is given, or else the name of the folder.
 fn module_of<'a>(given: Option<&'a str>, root: &'a PathBuf) -> &'a str
-    ensures { IsOwn (option_map (λ m. m.now) given.entry) result.now }
+    ensures { result.now ≡ own_path (path_buf_bytes root.now) (option_map (λ m. m.now) given.entry) }
 {
     match given {
         Some(module_path) => module_path,
-        None => root.file_name().unwrap_or(""),
+        None => folder_name(root),
     }
 }
 
 // Nothing is checked, since the folder cannot be read.
 fn refuse_folder(alloc: Global, folder: &str, error: &io::Error) -> Result<Answer, AllocError>
-    ensures refused { IfOk result IsRefused }
+    ensures refused { IfOk result (IsRefused folder.now) }
     ensures other { IfOk result (λ _. wants_memory (error_kind error.now) ≡ false) }
 {
     let why = why_unread(alloc, error)?;
@@ -215,7 +223,7 @@ fn refuse_folder(alloc: Global, folder: &str, error: &io::Error) -> Result<Answe
 
 // Nothing is checked, since the path of the module is none.
 fn refuse_module(alloc: Global, module_path: &str) -> Result<Answer, AllocError>
-    ensures { IfOk result IsRefused }
+    ensures { IfOk result (IsRefused module_option) }
 {
     let mut said = String::new(alloc);
     note_rule(&mut said, module_path, Rule::O2)?;
@@ -234,7 +242,7 @@ fn check_root(
     root: &PathBuf,
     progress: &mut Progress<'_>,
 ) -> Result<Answer, AllocError>
-    ensures { IfOk result (λ a. IsAnswer order.now.json (option_map (λ m. m.now) order.now.module_path) a) }
+    ensures { IfOk result (IsAnswerAt (path_buf_bytes root.now) order.now.folder.now order.now.json (option_map (λ m. m.now) order.now.module_path)) }
 {
     let alloc = rt.alloc();
     let module_path = module_of(order.module_path, root);
@@ -253,7 +261,7 @@ fn check_root(
 ///
 /// `AllocError` for want of memory.
 pub fn check_folder(rt: &HostRuntime, order: &Order<'_>) -> Result<Answer, AllocError>
-    ensures { IfOk result (λ a. IsAnswer order.now.json (option_map (λ m. m.now) order.now.module_path) a) }
+    ensures { IfOk result (IsAnswer order.now.folder.now order.now.json (option_map (λ m. m.now) order.now.module_path)) }
 {
     let alloc = rt.alloc();
     let root = match fs::canonicalize(rt, order.folder) {

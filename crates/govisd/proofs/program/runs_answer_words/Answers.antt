@@ -2,4 +2,6 @@ use Rattle.govisd.proofs.RunLemmas.{all_rules, each_command, each_folder, each_r
 use Rattle.govisd.proofs.program.runs_answer_words.Goals as goal
 
 pub returns : goal.returns
-returns c = record { each = each_rule; other = no_rule; all = all_rules; folder = each_folder; command = each_command; no_command = no_command }
+returns g c =
+    let answers = g.C.Checks.Answers c.args._checks.now in
+    record { each = each_rule answers; other = no_rule answers; all = all_rules answers; folder = each_folder answers; command = each_command answers; no_command = no_command answers }
