@@ -4,13 +4,14 @@
 A crate lists, of the small crates at the bottom, those that it names, and of all others the topmost alone. These pass on what is named of the
 crates below them: in code item by item, in a module `x_core` at the end of src/lib.rt, in definitions and proofs module by module, in a file
 specs/x_core.antt. Each name in src/, specs/, proofs/, must-fail/ and bench/wrong_bodies/ is written by the way that leads to it. Why, and what it
-saves, is in docs/DESIGN.md, "What a crate lists". It may be run again at any time, and changes nothing where nothing is to be changed; run
-`rt fmt` in the crates that it names, since the order of `use` lines may be another.
+saves, is in docs/DESIGN.md, "What a crate lists". It may be run again at any time, and changes nothing where nothing is to be changed: a way that
+is there stays as long as it leads on, so that a new crate changes next to nothing of those below it, which then stay proved. Run `rt fmt` in the
+crates that it names, since the order of `use` lines may be another.
 """
 import os
 import re
 import sys
-from collections import defaultdict
+from collections import Counter, defaultdict
 
 # Small crates at the bottom: whoever names one lists it.
 SMALL = set("go_text_core go_token_core go_scan_core go_tree_nodes go_path_core go_term_core go_universe_core".split())
@@ -21,8 +22,10 @@ WHOLE = set(
     """go_text_core go_token_core go_scan_core go_universe_core go_tree_nodes go_tree_copies go_tree_core go_parse_types go_parse_exprs
     go_parse_stmts go_parse_core go_path_core go_cycle_core go_decl_core go_reach_core go_graph_core go_block_core go_open_core go_local_core
     go_walk_core go_scope_core go_chain_core go_needs_core go_term_core go_settle_core go_table_core go_written_core go_constant_core
-    go_operand_core go_denote_core go_statement_core govisd govisd_show govisd_probe""".split()
+    go_operand_core go_denote_core go_statement_core go_agree_core go_ending_core go_fold_core govisd govisd_show govisd_probe govisd_cases""".split()
 )
+# Crates between others that pass nothing on: whoever names one lists it beside those that do.
+BESIDE = {"go_make_core"}
 # Modules that are named as a word of the library, which a reader would take them for: what they are passed on as.
 PASSED_AS = {"All": "AllPackages"}
 PASSED = re.compile(r"(?m)\n?/// What the crates above name of `\w+`\.\npub mod \w+ \{\n.*?\n\}\n", re.S)
@@ -53,6 +56,7 @@ class Repository:
         self.in_code = re.compile(rf"(?<![\w.])(go\w+)::(?:({names})::)?(\{{[^{{}}]*\}}|\w+)")
         self.a_passed_file = re.compile(rf"(?m)^pub mod (?:{names})(?:_lemmas)?\n")
         self.texts, self.owner, self.dropped = {}, {}, []
+        self.there = defaultdict(Counter)
         for crate in self.lists:
             self.read(crate)
 
@@ -63,15 +67,26 @@ class Repository:
             for at, folders, files in os.walk(part):
                 folders.sort()
                 for path in sorted(f"{at}/{it}" for it in files if it.endswith((".rt", ".antt", ".edit"))):
+                    text = text_of(path)
+                    self.note(crate, text)
                     if at == f"{self.root}/crates/{crate}/specs" and os.path.basename(path)[:-5].removesuffix("_lemmas") in self.crates:
                         self.dropped.append(path)
                         continue
-                    text = text_of(path)
                     if path.endswith("src/lib.rt"):
                         text = PASSED.sub("", text)
                     if path.endswith("specs/Lib.antt"):
                         text = self.a_passed_file.sub("", text)
                     self.texts[path], self.owner[path] = text, crate
+
+    def note(self, crate, text):
+        """Notes by which crate a text reaches others as it stands."""
+        for match in self.in_logic.finditer(text):
+            through, other = match[1], match[2] and self.crates[match[2].split(".")[-1].removesuffix("_lemmas")]
+            if other:
+                self.there[crate, other][through] += 1
+        for match in self.in_code.finditer(text):
+            if match[2]:
+                self.there[crate, self.crates[match[2]]][match[1]] += 1
 
     def is_in(self, crate, part, module):
         at = f"{self.root}/crates/{crate}/{part}/{module}"
@@ -152,6 +167,7 @@ class Ways:
     def __init__(self, repository, names):
         self.named = {it: names.of(it) for it in repository.lists}
         self.known, self.heights, self.under = {}, {}, {}
+        self.there = repository.there
         self.lists, self.through = {}, {}
         self.logic, self.code = defaultdict(lambda: defaultdict(set)), defaultdict(lambda: defaultdict(set))
         for crate in sorted(repository.lists, key=lambda it: (-self.height(it), it)):
@@ -174,8 +190,8 @@ class Ways:
     def gives(self, crate, other):
         """Whether the crate names the other, or can get it from one that does."""
         if (crate, other) not in self.known:
-            self.known[crate, other] = other in self.named[crate] or (
-                crate not in WHOLE and any(self.gives(it, other) for it in self.named[crate])
+            self.known[crate, other] = crate not in BESIDE and (
+                other in self.named[crate] or crate not in WHOLE and any(self.gives(it, other) for it in self.named[crate])
             )
         return self.known[crate, other]
 
@@ -183,7 +199,7 @@ class Ways:
         if crate in WHOLE:
             return wanted | repository.kept(crate)
         topmost = {it for it in wanted if not any(self.gives(above, it) for above in wanted if above != it)}
-        return topmost | (wanted & SMALL) | ({*names.code[crate], *self.code[crate]} & RECURSIVE)
+        return topmost | (wanted & (SMALL | BESIDE)) | ({*names.code[crate], *self.code[crate]} & RECURSIVE)
 
     def reach(self, crate, other, names):
         if other in self.lists[crate]:
@@ -193,7 +209,8 @@ class Ways:
             self.lists[crate].add(other)
             return
         named = lambda it: other in self.named[it] or other in self.logic[it] or other in self.code[it]
-        chosen = min(above, key=lambda it: (not named(it), len(self.below(it)), it))
+        there = self.there[crate, other]
+        chosen = min(above, key=lambda it: (-there[it], not named(it), len(self.below(it)), it))
         self.through[crate][other] = chosen
         self.logic[chosen][other] |= names.logic[crate].get(other, set()) | self.logic[crate].get(other, set())
         self.code[chosen][other] |= names.code[crate].get(other, set()) | self.code[crate].get(other, set())

@@ -1,31 +1,31 @@
 #!/bin/sh
-# Measures the parser beside go/scanner and go/parser: `govisd_probe parse` on files of 1 MB over the whole grammar, and
-# `govisd_probe sources` on workspaces of up to 4,096 packages, whose trees are all held at once. Checks that the times and the
+# Measures the parser beside go/scanner and go/parser: `govisd_cases parse` on files of 1 MB over the whole grammar, and
+# `govisd_cases sources` on workspaces of up to 4,096 packages, whose trees are all held at once. Checks that the times and the
 # memory are within bounds. README.md beside this file says what is measured.
 #
-#     bench/parse.sh                     the program crates/govisd_probe/out/govisd_probe
-#     GOVISD_PROBE=FILE bench/parse.sh   another program
+#     bench/parse.sh                     the program crates/govisd_cases/out/govisd_cases
+#     GOVISD_CASES=FILE bench/parse.sh   another program
 #
 # Status 0 where all bounds hold, 1 where not, 2 where something could not be measured.
 set -u
 
 bench=$(dirname -- "$(readlink -f -- "$0")")
-. "$bench/probe.sh"
+. "$bench/cases.sh"
 python3 -B "$bench/generate.py" parse "$out/parsed" && python3 -B "$bench/workspaces.py" held "$out/workspaces" || exit 2
 gofront=$("$bench/go_peer.sh" gofront) || gofront=
 
 # The status of the program tells nothing of faults.
-if "$probe" parse "$out"/parsed/*.go | grep -v '^file ' | grep -v '^tree$'; then
+if "$cases" parse "$out"/parsed/*.go | grep -v '^file ' | grep -v '^tree$'; then
     echo 'FAILED: a file has no tree'
     exit 1
 fi
 
 set --
 [ -z "$gofront" ] || set -- --gofront "$gofront"
-python3 -B "$bench/measure.py" parse --govisd "$probe" "$@" --files "$out/parsed"
+python3 -B "$bench/measure.py" parse --govisd "$cases" "$@" --files "$out/parsed"
 parsed=$?
 echo
-python3 -B "$bench/held.py" --probe "$probe" "$@" --files "$out/workspaces"
+python3 -B "$bench/held.py" --probe "$cases" "$@" --files "$out/workspaces"
 held=$?
 if [ $parsed -eq 1 ] || [ $held -eq 1 ]; then
     exit 1

@@ -2,14 +2,14 @@
 # Compares which imports govisd and the go command refuse by the rule of internal directories: a table of pairs of
 # importer and imported package, and 300 pairs by chance. README.md in the folder above says what is compared.
 #
-#     bench/conformance/internal.sh                     the program crates/govisd_probe/out/govisd_probe
-#     GOVISD_PROBE=FILE bench/conformance/internal.sh   another program
+#     bench/conformance/internal.sh                     the program crates/govisd_cases/out/govisd_cases
+#     GOVISD_CASES=FILE bench/conformance/internal.sh   another program
 #
 # Status 0 where the two agree but for the forms that are named, 1 where not, 2 where not all could be compared.
 set -u
 
 bench=$(dirname -- "$(dirname -- "$(readlink -f -- "$0")")")
-. "$bench/probe.sh"
+. "$bench/cases.sh"
 go=$("$bench/go_command.sh") || exit 2
-PYTHONPATH=$bench exec python3 -B "$bench/conformance/internal.py" --probe "$probe" --go "$go" --cache "$out/gocache" \
+PYTHONPATH=$bench exec python3 -B "$bench/conformance/internal.py" --probe "$cases" --go "$go" --cache "$out/gocache" \
     --trees "$out/internal"

@@ -1,5 +1,5 @@
 #!/usr/bin/env python3
-"""Compares what `govisd_probe names` and go/types say that the identifiers of functions denote, and which declarations in
+"""Compares what `govisd_cases names` and go/types say that the identifiers of functions denote, and which declarations in
 functions they refuse, over generated workspaces. The same workspaces each time."""
 import argparse
 import collections

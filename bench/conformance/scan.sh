@@ -4,12 +4,12 @@
 #     bench/conformance/scan.sh              every .go file of Debian's package golang-1.19-src
 #     bench/conformance/scan.sh FILE.go ..   these files
 #
-# GOVISD_PROBE names another program than crates/govisd_probe/out/govisd_probe. Status 0 where the two agree but for
+# GOVISD_CASES names another program than crates/govisd_cases/out/govisd_cases. Status 0 where the two agree but for
 # the forms that are named, 1 where not, 2 where not all could be compared.
 set -uo pipefail
 
 bench=$(dirname -- "$(dirname -- "$(readlink -f -- "$0")")")
-. "$bench/probe.sh"
+. "$bench/cases.sh"
 goscan=$("$bench/go_peer.sh" conformance/goscan) || exit 2
 
 sources=golang-1.19-src
@@ -23,7 +23,7 @@ else
     echo "scan.sh: Debian's package $sources is not installed: apt-get install $sources" >&2
     exit 2
 fi
-xargs -d '\n' "$probe" tokens <"$files" | "$goscan"
+xargs -d '\n' "$cases" tokens <"$files" | "$goscan"
 ended=("${PIPESTATUS[@]}")
 [ "${ended[0]}" -eq 0 ] || exit 2
 exit "${ended[1]}"

@@ -1,17 +1,17 @@
 #!/bin/sh
 # Compares the worked archives with govisd and with go/types: the answers stand in them as comments. PACKAGES.md in this folder says what is compared.
 #
-#     bench/conformance/worked.sh                        the program crates/govisd_snapshot/out/govisd_snapshot
-#     GOVISD_SNAPSHOT=FILE bench/conformance/worked.sh   another program
+#     bench/conformance/worked.sh                        the program crates/govisd_cases/out/govisd_cases
+#     GOVISD_CASES=FILE bench/conformance/worked.sh   another program
 #
 # Status 0 where nothing differs but in the ways that are named, 1 where something does, 2 where not all could be compared.
 set -u
 
 bench=$(dirname -- "$(dirname -- "$(readlink -f -- "$0")")")
-. "$bench/snapshot.sh"
+. "$bench/cases.sh"
 peer=$("$bench/go_peer.sh" conformance/gopackages) || exit 2
 folder=$out/worked
-data=$bench/../crates/govisd_snapshot/data
+data=$bench/../crates/govisd_cases/data
 rm -rf "$folder" && mkdir -p "$folder/few" || exit 2
 "$peer" table "$folder" && "$peer" table "$folder/few" || exit 2
 python3 -B "$bench/conformance/operands.py" "$folder" && python3 -B "$bench/conformance/operands.py" few "$folder/few" || exit 2
@@ -19,5 +19,5 @@ for made in "$folder"/few/*.txt; do
     cmp "$made" "$data/$(basename -- "$made")" || exit 1
 done
 cp "$data"/examples.txt "$data"/imports.txt "$data"/bounds.txt "$data"/neighbours.txt "$data"/places.txt "$folder" || exit 2
-"$snapshot" answers "$folder"/*.txt >"$out/worked_answers.txt" || exit 2
+"$cases" answers "$folder"/*.txt >"$out/worked_answers.txt" || exit 2
 exec "$peer" compare -show 1 "$out/worked_answers.txt" "$folder"/*.txt

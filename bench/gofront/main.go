@@ -1,9 +1,9 @@
 // Gofront reads one Go file on standard input and tells by go/types what each identifier that is used
 // denotes: the peer of `govisd resolve`, in its format as far as go/types answers. With the argument `parse` it
-// only parses the file, by go/parser: the peer of `govisd_probe parse`. With `sources FILE` it parses all files of an
-// archive, holds their trees, and counts them: the peer of `govisd_probe sources`. With `names FILE` it tells by go/types
-// what each identifier that a function of an archive uses denotes: the peer of `govisd_probe names` (names.go). With `check FILE` it parses and checks
-// the packages of an archive, and counts what it finds: the peer of `govisd_snapshot counts` (checked.go).
+// only parses the file, by go/parser: the peer of `govisd_cases parse`. With `sources FILE` it parses all files of an
+// archive, holds their trees, and counts them: the peer of `govisd_cases sources`. With `names FILE` it tells by go/types
+// what each identifier that a function of an archive uses denotes: the peer of `govisd_cases names` (names.go). With `check FILE` it parses and checks
+// the packages of an archive, and counts what it finds: the peer of `govisd_cases counts` (checked.go).
 //
 // Each line is OFFSET ROLE TEXT ANSWER. ROLE is type or value. ANSWER is universe.NAME,
 // local/in.go:OFFSET, or ? where go/types finds no declaration. Errors go to standard error, but that a

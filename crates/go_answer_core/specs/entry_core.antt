@@ -3,3 +3,4 @@ pub use Rattle.go_fault_core.specs.entry_core.Entries as Entries
 pub use Rattle.go_fault_core.specs.entry_core.Meanings as Meanings
 pub use Rattle.go_fault_core.specs.entry_core.Numbered as Numbered
 pub use Rattle.go_fault_core.specs.entry_core.Outlines as Outlines
+pub use Rattle.go_fault_core.specs.entry_core.Showing as Showing

@@ -23,7 +23,10 @@ pub use site::Site;
 
 /// What the crates above name of `go_block_core`.
 pub mod block_core {
-    pub use go_fault_core::block_core::{Binding, Blocks, Imported, Target};
+    pub use go_fault_core::block_core::{
+        Binding, Blocks, Exports, Imported, NamedDecl, Target, blocks, import_names, import_specs,
+        one_blocks_alone,
+    };
 }
 
 /// What the crates above name of `go_denote_core`.
@@ -33,7 +36,7 @@ pub mod denote_core {
 
 /// What the crates above name of `go_entry_core`.
 pub mod entry_core {
-    pub use go_fault_core::entry_core::ImportedNames;
+    pub use go_fault_core::entry_core::{ImportedNames, outlines};
 }
 
 /// What the crates above name of `go_expr_core`.
@@ -43,7 +46,7 @@ pub mod expr_core {
 
 /// What the crates above name of `go_face_core`.
 pub mod face_core {
-    pub use go_face_core::{Face, FaceTable, PackageFaces, WrittenFaces};
+    pub use go_face_core::{Face, FaceTable, PackageFaces, WrittenFaces, lend};
 }
 
 /// What the crates above name of `go_fault_core`.
@@ -53,7 +56,7 @@ pub mod fault_core {
 
 /// What the crates above name of `go_handle_core`.
 pub mod handle_core {
-    pub use go_face_core::handle_core::{DeclSite, Home, SignatureRef, TypeRef};
+    pub use go_face_core::handle_core::{Decl, DeclSite, Home, SignatureRef, TypeRef};
 }
 
 /// What the crates above name of `go_report_core`.
@@ -63,5 +66,5 @@ pub mod report_core {
 
 /// What the crates above name of `go_tree_core`.
 pub mod tree_core {
-    pub use go_report_core::tree_core::{Occ, OccId, Role, occurrences};
+    pub use go_report_core::tree_core::{Occ, OccId, Role, occurrences, occurrences_are_written};
 }

@@ -3,16 +3,16 @@
 -- docs/RULES.md, "Occurrences", "Parts of packages", "Whole workspaces".
 use Rattle.std.specs.Prelude.{◌≡◌, ℕ, List, Option, Some, Ok, map, slice_get}
 use Rattle.go_tree_nodes.specs.Trees.{FileTree}
-use Rattle.go_tree_core.specs.declared.occurrence.Occ.{Occ}
-use Rattle.go_tree_core.specs.Occurrences.{file_occs}
-use Rattle.go_expr_core.specs.Laws.{use_place, occurrence_place}
-use Rattle.go_whole_core.specs.graph_core.Imports.{IsNumbered}
-use Rattle.go_whole_core.specs.graph_core.Packages.{IsAssembled}
-use Rattle.go_whole_core.specs.graph_core.Sources.{SourceModel}
-use Rattle.go_whole_core.specs.graph_core.Workspaces.{PackageModel, IsWorkspace}
-use Rattle.go_whole_core.specs.ready_core.Packages.{trees_in}
-use Rattle.go_whole_core.specs.used_core.Used.{TheUse}
-use Rattle.go_whole_core.specs.part_core.Parts.{FileOf, PartModel}
+use Rattle.go_snap_core.specs.tree_core.declared.occurrence.Occ.{Occ}
+use Rattle.go_snap_core.specs.tree_core.Occurrences.{file_occs}
+use Rattle.go_snap_core.specs.expr_core.Laws.{use_place, occurrence_place}
+use Rattle.go_snap_core.specs.graph_core.Imports.{IsNumbered}
+use Rattle.go_snap_core.specs.graph_core.Packages.{IsAssembled}
+use Rattle.go_snap_core.specs.graph_core.Sources.{SourceModel}
+use Rattle.go_snap_core.specs.graph_core.Workspaces.{PackageModel, IsWorkspace}
+use Rattle.go_snap_core.specs.ready_core.Packages.{trees_in}
+use Rattle.go_snap_core.specs.used_core.Used.{TheUse}
+use Rattle.go_snap_core.specs.part_core.Parts.{FileOf, PartModel}
 use Rattle.go_snap_core.specs.declared.fault.PlacedFault.{PlacedFault}
 use Rattle.go_snap_core.specs.Snapshots.{IsAnswerAt, IsSnapshot}
 

@@ -1,7 +1,7 @@
 //! Laws of what the occurrences of a snapshot's files have, with nothing to run.
 ghost use Rattle.go_answered_core.specs.Laws.{OutcomesAreOfOccurrences, PlacesAreOfOccurrences};
 
-use go_part_core::part_has_occurrences;
+use go_snap_core::part_core::part_has_occurrences;
 
 /// A snapshot has an answer for exactly the occurrences of each file.
 ///

@@ -23,7 +23,7 @@ pub mod block_core {
 
 /// What the crates above name of `go_entry_core`.
 pub mod entry_core {
-    pub use go_env_core::entry_core::ImportedNames;
+    pub use go_env_core::entry_core::{ImportedNames, outlines};
 }
 
 /// What the crates above name of `go_env_core`.
@@ -59,6 +59,11 @@ pub mod scope_core {
 /// What the crates above name of `go_select_core`.
 pub mod select_core {
     pub use go_env_core::select_core::EmbedPath;
+}
+
+/// What the crates above name of `go_table_core`.
+pub mod table_core {
+    pub use go_env_core::table_core::{DefinedType, PackageTypes, StructField, TypeTable};
 }
 
 /// What the crates above name of `go_tree_core`.

@@ -6,17 +6,18 @@ use Rattle.std.specs.Str.{bytes_eq}
 use Rattle.go_term_core.specs.decl_core.declared.keys.DeclRef.{DeclRef}
 use Rattle.go_term_core.specs.declared.term.MemberPlace.{MemberPlace}
 use Rattle.go_term_core.specs.declared.term.MemberPlace.TheVariants as places
-use Rattle.go_locality_core.specs.entry_core.Among.{Among}
-use Rattle.go_locality_core.specs.table_core.Entries.{Entry, Member}
-use Rattle.go_locality_core.specs.table_core.Tables.{AreOf}
-use Rattle.go_part_core.specs.summary_core.Summaries.{SummaryModel, IsOfOne, path_of}
-use Rattle.go_part_core.specs.summary_core.Viewed.{text_apart}
-use Rattle.go_part_core.specs.summary_core.Views.{AreApart, types_told}
-use Rattle.go_whole_core.proofs.Lists.{among_all, pairs_head, pairs_tail}
-use Rattle.go_fragment_core.specs.declared.names.Meaning.{Meaning}
-use Rattle.go_fragment_core.specs.declared.names.Meaning.TheVariants as meanings
-use Rattle.go_emit_core.specs.Words.{sign_gives}
-use Rattle.go_emit_core.specs.Scenes.{Spot, Spotted, meaning_at, method_at, method_spotted, methods_spotted, same_spot, spot}
+use Rattle.go_snap_core.specs.entry_core.Among.{Among}
+use Rattle.go_snap_core.specs.table_core.Entries.{Entry, Member}
+use Rattle.go_snap_core.specs.table_core.Tables.{AreOf}
+use Rattle.go_snap_core.specs.summary_core.Summaries.{SummaryModel, IsOfOne, path_of}
+use Rattle.go_snap_core.specs.summary_core.Viewed.{text_apart}
+use Rattle.go_snap_core.specs.summary_core.Views.{AreApart, types_told}
+use Rattle.go_snap_core.specs.whole_core.Lists.{among_all, pairs_head, pairs_tail}
+use Rattle.go_snap_core.specs.fragment_core.declared.names.Meaning.{Meaning}
+use Rattle.go_snap_core.specs.fragment_core.declared.names.Meaning.TheVariants as meanings
+use Rattle.go_snap_core.specs.meaning_core.Words.{sign_gives}
+use Rattle.go_snap_core.specs.meaning_core.Scenes.{method_at, method_spotted, methods_spotted}
+use Rattle.go_snap_core.specs.lookup_core.Places.{Spot, Spotted, meaning_at, same_spot, spot}
 
 -- the first of two
 abbrev or_there : Option Meaning → Option Meaning → Option Meaning

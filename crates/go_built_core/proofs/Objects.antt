@@ -5,33 +5,34 @@ use Rattle.std.specs.List.{flat_map}
 use Rattle.std.proofs.lemmas.List.Kept.{AllPairs-cons}
 use Rattle.go_term_core.specs.decl_core.Outer.{IsPlaced}
 use Rattle.go_term_core.specs.decl_core.declared.keys.DeclRef.{DeclRef}
-use Rattle.go_locality_core.specs.graph_core.Plans.{PlanModel, IsPlan}
-use Rattle.go_locality_core.specs.graph_core.PlanLaws.{has_plan}
-use Rattle.go_locality_core.specs.graph_core.Workspaces.{PackageModel, IsWorkspace}
-use Rattle.go_locality_core.specs.entry_core.Among.{Among, among_cases, among_from, among_left, among_map, among_right, among_to}
-use Rattle.go_locality_core.specs.Known.{KnownAlike}
-use Rattle.go_locality_core.specs.Laws.{CheckIsLocal, ImportsBindTheirs}
-use Rattle.go_near_core.specs.handle_core.Declarations.{Declaration}
-use Rattle.go_near_core.specs.Near.{Each}
-use Rattle.go_file_core.specs.body_core.Notes.{TheUse}
-use Rattle.go_package_core.specs.ready_core.Packages.{trees_in}
-use Rattle.go_part_core.specs.summary_core.Summaries.{SummaryModel, IsOfOne, path_of}
-use Rattle.go_part_core.specs.summary_core.Views.{AreApart, faces_told, types_told}
-use Rattle.go_part_core.specs.Inputs.{InputModel, path_in}
-use Rattle.go_part_core.specs.Parts.{ContentOf, FileOf, IsPart, PartModel}
-use Rattle.go_whole_core.specs.Inputs.{AreParts, Tells}
-use Rattle.go_whole_core.specs.mirrors.Steps.{AreRight}
-use Rattle.go_whole_core.proofs.Lists.{all_from_among, among_all, pairs_head, pairs_tail}
-use Rattle.go_whole_core.proofs.Told.{AreWell, NoneIsOf, known_alike, known_by}
-use Rattle.go_whole_core.proofs.Parts.{all_inside, none_reached, of_one, path_told, reach_paths, told_by, well_reached}
-use Rattle.go_whole_core.proofs.PartsWhole.{all_right}
-use Rattle.go_whole_core.proofs.Checks.{trees_are_placed}
-use Rattle.go_object_core.specs.Objects.{FunctionOf, ObjectOf}
-use Rattle.go_emit_core.specs.Scenes.{meaning_at, methods_spotted, package_decls, spot}
-use Rattle.go_emit_core.specs.Imports.{all_passing}
-use Rattle.go_emit_core.specs.Emitted.{are_clean, if_there, object_of, object_over, package_functions, scene_over, somes, told_to}
-use Rattle.go_emit_core.specs.Emitted as emitted
-use Rattle.go_emit_core.specs.Laws.{OneObject}
+use Rattle.go_snap_core.specs.graph_core.Plans.{PlanModel, IsPlan}
+use Rattle.go_snap_core.specs.graph_core.PlanLaws.{has_plan}
+use Rattle.go_snap_core.specs.graph_core.Workspaces.{PackageModel, IsWorkspace}
+use Rattle.go_snap_core.specs.entry_core.Among.{Among, among_cases, among_from, among_left, among_map, among_right, among_to}
+use Rattle.go_snap_core.specs.locality_core.Known.{KnownAlike}
+use Rattle.go_snap_core.specs.locality_core.Laws.{CheckIsLocal, ImportsBindTheirs}
+use Rattle.go_snap_core.specs.handle_core.Declarations.{Declaration}
+use Rattle.go_snap_core.specs.near_core.Near.{Each}
+use Rattle.go_snap_core.specs.body_core.Notes.{TheUse}
+use Rattle.go_snap_core.specs.ready_core.Packages.{trees_in}
+use Rattle.go_snap_core.specs.summary_core.Summaries.{SummaryModel, IsOfOne, path_of}
+use Rattle.go_snap_core.specs.summary_core.Views.{AreApart, faces_told, types_told}
+use Rattle.go_snap_core.specs.part_core.Inputs.{InputModel, path_in}
+use Rattle.go_snap_core.specs.part_core.Parts.{ContentOf, FileOf, IsPart, PartModel}
+use Rattle.go_snap_core.specs.whole_core.Inputs.{AreParts, Tells}
+use Rattle.go_snap_core.specs.whole_core.mirrors.Steps.{AreRight}
+use Rattle.go_snap_core.specs.whole_core.Lists.{all_from_among, among_all, pairs_head, pairs_tail}
+use Rattle.go_snap_core.specs.whole_core.Told.{AreWell, NoneIsOf, known_alike, known_by}
+use Rattle.go_snap_core.specs.whole_core.Parts.{all_inside, none_reached, of_one, path_told, reach_paths, told_by, well_reached}
+use Rattle.go_snap_core.specs.whole_core.PartsWhole.{all_right}
+use Rattle.go_snap_core.specs.whole_core.Checks.{trees_are_placed}
+use Rattle.go_snap_core.specs.object_core.Objects.{FunctionOf, ObjectOf}
+use Rattle.go_snap_core.specs.meaning_core.Scenes.{methods_spotted, package_decls}
+use Rattle.go_snap_core.specs.lookup_core.Places.{meaning_at, spot}
+use Rattle.go_snap_core.specs.emit_core.Imports.{all_passing}
+use Rattle.go_snap_core.specs.emit_core.Emitted.{are_clean, if_there, object_of, object_over, package_functions, scene_over, somes, told_to}
+use Rattle.go_snap_core.specs.emit_core.Emitted as emitted
+use Rattle.go_snap_core.specs.emit_core.Laws.{OneObject}
 use Rattle.go_built_core.proofs.Methods.{told_methods}
 use Rattle.go_built_core.proofs.Scenes.{functions_same, methods_same}
 use Rattle.go_built_core.proofs.Wider.{IsToldIn}

@@ -13,41 +13,41 @@ use Rattle.go_term_core.specs.decl_core.declared.keys.DeclKey.{DeclKey}
 use Rattle.go_term_core.specs.decl_core.declared.keys.DeclRef.{DeclRef}
 use Rattle.go_term_core.specs.decl_core.TopDecls.{TopDeclTree, FormTree, ValueForm, TypeForm, FuncForm}
 use Rattle.go_term_core.specs.Terms.{Term, Defined}
-use Rattle.go_near_core.specs.settle_core.Settled.{settled}
-use Rattle.go_near_core.specs.table_core.Entries.{Entry, find}
-use Rattle.go_file_core.specs.decide_core.Conversion.{is_type}
-use Rattle.go_file_core.specs.decide_core.Rules.{typed}
-use Rattle.go_near_core.specs.operand_core.declared.types.Operand.{Operand}
-use Rattle.go_near_core.specs.written_core.Written.{InFile, Meaning, signature_of, term_of}
-use Rattle.go_near_core.specs.entry_core.Entries.{Meanings, file_at, package_meanings, type_key}
-use Rattle.go_near_core.specs.entry_core.Outlines.{FileOutline, outline_of}
-use Rattle.go_near_core.specs.entry_core.Among.{Among, among_flat, among_from, among_map, among_to}
-use Rattle.go_near_core.specs.face_core.Faces.{TheFace, variable_face}
-use Rattle.go_near_core.specs.face_core.Laws.{FileDecl}
-use Rattle.go_near_core.specs.face_core.Packages.{PackageFacesModel, face_among, face_by, face_in}
-use Rattle.go_near_core.specs.face_core.Written as writing
-use Rattle.go_near_core.specs.face_core.Written.{WrittenOf, decls_of, face_found, file_written, kinds_in, same_place, type_written, written_at, written_of, written_with}
-use Rattle.go_near_core.specs.env_core.Looks.{TheLooks}
-use Rattle.go_near_core.specs.func_core.Stands.{outer_looks}
-use Rattle.go_near_core.specs.local_core.Steps.{Spec}
-use Rattle.go_near_core.specs.piece_core.Pieces.{piece_values}
-use Rattle.go_package_core.specs.needs_core.Needs.{EndsWithin, known_in, needed}
-use Rattle.go_package_core.specs.value_core.Initial.{initial}
-use Rattle.go_package_core.specs.value_core.Package as values
-use Rattle.go_package_core.specs.value_core.Package.{first_values, form_face, written_face}
-use Rattle.go_package_core.specs.value_core.Owning.{specifications_alike}
-use Rattle.go_package_core.specs.value_core.Deciding.{needs_decide}
-use Rattle.go_package_core.specs.answer_core.Shown.{exported_decls, is_listed, shown_among, shown_if}
-use Rattle.go_package_core.specs.ready_core.Laws.{placed_in}
-use Rattle.go_package_core.specs.ready_core.Lists.{among_at}
-use Rattle.go_package_core.specs.ready_core.Packages.{PackageIn, entries_in, outlines_in, scene_in, stand_in}
-use Rattle.go_package_core.specs.ready_core.Values.{declared_in, decls_in, needs_in, some_face}
-use Rattle.go_package_core.specs.ready_core.ValuesProofs.{faces_same, needs_same}
-use Rattle.go_package_core.specs.Checked.{AnswersOf, CheckedOf, IsChecked, IsFileChecked, imports_at, stand_at}
-use Rattle.go_near_core.specs.Near.{Each, IfAny, NearOperand}
-use Rattle.go_near_core.proofs.Closing.{either}
-use Rattle.go_near_core.proofs.Pieces.{pieces_nearby}
-use Rattle.go_locality_core.specs.Known.{BindsInside}
+use Rattle.go_snap_core.specs.settle_core.Settled.{settled}
+use Rattle.go_snap_core.specs.table_core.Entries.{Entry, find}
+use Rattle.go_snap_core.specs.decide_core.Conversion.{is_type}
+use Rattle.go_snap_core.specs.decide_core.Rules.{typed}
+use Rattle.go_snap_core.specs.operand_core.declared.types.Operand.{Operand}
+use Rattle.go_snap_core.specs.written_core.Written.{InFile, Meaning, signature_of, term_of}
+use Rattle.go_snap_core.specs.entry_core.Entries.{Meanings, file_at, package_meanings, type_key}
+use Rattle.go_snap_core.specs.entry_core.Outlines.{FileOutline, outline_of}
+use Rattle.go_snap_core.specs.entry_core.Among.{Among, among_flat, among_from, among_map, among_to}
+use Rattle.go_snap_core.specs.face_core.Faces.{TheFace, variable_face}
+use Rattle.go_snap_core.specs.face_core.Laws.{FileDecl}
+use Rattle.go_snap_core.specs.face_core.Packages.{PackageFacesModel, face_among, face_by, face_in}
+use Rattle.go_snap_core.specs.face_core.Written as writing
+use Rattle.go_snap_core.specs.face_core.Written.{WrittenOf, decls_of, face_found, file_written, kinds_in, same_place, type_written, written_at, written_of, written_with}
+use Rattle.go_snap_core.specs.env_core.Looks.{TheLooks}
+use Rattle.go_snap_core.specs.func_core.Stands.{outer_looks}
+use Rattle.go_snap_core.specs.local_core.Steps.{Spec}
+use Rattle.go_snap_core.specs.piece_core.Pieces.{piece_values}
+use Rattle.go_snap_core.specs.needs_core.Needs.{EndsWithin, known_in, needed}
+use Rattle.go_snap_core.specs.value_core.Initial.{initial}
+use Rattle.go_snap_core.specs.value_core.Package as values
+use Rattle.go_snap_core.specs.value_core.Package.{first_values, form_face, written_face}
+use Rattle.go_snap_core.specs.value_core.Owning.{specifications_alike}
+use Rattle.go_snap_core.specs.value_core.Deciding.{needs_decide}
+use Rattle.go_snap_core.specs.answer_core.Shown.{exported_decls, is_listed, shown_among, shown_if}
+use Rattle.go_snap_core.specs.ready_core.Laws.{placed_in}
+use Rattle.go_snap_core.specs.ready_core.Lists.{among_at}
+use Rattle.go_snap_core.specs.ready_core.Packages.{PackageIn, entries_in, outlines_in, scene_in, stand_in}
+use Rattle.go_snap_core.specs.ready_core.Values.{declared_in, decls_in, needs_in, some_face}
+use Rattle.go_snap_core.specs.ready_core.ValuesProofs.{faces_same, needs_same}
+use Rattle.go_snap_core.specs.package_core.Checked.{AnswersOf, CheckedOf, IsChecked, IsFileChecked, imports_at, stand_at}
+use Rattle.go_snap_core.specs.near_core.Near.{Each, IfAny, NearOperand}
+use Rattle.go_snap_core.specs.near_core.Closing.{either}
+use Rattle.go_snap_core.specs.near_core.PiecesProofs.{pieces_nearby}
+use Rattle.go_snap_core.specs.locality_core.Known.{BindsInside}
 use Rattle.go_built_core.proofs.Terms.{IsTermIn, settled_in, settled_sign_in, signature_in, term_in}
 use Rattle.go_built_core.proofs.Tables.{AreEntriesIn, IsEntryIn, both_in, own_in, written_in}
 use Rattle.go_built_core.proofs.Answers.{alike_itself}

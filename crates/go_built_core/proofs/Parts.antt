@@ -5,39 +5,39 @@ use Rattle.std.specs.List.{list_any}
 use Rattle.go_tree_nodes.specs.Trees.{FileTree}
 use Rattle.go_term_core.specs.decl_core.declared.keys.DeclKey.{DeclKey}
 use Rattle.go_term_core.specs.decl_core.declared.keys.DeclRef.{DeclRef}
-use Rattle.go_locality_core.specs.graph_core.Lists.{AllNumbered}
-use Rattle.go_locality_core.specs.graph_core.Plans.{PlanModel, IsPlan}
-use Rattle.go_locality_core.specs.graph_core.Workspaces.{PackageModel, IsWorkspace}
-use Rattle.go_locality_core.specs.graph_core.Packages.{trees_of}
-use Rattle.go_locality_core.specs.block_core.declared.imports.Imported.{Imported}
-use Rattle.go_locality_core.specs.block_core.declared.imports.Imported.TheVariants as given
-use Rattle.go_locality_core.specs.block_core.Blocks.{BlocksModel}
-use Rattle.go_locality_core.specs.block_core.Exports.{ExportsModel}
-use Rattle.go_locality_core.specs.table_core.Entries.{Entry, find}
-use Rattle.go_locality_core.specs.entry_core.Among.{Among, among_from, among_map, among_to}
-use Rattle.go_locality_core.specs.Laws.{CheckIsLocal, ImportsBindTheirs}
-use Rattle.go_near_core.specs.face_core.Faces.{TheFace}
-use Rattle.go_near_core.specs.face_core.Packages.{face_in}
-use Rattle.go_near_core.specs.handle_core.Declarations.{Declaration}
-use Rattle.go_file_core.specs.denote_core.declared.things.Outcome.{Outcome}
-use Rattle.go_file_core.specs.denote_core.declared.things.Outcome.TheVariants as outcomes
-use Rattle.go_file_core.specs.body_core.Notes.{TheUse}
-use Rattle.go_near_core.specs.Near.{Each}
-use Rattle.go_near_core.proofs.Closing.{either}
-use Rattle.go_package_core.specs.ready_core.Packages.{trees_in}
-use Rattle.go_package_core.specs.Checked.{AnswersOf}
-use Rattle.go_part_core.specs.summary_core.Summaries.{SummaryModel, path_of}
-use Rattle.go_part_core.specs.summary_core.Telling.{nothing_else, views_tell}
-use Rattle.go_part_core.specs.summary_core.Views.{faces_told, types_told}
-use Rattle.go_part_core.specs.used_core.Used.{is_import, judged, refused_use, unused_outcome}
-use Rattle.go_part_core.specs.Inputs.{InputModel, path_in}
-use Rattle.go_part_core.specs.Parts.{FileOf, IsFileMadeIn, PartModel, package_seen, seen_by}
-use Rattle.go_whole_core.specs.Inputs.{ComesTo, Reaches, Shown}
-use Rattle.go_whole_core.specs.mirrors.Steps.{AreRight}
-use Rattle.go_whole_core.proofs.Told.{AreWell, NoneIsOf}
-use Rattle.go_whole_core.proofs.Order.{along, reaches_next, reaches_on}
-use Rattle.go_whole_core.proofs.Theirs.{Leads, imports_lead, passes}
-use Rattle.go_whole_core.proofs.Parts.{all_inside, none_reached, path_told, reach_paths, stand_over, told_by, told_to, well_reached}
+use Rattle.go_snap_core.specs.graph_core.Lists.{AllNumbered}
+use Rattle.go_snap_core.specs.graph_core.Plans.{PlanModel, IsPlan}
+use Rattle.go_snap_core.specs.graph_core.Workspaces.{PackageModel, IsWorkspace}
+use Rattle.go_snap_core.specs.graph_core.Packages.{trees_of}
+use Rattle.go_snap_core.specs.block_core.declared.imports.Imported.{Imported}
+use Rattle.go_snap_core.specs.block_core.declared.imports.Imported.TheVariants as given
+use Rattle.go_snap_core.specs.block_core.Blocks.{BlocksModel}
+use Rattle.go_snap_core.specs.block_core.Exports.{ExportsModel}
+use Rattle.go_snap_core.specs.table_core.Entries.{Entry, find}
+use Rattle.go_snap_core.specs.entry_core.Among.{Among, among_from, among_map, among_to}
+use Rattle.go_snap_core.specs.locality_core.Laws.{CheckIsLocal, ImportsBindTheirs}
+use Rattle.go_snap_core.specs.face_core.Faces.{TheFace}
+use Rattle.go_snap_core.specs.face_core.Packages.{face_in}
+use Rattle.go_snap_core.specs.handle_core.Declarations.{Declaration}
+use Rattle.go_snap_core.specs.denote_core.declared.things.Outcome.{Outcome}
+use Rattle.go_snap_core.specs.denote_core.declared.things.Outcome.TheVariants as outcomes
+use Rattle.go_snap_core.specs.body_core.Notes.{TheUse}
+use Rattle.go_snap_core.specs.near_core.Near.{Each}
+use Rattle.go_snap_core.specs.near_core.Closing.{either}
+use Rattle.go_snap_core.specs.ready_core.Packages.{trees_in}
+use Rattle.go_snap_core.specs.package_core.Checked.{AnswersOf}
+use Rattle.go_snap_core.specs.summary_core.Summaries.{SummaryModel, path_of}
+use Rattle.go_snap_core.specs.summary_core.Telling.{nothing_else, views_tell}
+use Rattle.go_snap_core.specs.summary_core.Views.{faces_told, types_told}
+use Rattle.go_snap_core.specs.used_core.Used.{is_import, judged, refused_use, unused_outcome}
+use Rattle.go_snap_core.specs.part_core.Inputs.{InputModel, path_in}
+use Rattle.go_snap_core.specs.part_core.Parts.{FileOf, IsFileMadeIn, PartModel, package_seen, seen_by}
+use Rattle.go_snap_core.specs.whole_core.Inputs.{ComesTo, Reaches, Shown}
+use Rattle.go_snap_core.specs.whole_core.mirrors.Steps.{AreRight}
+use Rattle.go_snap_core.specs.whole_core.Told.{AreWell, NoneIsOf}
+use Rattle.go_snap_core.specs.whole_core.Order.{along, reaches_next, reaches_on}
+use Rattle.go_snap_core.specs.whole_core.Theirs.{Leads, imports_lead, passes}
+use Rattle.go_snap_core.specs.whole_core.Parts.{all_inside, none_reached, path_told, reach_paths, stand_over, told_by, told_to, well_reached}
 use Rattle.go_built_core.proofs.Tables.{IsEntryIn, find_in}
 use Rattle.go_built_core.proofs.Answers.{IsOutcomeIn}
 use Rattle.go_built_core.proofs.Uses.{IsUseIn}

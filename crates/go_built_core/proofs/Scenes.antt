@@ -10,29 +10,31 @@ use Rattle.go_term_core.specs.decl_core.TopDecls.{TopDeclTree, top_decls}
 use Rattle.go_term_core.specs.declared.term.MemberPlace.{MemberPlace}
 use Rattle.go_term_core.specs.declared.term.MemberPlace.TheVariants as places
 use Rattle.go_term_core.specs.Terms.{Term, NoType, Predeclared, ErrorType, Defined, PointerTo, StructOf, InterfaceOf, Sign, SignOf, Terms, NoTerm, ATerm}
-use Rattle.go_near_core.specs.table_core.Entries.{Entry, Member, find, term_in, underlying_in}
-use Rattle.go_file_core.specs.decide_core.Conversion.{is_nothing, is_type}
-use Rattle.go_file_core.specs.decide_core.Rules.{all_typed, form_under}
-use Rattle.go_near_core.specs.operand_core.declared.types.Operand.{Operand}
-use Rattle.go_near_core.specs.operand_core.declared.types.ValueType.{ValueType}
-use Rattle.go_near_core.specs.operand_core.declared.types.ValueType.TheVariants as value_types
-use Rattle.go_file_core.specs.denote_core.declared.things.Outcome.{Outcome}
-use Rattle.go_file_core.specs.denote_core.declared.things.Outcome.TheVariants as outcomes
-use Rattle.go_near_core.specs.handle_core.Declarations.{Declaration, Universe, OfError, Package, InFile}
-use Rattle.go_near_core.specs.face_core.declared.face.Face.TheVariants as faces
-use Rattle.go_near_core.specs.face_core.Faces.{TheFace}
-use Rattle.go_near_core.specs.face_core.Packages.{PackageFacesModel, face_in}
-use Rattle.go_file_core.specs.body_core.Notes.{TheLocal, TheUse}
-use Rattle.go_near_core.specs.Near.{Each, IfAny, NearOperand, NearValue}
-use Rattle.go_near_core.proofs.Closing.{either}
-use Rattle.go_part_core.specs.Parts.{FileOf}
-use Rattle.go_fragment_core.specs.declared.names.Meaning.{Meaning}
-use Rattle.go_fragment_core.specs.declared.names.Meaning.TheVariants as meanings
-use Rattle.go_emit_core.specs.Words.{form_word, given, results_give, sign_gives, some_word, value_word, word_in}
-use Rattle.go_emit_core.specs.Meanings.{constant_or, face_meaning, local_meaning, some_meaning, type_meaning, variable_meaning}
-use Rattle.go_emit_core.specs.Looking.{locals_meant, looks_of, looks_with, uses_meant}
-use Rattle.go_emit_core.specs.Scenes.{Scene, declared_meaning, meaning_at, meant, method_at, method_meaning, method_spotted, methods_spotted, outcome_meaning, own_or, own_spotted, place_meaning, scene_by, selected_meaning, spot}
-use Rattle.go_emit_core.specs.Emitted.{file_functions, functions_of, package_functions}
+use Rattle.go_snap_core.specs.table_core.Entries.{Entry, Member, find, term_in, underlying_in}
+use Rattle.go_snap_core.specs.decide_core.Conversion.{is_nothing, is_type}
+use Rattle.go_snap_core.specs.decide_core.Rules.{all_typed, form_under}
+use Rattle.go_snap_core.specs.operand_core.declared.types.Operand.{Operand}
+use Rattle.go_snap_core.specs.operand_core.declared.types.ValueType.{ValueType}
+use Rattle.go_snap_core.specs.operand_core.declared.types.ValueType.TheVariants as value_types
+use Rattle.go_snap_core.specs.denote_core.declared.things.Outcome.{Outcome}
+use Rattle.go_snap_core.specs.denote_core.declared.things.Outcome.TheVariants as outcomes
+use Rattle.go_snap_core.specs.handle_core.Declarations.{Declaration, Universe, OfError, Package, InFile}
+use Rattle.go_snap_core.specs.face_core.declared.face.Face.TheVariants as faces
+use Rattle.go_snap_core.specs.face_core.Faces.{TheFace}
+use Rattle.go_snap_core.specs.face_core.Packages.{PackageFacesModel, face_in}
+use Rattle.go_snap_core.specs.body_core.Notes.{TheLocal, TheUse}
+use Rattle.go_snap_core.specs.near_core.Near.{Each, IfAny, NearOperand, NearValue}
+use Rattle.go_snap_core.specs.near_core.Closing.{either}
+use Rattle.go_snap_core.specs.part_core.Parts.{FileOf}
+use Rattle.go_snap_core.specs.fragment_core.declared.names.Meaning.{Meaning}
+use Rattle.go_snap_core.specs.fragment_core.declared.names.Meaning.TheVariants as meanings
+use Rattle.go_snap_core.specs.meaning_core.Words.{form_word, given, results_give, sign_gives, some_word, value_word, word_in}
+use Rattle.go_snap_core.specs.meaning_core.Meanings.{constant_or, face_meaning, local_meaning, some_meaning, type_meaning, variable_meaning}
+use Rattle.go_snap_core.specs.meaning_core.Looking.{locals_meant, looks_of, uses_meant}
+use Rattle.go_snap_core.specs.lookup_core.Looking.{looks_with, meant}
+use Rattle.go_snap_core.specs.meaning_core.Scenes.{Scene, declared_meaning, method_at, method_meaning, method_spotted, methods_spotted, outcome_meaning, own_or, own_spotted, place_meaning, scene_by, selected_meaning}
+use Rattle.go_snap_core.specs.lookup_core.Places.{meaning_at, spot}
+use Rattle.go_snap_core.specs.emit_core.Emitted.{file_functions, functions_of, package_functions}
 use Rattle.go_built_core.proofs.Terms.{AreTermsIn, IsSignIn, IsTermIn}
 use Rattle.go_built_core.proofs.Tables.{AreEntriesIn, AreMembersIn}
 use Rattle.go_built_core.proofs.Answers.{IsDeclIn, IsOutcomeIn}

@@ -6,17 +6,17 @@ use Rattle.go_text_core.specs.Text.{is_blank}
 use Rattle.go_text_core.specs.declared.rule.Rule.{Rule}
 use Rattle.go_term_core.specs.decl_core.declared.keys.DeclKey.{DeclKey}
 use Rattle.go_term_core.specs.Terms.{Term, NoType, Predeclared, ErrorType, Defined, PointerTo, StructOf, InterfaceOf, Fields, NoField, AField, Methods, NoMethod, AMethod, Sign, SignOf, Terms, NoTerm, ATerm}
-use Rattle.go_near_core.specs.table_core.Entries.{Entry, Member, find, term_in, methods_in, underlying_in, has_method, same_id}
-use Rattle.go_file_core.specs.embed_core.Owners.{OwnerModel, Edge, off, owner_in, fields_embedded, term_embedded, embedded_in, Found, AFieldOf, AMethodOf, AnInterfaces, TheErrorMethod, Named, fields_found, methods_found, declared_found, term_found, members_of}
-use Rattle.go_file_core.specs.select_core.Selectors.{Searched, Refused, In, FieldsIn, kind_in, searched, searched_under, unless_refused}
-use Rattle.go_near_core.specs.settle_core.declared.kind.Kind.{Kind}
-use Rattle.go_near_core.specs.settle_core.declared.kind.Kind.TheVariants as kinds
-use Rattle.go_file_core.specs.decide_core.Conversion.{is_type}
-use Rattle.go_file_core.specs.decide_core.Rules.{all_typed, params_of, results_of, typed}
-use Rattle.go_file_core.specs.decide_core.Selecting.{Choice, Match, Trail, behind_edge, behind_edges, field_alone, fields_alone, first_matches, last_depth, match_in, match_where, matches_among, matches_behind, matches_of, only_match, passing, selected_of, some_spelled, spelled_from, trails_of, unless_some}
-use Rattle.go_near_core.specs.Near.{Each, IfAny}
-use Rattle.go_near_core.proofs.Closing.{either}
-use Rattle.go_near_core.proofs.Pieces.{each_both}
+use Rattle.go_snap_core.specs.table_core.Entries.{Entry, Member, find, term_in, methods_in, underlying_in, has_method, same_id}
+use Rattle.go_snap_core.specs.embed_core.Owners.{OwnerModel, Edge, off, owner_in, fields_embedded, term_embedded, embedded_in, Found, AFieldOf, AMethodOf, AnInterfaces, TheErrorMethod, Named, fields_found, methods_found, declared_found, term_found, members_of}
+use Rattle.go_snap_core.specs.select_core.Selectors.{Searched, Refused, In, FieldsIn, kind_in, searched, searched_under, unless_refused}
+use Rattle.go_snap_core.specs.settle_core.declared.kind.Kind.{Kind}
+use Rattle.go_snap_core.specs.settle_core.declared.kind.Kind.TheVariants as kinds
+use Rattle.go_snap_core.specs.decide_core.Conversion.{is_type}
+use Rattle.go_snap_core.specs.decide_core.Rules.{all_typed, params_of, results_of, typed}
+use Rattle.go_snap_core.specs.decide_core.Selecting.{Choice, Match, Trail, behind_edge, behind_edges, field_alone, fields_alone, first_matches, last_depth, match_in, match_where, matches_among, matches_behind, matches_of, only_match, passing, selected_of, some_spelled, spelled_from, trails_of, unless_some}
+use Rattle.go_snap_core.specs.near_core.Near.{Each, IfAny}
+use Rattle.go_snap_core.specs.near_core.Closing.{either}
+use Rattle.go_snap_core.specs.near_core.PiecesProofs.{each_both}
 use Rattle.go_built_core.proofs.Terms.{AreFieldsIn, AreMethodsIn, AreTermsIn, IsSignIn, IsTermIn}
 use Rattle.go_built_core.proofs.Tables.{AreMembersIn, IsEntryIn}
 

@@ -1,14 +1,14 @@
 -- Laws of the objects of a workspace.
 --
--- docs/RULES.md, "Stack code", "Snapshots". The Go specification, "Packages", "Import declarations".
+-- docs/RULES.md, "Stack code", "Whole workspaces". The Go specification, "Packages", "Import declarations".
 use Rattle.std.specs.Prelude.{◌≡◌, List, Option, Contains}
 use Rattle.std.specs.List.{flat_map}
-use Rattle.go_locality_core.specs.graph_core.Workspaces.{PackageModel, IsWorkspace}
-use Rattle.go_part_core.specs.Parts.{FileOf, PartModel}
-use Rattle.go_file_core.specs.body_core.Notes.{TheUse}
+use Rattle.go_snap_core.specs.graph_core.Workspaces.{PackageModel, IsWorkspace}
+use Rattle.go_snap_core.specs.part_core.Parts.{FileOf, PartModel}
+use Rattle.go_snap_core.specs.body_core.Notes.{TheUse}
 use Rattle.go_snap_core.specs.declared.fault.PlacedFault.{PlacedFault}
 use Rattle.go_snap_core.specs.Snapshots.{IsSnapshot}
-use Rattle.go_emit_core.specs.Emitted.{if_there, object_of, object_over, objects_of, somes, told_by}
+use Rattle.go_snap_core.specs.emit_core.Emitted.{if_there, object_of, object_over, objects_of, somes, told_by}
 use Rattle.go_built_core.specs.Reached.{HasDeclaredIn, reached_paths}
 
 -- what an occurrence of a package has in a file is declared in the package or in one that it reaches, or is such a package

@@ -2,9 +2,9 @@
 ghost use Rattle.go_built_core.specs.Laws.{DeclarationsAreReached, ObjectsAreOfPartsAlone, ObjectsFollowInputs};
 ghost use Rattle.go_built_core.specs.TreeLaws.{ObjectsAreOfTrees, TellingIsOfTrees};
 
-use go_emit_core::one_object;
-use go_locality_core::{check_is_local, imports_bind_theirs};
-use go_whole_core::one_whole;
+use go_snap_core::emit_core::one_object;
+use go_snap_core::locality_core::{check_is_local, imports_bind_theirs};
+use go_snap_core::whole_core::one_whole;
 
 /// What an occurrence of a package has in a file is declared in the package itself or in one that it reaches by imports, or is such a package. So are the
 /// fields and the methods that it selects, whichever types lead to them.

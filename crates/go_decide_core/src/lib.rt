@@ -36,7 +36,7 @@ pub mod operand_core {
 /// What the crates above name of `go_select_core`.
 pub mod select_core {
     pub use go_mset_core::select_core::{
-        EmbedPath, Member, Selected, select, select_behind_pointer,
+        EmbedPath, Member, Owner, Selected, select, select_behind_pointer, selectable,
     };
 }
 

@@ -3,10 +3,10 @@ use Rattle.std.proofs.Common.{◌≡◌, inl, inr, ℕ, zero, suc, ◌<◌, Bool
 use Rattle.std.specs.Prelude.{slice_index_or}
 use Rattle.std.specs.List.{flat_map}
 use Rattle.std.proofs.lemmas.List.Elements.{Contains-append_left, Contains-append_right, Contains-append_cases}
-use Rattle.go_summary_core.specs.block_core.declared.imports.Imported.{Imported}
-use Rattle.go_summary_core.specs.block_core.declared.imports.Imported.TheVariants as imported
-use Rattle.go_handle_core.specs.Declarations.{Declaration}
-use Rattle.go_part_core.specs.Inputs.{InputModel}
+use Rattle.go_meaning_core.specs.block_core.declared.imports.Imported.{Imported}
+use Rattle.go_meaning_core.specs.block_core.declared.imports.Imported.TheVariants as imported
+use Rattle.go_meaning_core.specs.handle_core.Declarations.{Declaration}
+use Rattle.go_meaning_core.specs.part_core.Inputs.{InputModel}
 use Rattle.go_object_core.specs.Objects.{ObjectOf}
 use Rattle.go_emit_core.specs.Emitted.{are_clean, scene_over, whole_object}
 use Rattle.go_emit_core.specs.Imports.{all_passing, passing}

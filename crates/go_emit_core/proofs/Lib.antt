@@ -4,13 +4,10 @@ mod Calling
 mod Cutting
 mod Ending
 mod Faultless
-mod Filling
-mod Giving
 mod Importing
 mod Outlined
 mod Own
 mod Passing
 mod Referring
 mod Several
-mod Spots
 mod Tabled

@@ -1,39 +1,24 @@
 -- What is made of a package by the outlines of its files is what its trees give.
-use Rattle.std.proofs.Common.{◌≡◌, ℕ, suc, List, [], ◌∷◌, ◌++◌, map, Option, refl, ap, ◌∙◌}
-use Rattle.go_part_core.specs.graph_core.Packages.{Trees, tree_shown, trees_of}
-use Rattle.go_decl_core.specs.TopDecls.{top_decls}
-use Rattle.go_entry_core.specs.Outlines.{FileOutline, outline_of}
-use Rattle.go_face_core.specs.Faces.{TheFace}
-use Rattle.go_handle_core.specs.Declarations.{Declaration}
+use Rattle.std.proofs.Common.{◌≡◌, ℕ, suc, List, [], ◌∷◌, ◌++◌, map, refl, ap, ◌∙◌}
+use Rattle.go_meaning_core.specs.graph_core.Packages.{Trees, tree_shown, trees_of}
+use Rattle.go_term_core.specs.decl_core.TopDecls.{top_decls}
+use Rattle.go_meaning_core.specs.entry_core.Outlines.{FileOutline, outline_of}
+use Rattle.go_meaning_core.specs.handle_core.Declarations.{Declaration}
 use Rattle.go_object_core.specs.Objects.{ObjectOf}
-use Rattle.go_part_core.specs.ready_core.Packages.{trees_in}
-use Rattle.go_part_core.specs.Inputs.{InputModel, path_in}
-use Rattle.go_part_core.specs.Parts.{ContentOf, FileOf}
+use Rattle.go_meaning_core.specs.ready_core.Packages.{trees_in}
+use Rattle.go_meaning_core.specs.part_core.Inputs.{InputModel, path_in}
+use Rattle.go_meaning_core.specs.part_core.Parts.{ContentOf, FileOf}
 use Rattle.go_emit_core.specs.Emitted.{file_functions, package_functions, whole_object}
 use Rattle.go_emit_core.specs.Imports.{all_passing}
-use Rattle.go_emit_core.specs.Scenes.{Scene, decl_at, package_decls}
-use Rattle.go_emit_core.specs.declared.tables.Tables.{Tables}
-use Rattle.go_emit_core.specs.mirrors.Listing.{outlines_decls, outlines_functions}
-use Rattle.go_emit_core.specs.mirrors.Naming.{scene_in, scene_with}
-
-decls_outlined : (n : ℕ) (ts : Trees) → outlines_decls n (map (λ t. outline_of t.1) ts) ≡ package_decls n (map tree_shown ts)
-decls_outlined n [] = refl
-decls_outlined n (t ∷ ts) = ap (λ l. map (decl_at n) (top_decls t.1) ++ l) (decls_outlined (suc n) ts)
+use Rattle.go_meaning_core.specs.Scenes.{Scene}
+use Rattle.go_emit_core.specs.mirrors.Listing.{outlines_functions}
 
 functions_outlined : (s : Scene) (n : ℕ) (ts : Trees) (fs : List FileOf) → outlines_functions s n (map (λ t. outline_of t.1) ts) fs ≡ package_functions s n (map tree_shown ts) fs
 functions_outlined s n [] fs = refl
 functions_outlined s n (t ∷ ts) [] = refl
 functions_outlined s n (t ∷ ts) (f ∷ fs) = ap (λ l. file_functions s n (top_decls t.1) f ++ l) (functions_outlined s (suc n) ts fs)
 
--- what is looked up in is the scene
-pub scene_made : (t : Tables) (i : InputModel) (c : ContentOf) (s : Scene) (path : List ℕ) (known : List (Option TheFace)) (os : List FileOutline)
-    → s ≡ scene_in t path (outlines_decls 0 os) known
-    → path ≡ path_in i → os ≡ map (λ t. outline_of t.1) (trees_of i.source.1) → known ≡ c.declared → s ≡ scene_with t i c
-scene_made t i c s path known os made at outlined ks =
-    let here : outlines_decls 0 os ≡ package_decls 0 (trees_in i.source) = ap (outlines_decls 0) outlined ∙ decls_outlined 0 (trees_of i.source.1) in
-    made ∙ (λ k. scene_in t (at k) (here k) (ks k))
-
--- and so are the functions those of the package
+-- what is made of the files are the functions of the package
 pub functions_made : (i : InputModel) (c : ContentOf) (s in_scene : Scene) (os : List FileOutline) (fs : List FileOf)
     → s ≡ in_scene → os ≡ map (λ t. outline_of t.1) (trees_of i.source.1) → fs ≡ c.files
     → outlines_functions s 0 os fs ≡ package_functions in_scene 0 (trees_in i.source) c.files

@@ -1,10 +1,10 @@
 -- What a package tells itself stands apart from what the packages tell that it reaches.
 use Rattle.std.proofs.Common.{◌≡◌, sym, ap, ◌∙◌}
 use Rattle.std.proofs.lemmas.List.Quantifiers.{all_pairs_push}
-use Rattle.go_summary_core.specs.Summaries.{SummaryModel, path_of}
-use Rattle.go_summary_core.specs.Views.{AreApart}
-use Rattle.go_part_core.specs.Inputs.{InputModel, IsInput, path_in}
-use Rattle.go_part_core.specs.Parts.{ContentOf, IsPart}
+use Rattle.go_meaning_core.specs.summary_core.Summaries.{SummaryModel, path_of}
+use Rattle.go_meaning_core.specs.summary_core.Views.{AreApart}
+use Rattle.go_meaning_core.specs.part_core.Inputs.{InputModel, IsInput, path_in}
+use Rattle.go_meaning_core.specs.part_core.Parts.{ContentOf, IsPart}
 use Rattle.go_emit_core.specs.Emitted.{told_to}
 
 own_path : (i : InputModel) (c : ContentOf) → IsPart i c → path_of c.summary ≡ path_in i

@@ -1,10 +1,10 @@
 -- The objects of parts are those of the parts of which nothing is reported.
 use Rattle.std.proofs.Common.{◌≡◌, ℕ, Bool, true, false, cond, if◌then◌else◌, List, [], ◌∷◌, ◌++◌, map, filter, Option, Some, None, refl, sym, ap, ap₂}
-use Rattle.go_handle_core.specs.Declarations.{Declaration}
-use Rattle.go_summary_core.specs.Summaries.{SummaryModel}
+use Rattle.go_meaning_core.specs.handle_core.Declarations.{Declaration}
+use Rattle.go_meaning_core.specs.summary_core.Summaries.{SummaryModel}
 use Rattle.go_object_core.specs.Objects.{ObjectOf}
-use Rattle.go_part_core.specs.Inputs.{path_in}
-use Rattle.go_part_core.specs.Parts.{PartModel}
+use Rattle.go_meaning_core.specs.part_core.Inputs.{path_in}
+use Rattle.go_meaning_core.specs.part_core.Parts.{PartModel}
 use Rattle.go_emit_core.specs.Emitted.{if_there, object_over, objects_over, scene_over, told_by, whole_object}
 use Rattle.go_emit_core.specs.Laws.{ObjectsAreOfTheirParts, is_unreported}
 

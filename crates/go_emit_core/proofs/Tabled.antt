@@ -1,17 +1,18 @@
 -- By the tables of what packages tell a package has the object, and parts have the objects, that they have over what these packages tell.
 use Rattle.std.proofs.Common.{◌≡◌, Bool, true, if◌then◌else◌, List, Some, None, sym, ap, ◌∙◌}
 use Rattle.std.specs.List.{flat_map}
-use Rattle.go_handle_core.specs.Declarations.{Declaration}
-use Rattle.go_summary_core.specs.Summaries.{SummaryModel}
-use Rattle.go_summary_core.specs.Views.{faces_told, types_told}
+use Rattle.go_meaning_core.specs.handle_core.Declarations.{Declaration}
+use Rattle.go_meaning_core.specs.summary_core.Summaries.{SummaryModel}
+use Rattle.go_meaning_core.specs.summary_core.Views.{faces_told, types_told}
 use Rattle.go_object_core.specs.Objects.{ObjectOf}
-use Rattle.go_part_core.specs.ready_core.Packages.{trees_in}
-use Rattle.go_part_core.specs.Inputs.{InputModel, path_in}
-use Rattle.go_part_core.specs.Parts.{ContentOf, PartModel}
-use Rattle.go_emit_core.specs.declared.tables.Tables.{Tables}
+use Rattle.go_meaning_core.specs.ready_core.Packages.{trees_in}
+use Rattle.go_meaning_core.specs.part_core.Inputs.{InputModel, path_in}
+use Rattle.go_meaning_core.specs.part_core.Parts.{ContentOf, PartModel}
+use Rattle.go_meaning_core.specs.declared.tables.Tables.{Tables}
 use Rattle.go_emit_core.specs.Emitted.{are_clean, if_there, object_in, object_of, objects_over, scene_over, told_to, whole_object}
-use Rattle.go_emit_core.specs.Scenes.{methods_spotted, package_decls}
-use Rattle.go_emit_core.specs.mirrors.Naming.{objects_with, scene_from, scene_with}
+use Rattle.go_meaning_core.specs.Scenes.{methods_spotted, package_decls}
+use Rattle.go_meaning_core.specs.mirrors.Naming.{scene_from, scene_with}
+use Rattle.go_emit_core.specs.mirrors.Naming.{objects_with}
 
 -- these are the tables of what some packages tell
 module _ (t : Tables) (all : List SummaryModel) (types : t.types ≡ types_told all) (methods : t.methods ≡ methods_spotted (types_told all) (types_told all)) (faces : t.faces ≡ faces_told all) where

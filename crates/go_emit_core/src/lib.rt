@@ -5,20 +5,59 @@
 //! The Go specification, "Packages", "Function declarations", "Method declarations".
 #![tactic(auto)]
 
-mod decl_table;
 mod functions;
 mod imports;
 mod laws;
-mod meanings;
-mod names;
 mod object;
-mod offset_table;
-mod scene;
 mod tables;
-mod words;
 
 pub use laws::{
     bodies_are_between_braces, calls_name_their_own, imports_pass, objects_are_of_faultless,
     objects_are_of_their_parts, one_object, sample_is_emitted,
 };
 pub use object::{emit, emit_all};
+
+/// What the crates above name of `go_answer_core`.
+pub mod answer_core {
+    pub use go_meaning_core::answer_core::{Answer, HeldLocal, Site};
+}
+
+/// What the crates above name of `go_constant_core`.
+pub mod constant_core {
+    pub use go_code_core::constant_core::Constant;
+}
+
+/// What the crates above name of `go_denote_core`.
+pub mod denote_core {
+    pub use go_meaning_core::denote_core::Outcome;
+}
+
+/// What the crates above name of `go_expr_core`.
+pub mod expr_core {
+    pub use go_meaning_core::expr_core::Fault;
+}
+
+/// What the crates above name of `go_handle_core`.
+pub mod handle_core {
+    pub use go_meaning_core::handle_core::DeclSite;
+}
+
+/// What the crates above name of `go_object_core`.
+pub mod object_core {
+    pub use go_object_core::{FunctionCode, Object, Spelling, listing};
+}
+
+/// What the crates above name of `go_operand_core`.
+pub mod operand_core {
+    pub use go_meaning_core::operand_core::{Operand, ValueType};
+}
+
+/// What the crates above name of `go_select_core`.
+pub mod select_core {
+    pub use go_meaning_core::select_core::{Member, Owner, Selected, select, selectable};
+}
+
+/// What the crates above name of `go_tree_core`.
+pub mod tree_core {
+    pub use go_meaning_core::tree_core::{OccId, Role};
+}

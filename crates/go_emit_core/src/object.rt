@@ -2,25 +2,26 @@
 ghost use Rattle.std.specs.Prelude.{◌≡◌, ◌++◌, IfOk, OnOk, map};
 ghost use Rattle.std.specs.List.{flat_map};
 ghost use Rattle.std.specs.Option.{option_map};
-ghost use Rattle.go_entry_core.specs.Outlines.{outline_of, outline_shown};
-ghost use Rattle.go_summary_core.specs.Views.{AreApart};
-ghost use Rattle.go_part_core.specs.graph_core.Packages.{trees_of};
+ghost use Rattle.go_meaning_core.specs.entry_core.Outlines.{outline_of, outline_shown};
+ghost use Rattle.go_meaning_core.specs.summary_core.Views.{AreApart};
+ghost use Rattle.go_meaning_core.specs.graph_core.Packages.{trees_of};
 ghost use Rattle.go_object_core.specs.Objects.{function_shown, object_shown};
-ghost use Rattle.go_part_core.specs.Parts.{file_shown};
+ghost use Rattle.go_meaning_core.specs.part_core.Parts.{file_shown};
 ghost use Rattle.go_emit_core.specs.Emitted.{AreOfDifferentPackages, are_clean, object_of, objects_of, somes, told_by, told_to, whole_object};
 ghost use Rattle.go_emit_core.specs.mirrors.Listing.{outlines_functions};
-ghost use Rattle.go_emit_core.specs.mirrors.Naming.{objects_with, scene_shown, scene_with};
+ghost use Rattle.go_meaning_core.specs.mirrors.Naming.{scene_shown, scene_with};
+ghost use Rattle.go_emit_core.specs.mirrors.Naming.{objects_with};
 
 use crate::functions::add_file;
 use crate::imports::passing_of;
-use crate::scene::{PackageNames, package_names, shorter};
-use crate::tables::Tables;
-use go_answer_core::Site;
-use go_decl_core::Outline;
-use go_entry_core::outlines;
+use crate::tables::tables_of;
+use go_meaning_core::answer_core::Site;
+use go_meaning_core::entry_core::outlines;
+use go_meaning_core::part_core::{Part, PartFile};
+use go_meaning_core::summary_core::Summary;
+use go_meaning_core::{PackageNames, Tables, names_of, shorter};
 use go_object_core::{FunctionCode, Object};
-use go_part_core::{Part, PartFile};
-use go_summary_core::Summary;
+use go_term_core::decl_core::Outline;
 use go_text_core::add;
 use std::alloc::{AllocError, Global};
 
@@ -34,21 +35,6 @@ fn are_clean(files: &[PartFile]) -> bool
         }
     }
     true
-}
-
-// What the names of the package of a part are looked up in, by the tables of what some packages tell.
-fn names_of<'a>(
-    alloc: Global,
-    tables: &'a Tables<'a>,
-    part: &'a Part,
-    outlines: &[Outline<'_>],
-) -> Result<PackageNames<'a>, AllocError>
-    requires { map outline_shown outlines.now ≡ map (λ t. outline_of t.1) (trees_of part.now.input.source.1) }
-    ensures { IfOk result (λ names. scene_shown names ≡ scene_with tables.now part.now.input part.now.content) }
-{
-    let content = part.content();
-    let names = package_names(alloc, tables, part.path(), &content.declared, outlines)?;
-    Ok(names)
 }
 
 // The functions of the files of a package.
@@ -122,7 +108,7 @@ pub fn emit(alloc: Global, part: &Part) -> Result<Option<Object<Site>>, AllocErr
 {
     if are_clean(&part.content().files) {
         let told = told_to(alloc, part)?;
-        let tables = Tables::new(alloc, &told)?;
+        let tables = tables_of(alloc, &told)?;
         let object = whole_object(alloc, &tables, part)?;
         Ok(Some(object))
     } else {
@@ -190,7 +176,7 @@ pub fn emit_all(alloc: Global, parts: &[Option<Part>]) -> Result<Vec<Object<Site
     ensures { IfOk result (λ objects. map object_shown objects.items ≡ objects_of (somes parts.now)) }
 {
     let told = told_by(alloc, parts)?;
-    let tables = Tables::new(alloc, &told)?;
+    let tables = tables_of(alloc, &told)?;
     let objects = objects_in(alloc, &tables, parts)?;
     Ok(objects)
 }

@@ -37,7 +37,7 @@ pub mod graph_core {
 
 /// What the crates above name of `go_parse_core`.
 pub mod parse_core {
-    pub use go_parse_core::one_tree;
+    pub use go_parse_core::{one_rule, one_tree};
 }
 
 /// What the crates above name of `go_reach_core`.

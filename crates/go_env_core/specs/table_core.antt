@@ -5,4 +5,5 @@ pub use Rattle.go_inline_core.specs.table_core.Entries as Entries
 pub use Rattle.go_inline_core.specs.table_core.Laws as Laws
 pub use Rattle.go_inline_core.specs.table_core.Meanings as Meanings
 pub use Rattle.go_inline_core.specs.table_core.Methods as Methods
+pub use Rattle.go_inline_core.specs.table_core.Shown as Shown
 pub use Rattle.go_inline_core.specs.table_core.Tables as Tables

@@ -28,7 +28,7 @@ pub mod block_core {
 
 /// What the crates above name of `go_entry_core`.
 pub mod entry_core {
-    pub use go_inline_core::entry_core::ImportedNames;
+    pub use go_inline_core::entry_core::{ImportedNames, outlines};
 }
 
 /// What the crates above name of `go_face_core`.
@@ -61,4 +61,11 @@ pub mod scope_core {
 /// What the crates above name of `go_select_core`.
 pub mod select_core {
     pub use go_face_core::select_core::EmbedPath;
+}
+
+/// What the crates above name of `go_table_core`.
+pub mod table_core {
+    pub use go_inline_core::table_core::{
+        DeclaredMethod, DefinedType, PackageTypes, StructField, TypeTable,
+    };
 }

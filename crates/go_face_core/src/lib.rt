@@ -29,9 +29,7 @@ pub use written::WrittenFaces;
 
 /// What the crates above name of `go_block_core`.
 pub mod block_core {
-    pub use go_entry_core::block_core::{
-        Blocks, Exports, Imported, NamedDecl, blocks, import_names, import_specs, one_blocks_alone,
-    };
+    pub use go_entry_core::block_core::{Blocks, Exports, Imported, NamedDecl};
 }
 
 /// What the crates above name of `go_constant_core`.
@@ -46,10 +44,7 @@ pub mod entry_core {
 
 /// What the crates above name of `go_graph_core`.
 pub mod graph_core {
-    pub use go_entry_core::graph_core::{
-        ImportAt, ImportOutcome, Package, Plan, SourceFile, Workspace, assemble, one_outcome,
-        plan_imports,
-    };
+    pub use go_entry_core::graph_core::{Package, SourceFile};
 }
 
 /// What the crates above name of `go_handle_core`.
@@ -62,12 +57,12 @@ pub mod handle_core {
 
 /// What the crates above name of `go_operand_core`.
 pub mod operand_core {
-    pub use go_handle_core::operand_core::{Operand, ValueType};
+    pub use go_handle_core::operand_core::{Operand, TypeForm, ValueType};
 }
 
 /// What the crates above name of `go_select_core`.
 pub mod select_core {
-    pub use go_handle_core::select_core::EmbedPath;
+    pub use go_handle_core::select_core::{EmbedPath, Member, Owner, Selected, select, selectable};
 }
 
 /// What the crates above name of `go_table_core`.

@@ -2,7 +2,13 @@
 pub use Rattle.go_entry_core.specs.block_core.Blocks as Blocks
 pub use Rattle.go_entry_core.specs.block_core.Exports as Exports
 pub use Rattle.go_entry_core.specs.block_core.Faults as Faults
+pub use Rattle.go_entry_core.specs.block_core.GivenSteps as GivenSteps
+pub use Rattle.go_entry_core.specs.block_core.Laws as Laws
 pub use Rattle.go_entry_core.specs.block_core.Naming as Naming
+pub use Rattle.go_entry_core.specs.block_core.NamingLemmas as NamingLemmas
+pub use Rattle.go_entry_core.specs.block_core.OneBlocks as OneBlocks
 pub use Rattle.go_entry_core.specs.block_core.Pieces as Pieces
 pub use Rattle.go_entry_core.specs.block_core.Tables as Tables
+pub use Rattle.go_entry_core.specs.block_core.contracts as contracts
 pub use Rattle.go_entry_core.specs.block_core.declared as declared
+pub use Rattle.go_entry_core.specs.block_core.mirrors as mirrors

@@ -13,7 +13,10 @@ pub use places::PackageFault;
 
 /// What the crates above name of `go_block_core`.
 pub mod block_core {
-    pub use go_entry_core::block_core::{Binding, BlockFault, Blocks, Imported, NamedDecl, Target};
+    pub use go_entry_core::block_core::{
+        Binding, BlockFault, Blocks, Exports, Imported, NamedDecl, Target, blocks, import_names,
+        import_specs, one_blocks_alone,
+    };
 }
 
 /// What the crates above name of `go_entry_core`.
@@ -25,13 +28,13 @@ pub mod entry_core {
 pub mod graph_core {
     pub use go_entry_core::graph_core::{
         ImportAt, ImportOutcome, Package, PackageSource, Plan, SourceFile, Workspace, assemble,
-        plan_imports,
+        one_outcome, plan_imports,
     };
 }
 
 /// What the crates above name of `go_parse_core`.
 pub mod parse_core {
-    pub use go_entry_core::parse_core::one_tree;
+    pub use go_entry_core::parse_core::{one_rule, one_tree};
 }
 
 /// What the crates above name of `go_type_core`.

@@ -14,6 +14,10 @@ use Rattle.go_tree_nodes.specs.declared.files.File.{File}
 use Rattle.go_tree_nodes.specs.Trees.{FileTree}
 use Rattle.go_parse_core.specs.declared.error.SynFault.{SynFault}
 use Rattle.go_parse_core.proofs.Meanings.{has_one_tree}
+use Rattle.go_parse_core.specs.declared.error.ParseError.{ParseError}
+use Rattle.go_parse_core.specs.declared.error.ParseError.TheVariants as errors
+use Rattle.go_parse_core.specs.Parsing.{IsTreeAnswer}
+use Rattle.go_parse_core.specs.Refusing.{IsTreeRefused}
 use Rattle.go_graph_core.specs.Sources.{SourceModel, source, IsContent, IsRead, IsPlacedContent, content_shown}
 use Rattle.go_graph_core.specs.mirrors.Sameness.{HaveSameFault}
 
@@ -24,6 +28,11 @@ placed_content text (Err fault) h = tt
 -- one more of the items that were passed
 pub covered_more : {A : Type 0} (P : A → Type 0) (xs : List A) (i : ℕ) (x : A) → i < length xs → x ≡ get_or xs i x → All P (take i xs) → P x → All P (take (i + 1) xs)
 covered_more {A} P xs i x lt at all h = subst (All P) (sym (take_more xs i x lt ∙ ap (λ (z : A). take i xs ++ z ∷ []) (sym at))) (All-push P (take i xs) x all h)
+
+-- what a text that is refused holds
+pub refused_is_content : (text kept : List ℕ) (answer : Result File ParseError) (fault : SynFault) (content : Result FileTree SynFault) → answer ≡ Err (errors.Fault fault) → IsTreeAnswer text answer → IsTreeRefused text answer → kept ≡ text → content ≡ Err fault → IsContent kept content
+refused_is_content text kept answer fault content is means refuses same made =
+    subst (IsContent kept) (sym made) (subst (λ t. IsContent t (Err fault)) (sym same) (subst (IsTreeAnswer text) is means, subst (IsTreeRefused text) is refuses))
 
 -- contents of one text
 one_content : (text : List ℕ) (one other : Result FileTree SynFault) → IsContent text one → IsContent text other → HaveSameFault one other → one ≡ other

@@ -12,12 +12,13 @@ use Rattle.go_parse_core.specs.declared.error.SynFault.{SynFault}
 use Rattle.go_parse_core.specs.contracts.error.SynFault as syn_fault
 use Rattle.go_parse_core.specs.Correct.{IsSynFault}
 use Rattle.go_parse_core.specs.Parsing.{IsParse}
+use Rattle.go_parse_core.specs.Refusing.{IsRuleRead}
 use Rattle.go_tree_nodes.specs.codes.TreeCodes.{coded_file}
 
--- the tree is that of the text, or this is why the text has none
+-- the tree is that of the text, or this is why the text has none: it is such a fault, and of P1 and P2 it is the one by which reading stops
 abbrev pub IsContent : List ℕ → Result FileTree SynFault → Type 0
 IsContent text (Ok f) = IsParse text f
-IsContent text (Err fault) = IsSynFault text fault
+IsContent text (Err fault) = IsSynFault text fault × IsRuleRead text fault.rule
 
 -- the tokens that a tree writes follow one another, as those of a text do
 abbrev pub IsPlaced : FileTree → Type 0

@@ -33,12 +33,12 @@ pub mod constant_core {
 
 /// What the crates above name of `go_operand_core`.
 pub mod operand_core {
-    pub use go_decide_core::operand_core::{Operand, ValueType};
+    pub use go_decide_core::operand_core::{Operand, TypeForm, ValueType};
 }
 
 /// What the crates above name of `go_select_core`.
 pub mod select_core {
-    pub use go_decide_core::select_core::EmbedPath;
+    pub use go_decide_core::select_core::{EmbedPath, Member, Owner, Selected, select, selectable};
 }
 
 /// What the crates above name of `go_settle_core`.

@@ -28,9 +28,14 @@ pub mod block_core {
     pub use go_names_core::block_core::{Binding, Blocks, DeclRef, Imported, Target, import_specs};
 }
 
+/// What the crates above name of `go_embed_core`.
+pub mod embed_core {
+    pub use go_embed_core::Hits;
+}
+
 /// What the crates above name of `go_entry_core`.
 pub mod entry_core {
-    pub use go_entry_core::ImportedNames;
+    pub use go_entry_core::{ImportedNames, outlines};
 }
 
 /// What the crates above name of `go_local_core`.
@@ -57,5 +62,7 @@ pub mod scope_core {
 
 /// What the crates above name of `go_table_core`.
 pub mod table_core {
-    pub use go_embed_core::table_core::{DeclaredMethod, DefinedType, StructField, TypeTable};
+    pub use go_embed_core::table_core::{
+        DeclaredMethod, DefinedType, PackageTypes, StructField, TypeTable,
+    };
 }

@@ -8,5 +8,6 @@ pub use Rattle.go_near_core.specs.block_core.Growing as Growing
 pub use Rattle.go_near_core.specs.block_core.Naming as Naming
 pub use Rattle.go_near_core.specs.block_core.NamingLemmas as NamingLemmas
 pub use Rattle.go_near_core.specs.block_core.OneBlocks as OneBlocks
+pub use Rattle.go_near_core.specs.block_core.Tables as Tables
 pub use Rattle.go_near_core.specs.block_core.declared as declared
 pub use Rattle.go_near_core.specs.block_core.mirrors as mirrors

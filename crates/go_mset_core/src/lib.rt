@@ -18,7 +18,9 @@ pub use methods::{SetMethod, method_set};
 
 /// What the crates above name of `go_select_core`.
 pub mod select_core {
-    pub use go_select_core::{EmbedPath, Member, Selected, select, select_behind_pointer};
+    pub use go_select_core::{
+        EmbedPath, Member, Owner, Selected, select, select_behind_pointer, selectable,
+    };
 }
 
 /// What the crates above name of `go_settle_core`.

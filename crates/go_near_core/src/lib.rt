@@ -15,12 +15,27 @@ pub mod block_core {
     pub use go_file_core::block_core::{Imported, import_specs};
 }
 
-/// What the crates above name of `go_expr_core`.
-pub mod expr_core {
-    pub use go_file_core::expr_core::Fault;
+/// What the crates above name of `go_embed_core`.
+pub mod embed_core {
+    pub use go_file_core::embed_core::Hits;
+}
+
+/// What the crates above name of `go_entry_core`.
+pub mod entry_core {
+    pub use go_file_core::entry_core::outlines;
+}
+
+/// What the crates above name of `go_face_core`.
+pub mod face_core {
+    pub use go_file_core::face_core::Face;
 }
 
 /// What the crates above name of `go_reach_core`.
 pub mod reach_core {
     pub use go_file_core::reach_core::{NumberSet, Reached};
+}
+
+/// What the crates above name of `go_table_core`.
+pub mod table_core {
+    pub use go_file_core::table_core::{DefinedType, PackageTypes, StructField, TypeTable};
 }

@@ -3,11 +3,13 @@ pub mod Laws
 pub mod mirrors
 pub mod answer_core
 pub mod body_core
+pub mod entry_core
 pub mod fault_core
 pub mod graph_core
 pub mod needs_core
 pub mod parse_core
 pub mod ready_core
 pub mod report_core
+pub mod table_core
 pub mod type_core
 pub mod value_core

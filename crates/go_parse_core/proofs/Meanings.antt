@@ -1,5 +1,6 @@
 -- What each answer of reading means.
-use Rattle.std.proofs.Common.{◌≡◌, ℕ, ◌+◌, ◌≤◌, List, Result, Ok, Err, subst, arith, inl, inr}
+use Rattle.std.proofs.Common.{◌≡◌, ℕ, ◌+◌, ◌≤◌, ◌∙◌, List, Result, Ok, Err, subst, sym, arith, inl, inr}
+use Rattle.go_text_core.specs.declared.rule.Rule.{Rule}
 use Rattle.go_parse_types.proofs.Marks.{ok_same}
 use Rattle.go_token_core.specs.declared.token.LexFault.{LexFault}
 use Rattle.go_token_core.specs.declared.token.Token.{Token}
@@ -10,6 +11,7 @@ use Rattle.go_tree_nodes.specs.Trees.{FileTree}
 use Rattle.go_tree_nodes.specs.Heights.{file_height}
 use Rattle.go_parse_types.specs.mirrors.Marks.{Stuck, Grammar, TooHigh}
 use Rattle.go_parse_core.specs.Correct.{IsTreeOf, HasTree, HasOneTree, HasNoTree, HasNoLowTree, max_height}
+use Rattle.go_parse_core.specs.Refusing.{HasOneRule, IsRuleOf}
 use Rattle.go_parse_core.specs.mirrors.FileReading.{file_at}
 use Rattle.go_parse_core.proofs.FileFound.{file_complete}
 use Rattle.go_parse_core.proofs.FileSound.{file_sound}
@@ -64,3 +66,12 @@ pub found : (text : List ℕ) (tokens : List Token) (f : FileTree) → IsAnswer 
 found text tokens f scanned e =
     let w = file_sound 199 (terminals text tokens) f e in
     (record { tokens = tokens; scanned = scanned; tree = w.0 }, w.1)
+
+-- reading stops by one rule at most
+one_rule_of : (r : Result FileTree Stuck) (one other : Rule) → IsRuleOf r one → IsRuleOf r other → one ≡ other
+one_rule_of (Ok f) one other is it = absurd is
+one_rule_of (Err Grammar) one other is it = is ∙ sym it
+one_rule_of (Err TooHigh) one other is it = is ∙ sym it
+
+pub has_one_rule : HasOneRule
+has_one_rule text tokens scanned one other is it = one_rule_of (file_at 199 (terminals text tokens)) one other (is tokens scanned) (it tokens scanned)

@@ -32,6 +32,10 @@ IsRuleOf (Err TooHigh) rule = rule ≡ P2
 abbrev pub IsRuleRead : List ℕ → Rule → Type 0
 IsRuleRead text rule = (tokens : List Token) → IsAnswer text (Ok tokens) → IsRuleOf (file_at 199 (terminals text tokens)) rule
 
+-- the reading of a text that has tokens stops by one rule at most
+abbrev pub HasOneRule : Type 0
+HasOneRule = (text : List ℕ) (tokens : List Token) → IsAnswer text (Ok tokens) → (one other : Rule) → IsRuleRead text one → IsRuleRead text other → one ≡ other
+
 -- a text with tokens that is refused has that rule
 abbrev pub IsRefusedAsRead : List ℕ → Result (List ℕ) ParseError → Type 0
 IsRefusedAsRead text (Ok parsed) = Unit {0}

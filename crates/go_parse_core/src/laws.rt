@@ -7,10 +7,17 @@
 ghost use Rattle.go_parse_core.specs.Correct.{HasOneTree};
 ghost use Rattle.go_parse_core.specs.LeftOut.{HasOneWholeTree, MarkedIsWhole, WholeIsMarked};
 ghost use Rattle.go_parse_core.specs.Names.{HasNamesSpelled, HasOccurrencesSpelled};
+ghost use Rattle.go_parse_core.specs.Refusing.{HasOneRule};
 
 /// A law, with nothing to run: a text has at most one tree.
 pub fn one_tree()
     ensures { HasOneTree }
+{}
+
+/// A law, with nothing to run: the reading of a text's tokens stops by one rule at most, so that a text without a low tree has P1 or P2, and
+/// not both.
+pub fn one_rule()
+    ensures { HasOneRule }
 {}
 
 /// A law, with nothing to run: each name and each string literal among the tokens of a text in UTF-8 is spelled as the text

@@ -21,6 +21,7 @@ mod parsed;
 
 pub use error::{ParseError, SynFault};
 pub use laws::{
-    marked_is_whole, names_spelled, occurrences_spelled, one_tree, one_whole_tree, whole_is_marked,
+    marked_is_whole, names_spelled, occurrences_spelled, one_rule, one_tree, one_whole_tree,
+    whole_is_marked,
 };
 pub use parsed::{Parsed, parse, tree_of};

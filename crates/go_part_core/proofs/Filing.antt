@@ -5,7 +5,7 @@ use Rattle.std.specs.Vec.{with_items}
 use Rattle.std.proofs.lemmas.List.{length-map, with_items_is}
 use Rattle.go_tree_nodes.specs.Trees.{FileTree}
 use Rattle.go_used_core.specs.tree_core.Occurrences.{file_occs}
-use Rattle.go_summary_core.specs.block_core.Blocks.{BlocksModel}
+use Rattle.go_used_core.specs.block_core.Blocks.{BlocksModel}
 use Rattle.go_used_core.specs.handle_core.Declarations.{Declaration}
 use Rattle.go_used_core.specs.expr_core.declared.things.Fault.{Fault}
 use Rattle.go_used_core.specs.report_core.Faults.{IsSettled}

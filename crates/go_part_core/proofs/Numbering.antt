@@ -5,12 +5,12 @@ use Rattle.std.specs.Global.{Global}
 use Rattle.std.proofs.lemmas.List.{length-map, map-append, take_all}
 use Rattle.go_tree_nodes.specs.Trees.{FileTree}
 use Rattle.go_package_core.specs.parse_core.declared.error.SynFault.{SynFault}
-use Rattle.go_summary_core.specs.graph_core.Lists.{AllNumbered}
-use Rattle.go_summary_core.specs.graph_core.Packages.{trees_of, tree_shown}
-use Rattle.go_summary_core.specs.graph_core.Sources.{SourceModel, source}
-use Rattle.go_summary_core.specs.graph_core.Workspaces.{PackageModel}
-use Rattle.go_summary_core.specs.block_core.Blocks.{BlocksModel}
-use Rattle.go_summary_core.specs.block_core.GivenSteps.{numbered_next}
+use Rattle.go_package_core.specs.graph_core.Lists.{AllNumbered}
+use Rattle.go_package_core.specs.graph_core.Packages.{trees_of, tree_shown}
+use Rattle.go_package_core.specs.graph_core.Sources.{SourceModel, source}
+use Rattle.go_package_core.specs.graph_core.Workspaces.{PackageModel}
+use Rattle.go_used_core.specs.block_core.Blocks.{BlocksModel}
+use Rattle.go_used_core.specs.block_core.GivenSteps.{numbered_next}
 use Rattle.go_package_core.specs.ready_core.Packages.{trees_in}
 use Rattle.go_package_core.specs.Checked.{AnswersOf, answers_shown}
 use Rattle.go_package_core.specs.declared.checked.FileAnswers.{FileAnswers}

@@ -2,11 +2,11 @@
 use Rattle.std.proofs.Common.{◌≡◌, ℕ, suc, List, [], ◌∷◌, Some, refl, sym, ap, subst, ◌∙◌}
 use Rattle.std.specs.Prelude.{AllPairs}
 use Rattle.go_tree_nodes.specs.Trees.{FileTree}
-use Rattle.go_summary_core.specs.graph_core.Lists.{AllNumbered}
-use Rattle.go_summary_core.specs.graph_core.Packages.{trees_of}
-use Rattle.go_summary_core.specs.block_core.Blocks.{BlocksModel}
-use Rattle.go_summary_core.specs.block_core.Naming.{package_named}
-use Rattle.go_summary_core.specs.block_core.OneBlocks.{one_blocks_alone}
+use Rattle.go_package_core.specs.graph_core.Lists.{AllNumbered}
+use Rattle.go_package_core.specs.graph_core.Packages.{trees_of}
+use Rattle.go_used_core.specs.block_core.Blocks.{BlocksModel}
+use Rattle.go_used_core.specs.block_core.Naming.{package_named}
+use Rattle.go_used_core.specs.block_core.OneBlocks.{one_blocks_alone}
 use Rattle.go_used_core.specs.handle_core.Declarations.{Declaration}
 use Rattle.go_used_core.specs.expr_core.declared.things.Fault.{Fault}
 use Rattle.go_used_core.specs.report_core.Faults.{ComesBefore, IsSettled}

@@ -1,15 +1,15 @@
 //! What stands in the files of a package, with the rule of imports that are not used.
-ghost use Rattle.std.specs.Prelude.{◌≡◌, ◌<◌, IfOk, length, map};
+ghost use Rattle.std.specs.Prelude.{◌≡◌, IfOk, length, map};
 ghost use Rattle.go_tree_nodes.specs.Shapes.{file_of};
 ghost use Rattle.go_package_core.specs.ready_core.Packages.{trees_in};
 ghost use Rattle.go_package_core.specs.Checked.{answers_shown};
 ghost use Rattle.go_part_core.specs.Parts.{AreFilesMade, IsFileMade, file_shown};
 
 use go_package_core::FileAnswers;
-use go_summary_core::block_core::Blocks;
-use go_summary_core::graph_core::Package;
+use go_package_core::graph_core::Package;
 use go_text_core::add;
 use go_tree_nodes::File;
+use go_used_core::block_core::Blocks;
 use go_used_core::expr_core::Fault;
 use go_used_core::report_core::settle_faults;
 use go_used_core::{refuse_unused, report};

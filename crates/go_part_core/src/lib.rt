@@ -5,29 +5,68 @@
 #![tactic(auto)]
 
 mod content;
+mod ending;
 mod files;
 mod input;
 mod laws;
 mod part;
+mod parts;
 mod same;
 
 pub use content::{PackageContent, compile_over};
+pub use ending::{close_parts, close_summaries, close_view};
 pub use files::PartFile;
 pub use input::PartInput;
 pub use laws::{one_part, part_has_occurrences};
 pub use part::{Part, compile_part};
+pub use parts::Parts;
+
+/// What the crates above name of `go_answer_core`.
+pub mod answer_core {
+    pub use go_used_core::answer_core::{Answer, HeldLocal, Site};
+}
 
 /// What the crates above name of `go_block_core`.
 pub mod block_core {
-    pub use go_summary_core::block_core::{Imported, import_specs, one_blocks_alone};
+    pub use go_used_core::block_core::{Imported, import_specs, one_blocks_alone};
+}
+
+/// What the crates above name of `go_denote_core`.
+pub mod denote_core {
+    pub use go_used_core::denote_core::Outcome;
+}
+
+/// What the crates above name of `go_entry_core`.
+pub mod entry_core {
+    pub use go_package_core::entry_core::outlines;
+}
+
+/// What the crates above name of `go_expr_core`.
+pub mod expr_core {
+    pub use go_used_core::expr_core::Fault;
+}
+
+/// What the crates above name of `go_face_core`.
+pub mod face_core {
+    pub use go_used_core::face_core::{Face, FaceTable, lend};
 }
 
 /// What the crates above name of `go_graph_core`.
 pub mod graph_core {
-    pub use go_summary_core::graph_core::{
+    pub use go_package_core::graph_core::{
         ImportAt, ImportOutcome, Package, Plan, SourceFile, Workspace, assemble, one_outcome,
         plan_imports,
     };
+}
+
+/// What the crates above name of `go_handle_core`.
+pub mod handle_core {
+    pub use go_used_core::handle_core::{Decl, DeclSite, SignatureRef, TypeRef};
+}
+
+/// What the crates above name of `go_operand_core`.
+pub mod operand_core {
+    pub use go_told_core::operand_core::{Operand, TypeForm, ValueType};
 }
 
 /// What the crates above name of `go_package_core`.
@@ -37,12 +76,22 @@ pub mod package_core {
 
 /// What the crates above name of `go_parse_core`.
 pub mod parse_core {
-    pub use go_package_core::parse_core::one_tree;
+    pub use go_package_core::parse_core::{one_rule, one_tree};
+}
+
+/// What the crates above name of `go_select_core`.
+pub mod select_core {
+    pub use go_told_core::select_core::{EmbedPath, Member, Owner, Selected, select, selectable};
 }
 
 /// What the crates above name of `go_summary_core`.
 pub mod summary_core {
-    pub use go_summary_core::{Summary, View, import_view, view_of};
+    pub use go_told_core::summary_core::{Summary, View, import_view, view_of};
+}
+
+/// What the crates above name of `go_table_core`.
+pub mod table_core {
+    pub use go_package_core::table_core::{DeclaredMethod, DefinedType, TypeTable};
 }
 
 /// What the crates above name of `go_told_core`.
@@ -52,7 +101,7 @@ pub mod told_core {
 
 /// What the crates above name of `go_tree_core`.
 pub mod tree_core {
-    pub use go_used_core::tree_core::OccId;
+    pub use go_used_core::tree_core::{OccId, Role, occurrences_are_written};
 }
 
 /// What the crates above name of `go_used_core`.

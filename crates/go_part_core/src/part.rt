@@ -6,7 +6,7 @@ ghost use Rattle.go_part_core.specs.Parts.{IsPart, content_shown, part_with};
 use crate::content::{PackageContent, compile_over};
 use crate::input::PartInput;
 use go_path_core::ImportPath;
-use go_summary_core::{Summary, view_of};
+use go_told_core::summary_core::{Summary, view_of};
 use std::alloc::{AllocError, Global};
 use std::marker::Model;
 use std::sync::Arc;
@@ -23,9 +23,9 @@ pub struct Part {
 impl Model for Part {
     ghost use Rattle.std.specs.Arc.{arc_value};
     ghost use Rattle.std.specs.Coded.{codes};
-    ghost use Rattle.go_summary_core.specs.block_core.Blocks.{coded_blocks};
-    ghost use Rattle.go_summary_core.specs.face_core.codes.FaceCodes.{coded_face, coded_operand};
-    ghost use Rattle.go_summary_core.specs.codes.SummaryCodes.{coded_summary};
+    ghost use Rattle.go_used_core.specs.block_core.Blocks.{coded_blocks};
+    ghost use Rattle.go_used_core.specs.face_core.codes.FaceCodes.{coded_face, coded_operand};
+    ghost use Rattle.go_told_core.specs.summary_core.codes.SummaryCodes.{coded_summary};
     ghost use Rattle.go_part_core.specs.Inputs.{coded_input};
     ghost use Rattle.go_part_core.specs.Parts.{IsPart, PartModel, content_shown, part_with};
 
@@ -93,6 +93,10 @@ impl Part {
     {
         &self.content.summary
     }
+
+    /// Ends the part, as its drop does, and promises nothing: no answer may rest on it. A crate that ends its parts by this call proves no
+    /// drops of trees and of types of its own.
+    pub fn close(self) {}
 }
 
 /// The part of an input, by the input alone: no other package is looked at. It has the blocks of the package, what each occurrence of its files

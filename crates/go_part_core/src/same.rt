@@ -1,10 +1,10 @@
 //! Equality of what inputs hold.
 ghost use Rattle.std.specs.Prelude.{◌≡◌, ◌↔◌, IsTrue, map};
-ghost use Rattle.go_summary_core.specs.block_core.Exports.{name_and_decl};
-ghost use Rattle.go_summary_core.specs.block_core.Naming.{imported_in};
+ghost use Rattle.go_used_core.specs.block_core.Exports.{name_and_decl};
+ghost use Rattle.go_used_core.specs.block_core.Naming.{imported_in};
 
-use go_summary_core::block_core::{Exports, Imported, NamedDecl};
 use go_text_core::Rule;
+use go_used_core::block_core::{Exports, Imported, NamedDecl};
 
 // Whether two names are spelled alike, and have the same declaration.
 fn is_same_named(one: &NamedDecl, other: &NamedDecl) -> bool

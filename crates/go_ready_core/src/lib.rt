@@ -20,13 +20,13 @@ pub use types::{OwnTypes, package_types};
 pub mod graph_core {
     pub use go_fault_core::graph_core::{
         ImportAt, ImportOutcome, Package, PackageSource, Plan, SourceFile, Workspace, assemble,
-        plan_imports,
+        one_outcome, plan_imports,
     };
 }
 
 /// What the crates above name of `go_parse_core`.
 pub mod parse_core {
-    pub use go_fault_core::parse_core::one_tree;
+    pub use go_fault_core::parse_core::{one_rule, one_tree};
 }
 
 /// What the crates above name of `go_type_core`.

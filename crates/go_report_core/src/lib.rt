@@ -22,5 +22,5 @@ pub mod expr_core {
 
 /// What the crates above name of `go_tree_core`.
 pub mod tree_core {
-    pub use go_expr_core::tree_core::{Occ, OccId, Role, occurrences};
+    pub use go_expr_core::tree_core::{Occ, OccId, Role, occurrences, occurrences_are_written};
 }

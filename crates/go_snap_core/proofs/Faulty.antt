@@ -9,7 +9,7 @@ use Rattle.go_whole_core.specs.graph_core.Sources.{IsRead}
 use Rattle.go_whole_core.specs.graph_core.Workspaces.{PackageModel, AreAllRead, IsWorkspace}
 use Rattle.go_whole_core.specs.graph_core.Zips.{numbered_at, numbered_back, numbered_length}
 use Rattle.go_whole_core.specs.ready_core.Packages.{trees_in}
-use Rattle.go_whole_core.specs.report_core.Faults as report
+use Rattle.go_emit_core.specs.report_core.Faults as report
 use Rattle.go_whole_core.specs.part_core.Inputs.{InputModel}
 use Rattle.go_whole_core.specs.part_core.Parts.{ContentOf, FileOf, IsFileMadeIn, IsPart, PartModel}
 use Rattle.go_snap_core.specs.declared.fault.PlacedFault.{PlacedFault}

@@ -11,7 +11,7 @@ use Rattle.std.proofs.lemmas.Option.{none-some, same_Some, slice_get-map, slice_
 use Rattle.go_whole_core.specs.graph_core.Imports.{IsNowhere, IsNumbered}
 use Rattle.go_whole_core.specs.graph_core.Sources.{SourceModel}
 use Rattle.go_whole_core.specs.graph_core.Workspaces.{PackageModel, IsWorkspace, by_bytes, names_of_files}
-use Rattle.go_whole_core.specs.used_core.Used.{TheUse}
+use Rattle.go_emit_core.specs.used_core.Used.{TheUse}
 use Rattle.go_whole_core.specs.part_core.Parts.{FileOf, PartModel}
 use Rattle.go_whole_core.proofs.Lists.{one_at}
 use Rattle.go_snap_core.specs.Snapshots.{IsAnswerAt, IsPartAt}

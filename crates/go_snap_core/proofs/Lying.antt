@@ -5,7 +5,7 @@ use Rattle.std.specs.Option.{option_map}
 use Rattle.std.proofs.lemmas.List.{length-map}
 use Rattle.std.proofs.lemmas.Option.{slice_get-map, slice_get_within, get_or_from_slice_get}
 use Rattle.go_tree_nodes.specs.Trees.{FileTree}
-use Rattle.go_whole_core.specs.expr_core.declared.things.Fault.{Fault}
+use Rattle.go_emit_core.specs.expr_core.declared.things.Fault.{Fault}
 use Rattle.go_whole_core.specs.graph_core.declared.assembly.KFault.{KFault}
 use Rattle.go_whole_core.specs.graph_core.Assemblies.{as_many}
 use Rattle.go_whole_core.specs.graph_core.AssemblyLaws.{has_assembly}
@@ -14,8 +14,8 @@ use Rattle.go_whole_core.specs.graph_core.Sources.{SourceModel}
 use Rattle.go_whole_core.specs.graph_core.Workspaces.{PackageModel, IsPackage, IsWorkspace}
 use Rattle.go_whole_core.specs.graph_core.Zips.{numbered_at, numbered_back}
 use Rattle.go_whole_core.specs.ready_core.Packages.{trees_in}
-use Rattle.go_whole_core.specs.report_core.Faults.{IsSaid}
-use Rattle.go_whole_core.specs.used_core.Used.{TheUse}
+use Rattle.go_emit_core.specs.report_core.Faults.{IsSaid}
+use Rattle.go_emit_core.specs.used_core.Used.{TheUse}
 use Rattle.go_whole_core.specs.part_core.Parts.{ContentOf, FileOf, IsFileMadeIn, PartModel}
 use Rattle.go_whole_core.specs.Inputs.{AreParts, IsPartOf}
 use Rattle.go_whole_core.proofs.Lists.{all_from_among, none_is_some}

@@ -108,7 +108,7 @@ module _ (ps : List PackageModel) (parts : List (Option PartModel)) (well : IsWo
   by_reason p same (inr t) =
       let one : t.source ≡ lies.source = one_at p.1 f.file t.source lies.source t.in_package (subst (λ (q : PackageModel). slice_get q.1 f.file ≡ Some lies.source) (sym same) lies.in_package) in
       let content : lies.source.content ≡ Err t.fault = subst (λ (s : SourceModel). s.content ≡ Err t.fault) one t.content in
-      subst (λ n. n ≤ length lies.source.text) (sym t.offset) (syntax_inside lies.source.text t.fault u (subst (IsContent lies.source.text) content source_read))
+      subst (λ n. n ≤ length lies.source.text) (sym t.offset) (syntax_inside lies.source.text t.fault u (subst (IsContent lies.source.text) content source_read).0)
 
   fault_stands : IsFault ps (contents_of parts) f → f.offset ≤ length lies.source.text
   fault_stands (inl r) = absurd (let o : Some None ≡ Some (Some r.content) = sym (contents_at parts f.«package» None none) ∙ r.there in let k : None ≡ Some r.content = cc in none_is_some k)

@@ -3,22 +3,29 @@ use Rattle.std.proofs.Common.{◌≡◌, ◌≢◌, ℕ, zero, suc, ◌<◌, ◌
 use Rattle.std.specs.Prelude.{slice_get, slice_set, replicate}
 use Rattle.std.specs.List.Sorted.{IsPermutation}
 use Rattle.std.proofs.lemmas.Bool.{cases_eq}
-use Rattle.std.proofs.lemmas.List.{length-set, length-replicate, get_or-replicate}
+use Rattle.std.proofs.lemmas.List.{length-set, length-replicate}
 use Rattle.std.proofs.lemmas.List.Sorted.{Contains-permutation, IsPermutation-sym}
-use Rattle.std.proofs.lemmas.Option.{slice_get_within, get_or_from_slice_get}
+use Rattle.std.proofs.lemmas.Option.{slice_get_within}
 use Rattle.go_whole_core.specs.graph_core.Imports.{IsNumbered}
 use Rattle.go_whole_core.specs.graph_core.Sources.{SourceModel}
 use Rattle.go_whole_core.specs.graph_core.Workspaces.{PackageModel, IsWorkspace}
 use Rattle.go_whole_core.specs.graph_core.Zips.{numbered_back, numbered_length}
 use Rattle.go_whole_core.specs.entry_core.Among.{Among, among_cases, among_from, among_left, among_right, among_to}
 use Rattle.go_whole_core.specs.part_core.Parts.{PartModel}
+use Rattle.go_whole_core.specs.part_core.mirrors.Slots.{those_put}
 use Rattle.go_whole_core.specs.Inputs.{AreParts, IsPartOf}
 use Rattle.go_whole_core.proofs.Lists.{none_is_some, one_at, same_list}
 use Rattle.go_whole_core.proofs.Beside.{one_place}
 use Rattle.go_whole_core.proofs.Making.{set_back, set_here, set_there}
 use Rattle.go_emit_core.specs.Emitted.{somes}
+use Rattle.go_make_core.proofs.Telling.{nothing_at}
 
 -- those that are there
+
+pub those_are : {A : Type 0} (xs : List (Option A)) → those_put xs ≡ somes xs
+those_are [] = refl
+those_are (None ∷ xs) = those_are xs
+those_are (Some x ∷ xs) = ap (λ l. x ∷ l) (those_are xs)
 
 somes_to : (xs : List (Option PartModel)) (i : ℕ) (x : PartModel) → slice_get xs i ≡ Some (Some x) → Among (somes xs) x
 somes_to [] i x h = absurd (none_is_some h)
@@ -34,13 +41,6 @@ somes_from (Some v ∷ xs) x h = elim h [
   | inl e ↦ (0, ap (λ y. Some (Some y)) e)
   | inr a ↦ (let r = somes_from xs x a in (suc r.0, r.1))
 ]
-
-pub nothing_at : (n : ℕ) (xs : List (Option PartModel)) (i : ℕ) (x : PartModel) → xs ≡ replicate n None → slice_get xs i ≡ Some (Some x) → ⊥
-nothing_at n xs i x is h =
-    let at : slice_get (replicate n None) i ≡ Some (Some x) = sym (ap (λ l. slice_get l i) is) ∙ h in
-    let lt : i < n = omega (arith, slice_get_within _ i _ at, length-replicate {A = Option PartModel} n None) in
-    let e : None ≡ Some x = sym (get_or-replicate n i None (Some x) lt) ∙ get_or_from_slice_get _ i (Some x) (Some x) at in
-    cc
 
 -- some of these parts are put to their numbers, and the others are left
 pub record IsPut (parts slots : List (Option PartModel)) (left : List PartModel) : Type 0 where

@@ -22,9 +22,9 @@ use Rattle.go_whole_core.specs.graph_core.Packages.{AllHaveTrees, HasNoClause, I
 use Rattle.go_whole_core.specs.graph_core.Sources.{SourceModel, IsContent, IsRead, clause_in}
 use Rattle.go_whole_core.specs.graph_core.Workspaces.{PackageModel}
 use Rattle.go_whole_core.specs.graph_core.AssemblyLaws.{has_no_other_assembly}
-use Rattle.go_whole_core.specs.expr_core.declared.things.Fault.{Fault}
-use Rattle.go_whole_core.specs.report_core.Faults.{number_order}
-use Rattle.go_whole_core.specs.report_core.Faults as report
+use Rattle.go_emit_core.specs.expr_core.declared.things.Fault.{Fault}
+use Rattle.go_emit_core.specs.report_core.Faults.{number_order}
+use Rattle.go_emit_core.specs.report_core.Faults as report
 use Rattle.go_whole_core.specs.entry_core.Among.{Among, among_cases, among_from, among_left, among_map, among_right, among_to, map_among}
 use Rattle.go_whole_core.specs.part_core.Parts.{ContentOf, FileOf}
 use Rattle.go_snap_core.specs.declared.fault.PlacedFault.{PlacedFault}
@@ -196,7 +196,7 @@ of_syntax text fault (inl a) = of_answer text (record { rule = fault.rule; offse
 of_syntax text fault (inr t) = elim t.why [ inl p ↦ inr (inr (inr (inl p.0))) | inr q ↦ inr (inr (inr (inr q.0))) ]
 
 rule_of : (s : SourceModel) (fault : SynFault) → IsRead s → s.content ≡ Err fault → IsTextRule fault.rule
-rule_of s fault read e = of_syntax s.text fault (subst (IsContent s.text) e read)
+rule_of s fault read e = of_syntax s.text fault (subst (IsContent s.text) e read).0
 
 -- a package that is not assembled
 

@@ -1,11 +1,11 @@
 -- Laws of snapshots.
 use Rattle.std.specs.Prelude.{◌≡◌, ◌≢◌, ◌≤◌, ℕ, List, [], ◌∷◌, length, Option, Some, None, All, AllPairs, Contains, slice_get}
 use Rattle.std.specs.Str.{IsUtf8}
-use Rattle.go_whole_core.specs.expr_core.declared.things.Fault.{Fault}
+use Rattle.go_emit_core.specs.expr_core.declared.things.Fault.{Fault}
 use Rattle.go_whole_core.specs.graph_core.Workspaces.{PackageModel, IsWorkspace}
 use Rattle.go_whole_core.specs.part_core.Parts.{PartModel}
-use Rattle.go_whole_core.specs.report_core.Faults.{IsSaid}
-use Rattle.go_whole_core.specs.used_core.Used.{TheUse}
+use Rattle.go_emit_core.specs.report_core.Faults.{IsSaid}
+use Rattle.go_emit_core.specs.used_core.Used.{TheUse}
 use Rattle.go_snap_core.specs.declared.fault.PlacedFault.{PlacedFault}
 use Rattle.go_snap_core.specs.Faults.{LiesIn, here}
 use Rattle.go_snap_core.specs.Snapshots.{IsAnswerAt, IsSnapshot}

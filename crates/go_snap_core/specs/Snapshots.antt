@@ -1,6 +1,6 @@
 -- Snapshots of workspaces.
 --
--- docs/RULES.md, "Snapshots".
+-- docs/RULES.md, "Whole workspaces".
 use Rattle.std.specs.Prelude.{◌≡◌, ℕ, List, Option, Some, map, slice_get}
 use Rattle.std.specs.List.{AllZip}
 use Rattle.std.specs.List.Sorted.{IsPermutation}
@@ -10,7 +10,7 @@ use Rattle.go_whole_core.specs.graph_core.Imports.{IsNumbered}
 use Rattle.go_whole_core.specs.graph_core.Sources.{SourceModel}
 use Rattle.go_whole_core.specs.graph_core.Workspaces.{PackageModel}
 use Rattle.go_whole_core.specs.ready_core.Packages.{trees_in}
-use Rattle.go_whole_core.specs.used_core.Used.{TheUse}
+use Rattle.go_emit_core.specs.used_core.Used.{TheUse}
 use Rattle.go_whole_core.specs.part_core.Parts.{AreFilesMade, ContentOf, FileOf, PartModel}
 use Rattle.go_snap_core.specs.declared.fault.PlacedFault.{PlacedFault}
 use Rattle.go_snap_core.specs.Faults.{AreFaults}

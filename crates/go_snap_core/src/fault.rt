@@ -1,13 +1,13 @@
 //! The faults of a workspace, in order.
-ghost use Rattle.std.specs.Prelude.{◌≡◌, ◌++◌, IfOk, OnOk, length, map};
+ghost use Rattle.std.specs.Prelude.{◌≡◌, ◌++◌, IfOk, OnOk, map};
 ghost use Rattle.go_whole_core.specs.graph_core.Packages.{IsAssembled};
 ghost use Rattle.go_snap_core.specs.Faults.{AreFaults};
 ghost use Rattle.go_whole_core.specs.Inputs.{AreParts};
 ghost use Rattle.go_snap_core.specs.Snapshots.{contents_of};
 ghost use Rattle.go_snap_core.specs.mirrors.Reports.{AddsUnassembled, part_faults, placed, text_faults};
 
+use go_emit_core::expr_core::Fault;
 use go_text_core::Rule;
-use go_whole_core::expr_core::Fault;
 use go_whole_core::graph_core::{PackageSource, SourceFile, Workspace, assemble};
 use go_whole_core::part_core::Part;
 use std::alloc::{AllocError, Global};
@@ -86,7 +86,10 @@ fn add_unassembled(
     ensures { OnOk result (AddsUnassembled «package» source.now.1 faults.old.items faults.new.items) }
 {
     match assemble(source.share()?) {
-        Ok(_) => unreachable!(),
+        Ok(package) => {
+            package.close();
+            unreachable!()
+        }
         Err(fault) => faults.push(PlacedFault {
             package,
             file: fault.file,

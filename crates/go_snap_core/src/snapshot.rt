@@ -1,28 +1,26 @@
 //! Snapshots.
-ghost use Rattle.std.specs.Prelude.{◌≡◌, ◌≤◌, ◌+◌, ◌++◌, ℕ, List, [], All, IfErr, IfOk, MatchOption, None, Some, length, map, replicate, slice_get, slice_set, vec_capacity};
+ghost use Rattle.std.specs.Prelude.{◌≡◌, ◌≤◌, ℕ, List, [], All, IfErr, IfOk, MatchOption, None, Some, length, map, replicate, slice_get, slice_set, vec_capacity};
 ghost use Rattle.std.specs.List.Sorted.{IsPermutation, IsStrictlySortedBy};
 ghost use Rattle.std.specs.Map.{keys_of};
 ghost use Rattle.go_whole_core.specs.graph_core.Imports.{IsNowhere, IsNumbered};
 ghost use Rattle.go_whole_core.specs.graph_core.Sources.{SourceModel};
 ghost use Rattle.go_whole_core.specs.graph_core.Workspaces.{IsWorkspace, by_bytes, names_of_files};
-ghost use Rattle.go_whole_core.specs.used_core.Used.{TheUse};
+ghost use Rattle.go_emit_core.specs.used_core.Used.{TheUse};
 ghost use Rattle.go_whole_core.specs.part_core.Parts.{PartModel};
 ghost use Rattle.go_whole_core.specs.Inputs.{AreParts};
-ghost use Rattle.go_object_core.specs.Objects.{object_shown};
-ghost use Rattle.go_emit_core.specs.Emitted.{if_there, objects_of, somes};
+ghost use Rattle.go_emit_core.specs.object_core.Objects.{object_shown};
+ghost use Rattle.go_emit_core.specs.Emitted.{objects_of, somes};
 ghost use Rattle.go_snap_core.specs.Snapshots.{ArePartsOf, IsAnswerAt, IsPartAt, IsSnapshot, snapshot_with};
 
 use crate::fault::{PlacedFault, faults_of};
-use go_answer_core::Site;
+use go_emit_core::answer_core::{Answer, Site};
 use go_emit_core::emit_all;
-use go_object_core::Object;
+use go_emit_core::object_core::Object;
+use go_emit_core::tree_core::OccId;
 use go_path_core::ImportPath;
-use go_text_core::add;
-use go_whole_core::answer_core::Answer;
 use go_whole_core::graph_core::{PackageSource, SourceFile, Workspace};
-use go_whole_core::part_core::{Part, PartInput};
+use go_whole_core::part_core::{Part, PartInput, Parts, close_parts};
 use go_whole_core::parts_are_whole;
-use go_whole_core::tree_core::OccId;
 use std::alloc::{AllocError, Global};
 use std::marker::Model;
 
@@ -32,7 +30,7 @@ use std::marker::Model;
 pub struct Snapshot {
     sources: Workspace,
     /// By the numbers of packages; none where files are not assembled.
-    parts: Vec<Option<Part>>,
+    parts: Parts,
     faults: Vec<PlacedFault>,
 }
 
@@ -49,9 +47,9 @@ impl Model for Snapshot {
 
     ghost coded = { Prim.hlevel (codes, coded_package, coded_input, coded_blocks, coded_face, coded_operand, coded_summary) };
 
-    ghost view = { λ s. snapshot_with s.sources s.parts.items s.faults.items };
+    ghost view = { λ s. snapshot_with s.sources s.parts s.faults.items };
 
-    ghost invariant = { λ s. IsSnapshot s.sources s.parts.items s.faults.items };
+    ghost invariant = { λ s. IsSnapshot s.sources s.parts s.faults.items };
 }
 
 // The number of the package of a path among packages in byte order of path.
@@ -85,13 +83,9 @@ fn part_at(parts: &[Option<Part>], number: usize) -> Option<&Part>
 
 impl Snapshot {
     /// A workspace with the parts of its assembled packages, by the numbers of packages, and with its faults.
-    pub(crate) fn new(
-        sources: Workspace,
-        parts: Vec<Option<Part>>,
-        faults: Vec<PlacedFault>,
-    ) -> Snapshot
-        requires { IsSnapshot sources parts.items faults.items }
-        ensures { result ≡ snapshot_with sources parts.items faults.items }
+    pub(crate) fn new(sources: Workspace, parts: Parts, faults: Vec<PlacedFault>) -> Snapshot
+        requires { IsSnapshot sources parts faults.items }
+        ensures { result ≡ snapshot_with sources parts faults.items }
     {
         Snapshot {
             sources,
@@ -121,7 +115,7 @@ impl Snapshot {
         ensures part { MatchOption result ((p : PartModel) → ¬ IsPartAt self.now.sources self.now.parts path.now p) (λ p. IsPartAt self.now.sources self.now.parts path.now p.now) }
     {
         let number = package_of(self.sources.packages(), path.as_str())?;
-        part_at(&self.parts, number)
+        part_at(self.parts(), number)
     }
 
     /// The part of the assembled package of a path; `None` for any other path.
@@ -177,33 +171,36 @@ impl Snapshot {
         let objects = emit_all(alloc, self.parts())?;
         Ok(objects)
     }
-}
 
-/// None, for so many packages.
-pub(crate) fn no_parts(alloc: Global, count: usize) -> Result<Vec<Option<Part>>, AllocError>
-    ensures { IfOk result (λ parts. parts.items ≡ replicate count None) }
-{
-    let mut parts = Vec::with_capacity(alloc, count)?;
-    for _package in 0..count {
-        add(&mut parts, None)?;
+    /// Ends the snapshot, as its drop does, and promises nothing: no answer may rest on it. A crate that ends its snapshots by this call proves
+    /// no drops of trees and of types of its own.
+    pub fn close(self) {
+        let Snapshot {
+            sources,
+            parts,
+            faults,
+        } = self;
+        sources.close();
+        parts.close();
+        drop(faults);
     }
-    Ok(parts)
 }
 
 /// Puts a part to the number of its package.
-fn put_part(packages: &[PackageSource], part: Part, slots: &mut [Option<Part>])
+fn put_part(packages: &[PackageSource], part: Part, slots: &mut Parts)
     requires well { IsWorkspace packages.now }
     requires many { length slots.old ≡ length packages.now }
     ensures many { length slots.new ≡ length slots.old }
     ensures put { (number : ℕ) (files : List SourceModel) → IsNumbered packages.now part.input.source.0 number files → slots.new ≡ slice_set slots.old number (Some part) }
 {
-    if let Some(number) = package_of(packages, part.path().as_str()) {
-        slots[number] = Some(part);
+    match package_of(packages, part.path().as_str()) {
+        Some(number) => slots.put(number, part),
+        None => part.close(),
     }
 }
 
 /// Puts parts to the numbers of their packages.
-fn put_parts(packages: &[PackageSource], parts: &mut Vec<Part>, slots: &mut [Option<Part>])
+fn put_parts(packages: &[PackageSource], parts: &mut Vec<Part>, slots: &mut Parts)
     requires well { IsWorkspace packages.now }
     requires none { slots.old ≡ replicate (length packages.now) None }
     requires parts { ArePartsOf packages.now parts.old.items }
@@ -215,33 +212,6 @@ fn put_parts(packages: &[PackageSource], parts: &mut Vec<Part>, slots: &mut [Opt
 {
     while let Some(part) = parts.pop() {
         put_part(packages, part, slots);
-    }
-}
-
-/// Puts a part back, if there is one, into a list that has room for it.
-fn put_back(slot: Option<Part>, parts: &mut Vec<Part>)
-    requires { length parts.old.items + length (if_there slot) ≤ vec_capacity parts.old }
-    ensures parts { parts.new.items ≡ parts.old.items ++ if_there slot }
-    ensures room { vec_capacity parts.old ≤ vec_capacity parts.new }
-{
-    let Some(part) = slot else {
-        return;
-    };
-    match parts.push(part) {
-        Ok(()) => {}
-        // There is room for it.
-        Err(_) => unreachable!(),
-    }
-}
-
-/// Puts parts back into a list that has room for them, in order of path.
-fn take_back(slots: Vec<Option<Part>>, parts: &mut Vec<Part>)
-    requires empty { parts.old.items ≡ [] }
-    requires room { length (somes slots.items) ≤ vec_capacity parts.old }
-    ensures { parts.new.items ≡ somes slots.items }
-{
-    for slot in slots {
-        put_back(slot, parts);
     }
 }
 
@@ -262,14 +232,17 @@ pub fn join(
 {
     parts_are_whole();
     let mut parts = parts;
-    let Ok(mut slots) = no_parts(alloc, workspace.packages().len()) else {
+    let Ok(mut slots) = Parts::none(alloc, workspace.packages().len()) else {
         return Err((workspace, parts));
     };
     put_parts(workspace.packages(), &mut parts, &mut slots);
-    match faults_of(alloc, &workspace, &slots) {
-        Ok(faults) => Ok(Snapshot::new(workspace, slots, faults)),
+    match faults_of(alloc, &workspace, slots.as_slice()) {
+        Ok(faults) => {
+            close_parts(parts);
+            Ok(Snapshot::new(workspace, slots, faults))
+        }
         Err(AllocError) => {
-            take_back(slots, &mut parts);
+            slots.take_back(&mut parts);
             Err((workspace, parts))
         }
     }

@@ -3,8 +3,6 @@ pub mod Summaries
 pub mod Views
 pub mod codes
 pub mod mirrors
-pub mod block_core
-pub mod entry_core
-pub mod face_core
-pub mod graph_core
-pub mod table_core
+pub mod decide_core
+pub mod operand_core
+pub mod select_core

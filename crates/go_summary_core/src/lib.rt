@@ -19,22 +19,12 @@ pub use laws::{
 pub use summary::{Summary, import_view, summarize};
 pub use view::{View, view_of};
 
-/// What the crates above name of `go_block_core`.
-pub mod block_core {
-    pub use go_face_core::block_core::{
-        Blocks, Exports, Imported, NamedDecl, blocks, import_names, import_specs, one_blocks_alone,
-    };
+/// What the crates above name of `go_operand_core`.
+pub mod operand_core {
+    pub use go_face_core::operand_core::{Operand, TypeForm, ValueType};
 }
 
-/// What the crates above name of `go_face_core`.
-pub mod face_core {
-    pub use go_face_core::Face;
-}
-
-/// What the crates above name of `go_graph_core`.
-pub mod graph_core {
-    pub use go_face_core::graph_core::{
-        ImportAt, ImportOutcome, Package, Plan, SourceFile, Workspace, assemble, one_outcome,
-        plan_imports,
-    };
+/// What the crates above name of `go_select_core`.
+pub mod select_core {
+    pub use go_face_core::select_core::{EmbedPath, Member, Owner, Selected, select, selectable};
 }

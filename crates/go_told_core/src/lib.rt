@@ -10,3 +10,20 @@ mod reached;
 
 pub use list::SummaryList;
 pub use reached::ReachedSummaries;
+
+/// What the crates above name of `go_operand_core`.
+pub mod operand_core {
+    pub use go_summary_core::operand_core::{Operand, TypeForm, ValueType};
+}
+
+/// What the crates above name of `go_select_core`.
+pub mod select_core {
+    pub use go_summary_core::select_core::{
+        EmbedPath, Member, Owner, Selected, select, selectable,
+    };
+}
+
+/// What the crates above name of `go_summary_core`.
+pub mod summary_core {
+    pub use go_summary_core::{Summary, View, import_view, summarize, view_of};
+}

@@ -15,6 +15,11 @@ pub mod denote_core {
     pub use go_piece_core::denote_core::Outcome;
 }
 
+/// What the crates above name of `go_embed_core`.
+pub mod embed_core {
+    pub use go_inline_core::embed_core::Hits;
+}
+
 /// What the crates above name of `go_expr_core`.
 pub mod expr_core {
     pub use go_piece_core::expr_core::{Fault, Notes, Use};

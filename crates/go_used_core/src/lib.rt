@@ -13,9 +13,36 @@ pub use laws::{reports_are_one, used_imports_are_these};
 pub use reporting::report;
 pub use unused::refuse_unused;
 
+/// What the crates above name of `go_answer_core`.
+pub mod answer_core {
+    pub use go_answer_core::{Answer, HeldLocal, Site};
+}
+
+/// What the crates above name of `go_block_core`.
+pub mod block_core {
+    pub use go_answer_core::block_core::{
+        Blocks, Exports, Imported, NamedDecl, blocks, import_names, import_specs, one_blocks_alone,
+    };
+}
+
+/// What the crates above name of `go_denote_core`.
+pub mod denote_core {
+    pub use go_answer_core::denote_core::Outcome;
+}
+
 /// What the crates above name of `go_expr_core`.
 pub mod expr_core {
     pub use go_answer_core::expr_core::Fault;
+}
+
+/// What the crates above name of `go_face_core`.
+pub mod face_core {
+    pub use go_answer_core::face_core::{Face, FaceTable, lend};
+}
+
+/// What the crates above name of `go_handle_core`.
+pub mod handle_core {
+    pub use go_answer_core::handle_core::{Decl, DeclSite, SignatureRef, TypeRef};
 }
 
 /// What the crates above name of `go_report_core`.
@@ -25,5 +52,5 @@ pub mod report_core {
 
 /// What the crates above name of `go_tree_core`.
 pub mod tree_core {
-    pub use go_answer_core::tree_core::OccId;
+    pub use go_answer_core::tree_core::{OccId, Role, occurrences_are_written};
 }

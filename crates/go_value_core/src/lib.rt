@@ -63,3 +63,8 @@ pub mod operand_core {
 pub mod scope_core {
     pub use go_env_core::scope_core::Scopes;
 }
+
+/// What the crates above name of `go_table_core`.
+pub mod table_core {
+    pub use go_env_core::table_core::{DeclaredMethod, DefinedType, TypeTable};
+}

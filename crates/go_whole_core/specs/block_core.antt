@@ -4,5 +4,6 @@ pub use Rattle.go_locality_core.specs.block_core.Exports as Exports
 pub use Rattle.go_locality_core.specs.block_core.GivenSteps as GivenSteps
 pub use Rattle.go_locality_core.specs.block_core.Growing as Growing
 pub use Rattle.go_locality_core.specs.block_core.Naming as Naming
+pub use Rattle.go_locality_core.specs.block_core.Tables as Tables
 pub use Rattle.go_locality_core.specs.block_core.declared as declared
 pub use Rattle.go_locality_core.specs.block_core.mirrors as mirrors

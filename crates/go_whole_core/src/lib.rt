@@ -8,19 +8,24 @@ mod laws;
 
 pub use laws::{one_whole, parts_are_whole};
 
-/// What the crates above name of `go_answer_core`.
-pub mod answer_core {
-    pub use go_locality_core::answer_core::Answer;
-}
-
 /// What the crates above name of `go_block_core`.
 pub mod block_core {
     pub use go_locality_core::block_core::{Imported, import_specs};
 }
 
-/// What the crates above name of `go_expr_core`.
-pub mod expr_core {
-    pub use go_locality_core::expr_core::Fault;
+/// What the crates above name of `go_embed_core`.
+pub mod embed_core {
+    pub use go_locality_core::embed_core::Hits;
+}
+
+/// What the crates above name of `go_entry_core`.
+pub mod entry_core {
+    pub use go_locality_core::entry_core::outlines;
+}
+
+/// What the crates above name of `go_face_core`.
+pub mod face_core {
+    pub use go_locality_core::face_core::Face;
 }
 
 /// What the crates above name of `go_graph_core`.
@@ -36,9 +41,17 @@ pub mod locality_core {
     pub use go_locality_core::{check_is_local, imports_bind_theirs};
 }
 
+/// What the crates above name of `go_package_core`.
+pub mod package_core {
+    pub use go_locality_core::package_core::FileAnswers;
+}
+
 /// What the crates above name of `go_part_core`.
 pub mod part_core {
-    pub use go_part_core::{Part, PartInput, compile_over, one_part};
+    pub use go_part_core::{
+        Part, PartInput, Parts, close_parts, close_summaries, close_view, compile_over,
+        compile_part, one_part, part_has_occurrences,
+    };
 }
 
 /// What the crates above name of `go_reach_core`.
@@ -51,12 +64,12 @@ pub mod summary_core {
     pub use go_part_core::summary_core::{Summary, View, import_view, view_of};
 }
 
+/// What the crates above name of `go_table_core`.
+pub mod table_core {
+    pub use go_locality_core::table_core::{DefinedType, PackageTypes, StructField, TypeTable};
+}
+
 /// What the crates above name of `go_told_core`.
 pub mod told_core {
     pub use go_part_core::told_core::{ReachedSummaries, SummaryList};
-}
-
-/// What the crates above name of `go_tree_core`.
-pub mod tree_core {
-    pub use go_part_core::tree_core::OccId;
 }

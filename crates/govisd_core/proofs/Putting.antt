@@ -29,7 +29,7 @@ use Rattle.go_part_core.specs.declared.files.PartFile.{PartFile}
 use Rattle.go_part_core.specs.Inputs.{AreReached, InputModel, input_with}
 use Rattle.go_part_core.specs.Parts.{ContentOf, FileOf, IsPart, file_shown}
 use Rattle.govisd_core.specs.Alone.{IsRefused, package_alone, the_name, the_path, workspace_alone}
-use Rattle.govisd_core.specs.mirrors.Making.{AreRefusedIn, HasOneFile, HasText, IsAlone, IsGivenIn, IsInputIn, IsOwn}
+use Rattle.govisd_core.specs.mirrors.Making.{AreRefusedAlone, AreRefusedIn, HasOneFile, HasText, IsAlone, IsGivenIn, IsInputIn, IsOwn}
 
 -- the one file that is read
 
@@ -136,8 +136,11 @@ pub come_to : (ps : List PackageModel) (plan : PlanModel) (f : FileTree) (is : L
 come_to ps plan f is planned_so h =
     numbered_weaker (λ n (spec : ImportSpecTree) i. IsGivenIn plan.outcomes (import_at 0 0 n) i) (λ n (spec : ImportSpecTree) i. IsRefused ps (import_at 0 0 n) i) (λ n spec i. given_is ps plan (import_at 0 0 n) i planned_so) 0 (file_specs f) is h
 
-pub as_many_imports : (os : List (List (List ImportOutcome))) (f : FileTree) (is : List Imported) → AreInFile (IsGivenIn os) 0 0 f is → length (file_specs f) ≡ length is
-as_many_imports os f is h = numbered_length (λ n (spec : ImportSpecTree) i. IsGivenIn os (import_at 0 0 n) i) 0 (file_specs f) is h
+pub refused_alone : (ps : List PackageModel) (plan : PlanModel) (f : FileTree) (files : List (Vec Imported Global)) (of_file : Vec Imported Global) → IsPlan ps plan → files ≡ of_file ∷ [] → AreInFile (IsGivenIn plan.outcomes) 0 0 f of_file.items → AreRefusedAlone ps f (map imported_in files)
+refused_alone ps plan f files of_file planned_so are h = record { imports = of_file.items; refused = come_to ps plan f of_file.items planned_so h; are = ap (map imported_in) are }
+
+as_many_imports : (ps : List PackageModel) (f : FileTree) (is : List Imported) → AreInFile (IsRefused ps) 0 0 f is → length (file_specs f) ≡ length is
+as_many_imports ps f is h = numbered_length (λ n (spec : ImportSpecTree) i. IsRefused ps (import_at 0 0 n) i) 0 (file_specs f) is h
 
 -- the input of the package
 
@@ -148,22 +151,15 @@ own_trees : (ps : List PackageModel) (p : PackageModel) (f : FileTree) (own : Is
 own_trees ps p f own = ap (λ (q : PackageModel). trees_of q.1) own.is ∙ trees_are own.file f own.tree
 
 -- one file, with as many as it imports
-pub one_each : (ps : List PackageModel) (p : PackageModel) (f : FileTree) (os : List (List (List ImportOutcome))) (files : List (Vec Imported Global)) (of_file : Vec Imported Global)
-    → IsOwn ps p f → files ≡ of_file ∷ [] → AreInFile (IsGivenIn os) 0 0 f of_file.items → HaveOneEach (trees_of p.1) (map imported_in files)
-one_each ps p f os files of_file own are h =
-    subst (λ ts. HaveOneEach ts (map imported_in files)) (sym (own_trees ps p f own))
-    (subst (λ l. HaveOneEach ((own.file.name, f) ∷ []) (map imported_in l)) (sym are) (as_many_imports os f of_file.items h, tt))
+pub one_each : (ps : List PackageModel) (p : PackageModel) (f : FileTree) (files : List (List Imported)) → IsOwn ps p f → AreRefusedAlone ps f files → HaveOneEach (trees_of p.1) files
+one_each ps p f files own h =
+    subst (λ ts. HaveOneEach ts files) (sym (own_trees ps p f own)) (subst (λ l. HaveOneEach ((own.file.name, f) ∷ []) l) (sym h.are) (as_many_imports ps f h.imports h.refused, tt))
 
 pub none_reached : (path : List ℕ) (reached : List SummaryModel) → reached ≡ [] → AreReached path reached
 none_reached path reached none = subst (AreReached path) (sym none) (record { apart = λ i j d lt l. absurd (omega (arith, l)); others = λ k d lt. absurd (omega (arith, lt)) })
 
-pub input_is : (ps : List PackageModel) (p : PackageModel) (f : FileTree) (plan : PlanModel) (files : List (Vec Imported Global)) (of_file : Vec Imported Global) (reached : List SummaryModel) (i j : InputModel)
-    → IsPlan ps plan → files ≡ of_file ∷ [] → AreInFile (IsGivenIn plan.outcomes) 0 0 f of_file.items → reached ≡ [] → i ≡ input_with p (map imported_in files) reached → j ≡ i → IsInputIn ps p f j
-input_is ps p f plan files of_file reached i j planned_so are h none made same = record {
-  imports = of_file.items;
-  refused = come_to ps plan f of_file.items planned_so h;
-  is = same ∙ (made ∙ (ap (λ l. input_with p (map imported_in l) reached) are ∙ ap (λ l. input_with p (of_file.items ∷ []) l) none));
-}
+pub input_is : (ps : List PackageModel) (p : PackageModel) (f : FileTree) (files : List (List Imported)) (i : InputModel) → AreRefusedAlone ps f files → i ≡ input_with p files [] → IsInputIn ps p f i
+input_is ps p f files i h made = record { imports = h.imports; refused = h.refused; is = made ∙ ap (λ l. input_with p l []) h.are }
 
 -- the one file that the part has
 pub one_made : (i : InputModel) (c : ContentOf) → HasOneFile i → IsPart i c → (x : FileOf) × (c.files ≡ x ∷ [])

@@ -9,6 +9,7 @@ use Rattle.go_tree_nodes.specs.declared.names.Ident.{Ident}
 use Rattle.go_tree_nodes.specs.Trees.{FileTree}
 use Rattle.go_part_core.specs.parse_core.declared.error.SynFault.{SynFault}
 use Rattle.go_part_core.specs.parse_core.Correct.{IsSynFault, IsTreeFault}
+use Rattle.go_part_core.specs.parse_core.Refusing.{IsRuleRead}
 use Rattle.go_part_core.specs.graph_core.declared.assembly.KFault.{KFault}
 use Rattle.go_part_core.specs.graph_core.Packages.{IsAssembled, IsAssembly, IsClause, blank}
 use Rattle.go_part_core.specs.graph_core.Sources.{SourceModel, IsContent, IsRead, clause_in, clause_of, source}
@@ -27,14 +28,14 @@ tokens_of_fault : (bytes : List ℕ) (fault : SynFault) → IsText bytes → IsT
 tokens_of_fault bytes fault text why = record { text = text; tokens = why.tokens; scanned = why.scanned }
 
 -- a text with no tokens, or with none of its trees low enough
-pub text_fault_report : (bytes : List ℕ) (fault : SynFault) (clean : Bool) (out : List ℕ) → IsText bytes → IsSynFault bytes fault → clean ≡ false → out ≡ the_fault fault.offset fault.rule → IsReport bytes clean out
-text_fault_report bytes fault clean out text (inl scanned) says written =
+pub text_fault_report : (bytes : List ℕ) (fault : SynFault) (clean : Bool) (out : List ℕ) → IsText bytes → IsSynFault bytes fault → IsRuleRead bytes fault.rule → clean ≡ false → out ≡ the_fault fault.offset fault.rule → IsReport bytes clean out
+text_fault_report bytes fault clean out text (inl scanned) read says written =
     record { input = BadToken (record { rule = fault.rule; offset = fault.offset }); is = (text, scanned); says = sym says; writes = written }
-text_fault_report bytes fault clean out text (inr tree) says written =
+text_fault_report bytes fault clean out text (inr tree) read says written =
     let tokens = tokens_of_fault bytes fault text tree in
     elim tree.why [
-      | inl none ↦ record { input = NoTree fault.offset; is = (tokens, none.1, tree.within); says = sym says; writes = written ∙ ap (the_fault fault.offset) none.0 }
-      | inr high ↦ record { input = TooHigh fault.offset; is = (tokens, high.1, tree.within); says = sym says; writes = written ∙ ap (the_fault fault.offset) high.0 }
+      | inl none ↦ record { input = NoTree fault.offset; is = (tokens, none.1, subst (IsRuleRead bytes) none.0 read, tree.within); says = sym says; writes = written ∙ ap (the_fault fault.offset) none.0 }
+      | inr high ↦ record { input = TooHigh fault.offset; is = (tokens, high.1, subst (IsRuleRead bytes) high.0 read, tree.within); says = sym says; writes = written ∙ ap (the_fault fault.offset) high.0 }
     ]
 
 -- the one file of a package, where its tree is that of its text
@@ -110,8 +111,8 @@ whole_report s f ps p i clean out alone text tree is well input told =
     }
 
 -- a text with a fault, where its report was made
-pub text_fault_reports : (bytes : List ℕ) (fault : SynFault) (result : Result Report AllocError) → IsText bytes → IsSynFault bytes fault → IfOk result (λ r. r.text.items ≡ the_fault fault.offset fault.rule) → IfOk result (λ r. r.clean ≡ false) → IfOk result (λ r. IsReport bytes r.clean r.text.items)
-text_fault_reports bytes fault (Ok r) text why written says = text_fault_report bytes fault r.clean r.text.items text why says written
+pub text_fault_reports : (bytes : List ℕ) (fault : SynFault) (result : Result Report AllocError) → IsText bytes → IsSynFault bytes fault × IsRuleRead bytes fault.rule → IfOk result (λ r. r.text.items ≡ the_fault fault.offset fault.rule) → IfOk result (λ r. r.clean ≡ false) → IfOk result (λ r. IsReport bytes r.clean r.text.items)
+text_fault_reports bytes fault (Ok r) text why written says = text_fault_report bytes fault r.clean r.text.items text why.0 why.1 says written
 text_fault_reports bytes fault (Err e) text why written says = tt
 
 -- bytes that are too many

@@ -13,6 +13,7 @@ use Rattle.go_part_core.specs.Parts.{FileOf}
 use Rattle.govisd_lines.specs.Lines.{fault_line, file_lines}
 use Rattle.go_part_core.specs.parse_core.Correct.{HasNoTree, HasNoLowTree}
 use Rattle.go_part_core.specs.parse_core.Parsing.{IsParse}
+use Rattle.go_part_core.specs.parse_core.Refusing.{IsRuleRead}
 use Rattle.govisd_core.specs.declared.run.ResolveEnd.{ResolveEnd}
 use Rattle.govisd_core.specs.declared.run.ResolveEnd.TheVariants.{Clean, Faults, ReadFault, WriteFault, Memory}
 use Rattle.govisd_core.specs.Outputs.{IsCutShort}
@@ -22,8 +23,8 @@ use Rattle.govisd_core.specs.Alone.{IsFound, the_name}
 abbrev pub max_bytes : ℕ
 max_bytes = 1048576
 
--- what bytes are: too many, no text, a text with a first fault of its tokens, a text whose tokens have no
--- tree or none that is low enough, a file whose package has the blank name, or a file with what stands in it
+-- what bytes are: too many, no text, a text with a first fault of its tokens, a text whose tokens have no tree, so that reading them
+-- stops by P1, or none that is low enough, so that it stops by P2, a file whose package has the blank name, or a file with what stands in it
 pub data Input : Type 0 where
   TooLong : Input
   NoText : Input
@@ -53,8 +54,8 @@ abbrev pub IsInput : List ℕ → Input → Type 0
 IsInput bytes TooLong = max_bytes < length bytes
 IsInput bytes NoText = (length bytes ≤ max_bytes) × ¬ (IsUtf8 bytes)
 IsInput bytes (BadToken fault) = IsText bytes × IsAnswer bytes (Err fault)
-IsInput bytes (NoTree offset) = HasTokens bytes × HasNoTree bytes × (offset ≤ length bytes)
-IsInput bytes (TooHigh offset) = HasTokens bytes × HasNoLowTree bytes × (offset ≤ length bytes)
+IsInput bytes (NoTree offset) = HasTokens bytes × HasNoTree bytes × IsRuleRead bytes P1 × (offset ≤ length bytes)
+IsInput bytes (TooHigh offset) = HasTokens bytes × HasNoLowTree bytes × IsRuleRead bytes P2 × (offset ≤ length bytes)
 IsInput bytes (NoName f) = IsFile bytes f × (f.name.name ≡ blank)
 IsInput bytes (Whole f found) = IsFile bytes f × (f.name.name ≢ blank) × IsFound bytes f found
 
@@ -121,10 +122,10 @@ pub record IsReport (bytes : List ℕ) (clean : Bool) (text : List ℕ) : Type 0
   pub says : is_clean input ≡ clean
   pub writes : text ≡ report bytes input
 
--- an input, but for the place where a text without a low tree is refused, and which of P1 and P2 refuses it
+-- an input, but for the place where a text without a low tree is refused
 abbrev pub but_for_place : Input → Input
 but_for_place (NoTree offset) = NoTree 0
-but_for_place (TooHigh offset) = NoTree 0
+but_for_place (TooHigh offset) = TooHigh 0
 but_for_place TooLong = TooLong
 but_for_place NoText = NoText
 but_for_place (BadToken fault) = BadToken fault

@@ -1,10 +1,12 @@
 //! A file as the one file of the one package of a workspace.
-ghost use Rattle.std.specs.Prelude.{◌≡◌, [], ◌∷◌, IfOk, string_bytes};
+ghost use Rattle.std.specs.Prelude.{◌≡◌, [], ◌∷◌, IfOk, map, string_bytes};
 ghost use Rattle.go_tree_nodes.specs.Shapes.{file_of};
-ghost use Rattle.go_part_core.specs.graph_core.Workspaces.{given_files};
-ghost use Rattle.go_part_core.specs.block_core.Naming.{AreInFile, import_at};
+ghost use Rattle.go_part_core.specs.graph_core.Packages.{trees_of};
+ghost use Rattle.go_part_core.specs.graph_core.Workspaces.{PackageModel, given_files};
+ghost use Rattle.go_part_core.specs.block_core.Naming.{AreInFile, HaveOneEach, import_at, imported_in};
+ghost use Rattle.go_part_core.specs.Inputs.{input_with};
 ghost use Rattle.govisd_core.specs.Alone.{the_name};
-ghost use Rattle.govisd_core.specs.mirrors.Making.{AreRefusedIn, HasText, IsGivenIn, IsInputIn, IsOwn, IsRefusedIn};
+ghost use Rattle.govisd_core.specs.mirrors.Making.{AreRefusedAlone, AreRefusedIn, HasText, IsGivenIn, IsInputIn, IsOwn, IsRefusedIn};
 
 use go_part_core::block_core::{Imported, import_specs};
 use go_part_core::graph_core::{ImportAt, ImportOutcome, Package, Plan, Workspace, plan_imports};
@@ -79,6 +81,38 @@ fn imports_of(alloc: Global, plan: &Plan, tree: &File) -> Result<Vec<Imported>, 
     Ok(imports)
 }
 
+// What the imports of the one file of a workspace come to, which has this tree, as those of the files of its package.
+fn imports_alone(
+    alloc: Global,
+    workspace: &Workspace,
+    tree: &File,
+) -> Result<Vec<Vec<Imported>>, AllocError>
+    requires { (p : PackageModel) × IsOwn workspace.now p (file_of tree.now) }
+    ensures { IfOk result (λ imports. AreRefusedAlone workspace.now (file_of tree.now) (map imported_in imports.items)) }
+{
+    let plan = plan_imports(alloc, workspace)?;
+    let of_file = imports_of(alloc, &plan, tree)?;
+    let mut imports = Vec::new(alloc);
+    add(&mut imports, of_file)?;
+    Ok(imports)
+}
+
+// The part of a package that reaches no other, by what its imports come to.
+fn compile_alone(
+    alloc: Global,
+    package: Package,
+    imports: Vec<Vec<Imported>>,
+) -> Result<Part, AllocError>
+    requires { HaveOneEach (trees_of «package».1) (map imported_in imports.items) }
+    ensures { IfOk result (λ p. p.input ≡ input_with «package» (map imported_in imports.items) []) }
+{
+    let reached = ReachedSummaries::none(alloc);
+    let input = PartInput::new(alloc, package, imports, reached)?;
+    let part = compile_part(alloc, &input);
+    input.close();
+    part
+}
+
 /// The part of the one package of a workspace, whose one file has this tree.
 ///
 /// # Errors
@@ -93,11 +127,11 @@ pub(crate) fn part_of(
     requires { IsOwn workspace.now «package» (file_of tree.now) }
     ensures { IfOk result (λ p. IsInputIn workspace.now «package» (file_of tree.now) p.input) }
 {
-    let plan = plan_imports(alloc, workspace)?;
-    let of_file = imports_of(alloc, &plan, tree)?;
-    let mut imports = Vec::new(alloc);
-    add(&mut imports, of_file)?;
-    let reached = ReachedSummaries::none(alloc);
-    let input = PartInput::new(alloc, package, imports, reached)?;
-    compile_part(alloc, &input)
+    match imports_alone(alloc, workspace, tree) {
+        Ok(imports) => compile_alone(alloc, package, imports),
+        Err(AllocError) => {
+            package.close();
+            Err(AllocError)
+        }
+    }
 }

@@ -89,7 +89,9 @@ fn tree_report(
     match assemble(source) {
         Ok(package) => {
             let part = part_of(alloc, workspace, tree, package)?;
-            part_report(alloc, file.name(), tree, &part)
+            let report = part_report(alloc, file.name(), tree, &part);
+            part.close();
+            report
         }
         Err(fault) => fault_report(alloc, fault.offset, fault.rule),
     }

@@ -92,7 +92,9 @@ fn check_workspace(
     ensures { IfOk result (λ a. IsChecked json module_path.now workspace.now notes.now passed.now a) }
 {
     let snapshot = compile(alloc, workspace)?;
-    answer_from(alloc, json, module_path, &snapshot, notes, passed)
+    let answer = answer_from(alloc, json, module_path, &snapshot, notes, passed);
+    snapshot.close();
+    answer
 }
 
 // Nothing is checked, for a reason of what has a name, which stands behind what is said already.

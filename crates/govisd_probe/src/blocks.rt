@@ -1,11 +1,10 @@
 //! What the imports, the blocks and the faults of the packages of a workspace are.
-use go_block_core::{Blocks, DeclKey, DeclKind, DeclRef, Target};
+use go_block_core::{Blocks, DeclKind, DeclRef, Target};
 use go_graph_core::{ImportAt, ImportOutcome, Plan};
-use go_text_core::add;
 use go_tree_core::{Role, occurrences};
 use go_tree_nodes::File;
 use govisd_show::{Lines, Named};
-use std::alloc::{AllocError, Global};
+use std::alloc::Global;
 
 /// A package with its number and its blocks, among all packages.
 #[derive(Clone, Copy)]
@@ -16,26 +15,21 @@ pub struct Place<'a> {
     pub blocks: &'a Blocks,
 }
 
-/// The packages that have blocks, in order.
-pub fn with_blocks<'a>(
-    alloc: Global,
+/// The package of a number, where it has blocks.
+pub fn place_of<'a>(
     packages: &'a [Named],
     all: &'a [Option<Blocks>],
-) -> Result<Vec<Place<'a>>, AllocError> {
-    let (mut places, mut number) = (Vec::new(alloc), 0usize);
-    for (package, blocks) in packages.iter().zip(all) {
-        if let Some(blocks) = blocks {
-            let place = Place {
-                packages,
-                package,
-                number,
-                blocks,
-            };
-            add(&mut places, place)?;
-        }
-        number = number.saturating_add(1);
+    number: usize,
+) -> Option<Place<'a>> {
+    match (packages.get(number), all.get(number)) {
+        (Some(package), Some(Some(blocks))) => Some(Place {
+            packages,
+            package,
+            number,
+            blocks,
+        }),
+        _ => None,
     }
-    Ok(places)
 }
 
 /// The path of the package of a number, and nothing where there is none.
@@ -46,16 +40,7 @@ fn path_of(packages: &[Named], number: usize) -> &str {
     }
 }
 
-/// Adds what an import comes to: the path of a package, or the rule that refuses it.
-fn add_outcome(out: &mut Lines, packages: &[Named], outcome: Option<ImportOutcome>) {
-    match outcome {
-        Some(ImportOutcome::Package(number)) => out.line(path_of(packages, number)),
-        Some(ImportOutcome::Refused(rule)) => out.refuse(rule),
-        None => out.line("nothing"),
-    }
-}
-
-/// Adds the imports of the file of a number: the place of each, and what it comes to.
+/// Adds the imports of the file of a number: the place of each, and what it comes to: the path of a package, or the rule that refuses it.
 pub fn add_imports(
     out: &mut Lines,
     alloc: Global,
@@ -74,7 +59,11 @@ pub fn add_imports(
                 package.add_place(out, at.file, occ.span.start as usize);
             }
             out.add(" ");
-            add_outcome(out, packages, plan.outcome(at));
+            match plan.outcome(at) {
+                Some(ImportOutcome::Package(number)) => out.line(path_of(packages, number)),
+                Some(ImportOutcome::Refused(rule)) => out.refuse(rule),
+                None => out.line("nothing"),
+            }
             at.import = at.import.saturating_add(1);
         }
     }
@@ -84,8 +73,7 @@ pub fn add_imports(
 pub fn add_order(out: &mut Lines, packages: &[Named], order: &[usize]) {
     out.add("order");
     for number in order {
-        out.add(" ");
-        out.add(path_of(packages, *number));
+        out.pieces(&[" ", path_of(packages, *number)]);
     }
     out.line("");
 }
@@ -105,18 +93,9 @@ pub fn kind_word(kind: DeclKind) -> &'static str {
 
 /// Adds a declaration: its kind and its place.
 pub fn add_decl(out: &mut Lines, package: &Named, decl: DeclRef) {
-    out.word(kind_word(decl.kind));
+    out.pieces(&[kind_word(decl.kind), " "]);
     package.add_decl(out, decl);
     out.line("");
-}
-
-/// Adds a declaration of one of the packages.
-fn add_key(out: &mut Lines, packages: &[Named], key: &DeclKey) {
-    for package in packages {
-        if package.path.as_str() == key.path.as_str() {
-            return add_decl(out, package, key.decl);
-        }
-    }
 }
 
 /// Adds what a name of a file block denotes.
@@ -124,19 +103,13 @@ pub fn add_target(out: &mut Lines, packages: &[Named], target: &Target) {
     match target {
         Target::Package(path) => out.line(path.as_str()),
         Target::Refused(rule) => out.refuse(*rule),
-        Target::Exported(key) => add_key(out, packages, key),
-    }
-}
-
-/// Adds the names of a package block, each with its kind and its place.
-fn add_package_block(out: &mut Lines, alloc: Global, place: Place<'_>) {
-    let Ok(names) = place.blocks.names(alloc) else {
-        return out.cut();
-    };
-    for named in &names {
-        out.add("name ");
-        out.word(named.name.as_str());
-        add_decl(out, place.package, named.decl);
+        Target::Exported(key) => {
+            for package in packages {
+                if package.path.as_str() == key.path.as_str() {
+                    return add_decl(out, package, key.decl);
+                }
+            }
+        }
     }
 }
 
@@ -147,8 +120,7 @@ fn add_file_block(out: &mut Lines, alloc: Global, place: Place<'_>, file: usize)
     };
     for name in &names {
         if let Some(binding) = place.blocks.file(file, name) {
-            out.add("bound ");
-            out.word(name);
+            out.pieces(&["bound ", name, " "]);
             place.package.add_place(out, file, binding.at);
             out.add(" ");
             add_target(out, place.packages, &binding.target);
@@ -156,9 +128,15 @@ fn add_file_block(out: &mut Lines, alloc: Global, place: Place<'_>, file: usize)
     }
 }
 
-/// Adds the blocks of a package, and the faults in them.
+/// Adds the blocks of a package, and the faults in them: the names of the package block, each with its kind and its place, and the blocks of the files.
 pub fn add_blocks(out: &mut Lines, alloc: Global, place: Place<'_>) {
-    add_package_block(out, alloc, place);
+    let Ok(names) = place.blocks.names(alloc) else {
+        return out.cut();
+    };
+    for named in &names {
+        out.pieces(&["name ", named.name.as_str(), " "]);
+        add_decl(out, place.package, named.decl);
+    }
     for file in 0..place.package.files.len() {
         add_file_block(out, alloc, place, file);
     }

@@ -5,22 +5,10 @@ ghost use Rattle.go_local_core.specs.Tables.{IsFuncPlaced};
 
 use crate::blocks::{Place, kind_word};
 use go_graph_core::PackageSource;
-use go_names_core::{Denoted, FuncNames, Outside, function_names};
-use go_text_core::{is_digit, is_letter};
+use go_names_core::{Denoted, Outside, function_names};
 use go_tree_nodes::{Decl, File, FuncDecl};
-use govisd_show::{Lines, Named};
+use govisd_show::{Lines, Named, identifier_at};
 use std::alloc::Global;
-
-/// The identifier that stands at an offset.
-fn identifier(text: &str, offset: usize) -> &str {
-    let rest = text.get(offset..).unwrap_or("");
-    for (end, c) in rest.char_indices() {
-        if !is_letter(c) && !is_digit(c) {
-            return rest.get(..end).unwrap_or("");
-        }
-    }
-    rest
-}
 
 /// Adds what a name of the file of a number denotes.
 fn add_denoted(out: &mut Lines, package: &Named, file: usize, denoted: Option<Denoted>) {
@@ -32,28 +20,15 @@ fn add_denoted(out: &mut Lines, package: &Named, file: usize, denoted: Option<De
             package.add_decl(out, decl);
         }
         Some(Denoted::Outside(Outside::Universe(name))) => {
-            out.add("universe.");
-            out.add(name.spelling());
+            out.pieces(&["universe.", name.spelling()]);
         }
         None => out.add("undeclared"),
     }
     out.line("");
 }
 
-/// Adds the names of a function: of each identifier that is looked up its offset, its spelling and what it denotes, and then the
-/// faults.
-fn add_func_names(out: &mut Lines, package: &Named, file: usize, text: &str, names: &FuncNames) {
-    for used in &names.uses {
-        out.count("", used.offset, " ");
-        out.word(identifier(text, used.offset));
-        add_denoted(out, package, file, used.denoted);
-    }
-    for fault in &names.faults {
-        out.fault(fault.rule, fault.offset);
-    }
-}
-
-/// Adds the names of a function, behind the place of its own name.
+/// Adds the names of a function, behind the place of its own name: of each identifier that is looked up its offset, its spelling and what it
+/// denotes, and then the faults.
 fn add_function(
     out: &mut Lines,
     alloc: Global,
@@ -65,13 +40,19 @@ fn add_function(
     requires { IsFuncPlaced (func_of func.now) }
 {
     out.add("function ");
-    place
-        .package
-        .add_place(out, file, func.name.span.start as usize);
+    let package = place.package;
+    package.add_place(out, file, func.name.span.start as usize);
     out.line("");
-    match function_names(alloc, place.blocks, file, func) {
-        Ok(names) => add_func_names(out, place.package, file, text, &names),
-        Err(_) => out.cut(),
+    let Ok(names) = function_names(alloc, place.blocks, file, func) else {
+        return out.cut();
+    };
+    for used in &names.uses {
+        out.count("", used.offset, " ");
+        out.pieces(&[identifier_at(text, used.offset), " "]);
+        add_denoted(out, package, file, used.denoted);
+    }
+    for fault in &names.faults {
+        out.fault(fault.rule, fault.offset);
     }
 }
 
@@ -104,24 +85,21 @@ pub fn add_names(out: &mut Lines, alloc: Global, place: Place<'_>, source: &Pack
     }
 }
 
-/// Adds what the file of a number declares outside bodies: of each identifier its number, its kind, its spelling and its place.
-fn add_file_keys(out: &mut Lines, package: &Named, file: usize, text: &str) {
-    let mut number = 0usize;
-    for place in package.places(file) {
-        out.count("", number, " ");
-        out.word(kind_word(place.kind));
-        out.word(identifier(text, place.at));
-        package.add_place(out, file, place.at);
-        out.line("");
-        number = number.saturating_add(1);
-    }
-}
-
-/// Adds what the files of a package declare outside bodies.
+/// Adds what the files of a package declare outside bodies: of each identifier its number, its kind, its spelling and its place.
 pub fn add_keys(out: &mut Lines, package: &Named, source: &PackageSource) {
     let mut file = 0usize;
     for read in source.files() {
-        add_file_keys(out, package, file, read.text());
+        let mut number = 0usize;
+        for place in package.places(file) {
+            out.count("", number, " ");
+            out.add(kind_word(place.kind));
+            out.add(" ");
+            out.add(identifier_at(read.text(), place.at));
+            out.add(" ");
+            package.add_place(out, file, place.at);
+            out.line("");
+            number = number.saturating_add(1);
+        }
         file = file.saturating_add(1);
     }
 }

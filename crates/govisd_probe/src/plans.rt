@@ -14,28 +14,6 @@ struct Counts {
     refused: [usize; 6],
 }
 
-impl Counts {
-    /// Counts an import that a rule refuses.
-    fn refuse(&mut self, rule: Rule) {
-        for n in 0..6usize {
-            if IMPORT_RULES[n] == rule {
-                self.refused[n] = self.refused[n].saturating_add(1);
-            }
-        }
-    }
-
-    /// Adds for each rule that refuses any import how many it refuses.
-    fn add_refused(&self, out: &mut Lines) {
-        for n in 0..6usize {
-            if self.refused[n] > 0 {
-                out.add(" ");
-                out.word(IMPORT_RULES[n].number());
-                out.show(self.refused[n]);
-            }
-        }
-    }
-}
-
 /// Counts the imports of a file.
 fn count_file(counts: &mut Counts, plan: &Plan, package: usize, file: usize) {
     for import in 0..usize::MAX {
@@ -46,7 +24,13 @@ fn count_file(counts: &mut Counts, plan: &Plan, package: usize, file: usize) {
         };
         match plan.outcome(at) {
             Some(ImportOutcome::Package(_)) => counts.passing = counts.passing.saturating_add(1),
-            Some(ImportOutcome::Refused(rule)) => counts.refuse(rule),
+            Some(ImportOutcome::Refused(rule)) => {
+                for n in 0..6usize {
+                    if IMPORT_RULES[n] == rule {
+                        counts.refused[n] = counts.refused[n].saturating_add(1);
+                    }
+                }
+            }
             None => return,
         }
         counts.all = counts.all.saturating_add(1);
@@ -68,9 +52,14 @@ pub fn add_plan(out: &mut Lines, workspace: &Workspace, plan: &Plan) {
         }
         number = number.saturating_add(1);
     }
-    out.count("packages ", number, "");
-    out.count(" imports ", counts.all, "");
-    out.count(" passing ", counts.passing, "");
-    counts.add_refused(out);
-    out.end(" order ", plan.order().len());
+    out.count("packages ", number, " imports ");
+    out.count("", counts.all, " passing ");
+    out.count("", counts.passing, "");
+    for n in 0..6usize {
+        if counts.refused[n] > 0 {
+            out.pieces(&[" ", IMPORT_RULES[n].number()]);
+            out.count(" ", counts.refused[n], "");
+        }
+    }
+    out.count(" order ", plan.order().len(), "\n");
 }

@@ -19,32 +19,6 @@ pub struct Ends {
     fails: bool,
 }
 
-impl Ends {
-    /// All that is asked for.
-    pub const ALL: Ends = Ends {
-        step: usize::MAX,
-        reads: usize::MAX,
-        interrupts: false,
-        fails: false,
-    };
-
-    /// The same with interruptions.
-    pub const INTERRUPTED: Ends = Ends {
-        step: usize::MAX,
-        reads: usize::MAX,
-        interrupts: true,
-        fails: false,
-    };
-
-    /// A writer that takes nothing.
-    pub const FAILING: Ends = Ends {
-        step: usize::MAX,
-        reads: usize::MAX,
-        interrupts: false,
-        fails: true,
-    };
-}
-
 /// Gives bytes.
 #[derive(Drop)]
 struct Source<'a> {
@@ -109,49 +83,58 @@ fn run(alloc: Global, ends: Ends, bytes: &[u8]) -> (ResolveEnd, Vec<u8>) {
     (end, sink.bytes)
 }
 
-/// The word for how a run ends, and nothing for want of memory.
-fn end_word(end: ResolveEnd) -> &'static str {
-    match end {
-        ResolveEnd::Clean => "clean",
-        ResolveEnd::Faults => "faults",
-        ResolveEnd::ReadFault => "read fault",
-        ResolveEnd::WriteFault => "write fault",
-        ResolveEnd::Memory => "",
-    }
-}
-
 /// Adds the lines that a run writes, and how it ends.
-pub fn add_run(out: &mut Lines, alloc: Global, ends: Ends, bytes: &[u8]) {
+fn add_run(out: &mut Lines, alloc: Global, ends: Ends, bytes: &[u8]) {
     let (end, lines) = run(alloc, ends, bytes);
-    if end == ResolveEnd::Memory {
-        out.cut();
-    }
     out.add(str::from_utf8(lines.as_slice()).unwrap_or("no text\n"));
-    out.line(end_word(end));
-}
-
-/// Adds the same of a run whose reads give, and whose writes take, at most as many bytes as the first line says.
-pub fn add_slow_run(out: &mut Lines, alloc: Global, ends: Ends, text: &str) {
-    if let Some((step, source)) = text.split_once('\n') {
-        let step = step.parse().unwrap_or(1);
-        add_run(out, alloc, Ends { step, ..ends }, source.as_bytes());
+    match end {
+        ResolveEnd::Clean => out.line("clean"),
+        ResolveEnd::Faults => out.line("faults"),
+        ResolveEnd::ReadFault => out.line("read fault"),
+        ResolveEnd::WriteFault => out.line("write fault"),
+        ResolveEnd::Memory => out.cut(),
     }
 }
 
 /// Adds how many runs end with a read fault and write nothing, of those in which the read of each byte fails and
 /// the read at the end.
-pub fn add_unread(out: &mut Lines, alloc: Global, bytes: &[u8]) {
+fn add_unread(out: &mut Lines, alloc: Global, bytes: &[u8]) {
     let mut count = 0usize;
     for reads in 0..=bytes.len() {
         let ends = Ends {
             step: 1,
             reads,
-            ..Ends::ALL
+            interrupts: false,
+            fails: false,
         };
         let (end, lines) = run(alloc, ends, bytes);
         if end == ResolveEnd::ReadFault && lines.is_empty() {
             count = count.saturating_add(1);
         }
     }
-    out.end("", count);
+    out.count("", count, "\n");
+}
+
+/// Adds the answer of a kind to bytes, and tells whether the kind is one of these. Of a slow run the first line of the text says how many bytes a
+/// read gives, and a write takes, at most.
+pub fn add_answer(out: &mut Lines, alloc: Global, kind: &str, bytes: &[u8]) -> bool {
+    let mut ends = Ends {
+        step: usize::MAX,
+        reads: usize::MAX,
+        interrupts: kind == "interrupted",
+        fails: kind == "unwritten",
+    };
+    match kind {
+        "resolve" | "unwritten" => add_run(out, alloc, ends, bytes),
+        "slow" | "interrupted" => {
+            let text = str::from_utf8(bytes).unwrap_or("");
+            if let Some((step, source)) = text.split_once('\n') {
+                ends.step = step.parse().unwrap_or(1);
+                add_run(out, alloc, ends, source.as_bytes());
+            }
+        }
+        "unread" => add_unread(out, alloc, bytes),
+        _ => return false,
+    }
+    true
 }

@@ -1,26 +1,24 @@
 //! What names denote in the files of a workspace.
 ghost use Rattle.std.specs.Prelude.{◌<◌, length};
 
-use crate::blocks::{Place, add_decl, add_target};
+use crate::blocks::{Place, add_decl, add_target, place_of};
 use crate::words::pair;
+use go_block_core::Blocks;
 use go_scope_core::{DeclId, InScope, Scopes, ShortDecl, ShortName};
 use go_text_core::{Rule, add};
-use govisd_show::{Lines, member_place};
+use govisd_show::{Lines, Named, member_place};
 use std::alloc::{AllocError, Global};
 
 /// Adds a name, and what it denotes in a file.
 fn add_found(out: &mut Lines, place: Place<'_>, scopes: &Scopes<'_>, name: &str) {
-    out.word(name);
+    out.pieces(&[name, " "]);
     match scopes.find(name) {
         None => out.line("nothing"),
-        Some(InScope::Local(id)) => {
-            out.end("local ", id.0);
-        }
+        Some(InScope::Local(id)) => out.count("local ", id.0, "\n"),
         Some(InScope::Package(decl)) => add_decl(out, place.package, decl),
         Some(InScope::File(binding)) => add_target(out, place.packages, &binding.target),
         Some(InScope::Universe(predeclared)) => {
-            out.add("universe.");
-            out.line(predeclared.spelling());
+            out.pieces(&["universe.", predeclared.spelling(), "\n"]);
         }
     }
 }
@@ -39,20 +37,15 @@ fn numbered<'a>(
     Ok(names)
 }
 
-/// The word for what a name to the left of `:=` is.
-fn short_word(name: &ShortName) -> &'static str {
-    match name {
-        ShortName::New => " new",
-        ShortName::Old => " old",
-        ShortName::Blank => " blank",
-        ShortName::Repeated => " repeated",
-    }
-}
-
 /// Adds what the names of a short declaration are, and B4 where none is new.
 fn add_news(out: &mut Lines, short: &ShortDecl) {
     for name in short.names() {
-        out.add(short_word(name));
+        out.add(match name {
+            ShortName::New => " new",
+            ShortName::Old => " old",
+            ShortName::Blank => " blank",
+            ShortName::Repeated => " repeated",
+        });
     }
     out.line(if short.is_any_new() { "" } else { " B4" });
 }
@@ -98,7 +91,7 @@ fn add_declared(out: &mut Lines, scopes: &mut Scopes<'_>, name: &str, number: us
 {
     out.add(" ");
     match scopes.declare(name, DeclId(number)) {
-        Ok(()) => out.end("", number),
+        Ok(()) => out.count("", number, "\n"),
         Err(rule) => out.refuse(rule),
     }
 }
@@ -116,23 +109,6 @@ fn add_block(out: &mut Lines, alloc: Global, scopes: &mut Scopes<'_>, words: &st
             None => add_declared(out, scopes, word, number),
         }
         number = number.saturating_add(1);
-    }
-}
-
-/// Adds what the names of a block denote in it, and outside of it.
-fn add_both(
-    out: &mut Lines,
-    alloc: Global,
-    place: Place<'_>,
-    inside: &Scopes<'_>,
-    outside: &Scopes<'_>,
-) {
-    let Ok(names) = inside.names(alloc) else {
-        return out.cut();
-    };
-    for name in &names {
-        add_found(out, place, inside, name);
-        add_found(out, place, outside, name);
     }
 }
 
@@ -158,7 +134,13 @@ fn add_inner(
         return out.cut();
     };
     scopes.leave();
-    add_both(out, alloc, place, &inside, scopes);
+    let Ok(names) = inside.names(alloc) else {
+        return out.cut();
+    };
+    for name in &names {
+        add_found(out, place, &inside, name);
+        add_found(out, place, scopes, name);
+    }
 }
 
 /// Adds the names that denote something in a file.
@@ -168,8 +150,7 @@ fn add_names(out: &mut Lines, alloc: Global, scopes: &Scopes<'_>) {
     };
     out.add("names");
     for name in &names {
-        out.add(" ");
-        out.add(name);
+        out.pieces(&[" ", name]);
     }
     out.line("");
 }
@@ -207,13 +188,21 @@ fn add_in_package(out: &mut Lines, alloc: Global, place: Place<'_>, file: &str, 
 
 /// Adds the answer to a query: a file of a package, written as its path and its name, and behind a blank what is
 /// asked of it.
-fn add_query(out: &mut Lines, alloc: Global, places: &[Place<'_>], query: &str) {
+fn add_query(
+    out: &mut Lines,
+    alloc: Global,
+    packages: &[Named],
+    all: &[Option<Blocks>],
+    query: &str,
+) {
     let (file, asked) = pair(query);
-    out.word(file);
+    out.pieces(&[file, " "]);
     let (path, name) = file.rsplit_once('/').unwrap_or(("", file));
-    for place in places {
-        if place.package.path.as_str() == path {
-            return add_in_package(out, alloc, *place, name, asked);
+    for number in 0..packages.len() {
+        if let Some(place) = place_of(packages, all, number) {
+            if place.package.path.as_str() == path {
+                return add_in_package(out, alloc, place, name, asked);
+            }
         }
     }
     out.line("no package");
@@ -221,14 +210,20 @@ fn add_query(out: &mut Lines, alloc: Global, places: &[Place<'_>], query: &str) 
 
 /// Adds the answers to the queries of an archive with its packages. The queries stand before its first file, a line
 /// each.
-pub fn add_scope(out: &mut Lines, alloc: Global, places: &[Place<'_>], text: &str) {
+pub fn add_scope(
+    out: &mut Lines,
+    alloc: Global,
+    packages: &[Named],
+    all: &[Option<Blocks>],
+    text: &str,
+) {
     for line in text.lines() {
         if member_place(line).is_some() {
             return;
         }
         let query = line.trim();
         if !query.is_empty() {
-            add_query(out, alloc, places, query);
+            add_query(out, alloc, packages, all, query);
         }
     }
 }

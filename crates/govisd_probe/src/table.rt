@@ -54,8 +54,7 @@ impl<'a> Case<'a> {
             TokenKind::Integer => self.times = integer_value(spelled).unwrap_or(1),
             TokenKind::String => self.take_literal(out, alloc, spelled),
             TokenKind::Operator(Operator::Colon) => {
-                out.add(self.name);
-                out.add(":");
+                out.pieces(&[self.name, ":"]);
             }
             TokenKind::Operator(Operator::Comma) => {
                 self.answer(out, alloc);

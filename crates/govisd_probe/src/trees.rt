@@ -1,17 +1,24 @@
 //! What is answered of trees.
-use crate::kinds::Kind;
 use crate::tokens::add_comments;
 use go_parse_core::{ParseError, Parsed, parse, tree_of};
-use go_tree_core::{Occ, at, close, copy, occurrences};
+use go_tree_core::{Occ, Role, Usage, at, close, copy, occurrences};
 use go_tree_nodes::{Decl, File};
 use govisd_show::Lines;
-use std::alloc::Global;
+use std::alloc::{AllocError, Global};
 
-/// Adds why a text has no tree.
-fn add_error(out: &mut Lines, error: ParseError) {
-    match error {
-        ParseError::Memory => out.cut(),
-        ParseError::Fault(fault) => out.fault(fault.rule, fault.offset),
+/// The name of a role, with the use of a selector.
+fn role_word(role: Role) -> &'static str {
+    match role {
+        Role::Import => "Import ",
+        Role::Type => "Type ",
+        Role::Value => "Value ",
+        Role::Callee => "Callee ",
+        Role::Qualifier => "Qualifier ",
+        Role::Selector(Usage::Type) => "Selector(Type) ",
+        Role::Selector(Usage::Value) => "Selector(Value) ",
+        Role::Selector(Usage::Callee) => "Selector(Callee) ",
+        Role::Key => "Key ",
+        Role::Call => "Call ",
     }
 }
 
@@ -19,7 +26,7 @@ fn add_error(out: &mut Lines, error: ParseError) {
 fn add_uses(out: &mut Lines, occs: &[Occ]) {
     for occ in occs {
         out.span(occ.span);
-        out.name(occ.role);
+        out.add(role_word(occ.role));
         out.quote(occ.spelling.as_str().as_bytes());
     }
 }
@@ -28,8 +35,8 @@ fn add_uses(out: &mut Lines, occs: &[Occ]) {
 fn add_places(out: &mut Lines, parsed: &Parsed) {
     for offset in 0..parsed.text().len() {
         if let Some(id) = at(parsed.tree(), offset) {
-            out.show(offset);
-            out.end(" ", id.0);
+            out.count("", offset, " ");
+            out.count("", id.0, "\n");
         }
     }
 }
@@ -37,13 +44,13 @@ fn add_places(out: &mut Lines, parsed: &Parsed) {
 /// Adds the name of a file and the number of its declarations, and of each function its name, the place of its opening brace and
 /// how many statements it has.
 fn add_file(out: &mut Lines, file: &File) {
-    out.word(file.name.name.as_str());
-    out.end("", file.decls.len());
+    out.add(file.name.name.as_str());
+    out.count(" ", file.decls.len(), "\n");
     for top in &file.decls {
         if let Decl::Func(func) = &top.decl {
-            out.word(func.name.name.as_str());
+            out.pieces(&[func.name.name.as_str(), " "]);
             out.span(func.open_brace);
-            out.end("", func.body.len());
+            out.count("", func.body.len(), "\n");
         }
     }
 }
@@ -69,53 +76,71 @@ fn add_copies(out: &mut Lines, alloc: Global, parsed: &Parsed) {
     copied.close();
 }
 
-/// Adds the occurrences of a file.
-fn add_uses_of(out: &mut Lines, alloc: Global, file: &File) {
-    match occurrences(alloc, file) {
-        Ok(occs) => add_uses(out, occs.as_slice()),
-        Err(_) => out.cut(),
-    }
-}
-
-/// Adds what is asked of the tree of a text.
-pub fn add_of_tree(out: &mut Lines, alloc: Global, kind: &Kind, text: String) {
-    match parse(alloc, text) {
-        Ok(parsed) => {
-            match kind {
-                Kind::Uses => add_uses_of(out, alloc, parsed.tree()),
-                Kind::Places => add_places(out, &parsed),
-                Kind::Copies => add_copies(out, alloc, &parsed),
-                _ => out.line("tree"),
-            }
-            parsed.close();
-        }
-        Err(error) => add_error(out, error),
-    }
-}
-
-/// Whether a text has a tree.
-fn has_tree(out: &mut Lines, alloc: Global, text: &str) -> bool {
-    match tree_of(alloc, text) {
-        Ok(tree) => {
-            close(tree);
-            true
-        }
-        Err(ParseError::Memory) => {
-            out.cut();
-            false
-        }
-        Err(ParseError::Fault(_)) => false,
+/// Adds what is asked of a parsed text.
+fn add_of_parsed(out: &mut Lines, alloc: Global, kind: &str, parsed: &Parsed) {
+    match kind {
+        "uses" => match occurrences(alloc, parsed.tree()) {
+            Ok(occs) => add_uses(out, occs.as_slice()),
+            Err(_) => out.cut(),
+        },
+        "places" => add_places(out, parsed),
+        "copies" => add_copies(out, alloc, parsed),
+        _ => out.line("tree"),
     }
 }
 
 /// Adds how many of a text's beginnings have a tree, nothing and the whole text among them.
-pub fn add_prefixes(out: &mut Lines, alloc: Global, text: &str) {
+fn add_prefixes(out: &mut Lines, alloc: Global, text: &str) {
     let mut count = 0usize;
     for end in 0..=text.len() {
         // Inside a character there is no prefix.
         if let Some(prefix) = text.get(..end) {
-            count = count.saturating_add(usize::from(has_tree(out, alloc, prefix)));
+            match tree_of(alloc, prefix) {
+                Ok(tree) => {
+                    close(tree);
+                    count = count.saturating_add(1);
+                }
+                Err(ParseError::Memory) => out.cut(),
+                Err(ParseError::Fault(_)) => {}
+            }
         }
     }
-    out.end("", count);
+    out.count("", count, "\n");
+}
+
+/// The file that a text between two pieces makes.
+fn framed(alloc: Global, before: &str, text: &str, behind: &str) -> Result<String, AllocError> {
+    let mut file = Lines::new(alloc);
+    file.pieces(&[before, text, behind]);
+    file.finish()
+}
+
+/// Adds the answer of a kind to a text, or to a file in which it is a declaration, a statement, an expression or a type, and tells whether the
+/// kind is one of these.
+pub fn add_answer(out: &mut Lines, alloc: Global, kind: &str, text: &str) -> bool {
+    let file = match kind {
+        "parse" | "uses" | "places" | "copies" => framed(alloc, "", text, ""),
+        "decl" => framed(alloc, "package a\n", text, "\n"),
+        "stmt" => framed(alloc, "package a\nfunc f() { ", text, " }\n"),
+        "expr" => framed(alloc, "package a\nvar x = ", text, "\n"),
+        "typed" => framed(alloc, "package a\nvar x ", text, "\n"),
+        "prefixes" => {
+            add_prefixes(out, alloc, text);
+            return true;
+        }
+        _ => return false,
+    };
+    let Ok(file) = file else {
+        out.cut();
+        return true;
+    };
+    match parse(alloc, file) {
+        Ok(parsed) => {
+            add_of_parsed(out, alloc, kind, &parsed);
+            parsed.close();
+        }
+        Err(ParseError::Memory) => out.cut(),
+        Err(ParseError::Fault(fault)) => out.fault(fault.rule, fault.offset),
+    }
+    true
 }

@@ -30,18 +30,16 @@ fn yes_or_no(holds: bool) -> &'static str {
     if holds { "yes" } else { "no" }
 }
 
-/// What a character may be in an identifier.
-fn class(c: char) -> &'static str {
-    if is_letter(c) {
-        return "letter";
-    }
-    if is_digit(c) { "digit" } else { "neither" }
-}
-
 /// Adds what each character of a text may be in an identifier, and whether a name that begins so is exported.
-pub fn add_letters(out: &mut Lines, text: &str) {
+fn add_letters(out: &mut Lines, text: &str) {
     for c in text.chars() {
-        out.line(class(c));
+        out.line(if is_letter(c) {
+            "letter"
+        } else if is_digit(c) {
+            "digit"
+        } else {
+            "neither"
+        });
     }
     if is_exported(text) {
         out.line("exported");
@@ -49,7 +47,7 @@ pub fn add_letters(out: &mut Lines, text: &str) {
 }
 
 /// Adds the spelling of a copy of the name that is spelled so, and of the name.
-pub fn add_name(out: &mut Lines, alloc: Global, text: &str) {
+fn add_name(out: &mut Lines, alloc: Global, text: &str) {
     let Ok(name) = Name::from_text(alloc, text) else {
         return out.cut();
     };
@@ -60,27 +58,27 @@ pub fn add_name(out: &mut Lines, alloc: Global, text: &str) {
     out.line(name.as_str());
 }
 
-/// Adds whether two identifiers are the same, each with the path of its package behind a blank.
-pub fn add_same(out: &mut Lines, text: &str) {
+/// Whether two identifiers are the same, each with the path of its package behind a blank.
+fn are_same(text: &str) -> bool {
     let (one, rest) = pair(text);
     let (one_path, rest) = pair(rest);
     let (other, other_path) = pair(rest);
-    out.line(yes_or_no(same_id(one, one_path, other, other_path)));
+    same_id(one, one_path, other, other_path)
 }
 
-/// Adds the piece of a text from a start to an end, which stand before it.
-pub fn add_piece(out: &mut Lines, text: &str) {
+/// The piece of a text from a start to an end, which stand before it.
+fn piece(text: &str) -> &str {
     let (start, rest) = pair(text);
     let (end, text) = pair(rest);
     let span = Span {
         start: start.parse().unwrap_or(0),
         end: end.parse().unwrap_or(0),
     };
-    out.line(span.slice(text).unwrap_or("none"));
+    span.slice(text).unwrap_or("none")
 }
 
 /// Adds the rules on names whose number begins with a text.
-pub fn add_rules(out: &mut Lines, text: &str) {
+fn add_rules(out: &mut Lines, text: &str) {
     for rule in &NAME_RULES {
         let number = rule.number();
         if number.starts_with(text) {
@@ -89,34 +87,52 @@ pub fn add_rules(out: &mut Lines, text: &str) {
     }
 }
 
-/// Adds that a text could be read, or the rule that it breaks.
-pub fn add_read<T: Drop>(out: &mut Lines, read: Result<T, Rule>) {
-    match read {
-        Ok(_) => out.line("ok"),
-        Err(rule) => out.refuse(rule),
+/// The word for whether one of the two modules round a blank lies inside the other, or `ok` where a lone one is asked for; O2 where one is no
+/// module.
+fn of_modules(alloc: Global, text: &str, is_lone: bool) -> Result<&'static str, Rule> {
+    if is_lone {
+        let _module = Module::read(alloc, text)?;
+        return Ok("ok");
     }
-}
-
-/// Adds whether something holds, or the rule that is broken.
-pub fn add_judged(out: &mut Lines, judged: Result<bool, Rule>) {
-    match judged {
-        Ok(holds) => out.line(yes_or_no(holds)),
-        Err(rule) => out.refuse(rule),
-    }
-}
-
-/// Whether one of the two modules round a blank lies inside the other, and O2 where one is no module.
-pub fn overlapping(alloc: Global, text: &str) -> Result<bool, Rule> {
     let (one, other) = pair(text);
     let one = Module::read(alloc, one)?;
     let other = Module::read(alloc, other)?;
-    Ok(overlaps(&one, &other))
+    Ok(yes_or_no(overlaps(&one, &other)))
 }
 
-/// Whether the path before a blank may import the one behind it, and I1 where one is no path.
-pub fn importing(alloc: Global, text: &str) -> Result<bool, Rule> {
+/// The word for whether the path before a blank may import the one behind it, or `ok` where a lone one is asked for; I1 where one is no path.
+fn of_paths(alloc: Global, text: &str, is_lone: bool) -> Result<&'static str, Rule> {
+    if is_lone {
+        let _path = ImportPath::read(alloc, text)?;
+        return Ok("ok");
+    }
     let (from, path) = pair(text);
     let from = ImportPath::read(alloc, from)?;
     let path = ImportPath::read(alloc, path)?;
-    Ok(may_import(&from, &path))
+    Ok(yes_or_no(may_import(&from, &path)))
+}
+
+/// Adds a word, or the rule that is broken.
+fn add_judged(out: &mut Lines, judged: Result<&'static str, Rule>) {
+    match judged {
+        Ok(word) => out.line(word),
+        Err(rule) => out.refuse(rule),
+    }
+}
+
+/// Adds the answer of a kind to a text, and tells whether the kind is one of these.
+pub fn add_answer(out: &mut Lines, alloc: Global, kind: &str, text: &str) -> bool {
+    match kind {
+        "letters" => add_letters(out, text),
+        "name" => add_name(out, alloc, text),
+        "same" => out.line(yes_or_no(are_same(text))),
+        "piece" => out.line(piece(text)),
+        "rules" => add_rules(out, text),
+        "path" => add_judged(out, of_paths(alloc, text, true)),
+        "module" => add_judged(out, of_modules(alloc, text, true)),
+        "overlaps" => add_judged(out, of_modules(alloc, text, false)),
+        "may_import" => add_judged(out, of_paths(alloc, text, false)),
+        _ => return false,
+    }
+    true
 }

@@ -1,8 +1,7 @@
 //! What is answered of workspaces.
 ghost use Rattle.go_graph_core.specs.Plans.{IsPlan};
 
-use crate::blocks::{Place, add_blocks, add_imports, add_order, with_blocks};
-use crate::kinds::Kind;
+use crate::blocks::{add_blocks, add_imports, add_order, place_of};
 use crate::names::{add_keys, add_names};
 use crate::plans::add_plan;
 use crate::scopes::add_scope;
@@ -10,7 +9,9 @@ use go_block_core::workspace_blocks;
 use go_graph_core::{ImportAt, Plan, Workspace, plan_imports};
 use go_path_core::Module;
 use go_text_core::Rule;
-use govisd_show::{Lines, Named, add_counts, add_files, add_package, name_packages, put_archive};
+use govisd_show::{
+    Lines, Named, add_counts, add_files, add_package, close_names, name_packages, put_archive,
+};
 use std::alloc::Global;
 
 /// Adds the packages of a workspace, their imports and their order.
@@ -43,60 +44,62 @@ fn add_packages(
     add_order(out, packages, plan.order());
 }
 
-/// Adds what is asked of the blocks of packages, of the names of their functions, or of what their files declare.
-fn add_all_blocks(
-    out: &mut Lines,
-    alloc: Global,
-    kind: &Kind,
-    workspace: &Workspace,
-    places: &[Place<'_>],
-) {
-    for place in places {
-        match (kind, workspace.packages().get(place.number)) {
-            (Kind::Names, Some(source)) => add_names(out, alloc, *place, source),
-            (Kind::Keys, Some(source)) => add_keys(out, place.package, source),
-            _ => add_blocks(out, alloc, *place),
-        }
-    }
-}
-
-/// Adds what is asked of a workspace whose imports are planned. The text is that of its archive.
+/// Adds what is asked of a workspace whose imports are planned: of the names in its files, and else of the blocks of its packages, the names of their
+/// functions, or what their files declare. The text is that of its archive.
 fn add_planned(
     out: &mut Lines,
     alloc: Global,
-    kind: &Kind,
+    kind: &str,
     workspace: &Workspace,
+    packages: &[Named],
     plan: &Plan,
     text: &str,
 )
     requires { IsPlan workspace.now plan.now }
 {
-    let Ok(packages) = name_packages(alloc, workspace) else {
-        return out.cut();
-    };
     let Ok(blocks) = workspace_blocks(alloc, workspace, plan) else {
         return out.cut();
     };
-    let packages = packages.as_slice();
-    let Ok(places) = with_blocks(alloc, packages, blocks.as_slice()) else {
-        return out.cut();
-    };
     match kind {
-        Kind::Scope => return add_scope(out, alloc, places.as_slice(), text),
-        Kind::Packages => add_packages(out, alloc, workspace, packages, plan),
+        "scope" => return add_scope(out, alloc, packages, blocks.as_slice(), text),
+        "packages" => add_packages(out, alloc, workspace, packages, plan),
         _ => {}
     }
-    add_all_blocks(out, alloc, kind, workspace, places.as_slice());
+    let mut number = 0usize;
+    for source in workspace.packages() {
+        if let Some(place) = place_of(packages, blocks.as_slice(), number) {
+            match kind {
+                "names" => add_names(out, alloc, place, source),
+                "keys" => add_keys(out, place.package, source),
+                _ => add_blocks(out, alloc, place),
+            }
+        }
+        number = number.saturating_add(1);
+    }
 }
 
 /// Adds what is asked of the imports of a workspace, or of what stands on them.
-fn add_of_plan(out: &mut Lines, alloc: Global, kind: &Kind, workspace: &Workspace, text: &str) {
+fn add_of_plan(out: &mut Lines, alloc: Global, kind: &str, workspace: &Workspace, text: &str) {
     let Ok(plan) = plan_imports(alloc, workspace) else {
         return out.cut();
     };
-    match kind {
-        Kind::Plan => add_plan(out, workspace, &plan),
-        _ => add_planned(out, alloc, kind, workspace, &plan, text),
+    if kind == "plan" {
+        return add_plan(out, workspace, &plan);
+    }
+    match name_packages(alloc, workspace) {
+        Ok(packages) => {
+            add_planned(
+                out,
+                alloc,
+                kind,
+                workspace,
+                packages.as_slice(),
+                &plan,
+                text,
+            );
+            close_names(packages);
+        }
+        Err(_) => out.cut(),
     }
 }
 
@@ -127,21 +130,44 @@ fn put_replaced(workspace: &mut Workspace, alloc: Global, text: &str) -> Result<
     replaced
 }
 
-/// Adds what is asked of the workspace of an archive.
-pub fn add_of_archive(out: &mut Lines, alloc: Global, kind: &Kind, text: &str) {
+/// Puts the files into a workspace that an archive writes, of the kinds `names` and `keys` with a file in front.
+fn put_archive_of(
+    workspace: &mut Workspace,
+    alloc: Global,
+    kind: &str,
+    text: &str,
+) -> Result<(), Rule> {
+    match kind {
+        "replaced" => put_replaced(workspace, alloc, text),
+        "names" | "keys" => {
+            let mut archive = Lines::new(alloc);
+            archive.pieces(&["-- local/in.go --\n", text]);
+            match archive.finish() {
+                Ok(archive) => put_archive(workspace, alloc, archive.as_str()),
+                Err(_) => Err(Rule::M0),
+            }
+        }
+        _ => put_archive(workspace, alloc, text),
+    }
+}
+
+/// Adds what is asked of the workspace of an archive, and tells whether the kind is one of these.
+pub fn add_answer(out: &mut Lines, alloc: Global, kind: &str, text: &str) -> bool {
     let mut workspace = Workspace::empty(alloc);
-    let filled = match kind {
-        Kind::Replaced => put_replaced(&mut workspace, alloc, text),
-        _ => put_archive(&mut workspace, alloc, text),
-    };
+    let filled = put_archive_of(&mut workspace, alloc, kind, text);
+    let mut is_known = true;
     match filled {
         Err(rule) => out.refuse(rule),
         Ok(()) => match kind {
-            Kind::Sources => add_counts(out, &workspace),
-            Kind::Replaced => add_files(out, &workspace),
-            Kind::Copied => add_copy(out, alloc, &workspace),
-            _ => add_of_plan(out, alloc, kind, &workspace, text),
+            "sources" => add_counts(out, &workspace),
+            "replaced" => add_files(out, &workspace),
+            "copied" => add_copy(out, alloc, &workspace),
+            "packages" | "plan" | "scope" | "names" | "keys" => {
+                add_of_plan(out, alloc, kind, &workspace, text)
+            }
+            _ => is_known = false,
         },
     }
     workspace.close();
+    is_known
 }

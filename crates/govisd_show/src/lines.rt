@@ -1,7 +1,7 @@
 //! Lines, as they are written.
-use go_text_core::{Rule, Span};
+use go_text_core::{Rule, Span, is_digit, is_letter};
 use std::alloc::{AllocError, Global};
-use std::fmt::{Debug, Display, Write};
+use std::fmt::{Display, Write};
 
 /// The digits of hexadecimal numbers.
 const DIGITS: &[u8; 16] = b"0123456789abcdef";
@@ -35,10 +35,11 @@ impl Lines {
         }
     }
 
-    /// Adds a piece, and a blank behind it.
-    pub fn word(&mut self, word: &str) {
-        self.add(word);
-        self.add(" ");
+    /// Adds pieces, one behind the other.
+    pub fn pieces(&mut self, pieces: &[&str]) {
+        for piece in pieces {
+            self.add(piece);
+        }
     }
 
     /// Adds a piece, and ends the line.
@@ -52,20 +53,6 @@ impl Lines {
         if write!(self.text, "{shown}").is_err() {
             self.is_cut = true;
         }
-    }
-
-    /// Adds the name of what is shown, as a role, and a blank behind it.
-    pub fn name<T: Debug + Drop>(&mut self, shown: T) {
-        if write!(self.text, "{shown:?} ").is_err() {
-            self.is_cut = true;
-        }
-    }
-
-    /// Adds what is shown behind a piece, and ends the line.
-    pub fn end<T: Display + Drop>(&mut self, piece: &str, shown: T) {
-        self.add(piece);
-        self.show(shown);
-        self.add("\n");
     }
 
     /// Adds a number between two pieces.
@@ -99,13 +86,6 @@ impl Lines {
         self.refuse(rule);
     }
 
-    /// Adds a byte in two hexadecimal digits.
-    fn hex(&mut self, byte: u8) {
-        self.add("\\x");
-        self.push(char::from(DIGITS[usize::from(byte >> 4)]));
-        self.push(char::from(DIGITS[usize::from(byte & 15)]));
-    }
-
     /// Adds a character.
     pub fn push(&mut self, c: char) {
         if self.text.push(c).is_err() {
@@ -119,7 +99,11 @@ impl Lines {
         self.add("\"");
         for b in bytes {
             match b {
-                b'"' | b'\\' | 0..=31 | 127..=255 => self.hex(*b),
+                b'"' | b'\\' | 0..=31 | 127..=255 => {
+                    self.add("\\x");
+                    self.push(char::from(DIGITS[usize::from(*b >> 4)]));
+                    self.push(char::from(DIGITS[usize::from(*b & 15)]));
+                }
                 plain => self.push(char::from(*plain)),
             }
         }
@@ -133,4 +117,15 @@ impl Lines {
         }
         Ok(self.text)
     }
+}
+
+/// The identifier that stands at an offset of a text, and nothing where there is none.
+pub fn identifier_at(text: &str, offset: usize) -> &str {
+    let rest = text.get(offset..).unwrap_or("");
+    for (end, c) in rest.char_indices() {
+        if !is_letter(c) && !is_digit(c) {
+            return rest.get(..end).unwrap_or("");
+        }
+    }
+    rest
 }

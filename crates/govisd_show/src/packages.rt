@@ -10,6 +10,8 @@ use std::alloc::{AllocError, Global};
 pub struct NamedFile {
     pub name: String,
     places: Option<Places>,
+    /// The offsets of what it declares outside functions, in order.
+    declared: Vec<usize>,
 }
 
 /// The path of a package, and its files.
@@ -41,41 +43,55 @@ impl Named {
         }
     }
 
-    /// The offset of a declaration, and 0 where there is none.
-    pub fn offset(&self, decl: DeclRef) -> usize {
-        match self.places(decl.file).get(decl.number) {
-            Some(place) => place.at,
-            None => 0,
+    /// The offsets of the identifiers that declarations of the file of a number declare outside functions, in order; none where it has no tree.
+    pub fn declared(&self, number: usize) -> &[usize] {
+        match self.files.get(number) {
+            Some(file) => file.declared.as_slice(),
+            None => &[],
         }
     }
 
     /// Adds a place: the path of the package, the name of the file of a number, and an offset in bytes.
     pub fn add_place(&self, out: &mut Lines, file: usize, offset: usize) {
-        out.add(self.path.as_str());
-        out.add("/");
-        out.add(self.file(file));
+        out.pieces(&[self.path.as_str(), "/", self.file(file)]);
         out.count(":", offset, "");
     }
 
-    /// Adds the place of a declaration.
+    /// Adds the place of a declaration, with the offset 0 where there is none of its number.
     pub fn add_decl(&self, out: &mut Lines, decl: DeclRef) {
-        self.add_place(out, decl.file, self.offset(decl));
+        let offset = match self.places(decl.file).get(decl.number) {
+            Some(place) => place.at,
+            None => 0,
+        };
+        self.add_place(out, decl.file, offset);
     }
 }
+
+/// Lets go of the names of packages.
+pub fn close_names(_packages: Vec<Named>) {}
 
 /// The name of a file and the places of what it declares.
 fn name_file(alloc: Global, file: &SourceFile) -> Result<NamedFile, AllocError> {
     let name = String::from_str(alloc, file.name())?;
-    match file.tree() {
-        Ok(tree) => match outline(alloc, tree) {
-            Ok(outline) => Ok(NamedFile {
-                name,
-                places: Some(outline.places),
-            }),
-            Err(error) => Err(error),
-        },
-        Err(_) => Ok(NamedFile { name, places: None }),
+    let mut declared = Vec::new(alloc);
+    let Ok(tree) = file.tree() else {
+        let places = None;
+        return Ok(NamedFile {
+            name,
+            places,
+            declared,
+        });
+    };
+    let outline = outline(alloc, tree)?;
+    for decl in &outline.decls {
+        add(&mut declared, decl.ident.span.start as usize)?;
     }
+    let places = Some(outline.places);
+    Ok(NamedFile {
+        name,
+        places,
+        declared,
+    })
 }
 
 /// The names of a package.
@@ -103,8 +119,7 @@ pub fn name_packages(alloc: Global, workspace: &Workspace) -> Result<Vec<Named>,
 
 /// Adds a package: its path and its name, or why its files are no package.
 pub fn add_package(out: &mut Lines, source: &PackageSource) {
-    out.add("package ");
-    out.word(source.path().as_str());
+    out.pieces(&["package ", source.path().as_str(), " "]);
     let Ok(shared) = source.share() else {
         return out.cut();
     };
@@ -114,11 +129,11 @@ pub fn add_package(out: &mut Lines, source: &PackageSource) {
             package.close();
         }
         Err(fault) => {
-            out.word(fault.rule.number());
+            out.pieces(&[fault.rule.number(), " "]);
             if let Some(file) = source.files().get(fault.file) {
                 out.add(file.name());
             }
-            out.end(":", fault.offset);
+            out.count(":", fault.offset, "\n");
         }
     }
 }
@@ -133,21 +148,21 @@ pub fn add_counts(out: &mut Lines, workspace: &Workspace) {
         }
     }
     out.count("packages ", workspace.packages().len(), " files ");
-    out.show(files);
-    out.end(" trees ", trees);
+    out.count("", files, " trees ");
+    out.count("", trees, "\n");
 }
 
 /// Adds the files of a workspace: of each its path and name, whether it has a tree or which rule it breaks, and its text.
 pub fn add_files(out: &mut Lines, workspace: &Workspace) {
     for source in workspace.packages() {
         for file in source.files() {
-            out.add(source.path().as_str());
-            out.add("/");
-            out.word(file.name());
-            match file.tree() {
-                Ok(_) => out.add("tree "),
-                Err(fault) => out.word(fault.rule.number()),
-            }
+            let word = match file.tree() {
+                Ok(_) => "tree",
+                Err(fault) => fault.rule.number(),
+            };
+            out.pieces(&[source.path().as_str(), "/", file.name(), " "]);
+            out.add(word);
+            out.add(" ");
             out.quote(file.text().as_bytes());
         }
     }

@@ -7,15 +7,15 @@ use Rattle.std.proofs.lemmas.List.Elements.{All-cons, All-nil}
 use Rattle.std.proofs.lemmas.List.Sorted.{IsPermutation-reverse}
 use Rattle.std.proofs.lemmas.Option.{slice_get_within, slice_get-get_or, get_or_from_slice_get}
 use Rattle.go_term_core.specs.decl_core.Outer.{IsPlaced}
-use Rattle.go_part_core.specs.Laws.{OnePart}
-use Rattle.go_whole_core.specs.graph_core.Workspaces.{PackageModel, AreAllRead, IsWorkspace}
-use Rattle.go_whole_core.specs.graph_core.Zips.{numbered_back}
-use Rattle.go_whole_core.specs.ready_core.Packages.{trees_in}
-use Rattle.go_whole_core.specs.part_core.Inputs.{InputModel}
-use Rattle.go_whole_core.specs.part_core.Parts.{ContentOf, IsPart, PartModel, part_with}
-use Rattle.go_whole_core.specs.Inputs.{AreParts, IsPartOf}
-use Rattle.go_whole_core.proofs.Checks.{trees_are_placed}
-use Rattle.go_emit_core.specs.Emitted.{if_there, somes}
+use Rattle.go_snap_core.specs.part_core.Laws.{OnePart}
+use Rattle.govisd_show.specs.graph_core.Workspaces.{PackageModel, AreAllRead, IsWorkspace}
+use Rattle.govisd_show.specs.graph_core.Zips.{numbered_back}
+use Rattle.go_snap_core.specs.ready_core.Packages.{trees_in}
+use Rattle.go_snap_core.specs.part_core.Inputs.{InputModel}
+use Rattle.go_snap_core.specs.part_core.Parts.{ContentOf, IsPart, PartModel, part_with}
+use Rattle.go_snap_core.specs.whole_core.Inputs.{AreParts, IsPartOf}
+use Rattle.go_snap_core.specs.whole_core.Checks.{trees_are_placed}
+use Rattle.go_snap_core.specs.emit_core.Emitted.{if_there, somes}
 use Rattle.go_snap_core.specs.Snapshots.{ArePartsOf, IsPartAt}
 
 -- the trees of its package are placed

@@ -1,10 +1,8 @@
 //! What is answered of all types of a workspace.
-use crate::selectors::{add_operand, add_selectable, add_selector, starred};
+use crate::selectors::{add_selectable, add_selector, starred};
 use crate::types::Typed;
-use go_embed_core::table_core::StructField;
-use go_path_core::ImportPath;
-use go_select_core::select;
-use go_select_core::table_core::DefinedType;
+use go_snap_core::select_core::select;
+use go_snap_core::table_core::{DefinedType, StructField};
 use go_term_core::{TypeTerm, close};
 use govisd_show::Lines;
 use std::alloc::{AllocError, Global};
@@ -54,61 +52,62 @@ fn member_names(
     names.into_iter().collect(alloc)
 }
 
-/// Adds what is asked of a type with stars before it, of selectors in the package of a path.
-fn add_from(
-    out: &mut Lines,
-    alloc: Global,
-    typed: &Typed<'_>,
-    names: Option<&[String]>,
-    operand: (&DefinedType, usize, &TypeTerm),
-    from: &ImportPath,
-) {
-    let (defined, stars, term) = operand;
-    let Some(names) = names else {
-        add_operand(out, defined, stars);
-        out.add(" in ");
-        out.add(from.as_str());
-        out.add(":");
-        return add_selectable(out, alloc, typed, term, from);
-    };
-    for name in names {
-        add_operand(out, defined, stars);
-        out.add(".");
-        out.add(name.as_str());
-        out.add(" in ");
-        out.add(from.as_str());
-        out.add(": ");
-        add_selector(out, alloc, typed, term, name.as_str(), from);
-    }
-}
-
-/// Adds what is asked of a type: of values of it, of pointers to it, and of pointers to these.
+/// Adds what is asked of a type with stars before it, for each package in which a selector may be written.
 fn add_of_type(
     out: &mut Lines,
     alloc: Global,
     typed: &Typed<'_>,
     names: Option<&[String]>,
-    defined: &DefinedType,
+    operand: (&DefinedType, &str, &TypeTerm),
 ) {
-    for stars in 0..3usize {
-        match starred(alloc, defined, stars) {
-            Ok(term) => {
-                for package in &typed.packages {
-                    let operand = (defined, stars, &term);
-                    add_from(out, alloc, typed, names, operand, package.path());
+    let (defined, stars, term) = operand;
+    let (path, type_name) = (defined.key().path.as_str(), defined.name().as_str());
+    for package in &typed.packages {
+        let from = package.path();
+        match names {
+            Some(names) => {
+                for name in names {
+                    let name = name.as_str();
+                    out.add(stars);
+                    out.add(path);
+                    out.add(".");
+                    out.add(type_name);
+                    out.add(".");
+                    out.add(name);
+                    out.add(" in ");
+                    out.add(from.as_str());
+                    out.add(": ");
+                    add_selector(out, alloc, typed, term, name, from);
                 }
-                close(term);
             }
-            Err(_) => out.cut(),
+            None => {
+                out.add(stars);
+                out.add(path);
+                out.add(".");
+                out.add(type_name);
+                out.add(" in ");
+                out.add(from.as_str());
+                out.add(":");
+                add_selectable(out, alloc, &*typed, &*term, from);
+            }
         }
     }
 }
 
-/// Adds what is asked of all types: what selectors of some names denote, or without names which names there are.
-fn add_of_types(out: &mut Lines, alloc: Global, typed: &Typed<'_>, names: Option<&[String]>) {
+/// Adds what is asked of all types, of values of each, of pointers to it, and of pointers to these: what selectors of some names denote, or without
+/// names which names there are.
+pub fn add_of_types(out: &mut Lines, alloc: Global, typed: &Typed<'_>, names: Option<&[String]>) {
     for package in &typed.packages {
         for defined in package.types() {
-            add_of_type(out, alloc, typed, names, defined);
+            for stars in ["", "*", "**"] {
+                match starred(alloc, defined, stars.len()) {
+                    Ok(term) => {
+                        add_of_type(out, alloc, typed, names, (defined, stars, &term));
+                        close(term);
+                    }
+                    Err(_) => out.cut(),
+                }
+            }
         }
     }
 }
@@ -122,40 +121,21 @@ pub fn add_selectors(out: &mut Lines, alloc: Global, typed: &Typed<'_>) {
     }
 }
 
-/// Adds the same of the names that a selector may have.
-pub fn add_listings(out: &mut Lines, alloc: Global, typed: &Typed<'_>) {
-    add_of_types(out, alloc, typed, None);
-}
-
-/// How many of some names a selector resolves with behind a value of a type, in the package of a path.
-fn resolved(
-    alloc: Global,
-    typed: &Typed<'_>,
-    term: &TypeTerm,
-    names: &[String],
-    from: &ImportPath,
-) -> usize {
-    let mut resolved = 0usize;
-    for name in names {
-        let answer = select(alloc, &typed.table, term, name.as_str(), from);
-        resolved = resolved.saturating_add(usize::from(answer.is_ok()));
-    }
-    resolved
-}
-
 /// How many of some names a selector resolves with behind a value of the first type of each package, in that package.
 fn resolved_first(out: &mut Lines, alloc: Global, typed: &Typed<'_>, names: &[String]) -> usize {
     let mut count = 0usize;
     for package in &typed.packages {
         if let Some(defined) = package.types().first() {
-            match starred(alloc, defined, 0) {
-                Ok(term) => {
-                    let more = resolved(alloc, typed, &term, names, package.path());
-                    close(term);
-                    count = count.saturating_add(more);
+            let Ok(term) = starred(alloc, defined, 0) else {
+                out.cut();
+                return count;
+            };
+            for name in names {
+                if select(alloc, &typed.table, &term, name.as_str(), package.path()).is_ok() {
+                    count = count.saturating_add(1);
                 }
-                Err(_) => out.cut(),
             }
+            close(term);
         }
     }
     count
@@ -172,5 +152,5 @@ pub fn add_count(out: &mut Lines, alloc: Global, typed: &Typed<'_>, times: usize
         let more = resolved_first(out, alloc, typed, names.as_slice());
         count = count.saturating_add(more);
     }
-    out.end("resolved ", count);
+    out.count("resolved ", count, "\n");
 }

@@ -1,13 +1,13 @@
 //! How faults and what occurrences have are written.
-use go_answer_core::denote_core::Outcome;
-use go_answer_core::handle_core::DeclSite;
-use go_answer_core::tree_core::{OccId, Role};
-use go_answer_core::{Answer, Site};
+use crate::shot::Shot;
 use go_path_core::ImportPath;
-use go_snap_core::{PlacedFault, Snapshot};
+use go_snap_core::Snapshot;
+use go_snap_core::answer_core::{Answer, Site};
+use go_snap_core::denote_core::Outcome;
+use go_snap_core::handle_core::DeclSite;
+use go_snap_core::tree_core::{OccId, Role};
 use go_term_core::MemberPlace;
-use go_text_core::{is_digit, is_letter};
-use govisd_show::{Lines, Named};
+use govisd_show::{Lines, Named, identifier_at};
 
 /// Adds an identifier of the package of a path.
 pub fn add_place(out: &mut Lines, named: &[Named], path: &ImportPath, place: MemberPlace) {
@@ -25,15 +25,9 @@ pub fn add_place(out: &mut Lines, named: &[Named], path: &ImportPath, place: Mem
 pub fn add_site(out: &mut Lines, named: &[Named], site: &Site) {
     let decl = site.decl();
     match decl.site() {
-        DeclSite::Universe(name) => {
-            out.add("universe.");
-            out.add(name.spelling());
-        }
+        DeclSite::Universe(name) => out.pieces(&["universe.", name.spelling()]),
         DeclSite::ErrorMethod => out.add("universe.error.Error"),
-        DeclSite::Package(path) => {
-            out.add("package ");
-            out.add(path.as_str());
-        }
+        DeclSite::Package(path) => out.pieces(&["package ", path.as_str()]),
         DeclSite::InFile(path, place) => add_place(out, named, path, place),
     }
 }
@@ -63,16 +57,6 @@ fn role_word(role: Role) -> &'static str {
     }
 }
 
-/// The identifier that a text begins with.
-fn first_name(text: &str) -> &str {
-    for (end, c) in text.char_indices() {
-        if !is_letter(c) && !is_digit(c) {
-            return text.get(..end).unwrap_or("");
-        }
-    }
-    text
-}
-
 /// The string that a text begins with, up to the next quote of this kind.
 fn first_string(text: &str, quote: char) -> &str {
     match text.get(1..).unwrap_or("").split_once(quote) {
@@ -88,15 +72,17 @@ pub fn spelling_at(text: &str, offset: usize) -> &str {
         [b'"', ..] => first_string(rest, '"'),
         [b'`', ..] => first_string(rest, '`'),
         [b'(', ..] => "(",
-        _ => first_name(rest),
+        _ => identifier_at(rest, 0),
     }
 }
 
 /// Adds what an occurrence of a text has.
 pub fn add_answer(out: &mut Lines, named: &[Named], text: &str, answer: &Answer) {
     out.count("", answer.offset, " ");
-    out.word(role_word(answer.role));
-    out.word(spelling_at(text, answer.offset));
+    out.add(role_word(answer.role));
+    out.add(" ");
+    out.add(spelling_at(text, answer.offset));
+    out.add(" ");
     match &answer.outcome {
         Outcome::Declared(site) => {
             add_site(out, named, site);
@@ -113,7 +99,7 @@ pub fn add_answer(out: &mut Lines, named: &[Named], text: &str, answer: &Answer)
 }
 
 /// The text of the file of a name in the package of a path, and nothing where there is none.
-fn text_of<'a>(snapshot: &'a Snapshot, path: &ImportPath, name: &str) -> &'a str {
+pub fn text_of<'a>(snapshot: &'a Snapshot, path: &ImportPath, name: &str) -> &'a str {
     for source in snapshot.sources().packages() {
         if source.path().as_str() == path.as_str() {
             for file in source.files() {
@@ -126,15 +112,16 @@ fn text_of<'a>(snapshot: &'a Snapshot, path: &ImportPath, name: &str) -> &'a str
     ""
 }
 
-/// Adds what the occurrences of a file of the package of a path have, by their numbers, up to the first number that none has.
+/// Adds what the occurrences of a file of the package of a path have, by their numbers, up to the first number that none has. The text is that of
+/// the file.
 pub fn add_outcomes(
     out: &mut Lines,
     snapshot: &Snapshot,
     named: &[Named],
     path: &ImportPath,
     file: &str,
+    text: &str,
 ) {
-    let text = text_of(snapshot, path, file);
     for number in 0..usize::MAX {
         out.count("", number, " ");
         match snapshot.outcome(path, file, OccId(number)) {
@@ -144,16 +131,10 @@ pub fn add_outcomes(
     }
 }
 
-/// Adds the faults of the package of a path, or of all packages, each behind a piece.
-pub fn add_faults(
-    out: &mut Lines,
-    named: &[Named],
-    faults: &[PlacedFault],
-    before: &str,
-    path: Option<&str>,
-) {
-    for fault in faults {
-        if let Some(package) = named.get(fault.package) {
+/// Adds the faults of a snapshot, or those of the package of a path alone, each behind a piece.
+pub fn add_faults(out: &mut Lines, shot: &Shot, before: &str, path: Option<&str>) {
+    for fault in shot.snapshot.faults() {
+        if let Some(package) = shot.named.get(fault.package) {
             if path.is_none() || path == Some(package.path.as_str()) {
                 out.add(before);
                 package.add_place(out, fault.file, fault.offset);

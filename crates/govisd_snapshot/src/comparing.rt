@@ -1,12 +1,13 @@
 //! Whether an edit leaves a package as it was for those that import it.
 ghost use Rattle.std.specs.Prelude.{IfSome};
-ghost use Rattle.go_whole_core.specs.graph_core.Workspaces.{AreAllRead};
+ghost use Rattle.govisd_show.specs.graph_core.Workspaces.{AreAllRead};
 
-use crate::shot::Shot;
-use go_part_core::PartInput;
+use crate::shot::{Shot, shot_of};
 use go_path_core::ImportPath;
 use go_snap_core::Snapshot;
+use go_snap_core::part_core::PartInput;
 use govisd_show::Lines;
+use std::alloc::Global;
 
 /// Whether the package of a path tells the same in two snapshots; none where one of them has no part of it.
 fn tells_the_same(one: &Snapshot, other: &Snapshot, path: &ImportPath) -> Option<bool> {
@@ -32,7 +33,7 @@ fn is_made_from_the_same(one: &Snapshot, other: &Snapshot, path: &ImportPath) ->
 
 /// Adds whether something is the same.
 fn add_same(out: &mut Lines, what: &str, is_same: Option<bool>) {
-    out.word(what);
+    out.add(what);
     out.line(match is_same {
         Some(true) => "same",
         Some(false) => "another",
@@ -40,11 +41,18 @@ fn add_same(out: &mut Lines, what: &str, is_same: Option<bool>) {
     });
 }
 
-/// Adds whether the package of a path tells the same as in the archive before, and whether its part is made from the same.
-pub fn add_comparison(out: &mut Lines, shot: &Shot, last: Option<&Shot>, path: &ImportPath) {
-    if let Some(last) = last {
-        let (one, other) = (&shot.snapshot, &last.snapshot);
-        add_same(out, "summary", tells_the_same(one, other, path));
-        add_same(out, "input", is_made_from_the_same(one, other, path));
+/// Adds whether the package of a path tells the same as in the archive before, and whether its part is made from the same, where there is one before.
+pub fn add_comparison(out: &mut Lines, alloc: Global, last: &str, shot: &Shot, path: &ImportPath) {
+    if last.is_empty() {
+        return;
+    }
+    match shot_of(alloc, last) {
+        Ok(earlier) => {
+            let (one, other) = (&shot.snapshot, &earlier.snapshot);
+            add_same(out, "summary ", tells_the_same(one, other, path));
+            add_same(out, "input ", is_made_from_the_same(one, other, path));
+            earlier.close();
+        }
+        Err(rule) => out.refuse(rule),
     }
 }

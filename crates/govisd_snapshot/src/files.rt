@@ -1,63 +1,43 @@
 //! What stands in the files of packages.
 use crate::answers::{add_answer, add_place, spelling_at};
 use crate::shot::Shot;
-use go_answer_core::denote_core::Outcome;
-use go_answer_core::face_core::Face;
-use go_answer_core::{Answer, HeldLocal};
-use go_constant_core::Constant;
-use go_decl_core::TopDecl;
-use go_entry_core::outlines;
-use go_operand_core::{Operand, ValueType};
-use go_package_core::FileAnswers;
-use go_part_core::Part;
 use go_snap_core::Snapshot;
-use go_snap_core::graph_core::SourceFile;
+use go_snap_core::answer_core::HeldLocal;
+use go_snap_core::constant_core::Constant;
+use go_snap_core::denote_core::Outcome;
+use go_snap_core::face_core::Face;
+use go_snap_core::operand_core::{Operand, ValueType};
+use go_snap_core::package_core::FileAnswers;
+use go_snap_core::part_core::Part;
 use go_term_core::{Basic, MemberPlace, Signature, TypeTerm};
 use govisd_show::{Lines, Named, add_package};
-use std::alloc::{AllocError, Global};
-
-/// Which lines are written of a file.
-#[derive(Clone, Copy)]
-pub enum Shown {
-    /// All but those of locals.
-    Answers,
-    /// Those that tell a fault, or an occurrence that breaks a rule.
-    Refusals,
-    /// Those that tell a local of a function.
-    Locals,
-}
 
 /// Adds the value of a constant, and ends the line.
 fn add_value(out: &mut Lines, constant: &Constant) {
     match constant {
-        Constant::Unknown => out.line("unknown"),
-        Constant::Int(value) => out.end("", *value),
-        Constant::Bool(value) => out.end("", *value),
-        Constant::Text(text) => out.quote(text.as_bytes()),
+        Constant::Unknown => out.add("unknown"),
+        Constant::Int(value) => out.show(*value),
+        Constant::Bool(value) => out.add(if *value { "true" } else { "false" }),
+        Constant::Text(text) => return out.quote(text.as_bytes()),
     }
+    out.line("");
 }
 
-/// Adds a declaration, if it is a constant whose value is known.
-fn add_constant(out: &mut Lines, decl: &TopDecl<'_>, face: &Face<TypeTerm, Signature>) {
-    if let Face::Value(Some(operand)) = face {
-        if let Some(constant) = &operand.constant {
-            if !matches!(constant, Constant::Unknown) {
-                out.count("const ", decl.ident.span.start as usize, " ");
-                add_value(out, constant);
-            }
-        }
-    }
-}
-
-/// Adds the constants of a file. What its declarations are stands in front.
+/// Adds the constants of a file whose values are known. The offsets are those of its declarations, and what these are stands in front.
 fn add_constants(
     out: &mut Lines,
-    decls: &[TopDecl<'_>],
+    offsets: &[usize],
     declared: &[Option<Face<TypeTerm, Signature>>],
 ) {
-    for (decl, face) in decls.iter().zip(declared.iter()) {
-        if let Some(face) = face {
-            add_constant(out, decl, face);
+    for number in 0..offsets.len() {
+        if let Some(Some(Face::Value(Some(operand)))) = declared.get(number) {
+            match &operand.constant {
+                None | Some(Constant::Unknown) => {}
+                Some(constant) => {
+                    out.count("const ", offsets[number], " ");
+                    add_value(out, constant);
+                }
+            }
         }
     }
 }
@@ -104,7 +84,7 @@ fn add_operand(out: &mut Lines, named: &[Named], operand: &Operand<TypeTerm>) {
 fn add_locals(out: &mut Lines, named: &[Named], text: &str, locals: &[HeldLocal]) {
     for local in locals {
         out.count("local ", local.offset, " ");
-        out.word(spelling_at(text, local.offset));
+        out.pieces(&[spelling_at(text, local.offset), " "]);
         match &local.value {
             Some(operand) => add_operand(out, named, operand),
             None => out.line("none"),
@@ -112,15 +92,10 @@ fn add_locals(out: &mut Lines, named: &[Named], text: &str, locals: &[HeldLocal]
     }
 }
 
-/// Whether an occurrence breaks a rule.
-fn is_refused(answer: &Answer) -> bool {
-    matches!(answer.outcome, Outcome::Refused(_))
-}
-
 /// Adds what the occurrences of a file have, those that break a rule alone where all are not asked for, and its faults.
 fn add_answers(out: &mut Lines, named: &[Named], all: bool, text: &str, file: &FileAnswers) {
     for answer in &file.answers {
-        if all || is_refused(answer) {
+        if all || matches!(answer.outcome, Outcome::Refused(_)) {
             add_answer(out, named, text, answer);
         }
     }
@@ -131,60 +106,45 @@ fn add_answers(out: &mut Lines, named: &[Named], all: bool, text: &str, file: &F
 }
 
 /// Adds what stands in the files of a package.
-fn add_part(
-    out: &mut Lines,
-    alloc: Global,
-    shown: Shown,
-    named: &[Named],
-    part: &Part,
-) -> Result<(), AllocError> {
+fn add_part(out: &mut Lines, kind: &str, named: &[Named], package: &Named, part: &Part) {
     let content = part.content();
     let sources = part.input().package().files();
-    let outlines = outlines(alloc, sources)?;
     let mut declared = content.declared.as_slice();
-    for ((source, outline), file) in sources
-        .iter()
-        .zip(outlines.iter())
-        .zip(content.files.iter())
-    {
-        out.add("file ");
-        out.line(source.name());
-        match shown {
-            Shown::Answers => {
-                add_constants(out, outline.decls.as_slice(), declared);
-                add_answers(out, named, true, source.text(), &file.answers);
-            }
-            Shown::Refusals => add_answers(out, named, false, source.text(), &file.answers),
-            Shown::Locals => add_locals(out, named, source.text(), file.answers.locals.as_slice()),
-        }
-        declared = declared.get(outline.decls.len()..).unwrap_or(&[]);
-    }
-    Ok(())
-}
-
-/// Adds the faults of files that have no tree.
-fn add_text_faults(out: &mut Lines, files: &[SourceFile]) {
-    for file in files {
-        if let Err(fault) = file.tree() {
-            out.add("file ");
-            out.line(file.name());
-            out.fault(fault.rule, fault.offset);
-        }
-    }
-}
-
-/// Adds the packages of a workspace, in order of path, and what stands in their files.
-pub fn add_packages(out: &mut Lines, alloc: Global, shown: Shown, shot: &Shot) {
-    let sources = shot.snapshot.sources().packages();
-    for (source, part) in sources.iter().zip(shot.snapshot.parts().iter()) {
-        add_package(out, source);
-        match part {
-            Some(part) => {
-                if add_part(out, alloc, shown, &shot.named, part).is_err() {
-                    out.cut();
+    for number in 0..sources.len() {
+        if let (Some(source), Some(file)) = (sources.get(number), content.files.get(number)) {
+            let (text, offsets) = (source.text(), package.declared(number));
+            out.pieces(&["file ", source.name(), "\n"]);
+            match kind {
+                "locals" => add_locals(out, named, text, file.answers.locals.as_slice()),
+                "refusals" => add_answers(out, named, false, text, &file.answers),
+                _ => {
+                    add_constants(out, offsets, declared);
+                    add_answers(out, named, true, text, &file.answers);
                 }
             }
-            None => add_text_faults(out, source.files()),
+            declared = declared.get(offsets.len()..).unwrap_or(&[]);
+        }
+    }
+}
+
+/// Adds the packages of a workspace, in order of path, and what stands in their files; of a package that does not assemble the faults of those files
+/// that have no tree.
+pub fn add_packages(out: &mut Lines, kind: &str, shot: &Shot) {
+    let (sources, parts) = (shot.snapshot.sources().packages(), shot.snapshot.parts());
+    for number in 0..sources.len() {
+        let Some(source) = sources.get(number) else {
+            return;
+        };
+        add_package(out, source);
+        if let (Some(Some(part)), Some(package)) = (parts.get(number), shot.named.get(number)) {
+            add_part(out, kind, &shot.named, package, part);
+        } else {
+            for file in source.files() {
+                if let Err(fault) = file.tree() {
+                    out.pieces(&["file ", file.name(), "\n"]);
+                    out.fault(fault.rule, fault.offset);
+                }
+            }
         }
     }
 }
@@ -193,7 +153,9 @@ pub fn add_packages(out: &mut Lines, alloc: Global, shown: Shown, shot: &Shot) {
 fn count_refused(file: &FileAnswers) -> usize {
     let mut refused = 0usize;
     for answer in &file.answers {
-        refused = refused.saturating_add(usize::from(is_refused(answer)));
+        if matches!(answer.outcome, Outcome::Refused(_)) {
+            refused = refused.saturating_add(1);
+        }
     }
     refused
 }
@@ -214,5 +176,5 @@ pub fn add_sums(out: &mut Lines, snapshot: &Snapshot) {
     out.count("packages ", packages, " occurrences ");
     out.count("", occurrences, " refused ");
     out.count("", refused, " faults ");
-    out.end("", faults);
+    out.count("", faults, "\n");
 }

@@ -1,14 +1,13 @@
 //! What a snapshot has, and what a join of its parts has.
 ghost use Rattle.std.specs.Prelude.{◌≡◌, ◌++◌, All, IfOk, OnOk, reverse};
 ghost use Rattle.go_term_core.specs.decl_core.Outer.{IsPlaced};
-ghost use Rattle.go_whole_core.specs.ready_core.Packages.{trees_in};
-ghost use Rattle.go_emit_core.specs.Emitted.{if_there, somes};
+ghost use Rattle.go_snap_core.specs.ready_core.Packages.{trees_in};
+ghost use Rattle.go_snap_core.specs.emit_core.Emitted.{if_there, somes};
 
 use crate::answers::{add_faults, add_outcomes};
 use crate::shot::Shot;
-use go_part_core::{Part, compile_part, one_part};
+use go_snap_core::part_core::{Part, close_parts, compile_part, one_part};
 use go_snap_core::{Snapshot, join};
-use go_text_core::add;
 use govisd_show::{Lines, Named, add_counts, add_files};
 use std::alloc::{AllocError, Global};
 
@@ -28,9 +27,30 @@ fn add_made(parts: &mut Vec<Part>, alloc: Global, part: &Option<Part>) -> Result
     ensures { OnOk result (parts.new.items ≡ parts.old.items ++ if_there part.now) }
 {
     match part {
-        Some(part) => add(parts, made(alloc, part)?),
+        Some(part) => match parts.push(made(alloc, part)?) {
+            Ok(()) => Ok(()),
+            Err(failed) => {
+                failed.value.close();
+                Err(AllocError)
+            }
+        },
         None => Ok(()),
     }
+}
+
+/// Adds parts that are made anew.
+fn add_all_made(
+    made: &mut Vec<Part>,
+    alloc: Global,
+    parts: &[Option<Part>],
+) -> Result<(), AllocError>
+    requires { All (λ part. All (λ p. All IsPlaced (trees_in p.input.source)) (if_there part)) parts.now }
+    ensures { OnOk result (made.new.items ≡ made.old.items ++ somes parts.now) }
+{
+    for part in parts {
+        add_made(made, alloc, part)?;
+    }
+    Ok(())
 }
 
 /// Parts that are made anew, the last one first.
@@ -39,33 +59,57 @@ fn made_anew(alloc: Global, parts: &[Option<Part>]) -> Result<Vec<Part>, AllocEr
     ensures { IfOk result (λ made. made.items ≡ reverse (somes parts.now)) }
 {
     let mut made = Vec::new(alloc);
-    for part in parts {
-        add_made(&mut made, alloc, part)?;
+    match add_all_made(&mut made, alloc, parts) {
+        Ok(()) => {
+            made.reverse();
+            Ok(made)
+        }
+        Err(error) => {
+            close_parts(made);
+            Err(error)
+        }
     }
-    made.reverse();
-    Ok(made)
 }
 
 /// A snapshot of the same workspace, joined of parts that are made anew.
 fn joined(alloc: Global, snapshot: &Snapshot) -> Result<Snapshot, AllocError> {
     let sources = snapshot.sources();
     let _packages = sources.packages();
-    let parts = made_anew(alloc, snapshot.parts())?;
     let workspace = sources.copy(alloc)?;
+    let Ok(parts) = made_anew(alloc, snapshot.parts()) else {
+        workspace.close();
+        return Err(AllocError);
+    };
     match join(alloc, workspace, parts) {
         Ok(snapshot) => Ok(snapshot),
-        Err(_) => Err(AllocError),
+        Err((workspace, parts)) => {
+            workspace.close();
+            close_parts(parts);
+            Err(AllocError)
+        }
     }
 }
 
-/// All that a snapshot has: its sources, its faults, and what each occurrence has.
+/// All that a snapshot has: its sources, its faults, and what each occurrence has. The names are those of its packages.
 fn written(alloc: Global, snapshot: &Snapshot, named: &[Named]) -> Result<String, AllocError> {
     let mut out = Lines::new(alloc);
     add_files(&mut out, snapshot.sources());
-    add_faults(&mut out, named, snapshot.faults(), "fault ", None);
+    for fault in snapshot.faults() {
+        if let Some(package) = named.get(fault.package) {
+            package.add_place(&mut out, fault.file, fault.offset);
+            out.refuse(fault.rule);
+        }
+    }
     for source in snapshot.sources().packages() {
         for file in source.files() {
-            add_outcomes(&mut out, snapshot, named, source.path(), file.name());
+            add_outcomes(
+                &mut out,
+                snapshot,
+                named,
+                source.path(),
+                file.name(),
+                file.text(),
+            );
         }
     }
     out.finish()
@@ -75,14 +119,14 @@ fn written(alloc: Global, snapshot: &Snapshot, named: &[Named]) -> Result<String
 fn is_joined_same(alloc: Global, shot: &Shot) -> Result<bool, AllocError> {
     let other = joined(alloc, &shot.snapshot)?;
     let again = written(alloc, &other, &shot.named);
-    drop(other);
+    other.close();
     Ok(again?.as_str() == written(alloc, &shot.snapshot, &shot.named)?.as_str())
 }
 
 /// Adds what a workspace has, its faults, and whether a join of its parts has the same.
 pub fn add_snapshot(out: &mut Lines, alloc: Global, shot: &Shot) {
     add_counts(out, shot.snapshot.sources());
-    add_faults(out, &shot.named, shot.snapshot.faults(), "fault ", None);
+    add_faults(out, shot, "fault ", None);
     match is_joined_same(alloc, shot) {
         Ok(true) => out.line("joined same"),
         Ok(false) => out.line("joined another"),

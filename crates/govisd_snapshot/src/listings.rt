@@ -1,10 +1,10 @@
 //! Packages as they run, as they are listed.
 use crate::answers::add_site;
 use crate::shot::Shot;
-use go_answer_core::Site;
-use go_emit_core::emit;
-use go_object_core::{FunctionCode, Object, Spelling, listing};
 use go_path_core::ImportPath;
+use go_snap_core::answer_core::Site;
+use go_snap_core::emit_core::emit;
+use go_snap_core::object_core::{FunctionCode, Object, Spelling, listing};
 use go_text_core::add;
 use govisd_show::{Lines, Named};
 use std::alloc::{AllocError, Global};
@@ -29,15 +29,6 @@ fn site_text(alloc: Global, named: &[Named], site: &Site) -> Result<String, Allo
     out.finish()
 }
 
-/// The texts of declarations.
-fn site_texts(alloc: Global, named: &[Named], sites: &[Site]) -> Result<Vec<String>, AllocError> {
-    let mut texts = Vec::new(alloc);
-    for site in sites {
-        add(&mut texts, site_text(alloc, named, site)?)?;
-    }
-    Ok(texts)
-}
-
 /// A function whose declarations are texts.
 fn spelled(
     alloc: Global,
@@ -45,7 +36,10 @@ fn spelled(
     function: FunctionCode<Site>,
 ) -> Result<FunctionCode<String>, AllocError> {
     let declaration = site_text(alloc, named, &function.declaration)?;
-    let references = site_texts(alloc, named, &function.references)?;
+    let mut references = Vec::new(alloc);
+    for site in &function.references {
+        add(&mut references, site_text(alloc, named, site)?)?;
+    }
     Ok(FunctionCode {
         declaration,
         name: function.name,
@@ -71,12 +65,9 @@ fn listed(
 
 /// Adds an object: its path, its name, the packages that its imports come to, and its functions.
 fn add_object(out: &mut Lines, alloc: Global, named: &[Named], object: Object<Site>) {
-    out.add("object ");
-    out.word(object.path.as_str());
-    out.add(object.name.as_str());
+    out.pieces(&["object ", object.path.as_str(), " ", object.name.as_str()]);
     for import in &object.imports {
-        out.add(" ");
-        out.add(import.as_str());
+        out.pieces(&[" ", import.as_str()]);
     }
     out.line("");
     match listed(alloc, named, object.functions) {

@@ -3,10 +3,10 @@ use crate::all_paths::differs;
 use crate::answers::{add_place, add_steps};
 use crate::types::Typed;
 use go_path_core::ImportPath;
-use go_select_core::table_core::DefinedType;
-use go_select_core::{Member, Selected, select, selectable};
+use go_snap_core::select_core::{Member, select, selectable};
+use go_snap_core::table_core::DefinedType;
 use go_term_core::TypeTerm;
-use go_text_core::{Rule, boxed};
+use go_text_core::boxed;
 use govisd_show::{Lines, Named};
 use std::alloc::{AllocError, Global};
 
@@ -17,16 +17,6 @@ pub fn starred(alloc: Global, defined: &DefinedType, stars: usize) -> Result<Typ
         term = TypeTerm::Pointer(boxed(alloc, term)?);
     }
     Ok(term)
-}
-
-/// Adds what an operand's type is: stars, and the path and the name of a defined type.
-pub fn add_operand(out: &mut Lines, defined: &DefinedType, stars: usize) {
-    for _star in 0..stars {
-        out.add("*");
-    }
-    out.add(defined.key().path.as_str());
-    out.add(".");
-    out.add(defined.name().as_str());
 }
 
 /// Adds a member: what it is, and where it is declared.
@@ -48,11 +38,20 @@ fn add_member(out: &mut Lines, named: &[Named], member: Member<'_>) {
     }
 }
 
-/// Adds what a selector denotes: the member, the path to it, and whether a pointer is passed; or the rule that it breaks.
-fn add_selected(out: &mut Lines, named: &[Named], answer: &Result<Selected<'_>, Rule>) {
-    match answer {
+/// Adds what a selector of a name denotes behind an operand of a type, where it is written in the package of a path: the member, the path to it, and
+/// whether a pointer is passed; or the rule that it breaks.
+pub fn add_selector(
+    out: &mut Lines,
+    alloc: Global,
+    typed: &Typed<'_>,
+    term: &TypeTerm,
+    name: &str,
+    from: &ImportPath,
+) {
+    let answer = select(alloc, &typed.table, term, name, from);
+    match &answer {
         Ok(selected) => {
-            add_member(out, named, selected.member);
+            add_member(out, &typed.shot.named, selected.member);
             out.add(" ");
             add_steps(out, selected.path.steps());
             out.line(if selected.through_pointer {
@@ -63,19 +62,6 @@ fn add_selected(out: &mut Lines, named: &[Named], answer: &Result<Selected<'_>, 
         }
         Err(rule) => out.refuse(*rule),
     }
-}
-
-/// Adds what a selector of a name denotes behind an operand of a type, where it is written in the package of a path.
-pub fn add_selector(
-    out: &mut Lines,
-    alloc: Global,
-    typed: &Typed<'_>,
-    term: &TypeTerm,
-    name: &str,
-    from: &ImportPath,
-) {
-    let answer = select(alloc, &typed.table, term, name, from);
-    add_selected(out, typed.named, &answer);
     match differs(alloc, &typed.table, term, name, from, &answer) {
         Ok(true) => out.line("  a listing of all paths finds another answer"),
         Ok(false) => {}
@@ -85,11 +71,11 @@ pub fn add_selector(
 
 /// Adds the names that a selector may have behind an operand of a type, where it is written in the package of a path: in order of bytes, each
 /// with the path to what it denotes.
-pub fn add_selectable(
+pub fn add_selectable<'x>(
     out: &mut Lines,
     alloc: Global,
-    typed: &Typed<'_>,
-    term: &TypeTerm,
+    typed: &'x Typed<'_>,
+    term: &'x TypeTerm,
     from: &ImportPath,
 ) {
     match selectable(alloc, &typed.table, term, from) {

@@ -1,34 +1,27 @@
 //! The types of the packages of a snapshot.
 use crate::shot::Shot;
-use go_select_core::table_core::{DefinedType, PackageTypes, TypeTable};
-use go_snap_core::PlacedFault;
+use go_snap_core::table_core::{DefinedType, PackageTypes, TypeTable};
 use go_text_core::add;
-use govisd_show::Named;
 use std::alloc::{AllocError, Global};
 
 /// The types of a workspace.
 #[derive(Drop)]
 pub struct Typed<'a> {
-    /// The packages, in order of path.
-    pub named: &'a [Named],
-    /// All faults.
-    pub faults: &'a [PlacedFault],
+    pub shot: &'a Shot,
     /// The types of all packages.
     pub table: TypeTable,
     /// The types of each assembled package, in order of path.
-    pub packages: Vec<PackageTypes>,
+    pub packages: Vec<&'a PackageTypes>,
 }
 
-impl Typed<'_> {
-    /// The types of the assembled package of a path.
-    pub fn package(&self, path: &str) -> Option<&PackageTypes> {
-        for package in &self.packages {
-            if package.path().as_str() == path {
-                return Some(package);
-            }
+/// The types of the assembled package of a path.
+pub fn find_package<'a>(typed: &Typed<'a>, path: &str) -> Option<&'a PackageTypes> {
+    for package in &typed.packages {
+        if package.path().as_str() == path {
+            return Some(package);
         }
-        None
     }
+    None
 }
 
 /// The type of a name among the types of a package.
@@ -42,15 +35,15 @@ pub fn find_type<'a>(package: &'a PackageTypes, name: &str) -> Option<&'a Define
 }
 
 /// Adds the types of a package.
-fn add_types(
+fn add_types<'a>(
     table: &mut TypeTable,
-    packages: &mut Vec<PackageTypes>,
-    types: &PackageTypes,
+    packages: &mut Vec<&'a PackageTypes>,
+    types: &'a PackageTypes,
 ) -> Result<(), AllocError> {
     if !table.has_package(types.path()) {
         table.add(types.share()?)?;
     }
-    add(packages, types.share()?)
+    add(packages, types)
 }
 
 /// The types of the packages of a snapshot.
@@ -67,8 +60,7 @@ pub fn types_of<'a>(alloc: Global, shot: &'a Shot) -> Result<Typed<'a>, AllocErr
         }
     }
     Ok(Typed {
-        named: shot.named.as_slice(),
-        faults: shot.snapshot.faults(),
+        shot,
         table,
         packages,
     })

@@ -51,6 +51,12 @@ abbrev pub IsGivenIn : List (List (List ImportOutcome)) → ImportAt → Importe
 IsGivenIn os at (given.Refused rule) = outcome_at os at ≡ Some (outcomes.Refused rule)
 IsGivenIn os at (given.«Package» e) = ⊥
 
+-- what the imports of the one file come to, as those of the files of its package
+pub record AreRefusedAlone (ps : List PackageModel) (f : FileTree) (files : List (List Imported)) : Type 0 where
+  pub imports : List Imported
+  pub refused : AreInFile (IsRefused ps) 0 0 f imports
+  pub are : files ≡ imports ∷ []
+
 -- the input of the package, by what its file's imports come to
 pub record IsInputIn (ps : List PackageModel) (p : PackageModel) (f : FileTree) (i : InputModel) : Type 0 where
   pub imports : List Imported

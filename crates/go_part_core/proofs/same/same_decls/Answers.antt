@@ -1,6 +1,6 @@
 use Rattle.std.proofs.Common.{◌<◌, subst}
-use Rattle.go_summary_core.specs.graph_core.ViewsProofs.{told_apart}
-use Rattle.go_summary_core.specs.block_core.Exports.{name_and_decl}
+use Rattle.go_package_core.specs.graph_core.ViewsProofs.{told_apart}
+use Rattle.go_used_core.specs.block_core.Exports.{name_and_decl}
 use Rattle.go_part_core.proofs.same.same_decls.Goals as goal
 
 pub returns-then-not-is_same_named : goal.returns-then-not-is_same_named

@@ -1,20 +1,16 @@
-use Rattle.std.proofs.Common.{[], ◌∷◌, ◌++◌, ap, ◌∙◌}
+use Rattle.std.proofs.Common.{map}
 use Rattle.std.proofs.lemmas.Result.{IfOk-weaker}
 use Rattle.go_tree_nodes.specs.Shapes.{file_of}
-use Rattle.govisd_core.proofs.Putting.{are_refused, input_is, one_each}
+use Rattle.go_part_core.specs.block_core.Naming.{imported_in}
+use Rattle.govisd_core.proofs.Putting.{input_is, one_each}
 use Rattle.govisd_core.proofs.alone.part_of.Goals as goal
 
-pub imports_of-requires : goal.imports_of-requires
-imports_of-requires c = are_refused c.args.workspace.now c.args.«package» (file_of c.args.tree.now) c.in_ok-plan.plan c.requires c.in_ok-plan.ensures
+pub imports_alone-requires : goal.imports_alone-requires
+imports_alone-requires c = (c.args.«package», c.requires)
 
-pub new-requires-clause-imports : goal.new-requires-clause-imports
-new-requires-clause-imports c =
-    one_each c.args.workspace.now c.args.«package» (file_of c.args.tree.now) c.in_ok-plan.plan.outcomes c.add.new.all.items c.in_ok-of_file.of_file c.requires
-    (c.in_ok-add.ensures ∙ ap (λ l. l ++ c.in_ok-of_file.of_file ∷ []) c.new-imports.ensures.items) c.in_ok-of_file.ensures
+pub compile_alone-requires : goal.compile_alone-requires
+compile_alone-requires c = one_each c.args.workspace.now c.args.«package» (file_of c.args.tree.now) (map imported_in c.in-Ok.imports.items) c.requires c.in-Ok.ensures
 
-pub returns : goal.returns
-returns c =
-    let are = c.in_ok-add.ensures ∙ ap (λ l. l ++ c.in_ok-of_file.of_file ∷ []) c.new-imports.ensures.items in
-    IfOk-weaker c.compile_part.result _ _
-    (λ p same. input_is c.args.workspace.now c.args.«package» (file_of c.args.tree.now) c.in_ok-plan.plan c.add.new.all.items c.in_ok-of_file.of_file c.none-reached.result c.in_ok-input.input p.input c.in_ok-plan.ensures are c.in_ok-of_file.ensures c.none-reached.ensures c.in_ok-input.ensures same)
-    c.compile_part.ensures.input
+pub returns-in-Ok : goal.returns-in-Ok
+returns-in-Ok c =
+    IfOk-weaker c.compile_alone.result _ _ (λ p same. input_is c.args.workspace.now c.args.«package» (file_of c.args.tree.now) (map imported_in c.in-Ok.imports.items) p.input c.in-Ok.ensures same) c.compile_alone.ensures

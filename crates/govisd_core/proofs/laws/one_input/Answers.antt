@@ -7,4 +7,4 @@ use Rattle.govisd_core.proofs.laws.one_input.Goals as goal
 
 pub returns : goal.returns
 returns c =
-    inputs_agree c.one_tree.ensures (found_agree (settled_are_one Declaration (List ℕ)) c.reports_are_one.ensures c.one_blocks_alone.ensures c.one_check.ensures c.one_outcome.ensures)
+    inputs_agree c.one_tree.ensures c.one_rule.ensures (found_agree (settled_are_one Declaration (List ℕ)) c.reports_are_one.ensures c.one_blocks_alone.ensures c.one_check.ensures c.one_outcome.ensures)

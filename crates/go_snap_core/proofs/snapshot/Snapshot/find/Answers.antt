@@ -7,6 +7,6 @@ use Rattle.go_snap_core.proofs.snapshot.Snapshot.find.Goals as goal
 pub returns-clause-part : goal.returns-clause-part
 returns-clause-part c =
     let view = c.self.view_is in
-    part_found c.args.self.now.sources c.packages.result.now c.args.self.now.parts c.deref.result.now c.args.path.now c.as_str.result.now c.in_ok-number.number c.in_ok-number.ensures.0 c.part_at.result
+    part_found c.args.self.now.sources c.packages.result.now c.args.self.now.parts c.parts.result.now c.args.path.now c.as_str.result.now c.in_ok-number.number c.in_ok-number.ensures.0 c.part_at.result
     (subst (λ (s : SnapshotModel). IsWorkspace s.sources) view c.packages.ensures.well) (c.packages.ensures.packages ∙ ap (λ (s : SnapshotModel). s.sources) view)
-    (c.deref.ensures.value ∙ ap (λ (s : SnapshotModel). s.parts) view) c.as_str.ensures.text c.in_ok-number.ensures.1 c.part_at.ensures
+    c.parts.ensures c.as_str.ensures.text c.in_ok-number.ensures.1 c.part_at.ensures

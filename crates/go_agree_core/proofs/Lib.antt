@@ -1,0 +1,12 @@
+mod Agree
+mod Calling
+mod Clean
+mod Fitting
+mod Lists
+mod Methods
+mod Names
+mod Own
+mod Pieces
+mod Reading
+mod Told
+mod Within

@@ -1,0 +1,3 @@
+pub mod Calling
+pub mod Laws
+pub mod Standing

@@ -1,0 +1,74 @@
+-- Faults of a function, by where they come from.
+use Rattle.std.proofs.Common.{◌≡◌, zero, suc, Bool, true, false, not, ◌&&◌, inl, inr, List, [], ◌∷◌, ◌++◌, map, refl, sym, ap, subst, ◌∙◌, arith}
+use Rattle.std.specs.Prelude.{Contains, if◌then◌else◌}
+use Rattle.std.proofs.lemmas.List.Elements.{Contains-append_left, Contains-append_right, Contains-append_cases}
+use Rattle.go_tree_nodes.specs.Trees.{FuncTree}
+use Rattle.go_local_core.specs.declared.Fault.{Fault as LocalFault}
+use Rattle.go_local_core.specs.Law.{Out}
+use Rattle.go_walk_core.specs.Ends.{are_terminating, lines_loop_faults}
+use Rattle.go_expr_core.specs.declared.things.Fault.{Fault}
+use Rattle.go_body_core.specs.Ends.{returns_some, panics_at, calls_one, end_faults}
+use Rattle.go_env_core.specs.Looks.{fault_of}
+use Rattle.go_env_core.specs.declared.meaning.Meaning.{Meaning}
+use Rattle.go_body_core.specs.Notes.{TheUse, NoteOf, all_uses, all_faults}
+use Rattle.go_ending_core.specs.Functions.{LacksReturn, lack_at, IsFaultOf, OfAPiece, OfAName, OfAJump, OfItsEnd}
+use Rattle.go_ending_core.specs.FunctionLaws.{FunctionsHaveTheirFaults}
+use Rattle.go_ending_core.proofs.Lacking.{declares, end_found, are_lacked}
+use Rattle.go_ending_core.proofs.Straying.{are_faults}
+
+in_map : {A B : Type 0} (g : A → B) (xs : List A) (y : B) → Contains (map g xs) y → (x : A) × Contains xs x × (y ≡ g x)
+in_map g [] y h = absurd (omega (arith, h.1))
+in_map g (x ∷ xs) y (zero, lt, is) = (x, (0, omega arith, refl), sym is)
+in_map g (x ∷ xs) y (suc k, lt, is) = let r = in_map g xs y (k, omega (arith, lt), is) in (r.0, (suc r.1.0, omega (arith, r.1.1), r.1.2), r.2)
+
+map_in : {A B : Type 0} (g : A → B) (xs : List A) (x : A) → Contains xs x → Contains (map g xs) (g x)
+map_in g [] x h = absurd (omega (arith, h.1))
+map_in g (y ∷ xs) x (zero, lt, is) = (0, omega arith, ap g is)
+map_in g (y ∷ xs) x (suc k, lt, is) = let r = map_in g xs x (k, omega (arith, lt), is) in (suc r.0, omega (arith, r.1), r.2)
+
+end_by : (r e : Bool) (g x : Fault) → Contains (if r && not e then g ∷ [] else []) x → (r ≡ true) × (e ≡ false) × (x ≡ g)
+end_by true true g x h = absurd (omega (arith, h.1))
+end_by true false g x (zero, lt, is) = (refl, refl, sym is)
+end_by true false g x (suc k, lt, is) = absurd (omega (arith, lt))
+end_by false e g x h = absurd (omega (arith, h.1))
+
+end_lacks : (us : List TheUse) (f : FuncTree) (x : Fault) → Contains (end_faults us f) x → LacksReturn us f × (x ≡ lack_at f.close_brace)
+end_lacks us f x h =
+    let r = end_by (returns_some f.signature) (are_terminating (calls_one (panics_at us)) f.body) (lack_at f.close_brace) x h in
+    (record { results = declares f.signature r.0; unended = λ e. let z : false ≡ true = sym r.1 ∙ end_found us f e in (cc) }, r.2)
+
+lack_has : (us : List TheUse) (f : FuncTree) → LacksReturn us f → Contains (end_faults us f) (lack_at f.close_brace)
+lack_has us f l = subst (λ fs. Contains fs (lack_at f.close_brace)) (sym (are_lacked.fault us f l)) (0, omega arith, refl)
+
+module _ (f : FuncTree) (o : Out Meaning NoteOf) where
+  middle : (x : Fault) (y : LocalFault) → x ≡ fault_of y → Contains (o.faults ++ lines_loop_faults false f.body) y → Contains (all_faults o.notes ++ (map fault_of (o.faults ++ lines_loop_faults false f.body) ++ end_faults (all_uses o.notes) f)) x
+  middle x y is h =
+      Contains-append_right (all_faults o.notes) (map fault_of (o.faults ++ lines_loop_faults false f.body) ++ end_faults (all_uses o.notes) f) x
+      (Contains-append_left (map fault_of (o.faults ++ lines_loop_faults false f.body)) (end_faults (all_uses o.notes) f) x
+      (subst (λ g. Contains (map fault_of (o.faults ++ lines_loop_faults false f.body)) g) (sym is) (map_in fault_of (o.faults ++ lines_loop_faults false f.body) y h)))
+
+  found : (x : Fault) → Contains (all_faults o.notes ++ (map fault_of (o.faults ++ lines_loop_faults false f.body) ++ end_faults (all_uses o.notes) f)) x → IsFaultOf f o x
+  found x h =
+      elim (Contains-append_cases (all_faults o.notes) (map fault_of (o.faults ++ lines_loop_faults false f.body) ++ end_faults (all_uses o.notes) f) x h) [
+        | inl p ↦ OfAPiece p
+        | inr q ↦ elim (Contains-append_cases (map fault_of (o.faults ++ lines_loop_faults false f.body)) (end_faults (all_uses o.notes) f) x q) [
+          | inl m ↦ (let r = in_map fault_of (o.faults ++ lines_loop_faults false f.body) x m in
+              elim (Contains-append_cases o.faults (lines_loop_faults false f.body) r.0 r.1) [
+                | inl n ↦ OfAName n r.2
+                | inr j ↦ OfAJump ((are_faults.each f.body r.0).0 j) r.2
+              ])
+          | inr e ↦ (let l = end_lacks (all_uses o.notes) f x e in OfItsEnd l.0 l.1)
+        ]
+      ]
+
+  has : (x : Fault) → IsFaultOf f o x → Contains (all_faults o.notes ++ (map fault_of (o.faults ++ lines_loop_faults false f.body) ++ end_faults (all_uses o.notes) f)) x
+  has x (OfAPiece p) = Contains-append_left (all_faults o.notes) (map fault_of (o.faults ++ lines_loop_faults false f.body) ++ end_faults (all_uses o.notes) f) x p
+  has x (OfAName {x = y} n is) = middle x y is (Contains-append_left o.faults (lines_loop_faults false f.body) y n)
+  has x (OfAJump {x = y} j is) = middle x y is (Contains-append_right o.faults (lines_loop_faults false f.body) y ((are_faults.each f.body y).1 j))
+  has x (OfItsEnd l is) =
+      Contains-append_right (all_faults o.notes) (map fault_of (o.faults ++ lines_loop_faults false f.body) ++ end_faults (all_uses o.notes) f) x
+      (Contains-append_right (map fault_of (o.faults ++ lines_loop_faults false f.body)) (end_faults (all_uses o.notes) f) x
+      (subst (λ g. Contains (end_faults (all_uses o.notes) f) g) (sym is) (lack_has (all_uses o.notes) f l)))
+
+pub are_theirs : FunctionsHaveTheirFaults
+are_theirs = λ f o x. (λ h. found f o x h, λ i. has f o x i)

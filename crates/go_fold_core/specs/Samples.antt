@@ -1,0 +1,44 @@
+-- The expressions in a few expressions, each with the place at which it is judged, worked out by hand: of every form of expression, with any identifiers
+-- and places of tokens.
+use Rattle.std.specs.Prelude.{◌≡◌, [], ◌∷◌, Some, None}
+use Rattle.go_text_core.specs.declared.span.Span.{Span}
+use Rattle.go_token_core.specs.declared.kind.Operator.TheVariants as operators
+use Rattle.go_tree_nodes.specs.declared.names.Ident.{Ident}
+use Rattle.go_tree_nodes.specs.declared.names.TextLiteral.{TextLiteral}
+use Rattle.go_tree_nodes.specs.declared.exprs.Key.{Key}
+use Rattle.go_tree_nodes.specs.declared.types.TypeName.{TypeName}
+use Rattle.go_tree_nodes.specs.Trees.{TypeTree, Integer, Text, Named, Paren, Unary, Binary, Select, Call, Literal, StructLiteral, NoItems, Item}
+use Rattle.go_denote_core.specs.declared.things.Place.TheVariants as places
+use Rattle.go_fold_core.specs.Parts.{parts}
+
+pub record SampleParts : Type 0 where
+  -- -(a) + 1
+  pub sums : (s : Span) (a : Ident) → parts places.«Value» (Binary (Unary operators.Minus s (Paren s (Named a) s)) operators.Plus s (Integer 1 s)) ≡
+      (places.«Value», Binary (Unary operators.Minus s (Paren s (Named a) s)) operators.Plus s (Integer 1 s))
+      ∷ (places.«Value», Unary operators.Minus s (Paren s (Named a) s))
+      ∷ (places.«Value», Paren s (Named a) s)
+      ∷ (places.«Value», Named a)
+      ∷ (places.«Value», Integer 1 s) ∷ []
+  -- a.f("", b)
+  pub calls : (s : Span) (a f b : Ident) (t : TextLiteral) → parts places.«Value» (Call (Select (Named a) s f) s (Item None (Text t) (Some s) (Item None (Named b) None NoItems)) s) ≡
+      (places.«Value», Call (Select (Named a) s f) s (Item None (Text t) (Some s) (Item None (Named b) None NoItems)) s)
+      ∷ (places.Callee, Select (Named a) s f)
+      ∷ (places.BeforeDot, Named a)
+      ∷ (places.«Value», Text t)
+      ∷ (places.«Value», Named b) ∷ []
+  -- (*t)(f().x): behind the star of what is called stands a type, and what stands left of a dot and is no name is an operand
+  pub conversions : (s : Span) (t f x : Ident) → parts places.«Value» (Call (Paren s (Unary operators.Star s (Named t)) s) s (Item None (Select (Call (Named f) s NoItems s) s x) None NoItems) s) ≡
+      (places.«Value», Call (Paren s (Unary operators.Star s (Named t)) s) s (Item None (Select (Call (Named f) s NoItems s) s x) None NoItems) s)
+      ∷ (places.Callee, Paren s (Unary operators.Star s (Named t)) s)
+      ∷ (places.Callee, Unary operators.Star s (Named t))
+      ∷ (places.«Type», Named t)
+      ∷ (places.«Value», Select (Call (Named f) s NoItems s) s x)
+      ∷ (places.«Value», Call (Named f) s NoItems s)
+      ∷ (places.Callee, Named f) ∷ []
+  -- t{k: a} and struct{ .. }{b, c}: elements, and neither types nor keys
+  pub literals : (s : Span) (t : TypeName) (k : Key) (a : Ident) → parts places.«Value» (Literal t s (Item (Some k) (Named a) None NoItems) s) ≡
+      (places.«Value», Literal t s (Item (Some k) (Named a) None NoItems) s) ∷ (places.«Value», Named a) ∷ []
+  pub written : (s : Span) (t : TypeTree) (b c : Ident) → parts places.«Value» (StructLiteral t s (Item None (Named b) (Some s) (Item None (Named c) None NoItems)) s) ≡
+      (places.«Value», StructLiteral t s (Item None (Named b) (Some s) (Item None (Named c) None NoItems)) s)
+      ∷ (places.«Value», Named b)
+      ∷ (places.«Value», Named c) ∷ []

@@ -1,0 +1,61 @@
+//! What the names of a function come to, by tables of its file.
+ghost use Rattle.std.specs.Prelude.{◌≡◌};
+ghost use Rattle.go_lookup_core.specs.Looking.{meant, place_or_zero};
+ghost use Rattle.go_lookup_core.specs.mirrors.Naming.{file_looks};
+
+use crate::offset_table::OffsetTable;
+use go_fragment_core::{CodeNames, Meaning};
+
+/// What the names of a file come to.
+#[derive(Drop)]
+pub struct FileNames {
+    /// What its occurrences come to, by their offsets.
+    pub uses: OffsetTable,
+    /// What the locals come to that its functions declare, by the offsets of their identifiers.
+    pub locals: OffsetTable,
+}
+
+/// What the names of a function come to: those of its file, and how many occurrences of the file stand before its body. What code calls at an offset
+/// is the reference of the occurrence there: of its number among those of the body, from 0.
+#[derive(Drop)]
+pub struct FuncNames<'f> {
+    pub file: &'f FileNames,
+    pub before: usize,
+}
+
+/// What something comes to of which nothing may be known.
+pub fn meant(meaning: Option<Meaning>) -> Meaning
+    ensures { result ≡ meant meaning }
+{
+    match meaning {
+        Some(meaning) => meaning,
+        None => Meaning::Other,
+    }
+}
+
+fn place_or_zero(place: Option<usize>) -> usize
+    ensures { result ≡ place_or_zero place }
+{
+    match place {
+        Some(place) => place,
+        None => 0,
+    }
+}
+
+impl<'f> CodeNames for FuncNames<'f> {
+    ghost use Rattle.go_lookup_core.specs.mirrors.Naming.{file_looks};
+
+    ghost looks = { λ n. file_looks n.file.now n.before };
+
+    fn meaning(&self, offset: usize) -> Meaning {
+        meant(self.file.uses.meaning(offset))
+    }
+
+    fn reference(&self, offset: usize) -> usize {
+        place_or_zero(self.file.uses.place(offset)).saturating_sub(self.before)
+    }
+
+    fn is_new(&self, offset: usize) -> bool {
+        self.file.locals.place(offset).is_some()
+    }
+}

@@ -1,0 +1,3 @@
+mod Ending
+mod Giving
+mod Outlined

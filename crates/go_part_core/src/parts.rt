@@ -1,0 +1,101 @@
+//! The parts of packages, by the numbers of these.
+ghost use Rattle.std.specs.Prelude.{◌≡◌, ◌≤◌, ◌<◌, ◌+◌, ◌++◌, [], IfOk, None, Some, length, replicate, slice_set, vec_capacity};
+ghost use Rattle.go_part_core.specs.mirrors.Slots.{if_put, those_put};
+
+use crate::part::Part;
+use go_text_core::add;
+use std::alloc::{AllocError, Global};
+use std::marker::Model;
+
+/// The parts of packages, by the numbers of these: none where a package has none. Contracts see the list.
+#[derive(Drop)]
+pub struct Parts {
+    slots: Vec<Option<Part>>,
+}
+
+impl Model for Parts {
+    ghost use Rattle.std.specs.Prelude.{List, Option};
+    ghost use Rattle.std.specs.Coded.{codes};
+    ghost use Rattle.go_used_core.specs.block_core.Blocks.{coded_blocks};
+    ghost use Rattle.go_used_core.specs.face_core.codes.FaceCodes.{coded_face, coded_operand};
+    ghost use Rattle.go_told_core.specs.summary_core.codes.SummaryCodes.{coded_summary};
+    ghost use Rattle.go_part_core.specs.Inputs.{coded_input};
+    ghost use Rattle.go_part_core.specs.Parts.{PartModel};
+
+    ghost Value = { List (Option PartModel) };
+
+    ghost coded = { Prim.hlevel (codes, coded_input, coded_blocks, coded_face, coded_operand, coded_summary) };
+
+    ghost view = { λ p. p.slots.items };
+}
+
+// No part, for so many packages.
+fn no_parts(alloc: Global, count: usize) -> Result<Vec<Option<Part>>, AllocError>
+    ensures { IfOk result (λ parts. parts.items ≡ replicate count None) }
+{
+    let mut parts = Vec::with_capacity(alloc, count)?;
+    for _package in 0..count {
+        add(&mut parts, None)?;
+    }
+    Ok(parts)
+}
+
+// Puts a part back, if there is one, into a list that has room for it.
+fn put_back(slot: Option<Part>, parts: &mut Vec<Part>)
+    requires { length parts.old.items + length (if_put slot) ≤ vec_capacity parts.old }
+    ensures parts { parts.new.items ≡ parts.old.items ++ if_put slot }
+    ensures room { vec_capacity parts.old ≤ vec_capacity parts.new }
+{
+    let Some(part) = slot else {
+        return;
+    };
+    match parts.push(part) {
+        Ok(()) => {}
+        // There is room for it.
+        Err(_) => unreachable!(),
+    }
+}
+
+impl Parts {
+    /// No part, for so many packages.
+    ///
+    /// # Errors
+    ///
+    /// `AllocError` where memory is wanting.
+    pub fn none(alloc: Global, count: usize) -> Result<Parts, AllocError>
+        ensures { IfOk result (λ p. p ≡ replicate count None) }
+    {
+        Ok(Parts {
+            slots: no_parts(alloc, count)?,
+        })
+    }
+
+    /// The parts by the numbers of their packages.
+    pub fn as_slice(&self) -> &[Option<Part>]
+        ensures { result.now ≡ self.now }
+    {
+        self.slots.as_slice()
+    }
+
+    /// Puts a part to the number of its package, in the place of the one that is there.
+    pub fn put(&mut self, number: usize, part: Part)
+        requires { number < length self.old }
+        ensures { self.new ≡ slice_set self.old number (Some part) }
+    {
+        self.slots[number] = Some(part);
+    }
+
+    /// Takes the parts that are there, in order of number, back into a list that has room for them.
+    pub fn take_back(self, parts: &mut Vec<Part>)
+        requires empty { parts.old.items ≡ [] }
+        requires room { length (those_put self) ≤ vec_capacity parts.old }
+        ensures { parts.new.items ≡ those_put self }
+    {
+        for slot in self.slots {
+            put_back(slot, parts);
+        }
+    }
+
+    /// Ends the parts, as their drops do, and promises nothing: no answer may rest on it.
+    pub fn close(self) {}
+}

@@ -1,0 +1,77 @@
+//! The program `govisd_cases`: what the layers of govisd answer.
+//!
+//! `govisd_cases KIND FILE.. [-- KIND FILE..]..` reads of each file a text, a table of cases or the archive of a workspace, and writes the answers of
+//! the kind before it in lines. The kinds for texts and tables are at the head of data/cases.txt, and those for snapshots of workspaces in
+//! `govisd_snapshot`. The status is 2 where there is no kind, and 1 where a file cannot be read.
+#![tactic(auto)]
+
+use govisd_show::Lines;
+use std::alloc::{AllocError, Global};
+use std::process::ExitCode;
+use std::{env, fs, io};
+
+/// What is answered to a file of these bytes. The last bytes are those of the file before it of the same kind, and none before the first.
+fn answer(
+    alloc: Global,
+    kind: &str,
+    file: &str,
+    bytes: &[u8],
+    last: &[u8],
+) -> Result<String, AllocError> {
+    let mut out = Lines::new(alloc);
+    let is_answered = match (str::from_utf8(bytes), str::from_utf8(last)) {
+        (Ok(text), Ok(last)) => govisd_snapshot::add_of_file(
+            &mut out, alloc, kind, file, text, last,
+        ),
+        _ => false,
+    };
+    if !is_answered {
+        govisd_probe::add_of_file(&mut out, alloc, kind, file, bytes);
+    }
+    out.finish()
+}
+
+/// Writes what is answered to a file, and gives its bytes.
+fn show(rt: &HostRuntime, kind: &str, file: &str, last: &[u8]) -> io::Result<Vec<u8>> {
+    let bytes = fs::read(rt, file)?;
+    let lines = answer(rt.alloc(), kind, file, bytes.as_slice(), last)?;
+    print!(rt; "{lines}")?;
+    Ok(bytes)
+}
+
+/// Takes a word: `--` ends a kind and its files, a word without a kind before it is the kind, and each behind it a file. Gives the number of the word
+/// that is the kind then, and 0 for none.
+fn show_word(
+    rt: &HostRuntime,
+    words: &[String],
+    kind: usize,
+    number: usize,
+    last: &mut Vec<u8>,
+) -> io::Result<usize> {
+    let Some(name) = words.get(kind) else {
+        return Ok(kind);
+    };
+    let Some(word) = words.get(number) else {
+        return Ok(kind);
+    };
+    if word.as_str() == "--" {
+        last.clear();
+        return Ok(0);
+    }
+    if kind == 0 {
+        return Ok(number);
+    }
+    let bytes = show(rt, name.as_str(), word.as_str(), last.as_slice())?;
+    *last = bytes;
+    Ok(kind)
+}
+
+fn main(rt: HostRuntime) -> io::Result<ExitCode> {
+    let words: Vec<String> = env::args(&rt)?.collect(rt.alloc())?;
+    let mut last = Vec::new(rt.alloc());
+    let mut kind = 0usize;
+    for number in 1..words.len() {
+        kind = show_word(&rt, words.as_slice(), kind, number, &mut last)?;
+    }
+    Ok(ExitCode::from(if kind == 0 { 2 } else { 0 }))
+}
