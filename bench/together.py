@@ -1,6 +1,7 @@
 """Tries many wrong bodies of a crate in one check of the prover. Each stands in a copy of its function, beside it and under a name of
 its own, with the same clauses and the same written answers. The other functions have a hole in place of their proofs, so that the
-copies are judged by the clauses of what they call, and nothing else is proved. Where a function can't be copied it is edited itself."""
+copies are judged by the clauses of what they call, and nothing else is proved. Their bodies are left out, as far as they stand on lines
+of their own, so that the prover need not look at what they call in turn. Where a function can't be copied it is edited itself."""
 import os
 import re
 import shutil
@@ -17,7 +18,9 @@ NOT_TOLD = re.compile(r"it calls (.*?), which (?:is|are) not proved")
 PROVED = re.compile(r"proved$|no holes$|depends on a hole in")
 NOT_PROVED = re.compile(r"^error|is not proved|not allowed")
 AT_LIMIT = re.compile(r"gave up at one of its limits|ran out of|outgrew the memory limit|stopped at the step limit")
+GOALS = re.compile(r"^(use \S+\.Goals)\.\{([^}]*)\}\n", re.M)
 NO_SUCH_NAME = re.compile(r"has no field|is not in scope|has no `|was not admitted|is no name|can be named from here|\(nearest: ")
+UNFINISHED = re.compile(r"(?:record|module) `[^`]*`$")
 ANSWERS = ("Answers.antt", "Invariants.antt")
 HOLE = """use Rattle.{crate}.proofs.{module}.{{statement}}
 
@@ -95,6 +98,14 @@ class Function:
         """The path of its proof, which the functions of a cycle of calls have together."""
         return [*self.module, f"+{self.cycle}"] if self.cycle else [*self.module, *self.inside]
 
+    def without_body(self):
+        """Its text with a body that calls nothing, or the same text where its body does not stand on lines of its own."""
+        margin = self.text[: len(self.text) - len(self.text.lstrip())]
+        head = re.compile(r".*\{$" if self.text.split("\n")[0].endswith("{") else rf"^{margin}(?:\).* )?\{{$", re.M)
+        found = head.search(self.text)
+        has_body = found and self.text.endswith(f"\n{margin}}}") and "const fn" not in self.text[: found.end()]
+        return f"{self.text[: found.end()]}\n{margin}    unreachable!()\n{margin}}}" if has_body else self.text
+
     def closures(self):
         """How the paths of its closures begin."""
         return "::".join([*self.module, "fn", *self.inside, ""])
@@ -169,7 +180,7 @@ class Edit:
             return False
         function = self.functions[0]
         has_walk = os.path.exists(os.path.join(folder, "proofs", *function.proof(), "Proof.antt"))
-        return not has_walk and all(function.text.count(old.strip()) == 1 for _, old, _ in self.pairs)
+        return not has_walk and all(function.text.count(old) == 1 for _, old, _ in self.pairs)
 
     def apply(self, folder):
         for path, old, new in self.pairs:
@@ -184,15 +195,19 @@ class Copy:
         self.function, self.name = function, name
         text = function.text
         for _, old, new in pairs:
-            text = text.replace(old.strip(), new.strip(), 1)
+            text = text.replace(old, new, 1)
         attributes = re.sub(r" *#\[cycle[^\n]*\n", "", function.attributes)
         self.text = attributes + re.sub(rf"\bfn {function.name}\b", f"fn {name}", text, count=1)
         self.path = "::".join([*function.module, *function.inside[:-1], name])
 
     def stand(self, folder, functions):
-        """Writes the copy behind all else in its file, and its written answers beside those of its function."""
-        file, block = os.path.join(folder, self.function.file), self.function.block
-        write(file, read(file) + (f"\n{block.header}\n{self.text}\n}}\n" if block else f"\n{self.text}\n"))
+        """Writes the copy to the end of its function's block or file, and its written answers beside those of its function."""
+        file = os.path.join(folder, self.function.file)
+        said = read(file)
+        end = len(said)
+        if self.function.block:
+            end = next(f.block.end for f in functions_in(folder, self.function.file) if f.path == self.function.path)
+        write(file, f"{said[:end].rstrip()}\n\n{self.text}{said[end:] or chr(10)}")
         new, place = self.path.split("::"), len(self.function.module)
         self.answer(folder, self.function.proof(), new, functions)
         self.answer(folder, self.function.closures().split("::")[:-1], [*new[:place], "fn", *new[place:]], functions)
@@ -209,16 +224,28 @@ class Copy:
                 write(file, re.sub(rf"proofs\.{re.escape('.'.join(old))}(?=\.)", f"proofs.{'.'.join(new)}", said))
 
 
+def owner_of(goal, members):
+    """The function whose goal it is, of those of a cycle of calls."""
+    return max((name for name in members if goal.startswith(f"{name}-")), key=len, default="")
+
+
+def goals_alone(line, function, members):
+    """An import of goals, with those of the function alone, each under the name that it has without its function's."""
+    own = [goal for goal in line[2].split(", ") if owner_of(goal, members) == function.name]
+    short = [f"{goal[len(function.name) + 1 :]} as {goal}" for goal in own]
+    return f"{line[1]}.{{{', '.join(short)}}}\n" if own else ""
+
+
 def alone(said, function, functions):
     """The answers of one function of a cycle of calls, as they stand where it calls the cycle from outside: goals lose their
     function's name and their measure."""
     members = [f.name for f in functions if f.unit == function.unit]
     kept = []
+    said = GOALS.sub(lambda it: goals_alone(it, function, members), said) if len(members) > 1 else said
     for block in said.rstrip("\n").split("\n\n"):
         named = re.search(r"^(?:abbrev )?pub ((invariant-|measure-)?(\S+)) :", block, re.M)
         if named and (named[2] != "measure-" or "-loop-" in named[1]) and len(members) > 1:
-            owners = [name for name in members if named[3].startswith(f"{name}-")]
-            if max(owners, key=len, default="") != function.name:
+            if owner_of(named[3], members) != function.name:
                 continue
             block = block.replace(named[1], (named[2] or "") + named[3][len(function.name) + 1 :])
         elif named and named[2] == "measure-":
@@ -271,10 +298,11 @@ def notes_on(said, function):
     proofs = tuple("proofs/" + path.replace("::", "/") for path in (function.path + "::", function.closures()))
     proofs += ("/".join(["proofs", *function.proof(), ""]),)
     found = []
-    for line in said:
+    for line, behind in zip(said, [*said[1:], ""]):
         note = NOTE.match(line)
         if note and (note[1] == function.file and int(note[2]) in function.rows or note[1].startswith(proofs)):
-            found.append((note[3], line))
+            more = f" {behind.strip()}" if UNFINISHED.search(line) else ""
+            found.append((note[3] + more, line + more))
     return found
 
 
@@ -340,27 +368,45 @@ def put_back(folder, before):
             os.remove(file)
     for file, text in before.items():
         if after.get(file) != text:
+            os.makedirs(os.path.dirname(file), exist_ok=True)
             write(file, text)
     for at, _, _ in os.walk(os.path.join(folder, "proofs"), topdown=False):
         if not os.listdir(at):
             os.rmdir(at)
 
 
+def leave_out_bodies(folder, paths):
+    """Leaves the bodies of the functions at these paths out, with their proofs and those of their closures."""
+    for function in sorted(functions_of(folder), key=lambda it: -it.begin):
+        text = function.without_body()
+        if function.path not in paths or text == function.text:
+            continue
+        file = os.path.join(folder, function.file)
+        said = read(file)
+        before = said[: function.begin].removesuffix(function.attributes)
+        attributes = re.sub(r" *#\[cycle[^\n]*\n", "", function.attributes)
+        write(file, before + attributes + text + said[function.end :])
+        for path in (function.proof(), function.closures().split("::")[:-1]):
+            shutil.rmtree(os.path.join(folder, "proofs", *path), ignore_errors=True)
+
+
 def write_holes(crate, folder, functions, edited):
     """Puts a hole in place of the proof of each function that is not edited, but of those in traits: what calls it is judged by its
     clauses, and it is not proved. Returns their paths."""
     units = {function.unit for function in edited}
-    holed = [function for function in functions if function.is_free and function.unit not in units]
-    for function in holed:
-        path = function.proof()
-        at = os.path.join(folder, "proofs", *path)
-        os.makedirs(at, exist_ok=True)
-        for answers in ANSWERS:
-            if os.path.exists(os.path.join(at, answers)):
-                os.remove(os.path.join(at, answers))
-        module = ".".join(path if function.cycle else [*path, "Statement"])
-        write(os.path.join(at, "Proof.antt"), HOLE.format(crate=crate, module=module, name=path[-1]))
-    return {function.path for function in holed}
+    paths = {function.path for function in functions if function.is_free and function.unit not in units}
+    leave_out_bodies(folder, paths)
+    for function in functions_of(folder):
+        if function.path in paths:
+            path = function.proof()
+            at = os.path.join(folder, "proofs", *path)
+            os.makedirs(at, exist_ok=True)
+            for answers in ANSWERS:
+                if os.path.exists(os.path.join(at, answers)):
+                    os.remove(os.path.join(at, answers))
+            module = ".".join(path if function.cycle else [*path, "Statement"])
+            write(os.path.join(at, "Proof.antt"), HOLE.format(crate=crate, module=module, name=path[-1]))
+    return paths
 
 
 def flags_of(paths):

@@ -118,10 +118,32 @@ def copy_repository(room, uses):
             shutil.rmtree(os.path.join(crates, name))
             continue
         for part in (*PARTS, "must-fail"):
-            for at, _, names in os.walk(os.path.join(crates, name, part)):
+            for at, _, names in os.walk(os.path.join(crates, name, part), topdown=False):
                 for file in (os.path.join(at, it) for it in names):
                     if os.path.relpath(file, room) not in wanted:
                         os.remove(file)
+                if not os.listdir(at):
+                    os.rmdir(at)
+
+
+def link_or_copy(source, target):
+    """Gives a file of a library a second name, which rt removes before it builds the library again."""
+    try:
+        os.link(source, target)
+    except OSError:
+        shutil.copy2(source, target)
+
+
+def copy_libraries(room, uses):
+    """Gives the copy the libraries that rt built in the repository, where they are newer. Whether they fit the sources rt tells by
+    their stamps."""
+    for crate in uses:
+        built, kept = (os.path.join(top, "crates", crate, "out", "rlib") for top in (ROOT, room))
+        stamps = [os.path.join(folder, "stamp") for folder in (built, kept)]
+        times = [os.path.getmtime(it) if os.path.exists(it) else 0 for it in stamps]
+        if times[0] > times[1]:
+            shutil.rmtree(kept, ignore_errors=True)
+            shutil.copytree(built, kept, copy_function=link_or_copy)
 
 
 def try_edits(room, crate, edits, results, log):
@@ -196,6 +218,7 @@ def main():
         fcntl.flock(lock, fcntl.LOCK_EX)  # one run at a time has the copy
         results = Results(os.path.join(home, "results.txt"))
         copy_repository(room, uses)
+        copy_libraries(room, uses)
         sources = sums(uses)
         edits = {crate: edits_of(crate, sources[crate]) for crate in uses if crate in given.crates or not given.crates}
         edits = {crate: tried for crate, tried in edits.items() if tried}

@@ -30,17 +30,17 @@ use Rattle.go_package_core.specs.Checked.{imports_at}
 use Rattle.go_summary_core.specs.Views.{types_told}
 use Rattle.go_part_core.specs.Inputs.{InputModel, IsInput}
 use Rattle.go_part_core.specs.Parts.{ContentOf, FileOf, IsPart, package_seen, seen_by}
-use Rattle.go_emit_core.specs.Emitted.{are_clean, scene_over, told_to}
+use Rattle.go_emit_core.specs.Emitted.{are_clean, code_scene_over, told_to}
 use Rattle.go_emit_core.specs.Laws.{BodiesAreBetweenBraces, ObjectsAreOfFaultless}
 use Rattle.go_meaning_core.specs.Looking.{locals_meant}
 use Rattle.go_meaning_core.specs.Meanings.{local_meaning}
 use Rattle.go_meaning_core.specs.Scenes.{outcome_meaning}
-use Rattle.go_lookup_core.specs.Looking.{meant}
-use Rattle.go_fold_core.specs.Laws.{AreMeant, ConstantsAreFolded, ExpressionsAreFolded, IsDeclared}
+use Rattle.go_lookup_core.specs.Looking.{meaning_or_other}
+use Rattle.go_fold_core.specs.Laws.{AreMeant, ConstantsAreFolded, ExpressionsAreFolded, HasDeclaration}
 use Rattle.go_fold_core.specs.Reading.{AreNamesRead, AreRead}
 use Rattle.go_agree_core.specs.Calling.{without_method, without_methods}
 use Rattle.go_agree_core.specs.Laws.{ConstantsAreOfTheCheck, ImportsAreOthers, code_names_of}
-use Rattle.go_agree_core.specs.Standing.{looks_among, piece_exprs, pieces_of, stand_of}
+use Rattle.go_agree_core.specs.Standing.{looks_among, piece_exprs, pieces_of, stand_in_part}
 use Rattle.go_agree_core.proofs.Calling.{folded_same, meant_calm}
 use Rattle.go_agree_core.proofs.Clean.{IsCleanFile, is_clean_file}
 use Rattle.go_agree_core.proofs.Lists.{Has, Rising, contained, found_at, has, has_right}
@@ -48,7 +48,7 @@ use Rattle.go_agree_core.proofs.Names.{are_read, names_read}
 use Rattle.go_agree_core.proofs.Pieces.{expr_breaks, expr_has, file_has, file_none}
 use Rattle.go_agree_core.proofs.Within.{file_rises}
 
-declared_from : (o : TheOutcome) → is_declared o ≡ true → IsDeclared o
+declared_from : (o : TheOutcome) → is_declared o ≡ true → HasDeclaration o
 declared_from (outcomes.Declared d) h = tt
 declared_from (outcomes.Selected d path) h = tt
 declared_from (outcomes.Refused rule) h = absurd cc
@@ -69,53 +69,53 @@ module _ (fine : ObjectsAreOfFaultless) (one : FunctionsHaveOneTable) (of_locals
       locals_rise : Rising (λ (l : TheLocal). l.offset) (λ (l : TheLocal). local_meaning (types_told (told_to i c)) l.offset l.value) f.answers.locals
       locals_rise =
           subst (Rising (λ (l : TheLocal). l.offset) (λ (l : TheLocal). local_meaning (types_told (told_to i c)) l.offset l.value)) (sym file.locals)
-          (file_rises one (stand_of i c n t) (λ (l : TheLocal). local_meaning (types_told (told_to i c)) l.offset l.value) t in_order)
+          (file_rises one (stand_in_part i c n t) (λ (l : TheLocal). local_meaning (types_told (told_to i c)) l.offset l.value) t in_order)
 
-      module _ (g : FuncTree) (func : Contains (file_funcs t) g) (all : List (Local Meaning)) (right : AreFuncDeclarations (stand_of i c n t) g all) where
+      module _ (g : FuncTree) (func : Contains (file_funcs t) g) (all : List (Local Meaning)) (right : AreFuncDeclarations (stand_in_part i c n t) g all) where
         placed : IsFuncPlaced g
         placed = funcs t in_order g func
 
         g_there : Has (file_funcs t) g
         g_there = has (file_funcs t) g func
 
-        pub names : AreNamesRead Term Sign Declaration (List ℕ) (looks_among (stand_of i c n t) all) (outcome_meaning (scene_over (told_to i c) i c) n (locals_meant (types_told (told_to i c)) f.answers.locals))
+        pub names : AreNamesRead Term Sign Declaration (List ℕ) (looks_among (stand_in_part i c n t) all) (outcome_meaning (code_scene_over (told_to i c) i c) n (locals_meant (types_told (told_to i c)) f.answers.locals))
         names = names_read binds of_locals i c well others part n t f file locals_rise g g_there placed all right
 
-        pub read : AreRead Term Sign Declaration (List ℕ) (looks_among (stand_of i c n t) all) (λ o. without_method (outcome_meaning (scene_over (told_to i c) i c) n (locals_meant (types_told (told_to i c)) f.answers.locals) o))
+        pub read : AreRead Term Sign Declaration (List ℕ) (looks_among (stand_in_part i c n t) all) (λ o. without_method (outcome_meaning (code_scene_over (told_to i c) i c) n (locals_meant (types_told (told_to i c)) f.answers.locals) o))
         read = are_read binds of_locals i c well others part n t f file locals_rise g g_there placed all right
 
         module _ (p : Piece) (piece : Contains (pieces_of g) p) (e : ExprTree) (expr : Contains (piece_exprs p) e) where
-          in_file : (u : TheUse) → Contains (uses (looks_among (stand_of i c n t) all) places.«Value» e) u → Has f.answers.uses u
+          in_file : (u : TheUse) → Contains (uses (looks_among (stand_in_part i c n t) all) places.«Value» e) u → Has f.answers.uses u
           in_file u h =
-              let here = expr_has one (stand_of i c n t) g placed all right p e u (has (pieces_of g) p piece) (has (piece_exprs p) e expr) (has (uses (looks_among (stand_of i c n t) all) places.«Value» e) u h) in
+              let here = expr_has one (stand_in_part i c n t) g placed all right p e u (has (pieces_of g) p piece) (has (piece_exprs p) e expr) (has (uses (looks_among (stand_in_part i c n t) all) places.«Value» e) u h) in
               subst (λ us. Has us u) (sym file.uses)
-              (has_right (imports_uses (file_specs t) (imports_at (package_seen i c.blocks (seen_by i)) n)) (tops_uses (stand_of i c n t) t.decls) u (file_has (decl_uses (stand_of i c n t)) t g g_there u here))
+              (has_right (imports_uses (file_specs t) (imports_at (package_seen i c.blocks (seen_by i)) n)) (tops_uses (stand_in_part i c n t) t.decls) u (file_has (decl_uses (stand_in_part i c n t)) t g g_there u here))
 
-          pub are_meant : AreMeant (code_names_of i c n f g) (outcome_meaning (scene_over (told_to i c) i c) n (locals_meant (types_told (told_to i c)) f.answers.locals)) (uses (looks_among (stand_of i c n t) all) places.«Value» e)
+          pub are_meant : AreMeant (code_names_of i c n f g) (outcome_meaning (code_scene_over (told_to i c) i c) n (locals_meant (types_told (told_to i c)) f.answers.locals)) (uses (looks_among (stand_in_part i c n t) all) places.«Value» e)
           are_meant u h =
               let here = in_file u h in
-              let value = λ (v : TheUse). outcome_meaning (scene_over (told_to i c) i c) n (locals_meant (types_told (told_to i c)) f.answers.locals) v.outcome in
+              let value = λ (v : TheUse). outcome_meaning (code_scene_over (told_to i c) i c) n (locals_meant (types_told (told_to i c)) f.answers.locals) v.outcome in
               record {
-                meaning = ap meant (found_at (λ (v : TheUse). v.offset) value f.answers.uses u (rising_from (λ (v : TheUse). v.offset) value f.answers.uses (between i c well part n t f tree there grammar in_order).0) here);
+                meaning = ap meaning_or_other (found_at (λ (v : TheUse). v.offset) value f.answers.uses u (rising_from (λ (v : TheUse). v.offset) value f.answers.uses (between i c well part n t f tree there grammar in_order).0) here);
                 declared = declared_from u.outcome (file.declared u here);
               }
 
-          pub none_broken : faults (looks_among (stand_of i c n t) all) places.«Value» e ≡ []
-          none_broken = expr_breaks one (stand_of i c n t) g placed all right p e (has (pieces_of g) p piece) (has (piece_exprs p) e expr) (file_none (decl_faults (stand_of i c n t)) t g g_there file.faults)
+          pub none_broken : faults (looks_among (stand_in_part i c n t) all) places.«Value» e ≡ []
+          none_broken = expr_breaks one (stand_in_part i c n t) g placed all right p e (has (pieces_of g) p piece) (has (piece_exprs p) e expr) (file_none (decl_faults (stand_in_part i c n t)) t g g_there file.faults)
 
 pub constants_agree : ConstantsAreFolded Term Sign Declaration (List ℕ) → ExpressionsAreFolded Term Sign Declaration (List ℕ) → ObjectsAreOfFaultless → FunctionsHaveOneTable → LocalsAreDeclarations → FunctionsArePlaced → ImportsBindTheirs → BodiesAreBetweenBraces
     → ConstantsAreOfTheCheck
 constants_agree constants operands fine one of_locals funcs binds between i c well others part clean n t f tree there grammar in_order g func all right p piece e expr q x inside slots = record {
   constant = λ w gives_one.
-      constants (looks_among (stand_of i c n t) all) (code_names_of i c n f g) (outcome_meaning (scene_over (told_to i c) i c) n (locals_meant (types_told (told_to i c)) f.answers.locals)) slots places.«Value» e
+      constants (looks_among (stand_in_part i c n t) all) (code_names_of i c n f g) (outcome_meaning (code_scene_over (told_to i c) i c) n (locals_meant (types_told (told_to i c)) f.answers.locals)) slots places.«Value» e
       (names fine one of_locals funcs binds between i c well others part clean n t f tree there grammar in_order g func all right)
       (are_meant fine one of_locals funcs binds between i c well others part clean n t f tree there grammar in_order g func all right p piece e expr)
       (none_broken fine one of_locals funcs binds between i c well others part clean n t f tree there grammar in_order g func all right p piece e expr)
       q x inside w gives_one;
   operand = λ w gives_one.
-      let judged = operands (looks_among (stand_of i c n t) all) (without_methods (code_names_of i c n f g)) (λ o. without_method (outcome_meaning (scene_over (told_to i c) i c) n (locals_meant (types_told (told_to i c)) f.answers.locals) o)) slots places.«Value» e
+      let judged = operands (looks_among (stand_in_part i c n t) all) (without_methods (code_names_of i c n f g)) (λ o. without_method (outcome_meaning (code_scene_over (told_to i c) i c) n (locals_meant (types_told (told_to i c)) f.answers.locals) o)) slots places.«Value» e
       (read fine one of_locals funcs binds between i c well others part clean n t f tree there grammar in_order g func all right)
-      (meant_calm (looks_among (stand_of i c n t) all) (outcome_meaning (scene_over (told_to i c) i c) n (locals_meant (types_told (told_to i c)) f.answers.locals)) (code_names_of i c n f g) (uses (looks_among (stand_of i c n t) all) places.«Value» e)
+      (meant_calm (looks_among (stand_in_part i c n t) all) (outcome_meaning (code_scene_over (told_to i c) i c) n (locals_meant (types_told (told_to i c)) f.answers.locals)) (code_names_of i c n f g) (uses (looks_among (stand_in_part i c n t) all) places.«Value» e)
       (are_meant fine one of_locals funcs binds between i c well others part clean n t f tree there grammar in_order g func all right p piece e expr))
       (none_broken fine one of_locals funcs binds between i c well others part clean n t f tree there grammar in_order g func all right p piece e expr)
       q x inside w gives_one in

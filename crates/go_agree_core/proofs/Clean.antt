@@ -17,9 +17,9 @@ use Rattle.go_package_core.specs.Checked.{IsFileChecked, imports_at}
 use Rattle.go_summary_core.specs.Views.{types_told}
 use Rattle.go_part_core.specs.Inputs.{InputModel, IsInput}
 use Rattle.go_part_core.specs.Parts.{ContentOf, FileOf, IsFileMadeIn, IsPart, package_seen, seen_by}
-use Rattle.go_emit_core.specs.Emitted.{are_clean, scene_over, told_to, whole_object}
-use Rattle.go_emit_core.specs.Laws.{IsFaultless, ObjectsAreOfFaultless}
-use Rattle.go_agree_core.specs.Standing.{stand_of}
+use Rattle.go_emit_core.specs.Emitted.{are_clean, code_scene_over, told_to, whole_object}
+use Rattle.go_emit_core.specs.Laws.{HasNoFault, ObjectsAreOfFaultless}
+use Rattle.go_agree_core.specs.Standing.{stand_in_part}
 use Rattle.go_agree_core.proofs.Lists.{Has, contained, has, has_get, has_of_all, left_empty}
 use Rattle.go_agree_core.proofs.Told.{seen, table, types_are}
 
@@ -82,18 +82,18 @@ none_settled us fs settled h s e =
 -- files
 
 pub record IsCleanFile (i : InputModel) (c : ContentOf) (n : ℕ) (t : FileTree) (f : FileOf) : Type 0 where
-  pub uses : f.answers.uses ≡ file_uses (stand_of i c n t) (imports_at (package_seen i c.blocks (seen_by i)) n) t
-  pub faults : file_faults (stand_of i c n t) t ≡ []
-  pub locals : f.answers.locals ≡ file_locals (stand_of i c n t) t
+  pub uses : f.answers.uses ≡ file_uses (stand_in_part i c n t) (imports_at (package_seen i c.blocks (seen_by i)) n) t
+  pub faults : file_faults (stand_in_part i c n t) t ≡ []
+  pub locals : f.answers.locals ≡ file_locals (stand_in_part i c n t) t
   pub declared : (u : TheUse) → Has f.answers.uses u → is_declared u.outcome ≡ true
 
 module _ (law : ObjectsAreOfFaultless) (i : InputModel) (c : ContentOf) (well : IsInput i) (part : IsPart i c) (clean : are_clean c.files ≡ true) where
-  faultless : All IsFaultless c.files
-  faultless = (law (told_to i c) i c part).0 (ap (λ (b : Bool). is_some (if b then Some (whole_object (scene_over (told_to i c) i c) i c) else None)) clean)
+  faultless : All HasNoFault c.files
+  faultless = (law (told_to i c) i c part).0 (ap (λ (b : Bool). is_some (if b then Some (whole_object (code_scene_over (told_to i c) i c) i c) else None)) clean)
 
   module _ (n : ℕ) (t : FileTree) (f : FileOf) (tree : slice_get (trees_in i.source) n ≡ Some t) (there : slice_get c.files n ≡ Some f) where
-    fine : IsFaultless f
-    fine = has_of_all IsFaultless c.files f faultless (has_get c.files n f there)
+    fine : HasNoFault f
+    fine = has_of_all HasNoFault c.files f faultless (has_get c.files n f there)
 
     each_declared : (u : TheUse) → Has f.answers.uses u → is_declared u.outcome ≡ true
     each_declared u h = has_of_all (λ (v : TheUse). is_declared v.outcome ≡ true) f.answers.uses u fine.declared h

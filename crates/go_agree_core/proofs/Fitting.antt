@@ -22,20 +22,20 @@ use Rattle.go_whole_core.proofs.Order.{reaches_next, reaches_others}
 use Rattle.go_whole_core.proofs.Parts.{path_told, told_by, told_to, well_reached}
 use Rattle.go_whole_core.proofs.PartsWhole.{all_right}
 use Rattle.go_whole_core.proofs.Theirs.{imports_lead, passes}
-use Rattle.go_emit_core.specs.Imports.{all_passing, passing}
+use Rattle.go_emit_core.specs.Imports.{all_passing, imported_paths}
 use Rattle.go_agree_core.specs.Laws.{ImportsAreOthers, PartsAreFit}
 use Rattle.go_agree_core.proofs.Lists.{Has, contained, from_flat, has, has_of_all}
 
 -- an import that comes to a package, among all that do
-passed : (of_file : List Imported) (e : Imported) (path : List ℕ) → Has of_file e → Has (passing e) path → (shown : ExportsModel) × Contains of_file (imported.«Package» shown) × (path ≡ shown.path)
+passed : (of_file : List Imported) (e : Imported) (path : List ℕ) → Has of_file e → Has (imported_paths e) path → (shown : ExportsModel) × Contains of_file (imported.«Package» shown) × (path ≡ shown.path)
 passed of_file (imported.«Package» shown) path there (inl e) = (shown, contained of_file (imported.«Package» shown) there, sym e)
 passed of_file (imported.«Package» shown) path there (inr h) = absurd h
 passed of_file (imported.Refused rule) path there h = absurd h
 
 is_imported : (files : List (List Imported)) (path : List ℕ) → Contains (all_passing files) path → IsImported files path
 is_imported files path h =
-    let file = from_flat (λ is. flat_map passing is) files path (has (all_passing files) path h) in
-    let one = from_flat passing file.item path file.here in
+    let file = from_flat (λ is. flat_map imported_paths is) files path (has (all_passing files) path h) in
+    let one = from_flat imported_paths file.item path file.here in
     let p = passed file.item one.item path one.there one.here in
     record { of_file = file.item; file = contained files file.item file.there; shown = p.0; there = p.1; is = p.2 }
 

@@ -9,17 +9,17 @@ use Rattle.go_fragment_core.specs.declared.names.Meaning.{Meaning}
 use Rattle.go_fragment_core.specs.declared.names.Meaning.TheVariants as meanings
 use Rattle.go_meaning_core.specs.Words.{sign_gives}
 use Rattle.go_meaning_core.specs.Scenes.{method_at, method_spotted, methods_spotted}
-use Rattle.go_lookup_core.specs.Places.{Spot, Spotted, meaning_at, same_spot, spot}
+use Rattle.go_lookup_core.specs.Places.{DeclSpotModel, Spotted, spotted_meaning, same_spot, decl_spot}
 use Rattle.go_agree_core.proofs.Lists.{Has, from_flat}
 
 -- what is found at a place stands in the list
-record IsFoundAt (xs : Spotted) (s : Spot) (m : Meaning) : Type 0 where
-  pub item : Spot × Meaning
+record IsFoundAt (xs : Spotted) (s : DeclSpotModel) (m : Meaning) : Type 0 where
+  pub item : DeclSpotModel × Meaning
   pub there : Has xs item
   pub at : same_spot s item.0 ≡ true
   pub is : item.1 ≡ m
 
-from_lookup : (xs : Spotted) (s : Spot) (m : Meaning) → lookup (same_spot s) xs ≡ Some m → IsFoundAt xs s m
+from_lookup : (xs : Spotted) (s : DeclSpotModel) (m : Meaning) → lookup (same_spot s) xs ≡ Some m → IsFoundAt xs s m
 from_lookup [] s m e = absurd cc
 from_lookup (x ∷ xs) s m e = by (same_spot s x.0) refl e (from_lookup xs s m)
   where
@@ -28,17 +28,17 @@ from_lookup (x ∷ xs) s m e = by (same_spot s x.0) refl e (from_lookup xs s m)
     by false t e rest = (let r = rest e in record { item = r.item; there = inr r.there; at = r.at; is = r.is })
 
 -- a method of a type that is declared at a place
-pub record IsMethodAt (es ds : List Entry) (s : Spot) (m : Meaning) : Type 0 where
+pub record IsMethodAt (es ds : List Entry) (s : DeclSpotModel) (m : Meaning) : Type 0 where
   pub entry : Entry
   pub member : Member
   pub decl : DeclRef
   pub there : Has ds entry
   pub here : Has entry.methods member
   pub place : member.place ≡ places.Declared decl
-  pub at : same_spot s (spot entry.key.path decl) ≡ true
+  pub at : same_spot s (decl_spot entry.key.path decl) ≡ true
   pub is : m ≡ meanings.Method (sign_gives es member.sign)
 
-module _ (es ds : List Entry) (s : Spot) (m : Meaning) (x : Spot × Meaning) (at : same_spot s x.0 ≡ true) (is : x.1 ≡ m) where
+module _ (es ds : List Entry) (s : DeclSpotModel) (m : Meaning) (x : DeclSpotModel × Meaning) (at : same_spot s x.0 ≡ true) (is : x.1 ≡ m) where
   by_place : (e : Entry) (k : Member) (p : MemberPlace) → k.place ≡ p → Has ds e → Has e.methods k → Has (method_at es e.key.path k p) x → IsMethodAt es ds s m
   by_place e k (places.Declared d) same there here (inl q) = record {
     entry = e;
@@ -47,13 +47,13 @@ module _ (es ds : List Entry) (s : Spot) (m : Meaning) (x : Spot × Meaning) (at
     there = there;
     here = here;
     place = same;
-    at = ap (λ (y : Spot × Meaning). same_spot s y.0) q ∙ at;
-    is = sym is ∙ sym (ap (λ (y : Spot × Meaning). y.1) q);
+    at = ap (λ (y : DeclSpotModel × Meaning). same_spot s y.0) q ∙ at;
+    is = sym is ∙ sym (ap (λ (y : DeclSpotModel × Meaning). y.1) q);
   }
   by_place e k (places.Declared d) same there here (inr h) = absurd h
   by_place e k (places.Local l) same there here h = absurd h
 
-pub method_found : (es ds : List Entry) (s : Spot) (m : Meaning) → meaning_at (methods_spotted es ds) s ≡ Some m → IsMethodAt es ds s m
+pub method_found : (es ds : List Entry) (s : DeclSpotModel) (m : Meaning) → spotted_meaning (methods_spotted es ds) s ≡ Some m → IsMethodAt es ds s m
 method_found es ds s m e =
     let f = from_lookup (methods_spotted es ds) s m e in
     let entry = from_flat (λ (d : Entry). method_spotted es d.key.path d.methods) ds f.item f.there in

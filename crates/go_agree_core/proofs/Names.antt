@@ -45,17 +45,17 @@ use Rattle.go_part_core.specs.Inputs.{InputModel, IsInput, path_in}
 use Rattle.go_part_core.specs.Parts.{ContentOf, FileOf, IsPart}
 use Rattle.go_fragment_core.specs.declared.names.Meaning.{Meaning}
 use Rattle.go_fragment_core.specs.declared.names.Meaning.TheVariants as meanings
-use Rattle.go_emit_core.specs.Emitted.{scene_over, told_to}
-use Rattle.go_emit_core.specs.Imports.{all_passing, passing}
+use Rattle.go_emit_core.specs.Emitted.{code_scene_over, told_to}
+use Rattle.go_emit_core.specs.Imports.{all_passing, imported_paths}
 use Rattle.go_meaning_core.specs.Looking.{locals_meant}
-use Rattle.go_meaning_core.specs.Meanings.{local_meaning, some_meaning}
-use Rattle.go_meaning_core.specs.Scenes.{Scene, outcome_meaning, selected_meaning}
-use Rattle.go_lookup_core.specs.Places.{meaning_at, spot}
-use Rattle.go_lookup_core.specs.Looking.{meant}
+use Rattle.go_meaning_core.specs.Meanings.{local_meaning, some_face_meaning}
+use Rattle.go_meaning_core.specs.Scenes.{CodeScene, outcome_meaning, selected_meaning}
+use Rattle.go_lookup_core.specs.Places.{spotted_meaning, decl_spot}
+use Rattle.go_lookup_core.specs.Looking.{meaning_or_other}
 use Rattle.go_fold_core.specs.Reading.{AreNamesRead, AreRead, IsExportedMeant, IsFieldMeant, IsFoundMeant, IsMemberMeant, IsValueMeant}
 use Rattle.go_agree_core.specs.Calling.{without_method}
 use Rattle.go_agree_core.specs.Laws.{ImportsAreOthers}
-use Rattle.go_agree_core.specs.Standing.{looks_among, stand_of}
+use Rattle.go_agree_core.specs.Standing.{looks_among, stand_in_part}
 use Rattle.go_agree_core.proofs.Calling.{exported_calm, found_calm, selected_calm}
 use Rattle.go_agree_core.proofs.Clean.{IsCleanFile}
 use Rattle.go_agree_core.proofs.Lists.{Has, Rising, contained, found_at, has, has_flat}
@@ -67,18 +67,18 @@ use Rattle.go_agree_core.proofs.Told.{decl_other, decl_own, none_own}
 
 module _ (binds : ImportsBindTheirs) (of_locals : LocalsAreDeclarations) (i : InputModel) (c : ContentOf) (well : IsInput i) (others : ImportsAreOthers i) (part : IsPart i c) where
   module _ (n : ℕ) (t : FileTree) (f : FileOf) (clean : IsCleanFile i c n t f) (rises : Rising (λ (l : TheLocal). l.offset) (λ (l : TheLocal). local_meaning (types_told (told_to i c)) l.offset l.value) f.answers.locals) where
-    module _ (g : FuncTree) (there : Has (file_funcs t) g) (placed : IsFuncPlaced g) (all : List (Local NameMeaning)) (right : AreFuncDeclarations (stand_of i c n t) g all) where
+    module _ (g : FuncTree) (there : Has (file_funcs t) g) (placed : IsFuncPlaced g) (all : List (Local NameMeaning)) (right : AreFuncDeclarations (stand_in_part i c n t) g all) where
       abbrev es : List Entry
       es = types_told (told_to i c)
 
       abbrev own : List ℕ
       own = path_in i
 
-      abbrev scene : Scene
-      scene = scene_over (told_to i c) i c
+      abbrev scene : CodeScene
+      scene = code_scene_over (told_to i c) i c
 
       abbrev st : FileStand
-      st = stand_of i c n t
+      st = stand_in_part i c n t
 
       abbrev looks : TheLooks
       looks = looks_among st all
@@ -108,8 +108,8 @@ module _ (binds : ImportsBindTheirs) (of_locals : LocalsAreDeclarations) (i : In
       imported_apart : (q : List ℕ) → IsImported i.imports q → q ≡ own → ⊥
       imported_apart q h e =
           others (contained (all_passing i.imports) own (subst (Has (all_passing i.imports)) e
-          (has_flat (λ is. flat_map passing is) i.imports h.of_file q (has i.imports h.of_file h.file)
-          (has_flat passing h.of_file (imported.«Package» h.shown) q (has h.of_file (imported.«Package» h.shown) h.there) (inl (sym h.is))))))
+          (has_flat (λ is. flat_map imported_paths is) i.imports h.of_file q (has i.imports h.of_file h.file)
+          (has_flat imported_paths h.of_file (imported.«Package» h.shown) q (has h.of_file (imported.«Package» h.shown) h.there) (inl (sym h.is))))))
 
       target_read : (x : Target) → IsTargetIn (IsImported i.imports) x → IsFoundMeant looks mean (found_target st.scene x)
       target_read (targets.«Package» q) h = refl
@@ -133,9 +133,9 @@ module _ (binds : ImportsBindTheirs) (of_locals : LocalsAreDeclarations) (i : In
       local_is : (at : ℕ) (value : TheValue) → Has f.answers.locals (record { offset = at; value = value }) → mean (outcomes.Declared (InFile own (places.Local (record { file = n; offset = at })))) ≡ local_meaning es at value
       local_is at value h =
           let locals = locals_meant es f.answers.locals in
-          ap (λ (b : Bool). if b && nat_eq n n then meant (lookup (nat_eq at) locals) else meanings.Other) (same_text own own refl)
-          ∙ (ap (λ (b : Bool). if b then meant (lookup (nat_eq at) locals) else meanings.Other) (eq-eqb n n refl)
-          ∙ ap meant (found_at (λ (l : TheLocal). l.offset) (λ (l : TheLocal). local_meaning es l.offset l.value) f.answers.locals (record { offset = at; value = value }) rises h))
+          ap (λ (b : Bool). if b && nat_eq n n then meaning_or_other (lookup (nat_eq at) locals) else meanings.Other) (same_text own own refl)
+          ∙ (ap (λ (b : Bool). if b then meaning_or_other (lookup (nat_eq at) locals) else meanings.Other) (eq-eqb n n refl)
+          ∙ ap meaning_or_other (found_at (λ (l : TheLocal). l.offset) (λ (l : TheLocal). local_meaning es l.offset l.value) f.answers.locals (record { offset = at; value = value }) rises h))
 
       local_there : (name : List ℕ) (place at : ℕ) (value : TheValue) → bound (outer_names st) all name place ≡ Some (means.Local at value) → Has f.answers.locals (record { offset = at; value = value })
       local_there name place at value e =
@@ -156,7 +156,7 @@ module _ (binds : ImportsBindTheirs) (of_locals : LocalsAreDeclarations) (i : In
       name_read q w (Some (Some d)) e =
           shown_read es own looks refl refl mean (InFile q (places.Declared d)) (face_by w d)
           (decl_other i c well part q d (λ s. (let lie : None ≡ Some w = sym (none_own i c well part) ∙ (ap (package_in (faces_told i.reached)) (sym s) ∙ e) in absurd cc))
-          ∙ ap (λ (x : Option PackageFacesModel). some_meaning es (face_in_some x d)) e)
+          ∙ ap (λ (x : Option PackageFacesModel). some_face_meaning es (face_in_some x d)) e)
 
       package_read : (q name : List ℕ) (o : Option PackageFacesModel) → package_in (faces_told i.reached) q ≡ o → IsExportedMeant looks mean (exported_shown q (shown_in_some o name))
       package_read q name None e = tt
@@ -170,16 +170,16 @@ module _ (binds : ImportsBindTheirs) (of_locals : LocalsAreDeclarations) (i : In
 
       -- members
 
-      field_by : (home : List ℕ) (d : DeclRef) (o : Option Meaning) → meaning_at scene.methods (spot home d) ≡ o → IsFieldMeant (meant o)
+      field_by : (home : List ℕ) (d : DeclRef) (o : Option Meaning) → spotted_meaning scene.methods (decl_spot home d) ≡ o → IsFieldMeant (meaning_or_other o)
       field_by home d None e = tt
-      field_by home d (Some m) e = subst IsFieldMeant (sym (method_found es es (spot home d) m e).is) tt
+      field_by home d (Some m) e = subst IsFieldMeant (sym (method_found es es (decl_spot home d) m e).is) tt
 
       field_read : (d : Declaration) (path : List ℕ) → IsFieldMeant (selected_meaning scene d path)
       field_read d (k ∷ path) = tt
       field_read (Universe p) [] = tt
       field_read OfError [] = tt
       field_read (Package q) [] = tt
-      field_read (InFile home (places.Declared d)) [] = field_by home d (meaning_at scene.methods (spot home d)) refl
+      field_read (InFile home (places.Declared d)) [] = field_by home d (spotted_meaning scene.methods (decl_spot home d)) refl
       field_read (InFile home (places.Local l)) [] = tt
 
       member_read : (m : Selection Term Sign Declaration (List ℕ)) → IsMemberMeant {T = Term} {S = Sign} {D = Declaration} {P = List ℕ} mean m

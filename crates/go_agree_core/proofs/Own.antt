@@ -21,9 +21,9 @@ use Rattle.go_answer_core.specs.Shown.{is_listed, shown_among, shown_if}
 use Rattle.go_env_core.specs.Found.{face_at}
 use Rattle.go_fragment_core.specs.declared.names.Meaning.{Meaning}
 use Rattle.go_fragment_core.specs.declared.names.Meaning.TheVariants as meanings
-use Rattle.go_meaning_core.specs.Meanings.{some_meaning}
-use Rattle.go_meaning_core.specs.Scenes.{decl_at, own_or, own_spotted, package_decls}
-use Rattle.go_lookup_core.specs.Places.{meaning_at, same_spot, spot}
+use Rattle.go_meaning_core.specs.Meanings.{some_face_meaning}
+use Rattle.go_meaning_core.specs.Scenes.{decl_at, own_or, own_spotted, package_decl_refs}
+use Rattle.go_lookup_core.specs.Places.{spotted_meaning, same_spot, decl_spot}
 
 pub same_text : (x y : List ℕ) → x ≡ y → bytes_eq x y ≡ true
 same_text x y e = (bytes_eq-Decides x y).1 e
@@ -37,16 +37,16 @@ other_text x y apart = by (bytes_eq x y) refl
 
 -- places
 
-spot_is : (path : List ℕ) (a d : DeclRef) → same_spot (spot path d) (spot path a) ≡ same_place a d
+spot_is : (path : List ℕ) (a d : DeclRef) → same_spot (decl_spot path d) (decl_spot path a) ≡ same_place a d
 spot_is path a d =
     ap (λ (b : Bool). b && (nat_eq d.file a.file && nat_eq d.number a.number)) (same_text path path refl)
     ∙ ap₂ ◌&&◌ (nat_eq_equiv.symm d.file a.file) (nat_eq_equiv.symm d.number a.number)
 
-pub elsewhere : (es : List Entry) (path other : List ℕ) (d : DeclRef) (ds : List DeclRef) (known : List (Option TheFace)) → (other ≡ path → ⊥) → meaning_at (own_spotted es path ds known) (spot other d) ≡ None
+pub elsewhere : (es : List Entry) (path other : List ℕ) (d : DeclRef) (ds : List DeclRef) (known : List (Option TheFace)) → (other ≡ path → ⊥) → spotted_meaning (own_spotted es path ds known) (decl_spot other d) ≡ None
 elsewhere es path other d [] known apart = refl
 elsewhere es path other d (a ∷ ds) [] apart = refl
 elsewhere es path other d (a ∷ ds) (k ∷ known) apart =
-    ap (λ (b : Bool). cond (b && (nat_eq d.file a.file && nat_eq d.number a.number)) (Some (some_meaning es k)) (meaning_at (own_spotted es path ds known) (spot other d))) (other_text other path apart)
+    ap (λ (b : Bool). cond (b && (nat_eq d.file a.file && nat_eq d.number a.number)) (Some (some_face_meaning es k)) (spotted_meaning (own_spotted es path ds known) (decl_spot other d))) (other_text other path apart)
     ∙ elsewhere es path other d ds known apart
 
 module _ (es : List Entry) (path : List ℕ) (these : List DeclRef) (d : DeclRef) where
@@ -55,7 +55,7 @@ module _ (es : List Entry) (path : List ℕ) (these : List DeclRef) (d : DeclRef
   passed true a (Some f) xs e = ap (λ (b : Bool). if b then Some f else face_among xs d) e
   passed false a (Some f) xs e = refl
 
-  nothing_known : (o : Option ℕ) → some_meaning es (face_at [] o) ≡ meanings.Other
+  nothing_known : (o : Option ℕ) → some_face_meaning es (face_at [] o) ≡ meanings.Other
   nothing_known None = refl
   nothing_known (Some n) = refl
 
@@ -65,27 +65,27 @@ module _ (es : List Entry) (path : List ℕ) (these : List DeclRef) (d : DeclRef
 
   -- what a declaration comes to among a package's own, and else among those that it shows, is what it is known to be by its position
   pub own_means : (ws : List WrittenOf) (known : List (Option TheFace))
-      → own_or (meaning_at (own_spotted es path (decls_of ws) known) (spot path d)) (some_meaning es (face_among (shown_among these (decls_of ws) known) d)) ≡ some_meaning es (face_at known (position_of ws d))
+      → own_or (spotted_meaning (own_spotted es path (decls_of ws) known) (decl_spot path d)) (some_face_meaning es (face_among (shown_among these (decls_of ws) known) d)) ≡ some_face_meaning es (face_at known (position_of ws d))
   own_means [] known = refl
   own_means (w ∷ ws) [] = sym (nothing_known (position_of (w ∷ ws) d))
   own_means (w ∷ ws) (k ∷ known) = by (same_place w.decl d) refl (own_means ws known)
     where
       others : Option Meaning
-      others = meaning_at (own_spotted es path (decls_of ws) known) (spot path d)
+      others = spotted_meaning (own_spotted es path (decls_of ws) known) (decl_spot path d)
 
       by : (b : Bool) → same_place w.decl d ≡ b
-          → own_or (meaning_at (own_spotted es path (decls_of ws) known) (spot path d)) (some_meaning es (face_among (shown_among these (decls_of ws) known) d)) ≡ some_meaning es (face_at known (position_of ws d))
-          → own_or (cond (same_spot (spot path d) (spot path w.decl)) (Some (some_meaning es k)) (meaning_at (own_spotted es path (decls_of ws) known) (spot path d)))
-          (some_meaning es (face_among (shown_if (is_listed these w.decl) w.decl k ++ shown_among these (decls_of ws) known) d))
-          ≡ some_meaning es (face_at (k ∷ known) (if b then Some 0 else option_map suc (position_of ws d)))
+          → own_or (spotted_meaning (own_spotted es path (decls_of ws) known) (decl_spot path d)) (some_face_meaning es (face_among (shown_among these (decls_of ws) known) d)) ≡ some_face_meaning es (face_at known (position_of ws d))
+          → own_or (cond (same_spot (decl_spot path d) (decl_spot path w.decl)) (Some (some_face_meaning es k)) (spotted_meaning (own_spotted es path (decls_of ws) known) (decl_spot path d)))
+          (some_face_meaning es (face_among (shown_if (is_listed these w.decl) w.decl k ++ shown_among these (decls_of ws) known) d))
+          ≡ some_face_meaning es (face_at (k ∷ known) (if b then Some 0 else option_map suc (position_of ws d)))
       by true e ih =
-          ap (λ (x : Bool). own_or (cond x (Some (some_meaning es k)) (meaning_at (own_spotted es path (decls_of ws) known) (spot path d)))
-          (some_meaning es (face_among (shown_if (is_listed these w.decl) w.decl k ++ shown_among these (decls_of ws) known) d))) (spot_is path w.decl d ∙ e)
+          ap (λ (x : Bool). own_or (cond x (Some (some_face_meaning es k)) (spotted_meaning (own_spotted es path (decls_of ws) known) (decl_spot path d)))
+          (some_face_meaning es (face_among (shown_if (is_listed these w.decl) w.decl k ++ shown_among these (decls_of ws) known) d))) (spot_is path w.decl d ∙ e)
       by false e ih =
-          ap (λ (x : Bool). own_or (cond x (Some (some_meaning es k)) (meaning_at (own_spotted es path (decls_of ws) known) (spot path d)))
-          (some_meaning es (face_among (shown_if (is_listed these w.decl) w.decl k ++ shown_among these (decls_of ws) known) d))) (spot_is path w.decl d ∙ e)
-          ∙ (ap (λ o. own_or (meaning_at (own_spotted es path (decls_of ws) known) (spot path d)) (some_meaning es o)) (passed (is_listed these w.decl) w.decl k (shown_among these (decls_of ws) known) e)
-          ∙ (ih ∙ ap (some_meaning es) (sym (onward k known (position_of ws d)))))
+          ap (λ (x : Bool). own_or (cond x (Some (some_face_meaning es k)) (spotted_meaning (own_spotted es path (decls_of ws) known) (decl_spot path d)))
+          (some_face_meaning es (face_among (shown_if (is_listed these w.decl) w.decl k ++ shown_among these (decls_of ws) known) d))) (spot_is path w.decl d ∙ e)
+          ∙ (ap (λ o. own_or (spotted_meaning (own_spotted es path (decls_of ws) known) (decl_spot path d)) (some_face_meaning es o)) (passed (is_listed these w.decl) w.decl k (shown_among these (decls_of ws) known) e)
+          ∙ (ih ∙ ap (some_face_meaning es) (sym (onward k known (position_of ws d)))))
 
 -- the declarations of a package, as they are written and as code counts them
 
@@ -94,12 +94,12 @@ file_decls mean f es [] = refl
 file_decls mean f es (d ∷ ds) = ap (λ l. decl_at f.file d ∷ l) (file_decls mean f es ds)
 
 decls_from : (means : Meanings) (path : List ℕ) (es : List Entry) (n : ℕ) (ts : List FileTree)
-    → map (λ (w : WrittenOf). w.decl) (flat_map (λ p. file_written (means p.0) (file_at path p.0 p.1) es p.1.decls) (enumerate_from n (map outline_of ts))) ≡ package_decls n ts
+    → map (λ (w : WrittenOf). w.decl) (flat_map (λ p. file_written (means p.0) (file_at path p.0 p.1) es p.1.decls) (enumerate_from n (map outline_of ts))) ≡ package_decl_refs n ts
 decls_from means path es n [] = refl
 decls_from means path es n (t ∷ ts) =
     let one : n + 1 ≡ suc n = omega arith in
     map-append (λ (w : WrittenOf). w.decl) (file_written (means n) (file_at path n (outline_of t)) es (outline_of t).decls) (flat_map (λ p. file_written (means p.0) (file_at path p.0 p.1) es p.1.decls) (enumerate_from (n + 1) (map outline_of ts)))
-    ∙ ap₂ ◌++◌ (file_decls (means n) (file_at path n (outline_of t)) es (top_decls t)) (decls_from means path es (n + 1) ts ∙ ap (λ m. package_decls m ts) one)
+    ∙ ap₂ ◌++◌ (file_decls (means n) (file_at path n (outline_of t)) es (top_decls t)) (decls_from means path es (n + 1) ts ∙ ap (λ m. package_decl_refs m ts) one)
 
-pub written_decls : (means : Meanings) (path : List ℕ) (es : List Entry) (ts : List FileTree) → decls_of (written_with means path es (map outline_of ts)) ≡ package_decls 0 ts
+pub written_decls : (means : Meanings) (path : List ℕ) (es : List Entry) (ts : List FileTree) → decls_of (written_with means path es (map outline_of ts)) ≡ package_decl_refs 0 ts
 written_decls means path es ts = decls_from means path es 0 ts

@@ -28,7 +28,8 @@ use Rattle.go_func_core.specs.Functions.{AreFuncDeclarations, checked_func, func
 use Rattle.go_func_core.specs.Laws.{FunctionsHaveOneTable}
 use Rattle.go_func_core.specs.Stands.{FileStand, outer_looks, outer_names}
 use Rattle.go_file_core.specs.Stands.{decl_funcs, file_funcs}
-use Rattle.go_agree_core.specs.Standing.{listed, looks_among, piece_exprs, pieces_in, pieces_of, target_listed, targets_listed, values_listed}
+use Rattle.go_value_core.specs.Initial.{exprs}
+use Rattle.go_agree_core.specs.Standing.{looks_among, piece_exprs, pieces_in, pieces_of, target_listed, targets_listed, values_listed}
 use Rattle.go_agree_core.proofs.Lists.{Has, InOne, from_flat, has_either, has_flat, has_left, has_right, left_empty, none_in, right_empty}
 
 module _ (looks : TheLooks) where
@@ -40,13 +41,13 @@ module _ (looks : TheLooks) where
 
   -- lists
 
-  listed_uses : (es : Separated ExprTree) (e : ExprTree) (u : TheUse) → Has (listed es) e → Has (Uses e) u → Has (exprs_uses looks es) u
+  listed_uses : (es : Separated ExprTree) (e : ExprTree) (u : TheUse) → Has (exprs es) e → Has (Uses e) u → Has (exprs_uses looks es) u
   listed_uses (One x) e u (inl s) k = subst (λ y. Has (Uses y) u) (sym s) k
   listed_uses (One x) e u (inr h) k = absurd h
   listed_uses (Then x comma more) e u (inl s) k = has_left (Uses x) (exprs_uses looks more) u (subst (λ y. Has (Uses y) u) (sym s) k)
   listed_uses (Then x comma more) e u (inr h) k = has_right (Uses x) (exprs_uses looks more) u (listed_uses more e u h k)
 
-  listed_faults : (b : Bool) (es : Separated ExprTree) (e : ExprTree) → Has (listed es) e → exprs_faults looks b es ≡ [] → Breaks e ≡ []
+  listed_faults : (b : Bool) (es : Separated ExprTree) (e : ExprTree) → Has (exprs es) e → exprs_faults looks b es ≡ [] → Breaks e ≡ []
   listed_faults b (One x) e (inl s) k = subst (λ y. Breaks y ≡ []) s (left_empty (Breaks x) _ k)
   listed_faults b (One x) e (inr h) k = absurd h
   listed_faults b (Then x comma more) e (inl s) k = subst (λ y. Breaks y ≡ []) s (left_empty (Breaks x) _ (left_empty _ (exprs_faults looks b more) k))
@@ -101,7 +102,7 @@ module _ (looks : TheLooks) where
   piece_has (Spec kind v) e u h k = has_right _ (values_uses looks v.values) u (values_has v.values e u h k)
   piece_has (Act (Alone x)) e u h k = one_has x e u h k
   piece_has (Act (Step x op span)) e u h k = one_has x e u h k
-  piece_has (Act (Assign ts span es)) e u h k = elim (has_either (targets_listed ts) (listed es) e h) [
+  piece_has (Act (Assign ts span es)) e u h k = elim (has_either (targets_listed ts) (exprs es) e h) [
     | inl here ↦ has_left (targets_uses looks ts) (exprs_uses looks es) u (targets_has ts e u here k)
     | inr later ↦ has_right (targets_uses looks ts) (exprs_uses looks es) u (listed_uses es e u later k)
   ]
@@ -117,7 +118,7 @@ module _ (looks : TheLooks) where
   piece_breaks results has_names firsts (Spec kind v) e h k = values_break v.values e h (left_empty (values_faults looks v.values) _ (right_empty _ _ k))
   piece_breaks results has_names firsts (Act (Alone x)) e h k = one_breaks x e h (left_empty (Breaks x) _ k)
   piece_breaks results has_names firsts (Act (Step x op span)) e h k = one_breaks x e h (left_empty (Breaks x) _ (left_empty _ _ k))
-  piece_breaks results has_names firsts (Act (Assign ts span es)) e h k = elim (has_either (targets_listed ts) (listed es) e h) [
+  piece_breaks results has_names firsts (Act (Assign ts span es)) e h k = elim (has_either (targets_listed ts) (exprs es) e h) [
     | inl here ↦ targets_break (is_list ts) ts e here (left_empty (targets_faults looks (is_list ts) ts) _ k)
     | inr later ↦ listed_faults (is_list es) es e later (left_empty (exprs_faults looks (is_list es) es) _ (right_empty (targets_faults looks (is_list ts) ts) _ k))
   ]

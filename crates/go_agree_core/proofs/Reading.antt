@@ -21,9 +21,10 @@ use Rattle.go_face_core.specs.declared.face.Face.TheVariants as faces
 use Rattle.go_face_core.specs.Faces.{TheFace}
 use Rattle.go_env_core.specs.Found.{exported_face, found_face}
 use Rattle.go_env_core.specs.Looks.{TheLooks}
-use Rattle.go_meaning_core.specs.Words.{form_word, given, results_give, sign_gives, some_word, value_word}
-use Rattle.go_meaning_core.specs.Meanings.{constant_meaning, constant_or, local_meaning, some_meaning, type_meaning, value_meaning, variable_meaning}
-use Rattle.go_fold_core.specs.Reading.{IsExportedMeant, IsFoundMeant, IsFunctionMeant, IsGiven, IsOperandMeant, IsOver, IsTypeMeant, IsValueMeant, IsVariableMeant, basic_of, meant_constant}
+use Rattle.go_fragment_core.specs.Fragment.{over}
+use Rattle.go_meaning_core.specs.Words.{form_word, results_give, sign_gives, some_word, value_word}
+use Rattle.go_meaning_core.specs.Meanings.{constant_meaning, constant_meaning_or, local_meaning, some_face_meaning, type_meaning, value_meaning, variable_meaning}
+use Rattle.go_fold_core.specs.Reading.{IsExportedMeant, IsFoundMeant, IsFunctionMeant, ResultsGive, IsOperandMeant, IsOver, IsTypeMeant, IsValueMeant, IsVariableMeant, basic_of, meant_constant}
 
 -- constants and variables
 
@@ -33,7 +34,7 @@ constant_read (values.Bool b) = refl
 constant_read (values.Text t) = refl
 constant_read values.Unknown = refl
 
-operand_read : (k : Option Constant) (m : Meaning) → IsVariableMeant m → IsOperandMeant k (constant_or k m)
+operand_read : (k : Option Constant) (m : Meaning) → IsVariableMeant m → IsOperandMeant k (constant_meaning_or k m)
 operand_read None m h = h
 operand_read (Some c) m h = constant_read c
 
@@ -76,16 +77,16 @@ module _ (es : List Entry) (path : List ℕ) where
 
   -- signatures
 
-  one_by : (t : Option Term) (o : Option Word) → some_word es t ≡ o → IsGiven (term_rules es path) (t ∷ []) (given o)
+  one_by : (t : Option Term) (o : Option Word) → some_word es t ≡ o → ResultsGive (term_rules es path) (t ∷ []) (over o)
   one_by t None e = tt
   one_by t (Some w) e = over_read t w e
 
-  results_read : (ts : List (Option Term)) → IsGiven (term_rules es path) ts (results_give es ts)
+  results_read : (ts : List (Option Term)) → ResultsGive (term_rules es path) ts (results_give es ts)
   results_read [] = tt
   results_read (t ∷ []) = one_by t (some_word es t) refl
   results_read (t ∷ (u ∷ ts)) = tt
 
-  pub sign_read : (g : Sign) → IsGiven (term_rules es path) (results_of (find es) g) (sign_gives es g)
+  pub sign_read : (g : Sign) → ResultsGive (term_rules es path) (results_of (find es) g) (sign_gives es g)
   sign_read g = results_read (results_of (find es) g)
 
   -- what a declaration is, in look-ups over these types
@@ -98,13 +99,13 @@ module _ (es : List Entry) (path : List ℕ) where
     called g = subst (λ r. IsFunctionMeant r (looks.results g) (meanings.Function (sign_gives es g))) (sym types)
         (subst (λ (f : Sign → List (Option Term)). IsFunctionMeant (term_rules es path) (f g) (meanings.Function (sign_gives es g))) (sym results) (sign_read g))
 
-    pub face_read : (d : Declaration) (o : Option TheFace) → mean (outcomes.Declared d) ≡ some_meaning es o → IsFoundMeant looks mean (found_face d o)
+    pub face_read : (d : Declaration) (o : Option TheFace) → mean (outcomes.Declared d) ≡ some_face_meaning es o → IsFoundMeant looks mean (found_face d o)
     face_read d None e = e
     face_read d (Some (faces.«Type» t)) e = subst (IsTypeMeant looks.types t) (sym e) (typed t)
     face_read d (Some (faces.Func g)) e = subst (IsFunctionMeant looks.types (looks.results g)) (sym e) (called g)
     face_read d (Some (faces.«Value» o)) e = subst (IsValueMeant o) (sym e) (value_read o)
 
-    pub shown_read : (d : Declaration) (o : Option TheFace) → mean (outcomes.Declared d) ≡ some_meaning es o → IsExportedMeant looks mean (exported_face d o)
+    pub shown_read : (d : Declaration) (o : Option TheFace) → mean (outcomes.Declared d) ≡ some_face_meaning es o → IsExportedMeant looks mean (exported_face d o)
     shown_read d None e = e
     shown_read d (Some (faces.«Type» t)) e = subst (IsTypeMeant looks.types t) (sym e) (typed t)
     shown_read d (Some (faces.Func g)) e = subst (IsFunctionMeant looks.types (looks.results g)) (sym e) (called g)

@@ -15,10 +15,10 @@ use Rattle.go_summary_core.specs.Summaries.{SummaryModel, IsOfOne, path_of}
 use Rattle.go_summary_core.specs.Views.{faces_told, types_told}
 use Rattle.go_part_core.specs.Inputs.{InputModel, IsInput, path_in}
 use Rattle.go_part_core.specs.Parts.{ContentOf, IsPart, package_seen, seen_by}
-use Rattle.go_emit_core.specs.Emitted.{scene_over, told_to}
-use Rattle.go_meaning_core.specs.Meanings.{some_meaning}
-use Rattle.go_meaning_core.specs.Scenes.{Scene, decl_meaning, own_or, own_spotted, package_decls}
-use Rattle.go_lookup_core.specs.Places.{meaning_at, spot}
+use Rattle.go_emit_core.specs.Emitted.{code_scene_over, told_to}
+use Rattle.go_meaning_core.specs.Meanings.{some_face_meaning}
+use Rattle.go_meaning_core.specs.Scenes.{CodeScene, decl_meaning, own_or, own_spotted, package_decl_refs}
+use Rattle.go_lookup_core.specs.Places.{spotted_meaning, decl_spot}
 use Rattle.go_agree_core.proofs.Lists.{Has, has_of_all}
 use Rattle.go_agree_core.proofs.Own.{elsewhere, other_text, own_means, same_text, written_decls}
 
@@ -50,11 +50,11 @@ module _ (i : InputModel) (c : ContentOf) (well : IsInput i) (part : IsPart i c)
   abbrev pub table : List Entry
   table = types_told (told_to i c)
 
-  abbrev scene : Scene
-  scene = scene_over (told_to i c) i c
+  abbrev scene : CodeScene
+  scene = code_scene_over (told_to i c) i c
 
   abbrev own_decls : List DeclRef
-  own_decls = package_decls 0 (trees_in i.source)
+  own_decls = package_decl_refs 0 (trees_in i.source)
 
   abbrev shown_decls : List DeclRef
   shown_decls = exported_decls c.blocks.names
@@ -65,7 +65,7 @@ module _ (i : InputModel) (c : ContentOf) (well : IsInput i) (part : IsPart i c)
       flat_map-append (λ (s : SummaryModel). s.types.entries) i.reached (c.summary ∷ [])
       ∙ ap (λ l. types_told i.reached ++ l) (append-nil c.summary.types.entries ∙ ap (λ (s : SummaryModel). s.types.entries) part.summary)
 
-  decls_are : (es : List Entry) → decls_of (scene_in seen es).written ≡ package_decls 0 (trees_in i.source)
+  decls_are : (es : List Entry) → decls_of (scene_in seen es).written ≡ package_decl_refs 0 (trees_in i.source)
   decls_are es = written_decls (package_meanings seen.shows seen.path seen.blocks) seen.path es (trees_in i.source)
 
   faces_are : c.summary.faces ≡ package_shown (path_in i) c.blocks own_decls c.declared
@@ -83,10 +83,10 @@ module _ (i : InputModel) (c : ContentOf) (well : IsInput i) (part : IsPart i c)
   none_own = none_here i.reached (path_in i) reached_elsewhere
 
   -- a declaration of another package
-  pub decl_other : (q : List ℕ) (d : DeclRef) → (q ≡ path_in i → ⊥) → decl_meaning scene q d ≡ some_meaning table (face_in_some (package_in (faces_told i.reached) q) d)
+  pub decl_other : (q : List ℕ) (d : DeclRef) → (q ≡ path_in i → ⊥) → decl_meaning scene q d ≡ some_face_meaning table (face_in_some (package_in (faces_told i.reached) q) d)
   decl_other q d apart =
-      ap (λ o. own_or o (some_meaning table (face_in_some (package_in (faces_told (told_to i c)) q) d))) (elsewhere table (path_in i) q d own_decls c.declared apart)
-      ∙ ap (λ o. some_meaning table (face_in_some o d)) (faces_other i.reached c.summary q (λ e. apart (e ∙ ap (λ (m : PackageFacesModel). m.path) faces_are)))
+      ap (λ o. own_or o (some_face_meaning table (face_in_some (package_in (faces_told (told_to i c)) q) d))) (elsewhere table (path_in i) q d own_decls c.declared apart)
+      ∙ ap (λ o. some_face_meaning table (face_in_some o d)) (faces_other i.reached c.summary q (λ e. apart (e ∙ ap (λ (m : PackageFacesModel). m.path) faces_are)))
 
   -- one of its own
   own_shown : (d : DeclRef) → face_in_some (package_in (faces_told (told_to i c)) (path_in i)) d ≡ face_among (shown_among shown_decls own_decls c.declared) d
@@ -95,8 +95,8 @@ module _ (i : InputModel) (c : ContentOf) (well : IsInput i) (part : IsPart i c)
       ∙ (ap (λ (b : Bool). face_in_some (if b then Some c.summary.faces else None) d) (same_text (path_in i) c.summary.faces.path (sym (ap (λ (m : PackageFacesModel). m.path) faces_are)))
       ∙ ap (λ (m : PackageFacesModel). face_among m.faces d) faces_are)
 
-  pub decl_own : (d : DeclRef) → decl_meaning scene (path_in i) d ≡ some_meaning table (face_at c.declared (position_of (scene_in seen table).written d))
+  pub decl_own : (d : DeclRef) → decl_meaning scene (path_in i) d ≡ some_face_meaning table (face_at c.declared (position_of (scene_in seen table).written d))
   decl_own d =
-      ap (λ o. own_or (meaning_at (own_spotted table (path_in i) own_decls c.declared) (spot (path_in i) d)) (some_meaning table o)) (own_shown d)
-      ∙ (ap (λ ds. own_or (meaning_at (own_spotted table (path_in i) ds c.declared) (spot (path_in i) d)) (some_meaning table (face_among (shown_among shown_decls ds c.declared) d))) (sym (decls_are table))
+      ap (λ o. own_or (spotted_meaning (own_spotted table (path_in i) own_decls c.declared) (decl_spot (path_in i) d)) (some_face_meaning table o)) (own_shown d)
+      ∙ (ap (λ ds. own_or (spotted_meaning (own_spotted table (path_in i) ds c.declared) (decl_spot (path_in i) d)) (some_face_meaning table (face_among (shown_among shown_decls ds c.declared) d))) (sym (decls_are table))
       ∙ own_means table (path_in i) shown_decls d (scene_in seen table).written c.declared)

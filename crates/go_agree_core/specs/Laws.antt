@@ -25,13 +25,13 @@ use Rattle.go_ready_core.specs.Packages.{trees_in}
 use Rattle.go_part_core.specs.Inputs.{InputModel, IsInput, path_in}
 use Rattle.go_part_core.specs.Parts.{ContentOf, FileOf, IsPart, PartModel}
 use Rattle.go_whole_core.specs.Inputs.{AreParts}
-use Rattle.go_emit_core.specs.Emitted.{are_clean, body_first, scene_over, told_to}
+use Rattle.go_emit_core.specs.Emitted.{are_clean, body_first, code_scene_over, told_to}
 use Rattle.go_emit_core.specs.Imports.{all_passing}
 use Rattle.go_meaning_core.specs.Looking.{looks_of}
 use Rattle.go_fold_core.specs.Parts.{parts}
 use Rattle.go_fold_core.specs.Laws.{IsConstantFolded, IsFolded}
 use Rattle.go_agree_core.specs.Calling.{without_methods}
-use Rattle.go_agree_core.specs.Standing.{stand_of, looks_among, pieces_of, piece_exprs}
+use Rattle.go_agree_core.specs.Standing.{stand_in_part, looks_among, pieces_of, piece_exprs}
 
 -- no import of the package comes to the package itself
 abbrev pub ImportsAreOthers : InputModel → Type 0
@@ -39,7 +39,7 @@ ImportsAreOthers i = Contains (all_passing i.imports) (path_in i) → ⊥
 
 -- what code asks of the names of a function in the file of a number
 abbrev pub code_names_of : InputModel → ContentOf → ℕ → FileOf → FuncTree → code_names.Looks
-code_names_of i c n f g = looks_of (scene_over (told_to i c) i c) n f.answers.uses f.answers.locals (body_first f.answers.uses g)
+code_names_of i c n f g = looks_of (code_scene_over (told_to i c) i c) n f.answers.uses f.answers.locals (body_first f.answers.uses g)
 
 -- code and check agree on an expression, at the place where the check judges it
 pub record AreAgreed (looks : TheLooks) (names : code_names.Looks) (slots : List (Option ℕ)) (q : Place) (x : ExprTree) : Type 0 where
@@ -54,9 +54,9 @@ abbrev pub ConstantsAreOfTheCheck : Type 0
 ConstantsAreOfTheCheck =
     (i : InputModel) (c : ContentOf) → IsInput i → ImportsAreOthers i → IsPart i c → are_clean c.files ≡ true
     → (n : ℕ) (t : FileTree) (f : FileOf) → slice_get (trees_in i.source) n ≡ Some t → slice_get c.files n ≡ Some f → Wf_file t → IsPlaced t
-    → (g : FuncTree) → Contains (file_funcs t) g → (all : List (Local Meaning)) → AreFuncDeclarations (stand_of i c n t) g all
+    → (g : FuncTree) → Contains (file_funcs t) g → (all : List (Local Meaning)) → AreFuncDeclarations (stand_in_part i c n t) g all
     → (p : Piece) → Contains (pieces_of g) p → (e : ExprTree) → Contains (piece_exprs p) e → (q : Place) (x : ExprTree) → Contains (parts places.«Value» e) (q, x)
-    → (slots : List (Option ℕ)) → AreAgreed (looks_among (stand_of i c n t) all) (code_names_of i c n f g) slots q x
+    → (slots : List (Option ℕ)) → AreAgreed (looks_among (stand_in_part i c n t) all) (code_names_of i c n f g) slots q x
 
 -- a part is made from what these laws ask of an input
 pub record IsFit (p : PartModel) : Type 0 where

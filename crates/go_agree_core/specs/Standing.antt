@@ -12,6 +12,7 @@ use Rattle.go_walk_core.specs.Ends.{is_blank_target}
 use Rattle.go_env_core.specs.declared.meaning.Meaning.{Meaning}
 use Rattle.go_env_core.specs.Looks.{TheLooks}
 use Rattle.go_func_core.specs.Stands.{FileStand, looks_where, outer_names}
+use Rattle.go_value_core.specs.Initial.{exprs}
 use Rattle.go_summary_core.specs.Views.{types_told}
 use Rattle.go_package_core.specs.Checked.{stand_at}
 use Rattle.go_part_core.specs.Inputs.{InputModel}
@@ -20,8 +21,8 @@ use Rattle.go_emit_core.specs.Emitted.{told_to}
 
 -- where the file of a number and a tree is checked: in its package, as its input and its blocks show it, over the types that the packages tell which it
 -- reaches and its own, with what its declarations are
-abbrev pub stand_of : InputModel → ContentOf → ℕ → FileTree → FileStand
-stand_of i c n t = stand_at (package_seen i c.blocks (seen_by i)) (types_told (told_to i c)) c.declared (n, t)
+abbrev pub stand_in_part : InputModel → ContentOf → ℕ → FileTree → FileStand
+stand_in_part i c n t = stand_at (package_seen i c.blocks (seen_by i)) (types_told (told_to i c)) c.declared (n, t)
 
 -- all that a piece of a function is judged by that stands there, where these are the function's declarations: each name means what it is bound to where
 -- it stands
@@ -40,13 +41,9 @@ pieces_of g = pieces_in (func_steps g)
 
 -- the expressions that a piece judges as operands; those in them stand at places of their own
 
-abbrev pub listed : Separated ExprTree → List ExprTree
-listed (One e) = e ∷ []
-listed (Then e comma more) = e ∷ listed more
-
 abbrev pub some_listed : Option (Separated ExprTree) → List ExprTree
 some_listed None = []
-some_listed (Some es) = listed es
+some_listed (Some es) = exprs es
 
 -- `_` left of `=` is no operand
 abbrev pub target_listed : ExprTree → List ExprTree
@@ -58,14 +55,14 @@ targets_listed (Then e comma more) = target_listed e ++ targets_listed more
 
 abbrev pub values_listed : Option (Span × Separated ExprTree) → List ExprTree
 values_listed None = []
-values_listed (Some v) = listed v.1
+values_listed (Some v) = exprs v.1
 
 abbrev pub simple_exprs : SimpleTree → List ExprTree
 simple_exprs (Alone e) = e ∷ []
 simple_exprs (Step e op span) = e ∷ []
-simple_exprs (Assign ts span es) = targets_listed ts ++ listed es
+simple_exprs (Assign ts span es) = targets_listed ts ++ exprs es
 simple_exprs (Update e op span v) = e ∷ (v ∷ [])
-simple_exprs (Define xs span es) = listed es
+simple_exprs (Define xs span es) = exprs es
 
 abbrev pub piece_exprs : Piece → List ExprTree
 piece_exprs (Header r s) = []

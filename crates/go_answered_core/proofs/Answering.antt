@@ -20,9 +20,8 @@ use Rattle.go_snap_core.specs.whole_core.Inputs.{AreParts, IsPartOf}
 use Rattle.go_snap_core.specs.whole_core.Lists.{one_at}
 use Rattle.go_snap_core.specs.whole_core.PartsWhole.{all_right}
 use Rattle.go_snap_core.specs.Snapshots.{IsAnswerAt}
-use Rattle.go_snap_core.proofs.Finding.{one_part_at}
-use Rattle.go_snap_core.proofs.Searching.{one_key}
-use Rattle.go_answered_core.specs.Laws.{AnswersOccurrences, IsAnswerOf, IsOccurrenceAt, OutcomesAreOfOccurrences}
+use Rattle.go_snap_core.proofs.Finding.{one_key, one_part_at}
+use Rattle.go_answered_core.specs.Laws.{AnswersOccurrences, IsUseOfOccurrence, IsOccurrenceAt, OutcomesAreOfOccurrences}
 use Rattle.go_answered_core.proofs.Lists.{alike_at}
 use Rattle.go_answered_core.proofs.Standing.{stand_there}
 
@@ -31,7 +30,7 @@ tree_among : (path : List ℕ) (files : List SourceModel) (m : ℕ) (s : SourceM
 tree_among path files m s t assembled at content =
     slice_get-map tree_shown (trees_of files) m ∙ ap (option_map tree_shown) (tree_at files m s t assembled.trees at content)
 
-own_place : (u : TheUse) (o : Occ) → use_place u ≡ occurrence_place o → IsAnswerOf u o
+own_place : (u : TheUse) (o : Occ) → use_place u ≡ occurrence_place o → IsUseOfOccurrence u o
 own_place u o same = record { offset = ap (λ p. p.0) same; role = ap (λ p. p.1) same }
 
 -- an assembled package has a part
@@ -47,7 +46,7 @@ module _ (of_part : PartHasOccurrences) (ps : List PackageModel) (parts : List (
       part_there ps parts number p entry.0 assembled entry.1 (subst (λ m. IsPartOf ps parts m p entry.0) e entry.2)
 
   -- an occurrence has an answer, which is its own
-  answered : (o : Occ) → IsOccurrenceAt ps path name n o → (u : TheUse) × IsAnswerAt ps parts path name n u × IsAnswerOf u o
+  answered : (o : Occ) → IsOccurrenceAt ps path name n o → (u : TheUse) × IsAnswerAt ps parts path name n u × IsUseOfOccurrence u o
   answered o h =
       let found = part_of h.number (path, h.files) h.numbered h.assembled in
       let part = found.0 in
@@ -122,7 +121,7 @@ module _ (of_part : PartHasOccurrences) (ps : List PackageModel) (parts : List (
   answers = record {
     each = λ o h. (let a = answered o h in (a.0, a.1));
     only = occurs;
-    own = λ o u h k. (let a = answered o h in subst (λ v. IsAnswerOf v o) (one_answer a.0 u a.1 k) a.2);
+    own = λ o u h k. (let a = answered o h in subst (λ v. IsUseOfOccurrence v o) (one_answer a.0 u a.1 k) a.2);
     one = one_answer;
   }
 

@@ -1,5 +1,5 @@
 mod Answering
-mod Given
-mod Grammar
+pub mod Given
+pub mod Grammar
 mod Lists
 mod Standing

@@ -39,7 +39,7 @@ pub record IsOccurrenceAt (ps : List PackageModel) (path name : List ℕ) (n : �
   pub there : slice_get (file_occs tree) n ≡ Some o
 
 -- what answers stands where the occurrence stands, and has its role
-pub record IsAnswerOf (u : TheUse) (o : Occ) : Type 0 where
+pub record IsUseOfOccurrence (u : TheUse) (o : Occ) : Type 0 where
   pub offset : u.offset ≡ o.span.start
   pub role : u.role ≡ o.role
 
@@ -50,7 +50,7 @@ pub record AnswersOccurrences (ps : List PackageModel) (parts : List (Option Par
   -- and nowhere else
   pub only : (u : TheUse) → IsAnswerAt ps parts path name n u → (o : Occ) × IsOccurrenceAt ps path name n o
   -- the answer is the occurrence's
-  pub own : (o : Occ) (u : TheUse) → IsOccurrenceAt ps path name n o → IsAnswerAt ps parts path name n u → IsAnswerOf u o
+  pub own : (o : Occ) (u : TheUse) → IsOccurrenceAt ps path name n o → IsAnswerAt ps parts path name n u → IsUseOfOccurrence u o
   -- and there is no other
   pub one : (u v : TheUse) → IsAnswerAt ps parts path name n u → IsAnswerAt ps parts path name n v → u ≡ v
 

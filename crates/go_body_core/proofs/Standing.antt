@@ -3,6 +3,7 @@ use Rattle.std.proofs.Common.{◌≡◌, ℕ, Bool, List, [], ◌∷◌, ◌++�
 use Rattle.std.specs.Global.{Global}
 use Rattle.std.specs.Result.{IfOk, OnOk}
 use Rattle.go_tree_nodes.specs.Trees.{SignatureTree}
+use Rattle.go_tree_nodes.specs.declared.names.Ident.{Ident}
 use Rattle.go_piece_core.specs.operand_core.declared.types.Operand.{Operand}
 use Rattle.go_term_core.specs.Terms.{Term}
 use Rattle.go_piece_core.specs.local_core.Steps.{Piece}
@@ -12,7 +13,7 @@ use Rattle.go_env_core.specs.scope_core.Models.{scopes_model}
 use Rattle.go_env_core.specs.inline_core.Types.{InlineOf}
 use Rattle.go_piece_core.specs.expr_core.declared.things.Fault.{Fault}
 use Rattle.go_piece_core.specs.Headers.{returned_types}
-use Rattle.go_piece_core.specs.Pieces.{piece_uses, piece_faults, piece_values}
+use Rattle.go_piece_core.specs.Pieces.{piece_uses, piece_faults, piece_values, piece_names}
 use Rattle.go_env_core.specs.face_core.Faces.{TheFace}
 use Rattle.go_env_core.specs.declared.scene.Scene.{Scene}
 use Rattle.go_env_core.specs.declared.here.Here.{Here}
@@ -20,9 +21,13 @@ use Rattle.go_env_core.specs.declared.meaning.Meaning.{Meaning}
 use Rattle.go_env_core.specs.declared.meaning.Meaning.TheVariants as meanings
 use Rattle.go_env_core.specs.Scenes.{scene_shown}
 use Rattle.go_env_core.specs.Looks.{TheLooks, here_looks, looks_in, inline_rules}
-use Rattle.go_body_core.specs.Notes.{TheUse, TheLocal, NoteOf, note}
+use Rattle.go_body_core.specs.Notes.{TheUse, NoteOf, note}
 use Rattle.go_body_core.specs.declared.pieces.Pieces.{Pieces}
-use Rattle.go_body_core.specs.Rules.{local_at, piece_locals, top_looks, rules_of}
+use Rattle.go_body_core.specs.declared.piece_trees.PieceTree.{PieceTree}
+use Rattle.go_body_core.specs.Rules.{declared_among, locals_of, local_at, piece_locals, top_looks, rules_of}
+use Rattle.go_body_core.specs.mirrors.PieceTrees.{piece_of, faults_of, values_of}
+use Rattle.go_body_core.specs.mirrors.Noted.{looks_at, values_at, noted_at}
+use Rattle.go_body_core.proofs.Meaning.{locals_meant}
 
 module _ (h : Here) (scene : Scene) (file : ℕ) (inline : List (ℕ × InlineOf)) (known : List (Option TheFace)) (names : OpenNames Meaning)
     (a : h.scene.now ≡ scene) (b : h.file ≡ file) (c : h.inline.now ≡ inline) (d : h.known.now ≡ known) (e : h.names.now ≡ names) where
@@ -42,25 +47,40 @@ module _ (h : Here) (scene : Scene) (file : ℕ) (inline : List (ℕ × InlineOf
       ∙ (ap (λ s. looks_in (scene_shown scene) file known rules (look_in_scope meanings.Outside s names.locals.now)) scopes
       ∙ ap (λ ls. looks_in (scene_shown scene) file known rules (look_in_scope meanings.Outside (scopes_model (scene_shown scene).blocks file []) ls)) locals)
 
--- what is noted of a piece, behind nothing, and what its names stand for, by the look-ups of its place
+-- what is noted of a piece, behind nothing, and what its names stand for and mean, by the look-ups of its place
 module _ (a : Pieces) (h : Here) (names : OpenNames Meaning) (scene : h.scene.now ≡ a.scene.now) (file : h.file ≡ a.file) (inline : h.inline.now ≡ a.inline.now) (known : h.known.now ≡ a.known.now) (open_names : h.names.now ≡ names) where
-  abbrev looks_of : TheLooks
-  looks_of = looks_in (scene_shown a.scene.now) a.file a.known.now (inline_rules (scene_shown a.scene.now) a.inline.now) (look_of meanings.Outside names)
-
-  looks_same : here_looks h ≡ looks_of
+  looks_same : here_looks h ≡ looks_at a names
   looks_same = standing_looks h a.scene.now a.file a.inline.now a.known.now names scene file inline known open_names
 
-  pub noted : (firsts : List Bool) (p : Piece) (old new : List NoteOf) (us us-before : List TheUse) (fs fs-before : List Fault) (ls : List TheLocal)
-      → us-before ≡ [] → fs-before ≡ [] → us ≡ us-before ++ piece_uses (here_looks h) p → fs ≡ fs-before ++ piece_faults (here_looks h) a.results.now a.has_names firsts p
-      → ls ≡ piece_locals firsts p (local_at p (piece_values looks_of firsts p)) → new ≡ old ++ note us fs ls ∷ [] → new ≡ old ++ (rules_of a).notes (look_of meanings.Outside names) firsts p
-  noted firsts p old new us us-before fs fs-before ls u f i j k added =
-      let used : us ≡ piece_uses looks_of p = i ∙ (ap (λ l. l ++ piece_uses (here_looks h) p) u ∙ ap (λ l. piece_uses l p) looks_same) in
-      let broken : fs ≡ piece_faults looks_of a.results.now a.has_names firsts p =
-      j ∙ (ap (λ l. l ++ piece_faults (here_looks h) a.results.now a.has_names firsts p) f ∙ ap (λ l. piece_faults l a.results.now a.has_names firsts p) looks_same) in
-      added ∙ (λ n. old ++ note (used n) (broken n) (k n) ∷ [])
+  pub valued : (firsts : List Bool) (t : PieceTree) (vs : List (Option (Operand Term))) → vs ≡ values_of (here_looks h) firsts t → vs ≡ values_at a names firsts t
+  valued firsts t vs i = i ∙ ap (λ l. values_of l firsts t) looks_same
 
-  pub valued : (firsts : List Bool) (p : Piece) (vs : List (Option (Operand Term))) → vs ≡ piece_values (here_looks h) firsts p → vs ≡ piece_values looks_of firsts p
-  valued firsts p vs i = i ∙ ap (λ l. piece_values l firsts p) looks_same
+  pub noted : (firsts : List Bool) (t : PieceTree) (idents : List Ident) (old new : List NoteOf) (us us-before : List TheUse) (fs fs-before : List Fault) (vs : List (Option (Operand Term)))
+      → us-before ≡ [] → fs-before ≡ [] → us ≡ us-before ++ piece_uses (here_looks h) (piece_of t) → fs ≡ fs-before ++ faults_of (here_looks h) a.results.now a.has_names firsts t
+      → vs ≡ values_of (here_looks h) firsts t → new ≡ old ++ note us fs (declared_among firsts (locals_of idents vs)) ∷ [] → new ≡ old ++ noted_at a names firsts t idents ∷ []
+  noted firsts t idents old new us us-before fs fs-before vs u f i j k added =
+      let used : us ≡ piece_uses (looks_at a names) (piece_of t) = i ∙ (ap (λ l. l ++ piece_uses (here_looks h) (piece_of t)) u ∙ ap (λ l. piece_uses l (piece_of t)) looks_same) in
+      let broken : fs ≡ faults_of (looks_at a names) a.results.now a.has_names firsts t =
+      j ∙ (ap (λ l. l ++ faults_of (here_looks h) a.results.now a.has_names firsts t) f ∙ ap (λ l. faults_of l a.results.now a.has_names firsts t) looks_same) in
+      let values : vs ≡ values_at a names firsts t = valued firsts t vs k in
+      added ∙ (λ n. old ++ note (used n) (broken n) (declared_among firsts (locals_of idents (values n))) ∷ [])
+
+pub meant : {E : Type 0} (r : Result (Vec Meaning Global) E) (idents : List Ident) (vs ws : List (Option (Operand Term))) → vs ≡ ws → IfOk r (λ l. l.items ≡ locals_of idents vs) → IfOk r (λ l. l.items ≡ locals_of idents ws)
+meant (Ok l) idents vs ws same made = made ∙ ap (locals_of idents) same
+meant (Err e) idents vs ws same made = tt
+
+-- what is noted of a piece that declares names is what the rules note of it
+module _ (a : Pieces) (names : OpenNames Meaning) (firsts : List Bool) (p : Piece) (idents : List Ident) (old new : List NoteOf) where
+  abbrev place_looks : TheLooks
+  place_looks = looks_at a names
+
+  pub by_rules : idents ≡ piece_names p
+      → new ≡ old ++ note (piece_uses place_looks p) (piece_faults place_looks a.results.now a.has_names firsts p) (declared_among firsts (locals_of idents (piece_values place_looks firsts p))) ∷ []
+      → new ≡ old ++ (rules_of a).notes (look_of meanings.Outside names) firsts p
+  by_rules same added =
+      let declared : declared_among firsts (locals_of idents (piece_values place_looks firsts p)) ≡ piece_locals firsts p (local_at p (piece_values place_looks firsts p)) =
+      ap (λ is. declared_among firsts (locals_of is (piece_values place_looks firsts p))) same ∙ ap (declared_among firsts) (locals_meant (piece_names p) (piece_values place_looks firsts p)) in
+      added ∙ (λ n. old ++ note (piece_uses place_looks p) (piece_faults place_looks a.results.now a.has_names firsts p) (declared n) ∷ [])
 
 pub on_ok : {A E P : Type 0} (r : Result A E) → P → OnOk r P
 on_ok (Ok x) h = h

@@ -9,6 +9,7 @@ mod laws;
 mod locals;
 mod notes;
 mod panics;
+mod piece_trees;
 mod pieces;
 
 pub use body::{CheckedBody, check_body};
@@ -23,7 +24,7 @@ pub mod block_core {
 
 /// What the crates above name of `go_entry_core`.
 pub mod entry_core {
-    pub use go_env_core::entry_core::{ImportedNames, outlines};
+    pub use go_env_core::entry_core::ImportedNames;
 }
 
 /// What the crates above name of `go_env_core`.

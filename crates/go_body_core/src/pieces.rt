@@ -1,24 +1,23 @@
 //! The checker of the pieces of a function.
-ghost use Rattle.std.specs.Prelude.{◌≡◌, [], IfOk};
+ghost use Rattle.std.specs.Prelude.{◌≡◌, [], ◌∷◌, ◌++◌, IfOk, OnOk, map};
 ghost use Rattle.go_tree_nodes.specs.TypeShapes.{shape_signature};
 ghost use Rattle.go_env_core.specs.scope_core.Models.{scopes_model};
 ghost use Rattle.go_env_core.specs.Scenes.{scene_shown};
 ghost use Rattle.go_env_core.specs.Looks.{inline_rules};
 ghost use Rattle.go_piece_core.specs.Headers.{returned_types};
-ghost use Rattle.go_body_core.specs.Rules.{top_looks};
+ghost use Rattle.go_body_core.specs.Rules.{locals_of, top_looks};
+ghost use Rattle.go_body_core.specs.mirrors.Noted.{noted_at, values_at};
 
-use crate::notes::{Note, add_note, declare, nothing};
+use crate::notes::{Note, declare, nothing};
+use crate::piece_trees::{PieceTree, check_piece};
 use go_env_core::face_core::Face;
 use go_env_core::handle_core::{SignatureRef, TypeRef};
 use go_env_core::inline_core::InlineTypes;
 use go_env_core::names_core::{Checker, OpenNames, header_idents, listed_idents};
 use go_env_core::{Here, Meaning, Scene, stand};
-use go_piece_core::{
-    check_condition, check_header, check_returned, check_short, check_simple, check_spec,
-    function_results,
-};
+use go_piece_core::function_results;
 use go_text_core::Span;
-use go_tree_nodes::{Definition, Expr, Exprs, FuncDecl, Simple, ValueKind, ValueSpec};
+use go_tree_nodes::{Definition, Expr, Exprs, FuncDecl, Ident, Simple, ValueKind, ValueSpec};
 use std::alloc::{AllocError, Global};
 
 /// What the pieces of a function are checked by: where it stands, and what it returns.
@@ -51,6 +50,46 @@ impl<'c, 'p> Pieces<'c, 'p> {
         let here = stand(self.scene, self.file, self.inline, self.known, names);
         function_results(&here, self.alloc, &func.signature)
     }
+
+    // Notes a piece, with the locals that it declares, and answers what its names mean. By these names, and which of them are the first
+    // of their block.
+    fn declare_piece(
+        &self,
+        names: &OpenNames<Meaning<'p>>,
+        piece: &PieceTree<'_>,
+        idents: &[&Ident],
+        firsts: &[bool],
+        notes: &mut Vec<Note<'p>>,
+    ) -> Result<Vec<Meaning<'p>>, AllocError>
+        ensures noted { OnOk result (notes.new.items ≡ notes.old.items ++ noted_at self.now names.now firsts.now piece.now (map (λ i. i.now) idents.now) ∷ []) }
+        ensures means { IfOk result (λ means. means.items ≡ locals_of (map (λ i. i.now) idents.now) (values_at self.now names.now firsts.now piece.now)) }
+    {
+        let here = stand(self.scene, self.file, self.inline, self.known, names);
+        let mut own = nothing(self.alloc);
+        let values = check_piece(
+            &here,
+            self.alloc,
+            piece,
+            firsts,
+            self.results,
+            self.has_names,
+            &mut own,
+        )?;
+        declare(self.alloc, idents, firsts, values, own, notes)
+    }
+
+    // Notes a piece that declares nothing.
+    fn note_piece(
+        &self,
+        names: &OpenNames<Meaning<'p>>,
+        piece: &PieceTree<'_>,
+        notes: &mut Vec<Note<'p>>,
+    ) -> Result<(), AllocError>
+        ensures { OnOk result (notes.new.items ≡ notes.old.items ++ noted_at self.now names.now [] piece.now [] ∷ []) }
+    {
+        self.declare_piece(names, piece, &[], &[], notes)?;
+        Ok(())
+    }
 }
 
 impl<'c, 'p> Checker for Pieces<'c, 'p> {
@@ -70,11 +109,9 @@ impl<'c, 'p> Checker for Pieces<'c, 'p> {
         firsts: &[bool],
         notes: &mut Vec<Note<'p>>,
     ) -> Result<Vec<Meaning<'p>>, AllocError> {
-        let here = stand(self.scene, self.file, self.inline, self.known, names);
-        let mut own = nothing(self.alloc);
-        let values = check_header(&here, self.alloc, &func.receiver, &func.signature, &mut own)?;
         let idents = header_idents(self.alloc, func)?;
-        declare(self.alloc, idents.as_slice(), firsts, values, own, notes)
+        let piece = PieceTree::Header(&func.receiver, &func.signature);
+        self.declare_piece(names, &piece, idents.as_slice(), firsts, notes)
     }
 
     fn check_spec(
@@ -85,11 +122,9 @@ impl<'c, 'p> Checker for Pieces<'c, 'p> {
         firsts: &[bool],
         notes: &mut Vec<Note<'p>>,
     ) -> Result<Vec<Meaning<'p>>, AllocError> {
-        let here = stand(self.scene, self.file, self.inline, self.known, names);
-        let mut own = nothing(self.alloc);
-        let values = check_spec(&here, self.alloc, kind, spec, &mut own)?;
         let idents = listed_idents(self.alloc, &spec.names)?;
-        declare(self.alloc, idents.as_slice(), firsts, values, own, notes)
+        let piece = PieceTree::Spec(kind, spec);
+        self.declare_piece(names, &piece, idents.as_slice(), firsts, notes)
     }
 
     fn check_short(
@@ -99,19 +134,9 @@ impl<'c, 'p> Checker for Pieces<'c, 'p> {
         firsts: &[bool],
         notes: &mut Vec<Note<'p>>,
     ) -> Result<Vec<Meaning<'p>>, AllocError> {
-        let here = stand(self.scene, self.file, self.inline, self.known, names);
-        let mut own = nothing(self.alloc);
-        let names = &definition.names;
-        let values = check_short(
-            &here,
-            self.alloc,
-            names,
-            &definition.values,
-            firsts,
-            &mut own,
-        )?;
-        let idents = listed_idents(self.alloc, names)?;
-        declare(self.alloc, idents.as_slice(), firsts, values, own, notes)
+        let idents = listed_idents(self.alloc, &definition.names)?;
+        let piece = PieceTree::Short(definition);
+        self.declare_piece(names, &piece, idents.as_slice(), firsts, notes)
     }
 
     fn check_simple(
@@ -120,10 +145,8 @@ impl<'c, 'p> Checker for Pieces<'c, 'p> {
         simple: &Simple,
         notes: &mut Vec<Note<'p>>,
     ) -> Result<(), AllocError> {
-        let here = stand(self.scene, self.file, self.inline, self.known, names);
-        let mut own = nothing(self.alloc);
-        check_simple(&here, self.alloc, simple, &mut own)?;
-        add_note(notes, own, Vec::new(self.alloc))
+        let piece = PieceTree::Simple(simple);
+        self.note_piece(names, &piece, notes)
     }
 
     fn check_condition(
@@ -132,10 +155,8 @@ impl<'c, 'p> Checker for Pieces<'c, 'p> {
         condition: &Expr,
         notes: &mut Vec<Note<'p>>,
     ) -> Result<(), AllocError> {
-        let here = stand(self.scene, self.file, self.inline, self.known, names);
-        let mut own = nothing(self.alloc);
-        check_condition(&here, self.alloc, condition, &mut own)?;
-        add_note(notes, own, Vec::new(self.alloc))
+        let piece = PieceTree::Condition(condition);
+        self.note_piece(names, &piece, notes)
     }
 
     fn check_given(
@@ -145,18 +166,8 @@ impl<'c, 'p> Checker for Pieces<'c, 'p> {
         values: &Option<Box<Exprs>>,
         notes: &mut Vec<Note<'p>>,
     ) -> Result<(), AllocError> {
-        let here = stand(self.scene, self.file, self.inline, self.known, names);
-        let mut own = nothing(self.alloc);
-        check_returned(
-            &here,
-            self.alloc,
-            place,
-            values,
-            self.results,
-            self.has_names,
-            &mut own,
-        )?;
-        add_note(notes, own, Vec::new(self.alloc))
+        let piece = PieceTree::Given(place, values);
+        self.note_piece(names, &piece, notes)
     }
 
     ghost at_names = { rules_look_at_names };

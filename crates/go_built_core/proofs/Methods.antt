@@ -17,7 +17,7 @@ use Rattle.go_snap_core.specs.fragment_core.declared.names.Meaning.{Meaning}
 use Rattle.go_snap_core.specs.fragment_core.declared.names.Meaning.TheVariants as meanings
 use Rattle.go_snap_core.specs.meaning_core.Words.{sign_gives}
 use Rattle.go_snap_core.specs.meaning_core.Scenes.{method_at, method_spotted, methods_spotted}
-use Rattle.go_snap_core.specs.lookup_core.Places.{Spot, Spotted, meaning_at, same_spot, spot}
+use Rattle.go_snap_core.specs.lookup_core.Places.{DeclSpotModel, Spotted, spotted_meaning, same_spot, decl_spot}
 
 -- the first of two
 abbrev or_there : Option Meaning → Option Meaning → Option Meaning
@@ -28,7 +28,7 @@ or_none : (o : Option Meaning) → or_there o None ≡ o
 or_none None = refl
 or_none (Some m) = refl
 
-module _ (test : Spot → Bool) where
+module _ (test : DeclSpotModel → Bool) where
   looked_append : (xs ys : Spotted) → lookup test (xs ++ ys) ≡ or_there (lookup test xs) (lookup test ys)
   looked_append [] ys = refl
   looked_append (x ∷ xs) ys = by (test x.0) (looked_append xs ys)
@@ -45,7 +45,7 @@ module _ (es : List Entry) where
 
   module _ (path : List ℕ) (d : DeclRef) where
     abbrev At : Spotted → Option Meaning
-    At ms = meaning_at ms (spot path d)
+    At ms = spotted_meaning ms (decl_spot path d)
 
     -- methods of other packages
 
@@ -61,7 +61,7 @@ module _ (es : List Entry) where
     entries_none : (q : List ℕ) (xs : List Entry) → AreOf q xs → bytes_eq path q ≡ false → At (methods_spotted es xs) ≡ None
     entries_none q [] own apart = refl
     entries_none q (x ∷ xs) own apart =
-        looked_append (same_spot (spot path d)) (method_spotted es x.key.path x.methods) (methods_spotted es xs)
+        looked_append (same_spot (decl_spot path d)) (method_spotted es x.key.path x.methods) (methods_spotted es xs)
         ∙ (ap (λ o. or_there o (At (methods_spotted es xs))) (member_none x.key.path x.methods (ap (bytes_eq path) own.0 ∙ apart))
         ∙ entries_none q xs own.1 apart)
 
@@ -69,7 +69,7 @@ module _ (es : List Entry) where
     told ss = methods_spotted es (types_told ss)
 
     told_more : (s : SummaryModel) (ss : List SummaryModel) → At (told (s ∷ ss)) ≡ or_there (At (methods_spotted es s.types.entries)) (At (told ss))
-    told_more s ss = ap At (spotted_append s.types.entries (types_told ss)) ∙ looked_append (same_spot (spot path d)) (methods_spotted es s.types.entries) (told ss)
+    told_more s ss = ap At (spotted_append s.types.entries (types_told ss)) ∙ looked_append (same_spot (decl_spot path d)) (methods_spotted es s.types.entries) (told ss)
 
     summary_none : (s : SummaryModel) → IsOfOne s → (path ≡ path_of s → ⊥) → At (methods_spotted es s.types.entries) ≡ None
     summary_none s own apart = entries_none (path_of s) s.types.entries own.own (text_apart path (path_of s) apart)
@@ -95,5 +95,5 @@ module _ (es : List Entry) where
         ∙ told_at ss s (pairs_tail (λ (s t : SummaryModel). path_of s ≡ path_of t → ⊥) x ss apart) (λ t b. own t (inr b)) is a)
 
 pub told_methods : (es : List Entry) (path : List ℕ) (d : DeclRef) (ss : List SummaryModel) (s : SummaryModel) → AreApart ss → All IsOfOne ss → path_of s ≡ path → Among ss s
-    → meaning_at (methods_spotted es (types_told ss)) (spot path d) ≡ meaning_at (methods_spotted es s.types.entries) (spot path d)
+    → spotted_meaning (methods_spotted es (types_told ss)) (decl_spot path d) ≡ spotted_meaning (methods_spotted es s.types.entries) (decl_spot path d)
 told_methods es path d ss s apart own is at = told_at es path d ss s apart (λ t a. among_all IsOfOne ss t own a) is at

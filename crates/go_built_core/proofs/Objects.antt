@@ -27,10 +27,10 @@ use Rattle.go_snap_core.specs.whole_core.Parts.{all_inside, none_reached, of_one
 use Rattle.go_snap_core.specs.whole_core.PartsWhole.{all_right}
 use Rattle.go_snap_core.specs.whole_core.Checks.{trees_are_placed}
 use Rattle.go_snap_core.specs.object_core.Objects.{FunctionOf, ObjectOf}
-use Rattle.go_snap_core.specs.meaning_core.Scenes.{methods_spotted, package_decls}
-use Rattle.go_snap_core.specs.lookup_core.Places.{meaning_at, spot}
+use Rattle.go_snap_core.specs.meaning_core.Scenes.{methods_spotted, package_decl_refs}
+use Rattle.go_snap_core.specs.lookup_core.Places.{spotted_meaning, decl_spot}
 use Rattle.go_snap_core.specs.emit_core.Imports.{all_passing}
-use Rattle.go_snap_core.specs.emit_core.Emitted.{are_clean, if_there, object_of, object_over, package_functions, scene_over, somes, told_to}
+use Rattle.go_snap_core.specs.emit_core.Emitted.{are_clean, if_there, object_of, object_over, package_functions, code_scene_over, somes, told_to}
 use Rattle.go_snap_core.specs.emit_core.Emitted as emitted
 use Rattle.go_snap_core.specs.emit_core.Laws.{OneObject}
 use Rattle.go_built_core.proofs.Methods.{told_methods}
@@ -128,16 +128,16 @@ module _ (local : CheckIsLocal) (bind : ImportsBindTheirs) (ps : List PackageMod
     of : (path : List ℕ) → Inside path → IsToldOf Inside one path ⊎ NoneIsOf one path
     of path h = (let m = named path (among_from (reach_paths i) path h) in inl (record { summary = m.summary; there = among_to one m.summary m.among; is = m.is; inside = m.inside }))
 
-    selected : (q : List ℕ) (d : DeclRef) → Inside q → meaning_at (methods_spotted (types_told one) (types_told one)) (spot q d) ≡ meaning_at (methods_spotted (types_told all) (types_told all)) (spot q d)
+    selected : (q : List ℕ) (d : DeclRef) → Inside q → spotted_meaning (methods_spotted (types_told one) (types_told one)) (decl_spot q d) ≡ spotted_meaning (methods_spotted (types_told all) (types_told all)) (decl_spot q d)
     selected q d h =
         let m = named q (among_from (reach_paths i) q h) in
         told_methods (types_told one) q d one m.summary well_one.apart well_one.own m.is m.among
-        ∙ (ap (λ ms. meaning_at ms (spot q d)) (methods_same Inside (types_told one) (types_told all) alike.types m.summary.types.entries m.inside.types)
+        ∙ (ap (λ ms. spotted_meaning ms (decl_spot q d)) (methods_same Inside (types_told one) (types_told all) alike.types m.summary.types.entries m.inside.types)
         ∙ sym (told_methods (types_told all) q d all m.summary apart owned m.is (holds m.summary m.among)))
 
-    functions : package_functions (scene_over one i c) 0 (trees_in i.source) c.files ≡ package_functions (scene_over all i c) 0 (trees_in i.source) c.files
+    functions : package_functions (code_scene_over one i c) 0 (trees_in i.source) c.files ≡ package_functions (code_scene_over all i c) 0 (trees_in i.source) c.files
     functions =
-        functions_same Inside (types_told one) (types_told all) alike.types (path_in i) (package_decls 0 (trees_in i.source)) c.declared part_in.declared (faces_told one) (faces_told all)
+        functions_same Inside (types_told one) (types_told all) alike.types (path_in i) (package_decl_refs 0 (trees_in i.source)) c.declared part_in.declared (faces_told one) (faces_told all)
         (faces_told_in Inside one well_one of) alike.declared selected 0 (trees_in i.source) c.files part_in.files
 
     abbrev with_functions : List (FunctionOf Declaration) → Option (ObjectOf Declaration)

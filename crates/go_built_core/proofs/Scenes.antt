@@ -28,12 +28,12 @@ use Rattle.go_snap_core.specs.near_core.Closing.{either}
 use Rattle.go_snap_core.specs.part_core.Parts.{FileOf}
 use Rattle.go_snap_core.specs.fragment_core.declared.names.Meaning.{Meaning}
 use Rattle.go_snap_core.specs.fragment_core.declared.names.Meaning.TheVariants as meanings
-use Rattle.go_snap_core.specs.meaning_core.Words.{form_word, given, results_give, sign_gives, some_word, value_word, word_in}
-use Rattle.go_snap_core.specs.meaning_core.Meanings.{constant_or, face_meaning, local_meaning, some_meaning, type_meaning, variable_meaning}
+use Rattle.go_snap_core.specs.meaning_core.Words.{form_word, results_give, sign_gives, some_word, value_word, word_in}
+use Rattle.go_snap_core.specs.meaning_core.Meanings.{constant_meaning_or, face_meaning, local_meaning, some_face_meaning, type_meaning, variable_meaning}
 use Rattle.go_snap_core.specs.meaning_core.Looking.{locals_meant, looks_of, uses_meant}
-use Rattle.go_snap_core.specs.lookup_core.Looking.{looks_with, meant}
-use Rattle.go_snap_core.specs.meaning_core.Scenes.{Scene, declared_meaning, method_at, method_meaning, method_spotted, methods_spotted, outcome_meaning, own_or, own_spotted, place_meaning, scene_by, selected_meaning}
-use Rattle.go_snap_core.specs.lookup_core.Places.{meaning_at, spot}
+use Rattle.go_snap_core.specs.lookup_core.Looking.{looks_with, meaning_or_other}
+use Rattle.go_snap_core.specs.meaning_core.Scenes.{CodeScene, declared_meaning, method_at, method_meaning, method_spotted, methods_spotted, outcome_meaning, own_or, own_spotted, place_meaning, scene_by, selected_meaning}
+use Rattle.go_snap_core.specs.lookup_core.Places.{spotted_meaning, decl_spot}
 use Rattle.go_snap_core.specs.emit_core.Emitted.{file_functions, functions_of, package_functions}
 use Rattle.go_built_core.proofs.Terms.{AreTermsIn, IsSignIn, IsTermIn}
 use Rattle.go_built_core.proofs.Tables.{AreEntriesIn, AreMembersIn}
@@ -80,7 +80,7 @@ module _ (Inside : List ℕ → Type 0) (es fs : List Entry) (same : (k : DeclKe
 
   results_same : (ts : List (Option Term)) → Each (IfAny (IsTermIn Inside)) ts → results_give es ts ≡ results_give fs ts
   results_same [] h = refl
-  results_same (t ∷ []) h = ap given (some_word_same t h.0)
+  results_same (t ∷ []) h = (let same : some_word es t ≡ some_word fs t = some_word_same t h.0 in cc)
   results_same (t ∷ (u ∷ ts)) h = refl
 
   sign_same : (g : Sign) → IsSignIn Inside g → sign_gives es g ≡ sign_gives fs g
@@ -93,20 +93,20 @@ module _ (Inside : List ℕ → Type 0) (es fs : List Entry) (same : (k : DeclKe
   face_same (faces.Func g) h = ap (λ r. meanings.Function r) (sign_same g h)
   face_same (faces.«Value» o) h = refl
 
-  some_same : (o : Option TheFace) → IsAnyIn Inside o → some_meaning es o ≡ some_meaning fs o
+  some_same : (o : Option TheFace) → IsAnyIn Inside o → some_face_meaning es o ≡ some_face_meaning fs o
   some_same None h = refl
   some_same (Some f) h = face_same f h
 
   own_same : (path : List ℕ) (ds : List DeclRef) (known : List (Option TheFace)) → ((n : ℕ) → IsAnyIn Inside (slice_index_or known n None)) → own_spotted es path ds known ≡ own_spotted fs path ds known
   own_same path [] known h = refl
   own_same path (d ∷ ds) [] h = refl
-  own_same path (d ∷ ds) (f ∷ known) h = λ j. (spot path d, some_same f (h 0) j) ∷ own_same path ds known (λ n. h (suc n)) j
+  own_same path (d ∷ ds) (f ∷ known) h = λ j. (decl_spot path d, some_same f (h 0) j) ∷ own_same path ds known (λ n. h (suc n)) j
 
   -- locals
 
   local_same : (at : ℕ) (o : Option (Operand Term)) → IfAny (NearOperand (IsTermIn Inside)) o → local_meaning es at o ≡ local_meaning fs at o
   local_same at None h = refl
-  local_same at (Some o) h = ap (λ w. constant_or o.constant (variable_meaning at w)) (value_word_same o.value_type h)
+  local_same at (Some o) h = ap (λ w. constant_meaning_or o.constant (variable_meaning at w)) (value_word_same o.value_type h)
 
   locals_same : (ls : List TheLocal) → Each (IsLocalIn Inside) ls → locals_meant es ls ≡ locals_meant fs ls
   locals_same [] h = refl
@@ -115,7 +115,7 @@ module _ (Inside : List ℕ → Type 0) (es fs : List Entry) (same : (k : DeclKe
   -- methods
 
   place_same : (q : List ℕ) (m : Member) (p : MemberPlace) → IsSignIn Inside m.sign → method_at es q m p ≡ method_at fs q m p
-  place_same q m (places.Declared d) h = λ j. (spot q d, meanings.Method (sign_same m.sign h j)) ∷ []
+  place_same q m (places.Declared d) h = λ j. (decl_spot q d, meanings.Method (sign_same m.sign h j)) ∷ []
   place_same q m (places.Local l) h = refl
 
   members_same : (q : List ℕ) (ms : List Member) → AreMembersIn Inside ms → method_spotted es q ms ≡ method_spotted fs q ms
@@ -129,19 +129,19 @@ module _ (Inside : List ℕ → Type 0) (es fs : List Entry) (same : (k : DeclKe
   module _ (path : List ℕ) (ds : List DeclRef) (known : List (Option TheFace)) (known_in : (n : ℕ) → IsAnyIn Inside (slice_index_or known n None)) (others again : List PackageFacesModel)
       (named : (q : List ℕ) (d : DeclRef) (f : TheFace) → Inside q → face_in others q d ≡ Some f → IsFaceIn Inside f)
       (shown : (q : List ℕ) (d : DeclRef) → Inside q → face_in others q d ≡ face_in again q d)
-      (selected : (q : List ℕ) (d : DeclRef) → Inside q → meaning_at (methods_spotted es es) (spot q d) ≡ meaning_at (methods_spotted fs fs) (spot q d)) where
-    abbrev here : Scene
+      (selected : (q : List ℕ) (d : DeclRef) → Inside q → spotted_meaning (methods_spotted es es) (decl_spot q d) ≡ spotted_meaning (methods_spotted fs fs) (decl_spot q d)) where
+    abbrev here : CodeScene
     here = scene_by path ds known es others
 
-    abbrev there : Scene
+    abbrev there : CodeScene
     there = scene_by path ds known fs again
 
     named_any : (q : List ℕ) (d : DeclRef) (o : Option TheFace) → Inside q → face_in others q d ≡ o → IsAnyIn Inside o
     named_any q d None h e = tt
     named_any q d (Some f) h e = named q d f h e
 
-    shown_same : (q : List ℕ) (d : DeclRef) → Inside q → some_meaning es (face_in others q d) ≡ some_meaning fs (face_in again q d)
-    shown_same q d h = some_same (face_in others q d) (named_any q d (face_in others q d) h refl) ∙ ap (some_meaning fs) (shown q d h)
+    shown_same : (q : List ℕ) (d : DeclRef) → Inside q → some_face_meaning es (face_in others q d) ≡ some_face_meaning fs (face_in again q d)
+    shown_same q d h = some_same (face_in others q d) (named_any q d (face_in others q d) h refl) ∙ ap (some_face_meaning fs) (shown q d h)
 
     module _ (file : ℕ) (locals : List TheLocal) (locals_in : Each (IsLocalIn Inside) locals) where
       abbrev mine : List (ℕ × Meaning)
@@ -151,8 +151,8 @@ module _ (Inside : List ℕ → Type 0) (es fs : List Entry) (same : (k : DeclKe
       theirs = locals_meant fs locals
 
       declared_place : (q : List ℕ) (p : MemberPlace) → Inside q → place_meaning here file mine q p ≡ place_meaning there file theirs q p
-      declared_place q (places.Declared d) h = λ j. own_or (meaning_at (own_same path ds known known_in j) (spot q d)) (shown_same q d h j)
-      declared_place q (places.Local l) h = λ j. if bytes_eq q path && nat_eq l.file file then meant (lookup (nat_eq l.offset) (locals_same locals locals_in j)) else meanings.Other
+      declared_place q (places.Declared d) h = λ j. own_or (spotted_meaning (own_same path ds known known_in j) (decl_spot q d)) (shown_same q d h j)
+      declared_place q (places.Local l) h = λ j. if bytes_eq q path && nat_eq l.file file then meaning_or_other (lookup (nat_eq l.offset) (locals_same locals locals_in j)) else meanings.Other
 
       declared_same : (d : Declaration) → IsDeclIn Inside d → declared_meaning here file mine d ≡ declared_meaning there file theirs d
       declared_same (Universe p) h = refl
@@ -161,7 +161,7 @@ module _ (Inside : List ℕ → Type 0) (es fs : List Entry) (same : (k : DeclKe
       declared_same (InFile q p) h = declared_place q p h
 
       method_place_same : (q : List ℕ) (p : MemberPlace) → Inside q → method_meaning here (InFile q p) ≡ method_meaning there (InFile q p)
-      method_place_same q (places.Declared d) h = ap meant (selected q d h)
+      method_place_same q (places.Declared d) h = ap meaning_or_other (selected q d h)
       method_place_same q (places.Local l) h = refl
 
       method_same : (d : Declaration) → IsDeclIn Inside d → method_meaning here d ≡ method_meaning there d

@@ -9,7 +9,7 @@ use Rattle.go_snap_core.specs.part_core.Parts.{PartModel}
 use Rattle.go_snap_core.specs.whole_core.Entries.{IsPartAmong, IsPartEntry}
 use Rattle.go_snap_core.specs.whole_core.Whole.{WholeOf}
 use Rattle.go_snap_core.specs.emit_core.Emitted.{object_in, object_over, somes, told_by}
-use Rattle.go_snap_core.specs.meaning_core.Scenes.{package_decls, scene_by}
+use Rattle.go_snap_core.specs.meaning_core.Scenes.{package_decl_refs, scene_by}
 use Rattle.go_snap_core.specs.summary_core.Summaries.{SummaryModel}
 use Rattle.go_snap_core.specs.summary_core.Views.{faces_told, types_told}
 use Rattle.go_built_core.specs.Trees.{all_faces, all_types, scene_of_trees}
@@ -42,10 +42,10 @@ among w p y e h = subst (λ z. IsPartEntry (Some w) z) e h
 module _ (ws : List (Option WholeOf)) (parts : List (Option PartModel)) (zip : AllZip IsPartEntry ws parts) where
   scene_is : (w : WholeOf) (p : PartModel) → IsPartAmong w p → object_over (told_by (somes parts)) p.input p.content ≡ object_in (scene_of_trees ws w) p.input p.content
   scene_is w p h =
-      ap (λ (s : PackageModel). object_in (scene_by s.0 (package_decls 0 (trees_in s)) p.content.declared (types_told (told_by (somes parts))) (faces_told (told_by (somes parts)))) p.input p.content) h.source
-      ∙ (ap (λ ds. object_in (scene_by w.source.0 (package_decls 0 (trees_in w.source)) ds (types_told (told_by (somes parts))) (faces_told (told_by (somes parts)))) p.input p.content) h.declared
-      ∙ (ap (λ ts. object_in (scene_by w.source.0 (package_decls 0 (trees_in w.source)) w.checked.declared ts (faces_told (told_by (somes parts)))) p.input p.content) (types_are ws parts zip)
-      ∙ ap (λ fs. object_in (scene_by w.source.0 (package_decls 0 (trees_in w.source)) w.checked.declared (all_types ws) fs) p.input p.content) (faces_are ws parts zip)))
+      ap (λ (s : PackageModel). object_in (scene_by s.0 (package_decl_refs 0 (trees_in s)) p.content.declared (types_told (told_by (somes parts))) (faces_told (told_by (somes parts)))) p.input p.content) h.source
+      ∙ (ap (λ ds. object_in (scene_by w.source.0 (package_decl_refs 0 (trees_in w.source)) ds (types_told (told_by (somes parts))) (faces_told (told_by (somes parts)))) p.input p.content) h.declared
+      ∙ (ap (λ ts. object_in (scene_by w.source.0 (package_decl_refs 0 (trees_in w.source)) w.checked.declared ts (faces_told (told_by (somes parts)))) p.input p.content) (types_are ws parts zip)
+      ∙ ap (λ fs. object_in (scene_by w.source.0 (package_decl_refs 0 (trees_in w.source)) w.checked.declared (all_types ws) fs) p.input p.content) (faces_are ws parts zip)))
 
   pub object_is : (n : ℕ) (p : PartModel) (w : WholeOf) → slice_get parts n ≡ Some (Some p) → slice_get ws n ≡ Some (Some w) → object_over (told_by (somes parts)) p.input p.content ≡ object_in (scene_of_trees ws w) p.input p.content
   object_is n p w mine whole =

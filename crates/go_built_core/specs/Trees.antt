@@ -7,7 +7,7 @@ use Rattle.go_snap_core.specs.ready_core.Packages.{trees_in}
 use Rattle.go_snap_core.specs.face_core.Packages.{PackageFacesModel}
 use Rattle.go_snap_core.specs.whole_core.Whole.{WholeOf, if_some}
 use Rattle.go_snap_core.specs.table_core.Entries.{Entry}
-use Rattle.go_snap_core.specs.meaning_core.Scenes.{Scene, package_decls, scene_by}
+use Rattle.go_snap_core.specs.meaning_core.Scenes.{CodeScene, package_decl_refs, scene_by}
 
 -- the types that all packages declare, and what all of them show, by the check of each among all others
 
@@ -18,5 +18,5 @@ abbrev pub all_faces : List (Option WholeOf) → List PackageFacesModel
 all_faces ws = flat_map (if_some (λ (w : WholeOf). w.checked.faces ∷ [])) ws
 
 -- a package among all others: its own declarations are what its check gives
-abbrev pub scene_of_trees : List (Option WholeOf) → WholeOf → Scene
-scene_of_trees ws w = scene_by w.source.0 (package_decls 0 (trees_in w.source)) w.checked.declared (all_types ws) (all_faces ws)
+abbrev pub scene_of_trees : List (Option WholeOf) → WholeOf → CodeScene
+scene_of_trees ws w = scene_by w.source.0 (package_decl_refs 0 (trees_in w.source)) w.checked.declared (all_types ws) (all_faces ws)

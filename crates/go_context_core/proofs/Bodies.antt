@@ -27,7 +27,7 @@ use Rattle.go_file_core.specs.func_core.Functions.{checked_func}
 use Rattle.go_ready_core.specs.Packages.{PackageIn, outlines_in, scene_in, stand_in}
 use Rattle.go_ready_core.specs.Values.{decls_in, AreDeclared}
 use Rattle.go_respell_core.specs.Contexts.{ContextStays}
-use Rattle.go_respell_core.specs.Package.{FileForm, all_needs, form_needs, face_of, face_by, AreFacesOf}
+use Rattle.go_respell_core.specs.Package.{FileForm, all_needs, form_needs, face_of, face_at_position, AreFacesOf}
 use Rattle.go_respell_core.specs.Trees.{RespellsLines, RespellsSteps, InFuncBody, with_body}
 use Rattle.go_respell_core.specs.local_core.Outline.{func_steps}
 use Rattle.go_file_core.specs.Files.{tops_uses}
@@ -174,8 +174,8 @@ module _ (f : FuncTree) (body : Lines) where
 
     known_same : (ds es : List FileDecl) (t u : List (Option TheFace)) → AllOther f body ds es → AreFacesOf s (map form ds) t → AreFacesOf s (map form es) u → t ≡ u
     known_same ds es t u h at au =
-        let back : AreValues TheFace (all_needs s (map form ds)) (face_by s (map form es)) u = subst (λ rows. AreValues TheFace rows (face_by s (map form es)) u) (sym (rows_same ds es h)) au in
-        one_table TheFace (all_needs s (map form ds)) (face_by s (map form ds)) t u (looks_at_needs s (map form ds) (all_fixed s shows path blocks ds)) at
+        let back : AreValues TheFace (all_needs s (map form ds)) (face_at_position s (map form es)) u = subst (λ rows. AreValues TheFace rows (face_at_position s (map form es)) u) (sym (rows_same ds es h)) au in
+        one_table TheFace (all_needs s (map form ds)) (face_at_position s (map form ds)) t u (looks_at_needs s (map form ds) (all_fixed s shows path blocks ds)) at
         (record { as_many = back.as_many; ends = back.ends; values = λ a v k. back.values a v k ∙ sym (faces_same (known_in u) a ds es h a); endless = back.endless })
 
 -- what is to be shown of both packages

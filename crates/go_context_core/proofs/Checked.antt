@@ -11,12 +11,13 @@ use Rattle.go_respell_core.specs.piece_core.Headers.{returned_types, returned_na
 use Rattle.go_respell_core.specs.piece_core.Pieces.{piece_uses, piece_values}
 use Rattle.go_respell_core.specs.env_core.declared.meaning.Meaning.{Meaning}
 use Rattle.go_file_core.specs.body_core.Notes.{NoteOf, all_uses}
+use Rattle.go_file_core.specs.body_core.Rules.{local_at}
 use Rattle.go_file_core.specs.func_core.Stands.{FileStand, looks_where, outer_names, outer_looks}
 use Rattle.go_file_core.specs.func_core.Functions.{own_rules, checked_func}
 use Rattle.go_respell_core.specs.Contexts.{ContextStays}
 use Rattle.go_respell_core.specs.Functions.{use_rules}
 use Rattle.go_respell_core.proofs.Walks.{functions_stay}
-use Rattle.go_context_core.specs.Functions.{local_of, func_spots, names_before, CheckedFunctionsStay}
+use Rattle.go_context_core.specs.Functions.{func_spots, names_before, CheckedFunctionsStay}
 
 all_both : (ns ms : List NoteOf) → all_uses (ns ++ ms) ≡ all_uses ns ++ all_uses ms
 all_both [] ms = refl
@@ -24,23 +25,23 @@ all_both (n ∷ ns) ms = ap (λ l. n.uses ++ l) (all_both ns ms) ∙ sym (append
 
 module _ (st : FileStand) (results : List (Option Term)) (has_names : Bool) where
   noted : (s : Steps) (outer block : Names Meaning) (o c : ℕ)
-      → all_uses (walk_out (own_rules st results has_names) (outer_names st) outer block o c s).notes ≡ (walk_out (use_rules (looks_where st) local_of) (outer_names st) outer block o c s).notes
+      → all_uses (walk_out (own_rules st results has_names) (outer_names st) outer block o c s).notes ≡ (walk_out (use_rules (looks_where st) local_at) (outer_names st) outer block o c s).notes
   noted Done outer block o c = refl
   noted (Check p rest) outer block o c = ap (λ l. piece_uses (looks_where st (look_in (outer_names st) (outer ++ block))) p ++ l) (noted rest outer block o c)
   noted (Declare m from p xs rest) outer block o c =
       let looks = looks_where st (look_in (outer_names st) (outer ++ block)) in
-      ap (λ l. piece_uses looks p ++ l) (noted rest outer (with_names block (local_of p (piece_values looks (news (names_of block) xs) p)) 0 xs) o c)
+      ap (λ l. piece_uses looks p ++ l) (noted rest outer (with_names block (local_at p (piece_values looks (news (names_of block) xs) p)) 0 xs) o c)
   noted (Inner a b inner rest) outer block o c =
       all_both (walk_out (own_rules st results has_names) (outer_names st) (outer ++ block) [] a b inner).notes (walk_out (own_rules st results has_names) (outer_names st) outer block o c rest).notes
       ∙ (ap (λ l. l ++ all_uses (walk_out (own_rules st results has_names) (outer_names st) outer block o c rest).notes) (noted inner (outer ++ block) [] a b)
-      ∙ ap (λ l. (walk_out (use_rules (looks_where st) local_of) (outer_names st) (outer ++ block) [] a b inner).notes ++ l) (noted rest outer block o c))
+      ∙ ap (λ l. (walk_out (use_rules (looks_where st) local_at) (outer_names st) (outer ++ block) [] a b inner).notes ++ l) (noted rest outer block o c))
 
-pub func_noted : (st : FileStand) (f : FuncTree) → (checked_func st f).uses ≡ (walk_out (use_rules (looks_where st) local_of) (outer_names st) [] [] (func_opens f) (func_closes f) (func_steps f)).notes
+pub func_noted : (st : FileStand) (f : FuncTree) → (checked_func st f).uses ≡ (walk_out (use_rules (looks_where st) local_at) (outer_names st) [] [] (func_opens f) (func_closes f) (func_steps f)).notes
 func_noted st f = noted st (returned_types (outer_looks st) f.signature) (returned_names f.signature) (func_steps f) [] [] (func_opens f) (func_closes f)
 
 pub checked_stay : CheckedFunctionsStay
 checked_stay st x name f g r =
-    let s = functions_stay Meaning Term Sign Declaration (List ℕ) (looks_where st) local_of (outer_names st) x name f g r in
+    let s = functions_stay Meaning Term Sign Declaration (List ℕ) (looks_where st) local_at (outer_names st) x name f g r in
     record {
       respells = s.respells;
       stays =

@@ -29,7 +29,7 @@ use Rattle.go_file_core.specs.func_core.Stands.{FileStand, types_where, outer_lo
 use Rattle.go_ready_core.specs.Packages.{PackageIn, outlines_in, scene_in, stand_in}
 use Rattle.go_ready_core.specs.Values.{decl_needs, decls_in, some_face, AreDeclared}
 use Rattle.go_respell_core.specs.Contexts.{ContextStays}
-use Rattle.go_respell_core.specs.Package.{FileForm, AllFixed, all_needs, face_of, face_by, AreFacesOf, IsAsItWas, IsWrittenAnew, AreWrittenAnew}
+use Rattle.go_respell_core.specs.Package.{FileForm, AllFixed, all_needs, face_of, face_at_position, AreFacesOf, IsAsItWas, IsWrittenAnew, AreWrittenAnew}
 use Rattle.go_respell_core.specs.Spots.{spec_spots}
 use Rattle.go_respell_core.specs.Trees.{RespellsValues}
 use Rattle.go_respell_core.proofs.Anew.{initial_stays}
@@ -136,7 +136,7 @@ module _ (p : PackageIn) (types : List Entry) where
 
   pub faces_of : (t : List (Option TheFace)) → AreDeclared p types t → AreFacesOf s (map form (decls_in p)) t
   faces_of t at =
-      subst (λ rows. AreValues TheFace rows (face_by s (map form (decls_in p))) t) (rows_same (decls_in p))
+      subst (λ rows. AreValues TheFace rows (face_at_position s (map form (decls_in p))) t) (rows_same (decls_in p))
       (record { as_many = at.as_many; ends = at.ends; values = λ a v h. at.values a v h ∙ face_same (known_in t) a (decls_in p) a; endless = at.endless })
 
 module _ (x : Ident) (name : List ℕ) (v w : ValueSpecTree) (r : RespellsValues x name v w) (n : ℕ) (p : PackageIn) (types : List Entry) (t u : List (Option TheFace)) (front back : List FileTree) (f : FileTree) (ds : List TopTree)

@@ -22,6 +22,7 @@ use Rattle.go_respell_core.specs.piece_core.Pieces.{piece_values}
 use Rattle.go_respell_core.specs.piece_core.Specifications.{spec_uses}
 use Rattle.go_file_core.specs.top_core.Tops.{of_specs}
 use Rattle.go_file_core.specs.func_core.Stands.{FileStand, looks_where, outer_names, outer_looks}
+use Rattle.go_file_core.specs.body_core.Rules.{local_at}
 use Rattle.go_file_core.specs.func_core.Functions.{checked_func}
 use Rattle.go_file_core.specs.Files.{decl_uses}
 use Rattle.go_respell_core.specs.Functions.{spot_rules}
@@ -30,7 +31,7 @@ use Rattle.go_respell_core.proofs.Splits.{len, len_app, map_len}
 use Rattle.go_respell_core.proofs.Changes.{name_len, type_len, signature_len, expr_len}
 use Rattle.go_respell_core.proofs.Pieces.{piece_long}
 use Rattle.go_respell_core.proofs.Walks.{walk_long}
-use Rattle.go_context_core.specs.Functions.{local_of, func_spots}
+use Rattle.go_context_core.specs.Functions.{func_spots}
 use Rattle.go_context_core.specs.Spots.{decl_spots}
 use Rattle.go_context_core.proofs.Checked.{func_noted}
 
@@ -119,8 +120,8 @@ module _ {X T S D P : Type 0} (looks other : Look X → Looks T S D P) (mean : P
 module _ (st other : FileStand) where
   func_long : (f : FuncTree) → len (func_spots st f) ≡ len (checked_func other f).uses
   func_long f =
-      walks_len (looks_where st) (looks_where other) local_of (outer_names st) (outer_names other) (func_steps f) [] [] [] [] (func_opens f) (func_closes f)
-      ∙ (walk_long (looks_where other) local_of (outer_names other) (func_steps f) [] [] (func_opens f) (func_closes f) ∙ ap len (sym (func_noted other f)))
+      walks_len (looks_where st) (looks_where other) local_at (outer_names st) (outer_names other) (func_steps f) [] [] [] [] (func_opens f) (func_closes f)
+      ∙ (walk_long (looks_where other) local_at (outer_names other) (func_steps f) [] [] (func_opens f) (func_closes f) ∙ ap len (sym (func_noted other f)))
 
   pub spec_long : (v : ValueSpecTree) → len (spec_spots (outer_looks st) v) ≡ len (spec_uses (outer_looks other) v)
   spec_long v = spec_len (outer_looks st) (outer_looks other) v ∙ piece_long (outer_looks other) (Spec kinds.Var v)

@@ -16,6 +16,7 @@ use Rattle.go_respell_core.specs.expr_core.TypeUses.{type_uses, signature_uses}
 use Rattle.go_respell_core.specs.expr_core.Uses.{type_name_spots, type_name_uses, type_spots, signature_spots}
 use Rattle.go_respell_core.specs.env_core.Looks.{TheLooks}
 use Rattle.go_file_core.specs.body_core.Notes.{TheUse}
+use Rattle.go_file_core.specs.body_core.Rules.{local_at}
 use Rattle.go_respell_core.specs.piece_core.Headers.{receiver_uses, header_uses}
 use Rattle.go_respell_core.specs.piece_core.Specifications.{values_uses}
 use Rattle.go_file_core.specs.top_core.Tops.{of_specs}
@@ -25,11 +26,11 @@ use Rattle.go_file_core.specs.Files.{decl_uses, tops_uses}
 use Rattle.go_respell_core.specs.Contexts.{ContextStays}
 use Rattle.go_respell_core.specs.Package.{file_looks}
 use Rattle.go_respell_core.specs.Spots.{values_spots, receiver_spots, header_spots}
-use Rattle.go_respell_core.specs.Trees.{spec, with_base, with_receiver, with_signature}
+use Rattle.go_respell_core.specs.Trees.{value_spec, with_base, with_receiver, with_signature}
 use Rattle.go_respell_core.proofs.Splits.{behind, before}
 use Rattle.go_respell_core.proofs.Types as outer
 use Rattle.go_respell_core.proofs.Walks.{spot_walk, use_walk, block_after}
-use Rattle.go_context_core.specs.Functions.{TheSpot, local_of, func_spots}
+use Rattle.go_context_core.specs.Functions.{TheSpot, func_spots}
 use Rattle.go_context_core.specs.Outer.{RespellsTypeGroup, InFirstType, InLaterTypes, RespellsTypeSpecs, InOneType, InTypeGroup, RespellsOuterType, InValueType, InTypeDecl, InReceiverType, InHeaderType, RespellsOuterTops, InOuterTop, BehindOuterTop, OuterTypesInFilesStay}
 use Rattle.go_context_core.specs.Spots.{decl_spots, tops_spots}
 use Rattle.go_context_core.proofs.Checked.{func_noted}
@@ -86,11 +87,11 @@ module _ (st other : FileStand) (x : Ident) (name : List ℕ) (path : st.scene.p
 
   func_stays : (f g : FuncTree) → Stays (header_spots looks f.receiver f.signature) (header_uses after g.receiver g.signature) → Stays (func_spots st f) (checked_func other g).uses
   func_stays f g r =
-      let opens = block_after (looks_where st) local_of (outer_names st) [] [] (Header f.receiver f.signature) (header_idents f.receiver f.signature) in
-      let opens' = block_after (looks_where other) local_of (outer_names other) [] [] (Header g.receiver g.signature) (header_idents g.receiver g.signature) in
+      let opens = block_after (looks_where st) local_at (outer_names st) [] [] (Header f.receiver f.signature) (header_idents f.receiver f.signature) in
+      let opens' = block_after (looks_where other) local_at (outer_names other) [] [] (Header g.receiver g.signature) (header_idents g.receiver g.signature) in
       subst (Stays (func_spots st f)) (sym (func_noted other g))
-      (behind after x name (header_spots looks f.receiver f.signature) (spot_walk (looks_where st) local_of (outer_names st) [] opens (func_opens f) (func_closes f) (lines_steps f.body Done))
-      (header_uses after g.receiver g.signature) (use_walk (looks_where other) local_of (outer_names other) [] opens' (func_opens g) (func_closes g) (lines_steps g.body Done)) r)
+      (behind after x name (header_spots looks f.receiver f.signature) (spot_walk (looks_where st) local_at (outer_names st) [] opens (func_opens f) (func_closes f) (lines_steps f.body Done))
+      (header_uses after g.receiver g.signature) (use_walk (looks_where other) local_at (outer_names other) [] opens' (func_opens g) (func_closes g) (lines_steps g.body Done)) r)
 
   receiver_stays : (o : Option Receiver) (r : Receiver) (n : TypeName) (g : SignatureTree) → o ≡ Some r → RespellsName x name r.base n → Stays (header_spots looks o g) (header_uses after (Some (with_base r n)) g)
   receiver_stays o r n g is h =
@@ -101,7 +102,7 @@ module _ (st other : FileStand) (x : Ident) (name : List ℕ) (path : st.scene.p
 
   decl_stays : (d e : DeclTree) → RespellsOuterType x name d e → Stays (decl_spots st d) (decl_uses other e)
   decl_stays d e (InValueType {vs = vs} {ws = ws} {xs = xs} {t = t} {u = u} {values = values} r s) =
-      in_specs st other after x name (spec xs (Some t) values) (spec xs (Some u) values)
+      in_specs st other after x name (value_spec xs (Some t) values) (value_spec xs (Some u) values)
       (behind after x name (type_spots looks t) (values_spots looks values) (type_uses after u) (values_uses after values) (type_stays t u r)) vs ws s
   decl_stays d e (InTypeDecl {ts = ts} {us = us} r) = types_stay ts us r
   decl_stays d e (InReceiverType {f = f} {r = r} {n = n} is h) = func_stays f (with_receiver f (with_base r n)) (receiver_stays f.receiver r n f.signature is h)

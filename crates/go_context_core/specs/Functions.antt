@@ -1,22 +1,17 @@
 -- A function of a file in which one identifier is spelled anew.
 --
 -- docs/RULES.md, "Bodies of functions", "Types inside functions", "Occurrences". The Go specification, "Blocks", "Declarations and scope".
-use Rattle.std.specs.Prelude.{ℕ, List, [], Option}
+use Rattle.std.specs.Prelude.{ℕ, List, []}
 use Rattle.go_tree_nodes.specs.declared.names.Ident.{Ident}
 use Rattle.go_tree_nodes.specs.Trees.{FuncTree}
 use Rattle.go_respell_core.specs.local_core.Binding.{Look}
 use Rattle.go_respell_core.specs.local_core.Outline.{func_steps}
-use Rattle.go_respell_core.specs.local_core.Steps.{Piece}
 use Rattle.go_respell_core.specs.local_core.Tables.{walked}
-use Rattle.go_respell_core.specs.names_core.Uses.{place_of}
-use Rattle.go_respell_core.specs.operand_core.declared.types.Operand.{Operand}
 use Rattle.go_term_core.specs.Terms.{Term, Sign}
 use Rattle.go_respell_core.specs.handle_core.Declarations.{Declaration}
 use Rattle.go_respell_core.specs.expr_core.Uses.{Spot}
-use Rattle.go_respell_core.specs.piece_core.Pieces.{piece_names}
 use Rattle.go_respell_core.specs.env_core.declared.meaning.Meaning.{Meaning}
-use Rattle.go_respell_core.specs.env_core.declared.meaning.Meaning.TheVariants as meanings
-use Rattle.go_file_core.specs.body_core.Rules.{value_at}
+use Rattle.go_file_core.specs.body_core.Rules.{local_at}
 use Rattle.go_file_core.specs.func_core.Stands.{FileStand, looks_where, outer_names}
 use Rattle.go_file_core.specs.func_core.Functions.{checked_func}
 use Rattle.go_respell_core.specs.Contexts.{ContextStays}
@@ -27,17 +22,13 @@ use Rattle.go_respell_core.specs.Trees.{RespellsSteps, RespellsFunc}
 abbrev pub TheSpot : Type 0
 TheSpot = Spot Term Declaration (List ℕ)
 
--- a name that a piece declares is a local, by the offset of its identifier, which stands for its value
-abbrev pub local_of : Piece → List (Option (Operand Term)) → ℕ → Meaning
-local_of p vs n = meanings.Local (place_of (piece_names p) n) (value_at vs n)
-
 -- the identifiers of a function in their contexts, and its calls, in order of their places: on the way through it, with the names that are open
 abbrev pub func_spots : FileStand → FuncTree → List TheSpot
-func_spots st f = (walked (spot_rules (looks_where st) local_of) (outer_names st) f).notes
+func_spots st f = (walked (spot_rules (looks_where st) local_at) (outer_names st) f).notes
 
 -- what names mean in front of the piece of the identifier, on the way through the function
 abbrev pub names_before : (st : FileStand) (x : Ident) (name : List ℕ) (f g : FuncTree) → RespellsSteps x name (func_steps f) (func_steps g) → Look Meaning
-names_before st x name f g r = names_there x name (use_rules (looks_where st) local_of) (outer_names st) [] [] (func_steps f) (func_steps g) r
+names_before st x name f g r = names_there x name (use_rules (looks_where st) local_at) (outer_names st) [] [] (func_steps f) (func_steps g) r
 
 -- the identifier stands in a context in the function, and under its new spelling it has what this context's rule gives for that, where names mean what
 -- they mean in front of its piece

@@ -14,7 +14,7 @@ use Rattle.go_respell_core.specs.expr_core.Respelling.{RespellsName, RespellsTyp
 use Rattle.go_file_core.specs.func_core.Stands.{FileStand, outer_looks}
 use Rattle.go_file_core.specs.Files.{tops_uses}
 use Rattle.go_respell_core.specs.Contexts.{ContextStays}
-use Rattle.go_respell_core.specs.Trees.{spec, with_base, with_receiver, with_signature}
+use Rattle.go_respell_core.specs.Trees.{value_spec, with_base, with_receiver, with_signature}
 use Rattle.go_context_core.specs.Files.{WritesInSpecs}
 use Rattle.go_context_core.specs.Spots.{tops_spots}
 
@@ -35,7 +35,7 @@ pub data RespellsTypeSpecs (x : Ident) (name : List ℕ) : Specs TypeSpecTree �
 -- a declaration: of constants or variables with a type that is written, of types, of a function or a method by its header
 pub data RespellsOuterType (x : Ident) (name : List ℕ) : DeclTree → DeclTree → Type 0 where
   InValueType : {k : ValueKind} {place : Span} {vs ws : Specs ValueSpecTree} {xs : Separated Ident} {t u : TypeTree} {values : Option (Span × Separated ExprTree)}
-      → RespellsType x name t u → WritesInSpecs (spec xs (Some t) values) (spec xs (Some u) values) vs ws
+      → RespellsType x name t u → WritesInSpecs (value_spec xs (Some t) values) (value_spec xs (Some u) values) vs ws
       → RespellsOuterType x name (Value (record { kind = k; keyword = place; specs = vs })) (Value (record { kind = k; keyword = place; specs = ws }))
   InTypeDecl : {place : Span} {ts us : Specs TypeSpecTree} → RespellsTypeSpecs x name ts us → RespellsOuterType x name (Types (record { keyword = place; specs = ts })) (Types (record { keyword = place; specs = us }))
   InReceiverType : {f : FuncTree} {r : Receiver} {n : TypeName} → f.receiver ≡ Some r → RespellsName x name r.base n → RespellsOuterType x name (Func f) (Func (with_receiver f (with_base r n)))

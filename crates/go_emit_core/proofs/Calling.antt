@@ -9,8 +9,8 @@ use Rattle.go_meaning_core.specs.handle_core.Declarations.{Declaration}
 use Rattle.go_meaning_core.specs.body_core.Notes.{TheUse}
 use Rattle.go_meaning_core.specs.used_core.Used.{is_declared}
 use Rattle.go_meaning_core.specs.part_core.Parts.{FileOf}
-use Rattle.go_emit_core.specs.Emitted.{body_first, body_uses, declaration_in, scene_over}
-use Rattle.go_emit_core.specs.Laws.{CallsNameTheirOwn, IsFaultless, declaration_of}
+use Rattle.go_emit_core.specs.Emitted.{body_first, body_uses, outcome_declarations, code_scene_over}
+use Rattle.go_emit_core.specs.Laws.{CallsNameTheirOwn, HasNoFault, declaration_of}
 use Rattle.go_meaning_core.specs.Looking.{locals_meant}
 use Rattle.go_meaning_core.specs.lookup_core.Looking.{place_or_zero}
 use Rattle.go_meaning_core.specs.Scenes.{outcome_meaning}
@@ -19,7 +19,7 @@ use Rattle.go_emit_core.proofs.Faultless.{objects_faultless}
 use Rattle.go_emit_core.proofs.Referring.{GivesOne, given_at, in_drop, in_take}
 
 abbrev gives : TheUse → List Declaration
-gives u = declaration_in u.outcome
+gives u = outcome_declarations u.outcome
 
 abbrev one_of : TheUse → Option Declaration
 one_of u = declaration_of u.outcome
@@ -28,12 +28,12 @@ gives_one : (u : TheUse) → is_declared u.outcome ≡ true → GivesOne gives o
 gives_one u h = by u.outcome refl h
   where
     by : (o : Outcome Declaration (List ℕ)) → u.outcome ≡ o → is_declared o ≡ true → GivesOne gives one_of u
-    by (outcomes.Declared d) e h = record { given = d; is = ap declaration_in e; one_of = ap declaration_of e }
-    by (outcomes.Selected d path) e h = record { given = d; is = ap declaration_in e; one_of = ap declaration_of e }
+    by (outcomes.Declared d) e h = record { given = d; is = ap outcome_declarations e; one_of = ap declaration_of e }
+    by (outcomes.Selected d path) e h = record { given = d; is = ap outcome_declarations e; one_of = ap declaration_of e }
     by (outcomes.Refused rule) e h = cc
 
-file_at : (fs : List FileOf) (n : ℕ) (f : FileOf) → All IsFaultless fs → slice_get fs n ≡ Some f → IsFaultless f
-file_at fs n f h e = subst IsFaultless (get_or_from_slice_get fs n f f e) (h n f (slice_get_within fs n f e))
+file_at : (fs : List FileOf) (n : ℕ) (f : FileOf) → All HasNoFault fs → slice_get fs n ≡ Some f → HasNoFault f
+file_at fs n f h e = subst HasNoFault (get_or_from_slice_get fs n f f e) (h n f (slice_get_within fs n f e))
 
 pub calls_name_their_own : CallsNameTheirOwn
 calls_name_their_own all i c part has n f there rise g number u at =
@@ -45,8 +45,8 @@ calls_name_their_own all i c part has n f there rise g number u at =
     let count = prefix_len (λ (v : TheUse). nat_lt v.offset g.close_brace.start) inside in
     let body : All (GivesOne gives one_of) (body_uses uses g) = All-take (GivesOne gives one_of) count inside (All-drop (GivesOne gives one_of) first uses each) in
     let whole : slice_get uses (first + number) ≡ Some u = in_drop first uses number u (in_take count inside number u at) in
-    let locals = locals_meant (scene_over all i c).types f.answers.locals in
-    let place = placed (λ (v : TheUse). v.offset) (λ (v : TheUse). outcome_meaning (scene_over all i c) n locals v.outcome) uses rise (first + number) 0 u whole in
+    let locals = locals_meant (code_scene_over all i c).types f.answers.locals in
+    let place = placed (λ (v : TheUse). v.offset) (λ (v : TheUse). outcome_meaning (code_scene_over all i c) n locals v.outcome) uses rise (first + number) 0 u whole in
     let counted : 0 + (first + number) - first ≡ number = omega arith in
     record {
       declared = given_at gives one_of (body_uses uses g) body number u at;

@@ -18,8 +18,8 @@ use Rattle.go_meaning_core.specs.used_core.Used.{is_declared}
 use Rattle.go_meaning_core.specs.part_core.Inputs.{InputModel}
 use Rattle.go_meaning_core.specs.part_core.Parts.{ContentOf, FileOf, IsFileMadeIn, IsPart}
 use Rattle.go_object_core.specs.Objects.{ObjectOf}
-use Rattle.go_emit_core.specs.Emitted.{are_clean, is_clean, object_over, scene_over, whole_object}
-use Rattle.go_emit_core.specs.Laws.{IsFaultless, ObjectsAreOfFaultless}
+use Rattle.go_emit_core.specs.Emitted.{are_clean, nothing_reported, object_over, code_scene_over, whole_object}
+use Rattle.go_emit_core.specs.Laws.{HasNoFault, ObjectsAreOfFaultless}
 
 abbrev IsDeclared : TheUse → Type 0
 IsDeclared u = is_declared u.outcome ≡ true
@@ -49,25 +49,25 @@ nothing_left (x ∷ xs) h = (let lt : 0 < suc (length xs) = omega arith in absur
 abbrev IsReportedIn : FileOf → Type 0
 IsReportedIn f = (x : Fault) → Contains f.report x ↔ (IsSaid f.answers.uses x ⊎ Contains f.answers.faults x)
 
-faultless : (f : FileOf) → IsReportedIn f → f.report ≡ [] → IsFaultless f
+faultless : (f : FileOf) → IsReportedIn f → f.report ≡ [] → HasNoFault f
 faultless f h none = record {
   declared = all_declared f.answers.uses (λ x s. nothing_in x (subst (λ (l : List Fault). Contains l x) none ((h x).1 (inl s))));
   unfaulted = nothing_left f.answers.faults (λ x s. nothing_in x (subst (λ (l : List Fault). Contains l x) none ((h x).1 (inr s))));
 }
 
-unreported : (f : FileOf) → IsReportedIn f → IsFaultless f → f.report ≡ []
+unreported : (f : FileOf) → IsReportedIn f → HasNoFault f → f.report ≡ []
 unreported f h fine = nothing_left f.report (λ x s. by x ((h x).0 s))
   where
     by : (x : Fault) → IsSaid f.answers.uses x ⊎ Contains f.answers.faults x → ⊥
     by x (inl s) = none_said f.answers.uses x fine.declared s
     by x (inr s) = nothing_in x (subst (λ (l : List Fault). Contains l x) fine.unfaulted s)
 
-is_nothing : (r : List Fault) → is_clean r ≡ true → r ≡ []
+is_nothing : (r : List Fault) → nothing_reported r ≡ true → r ≡ []
 is_nothing [] h = refl
 is_nothing (f ∷ fs) h = cc
 
-nothing_is : (r : List Fault) → r ≡ [] → is_clean r ≡ true
-nothing_is r e = ap is_clean e
+nothing_is : (r : List Fault) → r ≡ [] → nothing_reported r ≡ true
+nothing_is r e = ap nothing_reported e
 
 -- all files
 all_reported : (b : BlocksModel) (all : List AnswersOf) (k : ℕ) (ts : List FileTree) (fs : List FileOf) → AllNumbered (IsFileMadeIn b all) k ts fs → All IsReportedIn fs
@@ -79,25 +79,25 @@ all_reported b all k (t ∷ ts) (f ∷ fs) h = All-cons IsReportedIn f fs h.0.ma
 pub reported : (i : InputModel) (c : ContentOf) → IsPart i c → All IsReportedIn c.files
 reported i c h = all_reported c.blocks h.checked.files 0 (trees_in i.source) c.files h.files
 
-all_faultless : (fs : List FileOf) → All IsReportedIn fs → are_clean fs ≡ true → All IsFaultless fs
-all_faultless [] h e = All-nil IsFaultless
+all_faultless : (fs : List FileOf) → All IsReportedIn fs → are_clean fs ≡ true → All HasNoFault fs
+all_faultless [] h e = All-nil HasNoFault
 all_faultless (f ∷ fs) h e =
-    let p = and_parts (is_clean f.report) (are_clean fs) e in
-    All-cons IsFaultless f fs (faultless f (h 0 f (omega arith)) (is_nothing f.report p.0)) (all_faultless fs (λ k d lt. h (suc k) d (omega (arith, lt))) p.1)
+    let p = and_parts (nothing_reported f.report) (are_clean fs) e in
+    All-cons HasNoFault f fs (faultless f (h 0 f (omega arith)) (is_nothing f.report p.0)) (all_faultless fs (λ k d lt. h (suc k) d (omega (arith, lt))) p.1)
 
-all_clean : (fs : List FileOf) → All IsReportedIn fs → All IsFaultless fs → are_clean fs ≡ true
+all_clean : (fs : List FileOf) → All IsReportedIn fs → All HasNoFault fs → are_clean fs ≡ true
 all_clean [] h fine = refl
 all_clean (f ∷ fs) h fine =
-    and_from (is_clean f.report) (are_clean fs) (nothing_is f.report (unreported f (h 0 f (omega arith)) (fine 0 f (omega arith))))
+    and_from (nothing_reported f.report) (are_clean fs) (nothing_is f.report (unreported f (h 0 f (omega arith)) (fine 0 f (omega arith))))
     (all_clean fs (λ k d lt. h (suc k) d (omega (arith, lt))) (λ k d lt. fine (suc k) d (omega (arith, lt))))
 
 chosen : (b : Bool) (o : ObjectOf Declaration) → is_some (if b then Some o else None) ≡ true → b ≡ true
 chosen true o h = refl
 chosen false o h = h
 
-pub objects_faultless : (all : List SummaryModel) (i : InputModel) (c : ContentOf) → IsPart i c → is_some (object_over all i c) ≡ true → All IsFaultless c.files
-objects_faultless all i c h e = all_faultless c.files (reported i c h) (chosen (are_clean c.files) (whole_object (scene_over all i c) i c) e)
+pub objects_faultless : (all : List SummaryModel) (i : InputModel) (c : ContentOf) → IsPart i c → is_some (object_over all i c) ≡ true → All HasNoFault c.files
+objects_faultless all i c h e = all_faultless c.files (reported i c h) (chosen (are_clean c.files) (whole_object (code_scene_over all i c) i c) e)
 
 pub objects_are_of_faultless : ObjectsAreOfFaultless
 objects_are_of_faultless all i c h =
-    (objects_faultless all i c h, (λ fine. ap (λ (b : Bool). is_some (if b then Some (whole_object (scene_over all i c) i c) else None)) (all_clean c.files (reported i c h) fine)))
+    (objects_faultless all i c h, (λ fine. ap (λ (b : Bool). is_some (if b then Some (whole_object (code_scene_over all i c) i c) else None)) (all_clean c.files (reported i c h) fine)))

@@ -5,7 +5,7 @@ use Rattle.go_meaning_core.specs.summary_core.Summaries.{SummaryModel}
 use Rattle.go_object_core.specs.Objects.{ObjectOf}
 use Rattle.go_meaning_core.specs.part_core.Inputs.{path_in}
 use Rattle.go_meaning_core.specs.part_core.Parts.{PartModel}
-use Rattle.go_emit_core.specs.Emitted.{if_there, object_over, objects_over, scene_over, told_by, whole_object}
+use Rattle.go_emit_core.specs.Emitted.{if_there, object_over, objects_over, code_scene_over, told_by, whole_object}
 use Rattle.go_emit_core.specs.Laws.{ObjectsAreOfTheirParts, is_unreported}
 
 module _ (all : List SummaryModel) where
@@ -13,7 +13,7 @@ module _ (all : List SummaryModel) where
   object_at p = object_over all p.input p.content
 
   abbrev whole_at : PartModel → ObjectOf Declaration
-  whole_at p = whole_object (scene_over all p.input p.content) p.input p.content
+  whole_at p = whole_object (code_scene_over all p.input p.content) p.input p.content
 
   abbrev left : List PartModel → List PartModel
   left ps = filter is_unreported ps

@@ -9,21 +9,21 @@ use Rattle.go_meaning_core.specs.ready_core.Packages.{trees_in}
 use Rattle.go_meaning_core.specs.part_core.Inputs.{InputModel, path_in}
 use Rattle.go_meaning_core.specs.part_core.Parts.{ContentOf, PartModel}
 use Rattle.go_meaning_core.specs.declared.tables.Tables.{Tables}
-use Rattle.go_emit_core.specs.Emitted.{are_clean, if_there, object_in, object_of, objects_over, scene_over, told_to, whole_object}
-use Rattle.go_meaning_core.specs.Scenes.{methods_spotted, package_decls}
+use Rattle.go_emit_core.specs.Emitted.{are_clean, if_there, object_in, object_of, objects_over, code_scene_over, told_to, whole_object}
+use Rattle.go_meaning_core.specs.Scenes.{methods_spotted, package_decl_refs}
 use Rattle.go_meaning_core.specs.mirrors.Naming.{scene_from, scene_with}
 use Rattle.go_emit_core.specs.mirrors.Naming.{objects_with}
 
 -- these are the tables of what some packages tell
 module _ (t : Tables) (all : List SummaryModel) (types : t.types ≡ types_told all) (methods : t.methods ≡ methods_spotted (types_told all) (types_told all)) (faces : t.faces ≡ faces_told all) where
-  scene_told : (i : InputModel) (c : ContentOf) → scene_with t i c ≡ scene_over all i c
-  scene_told i c = λ k. scene_from (types k) (methods k) (faces k) (path_in i) (package_decls 0 (trees_in i.source)) c.declared
+  scene_told : (i : InputModel) (c : ContentOf) → scene_with t i c ≡ code_scene_over all i c
+  scene_told i c = λ k. scene_from (types k) (methods k) (faces k) (path_in i) (package_decl_refs 0 (trees_in i.source)) c.declared
 
   pub object_told : (i : InputModel) (c : ContentOf) (o : ObjectOf Declaration) → o ≡ whole_object (scene_with t i c) i c → are_clean c.files ≡ true → all ≡ told_to i c → Some o ≡ object_of i c
   object_told i c o made clean told =
       ap Some made
-      ∙ (sym (ap (λ (b : Bool). if b then Some (whole_object (scene_with t i c) i c) else None) clean) ∙ (ap (λ s. object_in s i c) (scene_told i c) ∙ ap (λ (ss : List SummaryModel). object_in (scene_over ss i c) i c) told))
+      ∙ (sym (ap (λ (b : Bool). if b then Some (whole_object (scene_with t i c) i c) else None) clean) ∙ (ap (λ s. object_in s i c) (scene_told i c) ∙ ap (λ (ss : List SummaryModel). object_in (code_scene_over ss i c) i c) told))
 
   pub objects_told : (ps : List PartModel) → flat_map (objects_with t) ps ≡ objects_over all ps
   objects_told ps =
-      λ k. flat_map (λ (p : PartModel). if_there (object_in (scene_from (types k) (methods k) (faces k) (path_in p.input) (package_decls 0 (trees_in p.input.source)) p.content.declared) p.input p.content)) ps
+      λ k. flat_map (λ (p : PartModel). if_there (object_in (scene_from (types k) (methods k) (faces k) (path_in p.input) (package_decl_refs 0 (trees_in p.input.source)) p.content.declared) p.input p.content)) ps

@@ -22,32 +22,32 @@ use Rattle.go_code_core.specs.fragment_core.Slots.{slots_of}
 use Rattle.go_object_core.specs.Objects.{FunctionOf, ObjectOf}
 use Rattle.go_emit_core.specs.Imports.{all_passing}
 use Rattle.go_meaning_core.specs.Looking.{looks_of}
-use Rattle.go_meaning_core.specs.Scenes.{Scene, decl_at, package_decls, scene_by}
+use Rattle.go_meaning_core.specs.Scenes.{CodeScene, decl_at, package_decl_refs, scene_by}
 
 -- the scene
 
 -- of a package, by its input and by what it has, over what some packages tell: its own declarations count before what they show
-abbrev pub scene_over : List SummaryModel → InputModel → ContentOf → Scene
-scene_over all i c = scene_by (path_in i) (package_decls 0 (trees_in i.source)) c.declared (types_told all) (faces_told all)
+abbrev pub code_scene_over : List SummaryModel → InputModel → ContentOf → CodeScene
+code_scene_over all i c = scene_by (path_in i) (package_decl_refs 0 (trees_in i.source)) c.declared (types_told all) (faces_told all)
 
 -- functions
 
-abbrev pub declaration_in : Outcome Declaration (List ℕ) → List Declaration
-declaration_in (outcomes.Declared d) = d ∷ []
-declaration_in (outcomes.Selected d path) = d ∷ []
-declaration_in (outcomes.Refused rule) = []
+abbrev pub outcome_declarations : Outcome Declaration (List ℕ) → List Declaration
+outcome_declarations (outcomes.Declared d) = d ∷ []
+outcome_declarations (outcomes.Selected d path) = d ∷ []
+outcome_declarations (outcomes.Refused rule) = []
 
 -- the declarations of occurrences, in order
 abbrev pub declarations_in : List TheUse → List Declaration
-declarations_in uses = flat_map (λ u. declaration_in u.outcome) uses
+declarations_in uses = flat_map (λ u. outcome_declarations u.outcome) uses
 
 -- how many of a file's occurrences stand before an offset
-abbrev pub before : List TheUse → ℕ → ℕ
-before uses bound = prefix_len (λ u. nat_lt u.offset bound) uses
+abbrev pub uses_before : List TheUse → ℕ → ℕ
+uses_before uses bound = prefix_len (λ u. nat_lt u.offset bound) uses
 
 -- the occurrences of a body stand between its braces: how many of its file stand before them
 abbrev pub body_first : List TheUse → FuncTree → ℕ
-body_first uses f = before uses f.open_brace.start
+body_first uses f = uses_before uses f.open_brace.start
 
 abbrev pub body_uses : List TheUse → FuncTree → List TheUse
 body_uses uses f = take_while (λ u. nat_lt u.offset f.close_brace.start) (drop (body_first uses f) uses)
@@ -75,28 +75,28 @@ abbrev pub functions_of : List ℕ → ℕ → List TheUse → (ℕ → Looks) �
 functions_of path file uses looking ds = flat_map (λ d. form_function path file uses looking d d.form) ds
 
 -- those of a file
-abbrev pub file_functions : Scene → ℕ → List TopDeclTree → FileOf → List (FunctionOf Declaration)
+abbrev pub file_functions : CodeScene → ℕ → List TopDeclTree → FileOf → List (FunctionOf Declaration)
 file_functions s file ds f = functions_of s.path file f.answers.uses (looks_of s file f.answers.uses f.answers.locals) ds
 
 -- those of the files of a package, in order of name, from the file of a number on
-abbrev pub package_functions : Scene → ℕ → List FileTree → List FileOf → List (FunctionOf Declaration)
+abbrev pub package_functions : CodeScene → ℕ → List FileTree → List FileOf → List (FunctionOf Declaration)
 package_functions s n [] files = []
 package_functions s n (t ∷ ts) [] = []
 package_functions s n (t ∷ ts) (f ∷ files) = file_functions s n (top_decls t) f ++ package_functions s (suc n) ts files
 
 -- objects
 
-abbrev pub is_clean : List Fault → Bool
-is_clean [] = true
-is_clean (f ∷ fs) = false
+abbrev pub nothing_reported : List Fault → Bool
+nothing_reported [] = true
+nothing_reported (f ∷ fs) = false
 
 -- nothing is reported of any file
 abbrev pub are_clean : List FileOf → Bool
 are_clean [] = true
-are_clean (f ∷ fs) = is_clean f.report && are_clean fs
+are_clean (f ∷ fs) = nothing_reported f.report && are_clean fs
 
 -- the object of a package in a scene, whatever is reported of it
-abbrev pub whole_object : Scene → InputModel → ContentOf → ObjectOf Declaration
+abbrev pub whole_object : CodeScene → InputModel → ContentOf → ObjectOf Declaration
 whole_object s i c = record {
   path = path_in i;
   name = c.summary.exports.name;
@@ -105,12 +105,12 @@ whole_object s i c = record {
 }
 
 -- none where anything is reported of a file
-abbrev pub object_in : Scene → InputModel → ContentOf → Option (ObjectOf Declaration)
+abbrev pub object_in : CodeScene → InputModel → ContentOf → Option (ObjectOf Declaration)
 object_in s i c = if are_clean c.files then Some (whole_object s i c) else None
 
 -- the object of a package, by its input and by what it has, over what some packages tell
 abbrev pub object_over : List SummaryModel → InputModel → ContentOf → Option (ObjectOf Declaration)
-object_over all i c = object_in (scene_over all i c) i c
+object_over all i c = object_in (code_scene_over all i c) i c
 
 -- what the packages tell that a package reaches, and what it tells itself
 abbrev pub told_to : InputModel → ContentOf → List SummaryModel

@@ -5,10 +5,10 @@ use Rattle.go_meaning_core.specs.block_core.declared.imports.Imported.{Imported}
 use Rattle.go_meaning_core.specs.block_core.declared.imports.Imported.TheVariants as imported
 
 -- the package that an import comes to
-abbrev pub passing : Imported → List (List ℕ)
-passing (imported.«Package» e) = e.path ∷ []
-passing (imported.Refused rule) = []
+abbrev pub imported_paths : Imported → List (List ℕ)
+imported_paths (imported.«Package» e) = e.path ∷ []
+imported_paths (imported.Refused rule) = []
 
 -- those of all imports: the files in order of name, the imports of each in order of place
 abbrev pub all_passing : List (List Imported) → List (List ℕ)
-all_passing files = flat_map (λ is. flat_map passing is) files
+all_passing files = flat_map (λ is. flat_map imported_paths is) files

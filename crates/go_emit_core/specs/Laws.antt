@@ -14,18 +14,18 @@ use Rattle.go_meaning_core.specs.used_core.Used.{is_declared}
 use Rattle.go_meaning_core.specs.part_core.Inputs.{InputModel, IsInput, path_in}
 use Rattle.go_meaning_core.specs.part_core.Parts.{ContentOf, FileOf, IsPart, PartModel}
 use Rattle.go_object_core.specs.Objects.{ObjectOf}
-use Rattle.go_emit_core.specs.Emitted.{are_clean, body_first, body_uses, declarations_in, object_of, object_over, objects_of, scene_over, told_by}
-use Rattle.go_emit_core.specs.Imports.{passing}
+use Rattle.go_emit_core.specs.Emitted.{are_clean, body_first, body_uses, declarations_in, object_of, object_over, objects_of, code_scene_over, told_by}
+use Rattle.go_emit_core.specs.Imports.{imported_paths}
 use Rattle.go_meaning_core.specs.Looking.{looks_of}
 
 -- nothing is wrong with a file: each of its occurrences has a declaration, and there is no fault beside
-pub record IsFaultless (f : FileOf) : Type 0 where
+pub record HasNoFault (f : FileOf) : Type 0 where
   pub declared : All (λ (u : TheUse). is_declared u.outcome ≡ true) f.answers.uses
   pub unfaulted : f.answers.faults ≡ []
 
 -- whatever packages tell, there is an object of a package exactly where nothing is wrong with any of its files
 abbrev pub ObjectsAreOfFaultless : Type 0
-ObjectsAreOfFaultless = (all : List SummaryModel) (i : InputModel) (c : ContentOf) → IsPart i c → (is_some (object_over all i c) ≡ true) ↔ All IsFaultless c.files
+ObjectsAreOfFaultless = (all : List SummaryModel) (i : InputModel) (c : ContentOf) → IsPart i c → (is_some (object_over all i c) ≡ true) ↔ All HasNoFault c.files
 
 -- there is one object of a package whose files' tokens follow one another, if any: equal inputs have equal objects, each by itself, and over the same
 -- that packages tell
@@ -55,7 +55,7 @@ declaration_of (outcomes.Refused rule) = None
 -- occurrence's place calls this reference
 pub record IsReferred (all : List SummaryModel) (i : InputModel) (c : ContentOf) (n : ℕ) (f : FileOf) (g : FuncTree) (number : ℕ) (u : TheUse) : Type 0 where
   pub declared : slice_get (declarations_in (body_uses f.answers.uses g)) number ≡ declaration_of u.outcome
-  pub called : (looks_of (scene_over all i c) n f.answers.uses f.answers.locals (body_first f.answers.uses g)).reference u.offset ≡ number
+  pub called : (looks_of (code_scene_over all i c) n f.answers.uses f.answers.locals (body_first f.answers.uses g)).reference u.offset ≡ number
 
 -- in an object it is so of each occurrence of each body of a file whose occurrences stand one behind another
 abbrev pub CallsNameTheirOwn : Type 0
@@ -64,18 +64,18 @@ CallsNameTheirOwn =
     → (g : FuncTree) (number : ℕ) (u : TheUse) → slice_get (body_uses f.answers.uses g) number ≡ Some u → IsReferred all i c n f g number u
 
 -- an import of a file of a package comes to the package of a path
-pub record IsPassing (i : InputModel) (path : List ℕ) : Type 0 where
+pub record HasImportOf (i : InputModel) (path : List ℕ) : Type 0 where
   pub file : ℕ
   pub number : ℕ
   pub of_file : List Imported
   pub import : Imported
   pub there : slice_get i.imports file ≡ Some of_file
   pub here : slice_get of_file number ≡ Some import
-  pub comes_to : passing import ≡ path ∷ []
+  pub comes_to : imported_paths import ≡ path ∷ []
 
 -- the imports of an object are the packages that imports of its package come to
 abbrev pub ImportsPass : Type 0
-ImportsPass = (all : List SummaryModel) (i : InputModel) (c : ContentOf) (o : ObjectOf Declaration) → object_over all i c ≡ Some o → (path : List ℕ) → Contains o.imports path ↔ IsPassing i path
+ImportsPass = (all : List SummaryModel) (i : InputModel) (c : ContentOf) (o : ObjectOf Declaration) → object_over all i c ≡ Some o → (path : List ℕ) → Contains o.imports path ↔ HasImportOf i path
 
 -- nothing is reported of any file of a part
 abbrev pub is_unreported : PartModel → Bool

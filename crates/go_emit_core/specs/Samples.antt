@@ -30,30 +30,30 @@ use Rattle.go_code_core.specs.Samples.{argument, ident, int_at, line, name, pare
 use Rattle.go_object_core.specs.Objects.{FunctionOf}
 use Rattle.go_emit_core.specs.Emitted.{functions_of}
 use Rattle.go_meaning_core.specs.Looking.{looks_of}
-use Rattle.go_meaning_core.specs.Scenes.{Scene, decl_at, scene_by}
+use Rattle.go_meaning_core.specs.Scenes.{CodeScene, decl_at, scene_by}
 
 abbrev pub path : List ℕ
 path = codes "ex.com/a"
 
 -- trees
 
-abbrev pub function : Span → List ℕ → ℕ → ParamTrees → ResultTree → ℕ → Lines → ℕ → FuncTree
-function s text at params results first body last =
+abbrev pub sample_function : Span → List ℕ → ℕ → ParamTrees → ResultTree → ℕ → Lines → ℕ → FuncTree
+sample_function s text at params results first body last =
     record { func = s; receiver = None; name = ident text at; signature = Signed s params s results; open_brace = paren first; body = body; close_brace = paren last }
 
-abbrev pub add : Span → FuncTree
-add s =
-    function s (codes "add") 16 (two_params s (codes "a") 20 (codes "b") 23 (int_at 25) NoParams) (OneResult (int_at 30)) 34
+abbrev pub sample_add : Span → FuncTree
+sample_add s =
+    sample_function s (codes "add") 16 (two_params s (codes "a") 20 (codes "b") 23 (int_at 25) NoParams) (OneResult (int_at 30)) 34
     (line s (returns s (Binary (name (codes "a") 43) operators.Plus s (name (codes "b") 47))) NoLines) 49
 
 abbrev pub five : Span → FuncTree
 five s =
-    function s (codes "five") 56 NoParams (OneResult (int_at 63)) 67
+    sample_function s (codes "five") 56 NoParams (OneResult (int_at 63)) 67
     (line s (returns s (Call (name (codes "add") 76) (paren 79) (argument s (Integer 2 s) (argument s (Integer 3 s) NoItems)) s)) NoLines) 86
 
 -- the identifiers that the file declares outside bodies are add, a, b and five
 abbrev pub decls : Span → List TopDeclTree
-decls s = record { ident = ident (codes "add") 16; number = 0; form = FuncForm (add s) } ∷ record { ident = ident (codes "five") 56; number = 3; form = FuncForm (five s) } ∷ []
+decls s = record { ident = ident (codes "add") 16; number = 0; form = FuncForm (sample_add s) } ∷ record { ident = ident (codes "five") 56; number = 3; form = FuncForm (five s) } ∷ []
 
 -- what the check gives
 
@@ -66,12 +66,12 @@ add_sign = SignOf (ATerm int_term (ATerm int_term NoTerm)) (ATerm int_term NoTer
 abbrev pub five_sign : Sign
 five_sign = SignOf NoTerm (ATerm int_term NoTerm)
 
-abbrev pub known : List (Option TheFace)
-known = Some (faces.Func add_sign) ∷ Some (faces.Func five_sign) ∷ []
+abbrev pub sample_faces : List (Option TheFace)
+sample_faces = Some (faces.Func add_sign) ∷ Some (faces.Func five_sign) ∷ []
 
 -- the package and those that it reaches declare no types
-abbrev pub scene : Span → List PackageFacesModel → Scene
-scene s others = scene_by path (map (decl_at 0) (decls s)) known [] others
+abbrev pub sample_scene : Span → List PackageFacesModel → CodeScene
+sample_scene s others = scene_by path (map (decl_at 0) (decls s)) sample_faces [] others
 
 abbrev pub of_file : ℕ → Declaration
 of_file number = InFile path (places.Declared (record { file = 0; number = number; kind = kinds.Func }))
@@ -79,25 +79,25 @@ of_file number = InFile path (places.Declared (record { file = 0; number = numbe
 abbrev pub of_function : ℕ → Declaration
 of_function offset = InFile path (places.Local (record { file = 0; offset = offset }))
 
-abbrev pub use_of : ℕ → Role → Declaration → TheUse
-use_of offset role d = record { offset = offset; role = role; outcome = outcomes.Declared d }
+abbrev pub sample_use : ℕ → Role → Declaration → TheUse
+sample_use offset role d = record { offset = offset; role = role; outcome = outcomes.Declared d }
 
 abbrev pub int_variable : ℕ → TheLocal
 int_variable offset = record { offset = offset; value = Some (record { value_type = value_types.Typed int_term; constant = None; addressable = true }) }
 
-abbrev pub uses : List TheUse
-uses =
-    use_of 25 roles.«Type» (Universe predeclared.Int)
-    ∷ use_of 30 roles.«Type» (Universe predeclared.Int)
-    ∷ use_of 43 roles.«Value» (of_function 20)
-    ∷ use_of 47 roles.«Value» (of_function 23)
-    ∷ use_of 63 roles.«Type» (Universe predeclared.Int)
-    ∷ use_of 76 roles.Callee (of_file 0)
-    ∷ use_of 79 roles.Call (of_file 0)
+abbrev pub sample_uses : List TheUse
+sample_uses =
+    sample_use 25 roles.«Type» (Universe predeclared.Int)
+    ∷ sample_use 30 roles.«Type» (Universe predeclared.Int)
+    ∷ sample_use 43 roles.«Value» (of_function 20)
+    ∷ sample_use 47 roles.«Value» (of_function 23)
+    ∷ sample_use 63 roles.«Type» (Universe predeclared.Int)
+    ∷ sample_use 76 roles.Callee (of_file 0)
+    ∷ sample_use 79 roles.Call (of_file 0)
     ∷ []
 
-abbrev pub locals : List TheLocal
-locals = int_variable 20 ∷ int_variable 23 ∷ []
+abbrev pub sample_locals : List TheLocal
+sample_locals = int_variable 20 ∷ int_variable 23 ∷ []
 
 -- what is emitted
 
@@ -127,4 +127,4 @@ emitted = add_function ∷ five_function ∷ []
 
 -- the two functions are the file's, whatever is shown: the package's own declarations count before
 abbrev pub SampleIsEmitted : Type 0
-SampleIsEmitted = (s : Span) (others : List PackageFacesModel) → functions_of path 0 uses (looks_of (scene s others) 0 uses locals) (decls s) ≡ emitted
+SampleIsEmitted = (s : Span) (others : List PackageFacesModel) → functions_of path 0 sample_uses (looks_of (sample_scene s others) 0 sample_uses sample_locals) (decls s) ≡ emitted

@@ -7,7 +7,7 @@ ghost use Rattle.go_term_core.specs.declared.term.MemberPlace.TheVariants as pla
 ghost use Rattle.go_meaning_core.specs.handle_core.Declarations.{InFile};
 ghost use Rattle.go_meaning_core.specs.package_core.Checked.{local_shown};
 ghost use Rattle.go_object_core.specs.Objects.{function_shown};
-ghost use Rattle.go_emit_core.specs.Emitted.{before, body_first, body_uses, declaration_in, declarations_in, form_function, function_of, functions_of};
+ghost use Rattle.go_emit_core.specs.Emitted.{uses_before, body_first, body_uses, outcome_declarations, declarations_in, form_function, function_of, functions_of};
 ghost use Rattle.go_meaning_core.specs.Looking.{looks_of};
 ghost use Rattle.go_meaning_core.specs.Scenes.{decl_at};
 ghost use Rattle.go_meaning_core.specs.mirrors.Naming.{scene_shown};
@@ -17,7 +17,7 @@ use go_code_core::function_code;
 use go_meaning_core::answer_core::{Answer, HeldLocal, Site};
 use go_meaning_core::denote_core::Outcome;
 use go_meaning_core::handle_core::{Decl, DeclSite};
-use go_meaning_core::lookup_core::{FileNames, FuncNames};
+use go_meaning_core::lookup_core::{FileCodeNames, FuncCodeNames};
 use go_meaning_core::select_core::EmbedPath;
 use go_meaning_core::{PackageNames, decl_at, file_names};
 use go_object_core::FunctionCode;
@@ -52,8 +52,8 @@ struct Counted {
 
 // How many occurrences stand before an offset, where it is known how many do before another: what stands before an earlier one is passed over.
 fn before(answers: &[Answer], known: Counted, bound: usize) -> usize
-    requires { known.count ≡ before answers.now known.bound }
-    ensures value { result ≡ before answers.now bound }
+    requires { known.count ≡ uses_before answers.now known.bound }
+    ensures value { result ≡ uses_before answers.now bound }
     ensures within { result ≤ length answers.now }
 {
     if known.bound <= bound {
@@ -68,7 +68,7 @@ fn add_declaration(
     references: &mut Vec<Site>,
     outcome: &Outcome<Site, EmbedPath>,
 ) -> Result<(), AllocError>
-    ensures { OnOk result (references.new.items ≡ references.old.items ++ declaration_in outcome.now) }
+    ensures { OnOk result (references.new.items ≡ references.old.items ++ outcome_declarations outcome.now) }
 {
     match outcome {
         Outcome::Declared(site) => add(references, Site::of(&site.decl())?),
@@ -90,7 +90,7 @@ fn declarations_in(alloc: Global, answers: &[Answer]) -> Result<Vec<Site>, Alloc
 
 /// A file whose functions are emitted. All is lent.
 #[derive(Drop)]
-pub(crate) struct FileAt<'a> {
+pub(crate) struct EmittedFile<'a> {
     /// The path of its package.
     pub(crate) path: &'a ImportPath,
     /// Its number in order of name, from 0.
@@ -98,11 +98,11 @@ pub(crate) struct FileAt<'a> {
     /// What its occurrences have.
     pub(crate) answers: &'a [Answer],
     /// What its names come to.
-    pub(crate) names: &'a FileNames,
+    pub(crate) names: &'a FileCodeNames,
 }
 
 /// Where a declaration of a file stands.
-fn site_of(file: &FileAt<'_>, decl: &TopDecl<'_>) -> Result<Site, AllocError>
+fn site_of(file: &EmittedFile<'_>, decl: &TopDecl<'_>) -> Result<Site, AllocError>
     ensures { IfOk result (λ s. s ≡ InFile file.now.path.now (places.Declared (decl_at file.now.number (decl_shown decl.now)))) }
 {
     let place = MemberPlace::Declared(decl_at(file.number, decl));
@@ -110,7 +110,7 @@ fn site_of(file: &FileAt<'_>, decl: &TopDecl<'_>) -> Result<Site, AllocError>
 }
 
 // The occurrences of the body of a function, before which so many of its file stand.
-fn body_of<'a>(file: &FileAt<'a>, func: &FuncDecl, first: usize) -> &'a [Answer]
+fn body_of<'a>(file: &EmittedFile<'a>, func: &FuncDecl, first: usize) -> &'a [Answer]
     requires { first ≡ body_first file.now.answers.now (func_of func.now) }
     ensures { result.now ≡ body_uses file.now.answers.now (func_of func.now) }
 {
@@ -121,7 +121,7 @@ fn body_of<'a>(file: &FileAt<'a>, func: &FuncDecl, first: usize) -> &'a [Answer]
 // A function of a file, before the body of which so many occurrences of the file stand.
 fn function_of(
     alloc: Global,
-    file: &FileAt<'_>,
+    file: &EmittedFile<'_>,
     decl: &TopDecl<'_>,
     func: &FuncDecl,
     first: usize,
@@ -129,7 +129,7 @@ fn function_of(
     requires { first ≡ body_first file.now.answers.now (func_of func.now) }
     ensures { IfOk result (λ f. function_shown f ≡ function_of file.now.path.now file.now.number file.now.answers.now (file_looks file.now.names.now) (decl_shown decl.now) (func_of func.now)) }
 {
-    let names = FuncNames {
+    let names = FuncCodeNames {
         file: file.names,
         before: first,
     };
@@ -151,13 +151,13 @@ fn function_of(
 fn add_function(
     alloc: Global,
     functions: &mut Vec<FunctionCode<Site>>,
-    file: &FileAt<'_>,
+    file: &EmittedFile<'_>,
     decl: &TopDecl<'_>,
     known: Counted,
 ) -> Result<Counted, AllocError>
-    requires { known.count ≡ before file.now.answers.now known.bound }
+    requires { known.count ≡ uses_before file.now.answers.now known.bound }
     ensures functions { OnOk result (map function_shown functions.new.items ≡ map function_shown functions.old.items ++ form_function file.now.path.now file.now.number file.now.answers.now (file_looks file.now.names.now) (decl_shown decl.now) (form_shown decl.now.form)) }
-    ensures known { IfOk result (λ p. p.count ≡ before file.now.answers.now p.bound) }
+    ensures known { IfOk result (λ p. p.count ≡ uses_before file.now.answers.now p.bound) }
 {
     match decl.form {
         DeclForm::Func(func) => {
@@ -176,7 +176,7 @@ fn add_function(
 fn add_functions(
     alloc: Global,
     functions: &mut Vec<FunctionCode<Site>>,
-    file: &FileAt<'_>,
+    file: &EmittedFile<'_>,
     tops: &[TopDecl<'_>],
 ) -> Result<(), AllocError>
     ensures { OnOk result (map function_shown functions.new.items ≡ map function_shown functions.old.items ++ functions_of file.now.path.now file.now.number file.now.answers.now (file_looks file.now.names.now) (map decl_shown tops.now)) }
@@ -206,7 +206,7 @@ pub(crate) fn add_file(
     ensures { OnOk result (map function_shown functions.new.items ≡ map function_shown functions.old.items ++ functions_of package_names.now.path.now number answers.now (looks_of (scene_shown package_names.now) number answers.now (map local_shown locals.now)) (map decl_shown tops.now)) }
 {
     let names = file_names(alloc, package_names, number, answers, locals)?;
-    let file = FileAt {
+    let file = EmittedFile {
         path: package_names.path,
         number,
         answers,

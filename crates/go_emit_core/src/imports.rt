@@ -2,7 +2,7 @@
 ghost use Rattle.std.specs.Prelude.{◌≡◌, ◌++◌, IfOk, OnOk, map};
 ghost use Rattle.std.specs.List.{flat_map};
 ghost use Rattle.go_meaning_core.specs.block_core.Naming.{imported_in};
-ghost use Rattle.go_emit_core.specs.Imports.{all_passing, passing};
+ghost use Rattle.go_emit_core.specs.Imports.{all_passing, imported_paths};
 
 use go_meaning_core::block_core::Imported;
 use go_path_core::ImportPath;
@@ -11,7 +11,7 @@ use std::alloc::{AllocError, Global};
 
 // Adds the package that an import comes to.
 fn add_path(paths: &mut Vec<ImportPath>, import: &Imported) -> Result<(), AllocError>
-    ensures { OnOk result (paths.new.items ≡ paths.old.items ++ passing import.now) }
+    ensures { OnOk result (paths.new.items ≡ paths.old.items ++ imported_paths import.now) }
 {
     match import {
         Imported::Package(exports) => add(paths, exports.path().share()?),
@@ -21,7 +21,7 @@ fn add_path(paths: &mut Vec<ImportPath>, import: &Imported) -> Result<(), AllocE
 
 // Adds the packages that the imports of a file come to.
 fn add_paths(paths: &mut Vec<ImportPath>, imports: &[Imported]) -> Result<(), AllocError>
-    ensures { OnOk result (paths.new.items ≡ paths.old.items ++ flat_map passing imports.now) }
+    ensures { OnOk result (paths.new.items ≡ paths.old.items ++ flat_map imported_paths imports.now) }
 {
     for import in imports {
         add_path(paths, import)?;

@@ -5,8 +5,8 @@ use Rattle.go_text_core.specs.declared.span.Span.{Span}
 use Rattle.go_tree_nodes.specs.Trees as tree
 use Rattle.go_tree_nodes.specs.Trees.{StmtTree, BranchTree, ElseTree, Lines, Empty, Simple, Return, Break, Continue, Block, If, For, Branch, NoElse, ElseBlock, ElseIf, NoLines, Line}
 use Rattle.go_walk_core.specs.Ends.{has_break, branch_has_break, else_has_break, lines_have_break}
-use Rattle.go_ending_core.specs.Ending.{IsAmong, IsFirst, IsLater, IsElse, IsElseBlock, IsElseIf, BreaksOut, ByItself, InBlock, InThen, InElse, AreBrokenOut}
-use Rattle.go_ending_core.specs.Standing.{Stands, IsItself, IsInBlock, IsInThen, IsInElse, IsInFor}
+use Rattle.go_ending_core.specs.Ending.{IsStatementOf, IsFirstStatement, IsLaterStatement, IsElse, IsElseBlock, IsElseIf, BreaksOut, ByItself, InBlock, InThen, InElse, AreBrokenOut}
+use Rattle.go_ending_core.specs.Standing.{StandsInFors, IsItself, IsInBlock, IsInThen, IsInElse, IsInFor}
 use Rattle.go_ending_core.specs.Laws.{BreaksAreFound}
 
 -- what is found breaks out
@@ -39,15 +39,15 @@ mutual
   lines_break NoLines h = absurd (cc)
   lines_break (Line s semicolon more) h =
       elim (or_cases (has_break s) (lines_have_break more) h) [
-        | inl x ↦ record { statement = s; among = IsFirst; breaks = stmt_breaks s x }
-        | inr y ↦ (let l = lines_break more y in record { statement = l.statement; among = IsLater l.among; breaks = l.breaks })
+        | inl x ↦ record { statement = s; among = IsFirstStatement; breaks = stmt_breaks s x }
+        | inr y ↦ (let l = lines_break more y in record { statement = l.statement; among = IsLaterStatement l.among; breaks = l.breaks })
       ]
 
 -- what breaks out is found
 
-among_found : {s : StmtTree} {ls : Lines} → IsAmong s ls → has_break s ≡ true → lines_have_break ls ≡ true
-among_found {s} (IsFirst {more = more}) h = or_left (has_break s) (lines_have_break more) h
-among_found (IsLater {other = t} {more = more} a) h = or_right (has_break t) (lines_have_break more) (among_found a h)
+among_found : {s : StmtTree} {ls : Lines} → IsStatementOf s ls → has_break s ≡ true → lines_have_break ls ≡ true
+among_found {s} (IsFirstStatement {more = more}) h = or_left (has_break s) (lines_have_break more) h
+among_found (IsLaterStatement {other = t} {more = more} a) h = or_right (has_break t) (lines_have_break more) (among_found a h)
 
 else_found : {s : StmtTree} {o : ElseTree} → IsElse s o → has_break s ≡ true → else_has_break o ≡ true
 else_found (IsElseBlock is) h = subst (λ t. has_break t ≡ true) is h
@@ -61,13 +61,13 @@ stmt_found (InElse {ls = ls} {otherwise = o} e b) = or_right (lines_have_break l
 
 -- a `break` stands there, and no `for` is around it
 
-stands : {s : StmtTree} → BreaksOut s → (place : Span) × Stands (Break place) 0 s
+stands : {s : StmtTree} → BreaksOut s → (place : Span) × StandsInFors (Break place) 0 s
 stands (ByItself {s = s}) = (s, IsItself)
 stands (InBlock a b) = let r = stands b in (r.0, IsInBlock a r.1)
 stands (InThen a b) = let r = stands b in (r.0, IsInThen a r.1)
 stands (InElse e b) = let r = stands b in (r.0, IsInElse e r.1)
 
-breaks : {place : Span} {n : ℕ} {s : StmtTree} → Stands (Break place) n s → n ≡ 0 → BreaksOut s
+breaks : {place : Span} {n : ℕ} {s : StmtTree} → StandsInFors (Break place) n s → n ≡ 0 → BreaksOut s
 breaks IsItself h = ByItself
 breaks (IsInBlock a i) h = InBlock a (breaks i h)
 breaks (IsInThen a i) h = InThen a (breaks i h)

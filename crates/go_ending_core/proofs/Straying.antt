@@ -12,8 +12,8 @@ use Rattle.go_tree_nodes.specs.Trees as tree
 use Rattle.go_tree_nodes.specs.Trees.{StmtTree, BranchTree, ElseTree, Lines, Empty, Simple, Return, Break, Continue, Block, If, For, Branch, NoElse, ElseBlock, ElseIf, NoLines, Line}
 use Rattle.go_local_core.specs.declared.Fault.{Fault}
 use Rattle.go_walk_core.specs.Ends.{loop_faults, branch_loop_faults, else_loop_faults, lines_loop_faults}
-use Rattle.go_ending_core.specs.Ending.{IsAmong, IsFirst, IsLater, IsElse, IsElseBlock, IsElseIf}
-use Rattle.go_ending_core.specs.Standing.{Stands, IsItself, IsInBlock, IsInThen, IsInElse, IsInFor, IsJump, ABreak, AContinue, stray_at, IsStray}
+use Rattle.go_ending_core.specs.Ending.{IsStatementOf, IsFirstStatement, IsLaterStatement, IsElse, IsElseBlock, IsElseIf}
+use Rattle.go_ending_core.specs.Standing.{StandsInFors, IsItself, IsInBlock, IsInThen, IsInElse, IsInFor, IsJump, ABreak, AContinue, stray_at, IsStray}
 use Rattle.go_ending_core.specs.Laws.{StraysAreFaults}
 
 -- in the block of a `for`
@@ -62,7 +62,7 @@ record Strays (s : StmtTree) (fault : Fault) : Type 0 where
   place : Span
   statement : StmtTree
   jumps : IsJump place statement
-  inside : Stands statement 0 s
+  inside : StandsInFors statement 0 s
   here : fault ≡ stray_at place
 
 mutual
@@ -97,15 +97,15 @@ mutual
   lines_stray NoLines f h = absurd (not_in_none f h)
   lines_stray (Line s semicolon more) f h =
       elim (Contains-append_cases (loop_faults false s) (lines_loop_faults false more) f h) [
-        | inl x ↦ (let r = stmt_strays s f x in record { place = r.place; statement = r.statement; jumps = r.jumps; stands = record { outer = s; among = IsFirst; inside = r.inside }; here = r.here })
-        | inr y ↦ (let r = lines_stray more f y in record { place = r.place; statement = r.statement; jumps = r.jumps; stands = record { outer = r.stands.outer; among = IsLater r.stands.among; inside = r.stands.inside }; here = r.here })
+        | inl x ↦ (let r = stmt_strays s f x in record { place = r.place; statement = r.statement; jumps = r.jumps; stands = record { outer = s; among = IsFirstStatement; inside = r.inside }; here = r.here })
+        | inr y ↦ (let r = lines_stray more f y in record { place = r.place; statement = r.statement; jumps = r.jumps; stands = record { outer = r.stands.outer; among = IsLaterStatement r.stands.among; inside = r.stands.inside }; here = r.here })
       ]
 
 -- each stray statement has its fault
 
-among_has : {s : StmtTree} {ls : Lines} (f : Fault) → IsAmong s ls → Contains (loop_faults false s) f → Contains (lines_loop_faults false ls) f
-among_has {s} f (IsFirst {more = more}) h = Contains-append_left (loop_faults false s) (lines_loop_faults false more) f h
-among_has f (IsLater {other = t} {more = more} a) h = Contains-append_right (loop_faults false t) (lines_loop_faults false more) f (among_has f a h)
+among_has : {s : StmtTree} {ls : Lines} (f : Fault) → IsStatementOf s ls → Contains (loop_faults false s) f → Contains (lines_loop_faults false ls) f
+among_has {s} f (IsFirstStatement {more = more}) h = Contains-append_left (loop_faults false s) (lines_loop_faults false more) f h
+among_has f (IsLaterStatement {other = t} {more = more} a) h = Contains-append_right (loop_faults false t) (lines_loop_faults false more) f (among_has f a h)
 
 else_has : {s : StmtTree} {o : ElseTree} (f : Fault) → IsElse s o → Contains (loop_faults false s) f → Contains (else_loop_faults false o) f
 else_has f (IsElseBlock is) h = subst (λ t. Contains (loop_faults false t) f) is h
@@ -115,7 +115,7 @@ jump_has : {place : Span} {s : StmtTree} → IsJump place s → Contains (loop_f
 jump_has {place} ABreak = one_in (stray_at place)
 jump_has {place} AContinue = one_in (stray_at place)
 
-has : {place : Span} {s : StmtTree} {n : ℕ} {t : StmtTree} → IsJump place s → Stands s n t → n ≡ 0 → Contains (loop_faults false t) (stray_at place)
+has : {place : Span} {s : StmtTree} {n : ℕ} {t : StmtTree} → IsJump place s → StandsInFors s n t → n ≡ 0 → Contains (loop_faults false t) (stray_at place)
 has j IsItself h = jump_has j
 has {place} j (IsInBlock a i) h = among_has (stray_at place) a (has j i h)
 has {place} j (IsInThen {ls = ls} {otherwise = o} a i) h = Contains-append_left (lines_loop_faults false ls) (else_loop_faults false o) (stray_at place) (among_has (stray_at place) a (has j i h))

@@ -6,9 +6,9 @@ use Rattle.go_text_core.specs.declared.span.Span.{Span}
 use Rattle.go_tree_nodes.specs.Trees.{Separated, ExprTree, SimpleTree, Alone, IfTree, ForTree, Forever, Clauses, StmtTree, BranchTree, ElseTree, Lines, Empty, Simple, Return, Break, Block, If, For, Branch, ElseBlock, ElseIf, NoLines, Line}
 
 -- a statement of a list
-pub data IsAmong (s : StmtTree) : Lines → Type 0 where
-  IsFirst : {semicolon : Option Span} {more : Lines} → IsAmong s (Line s semicolon more)
-  IsLater : {other : StmtTree} {semicolon : Option Span} {more : Lines} → IsAmong s more → IsAmong s (Line other semicolon more)
+pub data IsStatementOf (s : StmtTree) : Lines → Type 0 where
+  IsFirstStatement : {semicolon : Option Span} {more : Lines} → IsStatementOf s (Line s semicolon more)
+  IsLaterStatement : {other : StmtTree} {semicolon : Option Span} {more : Lines} → IsStatementOf s more → IsStatementOf s (Line other semicolon more)
 
 -- what stands behind `else`: an `if`, or a block
 pub data IsElse (s : StmtTree) : ElseTree → Type 0 where
@@ -22,16 +22,16 @@ pub data BreaksOut : StmtTree → Type 0 where
   -- it is a `break`
   ByItself : {s : Span} → BreaksOut (Break s)
   -- one stands in a block
-  InBlock : {first last : Span} {ls : Lines} {s : StmtTree} → IsAmong s ls → BreaksOut s → BreaksOut (Block first ls last)
+  InBlock : {first last : Span} {ls : Lines} {s : StmtTree} → IsStatementOf s ls → BreaksOut s → BreaksOut (Block first ls last)
   -- in the block of an `if`
-  InThen : {k first last : Span} {head : IfTree} {ls : Lines} {otherwise : ElseTree} {s : StmtTree} → IsAmong s ls → BreaksOut s → BreaksOut (If (Branch k head first ls last otherwise))
+  InThen : {k first last : Span} {head : IfTree} {ls : Lines} {otherwise : ElseTree} {s : StmtTree} → IsStatementOf s ls → BreaksOut s → BreaksOut (If (Branch k head first ls last otherwise))
   -- behind its `else`
   InElse : {k first last : Span} {head : IfTree} {ls : Lines} {otherwise : ElseTree} {s : StmtTree} → IsElse s otherwise → BreaksOut s → BreaksOut (If (Branch k head first ls last otherwise))
 
 -- one of these statements has such a `break`
 pub record AreBrokenOut (ls : Lines) : Type 0 where
   pub statement : StmtTree
-  pub among : IsAmong statement ls
+  pub among : IsStatementOf statement ls
   pub breaks : BreaksOut statement
 
 -- the condition of a `for` is absent

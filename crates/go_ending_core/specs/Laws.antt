@@ -10,7 +10,7 @@ use Rattle.go_tree_nodes.specs.Trees.{ExprTree, StmtTree, Lines, Break}
 use Rattle.go_local_core.specs.declared.Fault.{Fault}
 use Rattle.go_walk_core.specs.Ends.{has_break, lines_have_break, is_terminating, are_terminating, lines_loop_faults}
 use Rattle.go_ending_core.specs.Ending.{BreaksOut, AreBrokenOut, IsTerminating, EndTerminating}
-use Rattle.go_ending_core.specs.Standing.{Stands, IsStray}
+use Rattle.go_ending_core.specs.Standing.{StandsInFors, IsStray}
 
 -- the expressions that are calls of `panic`, by a test
 abbrev pub Passes : (ExprTree → Bool) → ExprTree → Type 0
@@ -26,7 +26,7 @@ pub record EndingsAreTerminating : Type 0 where
 pub record BreaksAreFound : Type 0 where
   pub statements : (s : StmtTree) → IsTrue (has_break s) ↔ BreaksOut s
   pub lists : (ls : Lines) → IsTrue (lines_have_break ls) ↔ AreBrokenOut ls
-  pub standing : (s : StmtTree) → BreaksOut s ↔ ((place : Span) × Stands (Break place) 0 s)
+  pub standing : (s : StmtTree) → BreaksOut s ↔ ((place : Span) × StandsInFors (Break place) 0 s)
 
 -- in a body exactly each `break` and each `continue` that no `for` is around has its fault; where the tokens of the body follow one another, as in
 -- every text, the faults do too, so that each is there once, in the order of their places; and in the block of a `for` there is none

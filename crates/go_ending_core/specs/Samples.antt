@@ -30,16 +30,16 @@ abbrev int_at : ℕ → TypeTree
 int_at n = NamedType (type_name.Plain (called (codes "int") n))
 
 -- func f() RESULT { BODY }, with the places of its braces
-abbrev pub function : ResultTree → ℕ → Lines → ℕ → FuncTree
-function result before body behind = record { func = at 0; receiver = None; name = called (codes "f") 1; signature = Signed (at 2) NoParams (at 3) result; open_brace = at before; body = body; close_brace = at behind }
+abbrev pub func_f : ResultTree → ℕ → Lines → ℕ → FuncTree
+func_f result before body behind = record { func = at 0; receiver = None; name = called (codes "f") 1; signature = Signed (at 2) NoParams (at 3) result; open_brace = at before; body = body; close_brace = at behind }
 
 -- func f() int { BODY }
 abbrev pub giving : Lines → ℕ → FuncTree
-giving body behind = function (OneResult (int_at 4)) 5 body behind
+giving body behind = func_f (OneResult (int_at 4)) 5 body behind
 
 -- func f() { BODY }
-abbrev pub plain : Lines → ℕ → FuncTree
-plain body behind = function NoResult 4 body behind
+abbrev pub giving_nothing : Lines → ℕ → FuncTree
+giving_nothing body behind = func_f NoResult 4 body behind
 
 -- one statement, without a semicolon behind it
 abbrev pub lone : StmtTree → Lines
@@ -107,11 +107,11 @@ pub record WorkedEnds : Type 0 where
   -- func f() int { }
   pub nothing : end_faults [] (giving NoLines 6) ≡ lack_at (at 6) ∷ []
   -- func f() (x int) { }
-  pub named_result : end_faults [] (function (Results (at 4) (Param (Some (One (called (codes "x") 5))) (int_at 6) None NoParams) (at 7)) 8 NoLines 9) ≡ lack_at (at 9) ∷ []
+  pub named_result : end_faults [] (func_f (Results (at 4) (Param (Some (One (called (codes "x") 5))) (int_at 6) None NoParams) (at 7)) 8 NoLines 9) ≡ lack_at (at 9) ∷ []
   -- func f() () { }
-  pub no_results_listed : end_faults [] (function (Results (at 4) NoParams (at 5)) 6 NoLines 7) ≡ []
+  pub no_results_listed : end_faults [] (func_f (Results (at 4) NoParams (at 5)) 6 NoLines 7) ≡ []
   -- func f() { }
-  pub no_results : end_faults [] (plain NoLines 5) ≡ []
+  pub no_results : end_faults [] (giving_nothing NoLines 5) ≡ []
   -- func f() int { if c { return 1 } }
   pub without_else : end_faults [] (giving (lone (if_at 6 (lone (return_at 9)) 11 NoElse)) 12) ≡ lack_at (at 12) ∷ []
   -- func f() int { if c { return 1 } else { return 1 } }
@@ -158,10 +158,10 @@ pub record WorkedEnds : Type 0 where
 -- the faults of each `break` and `continue` that no `for` is around, at their places
 pub record WorkedJumps : Type 0 where
   -- func f() { break }
-  pub outside : lines_loop_faults false (plain (lone (Break (at 5))) 6).body ≡ stray_at (at 5) ∷ []
+  pub outside : lines_loop_faults false (giving_nothing (lone (Break (at 5))) 6).body ≡ stray_at (at 5) ∷ []
   -- func f() { if c { break } else { continue } }
-  pub in_branches : lines_loop_faults false (plain (lone (if_at 5 (lone (Break (at 8))) 9 (else_at 10 (lone (Continue (at 12))) 13))) 14).body ≡ stray_at (at 8) ∷ (stray_at (at 12) ∷ [])
+  pub in_branches : lines_loop_faults false (giving_nothing (lone (if_at 5 (lone (Break (at 8))) 9 (else_at 10 (lone (Continue (at 12))) 13))) 14).body ≡ stray_at (at 8) ∷ (stray_at (at 12) ∷ [])
   -- func f() { for { if c { break }; continue } }
-  pub inside : lines_loop_faults false (plain (lone (endless_at 5 (first (if_at 7 (lone (Break (at 10))) 11 NoElse) 12 (lone (Continue (at 13)))) 14)) 15).body ≡ []
+  pub inside : lines_loop_faults false (giving_nothing (lone (endless_at 5 (first (if_at 7 (lone (Break (at 10))) 11 NoElse) 12 (lone (Continue (at 13)))) 14)) 15).body ≡ []
   -- func f() { for { break }; continue }
-  pub behind : lines_loop_faults false (plain (first (endless_at 5 (lone (Break (at 7))) 8) 9 (lone (Continue (at 10)))) 11).body ≡ stray_at (at 10) ∷ []
+  pub behind : lines_loop_faults false (giving_nothing (first (endless_at 5 (lone (Break (at 7))) 8) 9 (lone (Continue (at 10)))) 11).body ≡ stray_at (at 10) ∷ []

@@ -6,21 +6,21 @@ use Rattle.go_text_core.specs.declared.span.Span.{Span}
 use Rattle.go_text_core.specs.declared.rule.Rule.TheVariants.{Y6}
 use Rattle.go_tree_nodes.specs.Trees.{IfTree, ForTree, StmtTree, ElseTree, Lines, Break, Continue, Block, If, For, Branch}
 use Rattle.go_local_core.specs.declared.Fault.{Fault}
-use Rattle.go_ending_core.specs.Ending.{IsAmong, IsElse}
+use Rattle.go_ending_core.specs.Ending.{IsStatementOf, IsElse}
 
 -- a statement stands in another one, or is it, and so many `for`s of that one are around it
-pub data Stands (s : StmtTree) : ℕ → StmtTree → Type 0 where
-  IsItself : Stands s 0 s
-  IsInBlock : {first last : Span} {ls : Lines} {t : StmtTree} {n : ℕ} → IsAmong t ls → Stands s n t → Stands s n (Block first ls last)
-  IsInThen : {k first last : Span} {head : IfTree} {ls : Lines} {otherwise : ElseTree} {t : StmtTree} {n : ℕ} → IsAmong t ls → Stands s n t → Stands s n (If (Branch k head first ls last otherwise))
-  IsInElse : {k first last : Span} {head : IfTree} {ls : Lines} {otherwise : ElseTree} {t : StmtTree} {n : ℕ} → IsElse t otherwise → Stands s n t → Stands s n (If (Branch k head first ls last otherwise))
-  IsInFor : {k first last : Span} {head : ForTree} {ls : Lines} {t : StmtTree} {n : ℕ} → IsAmong t ls → Stands s n t → Stands s (suc n) (For k head first ls last)
+pub data StandsInFors (s : StmtTree) : ℕ → StmtTree → Type 0 where
+  IsItself : StandsInFors s 0 s
+  IsInBlock : {first last : Span} {ls : Lines} {t : StmtTree} {n : ℕ} → IsStatementOf t ls → StandsInFors s n t → StandsInFors s n (Block first ls last)
+  IsInThen : {k first last : Span} {head : IfTree} {ls : Lines} {otherwise : ElseTree} {t : StmtTree} {n : ℕ} → IsStatementOf t ls → StandsInFors s n t → StandsInFors s n (If (Branch k head first ls last otherwise))
+  IsInElse : {k first last : Span} {head : IfTree} {ls : Lines} {otherwise : ElseTree} {t : StmtTree} {n : ℕ} → IsElse t otherwise → StandsInFors s n t → StandsInFors s n (If (Branch k head first ls last otherwise))
+  IsInFor : {k first last : Span} {head : ForTree} {ls : Lines} {t : StmtTree} {n : ℕ} → IsStatementOf t ls → StandsInFors s n t → StandsInFors s (suc n) (For k head first ls last)
 
 -- a statement stands in a body, and so many `for`s of it are around it
-pub record StandsAmong (s : StmtTree) (n : ℕ) (ls : Lines) : Type 0 where
+pub record StandsInBody (s : StmtTree) (n : ℕ) (ls : Lines) : Type 0 where
   pub outer : StmtTree
-  pub among : IsAmong outer ls
-  pub inside : Stands s n outer
+  pub among : IsStatementOf outer ls
+  pub inside : StandsInFors s n outer
 
 -- a fault at the first byte of a statement that begins here
 abbrev pub stray_at : Span → Fault
@@ -39,5 +39,5 @@ pub record IsStray (ls : Lines) (fault : Fault) : Type 0 where
   pub place : Span
   pub statement : StmtTree
   pub jumps : IsJump place statement
-  pub stands : StandsAmong statement 0 ls
+  pub stands : StandsInBody statement 0 ls
   pub here : fault ≡ stray_at place

@@ -28,7 +28,7 @@ pub mod block_core {
 
 /// What the crates above name of `go_entry_core`.
 pub mod entry_core {
-    pub use go_inline_core::entry_core::{ImportedNames, outlines};
+    pub use go_inline_core::entry_core::ImportedNames;
 }
 
 /// What the crates above name of `go_face_core`.

@@ -9,9 +9,9 @@ use Rattle.go_text_core.specs.Rules.{rule_number}
 use Rattle.go_text_core.specs.declared.rule.Rule.{Rule}
 use Rattle.go_explain_core.specs.Examples.{example_of}
 use Rattle.go_explain_core.specs.Laws.{ends_a_line, lies_in_a_line}
-use Rattle.go_explain_core.specs.Meanings.{meaning_of}
+use Rattle.go_explain_core.specs.Meanings.{rule_meaning}
 use Rattle.go_explain_core.specs.Mendings.{mending_of}
-use Rattle.go_explain_core.specs.Naming.{all_rules, named, near}
+use Rattle.go_explain_core.specs.Naming.{all_rules, rule_of_number, near}
 use Rattle.go_explain_core.specs.Telling.{explained_text, list_line}
 use Rattle.go_explain_core.proofs.Numbers.{names_each}
 
@@ -55,9 +55,9 @@ module _ (said : Rule → List ℕ) where
   told_apart all r s e =
       some_same r s (sym (first r (said_by (said r)) (everywhere is_first all r)) ∙ ap said_by e ∙ first s (said_by (said s)) (everywhere is_first all s))
 
-pub meanings_apart : (r s : Rule) → meaning_of r ≡ meaning_of s → r ≡ s
+pub meanings_apart : (r s : Rule) → rule_meaning r ≡ rule_meaning s → r ≡ s
 unfolding said_by is_first
-meanings_apart = told_apart meaning_of refl
+meanings_apart = told_apart rule_meaning refl
 
 pub examples_apart : (r s : Rule) → example_of r ≡ example_of s → r ≡ s
 unfolding said_by is_first
@@ -91,20 +91,20 @@ pub near_itself : (r : Rule) → near (rule_number r) r ≡ true
 near_itself = everywhere (λ r. near (rule_number r) r) refl
 
 -- a text that begins with a rule's number
-begins : (text : List ℕ) (r : Rule) → bytes_eq (take 2 text) (rule_number r) ≡ true → named (take 2 text) ≡ Some r
-begins text r e = ap named ((bytes_eq-Decides (take 2 text) (rule_number r)).0 e) ∙ names_each r
+begins : (text : List ℕ) (r : Rule) → bytes_eq (take 2 text) (rule_number r) ≡ true → rule_of_number (take 2 text) ≡ Some r
+begins text r e = ap rule_of_number ((bytes_eq-Decides (take 2 text) (rule_number r)).0 e) ∙ names_each r
 
-pub texts_name : (r : Rule) → named (take 2 (explained_text r)) ≡ Some r
+pub texts_name : (r : Rule) → rule_of_number (take 2 (explained_text r)) ≡ Some r
 texts_name r = begins (explained_text r) r (everywhere (λ x. bytes_eq (take 2 (explained_text x)) (rule_number x)) refl r)
 
-pub lines_name : (r : Rule) → named (take 2 (list_line r)) ≡ Some r
+pub lines_name : (r : Rule) → rule_of_number (take 2 (list_line r)) ≡ Some r
 lines_name r = begins (list_line r) r (everywhere (λ x. bytes_eq (take 2 (list_line x)) (rule_number x)) refl r)
 
 pub texts_apart : (r s : Rule) → explained_text r ≡ explained_text s → r ≡ s
-texts_apart r s e = some_same r s (sym (texts_name r) ∙ ap (λ t. named (take 2 t)) e ∙ texts_name s)
+texts_apart r s e = some_same r s (sym (texts_name r) ∙ ap (λ t. rule_of_number (take 2 t)) e ∙ texts_name s)
 
-pub meanings_lie_in_lines : (r : Rule) → lies_in_a_line (meaning_of r) ≡ true
-meanings_lie_in_lines = everywhere (λ r. lies_in_a_line (meaning_of r)) refl
+pub meanings_lie_in_lines : (r : Rule) → lies_in_a_line (rule_meaning r) ≡ true
+meanings_lie_in_lines = everywhere (λ r. lies_in_a_line (rule_meaning r)) refl
 
 pub examples_end_lines : (r : Rule) → ends_a_line (example_of r) ≡ true
 examples_end_lines = everywhere (λ r. ends_a_line (example_of r)) refl

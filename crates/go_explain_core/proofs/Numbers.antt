@@ -6,9 +6,9 @@ use Rattle.std.proofs.lemmas.Slice.Eq.{bytes_eq-Decides}
 use Rattle.go_text_core.specs.Rules.{rule_number}
 use Rattle.go_text_core.specs.declared.rule.Rule.{Rule}
 use Rattle.go_text_core.specs.declared.rule.Rule.TheVariants.{L1, L2, L3, P1, P2, K2, K3, K4, I1, I2, I3, I4, I5, I6, I7, B1, B2, B3, B4, B5, B6, N1, N2, N3, N4, N5, N6, N7, N8, N9, S1, S2, S3, S4, S5, S6, S7, S8, F1, F2, F3, F4, F5, F6, F7, F8, C1, C2, C3, C4, Y1, Y2, Y3, Y4, Y5, Y6, Y7, Y8, X1, Q1, Q2, Q3, Q4, O1, O2, O3, O4, O5, E1, E2, E3, E4, E5, H1, H2, Z1, M0, J1, J2, J3, V1, V2, V3, V4}
-use Rattle.go_explain_core.specs.Naming.{all_rules, named}
+use Rattle.go_explain_core.specs.Naming.{all_rules, rule_of_number}
 
-pub names_each : (r : Rule) → named (rule_number r) ≡ Some r
+pub names_each : (r : Rule) → rule_of_number (rule_number r) ≡ Some r
 names_each L1 = refl
 names_each L2 = refl
 names_each L3 = refl
@@ -103,9 +103,9 @@ found p (x ∷ xs) r e = by (p x) refl (found p xs r) e
     by true h later k = cc
     by false h later k = later k
 
-pub names_no_other : (text : List ℕ) (r : Rule) → named text ≡ Some r → rule_number r ≡ text
+pub names_no_other : (text : List ℕ) (r : Rule) → rule_of_number text ≡ Some r → rule_number r ≡ text
 names_no_other text r e = (bytes_eq-Decides (rule_number r) text).0 (found (λ x. bytes_eq (rule_number x) text) all_rules r e)
 
-pub names_none : (text : List ℕ) → named text ≡ None → (r : Rule) → rule_number r ≢ text
+pub names_none : (text : List ℕ) → rule_of_number text ≡ None → (r : Rule) → rule_number r ≢ text
 names_none text none r same =
-    let bad : None ≡ Some r = sym none ∙ ap named (sym same) ∙ names_each r in absurd (cc)
+    let bad : None ≡ Some r = sym none ∙ ap rule_of_number (sym same) ∙ names_each r in absurd (cc)

@@ -6,22 +6,22 @@ use Rattle.std.specs.Str.{bytes_eq}
 use Rattle.go_text_core.specs.Rules.{rule_number}
 use Rattle.go_text_core.specs.declared.rule.Rule.{Rule}
 use Rattle.go_explain_core.specs.Examples.{example_of}
-use Rattle.go_explain_core.specs.Meanings.{meaning_of}
+use Rattle.go_explain_core.specs.Meanings.{rule_meaning}
 use Rattle.go_explain_core.specs.Mendings.{mending_of}
-use Rattle.go_explain_core.specs.Naming.{all_rules, named, near}
+use Rattle.go_explain_core.specs.Naming.{all_rules, rule_of_number, near}
 use Rattle.go_explain_core.specs.Telling.{explained_text, list_line}
 
 -- a rule's number names it
 abbrev pub NamesEach : Type 0
-NamesEach = (r : Rule) → named (rule_number r) ≡ Some r
+NamesEach = (r : Rule) → rule_of_number (rule_number r) ≡ Some r
 
 -- what names a rule is its number
 abbrev pub NamesNoOther : Type 0
-NamesNoOther = (text : List ℕ) (r : Rule) → named text ≡ Some r → rule_number r ≡ text
+NamesNoOther = (text : List ℕ) (r : Rule) → rule_of_number text ≡ Some r → rule_number r ≡ text
 
 -- what names no rule is the number of none
 abbrev pub NamesNone : Type 0
-NamesNone = (text : List ℕ) → named text ≡ None → (r : Rule) → rule_number r ≢ text
+NamesNone = (text : List ℕ) → rule_of_number text ≡ None → (r : Rule) → rule_number r ≢ text
 
 -- each rule stands once among all
 abbrev pub StandsOnce : Type 0
@@ -33,11 +33,11 @@ IsNearItself = (r : Rule) → near (rule_number r) r ≡ true
 
 -- the text of a rule begins with what names it
 abbrev pub TextsName : Type 0
-TextsName = (r : Rule) → named (take 2 (explained_text r)) ≡ Some r
+TextsName = (r : Rule) → rule_of_number (take 2 (explained_text r)) ≡ Some r
 
 -- so does its line in the list of all
 abbrev pub LinesName : Type 0
-LinesName = (r : Rule) → named (take 2 (list_line r)) ≡ Some r
+LinesName = (r : Rule) → rule_of_number (take 2 (list_line r)) ≡ Some r
 
 -- two rules that say the same are one
 abbrev pub TellApart : (Rule → List ℕ) → Type 0
@@ -53,7 +53,7 @@ ends_a_line text = option_map_or (λ b. b == 10) (last_or None text) false
 
 -- what a rule means lies in a line
 abbrev pub MeaningsLieInLines : Type 0
-MeaningsLieInLines = (r : Rule) → lies_in_a_line (meaning_of r) ≡ true
+MeaningsLieInLines = (r : Rule) → lies_in_a_line (rule_meaning r) ≡ true
 
 -- an example is lines, and so is the example mended
 abbrev pub ExamplesEndLines : Type 0

@@ -3,18 +3,18 @@ use Rattle.std.specs.Prelude.{ℕ, ◌==◌, List, [], ◌++◌, length, codes, 
 use Rattle.go_text_core.specs.Rules.{rule_number}
 use Rattle.go_text_core.specs.declared.rule.Rule.{Rule}
 use Rattle.go_explain_core.specs.Examples.{example_of}
-use Rattle.go_explain_core.specs.Meanings.{meaning_of}
+use Rattle.go_explain_core.specs.Meanings.{rule_meaning}
 use Rattle.go_explain_core.specs.Mendings.{mending_of}
 use Rattle.go_explain_core.specs.Naming.{all_rules, near}
 
 -- a rule: what it means, an example that breaks it, and the example mended
 abbrev pub explained_text : Rule → List ℕ
 explained_text rule =
-    rule_number rule ++ codes ": " ++ meaning_of rule ++ codes "\n\nExample:\n\n" ++ example_of rule ++ codes "\nHow to mend it:\n\n" ++ mending_of rule
+    rule_number rule ++ codes ": " ++ rule_meaning rule ++ codes "\n\nExample:\n\n" ++ example_of rule ++ codes "\nHow to mend it:\n\n" ++ mending_of rule
 
 -- a rule in the list of all
 abbrev pub list_line : Rule → List ℕ
-list_line rule = rule_number rule ++ codes "  " ++ meaning_of rule ++ codes "\n"
+list_line rule = rule_number rule ++ codes "  " ++ rule_meaning rule ++ codes "\n"
 
 -- all rules, one a line
 abbrev pub list_text : List ℕ

@@ -2,7 +2,7 @@
 ghost use Rattle.go_text_core.specs.Rules.{rule_number};
 ghost use Rattle.go_explain_core.specs.Examples.{example_of};
 ghost use Rattle.go_explain_core.specs.Laws.{ExamplesEndLines, IsNearItself, LinesName, MeaningsLieInLines, MendingsDiffer, MendingsEndLines, NamesEach, NamesNoOther, NamesNone, StandsOnce, TellApart, TextsName};
-ghost use Rattle.go_explain_core.specs.Meanings.{meaning_of};
+ghost use Rattle.go_explain_core.specs.Meanings.{rule_meaning};
 ghost use Rattle.go_explain_core.specs.Telling.{explained_text};
 
 /// A rule is the one that its number names, no other text names it, and a text that names none is the number of none. Each
@@ -24,7 +24,7 @@ pub fn texts_name_rules()
 /// Two rules differ in all that is said of them: in their numbers, what they mean, their examples and their texts.
 pub fn rules_are_told_apart()
     ensures number { TellApart rule_number }
-    ensures meaning { TellApart meaning_of }
+    ensures meaning { TellApart rule_meaning }
     ensures example { TellApart example_of }
     ensures text { TellApart explained_text }
 {}

@@ -11,7 +11,7 @@ mod telling;
 
 ghost use Rattle.std.specs.Prelude.{◌≡◌};
 ghost use Rattle.go_explain_core.specs.Examples.{example_of};
-ghost use Rattle.go_explain_core.specs.Meanings.{meaning_of};
+ghost use Rattle.go_explain_core.specs.Meanings.{rule_meaning};
 ghost use Rattle.go_explain_core.specs.Mendings.{mending_of};
 
 use crate::examples::example;
@@ -36,7 +36,7 @@ pub struct Explanation {
 
 /// What is said of a rule.
 pub fn explain(rule: Rule) -> Explanation
-    ensures meaning { result.meaning.now ≡ meaning_of rule }
+    ensures meaning { result.meaning.now ≡ rule_meaning rule }
     ensures example { result.example.now ≡ example_of rule }
     ensures mending { result.mending.now ≡ mending_of rule }
 {

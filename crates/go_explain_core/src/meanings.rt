@@ -1,6 +1,6 @@
 //! What the rules mean.
 ghost use Rattle.std.specs.Prelude.{◌≡◌};
-ghost use Rattle.go_explain_core.specs.Meanings.{meaning_of};
+ghost use Rattle.go_explain_core.specs.Meanings.{rule_meaning};
 
 use go_text_core::Rule;
 
@@ -94,7 +94,7 @@ const MEANINGS: [&str; 84] = [
 
 /// What a rule means, in one line without its end.
 pub fn meaning(rule: Rule) -> &'static str
-    ensures { result.now ≡ meaning_of rule }
+    ensures { result.now ≡ rule_meaning rule }
 {
     MEANINGS[rule as usize]
 }

@@ -2,7 +2,7 @@
 ghost use Rattle.std.specs.Prelude.{◌≡◌, find};
 ghost use Rattle.std.specs.Str.{bytes_eq};
 ghost use Rattle.go_text_core.specs.Rules.{rule_number};
-ghost use Rattle.go_explain_core.specs.Naming.{all_rules, named, near};
+ghost use Rattle.go_explain_core.specs.Naming.{all_rules, rule_of_number, near};
 
 use go_text_core::Rule;
 
@@ -110,7 +110,7 @@ fn find_named(rules: &[Rule], text: &str) -> Option<Rule>
 
 /// The rule whose number is a text, as `N1`, if there is one.
 pub fn rule_named(text: &str) -> Option<Rule>
-    ensures { result ≡ named text.now }
+    ensures { result ≡ rule_of_number text.now }
 {
     find_named(rules(), text)
 }

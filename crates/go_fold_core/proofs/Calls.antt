@@ -48,8 +48,8 @@ use Rattle.go_fragment_core.specs.declared.names.Meaning.{Meaning}
 use Rattle.go_fragment_core.specs.declared.names.Meaning.TheVariants as meanings
 use Rattle.go_fragment_core.specs.Fragment.{call_gives}
 use Rattle.go_fragment_core.specs.Constants.{some_held, converted}
-use Rattle.go_fold_core.specs.Reading.{basic_of, IsOver, IsOneOver, IsGiven, IsTypeMeant, IsFunctionMeant, IsMethodMeant, IsFieldMeant, IsBuiltinMeant, IsFoundMeant, IsExportedMeant, IsSelectionMeant, IsMemberMeant, AreNamesRead, AreRead}
-use Rattle.go_fold_core.specs.Laws.{IsNoText, constant_in, IsDeclared}
+use Rattle.go_fold_core.specs.Reading.{basic_of, IsOver, IsOneOver, ResultsGive, IsTypeMeant, IsFunctionMeant, IsMethodMeant, IsFieldMeant, IsBuiltinMeant, IsFoundMeant, IsExportedMeant, IsSelectionMeant, IsMemberMeant, AreNamesRead, AreRead}
+use Rattle.go_fold_core.specs.Laws.{IsNoText, constant_in, HasDeclaration}
 use Rattle.go_fold_core.specs.Typed.{KeepBasics}
 use Rattle.go_fold_core.proofs.Operators.{IsJudged, operand_judged, IsNone, operand_or}
 use Rattle.go_fold_core.proofs.Words.{basic_same}
@@ -142,8 +142,8 @@ module _ {T S D P : Type 0} (looks : Looks T S D P) (mean : Outcome D P → Mean
 
 -- functions and methods
 
-given_one : {T : Type 0} (rules : TypeRules T) (results : List (Option T)) (g : Gives) (w : Word) → IsGiven rules results g → g ≡ gives.One w → IsOneOver rules w results
-given_one rules results g w h same = subst (IsGiven rules results) same h
+given_one : {T : Type 0} (rules : TypeRules T) (results : List (Option T)) (g : Gives) (w : Word) → ResultsGive rules results g → g ≡ gives.One w → IsOneOver rules w results
+given_one rules results g w h same = subst (ResultsGive rules results) same h
 
 function_one : {T : Type 0} (rules : TypeRules T) (results : List (Option T)) (m : Meaning) (n : ℕ) (w : Word) → IsFunctionMeant rules results m → call_gives m n ≡ gives.One w → IsOneOver rules w results
 function_one rules results (meanings.Function g) n w h one = given_one rules results g w h one
@@ -196,13 +196,13 @@ module _ {T S D P : Type 0} (look : Look T S D P) (Certain Known : Type 0) (cert
     word = λ known k is. absurd cc;
   }
 
-  if_fits : (b c : Bool) → IsDeclared (if b then (if c then declared {P = P} d (of_results s (look.names.results s)) else refused C3) else refused C2).outcome
+  if_fits : (b c : Bool) → HasDeclaration (if b then (if c then declared {P = P} d (of_results s (look.names.results s)) else refused C3) else refused C2).outcome
       → IsJudged T S D look.types Certain Known w (if b then (if c then declared {P = P} d (of_results s (look.names.results s)) else refused C3) else refused C2).denoted None
   if_fits true true is = results_judged
   if_fits true false is = absurd is
   if_fits false c is = absurd is
 
-  function_judged : (free : Bool) (given : List (Argument T)) → IsDeclared (call_answer look (denotes.Func d s) free given).outcome
+  function_judged : (free : Bool) (given : List (Argument T)) → HasDeclaration (call_answer look (denotes.Func d s) free given).outcome
       → IsJudged T S D look.types Certain Known w (call_answer look (denotes.Func d s) free given).denoted None
   function_judged true given is = results_judged
   function_judged false given is = if_fits _ _ is
@@ -304,7 +304,7 @@ module _ {T S D P : Type 0} (look : Look T S D P) (d : D) where
 module _ {T S D P : Type 0} (look : Look T S D P) (Certain Known : Type 0) (certain : Known → Certain) (keep : Known → KeepBasics look.types) (d : D) (v : Option ConstantWord) (u : Word) where
   module _ (o : Operand T) (a : IsJudged T S D look.types Certain Known u (denotes.«Value» o) v) where
     if_converts : (b c : Bool) (t : T) (w : Word) → form_basic (look.types.form t) ≡ Some (basic_of w) → fits look.types o.value_type t ≡ c
-        → IsDeclared (of_conversion {T = T} {S = S} {D = D} {P = P} d (if b then Err X1 else (if c then Ok (value (value_types.Typed t) (kept (form_basic (look.types.form t)) o.constant)) else Err C4))).outcome
+        → HasDeclaration (of_conversion {T = T} {S = S} {D = D} {P = P} d (if b then Err X1 else (if c then Ok (value (value_types.Typed t) (kept (form_basic (look.types.form t)) o.constant)) else Err C4))).outcome
         → IsJudged T S D look.types Certain Known w
         (of_conversion {T = T} {S = S} {D = D} {P = P} d (if b then Err X1 else (if c then Ok (value (value_types.Typed t) (kept (form_basic (look.types.form t)) o.constant)) else Err C4))).denoted v
     if_converts true c t w h fit is = absurd is
@@ -315,18 +315,18 @@ module _ {T S D P : Type 0} (look : Look T S D P) (Certain Known : Type 0) (cert
         (λ known k is_k. a.word known k is_k ∙ word_same u w (fitting look.types (keep known) t (basic_of w) h o.value_type (basic_of u) (a.over known o refl) fit))
     if_converts false false t w h fit is = absurd is
 
-    operand_converts : (lone : Bool) (t : Option T) (w : Word) → IsOver look.types w t → IsDeclared (Converted look d lone t (denotes.«Value» o)).outcome
+    operand_converts : (lone : Bool) (t : Option T) (w : Word) → IsOver look.types w t → HasDeclaration (Converted look d lone t (denotes.«Value» o)).outcome
         → IsJudged T S D look.types Certain Known w (Converted look d lone t (denotes.«Value» o)).denoted v
     operand_converts lone None w h is = absurd h
     operand_converts true (Some t) w h is = if_converts (makes_text look.types o.value_type t) (fits look.types o.value_type t) t w h refl is
     operand_converts false (Some t) w h is = if_converts (makes_text look.types o.value_type t) (fits look.types o.value_type t) t w h refl is
 
   -- a conversion of what is denoted
-  conversion_judged : (lone : Bool) (t : Option T) (w : Word) (x : Denoted T S D) → IsJudged T S D look.types Certain Known u x v → IsOver look.types w t → IsDeclared (Converted look d lone t x).outcome
+  conversion_judged : (lone : Bool) (t : Option T) (w : Word) (x : Denoted T S D) → IsJudged T S D look.types Certain Known u x v → IsOver look.types w t → HasDeclaration (Converted look d lone t x).outcome
       → IsJudged T S D look.types Certain Known w (Converted look d lone t x).denoted v
   conversion_judged lone t w x a h is = elim (operand_or x) [
     | inl o ↦ (
-        let P : Denoted T S D → Type 0 = λ y. IsJudged T S D look.types Certain Known u y v → IsDeclared (Converted look d lone t y).outcome → IsJudged T S D look.types Certain Known w (Converted look d lone t y).denoted v in
+        let P : Denoted T S D → Type 0 = λ y. IsJudged T S D look.types Certain Known u y v → HasDeclaration (Converted look d lone t y).outcome → IsJudged T S D look.types Certain Known w (Converted look d lone t y).denoted v in
         let whole : P x = subst P (sym o.1) (λ b. operand_converts o.0 b lone t w h) in
         whole a is
         )
@@ -376,22 +376,22 @@ module _ {T S D P : Type 0} (looks : Looks T S D P) (Certain Known : Type 0) (ce
   abbrev Judged : Answer T S D P → Option ConstantWord → Type 0
   Judged a c = IsJudged T S D looks.types Certain Known w a.denoted c
 
-  refused_call : {A : Type 0} (b : Bool) → IsDeclared (if b then refused {T = T} {S = S} {D = D} {P = P} C1 else refused C1).outcome → A
+  refused_call : {A : Type 0} (b : Bool) → HasDeclaration (if b then refused {T = T} {S = S} {D = D} {P = P} C1 else refused C1).outcome → A
   refused_call true is = absurd is
   refused_call false is = absurd is
 
-  type_call : (d : D) (t : Option T) (m : Meaning) → IsTypeMeant looks.types t m → call_gives m count ≡ gives.One w → IsDeclared (Called (denotes.«Type» d t) ds).outcome → Judged (Called (denotes.«Type» d t) ds) (converted m v)
+  type_call : (d : D) (t : Option T) (m : Meaning) → IsTypeMeant looks.types t m → call_gives m count ≡ gives.One w → HasDeclaration (Called (denotes.«Type» d t) ds).outcome → Judged (Called (denotes.«Type» d t) ds) (converted m v)
   type_call d t (meanings.«Type» u) h one is =
       let single : (nat_eq count 1 ≡ true) × (u ≡ w) = if_word (nat_eq count 1) u w one in
       let a : IsOneArgument T S D looks.types Certain Known ds v = argument single.0 in
-      let there : IsDeclared (Called (denotes.«Type» d t) (a.argument ∷ [])).outcome = subst (λ l. IsDeclared (Called (denotes.«Type» d t) l).outcome) a.alone is in
+      let there : HasDeclaration (Called (denotes.«Type» d t) (a.argument ∷ [])).outcome = subst (λ l. HasDeclaration (Called (denotes.«Type» d t) l).outcome) a.alone is in
       subst (λ l. Judged (Called (denotes.«Type» d t) l) v) (sym a.alone)
       (conversion_judged (at looks n) Certain Known certain keep d v a.word lone t w a.argument a.judged (subst (λ x. IsOver looks.types x t) single.1 h) there)
   type_call d t meanings.Other h one is = absurd cc
   type_call d t _ h one is = absurd h
 
   function_call : (d : D) (s : S) (m : Meaning) → IsFunctionMeant looks.types (looks.results s) m ⊎ (IsFieldMeant m × (Certain → IsMethodMeant looks.types (looks.results s) m)) → call_gives m count ≡ gives.One w
-      → (free : Bool) (given : List (Argument T)) → IsDeclared (call_answer (at looks n) (denotes.Func d s) free given).outcome → Judged (call_answer (at looks n) (denotes.Func d s) free given) (converted m v)
+      → (free : Bool) (given : List (Argument T)) → HasDeclaration (call_answer (at looks n) (denotes.Func d s) free given).outcome → Judged (call_answer (at looks n) (denotes.Func d s) free given) (converted m v)
   function_call d s m (inl f) one free given is =
       subst (Judged (call_answer (at looks n) (denotes.Func d s) free given)) (sym (function_converts looks.types (looks.results s) m v f))
       (function_judged (at looks n) Certain Known certain d s w (λ sure. function_one looks.types (looks.results s) m count w f one) free given is)
@@ -400,7 +400,7 @@ module _ {T S D P : Type 0} (looks : Looks T S D P) (Certain Known : Type 0) (ce
       (function_judged (at looks n) Certain Known certain d s w (λ sure. method_one looks.types (looks.results s) m count w (k.1 sure) one) free given is)
 
   -- a call of what comes to this in code
-  pub call_judged : (callee : Denoted T S D) (m : Meaning) → IsCalleeMeant looks Certain callee m → call_gives m count ≡ gives.One w → IsDeclared (Called callee ds).outcome → Judged (Called callee ds) (converted m v)
+  pub call_judged : (callee : Denoted T S D) (m : Meaning) → IsCalleeMeant looks Certain callee m → call_gives m count ≡ gives.One w → HasDeclaration (Called callee ds).outcome → Judged (Called callee ds) (converted m v)
   call_judged (denotes.«Type» d t) m h one is = type_call d t m h one is
   call_judged (denotes.Func d s) m h one is = function_call d s m h one _ _ is
   call_judged (denotes.Builtin d b) m h one is = absurd (no_builtin m count w h one)

@@ -39,7 +39,7 @@ use Rattle.go_fragment_core.specs.Fragment.{meaning_gives, selected_gives}
 use Rattle.go_fragment_core.specs.Constants.{held, some_held, folded_name}
 use Rattle.go_fragment_core.specs.Names.{slot_of, word_of}
 use Rattle.go_fold_core.specs.Reading.{held_meaning, basic_of, IsVariableMeant, IsOperandMeant, IsValueMeant, IsTypeMeant, IsFunctionMeant, IsFieldMeant, IsBuiltinMeant, IsFoundMeant, IsExportedMeant, IsMemberMeant, AreNamesRead}
-use Rattle.go_fold_core.specs.Laws.{is_text, IsNoText, IsDeclared}
+use Rattle.go_fold_core.specs.Laws.{is_text, IsNoText, HasDeclaration}
 use Rattle.go_fold_core.specs.Typed.{IsOperandTyped, IsValueTyped, IsFoundTyped, IsExportedTyped, AreTyped}
 use Rattle.go_fold_core.proofs.Operators.{IsJudged, operand_judged}
 use Rattle.go_fold_core.proofs.Words.{one_same}
@@ -128,28 +128,28 @@ record Declares (T S D P : Type 0) (answer : Answer T S D P) (d : D) (denoted : 
   denotes : answer.denoted ≡ denoted
 
 module _ {T S D P : Type 0} where
-  package_declares : (p : Place) (d : D) → IsDeclared (package_answer {T = T} {S = S} {D = D} {P = P} p d).outcome → Declares T S D P (package_answer p d) d (denotes.«Package» d)
+  package_declares : (p : Place) (d : D) → HasDeclaration (package_answer {T = T} {S = S} {D = D} {P = P} p d).outcome → Declares T S D P (package_answer p d) d (denotes.«Package» d)
   package_declares places.BeforeDot d h = record { outcome = refl; denotes = refl }
   package_declares places.TypeDot d h = record { outcome = refl; denotes = refl }
   package_declares places.«Type» d h = absurd h
   package_declares places.«Value» d h = absurd h
   package_declares places.Callee d h = absurd h
 
-  type_declares : (p : Place) (d : D) (t : Option T) → IsDeclared (type_answer {T = T} {S = S} {D = D} {P = P} p d t).outcome → Declares T S D P (type_answer p d t) d (denotes.«Type» d t)
+  type_declares : (p : Place) (d : D) (t : Option T) → HasDeclaration (type_answer {T = T} {S = S} {D = D} {P = P} p d t).outcome → Declares T S D P (type_answer p d t) d (denotes.«Type» d t)
   type_declares places.«Type» d t h = record { outcome = refl; denotes = refl }
   type_declares places.Callee d t h = record { outcome = refl; denotes = refl }
   type_declares places.TypeDot d t h = absurd h
   type_declares places.«Value» d t h = absurd h
   type_declares places.BeforeDot d t h = absurd h
 
-  func_declares : (p : Place) (d : D) (func : Denoted T S D) → IsDeclared (func_answer {T = T} {S = S} {D = D} {P = P} p d func).outcome → Declares T S D P (func_answer p d func) d func
+  func_declares : (p : Place) (d : D) (func : Denoted T S D) → HasDeclaration (func_answer {T = T} {S = S} {D = D} {P = P} p d func).outcome → Declares T S D P (func_answer p d func) d func
   func_declares places.Callee d func h = record { outcome = refl; denotes = refl }
   func_declares places.«Type» d func h = absurd h
   func_declares places.TypeDot d func h = absurd h
   func_declares places.«Value» d func h = absurd h
   func_declares places.BeforeDot d func h = absurd h
 
-  value_declares : (p : Place) (d : D) (v : Option (Operand T)) → IsDeclared (value_answer {T = T} {S = S} {D = D} {P = P} p d v).outcome → Declares T S D P (value_answer p d v) d (of_value v)
+  value_declares : (p : Place) (d : D) (v : Option (Operand T)) → HasDeclaration (value_answer {T = T} {S = S} {D = D} {P = P} p d v).outcome → Declares T S D P (value_answer p d v) d (of_value v)
   value_declares places.«Value» d v h = record { outcome = refl; denotes = refl }
   value_declares places.BeforeDot d v h = record { outcome = refl; denotes = refl }
   value_declares places.«Type» d v h = absurd h
@@ -172,7 +172,7 @@ module _ {T S D P : Type 0} (looks : Looks T S D P) (mean : Outcome D P → Mean
       subst (λ x. IsJudged T S D looks.types Certain Known w x (folded_name m)) (sym is.denotes)
       (value_judged S D looks.types Certain Known slots m w one v (subst (IsValueMeant v) (came is same) h) (λ known. subst (IsValueTyped looks.types v) (came is same) (typed known)))
 
-  found_judged : (p : Place) (f : Found T S D) → IsFoundMeant looks mean f → (Known → IsFoundTyped looks mean f) → IsDeclared (found_answer {P = P} p f).outcome → m ≡ mean (found_answer {P = P} p f).outcome
+  found_judged : (p : Place) (f : Found T S D) → IsFoundMeant looks mean f → (Known → IsFoundTyped looks mean f) → HasDeclaration (found_answer {P = P} p f).outcome → m ≡ mean (found_answer {P = P} p f).outcome
       → IsJudged T S D looks.types Certain Known w (found_answer {P = P} p f).denoted (folded_name m)
   found_judged p founds.Missing h typed is same = absurd is
   found_judged p founds.BadImport h typed is same = absurd is
@@ -184,7 +184,7 @@ module _ {T S D P : Type 0} (looks : Looks T S D P) (mean : Outcome D P → Mean
   found_judged p (founds.Builtin d b) h typed is same = not_this (builtin_gives slots m (subst IsBuiltinMeant (came (func_declares p d (denotes.Builtin d b) is) same) h))
   found_judged p (founds.«Value» d v) h typed is same = judged_value (value_answer p d v) d v (value_declares p d v is) h typed same
 
-  exported_judged : (u : Usage) (f : Exported T S D) → IsExportedMeant looks mean f → (Known → IsExportedTyped looks mean f) → IsDeclared (exported_answer {P = P} u f).outcome → m ≡ mean (exported_answer {P = P} u f).outcome
+  exported_judged : (u : Usage) (f : Exported T S D) → IsExportedMeant looks mean f → (Known → IsExportedTyped looks mean f) → HasDeclaration (exported_answer {P = P} u f).outcome → m ≡ mean (exported_answer {P = P} u f).outcome
       → IsJudged T S D looks.types Certain Known w (exported_answer {P = P} u f).denoted (folded_name m)
   exported_judged u exporteds.Absent h typed is same = absurd is
   exported_judged u exporteds.Hidden h typed is same = absurd is
@@ -194,58 +194,58 @@ module _ {T S D P : Type 0} (looks : Looks T S D P) (mean : Outcome D P → Mean
   exported_judged u (exporteds.«Value» d v) h typed is same = judged_value (value_answer (place_of u) d v) d v (value_declares (place_of u) d v is) h typed same
 
   -- a member gives none
-  field_never : {A : Type 0} (u : Usage) (d : D) (path : P) (t : Option T) (b : Bool) → IsFieldMeant (mean (outcomes.Selected d path)) → IsDeclared (field_answer {T = T} {S = S} {D = D} {P = P} u d path t b).outcome
+  field_never : {A : Type 0} (u : Usage) (d : D) (path : P) (t : Option T) (b : Bool) → IsFieldMeant (mean (outcomes.Selected d path)) → HasDeclaration (field_answer {T = T} {S = S} {D = D} {P = P} u d path t b).outcome
       → m ≡ mean (field_answer {T = T} {S = S} {D = D} {P = P} u d path t b).outcome → A
   field_never usages.Callee d path t b h is same = absurd is
   field_never usages.«Type» d path t b h is same = not_this (field_gives slots m (subst IsFieldMeant (sym same) h))
   field_never usages.«Value» d path t b h is same = not_this (field_gives slots m (subst IsFieldMeant (sym same) h))
 
-  method_never : {A : Type 0} (u : Usage) (d : D) (path : P) (s : S) (b : Bool) → IsFieldMeant (mean (outcomes.Selected d path)) → IsDeclared (method_answer {T = T} {S = S} {D = D} {P = P} u d path s b).outcome
+  method_never : {A : Type 0} (u : Usage) (d : D) (path : P) (s : S) (b : Bool) → IsFieldMeant (mean (outcomes.Selected d path)) → HasDeclaration (method_answer {T = T} {S = S} {D = D} {P = P} u d path s b).outcome
       → m ≡ mean (method_answer {T = T} {S = S} {D = D} {P = P} u d path s b).outcome → A
   method_never usages.Callee d path s true h is same = not_this (field_gives slots m (subst IsFieldMeant (sym same) h))
   method_never usages.Callee d path s false h is same = absurd is
   method_never usages.«Type» d path s b h is same = absurd is
   method_never usages.«Value» d path s b h is same = absurd is
 
-  member_never : {A : Type 0} (u : Usage) (addressable : Bool) (x : Selection T S D P) → IsMemberMeant {T = T} {S = S} {D = D} {P = P} mean x → IsDeclared (member_answer u addressable x).outcome → m ≡ mean (member_answer u addressable x).outcome → A
+  member_never : {A : Type 0} (u : Usage) (addressable : Bool) (x : Selection T S D P) → IsMemberMeant {T = T} {S = S} {D = D} {P = P} mean x → HasDeclaration (member_answer u addressable x).outcome → m ≡ mean (member_answer u addressable x).outcome → A
   member_never u addressable (selections.Missing rule) h is same = absurd is
   member_never u addressable (selections.«Field» d path t by_pointer) h is same = field_never u d path t (by_pointer || addressable) h is same
   member_never u addressable (selections.Method d path s needs_pointer by_pointer) h is same = method_never u d path s (not needs_pointer || (by_pointer || addressable)) h is same
 
   module _ (read : AreNamesRead T S D P looks mean) (typed : Known → AreTyped T S D P looks mean) (x : List ℕ) (n : ℕ) where
     -- a name where it stands
-    pub name_judged : (p : Place) → IsDeclared (name_answer (at looks n) p x).outcome → m ≡ mean (name_answer (at looks n) p x).outcome → IsJudged T S D looks.types Certain Known w (name_answer (at looks n) p x).denoted (folded_name m)
+    pub name_judged : (p : Place) → HasDeclaration (name_answer (at looks n) p x).outcome → m ≡ mean (name_answer (at looks n) p x).outcome → IsJudged T S D looks.types Certain Known w (name_answer (at looks n) p x).denoted (folded_name m)
     name_judged p = by (is_blank x)
       where
-        by : (b : Bool) → IsDeclared (if b then refused N8 else found_answer {P = P} p (looks.find x n)).outcome → m ≡ mean (if b then refused N8 else found_answer {P = P} p (looks.find x n)).outcome
+        by : (b : Bool) → HasDeclaration (if b then refused N8 else found_answer {P = P} p (looks.find x n)).outcome → m ≡ mean (if b then refused N8 else found_answer {P = P} p (looks.find x n)).outcome
             → IsJudged T S D looks.types Certain Known w (if b then refused N8 else found_answer {P = P} p (looks.find x n)).denoted (folded_name m)
         by true is same = absurd is
         by false is same = found_judged p (looks.find x n) (read.names x n) (λ known. (typed known).names x n) is same
 
-    member_judged : (u : Usage) (addressable : Bool) (t : Option T) → IsDeclared (value_selector (at looks n) u addressable t x).outcome → m ≡ mean (value_selector (at looks n) u addressable t x).outcome
+    member_judged : (u : Usage) (addressable : Bool) (t : Option T) → HasDeclaration (value_selector (at looks n) u addressable t x).outcome → m ≡ mean (value_selector (at looks n) u addressable t x).outcome
         → IsJudged T S D looks.types Certain Known w (value_selector (at looks n) u addressable t x).denoted (folded_name m)
     member_judged u addressable None is same = absurd is
     member_judged u addressable (Some t) is same = member_never u addressable (looks.select t x) (read.members t x) is same
 
     -- a selector, by what stands left of its dot
-    pub selector_judged : (u : Usage) (dot : Dot T D) → IsDeclared (selector_answer (at looks n) u dot x).outcome → m ≡ mean (selector_answer (at looks n) u dot x).outcome
+    pub selector_judged : (u : Usage) (dot : Dot T D) → HasDeclaration (selector_answer (at looks n) u dot x).outcome → m ≡ mean (selector_answer (at looks n) u dot x).outcome
         → IsJudged T S D looks.types Certain Known w (selector_answer (at looks n) u dot x).denoted (folded_name m)
     selector_judged u dots.Refused is same = absurd is
     selector_judged u dots.Untyped is same = by (is_blank x) is same
       where
-        by : (b : Bool) → IsDeclared (if b then refused S8 else refused {T = T} {S = S} {D = D} {P = P} S4).outcome → m ≡ mean (if b then refused S8 else refused {T = T} {S = S} {D = D} {P = P} S4).outcome
+        by : (b : Bool) → HasDeclaration (if b then refused S8 else refused {T = T} {S = S} {D = D} {P = P} S4).outcome → m ≡ mean (if b then refused S8 else refused {T = T} {S = S} {D = D} {P = P} S4).outcome
             → IsJudged T S D looks.types Certain Known w (if b then refused S8 else refused {T = T} {S = S} {D = D} {P = P} S4).denoted (folded_name m)
         by true is same = absurd is
         by false is same = absurd is
     selector_judged u (dots.«Package» d) is same = by (is_blank x) is same
       where
-        by : (b : Bool) → IsDeclared (if b then refused S8 else exported_answer {P = P} u (looks.exported d x)).outcome → m ≡ mean (if b then refused S8 else exported_answer {P = P} u (looks.exported d x)).outcome
+        by : (b : Bool) → HasDeclaration (if b then refused S8 else exported_answer {P = P} u (looks.exported d x)).outcome → m ≡ mean (if b then refused S8 else exported_answer {P = P} u (looks.exported d x)).outcome
             → IsJudged T S D looks.types Certain Known w (if b then refused S8 else exported_answer {P = P} u (looks.exported d x)).denoted (folded_name m)
         by true is same = absurd is
         by false is same = exported_judged u (looks.exported d x) (read.exported d x) (λ known. (typed known).exported d x) is same
     selector_judged u (dots.«Value» o) is same = by (is_blank x) is same
       where
-        by : (b : Bool) → IsDeclared (if b then refused S8 else value_selector (at looks n) u o.addressable (default_type looks.types o.value_type) x).outcome
+        by : (b : Bool) → HasDeclaration (if b then refused S8 else value_selector (at looks n) u o.addressable (default_type looks.types o.value_type) x).outcome
             → m ≡ mean (if b then refused S8 else value_selector (at looks n) u o.addressable (default_type looks.types o.value_type) x).outcome
             → IsJudged T S D looks.types Certain Known w (if b then refused S8 else value_selector (at looks n) u o.addressable (default_type looks.types o.value_type) x).denoted (folded_name m)
         by true is same = absurd is

@@ -27,15 +27,16 @@ use Rattle.go_fragment_core.specs.Constants.{folded, some_held}
 use Rattle.go_fold_core.specs.Reading.{AreNamesRead, AreRead}
 use Rattle.go_fold_core.specs.Parts.{parts}
 
-abbrev pub IsDeclared : {D P : Type 0} → Outcome D P → Type 0
-IsDeclared (outcomes.Declared d) = ⊤
-IsDeclared (outcomes.Selected d path) = ⊤
-IsDeclared (outcomes.Refused rule) = ⊥
+-- the outcome is a declaration, and no rule
+abbrev pub HasDeclaration : {D P : Type 0} → Outcome D P → Type 0
+HasDeclaration (outcomes.Declared d) = ⊤
+HasDeclaration (outcomes.Selected d path) = ⊤
+HasDeclaration (outcomes.Refused rule) = ⊥
 
 -- code takes an occurrence for what its outcome comes to, and it breaks no rule
 pub record IsMeant (D P : Type 0) (code : code_names.Looks) (mean : Outcome D P → Meaning) (u : Use D P) : Type 0 where
   pub meaning : code.meaning u.offset ≡ mean u.outcome
-  pub declared : IsDeclared u.outcome
+  pub declared : HasDeclaration u.outcome
 
 abbrev pub AreMeant : {D P : Type 0} → code_names.Looks → (Outcome D P → Meaning) → List (Use D P) → Type 0
 AreMeant {D} {P} code mean us = (u : Use D P) → Contains us u → IsMeant D P code mean u

@@ -86,13 +86,13 @@ IsOneOver rules w (t ∷ []) = IsOver rules w t
 IsOneOver rules w (t ∷ u ∷ more) = ⊥
 
 -- a call gives one word only where it has one result, over this
-abbrev pub IsGiven : {T : Type 0} → TypeRules T → List (Option T) → Gives → Type 0
-IsGiven rules results (gives.One w) = IsOneOver rules w results
-IsGiven rules results gives.Nothing = ⊤
-IsGiven rules results gives.Other = ⊤
+abbrev pub ResultsGive : {T : Type 0} → TypeRules T → List (Option T) → Gives → Type 0
+ResultsGive rules results (gives.One w) = IsOneOver rules w results
+ResultsGive rules results gives.Nothing = ⊤
+ResultsGive rules results gives.Other = ⊤
 
 abbrev pub IsFunctionMeant : {T : Type 0} → TypeRules T → List (Option T) → Meaning → Type 0
-IsFunctionMeant rules results (meanings.Function g) = IsGiven rules results g
+IsFunctionMeant rules results (meanings.Function g) = ResultsGive rules results g
 IsFunctionMeant rules results meanings.Other = ⊤
 IsFunctionMeant rules results (meanings.Variable at w) = ⊥
 IsFunctionMeant rules results (meanings.Constant v) = ⊥
@@ -102,7 +102,7 @@ IsFunctionMeant rules results meanings.Println = ⊥
 IsFunctionMeant rules results meanings.Panic = ⊥
 
 abbrev pub IsMethodMeant : {T : Type 0} → TypeRules T → List (Option T) → Meaning → Type 0
-IsMethodMeant rules results (meanings.Method g) = IsGiven rules results g
+IsMethodMeant rules results (meanings.Method g) = ResultsGive rules results g
 IsMethodMeant rules results meanings.Other = ⊤
 IsMethodMeant rules results (meanings.Variable at w) = ⊥
 IsMethodMeant rules results (meanings.Constant v) = ⊥

@@ -2,7 +2,7 @@
 use Rattle.std.specs.Prelude.{ℕ, List, [], ◌∷◌, ◌++◌}
 
 -- the one, a `/` and the other, or the one where the other is empty
-abbrev pub joined : List ℕ → List ℕ → List ℕ
-joined [] second = second
-joined (b ∷ bs) [] = b ∷ bs
-joined (b ∷ bs) (c ∷ cs) = (b ∷ bs) ++ (47 ∷ c ∷ cs)
+abbrev pub joined_path : List ℕ → List ℕ → List ℕ
+joined_path [] second = second
+joined_path (b ∷ bs) [] = b ∷ bs
+joined_path (b ∷ bs) (c ∷ cs) = (b ∷ bs) ++ (47 ∷ c ∷ cs)

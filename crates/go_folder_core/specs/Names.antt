@@ -20,11 +20,11 @@ abbrev pub name_byte : ℕ → Bool
 name_byte b = is_ascii_alphanumeric b || ((b == 95) || ((b == 45) || (b == 46)))
 
 -- at most 64 bytes, each of those
-abbrev pub fits : List ℕ → Bool
-fits name = nat_le (length name) 64 && list_all name_byte name
+abbrev pub is_good_name : List ℕ → Bool
+is_good_name name = nat_le (length name) 64 && list_all name_byte name
 
 abbrev pub kind_of_file : List ℕ → FileKind
-kind_of_file name = if is_source name then (if fits name then Source else BadName) else Other
+kind_of_file name = if is_source name then (if is_good_name name then Source else BadName) else Other
 
 -- a folder that is passed over
 abbrev pub passed_over : List ℕ → Bool

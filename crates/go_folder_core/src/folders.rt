@@ -1,12 +1,12 @@
 //! The paths of folders, from the one that is checked, and of their packages.
 ghost use Rattle.std.specs.Prelude.{◌≡◌, IfOk, string_bytes};
-ghost use Rattle.go_folder_core.specs.Folders.{joined};
+ghost use Rattle.go_folder_core.specs.Folders.{joined_path};
 
 use std::alloc::{AllocError, Global};
 
 // Two paths with a `/` between them, or the one where the other is empty.
 fn join(alloc: Global, first: &str, second: &str) -> Result<String, AllocError>
-    ensures { IfOk result (λ path. string_bytes path ≡ joined first.now second.now) }
+    ensures { IfOk result (λ path. string_bytes path ≡ joined_path first.now second.now) }
 {
     let mut path = String::from_str(alloc, first)?;
     if !first.is_empty() && !second.is_empty() {
@@ -22,7 +22,7 @@ fn join(alloc: Global, first: &str, second: &str) -> Result<String, AllocError>
 ///
 /// `AllocError` for want of memory.
 pub fn below(alloc: Global, folder: &str, name: &str) -> Result<String, AllocError>
-    ensures { IfOk result (λ path. string_bytes path ≡ joined folder.now name.now) }
+    ensures { IfOk result (λ path. string_bytes path ≡ joined_path folder.now name.now) }
 {
     join(alloc, folder, name)
 }
@@ -33,7 +33,7 @@ pub fn below(alloc: Global, folder: &str, name: &str) -> Result<String, AllocErr
 ///
 /// `AllocError` for want of memory.
 pub fn package_path(alloc: Global, own: &str, folder: &str) -> Result<String, AllocError>
-    ensures { IfOk result (λ path. string_bytes path ≡ joined own.now folder.now) }
+    ensures { IfOk result (λ path. string_bytes path ≡ joined_path own.now folder.now) }
 {
     join(alloc, own, folder)
 }

@@ -1,7 +1,7 @@
 //! The names of files and folders.
 ghost use Rattle.std.specs.Prelude.{◌≡◌};
 ghost use Rattle.std.specs.List.{list_all};
-ghost use Rattle.go_folder_core.specs.Names.{begins_hidden, kind_of_file, passed_over, is_source, fits, name_byte};
+ghost use Rattle.go_folder_core.specs.Names.{begins_hidden, kind_of_file, passed_over, is_source, is_good_name, name_byte};
 
 /// The greatest number of files of one package.
 pub const MAX_FILES: usize = 256;
@@ -54,7 +54,7 @@ fn are_name_bytes(bytes: &[u8]) -> bool
 
 // Whether a name is short enough, and has no other bytes than letters, digits, `_`, `-` and `.`.
 fn has_good_bytes(name: &str) -> bool
-    ensures { result ≡ fits name.now }
+    ensures { result ≡ is_good_name name.now }
 {
     name.len() <= MAX_NAME && are_name_bytes(name.as_bytes())
 }

@@ -35,7 +35,7 @@ pub mod embed_core {
 
 /// What the crates above name of `go_entry_core`.
 pub mod entry_core {
-    pub use go_entry_core::{ImportedNames, outlines};
+    pub use go_entry_core::ImportedNames;
 }
 
 /// What the crates above name of `go_local_core`.

@@ -17,11 +17,6 @@ pub mod embed_core {
     pub use go_near_core::embed_core::Hits;
 }
 
-/// What the crates above name of `go_entry_core`.
-pub mod entry_core {
-    pub use go_near_core::entry_core::outlines;
-}
-
 /// What the crates above name of `go_face_core`.
 pub mod face_core {
     pub use go_near_core::face_core::Face;

@@ -6,9 +6,9 @@ use Rattle.go_fragment_core.specs.declared.names.Meaning.{Meaning}
 use Rattle.go_fragment_core.specs.declared.names.Meaning.TheVariants as meanings
 use Rattle.go_fragment_core.specs.Names.{Looks}
 
-abbrev pub meant : Option Meaning → Meaning
-meant None = meanings.Other
-meant (Some m) = m
+abbrev pub meaning_or_other : Option Meaning → Meaning
+meaning_or_other None = meanings.Other
+meaning_or_other (Some m) = m
 
 -- what stands at an offset, and its place among the others, from 0: of several at one offset the first
 abbrev pub place_at : List (ℕ × Meaning) → ℕ → Option ℕ
@@ -21,7 +21,7 @@ place_or_zero (Some n) = n
 -- by what stands at the offsets of occurrences and of the identifiers of locals, of a function with so many occurrences before its body
 abbrev pub looks_with : List (ℕ × Meaning) → List (ℕ × Meaning) → ℕ → Looks
 looks_with uses locals before = record {
-  meaning = λ at. meant (lookup (nat_eq at) uses);
+  meaning = λ at. meaning_or_other (lookup (nat_eq at) uses);
   reference = λ at. place_or_zero (place_at uses at) - before;
   is_new = λ at. is_some (place_at locals at);
 }

@@ -6,20 +6,20 @@ use Rattle.go_decl_core.specs.declared.keys.DeclRef.{DeclRef}
 use Rattle.go_fragment_core.specs.declared.names.Meaning.{Meaning}
 
 -- where something is declared outside functions: the package of a path, the number of a file, and a number there
-pub record Spot : Type 0 where
+pub record DeclSpotModel : Type 0 where
   pub path : List ℕ
   pub file : ℕ
   pub number : ℕ
 
-abbrev pub spot : List ℕ → DeclRef → Spot
-spot path d = record { path = path; file = d.file; number = d.number }
+abbrev pub decl_spot : List ℕ → DeclRef → DeclSpotModel
+decl_spot path d = record { path = path; file = d.file; number = d.number }
 
-abbrev pub same_spot : Spot → Spot → Bool
+abbrev pub same_spot : DeclSpotModel → DeclSpotModel → Bool
 same_spot a b = bytes_eq a.path b.path && (nat_eq a.file b.file && nat_eq a.number b.number)
 
 -- what declarations come to: of one place the first
 abbrev pub Spotted : Type 0
-Spotted = List (Spot × Meaning)
+Spotted = List (DeclSpotModel × Meaning)
 
-abbrev pub meaning_at : Spotted → Spot → Option Meaning
-meaning_at ms s = lookup (same_spot s) ms
+abbrev pub spotted_meaning : Spotted → DeclSpotModel → Option Meaning
+spotted_meaning ms s = lookup (same_spot s) ms

@@ -1,7 +1,7 @@
 //! What declarations outside functions come to.
 ghost use Rattle.std.specs.Prelude.{◌≡◌, IfOk, map};
 ghost use Rattle.std.specs.Map.{lookup};
-ghost use Rattle.go_lookup_core.specs.Places.{meaning_at, spot};
+ghost use Rattle.go_lookup_core.specs.Places.{spotted_meaning, decl_spot};
 ghost use Rattle.go_lookup_core.specs.mirrors.Spotting.{IsNumbered, item_shown, same_key, spot_shown};
 
 use go_decl_core::DeclRef;
@@ -25,7 +25,7 @@ pub struct DeclSpot<'a> {
 impl<'a> DeclSpot<'a> {
     /// The place of a declaration of the package of a path.
     pub fn new(path: &'a ImportPath, decl: DeclRef) -> DeclSpot<'a>
-        ensures { spot_shown result ≡ spot path.now decl }
+        ensures { spot_shown result ≡ decl_spot path.now decl }
     {
         DeclSpot {
             path: path.as_str(),
@@ -99,7 +99,7 @@ impl<'a> DeclTable<'a> {
 
     /// What the declaration at a place comes to: none where the table has none there.
     pub fn meaning(&self, path: &ImportPath, decl: DeclRef) -> Option<Meaning>
-        ensures { result ≡ meaning_at self.now (spot path.now decl) }
+        ensures { result ≡ spotted_meaning self.now (decl_spot path.now decl) }
     {
         let key = DeclSpot::new(path, decl);
         match number_in(&self.numbers, key) {

@@ -9,7 +9,7 @@ mod names;
 mod offset_table;
 
 pub use decl_table::{DeclSpot, DeclTable, SpottedDecl};
-pub use names::{FileNames, FuncNames, meant};
+pub use names::{FileCodeNames, FuncCodeNames, meant};
 pub use offset_table::OffsetTable;
 
 /// What the crates above name of `go_constant_core`.

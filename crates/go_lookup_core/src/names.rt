@@ -1,6 +1,6 @@
 //! What the names of a function come to, by tables of its file.
 ghost use Rattle.std.specs.Prelude.{◌≡◌};
-ghost use Rattle.go_lookup_core.specs.Looking.{meant, place_or_zero};
+ghost use Rattle.go_lookup_core.specs.Looking.{meaning_or_other, place_or_zero};
 ghost use Rattle.go_lookup_core.specs.mirrors.Naming.{file_looks};
 
 use crate::offset_table::OffsetTable;
@@ -8,7 +8,7 @@ use go_fragment_core::{CodeNames, Meaning};
 
 /// What the names of a file come to.
 #[derive(Drop)]
-pub struct FileNames {
+pub struct FileCodeNames {
     /// What its occurrences come to, by their offsets.
     pub uses: OffsetTable,
     /// What the locals come to that its functions declare, by the offsets of their identifiers.
@@ -18,14 +18,14 @@ pub struct FileNames {
 /// What the names of a function come to: those of its file, and how many occurrences of the file stand before its body. What code calls at an offset
 /// is the reference of the occurrence there: of its number among those of the body, from 0.
 #[derive(Drop)]
-pub struct FuncNames<'f> {
-    pub file: &'f FileNames,
+pub struct FuncCodeNames<'f> {
+    pub file: &'f FileCodeNames,
     pub before: usize,
 }
 
 /// What something comes to of which nothing may be known.
 pub fn meant(meaning: Option<Meaning>) -> Meaning
-    ensures { result ≡ meant meaning }
+    ensures { result ≡ meaning_or_other meaning }
 {
     match meaning {
         Some(meaning) => meaning,
@@ -42,7 +42,7 @@ fn place_or_zero(place: Option<usize>) -> usize
     }
 }
 
-impl<'f> CodeNames for FuncNames<'f> {
+impl<'f> CodeNames for FuncCodeNames<'f> {
     ghost use Rattle.go_lookup_core.specs.mirrors.Naming.{file_looks};
 
     ghost looks = { λ n. file_looks n.file.now n.before };

@@ -1,1 +1,5 @@
+pub mod Finding
+pub mod Keeping
+pub mod Marking
+pub mod Searching
 pub mod Telling

@@ -6,7 +6,7 @@ ghost use Rattle.go_whole_core.specs.graph_core.Plans.{AreReached, IsAssembledAt
 ghost use Rattle.go_whole_core.specs.block_core.Naming.{AreInFile, AreInPackage, IsGiven, imported_in};
 ghost use Rattle.go_whole_core.specs.block_core.mirrors.Steps.{AreReady, AreReadyIn, HasExports, IsPlanned, IsReady, IsShownIn};
 ghost use Rattle.go_whole_core.specs.Inputs.{HasReached, IsInputAt};
-ghost use Rattle.go_whole_core.specs.mirrors.Steps.{exports_in};
+ghost use Rattle.go_whole_core.specs.mirrors.Steps.{AreToldBySet, exports_in};
 ghost use Rattle.go_make_core.specs.mirrors.Telling.{AreToldFor, AreToldOf, HavePlaces};
 
 use crate::told::Told;
@@ -162,7 +162,8 @@ pub(crate) fn input_of(
     requires assembled { IsAssembledAt workspace.now number }
     requires parts { HasReached workspace.now parts.now number }
     requires told { HavePlaces parts.now told.now.summaries told.now.places.items }
-    ensures { IfOk result (IsInputAt workspace.now parts.now number) }
+    ensures input { IfOk result (IsInputAt workspace.now parts.now number) }
+    ensures told { IfOk result (λ i. AreToldBySet reached.now parts.now number i.reached) }
 {
     let packages = workspace.packages();
     let package = package_at(packages, number)?;

@@ -1,48 +1,38 @@
 //! The parts of a workspace.
-ghost use Rattle.std.specs.Prelude.{◌≡◌, ◌<◌, ◌++◌, [], ◌∷◌, IfOk, None, OnOk, length, replicate, slice_set};
+ghost use Rattle.std.specs.Prelude.{◌≡◌, ◌↔◌, ◌<◌, ◌++◌, [], ◌∷◌, false, IfOk, IsTrue, None, OnOk, length, replicate, slice_set};
 ghost use Rattle.go_whole_core.specs.graph_core.Plans.{AreReached, IsPlan};
 ghost use Rattle.go_whole_core.specs.graph_core.Workspaces.{IsWorkspace};
-ghost use Rattle.go_whole_core.specs.entry_core.Showing.{with_shown};
+ghost use Rattle.go_whole_core.specs.table_core.Tables.{AreOthers};
+ghost use Rattle.go_whole_core.specs.entry_core.Showing.{shown_in, with_shown};
 ghost use Rattle.go_whole_core.specs.face_core.Packages.{with_faces};
+ghost use Rattle.go_whole_core.specs.part_core.Inputs.{path_in};
+ghost use Rattle.go_whole_core.specs.part_core.Parts.{ContentOf, IsMade, IsPart, seen_with};
 ghost use Rattle.go_whole_core.specs.Inputs.{AreParts};
 ghost use Rattle.go_whole_core.specs.mirrors.Steps.{IsNext, IsRight};
+ghost use Rattle.go_make_core.specs.Keeping.{AreKept, WasThere};
+ghost use Rattle.go_make_core.specs.mirrors.Marking.{AreMarked, WasTold};
 ghost use Rattle.go_make_core.specs.mirrors.Telling.{HavePlaces};
 
 use crate::inputs::input_of;
+use crate::kept::{earlier_part, is_told_again, keep};
 use crate::told::Told;
 use go_whole_core::graph_core::{Plan, Workspace, plan_imports};
 use go_whole_core::locality_core::{check_is_local, imports_bind_theirs};
-use go_whole_core::part_core::{Part, Parts, close_view, compile_over};
+use go_whole_core::part_core::{Part, PartInput, Parts, close_view, compile_over};
 use go_whole_core::reach_core::Reached;
 use go_whole_core::summary_core::{View, view_of};
 use std::alloc::{AllocError, Global};
 
-/// The part of the package of a number, which is the next one of the plan, where these are the parts of those before it, this they tell, and this
-/// is seen of them. The types of the package are added to what is seen.
-fn next_part(
-    alloc: Global,
-    workspace: &Workspace,
-    plan: &Plan,
-    reached: &Reached,
-    number: usize,
-    parts: &[Option<Part>],
-    told: &Told,
-    seen: &mut View,
-) -> Result<Part, AllocError>
-    requires well { IsWorkspace workspace.now }
-    requires plan { IsPlan workspace.now plan.now }
-    requires reached { AreReached plan.now reached.now }
-    requires many { length reached.now ≡ length plan.now.outcomes }
-    requires told { HavePlaces parts.now told.now.summaries told.now.places.items }
-    requires next { IsNext workspace.now plan.now parts.now number seen.old.types seen.old.shown seen.old.faces }
-    ensures right { IfOk result (λ p. IsRight workspace.now parts.now number p) }
+/// The part of an input, over what is seen, to which the types of the package are added.
+fn new_part(alloc: Global, input: PartInput, seen: &mut View) -> Result<Part, AllocError>
+    requires others { AreOthers (path_in input) seen.old.types }
+    requires alone { (c : ContentOf) → IsMade input (seen_with seen.old.types (shown_in seen.old.shown) seen.old.faces) c → IsPart input c }
+    ensures input { IfOk result (λ p. p.input ≡ input) }
+    ensures made { IfOk result (λ p. IsPart p.input p.content) }
     ensures types { IfOk result (λ p. seen.new.types ≡ seen.old.types ++ p.content.summary.types.entries) }
     ensures shown { seen.new.shown ≡ seen.old.shown }
     ensures faces { seen.new.faces ≡ seen.old.faces }
 {
-    check_is_local();
-    imports_bind_theirs();
-    let input = input_of(alloc, workspace, plan, reached, number, parts, told)?;
     match compile_over(alloc, &input, seen) {
         Ok(content) => {
             let part = Part::new(alloc, input, content)?;
@@ -55,41 +45,118 @@ fn next_part(
     }
 }
 
+/// The part of the package of a number, which is the next one of the plan, where these are the parts of those before it, this they tell, and this
+/// is seen of them; and whether it was there among the earlier parts. The types of the package are added to what is seen.
+fn next_part(
+    alloc: Global,
+    workspace: &Workspace,
+    plan: &Plan,
+    reached: &Reached,
+    number: usize,
+    parts: &[Option<Part>],
+    told: &Told,
+    seen: &mut View,
+    sources: &Workspace,
+    earlier: &[Option<Part>],
+) -> Result<(Part, bool), AllocError>
+    requires well { IsWorkspace workspace.now }
+    requires plan { IsPlan workspace.now plan.now }
+    requires reached { AreReached plan.now reached.now }
+    requires many { length reached.now ≡ length plan.now.outcomes }
+    requires told { HavePlaces parts.now told.now.summaries told.now.places.items }
+    requires again { AreMarked earlier.now parts.now told.now.again.items }
+    requires next { IsNext workspace.now plan.now parts.now number seen.old.types seen.old.shown seen.old.faces }
+    requires earlier { AreParts sources.now earlier.now }
+    ensures right { IfOk result (λ p. IsRight workspace.now parts.now number p.0) }
+    ensures kept { IfOk result (λ p. IsTrue p.1 ↔ WasThere earlier.now p.0) }
+    ensures types { IfOk result (λ p. seen.new.types ≡ seen.old.types ++ p.0.content.summary.types.entries) }
+    ensures shown { seen.new.shown ≡ seen.old.shown }
+    ensures faces { seen.new.faces ≡ seen.old.faces }
+{
+    check_is_local();
+    imports_bind_theirs();
+    let input = input_of(alloc, workspace, plan, reached, number, parts, told)?;
+    match earlier_part(alloc, reached, number, &input, told, sources, earlier) {
+        Ok(Some(part)) => {
+            input.close();
+            let kept = keep(part, seen)?;
+            Ok((kept, true))
+        }
+        Ok(None) => {
+            let made = new_part(alloc, input, seen)?;
+            Ok((made, false))
+        }
+        Err(AllocError) => {
+            input.close();
+            Err(AllocError)
+        }
+    }
+}
+
+/// Whether an earlier part tells what a part tells. One that was there is not compared.
+fn tells_again(part: &Part, kept: bool, sources: &Workspace, earlier: &[Option<Part>]) -> bool
+    requires kept { IsTrue kept → WasThere earlier.now part.now }
+    requires earlier { AreParts sources.now earlier.now }
+    ensures { IsTrue result ↔ WasTold earlier.now part.now.content.summary }
+{
+    if kept {
+        return true;
+    }
+    is_told_again(part.summary(), sources, earlier)
+}
+
 /// Adds what the package of a number shows to what is seen, in which its types are, and what it tells to what is told.
-fn learn(seen: &mut View, told: &mut Told, number: usize, part: &Part) -> Result<(), AllocError>
-    requires { number < length told.old.places.items }
+fn learn(
+    seen: &mut View,
+    told: &mut Told,
+    number: usize,
+    part: &Part,
+    again: bool,
+    kept: bool,
+) -> Result<(), AllocError>
+    requires places { number < length told.old.places.items }
+    requires again { number < length told.old.again.items }
+    requires kept { number < length told.old.kept.items }
     ensures types { seen.new.types ≡ seen.old.types }
     ensures shown { OnOk result (seen.new.shown ≡ with_shown seen.old.shown part.now.content.summary.exports) }
     ensures faces { OnOk result (seen.new.faces ≡ with_faces seen.old.faces part.now.content.summary.faces) }
     ensures summaries { OnOk result (told.new.summaries ≡ told.old.summaries ++ part.now.content.summary ∷ []) }
     ensures places { OnOk result (told.new.places.items ≡ slice_set told.old.places.items number (length told.old.summaries)) }
+    ensures again { OnOk result (told.new.again.items ≡ slice_set told.old.again.items number again) }
+    ensures kept { OnOk result (told.new.kept.items ≡ slice_set told.old.kept.items number kept) }
 {
     let summary = part.summary();
     seen.faces.add(summary.faces().share()?)?;
     seen.shown.add(summary.exports().share()?)?;
-    told.add(number, summary.share()?)
+    told.add(number, summary.share()?, again, kept)
 }
 
-/// Makes the parts of the assembled packages of a workspace, where there is none yet.
+/// Makes the parts of the assembled packages of a workspace, where there is none yet, and keeps of the earlier ones those whose inputs are the same.
 fn make_all(
     alloc: Global,
     workspace: &Workspace,
+    sources: &Workspace,
+    earlier: &[Option<Part>],
     parts: &mut Parts,
     told: &mut Told,
     seen: &mut View,
 ) -> Result<(), AllocError>
     requires well { IsWorkspace workspace.now }
+    requires earlier { AreParts sources.now earlier.now }
     requires none { parts.old ≡ replicate (length workspace.now) None }
     requires told { length told.old.places.items ≡ length workspace.now }
+    requires again { length told.old.again.items ≡ length workspace.now }
+    requires kept { told.old.kept.items ≡ replicate (length workspace.now) false }
     requires types { seen.old.types ≡ [] }
     requires shown { seen.old.shown ≡ [] }
     requires faces { seen.old.faces ≡ [] }
-    ensures { OnOk result (AreParts workspace.now parts.new) }
+    ensures parts { OnOk result (AreParts workspace.now parts.new) }
+    ensures kept { OnOk result (AreKept earlier.now parts.new told.new.kept.items) }
 {
     let plan = plan_imports(alloc, workspace)?;
     let reached = plan.reached(alloc)?;
     for number in plan.order() {
-        let part = next_part(
+        let (part, kept) = next_part(
             alloc,
             workspace,
             &plan,
@@ -98,8 +165,11 @@ fn make_all(
             parts.as_slice(),
             told,
             seen,
+            sources,
+            earlier,
         )?;
-        match learn(seen, told, *number, &part) {
+        let again = tells_again(&part, kept, sources, earlier);
+        match learn(seen, told, *number, &part, again, kept) {
             Ok(()) => parts.put(*number, part),
             Err(AllocError) => {
                 part.close();
@@ -114,29 +184,78 @@ fn make_all(
 fn make_seen(
     alloc: Global,
     workspace: &Workspace,
+    sources: &Workspace,
+    earlier: &[Option<Part>],
     parts: &mut Parts,
     told: &mut Told,
 ) -> Result<(), AllocError>
     requires well { IsWorkspace workspace.now }
+    requires earlier { AreParts sources.now earlier.now }
     requires none { parts.old ≡ replicate (length workspace.now) None }
     requires told { length told.old.places.items ≡ length workspace.now }
-    ensures { OnOk result (AreParts workspace.now parts.new) }
+    requires again { length told.old.again.items ≡ length workspace.now }
+    requires kept { told.old.kept.items ≡ replicate (length workspace.now) false }
+    ensures parts { OnOk result (AreParts workspace.now parts.new) }
+    ensures kept { OnOk result (AreKept earlier.now parts.new told.new.kept.items) }
 {
     let mut seen = view_of(alloc, &[])?;
-    let made = make_all(alloc, workspace, parts, told, &mut seen);
+    let made = make_all(alloc, workspace, sources, earlier, parts, told, &mut seen);
     close_view(seen);
     made
 }
 
-/// Makes them, where nothing is told yet.
-fn make_told(alloc: Global, workspace: &Workspace, parts: &mut Parts) -> Result<(), AllocError>
-    requires { parts.old ≡ replicate (length workspace.now) None }
-    ensures { OnOk result (AreParts workspace.now parts.new) }
+/// Makes them, where nothing is told yet. Says of each package whether its part was there.
+fn make_told(
+    alloc: Global,
+    workspace: &Workspace,
+    sources: &Workspace,
+    earlier: &[Option<Part>],
+    parts: &mut Parts,
+) -> Result<Vec<bool>, AllocError>
+    requires earlier { AreParts sources.now earlier.now }
+    requires none { parts.old ≡ replicate (length workspace.now) None }
+    ensures parts { OnOk result (AreParts workspace.now parts.new) }
+    ensures kept { IfOk result (λ kept. AreKept earlier.now parts.new kept.items) }
 {
     let mut told = Told::new(alloc, workspace.packages().len())?;
-    let made = make_seen(alloc, workspace, parts, &mut told);
-    told.close();
-    made
+    let made = make_seen(alloc, workspace, sources, earlier, parts, &mut told);
+    let kept = told.into_kept();
+    made?;
+    Ok(kept)
+}
+
+/// The parts of the assembled packages of a workspace, by their numbers, where another workspace has the parts `earlier`; and of each package, by its
+/// number, whether its part is one of those. A part is kept, with its input, where the package's input is the one that it was made from: then nothing
+/// is checked again. Of a package that is made again what it tells is compared once with what it told earlier, so that an edit of a body leaves the
+/// packages alone that import it.
+///
+/// The parts are those that `parts_of` gives.
+///
+/// The Go specification, "Packages", "Import declarations".
+///
+/// # Errors
+///
+/// `AllocError` where memory is wanting.
+pub fn parts_again(
+    alloc: Global,
+    workspace: &Workspace,
+    sources: &Workspace,
+    earlier: &[Option<Part>],
+) -> Result<(Parts, Vec<bool>), AllocError>
+    requires { AreParts sources.now earlier.now }
+    ensures well { IfOk result (λ _. IsWorkspace workspace.now) }
+    ensures parts { IfOk result (λ made. AreParts workspace.now made.0) }
+    ensures kept { IfOk result (λ made. AreKept earlier.now made.0 made.1.items) }
+{
+    let packages = workspace.packages();
+    let mut parts = Parts::none(alloc, packages.len())?;
+    match make_told(alloc, workspace, sources, earlier, &mut parts) {
+        Ok(kept) => Ok((parts, kept)),
+        Err(AllocError) => {
+            parts.close();
+            Err(AllocError)
+        }
+    }
 }
 
 /// The parts of the assembled packages of a workspace, by their numbers: each is made once, behind those of the packages that it imports, and from
@@ -151,13 +270,9 @@ pub fn parts_of(alloc: Global, workspace: &Workspace) -> Result<Parts, AllocErro
     ensures well { IfOk result (λ _. IsWorkspace workspace.now) }
     ensures parts { IfOk result (λ parts. AreParts workspace.now parts) }
 {
-    let packages = workspace.packages();
-    let mut parts = Parts::none(alloc, packages.len())?;
-    match make_told(alloc, workspace, &mut parts) {
-        Ok(()) => Ok(parts),
-        Err(AllocError) => {
-            parts.close();
-            Err(AllocError)
-        }
-    }
+    let nothing = Workspace::empty(alloc);
+    let made = parts_again(alloc, workspace, &nothing, &[]);
+    nothing.close();
+    let (parts, _kept) = made?;
+    Ok(parts)
 }

@@ -3,15 +3,16 @@ use Rattle.std.proofs.Common.{◌≡◌, ◌≤◌, List, [], ◌∷◌, length,
 use Rattle.go_term_core.specs.Terms.{Term}
 use Rattle.go_part_core.specs.table_core.Entries.{Entry}
 use Rattle.go_lookup_core.specs.fragment_core.declared.names.Gives.TheVariants as gives
-use Rattle.go_meaning_core.specs.Words.{given, results_give, some_word}
+use Rattle.go_lookup_core.specs.fragment_core.Fragment.{over}
+use Rattle.go_meaning_core.specs.Words.{results_give, some_word}
 
 pub gives_nothing : (es : List Entry) (rs : List (Option Term)) → length rs ≡ 0 → gives.Nothing ≡ results_give es rs
 gives_nothing es [] n = refl
 gives_nothing es (r ∷ rs) n = (let no : ⊥ = omega (arith, n) in absurd no)
 
-pub gives_one : (es : List Entry) (rs : List (Option Term)) (t : Option Term) → length rs ≡ 1 → slice_get rs 0 ≡ Some t → given (some_word es t) ≡ results_give es rs
+pub gives_one : (es : List Entry) (rs : List (Option Term)) (t : Option Term) → length rs ≡ 1 → slice_get rs 0 ≡ Some t → over (some_word es t) ≡ results_give es rs
 gives_one es [] t n e = cc
-gives_one es (r ∷ []) t n e = (let same : r ≡ t = cc in ap (λ (x : Option Term). given (some_word es x)) (sym same))
+gives_one es (r ∷ []) t n e = (let same : r ≡ t = cc in ap (λ (x : Option Term). over (some_word es x)) (sym same))
 gives_one es (r ∷ (s ∷ rs)) t n e = (let no : ⊥ = omega (arith, n) in absurd no)
 
 pub gives_more : (es : List Entry) (rs : List (Option Term)) → 2 ≤ length rs → gives.Other ≡ results_give es rs

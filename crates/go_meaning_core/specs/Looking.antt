@@ -6,17 +6,17 @@ use Rattle.go_lookup_core.specs.fragment_core.declared.names.Meaning.{Meaning}
 use Rattle.go_lookup_core.specs.fragment_core.Names.{Looks}
 use Rattle.go_meaning_core.specs.Meanings.{local_meaning}
 use Rattle.go_lookup_core.specs.Looking.{looks_with}
-use Rattle.go_meaning_core.specs.Scenes.{Scene, outcome_meaning}
+use Rattle.go_meaning_core.specs.Scenes.{CodeScene, outcome_meaning}
 
 -- the locals of a file
 abbrev pub locals_meant : List Entry → List TheLocal → List (ℕ × Meaning)
 locals_meant es locals = map (λ l. (l.offset, local_meaning es l.offset l.value)) locals
 
 -- the occurrences of the file of a number, with these locals
-abbrev pub uses_meant : Scene → ℕ → List (ℕ × Meaning) → List TheUse → List (ℕ × Meaning)
+abbrev pub uses_meant : CodeScene → ℕ → List (ℕ × Meaning) → List TheUse → List (ℕ × Meaning)
 uses_meant s file locals uses = map (λ u. (u.offset, outcome_meaning s file locals u.outcome)) uses
 
 -- the answers to what code asks, in the file of a number whose occurrences have this and whose functions declare these locals, of a function with so
 -- many occurrences of the file before its body
-abbrev pub looks_of : Scene → ℕ → List TheUse → List TheLocal → ℕ → Looks
+abbrev pub looks_of : CodeScene → ℕ → List TheUse → List TheLocal → ℕ → Looks
 looks_of s file uses locals before = looks_with (uses_meant s file (locals_meant s.types locals) uses) (locals_meant s.types locals) before

@@ -34,14 +34,14 @@ variable_meaning at None = meanings.Other
 variable_meaning at (Some w) = meanings.Variable at w
 
 -- a constant, or else this
-abbrev pub constant_or : Option Constant → Meaning → Meaning
-constant_or None m = m
-constant_or (Some c) m = constant_meaning c
+abbrev pub constant_meaning_or : Option Constant → Meaning → Meaning
+constant_meaning_or None m = m
+constant_meaning_or (Some c) m = constant_meaning c
 
 -- a constant of a package; of its variables no code is made
 abbrev pub value_meaning : Option (Operand Term) → Meaning
 value_meaning None = meanings.Other
-value_meaning (Some o) = constant_or o.constant meanings.Other
+value_meaning (Some o) = constant_meaning_or o.constant meanings.Other
 
 -- a declaration of a package outside functions, over the types of a table
 abbrev pub face_meaning : List Entry → TheFace → Meaning
@@ -49,14 +49,14 @@ face_meaning es (faces.«Type» t) = type_meaning (some_word es t)
 face_meaning es (faces.Func g) = meanings.Function (sign_gives es g)
 face_meaning es (faces.«Value» o) = value_meaning o
 
-abbrev pub some_meaning : List Entry → Option TheFace → Meaning
-some_meaning es None = meanings.Other
-some_meaning es (Some f) = face_meaning es f
+abbrev pub some_face_meaning : List Entry → Option TheFace → Meaning
+some_face_meaning es None = meanings.Other
+some_face_meaning es (Some f) = face_meaning es f
 
 -- a local of a function, which is declared at an offset: a constant with its value, or a variable
 abbrev pub local_meaning : List Entry → ℕ → Option (Operand Term) → Meaning
 local_meaning es at None = meanings.Other
-local_meaning es at (Some o) = constant_or o.constant (variable_meaning at (value_word es o.value_type))
+local_meaning es at (Some o) = constant_meaning_or o.constant (variable_meaning at (value_word es o.value_type))
 
 -- a predeclared name
 abbrev pub universe_meaning : Predeclared → Meaning

@@ -15,6 +15,7 @@ use Rattle.go_lookup_core.specs.instruction_core.declared.letters.Word.{Word}
 use Rattle.go_lookup_core.specs.instruction_core.declared.letters.Word.TheVariants as words
 use Rattle.go_lookup_core.specs.fragment_core.declared.names.Gives.{Gives}
 use Rattle.go_lookup_core.specs.fragment_core.declared.names.Gives.TheVariants as gives
+use Rattle.go_lookup_core.specs.fragment_core.Fragment.{over}
 
 abbrev pub basic_word : Basic → Option Word
 basic_word basics.Int = Some words.Int
@@ -44,13 +45,9 @@ value_word es value_types.UntypedBool = Some words.Bool
 value_word es value_types.UntypedText = None
 value_word es value_types.Nil = None
 
-abbrev pub given : Option Word → Gives
-given None = gives.Other
-given (Some w) = gives.One w
-
 abbrev pub results_give : List Entry → List (Option Term) → Gives
 results_give es [] = gives.Nothing
-results_give es (t ∷ []) = given (some_word es t)
+results_give es (t ∷ []) = over (some_word es t)
 results_give es (t ∷ (u ∷ ts)) = gives.Other
 
 -- what a call gives of something with this signature

@@ -46,7 +46,7 @@ pub mod handle_core {
 
 /// What the crates above name of `go_lookup_core`.
 pub mod lookup_core {
-    pub use go_lookup_core::{FileNames, FuncNames};
+    pub use go_lookup_core::{FileCodeNames, FuncCodeNames};
 }
 
 /// What the crates above name of `go_operand_core`.

@@ -2,7 +2,7 @@
 ghost use Rattle.std.specs.Prelude.{◌≡◌};
 ghost use Rattle.std.specs.Option.{option_map};
 ghost use Rattle.go_part_core.specs.face_core.Faces.{operand_shown};
-ghost use Rattle.go_meaning_core.specs.Meanings.{constant_meaning, constant_or, face_meaning, local_meaning, some_meaning, type_meaning, universe_meaning, value_meaning, variable_meaning};
+ghost use Rattle.go_meaning_core.specs.Meanings.{constant_meaning, constant_meaning_or, face_meaning, local_meaning, some_face_meaning, type_meaning, universe_meaning, value_meaning, variable_meaning};
 
 use crate::words::{sign_gives, some_word, value_word};
 use go_lookup_core::constant_core::Constant;
@@ -45,7 +45,7 @@ fn variable_meaning(offset: usize, word: Option<Word>) -> Meaning
 }
 
 fn constant_or(constant: &Option<Constant>, other: Meaning) -> Meaning
-    ensures { result ≡ constant_or constant.now other }
+    ensures { result ≡ constant_meaning_or constant.now other }
 {
     match constant {
         Some(constant) => constant_meaning(constant),
@@ -80,7 +80,7 @@ pub(crate) fn some_meaning(
     types: &TypeTable,
     face: &Option<Face<TypeRef<'_>, SignatureRef<'_>>>,
 ) -> Meaning
-    ensures { result ≡ some_meaning types.now face.now }
+    ensures { result ≡ some_face_meaning types.now face.now }
 {
     match face {
         Some(face) => face_meaning(types, face),

@@ -4,13 +4,13 @@ ghost use Rattle.go_part_core.specs.handle_core.Declarations.{site_shown};
 ghost use Rattle.go_part_core.specs.face_core.Packages.{face_in};
 ghost use Rattle.go_part_core.specs.package_core.Checked.{local_shown};
 ghost use Rattle.go_meaning_core.specs.Looking.{locals_meant, uses_meant};
-ghost use Rattle.go_meaning_core.specs.Scenes.{decl_meaning, declared_meaning, local_at, method_meaning, method_place, outcome_meaning, own_or, place_meaning, selected_meaning};
+ghost use Rattle.go_meaning_core.specs.Scenes.{decl_meaning, declared_meaning, local_place_meaning, method_meaning, method_place_meaning, outcome_meaning, own_or, place_meaning, selected_meaning};
 ghost use Rattle.go_meaning_core.specs.mirrors.Naming.{scene_shown};
 
 use crate::meanings::{local_meaning, some_meaning, universe_meaning};
 use crate::scene::PackageNames;
 use go_lookup_core::fragment_core::Meaning;
-use go_lookup_core::{FileNames, OffsetTable, meant};
+use go_lookup_core::{FileCodeNames, OffsetTable, meant};
 use go_part_core::answer_core::{Answer, HeldLocal, Site};
 use go_part_core::denote_core::Outcome;
 use go_part_core::face_core::{Face, FaceTable};
@@ -62,7 +62,7 @@ fn local_at(
     path: &ImportPath,
     place: LocalPlace,
 ) -> Meaning
-    ensures { result ≡ local_at (scene_shown package_names.now) file locals.now path.now place }
+    ensures { result ≡ local_place_meaning (scene_shown package_names.now) file locals.now path.now place }
 {
     if path.is_same(package_names.path) && place.file == file {
         meant(locals.meaning(place.offset))
@@ -104,7 +104,7 @@ fn declared_at(
 }
 
 fn method_place(package_names: &PackageNames<'_>, path: &ImportPath, place: MemberPlace) -> Meaning
-    ensures { result ≡ method_place (scene_shown package_names.now) path.now place }
+    ensures { result ≡ method_place_meaning (scene_shown package_names.now) path.now place }
 {
     match place {
         MemberPlace::Declared(decl) => meant(package_names.tables.methods.meaning(path, decl)),
@@ -193,7 +193,7 @@ pub fn file_names(
     file: usize,
     answers: &[Answer],
     locals: &[HeldLocal],
-) -> Result<FileNames, AllocError>
+) -> Result<FileCodeNames, AllocError>
     ensures locals { IfOk result (λ f. f.locals ≡ locals_meant package_names.now.tables.now.types (map local_shown locals.now)) }
     ensures uses { IfOk result (λ f. f.uses ≡ uses_meant (scene_shown package_names.now) file (locals_meant package_names.now.tables.now.types (map local_shown locals.now)) answers.now) }
 {
@@ -201,7 +201,7 @@ pub fn file_names(
     let local_table = OffsetTable::new(alloc, local_items)?;
     let use_items = use_items(alloc, package_names, file, &local_table, answers)?;
     let uses = OffsetTable::new(alloc, use_items)?;
-    Ok(FileNames {
+    Ok(FileCodeNames {
         uses,
         locals: local_table,
     })

@@ -6,9 +6,9 @@ ghost use Rattle.go_term_core.specs.decl_core.TopDecls.{kind_of_form};
 ghost use Rattle.go_part_core.specs.entry_core.Outlines.{outline_of, outline_shown};
 ghost use Rattle.go_part_core.specs.graph_core.Packages.{trees_of};
 ghost use Rattle.go_part_core.specs.face_core.Faces.{face_shown};
-ghost use Rattle.go_meaning_core.specs.Meanings.{some_meaning};
+ghost use Rattle.go_meaning_core.specs.Meanings.{some_face_meaning};
 ghost use Rattle.go_meaning_core.specs.Scenes.{decl_at, own_spotted};
-ghost use Rattle.go_lookup_core.specs.Places.{spot};
+ghost use Rattle.go_lookup_core.specs.Places.{decl_spot};
 ghost use Rattle.go_meaning_core.specs.mirrors.Listing.{outlines_decls};
 ghost use Rattle.go_meaning_core.specs.mirrors.Naming.{scene_in, scene_shown, scene_with};
 ghost use Rattle.go_lookup_core.specs.mirrors.Spotting.{item_shown};
@@ -100,7 +100,7 @@ fn own_item<'a>(
     decl: DeclRef,
     face: &Option<Face<TypeTerm, Signature>>,
 ) -> Result<SpottedDecl<'a>, AllocError>
-    ensures { IfOk result (λ i. item_shown i ≡ (spot path.now decl, some_meaning types.now (option_map face_shown face.now))) }
+    ensures { IfOk result (λ i. item_shown i ≡ (decl_spot path.now decl, some_face_meaning types.now (option_map face_shown face.now))) }
 {
     let lent = match face {
         Some(face) => Some(lend(face)?),

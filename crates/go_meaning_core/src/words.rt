@@ -1,7 +1,8 @@
 //! What types and values are over.
 ghost use Rattle.std.specs.Prelude.{◌≡◌};
 ghost use Rattle.go_part_core.specs.face_core.Faces.{value_type_shown};
-ghost use Rattle.go_meaning_core.specs.Words.{basic_word, form_word, given, sign_gives, some_word, value_word, word_in};
+ghost use Rattle.go_lookup_core.specs.fragment_core.Fragment.{over};
+ghost use Rattle.go_meaning_core.specs.Words.{basic_word, form_word, sign_gives, some_word, value_word, word_in};
 
 use go_lookup_core::fragment_core::Gives;
 use go_lookup_core::instruction_core::Word;
@@ -63,7 +64,7 @@ pub(crate) fn value_word(types: &TypeTable, value_type: &ValueType<TypeTerm>) ->
 }
 
 fn given(word: Option<Word>) -> Gives
-    ensures { result ≡ given word }
+    ensures { result ≡ over word }
 {
     match word {
         Some(word) => Gives::One(word),

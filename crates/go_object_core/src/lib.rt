@@ -7,8 +7,3 @@ mod words;
 
 pub use lines::{Spelling, listing};
 pub use object::{FunctionCode, Object};
-
-/// What the crates above name of `go_instruction_core`.
-pub mod instruction_core {
-    pub use go_instruction_core::Word;
-}

@@ -20,6 +20,7 @@ pub use input::PartInput;
 pub use laws::{one_part, part_has_occurrences};
 pub use part::{Part, compile_part};
 pub use parts::Parts;
+pub use same::same_imports;
 
 /// What the crates above name of `go_answer_core`.
 pub mod answer_core {

@@ -79,7 +79,7 @@ fn is_same_file(imports: &Vec<Imported>, others: &Vec<Imported>) -> bool
 }
 
 /// Whether the imports of all files of two packages come to the same, in order.
-pub(crate) fn same_imports(files: &[Vec<Imported>], others: &[Vec<Imported>]) -> bool
+pub fn same_imports(files: &[Vec<Imported>], others: &[Vec<Imported>]) -> bool
     ensures { IsTrue result ↔ (map imported_in files.now ≡ map imported_in others.now) }
 {
     if files.len() != others.len() {

@@ -34,9 +34,9 @@ use Rattle.go_value_core.specs.Package.{idents_need, value_idents, form_idents, 
 use Rattle.go_value_core.proofs.Seeing.{idents_alike}
 use Rattle.go_respell_core.specs.Contexts.{ContextStays}
 use Rattle.go_respell_core.specs.Laws.{InitialContextsStay}
-use Rattle.go_respell_core.specs.Package.{FileForm, AreFixed, AllFixed, file_looks, form_needs, all_needs, face_of, face_by, AreFacesOf, IsWrittenAnew, IsAsItWas, AreWrittenAnew}
+use Rattle.go_respell_core.specs.Package.{FileForm, AreFixed, AllFixed, file_looks, form_needs, all_needs, face_of, face_at_position, AreFacesOf, IsWrittenAnew, IsAsItWas, AreWrittenAnew}
 use Rattle.go_respell_core.specs.Spots.{some_type_spots, values_spots, spec_spots}
-use Rattle.go_respell_core.specs.Trees.{RespellsExprs, InValues, spec}
+use Rattle.go_respell_core.specs.Trees.{RespellsExprs, InValues, value_spec}
 use Rattle.go_respell_core.specs.Values.{IsSame, NeedsInBoth}
 use Rattle.go_respell_core.proofs.Splits.{len, map_len, split_stays}
 use Rattle.go_respell_core.proofs.Splits as splits
@@ -111,10 +111,10 @@ module _ (s : SceneModel) (a : ℕ) where
 
   module _ (n file : ℕ) (x : Ident) (name : List ℕ) (xs : Separated Ident) (t : Option TypeTree) (place : Span) (es fs : Separated ExprTree) (l : InList Term Sign Declaration (List ℕ) x name es fs) where
     abbrev v : ValueSpecTree
-    v = spec xs t (Some (place, es))
+    v = value_spec xs t (Some (place, es))
 
     abbrev w : ValueSpecTree
-    w = spec xs t (Some (place, fs))
+    w = value_spec xs t (Some (place, fs))
 
     abbrev Result : FileForm → FileForm → Type 0
     Result d e = Kept (Some d) (Some e) ⊎ BothNeed n (Some d) (Some e)
@@ -210,10 +210,10 @@ agree_right find other (x ∷ xs) ys h = agree_right find other xs ys h.1
 module _ (s : SceneModel) (ds es : List FileForm) (t u : List (Option TheFace)) (file : ℕ) (written : WrittenRules Term) (x : Ident) (name : List ℕ)
     (xs : Separated Ident) (type_expr : Option TypeTree) (place : Span) (olds news : Separated ExprTree) (r : RespellsExprs x name olds news) where
   abbrev earlier : ValueSpecTree
-  earlier = spec xs type_expr (Some (place, olds))
+  earlier = value_spec xs type_expr (Some (place, olds))
 
   abbrev later : ValueSpecTree
-  later = spec xs type_expr (Some (place, news))
+  later = value_spec xs type_expr (Some (place, news))
 
   abbrev looks : TheLooks
   looks = file_looks s file written t
@@ -230,14 +230,14 @@ module _ (s : SceneModel) (ds es : List FileForm) (t u : List (Option TheFace)) 
 
     -- a node that each declaration of the specification needs, or of which they are as they were
     same_at : (n : ℕ) → ((a : ℕ) (o p : Option FileForm) → Pair file earlier later o p → Kept s a o p ⊎ BothNeed s a n o p) → known_in t n ≡ known_in u n
-    same_at n all = needed_stays TheFace (all_needs s ds) (all_needs s es) (face_by s ds) (face_by s es) t u n (looks_at_needs s ds fixed) (looks_at_needs s es fixed') rows_long each at au
+    same_at n all = needed_stays TheFace (all_needs s ds) (all_needs s es) (face_at_position s ds) (face_at_position s es) t u n (looks_at_needs s ds fixed) (looks_at_needs s es fixed') rows_long each at au
       where
         turn : (a : ℕ) → Kept s a (slice_get ds a) (slice_get es a) ⊎ BothNeed s a n (slice_get ds a) (slice_get es a)
-            → IsSame TheFace (all_needs s ds) (all_needs s es) (face_by s ds) (face_by s es) a ⊎ NeedsInBoth (all_needs s ds) (all_needs s es) a n
+            → IsSame TheFace (all_needs s ds) (all_needs s es) (face_at_position s ds) (face_at_position s es) a ⊎ NeedsInBoth (all_needs s ds) (all_needs s es) a n
         turn a (inl k) = inl (record { row = row_at s ds a ∙ (k.row ∙ sym (row_at s es a)); rule = k.face })
         turn a (inr b) = inr (record { before = subst (λ row. Contains row n) (sym (row_at s ds a)) b.before; after = subst (λ row. Contains row n) (sym (row_at s es a)) b.after })
 
-        each : (a : ℕ) → IsSame TheFace (all_needs s ds) (all_needs s es) (face_by s ds) (face_by s es) a ⊎ NeedsInBoth (all_needs s ds) (all_needs s es) a n
+        each : (a : ℕ) → IsSame TheFace (all_needs s ds) (all_needs s es) (face_at_position s ds) (face_at_position s es) a ⊎ NeedsInBoth (all_needs s ds) (all_needs s es) a n
         each a = turn a (all a (slice_get ds a) (slice_get es a) (pair_at file earlier later ds es anew a))
 
     -- where nothing changes, all declarations are what they were

@@ -21,7 +21,7 @@ use Rattle.go_value_core.specs.mirrors.Own.{one_of, is_one, given_by, own_argume
 use Rattle.go_value_core.proofs.Owning.{initial_is, initial_past}
 use Rattle.go_respell_core.specs.Contexts.{ContextStays}
 use Rattle.go_respell_core.specs.Spots.{exprs_spots}
-use Rattle.go_respell_core.specs.Trees.{RespellsExprs, InOnly, InFirst, InLater, spec}
+use Rattle.go_respell_core.specs.Trees.{RespellsExprs, InOnly, InFirst, InLater, value_spec}
 use Rattle.go_respell_core.proofs.Splits.{map_len, behind, before}
 use Rattle.go_respell_core.proofs.Changes.{expr_len}
 
@@ -117,10 +117,10 @@ module _ {T S D P : Type 0} (looks : Looks T S D P) where
 
   module _ (xs : Separated Ident) (t : Option TypeTree) (s : Span) (es fs : Separated ExprTree) (alone : is_one es ≡ is_one fs) where
     abbrev v : ValueSpecTree
-    v = spec xs t (Some (s, es))
+    v = value_spec xs t (Some (s, es))
 
     abbrev w : ValueSpecTree
-    w = spec xs t (Some (s, fs))
+    w = value_spec xs t (Some (s, fs))
 
     -- one expression, or two that denote the same
     pub own_same : (i : ℕ) → expr_of v i ≡ expr_of w i → own_argument looks v i ≡ own_argument looks w i

@@ -18,7 +18,7 @@ use Rattle.go_value_core.specs.Initial.{initial, initial_idents, some_type}
 use Rattle.go_value_core.specs.Package.{idents_need, value_idents, form_idents, first_values, value_face, form_face}
 use Rattle.go_value_core.proofs.Owning.{initial_alike}
 use Rattle.go_value_core.proofs.Seeing.{SameAt, idents_alike, first_at, needs_inside}
-use Rattle.go_respell_core.specs.Package.{FileForm, AreFixed, AllFixed, file_looks, form_needs, all_needs, face_of, face_by}
+use Rattle.go_respell_core.specs.Package.{FileForm, AreFixed, AllFixed, file_looks, form_needs, all_needs, face_of, face_at_position}
 
 pub fixed_law : (written : WrittenRules Term) → AreFixed written → LooksAtNames Term written
 fixed_law written fixed = record { type_of = λ a b t h. (fixed a b t).0; faults_of = λ a b t h. (fixed a b t).1 }
@@ -88,5 +88,5 @@ module _ (s : SceneModel) (f g : ℕ → Option TheFace) (a : ℕ) where
   face_looked None fixed h = refl
   face_looked (Some d) fixed h = form_looked s d.file d.written fixed f g (written_at s.written a) d.form h
 
-pub looks_at_needs : (s : SceneModel) (ds : List FileForm) → AllFixed ds → LooksAtNeeds (all_needs s ds) (face_by s ds)
+pub looks_at_needs : (s : SceneModel) (ds : List FileForm) → AllFixed ds → LooksAtNeeds (all_needs s ds) (face_at_position s ds)
 looks_at_needs s ds fixed f g a h = face_looked s f g a (slice_get ds a) (fixed_at ds fixed a) (λ b has. h b (subst (λ row. Contains row b) (sym (row_at s ds a)) has))

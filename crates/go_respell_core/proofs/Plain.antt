@@ -25,7 +25,7 @@ use Rattle.go_value_core.specs.needs_core.Needs.{AreValues, known_in}
 use Rattle.go_value_core.specs.Package.{PlacedOf, decl_needs, package_needs, some_face, declared_face}
 use Rattle.go_value_core.specs.Laws.{AreFaces}
 use Rattle.go_respell_core.specs.Laws.{FacesAreAsEver, BehindDotsNoNames}
-use Rattle.go_respell_core.specs.Package.{placed_form, all_needs, face_of, face_by, AreFacesOf}
+use Rattle.go_respell_core.specs.Package.{placed_form, all_needs, face_of, face_at_position, AreFacesOf}
 
 module _ (s : SceneModel) where
   rows_same : (ds : List PlacedOf) → all_needs s (map (placed_form s) ds) ≡ package_needs s ds
@@ -44,10 +44,10 @@ module _ (s : SceneModel) where
 
   pub faces_as_ever : (ds : List PlacedOf) (t : List (Option TheFace)) → AreFacesOf s (map (placed_form s) ds) t ↔ AreFaces s ds t
   faces_as_ever ds t = (
-    λ h. moved (package_needs s ds) (face_by s (map (placed_form s) ds)) (declared_face s ds) t (λ known n. face_same known n ds n)
-        (subst (λ rows. AreValues TheFace rows (face_by s (map (placed_form s) ds)) t) (rows_same ds) h),
-    λ h. subst (λ rows. AreValues TheFace rows (face_by s (map (placed_form s) ds)) t) (sym (rows_same ds))
-        (moved (package_needs s ds) (declared_face s ds) (face_by s (map (placed_form s) ds)) t (λ known n. sym (face_same known n ds n)) h),
+    λ h. moved (package_needs s ds) (face_at_position s (map (placed_form s) ds)) (declared_face s ds) t (λ known n. face_same known n ds n)
+        (subst (λ rows. AreValues TheFace rows (face_at_position s (map (placed_form s) ds)) t) (rows_same ds) h),
+    λ h. subst (λ rows. AreValues TheFace rows (face_at_position s (map (placed_form s) ds)) t) (sym (rows_same ds))
+        (moved (package_needs s ds) (declared_face s ds) (face_at_position s (map (placed_form s) ds)) t (λ known n. sym (face_same known n ds n)) h),
   )
 
 pub as_ever : FacesAreAsEver

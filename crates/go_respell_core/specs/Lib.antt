@@ -12,7 +12,6 @@ pub mod expr_core
 pub mod face_core
 pub mod handle_core
 pub mod local_core
-pub mod names_core
 pub mod needs_core
 pub mod operand_core
 pub mod piece_core

@@ -48,12 +48,12 @@ abbrev pub face_of : SceneModel → (ℕ → Option TheFace) → ℕ → Option 
 face_of s known n None = written_face (written_at s.written n)
 face_of s known n (Some d) = form_face (file_looks s d.file d.written (first_values (length s.written) known)) (written_at s.written n) d.form
 
-abbrev pub face_by : SceneModel → List FileForm → (ℕ → Option TheFace) → ℕ → TheFace
-face_by s ds known n = face_of s known n (slice_get ds n)
+abbrev pub face_at_position : SceneModel → List FileForm → (ℕ → Option TheFace) → ℕ → TheFace
+face_at_position s ds known n = face_of s known n (slice_get ds n)
 
 -- what the declarations of a package are, by their positions
 abbrev pub AreFacesOf : SceneModel → List FileForm → List (Option TheFace) → Type 0
-AreFacesOf s ds table = AreValues TheFace (all_needs s ds) (face_by s ds) table
+AreFacesOf s ds table = AreValues TheFace (all_needs s ds) (face_at_position s ds) table
 
 -- declarations whose types are made of the initialisers of their files
 abbrev pub placed_form : SceneModel → PlacedOf → FileForm

@@ -4,29 +4,20 @@ use Rattle.std.specs.Prelude.{MatchOption}
 use Rattle.std.specs.Borrow.{Bor}
 use Rattle.std.specs.Slice.{IsItemAt}
 use Rattle.std.specs.List.Sorted.{IsStrictlySortedBy, IsBinarySearchResult, IsSearchInRange}
-use Rattle.std.specs.Map.{keys_of}
 use Rattle.std.specs.Option.{option_map}
 use Rattle.std.specs.Result.{result_ok}
-use Rattle.std.proofs.lemmas.Option.{none-some, same_Some, slice_get-map, slice_get_within, slice_get_past, slice_get_read, slice_get-get_or, get_or_from_slice_get}
-use Rattle.go_whole_core.specs.graph_core.Imports.{IsNowhere, IsNumbered}
+use Rattle.std.proofs.lemmas.Option.{none-some, slice_get-map, slice_get_within, slice_get_past, slice_get_read, slice_get-get_or, get_or_from_slice_get}
 use Rattle.go_whole_core.specs.graph_core.Sources.{SourceModel}
 use Rattle.go_whole_core.specs.graph_core.Workspaces.{PackageModel, IsWorkspace, by_bytes, names_of_files}
 use Rattle.go_emit_core.specs.used_core.Used.{TheUse}
 use Rattle.go_whole_core.specs.part_core.Parts.{FileOf, PartModel}
 use Rattle.go_whole_core.proofs.Lists.{one_at}
 use Rattle.go_snap_core.specs.Snapshots.{IsAnswerAt, IsPartAt}
-use Rattle.go_snap_core.proofs.Searching.{found, not_found, one_key}
+use Rattle.go_make_core.proofs.Searching.{found, not_found}
+pub use Rattle.go_make_core.proofs.Searching.{one_key}
+pub use Rattle.go_make_core.proofs.Finding.{one_part_at}
 
--- what a search for a package or a file answers
-
-pub package_found : (ps : List PackageModel) (path : List ℕ) (r : Result ℕ ℕ) (o : Option ℕ) → o ≡ result_ok r → IsStrictlySortedBy by_bytes (keys_of ps) → IsSearchInRange r (length ps) → IsBinarySearchResult (λ (p : PackageModel). by_bytes p.0 path) ps r
-    → MatchOption o (IsNowhere ps path) (λ number. (files : List SourceModel) × IsNumbered ps path number files)
-package_found ps path r o is order within search_is = subst (λ x. MatchOption x (IsNowhere ps path) (λ number. (files : List SourceModel) × IsNumbered ps path number files)) (sym is) (by r within search_is)
-  where
-    by : (r : Result ℕ ℕ) → IsSearchInRange r (length ps) → IsBinarySearchResult (λ (p : PackageModel). by_bytes p.0 path) ps r → MatchOption (result_ok r) (IsNowhere ps path) (λ number. (files : List SourceModel) × IsNumbered ps path number files)
-    by (Ok i) low at = (let f = found (λ (p : PackageModel). p.0) ps path i low at in (f.0.1, f.1 ∙ ap (λ (k : List ℕ). Some (k, f.0.1)) f.2))
-    by (Err i) low at = λ j files numbered. not_found (λ (p : PackageModel). p.0) ps path i order at j (path, files) numbered refl
-
+-- what a search for a file answers
 pub file_found : (fs : List SourceModel) (name : List ℕ) (r : Result ℕ ℕ) (o : Option ℕ) → o ≡ result_ok r → IsStrictlySortedBy by_bytes (names_of_files fs) → IsSearchInRange r (length fs) → IsBinarySearchResult (λ (f : SourceModel). by_bytes f.name name) fs r
     → MatchOption o (All (λ f. f.name ≡ name → ⊥) fs) (λ number. (f : SourceModel) × (slice_get fs number ≡ Some f) × (f.name ≡ name))
 file_found fs name r o is order within search_is = subst (λ x. MatchOption x (All (λ f. f.name ≡ name → ⊥) fs) (λ number. (f : SourceModel) × (slice_get fs number ≡ Some f) × (f.name ≡ name))) (sym is) (by r within search_is)
@@ -52,14 +43,8 @@ pub looked_up : {X : Type 0} (xs : List X) (i : ℕ) (r : Option (Bor X)) (N : T
 looked_up xs i None N S is none some = none (slice_get_past xs i is.3)
 looked_up xs i (Some x) N S is none some = some x.now (slice_get_read xs (length xs) i x.now refl is.3.0 is.1)
 
--- a path has at most one part
+-- a path has at most one part, and a file at most one answer
 module _ (ps : List PackageModel) (well : IsWorkspace ps) (parts : List (Option PartModel)) (path : List ℕ) where
-  pub one_part_at : (p q : PartModel) → IsPartAt ps parts path p → IsPartAt ps parts path q → p ≡ q
-  one_part_at p q h k =
-      let same : h.number ≡ k.number = one_key (λ (x : PackageModel). x.0) ps h.number k.number (path, h.files) (path, k.files) well.order h.numbered k.numbered refl in
-      let there : slice_get parts k.number ≡ Some (Some p) = subst (λ n. slice_get parts n ≡ Some (Some p)) same h.there in
-      same_Some p q (one_at parts k.number (Some p) (Some q) there k.there)
-
   module _ (p : PartModel) (there : IsPartAt ps parts path p) (name : List ℕ) where
     -- what an answer says of the part
     record IsIn (n : ℕ) (u : TheUse) : Type 0 where
@@ -73,7 +58,7 @@ module _ (ps : List PackageModel) (well : IsWorkspace ps) (parts : List (Option 
 
     in_part : (n : ℕ) (u : TheUse) → IsAnswerAt ps parts path name n u → IsIn n u
     in_part n u h =
-        let same : h.of_part ≡ p = one_part_at h.of_part p h.in_workspace there in
+        let same : h.of_part ≡ p = one_part_at ps well parts path h.of_part p h.in_workspace there in
         record {
           number = h.number;
           source = h.source;
@@ -109,20 +94,13 @@ module _ (ps : List PackageModel) (well : IsWorkspace ps) (parts : List (Option 
         pub is_answer : (u : TheUse) → slice_get m.answers.uses n ≡ Some u → IsAnswerAt ps parts path name n u
         is_answer u h = record { of_part = p; in_workspace = there; number = k; source = f; in_package = at; named = named; file = m; made = made; answer = h }
 
--- what the search for a part answers
-pub part_found : (ps qs : List PackageModel) (parts xs : List (Option PartModel)) (path q : List ℕ) (number : ℕ) (files : List SourceModel) (r : Option (Bor PartModel)) → IsWorkspace ps → qs ≡ ps → xs ≡ parts → q ≡ path → IsNumbered qs q number files
-    → MatchOption r ((p : PartModel) → slice_get xs number ≡ Some (Some p) → ⊥) (λ p. slice_get xs number ≡ Some (Some p.now))
-    → MatchOption r ((p : PartModel) → IsPartAt ps parts path p → ⊥) (λ p. IsPartAt ps parts path p.now)
-part_found ps qs parts xs path q number files r well packages are named numbered h = by r h
-  where
-    at : slice_get ps number ≡ Some (path, files)
-    at = subst (λ (k : List ℕ). slice_get ps number ≡ Some (k, files)) named (subst (λ l. slice_get l number ≡ Some (q, files)) packages numbered)
-
-    by : (r : Option (Bor PartModel)) → MatchOption r ((p : PartModel) → slice_get xs number ≡ Some (Some p) → ⊥) (λ p. slice_get xs number ≡ Some (Some p.now)) → MatchOption r ((p : PartModel) → IsPartAt ps parts path p → ⊥) (λ p. IsPartAt ps parts path p.now)
-    by None h = λ p k.
-        let same : k.number ≡ number = one_key (λ (x : PackageModel). x.0) ps k.number number (path, k.files) (path, files) well.order k.numbered at refl in
-        h p (subst (λ l. slice_get l number ≡ Some (Some p)) (sym are) (subst (λ n. slice_get parts n ≡ Some (Some p)) same k.there))
-    by (Some p) h = record { number = number; files = files; numbered = at; there = subst (λ l. slice_get l number ≡ Some (Some p.now)) are h }
+-- what a search says of one workspace and its parts it says of equal ones
+pub part_searched : (ps qs : List PackageModel) (parts xs : List (Option PartModel)) (path q : List ℕ) (r : Option (Bor PartModel)) → qs ≡ ps → xs ≡ parts → q ≡ path
+    → MatchOption r ((p : PartModel) → IsPartAt qs xs q p → ⊥) (λ p. IsPartAt qs xs q p.now) → MatchOption r ((p : PartModel) → IsPartAt ps parts path p → ⊥) (λ p. IsPartAt ps parts path p.now)
+part_searched ps qs parts xs path q r a b e h =
+    subst (λ (k : List ℕ). MatchOption r ((p : PartModel) → IsPartAt ps parts k p → ⊥) (λ p. IsPartAt ps parts k p.now)) e
+    (subst (λ (l : List (Option PartModel)). MatchOption r ((p : PartModel) → IsPartAt ps l q p → ⊥) (λ p. IsPartAt ps l q p.now)) b
+    (subst (λ (l : List PackageModel). MatchOption r ((p : PartModel) → IsPartAt l xs q p → ⊥) (λ p. IsPartAt l xs q p.now)) a h))
 
 -- what an occurrence has, or that it is none
 abbrev pub IsTold : List PackageModel → List (Option PartModel) → List ℕ → List ℕ → ℕ → Option (Bor TheUse) → Type 0

@@ -2,7 +2,6 @@ pub mod Reporting
 pub mod Adding
 pub mod Faulty
 pub mod Putting
-pub mod Searching
 pub mod Finding
 pub mod Rising
 pub mod OneFaults

@@ -7,7 +7,7 @@ use Rattle.go_whole_core.specs.part_core.Parts.{ContentOf}
 use Rattle.go_snap_core.specs.declared.fault.PlacedFault.{PlacedFault}
 use Rattle.go_snap_core.specs.Faults.{AreFaults, ComesBefore, InPackage, InFile, ByOffset, ByRule}
 use Rattle.go_snap_core.proofs.Rising.{ordered_same}
-use Rattle.go_snap_core.proofs.Searching.{never_less}
+use Rattle.go_make_core.proofs.Searching.{never_less}
 
 -- no two faults stand each before the other
 pub never_both : (f g : PlacedFault) → ComesBefore f g → ComesBefore g f → ⊥

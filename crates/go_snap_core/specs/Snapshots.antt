@@ -6,7 +6,6 @@ use Rattle.std.specs.List.{AllZip}
 use Rattle.std.specs.List.Sorted.{IsPermutation}
 use Rattle.std.specs.Option.{option_map}
 use Rattle.go_emit_core.specs.Emitted.{somes}
-use Rattle.go_whole_core.specs.graph_core.Imports.{IsNumbered}
 use Rattle.go_whole_core.specs.graph_core.Sources.{SourceModel}
 use Rattle.go_whole_core.specs.graph_core.Workspaces.{PackageModel}
 use Rattle.go_whole_core.specs.ready_core.Packages.{trees_in}
@@ -17,6 +16,7 @@ use Rattle.go_snap_core.specs.Faults.{AreFaults}
 use Rattle.go_whole_core.specs.Inputs.{AreParts}
 use Rattle.go_whole_core.specs.Entries.{IsPartEntry}
 use Rattle.go_whole_core.specs.Whole.{AreWhole, WholeOf}
+pub use Rattle.go_make_core.specs.Finding.{IsPartAt}
 
 abbrev pub contents_of : List (Option PartModel) → List (Option ContentOf)
 contents_of ps = map (option_map (λ (p : PartModel). p.content)) ps
@@ -46,13 +46,6 @@ abbrev pub snapshot_with : List PackageModel → List (Option PartModel) → Lis
 snapshot_with sources parts faults = record { sources = sources; parts = parts; faults = faults }
 
 -- look-ups
-
--- the package of a path has this part
-pub record IsPartAt (ps : List PackageModel) (parts : List (Option PartModel)) (path : List ℕ) (p : PartModel) : Type 0 where
-  pub number : ℕ
-  pub files : List SourceModel
-  pub numbered : IsNumbered ps path number files
-  pub there : slice_get parts number ≡ Some (Some p)
 
 -- the occurrence of a number in the file of a name in the package of a path has this
 pub record IsAnswerAt (ps : List PackageModel) (parts : List (Option PartModel)) (path name : List ℕ) (n : ℕ) (u : TheUse) : Type 0 where

@@ -10,7 +10,7 @@ mod snapshot;
 
 pub use fault::PlacedFault;
 pub use laws::{faults_differ, faults_lie_in_files, one_snapshot, refusals_are_faults};
-pub use making::compile;
+pub use making::{Recompiled, compile, recompile};
 pub use snapshot::{Snapshot, join};
 
 /// What the crates above name of `go_answer_core`.
@@ -36,11 +36,6 @@ pub mod embed_core {
 /// What the crates above name of `go_emit_core`.
 pub mod emit_core {
     pub use go_emit_core::{emit, one_object};
-}
-
-/// What the crates above name of `go_entry_core`.
-pub mod entry_core {
-    pub use go_whole_core::entry_core::outlines;
 }
 
 /// What the crates above name of `go_face_core`.

@@ -1,22 +1,40 @@
 //! The snapshot of a workspace.
 ghost use Rattle.std.specs.Prelude.{◌≡◌, IfOk};
+ghost use Rattle.go_whole_core.specs.graph_core.Workspaces.{IsWorkspace};
+ghost use Rattle.go_whole_core.specs.Inputs.{AreParts};
+ghost use Rattle.go_make_core.specs.Keeping.{AreKept};
 ghost use Rattle.go_snap_core.specs.Snapshots.{IsSnapshot};
 
 use crate::fault::{PlacedFault, faults_of};
 use crate::snapshot::Snapshot;
-use go_make_core::parts_of;
+use go_make_core::{parts_again, parts_of};
 use go_whole_core::graph_core::Workspace;
 use go_whole_core::locality_core::{check_is_local, imports_bind_theirs};
 use go_whole_core::part_core::Parts;
 use std::alloc::{AllocError, Global};
 
-// What the snapshot of a workspace has beside it: the parts of its assembled packages, by their numbers, and all faults.
-fn made_of(alloc: Global, workspace: &Workspace) -> Result<(Parts, Vec<PlacedFault>), AllocError>
-    ensures { IfOk result (λ made. IsSnapshot workspace.now made.0 made.1.items) }
+/// A snapshot that was made over an earlier one.
+#[derive(Drop)]
+pub struct Recompiled {
+    /// The snapshot: it is the one that `compile` gives.
+    pub snapshot: Snapshot,
+    /// Of each package, by its number, whether its part is the earlier snapshot's own.
+    pub kept: Vec<bool>,
+}
+
+// The parts of the assembled packages of a workspace, by their numbers, with all faults.
+fn with_faults(
+    alloc: Global,
+    workspace: &Workspace,
+    parts: Parts,
+) -> Result<(Parts, Vec<PlacedFault>), AllocError>
+    requires well { IsWorkspace workspace.now }
+    requires parts { AreParts workspace.now parts }
+    ensures parts { IfOk result (λ made. made.0 ≡ parts) }
+    ensures whole { IfOk result (λ made. IsSnapshot workspace.now made.0 made.1.items) }
 {
     check_is_local();
     imports_bind_theirs();
-    let parts = parts_of(alloc, workspace)?;
     match faults_of(alloc, workspace, parts.as_slice()) {
         Ok(faults) => Ok((parts, faults)),
         Err(AllocError) => {
@@ -24,6 +42,30 @@ fn made_of(alloc: Global, workspace: &Workspace) -> Result<(Parts, Vec<PlacedFau
             Err(AllocError)
         }
     }
+}
+
+// What the snapshot of a workspace has beside it: the parts of its assembled packages, by their numbers, and all faults.
+fn made_of(alloc: Global, workspace: &Workspace) -> Result<(Parts, Vec<PlacedFault>), AllocError>
+    ensures { IfOk result (λ made. IsSnapshot workspace.now made.0 made.1.items) }
+{
+    let parts = parts_of(alloc, workspace)?;
+    let made = with_faults(alloc, workspace, parts)?;
+    Ok(made)
+}
+
+// The same over an earlier snapshot, and of each package whether its part is kept.
+fn made_again(
+    alloc: Global,
+    workspace: &Workspace,
+    earlier: &Snapshot,
+) -> Result<(Parts, Vec<PlacedFault>, Vec<bool>), AllocError>
+    ensures whole { IfOk result (λ made. IsSnapshot workspace.now made.0 made.1.items) }
+    ensures kept { IfOk result (λ made. AreKept earlier.now.parts made.0 made.2.items) }
+{
+    let sources = earlier.sources();
+    let (parts, kept) = parts_again(alloc, workspace, sources, earlier.parts())?;
+    let (parts, faults) = with_faults(alloc, workspace, parts)?;
+    Ok((parts, faults, kept))
 }
 
 /// The snapshot of a workspace: each assembled package is compiled once, behind those that it imports.
@@ -42,6 +84,38 @@ pub fn compile(alloc: Global, workspace: &Workspace) -> Result<Snapshot, AllocEr
         Ok((parts, faults)) => Ok(Snapshot::new(sources, parts, faults)),
         Err(AllocError) => {
             sources.close();
+            Err(AllocError)
+        }
+    }
+}
+
+/// The snapshot of a workspace, over an earlier one of any workspace: what `compile` gives, since a workspace has one snapshot (`one_snapshot`). A
+/// package whose input is the one that its part was made from keeps that part, which is shared: nothing of it is checked again, and no memory is
+/// taken for it. What a package tells that is made again is compared once with what it told; so an edit of a body has one package checked again, and
+/// none of those that import it.
+///
+/// The Go specification, "Packages", "Import declarations".
+///
+/// # Errors
+///
+/// `AllocError` where memory is wanting. The earlier snapshot is as it was in any case.
+pub fn recompile(
+    alloc: Global,
+    workspace: &Workspace,
+    earlier: &Snapshot,
+) -> Result<Recompiled, AllocError>
+    ensures sources { IfOk result (λ r. r.snapshot.sources ≡ workspace.now) }
+    ensures whole { IfOk result (λ r. IsSnapshot workspace.now r.snapshot.parts r.snapshot.faults) }
+    ensures kept { IfOk result (λ r. AreKept earlier.now.parts r.snapshot.parts r.kept.items) }
+{
+    let current = workspace.copy(alloc)?;
+    match made_again(alloc, &current, earlier) {
+        Ok((parts, faults, kept)) => Ok(Recompiled {
+            snapshot: Snapshot::new(current, parts, faults),
+            kept,
+        }),
+        Err(AllocError) => {
+            current.close();
             Err(AllocError)
         }
     }

@@ -1,8 +1,7 @@
 //! Snapshots.
 ghost use Rattle.std.specs.Prelude.{◌≡◌, ◌≤◌, ℕ, List, [], All, IfErr, IfOk, MatchOption, None, Some, length, map, replicate, slice_get, slice_set, vec_capacity};
 ghost use Rattle.std.specs.List.Sorted.{IsPermutation, IsStrictlySortedBy};
-ghost use Rattle.std.specs.Map.{keys_of};
-ghost use Rattle.go_whole_core.specs.graph_core.Imports.{IsNowhere, IsNumbered};
+ghost use Rattle.go_whole_core.specs.graph_core.Imports.{IsNumbered};
 ghost use Rattle.go_whole_core.specs.graph_core.Sources.{SourceModel};
 ghost use Rattle.go_whole_core.specs.graph_core.Workspaces.{IsWorkspace, by_bytes, names_of_files};
 ghost use Rattle.go_emit_core.specs.used_core.Used.{TheUse};
@@ -17,6 +16,7 @@ use go_emit_core::answer_core::{Answer, Site};
 use go_emit_core::emit_all;
 use go_emit_core::object_core::Object;
 use go_emit_core::tree_core::OccId;
+use go_make_core::{package_of, part_of};
 use go_path_core::ImportPath;
 use go_whole_core::graph_core::{PackageSource, SourceFile, Workspace};
 use go_whole_core::part_core::{Part, PartInput, Parts, close_parts};
@@ -52,33 +52,12 @@ impl Model for Snapshot {
     ghost invariant = { λ s. IsSnapshot s.sources s.parts s.faults.items };
 }
 
-// The number of the package of a path among packages in byte order of path.
-fn package_of(packages: &[PackageSource], path: &str) -> Option<usize>
-    requires { IsStrictlySortedBy by_bytes (keys_of packages.now) }
-    ensures { MatchOption result (IsNowhere packages.now path.now) (λ number. (files : List SourceModel) × IsNumbered packages.now path.now number files) }
-{
-    packages
-        .binary_search_by(|source| source.path().as_str().cmp(path))
-        .ok()
-}
-
 // The number of the file of a name among files in byte order of name.
 fn file_of(files: &[SourceFile], name: &str) -> Option<usize>
     requires { IsStrictlySortedBy by_bytes (names_of_files files.now) }
     ensures { MatchOption result (All (λ f. f.name ≡ name.now → ⊥) files.now) (λ number. (f : SourceModel) × (slice_get files.now number ≡ Some f) × (f.name ≡ name.now)) }
 {
     files.binary_search_by(|file| file.name().cmp(name)).ok()
-}
-
-// The part of a number, if there is one.
-fn part_at(parts: &[Option<Part>], number: usize) -> Option<&Part>
-    ensures { MatchOption result ((p : PartModel) → ¬ (slice_get parts.now number ≡ Some (Some p))) (λ p. slice_get parts.now number ≡ Some (Some p.now)) }
-{
-    match parts.get(number) {
-        Some(Some(part)) => Some(part),
-        Some(None) => None,
-        None => None,
-    }
 }
 
 impl Snapshot {
@@ -114,8 +93,7 @@ impl Snapshot {
         ensures well { IsWorkspace self.now.sources }
         ensures part { MatchOption result ((p : PartModel) → ¬ IsPartAt self.now.sources self.now.parts path.now p) (λ p. IsPartAt self.now.sources self.now.parts path.now p.now) }
     {
-        let number = package_of(self.sources.packages(), path.as_str())?;
-        part_at(self.parts(), number)
+        part_of(self.sources(), self.parts(), path.as_str())
     }
 
     /// The part of the assembled package of a path; `None` for any other path.

@@ -19,6 +19,7 @@ use Rattle.go_context_core.specs.piece_core.Pieces.{piece_uses, piece_values}
 use Rattle.go_context_core.specs.piece_core.Specifications.{spec_uses}
 use Rattle.go_context_core.specs.env_core.declared.meaning.Meaning.{Meaning}
 use Rattle.go_context_core.specs.body_core.Notes.{NoteOf, all_uses}
+use Rattle.go_context_core.specs.body_core.Rules.{local_at}
 use Rattle.go_context_core.specs.top_core.Tops.{of_specs}
 use Rattle.go_context_core.specs.func_core.Stands.{FileStand, looks_where, outer_names, outer_look, outer_looks}
 use Rattle.go_context_core.specs.func_core.Functions.{own_rules, checked_func}
@@ -26,9 +27,9 @@ use Rattle.go_context_core.specs.file_core.Files.{decl_uses, tops_uses}
 use Rattle.go_context_core.specs.respell_core.Functions.{spot_rules}
 use Rattle.go_context_core.specs.respell_core.Spots.{spec_spots, piece_spots}
 use Rattle.go_context_core.specs.respell_core.Pieces.{piece_used}
-use Rattle.go_context_core.specs.Functions.{TheSpot, local_of}
+use Rattle.go_context_core.specs.Functions.{TheSpot}
 use Rattle.go_context_core.specs.Spots.{decl_spots, tops_spots}
-use Rattle.go_spelling_core.specs.Places.{PlacedSpot, placed, placed_use, piece_places, place_rules, func_places, decl_places, tops_places}
+use Rattle.go_spelling_core.specs.Places.{PlacedSpot, placed_spot, placed_use, piece_places, place_rules, func_places, decl_places, tops_places}
 
 -- lists that are mapped
 
@@ -46,7 +47,7 @@ specs_mapped {A = A} f us ps h (Group first ls last) = each_mapped f (λ (l : A 
 abbrev spot_of : PlacedSpot → TheSpot
 spot_of s = s.spot
 
-spots_back : (names : Look Meaning) (ps : List TheSpot) → ps ≡ map spot_of (map (placed names) ps)
+spots_back : (names : Look Meaning) (ps : List TheSpot) → ps ≡ map spot_of (map (placed_spot names) ps)
 spots_back names [] = refl
 spots_back names (p ∷ ps) = ap (λ l. p ∷ l) (spots_back names ps)
 
@@ -55,7 +56,7 @@ all_both [] ms = refl
 all_both (n ∷ ns) ms = ap (λ l. n.uses ++ l) (all_both ns ms) ∙ sym (append_assoc n.uses (all_uses ns) (all_uses ms))
 
 module _ (st : FileStand) where
-  uses_placed : (names : Look Meaning) (ps : List TheSpot) → map (use_of (looks_where st names)) ps ≡ map (placed_use st) (map (placed names) ps)
+  uses_placed : (names : Look Meaning) (ps : List TheSpot) → map (use_of (looks_where st names)) ps ≡ map (placed_use st) (map (placed_spot names) ps)
   uses_placed names [] = refl
   uses_placed names (p ∷ ps) = ap (λ l. use_of (looks_where st names) p ∷ l) (uses_placed names ps)
 
@@ -68,13 +69,13 @@ module _ (st : FileStand) where
   there outer block = look_in (outer_names st) (outer ++ block)
 
   abbrev pub block_after : Names Meaning → Names Meaning → Piece → List Ident → Names Meaning
-  block_after outer block p xs = with_names block (local_of p (piece_values (looks_where st (there outer block)) (news (names_of block) xs) p)) 0 xs
+  block_after outer block p xs = with_names block (local_at p (piece_values (looks_where st (there outer block)) (news (names_of block) xs) p)) 0 xs
 
   abbrev pub place_walk : Names Meaning → Names Meaning → ℕ → ℕ → Steps → List PlacedSpot
   place_walk outer block o c s = (walk_out (place_rules st) (outer_names st) outer block o c s).notes
 
   abbrev spot_walk : Names Meaning → Names Meaning → ℕ → ℕ → Steps → List TheSpot
-  spot_walk outer block o c s = (walk_out (spot_rules (looks_where st) local_of) (outer_names st) outer block o c s).notes
+  spot_walk outer block o c s = (walk_out (spot_rules (looks_where st) local_at) (outer_names st) outer block o c s).notes
 
   spots_walked : (s : Steps) (outer block : Names Meaning) (o c : ℕ) → spot_walk outer block o c s ≡ map spot_of (place_walk outer block o c s)
   spots_walked Done outer block o c = refl

@@ -22,7 +22,7 @@ use Rattle.go_context_core.specs.Outer.{OuterTypesInFilesStay}
 use Rattle.go_context_core.specs.Packages.{FileInitialisersStay, PackageBodiesStay, TypesStay}
 use Rattle.go_context_core.specs.Spots.{tops_spots}
 use Rattle.go_spelling_core.specs.Laws.{some_uses, uses_in, checked_stand, import_outcomes, ContextsDecide, StaysInFile, IsInValues, IsInBody, ContextsStayInPackages}
-use Rattle.go_spelling_core.specs.Places.{placed, placed_use, tops_places, MeanThere}
+use Rattle.go_spelling_core.specs.Places.{placed_spot, placed_use, tops_places, MeanThere}
 use Rattle.go_spelling_core.specs.Spellings.{RespellsTops, InInitialiser, InOuterTypes, InBody}
 use Rattle.go_spelling_core.proofs.Bodies.{stands_same}
 use Rattle.go_spelling_core.proofs.Listed.{get_mapped, mapped_from, get_behind, get_seam, numbered_at, zip_at}
@@ -83,7 +83,7 @@ module _ (types_law : TypesStay) (initial_law : FileInitialisersStay) (outer_law
     context : Context Term Declaration
     names : Look Meaning
     others : Look Meaning
-    stands : slice_get (tops_places st file.decls) at ≡ Some (placed names (Identifier context x))
+    stands : slice_get (tops_places st file.decls) at ≡ Some (placed_spot names (Identifier context x))
     there : MeanThere st other r names others
     has : slice_get (tops_uses other decls) at ≡ Some (made_use x.span.start (role_of context) (rule (looks_where other others) context x.span.start name))
 
@@ -97,7 +97,7 @@ module _ (types_law : TypesStay) (initial_law : FileInitialisersStay) (outer_law
         context = stays.context;
         names = spot.item.names;
         others = outer_look other;
-        stands = spot.at ∙ ap (λ s. Some (placed spot.item.names s)) spot.holds;
+        stands = spot.at ∙ ap (λ s. Some (placed_spot spot.item.names s)) spot.holds;
         there = there spot.item.names;
         has = stays.has;
       }
@@ -152,7 +152,7 @@ module _ (types_law : TypesStay) (initial_law : FileInitialisersStay) (outer_law
         had =
             ap (λ l. slice_get l (length imports + it.at)) had_at
             ∙ (get_behind imports (tops_uses st file.decls) it.at
-            ∙ (ap (λ l. slice_get l it.at) (tops_noted st file.decls) ∙ get_mapped (placed_use st) (tops_places st file.decls) it.at (placed it.names (Identifier it.context x)) it.stands));
+            ∙ (ap (λ l. slice_get l it.at) (tops_noted st file.decls) ∙ get_mapped (placed_use st) (tops_places st file.decls) it.at (placed_spot it.names (Identifier it.context x)) it.stands));
         has = ap (λ l. slice_get l (length imports + it.at)) has_at ∙ (get_behind imports (tops_uses other decls) it.at ∙ it.has);
       }
 

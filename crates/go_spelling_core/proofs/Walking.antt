@@ -19,7 +19,7 @@ use Rattle.go_context_core.specs.respell_core.Trees.{RespellsPiece, RespellsStep
 use Rattle.go_context_core.specs.respell_core.Pieces.{piece_stays}
 use Rattle.go_context_core.specs.respell_core.Treading.{func_respelled}
 use Rattle.go_context_core.specs.Files.{WritesBody, InFunc, BehindTop}
-use Rattle.go_spelling_core.specs.Places.{PlacedSpot, placed, placed_use, piece_places, func_places, decl_places, tops_places}
+use Rattle.go_spelling_core.specs.Places.{PlacedSpot, placed_spot, placed_use, piece_places, func_places, decl_places, tops_places}
 use Rattle.go_spelling_core.proofs.Listed.{get_mapped, get_front, get_behind}
 use Rattle.go_spelling_core.proofs.Noted.{piece_noted, there, block_after, place_walk}
 
@@ -29,7 +29,7 @@ module _ (st : FileStand) (x : Ident) (name : List ℕ) where
     pub number : ℕ
     pub context : Context Term Declaration
     pub names : Look Meaning
-    pub stands : slice_get ps number ≡ Some (placed names (Identifier context x))
+    pub stands : slice_get ps number ≡ Some (placed_spot names (Identifier context x))
     pub has : slice_get (map (placed_use st) qs) number ≡ Some (made_use x.span.start (role_of context) (rule (looks_where st names) context x.span.start name))
 
   behind : (ps qs more others : List PlacedSpot) → PlaceStays ps qs → PlaceStays (ps ++ more) (qs ++ others)
@@ -62,7 +62,7 @@ module _ (st : FileStand) (x : Ident) (name : List ℕ) where
         number = c.number;
         context = c.context;
         names = names;
-        stands = get_mapped (placed names) (piece_spots (looks_where st names) p) c.number (Identifier c.context x) c.stands;
+        stands = get_mapped (placed_spot names) (piece_spots (looks_where st names) p) c.number (Identifier c.context x) c.stands;
         has = ap (λ l. slice_get l c.number) (sym (piece_noted st names q)) ∙ c.has;
       }
 

@@ -18,7 +18,7 @@ use Rattle.go_context_core.specs.file_core.Imports.{imports_uses}
 use Rattle.go_context_core.specs.ready_core.Packages.{PackageIn}
 use Rattle.go_package_core.specs.Checked.{AnswersOf, CheckedOf, IsChecked, imports_at, stand_at}
 use Rattle.go_context_core.specs.Files.{with_decls}
-use Rattle.go_spelling_core.specs.Places.{placed, placed_use, tops_places, MeanThere}
+use Rattle.go_spelling_core.specs.Places.{placed_spot, placed_use, tops_places, MeanThere}
 use Rattle.go_spelling_core.specs.Spellings.{RespellsTops, InInitialiser, InOuterTypes, InBody, RespellsPackage}
 
 -- what is answered for the occurrences of the file of a number, in order of their places
@@ -54,7 +54,7 @@ pub record StaysInFile (x : Ident) (name : List ℕ) (st other : FileStand) (ds 
   -- what names mean there, before and after
   pub names : Look Meaning
   pub others : Look Meaning
-  pub stands : slice_get (tops_places st ds) number ≡ Some (placed names (Identifier context x))
+  pub stands : slice_get (tops_places st ds) number ≡ Some (placed_spot names (Identifier context x))
   pub there : MeanThere st other r names others
   -- each package has what the rule of this context gives for its spelling
   pub had : slice_get before (length imports + number) ≡ Some (made_use x.span.start (role_of context) (rule (looks_where st names) context x.span.start x.name))

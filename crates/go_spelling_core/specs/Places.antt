@@ -13,10 +13,11 @@ use Rattle.go_context_core.specs.expr_core.Uses.{use_of, type_spots}
 use Rattle.go_context_core.specs.piece_core.Pieces.{piece_values}
 use Rattle.go_context_core.specs.env_core.declared.meaning.Meaning.{Meaning}
 use Rattle.go_context_core.specs.body_core.Notes.{TheUse}
+use Rattle.go_context_core.specs.body_core.Rules.{local_at}
 use Rattle.go_context_core.specs.top_core.Tops.{of_specs}
 use Rattle.go_context_core.specs.func_core.Stands.{FileStand, looks_where, outer_names, outer_look, outer_looks}
 use Rattle.go_context_core.specs.respell_core.Spots.{spec_spots, piece_spots}
-use Rattle.go_context_core.specs.Functions.{TheSpot, local_of}
+use Rattle.go_context_core.specs.Functions.{TheSpot}
 use Rattle.go_spelling_core.specs.Spellings.{RespellsTops, InInitialiser, InOuterTypes, InBody}
 
 -- an identifier in its context, or a call with what it has, and what names mean there
@@ -24,8 +25,8 @@ pub record PlacedSpot : Type 0 where
   pub names : Look Meaning
   pub spot : TheSpot
 
-abbrev pub placed : Look Meaning → TheSpot → PlacedSpot
-placed names spot = record { names = names; spot = spot }
+abbrev pub placed_spot : Look Meaning → TheSpot → PlacedSpot
+placed_spot names spot = record { names = names; spot = spot }
 
 -- what it has: an identifier what the rule of its context gives for its own spelling
 abbrev pub placed_use : FileStand → PlacedSpot → TheUse
@@ -33,19 +34,19 @@ placed_use st s = use_of (looks_where st s.names) s.spot
 
 -- those of a piece of a function, in front of which names mean this
 abbrev pub piece_places : FileStand → Look Meaning → Piece → List PlacedSpot
-piece_places st names p = map (placed names) (piece_spots (looks_where st names) p)
+piece_places st names p = map (placed_spot names) (piece_spots (looks_where st names) p)
 
 -- the rules by which they are noted on the way through a function
 abbrev pub place_rules : FileStand → Rules Meaning PlacedSpot
-place_rules st = record { notes = λ names firsts p. piece_places st names p; means = λ names firsts p. local_of p (piece_values (looks_where st names) firsts p) }
+place_rules st = record { notes = λ names firsts p. piece_places st names p; means = λ names firsts p. local_at p (piece_values (looks_where st names) firsts p) }
 
 abbrev pub func_places : FileStand → FuncTree → List PlacedSpot
 func_places st f = (walked (place_rules st) (outer_names st) f).notes
 
 -- those of declarations: outside functions names mean what they mean at the top of the file
 abbrev pub decl_places : FileStand → DeclTree → List PlacedSpot
-decl_places st (Value v) = map (placed (outer_look st)) (of_specs (spec_spots (outer_looks st)) v.specs)
-decl_places st (Types t) = map (placed (outer_look st)) (of_specs (λ s. type_spots (outer_looks st) s.type_expr) t.specs)
+decl_places st (Value v) = map (placed_spot (outer_look st)) (of_specs (spec_spots (outer_looks st)) v.specs)
+decl_places st (Types t) = map (placed_spot (outer_look st)) (of_specs (λ s. type_spots (outer_looks st) s.type_expr) t.specs)
 decl_places st (Func f) = func_places st f
 
 abbrev pub tops_places : FileStand → List TopTree → List PlacedSpot

@@ -18,11 +18,6 @@ pub mod embed_core {
     pub use go_locality_core::embed_core::Hits;
 }
 
-/// What the crates above name of `go_entry_core`.
-pub mod entry_core {
-    pub use go_locality_core::entry_core::outlines;
-}
-
 /// What the crates above name of `go_face_core`.
 pub mod face_core {
     pub use go_locality_core::face_core::Face;
@@ -50,7 +45,7 @@ pub mod package_core {
 pub mod part_core {
     pub use go_part_core::{
         Part, PartInput, Parts, close_parts, close_summaries, close_view, compile_over,
-        compile_part, one_part, part_has_occurrences,
+        compile_part, one_part, part_has_occurrences, same_imports,
     };
 }
 

@@ -10,7 +10,7 @@ use Rattle.clap.specs.Kinds.{Kinds, or_else}
 use Rattle.clap.specs.Faults.{bundle_fault, check_fault, defaults_fault, flag_word_fault, level_fault, other_fault, settle_fault, step_fault, turn_fault, walk_fault, word_fault}
 use Rattle.clap.specs.declared.error.kind.ErrorKind.TheVariants as kind
 use Rattle.clap.proofs.OnLiterals.{clap_on_literals}
-use Rattle.govisd.specs.Asking.{ToCheck, ToExplain, ToHelp, explain_app, govisd_app, is_plain, line, named, order_in, refusals}
+use Rattle.govisd.specs.Asking.{ToCheck, ToExplain, ToHelp, explain_app, govisd_app, is_plain, command_line, asked_by_subcommand, order_in, refusals}
 
 not_true : (t : Bool) → not t ≡ true → t ≡ false
 not_true true h = absurd (cc)
@@ -118,29 +118,29 @@ value_last s id position h word plain =
 abbrev sub : ℕ → Shape
 sub i = get_or (built govisd_app).subs i explain_app.top
 
-pub explain_word : (program word : Text) → is_plain word ≡ true → refusals (line program (codes "explain" ∷ (word ∷ []))) ≡ []
+pub explain_word : (program word : Text) → is_plain word ≡ true → refusals (command_line program (codes "explain" ∷ (word ∷ []))) ≡ []
 unfolding clap_on_literals
 explain_word program word plain = ap (λ k. or_else k []) (one_word (sub 1) word plain)
 
-pub explain_word_named : (program word : Text) → is_plain word ≡ true → named (line program (codes "explain" ∷ (word ∷ []))) ≡ ToExplain (Some word)
+pub explain_word_named : (program word : Text) → is_plain word ≡ true → asked_by_subcommand (command_line program (codes "explain" ∷ (word ∷ []))) ≡ ToExplain (Some word)
 unfolding clap_on_literals
 explain_word_named program word plain =
     ap (λ (w : Walk). ToExplain (first_of (codes "rule") (finished (sub 1).rules w.held))) (passed (sub 1).rules [] 1 word nothing_held refl plain)
 
-pub check_folder : (program folder : Text) → is_plain folder ≡ true → refusals (line program (codes "check" ∷ (folder ∷ []))) ≡ []
+pub check_folder : (program folder : Text) → is_plain folder ≡ true → refusals (command_line program (codes "check" ∷ (folder ∷ []))) ≡ []
 unfolding clap_on_literals
 check_folder program folder plain = ap (λ k. or_else k []) (one_word (sub 2) folder plain)
 
-pub check_folder_named : (program folder : Text) → is_plain folder ≡ true → named (line program (codes "check" ∷ (folder ∷ []))) ≡ ToCheck folder None false
+pub check_folder_named : (program folder : Text) → is_plain folder ≡ true → asked_by_subcommand (command_line program (codes "check" ∷ (folder ∷ []))) ≡ ToCheck folder None false
 unfolding clap_on_literals
 check_folder_named program folder plain =
     ap (λ (w : Walk). order_in (finished (sub 2).rules w.held)) (passed (sub 2).rules [] 1 folder nothing_held refl plain)
 
-pub check_json : (program folder : Text) → is_plain folder ≡ true → refusals (line program (codes "check" ∷ (folder ∷ (codes "--json" ∷ [])))) ≡ []
+pub check_json : (program folder : Text) → is_plain folder ≡ true → refusals (command_line program (codes "check" ∷ (folder ∷ (codes "--json" ∷ [])))) ≡ []
 unfolding clap_on_literals
 check_json program folder plain = ap (λ k. or_else k []) (word_then (sub 2) folder (codes "--json" ∷ []) plain)
 
-pub check_json_named : (program folder : Text) → is_plain folder ≡ true → named (line program (codes "check" ∷ (folder ∷ (codes "--json" ∷ [])))) ≡ ToCheck folder None true
+pub check_json_named : (program folder : Text) → is_plain folder ≡ true → asked_by_subcommand (command_line program (codes "check" ∷ (folder ∷ (codes "--json" ∷ [])))) ≡ ToCheck folder None true
 unfolding clap_on_literals
 check_json_named program folder plain =
     ap (λ (w : Walk). order_in (finished (sub 2).rules (walked (sub 2).rules [] w (codes "--json")).held)) (passed (sub 2).rules [] 1 folder nothing_held refl plain)
@@ -149,26 +149,26 @@ check_json_named program folder plain =
 abbrev held_behind : Text → Held
 held_behind folder = (walked (sub 2).rules [] (behind (sub 2) folder) (codes "--module")).held
 
-pub check_module : (program folder path : Text) → is_plain folder ≡ true → is_plain path ≡ true → refusals (line program (codes "check" ∷ (folder ∷ (codes "--module" ∷ (path ∷ []))))) ≡ []
+pub check_module : (program folder path : Text) → is_plain folder ≡ true → is_plain path ≡ true → refusals (command_line program (codes "check" ∷ (folder ∷ (codes "--module" ∷ (path ∷ []))))) ≡ []
 unfolding clap_on_literals
 check_module program folder path plain plain' =
     ap (λ k. or_else k []) (word_then (sub 2) folder (codes "--module" ∷ (path ∷ [])) plain ∙ value_last (sub 2) (codes "module") 2 (held_behind folder) path plain')
 
-pub check_module_named : (program folder path : Text) → is_plain folder ≡ true → is_plain path ≡ true → named (line program (codes "check" ∷ (folder ∷ (codes "--module" ∷ (path ∷ []))))) ≡ ToCheck folder (Some path) false
+pub check_module_named : (program folder path : Text) → is_plain folder ≡ true → is_plain path ≡ true → asked_by_subcommand (command_line program (codes "check" ∷ (folder ∷ (codes "--module" ∷ (path ∷ []))))) ≡ ToCheck folder (Some path) false
 unfolding clap_on_literals
 check_module_named program folder path plain plain' =
     ap (λ (w : Walk). order_in (finished (sub 2).rules (walked (sub 2).rules [] (walked (sub 2).rules [] w (codes "--module")) path).held)) (passed (sub 2).rules [] 1 folder nothing_held refl plain)
     ∙ ap (λ (w : Walk). order_in (finished (sub 2).rules w.held)) (value_passed (sub 2) [] (codes "module") 2 (held_behind folder) path plain')
 
-pub help_word : (program word : Text) → is_plain word ≡ true → refusals (line program (codes "help" ∷ (word ∷ []))) ≡ []
+pub help_word : (program word : Text) → is_plain word ≡ true → refusals (command_line program (codes "help" ∷ (word ∷ []))) ≡ []
 unfolding clap_on_literals
 help_word program word plain = ap (λ k. or_else k []) (one_word (sub 3) word plain)
 
-pub help_word_named : (program word : Text) → is_plain word ≡ true → named (line program (codes "help" ∷ (word ∷ []))) ≡ ToHelp (Some word)
+pub help_word_named : (program word : Text) → is_plain word ≡ true → asked_by_subcommand (command_line program (codes "help" ∷ (word ∷ []))) ≡ ToHelp (Some word)
 unfolding clap_on_literals
 help_word_named program word plain =
     ap (λ (w : Walk). ToHelp (first_of (codes "command") (finished (sub 3).rules w.held))) (passed (sub 3).rules [] 1 word nothing_held refl plain)
 
-pub resolve_word : (program word : Text) → is_plain word ≡ true → refusals (line program (codes "resolve" ∷ (word ∷ []))) ≡ kind.UnknownArgument ∷ []
+pub resolve_word : (program word : Text) → is_plain word ≡ true → refusals (command_line program (codes "resolve" ∷ (word ∷ []))) ≡ kind.UnknownArgument ∷ []
 unfolding clap_on_literals
 resolve_word program word plain = ap (λ k. or_else k []) (one_word (sub 0) word plain)

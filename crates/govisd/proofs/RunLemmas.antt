@@ -10,14 +10,14 @@ use Rattle.clap.specs.declared.error.kind.ErrorKind.TheVariants as kind
 use Rattle.clap.proofs.OnLiterals.{clap_on_literals}
 use Rattle.go_text_core.specs.Rules.{rule_number}
 use Rattle.go_text_core.specs.declared.rule.Rule.{Rule}
-use Rattle.go_explain_core.specs.Naming.{named}
+use Rattle.go_explain_core.specs.Naming.{rule_of_number}
 use Rattle.go_explain_core.specs.Telling.{explained_text, list_text, unknown_text}
 use Rattle.go_explain_core.proofs.Everywhere.{everywhere}
 use Rattle.go_explain_core.proofs.Numbers.{names_each}
 use Rattle.govisd.specs.declared.program.Ran.{Ran}
 use Rattle.govisd.specs.declared.words.Request.{Request}
 use Rattle.govisd.specs.declared.words.Request.TheVariants.{Resolve, Explain, Check, Help, Version}
-use Rattle.govisd.specs.Asking.{Asks, ToCheck, ToExplain, ToHelp, is_plain, line, named as asked_by, refusals, said}
+use Rattle.govisd.specs.Asking.{Asks, ToCheck, ToExplain, ToHelp, is_plain, command_line, asked_by_subcommand as asked_by, refusals, said}
 use Rattle.govisd.specs.Runs.{Answering, ChecksEach, ChecksFolder, Does, Explains, ExplainsEach, ExplainsFound, Helps, HelpsEach, HelpsFound, ListsAll, Refuses, RefusesName, RefusesOtherCommands, RefusesOthers, Runs, RunsOut, ShowsOrRunsOut}
 use Rattle.govisd.specs.Texts.{help_of, unknown_command_text}
 use Rattle.govisd.proofs.PlainWords.{check_folder, check_folder_named, explain_word, explain_word_named, help_word, help_word_named}
@@ -99,11 +99,11 @@ module _ (Answers : Answering) (ran : Ran) (given left out out' err err' : Optio
   checked : (words : List Text) (folder : Text) (path : Option Text) (json : Bool) → refusals words ≡ [] → asked_by words ≡ ToCheck folder path json → Runs Answers words ran given left out out' err err' → (ChecksFolder Answers folder json path ran out out' err err' ⊎ (RunsOut ran err err' × Keeps out out')) × Keeps given left
   checked words folder path json none is r = done words (ChecksFolder Answers folder json path ran out out' err err') (λ request asks did. checks request folder path json (asks ∙ is) did) none r
 
-  found : (word : Text) (rule : Rule) → named word ≡ Some rule → Explains (Some word) ran out out' err err' ⊎ (RunsOut ran err err' × Keeps out out') → ShowsOrRunsOut (explained_text rule) ran out out' err err'
+  found : (word : Text) (rule : Rule) → rule_of_number word ≡ Some rule → Explains (Some word) ran out out' err err' ⊎ (RunsOut ran err err' × Keeps out out') → ShowsOrRunsOut (explained_text rule) ran out out' err err'
   found word rule is (inl h) = subst (λ f. ExplainsFound word f ran out out' err err') is h
   found word rule is (inr h) = inr h
 
-  lost : (word : Text) → named word ≡ None → Explains (Some word) ran out out' err err' ⊎ (RunsOut ran err err' × Keeps out out') → RefusesName (unknown_text word) ran err err' × Keeps out out'
+  lost : (word : Text) → rule_of_number word ≡ None → Explains (Some word) ran out out' err err' ⊎ (RunsOut ran err err' × Keeps out out') → RefusesName (unknown_text word) ran err err' × Keeps out out'
   lost word is (inl h) = subst (λ f. ExplainsFound word f ran out out' err err') is h
   lost word is (inr h) = (inr h.0, h.1)
 
@@ -125,37 +125,37 @@ numbers_plain = everywhere (λ rule. is_plain (rule_number rule)) refl
 pub each_rule : (Answers : Answering) → ExplainsEach Answers
 each_rule Answers program rule ran given left out out' err err' r =
     let plain = numbers_plain rule in
-    let h = explained Answers ran given left out out' err err' (line program (codes "explain" ∷ (rule_number rule ∷ []))) (Some (rule_number rule)) (explain_word program (rule_number rule) plain) (explain_word_named program (rule_number rule) plain) r in
+    let h = explained Answers ran given left out out' err err' (command_line program (codes "explain" ∷ (rule_number rule ∷ []))) (Some (rule_number rule)) (explain_word program (rule_number rule) plain) (explain_word_named program (rule_number rule) plain) r in
     (found Answers ran given left out out' err err' (rule_number rule) rule (names_each rule) h.0, h.1)
 
 pub no_rule : (Answers : Answering) → RefusesOthers Answers
 no_rule Answers program word plain none ran given left out out' err err' r =
-    let h = explained Answers ran given left out out' err err' (line program (codes "explain" ∷ (word ∷ []))) (Some word) (explain_word program word plain) (explain_word_named program word plain) r in
+    let h = explained Answers ran given left out out' err err' (command_line program (codes "explain" ∷ (word ∷ []))) (Some word) (explain_word program word plain) (explain_word_named program word plain) r in
     (lost Answers ran given left out out' err err' word none h.0, h.1)
 
-alone : (program : Text) → refusals (line program (codes "explain" ∷ [])) ≡ []
+alone : (program : Text) → refusals (command_line program (codes "explain" ∷ [])) ≡ []
 unfolding clap_on_literals
 alone program = refl
 
-alone_named : (program : Text) → asked_by (line program (codes "explain" ∷ [])) ≡ ToExplain None
+alone_named : (program : Text) → asked_by (command_line program (codes "explain" ∷ [])) ≡ ToExplain None
 unfolding clap_on_literals
 alone_named program = refl
 
 pub all_rules : (Answers : Answering) → ListsAll Answers
 all_rules Answers program ran given left out out' err err' r =
-    let h = explained Answers ran given left out out' err err' (line program (codes "explain" ∷ [])) None (alone program) (alone_named program) r in
+    let h = explained Answers ran given left out out' err err' (command_line program (codes "explain" ∷ [])) None (alone program) (alone_named program) r in
     (whole Answers ran given left out out' err err' h.0, h.1)
 
 pub each_folder : (Answers : Answering) → ChecksEach Answers
 each_folder Answers program folder plain ran given left out out' err err' r =
-    checked Answers ran given left out out' err err' (line program (codes "check" ∷ (folder ∷ []))) folder None false (check_folder program folder plain) (check_folder_named program folder plain) r
+    checked Answers ran given left out out' err err' (command_line program (codes "check" ∷ (folder ∷ []))) folder None false (check_folder program folder plain) (check_folder_named program folder plain) r
 
 pub each_command : (Answers : Answering) → HelpsEach Answers
 each_command Answers program name text plain is ran given left out out' err err' r =
-    let h = helped Answers ran given left out out' err err' (line program (codes "help" ∷ (name ∷ []))) (Some name) (help_word program name plain) (help_word_named program name plain) r in
+    let h = helped Answers ran given left out out' err err' (command_line program (codes "help" ∷ (name ∷ []))) (Some name) (help_word program name plain) (help_word_named program name plain) r in
     (known Answers ran given left out out' err err' name text is h.0, h.1)
 
 pub no_command : (Answers : Answering) → RefusesOtherCommands Answers
 no_command Answers program name plain none ran given left out out' err err' r =
-    let h = helped Answers ran given left out out' err err' (line program (codes "help" ∷ (name ∷ []))) (Some name) (help_word program name plain) (help_word_named program name plain) r in
+    let h = helped Answers ran given left out out' err err' (command_line program (codes "help" ∷ (name ∷ []))) (Some name) (help_word program name plain) (help_word_named program name plain) r in
     (unknown Answers ran given left out out' err err' name none h.0, h.1)

@@ -15,7 +15,7 @@ use Rattle.clap.specs.declared.parser.matches.Found.{Found}
 use Rattle.clap.proofs.WalkLemmas.{first_value-rows}
 use Rattle.clap.specs.declared.parser.matches.ArgMatches.{ArgMatches}
 use Rattle.clap.specs.declared.parser.matches.ArgMatches.TheViews.{out-ArgMatches}
-use Rattle.govisd.specs.Asking.{ToHelp, asked_in, govisd_app, named, refusals}
+use Rattle.govisd.specs.Asking.{ToHelp, asked_in, govisd_app, asked_by_subcommand, refusals}
 
 simple : is_simple govisd_app ≡ true
 simple = refl
@@ -55,7 +55,7 @@ both_told (Some p) a b first second = pair (cc) (cc)
     pair same same' = ap₂ (λ x y. Some (x, y)) same same'
 
 -- what the subcommand asks for is what the words ask for
-pub chosen : (app : App) (words : List Text) (m : ArgMatches) (name : Text) (rows : List Row) → app ≡ govisd_app → HasMatchesOf app words m → Some name ≡ subcommand_name_of m → Some rows ≡ option_map (λ (s : Text × List Row). s.1) (subcommand_rows_of m) → asked_in (name, rows) ≡ named words
+pub chosen : (app : App) (words : List Text) (m : ArgMatches) (name : Text) (rows : List Row) → app ≡ govisd_app → HasMatchesOf app words m → Some name ≡ subcommand_name_of m → Some rows ≡ option_map (λ (s : Text × List Row). s.1) (subcommand_rows_of m) → asked_in (name, rows) ≡ asked_by_subcommand words
 chosen app words m name rows is has first second =
     let found : subcommand_rows_of m ≡ Some (name, rows) = both_told (subcommand_rows_of m) name rows (first ∙ names_first m) second in
     sym (ap (λ o. option_map_or asked_in o (ToHelp None)) (sym (entered app words m is has) ∙ found))

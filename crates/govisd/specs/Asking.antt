@@ -80,8 +80,8 @@ asked_in (name, rows) =
     else (if bytes_eq name (codes "help") then ToHelp (first_of (codes "command") rows) else ToResolve))
 
 -- what the subcommand asks for that the words name
-abbrev pub named : List Text → Asked
-named words = option_map_or asked_in (subcommand_of govisd_app words) (ToHelp None)
+abbrev pub asked_by_subcommand : List Text → Asked
+asked_by_subcommand words = option_map_or asked_in (subcommand_of govisd_app words) (ToHelp None)
 
 -- a command has this name
 abbrev pub names_command : Text → Bool
@@ -103,41 +103,41 @@ is_plain (b ∷ bs) = not (b == 45)
 -- command whose name stands behind the program's
 abbrev pub Asks : List Text → Result Request Error → Type 0
 Asks words (Ok request) =
-    ((refusals words ≡ []) × (said request ≡ named words))
+    ((refusals words ≡ []) × (said request ≡ asked_by_subcommand words))
     ⊎ (IsAmong kind.DisplayHelp (refusals words) × (said request ≡ ToHelp (command_behind words)))
     ⊎ (IsAmong kind.DisplayVersion (refusals words) × (said request ≡ ToTellVersion))
 Asks words (Err e) = (kind_of e ≡ kind.OutOfMemory) ⊎ (IsAmong (kind_of e) (refusals words) × (kind_of e ≢ kind.DisplayHelp) × (kind_of e ≢ kind.DisplayVersion))
 
-abbrev pub line : Text → List Text → List Text
-line program words = program ∷ words
+abbrev pub command_line : Text → List Text → List Text
+command_line program words = program ∷ words
 
 -- what command lines of each form ask for
 pub record AskAs (program : Text) : Type 0 where
-  pub resolve : refusals (line program (codes "resolve" ∷ [])) ≡ []
-  pub resolve_named : named (line program (codes "resolve" ∷ [])) ≡ ToResolve
-  pub explain : refusals (line program (codes "explain" ∷ [])) ≡ []
-  pub explain_named : named (line program (codes "explain" ∷ [])) ≡ ToExplain None
-  pub explain_word : (word : Text) → is_plain word ≡ true → refusals (line program (codes "explain" ∷ (word ∷ []))) ≡ []
-  pub explain_word_named : (word : Text) → is_plain word ≡ true → named (line program (codes "explain" ∷ (word ∷ []))) ≡ ToExplain (Some word)
-  pub help : refusals (line program (codes "help" ∷ [])) ≡ []
-  pub help_named : named (line program (codes "help" ∷ [])) ≡ ToHelp None
-  pub help_word : (word : Text) → is_plain word ≡ true → refusals (line program (codes "help" ∷ (word ∷ []))) ≡ []
-  pub help_word_named : (word : Text) → is_plain word ≡ true → named (line program (codes "help" ∷ (word ∷ []))) ≡ ToHelp (Some word)
-  pub check : refusals (line program (codes "check" ∷ [])) ≡ kind.MissingRequiredArgument ∷ []
-  pub check_folder : (folder : Text) → is_plain folder ≡ true → refusals (line program (codes "check" ∷ (folder ∷ []))) ≡ []
-  pub check_folder_named : (folder : Text) → is_plain folder ≡ true → named (line program (codes "check" ∷ (folder ∷ []))) ≡ ToCheck folder None false
-  pub check_json : (folder : Text) → is_plain folder ≡ true → refusals (line program (codes "check" ∷ (folder ∷ (codes "--json" ∷ [])))) ≡ []
-  pub check_json_named : (folder : Text) → is_plain folder ≡ true → named (line program (codes "check" ∷ (folder ∷ (codes "--json" ∷ [])))) ≡ ToCheck folder None true
-  pub check_module : (folder path : Text) → is_plain folder ≡ true → is_plain path ≡ true → refusals (line program (codes "check" ∷ (folder ∷ (codes "--module" ∷ (path ∷ []))))) ≡ []
-  pub check_module_named : (folder path : Text) → is_plain folder ≡ true → is_plain path ≡ true → named (line program (codes "check" ∷ (folder ∷ (codes "--module" ∷ (path ∷ []))))) ≡ ToCheck folder (Some path) false
-  pub help_flag : refusals (line program (codes "--help" ∷ [])) ≡ kind.DisplayHelp ∷ []
-  pub short_help_flag : refusals (line program (codes "-h" ∷ [])) ≡ kind.DisplayHelp ∷ []
-  pub resolve_help_flag : refusals (line program (codes "resolve" ∷ (codes "--help" ∷ []))) ≡ kind.DisplayHelp ∷ []
-  pub version_flag : refusals (line program (codes "--version" ∷ [])) ≡ kind.DisplayVersion ∷ []
-  pub short_version_flag : refusals (line program (codes "-V" ∷ [])) ≡ kind.DisplayVersion ∷ []
-  pub nothing : refusals (line program []) ≡ kind.MissingSubcommand ∷ []
-  pub resolve_word : (word : Text) → is_plain word ≡ true → refusals (line program (codes "resolve" ∷ (word ∷ []))) ≡ kind.UnknownArgument ∷ []
-  pub two_rules : refusals (line program (codes "explain" ∷ (codes "N1" ∷ (codes "N2" ∷ [])))) ≡ kind.UnknownArgument ∷ []
+  pub resolve : refusals (command_line program (codes "resolve" ∷ [])) ≡ []
+  pub resolve_named : asked_by_subcommand (command_line program (codes "resolve" ∷ [])) ≡ ToResolve
+  pub explain : refusals (command_line program (codes "explain" ∷ [])) ≡ []
+  pub explain_named : asked_by_subcommand (command_line program (codes "explain" ∷ [])) ≡ ToExplain None
+  pub explain_word : (word : Text) → is_plain word ≡ true → refusals (command_line program (codes "explain" ∷ (word ∷ []))) ≡ []
+  pub explain_word_named : (word : Text) → is_plain word ≡ true → asked_by_subcommand (command_line program (codes "explain" ∷ (word ∷ []))) ≡ ToExplain (Some word)
+  pub help : refusals (command_line program (codes "help" ∷ [])) ≡ []
+  pub help_named : asked_by_subcommand (command_line program (codes "help" ∷ [])) ≡ ToHelp None
+  pub help_word : (word : Text) → is_plain word ≡ true → refusals (command_line program (codes "help" ∷ (word ∷ []))) ≡ []
+  pub help_word_named : (word : Text) → is_plain word ≡ true → asked_by_subcommand (command_line program (codes "help" ∷ (word ∷ []))) ≡ ToHelp (Some word)
+  pub check : refusals (command_line program (codes "check" ∷ [])) ≡ kind.MissingRequiredArgument ∷ []
+  pub check_folder : (folder : Text) → is_plain folder ≡ true → refusals (command_line program (codes "check" ∷ (folder ∷ []))) ≡ []
+  pub check_folder_named : (folder : Text) → is_plain folder ≡ true → asked_by_subcommand (command_line program (codes "check" ∷ (folder ∷ []))) ≡ ToCheck folder None false
+  pub check_json : (folder : Text) → is_plain folder ≡ true → refusals (command_line program (codes "check" ∷ (folder ∷ (codes "--json" ∷ [])))) ≡ []
+  pub check_json_named : (folder : Text) → is_plain folder ≡ true → asked_by_subcommand (command_line program (codes "check" ∷ (folder ∷ (codes "--json" ∷ [])))) ≡ ToCheck folder None true
+  pub check_module : (folder path : Text) → is_plain folder ≡ true → is_plain path ≡ true → refusals (command_line program (codes "check" ∷ (folder ∷ (codes "--module" ∷ (path ∷ []))))) ≡ []
+  pub check_module_named : (folder path : Text) → is_plain folder ≡ true → is_plain path ≡ true → asked_by_subcommand (command_line program (codes "check" ∷ (folder ∷ (codes "--module" ∷ (path ∷ []))))) ≡ ToCheck folder (Some path) false
+  pub help_flag : refusals (command_line program (codes "--help" ∷ [])) ≡ kind.DisplayHelp ∷ []
+  pub short_help_flag : refusals (command_line program (codes "-h" ∷ [])) ≡ kind.DisplayHelp ∷ []
+  pub resolve_help_flag : refusals (command_line program (codes "resolve" ∷ (codes "--help" ∷ []))) ≡ kind.DisplayHelp ∷ []
+  pub version_flag : refusals (command_line program (codes "--version" ∷ [])) ≡ kind.DisplayVersion ∷ []
+  pub short_version_flag : refusals (command_line program (codes "-V" ∷ [])) ≡ kind.DisplayVersion ∷ []
+  pub nothing : refusals (command_line program []) ≡ kind.MissingSubcommand ∷ []
+  pub resolve_word : (word : Text) → is_plain word ≡ true → refusals (command_line program (codes "resolve" ∷ (word ∷ []))) ≡ kind.UnknownArgument ∷ []
+  pub two_rules : refusals (command_line program (codes "explain" ∷ (codes "N1" ∷ (codes "N2" ∷ [])))) ≡ kind.UnknownArgument ∷ []
 
 abbrev pub Forms : Type 0
 Forms = (program : Text) → AskAs program

@@ -15,20 +15,20 @@ use Rattle.govisd_core.specs.declared.run.ResolveEnd.TheVariants.{WriteFault, Me
 use Rattle.govisd.specs.declared.program.Ran.{Ran}
 use Rattle.govisd.specs.declared.words.Request.{Request}
 use Rattle.govisd.specs.declared.words.Request.TheVariants.{Resolve, Explain, Check, Help, Version}
-use Rattle.go_explain_core.specs.Naming.{named}
-use Rattle.govisd_folders.specs.Checks.{IsAnswer}
-use Rattle.govisd_folders.specs.declared.checking.Answer.{Answer}
+use Rattle.go_explain_core.specs.Naming.{rule_of_number}
+use Rattle.govisd_folders.specs.Checks.{IsAnswerOfCheck}
+use Rattle.govisd_folders.specs.declared.checking.CheckAnswer.{CheckAnswer}
 use Rattle.go_text_core.specs.Rules.{rule_number}
 use Rattle.go_text_core.specs.declared.rule.Rule.{Rule}
-use Rattle.govisd.specs.Asking.{Asks, is_plain, line}
+use Rattle.govisd.specs.Asking.{Asks, is_plain, command_line}
 use Rattle.go_explain_core.specs.Telling.{explained_text, list_text, unknown_text}
 use Rattle.govisd.specs.Statuses.{end_status, refusal_status}
 use Rattle.govisd.specs.Texts.{end_text, help_of, program_help_text, refused_text, unknown_command_text, version_text}
 
 -- all of a text was written, or the first bytes alone
-abbrev pub Tells : Bool → List ℕ → Option (List ℕ) → Option (List ℕ) → Type 0
-Tells true text old new = Appends old new text
-Tells false text old new = IsCutShort old new text
+abbrev pub SaysText : Bool → List ℕ → Option (List ℕ) → Option (List ℕ) → Type 0
+SaysText true text old new = Appends old new text
+SaysText false text old new = IsCutShort old new text
 
 -- a run of `resolve`: how it ended, over the bytes that the reader had, what was written, and what was said
 pub record Resolves (ran : Ran) (given left out out' err err' : Option (List ℕ)) : Type 0 where
@@ -37,34 +37,34 @@ pub record Resolves (ran : Ran) (given left out out' err err' : Option (List ℕ
   pub writes : IfSome given (λ bytes. IsEnd ending (take (max_bytes + 1) bytes) out out')
   pub few : ReadsUpTo (max_bytes + 1) given left
   pub all : IfSome given (λ bytes. ReadsAll ending (take (max_bytes + 1) bytes) given left)
-  pub says : Tells ran.is_told (end_text ending) err err'
+  pub says : SaysText ran.is_told (end_text ending) err err'
 
 -- a text that was asked for was written and nothing said, or it could not be written whole
-abbrev pub Shows : Ran → List ℕ → Option (List ℕ) → Option (List ℕ) → Option (List ℕ) → Option (List ℕ) → Type 0
-Shows ran text out out' err err' =
+abbrev pub ShowsText : Ran → List ℕ → Option (List ℕ) → Option (List ℕ) → Option (List ℕ) → Option (List ℕ) → Type 0
+ShowsText ran text out out' err err' =
     ((ran.status ≡ 0) × (ran.is_told ≡ true) × Appends out out' text × Keeps err err')
-    ⊎ ((ran.status ≡ 1) × IsCutShort out out' text × Tells ran.is_told (end_text WriteFault) err err')
+    ⊎ ((ran.status ≡ 1) × IsCutShort out out' text × SaysText ran.is_told (end_text WriteFault) err err')
 
 -- memory ran out, and that is said
 abbrev pub RunsOut : Ran → Option (List ℕ) → Option (List ℕ) → Type 0
-RunsOut ran err err' = (ran.status ≡ 1) × Tells ran.is_told (end_text Memory) err err'
+RunsOut ran err err' = (ran.status ≡ 1) × SaysText ran.is_told (end_text Memory) err err'
 
 -- a text that was made is shown
 abbrev pub ShowsMade : {Z E : Type 0} → Result (String Z) E → Ran → Option (List ℕ) → Option (List ℕ) → Option (List ℕ) → Option (List ℕ) → Type 0
 ShowsMade made ran out out' err err' =
-    MatchResult made (λ text. Shows ran (string_bytes text) out out' err err') (λ _. RunsOut ran err err' × Keeps out out')
+    MatchResult made (λ text. ShowsText ran (string_bytes text) out out' err err') (λ _. RunsOut ran err err' × Keeps out out')
 
 -- a text is shown, where memory does not run out
 abbrev pub ShowsOrRunsOut : List ℕ → Ran → Option (List ℕ) → Option (List ℕ) → Option (List ℕ) → Option (List ℕ) → Type 0
-ShowsOrRunsOut text ran out out' err err' = Shows ran text out out' err err' ⊎ (RunsOut ran err err' × Keeps out out')
+ShowsOrRunsOut text ran out out' err err' = ShowsText ran text out out' err err' ⊎ (RunsOut ran err err' × Keeps out out')
 
 -- nothing has a name, and that is said by a text that was made
 abbrev pub RefusesMade : {Z E : Type 0} → Result (String Z) E → Ran → Option (List ℕ) → Option (List ℕ) → Type 0
-RefusesMade made ran err err' = MatchResult made (λ text. (ran.status ≡ 2) × Tells ran.is_told (string_bytes text) err err') (λ _. RunsOut ran err err')
+RefusesMade made ran err err' = MatchResult made (λ text. (ran.status ≡ 2) × SaysText ran.is_told (string_bytes text) err err') (λ _. RunsOut ran err err')
 
 -- nothing has a name, and that is said, where memory does not run out
 abbrev pub RefusesName : List ℕ → Ran → Option (List ℕ) → Option (List ℕ) → Type 0
-RefusesName text ran err err' = ((ran.status ≡ 2) × Tells ran.is_told text err err') ⊎ RunsOut ran err err'
+RefusesName text ran err err' = ((ran.status ≡ 2) × SaysText ran.is_told text err err') ⊎ RunsOut ran err err'
 
 -- what is written of the rule that a word names
 abbrev pub ExplainsFound : Text → Option Rule → Ran → Option (List ℕ) → Option (List ℕ) → Option (List ℕ) → Option (List ℕ) → Type 0
@@ -74,25 +74,25 @@ ExplainsFound word (Some rule) ran out out' err err' = ShowsOrRunsOut (explained
 -- a rule is explained, or all are listed
 abbrev pub Explains : Option Text → Ran → Option (List ℕ) → Option (List ℕ) → Option (List ℕ) → Option (List ℕ) → Type 0
 Explains None ran out out' err err' = ShowsOrRunsOut list_text ran out out' err err'
-Explains (Some word) ran out out' err err' = ExplainsFound word (named word) ran out out' err err'
+Explains (Some word) ran out out' err err' = ExplainsFound word (rule_of_number word) ran out out' err err'
 
 -- an answer was written, and what there is to say beside was said; or it could not be written whole
-abbrev pub Gives : Answer → Ran → Option (List ℕ) → Option (List ℕ) → Option (List ℕ) → Option (List ℕ) → Type 0
-Gives answer ran out out' err err' =
-    ((ran.status ≡ answer.status) × Appends out out' (string_bytes answer.text) × Tells ran.is_told (string_bytes answer.said) err err')
-    ⊎ ((ran.status ≡ 1) × IsCutShort out out' (string_bytes answer.text) × Tells ran.is_told (end_text WriteFault) err err')
+abbrev pub WritesAnswer : CheckAnswer → Ran → Option (List ℕ) → Option (List ℕ) → Option (List ℕ) → Option (List ℕ) → Type 0
+WritesAnswer answer ran out out' err err' =
+    ((ran.status ≡ answer.status) × Appends out out' (string_bytes answer.text) × SaysText ran.is_told (string_bytes answer.said) err err')
+    ⊎ ((ran.status ≡ 1) × IsCutShort out out' (string_bytes answer.text) × SaysText ran.is_told (end_text WriteFault) err err')
 
 -- what the check of a folder may answer: by the folder, by whether JSON is asked for, and by the path of the module, if one is given; none
 -- where memory runs out
 abbrev pub Answering : Type 1
-Answering = Text → Bool → Option Text → Option Answer → Type 0
+Answering = Text → Bool → Option Text → Option CheckAnswer → Type 0
 
 -- this folder was checked, and the answer was given
 pub record GivesAnswer (Answers : Answering) (folder : Text) (json : Bool) (path : Option Text) (ran : Ran) (out out' err err' : Option (List ℕ)) : Type 0 where
-  pub answer : Answer
+  pub answer : CheckAnswer
   pub answers : Answers folder json path (Some answer)
-  pub is : IsAnswer folder json path answer
-  pub gives : Gives answer ran out out' err err'
+  pub is : IsAnswerOfCheck folder json path answer
+  pub gives : WritesAnswer answer ran out out' err err'
 
 -- or memory ran out in its check
 abbrev pub ChecksFolder : Answering → Text → Bool → Option Text → Ran → Option (List ℕ) → Option (List ℕ) → Option (List ℕ) → Option (List ℕ) → Type 0
@@ -102,17 +102,17 @@ ChecksFolder Answers folder json path ran out out' err err' =
 -- the help of the command that has a name
 abbrev pub HelpsFound : Text → Option (List ℕ) → Ran → Option (List ℕ) → Option (List ℕ) → Option (List ℕ) → Option (List ℕ) → Type 0
 HelpsFound name None ran out out' err err' = RefusesName (unknown_command_text name) ran err err' × Keeps out out'
-HelpsFound name (Some text) ran out out' err err' = Shows ran text out out' err err'
+HelpsFound name (Some text) ran out out' err err' = ShowsText ran text out out' err err'
 
 -- the program's help, or a command's
 abbrev pub Helps : Option Text → Ran → Option (List ℕ) → Option (List ℕ) → Option (List ℕ) → Option (List ℕ) → Type 0
-Helps None ran out out' err err' = Shows ran program_help_text out out' err err'
+Helps None ran out out' err err' = ShowsText ran program_help_text out out' err err'
 Helps (Some name) ran out out' err err' = HelpsFound name (help_of name) ran out out' err err'
 
 -- what is said of a command line that is refused: why, and that it is
 abbrev pub RefusalSays : ErrorKind → Ran → Option (List ℕ) → Option (List ℕ) → Type 0
-RefusalSays OutOfMemory ran err err' = Tells ran.is_told (end_text Memory) err err'
-RefusalSays _ ran err err' = (reason : List ℕ) × Tells ran.is_told (reason ++ refused_text) err err'
+RefusalSays OutOfMemory ran err err' = SaysText ran.is_told (end_text Memory) err err'
+RefusalSays _ ran err err' = (reason : List ℕ) × SaysText ran.is_told (reason ++ refused_text) err err'
 
 pub record Refuses (kind : ErrorKind) (ran : Ran) (err err' : Option (List ℕ)) : Type 0 where
   pub status : ran.status ≡ refusal_status kind
@@ -125,7 +125,7 @@ Does Answers (Ok (Explain rule)) ran given left out out' err err' = Explains (op
 Does Answers (Ok (Check order)) ran given left out out' err err' =
     ChecksFolder Answers order.folder.now order.json (option_map (λ word. word.now) order.module_path) ran out out' err err' × Keeps given left
 Does Answers (Ok (Help topic)) ran given left out out' err err' = Helps (option_map (λ word. word.now) topic) ran out out' err err' × Keeps given left
-Does Answers (Ok Version) ran given left out out' err err' = Shows ran version_text out out' err err' × Keeps given left
+Does Answers (Ok Version) ran given left out out' err err' = ShowsText ran version_text out out' err err' × Keeps given left
 Does Answers (Err e) ran given left out out' err err' = Refuses (kind_of e) ran err err' × Keeps out out' × Keeps given left
 
 -- it is done for what the words ask for
@@ -141,27 +141,27 @@ RunsFor Answers words Happens =
 
 -- `explain` with a rule's number writes what the rule means
 abbrev pub ExplainsEach : Answering → Type 0
-ExplainsEach Answers = (program : Text) (rule : Rule) → RunsFor Answers (line program (codes "explain" ∷ (rule_number rule ∷ []))) (ShowsOrRunsOut (explained_text rule))
+ExplainsEach Answers = (program : Text) (rule : Rule) → RunsFor Answers (command_line program (codes "explain" ∷ (rule_number rule ∷ []))) (ShowsOrRunsOut (explained_text rule))
 
 -- and with a word that names no rule says so
 abbrev pub RefusesOthers : Answering → Type 0
 RefusesOthers Answers =
-    (program word : Text) → is_plain word ≡ true → named word ≡ None → RunsFor Answers (line program (codes "explain" ∷ (word ∷ []))) (λ ran out out' err err'. RefusesName (unknown_text word) ran err err' × Keeps out out')
+    (program word : Text) → is_plain word ≡ true → rule_of_number word ≡ None → RunsFor Answers (command_line program (codes "explain" ∷ (word ∷ []))) (λ ran out out' err err'. RefusesName (unknown_text word) ran err err' × Keeps out out')
 
 -- and alone lists all rules
 abbrev pub ListsAll : Answering → Type 0
-ListsAll Answers = (program : Text) → RunsFor Answers (line program (codes "explain" ∷ [])) (ShowsOrRunsOut list_text)
+ListsAll Answers = (program : Text) → RunsFor Answers (command_line program (codes "explain" ∷ [])) (ShowsOrRunsOut list_text)
 
 -- `check` with a folder checks this one, where memory does not run out before
 abbrev pub ChecksEach : Answering → Type 0
-ChecksEach Answers = (program folder : Text) → is_plain folder ≡ true → RunsFor Answers (line program (codes "check" ∷ (folder ∷ []))) (λ ran out out' err err'. ChecksFolder Answers folder false None ran out out' err err' ⊎ (RunsOut ran err err' × Keeps out out'))
+ChecksEach Answers = (program folder : Text) → is_plain folder ≡ true → RunsFor Answers (command_line program (codes "check" ∷ (folder ∷ []))) (λ ran out out' err err'. ChecksFolder Answers folder false None ran out out' err err' ⊎ (RunsOut ran err err' × Keeps out out'))
 
 -- `help` with a command's name writes what the command takes
 abbrev pub HelpsEach : Answering → Type 0
 HelpsEach Answers =
-    (program name text : Text) → is_plain name ≡ true → help_of name ≡ Some text → RunsFor Answers (line program (codes "help" ∷ (name ∷ []))) (ShowsOrRunsOut text)
+    (program name text : Text) → is_plain name ≡ true → help_of name ≡ Some text → RunsFor Answers (command_line program (codes "help" ∷ (name ∷ []))) (ShowsOrRunsOut text)
 
 -- and with a word that names none says so
 abbrev pub RefusesOtherCommands : Answering → Type 0
 RefusesOtherCommands Answers =
-    (program name : Text) → is_plain name ≡ true → help_of name ≡ None → RunsFor Answers (line program (codes "help" ∷ (name ∷ []))) (λ ran out out' err err'. RefusesName (unknown_command_text name) ran err err' × Keeps out out')
+    (program name : Text) → is_plain name ≡ true → help_of name ≡ None → RunsFor Answers (command_line program (codes "help" ∷ (name ∷ []))) (λ ran out out' err err'. RefusesName (unknown_command_text name) ran err err' × Keeps out out')

@@ -6,7 +6,7 @@ mod status;
 mod texts;
 mod words;
 
-use govisd_folders::{Answer, Order, check_folder};
+use govisd_folders::{CheckAnswer, Order, check_folder};
 use program::{Checks, run};
 use status::unread_status;
 use std::alloc::AllocError;
@@ -21,11 +21,11 @@ struct Folders<'a> {
 
 impl Checks for Folders<'_> {
     ghost use Rattle.std.specs.Prelude.{IfSome};
-    ghost use Rattle.govisd_folders.specs.Checks.{IsAnswer};
+    ghost use Rattle.govisd_folders.specs.Checks.{IsAnswerOfCheck};
 
-    ghost Answers = { λ folders folder json path answer. IfSome answer (IsAnswer folder json path) };
+    ghost Answers = { λ folders folder json path answer. IfSome answer (IsAnswerOfCheck folder json path) };
 
-    fn check(&self, order: &Order<'_>) -> Result<Answer, AllocError> {
+    fn check(&self, order: &Order<'_>) -> Result<CheckAnswer, AllocError> {
         check_folder(self.rt, order)
     }
 }

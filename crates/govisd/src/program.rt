@@ -2,9 +2,9 @@
 ghost use Rattle.std.specs.Prelude.{◌≡◌, ◌++◌, List, ℕ, map, option_map, string_bytes, IfOk};
 ghost use Rattle.clap.specs.Values.{kind_of};
 ghost use Rattle.std.specs.Result.{result_ok};
-ghost use Rattle.govisd_folders.specs.Checks.{IsAnswer};
+ghost use Rattle.govisd_folders.specs.Checks.{IsAnswerOfCheck};
 ghost use Rattle.govisd.specs.Texts.{refused_text as text_of_refused};
-ghost use Rattle.govisd.specs.Runs.{ChecksEach, ChecksFolder, Explains, Gives, Helps, Refuses, RefusesMade, Resolves, Runs, RunsOut, Shows, ShowsMade, Tells, ExplainsEach, HelpsEach, ListsAll, RefusesOtherCommands, RefusesOthers};
+ghost use Rattle.govisd.specs.Runs.{ChecksEach, ChecksFolder, Explains, WritesAnswer, Helps, Refuses, RefusesMade, Resolves, Runs, RunsOut, ShowsText, ShowsMade, SaysText, ExplainsEach, HelpsEach, ListsAll, RefusesOtherCommands, RefusesOthers};
 
 use crate::status::{end_status, refusal_status};
 use crate::texts::{
@@ -15,7 +15,7 @@ use clap::Error;
 use clap::error::ErrorKind;
 use go_explain_core::{explained, listed, rule_named, unknown};
 use govisd_core::{ResolveEnd, run_resolve, write_report};
-use govisd_folders::{Answer, Order};
+use govisd_folders::{CheckAnswer, Order};
 use std::alloc::{AllocError, Global};
 use std::convert::AsStr;
 use std::io::{Read, Write};
@@ -32,7 +32,7 @@ pub struct Ran {
 /// What checks folders.
 pub trait Checks {
     ghost use Rattle.std.specs.Prelude.{Bool, List, Option, ℕ};
-    ghost use Rattle.govisd_folders.specs.declared.checking.Answer.{Answer as TheAnswer};
+    ghost use Rattle.govisd_folders.specs.declared.checking.CheckAnswer.{CheckAnswer as TheAnswer};
 
     // what it may answer: by the folder, by whether JSON is asked for, and by the path of the module, if one is given; none for want of memory
     ghost Answers: { Self → List ℕ → Bool → Option (List ℕ) → Option TheAnswer → Type 0 };
@@ -42,14 +42,14 @@ pub trait Checks {
     /// # Errors
     ///
     /// `AllocError` for want of memory.
-    fn check(&self, order: &Order<'_>) -> Result<Answer, AllocError>
+    fn check(&self, order: &Order<'_>) -> Result<CheckAnswer, AllocError>
         ensures answers { Answers self.now order.now.folder.now order.now.json (option_map (λ m. m.now) order.now.module_path) (result_ok result) }
-        ensures is { IfOk result (IsAnswer order.now.folder.now order.now.json (option_map (λ m. m.now) order.now.module_path)) };
+        ensures is { IfOk result (IsAnswerOfCheck order.now.folder.now order.now.json (option_map (λ m. m.now) order.now.module_path)) };
 }
 
 // Writes what is to be said, and answers whether all of it was written.
 fn tell<E: Write>(err: &mut E, text: &str) -> bool
-    ensures { Tells result text.now (E.contents err.old) (E.contents err.new) }
+    ensures { SaysText result text.now (E.contents err.old) (E.contents err.new) }
 {
     write_report(err, text.as_bytes()).is_ok()
 }
@@ -73,7 +73,7 @@ fn resolve<R: Read, W: Write, E: Write>(
 
 // Writes a text that was asked for, or says that it cannot be written.
 fn show<W: Write, E: Write>(out: &mut W, err: &mut E, text: &str) -> Ran
-    ensures { Shows result text.now (W.contents out.old) (W.contents out.new) (E.contents err.old) (E.contents err.new) }
+    ensures { ShowsText result text.now (W.contents out.old) (W.contents out.new) (E.contents err.old) (E.contents err.new) }
 {
     if write_report(out, text.as_bytes()).is_ok() {
         return Ran {
@@ -148,8 +148,8 @@ fn help<W: Write, E: Write>(alloc: Global, out: &mut W, err: &mut E, topic: Opti
 }
 
 // Writes an answer, and says what there is to say beside.
-fn give<W: Write, E: Write>(out: &mut W, err: &mut E, answer: &Answer) -> Ran
-    ensures { Gives answer.now result (W.contents out.old) (W.contents out.new) (E.contents err.old) (E.contents err.new) }
+fn give<W: Write, E: Write>(out: &mut W, err: &mut E, answer: &CheckAnswer) -> Ran
+    ensures { WritesAnswer answer.now result (W.contents out.old) (W.contents out.new) (E.contents err.old) (E.contents err.new) }
 {
     if write_report(out, answer.text.as_bytes()).is_err() {
         let is_told = tell(err, end_text(ResolveEnd::WriteFault));

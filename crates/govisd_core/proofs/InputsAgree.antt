@@ -9,12 +9,12 @@ use Rattle.go_part_core.specs.parse_core.Refusing.{HasOneRule, IsRuleRead}
 use Rattle.go_part_core.specs.parse_core.Correct.{HasOneTree}
 use Rattle.go_part_core.specs.graph_core.Packages.{blank}
 use Rattle.go_part_core.specs.Parts.{FileOf}
-use Rattle.govisd_core.specs.Alone.{IsFound}
-use Rattle.govisd_core.specs.Reports.{TooLong, NoText, BadToken, NoTree, TooHigh, NoName, Whole, IsFile, OneInput, max_bytes}
+use Rattle.govisd_core.specs.Alone.{StandsInFile}
+use Rattle.govisd_core.specs.Reports.{TooLong, NoText, BadToken, NoTree, TooHigh, NoName, AFile, IsFile, OneInput, max_bytes}
 
 -- one thing stands in a file
 abbrev pub OneFound : Type 0
-OneFound = (bytes : List ℕ) (f : FileTree) (x y : FileOf) → IsFile bytes f → IsFound bytes f x → IsFound bytes f y → x ≡ y
+OneFound = (bytes : List ℕ) (f : FileTree) (x y : FileOf) → IsFile bytes f → StandsInFile bytes f x → StandsInFile bytes f y → x ≡ y
 
 not_both : {A : Type 0} (n : ℕ) → max_bytes < n → n ≤ max_bytes → A
 not_both n more few = absurd (omega arith)
@@ -30,48 +30,48 @@ inputs_agree one rule same bytes TooLong (BadToken g) a b = not_both _ a b.0.siz
 inputs_agree one rule same bytes TooLong (NoTree p) a b = not_both _ a b.0.text.size
 inputs_agree one rule same bytes TooLong (TooHigh p) a b = not_both _ a b.0.text.size
 inputs_agree one rule same bytes TooLong (NoName g) a b = not_both _ a b.0.text.size
-inputs_agree one rule same bytes TooLong (Whole g n) a b = not_both _ a b.0.text.size
+inputs_agree one rule same bytes TooLong (AFile g n) a b = not_both _ a b.0.text.size
 inputs_agree one rule same bytes NoText TooLong a b = not_both _ b a.0
 inputs_agree one rule same bytes NoText NoText a b = refl
 inputs_agree one rule same bytes NoText (BadToken g) a b = absurd (a.1 b.0.utf8)
 inputs_agree one rule same bytes NoText (NoTree p) a b = absurd (a.1 b.0.text.utf8)
 inputs_agree one rule same bytes NoText (TooHigh p) a b = absurd (a.1 b.0.text.utf8)
 inputs_agree one rule same bytes NoText (NoName g) a b = absurd (a.1 b.0.text.utf8)
-inputs_agree one rule same bytes NoText (Whole g n) a b = absurd (a.1 b.0.text.utf8)
+inputs_agree one rule same bytes NoText (AFile g n) a b = absurd (a.1 b.0.text.utf8)
 inputs_agree one rule same bytes (BadToken f) TooLong a b = not_both _ b a.0.size
 inputs_agree one rule same bytes (BadToken f) NoText a b = absurd (b.1 a.0.utf8)
 inputs_agree one rule same bytes (BadToken f) (BadToken g) a b = ap BadToken (one_fault bytes f g a.1 b.1)
 inputs_agree one rule same bytes (BadToken f) (NoTree p) a b = absurd (not_scanned bytes b.0.tokens _ b.0.scanned a.1)
 inputs_agree one rule same bytes (BadToken f) (TooHigh p) a b = absurd (not_scanned bytes b.0.tokens _ b.0.scanned a.1)
 inputs_agree one rule same bytes (BadToken f) (NoName g) a b = absurd (not_scanned bytes b.0.parse.found.tokens _ b.0.parse.found.scanned a.1)
-inputs_agree one rule same bytes (BadToken f) (Whole g n) a b = absurd (not_scanned bytes b.0.parse.found.tokens _ b.0.parse.found.scanned a.1)
+inputs_agree one rule same bytes (BadToken f) (AFile g n) a b = absurd (not_scanned bytes b.0.parse.found.tokens _ b.0.parse.found.scanned a.1)
 inputs_agree one rule same bytes (NoTree o) TooLong a b = not_both _ b a.0.text.size
 inputs_agree one rule same bytes (NoTree o) NoText a b = absurd (b.1 a.0.text.utf8)
 inputs_agree one rule same bytes (NoTree o) (BadToken g) a b = absurd (not_scanned bytes a.0.tokens _ a.0.scanned b.1)
 inputs_agree one rule same bytes (NoTree o) (NoTree p) a b = refl
 inputs_agree one rule same bytes (NoTree o) (TooHigh p) a b = absurd (not_both_rules rule bytes a.0.tokens a.0.scanned a.2 b.2)
 inputs_agree one rule same bytes (NoTree o) (NoName g) a b = absurd (a.1 g b.0.parse.found)
-inputs_agree one rule same bytes (NoTree o) (Whole g n) a b = absurd (a.1 g b.0.parse.found)
+inputs_agree one rule same bytes (NoTree o) (AFile g n) a b = absurd (a.1 g b.0.parse.found)
 inputs_agree one rule same bytes (TooHigh o) TooLong a b = not_both _ b a.0.text.size
 inputs_agree one rule same bytes (TooHigh o) NoText a b = absurd (b.1 a.0.text.utf8)
 inputs_agree one rule same bytes (TooHigh o) (BadToken g) a b = absurd (not_scanned bytes a.0.tokens _ a.0.scanned b.1)
 inputs_agree one rule same bytes (TooHigh o) (NoTree p) a b = absurd (not_both_rules rule bytes a.0.tokens a.0.scanned b.2 a.2)
 inputs_agree one rule same bytes (TooHigh o) (TooHigh p) a b = refl
 inputs_agree one rule same bytes (TooHigh o) (NoName g) a b = absurd (a.1 g b.0.parse.found b.0.parse.low)
-inputs_agree one rule same bytes (TooHigh o) (Whole g n) a b = absurd (a.1 g b.0.parse.found b.0.parse.low)
+inputs_agree one rule same bytes (TooHigh o) (AFile g n) a b = absurd (a.1 g b.0.parse.found b.0.parse.low)
 inputs_agree one rule same bytes (NoName f) TooLong a b = not_both _ b a.0.text.size
 inputs_agree one rule same bytes (NoName f) NoText a b = absurd (b.1 a.0.text.utf8)
 inputs_agree one rule same bytes (NoName f) (BadToken g) a b = absurd (not_scanned bytes a.0.parse.found.tokens _ a.0.parse.found.scanned b.1)
 inputs_agree one rule same bytes (NoName f) (NoTree p) a b = absurd (b.1 f a.0.parse.found)
 inputs_agree one rule same bytes (NoName f) (TooHigh p) a b = absurd (b.1 f a.0.parse.found a.0.parse.low)
 inputs_agree one rule same bytes (NoName f) (NoName g) a b = ap NoName (one bytes f g a.0.parse.found b.0.parse.found)
-inputs_agree one rule same bytes (NoName f) (Whole g n) a b = absurd (b.1 (subst (λ h. h.name.name ≡ blank) (one bytes f g a.0.parse.found b.0.parse.found) a.1))
-inputs_agree one rule same bytes (Whole f m) TooLong a b = not_both _ b a.0.text.size
-inputs_agree one rule same bytes (Whole f m) NoText a b = absurd (b.1 a.0.text.utf8)
-inputs_agree one rule same bytes (Whole f m) (BadToken g) a b = absurd (not_scanned bytes a.0.parse.found.tokens _ a.0.parse.found.scanned b.1)
-inputs_agree one rule same bytes (Whole f m) (NoTree p) a b = absurd (b.1 f a.0.parse.found)
-inputs_agree one rule same bytes (Whole f m) (TooHigh p) a b = absurd (b.1 f a.0.parse.found a.0.parse.low)
-inputs_agree one rule same bytes (Whole f m) (NoName g) a b = absurd (a.1 (subst (λ h. h.name.name ≡ blank) (one bytes g f b.0.parse.found a.0.parse.found) b.1))
-inputs_agree one rule same bytes (Whole f m) (Whole g n) a b =
+inputs_agree one rule same bytes (NoName f) (AFile g n) a b = absurd (b.1 (subst (λ h. h.name.name ≡ blank) (one bytes f g a.0.parse.found b.0.parse.found) a.1))
+inputs_agree one rule same bytes (AFile f m) TooLong a b = not_both _ b a.0.text.size
+inputs_agree one rule same bytes (AFile f m) NoText a b = absurd (b.1 a.0.text.utf8)
+inputs_agree one rule same bytes (AFile f m) (BadToken g) a b = absurd (not_scanned bytes a.0.parse.found.tokens _ a.0.parse.found.scanned b.1)
+inputs_agree one rule same bytes (AFile f m) (NoTree p) a b = absurd (b.1 f a.0.parse.found)
+inputs_agree one rule same bytes (AFile f m) (TooHigh p) a b = absurd (b.1 f a.0.parse.found a.0.parse.low)
+inputs_agree one rule same bytes (AFile f m) (NoName g) a b = absurd (a.1 (subst (λ h. h.name.name ≡ blank) (one bytes g f b.0.parse.found a.0.parse.found) b.1))
+inputs_agree one rule same bytes (AFile f m) (AFile g n) a b =
     let tree = one bytes f g a.0.parse.found b.0.parse.found in
-    ap (λ h. Whole h m) tree ∙ ap (Whole g) (same bytes g m n b.0 (subst (λ h. IsFound bytes h m) tree a.2) b.2)
+    ap (λ h. AFile h m) tree ∙ ap (AFile g) (same bytes g m n b.0 (subst (λ h. StandsInFile bytes h m) tree a.2) b.2)

@@ -29,7 +29,7 @@ use Rattle.go_part_core.specs.package_core.Laws.{OneCheck}
 use Rattle.go_part_core.specs.used_core.Laws.{ReportsAreOne}
 use Rattle.go_part_core.specs.Inputs.{InputModel, input_with}
 use Rattle.go_part_core.specs.Parts.{AreFilesMade, ContentOf, FileOf, IsFileMade, IsFileMadeIn, IsMade, IsPart, SeenOf, package_seen, seen_by}
-use Rattle.govisd_core.specs.Alone.{IsFound, IsRefused, file_alone, package_alone, the_path, workspace_alone}
+use Rattle.govisd_core.specs.Alone.{StandsInFile, ImportIsRefused, file_alone, package_alone, the_path, workspace_alone}
 use Rattle.govisd_core.specs.Reports.{IsFile}
 
 abbrev made : List TheUse → List Fault → List TheLocal → List Fault → FileOf
@@ -86,7 +86,7 @@ is_workspace bytes f file =
 -- what its imports come to
 
 module _ (outcome : HasOneOutcome) (ps : List PackageModel) (well : IsWorkspace ps) where
-  one_rule : (at : ImportAt) (i j : Imported) → IsRefused ps at i → IsRefused ps at j → i ≡ j
+  one_rule : (at : ImportAt) (i j : Imported) → ImportIsRefused ps at i → ImportIsRefused ps at j → i ≡ j
   one_rule at (given.Refused r) (given.Refused q) a b = (let same : outcomes.Refused r ≡ outcomes.Refused q = outcome ps at (outcomes.Refused r) (outcomes.Refused q) well a b in (let rules : r ≡ q = cc in ap given.Refused rules))
   one_rule at (given.Refused r) (given.«Package» e) a b = absurd b
   one_rule at (given.«Package» e) j a b = absurd a
@@ -124,10 +124,10 @@ module _ (settled : SettledFaultsAreOne Declaration (List ℕ)) (reported : Repo
         let files = subst (λ a. AreFilesMade d.blocks (trees_in i.source) a.files c.files) same (subst (λ b. AreFilesMade b (trees_in i.source) h.checked.files c.files) bs h.files) in
         one_list (IsFileMadeIn d.blocks k.checked.files) (made_in d.blocks k.checked.files) 0 (trees_in i.source) c.files d.files files k.files
 
-    pub found_agree : HasOneOutcome → (bytes : List ℕ) (f : FileTree) (x y : FileOf) → IsFile bytes f → IsFound bytes f x → IsFound bytes f y → x ≡ y
+    pub found_agree : HasOneOutcome → (bytes : List ℕ) (f : FileTree) (x y : FileOf) → IsFile bytes f → StandsInFile bytes f x → StandsInFile bytes f y → x ≡ y
     found_agree outcome bytes f x y file h k =
         let s = file_alone bytes f in
-        let imports = one_list (λ n (spec : ImportSpecTree) i. IsRefused (workspace_alone s) (import_at 0 0 n) i) (λ n spec i j. one_rule outcome (workspace_alone s) (is_workspace bytes f file) (import_at 0 0 n) i j) 0 (file_specs f) h.imports k.imports h.refused k.refused in
+        let imports = one_list (λ n (spec : ImportSpecTree) i. ImportIsRefused (workspace_alone s) (import_at 0 0 n) i) (λ n spec i j. one_rule outcome (workspace_alone s) (is_workspace bytes f file) (import_at 0 0 n) i j) 0 (file_specs f) h.imports k.imports h.refused k.refused in
         let here = subst (λ is. IsPart (input_with (package_alone s) (is ∷ []) []) h.content) imports h.part in
         let i = input_with (package_alone s) (k.imports ∷ []) [] in
         let files = files_agree i (seen_by i) h.content k.content (All-cons IsPlaced f [] (length bytes, file.parse.placed) (all_none IsPlaced)) here k.part in

@@ -4,7 +4,7 @@ use Rattle.std.proofs.lemmas.List.{append_assoc, append-nil, take_at, take_all, 
 use Rattle.std.specs.Io.KnownBytes.{Appends, Keeps}
 use Rattle.std.specs.Result.{is_err}
 use Rattle.std.specs.declared.io.ErrorKind.{ErrorKind}
-use Rattle.govisd_core.specs.Outputs.{IsCutShort, IsWritten}
+use Rattle.govisd_core.specs.Outputs.{IsCutShort, IsWrittenOut}
 
 -- the bytes before the rest went out
 pub record SentFirst (old new : Option (List ℕ)) (bytes rest : List ℕ) : Type 0 where
@@ -62,10 +62,10 @@ pub sent_last : (old new : Option (List ℕ)) (bytes rest : List ℕ) → SentFi
 sent_last old new bytes rest before some = sent_part old new new bytes rest before some (keeps_same new)
 
 -- whether the writer failed
-pub all_written : {A : Type 0} (old new : Option (List ℕ)) (bytes : List ℕ) (r : Result A ErrorKind) (failed : Bool) → IsWritten old new bytes r → failed ≡ is_err r → failed ≡ false → Appends old new bytes
+pub all_written : {A : Type 0} (old new : Option (List ℕ)) (bytes : List ℕ) (r : Result A ErrorKind) (failed : Bool) → IsWrittenOut old new bytes r → failed ≡ is_err r → failed ≡ false → Appends old new bytes
 all_written old new bytes (Ok done) failed written asked is = written
 all_written old new bytes (Err kind) failed written asked is = let bad : true ≡ false = sym asked ∙ is in cc
 
-pub cut_short : {A : Type 0} (old new : Option (List ℕ)) (bytes : List ℕ) (r : Result A ErrorKind) (failed : Bool) → IsWritten old new bytes r → failed ≡ is_err r → failed ≡ true → IsCutShort old new bytes
+pub cut_short : {A : Type 0} (old new : Option (List ℕ)) (bytes : List ℕ) (r : Result A ErrorKind) (failed : Bool) → IsWrittenOut old new bytes r → failed ≡ is_err r → failed ≡ true → IsCutShort old new bytes
 cut_short old new bytes (Ok done) failed written asked is = let bad : false ≡ true = sym asked ∙ is in cc
 cut_short old new bytes (Err kind) failed written asked is = written.1

@@ -28,7 +28,7 @@ use Rattle.go_part_core.specs.summary_core.Summaries.{SummaryModel}
 use Rattle.go_part_core.specs.declared.files.PartFile.{PartFile}
 use Rattle.go_part_core.specs.Inputs.{AreReached, InputModel, input_with}
 use Rattle.go_part_core.specs.Parts.{ContentOf, FileOf, IsPart, file_shown}
-use Rattle.govisd_core.specs.Alone.{IsRefused, package_alone, the_name, the_path, workspace_alone}
+use Rattle.govisd_core.specs.Alone.{ImportIsRefused, package_alone, the_name, the_path, workspace_alone}
 use Rattle.govisd_core.specs.mirrors.Making.{AreRefusedAlone, AreRefusedIn, HasOneFile, HasText, IsAlone, IsGivenIn, IsInputIn, IsOwn}
 
 -- the one file that is read
@@ -122,7 +122,7 @@ are_refused ps p f plan own planned_so n lt =
     record { rule = found.0; is = found.1 }
 
 -- what is given for an import by a plan is what it comes to
-given_is : (ps : List PackageModel) (plan : PlanModel) (at : ImportAt) (i : Imported) → IsPlan ps plan → IsGivenIn plan.outcomes at i → IsRefused ps at i
+given_is : (ps : List PackageModel) (plan : PlanModel) (at : ImportAt) (i : Imported) → IsPlan ps plan → IsGivenIn plan.outcomes at i → ImportIsRefused ps at i
 given_is ps plan at (given.Refused rule) planned_so h = subst (λ o. MatchOption o (IsNoImport ps at) (IsOutcome ps at)) h (planned_so.outcomes at)
 given_is ps plan at (given.«Package» e) planned_so h = absurd h
 
@@ -132,15 +132,15 @@ numbered_weaker R S f k [] (y ∷ ys) h = absurd h
 numbered_weaker R S f k (x ∷ xs) [] h = absurd h
 numbered_weaker R S f k (x ∷ xs) (y ∷ ys) h = (f k x y h.0, numbered_weaker R S f (suc k) xs ys h.1)
 
-pub come_to : (ps : List PackageModel) (plan : PlanModel) (f : FileTree) (is : List Imported) → IsPlan ps plan → AreInFile (IsGivenIn plan.outcomes) 0 0 f is → AreInFile (IsRefused ps) 0 0 f is
+pub come_to : (ps : List PackageModel) (plan : PlanModel) (f : FileTree) (is : List Imported) → IsPlan ps plan → AreInFile (IsGivenIn plan.outcomes) 0 0 f is → AreInFile (ImportIsRefused ps) 0 0 f is
 come_to ps plan f is planned_so h =
-    numbered_weaker (λ n (spec : ImportSpecTree) i. IsGivenIn plan.outcomes (import_at 0 0 n) i) (λ n (spec : ImportSpecTree) i. IsRefused ps (import_at 0 0 n) i) (λ n spec i. given_is ps plan (import_at 0 0 n) i planned_so) 0 (file_specs f) is h
+    numbered_weaker (λ n (spec : ImportSpecTree) i. IsGivenIn plan.outcomes (import_at 0 0 n) i) (λ n (spec : ImportSpecTree) i. ImportIsRefused ps (import_at 0 0 n) i) (λ n spec i. given_is ps plan (import_at 0 0 n) i planned_so) 0 (file_specs f) is h
 
 pub refused_alone : (ps : List PackageModel) (plan : PlanModel) (f : FileTree) (files : List (Vec Imported Global)) (of_file : Vec Imported Global) → IsPlan ps plan → files ≡ of_file ∷ [] → AreInFile (IsGivenIn plan.outcomes) 0 0 f of_file.items → AreRefusedAlone ps f (map imported_in files)
 refused_alone ps plan f files of_file planned_so are h = record { imports = of_file.items; refused = come_to ps plan f of_file.items planned_so h; are = ap (map imported_in) are }
 
-as_many_imports : (ps : List PackageModel) (f : FileTree) (is : List Imported) → AreInFile (IsRefused ps) 0 0 f is → length (file_specs f) ≡ length is
-as_many_imports ps f is h = numbered_length (λ n (spec : ImportSpecTree) i. IsRefused ps (import_at 0 0 n) i) 0 (file_specs f) is h
+as_many_imports : (ps : List PackageModel) (f : FileTree) (is : List Imported) → AreInFile (ImportIsRefused ps) 0 0 f is → length (file_specs f) ≡ length is
+as_many_imports ps f is h = numbered_length (λ n (spec : ImportSpecTree) i. ImportIsRefused ps (import_at 0 0 n) i) 0 (file_specs f) is h
 
 -- the input of the package
 

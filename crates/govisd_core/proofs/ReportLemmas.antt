@@ -18,8 +18,8 @@ use Rattle.go_part_core.specs.block_core.Naming.{AreInFile}
 use Rattle.go_part_core.specs.Inputs.{InputModel, input_with}
 use Rattle.go_part_core.specs.Parts.{IsPart}
 use Rattle.govisd_lines.specs.Lines.{file_lines}
-use Rattle.govisd_core.specs.Alone.{IsRefused, file_alone, package_alone, the_name, workspace_alone}
-use Rattle.govisd_core.specs.Reports.{TooLong, NoText, BadToken, NoTree, TooHigh, NoName, Whole, IsText, IsFile, HasTokens, IsReport, Reports, ReportsPart, the_fault, max_bytes}
+use Rattle.govisd_core.specs.Alone.{ImportIsRefused, file_alone, package_alone, the_name, workspace_alone}
+use Rattle.govisd_core.specs.Reports.{TooLong, NoText, BadToken, NoTree, TooHigh, NoName, AFile, IsText, IsFile, HasTokens, IsReport, Reports, ReportsPart, the_fault, max_bytes}
 use Rattle.govisd_core.specs.mirrors.Making.{IsAlone, IsInputIn, IsTold}
 use Rattle.govisd_core.specs.declared.run.Report.{Report}
 use Rattle.govisd_core.specs.Outputs.{IsCutShort}
@@ -94,13 +94,13 @@ whole_report s f ps p i clean out alone text tree is well input told =
     let own : p ≡ package_alone (file_alone s.text f) = is ∙ ap package_alone (file_is s f alone.name tree) in
     let whole : ps ≡ workspace_alone (file_alone s.text f) = alone.is ∙ ap workspace_alone (file_is s f alone.name tree) in
     record {
-      input = Whole f told.file;
+      input = AFile f told.file;
       is = (
         file_of_text s f text alone.read tree,
         has_name s f tree (subst (λ (q : PackageModel). IsAssembled q.1) is well),
         record {
           imports = input.imports;
-          refused = subst (λ ws. AreInFile (IsRefused ws) 0 0 f input.imports) whole input.refused;
+          refused = subst (λ ws. AreInFile (ImportIsRefused ws) 0 0 f input.imports) whole input.refused;
           content = told.content;
           part = subst (λ x. IsPart x told.content) (input.is ∙ ap (λ q. input_with q (input.imports ∷ []) []) own) told.part;
           files = told.files;

@@ -33,18 +33,18 @@ abbrev pub file_alone : List ℕ → FileTree → SourceModel
 file_alone bytes f = source the_name bytes (Ok f)
 
 -- an import comes to the rule that it breaks: of the workspace's one package no import comes to a package, since one of its own path lies on a cycle
-abbrev pub IsRefused : List PackageModel → ImportAt → Imported → Type 0
-IsRefused ps at (given.Refused rule) = IsOutcome ps at (outcomes.Refused rule)
-IsRefused ps at (given.«Package» e) = ⊥
+abbrev pub ImportIsRefused : List PackageModel → ImportAt → Imported → Type 0
+ImportIsRefused ps at (given.Refused rule) = IsOutcome ps at (outcomes.Refused rule)
+ImportIsRefused ps at (given.«Package» e) = ⊥
 
 -- what the imports of the file come to, in order of place
-abbrev pub AreRefused : SourceModel → FileTree → List Imported → Type 0
-AreRefused s f imports = AreInFile (IsRefused (workspace_alone s)) 0 0 f imports
+abbrev pub ImportsAreRefused : SourceModel → FileTree → List Imported → Type 0
+ImportsAreRefused s f imports = AreInFile (ImportIsRefused (workspace_alone s)) 0 0 f imports
 
 -- what stands in the file with this text and this tree: what its package has by its imports and by itself, where it reaches no other package
-pub record IsFound (bytes : List ℕ) (f : FileTree) (found : FileOf) : Type 0 where
+pub record StandsInFile (bytes : List ℕ) (f : FileTree) (found : FileOf) : Type 0 where
   pub imports : List Imported
-  pub refused : AreRefused (file_alone bytes f) f imports
+  pub refused : ImportsAreRefused (file_alone bytes f) f imports
   pub content : ContentOf
   pub part : IsPart (input_with (package_alone (file_alone bytes f)) (imports ∷ []) []) content
   pub files : content.files ≡ found ∷ []

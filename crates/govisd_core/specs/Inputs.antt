@@ -10,11 +10,11 @@ abbrev pub ReadsUpTo : ℕ → Option (List ℕ) → Option (List ℕ) → Type 
 ReadsUpTo most given left = (bytes : List ℕ) × Consumes given left bytes × (length bytes ≤ most)
 
 -- the bytes that a read gave went behind those that were there, and none came only at the end
-abbrev pub IsPart : Option (List ℕ) → Option (List ℕ) → List ℕ → List ℕ → ℕ → Bool → Type 0
-IsPart given left before after room more =
+abbrev pub ReadsBehind : Option (List ℕ) → Option (List ℕ) → List ℕ → List ℕ → ℕ → Bool → Type 0
+ReadsBehind given left before after room more =
     (bytes : List ℕ) × Consumes given left bytes × (after ≡ before ++ bytes) × (length bytes ≤ room) × (more ≡ false → (bytes ≡ []) × IsAtEnd left)
 
 -- a read that was interrupted is no fault
-abbrev pub IsFinal : InputFault → Type 0
-IsFinal (Reader kind) = kind ≢ Interrupted
-IsFinal Memory = Unit {0}
+abbrev pub IsUninterrupted : InputFault → Type 0
+IsUninterrupted (Reader kind) = kind ≢ Interrupted
+IsUninterrupted Memory = Unit {0}

@@ -17,7 +17,7 @@ use Rattle.go_part_core.specs.parse_core.Refusing.{IsRuleRead}
 use Rattle.govisd_core.specs.declared.run.ResolveEnd.{ResolveEnd}
 use Rattle.govisd_core.specs.declared.run.ResolveEnd.TheVariants.{Clean, Faults, ReadFault, WriteFault, Memory}
 use Rattle.govisd_core.specs.Outputs.{IsCutShort}
-use Rattle.govisd_core.specs.Alone.{IsFound, the_name}
+use Rattle.govisd_core.specs.Alone.{StandsInFile, the_name}
 
 -- the most bytes that a text may have
 abbrev pub max_bytes : ℕ
@@ -32,7 +32,7 @@ pub data Input : Type 0 where
   NoTree : ℕ → Input
   TooHigh : ℕ → Input
   NoName : FileTree → Input
-  Whole : FileTree → FileOf → Input
+  AFile : FileTree → FileOf → Input
 
 -- a text of a length that is allowed
 pub record IsText (bytes : List ℕ) : Type 0 where
@@ -50,14 +50,14 @@ pub record IsFile (bytes : List ℕ) (f : FileTree) : Type 0 where
   pub text : IsText bytes
   pub parse : IsParse bytes f
 
-abbrev pub IsInput : List ℕ → Input → Type 0
-IsInput bytes TooLong = max_bytes < length bytes
-IsInput bytes NoText = (length bytes ≤ max_bytes) × ¬ (IsUtf8 bytes)
-IsInput bytes (BadToken fault) = IsText bytes × IsAnswer bytes (Err fault)
-IsInput bytes (NoTree offset) = HasTokens bytes × HasNoTree bytes × IsRuleRead bytes P1 × (offset ≤ length bytes)
-IsInput bytes (TooHigh offset) = HasTokens bytes × HasNoLowTree bytes × IsRuleRead bytes P2 × (offset ≤ length bytes)
-IsInput bytes (NoName f) = IsFile bytes f × (f.name.name ≡ blank)
-IsInput bytes (Whole f found) = IsFile bytes f × (f.name.name ≢ blank) × IsFound bytes f found
+abbrev pub IsInputOfBytes : List ℕ → Input → Type 0
+IsInputOfBytes bytes TooLong = max_bytes < length bytes
+IsInputOfBytes bytes NoText = (length bytes ≤ max_bytes) × ¬ (IsUtf8 bytes)
+IsInputOfBytes bytes (BadToken fault) = IsText bytes × IsAnswer bytes (Err fault)
+IsInputOfBytes bytes (NoTree offset) = HasTokens bytes × HasNoTree bytes × IsRuleRead bytes P1 × (offset ≤ length bytes)
+IsInputOfBytes bytes (TooHigh offset) = HasTokens bytes × HasNoLowTree bytes × IsRuleRead bytes P2 × (offset ≤ length bytes)
+IsInputOfBytes bytes (NoName f) = IsFile bytes f × (f.name.name ≡ blank)
+IsInputOfBytes bytes (AFile f found) = IsFile bytes f × (f.name.name ≢ blank) × StandsInFile bytes f found
 
 abbrev pub the_fault : ℕ → Rule → List ℕ
 the_fault offset rule = fault_line (record { offset = offset; rule = rule })
@@ -70,33 +70,33 @@ report bytes (BadToken fault) = the_fault fault.offset fault.rule
 report bytes (NoTree offset) = the_fault offset P1
 report bytes (TooHigh offset) = the_fault offset P2
 report bytes (NoName f) = the_fault f.name.span.start K3
-report bytes (Whole f found) = file_lines the_name f found.answers.uses found.answers.faults
+report bytes (AFile f found) = file_lines the_name f found.answers.uses found.answers.faults
 
-abbrev pub is_empty : {A : Type 0} → List A → Bool
-is_empty [] = true
-is_empty (x ∷ xs) = false
+abbrev pub has_no_items : {A : Type 0} → List A → Bool
+has_no_items [] = true
+has_no_items (x ∷ xs) = false
 
 -- the status is that of a source without fault: nothing is reported of the file, neither a rule that an occurrence breaks nor a fault beside
-abbrev pub is_clean : Input → Bool
-is_clean TooLong = false
-is_clean NoText = false
-is_clean (BadToken fault) = false
-is_clean (NoTree offset) = false
-is_clean (TooHigh offset) = false
-is_clean (NoName f) = false
-is_clean (Whole f found) = is_empty found.report
+abbrev pub is_input_clean : Input → Bool
+is_input_clean TooLong = false
+is_input_clean NoText = false
+is_input_clean (BadToken fault) = false
+is_input_clean (NoTree offset) = false
+is_input_clean (TooHigh offset) = false
+is_input_clean (NoName f) = false
+is_input_clean (AFile f found) = has_no_items found.report
 
 -- the report on the bytes was written, and it says whether there is a fault
 pub record Reports (clean : Bool) (bytes : List ℕ) (old new : Option (List ℕ)) : Type 0 where
   pub input : Input
-  pub is : IsInput bytes input
-  pub says : is_clean input ≡ clean
+  pub is : IsInputOfBytes bytes input
+  pub says : is_input_clean input ≡ clean
   pub writes : Appends old new (report bytes input)
 
 -- the first bytes of the report were written, but not all, and nothing else
 pub record ReportsPart (bytes : List ℕ) (old new : Option (List ℕ)) : Type 0 where
   pub input : Input
-  pub is : IsInput bytes input
+  pub is : IsInputOfBytes bytes input
   pub cut : IsCutShort old new (report bytes input)
 
 -- how a run over these bytes ended, and what was written
@@ -118,8 +118,8 @@ ReadsAll Memory bytes given left = Unit {0}
 -- the text of a report on the bytes, and whether it is of a source without fault
 pub record IsReport (bytes : List ℕ) (clean : Bool) (text : List ℕ) : Type 0 where
   pub input : Input
-  pub is : IsInput bytes input
-  pub says : is_clean input ≡ clean
+  pub is : IsInputOfBytes bytes input
+  pub says : is_input_clean input ≡ clean
   pub writes : text ≡ report bytes input
 
 -- an input, but for the place where a text without a low tree is refused
@@ -130,8 +130,8 @@ but_for_place TooLong = TooLong
 but_for_place NoText = NoText
 but_for_place (BadToken fault) = BadToken fault
 but_for_place (NoName f) = NoName f
-but_for_place (Whole f found) = Whole f found
+but_for_place (AFile f found) = AFile f found
 
 -- but for that, bytes are one input
 abbrev pub OneInput : Type 0
-OneInput = (bytes : List ℕ) (a b : Input) → IsInput bytes a → IsInput bytes b → but_for_place a ≡ but_for_place b
+OneInput = (bytes : List ℕ) (a b : Input) → IsInputOfBytes bytes a → IsInputOfBytes bytes b → but_for_place a ≡ but_for_place b

@@ -1,7 +1,7 @@
 //! Reading the input of a run.
 ghost use Rattle.std.specs.Prelude.{◌≡◌, ◌≤◌, ◌<◌, take, IfOk, IfErr, IfSome};
 ghost use Rattle.std.specs.Io.KnownBytes.{Consumes};
-ghost use Rattle.govisd_core.specs.Inputs.{IsPart, IsFinal, ReadsUpTo};
+ghost use Rattle.govisd_core.specs.Inputs.{ReadsBehind, IsUninterrupted, ReadsUpTo};
 
 use std::alloc::Global;
 use std::io::{ErrorKind, Read};
@@ -28,8 +28,8 @@ pub enum InputFault {
 fn read_part<R: Read>(reader: &mut R, bytes: &mut Vec<u8>, room: usize) -> Result<bool, InputFault>
     requires some { 0 < room }
     requires small { room ≤ PIECE }
-    ensures ok { IfOk result (λ more. IsPart (R.remaining reader.old) (R.remaining reader.new) bytes.old.items bytes.new.items room more) }
-    ensures err { IfErr result IsFinal }
+    ensures ok { IfOk result (λ more. ReadsBehind (R.remaining reader.old) (R.remaining reader.new) bytes.old.items bytes.new.items room more) }
+    ensures err { IfErr result IsUninterrupted }
     ensures few { ReadsUpTo room (R.remaining reader.old) (R.remaining reader.new) }
 {
     let mut buffer = [0u8; PIECE];
@@ -51,7 +51,7 @@ fn read_part<R: Read>(reader: &mut R, bytes: &mut Vec<u8>, room: usize) -> Resul
 pub fn read_input<R: Read>(alloc: Global, reader: &mut R) -> Result<Vec<u8>, InputFault>
     ensures ok { IfOk result (λ v. IfSome (R.remaining reader.old) (λ bytes. v.items ≡ take LIMIT bytes)) }
     ensures taken { IfOk result (λ v. Consumes (R.remaining reader.old) (R.remaining reader.new) v.items) }
-    ensures err { IfErr result IsFinal }
+    ensures err { IfErr result IsUninterrupted }
     ensures few { ReadsUpTo LIMIT (R.remaining reader.old) (R.remaining reader.new) }
 {
     let mut bytes = Vec::new(alloc);

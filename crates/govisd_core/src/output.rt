@@ -1,6 +1,6 @@
 //! Writing the report of a run.
 ghost use Rattle.std.specs.Prelude.{◌<◌, length};
-ghost use Rattle.govisd_core.specs.Outputs.{IsPartWritten, IsWritten};
+ghost use Rattle.govisd_core.specs.Outputs.{IsPartWritten, IsWrittenOut};
 
 use std::io::{ErrorKind, Write};
 
@@ -27,7 +27,7 @@ fn write_part<W: Write>(writer: &mut W, bytes: &[u8]) -> Result<usize, ErrorKind
 /// The kind of the error of the write that failed. A write that is interrupted is made again. One that takes none of
 /// the bytes fails with [`ErrorKind::WriteZero`], and after 2^64 - 1 writes [`ErrorKind::TimedOut`] is the answer.
 pub fn write_report<W: Write>(writer: &mut W, bytes: &[u8]) -> Result<(), ErrorKind>
-    ensures { IsWritten (W.contents writer.old) (W.contents writer.new) bytes.now result }
+    ensures { IsWrittenOut (W.contents writer.old) (W.contents writer.new) bytes.now result }
 {
     let mut rest = bytes;
     for _turn in 0..WRITES {

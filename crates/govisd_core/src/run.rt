@@ -3,7 +3,7 @@ ghost use Rattle.std.specs.Prelude.{◌≡◌, false, take, string_bytes, IfOk, 
 ghost use Rattle.go_tree_nodes.specs.Shapes.{file_of};
 ghost use Rattle.govisd_lines.specs.decl_core.Outer.{IsPlaced};
 ghost use Rattle.govisd_core.specs.Inputs.{ReadsUpTo};
-ghost use Rattle.govisd_core.specs.Reports.{IsReport, IsEnd, IsText, ReadsAll, is_empty, the_fault};
+ghost use Rattle.govisd_core.specs.Reports.{IsReport, IsEnd, IsText, ReadsAll, has_no_items, the_fault};
 ghost use Rattle.govisd_core.specs.mirrors.Making.{HasOneFile, IsAlone, IsTold};
 
 use crate::alone::{part_of, workspace_of};
@@ -51,7 +51,7 @@ fn fault_report(alloc: Global, offset: usize, rule: Rule) -> Result<Report, Allo
 
 // Whether nothing is reported.
 fn is_clean(report: &[Fault]) -> bool
-    ensures { result ≡ is_empty report.now }
+    ensures { result ≡ has_no_items report.now }
 {
     report.is_empty()
 }

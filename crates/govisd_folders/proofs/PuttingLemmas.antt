@@ -3,7 +3,7 @@ use Rattle.std.proofs.Common.{◌≡◌, ◌∙◌, ℕ, List, [], ◌∷◌, �
 use Rattle.std.proofs.lemmas.List.{append-nil}
 use Rattle.go_text_core.specs.declared.rule.Rule.TheVariants.{E1}
 use Rattle.go_path_core.specs.Path.{IsPath}
-use Rattle.go_folder_core.specs.Folders.{joined}
+use Rattle.go_folder_core.specs.Folders.{joined_path}
 use Rattle.go_snap_core.specs.graph_core.Workspaces.{PackageModel, Puts}
 use Rattle.govisd_folders.specs.Notes.{refusal_line}
 use Rattle.govisd_folders.specs.Puts.{ArePut, FolderModel, IsPathOf, IsPut, StateModel}
@@ -24,10 +24,10 @@ map_last f (y ∷ xs) x = ap (λ l. f y ∷ l) (map_last f xs x)
 
 module _ (own folder : List ℕ) (files : List (List ℕ × List ℕ)) (ps : List PackageModel) where
   -- the files of a folder whose path is one are put
-  pub is_put : (new : List PackageModel) (notes text path : List ℕ) → text ≡ joined own folder → IsPathOf text (Some path) → Puts ps path files new → IsPut own (folder, files) (ps, notes) (new, notes)
+  pub is_put : (new : List PackageModel) (notes text path : List ℕ) → text ≡ joined_path own folder → IsPathOf text (Some path) → Puts ps path files new → IsPut own (folder, files) (ps, notes) (new, notes)
   is_put new notes text path same h puts = inl (subst IsPath same h.1, subst (λ p. Puts ps p files new) (h.0 ∙ same) puts, refl)
 
   -- those of another folder are not
-  pub not_put : {X E : Type 0} (notes notes' text : List ℕ) → text ≡ joined own folder → IsPathOf text None → (r : Result X E) → OnOk r (notes' ≡ notes ++ refusal_line folder E1) → OnOk r (IsPut own (folder, files) (ps, notes) (ps, notes'))
+  pub not_put : {X E : Type 0} (notes notes' text : List ℕ) → text ≡ joined_path own folder → IsPathOf text None → (r : Result X E) → OnOk r (notes' ≡ notes ++ refusal_line folder E1) → OnOk r (IsPut own (folder, files) (ps, notes) (ps, notes'))
   not_put notes notes' text same h (Ok x) said = inr (λ p. h (subst IsPath (sym same) p), refl, said)
   not_put notes notes' text same h (Err e) said = tt

@@ -5,7 +5,7 @@ use Rattle.std.proofs.lemmas.List.{append-nil, take_more, take_all}
 use Rattle.std.proofs.lemmas.Option.{none-some}
 use Rattle.go_snap_core.specs.graph_core.Workspaces.{PackageModel}
 use Rattle.go_snap_core.specs.declared.fault.PlacedFault.{PlacedFault}
-use Rattle.go_folder_core.specs.Folders.{joined}
+use Rattle.go_folder_core.specs.Folders.{joined_path}
 use Rattle.go_folder_core.specs.Places.{IsPosition}
 use Rattle.go_snap_core.specs.Faults.{LiesIn}
 use Rattle.go_snap_core.specs.graph_core.Sources.{SourceModel}
@@ -34,7 +34,7 @@ lie_in_these ps qs faults these packages same h = subst (λ (fs : List PlacedFau
 
 -- the line of a fault
 module _ {X E : Type 0} (r : Result X E) (json : Bool) (own : List ℕ) (ps : List PackageModel) (f : PlacedFault) (path folder file text old new : List ℕ) (s : SourceModel) where
-  line_added : source_at ps f ≡ Some (path, s) → IsFolderOf own path folder → file ≡ joined folder s.name → text ≡ s.text → AddsFault json path file text f.offset f.rule old new → AddsLine json own ps f old new
+  line_added : source_at ps f ≡ Some (path, s) → IsFolderOf own path folder → file ≡ joined_path folder s.name → text ≡ s.text → AddsFault json path file text f.offset f.rule old new → AddsLine json own ps f old new
   line_added lies below named same h = (
     fault_text json path file h.at f.offset f.rule,
     record {
@@ -52,7 +52,7 @@ module _ {X E : Type 0} (r : Result X E) (json : Bool) (own : List ℕ) (ps : Li
     h.is,
   )
 
-  pub adds_placed : source_at ps f ≡ Some (path, s) → IsFolderOf own path folder → file ≡ joined folder s.name → text ≡ s.text → OnOk r (AddsFault json path file text f.offset f.rule old new) → OnOk r (AddsLine json own ps f old new)
+  pub adds_placed : source_at ps f ≡ Some (path, s) → IsFolderOf own path folder → file ≡ joined_path folder s.name → text ≡ s.text → OnOk r (AddsFault json path file text f.offset f.rule old new) → OnOk r (AddsLine json own ps f old new)
   adds_placed lies below named same h = by r h
     where
       by : (r : Result X E) → OnOk r (AddsFault json path file text f.offset f.rule old new) → OnOk r (AddsLine json own ps f old new)

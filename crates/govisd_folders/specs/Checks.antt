@@ -6,7 +6,7 @@ use Rattle.go_snap_core.specs.graph_core.Workspaces.{PackageModel}
 use Rattle.go_snap_core.specs.declared.fault.PlacedFault.{PlacedFault}
 use Rattle.go_snap_core.specs.part_core.Parts.{PartModel}
 use Rattle.go_snap_core.specs.Snapshots.{IsSnapshot}
-use Rattle.govisd_folders.specs.declared.checking.Answer.{Answer}
+use Rattle.govisd_folders.specs.declared.checking.CheckAnswer.{CheckAnswer}
 use Rattle.govisd_folders.specs.Notes.{note_line}
 use Rattle.govisd_folders.specs.Puts.{ArePut, FolderModel}
 use Rattle.govisd_folders.specs.Telling.{AreTold}
@@ -18,13 +18,13 @@ status_of [] (n ∷ notes) = 1
 status_of (f ∷ faults) notes = 1
 
 -- nothing was checked: that is said of what has a name, and nothing is written
-pub record IsRefused (name : List ℕ) (a : Answer) : Type 0 where
+pub record NothingIsChecked (name : List ℕ) (a : CheckAnswer) : Type 0 where
   pub status : a.status ≡ 2
   pub text : string_bytes a.text ≡ []
   pub says : (front why : List ℕ) × (string_bytes a.said ≡ front ++ note_line name why)
 
 -- the packages of a workspace were checked: what is written are exactly its faults, and what is said is what was left out and passed over
-pub record IsChecked (json : Bool) (own : List ℕ) (ps : List PackageModel) (notes passed : List ℕ) (a : Answer) : Type 0 where
+pub record WorkspaceIsChecked (json : Bool) (own : List ℕ) (ps : List PackageModel) (notes passed : List ℕ) (a : CheckAnswer) : Type 0 where
   pub parts : List (Option PartModel)
   pub faults : List PlacedFault
   pub snapshot : IsSnapshot ps parts faults
@@ -33,19 +33,19 @@ pub record IsChecked (json : Bool) (own : List ℕ) (ps : List PackageModel) (no
   pub said : string_bytes a.said ≡ notes ++ passed
 
 -- the answer on a workspace; where it has no package, the folder that was asked for is refused
-abbrev pub IsAnswerOn : List ℕ → Bool → List ℕ → List PackageModel → List ℕ → List ℕ → Answer → Type 0
-IsAnswerOn folder json own [] notes passed a = IsRefused folder a
-IsAnswerOn folder json own (p ∷ ps) notes passed a = IsChecked json own (p ∷ ps) notes passed a
+abbrev pub IsAnswerOn : List ℕ → Bool → List ℕ → List PackageModel → List ℕ → List ℕ → CheckAnswer → Type 0
+IsAnswerOn folder json own [] notes passed a = NothingIsChecked folder a
+IsAnswerOn folder json own (p ∷ ps) notes passed a = WorkspaceIsChecked json own (p ∷ ps) notes passed a
 
 -- the answer on folders that were found, where this is said of what could not be read, and this of what was passed over
-pub record IsAnswerFor (folder : List ℕ) (json : Bool) (own : List ℕ) (found : List FolderModel) (left passed : List ℕ) (a : Answer) : Type 0 where
+pub record IsAnswerFor (folder : List ℕ) (json : Bool) (own : List ℕ) (found : List FolderModel) (left passed : List ℕ) (a : CheckAnswer) : Type 0 where
   pub packages : List PackageModel
   pub notes : List ℕ
   pub put : ArePut own found ([], left) (packages, notes)
   pub answer : IsAnswerOn folder json own packages notes passed a
 
 -- some folders were read as those of a module, and this is the answer on them
-pub record IsOfFolders (folder : List ℕ) (json : Bool) (own : List ℕ) (a : Answer) : Type 0 where
+pub record IsOfFolders (folder : List ℕ) (json : Bool) (own : List ℕ) (a : CheckAnswer) : Type 0 where
   pub path : IsPath own
   pub found : List FolderModel
   pub left : List ℕ
@@ -57,8 +57,8 @@ abbrev pub module_option : List ℕ
 module_option = codes "--module"
 
 -- the answer on a module: its path is none, and is refused, or folders were read
-abbrev pub IsAnswerBelow : List ℕ → Bool → List ℕ → Answer → Type 0
-IsAnswerBelow folder json own a = ((¬ IsPath own) × IsRefused module_option a) ⊎ IsOfFolders folder json own a
+abbrev pub IsAnswerBelow : List ℕ → Bool → List ℕ → CheckAnswer → Type 0
+IsAnswerBelow folder json own a = ((¬ IsPath own) × NothingIsChecked module_option a) ⊎ IsOfFolders folder json own a
 
 -- the name of the folder at a path, which is the path's last component; no bytes, where it has none
 abbrev pub folder_name : List ℕ → List ℕ
@@ -69,10 +69,10 @@ abbrev pub own_path : List ℕ → Option (List ℕ) → List ℕ
 own_path root given = unwrap_or given (folder_name root)
 
 -- the answer on the folder at a path
-abbrev pub IsAnswerAt : List ℕ → List ℕ → Bool → Option (List ℕ) → Answer → Type 0
-IsAnswerAt root folder json given a = IsAnswerBelow folder json (own_path root given) a
+abbrev pub IsAnswerOnFolder : List ℕ → List ℕ → Bool → Option (List ℕ) → CheckAnswer → Type 0
+IsAnswerOnFolder root folder json given a = IsAnswerBelow folder json (own_path root given) a
 
 -- the answer of a check of a folder: it is refused, or this is the answer on the folder at some path. Which path that is, without links and
 -- from the root, is the file system's to say
-abbrev pub IsAnswer : List ℕ → Bool → Option (List ℕ) → Answer → Type 0
-IsAnswer folder json given a = IsRefused folder a ⊎ ((root : List ℕ) × IsAnswerAt root folder json given a)
+abbrev pub IsAnswerOfCheck : List ℕ → Bool → Option (List ℕ) → CheckAnswer → Type 0
+IsAnswerOfCheck folder json given a = NothingIsChecked folder a ⊎ ((root : List ℕ) × IsAnswerOnFolder root folder json given a)

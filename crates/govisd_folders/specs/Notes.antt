@@ -4,7 +4,7 @@ use Rattle.std.specs.declared.io.ErrorKind.{ErrorKind}
 use Rattle.std.specs.declared.io.ErrorKind.TheVariants.{OutOfMemory}
 use Rattle.go_text_core.specs.Rules.{rule_number}
 use Rattle.go_text_core.specs.declared.rule.Rule.{Rule}
-use Rattle.go_explain_core.specs.Meanings.{meaning_of}
+use Rattle.go_explain_core.specs.Meanings.{rule_meaning}
 
 -- what is wrong with what lies at a path
 abbrev pub note_line : List ℕ → List ℕ → List ℕ
@@ -23,7 +23,7 @@ pub record SaysUnread (path : List ℕ) (kind : ErrorKind) (old new : List ℕ) 
 
 -- what lies at a path breaks a rule
 abbrev pub refusal_line : List ℕ → Rule → List ℕ
-refusal_line path rule = codes "govisd: " ++ path ++ codes ": " ++ rule_number rule ++ codes " " ++ meaning_of rule ++ codes "\n"
+refusal_line path rule = codes "govisd: " ++ path ++ codes ": " ++ rule_number rule ++ codes " " ++ rule_meaning rule ++ codes "\n"
 
 -- nothing was passed over
 abbrev pub none_passed : ℕ → ℕ → Bool

@@ -2,7 +2,7 @@
 use Rattle.std.specs.Prelude.{◌≡◌, ◌⊎◌, ℕ, List, [], ◌∷◌, ◌++◌, Option, Some, None, string_bytes}
 use Rattle.go_text_core.specs.declared.rule.Rule.TheVariants.{E1}
 use Rattle.go_path_core.specs.Path.{IsPath}
-use Rattle.go_folder_core.specs.Folders.{joined}
+use Rattle.go_folder_core.specs.Folders.{joined_path}
 use Rattle.go_snap_core.specs.graph_core.Workspaces.{PackageModel, Puts, given_files}
 use Rattle.govisd_folders.specs.declared.reading.FolderFiles.{FolderFiles}
 use Rattle.govisd_folders.specs.Notes.{refusal_line}
@@ -27,8 +27,8 @@ StateModel = List PackageModel × List ℕ
 -- the files of a folder are put as those of the package of its path below the module; where that is no path, it is said that they are left out
 abbrev pub IsPut : List ℕ → FolderModel → StateModel → StateModel → Type 0
 IsPut own f old new =
-    (IsPath (joined own f.0) × Puts old.0 (joined own f.0) f.1 new.0 × (new.1 ≡ old.1))
-    ⊎ ((¬ IsPath (joined own f.0)) × (new.0 ≡ old.0) × (new.1 ≡ old.1 ++ refusal_line f.0 E1))
+    (IsPath (joined_path own f.0) × Puts old.0 (joined_path own f.0) f.1 new.0 × (new.1 ≡ old.1))
+    ⊎ ((¬ IsPath (joined_path own f.0)) × (new.0 ≡ old.0) × (new.1 ≡ old.1 ++ refusal_line f.0 E1))
 
 -- those of folders, one behind another
 abbrev pub ArePut : List ℕ → List FolderModel → StateModel → StateModel → Type 0

@@ -2,8 +2,8 @@
 use Rattle.std.specs.Prelude.{◌≡◌, ◌<◌, ◌==◌, ℕ, Bool, true, false, List, [], ◌∷◌, ◌++◌, length, take, Option, Some, codes, decimal, slice_get, option_and_then, option_map, if◌then◌else◌}
 use Rattle.go_text_core.specs.Rules.{rule_number}
 use Rattle.go_text_core.specs.declared.rule.Rule.{Rule}
-use Rattle.go_explain_core.specs.Meanings.{meaning_of}
-use Rattle.go_folder_core.specs.Folders.{joined}
+use Rattle.go_explain_core.specs.Meanings.{rule_meaning}
+use Rattle.go_folder_core.specs.Folders.{joined_path}
 use Rattle.go_folder_core.specs.Places.{IsPosition}
 use Rattle.go_folder_core.specs.declared.places.Position.{Position}
 use Rattle.go_snap_core.specs.graph_core.Sources.{SourceModel}
@@ -11,12 +11,12 @@ use Rattle.go_snap_core.specs.graph_core.Workspaces.{PackageModel}
 use Rattle.go_snap_core.specs.declared.fault.PlacedFault.{PlacedFault}
 
 -- a place of a file, as `cart/cart.go:7:9`
-abbrev pub place_text : List ℕ → Position → List ℕ
-place_text file at = file ++ codes ":" ++ decimal at.line ++ codes ":" ++ decimal at.column
+abbrev pub position_text : List ℕ → Position → List ℕ
+position_text file at = file ++ codes ":" ++ decimal at.line ++ codes ":" ++ decimal at.column
 
 -- a rule that is broken at a place: the place, the rule and what it means
 abbrev pub line_text : List ℕ → Position → Rule → List ℕ
-line_text file at rule = place_text file at ++ codes ": " ++ rule_number rule ++ codes " " ++ meaning_of rule ++ codes "\n"
+line_text file at rule = position_text file at ++ codes ": " ++ rule_number rule ++ codes " " ++ rule_meaning rule ++ codes "\n"
 
 -- the same as a JSON object, with the package and the offset in bytes
 abbrev pub json_text : List ℕ → List ℕ → Position → ℕ → Rule → List ℕ
@@ -24,7 +24,7 @@ json_text path file at offset rule =
     codes "{\"column\":" ++ decimal at.column
     ++ codes ",\"file\":\"" ++ file
     ++ codes "\",\"line\":" ++ decimal at.line
-    ++ codes ",\"meaning\":\"" ++ meaning_of rule
+    ++ codes ",\"meaning\":\"" ++ rule_meaning rule
     ++ codes "\",\"offset\":" ++ decimal offset
     ++ codes ",\"package\":\"" ++ path
     ++ codes "\",\"rule\":\"" ++ rule_number rule
@@ -43,7 +43,7 @@ pub record AddsFault (json : Bool) (path file text : List ℕ) (offset : ℕ) (r
 
 -- the path of the folder of a package, from that of the module
 abbrev pub IsFolderOf : List ℕ → List ℕ → List ℕ → Type 0
-IsFolderOf own path folder = (f : List ℕ) → 0 < length own → path ≡ joined own f → folder ≡ f
+IsFolderOf own path folder = (f : List ℕ) → 0 < length own → path ≡ joined_path own f → folder ≡ f
 
 -- the path of the package and the file in which a fault lies, if there is such a file
 abbrev pub source_at : List PackageModel → PlacedFault → Option (List ℕ × SourceModel)
@@ -55,7 +55,7 @@ pub record IsTextOf (json : Bool) (own path : List ℕ) (s : SourceModel) (f : P
   pub below : IsFolderOf own path folder
   pub at : Position
   pub place : IsPosition (take f.offset s.text) at
-  pub is : text ≡ fault_text json path (joined folder s.name) at f.offset f.rule
+  pub is : text ≡ fault_text json path (joined_path folder s.name) at f.offset f.rule
 
 -- what is written of a fault of a workspace, below a module: of the file in which it lies
 pub record IsLine (json : Bool) (own : List ℕ) (ps : List PackageModel) (f : PlacedFault) (line : List ℕ) : Type 0 where

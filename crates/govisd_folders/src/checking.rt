@@ -3,7 +3,7 @@ ghost use Rattle.std.specs.Prelude.{◌≡◌, IfOk, false, map, option_map, str
 ghost use Rattle.std.specs.IoError.{error_kind};
 ghost use Rattle.std.specs.Path.{path_buf_bytes};
 ghost use Rattle.go_path_core.specs.Path.{IsPath};
-ghost use Rattle.govisd_folders.specs.Checks.{IsAnswer, IsAnswerAt, IsAnswerFor, IsAnswerOn, IsChecked, IsOfFolders, IsRefused, folder_name, module_option, own_path, status_of};
+ghost use Rattle.govisd_folders.specs.Checks.{IsAnswerOfCheck, IsAnswerOnFolder, IsAnswerFor, IsAnswerOn, WorkspaceIsChecked, IsOfFolders, NothingIsChecked, folder_name, module_option, own_path, status_of};
 ghost use Rattle.go_snap_core.specs.Snapshots.{IsSnapshot};
 ghost use Rattle.govisd_folders.specs.Notes.{wants_memory};
 ghost use Rattle.govisd_folders.specs.Puts.{folder_of};
@@ -11,7 +11,7 @@ ghost use Rattle.govisd_folders.specs.Puts.{folder_of};
 use crate::notes::{note, note_passed, note_rule, push, why_unread};
 use crate::progress::Progress;
 use crate::putting::put_all;
-use crate::reading::{FolderFiles, Found, found_below};
+use crate::reading::{FolderFiles, FoundFolders, found_below};
 use crate::telling::told;
 use go_path_core::ImportPath;
 use go_snap_core::graph_core::Workspace;
@@ -34,7 +34,7 @@ pub struct Order<'a> {
 
 /// What came of a check.
 #[derive(Drop)]
-pub struct Answer {
+pub struct CheckAnswer {
     /// 0 where nothing is amiss, 1 where there is a fault or something was left out, and 2 where nothing was checked.
     pub status: u8,
     /// What is to be written.
@@ -64,16 +64,16 @@ fn answer_from(
     snapshot: &Snapshot,
     notes: &str,
     passed: &str,
-) -> Result<Answer, AllocError>
+) -> Result<CheckAnswer, AllocError>
     requires { IsSnapshot snapshot.now.sources snapshot.now.parts snapshot.now.faults }
-    ensures { IfOk result (λ a. IsChecked json module_path.now snapshot.now.sources notes.now passed.now a) }
+    ensures { IfOk result (λ a. WorkspaceIsChecked json module_path.now snapshot.now.sources notes.now passed.now a) }
 {
     faults_lie_in_files();
     let faults = snapshot.faults();
     let text = told(alloc, json, module_path, snapshot.sources(), faults)?;
     let mut said = String::from_str(alloc, notes)?;
     push(&mut said, passed)?;
-    Ok(Answer {
+    Ok(CheckAnswer {
         status: check_status(faults, notes),
         text,
         said,
@@ -88,8 +88,8 @@ fn check_workspace(
     workspace: &Workspace,
     notes: &str,
     passed: &str,
-) -> Result<Answer, AllocError>
-    ensures { IfOk result (λ a. IsChecked json module_path.now workspace.now notes.now passed.now a) }
+) -> Result<CheckAnswer, AllocError>
+    ensures { IfOk result (λ a. WorkspaceIsChecked json module_path.now workspace.now notes.now passed.now a) }
 {
     let snapshot = compile(alloc, workspace)?;
     let answer = answer_from(alloc, json, module_path, &snapshot, notes, passed);
@@ -98,12 +98,12 @@ fn check_workspace(
 }
 
 // Nothing is checked, for a reason of what has a name, which stands behind what is said already.
-fn refused(alloc: Global, said: String, name: &str, why: &str) -> Result<Answer, AllocError>
-    ensures { IfOk result (IsRefused name.now) }
+fn refused(alloc: Global, said: String, name: &str, why: &str) -> Result<CheckAnswer, AllocError>
+    ensures { IfOk result (NothingIsChecked name.now) }
 {
     let mut said = said;
     note(&mut said, name, why)?;
-    Ok(Answer {
+    Ok(CheckAnswer {
         status: 2,
         text: String::new(alloc),
         said,
@@ -118,7 +118,7 @@ fn answer_on(
     workspace: &Workspace,
     notes: String,
     passed: &str,
-) -> Result<Answer, AllocError>
+) -> Result<CheckAnswer, AllocError>
     ensures { IfOk result (λ a. IsAnswerOn order.now.folder.now order.now.json module_path.now workspace.now (string_bytes notes) passed.now a) }
 {
     if workspace.packages().is_empty() {
@@ -143,7 +143,7 @@ fn check_found(
     left_out: String,
     passed: &str,
     progress: &mut Progress<'_>,
-) -> Result<Answer, AllocError>
+) -> Result<CheckAnswer, AllocError>
     ensures { IfOk result (λ a. IsAnswerFor order.now.folder.now order.now.json module_path.now (map folder_of found.items) (string_bytes left_out) passed.now a) }
 {
     let mut notes = left_out;
@@ -172,12 +172,12 @@ fn check_module(
     root: &str,
     module_path: &str,
     progress: &mut Progress<'_>,
-) -> Result<Answer, AllocError>
+) -> Result<CheckAnswer, AllocError>
     requires { IsPath module_path.now }
     ensures { IfOk result (IsOfFolders order.now.folder.now order.now.json module_path.now) }
 {
     let alloc = rt.alloc();
-    let Found {
+    let FoundFolders {
         folders,
         left_out,
         passed_files,
@@ -214,8 +214,8 @@ fn module_of<'a>(given: Option<&'a str>, root: &'a PathBuf) -> &'a str
 }
 
 // Nothing is checked, since the folder cannot be read.
-fn refuse_folder(alloc: Global, folder: &str, error: &io::Error) -> Result<Answer, AllocError>
-    ensures refused { IfOk result (IsRefused folder.now) }
+fn refuse_folder(alloc: Global, folder: &str, error: &io::Error) -> Result<CheckAnswer, AllocError>
+    ensures refused { IfOk result (NothingIsChecked folder.now) }
     ensures other { IfOk result (λ _. wants_memory (error_kind error.now) ≡ false) }
 {
     let why = why_unread(alloc, error)?;
@@ -224,8 +224,8 @@ fn refuse_folder(alloc: Global, folder: &str, error: &io::Error) -> Result<Answe
 }
 
 // Nothing is checked, since the path of the module is none.
-fn refuse_module(alloc: Global, module_path: &str) -> Result<Answer, AllocError>
-    ensures { IfOk result (IsRefused module_option) }
+fn refuse_module(alloc: Global, module_path: &str) -> Result<CheckAnswer, AllocError>
+    ensures { IfOk result (NothingIsChecked module_option) }
 {
     let mut said = String::new(alloc);
     note_rule(&mut said, module_path, Rule::O2)?;
@@ -243,8 +243,8 @@ fn check_root(
     order: &Order<'_>,
     root: &PathBuf,
     progress: &mut Progress<'_>,
-) -> Result<Answer, AllocError>
-    ensures { IfOk result (IsAnswerAt (path_buf_bytes root.now) order.now.folder.now order.now.json (option_map (λ m. m.now) order.now.module_path)) }
+) -> Result<CheckAnswer, AllocError>
+    ensures { IfOk result (IsAnswerOnFolder (path_buf_bytes root.now) order.now.folder.now order.now.json (option_map (λ m. m.now) order.now.module_path)) }
 {
     let alloc = rt.alloc();
     let module_path = module_of(order.module_path, root);
@@ -262,8 +262,8 @@ fn check_root(
 /// # Errors
 ///
 /// `AllocError` for want of memory.
-pub fn check_folder(rt: &HostRuntime, order: &Order<'_>) -> Result<Answer, AllocError>
-    ensures { IfOk result (IsAnswer order.now.folder.now order.now.json (option_map (λ m. m.now) order.now.module_path)) }
+pub fn check_folder(rt: &HostRuntime, order: &Order<'_>) -> Result<CheckAnswer, AllocError>
+    ensures { IfOk result (IsAnswerOfCheck order.now.folder.now order.now.json (option_map (λ m. m.now) order.now.module_path)) }
 {
     let alloc = rt.alloc();
     let root = match fs::canonicalize(rt, order.folder) {

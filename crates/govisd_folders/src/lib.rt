@@ -9,4 +9,4 @@ mod putting;
 mod reading;
 mod telling;
 
-pub use checking::{Answer, Order, check_folder};
+pub use checking::{CheckAnswer, Order, check_folder};

@@ -23,7 +23,7 @@ pub struct FolderFiles {
 
 /// What was found in a folder and below it.
 #[derive(Drop)]
-pub struct Found {
+pub struct FoundFolders {
     /// The folders with source files.
     pub folders: Vec<FolderFiles>,
     /// Lines that name what was left out.
@@ -43,9 +43,9 @@ enum EntryKind {
     Other,
 }
 
-/// Where a reading stands: the system, and the path of the folder that is checked.
+/// The folder that is checked: the system that it is read by, and its path.
 #[derive(Clone, Copy)]
-struct Place<'a> {
+struct CheckedFolder<'a> {
     rt: &'a HostRuntime,
     root: &'a str,
 }
@@ -143,7 +143,7 @@ fn text_at(rt: &HostRuntime, path: &str) -> io::Result<Result<String, Rule>> {
 
 /// Adds the text of a source file, or says why it is left out.
 fn add_file(
-    place: Place<'_>,
+    checked: CheckedFolder<'_>,
     notes: &mut String,
     files: &mut BTreeMap<String, String>,
     name: String,
@@ -153,20 +153,20 @@ fn add_file(
     if files.len() >= MAX_FILES {
         return note_rule(notes, own, Rule::E4);
     }
-    match text_at(place.rt, path) {
+    match text_at(checked.rt, path) {
         Ok(Ok(text)) => match files.insert(name, text) {
             Ok(_) => Ok(()),
             Err(_) => Err(AllocError),
         },
         Ok(Err(rule)) => note_rule(notes, own, rule),
-        Err(error) => note_unread(place.rt.alloc(), notes, own, &error),
+        Err(error) => note_unread(checked.rt.alloc(), notes, own, &error),
     }
 }
 
 /// Adds what is no folder: the text of a source file, or why it is left out.
 fn add_other(
-    place: Place<'_>,
-    found: &mut Found,
+    checked: CheckedFolder<'_>,
+    found: &mut FoundFolders,
     files: &mut BTreeMap<String, String>,
     kind: EntryKind,
     name: String,
@@ -182,14 +182,14 @@ fn add_other(
         }
         (FileKind::BadName, _) => note_rule(&mut found.left_out, own, Rule::E2),
         (FileKind::Source, EntryKind::File) => {
-            add_file(place, &mut found.left_out, files, name, own, path)
+            add_file(checked, &mut found.left_out, files, name, own, path)
         }
         (FileKind::Source, _) => note(&mut found.left_out, own, "no regular file"),
     }
 }
 
 /// Notes a folder that is passed over by its name, unless the name begins with a dot.
-fn pass_over(found: &mut Found, name: &str) {
+fn pass_over(found: &mut FoundFolders, name: &str) {
     if !name.starts_with('.') {
         found.passed_folders = found.passed_folders.saturating_add(1);
     }
@@ -197,17 +197,17 @@ fn pass_over(found: &mut Found, name: &str) {
 
 /// Adds what lies in a folder by a name: a source file to the files, a folder to those that are read next.
 fn add_entry(
-    place: Place<'_>,
-    found: &mut Found,
+    checked: CheckedFolder<'_>,
+    found: &mut FoundFolders,
     files: &mut BTreeMap<String, String>,
     next: &mut Vec<String>,
     folder: &str,
     name: String,
 ) -> Result<(), AllocError> {
-    let alloc = place.rt.alloc();
+    let alloc = checked.rt.alloc();
     let own = below(alloc, folder, name.as_str())?;
-    let path = below(alloc, place.root, own.as_str())?;
-    match look(place.rt, path.as_str()) {
+    let path = below(alloc, checked.root, own.as_str())?;
+    match look(checked.rt, path.as_str()) {
         Ok(EntryKind::Folder) => {
             if is_passed_over(name.as_str()) {
                 pass_over(found, name.as_str());
@@ -227,29 +227,37 @@ fn add_entry(
                 "a link to a folder, which is not followed",
             )
         }
-        Ok(kind) => add_other(place, found, files, kind, name, own.as_str(), path.as_str()),
+        Ok(kind) => add_other(
+            checked,
+            found,
+            files,
+            kind,
+            name,
+            own.as_str(),
+            path.as_str(),
+        ),
         Err(error) => note_unread(alloc, &mut found.left_out, own.as_str(), &error),
     }
 }
 
 /// Adds the source files of a folder, and the folders in it to those that are read next.
 fn add_folder(
-    place: Place<'_>,
-    found: &mut Found,
+    checked: CheckedFolder<'_>,
+    found: &mut FoundFolders,
     next: &mut Vec<String>,
     folder: String,
 ) -> Result<(), AllocError> {
-    let alloc = place.rt.alloc();
-    let path = below(alloc, place.root, folder.as_str())?;
+    let alloc = checked.rt.alloc();
+    let path = below(alloc, checked.root, folder.as_str())?;
     let said = if folder.as_str().is_empty() {
         "."
     } else {
         folder.as_str()
     };
-    let names = names_in(place.rt, &mut found.left_out, said, path.as_str())?;
+    let names = names_in(checked.rt, &mut found.left_out, said, path.as_str())?;
     let mut files = BTreeMap::new(alloc);
     for name in names {
-        add_entry(place, found, &mut files, next, folder.as_str(), name)?;
+        add_entry(checked, found, &mut files, next, folder.as_str(), name)?;
     }
     if files.len() > 0 {
         found.folders.push(FolderFiles { folder, files })?;
@@ -259,14 +267,14 @@ fn add_folder(
 
 /// Adds the source files of folders that lie equally deep, and answers the folders in them, which are read next.
 fn add_level(
-    place: Place<'_>,
-    found: &mut Found,
+    checked: CheckedFolder<'_>,
+    found: &mut FoundFolders,
     progress: &mut Progress<'_>,
     folders: Vec<String>,
 ) -> Result<Vec<String>, AllocError> {
-    let mut next = Vec::new(place.rt.alloc());
+    let mut next = Vec::new(checked.rt.alloc());
     for folder in folders {
-        add_folder(place, found, &mut next, folder)?;
+        add_folder(checked, found, &mut next, folder)?;
         progress.read(found.folders.len());
     }
     Ok(next)
@@ -275,15 +283,15 @@ fn add_level(
 /// Adds the source files of the folder that is checked and of all folders in it but those that are passed over. Folders that lie too deep for
 /// the path of a package are left out, and that is said.
 fn add_all(
-    place: Place<'_>,
-    found: &mut Found,
+    checked: CheckedFolder<'_>,
+    found: &mut FoundFolders,
     progress: &mut Progress<'_>,
 ) -> Result<(), AllocError> {
-    let alloc = place.rt.alloc();
+    let alloc = checked.rt.alloc();
     let mut folders = Vec::new(alloc);
     folders.push(String::new(alloc))?;
     for _depth in 0..MAX_DEPTH {
-        folders = add_level(place, found, progress, folders)?;
+        folders = add_level(checked, found, progress, folders)?;
     }
     for folder in folders {
         note_rule(&mut found.left_out, folder.as_str(), Rule::E1)?;
@@ -300,14 +308,14 @@ pub fn found_below(
     rt: &HostRuntime,
     root: &str,
     progress: &mut Progress<'_>,
-) -> Result<Found, AllocError> {
+) -> Result<FoundFolders, AllocError> {
     let alloc = rt.alloc();
-    let mut found = Found {
+    let mut found = FoundFolders {
         folders: Vec::new(alloc),
         left_out: String::new(alloc),
         passed_files: 0,
         passed_folders: 0,
     };
-    add_all(Place { rt, root }, &mut found, progress)?;
+    add_all(CheckedFolder { rt, root }, &mut found, progress)?;
     Ok(found)
 }

@@ -1,8 +1,8 @@
 //! How faults are written.
 ghost use Rattle.std.specs.Prelude.{◌≡◌, ◌++◌, ◌<◌, All, List, ℕ, IfOk, OnOk, length, option_map, string_bytes};
-ghost use Rattle.go_folder_core.specs.Folders.{joined};
+ghost use Rattle.go_folder_core.specs.Folders.{joined_path};
 ghost use Rattle.go_snap_core.specs.Faults.{LiesIn};
-ghost use Rattle.govisd_folders.specs.Telling.{AddsFault, AddsLine, AddsLines, AreTold, count_text, faults_text, json_text, line_text, packages_text, place_text, source_at};
+ghost use Rattle.govisd_folders.specs.Telling.{AddsFault, AddsLine, AddsLines, AreTold, count_text, faults_text, json_text, line_text, packages_text, position_text, source_at};
 
 use crate::notes::{push, push_number};
 use go_explain_core::meaning;
@@ -14,7 +14,7 @@ use std::alloc::{AllocError, Global};
 
 // The path of a package's folder from that of the module, where the package lies below the module.
 fn folder_of<'a>(module_path: &str, package: &'a str) -> &'a str
-    ensures { (folder : List ℕ) → 0 < length module_path.now → «package».now ≡ joined module_path.now folder → result.now ≡ folder }
+    ensures { (folder : List ℕ) → 0 < length module_path.now → «package».now ≡ joined_path module_path.now folder → result.now ≡ folder }
 {
     match package.strip_prefix(module_path) {
         Some(behind) => match behind.strip_prefix('/') {
@@ -27,7 +27,7 @@ fn folder_of<'a>(module_path: &str, package: &'a str) -> &'a str
 
 // Adds a place, as `a.go:7:9`.
 fn push_place(alloc: Global, out: &mut String, file: &str, at: Position) -> Result<(), AllocError>
-    ensures { OnOk result (string_bytes out.new ≡ string_bytes out.old ++ place_text file.now at) }
+    ensures { OnOk result (string_bytes out.new ≡ string_bytes out.old ++ position_text file.now at) }
 {
     push(out, file)?;
     push(out, ":")?;

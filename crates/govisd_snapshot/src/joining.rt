@@ -115,12 +115,23 @@ fn written(alloc: Global, snapshot: &Snapshot, named: &[Named]) -> Result<String
     out.finish()
 }
 
+/// Whether two snapshots have the same sources, faults and outcomes. The names are those of the packages of the first.
+pub fn has_same(
+    alloc: Global,
+    one: &Snapshot,
+    other: &Snapshot,
+    named: &[Named],
+) -> Result<bool, AllocError> {
+    let text = written(alloc, other, named)?;
+    Ok(text.as_str() == written(alloc, one, named)?.as_str())
+}
+
 /// Whether a join of its parts has all that a snapshot has.
 fn is_joined_same(alloc: Global, shot: &Shot) -> Result<bool, AllocError> {
     let other = joined(alloc, &shot.snapshot)?;
-    let again = written(alloc, &other, &shot.named);
+    let is_same = has_same(alloc, &shot.snapshot, &other, &shot.named);
     other.close();
-    Ok(again?.as_str() == written(alloc, &shot.snapshot, &shot.named)?.as_str())
+    is_same
 }
 
 /// Adds what a workspace has, its faults, and whether a join of its parts has the same.

@@ -7,7 +7,7 @@
 //! | `refusals` | the same lines as far as they tell an archive, a package, a file, a fault, or an occurrence that breaks a rule |
 //! | `locals` | those that tell an archive, a package, a file, or a local of a function |
 //! | `counts` | one line: how many packages were checked, how many occurrences they have, how many of these break a rule, and how many faults there are beside |
-//! | `ask` | to the questions before the archive's first file, a line each: `ex.com/p` asks for the faults of a package, `ex.com/p *ex.com/q.T` for the names that a selector may have in the package `ex.com/p` behind a pointer to `T`, `ex.com/p *ex.com/q.T f` for what the selector `f` denotes there |
+//! | `ask` | to the questions before the archive's first file, a line each: `ex.com/p` asks for the faults of a package, `ex.com/p *ex.com/q.T` for the names that a selector may have in the package `ex.com/p` behind a pointer to `T`, `ex.com/p *ex.com/q.T f` for what the selector `f` denotes there, `methods *ex.com/q.T` for the method set of a pointer to `T`, `implements *ex.com/q.T ex.com/r.I` for whether such a pointer implements `I` |
 //! | `select` | for each type of each package, for a value of it, a pointer to it and a pointer to that, and for each package in which a selector may be written, what the name of each member in the workspace denotes |
 //! | `selectable` | in the same order, the names that a selector may have |
 //! | `faults` | all faults, by package, file and offset |
@@ -24,7 +24,9 @@
 //! |---|---|
 //! | `outcomes PATH FILE` | what each occurrence of the file has: its number, and then as below; `NUMBER none` for the first number that no occurrence has |
 //! | `listing PATH` | `object PATH NAME IMPORTS`, and behind it the functions of the package as they run; `no object` where the package has a fault, and `no package` where the path has none |
+//! | `refs PATH` | for each function of the package, by its number, what the occurrences of its body come to; `NUMBER none` for the first number that no function has; `no object` and `no package` as above |
 //! | `objects` | the same of all packages that have no fault, in order of path, as the snapshot makes them together |
+//! | `again` | where there is an archive before, of each package that has a part whether the snapshot that is made over that archive's has `kept` its part or `made` it, and `again same` where that snapshot has the sources, the faults and the outcomes of the one that is made from nothing |
 //! | `compare PATH` | whether the summary of the package and what its part is made from are the `same` as in the archive before, or `another`; `none` where one of the two archives has no such package |
 //!
 //! Of files it writes for each package, in order of path, `package PATH NAME`; for each of its files, in order of name, `file NAME`; and of a file:
@@ -41,11 +43,15 @@
 //! A defined type stands as the place of its declaration, and a type that is written out as `struct` or `interface`. A package that does not assemble
 //! stands as `package PATH RULE FILE:OFFSET`, with the faults of its files.
 //!
+//! A method of a method set stands in a line with its name, the place of its declaration, and the places of the embedded fields that lead to it. A type
+//! that does not implement another lacks a method: the first one by bytes stands there.
+//!
 //! What a selector denotes is a field or a method at the place of its declaration, the path to it as places of embedded fields, and whether a
 //! pointer is passed; or the rule that the selector breaks. Where the workspace has seven types at most, all paths are listed besides, and
 //! a line says where that finds another answer.
 #![tactic(auto)]
 
+mod again;
 mod all_paths;
 mod all_types;
 mod answers;
@@ -53,6 +59,7 @@ mod comparing;
 mod files;
 mod joining;
 mod listings;
+mod method_sets;
 mod questions;
 mod selectors;
 mod shot;

@@ -88,14 +88,55 @@ pub fn add_objects(out: &mut Lines, alloc: Global, shot: &Shot) {
     }
 }
 
-/// Adds the object of the package of a path.
-pub fn add_listing(out: &mut Lines, alloc: Global, shot: &Shot, path: &ImportPath) {
+/// The object of the package of a path. Where there is none, it adds why.
+fn object_of(
+    out: &mut Lines,
+    alloc: Global,
+    shot: &Shot,
+    path: &ImportPath,
+) -> Option<Object<Site>> {
     let Some(part) = shot.snapshot.part(path) else {
-        return out.line("no package");
+        out.line("no package");
+        return None;
     };
     match emit(alloc, part) {
-        Ok(Some(object)) => add_object(out, alloc, &shot.named, object),
-        Ok(None) => out.line("no object"),
-        Err(AllocError) => out.cut(),
+        Ok(Some(object)) => Some(object),
+        Ok(None) => {
+            out.line("no object");
+            None
+        }
+        Err(AllocError) => {
+            out.cut();
+            None
+        }
+    }
+}
+
+/// Adds the object of the package of a path.
+pub fn add_listing(out: &mut Lines, alloc: Global, shot: &Shot, path: &ImportPath) {
+    if let Some(object) = object_of(out, alloc, shot, path) {
+        add_object(out, alloc, &shot.named, object);
+    }
+}
+
+/// Adds what the occurrences of the functions of an object come to, by the numbers of the functions, up to the first number that none has.
+fn add_refs_of(out: &mut Lines, named: &[Named], object: &Object<Site>) {
+    for number in 0..usize::MAX {
+        out.count("", number, "");
+        let Some(sites) = object.refs(number) else {
+            return out.line(" none");
+        };
+        for site in sites {
+            out.add(" ");
+            add_site(out, named, site);
+        }
+        out.line("");
+    }
+}
+
+/// Adds what the occurrences of the functions of the package of a path come to.
+pub fn add_refs(out: &mut Lines, alloc: Global, shot: &Shot, path: &ImportPath) {
+    if let Some(object) = object_of(out, alloc, shot, path) {
+        add_refs_of(out, &shot.named, &object);
     }
 }

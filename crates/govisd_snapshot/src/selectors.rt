@@ -20,7 +20,7 @@ pub fn starred(alloc: Global, defined: &DefinedType, stars: usize) -> Result<Typ
 }
 
 /// Adds a member: what it is, and where it is declared.
-fn add_member(out: &mut Lines, named: &[Named], member: Member<'_>) {
+pub fn add_member(out: &mut Lines, named: &[Named], member: Member<'_>) {
     match member {
         Member::Field(path, field) => {
             out.add("field ");

@@ -5,9 +5,9 @@ use Rattle.go_meaning_core.specs.handle_core.Declarations.{Declaration}
 use Rattle.go_meaning_core.specs.part_core.Parts.{FileOf}
 use Rattle.go_object_core.specs.Objects.{FunctionOf}
 use Rattle.go_emit_core.specs.Emitted.{file_functions}
-use Rattle.go_meaning_core.specs.Scenes.{Scene}
+use Rattle.go_meaning_core.specs.Scenes.{CodeScene}
 
-abbrev pub outlines_functions : Scene → ℕ → List FileOutline → List FileOf → List (FunctionOf Declaration)
+abbrev pub outlines_functions : CodeScene → ℕ → List FileOutline → List FileOf → List (FunctionOf Declaration)
 outlines_functions s n [] files = []
 outlines_functions s n (o ∷ os) [] = []
 outlines_functions s n (o ∷ os) (f ∷ files) = file_functions s n o.decls f ++ outlines_functions s (suc n) os files

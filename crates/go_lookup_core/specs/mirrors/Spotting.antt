@@ -6,12 +6,12 @@ use Rattle.indexmap.specs.IndexMap.{IndexMap}
 use Rattle.go_fragment_core.specs.declared.names.Meaning.{Meaning}
 use Rattle.go_lookup_core.specs.declared.decl_table.DeclSpot.{DeclSpot}
 use Rattle.go_lookup_core.specs.declared.decl_table.SpottedDecl.{SpottedDecl}
-use Rattle.go_lookup_core.specs.Places.{Spot, same_spot}
+use Rattle.go_lookup_core.specs.Places.{DeclSpotModel, same_spot}
 
-abbrev pub spot_shown : DeclSpot → Spot
+abbrev pub spot_shown : DeclSpot → DeclSpotModel
 spot_shown k = record { path = k.path.now; file = k.file; number = k.number }
 
-abbrev pub item_shown : SpottedDecl → Spot × Meaning
+abbrev pub item_shown : SpottedDecl → DeclSpotModel × Meaning
 item_shown i = (spot_shown i.spot, i.meaning)
 
 abbrev pub same_key : DeclSpot → DeclSpot → Bool

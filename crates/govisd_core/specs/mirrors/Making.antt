@@ -15,8 +15,8 @@ use Rattle.go_part_core.specs.ready_core.Packages.{trees_in}
 use Rattle.go_part_core.specs.Inputs.{InputModel, input_with}
 use Rattle.go_part_core.specs.Parts.{ContentOf, FileOf, IsPart}
 use Rattle.govisd_lines.specs.Lines.{file_lines}
-use Rattle.govisd_core.specs.Alone.{IsRefused, package_alone, the_name, workspace_alone}
-use Rattle.govisd_core.specs.Reports.{is_empty}
+use Rattle.govisd_core.specs.Alone.{ImportIsRefused, package_alone, the_name, workspace_alone}
+use Rattle.govisd_core.specs.Reports.{has_no_items}
 
 -- a workspace whose one package has this one file, which is read
 pub record IsAlone (s : SourceModel) (ps : List PackageModel) : Type 0 where
@@ -54,13 +54,13 @@ IsGivenIn os at (given.«Package» e) = ⊥
 -- what the imports of the one file come to, as those of the files of its package
 pub record AreRefusedAlone (ps : List PackageModel) (f : FileTree) (files : List (List Imported)) : Type 0 where
   pub imports : List Imported
-  pub refused : AreInFile (IsRefused ps) 0 0 f imports
+  pub refused : AreInFile (ImportIsRefused ps) 0 0 f imports
   pub are : files ≡ imports ∷ []
 
 -- the input of the package, by what its file's imports come to
 pub record IsInputIn (ps : List PackageModel) (p : PackageModel) (f : FileTree) (i : InputModel) : Type 0 where
   pub imports : List Imported
-  pub refused : AreInFile (IsRefused ps) 0 0 f imports
+  pub refused : AreInFile (ImportIsRefused ps) 0 0 f imports
   pub is : i ≡ input_with p (imports ∷ []) []
 
 -- an input of a package of one file
@@ -74,5 +74,5 @@ pub record IsTold (name : List ℕ) (f : FileTree) (i : InputModel) (clean : Boo
   pub part : IsPart i content
   pub file : FileOf
   pub files : content.files ≡ file ∷ []
-  pub says : clean ≡ is_empty file.report
+  pub says : clean ≡ has_no_items file.report
   pub writes : text ≡ file_lines name f file.answers.uses file.answers.faults

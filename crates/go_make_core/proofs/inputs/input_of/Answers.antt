@@ -6,7 +6,7 @@ use Rattle.go_whole_core.specs.block_core.GivenSteps.{have_one_each}
 use Rattle.go_whole_core.specs.block_core.Naming.{imported_in}
 use Rattle.go_whole_core.specs.block_core.mirrors.Steps.{IsPlanned}
 use Rattle.go_whole_core.specs.part_core.Inputs.{InputModel}
-use Rattle.go_whole_core.specs.mirrors.Steps.{exports_in}
+use Rattle.go_whole_core.specs.mirrors.Steps.{AreToldBySet, exports_in}
 use Rattle.go_whole_core.proofs.Inputting.{input_made, package_comes, package_ready, reached_there, told_apart, told_is, told_others}
 use Rattle.go_whole_core.proofs.Lists.{one_at}
 use Rattle.go_make_core.proofs.Telling.{told_by_set, told_for}
@@ -46,8 +46,19 @@ new-requires-clause-reached c =
       others = told_others ps c.args.plan.now c.requires.plan c.args.parts.now n c.requires.parts p ss well numbered told;
     }
 
-pub returns-in_ok-input-in-Ok : goal.returns-in_ok-input-in-Ok
-returns-in_ok-input-in-Ok c =
+pub returns-in_ok-input-in-Ok-clause-told : goal.returns-in_ok-input-in-Ok-clause-told
+returns-in_ok-input-in-Ok-clause-told c =
+    let ps = c.args.workspace.now in
+    let n = c.args.number in
+    let sets = c.args.reached.now in
+    let parts = c.args.parts.now in
+    let ss = c.in-Ok.summaries in
+    let there = reached_there ps c.args.plan.now c.requires.plan parts n c.requires.parts sets c.packages-packages.ensures.well c.requires.reached c.requires.many c.requires.assembled in
+    let by_set = told_by_set c.args.told.now.summaries c.args.told.now.places.items parts c.requires.told sets n ss there c.in-Ok.ensures.told in
+    subst (AreToldBySet sets parts n) (sym (ap (λ (i : InputModel). i.reached) c.in_ok-input-in-Ok.ensures)) by_set
+
+pub returns-in_ok-input-in-Ok-clause-input : goal.returns-in_ok-input-in-Ok-clause-input
+returns-in_ok-input-in-Ok-clause-input c =
     let ps = c.args.workspace.now in
     let n = c.args.number in
     let p = c.in_ok-package.package in

@@ -6,7 +6,11 @@ use Rattle.go_whole_core.specs.entry_core.Showing.{with_shown}
 use Rattle.go_whole_core.specs.face_core.Packages.{with_faces}
 use Rattle.go_whole_core.specs.mirrors.Steps.{AreMade, IsNext, IsRight, SoFar}
 use Rattle.go_whole_core.proofs.Next.{so_far_all, so_far_more, so_far_none}
+use Rattle.go_make_core.specs.Keeping.{AreKept}
+use Rattle.go_make_core.specs.mirrors.Marking.{AreMarked}
 use Rattle.go_make_core.specs.mirrors.Telling.{HavePlaces}
+use Rattle.go_make_core.proofs.Keeping.{kept_none, one_kept}
+use Rattle.go_make_core.proofs.Marking.{marks_none, marks_put}
 use Rattle.go_make_core.proofs.Telling.{places_none, places_put}
 use Rattle.go_make_core.proofs.making.make_all.Goals as goal
 
@@ -17,6 +21,8 @@ loop-number-init c =
     let told = c.args.told.now in (
       so_far_none c.args.workspace.now (plan_of [] c.order-number-items.result.now) parts seen.types seen.shown seen.faces c.requires.none c.requires.types c.requires.shown c.requires.faces,
       places_none (length c.args.workspace.now) parts told.summaries told.places.items c.requires.none c.requires.told,
+      marks_none c.args.earlier.now (length c.args.workspace.now) parts told.again.items c.requires.none c.requires.again,
+      kept_none c.args.earlier.now (length c.args.workspace.now) parts told.kept.items c.requires.none c.requires.kept,
     )
 
 pub next_part-requires-clause-next : goal.next_part-requires-clause-next
@@ -38,13 +44,31 @@ next_part-requires-clause-told c =
     let told = c.loop-number.told in
     subst (λ l. HavePlaces l told.summaries told.places.items) (sym c.as_slice.ensures) c.loop-number.invariant.1
 
-pub learn-requires : goal.learn-requires
-learn-requires c =
+pub next_part-requires-clause-again : goal.next_part-requires-clause-again
+next_part-requires-clause-again c = subst (λ l. AreMarked c.args.earlier.now l c.loop-number.told.again.items) (sym c.as_slice.ensures) c.loop-number.invariant.2
+
+pub learn-requires-clause-places : goal.learn-requires-clause-places
+learn-requires-clause-places c =
     let part = c.in_ok-part.part in
-    let order = c.order-number-items.result.now in
-    let n : ℕ = get_or order c.loop-number.number-index 0 in
+    let n : ℕ = get_or c.order-number-items.result.now c.loop-number.number-index 0 in
     let before = c.loop-number.invariant in
     let lt : n < length c.loop-number.told.places.items = omega (arith, slice_get_within c.args.workspace.now n part.input.source c.in_ok-part.ensures.right.numbered, before.0.made.count, before.1.many) in
+    lt
+
+pub learn-requires-clause-again : goal.learn-requires-clause-again
+learn-requires-clause-again c =
+    let part = c.in_ok-part.part in
+    let n : ℕ = get_or c.order-number-items.result.now c.loop-number.number-index 0 in
+    let before = c.loop-number.invariant in
+    let lt : n < length c.loop-number.told.again.items = omega (arith, slice_get_within c.args.workspace.now n part.input.source c.in_ok-part.ensures.right.numbered, before.0.made.count, before.2.many) in
+    lt
+
+pub learn-requires-clause-kept : goal.learn-requires-clause-kept
+learn-requires-clause-kept c =
+    let part = c.in_ok-part.part in
+    let n : ℕ = get_or c.order-number-items.result.now c.loop-number.number-index 0 in
+    let before = c.loop-number.invariant in
+    let lt : n < length c.loop-number.told.kept.items = omega (arith, slice_get_within c.args.workspace.now n part.input.source c.in_ok-part.ensures.right.numbered, before.0.made.count, before.3.many) in
     lt
 
 pub put-requires : goal.put-requires
@@ -85,13 +109,21 @@ loop-number-preserved c =
     let all = c.learn.new.told in
     let so_far : SoFar ps (plan_of [] order) (k + 1) with_it after.types after.shown after.faces
     = record { summaries = more.summaries; made = subst (λ l. AreMade ps (take (k + 1) l) with_it more.summaries) (sym e) more.made; seen = more.seen } in
-    let places = places_put parts told.summaries told.places.items c.loop-number.invariant.1 n part lt all.summaries all.places.items c.in-Ok.ensures.summaries c.in-Ok.ensures.places in (
+    let places = places_put parts told.summaries told.places.items c.loop-number.invariant.1 n part lt all.summaries all.places.items c.in-Ok.ensures.summaries c.in-Ok.ensures.places in
+    let earlier = c.args.earlier.now in
+    let marks = marks_put earlier parts told.again.items c.loop-number.invariant.2 n part lt c.tells_again-again.result c.tells_again-again.ensures all.again.items c.in-Ok.ensures.again in
+    let kept = one_kept earlier parts told.kept.items c.loop-number.invariant.3 n part lt c.in_ok-part.kept c.in_ok-part.ensures.kept all.kept.items c.in-Ok.ensures.kept in (
       subst (λ l. SoFar ps (plan_of [] order) (k + 1) l after.types after.shown after.faces) (sym c.put.ensures) so_far,
       subst (λ l. HavePlaces l all.summaries all.places.items) (sym c.put.ensures) places,
+      subst (λ l. AreMarked earlier l all.again.items) (sym c.put.ensures) marks,
+      subst (λ l. AreKept earlier l all.kept.items) (sym c.put.ensures) kept,
     )
 
-pub returns : goal.returns
-returns c =
+pub returns-clause-kept : goal.returns-clause-kept
+returns-clause-kept c = c.loop-number.invariant.3
+
+pub returns-clause-parts : goal.returns-clause-parts
+returns-clause-parts c =
     let before = c.loop-number.invariant.0 in
     let ps = c.args.workspace.now in
     let k = c.loop-number.number-index in

@@ -1,6 +1,11 @@
-use Rattle.std.proofs.Common.{sym, ap, subst}
-use Rattle.go_whole_core.specs.part_core.Parts.{IsPart, PartModel, content_shown}
+use Rattle.std.proofs.Common.{◌≡◌, true, false, refl, sym, ap, subst, ◌∙◌}
+use Rattle.go_whole_core.specs.graph_core.Workspaces.{AreAllRead}
+use Rattle.go_whole_core.specs.table_core.Tables.{AreOthers}
+use Rattle.go_whole_core.specs.part_core.Inputs.{path_in}
+use Rattle.go_whole_core.specs.part_core.Parts.{IsPart, PartModel}
 use Rattle.go_whole_core.proofs.Next.{next_assembled, next_is, next_others, next_reached, next_right}
+use Rattle.go_make_core.specs.Keeping.{WasThere}
+use Rattle.go_make_core.proofs.Marking.{at_place, made_alone, marked_for, none_found, one_found, types_own}
 use Rattle.go_make_core.proofs.making.next_part.Goals as goal
 
 pub input_of-requires-clause-assembled : goal.input_of-requires-clause-assembled
@@ -9,23 +14,54 @@ input_of-requires-clause-assembled c = next_assembled c.args.workspace.now c.arg
 pub input_of-requires-clause-parts : goal.input_of-requires-clause-parts
 input_of-requires-clause-parts c = next_reached c.args.workspace.now c.args.plan.now c.requires.well c.requires.plan c.args.parts.now c.args.number c.args.seen.now.types c.args.seen.now.shown c.args.seen.now.faces c.requires.next
 
-pub compile_over-requires : goal.compile_over-requires
-compile_over-requires c = next_others c.args.workspace.now c.args.plan.now c.requires.well c.requires.plan c.args.parts.now c.args.number c.args.seen.now.types c.args.seen.now.shown c.args.seen.now.faces c.requires.next c.in_ok-input.input c.in_ok-input.ensures
+pub earlier_part-requires-clause-own : goal.earlier_part-requires-clause-own
+earlier_part-requires-clause-own c = at_place AreAllRead c.args.workspace.now c.args.number c.in_ok-input.input.source c.requires.well.read c.in_ok-input.ensures.input.numbered
 
-pub new-requires : goal.new-requires
-new-requires c =
+pub earlier_part-requires-clause-told : goal.earlier_part-requires-clause-told
+earlier_part-requires-clause-told c = marked_for c.args.earlier.now c.args.told.now.again.items c.args.parts.now c.args.reached.now c.args.number c.in_ok-input.input.reached c.requires.again c.in_ok-input.ensures.told
+
+pub new_part-requires-clause-others : goal.new_part-requires-clause-others
+new_part-requires-clause-others c =
+    next_others c.args.workspace.now c.args.plan.now c.requires.well c.requires.plan c.args.parts.now c.args.number c.args.seen.now.types c.args.seen.now.shown c.args.seen.now.faces c.requires.next
+    c.in_ok-input.input c.in_ok-input.ensures.input
+
+pub new_part-requires-clause-alone : goal.new_part-requires-clause-alone
+new_part-requires-clause-alone c = λ content made.
     next_is c.args.workspace.now c.args.plan.now c.requires.well c.requires.plan c.args.parts.now c.args.number c.args.seen.now.types c.args.seen.now.shown c.args.seen.now.faces c.requires.next
-    c.check_is_local.ensures c.imports_bind_theirs.ensures c.in_ok-input.input (content_shown c.in-Ok.content) c.in_ok-input.ensures c.in-Ok.ensures.made
+    c.check_is_local.ensures c.imports_bind_theirs.ensures c.in_ok-input.input content c.in_ok-input.ensures.input made
 
-pub returns-in_ok-part-in-Ok-clause-right : goal.returns-in_ok-part-in-Ok-clause-right
-returns-in_ok-part-in-Ok-clause-right c =
-    let ps = c.args.workspace.now in
-    let plan = c.args.plan.now in
-    let parts = c.args.parts.now in
-    let n = c.args.number in
-    let seen = c.args.seen.now in
-    let made =
-    next_is ps plan c.requires.well c.requires.plan parts n seen.types seen.shown seen.faces c.requires.next
-    c.check_is_local.ensures c.imports_bind_theirs.ensures c.in_ok-input.input (content_shown c.in-Ok.content) c.in_ok-input.ensures c.in-Ok.ensures.made in
-    next_right ps plan c.requires.well c.requires.plan parts n seen.types seen.shown seen.faces c.requires.next c.in_ok-input.input c.in_ok-part-in-Ok.part c.in_ok-input.ensures
-    (ap (λ (p : PartModel). p.input) c.in_ok-part-in-Ok.ensures) (subst (λ (p : PartModel). IsPart p.input p.content) (sym c.in_ok-part-in-Ok.ensures) made)
+pub keep-requires : goal.keep-requires
+keep-requires c =
+    let part = c.in-Ok-Some.part.now in
+    let found = one_found c.args.earlier.now c.in_ok-input.input c.in-Ok-Some.field-0 c.in-Ok-Some.part c.in-Ok-Some.field-0-is c.in-Ok-Some.ensures in
+    let types = c.args.seen.now.types in
+    let others =
+    next_others c.args.workspace.now c.args.plan.now c.requires.well c.requires.plan c.args.parts.now c.args.number types c.args.seen.now.shown c.args.seen.now.faces c.requires.next
+    c.in_ok-input.input c.in_ok-input.ensures.input in
+    subst (λ path. AreOthers path types) (sym (types_own c.args.sources.now c.args.earlier.now c.requires.earlier found.0.0 part found.0.1 ∙ ap path_in found.1)) others
+
+pub returns-in_ok-kept-in-Ok-Some-clause-right : goal.returns-in_ok-kept-in-Ok-Some-clause-right
+returns-in_ok-kept-in-Ok-Some-clause-right c =
+    let part = c.in-Ok-Some.part.now in
+    let found = one_found c.args.earlier.now c.in_ok-input.input c.in-Ok-Some.field-0 c.in-Ok-Some.part c.in-Ok-Some.field-0-is c.in-Ok-Some.ensures in
+    let kept = c.in_ok-kept-in-Ok-Some.kept in
+    let same : kept ≡ part = c.in_ok-kept-in-Ok-Some.ensures.part in
+    let made : IsPart part.input part.content = made_alone c.args.sources.now c.args.earlier.now c.requires.earlier found.0.0 part found.0.1 in
+    next_right c.args.workspace.now c.args.plan.now c.requires.well c.requires.plan c.args.parts.now c.args.number c.args.seen.now.types c.args.seen.now.shown c.args.seen.now.faces c.requires.next
+    c.in_ok-input.input kept c.in_ok-input.ensures.input (ap (λ (p : PartModel). p.input) same ∙ found.1) (subst (λ (p : PartModel). IsPart p.input p.content) (sym same) made)
+
+pub returns-in_ok-kept-in-Ok-Some-clause-kept : goal.returns-in_ok-kept-in-Ok-Some-clause-kept
+returns-in_ok-kept-in-Ok-Some-clause-kept c =
+    let found = one_found c.args.earlier.now c.in_ok-input.input c.in-Ok-Some.field-0 c.in-Ok-Some.part c.in-Ok-Some.field-0-is c.in-Ok-Some.ensures in
+    (λ yes. subst (WasThere c.args.earlier.now) (sym c.in_ok-kept-in-Ok-Some.ensures.part) found.0, λ was. refl)
+
+pub returns-in_ok-made-in-Ok-None-clause-right : goal.returns-in_ok-made-in-Ok-None-clause-right
+returns-in_ok-made-in-Ok-None-clause-right c =
+    next_right c.args.workspace.now c.args.plan.now c.requires.well c.requires.plan c.args.parts.now c.args.number c.args.seen.now.types c.args.seen.now.shown c.args.seen.now.faces c.requires.next
+    c.in_ok-input.input c.in_ok-made-in-Ok-None.made c.in_ok-input.ensures.input c.in_ok-made-in-Ok-None.ensures.input c.in_ok-made-in-Ok-None.ensures.made
+
+pub returns-in_ok-made-in-Ok-None-clause-kept : goal.returns-in_ok-made-in-Ok-None-clause-kept
+returns-in_ok-made-in-Ok-None-clause-kept c =
+    let made = c.in_ok-made-in-Ok-None in
+    let none = none_found c.args.earlier.now c.in_ok-input.input c.in-Ok-None.field-0 c.in-Ok-None.field-0-is c.in-Ok-None.ensures in
+    (λ yes. absurd (let no : false ≡ true = yes in cc), λ was. absurd (none made.made was made.ensures.input))

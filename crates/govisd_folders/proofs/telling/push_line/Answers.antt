@@ -1,17 +1,17 @@
 use Rattle.std.proofs.Common.{◌≡◌, ◌++◌, refl}
 use Rattle.std.specs.Prelude.{codes, string_bytes}
 use Rattle.go_text_core.specs.Rules.{rule_number}
-use Rattle.go_explain_core.specs.Meanings.{meaning_of}
-use Rattle.govisd_folders.specs.Telling.{place_text}
+use Rattle.go_explain_core.specs.Meanings.{rule_meaning}
+use Rattle.govisd_folders.specs.Telling.{position_text}
 use Rattle.govisd_folders.proofs.LineLemmas.{begun, ended, more}
 use Rattle.govisd_folders.proofs.telling.push_line.Goals as goal
 
 pub returns : goal.returns
 returns c =
     let start = string_bytes c.args.out.now in
-    let p0 : string_bytes c.push_place.new.out ≡ start ++ place_text c.args.file.now c.args.at = begun start _ _ (place_text c.args.file.now c.args.at) refl c.in_ok-push_place.ensures in
-    let p1 : string_bytes c.push.new.text ≡ start ++ (place_text c.args.file.now c.args.at ++ codes ": ") = more start _ _ (place_text c.args.file.now c.args.at) _ (codes ": ") p0 refl c.in_ok-push.ensures in
-    let p2 : string_bytes c.push-2.new.text ≡ start ++ (place_text c.args.file.now c.args.at ++ codes ": " ++ rule_number c.args.rule) = more start _ _ (place_text c.args.file.now c.args.at ++ codes ": ") _ (rule_number c.args.rule) p1 c.number.ensures c.in_ok-push-2.ensures in
-    let p3 : string_bytes c.push-3.new.text ≡ start ++ (place_text c.args.file.now c.args.at ++ codes ": " ++ rule_number c.args.rule ++ codes " ") = more start _ _ (place_text c.args.file.now c.args.at ++ codes ": " ++ rule_number c.args.rule) _ (codes " ") p2 refl c.in_ok-push-3.ensures in
-    let p4 : string_bytes c.push-4.new.text ≡ start ++ (place_text c.args.file.now c.args.at ++ codes ": " ++ rule_number c.args.rule ++ codes " " ++ meaning_of c.args.rule) = more start _ _ (place_text c.args.file.now c.args.at ++ codes ": " ++ rule_number c.args.rule ++ codes " ") _ (meaning_of c.args.rule) p3 c.meaning.ensures c.in_ok-push-4.ensures in
-    ended c.push-5.result start _ _ (place_text c.args.file.now c.args.at ++ codes ": " ++ rule_number c.args.rule ++ codes " " ++ meaning_of c.args.rule) _ (codes "\n") p4 refl c.push-5.ensures
+    let p0 : string_bytes c.push_place.new.out ≡ start ++ position_text c.args.file.now c.args.at = begun start _ _ (position_text c.args.file.now c.args.at) refl c.in_ok-push_place.ensures in
+    let p1 : string_bytes c.push.new.text ≡ start ++ (position_text c.args.file.now c.args.at ++ codes ": ") = more start _ _ (position_text c.args.file.now c.args.at) _ (codes ": ") p0 refl c.in_ok-push.ensures in
+    let p2 : string_bytes c.push-2.new.text ≡ start ++ (position_text c.args.file.now c.args.at ++ codes ": " ++ rule_number c.args.rule) = more start _ _ (position_text c.args.file.now c.args.at ++ codes ": ") _ (rule_number c.args.rule) p1 c.number.ensures c.in_ok-push-2.ensures in
+    let p3 : string_bytes c.push-3.new.text ≡ start ++ (position_text c.args.file.now c.args.at ++ codes ": " ++ rule_number c.args.rule ++ codes " ") = more start _ _ (position_text c.args.file.now c.args.at ++ codes ": " ++ rule_number c.args.rule) _ (codes " ") p2 refl c.in_ok-push-3.ensures in
+    let p4 : string_bytes c.push-4.new.text ≡ start ++ (position_text c.args.file.now c.args.at ++ codes ": " ++ rule_number c.args.rule ++ codes " " ++ rule_meaning c.args.rule) = more start _ _ (position_text c.args.file.now c.args.at ++ codes ": " ++ rule_number c.args.rule ++ codes " ") _ (rule_meaning c.args.rule) p3 c.meaning.ensures c.in_ok-push-4.ensures in
+    ended c.push-5.result start _ _ (position_text c.args.file.now c.args.at ++ codes ": " ++ rule_number c.args.rule ++ codes " " ++ rule_meaning c.args.rule) _ (codes "\n") p4 refl c.push-5.ensures

@@ -1,7 +1,7 @@
 use Rattle.std.proofs.Common.{◌≡◌, ◌∙◌, get_or, map, Some, sym, ap, refl, arith}
 use Rattle.std.specs.Map.{lookup}
 use Rattle.go_fragment_core.specs.declared.names.Meaning.TheVariants as meanings
-use Rattle.go_lookup_core.specs.Places.{meaning_at, same_spot, spot}
+use Rattle.go_lookup_core.specs.Places.{spotted_meaning, same_spot, decl_spot}
 use Rattle.go_lookup_core.specs.mirrors.Spotting.{item_shown, same_key, spot_shown}
 use Rattle.go_lookup_core.proofs.Filling.{found, missing}
 use Rattle.go_lookup_core.proofs.decl_table.DeclTable.meaning.Goals as goal
@@ -23,11 +23,11 @@ returns-in-Some c =
     (sym (c.self.invariant key) ∙ (sym c.number_in.ensures ∙ c.in-Some.is)) in
     let same : c.in-Some.number ≡ f.place = omega (arith, f.is) in
     ap (λ i. Some i.meaning) c.index.ensures ∙ (ap (λ n. Some (get_or items.items n read).meaning) same ∙ (sym f.has
-    ∙ (ap (λ s. lookup (same_spot s) (map item_shown items.items)) c.new-key.ensures ∙ ap (λ m. meaning_at m (spot c.args.path.now c.args.decl)) c.self.view_is)))
+    ∙ (ap (λ s. lookup (same_spot s) (map item_shown items.items)) c.new-key.ensures ∙ ap (λ m. spotted_meaning m (decl_spot c.args.path.now c.args.decl)) c.self.view_is)))
 
 pub returns-in-None : goal.returns-in-None
 returns-in-None c =
     let key = c.new-key.result in
     let items = c.self.inside.items in
     sym (missing (λ i. same_key key i.spot) (λ i. i.meaning) (λ l. lookup (same_spot (spot_shown key)) (map item_shown l)) refl (λ a rest. refl) items.items 0 (sym (c.self.invariant key) ∙ (sym c.number_in.ensures ∙ c.in-None.is)))
-    ∙ (ap (λ s. lookup (same_spot s) (map item_shown items.items)) c.new-key.ensures ∙ ap (λ m. meaning_at m (spot c.args.path.now c.args.decl)) c.self.view_is)
+    ∙ (ap (λ s. lookup (same_spot s) (map item_shown items.items)) c.new-key.ensures ∙ ap (λ m. spotted_meaning m (decl_spot c.args.path.now c.args.decl)) c.self.view_is)

@@ -1,0 +1,4 @@
+pub mod Making
+pub mod Refusing
+pub mod Standing
+pub mod Telling

@@ -1,0 +1,3 @@
+package broken
+
+func f() string { return "no end }

@@ -1,0 +1,3 @@
+package broken
+
+func g() { none() }

@@ -1,0 +1,3 @@
+package cart
+
+func f() { none() }

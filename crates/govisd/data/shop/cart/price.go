@@ -1,0 +1,5 @@
+package cart
+
+func Largest() int { return 9 }
+
+func Largest() int { return 10 }

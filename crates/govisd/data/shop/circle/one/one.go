@@ -1,0 +1,3 @@
+package one
+
+import _ "example.com/shop/circle/two"

@@ -1,0 +1,3 @@
+package clean
+
+func Twice(n int) int { return n + n }

@@ -1,0 +1,3 @@
+package latin
+
+// café

@@ -1,0 +1,3 @@
+package odd
+
+var x = 1

@@ -1,0 +1,3 @@
+package disk
+
+func Size() int { return 4 }
