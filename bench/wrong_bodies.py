@@ -29,11 +29,21 @@ def read(file):
 
 def listed():
     """The crates of the repository, from the bottom up, each with the crates that it uses."""
-    uses = {}
+    lists, uses = {}, {}
     for line in read(os.path.join(ROOT, "crates.txt")).decode().splitlines():
         head, colon, tail = line.partition("#")[0].partition(":")
         if colon:
-            uses[head.split()[0]] = [name for name in tail.split() if name in uses]
+            lists[head.split()[0]] = tail.split()
+
+    def add(crate):
+        if crate not in uses:
+            below = [name for name in lists[crate] if name in lists]
+            for name in below:
+                add(name)
+            uses[crate] = below
+
+    for crate in lists:
+        add(crate)
     return uses
 
 

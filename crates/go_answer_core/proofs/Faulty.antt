@@ -11,7 +11,7 @@ use Rattle.go_report_core.specs.expr_core.declared.things.Fault.{Fault}
 use Rattle.go_fault_core.specs.declared.places.PackageFault.{PackageFault}
 use Rattle.go_report_core.proofs.Members.{In, contained_in, in_contained}
 use Rattle.go_answer_core.specs.Laws.{IsOfBlocks, IsOfLooped, IsOfTypes, OuterFaultsAreThese}
-use Rattle.go_answer_core.specs.Outer.{block_faults_in, fault, looped_faults, looped_if, outer_faults, type_faults_in}
+use Rattle.go_answer_core.specs.Outer.{block_faults_in, fault, looped_decl_faults, looped_if, outer_faults, type_faults_in}
 use Rattle.go_answer_core.proofs.Showing.{either, in_left, in_parts, in_right}
 
 -- those that are in a file
@@ -76,24 +76,24 @@ in_types file types f x =
 abbrev IsFlagged : List TopDeclTree → List Bool → Fault → Type 0
 IsFlagged ds flags f = (n : ℕ) × (d : TopDeclTree) × (slice_get ds n ≡ Some d) × (slice_get flags n ≡ Some true) × (f ≡ fault d.ident.span.start Y7)
 
-of_flags : (ds : List TopDeclTree) (flags : List Bool) (f : Fault) → In (looped_faults ds flags) f → IsFlagged ds flags f
+of_flags : (ds : List TopDeclTree) (flags : List Bool) (f : Fault) → In (looped_decl_faults ds flags) f → IsFlagged ds flags f
 of_flags [] flags f h = absurd h
 of_flags (d ∷ ds) [] f h = absurd h
 of_flags (d ∷ ds) (flag ∷ flags) f h = by flag h (of_flags ds flags f)
   where
-    by : (b : Bool) → In (looped_if b d ++ looped_faults ds flags) f → (In (looped_faults ds flags) f → IsFlagged ds flags f) → IsFlagged (d ∷ ds) (b ∷ flags) f
+    by : (b : Bool) → In (looped_if b d ++ looped_decl_faults ds flags) f → (In (looped_decl_faults ds flags) f → IsFlagged ds flags f) → IsFlagged (d ∷ ds) (b ∷ flags) f
     by true (inl is) rest = (0, d, refl, refl, sym is)
     by true (inr k) rest = let r = rest k in (suc r.0, r.1, r.2, r.3, r.4)
     by false k rest = let r = rest k in (suc r.0, r.1, r.2, r.3, r.4)
 
-in_flags : (ds : List TopDeclTree) (flags : List Bool) (n : ℕ) (d : TopDeclTree) → slice_get ds n ≡ Some d → slice_get flags n ≡ Some true → In (looped_faults ds flags) (fault d.ident.span.start Y7)
+in_flags : (ds : List TopDeclTree) (flags : List Bool) (n : ℕ) (d : TopDeclTree) → slice_get ds n ≡ Some d → slice_get flags n ≡ Some true → In (looped_decl_faults ds flags) (fault d.ident.span.start Y7)
 in_flags [] flags n d at set = absurd (let no : None ≡ Some d = at in cc)
 in_flags (e ∷ ds) [] n d at set = absurd (let no : None ≡ Some true = set in cc)
 in_flags (e ∷ ds) (flag ∷ flags) zero d at set =
     let is : e ≡ d = (let s : Some e ≡ Some d = at in cc) in
     let on : true ≡ flag = (let s : Some flag ≡ Some true = set in cc) in
-    subst (λ b. In (looped_if b e ++ looped_faults ds flags) (fault d.ident.span.start Y7)) on (inl (ap (λ (x : TopDeclTree). fault x.ident.span.start Y7) is))
-in_flags (e ∷ ds) (flag ∷ flags) (suc n) d at set = in_right (looped_if flag e) (looped_faults ds flags) (fault d.ident.span.start Y7) (in_flags ds flags n d at set)
+    subst (λ b. In (looped_if b e ++ looped_decl_faults ds flags) (fault d.ident.span.start Y7)) on (inl (ap (λ (x : TopDeclTree). fault x.ident.span.start Y7) is))
+in_flags (e ∷ ds) (flag ∷ flags) (suc n) d at set = in_right (looped_if flag e) (looped_decl_faults ds flags) (fault d.ident.span.start Y7) (in_flags ds flags n d at set)
 
 -- flags from a place on
 
@@ -102,14 +102,14 @@ behind flags zero n = (let e : n ≡ 0 + n = omega arith in ap (slice_get flags)
 behind [] (suc first) n = refl
 behind (flag ∷ flags) (suc first) n = (let e : suc (first + n) ≡ suc first + n = omega arith in behind flags first n ∙ ap (slice_get (flag ∷ flags)) e)
 
-of_looped : (ds : List TopDeclTree) (first : ℕ) (looped : List Bool) (f : Fault) → In (looped_faults ds (drop first looped)) f → IsOfLooped ds first looped f
+of_looped : (ds : List TopDeclTree) (first : ℕ) (looped : List Bool) (f : Fault) → In (looped_decl_faults ds (drop first looped)) f → IsOfLooped ds first looped f
 of_looped ds first looped f h =
     let r = of_flags ds (drop first looped) f h in
     record { place = r.0; decl = r.1; there = r.2; flag = sym (behind looped first r.0) ∙ r.3; is = r.4 }
 
-in_looped : (ds : List TopDeclTree) (first : ℕ) (looped : List Bool) (f : Fault) → IsOfLooped ds first looped f → In (looped_faults ds (drop first looped)) f
+in_looped : (ds : List TopDeclTree) (first : ℕ) (looped : List Bool) (f : Fault) → IsOfLooped ds first looped f → In (looped_decl_faults ds (drop first looped)) f
 in_looped ds first looped f x =
-    subst (λ g. In (looped_faults ds (drop first looped)) g) (sym x.is) (in_flags ds (drop first looped) x.place x.decl x.there (behind looped first x.place ∙ x.flag))
+    subst (λ g. In (looped_decl_faults ds (drop first looped)) g) (sym x.is) (in_flags ds (drop first looped) x.place x.decl x.there (behind looped first x.place ∙ x.flag))
 
 -- the law
 
@@ -121,7 +121,7 @@ module _ (file : ℕ) (b : BlocksModel) (types : List PackageFault) (ds : List T
   of_type = type_faults_in file types
 
   abbrev loops : List Fault
-  loops = looped_faults ds (drop first looped)
+  loops = looped_decl_faults ds (drop first looped)
 
   is_these : Contains (outer_faults file b types ds (drop first looped)) f → IsOfBlocks file b f ⊎ IsOfTypes file types f ⊎ IsOfLooped ds first looped f
   is_these h =

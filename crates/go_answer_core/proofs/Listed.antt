@@ -12,43 +12,43 @@ use Rattle.std.proofs.lemmas.List.Sorted.{searchable_from_sorted, ranks_by, Cont
 use Rattle.go_term_core.specs.decl_core.declared.keys.DeclRef.{DeclRef}
 use Rattle.go_report_core.proofs.Members.{In, in_at, contained_in, in_contained}
 use Rattle.go_face_core.specs.Faces.{TheFace}
-use Rattle.go_face_core.specs.Written.{same_place}
+use Rattle.go_face_core.specs.Written.{same_decl_place}
 use Rattle.go_face_core.specs.mirrors.Ordering.{place_cmp}
 use Rattle.go_face_core.proofs.Placed.{place_total, same_equal, equal_same}
-use Rattle.go_answer_core.specs.Shown.{is_listed, shown_among, shown_if}
+use Rattle.go_answer_core.specs.Shown.{is_decl_listed, shown_among, shown_if}
 
 pub order_weak : IsStrictWeakOrder (λ (d e : DeclRef). is_lt (place_cmp d e))
 order_weak = ranks_by place_total (λ (d : DeclRef). d)
 
 -- one of the list has the file and the number
 abbrev pub IsAmong : List DeclRef → DeclRef → Type 0
-IsAmong es d = (e : DeclRef) × In es e × (same_place e d ≡ true)
+IsAmong es d = (e : DeclRef) × In es e × (same_decl_place e d ≡ true)
 
 or_true : (b : Bool) → (b || true) ≡ true
 or_true true = refl
 or_true false = refl
 
-pub among_listed : (es : List DeclRef) (e d : DeclRef) → In es e → same_place e d ≡ true → is_listed es d ≡ true
+pub among_listed : (es : List DeclRef) (e d : DeclRef) → In es e → same_decl_place e d ≡ true → is_decl_listed es d ≡ true
 among_listed [] e d h same = absurd h
-among_listed (x ∷ es) e d (inl is) same = ap (λ b. b || is_listed es d) (ap (λ y. same_place y d) is ∙ same)
-among_listed (x ∷ es) e d (inr h) same = ap (λ b. same_place x d || b) (among_listed es e d h same) ∙ or_true (same_place x d)
+among_listed (x ∷ es) e d (inl is) same = ap (λ b. b || is_decl_listed es d) (ap (λ y. same_decl_place y d) is ∙ same)
+among_listed (x ∷ es) e d (inr h) same = ap (λ b. same_decl_place x d || b) (among_listed es e d h same) ∙ or_true (same_decl_place x d)
 
-pub listed_among : (es : List DeclRef) (d : DeclRef) → is_listed es d ≡ true → IsAmong es d
+pub listed_among : (es : List DeclRef) (d : DeclRef) → is_decl_listed es d ≡ true → IsAmong es d
 listed_among [] d h = absurd (true≢false (sym h))
-listed_among (x ∷ es) d h = by (same_place x d) refl h (listed_among es d)
+listed_among (x ∷ es) d h = by (same_decl_place x d) refl h (listed_among es d)
   where
-    by : (b : Bool) → same_place x d ≡ b → (b || is_listed es d) ≡ true → (is_listed es d ≡ true → IsAmong es d) → IsAmong (x ∷ es) d
+    by : (b : Bool) → same_decl_place x d ≡ b → (b || is_decl_listed es d) ≡ true → (is_decl_listed es d ≡ true → IsAmong es d) → IsAmong (x ∷ es) d
     by true same h rest = (x, inl refl, same)
     by false same h rest = let r = rest h in (r.0, inr r.1, r.2)
 
 -- what a search finds
 
 pub searched : (es : List DeclRef) (d : DeclRef) (r : Result ℕ ℕ) → IsSortedBy (λ (a b : DeclRef). is_lt (place_cmp a b)) es → IsSearchInRange r (length es) → IsBinarySearchResult (λ (e : DeclRef). place_cmp e d) es r
-    → is_ok r ≡ is_listed es d
+    → is_ok r ≡ is_decl_listed es d
 searched es d (Ok n) sorted lt equal = sym (among_listed es (get_or es n d) d (in_at es n d lt) (equal_same (get_or es n d) d (equal d)))
-searched es d (Err k) sorted le parted = by (is_listed es d) refl
+searched es d (Err k) sorted le parted = by (is_decl_listed es d) refl
   where
-    by : (b : Bool) → is_listed es d ≡ b → false ≡ is_listed es d
+    by : (b : Bool) → is_decl_listed es d ≡ b → false ≡ is_decl_listed es d
     by false e = sym e
     by true e =
         let found = listed_among es d e in
@@ -62,15 +62,15 @@ searched es d (Err k) sorted le parted = by (is_listed es d) refl
 
 -- the order of a list does not count
 
-listed_there : (es fs : List DeclRef) (d : DeclRef) → IsPermutation es fs → is_listed es d ≡ true → is_listed fs d ≡ true
+listed_there : (es fs : List DeclRef) (d : DeclRef) → IsPermutation es fs → is_decl_listed es d ≡ true → is_decl_listed fs d ≡ true
 listed_there es fs d moves h =
     let found = listed_among es d h in
     among_listed fs found.0 d (contained_in fs found.0 (Contains-permutation es fs found.0 moves (in_contained es found.0 found.1))) found.2
 
-pub moved_listed : (es fs : List DeclRef) (d : DeclRef) → IsPermutation es fs → is_listed fs d ≡ is_listed es d
-moved_listed es fs d moves = by (is_listed es d) (is_listed fs d) refl refl
+pub moved_listed : (es fs : List DeclRef) (d : DeclRef) → IsPermutation es fs → is_decl_listed fs d ≡ is_decl_listed es d
+moved_listed es fs d moves = by (is_decl_listed es d) (is_decl_listed fs d) refl refl
   where
-    by : (a b : Bool) → is_listed es d ≡ a → is_listed fs d ≡ b → is_listed fs d ≡ is_listed es d
+    by : (a b : Bool) → is_decl_listed es d ≡ a → is_decl_listed fs d ≡ b → is_decl_listed fs d ≡ is_decl_listed es d
     by true b e f = listed_there es fs d moves e ∙ sym e
     by false true e f = absurd (true≢false (sym (sym e ∙ listed_there fs es d (IsPermutation-sym es fs moves) f)))
     by false false e f = f ∙ sym e
@@ -79,4 +79,4 @@ pub moved_shown : (es fs ds : List DeclRef) (known : List (Option TheFace)) → 
 moved_shown es fs [] known moves = refl
 moved_shown es fs (d ∷ ds) [] moves = refl
 moved_shown es fs (d ∷ ds) (face ∷ known) moves =
-    ap (λ b. shown_if b d face ++ shown_among fs ds known) (moved_listed es fs d moves) ∙ ap (λ l. shown_if (is_listed es d) d face ++ l) (moved_shown es fs ds known moves)
+    ap (λ b. shown_if b d face ++ shown_among fs ds known) (moved_listed es fs d moves) ∙ ap (λ l. shown_if (is_decl_listed es d) d face ++ l) (moved_shown es fs ds known moves)

@@ -10,7 +10,7 @@ use Rattle.go_face_core.specs.Packages.{DeclaredOf, decls_declared}
 use Rattle.go_face_core.specs.Written.{DeclsRise, IsDeclBefore}
 use Rattle.go_face_core.specs.mirrors.Ordering.{place_cmp}
 use Rattle.go_face_core.proofs.Placed.{place_total, before_less}
-use Rattle.go_answer_core.specs.Shown.{is_listed, shown_among, shown_if}
+use Rattle.go_answer_core.specs.Shown.{is_decl_listed, shown_among, shown_if}
 
 -- before, by numbers
 
@@ -63,7 +63,7 @@ all_rise d (e ∷ ds) all rise = (all.0, rise)
 shown_behind : (these : List DeclRef) (d : DeclRef) (ds : List DeclRef) (known : List (Option TheFace)) → IsBeforeAll d ds → IsBeforeAll d (decls_declared (shown_among these ds known))
 shown_behind these d [] known all = tt
 shown_behind these d (e ∷ ds) [] all = tt
-shown_behind these d (e ∷ ds) (face ∷ known) all = by (is_listed these e) face (shown_behind these d ds known all.1)
+shown_behind these d (e ∷ ds) (face ∷ known) all = by (is_decl_listed these e) face (shown_behind these d ds known all.1)
   where
     by : (b : Bool) (o : Option TheFace) → IsBeforeAll d (decls_declared (shown_among these ds known)) → IsBeforeAll d (decls_declared (shown_if b e o ++ shown_among these ds known))
     by b None rest = rest
@@ -73,7 +73,7 @@ shown_behind these d (e ∷ ds) (face ∷ known) all = by (is_listed these e) fa
 pub shown_rise : (these ds : List DeclRef) (known : List (Option TheFace)) → DeclsRise ds → DeclsRise (decls_declared (shown_among these ds known))
 shown_rise these [] known rise = tt
 shown_rise these (d ∷ ds) [] rise = tt
-shown_rise these (d ∷ ds) (face ∷ known) rise = by (is_listed these d) face (shown_behind these d ds known (rise_all d ds rise)) (shown_rise these ds known (rise_tail d ds rise))
+shown_rise these (d ∷ ds) (face ∷ known) rise = by (is_decl_listed these d) face (shown_behind these d ds known (rise_all d ds rise)) (shown_rise these ds known (rise_tail d ds rise))
   where
     by : (b : Bool) (o : Option TheFace) → IsBeforeAll d (decls_declared (shown_among these ds known)) → DeclsRise (decls_declared (shown_among these ds known)) → DeclsRise (decls_declared (shown_if b d o ++ shown_among these ds known))
     by b None all rest = rest

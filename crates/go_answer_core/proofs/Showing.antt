@@ -10,12 +10,12 @@ use Rattle.go_fault_core.specs.block_core.Tables.{in_block, with_first}
 use Rattle.go_report_core.proofs.Members.{In, contained_in, in_contained, in_filter, filter_in, ordered_same}
 use Rattle.go_face_core.specs.Faces.{TheFace}
 use Rattle.go_face_core.specs.Packages.{DeclaredOf, as_seen, names_seen, package_faces, seen_after}
-use Rattle.go_face_core.specs.Written.{same_place}
+use Rattle.go_face_core.specs.Written.{same_decl_place}
 use Rattle.go_face_core.specs.declared.shown.ShownFace.TheVariants as shows
 use Rattle.go_face_core.proofs.Displaying.{faces_are_found, shows_its_block}
 use Rattle.go_face_core.proofs.Placed.{same_itself}
 use Rattle.go_answer_core.specs.Laws.{HiddenDoNotCount, IsExported, IsKnown, NamesShowTheirFaces, ShownAlike, ShownAreExported, name_seen}
-use Rattle.go_answer_core.specs.Shown.{exported_decls, is_listed, shown_among, shown_if, shown_of}
+use Rattle.go_answer_core.specs.Shown.{exported_decls, is_decl_listed, shown_among, shown_if, shown_of}
 use Rattle.go_answer_core.proofs.Listed.{among_listed, listed_among}
 use Rattle.go_answer_core.proofs.Rising.{IsEarlier, earlier_onward, never_earlier, rise_pairs, shown_rise}
 
@@ -65,35 +65,35 @@ one_shown e = inl refl
 
 -- all
 
-shown_in : (these ds : List DeclRef) (known : List (Option TheFace)) (e : DeclaredOf) → In (shown_among these ds known) e → IsKnown ds known e × (is_listed these e.decl ≡ true)
+shown_in : (these ds : List DeclRef) (known : List (Option TheFace)) (e : DeclaredOf) → In (shown_among these ds known) e → IsKnown ds known e × (is_decl_listed these e.decl ≡ true)
 shown_in these [] known e h = absurd h
 shown_in these (d ∷ ds) [] e h = absurd h
 shown_in these (d ∷ ds) (face ∷ known) e h =
-    either (in_parts (shown_if (is_listed these d) d face) (shown_among these ds known) e h)
-    (λ k. let p = shown_one (is_listed these d) d face e k in (record { place = 0; decl = ap Some p.1; face = ap Some p.2 }, ap (is_listed these) (sym p.1) ∙ p.0))
+    either (in_parts (shown_if (is_decl_listed these d) d face) (shown_among these ds known) e h)
+    (λ k. let p = shown_one (is_decl_listed these d) d face e k in (record { place = 0; decl = ap Some p.1; face = ap Some p.2 }, ap (is_decl_listed these) (sym p.1) ∙ p.0))
     (λ k. let r = shown_in these ds known e k in (record { place = suc r.0.place; decl = r.0.decl; face = r.0.face }, r.1))
 
-in_shown : (these ds : List DeclRef) (known : List (Option TheFace)) (e : DeclaredOf) (n : ℕ) → slice_get ds n ≡ Some e.decl → slice_get known n ≡ Some (Some e.face) → is_listed these e.decl ≡ true → In (shown_among these ds known) e
+in_shown : (these ds : List DeclRef) (known : List (Option TheFace)) (e : DeclaredOf) (n : ℕ) → slice_get ds n ≡ Some e.decl → slice_get known n ≡ Some (Some e.face) → is_decl_listed these e.decl ≡ true → In (shown_among these ds known) e
 in_shown these [] known e n at is listed = absurd (let no : None ≡ Some e.decl = at in cc)
 in_shown these (d ∷ ds) [] e n at is listed = absurd (let no : None ≡ Some (Some e.face) = is in cc)
 in_shown these (d ∷ ds) (face ∷ known) e zero at is listed =
     let same : e.decl ≡ d = (let s : Some d ≡ Some e.decl = at in cc) in
     let held : Some e.face ≡ face = (let s : Some face ≡ Some (Some e.face) = is in cc) in
-    in_left (shown_if (is_listed these d) d face) (shown_among these ds known) e
-    (subst (λ o. In (shown_if (is_listed these d) d o) e) held (subst (λ x. In (shown_if (is_listed these x) x (Some e.face)) e) same (subst (λ b. In (shown_if b e.decl (Some e.face)) e) (sym listed) (one_shown e))))
+    in_left (shown_if (is_decl_listed these d) d face) (shown_among these ds known) e
+    (subst (λ o. In (shown_if (is_decl_listed these d) d o) e) held (subst (λ x. In (shown_if (is_decl_listed these x) x (Some e.face)) e) same (subst (λ b. In (shown_if b e.decl (Some e.face)) e) (sym listed) (one_shown e))))
 in_shown these (d ∷ ds) (face ∷ known) e (suc n) at is listed =
-    in_right (shown_if (is_listed these d) d face) (shown_among these ds known) e (in_shown these ds known e n at is listed)
+    in_right (shown_if (is_decl_listed these d) d face) (shown_among these ds known) e (in_shown these ds known e n at is listed)
 
 -- exported names
 
-listed_exported : (block : List Named) (d : DeclRef) → is_listed (exported_decls block) d ≡ true → IsExported block d
+listed_exported : (block : List Named) (d : DeclRef) → is_decl_listed (exported_decls block) d ≡ true → IsExported block d
 listed_exported block d h =
     let found = listed_among (exported_decls block) d h in
     let entry = map_in (λ (e : Named). e.1) (exported_names block) found.0 found.1 in
     let kept = filter_in (λ (e : Named). exported (chars e.0)) block entry.0 entry.1 in
-    record { name = entry.0.0; decl = entry.0.1; bound = in_contained block entry.0 kept.0; is_exported = kept.1; same = ap (λ (x : DeclRef). same_place x d) entry.2 ∙ found.2 }
+    record { name = entry.0.0; decl = entry.0.1; bound = in_contained block entry.0 kept.0; is_exported = kept.1; same = ap (λ (x : DeclRef). same_decl_place x d) entry.2 ∙ found.2 }
 
-exported_listed : (block : List Named) (d : DeclRef) → IsExported block d → is_listed (exported_decls block) d ≡ true
+exported_listed : (block : List Named) (d : DeclRef) → IsExported block d → is_decl_listed (exported_decls block) d ≡ true
 exported_listed block d x =
     let entry : Named = (x.name, x.decl) in
     among_listed (exported_decls block) x.decl d

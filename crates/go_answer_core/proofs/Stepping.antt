@@ -15,8 +15,8 @@ use Rattle.go_face_core.specs.declared.face.Face.{Face}
 use Rattle.go_face_core.specs.Faces.{TheFace, face_shown}
 use Rattle.go_face_core.specs.Packages.{DeclaredOf}
 use Rattle.go_face_core.specs.Written.{WrittenOf, decls_of}
-use Rattle.go_answer_core.specs.Outer.{looped_faults, looped_if}
-use Rattle.go_answer_core.specs.Shown.{is_listed, shown_among, shown_if}
+use Rattle.go_answer_core.specs.Outer.{looped_decl_faults, looped_if}
+use Rattle.go_answer_core.specs.Shown.{is_decl_listed, shown_among, shown_if}
 use Rattle.go_answer_core.specs.mirrors.Steps.{is_set, shown_at}
 
 -- what declarations are, held
@@ -44,9 +44,9 @@ shown_next these [] known zero = refl
 shown_next these [] known (suc i) = refl
 shown_next these (d ∷ ds) [] zero = refl
 shown_next these (d ∷ ds) [] (suc i) = sym (none_known these (slice_get ds i))
-shown_next these (d ∷ ds) (face ∷ known) zero = append-nil (shown_if (is_listed these d) d face)
+shown_next these (d ∷ ds) (face ∷ known) zero = append-nil (shown_if (is_decl_listed these d) d face)
 shown_next these (d ∷ ds) (face ∷ known) (suc i) =
-    let here = shown_if (is_listed these d) d face in
+    let here = shown_if (is_decl_listed these d) d face in
     ap (λ l. here ++ l) (shown_next these ds known i) ∙ sym (append_assoc here (shown_among these (take i ds) known) (shown_at these (slice_get ds i) (slice_get known i)))
 
 pub faces_step : (these : List DeclRef) (ws : List WrittenOf) (known : List (Option TheFace)) (i : ℕ) (old new : List DeclaredOf)
@@ -76,29 +76,29 @@ none_looped : (o : Option TopDeclTree) → looped_at o None ≡ []
 none_looped None = refl
 none_looped (Some d) = refl
 
-looped_next : (ds : List TopDeclTree) (flags : List Bool) (i : ℕ) → looped_faults (take (suc i) ds) flags ≡ looped_faults (take i ds) flags ++ looped_at (slice_get ds i) (slice_get flags i)
+looped_next : (ds : List TopDeclTree) (flags : List Bool) (i : ℕ) → looped_decl_faults (take (suc i) ds) flags ≡ looped_decl_faults (take i ds) flags ++ looped_at (slice_get ds i) (slice_get flags i)
 looped_next [] flags zero = refl
 looped_next [] flags (suc i) = refl
 looped_next (d ∷ ds) [] zero = refl
 looped_next (d ∷ ds) [] (suc i) = sym (none_looped (slice_get ds i))
 looped_next (d ∷ ds) (flag ∷ flags) zero = append-nil (looped_if flag d)
 looped_next (d ∷ ds) (flag ∷ flags) (suc i) =
-    ap (λ l. looped_if flag d ++ l) (looped_next ds flags i) ∙ sym (append_assoc (looped_if flag d) (looped_faults (take i ds) flags) (looped_at (slice_get ds i) (slice_get flags i)))
+    ap (λ l. looped_if flag d ++ l) (looped_next ds flags i) ∙ sym (append_assoc (looped_if flag d) (looped_decl_faults (take i ds) flags) (looped_at (slice_get ds i) (slice_get flags i)))
 
 pub looped_step : (ds : List TopDecl) (flags : List Bool) (i : ℕ) (d : TopDecl) (first old new : List Fault) → i < length ds → d ≡ get_or ds i d
-    → new ≡ old ++ looped_if (is_set (slice_get flags i)) (decl_shown d) → old ≡ first ++ looped_faults (take i (map decl_shown ds)) flags → new ≡ first ++ looped_faults (take (i + 1) (map decl_shown ds)) flags
+    → new ≡ old ++ looped_if (is_set (slice_get flags i)) (decl_shown d) → old ≡ first ++ looped_decl_faults (take i (map decl_shown ds)) flags → new ≡ first ++ looped_decl_faults (take (i + 1) (map decl_shown ds)) flags
 looped_step ds flags i d first old new lt is added before =
     let next : suc i ≡ i + 1 = omega arith in
     let there : slice_get (map decl_shown ds) i ≡ Some (decl_shown d) = slice_get-map decl_shown ds i ∙ ap (option_map decl_shown) (slice_get_read ds (length ds) i d refl lt is) in
     added
     ∙ (ap (λ l. l ++ looped_if (is_set (slice_get flags i)) (decl_shown d)) before
-    ∙ (append_assoc first (looped_faults (take i (map decl_shown ds)) flags) (looped_if (is_set (slice_get flags i)) (decl_shown d))
-    ∙ (ap (λ o. first ++ (looped_faults (take i (map decl_shown ds)) flags ++ looped_at o (slice_get flags i))) (sym there)
+    ∙ (append_assoc first (looped_decl_faults (take i (map decl_shown ds)) flags) (looped_if (is_set (slice_get flags i)) (decl_shown d))
+    ∙ (ap (λ o. first ++ (looped_decl_faults (take i (map decl_shown ds)) flags ++ looped_at o (slice_get flags i))) (sym there)
     ∙ (ap (λ l. first ++ l) (sym (looped_next (map decl_shown ds) flags i))
-    ∙ ap (λ (n : ℕ). first ++ looped_faults (take n (map decl_shown ds)) flags) next))))
+    ∙ ap (λ (n : ℕ). first ++ looped_decl_faults (take n (map decl_shown ds)) flags) next))))
 
 pub looped_end : (ds : List TopDecl) (flags : List Bool) (i : ℕ) (first now : List Fault) → length ds ≤ i
-    → now ≡ first ++ looped_faults (take i (map decl_shown ds)) flags → now ≡ first ++ looped_faults (map decl_shown ds) flags
+    → now ≡ first ++ looped_decl_faults (take i (map decl_shown ds)) flags → now ≡ first ++ looped_decl_faults (map decl_shown ds) flags
 looped_end ds flags i first now le done =
     let same : length (map decl_shown ds) ≡ length ds = length-map ds decl_shown in
-    done ∙ ap (λ l. first ++ looped_faults l flags) (take_all i (map decl_shown ds) (omega (arith, le, same)))
+    done ∙ ap (λ l. first ++ looped_decl_faults l flags) (take_all i (map decl_shown ds) (omega (arith, le, same)))

@@ -5,8 +5,8 @@ use Rattle.unicode.specs.GeneralCategory.{general_category}
 use Rattle.unicode.specs.Rows.{value_in}
 use Rattle.ucd_category.specs.GeneralCategoryRows.{general_category_rows}
 use Rattle.go_text_core.specs.Text.{uppercase}
-use Rattle.go_answer_core.specs.Sample.{SampleIsRight}
+use Rattle.go_answer_core.specs.Sample.{AnswerSampleIsRight}
 
-pub sample_is_right : SampleIsRight
+pub sample_is_right : AnswerSampleIsRight
 unfolding uppercase general_category value_in general_category_rows chars
 sample_is_right = record { shown = refl; second = refl; first = refl }

@@ -13,7 +13,7 @@ use Rattle.go_report_core.specs.expr_core.declared.things.Fault.{Fault}
 use Rattle.go_fault_core.specs.declared.places.PackageFault.{PackageFault}
 use Rattle.go_face_core.specs.Faces.{TheFace}
 use Rattle.go_face_core.specs.Packages.{DeclaredOf, as_seen, decls_declared, shown_by}
-use Rattle.go_face_core.specs.Written.{DeclsRise, same_place}
+use Rattle.go_face_core.specs.Written.{DeclsRise, same_decl_place}
 use Rattle.go_face_core.specs.declared.shown.ShownFace.TheVariants as shows
 use Rattle.go_answer_core.specs.Outer.{fault, outer_faults}
 use Rattle.go_answer_core.specs.Shown.{package_shown, shown_of}
@@ -24,7 +24,7 @@ pub record IsExported (block : List (List ℕ × DeclRef)) (d : DeclRef) : Type 
   pub decl : DeclRef
   pub bound : Contains block (name, decl)
   pub is_exported : exported (chars name) ≡ true
-  pub same : same_place decl d ≡ true
+  pub same : same_decl_place decl d ≡ true
 
 -- something is one of the declarations, with what is known of it
 pub record IsKnown (ds : List DeclRef) (known : List (Option TheFace)) (e : DeclaredOf) : Type 0 where

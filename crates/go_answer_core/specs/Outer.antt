@@ -29,11 +29,11 @@ abbrev pub looped_if : Bool → TopDeclTree → List Fault
 looped_if is_looped d = if is_looped then fault d.ident.span.start Y7 ∷ [] else []
 
 -- the faults of those declarations that are defined through themselves, which the flag at the same place says
-abbrev pub looped_faults : List TopDeclTree → List Bool → List Fault
-looped_faults [] flags = []
-looped_faults (d ∷ ds) [] = []
-looped_faults (d ∷ ds) (flag ∷ flags) = looped_if flag d ++ looped_faults ds flags
+abbrev pub looped_decl_faults : List TopDeclTree → List Bool → List Fault
+looped_decl_faults [] flags = []
+looped_decl_faults (d ∷ ds) [] = []
+looped_decl_faults (d ∷ ds) (flag ∷ flags) = looped_if flag d ++ looped_decl_faults ds flags
 
 -- all of a file: of blocks, of types, and of these declarations with these flags
 abbrev pub outer_faults : ℕ → BlocksModel → List PackageFault → List TopDeclTree → List Bool → List Fault
-outer_faults file b types ds flags = (block_faults_in file b.faults ++ type_faults_in file types) ++ looped_faults ds flags
+outer_faults file b types ds flags = (block_faults_in file b.faults ++ type_faults_in file types) ++ looped_decl_faults ds flags

@@ -7,30 +7,30 @@ use Rattle.go_fault_core.specs.block_core.Blocks.{BlocksModel}
 use Rattle.go_fault_core.specs.block_core.Exports.{exported_names}
 use Rattle.go_face_core.specs.Faces.{TheFace}
 use Rattle.go_face_core.specs.Packages.{DeclaredOf, PackageFacesModel, names_seen, package_faces}
-use Rattle.go_face_core.specs.Written.{same_place}
+use Rattle.go_face_core.specs.Written.{same_decl_place}
 
 -- the declarations that a package block has under exported names
 abbrev pub exported_decls : List (List ℕ × DeclRef) → List DeclRef
 exported_decls block = map (λ e. e.1) (exported_names block)
 
 -- whether one of these has the file and the number of a declaration
-abbrev pub is_listed : List DeclRef → DeclRef → Bool
-is_listed [] d = false
-is_listed (e ∷ es) d = same_place e d || is_listed es d
+abbrev pub is_decl_listed : List DeclRef → DeclRef → Bool
+is_decl_listed [] d = false
+is_decl_listed (e ∷ es) d = same_decl_place e d || is_decl_listed es d
 
-abbrev pub declared_face : DeclRef → TheFace → DeclaredOf
-declared_face d face = record { decl = d; face = face }
+abbrev pub decl_with_face : DeclRef → TheFace → DeclaredOf
+decl_with_face d face = record { decl = d; face = face }
 
 -- the face of a declaration, if it is shown and something is known of it
 abbrev pub shown_if : Bool → DeclRef → Option TheFace → List DeclaredOf
 shown_if is_shown d None = []
-shown_if is_shown d (Some face) = if is_shown then declared_face d face ∷ [] else []
+shown_if is_shown d (Some face) = if is_shown then decl_with_face d face ∷ [] else []
 
 -- the faces of those declarations that are among these, where the n-th is known to be the n-th
 abbrev pub shown_among : List DeclRef → List DeclRef → List (Option TheFace) → List DeclaredOf
 shown_among these [] known = []
 shown_among these (d ∷ ds) [] = []
-shown_among these (d ∷ ds) (face ∷ known) = shown_if (is_listed these d) d face ++ shown_among these ds known
+shown_among these (d ∷ ds) (face ∷ known) = shown_if (is_decl_listed these d) d face ++ shown_among these ds known
 
 -- the faces of those declarations that a package block has under exported names
 abbrev pub shown_of : List (List ℕ × DeclRef) → List DeclRef → List (Option TheFace) → List DeclaredOf

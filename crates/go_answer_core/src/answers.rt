@@ -1,13 +1,11 @@
 //! What the occurrences of a file have, held.
-ghost use Rattle.std.specs.Prelude.{◌≡◌, ◌<◌, ◌++◌, [], ◌∷◌, ⊤, IfOk, OnOk, IfSome, MatchOption, Contains};
-ghost use Rattle.go_report_core.specs.Places.{Rise, IsNowhere};
+ghost use Rattle.std.specs.Prelude.{◌≡◌, ◌++◌, [], ◌∷◌, IfOk, OnOk};
 
 use crate::site::Site;
 use go_face_core::handle_core::Decl;
 use go_face_core::select_core::EmbedPath;
 use go_report_core::denote_core::Outcome;
 use go_report_core::expr_core::Use;
-use go_report_core::use_at;
 use go_text_core::add;
 use std::alloc::{AllocError, Global};
 
@@ -60,14 +58,4 @@ pub fn answers_of(
         add_answer(&mut answers, used)?;
     }
     Ok(answers)
-}
-
-/// What the occurrence has whose first byte is at an offset in bytes from the file's start, among answers whose offsets rise: none where no
-/// occurrence stands there. Takes a binary search.
-pub fn answer_at(answers: &[Answer], offset: usize) -> Option<&Answer>
-    ensures place { IfSome result (λ answer. answer.now.offset ≡ offset) }
-    ensures member { IfSome result (λ answer. Contains answers.now answer.now) }
-    ensures nowhere { Rise answers.now → MatchOption result (IsNowhere answers.now offset) (λ answer. ⊤) }
-{
-    use_at(answers, offset)
 }

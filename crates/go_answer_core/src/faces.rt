@@ -7,7 +7,7 @@ ghost use Rattle.go_face_core.specs.Held.{declared_shown};
 ghost use Rattle.go_face_core.specs.Written.{DeclsRise, decls_of};
 ghost use Rattle.go_face_core.specs.mirrors.Ordering.{place_cmp};
 ghost use Rattle.go_fault_core.specs.block_core.Exports.{name_and_decl};
-ghost use Rattle.go_answer_core.specs.Shown.{exported_decls, is_listed, package_shown, shown_among, shown_if};
+ghost use Rattle.go_answer_core.specs.Shown.{exported_decls, is_decl_listed, package_shown, shown_among, shown_if};
 ghost use Rattle.go_answer_core.specs.mirrors.Steps.{shown_at};
 
 use go_face_core::handle_core::{SignatureRef, TypeRef};
@@ -87,7 +87,7 @@ fn sort(decls: &mut Vec<DeclRef>)
 // Whether a declaration is among those of a list in order, by file and number.
 fn is_listed(sorted: &[DeclRef], decl: DeclRef) -> bool
     requires { IsSorted place_cmp sorted.now }
-    ensures { result ≡ is_listed sorted.now decl }
+    ensures { result ≡ is_decl_listed sorted.now decl }
 {
     sorted
         .binary_search_by(|other| place_order(*other, decl))
@@ -103,7 +103,7 @@ fn add_face(
     faces: &mut Vec<DeclaredFace>,
 ) -> Result<(), AllocError>
     requires { IsSorted place_cmp sorted.now }
-    ensures { OnOk result (map declared_shown faces.new.items ≡ map declared_shown faces.old.items ++ shown_if (is_listed sorted.now decl) decl known.now) }
+    ensures { OnOk result (map declared_shown faces.new.items ≡ map declared_shown faces.old.items ++ shown_if (is_decl_listed sorted.now decl) decl known.now) }
 {
     if let Some(face) = known {
         if is_listed(sorted, decl) {

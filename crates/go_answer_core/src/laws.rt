@@ -1,6 +1,6 @@
 //! Laws of what is kept of a checked package.
 ghost use Rattle.go_answer_core.specs.Laws.{HiddenDoNotCount, NamesShowTheirFaces, OuterFaultsAreThese, ShownAlike, ShownAreExported};
-ghost use Rattle.go_answer_core.specs.Sample.{SampleIsRight};
+ghost use Rattle.go_answer_core.specs.Sample.{AnswerSampleIsRight};
 
 /// A law, with nothing to run: a package shows the faces of exactly those of its declarations of which something is known and which its
 /// package block has under an exported name, in order of file and number.
@@ -33,5 +33,5 @@ pub fn outer_faults_are_these()
 
 /// A law, with nothing to run: what a package of five declarations shows, worked out by hand, and the faults of its second file.
 pub fn worked_package()
-    ensures { SampleIsRight }
+    ensures { AnswerSampleIsRight }
 {}

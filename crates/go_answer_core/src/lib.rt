@@ -11,7 +11,7 @@ mod locals;
 mod outer;
 mod site;
 
-pub use answers::{Answer, answer_at, answers_of};
+pub use answers::{Answer, answers_of};
 pub use faces::{held_faces, shown_faces};
 pub use laws::{
     exported_names_show_their_faces, hidden_declarations_do_not_count, outer_faults_are_these,
@@ -24,8 +24,7 @@ pub use site::Site;
 /// What the crates above name of `go_block_core`.
 pub mod block_core {
     pub use go_fault_core::block_core::{
-        Binding, Blocks, Exports, Imported, NamedDecl, Target, blocks, import_names, import_specs,
-        one_blocks_alone,
+        Binding, Blocks, Imported, Target, blocks, import_names, import_specs, one_blocks_alone,
     };
 }
 

@@ -1,7 +1,7 @@
 //! The faults of a file that are asked of its package as a whole.
 ghost use Rattle.std.specs.Prelude.{◌≡◌, ◌++◌, IfOk, OnOk, drop, map, slice_get};
 ghost use Rattle.go_term_core.specs.decl_core.Shown.{decl_shown};
-ghost use Rattle.go_answer_core.specs.Outer.{block_faults_in, looped_faults, looped_if, outer_faults, type_faults_in};
+ghost use Rattle.go_answer_core.specs.Outer.{block_faults_in, looped_decl_faults, looped_if, outer_faults, type_faults_in};
 ghost use Rattle.go_answer_core.specs.mirrors.Steps.{is_set};
 
 use go_fault_core::PackageFault;
@@ -110,7 +110,7 @@ fn add_looped(
     looped: &[bool],
     faults: &mut Vec<Fault>,
 ) -> Result<(), AllocError>
-    ensures { OnOk result (faults.new.items ≡ faults.old.items ++ looped_faults (map decl_shown decls.now) looped.now) }
+    ensures { OnOk result (faults.new.items ≡ faults.old.items ++ looped_decl_faults (map decl_shown decls.now) looped.now) }
 {
     for (at, decl) in decls.iter().enumerate() {
         add_if_looped(is_set(looped, at), decl, faults)?;

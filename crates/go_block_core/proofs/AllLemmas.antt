@@ -23,7 +23,7 @@ use Rattle.go_block_core.specs.declared.imports.Imported.{Imported}
 use Rattle.go_block_core.specs.Exports.{ExportsModel}
 use Rattle.go_block_core.specs.Blocks.{BlocksModel}
 use Rattle.go_block_core.specs.Naming.{import_at, file_specs}
-use Rattle.go_block_core.specs.All.{IsShown, IsImported, AreBlocksAt, IsEntry, AreAllBlocks}
+use Rattle.go_block_core.specs.All.{IsShown, IsImported, AreBlocksAt, AreBlocksOrNone, AreAllBlocks}
 use Rattle.go_block_core.specs.mirrors.Steps.{IsShownIn, HasExports, IsReady, IsPackageReady, IsPlanned, IsMadeAt}
 use Rattle.go_block_core.proofs.Growing.{Grows, given_weaker, package_weaker, shown_grow, blocks_grow}
 use Rattle.go_block_core.proofs.NamingLemmas.{text_of, same_texts}
@@ -216,7 +216,7 @@ numbered_from R k (x ∷ xs) (y ∷ ys) e h = (
   numbered_from R (suc k) xs ys (omega (arith, e)) (λ i a b p q. (let n : k + suc i ≡ suc k + i = omega arith in subst (λ m. R m a b) n (h (suc i) a b p q))),
 )
 
-entry : (ps : List PackageModel) (plan : PlanModel) (bs : List (Option BlocksModel)) (es : List (Option ExportsModel)) (i : ℕ) (p : PackageModel) (o : Option BlocksModel) → IsPlan ps plan → AreMade ps plan.order bs es → slice_get ps i ≡ Some p → slice_get bs i ≡ Some o → IsEntry ps bs i p o
+entry : (ps : List PackageModel) (plan : PlanModel) (bs : List (Option BlocksModel)) (es : List (Option ExportsModel)) (i : ℕ) (p : PackageModel) (o : Option BlocksModel) → IsPlan ps plan → AreMade ps plan.order bs es → slice_get ps i ≡ Some p → slice_get bs i ≡ Some o → AreBlocksOrNone ps bs i p o
 entry ps plan bs es i p None planned made at has = λ assembled.
     let b = made.made i ((planned.each i).1 (p.0, p.1, at, assembled)) in
     let e : Some None ≡ Some (Some b.0) = sym has ∙ b.1 in
@@ -228,7 +228,7 @@ entry ps plan bs es i p (Some b) planned made at has =
     (subst (λ (q : PackageModel). IsAssembled q.1) same assembled.3, r.1)
 
 pub all_made : (ps : List PackageModel) (plan : PlanModel) (bs : List (Option BlocksModel)) (es : List (Option ExportsModel)) → IsPlan ps plan → AreMade ps plan.order bs es → AreAllBlocks ps bs
-all_made ps plan bs es planned made = numbered_from (λ number p b. IsEntry ps bs number p b) 0 ps bs made.count (λ i p o at has. (let n : i ≡ 0 + i = omega arith in subst (λ m. IsEntry ps bs m p o) n (entry ps plan bs es i p o planned made at has)))
+all_made ps plan bs es planned made = numbered_from (λ number p b. AreBlocksOrNone ps bs number p b) 0 ps bs made.count (λ i p o at has. (let n : i ≡ 0 + i = omega arith in subst (λ m. AreBlocksOrNone ps bs m p o) n (entry ps plan bs es i p o planned made at has)))
 
 -- the package that is read at the number of an assembled one
 pub read_at : (ps packages : List PackageModel) (i : ℕ) (p : PackageModel) (h : IsAssembledAt ps i) → packages ≡ ps → p ≡ get_or packages i p → ◌≡◌ {A = PackageModel} (h.0, h.1) p

@@ -8,8 +8,8 @@ use Rattle.go_block_core.specs.declared.imports.NamedImport.{NamedImport}
 use Rattle.go_block_core.specs.declared.fault.BlockRule.TheVariants.{B1, B2, B3}
 use Rattle.go_block_core.specs.declared.fault.BlockFault.{BlockFault}
 use Rattle.go_block_core.specs.Bindings.{Bound, file_bound}
-use Rattle.go_block_core.specs.Declarations.{Declaration, is_bindable, has_fixed_form, package_declared, is_main_package}
-use Rattle.go_block_core.specs.Faults.{block_fault, fault_if, decl_faults_at, decl_faults, bound_faults_at, bound_faults, file_faults}
+use Rattle.go_block_core.specs.Declarations.{PackageDeclaration, is_bindable, has_fixed_form, package_declared, is_main_package}
+use Rattle.go_block_core.specs.Faults.{block_fault, fault_if, decl_faults_at, block_decl_faults, bound_faults_at, bound_faults, block_file_faults}
 use Rattle.go_block_core.specs.Holding.{with_declared, declared_block, with_bound, bound_block, package_block}
 use Rattle.go_block_core.specs.Laws.{Declares, Names, IsSecondDecl, IsMalformed, IsSecondBinding, IsHidden, FaultsAreThese}
 use Rattle.go_block_core.specs.Tables.{has}
@@ -62,24 +62,24 @@ module _ {T : Type 0} where
 
 -- declarations
 
-decl_found : (main : Bool) (b : List (List ℕ × DeclRef)) (ds : List Declaration) (f : BlockFault) → Contains (decl_faults main b ds) f → FoundAt ds (λ before d. Contains (decl_faults_at main (declared_block b before) d) f)
+decl_found : (main : Bool) (b : List (List ℕ × DeclRef)) (ds : List PackageDeclaration) (f : BlockFault) → Contains (block_decl_faults main b ds) f → FoundAt ds (λ before d. Contains (decl_faults_at main (declared_block b before) d) f)
 decl_found main b [] f h = absurd (let lt : h.0 < 0 = h.1 in omega arith)
 decl_found main b (d ∷ ds) f h = ⊎_elim
     (found_first d ds (λ before e. Contains (decl_faults_at main (declared_block b before) e) f))
     (λ c. found_later d ds (λ before e. Contains (decl_faults_at main (declared_block b before) e) f) (decl_found main (with_declared b d) ds f c))
-    (Contains-append_cases (decl_faults_at main b d) (decl_faults main (with_declared b d) ds) f h)
+    (Contains-append_cases (decl_faults_at main b d) (block_decl_faults main (with_declared b d) ds) f h)
 
-decl_put : (main : Bool) (b : List (List ℕ × DeclRef)) (before : List Declaration) (d : Declaration) (after : List Declaration) (f : BlockFault) → Contains (decl_faults_at main (declared_block b before) d) f → Contains (decl_faults main b (before ++ d ∷ after)) f
-decl_put main b [] d after f h = Contains-append_left (decl_faults_at main b d) (decl_faults main (with_declared b d) after) f h
-decl_put main b (e ∷ es) d after f h = Contains-append_right (decl_faults_at main b e) (decl_faults main (with_declared b e) (es ++ d ∷ after)) f (decl_put main (with_declared b e) es d after f h)
+decl_put : (main : Bool) (b : List (List ℕ × DeclRef)) (before : List PackageDeclaration) (d : PackageDeclaration) (after : List PackageDeclaration) (f : BlockFault) → Contains (decl_faults_at main (declared_block b before) d) f → Contains (block_decl_faults main b (before ++ d ∷ after)) f
+decl_put main b [] d after f h = Contains-append_left (decl_faults_at main b d) (block_decl_faults main (with_declared b d) after) f h
+decl_put main b (e ∷ es) d after f h = Contains-append_right (decl_faults_at main b e) (block_decl_faults main (with_declared b e) (es ++ d ∷ after)) f (decl_put main (with_declared b e) es d after f h)
 
-pub any_declared : (ds : List Declaration) (q : List ℕ) → has (declared_block [] ds) q ≡ true → Any (Declares q) ds
+pub any_declared : (ds : List PackageDeclaration) (q : List ℕ) → has (declared_block [] ds) q ≡ true → Any (Declares q) ds
 any_declared ds q h = some_any (declares q) (λ d. d.decl) (Declares q) (declares_yes q) (declares_back q) ds (sym (ap is_some (in_declared [] ds q)) ∙ h)
 
-pub has_declared : (ds : List Declaration) (q : List ℕ) → Any (Declares q) ds → has (declared_block [] ds) q ≡ true
+pub has_declared : (ds : List PackageDeclaration) (q : List ℕ) → Any (Declares q) ds → has (declared_block [] ds) q ≡ true
 has_declared ds q h = ap is_some (in_declared [] ds q) ∙ any_some (declares q) (λ d. d.decl) (Declares q) (declares_yes q) (declares_back q) ds h
 
-decl_meaning : (main : Bool) (ds : List Declaration) (f : BlockFault) → Contains (decl_faults main [] ds) f → IsSecondDecl ds f ⊎ IsMalformed main ds f
+decl_meaning : (main : Bool) (ds : List PackageDeclaration) (f : BlockFault) → Contains (block_decl_faults main [] ds) f → IsSecondDecl ds f ⊎ IsMalformed main ds f
 decl_meaning main ds f h =
     let r = decl_found main [] ds f h in
     let d = r.here in
@@ -88,19 +88,19 @@ decl_meaning main ds f h =
     (λ p. (let parts = both (has_fixed_form main d.name) (not d.is_procedure) p.0 in inr (record { decl = d; among = among_split ds r.before d r.after r.split; fixed = parts.0; other = no_from_not d.is_procedure parts.1; fault = p.1 })))
     (one_of_two (is_bindable d.name && has (declared_block [] r.before) d.name) (has_fixed_form main d.name && not d.is_procedure) (block_fault d.decl.file d.at B1) (block_fault d.decl.file d.at B3) f r.holds)
 
-second_decl_stands : (main : Bool) (ds : List Declaration) (f : BlockFault) → IsSecondDecl ds f → Contains (decl_faults main [] ds) f
+second_decl_stands : (main : Bool) (ds : List PackageDeclaration) (f : BlockFault) → IsSecondDecl ds f → Contains (block_decl_faults main [] ds) f
 second_decl_stands main ds f s =
     let d = s.decl in
     let is_second = ap (λ b. b && has (declared_block [] s.before) d.name) s.binds_name ∙ has_declared s.before d.name s.earlier in
-    subst (λ l. Contains (decl_faults main [] l) f) (sym s.split) (decl_put main [] s.before d s.after f (Contains-append_left (fault_if (is_bindable d.name && has (declared_block [] s.before) d.name) (block_fault d.decl.file d.at B1)) (fault_if (has_fixed_form main d.name && not d.is_procedure) (block_fault d.decl.file d.at B3)) f (in_if _ _ f is_second s.fault)))
+    subst (λ l. Contains (block_decl_faults main [] l) f) (sym s.split) (decl_put main [] s.before d s.after f (Contains-append_left (fault_if (is_bindable d.name && has (declared_block [] s.before) d.name) (block_fault d.decl.file d.at B1)) (fault_if (has_fixed_form main d.name && not d.is_procedure) (block_fault d.decl.file d.at B3)) f (in_if _ _ f is_second s.fault)))
 
-malformed_stands : (main : Bool) (ds : List Declaration) (f : BlockFault) → IsMalformed main ds f → Contains (decl_faults main [] ds) f
+malformed_stands : (main : Bool) (ds : List PackageDeclaration) (f : BlockFault) → IsMalformed main ds f → Contains (block_decl_faults main [] ds) f
 malformed_stands main ds f s =
     let r = split_at ds s.among.0 s.decl s.among.1 s.among.2 in
     let d = s.decl in
     let split : ds ≡ r.before ++ d ∷ r.after = r.split ∙ ap (λ x. r.before ++ x ∷ r.after) r.holds in
     let is_malformed = ap (λ b. b && not d.is_procedure) s.fixed ∙ ap not s.other in
-    subst (λ l. Contains (decl_faults main [] l) f) (sym split) (decl_put main [] r.before d r.after f (Contains-append_right (fault_if (is_bindable d.name && has (declared_block [] r.before) d.name) (block_fault d.decl.file d.at B1)) (fault_if (has_fixed_form main d.name && not d.is_procedure) (block_fault d.decl.file d.at B3)) f (in_if _ _ f is_malformed s.fault)))
+    subst (λ l. Contains (block_decl_faults main [] l) f) (sym split) (decl_put main [] r.before d r.after f (Contains-append_right (fault_if (is_bindable d.name && has (declared_block [] r.before) d.name) (block_fault d.decl.file d.at B1)) (fault_if (has_fixed_form main d.name && not d.is_procedure) (block_fault d.decl.file d.at B3)) f (in_if _ _ f is_malformed s.fault)))
 
 -- bindings
 
@@ -123,23 +123,23 @@ module _ (block : List (List ℕ × DeclRef)) where
     file : slice_get files number ≡ Some imports
     holds : Contains (bound_faults block (first + number) [] (file_bound imports)) f
 
-  file_found : (first : ℕ) (files : List (List NamedImport)) (f : BlockFault) → Contains (file_faults block first files) f → InFile first files f
+  file_found : (first : ℕ) (files : List (List NamedImport)) (f : BlockFault) → Contains (block_file_faults block first files) f → InFile first files f
   file_found first [] f h = absurd (let lt : h.0 < 0 = h.1 in omega arith)
   file_found first (g ∷ files) f h = ⊎_elim
       (λ c. (let e : first ≡ first + 0 = omega arith in record { number = 0; imports = g; file = refl; holds = subst (λ n. Contains (bound_faults block n [] (file_bound g)) f) e c }))
       (λ c. (let r = file_found (first + 1) files f c in let e : first + 1 + r.number ≡ first + suc r.number = omega arith in record { number = suc r.number; imports = r.imports; file = r.file; holds = subst (λ n. Contains (bound_faults block n [] (file_bound r.imports)) f) e r.holds }))
-      (Contains-append_cases (bound_faults block first [] (file_bound g)) (file_faults block (first + 1) files) f h)
+      (Contains-append_cases (bound_faults block first [] (file_bound g)) (block_file_faults block (first + 1) files) f h)
 
-  file_put : (first : ℕ) (files : List (List NamedImport)) (number : ℕ) (imports : List NamedImport) (f : BlockFault) → slice_get files number ≡ Some imports → Contains (bound_faults block (first + number) [] (file_bound imports)) f → Contains (file_faults block first files) f
+  file_put : (first : ℕ) (files : List (List NamedImport)) (number : ℕ) (imports : List NamedImport) (f : BlockFault) → slice_get files number ≡ Some imports → Contains (bound_faults block (first + number) [] (file_bound imports)) f → Contains (block_file_faults block first files) f
   file_put first [] number imports f at h = cc
   file_put first (g ∷ files) zero imports f at h =
       let same : g ≡ imports = (let j : Some g ≡ Some imports = at in cc) in
       let e : first + 0 ≡ first = omega arith in
-      Contains-append_left (bound_faults block first [] (file_bound g)) (file_faults block (first + 1) files) f
+      Contains-append_left (bound_faults block first [] (file_bound g)) (block_file_faults block (first + 1) files) f
       (subst (λ i. Contains (bound_faults block first [] (file_bound i)) f) (sym same) (subst (λ n. Contains (bound_faults block n [] (file_bound imports)) f) e h))
   file_put first (g ∷ files) (suc number) imports f at h =
       let e : first + suc number ≡ first + 1 + number = omega arith in
-      Contains-append_right (bound_faults block first [] (file_bound g)) (file_faults block (first + 1) files) f
+      Contains-append_right (bound_faults block first [] (file_bound g)) (block_file_faults block (first + 1) files) f
       (file_put (first + 1) files number imports f at (subst (λ n. Contains (bound_faults block n [] (file_bound imports)) f) e h))
 
 any_bound : (ns : List Bound) (q : List ℕ) → has (bound_block [] ns) q ≡ true → Any (Names q) ns
@@ -148,7 +148,7 @@ any_bound ns q h = some_any (names q) (λ n. n.binding) (Names q) (names_yes q) 
 has_bound : (ns : List Bound) (q : List ℕ) → Any (Names q) ns → has (bound_block [] ns) q ≡ true
 has_bound ns q h = ap is_some (in_bound [] ns q) ∙ any_some (names q) (λ n. n.binding) (Names q) (names_yes q) (names_back q) ns h
 
-bound_meaning : (ds : List Declaration) (files : List (List NamedImport)) (f : BlockFault) → Contains (file_faults (declared_block [] ds) 0 files) f → IsSecondBinding files f ⊎ IsHidden ds files f
+bound_meaning : (ds : List PackageDeclaration) (files : List (List NamedImport)) (f : BlockFault) → Contains (block_file_faults (declared_block [] ds) 0 files) f → IsSecondBinding files f ⊎ IsHidden ds files f
 bound_meaning ds files f h =
     let block = declared_block [] ds in
     let i = file_found block 0 files f h in
@@ -159,14 +159,14 @@ bound_meaning ds files f h =
     (λ p. inr (record { number = i.number; imports = i.imports; file = i.file; bound = n; among = among_split (file_bound i.imports) r.before n r.after r.split; of_package = any_declared ds n.name p.0; fault = p.1 }))
     (one_of_two (has (bound_block [] r.before) n.name) (has block n.name) (block_fault i.number n.binding.at B1) (block_fault i.number n.binding.at B2) f r.holds)
 
-second_binding_stands : (ds : List Declaration) (files : List (List NamedImport)) (f : BlockFault) → IsSecondBinding files f → Contains (file_faults (declared_block [] ds) 0 files) f
+second_binding_stands : (ds : List PackageDeclaration) (files : List (List NamedImport)) (f : BlockFault) → IsSecondBinding files f → Contains (block_file_faults (declared_block [] ds) 0 files) f
 second_binding_stands ds files f s =
     let block = declared_block [] ds in
     let n = s.bound in
     let here : Contains (bound_faults block s.number [] (file_bound s.imports)) f = subst (λ l. Contains (bound_faults block s.number [] l) f) (sym s.split) (bound_put block s.number [] s.before n s.after f (Contains-append_left (fault_if (has (bound_block [] s.before) n.name) (block_fault s.number n.binding.at B1)) (fault_if (has block n.name) (block_fault s.number n.binding.at B2)) f (in_if _ _ f (has_bound s.before n.name s.earlier) s.fault))) in
     file_put block 0 files s.number s.imports f s.file (let e : s.number ≡ 0 + s.number = omega arith in subst (λ k. Contains (bound_faults block k [] (file_bound s.imports)) f) e here)
 
-hidden_stands : (ds : List Declaration) (files : List (List NamedImport)) (f : BlockFault) → IsHidden ds files f → Contains (file_faults (declared_block [] ds) 0 files) f
+hidden_stands : (ds : List PackageDeclaration) (files : List (List NamedImport)) (f : BlockFault) → IsHidden ds files f → Contains (block_file_faults (declared_block [] ds) 0 files) f
 hidden_stands ds files f s =
     let block = declared_block [] ds in
     let n = s.bound in
@@ -178,8 +178,8 @@ hidden_stands ds files f s =
 pub faults_are_these : FaultsAreThese
 faults_are_these trees files f =
     let ds = package_declared trees in
-    let of_decls = decl_faults (is_main_package trees) [] ds in
-    let of_files = file_faults (package_block trees) 0 files in (
+    let of_decls = block_decl_faults (is_main_package trees) [] ds in
+    let of_files = block_file_faults (package_block trees) 0 files in (
       λ h. ⊎_elim
           (λ c. ⊎_elim inl (λ m. inr (inl m)) (decl_meaning (is_main_package trees) ds f c))
           (λ c. ⊎_elim (λ s. inr (inr (inl s))) (λ s. inr (inr (inr s))) (bound_meaning ds files f c))

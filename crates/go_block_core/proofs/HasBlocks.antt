@@ -18,7 +18,7 @@ use Rattle.go_block_core.specs.declared.imports.NamedImport.{NamedImport}
 use Rattle.go_block_core.specs.All.{HasBlocks}
 use Rattle.go_block_core.specs.Blocks.{BlocksModel, blocks_model, AreBlocks, exports_of}
 use Rattle.go_block_core.specs.Exports.{ExportsModel}
-use Rattle.go_block_core.specs.Faults.{all_faults, fault_cmp}
+use Rattle.go_block_core.specs.Faults.{all_block_faults, fault_cmp}
 use Rattle.go_block_core.specs.Holding.{package_block, file_blocks}
 use Rattle.go_block_core.specs.Naming.{IsGiven, AreInFile, AreInPackage, file_specs, import_at, package_named}
 use Rattle.go_block_core.specs.mirrors.Steps.{HasExports, IsShownIn, IsReady, AreReadyIn, AreReady, IsPlanned, IsMadeAt}
@@ -68,7 +68,7 @@ module _ (planned : List (List (List ImportOutcome))) (es : List (Option Exports
 -- the blocks of a package
 blocks_of : (ts : Trees) (imports : List (List NamedImport)) → (b : BlocksModel) × AreBlocks ts imports b
 blocks_of ts imports =
-    let faults = sorted_once fault_cmp fault_total fault_equal (all_faults ts imports) in
+    let faults = sorted_once fault_cmp fault_total fault_equal (all_block_faults ts imports) in
     (blocks_model (package_block ts) (file_blocks imports) faults.0, record { package_names = refl; file_names = refl; faults = record { order = faults.1; same = faults.2 } })
 
 -- the packages of a plan, one by one

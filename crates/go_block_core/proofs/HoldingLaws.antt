@@ -10,7 +10,7 @@ use Rattle.go_text_core.proofs.Each.{true_or_false}
 use Rattle.go_decl_core.specs.declared.keys.DeclRef.{DeclRef}
 use Rattle.go_block_core.specs.declared.binding.Binding.{Binding}
 use Rattle.go_block_core.specs.Blocks.{in_some}
-use Rattle.go_block_core.specs.Declarations.{Declaration, is_bindable, package_declared}
+use Rattle.go_block_core.specs.Declarations.{PackageDeclaration, is_bindable, package_declared}
 use Rattle.go_block_core.specs.Bindings.{Bound, file_bound}
 use Rattle.go_block_core.specs.Holding.{with_declared, declared_block, with_bound, bound_block}
 use Rattle.go_block_core.specs.Laws.{IsFirstOf, Declares, Names, PackageHolds, FileHolds, NeverHidden, FileAnswers}
@@ -117,23 +117,23 @@ module _ {X : Type 0} where
 
 -- declarations
 
-abbrev pub declares : List ℕ → Declaration → Bool
+abbrev pub declares : List ℕ → PackageDeclaration → Bool
 declares q d = is_bindable d.name && bytes_eq q d.name
 
-pub declares_yes : (q : List ℕ) (d : Declaration) → declares q d ≡ true → Declares q d
+pub declares_yes : (q : List ℕ) (d : PackageDeclaration) → declares q d ≡ true → Declares q d
 declares_yes q d h = let parts = both (is_bindable d.name) (bytes_eq q d.name) h in (parts.0, (bytes_eq-Decides q d.name).0 parts.1)
 
-pub declares_back : (q : List ℕ) (d : Declaration) → Declares q d → declares q d ≡ true
+pub declares_back : (q : List ℕ) (d : PackageDeclaration) → Declares q d → declares q d ≡ true
 declares_back q d h = ap (λ b. b && bytes_eq q d.name) h.0 ∙ (bytes_eq-Decides q d.name).1 h.1
 
-in_with_declared : (b : List (List ℕ × DeclRef)) (d : Declaration) (q : List ℕ) → in_block (with_declared b d) q ≡ or_else (in_block b q) (cond (declares q d) (Some d.decl) None)
+in_with_declared : (b : List (List ℕ × DeclRef)) (d : PackageDeclaration) (q : List ℕ) → in_block (with_declared b d) q ≡ or_else (in_block b q) (cond (declares q d) (Some d.decl) None)
 in_with_declared b d q = by (is_bindable d.name)
   where
     by : (c : Bool) → in_block (cond c (with_first b d.name d.decl) b) q ≡ or_else (in_block b q) (cond (c && bytes_eq q d.name) (Some d.decl) None)
     by true = in_with_first b d.name d.decl q
     by false = or_none (in_block b q)
 
-pub in_declared : (b : List (List ℕ × DeclRef)) (ds : List Declaration) (q : List ℕ) → in_block (declared_block b ds) q ≡ or_else (in_block b q) (first_by (declares q) (λ d. d.decl) ds)
+pub in_declared : (b : List (List ℕ × DeclRef)) (ds : List PackageDeclaration) (q : List ℕ) → in_block (declared_block b ds) q ≡ or_else (in_block b q) (first_by (declares q) (λ d. d.decl) ds)
 in_declared b [] q = or_none (in_block b q)
 in_declared b (d ∷ ds) q =
     in_declared (with_declared b d) ds q

@@ -19,7 +19,7 @@ use Rattle.go_block_core.specs.Exports.{ExportsModel, exports_model, exported_na
 use Rattle.go_block_core.specs.Holding.{package_block}
 use Rattle.go_block_core.specs.Blocks.{BlocksModel, blocks_model, AreBlocks, exports_of}
 use Rattle.go_block_core.specs.Naming.{IsGiven, AreInFile, import_at, file_specs, package_named}
-use Rattle.go_block_core.specs.All.{IsShown, IsImported, AreImported, AreBlocksAt, IsEntry, AreAllBlocks, OneBlocks, AloneIsWhole}
+use Rattle.go_block_core.specs.All.{IsShown, IsImported, AreImported, AreBlocksAt, AreBlocksOrNone, AreAllBlocks, OneBlocks, AloneIsWhole}
 use Rattle.go_block_core.specs.Faults.{fault_cmp}
 use Rattle.go_block_core.specs.Laws.{OneBlocksAlone}
 use Rattle.go_block_core.proofs.FaultLemmas.{fault_total}
@@ -56,8 +56,8 @@ module _ (ps : List PackageModel) (bs cs : List (Option BlocksModel)) (well : Is
 
   names_at : (i : ℕ) (b c : BlocksModel) → slice_get bs i ≡ Some (Some b) → slice_get cs i ≡ Some (Some c) → b.names ≡ c.names
   names_at i b c x y =
-      let at_b = numbered_back (λ number p o. IsEntry ps bs number p o) 0 ps bs i (Some b) all_bs x in
-      let at_c = numbered_back (λ number p o. IsEntry ps cs number p o) 0 ps cs i (Some c) all_cs y in
+      let at_b = numbered_back (λ number p o. AreBlocksOrNone ps bs number p o) 0 ps bs i (Some b) all_bs x in
+      let at_c = numbered_back (λ number p o. AreBlocksOrNone ps cs number p o) 0 ps cs i (Some c) all_cs y in
       same_names (0 + i) b c at_b.2.1 at_c.2.1
 
   -- what a package shows
@@ -101,23 +101,23 @@ module _ (ps : List PackageModel) (bs cs : List (Option BlocksModel)) (well : Is
   same_blocks : (i : ℕ) (b c : BlocksModel) → AreBlocksAt ps bs i b → AreBlocksAt ps cs i c → b ≡ c
   same_blocks i b c x y = one_blocks_alone (trees_of x.files) (package_named (trees_of x.files) x.imported) b c x.blocks (blocks_alone i x.path x.files x.imported c x.numbered x.given y)
 
-  same_entry : (i : ℕ) (p : PackageModel) (o r : Option BlocksModel) → IsEntry ps bs i p o → IsEntry ps cs i p r → o ≡ r
+  same_entry : (i : ℕ) (p : PackageModel) (o r : Option BlocksModel) → AreBlocksOrNone ps bs i p o → AreBlocksOrNone ps cs i p r → o ≡ r
   same_entry i p None None x y = refl
   same_entry i p None (Some c) x y = absurd (x y.0)
   same_entry i p (Some b) None x y = absurd (y x.0)
   same_entry i p (Some b) (Some c) x y = ap Some (same_blocks i b c x.1 y.1)
 
 pub one_blocks : OneBlocks
-one_blocks ps bs cs well x y = one_list (λ number p o. IsEntry ps bs number p o) (λ number p o. IsEntry ps cs number p o) (λ k p o r a b. same_entry ps bs cs well x y k p o r a b) 0 ps bs cs x y
+one_blocks ps bs cs well x y = one_list (λ number p o. AreBlocksOrNone ps bs number p o) (λ number p o. AreBlocksOrNone ps cs number p o) (λ k p o r a b. same_entry ps bs cs well x y k p o r a b) 0 ps bs cs x y
 
 -- an assembled package has its blocks in the list
-entry_some : (ps : List PackageModel) (bs : List (Option BlocksModel)) (i : ℕ) (p : PackageModel) (o : Option BlocksModel) → IsAssembled p.1 → IsEntry ps bs i p o → (c : BlocksModel) × (o ≡ Some c) × AreBlocksAt ps bs i c
+entry_some : (ps : List PackageModel) (bs : List (Option BlocksModel)) (i : ℕ) (p : PackageModel) (o : Option BlocksModel) → IsAssembled p.1 → AreBlocksOrNone ps bs i p o → (c : BlocksModel) × (o ≡ Some c) × AreBlocksAt ps bs i c
 entry_some ps bs i p None assembled h = absurd (h assembled)
 entry_some ps bs i p (Some c) assembled h = (c, refl, h.1)
 
 pub alone_is_whole : AloneIsWhole
 alone_is_whole ps bs number path files imported b well all numbered assembled come =
-    let at = numbered_at (λ n p o. IsEntry ps bs n p o) 0 ps bs number (path, files) all numbered in
+    let at = numbered_at (λ n p o. AreBlocksOrNone ps bs n p o) 0 ps bs number (path, files) all numbered in
     let entry = entry_some ps bs (0 + number) (path, files) at.0 assembled at.2 in
     let e : 0 + number ≡ number = omega arith in
     let here = subst (λ n. AreBlocksAt ps bs n entry.0) e entry.2 in

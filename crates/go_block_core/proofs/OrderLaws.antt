@@ -11,12 +11,11 @@ use Rattle.go_tree_nodes.specs.declared.names.Ident.{Ident}
 use Rattle.go_tree_nodes.specs.declared.decls.ValueKind.{ValueKind}
 use Rattle.go_tree_nodes.specs.declared.files.Receiver.{Receiver}
 use Rattle.go_tree_nodes.specs.Terminals.{Terminal}
-use Rattle.go_tree_nodes.specs.Trees.{Separated, One, Then, Specs, Single, Group, ValueSpecTree, TypeSpecTree, FuncTree, DeclTree, Value, Types, Func, TopTree, FileTree}
-use Rattle.go_tree_nodes.specs.Spelling.{spell_ident, spell_idents, spell_value_spec, spell_specs_of, spell_specs, spell_type_spec, spell_receiver, spell_decl, spell_tops, spell_file}
-use Rattle.go_graph_core.specs.Sources.{IsPlaced}
+use Rattle.go_tree_nodes.specs.Trees.{Separated, One, Then, Specs, Single, Group, ValueSpecTree, TypeSpecTree, FuncTree, DeclTree, Value, Types, Func, TopTree, FileTree, of_specs}
+use Rattle.go_tree_nodes.specs.Spelling.{spell_ident, spell_idents, spell_value_spec, spell_specs_of, spell_specs, spell_type_spec, spell_receiver, spell_decl, spell_tops, spell_file, IsPlaced}
 use Rattle.go_graph_core.specs.Packages.{Trees}
 use Rattle.go_decl_core.specs.declared.places.DeclKind.{DeclKind}
-use Rattle.go_decl_core.specs.Outer.{Outer, Manner, outer, idents_outers, kind_of_value, kind_of_func, rest_outers, value_spec_outers, type_spec_outers, specs_outers, receiver_outers, signature_outers, func_outers, decl_outers, outer_names, Whole}
+use Rattle.go_decl_core.specs.Outer.{Outer, Manner, outer, idents_outers, kind_of_value, kind_of_func, rest_outers, value_spec_outers, type_spec_outers, receiver_outers, signature_outers, func_outers, decl_outers, outer_names, Whole}
 use Rattle.go_decl_core.specs.TopDecls.{FormTree, ValueForm, TypeForm, FuncForm, TopDeclTree, top_decl, numbered, named_decls, value_spec_decls, type_spec_decls, specs_decls, func_decls, decl_decls, top_decls}
 use Rattle.go_block_core.specs.declared.binding.Target.{Target}
 use Rattle.go_block_core.specs.declared.imports.ImportForm.{ImportForm}
@@ -25,8 +24,8 @@ use Rattle.go_block_core.specs.declared.imports.Imported.{Imported}
 use Rattle.go_block_core.specs.declared.imports.Imported.TheVariants as given
 use Rattle.go_block_core.specs.declared.imports.NamedImport.{NamedImport}
 use Rattle.go_decl_core.specs.declared.keys.DeclRef.{DeclRef}
-use Rattle.go_block_core.specs.Bindings.{Bound, bound_as, bound_if, target_of, exported_bound, dot_bound, form_bound, import_bound, file_bound}
-use Rattle.go_block_core.specs.Declarations.{Declaration, declaration, is_method, unless_method, top_declared, file_declared, files_declared}
+use Rattle.go_block_core.specs.Bindings.{Bound, bound_as, bound_if, import_target, exported_bound, dot_bound, form_bound, import_bound, file_bound}
+use Rattle.go_block_core.specs.Declarations.{PackageDeclaration, declaration, is_method_form, unless_method, top_declared, file_declared, files_declared}
 use Rattle.go_block_core.specs.Laws.{StandsBefore, ArePlaced, DeclarationsInOrder, BindingsInOrder}
 use Rattle.go_block_core.proofs.Rising.{Rises, Gives, rises_lower, rises_join, gives_none, gives_skip, gives_one, gives_both, gives_first, gives_second}
 
@@ -133,7 +132,7 @@ one_rises x n m form high le lt = (tt, le, (let e : m + 1 ≤ high = omega arith
 type_rise : (n : ℕ) (t : TypeSpecTree) → Numbers n (type_spec_decls n t) (n + length (type_spec_outers t))
 type_rise n t = one_rises t.name n n (TypeForm t) (n + length (type_spec_outers t)) (omega arith) (omega arith)
 
-specs_rise : {A : Type 0} (names : A → List Outer) (decls : ℕ → A → List TopDeclTree) → ((n : ℕ) (x : A) → Numbers n (decls n x) (n + length (names x))) → (n : ℕ) (s : Specs A) → Numbers n (specs_decls names decls n s) (n + length (specs_outers names s))
+specs_rise : {A : Type 0} (names : A → List Outer) (decls : ℕ → A → List TopDeclTree) → ((n : ℕ) (x : A) → Numbers n (decls n x) (n + length (names x))) → (n : ℕ) (s : Specs A) → Numbers n (specs_decls names decls n s) (n + length (of_specs names s))
 specs_rise names decls each n (Single x) = each n x
 specs_rise names decls each n (Group first ls last) = numbered_rise (λ l. names l.0) (λ n l. decls n l.0) (λ n l. each n l.0) n ls
 
@@ -172,20 +171,20 @@ tops_before f placed = λ i j d low high. (rises_pairs number 0 (top_decls f) (0
 
 -- what is declared
 
-unless_all : (P : Declaration → Type 0) (b : Bool) (x : Declaration) → P x → All P (unless_method b x)
+unless_all : (P : PackageDeclaration → Type 0) (b : Bool) (x : PackageDeclaration) → P x → All P (unless_method b x)
 unless_all P true x h = λ k d lt. absurd (omega arith)
 unless_all P false x h = All-cons P x [] h (λ k d lt. absurd (omega arith))
 
-unless_pairs : (b : Bool) (x : Declaration) → AllPairs StandsBefore (unless_method b x)
+unless_pairs : (b : Bool) (x : PackageDeclaration) → AllPairs StandsBefore (unless_method b x)
 unless_pairs true x = λ i j d low high. absurd (omega arith)
 unless_pairs false x = λ i j d low high. absurd (omega arith)
 
 module _ (file : ℕ) where
-  declared_all : (P : Declaration → Type 0) (ds : List TopDeclTree) → All (λ d. P (declaration file d)) ds → All P (flat_map (top_declared file) ds)
+  declared_all : (P : PackageDeclaration → Type 0) (ds : List TopDeclTree) → All (λ d. P (declaration file d)) ds → All P (flat_map (top_declared file) ds)
   declared_all P [] h = λ k d lt. absurd (omega arith)
   declared_all P (d ∷ ds) h =
       All-append P (top_declared file d) (flat_map (top_declared file) ds)
-      (unless_all P (is_method d.form) (declaration file d) (All-head (λ e. P (declaration file e)) d ds h))
+      (unless_all P (is_method_form d.form) (declaration file d) (All-head (λ e. P (declaration file e)) d ds h))
       (declared_all P ds (All-tail (λ e. P (declaration file e)) d ds h))
 
   declared_pairs : (ds : List TopDeclTree) → AllPairs IsBefore ds → AllPairs StandsBefore (flat_map (top_declared file) ds)
@@ -193,9 +192,9 @@ module _ (file : ℕ) where
   declared_pairs (d ∷ ds) h =
       let behind : All (λ e. StandsBefore (declaration file d) (declaration file e)) ds = λ k e lt. (let b = h 0 (suc k) e (omega arith) (omega arith) in inr (refl, b.0, b.1)) in
       pairs_append StandsBefore (top_declared file d) (flat_map (top_declared file) ds)
-      (unless_pairs (is_method d.form) (declaration file d))
+      (unless_pairs (is_method_form d.form) (declaration file d))
       (declared_pairs ds (λ i j e low high. h (suc i) (suc j) e (omega arith) (omega arith)))
-      (unless_all (λ x. All (StandsBefore x) (flat_map (top_declared file) ds)) (is_method d.form) (declaration file d) (declared_all (StandsBefore (declaration file d)) ds behind))
+      (unless_all (λ x. All (StandsBefore x) (flat_map (top_declared file) ds)) (is_method_form d.form) (declaration file d) (declared_all (StandsBefore (declaration file d)) ds behind))
 
   in_file : (f : FileTree) → All (λ d. d.decl.file ≡ file) (file_declared file f)
   in_file f = declared_all (λ d. d.decl.file ≡ file) (top_decls f) (λ k d lt. refl)
@@ -249,8 +248,8 @@ dot_at at (given.«Package» e) = exported_at at e.path e.names
 dot_at at (given.Refused rule) = no_binding at
 
 form_at : (at : ℕ) (i : Imported) (f : ImportForm) → AreAt at (form_bound at i f)
-form_at at i (forms.Own name) = if_binding at name (target_of i)
-form_at at i (forms.Named name) = unless_at at name (target_of i) (is_blank name)
+form_at at i (forms.Own name) = if_binding at name (import_target i)
+form_at at i (forms.Named name) = unless_at at name (import_target i) (is_blank name)
 form_at at i forms.Dot = dot_at at i
 
 -- all bindings of later imports stand at or behind a place that is before these

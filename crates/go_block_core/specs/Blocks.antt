@@ -13,7 +13,7 @@ use Rattle.go_block_core.specs.contracts.fault.BlockFault as block_fault
 use Rattle.go_block_core.specs.declared.imports.ImportNames.{ImportNames}
 use Rattle.go_block_core.specs.declared.imports.NamedImport.{NamedImport}
 use Rattle.go_block_core.specs.Exports.{ExportsModel, exports_model, exported_names, clause_name}
-use Rattle.go_block_core.specs.Faults.{fault_cmp, all_faults}
+use Rattle.go_block_core.specs.Faults.{fault_cmp, all_block_faults}
 use Rattle.go_block_core.specs.Holding.{package_block, file_blocks, imports_in}
 use Rattle.go_block_core.specs.Tables.{in_block, has, without}
 
@@ -64,7 +64,7 @@ imports_of names = map imports_in names.files.items
 pub record AreBlocks (trees : Trees) (imports : List (List NamedImport)) (b : BlocksModel) : Type 0 where
   pub package_names : b.names ≡ package_block trees
   pub file_names : b.files ≡ file_blocks imports
-  pub faults : HoldsEachOnce (all_faults trees imports) b.faults
+  pub faults : HoldsEachOnce (all_block_faults trees imports) b.faults
 
 -- what a package with these blocks shows: its path, the name in its clauses, and the exported names of its package block
 abbrev pub exports_of : PackageModel → BlocksModel → ExportsModel

@@ -2,7 +2,6 @@
 use Rattle.std.specs.Prelude.{◌≡◌, ℕ, ◌<◌, ◌≤◌, map, AllPairs, Bool, true, false, ◌⊎◌, ◌↔◌, List, ◌∷◌, ◌++◌, Some, None, All, Any, Contains, slice_get}
 use Rattle.std.specs.List.Sorted.{IsStrictlyIncreasing}
 use Rattle.go_graph_core.specs.Packages.{Trees}
-use Rattle.go_graph_core.specs.Sources.{IsPlaced}
 use Rattle.go_decl_core.specs.declared.keys.DeclRef.{DeclRef}
 use Rattle.go_block_core.specs.declared.binding.Binding.{Binding}
 use Rattle.go_block_core.specs.declared.imports.NamedImport.{NamedImport}
@@ -10,10 +9,11 @@ use Rattle.go_block_core.specs.declared.fault.BlockRule.TheVariants.{B1, B2, B3}
 use Rattle.go_block_core.specs.declared.fault.BlockFault.{BlockFault}
 use Rattle.go_block_core.specs.Bindings.{Bound, file_bound}
 use Rattle.go_block_core.specs.Blocks.{BlocksModel, AreBlocks, file_binding}
-use Rattle.go_block_core.specs.Declarations.{Declaration, package_declared, is_bindable, has_fixed_form, is_main_package}
-use Rattle.go_block_core.specs.Faults.{block_fault, all_faults}
+use Rattle.go_block_core.specs.Declarations.{PackageDeclaration, package_declared, is_bindable, has_fixed_form, is_main_package}
+use Rattle.go_block_core.specs.Faults.{block_fault, all_block_faults}
 use Rattle.go_block_core.specs.Holding.{package_block, file_block}
 use Rattle.go_block_core.specs.Tables.{in_block}
+use Rattle.go_tree_nodes.specs.Spelling.{IsPlaced}
 
 -- the first of a list that P holds of has this value
 pub record IsFirstOf {T V : Type 0} (P : T → Type 0) (value : T → V) (xs : List T) (v : V) : Type 0 where
@@ -26,7 +26,7 @@ pub record IsFirstOf {T V : Type 0} (P : T → Type 0) (value : T → V) (xs : L
   pub is : value first ≡ v
 
 -- a declaration binds this name
-abbrev pub Declares : List ℕ → Declaration → Type 0
+abbrev pub Declares : List ℕ → PackageDeclaration → Type 0
 Declares name d = (is_bindable d.name ≡ true) × (name ≡ d.name)
 
 -- a binding is of this name
@@ -56,18 +56,18 @@ abbrev pub FileAnswers : Type 0
 FileAnswers = (b : BlocksModel) (file : ℕ) (name : List ℕ) (x : Binding) → (file_binding b file name ≡ Some x) ↔ ((in_block b.names name ≡ None) × HasBinding b.files file name x)
 
 -- B1: a declaration of a name that an earlier one binds
-pub record IsSecondDecl (ds : List Declaration) (f : BlockFault) : Type 0 where
-  pub before : List Declaration
-  pub decl : Declaration
-  pub after : List Declaration
+pub record IsSecondDecl (ds : List PackageDeclaration) (f : BlockFault) : Type 0 where
+  pub before : List PackageDeclaration
+  pub decl : PackageDeclaration
+  pub after : List PackageDeclaration
   pub split : ds ≡ before ++ decl ∷ after
   pub binds_name : is_bindable decl.name ≡ true
   pub earlier : Any (Declares decl.name) before
   pub fault : f ≡ block_fault decl.decl.file decl.at B1
 
 -- B3: what must be a function without parameters and results, and is none
-pub record IsMalformed (main : Bool) (ds : List Declaration) (f : BlockFault) : Type 0 where
-  pub decl : Declaration
+pub record IsMalformed (main : Bool) (ds : List PackageDeclaration) (f : BlockFault) : Type 0 where
+  pub decl : PackageDeclaration
   pub among : Contains ds decl
   pub fixed : has_fixed_form main decl.name ≡ true
   pub other : decl.is_procedure ≡ false
@@ -86,7 +86,7 @@ pub record IsSecondBinding (files : List (List NamedImport)) (f : BlockFault) : 
   pub fault : f ≡ block_fault number bound.binding.at B1
 
 -- B2: a binding of a name that the package block has
-pub record IsHidden (ds : List Declaration) (files : List (List NamedImport)) (f : BlockFault) : Type 0 where
+pub record IsHidden (ds : List PackageDeclaration) (files : List (List NamedImport)) (f : BlockFault) : Type 0 where
   pub number : ℕ
   pub imports : List NamedImport
   pub file : slice_get files number ≡ Some imports
@@ -105,10 +105,10 @@ IsBlockFault trees files f =
 
 -- the faults are these and no others
 abbrev pub FaultsAreThese : Type 0
-FaultsAreThese = (trees : Trees) (files : List (List NamedImport)) (f : BlockFault) → Contains (all_faults trees files) f ↔ IsBlockFault trees files f
+FaultsAreThese = (trees : Trees) (files : List (List NamedImport)) (f : BlockFault) → Contains (all_block_faults trees files) f ↔ IsBlockFault trees files f
 
 -- a declaration stands before another: in an earlier file, or in the same by number and by offset
-abbrev pub StandsBefore : Declaration → Declaration → Type 0
+abbrev pub StandsBefore : PackageDeclaration → PackageDeclaration → Type 0
 StandsBefore d e = (d.decl.file < e.decl.file) ⊎ ((d.decl.file ≡ e.decl.file) × (d.decl.number < e.decl.number) × (d.at < e.at))
 
 -- the tokens of each file's tree follow one another, as those of a text do

@@ -1,7 +1,7 @@
 //! The names that imports bind in the block of their file.
 ghost use Rattle.std.specs.Prelude.{◌≡◌, ◌++◌, ◌∷◌, [], OnOk, IfOk, map};
 ghost use Rattle.go_block_core.specs.Exports.{name_and_decl};
-ghost use Rattle.go_block_core.specs.Bindings.{bound_as, target_of, bound_if, named_bound, exported_bound, dot_bound, import_bound, file_bound};
+ghost use Rattle.go_block_core.specs.Bindings.{bound_as, import_target, bound_if, named_bound, exported_bound, dot_bound, import_bound, file_bound};
 ghost use Rattle.go_block_core.specs.mirrors.Shown.{bound_shown, text_shown};
 
 use crate::exports::NamedDecl;
@@ -53,7 +53,7 @@ fn add_binding<'a>(
 
 /// What the name of an import denotes.
 fn target_of(imported: &Imported) -> Result<Target, AllocError>
-    ensures { IfOk result (λ target. target ≡ target_of imported.now) }
+    ensures { IfOk result (λ target. target ≡ import_target imported.now) }
 {
     match imported {
         Imported::Package(exports) => Ok(Target::Package(exports.path().share()?)),
@@ -67,7 +67,7 @@ fn add_own<'a>(
     name: Option<&'a Name>,
     import: &NamedImport,
 ) -> Result<(), AllocError>
-    ensures { OnOk result (map bound_shown bound.new.items ≡ map bound_shown bound.old.items ++ bound_if import.now.at (text_shown name.entry) (target_of import.now.imported)) }
+    ensures { OnOk result (map bound_shown bound.new.items ≡ map bound_shown bound.old.items ++ bound_if import.now.at (text_shown name.entry) (import_target import.now.imported)) }
 {
     match name {
         Some(name) => {
@@ -84,7 +84,7 @@ fn add_named<'a>(
     name: &'a Name,
     import: &NamedImport,
 ) -> Result<(), AllocError>
-    ensures { OnOk result (map bound_shown bound.new.items ≡ map bound_shown bound.old.items ++ named_bound import.now.at name.now (target_of import.now.imported)) }
+    ensures { OnOk result (map bound_shown bound.new.items ≡ map bound_shown bound.old.items ++ named_bound import.now.at name.now (import_target import.now.imported)) }
 {
     let name = name.as_str();
     if name == "_" {

@@ -3,17 +3,17 @@ ghost use Rattle.std.specs.Prelude.{◌≡◌, ◌++◌, ◌∷◌, [], not, ◌
 ghost use Rattle.std.specs.Str.{chars};
 ghost use Rattle.go_text_core.specs.Text.{exported};
 ghost use Rattle.go_tree_nodes.specs.Shapes.{file_of};
-ghost use Rattle.go_graph_core.specs.Sources.{IsPlaced};
 ghost use Rattle.go_graph_core.specs.Packages.{trees_of};
 ghost use Rattle.go_decl_core.specs.Shown.{decl_shown};
 ghost use Rattle.go_block_core.specs.Exports.{name_and_decl, exported_names};
 ghost use Rattle.go_block_core.specs.Tables.{table_of};
 ghost use Rattle.go_block_core.specs.Declarations.{is_bindable, has_fixed_form, top_declared, file_declared, is_main_package, package_declared};
-ghost use Rattle.go_block_core.specs.Faults.{decl_faults_at, decl_faults, bound_faults_at, bound_faults, file_faults};
-ghost use Rattle.go_block_core.specs.Holding.{is_second, with_declared, declared_block, package_block, with_bound, bound_block, file_block, file_blocks, imports_in};
+ghost use Rattle.go_block_core.specs.Faults.{decl_faults_at, block_decl_faults, bound_faults_at, bound_faults, block_file_faults};
+ghost use Rattle.go_block_core.specs.Holding.{is_second_declaration, with_declared, declared_block, package_block, with_bound, bound_block, file_block, file_blocks, imports_in};
 ghost use Rattle.go_block_core.specs.Bindings.{file_bound};
 ghost use Rattle.go_block_core.specs.Laws.{ArePlaced};
 ghost use Rattle.go_block_core.specs.mirrors.Shown.{bound_shown, declaration_shown};
+ghost use Rattle.go_tree_nodes.specs.Spelling.{IsPlaced};
 
 use crate::binding::{Binding, BoundName, bindings};
 use crate::decls::{NamedPlace, declaration};
@@ -50,7 +50,7 @@ fn declare(
     alloc: Global,
     declared: &NamedPlace<'_>,
 ) -> Result<bool, AllocError>
-    ensures second { IfOk result (λ second. second ≡ is_second (table_of table.old) (declaration_shown declared.now)) }
+    ensures second { IfOk result (λ second. second ≡ is_second_declaration (table_of table.old) (declaration_shown declared.now)) }
     ensures table { OnOk result (table_of table.new ≡ with_declared (table_of table.old) (declaration_shown declared.now)) }
 {
     let name = declared.name;
@@ -89,7 +89,7 @@ fn add_top(
     faults: &mut Vec<BlockFault>,
 ) -> Result<(), AllocError>
     ensures table { OnOk result (table_of table.new ≡ declared_block (table_of table.old) (top_declared file (decl_shown top.now))) }
-    ensures faults { OnOk result (faults.new.items ≡ faults.old.items ++ decl_faults is_main (table_of table.old) (top_declared file (decl_shown top.now))) }
+    ensures faults { OnOk result (faults.new.items ≡ faults.old.items ++ block_decl_faults is_main (table_of table.old) (top_declared file (decl_shown top.now))) }
 {
     match declaration(file, top) {
         Some(declared) => add_declared(table, alloc, is_main, &declared, faults),
@@ -108,7 +108,7 @@ fn add_file(
 ) -> Result<(), AllocError>
     requires { IsPlaced (file_of tree.now) }
     ensures table { OnOk result (table_of table.new ≡ declared_block (table_of table.old) (file_declared file (file_of tree.now))) }
-    ensures faults { OnOk result (faults.new.items ≡ faults.old.items ++ decl_faults is_main (table_of table.old) (file_declared file (file_of tree.now))) }
+    ensures faults { OnOk result (faults.new.items ≡ faults.old.items ++ block_decl_faults is_main (table_of table.old) (file_declared file (file_of tree.now))) }
 {
     let outline = outline(alloc, tree)?;
     for top in &outline.decls {
@@ -124,7 +124,7 @@ pub(crate) fn package_block(
     faults: &mut Vec<BlockFault>,
 ) -> Result<IndexMap<String, DeclRef>, AllocError>
     ensures table { IfOk result (λ table. table_of table ≡ package_block (trees_of «package».now.1)) }
-    ensures faults { OnOk result (faults.new.items ≡ faults.old.items ++ decl_faults (is_main_package (trees_of «package».now.1)) [] (package_declared (trees_of «package».now.1))) }
+    ensures faults { OnOk result (faults.new.items ≡ faults.old.items ++ block_decl_faults (is_main_package (trees_of «package».now.1)) [] (package_declared (trees_of «package».now.1))) }
     // The tokens of each tree follow one another in its text.
     ensures placed { OnOk result (ArePlaced (trees_of «package».now.1)) }
 {
@@ -194,7 +194,7 @@ pub(crate) fn file_blocks(
     faults: &mut Vec<BlockFault>,
 ) -> Result<Vec<IndexMap<String, Binding>>, AllocError>
     ensures tables { IfOk result (λ tables. map table_of tables.items ≡ file_blocks (map imports_in files.now.items)) }
-    ensures faults { OnOk result (faults.new.items ≡ faults.old.items ++ file_faults (table_of names.now) 0 (map imports_in files.now.items)) }
+    ensures faults { OnOk result (faults.new.items ≡ faults.old.items ++ block_file_faults (table_of names.now) 0 (map imports_in files.now.items)) }
 {
     let mut tables = Vec::new(alloc);
     for imports in files {

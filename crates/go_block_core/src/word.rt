@@ -4,7 +4,7 @@ ghost use Rattle.std.specs.Str.{chars};
 ghost use Rattle.std.specs.List.{list_all};
 ghost use Rattle.go_token_core.specs.Characters.{letter_or_digit};
 ghost use Rattle.go_tree_nodes.specs.Terminals.{value_of};
-ghost use Rattle.go_block_core.specs.Words.{begins_with_letter, is_keyword, identifier, last_element, as_text, is_name, last_name};
+ghost use Rattle.go_block_core.specs.Words.{begins_with_letter, is_keyword, identifier, last_element, as_text, is_nonblank_identifier, last_name};
 ghost use Rattle.go_block_core.specs.mirrors.Shown.{text_shown};
 
 use go_text_core::{Name, is_digit, is_letter};
@@ -74,7 +74,7 @@ fn characters_of(alloc: Global, text: &str) -> Result<Vec<char>, AllocError>
 
 /// Whether a text is an identifier other than `_`.
 fn is_name(alloc: Global, text: &str) -> Result<bool, AllocError>
-    ensures { IfOk result (λ holds. holds ≡ is_name text.now) }
+    ensures { IfOk result (λ holds. holds ≡ is_nonblank_identifier text.now) }
 {
     let word = characters_of(alloc, text)?;
     Ok(text != "_" && is_identifier(word.as_slice()))

@@ -5,10 +5,10 @@ use Rattle.go_piece_core.specs.local_core.Outline.{func_steps, func_opens, func_
 use Rattle.go_piece_core.specs.local_core.Binding.{Local, bound, is_first}
 use Rattle.go_piece_core.specs.local_core.Faults.{name_faults}
 use Rattle.go_piece_core.specs.local_core.Law.{Rules, Out, out, both, declared_from, law_out}
-use Rattle.go_body_core.specs.Agreement.{AreAlike, AlikeRulesGiveOne}
+use Rattle.go_body_core.specs.Agreement.{NoteAlike, AlikeRulesGiveOne}
 
 module _ (X N : Type 0) (rules other : Rules X N) (beyond : List ℕ → Option X) (all : List (Local X)) where
-  steps_alike : (steps : Steps) (opens closes : ℕ) → AreAlike rules other beyond all opens steps → law_out other beyond all opens closes steps ≡ law_out rules beyond all opens closes steps
+  steps_alike : (steps : Steps) (opens closes : ℕ) → NoteAlike rules other beyond all opens steps → law_out other beyond all opens closes steps ≡ law_out rules beyond all opens closes steps
   steps_alike Done opens closes h = refl
   steps_alike (Check p rest) opens closes h =
       ap (λ ns. both (out [] ns []) (law_out other beyond all opens closes rest)) (sym h.0)

@@ -6,7 +6,7 @@ use Rattle.go_tree_nodes.specs.declared.names.Ident.{Ident}
 use Rattle.go_piece_core.specs.operand_core.declared.types.Operand.{Operand}
 use Rattle.go_term_core.specs.Terms.{Term}
 use Rattle.go_env_core.specs.names_core.Body.{each_means}
-use Rattle.go_env_core.specs.names_core.Uses.{place_of}
+use Rattle.go_env_core.specs.names_core.Uses.{ident_place}
 use Rattle.go_env_core.specs.declared.meaning.Meaning.{Meaning}
 use Rattle.go_env_core.specs.declared.meaning.Meaning.TheVariants as meanings
 use Rattle.go_body_core.specs.Rules.{value_at, locals_of}
@@ -15,14 +15,14 @@ shifted : (f : ℕ → Meaning) (xs : List Ident) (n : ℕ) → each_means f (su
 shifted f [] n = refl
 shifted f (x ∷ xs) n = ap (λ l. f (suc n) ∷ l) (shifted f xs (suc n))
 
-pub locals_meant : (xs : List Ident) (vs : List (Option (Operand Term))) → locals_of xs vs ≡ each_means (λ n. meanings.Local (place_of xs n) (value_at vs n)) 0 xs
+pub locals_meant : (xs : List Ident) (vs : List (Option (Operand Term))) → locals_of xs vs ≡ each_means (λ n. meanings.Local (ident_place xs n) (value_at vs n)) 0 xs
 locals_meant [] vs = refl
-locals_meant (x ∷ xs) [] = ap (λ l. meanings.Local x.span.start None ∷ l) (locals_meant xs [] ∙ sym (shifted (λ n. meanings.Local (place_of (x ∷ xs) n) (value_at [] n)) xs 0))
-locals_meant (x ∷ xs) (v ∷ vs) = ap (λ l. meanings.Local x.span.start v ∷ l) (locals_meant xs vs ∙ sym (shifted (λ n. meanings.Local (place_of (x ∷ xs) n) (value_at (v ∷ vs) n)) xs 0))
+locals_meant (x ∷ xs) [] = ap (λ l. meanings.Local x.span.start None ∷ l) (locals_meant xs [] ∙ sym (shifted (λ n. meanings.Local (ident_place (x ∷ xs) n) (value_at [] n)) xs 0))
+locals_meant (x ∷ xs) (v ∷ vs) = ap (λ l. meanings.Local x.span.start v ∷ l) (locals_meant xs vs ∙ sym (shifted (λ n. meanings.Local (ident_place (x ∷ xs) n) (value_at (v ∷ vs) n)) xs 0))
 
 -- by the same names
 pub means_by : {E : Type 0} (r : Result (Vec Meaning Global) E) (idents xs : List Ident) (vs : List (Option (Operand Term))) → idents ≡ xs
-    → IfOk r (λ l. l.items ≡ locals_of idents vs) → IfOk r (λ means. means.items ≡ each_means (λ n. meanings.Local (place_of xs n) (value_at vs n)) 0 xs)
+    → IfOk r (λ l. l.items ≡ locals_of idents vs) → IfOk r (λ means. means.items ≡ each_means (λ n. meanings.Local (ident_place xs n) (value_at vs n)) 0 xs)
 means_by (Err e) idents xs vs same made = tt
 means_by (Ok l) idents xs vs same made = made ∙ (ap (λ is. locals_of is vs) same ∙ locals_meant xs vs)
 

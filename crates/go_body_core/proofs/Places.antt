@@ -7,7 +7,7 @@ use Rattle.go_piece_core.specs.tree_core.declared.occurrence.Role.{Role}
 use Rattle.go_piece_core.specs.tree_core.Occurrences.{func_occs}
 use Rattle.go_piece_core.specs.local_core.Steps.{Piece, Header, Spec, Act, Condition, Given, Steps, Done, Check, Declare, Inner}
 use Rattle.go_piece_core.specs.local_core.Outline.{func_steps, func_opens, func_closes}
-use Rattle.go_piece_core.specs.local_core.Tables.{walked, given}
+use Rattle.go_piece_core.specs.local_core.Tables.{walked, out_by_intervals}
 use Rattle.go_term_core.specs.Terms.{Term, Sign}
 use Rattle.go_env_core.specs.handle_core.Declarations.{Declaration}
 use Rattle.go_piece_core.specs.expr_core.Looks.{Looks, WrittenRules}
@@ -22,7 +22,7 @@ use Rattle.go_env_core.specs.Looks.{looks_in}
 use Rattle.go_body_core.specs.Pieces.{of_pieces}
 use Rattle.go_body_core.specs.WellFormed.{IsOfGrammar}
 use Rattle.go_body_core.specs.Notes.{NoteOf, all_uses}
-use Rattle.go_body_core.specs.Rules.{func_rules, outside_in}
+use Rattle.go_body_core.specs.Rules.{func_body_rules, outside_in}
 use Rattle.go_body_core.specs.Laws.{BodiesHaveOccurrences}
 use Rattle.go_body_core.proofs.WellFormed.{pieces_are_of_grammar}
 use Rattle.go_body_core.proofs.Walks.{NotesOfPieces, walked_notes, given_notes}
@@ -54,7 +54,7 @@ steps_places (Inner o c steps rest) =
     ∙ (ap (λ l. map occurrence_place (steps_occs steps) ++ l) (steps_places rest) ∙ sym (map-append occurrence_place (steps_occs steps) (steps_occs rest)))
 
 module _ (s : SceneModel) (file : ℕ) (known : List (Option TheFace)) (written : WrittenRules Term) (f : FuncTree) where
-  each : NotesOfPieces (func_rules s file known written f) IsOfGrammar noted places
+  each : NotesOfPieces (func_body_rules s file known written f) IsOfGrammar noted places
   each look firsts p h = append-nil (map use_place (piece_uses (looks_in s file known written look) p)) ∙ piece_places p h (looks_in s file known written look)
 
   function_places : of_pieces places (func_steps f) ≡ map occurrence_place (func_occs f)
@@ -63,11 +63,11 @@ module _ (s : SceneModel) (file : ℕ) (known : List (Option TheFace)) (written 
 pub bodies_have_occurrences : BodiesHaveOccurrences
 bodies_have_occurrences = record {
   on_the_way = λ s file known written f h.
-      note_places (walked (func_rules s file known written f) (outside_in s file) f).notes
-      ∙ (walked_notes Meaning NoteOf (ℕ × Role) (func_rules s file known written f) IsOfGrammar noted places (each s file known written f) (outside_in s file) (func_steps f) [] [] (func_opens f) (func_closes f) (pieces_are_of_grammar f h)
+      note_places (walked (func_body_rules s file known written f) (outside_in s file) f).notes
+      ∙ (walked_notes Meaning NoteOf (ℕ × Role) (func_body_rules s file known written f) IsOfGrammar noted places (each s file known written f) (outside_in s file) (func_steps f) [] [] (func_opens f) (func_closes f) (pieces_are_of_grammar f h)
       ∙ function_places s file known written f);
   by_regions = λ s file known written f all h.
-      note_places (given (func_rules s file known written f) (outside_in s file) f all).notes
-      ∙ (given_notes Meaning NoteOf (ℕ × Role) (func_rules s file known written f) IsOfGrammar noted places (each s file known written f) (outside_in s file) all (func_steps f) (func_opens f) (func_closes f) (pieces_are_of_grammar f h)
+      note_places (out_by_intervals (func_body_rules s file known written f) (outside_in s file) f all).notes
+      ∙ (given_notes Meaning NoteOf (ℕ × Role) (func_body_rules s file known written f) IsOfGrammar noted places (each s file known written f) (outside_in s file) all (func_steps f) (func_opens f) (func_closes f) (pieces_are_of_grammar f h)
       ∙ function_places s file known written f);
 }

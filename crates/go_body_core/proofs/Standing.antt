@@ -8,7 +8,7 @@ use Rattle.go_piece_core.specs.operand_core.declared.types.Operand.{Operand}
 use Rattle.go_term_core.specs.Terms.{Term}
 use Rattle.go_piece_core.specs.local_core.Steps.{Piece}
 use Rattle.go_env_core.specs.names_core.declared.look.OpenNames.{OpenNames}
-use Rattle.go_env_core.specs.names_core.Scope.{look_of, look_in_scope}
+use Rattle.go_env_core.specs.names_core.Scope.{open_look, look_in_scope}
 use Rattle.go_env_core.specs.scope_core.Models.{scopes_model}
 use Rattle.go_env_core.specs.inline_core.Types.{InlineOf}
 use Rattle.go_piece_core.specs.expr_core.declared.things.Fault.{Fault}
@@ -24,23 +24,23 @@ use Rattle.go_env_core.specs.Looks.{TheLooks, here_looks, looks_in, inline_rules
 use Rattle.go_body_core.specs.Notes.{TheUse, NoteOf, note}
 use Rattle.go_body_core.specs.declared.pieces.Pieces.{Pieces}
 use Rattle.go_body_core.specs.declared.piece_trees.PieceTree.{PieceTree}
-use Rattle.go_body_core.specs.Rules.{declared_among, locals_of, local_at, piece_locals, top_looks, rules_of}
+use Rattle.go_body_core.specs.Rules.{declared_among, locals_of, local_at, piece_locals, outside_looks, rules_of}
 use Rattle.go_body_core.specs.mirrors.PieceTrees.{piece_of, faults_of, values_of}
 use Rattle.go_body_core.specs.mirrors.Noted.{looks_at, values_at, noted_at}
 use Rattle.go_body_core.proofs.Meaning.{locals_meant}
 
 module _ (h : Here) (scene : Scene) (file : ℕ) (inline : List (ℕ × InlineOf)) (known : List (Option TheFace)) (names : OpenNames Meaning)
     (a : h.scene.now ≡ scene) (b : h.file ≡ file) (c : h.inline.now ≡ inline) (d : h.known.now ≡ known) (e : h.names.now ≡ names) where
-  pub standing_looks : here_looks h ≡ looks_in (scene_shown scene) file known (inline_rules (scene_shown scene) inline) (look_of meanings.Outside names)
+  pub standing_looks : here_looks h ≡ looks_in (scene_shown scene) file known (inline_rules (scene_shown scene) inline) (open_look meanings.Outside names)
   standing_looks =
-      ap (λ s. looks_in (scene_shown s) h.file h.known.now (inline_rules (scene_shown s) h.inline.now) (look_of meanings.Outside h.names.now)) a
-      ∙ (ap (λ f. looks_in (scene_shown scene) f h.known.now (inline_rules (scene_shown scene) h.inline.now) (look_of meanings.Outside h.names.now)) b
-      ∙ (ap (λ i. looks_in (scene_shown scene) file h.known.now (inline_rules (scene_shown scene) i) (look_of meanings.Outside h.names.now)) c
-      ∙ (ap (λ k. looks_in (scene_shown scene) file k (inline_rules (scene_shown scene) inline) (look_of meanings.Outside h.names.now)) d
-      ∙ ap (λ n. looks_in (scene_shown scene) file known (inline_rules (scene_shown scene) inline) (look_of meanings.Outside n)) e)))
+      ap (λ s. looks_in (scene_shown s) h.file h.known.now (inline_rules (scene_shown s) h.inline.now) (open_look meanings.Outside h.names.now)) a
+      ∙ (ap (λ f. looks_in (scene_shown scene) f h.known.now (inline_rules (scene_shown scene) h.inline.now) (open_look meanings.Outside h.names.now)) b
+      ∙ (ap (λ i. looks_in (scene_shown scene) file h.known.now (inline_rules (scene_shown scene) i) (open_look meanings.Outside h.names.now)) c
+      ∙ (ap (λ k. looks_in (scene_shown scene) file k (inline_rules (scene_shown scene) inline) (open_look meanings.Outside h.names.now)) d
+      ∙ ap (λ n. looks_in (scene_shown scene) file known (inline_rules (scene_shown scene) inline) (open_look meanings.Outside n)) e)))
 
   -- where no block of a function is open
-  pub top_standing : names.scopes.now ≡ scopes_model (scene_shown scene).blocks file [] → names.locals.now ≡ [] → here_looks h ≡ top_looks (scene_shown scene) file known (inline_rules (scene_shown scene) inline)
+  pub top_standing : names.scopes.now ≡ scopes_model (scene_shown scene).blocks file [] → names.locals.now ≡ [] → here_looks h ≡ outside_looks (scene_shown scene) file known (inline_rules (scene_shown scene) inline)
   top_standing scopes locals =
       let rules = inline_rules (scene_shown scene) inline in
       standing_looks
@@ -76,7 +76,7 @@ module _ (a : Pieces) (names : OpenNames Meaning) (firsts : List Bool) (p : Piec
 
   pub by_rules : idents ≡ piece_names p
       → new ≡ old ++ note (piece_uses place_looks p) (piece_faults place_looks a.results.now a.has_names firsts p) (declared_among firsts (locals_of idents (piece_values place_looks firsts p))) ∷ []
-      → new ≡ old ++ (rules_of a).notes (look_of meanings.Outside names) firsts p
+      → new ≡ old ++ (rules_of a).notes (open_look meanings.Outside names) firsts p
   by_rules same added =
       let declared : declared_among firsts (locals_of idents (piece_values place_looks firsts p)) ≡ piece_locals firsts p (local_at p (piece_values place_looks firsts p)) =
       ap (λ is. declared_among firsts (locals_of is (piece_values place_looks firsts p))) same ∙ ap (declared_among firsts) (locals_meant (piece_names p) (piece_values place_looks firsts p)) in

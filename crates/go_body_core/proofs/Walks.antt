@@ -3,14 +3,14 @@ use Rattle.std.proofs.Common.{◌≡◌, ℕ, Bool, List, [], ◌++◌, map, Opt
 use Rattle.std.specs.List.{flat_map}
 use Rattle.std.proofs.lemmas.Grind.{flat_map-append}
 use Rattle.go_piece_core.specs.local_core.Steps.{Piece, Steps, Done, Check, Declare, Inner}
-use Rattle.go_piece_core.specs.local_core.Binding.{Local, Look, bound, is_first}
+use Rattle.go_piece_core.specs.local_core.Binding.{Local, NameLook, bound, is_first}
 use Rattle.go_piece_core.specs.local_core.Law.{Rules, law_out}
 use Rattle.go_piece_core.specs.local_core.mirrors.Walk.{Names, look_in, news, with_names, names_of, walk_out}
 use Rattle.go_body_core.specs.Pieces.{of_pieces, AllPieces}
 
 -- whatever names mean, the rules note of a piece what stands there
 abbrev pub NotesOfPieces : {X N A : Type 0} → Rules X N → (Piece → Type 0) → (N → List A) → (Piece → List A) → Type 0
-NotesOfPieces {X} rules P g of_piece = (look : Look X) (firsts : List Bool) (p : Piece) → P p → flat_map g (rules.notes look firsts p) ≡ of_piece p
+NotesOfPieces {X} rules P g of_piece = (look : NameLook X) (firsts : List Bool) (p : Piece) → P p → flat_map g (rules.notes look firsts p) ≡ of_piece p
 
 module _ (X N A : Type 0) (rules : Rules X N) (P : Piece → Type 0) (g : N → List A) (of_piece : Piece → List A) (each : NotesOfPieces rules P g of_piece) (beyond : List ℕ → Option X) where
   joined : (ns ms : List N) (ys zs : List A) → flat_map g ns ≡ ys → flat_map g ms ≡ zs → flat_map g (ns ++ ms) ≡ ys ++ zs

@@ -5,22 +5,22 @@ use Rattle.go_piece_core.specs.local_core.Steps.{Steps, Done, Check, Declare, In
 use Rattle.go_piece_core.specs.local_core.Outline.{func_steps, func_opens}
 use Rattle.go_piece_core.specs.local_core.Binding.{Local, bound, is_first}
 use Rattle.go_piece_core.specs.local_core.Law.{Rules}
-use Rattle.go_piece_core.specs.local_core.Tables.{given, IsTable}
+use Rattle.go_piece_core.specs.local_core.Tables.{out_by_intervals, IsTable}
 
 -- where names are bound by these declarations, both rules note the same of each piece of the steps of a block, and the names that it declares
 -- mean the same
-abbrev pub AreAlike : {X N : Type 0} → Rules X N → Rules X N → (List ℕ → Option X) → List (Local X) → ℕ → Steps → Type 0
-AreAlike rules other beyond all opens Done = Unit {0}
-AreAlike rules other beyond all opens (Check p rest) = (rules.notes (bound beyond all) [] p ≡ other.notes (bound beyond all) [] p) × AreAlike rules other beyond all opens rest
-AreAlike rules other beyond all opens (Declare m from p xs rest) =
+abbrev pub NoteAlike : {X N : Type 0} → Rules X N → Rules X N → (List ℕ → Option X) → List (Local X) → ℕ → Steps → Type 0
+NoteAlike rules other beyond all opens Done = Unit {0}
+NoteAlike rules other beyond all opens (Check p rest) = (rules.notes (bound beyond all) [] p ≡ other.notes (bound beyond all) [] p) × NoteAlike rules other beyond all opens rest
+NoteAlike rules other beyond all opens (Declare m from p xs rest) =
     (rules.notes (bound beyond all) (map (is_first all opens) xs) p ≡ other.notes (bound beyond all) (map (is_first all opens) xs) p)
     × (rules.means (bound beyond all) (map (is_first all opens) xs) p ≡ other.means (bound beyond all) (map (is_first all opens) xs) p)
-    × AreAlike rules other beyond all opens rest
-AreAlike rules other beyond all opens (Inner o c steps rest) = AreAlike rules other beyond all o steps × AreAlike rules other beyond all opens rest
+    × NoteAlike rules other beyond all opens rest
+NoteAlike rules other beyond all opens (Inner o c steps rest) = NoteAlike rules other beyond all o steps × NoteAlike rules other beyond all opens rest
 
 -- then a list of declarations that is right by the one is right by the other, and both give the same of the function
 abbrev pub AlikeRulesGiveOne : (X N : Type 0) → Type 0
 AlikeRulesGiveOne X N =
     (rules other : Rules X N) (beyond : List ℕ → Option X) (f : FuncTree) (all : List (Local X))
-    → IsTable rules beyond f all → AreAlike rules other beyond all (func_opens f) (func_steps f)
-    → IsTable other beyond f all × (given other beyond f all ≡ given rules beyond f all)
+    → IsTable rules beyond f all → NoteAlike rules other beyond all (func_opens f) (func_steps f)
+    → IsTable other beyond f all × (out_by_intervals other beyond f all ≡ out_by_intervals rules beyond f all)

@@ -7,7 +7,7 @@ use Rattle.go_term_core.specs.Terms.{Term}
 use Rattle.go_piece_core.specs.local_core.declared.Fault.{Fault as LocalFault}
 use Rattle.go_piece_core.specs.local_core.Binding.{Local}
 use Rattle.go_piece_core.specs.local_core.Law.{Out}
-use Rattle.go_piece_core.specs.local_core.Tables.{walked, given, IsTable}
+use Rattle.go_piece_core.specs.local_core.Tables.{walked, out_by_intervals, IsTable}
 use Rattle.go_piece_core.specs.walk_core.Ends.{lines_loop_faults}
 use Rattle.go_piece_core.specs.expr_core.declared.things.Fault.{Fault}
 use Rattle.go_piece_core.specs.expr_core.Looks.{WrittenRules}
@@ -15,8 +15,8 @@ use Rattle.go_env_core.specs.face_core.Faces.{TheFace}
 use Rattle.go_env_core.specs.declared.meaning.Meaning.{Meaning}
 use Rattle.go_env_core.specs.Scenes.{SceneModel}
 use Rattle.go_env_core.specs.Looks.{fault_of}
-use Rattle.go_body_core.specs.Notes.{TheUse, TheLocal, NoteOf, all_uses, all_faults, all_locals}
-use Rattle.go_body_core.specs.Rules.{func_rules, outside_in}
+use Rattle.go_body_core.specs.Notes.{TheUse, TheLocal, NoteOf, all_uses, noted_faults, all_locals}
+use Rattle.go_body_core.specs.Rules.{func_body_rules, outside_in}
 use Rattle.go_body_core.specs.Ends.{end_faults}
 
 -- what its occurrences have, in order of their places, its faults, and the locals that it declares
@@ -30,26 +30,26 @@ pub record BodyOf : Type 0 where
 abbrev pub body_of : FuncTree → Out Meaning NoteOf → BodyOf
 body_of f o = record {
   uses = all_uses o.notes;
-  faults = all_faults o.notes ++ (map fault_of (o.faults ++ lines_loop_faults false f.body) ++ end_faults (all_uses o.notes) f);
+  faults = noted_faults o.notes ++ (map fault_of (o.faults ++ lines_loop_faults false f.body) ++ end_faults (all_uses o.notes) f);
   locals = all_locals o.notes;
 }
 
 -- these are what its occurrences have, its faults and its locals, by the notes of its pieces and the faults of the names that they declare
 abbrev pub IsBody : FuncTree → List NoteOf → List LocalFault → List TheUse → List Fault → List TheLocal → Type 0
 IsBody f notes names us fs ls =
-    (us ≡ all_uses notes) × (fs ≡ all_faults notes ++ (map fault_of (names ++ lines_loop_faults false f.body) ++ end_faults (all_uses notes) f)) × (ls ≡ all_locals notes)
+    (us ≡ all_uses notes) × (fs ≡ noted_faults notes ++ (map fault_of (names ++ lines_loop_faults false f.body) ++ end_faults (all_uses notes) f)) × (ls ≡ all_locals notes)
 
 -- on the way through the function, with the names that are open
 abbrev pub walked_body : SceneModel → ℕ → List (Option TheFace) → WrittenRules Term → FuncTree → BodyOf
-walked_body s file known written f = body_of f (walked (func_rules s file known written f) (outside_in s file) f)
+walked_body s file known written f = body_of f (walked (func_body_rules s file known written f) (outside_in s file) f)
 
 -- by the regions of its declarations, where these are all of them
 abbrev pub given_body : SceneModel → ℕ → List (Option TheFace) → WrittenRules Term → FuncTree → List (Local Meaning) → BodyOf
-given_body s file known written f all = body_of f (given (func_rules s file known written f) (outside_in s file) f all)
+given_body s file known written f all = body_of f (out_by_intervals (func_body_rules s file known written f) (outside_in s file) f all)
 
 -- a list of the declarations of a function is right where each means what its piece gives under the names as this very list binds them
 abbrev pub AreDeclarations : SceneModel → ℕ → List (Option TheFace) → WrittenRules Term → FuncTree → List (Local Meaning) → Type 0
-AreDeclarations s file known written f all = IsTable (func_rules s file known written f) (outside_in s file) f all
+AreDeclarations s file known written f all = IsTable (func_body_rules s file known written f) (outside_in s file) f all
 
 -- what is noted of a function, on the way through it, and by the regions of its declarations, whichever list of them is right
 abbrev pub IsWalkedBody : SceneModel → ℕ → List (Option TheFace) → WrittenRules Term → FuncTree → List TheUse → List Fault → List TheLocal → Type 0

@@ -34,14 +34,14 @@ abbrev pub is_panic_name : Predeclared → Bool
 is_panic_name predeclared.Panic = true
 is_panic_name _ = false
 
-abbrev pub is_panic : Declaration → Bool
-is_panic (Universe p) = is_panic_name p
-is_panic OfError = false
-is_panic (Package path) = false
-is_panic (InFile path place) = false
+abbrev pub is_panic_declaration : Declaration → Bool
+is_panic_declaration (Universe p) = is_panic_name p
+is_panic_declaration OfError = false
+is_panic_declaration (Package path) = false
+is_panic_declaration (InFile path place) = false
 
 abbrev pub has_panic : Outcome Declaration (List ℕ) → Bool
-has_panic (outcomes.Declared d) = is_panic d
+has_panic (outcomes.Declared d) = is_panic_declaration d
 has_panic (outcomes.Selected d path) = false
 has_panic (outcomes.Refused rule) = false
 

@@ -17,6 +17,7 @@ pub mod expr_core
 pub mod face_core
 pub mod handle_core
 pub mod inline_core
+pub mod level_core
 pub mod local_core
 pub mod names_core
 pub mod open_core
@@ -26,4 +27,5 @@ pub mod select_core
 pub mod settle_core
 pub mod table_core
 pub mod tree_core
+pub mod walk_core
 pub mod written_core

@@ -33,8 +33,8 @@ note us fs ls = record { uses = us; faults = fs; locals = ls }
 abbrev pub all_uses : List NoteOf → List TheUse
 all_uses ns = flat_map (λ n. n.uses) ns
 
-abbrev pub all_faults : List NoteOf → List Fault
-all_faults ns = flat_map (λ n. n.faults) ns
+abbrev pub noted_faults : List NoteOf → List Fault
+noted_faults ns = flat_map (λ n. n.faults) ns
 
 abbrev pub all_locals : List NoteOf → List TheLocal
 all_locals ns = flat_map (λ n. n.locals) ns

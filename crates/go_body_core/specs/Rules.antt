@@ -7,11 +7,11 @@ use Rattle.go_piece_core.specs.operand_core.declared.types.Operand.{Operand}
 use Rattle.go_term_core.specs.Terms.{Term}
 use Rattle.go_tree_nodes.specs.declared.names.Ident.{Ident}
 use Rattle.go_piece_core.specs.local_core.Steps.{Piece}
-use Rattle.go_piece_core.specs.local_core.Binding.{Look}
+use Rattle.go_piece_core.specs.local_core.Binding.{NameLook}
 use Rattle.go_piece_core.specs.local_core.Law.{Rules}
 use Rattle.go_env_core.specs.names_core.Scope.{beyond_in}
 use Rattle.go_env_core.specs.names_core.Body.{each_means}
-use Rattle.go_env_core.specs.names_core.Uses.{place_of}
+use Rattle.go_env_core.specs.names_core.Uses.{ident_place}
 use Rattle.go_piece_core.specs.expr_core.Looks.{WrittenRules}
 use Rattle.go_piece_core.specs.Pieces.{piece_uses, piece_faults, piece_values, piece_names}
 use Rattle.go_piece_core.specs.Headers.{returned_types, returned_names}
@@ -53,7 +53,7 @@ declared_among (first ∷ firsts) (m ∷ ms) = local_if first m ++ declared_amon
 
 -- what the n-th name means that a piece declares, where its names stand for these values: a local, by the offset of its identifier
 abbrev pub local_at : Piece → List (Option (Operand Term)) → ℕ → Meaning
-local_at p vs n = meanings.Local (place_of (piece_names p) n) (value_at vs n)
+local_at p vs n = meanings.Local (ident_place (piece_names p) n) (value_at vs n)
 
 -- the locals that a piece declares, by which of its names are the first of their block, and what the n-th means
 abbrev pub piece_locals : List Bool → Piece → (ℕ → Meaning) → List TheLocal
@@ -61,7 +61,7 @@ piece_locals firsts p means = declared_among firsts (each_means means 0 (piece_n
 
 -- by look-ups that are made of what names mean, the types of the function's results, and whether these have names: of a piece its uses, its faults
 -- and the locals that it declares are noted, and a name that it declares is a local, by the offset of its identifier, which stands for its value
-abbrev pub rules_by : (Look Meaning → TheLooks) → List (Option Term) → Bool → Rules Meaning NoteOf
+abbrev pub rules_by : (NameLook Meaning → TheLooks) → List (Option Term) → Bool → Rules Meaning NoteOf
 rules_by looks results has_names = record {
   notes = λ look firsts p. note (piece_uses (looks look) p) (piece_faults (looks look) results has_names firsts p) (piece_locals firsts p (local_at p (piece_values (looks look) firsts p))) ∷ [];
   means = λ look firsts p. local_at p (piece_values (looks look) firsts p);
@@ -76,12 +76,12 @@ body_rules s file known written = rules_by (λ look. looks_in s file known writt
 abbrev pub outside_in : SceneModel → ℕ → List ℕ → Option Meaning
 outside_in s file = beyond_in meanings.Outside s.blocks file
 
-abbrev pub top_looks : SceneModel → ℕ → List (Option TheFace) → WrittenRules Term → TheLooks
-top_looks s file known written = looks_in s file known written (λ name place. outside_in s file name)
+abbrev pub outside_looks : SceneModel → ℕ → List (Option TheFace) → WrittenRules Term → TheLooks
+outside_looks s file known written = looks_in s file known written (λ name place. outside_in s file name)
 
 -- the rules of a function: its results are those of its header, whose types are written outside it
-abbrev pub func_rules : SceneModel → ℕ → List (Option TheFace) → WrittenRules Term → FuncTree → Rules Meaning NoteOf
-func_rules s file known written f = body_rules s file known written (returned_types (top_looks s file known written) f.signature) (returned_names f.signature)
+abbrev pub func_body_rules : SceneModel → ℕ → List (Option TheFace) → WrittenRules Term → FuncTree → Rules Meaning NoteOf
+func_body_rules s file known written f = body_rules s file known written (returned_types (outside_looks s file known written) f.signature) (returned_names f.signature)
 
 -- those of the checker of pieces
 abbrev pub rules_of : Pieces → Rules Meaning NoteOf

@@ -8,3 +8,4 @@ pub use Rattle.go_piece_core.specs.local_core.Placed as Placed
 pub use Rattle.go_piece_core.specs.local_core.Steps as Steps
 pub use Rattle.go_piece_core.specs.local_core.TablesProofs as TablesProofs
 pub use Rattle.go_piece_core.specs.local_core.Tables as Tables
+pub use Rattle.go_piece_core.specs.local_core.declared as declared

@@ -6,7 +6,7 @@ ghost use Rattle.go_piece_core.specs.local_core.Tables.{IsFuncPlaced};
 ghost use Rattle.go_env_core.specs.Scenes.{scene_shown};
 ghost use Rattle.go_env_core.specs.Looks.{inline_rules};
 ghost use Rattle.go_piece_core.specs.Headers.{returned_types};
-ghost use Rattle.go_body_core.specs.Rules.{top_looks};
+ghost use Rattle.go_body_core.specs.Rules.{outside_looks};
 ghost use Rattle.go_body_core.specs.Body.{IsBody, IsWalkedBody, IsGivenBody};
 
 use crate::ends::add_end;
@@ -56,7 +56,7 @@ fn results<'n, 'p>(
     known: &'n [Option<Face<TypeRef<'p>, SignatureRef<'p>>>],
     func: &FuncDecl,
 ) -> Result<Vec<Option<TypeRef<'p>>>, AllocError>
-    ensures { IfOk result (λ ts. ts.items ≡ returned_types (top_looks (scene_shown scene.now) file known.now (inline_rules (scene_shown scene.now) inline.now)) (shape_signature func.now.signature)) }
+    ensures { IfOk result (λ ts. ts.items ≡ returned_types (outside_looks (scene_shown scene.now) file known.now (inline_rules (scene_shown scene.now) inline.now)) (shape_signature func.now.signature)) }
 {
     let pieces = Pieces {
         alloc,

@@ -1,7 +1,7 @@
 //! What is noted of the pieces of a function.
 ghost use Rattle.std.specs.Prelude.{◌≡◌, [], ◌∷◌, ◌++◌, IfOk, OnOk, map};
 ghost use Rattle.go_env_core.specs.Looks.{fault_of};
-ghost use Rattle.go_body_core.specs.Notes.{note, all_uses, all_faults, all_locals};
+ghost use Rattle.go_body_core.specs.Notes.{note, all_uses, noted_faults, all_locals};
 ghost use Rattle.go_body_core.specs.Rules.{declared_among, locals_of};
 
 use crate::body::CheckedBody;
@@ -99,7 +99,7 @@ fn join<'p>(all: &mut CheckedBody<'p>, next: Note<'p>) -> Result<(), AllocError>
 /// What was noted of pieces, in order.
 pub(crate) fn joined<'p>(alloc: Global, notes: Vec<Note<'p>>) -> Result<CheckedBody<'p>, AllocError>
     ensures uses { IfOk result (λ all. all.uses.items ≡ all_uses notes.entry.items) }
-    ensures faults { IfOk result (λ all. all.faults.items ≡ all_faults notes.entry.items) }
+    ensures faults { IfOk result (λ all. all.faults.items ≡ noted_faults notes.entry.items) }
     ensures locals { IfOk result (λ all. all.locals.items ≡ all_locals notes.entry.items) }
 {
     let mut all = CheckedBody {

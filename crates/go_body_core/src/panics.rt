@@ -2,7 +2,7 @@
 ghost use Rattle.std.specs.Prelude.{◌≡◌, ℕ, ◌||◌, ◌&&◌, nat_eq, IfOk, OnOk};
 ghost use Rattle.indexmap.specs.IndexSet.{contains};
 ghost use Rattle.go_tree_nodes.specs.Shapes.{shape};
-ghost use Rattle.go_body_core.specs.Ends.{is_panic, has_panic, panics_at, names_one, calls_one};
+ghost use Rattle.go_body_core.specs.Ends.{is_panic_declaration, has_panic, panics_at, names_one, calls_one};
 
 use crate::notes::BodyUse;
 use go_env_core::handle_core::{Decl, DeclSite};
@@ -16,7 +16,7 @@ use std::alloc::{AllocError, Global};
 
 // Whether a declaration is the predeclared `panic`.
 fn is_panic(decl: &Decl<'_>) -> bool
-    ensures { result ≡ is_panic decl.now }
+    ensures { result ≡ is_panic_declaration decl.now }
 {
     match decl.site() {
         DeclSite::Universe(Predeclared::Panic) => true,

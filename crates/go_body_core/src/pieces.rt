@@ -5,7 +5,7 @@ ghost use Rattle.go_env_core.specs.scope_core.Models.{scopes_model};
 ghost use Rattle.go_env_core.specs.Scenes.{scene_shown};
 ghost use Rattle.go_env_core.specs.Looks.{inline_rules};
 ghost use Rattle.go_piece_core.specs.Headers.{returned_types};
-ghost use Rattle.go_body_core.specs.Rules.{locals_of, top_looks};
+ghost use Rattle.go_body_core.specs.Rules.{locals_of, outside_looks};
 ghost use Rattle.go_body_core.specs.mirrors.Noted.{noted_at, values_at};
 
 use crate::notes::{Note, declare, nothing};
@@ -45,7 +45,7 @@ impl<'c, 'p> Pieces<'c, 'p> {
     ) -> Result<Vec<Option<TypeRef<'p>>>, AllocError>
         requires scopes { names.now.scopes.now ≡ scopes_model (scene_shown self.now.scene.now).blocks self.now.file [] }
         requires locals { names.now.locals.now ≡ [] }
-        ensures { IfOk result (λ ts. ts.items ≡ returned_types (top_looks (scene_shown self.now.scene.now) self.now.file self.now.known.now (inline_rules (scene_shown self.now.scene.now) self.now.inline.now)) (shape_signature func.now.signature)) }
+        ensures { IfOk result (λ ts. ts.items ≡ returned_types (outside_looks (scene_shown self.now.scene.now) self.now.file self.now.known.now (inline_rules (scene_shown self.now.scene.now) self.now.inline.now)) (shape_signature func.now.signature)) }
     {
         let here = stand(self.scene, self.file, self.inline, self.known, names);
         function_results(&here, self.alloc, &func.signature)

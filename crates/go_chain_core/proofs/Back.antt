@@ -3,8 +3,8 @@ use Rattle.std.proofs.Common.{◌≡◌, ℕ, zero, suc, ◌<◌, ◌⊎◌, inl
 use Rattle.std.specs.List.{count_by, slice_get}
 use Rattle.std.proofs.lemmas.Option.{slice_get-get_or}
 use Rattle.std.proofs.Math.ListN.{length-set}
-use Rattle.go_chain_core.specs.Chains.{AllInside, Leads}
-use Rattle.go_chain_core.specs.Laws.{LeadsBack, EndlessLeadsBack}
+use Rattle.go_chain_core.specs.Chains.{AllInside, ChainLeads}
+use Rattle.go_chain_core.specs.Laws.{ChainLeadsBack, EndlessLeadsBack}
 use Rattle.go_chain_core.specs.mirrors.Known.{IsEndless}
 use Rattle.go_chain_core.proofs.Chained.{leads_on}
 use Rattle.go_chain_core.proofs.Lists.{fewer_left, marked_before, none_marked, unmarked_len}
@@ -19,7 +19,7 @@ option_cases (Some x) = inr (x, refl)
 
 -- a number that was passed leads on to another
 abbrev Passed : List (Option ℕ) → ℕ → ℕ → Type 0
-Passed next at j = (follower : ℕ) × (path : List ℕ) × Leads next j (follower ∷ path) at
+Passed next at j = (follower : ℕ) × (path : List ℕ) × ChainLeads next j (follower ∷ path) at
 
 passed_still : (next : List (Option ℕ)) (at follower j : ℕ) → slice_get next at ≡ Some (Some follower) → Passed next at j → Passed next follower j
 passed_still next at follower j f p = (p.0, p.1 ++ follower ∷ [], leads_on next j at follower (p.0 ∷ p.1) p.2 f)
@@ -28,7 +28,7 @@ passed_now : (next : List (Option ℕ)) (at follower j : ℕ) → slice_get next
 passed_now next at follower j f e = (let P : ℕ → Type 0 = λ x. slice_get next x ≡ Some (Some follower) in (follower, [], (subst P (sym e) f, refl)))
 
 back : (n : ℕ) (next : List (Option ℕ)) (marks : List Bool) (i at : ℕ) → AllInside next → IsEndless next i → length marks ≡ length next → count_by (λ m. not m) marks < n → at < length next
-    → (path : List ℕ) → Leads next i path at → ((j : ℕ) → get_or marks j false ≡ true → Passed next at j) → LeadsBack next i
+    → (path : List ℕ) → ChainLeads next i path at → ((j : ℕ) → get_or marks j false ≡ true → Passed next at j) → ChainLeadsBack next i
 back zero next marks i at inside z len few lt path leads passed = absurd (omega arith)
 back (suc n) next marks i at inside z len few lt path leads passed =
     elim (bool_cases (get_or marks at false)) [

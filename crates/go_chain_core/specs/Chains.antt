@@ -6,13 +6,13 @@ abbrev pub AllInside : List (Option ℕ) → Type 0
 AllInside next = (i j : ℕ) → slice_get next i ≡ Some (Some j) → j < length next
 
 -- the numbers on the path are those that the chain passes behind i, up to j
-abbrev pub Leads : List (Option ℕ) → ℕ → List ℕ → ℕ → Type 0
-Leads next i [] j = i ≡ j
-Leads next i (k ∷ path) j = (slice_get next i ≡ Some (Some k)) × Leads next k path j
+abbrev pub ChainLeads : List (Option ℕ) → ℕ → List ℕ → ℕ → Type 0
+ChainLeads next i [] j = i ≡ j
+ChainLeads next i (k ∷ path) j = (slice_get next i ≡ Some (Some k)) × ChainLeads next k path j
 
 -- the chain from i ends at j: it leads to j, and j leads nowhere
 abbrev pub EndsAt : List (Option ℕ) → ℕ → ℕ → Type 0
-EndsAt next i j = (path : List ℕ) × Leads next i path j × (slice_get next j ≡ Some None)
+EndsAt next i j = (path : List ℕ) × ChainLeads next i path j × (slice_get next j ≡ Some None)
 
 -- the end of each number's chain, and none where it has none
 pub record AreEnds (next : List (Option ℕ)) (ends : List (Option ℕ)) : Type 0 where

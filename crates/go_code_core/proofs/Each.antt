@@ -21,14 +21,14 @@ use Rattle.go_fragment_core.specs.declared.names.Meaning.{Meaning}
 use Rattle.go_fragment_core.specs.declared.names.Meaning.TheVariants as meanings
 use Rattle.go_fragment_core.specs.declared.targets.Target.{Target}
 use Rattle.go_fragment_core.specs.declared.targets.Target.TheVariants as targets
-use Rattle.go_code_core.specs.Code.{Exits, before, binary_code, body_code, branch_code, call_end, code_of, constant_or, declared, dropped, expr_code, frame_in, head_init, head_post, head_test, in_loop, init_code, initial_code, items_code, jump, lines_code, load, loop_code, name_code, no_exits, one_code, receiver_code, returned, simple_code, some_simple_code, stmt_code, store, stored, test_code, updated, value_lines_code, value_spec_code, value_specs_code}
+use Rattle.go_code_core.specs.Code.{Exits, before, binary_code, body_code, branch_code, call_end, code_of, constant_or, declared_code, dropped, expr_code, frame_in, head_init, head_post, head_test, in_loop, init_code, initial_code, items_code, jump, lines_code, load, loop_code, name_code, no_exits, one_code, receiver_code, returned_code, simple_code, some_simple_code, stmt_code, store, stored, test_code, updated, value_lines_code, value_spec_code, value_specs_code}
 use Rattle.go_fragment_core.specs.Constants.{folded}
-use Rattle.go_fragment_core.specs.Fragment.{expr_gives, is_method}
+use Rattle.go_fragment_core.specs.Fragment.{expr_gives, means_method}
 use Rattle.go_fragment_core.specs.Inside.{in_fragment}
 use Rattle.go_code_core.specs.Laws.{CodeIsWhole, IsOfFunction, OutsideIsAlone}
 use Rattle.go_fragment_core.specs.Slots.{slots_of}
-use Rattle.go_fragment_core.specs.Names.{Frame, slot_from, slot_of, called, slot_target, meant_target, target_of, declared_target}
-use Rattle.go_fragment_core.specs.Operators.{listed, step_operator, unary_instruction, update_operator}
+use Rattle.go_fragment_core.specs.Names.{Frame, slot_from, slot_of, callee_meaning, slot_target, meant_target, slot_assigned, declared_slot}
+use Rattle.go_fragment_core.specs.Operators.{some_instruction, step_operator, unary_instruction, update_operator}
 
 abbrev pub Each : (Instruction → Type 0) → List Instruction → Type 0
 Each P [] = Unit {0}
@@ -92,7 +92,7 @@ within_meant slots meanings.Println = tt
 within_meant slots meanings.Panic = tt
 within_meant slots meanings.Other = tt
 
-within_target : (f : Frame) (e : ExprTree) → IsWithin (length f.slots) (target_of f e)
+within_target : (f : Frame) (e : ExprTree) → IsWithin (length f.slots) (slot_assigned f e)
 within_target f (Named x) = within_one (length f.slots) (is_blank x.name) _ (within_meant f.slots (f.looks.meaning x.span.start))
 within_target f (Paren first e last) = within_target f e
 within_target f (Integer n s) = tt
@@ -104,7 +104,7 @@ within_target f (Call e first items last) = tt
 within_target f (Literal n first items last) = tt
 within_target f (StructLiteral t first items last) = tt
 
-within_declared : (f : Frame) (x : Ident) → IsWithin (length f.slots) (declared_target f x)
+within_declared : (f : Frame) (x : Ident) → IsWithin (length f.slots) (declared_slot f x)
 within_declared f x = within_one (length f.slots) (is_blank x.name) _ (within_slot (length f.slots) (slot_of f.slots x.span.start) (below f.slots x.span.start))
 
 store_fine : (f : Frame) (t : Target) → IsWithin (length f.slots) t → Fine f (store t)
@@ -114,7 +114,7 @@ store_fine f targets.Other h = tt
 
 -- operators
 
-unary_fine : (f : Frame) (op : Operator) → Fine f (listed (unary_instruction op))
+unary_fine : (f : Frame) (op : Operator) → Fine f (some_instruction (unary_instruction op))
 unary_fine f operators.ShiftLeftAssign = tt
 unary_fine f operators.ShiftRightAssign = tt
 unary_fine f operators.AndNotAssign = tt
@@ -164,7 +164,7 @@ unary_fine f operators.CloseBrace = tt
 unary_fine f operators.Semicolon = tt
 unary_fine f operators.Colon = tt
 
-step_fine : (f : Frame) (op : Operator) → Fine f (listed (step_operator op))
+step_fine : (f : Frame) (op : Operator) → Fine f (some_instruction (step_operator op))
 step_fine f operators.ShiftLeftAssign = tt
 step_fine f operators.ShiftRightAssign = tt
 step_fine f operators.AndNotAssign = tt
@@ -214,7 +214,7 @@ step_fine f operators.CloseBrace = tt
 step_fine f operators.Semicolon = tt
 step_fine f operators.Colon = tt
 
-update_fine : (f : Frame) (op : Operator) → Fine f (listed (update_operator op))
+update_fine : (f : Frame) (op : Operator) → Fine f (some_instruction (update_operator op))
 update_fine f operators.ShiftLeftAssign = tt
 update_fine f operators.ShiftRightAssign = tt
 update_fine f operators.AndNotAssign = tt
@@ -360,12 +360,12 @@ mutual
   expr_fine f (Binary a op s b) = constant_fine f (folded f.looks (Binary a op s b)) _ (binary_fine f op (expr_code f a) (expr_code f b) (expr_fine f a) (expr_fine f b))
   expr_fine f (Select e dot x) = name_fine f (f.looks.meaning x.span.start)
   expr_fine f (Call e first items last) =
-      constant_fine f (folded f.looks (Call e first items last)) _ (both f (receiver_code f e) _ (receiver_fine f e) (both f (items_code f items) _ (items_fine f items) (end_fine f (called f.looks e) first.start items)))
+      constant_fine f (folded f.looks (Call e first items last)) _ (both f (receiver_code f e) _ (receiver_fine f e) (both f (items_code f items) _ (items_fine f items) (end_fine f (callee_meaning f.looks e) first.start items)))
   expr_fine f (Literal n first items last) = tt
   expr_fine f (StructLiteral t first items last) = tt
 
   receiver_fine : (f : Frame) (e : ExprTree) → Fine f (receiver_code f e)
-  receiver_fine f (Select e dot x) = one_of f (is_method (f.looks.meaning x.span.start)) (expr_code f e) [] (expr_fine f e) tt
+  receiver_fine f (Select e dot x) = one_of f (means_method (f.looks.meaning x.span.start)) (expr_code f e) [] (expr_fine f e) tt
   receiver_fine f (Paren first e last) = receiver_fine f e
   receiver_fine f (Integer n s) = tt
   receiver_fine f (Text t) = tt
@@ -382,8 +382,8 @@ mutual
 
 -- simple statements
 
-updated_fine : (f : Frame) (t : Target) (value : List Instruction) (op : Option Instruction) → IsWithin (length f.slots) t → Fine f value → Fine f (listed op) → Fine f (updated t value op)
-updated_fine f (targets.Slot s) value op h k l = (h, both f value _ k (both f (listed op) _ l (h, tt)))
+updated_fine : (f : Frame) (t : Target) (value : List Instruction) (op : Option Instruction) → IsWithin (length f.slots) t → Fine f value → Fine f (some_instruction op) → Fine f (updated t value op)
+updated_fine f (targets.Slot s) value op h k l = (h, both f value _ k (both f (some_instruction op) _ l (h, tt)))
 updated_fine f targets.Blank value op h k l = tt
 updated_fine f targets.Other value op h k l = tt
 
@@ -392,11 +392,11 @@ one_fine f (One e) = expr_fine f e
 one_fine f (Then e comma more) = tt
 
 stored_fine : (f : Frame) (es : Separated ExprTree) → Fine f (stored f es)
-stored_fine f (One e) = store_fine f (target_of f e) (within_target f e)
+stored_fine f (One e) = store_fine f (slot_assigned f e) (within_target f e)
 stored_fine f (Then e comma more) = tt
 
-declared_fine : (f : Frame) (xs : Separated Ident) → Fine f (declared f xs)
-declared_fine f (One x) = store_fine f (declared_target f x) (within_declared f x)
+declared_fine : (f : Frame) (xs : Separated Ident) → Fine f (declared_code f xs)
+declared_fine f (One x) = store_fine f (declared_slot f x) (within_declared f x)
 declared_fine f (Then x comma more) = tt
 
 dropped_fine : (f : Frame) (g : Gives) → Fine f (dropped g)
@@ -406,9 +406,9 @@ dropped_fine f gives.Other = tt
 
 simple_fine : (f : Frame) (s : SimpleTree) → Fine f (simple_code f s)
 simple_fine f (Alone e) = both f (expr_code f e) _ (expr_fine f e) (dropped_fine f (expr_gives f e))
-simple_fine f (Step e op s) = updated_fine f (target_of f e) _ (step_operator op) (within_target f e) (tt, tt) (step_fine f op)
+simple_fine f (Step e op s) = updated_fine f (slot_assigned f e) _ (step_operator op) (within_target f e) (tt, tt) (step_fine f op)
 simple_fine f (Assign ts s es) = both f (one_code f es) _ (one_fine f es) (stored_fine f ts)
-simple_fine f (Update t op s e) = updated_fine f (target_of f t) (expr_code f e) (update_operator op) (within_target f t) (expr_fine f e) (update_fine f op)
+simple_fine f (Update t op s e) = updated_fine f (slot_assigned f t) (expr_code f e) (update_operator op) (within_target f t) (expr_fine f e) (update_fine f op)
 simple_fine f (Define xs s es) = both f (one_code f es) _ (one_fine f es) (declared_fine f xs)
 
 some_simple_fine : (f : Frame) (s : Option SimpleTree) → Fine f (some_simple_code f s)
@@ -447,7 +447,7 @@ loop_fine f t b p h k =
     let code : List Instruction = test_code f t n ++ (b ++ p) in
     both f code (instructions.Jump (distances.Back (suc (length code))) ∷ []) (both f (test_code f t n) (b ++ p) (test_fine f t n) (both f b p h k)) (tt, tt)
 
-returned_fine : (f : Frame) (es : Option (Separated ExprTree)) → Fine f (returned f es)
+returned_fine : (f : Frame) (es : Option (Separated ExprTree)) → Fine f (returned_code f es)
 returned_fine f None = (tt, tt)
 returned_fine f (Some es) = both f (one_code f es) _ (one_fine f es) (tt, tt)
 

@@ -18,13 +18,13 @@ use Rattle.go_fragment_core.specs.declared.names.Meaning.{Meaning}
 use Rattle.go_fragment_core.specs.declared.names.Meaning.TheVariants as meanings
 use Rattle.go_fragment_core.specs.declared.targets.Target.{Target}
 use Rattle.go_fragment_core.specs.declared.targets.Target.TheVariants as targets
-use Rattle.go_code_core.specs.Code.{Exits, before, binary_code, body_code, branch_code, call_end, constant_or, declared, dropped, expr_code, frame_in, head_init, head_post, head_test, in_loop, init_code, initial_code, items_code, jump, lines_code, load, loop_code, name_code, no_exits, one_code, receiver_code, returned, simple_code, some_simple_code, stmt_code, store, stored, test_code, updated, value_lines_code, value_spec_code, value_specs_code}
+use Rattle.go_code_core.specs.Code.{Exits, before, binary_code, body_code, branch_code, call_end, constant_or, declared_code, dropped, expr_code, frame_in, head_init, head_post, head_test, in_loop, init_code, initial_code, items_code, jump, lines_code, load, loop_code, name_code, no_exits, one_code, receiver_code, returned_code, simple_code, some_simple_code, stmt_code, store, stored, test_code, updated, value_lines_code, value_spec_code, value_specs_code}
 use Rattle.go_fragment_core.specs.Constants.{folded}
-use Rattle.go_fragment_core.specs.Fragment.{expr_gives, is_method}
+use Rattle.go_fragment_core.specs.Fragment.{expr_gives, means_method}
 use Rattle.go_fragment_core.specs.Inside.{in_fragment}
 use Rattle.go_code_core.specs.Laws.{JumpsStayInside, LeadsInside}
-use Rattle.go_fragment_core.specs.Names.{Frame, slot_of, called, target_of, declared_target}
-use Rattle.go_fragment_core.specs.Operators.{listed, step_operator, unary_instruction, update_operator}
+use Rattle.go_fragment_core.specs.Names.{Frame, slot_of, callee_meaning, slot_assigned, declared_slot}
+use Rattle.go_fragment_core.specs.Operators.{some_instruction, step_operator, unary_instruction, update_operator}
 
 -- with so many instructions in front and so many behind, each jump of some code leads to one of them or to the end
 abbrev Inside : ℕ → ℕ → List Instruction → Type 0
@@ -85,7 +85,7 @@ there a b (j ∷ front) rest i h =
 
 -- operators
 
-unary_closed : (op : Operator) → Inside 0 0 (listed (unary_instruction op))
+unary_closed : (op : Operator) → Inside 0 0 (some_instruction (unary_instruction op))
 unary_closed operators.ShiftLeftAssign = tt
 unary_closed operators.ShiftRightAssign = tt
 unary_closed operators.AndNotAssign = tt
@@ -135,7 +135,7 @@ unary_closed operators.CloseBrace = tt
 unary_closed operators.Semicolon = tt
 unary_closed operators.Colon = tt
 
-step_closed : (op : Operator) → Inside 0 0 (listed (step_operator op))
+step_closed : (op : Operator) → Inside 0 0 (some_instruction (step_operator op))
 step_closed operators.ShiftLeftAssign = tt
 step_closed operators.ShiftRightAssign = tt
 step_closed operators.AndNotAssign = tt
@@ -185,7 +185,7 @@ step_closed operators.CloseBrace = tt
 step_closed operators.Semicolon = tt
 step_closed operators.Colon = tt
 
-update_closed : (op : Operator) → Inside 0 0 (listed (update_operator op))
+update_closed : (op : Operator) → Inside 0 0 (some_instruction (update_operator op))
 update_closed operators.ShiftLeftAssign = tt
 update_closed operators.ShiftRightAssign = tt
 update_closed operators.AndNotAssign = tt
@@ -344,12 +344,12 @@ mutual
   expr_closed f (Binary a op s b) = constant_closed (folded f.looks (Binary a op s b)) _ (binary_closed op (expr_code f a) (expr_code f b) (expr_closed f a) (expr_closed f b))
   expr_closed f (Select e dot x) = name_closed f.slots (f.looks.meaning x.span.start)
   expr_closed f (Call e first items last) =
-      constant_closed (folded f.looks (Call e first items last)) _ (plain_closed (receiver_code f e) (items_code f items) _ (receiver_closed f e) (items_closed f items) (end_closed f (called f.looks e) (f.looks.reference first.start) items))
+      constant_closed (folded f.looks (Call e first items last)) _ (plain_closed (receiver_code f e) (items_code f items) _ (receiver_closed f e) (items_closed f items) (end_closed f (callee_meaning f.looks e) (f.looks.reference first.start) items))
   expr_closed f (Literal n first items last) = tt
   expr_closed f (StructLiteral t first items last) = tt
 
   receiver_closed : (f : Frame) (e : ExprTree) → Inside 0 0 (receiver_code f e)
-  receiver_closed f (Select e dot x) = one_of (is_method (f.looks.meaning x.span.start)) (expr_code f e) [] (expr_closed f e) tt
+  receiver_closed f (Select e dot x) = one_of (means_method (f.looks.meaning x.span.start)) (expr_code f e) [] (expr_closed f e) tt
   receiver_closed f (Paren first e last) = receiver_closed f e
   receiver_closed f (Integer n s) = tt
   receiver_closed f (Text t) = tt
@@ -371,8 +371,8 @@ store_closed (targets.Slot s) = (tt, tt)
 store_closed targets.Blank = (tt, tt)
 store_closed targets.Other = tt
 
-updated_closed : (t : Target) (value : List Instruction) (op : Option Instruction) → Inside 0 0 value → Inside 0 0 (listed op) → Inside 0 0 (updated t value op)
-updated_closed (targets.Slot s) value op h k = (tt, wider 0 0 1 0 _ (omega arith) (omega arith) (plain_closed value (listed op) (instructions.Store s ∷ []) h k (tt, tt)))
+updated_closed : (t : Target) (value : List Instruction) (op : Option Instruction) → Inside 0 0 value → Inside 0 0 (some_instruction op) → Inside 0 0 (updated t value op)
+updated_closed (targets.Slot s) value op h k = (tt, wider 0 0 1 0 _ (omega arith) (omega arith) (plain_closed value (some_instruction op) (instructions.Store s ∷ []) h k (tt, tt)))
 updated_closed targets.Blank value op h k = tt
 updated_closed targets.Other value op h k = tt
 
@@ -381,11 +381,11 @@ one_closed f (One e) = expr_closed f e
 one_closed f (Then e comma more) = tt
 
 stored_closed : (f : Frame) (es : Separated ExprTree) → Inside 0 0 (stored f es)
-stored_closed f (One e) = store_closed (target_of f e)
+stored_closed f (One e) = store_closed (slot_assigned f e)
 stored_closed f (Then e comma more) = tt
 
-declared_closed : (f : Frame) (xs : Separated Ident) → Inside 0 0 (declared f xs)
-declared_closed f (One x) = store_closed (declared_target f x)
+declared_closed : (f : Frame) (xs : Separated Ident) → Inside 0 0 (declared_code f xs)
+declared_closed f (One x) = store_closed (declared_slot f x)
 declared_closed f (Then x comma more) = tt
 
 dropped_closed : (g : Gives) → Inside 0 0 (dropped g)
@@ -395,9 +395,9 @@ dropped_closed gives.Other = tt
 
 simple_closed : (f : Frame) (s : SimpleTree) → Inside 0 0 (simple_code f s)
 simple_closed f (Alone e) = closed 0 (expr_code f e) _ (expr_closed f e) (dropped_closed (expr_gives f e))
-simple_closed f (Step e op s) = updated_closed (target_of f e) _ (step_operator op) (tt, tt) (step_closed op)
+simple_closed f (Step e op s) = updated_closed (slot_assigned f e) _ (step_operator op) (tt, tt) (step_closed op)
 simple_closed f (Assign ts s es) = closed 0 (one_code f es) _ (one_closed f es) (stored_closed f ts)
-simple_closed f (Update t op s e) = updated_closed (target_of f t) (expr_code f e) (update_operator op) (expr_closed f e) (update_closed op)
+simple_closed f (Update t op s e) = updated_closed (slot_assigned f t) (expr_code f e) (update_operator op) (expr_closed f e) (update_closed op)
 simple_closed f (Define xs s es) = closed 0 (one_code f es) _ (one_closed f es) (declared_closed f xs)
 
 some_simple_closed : (f : Frame) (s : Option SimpleTree) → Inside 0 0 (some_simple_code f s)
@@ -429,7 +429,7 @@ init_closed f (Some i) = some_simple_closed f i.0
 more : (b : ℕ) (code : List Instruction) → Inside 0 0 code → Inside 0 b code
 more b code h = wider 0 0 0 b code (omega arith) (omega arith) h
 
-returned_closed : (f : Frame) (es : Option (Separated ExprTree)) → Inside 0 0 (returned f es)
+returned_closed : (f : Frame) (es : Option (Separated ExprTree)) → Inside 0 0 (returned_code f es)
 returned_closed f None = (tt, tt)
 returned_closed f (Some es) = closed 0 (one_code f es) _ (one_closed f es) (tt, tt)
 

@@ -19,8 +19,8 @@ use Rattle.go_fragment_core.specs.declared.names.Meaning.{Meaning}
 use Rattle.go_fragment_core.specs.declared.names.Meaning.TheVariants as meanings
 use Rattle.go_code_core.specs.Code.{binary_code, call_end, constant_or, expr_code, items_code, name_code, push, receiver_code}
 use Rattle.go_fragment_core.specs.Constants.{folded, folded_name}
-use Rattle.go_fragment_core.specs.Names.{Frame, called}
-use Rattle.go_fragment_core.specs.Operators.{listed, unary_instruction}
+use Rattle.go_fragment_core.specs.Names.{Frame, callee_meaning}
+use Rattle.go_fragment_core.specs.Operators.{some_instruction, unary_instruction}
 use Rattle.go_code_core.specs.mirrors.Written.{applied}
 use Rattle.go_fragment_core.proofs.Forms.{call_form, call_tree}
 
@@ -45,7 +45,7 @@ pushed f (Integer n s) w h = ap (λ o. constant_or o []) h
 pushed f (Text t) w h = absurd (let no : Some w ≡ None = h in cc)
 pushed f (Named x) w h = of_name f.slots (f.looks.meaning x.span.start) w h
 pushed f (Paren first e last) w h = pushed f e w h
-pushed f (Unary op s e) w h = ap (λ o. constant_or o (expr_code f e ++ listed (unary_instruction op))) h
+pushed f (Unary op s e) w h = ap (λ o. constant_or o (expr_code f e ++ some_instruction (unary_instruction op))) h
 pushed f (Binary a op s b) w h = ap (λ o. constant_or o (binary_code op (expr_code f a) (expr_code f b))) h
 pushed f (Select e dot x) w h = of_name f.slots (f.looks.meaning x.span.start) w h
 pushed f (Call e first items last) w h = ap (λ o. constant_or o (applied f (Call e first items last))) h
@@ -68,14 +68,14 @@ call_made r f e c old new is none p =
     (ap (applied f) (call_parts c.value) ∙ (sym (plainly (folded f.looks (call_tree c.value)) (applied f (call_tree c.value)) (none ∙ ap (folded f.looks) form)) ∙ sym (ap (expr_code f) form)))) p
 
 pub applied_made : {T E : Type 0} (r : Result T E) (f : Frame) (c : CallExpr) (m : Meaning) (n : ℕ) (old now after new : List Instruction)
-    → m ≡ called f.looks (shape (out-CallExpr c).callee) → n ≡ f.looks.reference (out-CallExpr c).«open».start
+    → m ≡ callee_meaning f.looks (shape (out-CallExpr c).callee) → n ≡ f.looks.reference (out-CallExpr c).«open».start
     → now ≡ call_end f m n (items_of (out-CallExpr c).args.items) ++ old → after ≡ items_code f (items_of (out-CallExpr c).args.items) ++ now
     → OnOk r (new ≡ receiver_code f (shape (out-CallExpr c).callee) ++ after) → OnOk r (new ≡ applied f (shape_call c) ++ old)
 applied_made r f c m n old now after new is at h k p =
     let callee = shape (out-CallExpr c).callee in
     let items = items_of (out-CallExpr c).args.items in
-    let end = call_end f (called f.looks callee) (f.looks.reference (out-CallExpr c).«open».start) items in
-    let h' : now ≡ end ++ old = h ∙ (ap (λ x. call_end f x n items ++ old) is ∙ ap (λ x. call_end f (called f.looks callee) x items ++ old) at) in
+    let end = call_end f (callee_meaning f.looks callee) (f.looks.reference (out-CallExpr c).«open».start) items in
+    let h' : now ≡ end ++ old = h ∙ (ap (λ x. call_end f x n items ++ old) is ∙ ap (λ x. call_end f (callee_meaning f.looks callee) x items ++ old) at) in
     on_ok_weaker r (λ e. joined (receiver_code f callee) (items_code f items ++ end) old after new (joined (items_code f items) end old now after h' k) e ∙ ap (λ t. applied f t ++ old) (sym (call_parts c))) p
 
 -- operators

@@ -20,10 +20,10 @@ use Rattle.go_fragment_core.specs.declared.names.Meaning.TheVariants as meanings
 use Rattle.go_fragment_core.specs.declared.targets.Target.{Target}
 use Rattle.go_fragment_core.specs.declared.targets.Target.TheVariants as targets
 use Rattle.go_fragment_core.specs.Constants.{folded}
-use Rattle.go_fragment_core.specs.Fragment.{expr_gives, is_method, item_count}
+use Rattle.go_fragment_core.specs.Fragment.{expr_gives, means_method, item_count}
 use Rattle.go_fragment_core.specs.Inside.{in_fragment}
-use Rattle.go_fragment_core.specs.Names.{Looks, Frame, frame_of, slot_of, called, target_of, declared_target}
-use Rattle.go_fragment_core.specs.Operators.{unary_instruction, binary_instruction, step_operator, update_operator, listed}
+use Rattle.go_fragment_core.specs.Names.{CodeLooks, Frame, frame_of, slot_of, callee_meaning, slot_assigned, declared_slot}
+use Rattle.go_fragment_core.specs.Operators.{unary_instruction, binary_instruction, step_operator, update_operator, some_instruction}
 use Rattle.go_fragment_core.specs.Slots.{slots_of}
 
 -- expressions
@@ -55,7 +55,7 @@ name_code slots _ = []
 abbrev pub binary_code : Operator → List Instruction → List Instruction → List Instruction
 binary_code operators.LogicalAnd a b = a ++ instructions.JumpFalse (length b + 1) ∷ (b ++ instructions.Jump (distances.Forward 1) ∷ (instructions.Push (pos 0) ∷ []))
 binary_code operators.LogicalOr a b = a ++ instructions.JumpFalse 2 ∷ (instructions.Push (pos 1) ∷ (instructions.Jump (distances.Forward (length b)) ∷ b))
-binary_code op a b = a ++ (b ++ listed (binary_instruction op))
+binary_code op a b = a ++ (b ++ some_instruction (binary_instruction op))
 
 abbrev pub letter : Gives → List Word
 letter (gives.One w) = w ∷ []
@@ -84,16 +84,16 @@ abbrev mutual
   expr_code f (Text t) = []
   expr_code f (Named x) = name_code f.slots (f.looks.meaning x.span.start)
   expr_code f (Paren first e last) = expr_code f e
-  expr_code f (Unary op s e) = constant_or (folded f.looks (Unary op s e)) (expr_code f e ++ listed (unary_instruction op))
+  expr_code f (Unary op s e) = constant_or (folded f.looks (Unary op s e)) (expr_code f e ++ some_instruction (unary_instruction op))
   expr_code f (Binary a op s b) = constant_or (folded f.looks (Binary a op s b)) (binary_code op (expr_code f a) (expr_code f b))
   expr_code f (Select e dot x) = name_code f.slots (f.looks.meaning x.span.start)
-  expr_code f (Call e first items last) = constant_or (folded f.looks (Call e first items last)) (receiver_code f e ++ (items_code f items ++ call_end f (called f.looks e) (f.looks.reference first.start) items))
+  expr_code f (Call e first items last) = constant_or (folded f.looks (Call e first items last)) (receiver_code f e ++ (items_code f items ++ call_end f (callee_meaning f.looks e) (f.looks.reference first.start) items))
   expr_code f (Literal n first items last) = []
   expr_code f (StructLiteral t first items last) = []
 
   -- of the receiver of a method that is called
   pub receiver_code : Frame → ExprTree → List Instruction
-  receiver_code f (Select e dot x) = if is_method (f.looks.meaning x.span.start) then expr_code f e else []
+  receiver_code f (Select e dot x) = if means_method (f.looks.meaning x.span.start) then expr_code f e else []
   receiver_code f (Paren first e last) = receiver_code f e
   receiver_code f (Integer n s) = []
   receiver_code f (Text t) = []
@@ -123,7 +123,7 @@ dropped gives.Other = []
 
 -- the target with a value and an operator between them
 abbrev pub updated : Target → List Instruction → Option Instruction → List Instruction
-updated (targets.Slot slot) value op = instructions.Load slot ∷ (value ++ (listed op ++ instructions.Store slot ∷ []))
+updated (targets.Slot slot) value op = instructions.Load slot ∷ (value ++ (some_instruction op ++ instructions.Store slot ∷ []))
 updated targets.Blank value op = []
 updated targets.Other value op = []
 
@@ -132,19 +132,19 @@ one_code f (One e) = expr_code f e
 one_code f (Then e comma more) = []
 
 abbrev pub stored : Frame → Separated ExprTree → List Instruction
-stored f (One e) = store (target_of f e)
+stored f (One e) = store (slot_assigned f e)
 stored f (Then e comma more) = []
 
-abbrev pub declared : Frame → Separated Ident → List Instruction
-declared f (One x) = store (declared_target f x)
-declared f (Then x comma more) = []
+abbrev pub declared_code : Frame → Separated Ident → List Instruction
+declared_code f (One x) = store (declared_slot f x)
+declared_code f (Then x comma more) = []
 
 abbrev pub simple_code : Frame → SimpleTree → List Instruction
 simple_code f (Alone e) = expr_code f e ++ dropped (expr_gives f e)
-simple_code f (Step e op s) = updated (target_of f e) (instructions.Push (pos 1) ∷ []) (step_operator op)
+simple_code f (Step e op s) = updated (slot_assigned f e) (instructions.Push (pos 1) ∷ []) (step_operator op)
 simple_code f (Assign ts s es) = one_code f es ++ stored f ts
-simple_code f (Update t op s e) = updated (target_of f t) (expr_code f e) (update_operator op)
-simple_code f (Define xs s es) = one_code f es ++ declared f xs
+simple_code f (Update t op s e) = updated (slot_assigned f t) (expr_code f e) (update_operator op)
+simple_code f (Define xs s es) = one_code f es ++ declared_code f xs
 
 abbrev pub some_simple_code : Frame → Option SimpleTree → List Instruction
 some_simple_code f None = []
@@ -158,7 +158,7 @@ initial_code f (Some v) = one_code f v.1
 -- a constant has no code
 abbrev pub value_spec_code : Frame → ValueKind → ValueSpecTree → List Instruction
 value_spec_code f value_kinds.Const v = []
-value_spec_code f value_kinds.Var v = initial_code f v.values ++ declared f v.names
+value_spec_code f value_kinds.Var v = initial_code f v.values ++ declared_code f v.names
 
 abbrev pub value_lines_code : Frame → ValueKind → List (ValueSpecTree × Option Span) → List Instruction
 value_lines_code f kind [] = []
@@ -218,16 +218,16 @@ loop_code f test body post = round (test_code f test (suc (length (body ++ post)
 abbrev pub in_loop : List Instruction → Exits
 in_loop post = record { ends = suc (length post); goes_on = 0 }
 
-abbrev pub returned : Frame → Option (Separated ExprTree) → List Instruction
-returned f None = instructions.Return false ∷ []
-returned f (Some es) = one_code f es ++ instructions.Return true ∷ []
+abbrev pub returned_code : Frame → Option (Separated ExprTree) → List Instruction
+returned_code f None = instructions.Return false ∷ []
+returned_code f (Some es) = one_code f es ++ instructions.Return true ∷ []
 
 abbrev mutual
   pub stmt_code : Frame → Exits → StmtTree → List Instruction
   stmt_code f x Empty = []
   stmt_code f x (Declare v) = value_specs_code f v.kind v.specs
   stmt_code f x (Simple s) = simple_code f s
-  stmt_code f x (Return s es) = returned f es
+  stmt_code f x (Return s es) = returned_code f es
   stmt_code f x (Break s) = jump x.ends
   stmt_code f x (Continue s) = jump x.goes_on
   stmt_code f x (Block first ls last) = lines_code f x ls
@@ -267,8 +267,8 @@ abbrev pub framed_code : Frame → FuncTree → List Instruction
 framed_code f func = if in_fragment f func then body_code f func else instructions.Outside ∷ []
 
 -- the function with its slots, and its code
-abbrev pub frame_in : Looks → FuncTree → Frame
+abbrev pub frame_in : CodeLooks → FuncTree → Frame
 frame_in looks func = frame_of looks (slots_of looks func)
 
-abbrev pub code_of : Looks → FuncTree → List Instruction
+abbrev pub code_of : CodeLooks → FuncTree → List Instruction
 code_of looks func = framed_code (frame_in looks func) func

@@ -4,7 +4,7 @@ use Rattle.go_tree_nodes.specs.Trees.{FuncTree}
 use Rattle.go_fragment_core.specs.instruction_core.declared.instruction.Distance.TheVariants as distances
 use Rattle.go_fragment_core.specs.instruction_core.declared.instruction.Instruction.{Instruction}
 use Rattle.go_fragment_core.specs.instruction_core.declared.instruction.Instruction.TheVariants as instructions
-use Rattle.go_fragment_core.specs.Names.{Looks}
+use Rattle.go_fragment_core.specs.Names.{CodeLooks}
 use Rattle.go_fragment_core.specs.Slots.{slots_of}
 use Rattle.go_code_core.specs.Code.{code_of, frame_in}
 use Rattle.go_fragment_core.specs.Inside.{in_fragment}
@@ -19,11 +19,11 @@ LeadsInside before behind _ = Unit {0}
 -- each jump leads to an instruction of its code, or to its end
 abbrev pub JumpsStayInside : Type 0
 JumpsStayInside =
-    (looks : Looks) (func : FuncTree) (front rest : List Instruction) (i : Instruction)
+    (looks : CodeLooks) (func : FuncTree) (front rest : List Instruction) (i : Instruction)
     → code_of looks func ≡ front ++ i ∷ rest → LeadsInside (suc (length front)) (length rest) i
 
 -- an instruction that looks at slots looks at one of so many, and one that calls calls by a number that some place of a call has
-abbrev pub IsOfFunction : Looks → ℕ → Instruction → Type 0
+abbrev pub IsOfFunction : CodeLooks → ℕ → Instruction → Type 0
 IsOfFunction looks slots (instructions.Load s) = s < slots
 IsOfFunction looks slots (instructions.Store s) = s < slots
 IsOfFunction looks slots (instructions.Call reference arguments) = (offset : ℕ) × (reference ≡ looks.reference offset)
@@ -31,13 +31,13 @@ IsOfFunction looks slots instructions.Outside = ⊥
 IsOfFunction looks slots _ = Unit {0}
 
 -- code of a function of which code is made looks at its slots alone, calls what the function calls, has no `Outside` and ends with `Return 0`
-pub record IsWhole (looks : Looks) (func : FuncTree) : Type 0 where
+pub record IsClosedCode (looks : CodeLooks) (func : FuncTree) : Type 0 where
   pub each : (front rest : List Instruction) (i : Instruction) → code_of looks func ≡ front ++ i ∷ rest → IsOfFunction looks (length (slots_of looks func)) i
   pub last : (front : List Instruction) × (code_of looks func ≡ front ++ instructions.Return false ∷ [])
 
 abbrev pub CodeIsWhole : Type 0
-CodeIsWhole = (looks : Looks) (func : FuncTree) → in_fragment (frame_in looks func) func ≡ true → IsWhole looks func
+CodeIsWhole = (looks : CodeLooks) (func : FuncTree) → in_fragment (frame_in looks func) func ≡ true → IsClosedCode looks func
 
 -- of another one the code is one instruction
 abbrev pub OutsideIsAlone : Type 0
-OutsideIsAlone = (looks : Looks) (func : FuncTree) → in_fragment (frame_in looks func) func ≡ false → code_of looks func ≡ instructions.Outside ∷ []
+OutsideIsAlone = (looks : CodeLooks) (func : FuncTree) → in_fragment (frame_in looks func) func ≡ false → code_of looks func ≡ instructions.Outside ∷ []

@@ -18,12 +18,12 @@ use Rattle.go_fragment_core.specs.instruction_core.declared.instruction.Instruct
 use Rattle.go_fragment_core.specs.declared.names.Gives.TheVariants as gives
 use Rattle.go_fragment_core.specs.declared.names.Meaning.{Meaning}
 use Rattle.go_fragment_core.specs.declared.names.Meaning.TheVariants as meanings
-use Rattle.go_fragment_core.specs.Names.{Looks}
+use Rattle.go_fragment_core.specs.Names.{CodeLooks}
 use Rattle.go_fragment_core.specs.Slots.{slots_of}
 use Rattle.go_code_core.specs.Code.{code_of}
 
 -- the function has so many slots, and this code
-pub record IsCoded (looks : Looks) (func : FuncTree) (slots : ℕ) (code : List Instruction) : Type 0 where
+pub record IsCoded (looks : CodeLooks) (func : FuncTree) (slots : ℕ) (code : List Instruction) : Type 0 where
   pub slots_are : length (slots_of looks func) ≡ slots
   pub code_is : code_of looks func ≡ code
 
@@ -50,15 +50,15 @@ n = codes "n"
 abbrev pub t : List ℕ
 t = codes "t"
 
-abbrev pub x : List ℕ
-x = codes "x"
+abbrev pub x_text : List ℕ
+x_text = codes "x"
 
-abbrev pub blank : List ℕ
-blank = codes "_"
+abbrev pub blank_text : List ℕ
+blank_text = codes "_"
 
 -- an identifier by the offset of its first byte
-abbrev pub ident : List ℕ → ℕ → Ident
-ident name at = record { name = name; span = record { start = at; end = at + length name } }
+abbrev pub ident_at : List ℕ → ℕ → Ident
+ident_at name at = record { name = name; span = record { start = at; end = at + length name } }
 
 abbrev pub paren : ℕ → Span
 paren at = record { start = at; end = at + 1 }
@@ -75,7 +75,7 @@ number_at (c ∷ cs) at = if nat_eq c.0 at then c.1 else number_at cs at
 
 -- identifiers, each with what it comes to, and calls by their opening parentheses, each with the number of its reference. Each name to the
 -- left of `:=` is new
-abbrev pub looks_by : List (ℕ × Meaning) → List (ℕ × ℕ) → Looks
+abbrev pub looks_by : List (ℕ × Meaning) → List (ℕ × ℕ) → CodeLooks
 looks_by names calls = record { meaning = meaning_at names; reference = number_at calls; is_new = λ at. true }
 
 abbrev pub int_type : Meaning
@@ -94,10 +94,10 @@ bool_var at = meanings.Variable at words.Bool
 -- trees
 
 abbrev pub name : List ℕ → ℕ → ExprTree
-name text at = Named (ident text at)
+name text at = Named (ident_at text at)
 
 abbrev pub type_at : List ℕ → ℕ → TypeTree
-type_at text at = NamedType (type_names.Plain (ident text at))
+type_at text at = NamedType (type_names.Plain (ident_at text at))
 
 abbrev pub int_at : ℕ → TypeTree
 int_at at = type_at (codes "int") at
@@ -107,10 +107,10 @@ bool_at at = type_at (codes "bool") at
 
 -- a parameter or several of one type, and an argument
 abbrev pub param : Span → List ℕ → ℕ → TypeTree → ParamTrees → ParamTrees
-param s text at type rest = Param (Some (One (ident text at))) type (Some s) rest
+param s text at type rest = Param (Some (One (ident_at text at))) type (Some s) rest
 
 abbrev pub two_params : Span → List ℕ → ℕ → List ℕ → ℕ → TypeTree → ParamTrees → ParamTrees
-two_params s first at second at' type rest = Param (Some (Then (ident first at) s (One (ident second at')))) type (Some s) rest
+two_params s first at second at' type rest = Param (Some (Then (ident_at first at) s (One (ident_at second at')))) type (Some s) rest
 
 abbrev pub argument : Span → ExprTree → ItemTrees → ItemTrees
 argument s e rest = Item None e (Some s) rest
@@ -127,34 +127,34 @@ assigned s target value = Simple (Assign (One target) s (One value))
 abbrev pub defined : Span → Ident → ExprTree → SimpleTree
 defined s x value = Define (One x) s (One value)
 
-abbrev pub method : Span → Option Receiver → List ℕ → ParamTrees → ResultTree → Lines → FuncTree
-method s receiver text params results body = record { func = s; receiver = receiver; name = record { name = text; span = s }; signature = Signed s params s results; open_brace = s; body = body; close_brace = s }
+abbrev pub sample_method : Span → Option Receiver → List ℕ → ParamTrees → ResultTree → Lines → FuncTree
+sample_method s receiver text params results body = record { func = s; receiver = receiver; name = record { name = text; span = s }; signature = Signed s params s results; open_brace = s; body = body; close_brace = s }
 
-abbrev pub function : Span → List ℕ → ParamTrees → ResultTree → Lines → FuncTree
-function s text params results body = method s None text params results body
+abbrev pub sample_func : Span → List ℕ → ParamTrees → ResultTree → Lines → FuncTree
+sample_func s text params results body = sample_method s None text params results body
 
 abbrev pub receiver : Span → Option Ident → Option Span → Ident → Option Receiver
 receiver s x star base = Some (record { open_paren = s; name = x; star = star; base = type_names.Plain base; comma = None; close_paren = s })
 
 -- func add(a, b int) int { return a + b }
-abbrev pub add_looks : Looks
+abbrev pub add_looks : CodeLooks
 add_looks = looks_by ((14, int_type) ∷ (19, int_type) ∷ (32, int_var 9) ∷ (36, int_var 12) ∷ []) []
 
 abbrev pub add : Span → FuncTree
 add s =
-    function s (codes "add") (two_params s a 9 b 12 (int_at 14) NoParams) (OneResult (int_at 19))
+    sample_func s (codes "add") (two_params s a 9 b 12 (int_at 14) NoParams) (OneResult (int_at 19))
     (line s (returns s (Binary (name a 32) operators.Plus s (name b 36))) NoLines)
 
 abbrev pub OperandsInOrder : Type 0
 OperandsInOrder = (s : Span) → IsCoded add_looks (add s) 2 (Load 0 ∷ Load 1 ∷ Add ∷ instructions.Return true ∷ instructions.Return false ∷ [])
 
 -- func between(a, b, c int) bool { return a < b && b < c }
-abbrev pub between_looks : Looks
+abbrev pub between_looks : CodeLooks
 between_looks = looks_by ((21, int_type) ∷ (26, bool_type) ∷ (40, int_var 13) ∷ (44, int_var 16) ∷ (49, int_var 16) ∷ (53, int_var 19) ∷ []) []
 
 abbrev pub between : Span → FuncTree
 between s =
-    function s (codes "between") (Param (Some (Then (ident a 13) s (Then (ident b 16) s (One (ident c 19))))) (int_at 21) None NoParams) (OneResult (bool_at 26))
+    sample_func s (codes "between") (Param (Some (Then (ident_at a 13) s (Then (ident_at b 16) s (One (ident_at c 19))))) (int_at 21) None NoParams) (OneResult (bool_at 26))
     (line s (returns s (Binary (Binary (name a 40) operators.Less s (name b 44)) operators.LogicalAnd s (Binary (name b 49) operators.Less s (name c 53)))) NoLines)
 
 abbrev pub between_code : List Instruction
@@ -165,12 +165,12 @@ between_code =
     ∷ instructions.Return true ∷ instructions.Return false ∷ []
 
 -- func beyond(a, b, c int) bool { return b < a || c < b }
-abbrev pub beyond_looks : Looks
+abbrev pub beyond_looks : CodeLooks
 beyond_looks = looks_by ((20, int_type) ∷ (25, bool_type) ∷ (39, int_var 15) ∷ (43, int_var 12) ∷ (48, int_var 18) ∷ (52, int_var 15) ∷ []) []
 
-abbrev pub beyond : Span → FuncTree
-beyond s =
-    function s (codes "beyond") (Param (Some (Then (ident a 12) s (Then (ident b 15) s (One (ident c 18))))) (int_at 20) None NoParams) (OneResult (bool_at 25))
+abbrev pub beyond_function : Span → FuncTree
+beyond_function s =
+    sample_func s (codes "beyond") (Param (Some (Then (ident_at a 12) s (Then (ident_at b 15) s (One (ident_at c 18))))) (int_at 20) None NoParams) (OneResult (bool_at 25))
     (line s (returns s (Binary (Binary (name b 39) operators.Less s (name a 43)) operators.LogicalOr s (Binary (name c 48) operators.Less s (name b 52)))) NoLines)
 
 abbrev pub beyond_code : List Instruction
@@ -183,21 +183,21 @@ beyond_code =
 -- the right operand is passed over where the left one decides
 pub record ShortCuts (s : Span) : Type 0 where
   pub of_and : IsCoded between_looks (between s) 3 between_code
-  pub of_or : IsCoded beyond_looks (beyond s) 3 beyond_code
+  pub of_or : IsCoded beyond_looks (beyond_function s) 3 beyond_code
 
 abbrev pub OperandsHaveShortCuts : Type 0
 OperandsHaveShortCuts = (s : Span) → ShortCuts s
 
 -- func larger(a, b int) int { var m int; if a < b { m = b } else { m = a }; return m }
-abbrev pub larger_looks : Looks
+abbrev pub larger_looks : CodeLooks
 larger_looks =
     looks_by
     ((17, int_type) ∷ (22, int_type) ∷ (34, int_type) ∷ (42, int_var 12) ∷ (46, int_var 15) ∷ (50, int_var 32) ∷ (54, int_var 15) ∷ (65, int_var 32) ∷ (69, int_var 12) ∷ (81, int_var 32) ∷ []) []
 
 abbrev pub larger : Span → FuncTree
 larger s =
-    function s (codes "larger") (two_params s a 12 b 15 (int_at 17) NoParams) (OneResult (int_at 22))
-    (line s (Declare (record { kind = value_kinds.Var; keyword = s; specs = Single (record { names = One (ident m 32); type_expr = Some (int_at 34); values = None }) }))
+    sample_func s (codes "larger") (two_params s a 12 b 15 (int_at 17) NoParams) (OneResult (int_at 22))
+    (line s (Declare (record { kind = value_kinds.Var; keyword = s; specs = Single (record { names = One (ident_at m 32); type_expr = Some (int_at 34); values = None }) }))
     (line s (If (Branch s (record { init = None; condition = Binary (name a 42) operators.Less s (name b 46) })
     s (line s (assigned s (name m 50) (name b 54)) NoLines) s
     (ElseBlock s s (line s (assigned s (name m 65) (name a 69)) NoLines) s)))
@@ -216,16 +216,16 @@ abbrev pub ChoicesAreCoded : Type 0
 ChoicesAreCoded = (s : Span) → IsCoded larger_looks (larger s) 3 larger_code
 
 -- func sum(n int) int { t := 0; for i := 0; i < n; i++ { if i == 3 { continue }; t += i }; return t }
-abbrev pub sum_looks : Looks
+abbrev pub sum_looks : CodeLooks
 sum_looks =
     looks_by
     ((11, int_type) ∷ (16, int_type) ∷ (42, int_var 34) ∷ (46, int_var 9) ∷ (49, int_var 34) ∷ (58, int_var 34) ∷ (79, int_var 22) ∷ (84, int_var 34) ∷ (96, int_var 22) ∷ []) []
 
 abbrev pub sum : Span → FuncTree
 sum s =
-    function s (codes "sum") (param s n 9 (int_at 11) NoParams) (OneResult (int_at 16))
-    (line s (Simple (defined s (ident t 22) (Integer 0 s)))
-    (line s (For s (Clauses (Some (defined s (ident i 34) (Integer 0 s))) s (Some (Binary (name i 42) operators.Less s (name n 46))) s (Some (Step (name i 49) operators.Increment s)))
+    sample_func s (codes "sum") (param s n 9 (int_at 11) NoParams) (OneResult (int_at 16))
+    (line s (Simple (defined s (ident_at t 22) (Integer 0 s)))
+    (line s (For s (Clauses (Some (defined s (ident_at i 34) (Integer 0 s))) s (Some (Binary (name i 42) operators.Less s (name n 46))) s (Some (Step (name i 49) operators.Increment s)))
     s
     (line s (If (Branch s (record { init = None; condition = Binary (name i 58) operators.Equal s (Integer 3 s) }) s (line s (Continue s) NoLines) s NoElse))
     (line s (Simple (Update (name t 79) operators.PlusAssign s (name i 84))) NoLines))
@@ -246,12 +246,12 @@ sum_code =
     ∷ Load 1 ∷ instructions.Return true ∷ instructions.Return false ∷ []
 
 -- func rest(n int) int { for { if n < 2 { break }; n -= 2 }; return n }
-abbrev pub rest_looks : Looks
+abbrev pub rest_looks : CodeLooks
 rest_looks = looks_by ((12, int_type) ∷ (17, int_type) ∷ (32, int_var 10) ∷ (49, int_var 10) ∷ (66, int_var 10) ∷ []) []
 
 abbrev pub rest : Span → FuncTree
 rest s =
-    function s (codes "rest") (param s n 10 (int_at 12) NoParams) (OneResult (int_at 17))
+    sample_func s (codes "rest") (param s n 10 (int_at 12) NoParams) (OneResult (int_at 17))
     (line s (For s Forever
     s
     (line s (If (Branch s (record { init = None; condition = Binary (name n 32) operators.Less s (Integer 2 s) }) s (line s (Break s) NoLines) s NoElse))
@@ -276,7 +276,7 @@ abbrev pub LoopsAreCoded : Type 0
 LoopsAreCoded = (s : Span) → Loops s
 
 -- func show(a int) { add(a, 2); println(add(1, a), a < 2) }, where the calls of add have the references 0 and 1
-abbrev pub show_looks : Looks
+abbrev pub show_looks : CodeLooks
 show_looks =
     looks_by
     ((12, int_type) ∷ (19, meanings.Function (gives.One words.Int)) ∷ (23, int_var 10) ∷ (30, meanings.Println) ∷ (38, meanings.Function (gives.One words.Int)) ∷ (45, int_var 10) ∷ (49, int_var 10) ∷ [])
@@ -284,7 +284,7 @@ show_looks =
 
 abbrev pub show : Span → FuncTree
 show s =
-    function s (codes "show") (param s a 10 (int_at 12) NoParams) NoResult
+    sample_func s (codes "show") (param s a 10 (int_at 12) NoParams) NoResult
     (line s (Simple (Alone (Call (name (codes "add") 19) (paren 22) (argument s (name a 23) (argument s (Integer 2 s) NoItems)) s)))
     (line s (Simple (Alone (Call (name (codes "println") 30) (paren 37)
     (argument s (Call (name (codes "add") 38) (paren 41) (argument s (Integer 1 s) (argument s (name a 45) NoItems)) s)
@@ -300,7 +300,7 @@ show_code =
 
 -- func sizes(a small, b large) int { return a.size() + b.size() }, where both types are over int: the method of small is reference 0, that of
 -- large reference 1
-abbrev pub sizes_looks : Looks
+abbrev pub sizes_looks : CodeLooks
 sizes_looks =
     looks_by
     ((13, int_type) ∷ (22, int_type) ∷ (29, int_type) ∷ (42, int_var 11) ∷ (44, meanings.Method (gives.One words.Int)) ∷ (53, int_var 20) ∷ (55, meanings.Method (gives.One words.Int)) ∷ [])
@@ -308,9 +308,9 @@ sizes_looks =
 
 abbrev pub sizes : Span → FuncTree
 sizes s =
-    function s (codes "sizes") (param s a 11 (type_at (codes "small") 13) (param s b 20 (type_at (codes "large") 22) NoParams)) (OneResult (int_at 29))
-    (line s (returns s (Binary (Call (Select (name a 42) s (ident (codes "size") 44)) (paren 48) NoItems s) operators.Plus s
-    (Call (Select (name b 53) s (ident (codes "size") 55)) (paren 59) NoItems s))) NoLines)
+    sample_func s (codes "sizes") (param s a 11 (type_at (codes "small") 13) (param s b 20 (type_at (codes "large") 22) NoParams)) (OneResult (int_at 29))
+    (line s (returns s (Binary (Call (Select (name a 42) s (ident_at (codes "size") 44)) (paren 48) NoItems s) operators.Plus s
+    (Call (Select (name b 53) s (ident_at (codes "size") 55)) (paren 59) NoItems s))) NoLines)
 
 abbrev pub sizes_code : List Instruction
 sizes_code = Load 0 ∷ instructions.Call 0 1 ∷ Load 1 ∷ instructions.Call 1 1 ∷ Add ∷ instructions.Return true ∷ instructions.Return false ∷ []
@@ -324,7 +324,7 @@ abbrev pub CallsAreCoded : Type 0
 CallsAreCoded = (s : Span) → CallsOf s
 
 -- func (c count) twice(bool) int { return c.plus(1).plus(2) }, where count is over int
-abbrev pub twice_looks : Looks
+abbrev pub twice_looks : CodeLooks
 twice_looks =
     looks_by
     ((8, int_type) ∷ (21, bool_type) ∷ (27, int_type) ∷ (40, int_var 6) ∷ (42, meanings.Method (gives.One words.Int)) ∷ (50, meanings.Method (gives.One words.Int)) ∷ [])
@@ -332,35 +332,35 @@ twice_looks =
 
 abbrev pub twice : Span → FuncTree
 twice s =
-    method s (receiver s (Some (ident c 6)) None (ident (codes "count") 8)) (codes "twice") (Param None (bool_at 21) None NoParams) (OneResult (int_at 27))
-    (line s (returns s (Call (Select (Call (Select (name c 40) s (ident (codes "plus") 42)) (paren 46) (argument s (Integer 1 s) NoItems) s) s (ident (codes "plus") 50)) (paren 54) (argument s (Integer 2 s) NoItems) s)) NoLines)
+    sample_method s (receiver s (Some (ident_at c 6)) None (ident_at (codes "count") 8)) (codes "twice") (Param None (bool_at 21) None NoParams) (OneResult (int_at 27))
+    (line s (returns s (Call (Select (Call (Select (name c 40) s (ident_at (codes "plus") 42)) (paren 46) (argument s (Integer 1 s) NoItems) s) s (ident_at (codes "plus") 50)) (paren 54) (argument s (Integer 2 s) NoItems) s)) NoLines)
 
 abbrev pub twice_code : List Instruction
 twice_code = Load 0 ∷ Push (pos 1) ∷ instructions.Call 0 2 ∷ Push (pos 2) ∷ instructions.Call 1 2 ∷ instructions.Return true ∷ instructions.Return false ∷ []
 
 -- func (count) last(_ int, b bool, _ bool) int { x := 1; _ = b; return x }
-abbrev pub last_looks : Looks
+abbrev pub last_looks : CodeLooks
 last_looks = looks_by ((6, int_type) ∷ (20, int_type) ∷ (27, bool_type) ∷ (35, bool_type) ∷ (41, int_type) ∷ (59, bool_var 25) ∷ (69, int_var 47) ∷ []) []
 
 abbrev pub last : Span → FuncTree
 last s =
-    method s (receiver s None None (ident (codes "count") 6)) (codes "last") (param s blank 18 (int_at 20) (param s b 25 (bool_at 27) (param s blank 33 (bool_at 35) NoParams))) (OneResult (int_at 41))
-    (line s (Simple (defined s (ident x 47) (Integer 1 s)))
-    (line s (assigned s (name blank 55) (name b 59))
-    (line s (returns s (name x 69)) NoLines)))
+    sample_method s (receiver s None None (ident_at (codes "count") 6)) (codes "last") (param s blank_text 18 (int_at 20) (param s b 25 (bool_at 27) (param s blank_text 33 (bool_at 35) NoParams))) (OneResult (int_at 41))
+    (line s (Simple (defined s (ident_at x_text 47) (Integer 1 s)))
+    (line s (assigned s (name blank_text 55) (name b 59))
+    (line s (returns s (name x_text 69)) NoLines)))
 
 abbrev pub last_code : List Instruction
 last_code = Push (pos 1) ∷ Store 4 ∷ Load 2 ∷ instructions.Drop ∷ Load 4 ∷ instructions.Return true ∷ instructions.Return false ∷ []
 
 -- func third(int, bool) int { x := 1; return x }
-abbrev pub third_looks : Looks
+abbrev pub third_looks : CodeLooks
 third_looks = looks_by ((11, int_type) ∷ (16, bool_type) ∷ (22, int_type) ∷ (43, int_var 28) ∷ []) []
 
 abbrev pub third : Span → FuncTree
 third s =
-    function s (codes "third") (Param None (int_at 11) (Some s) (Param None (bool_at 16) None NoParams)) (OneResult (int_at 22))
-    (line s (Simple (defined s (ident x 28) (Integer 1 s)))
-    (line s (returns s (name x 43)) NoLines))
+    sample_func s (codes "third") (Param None (int_at 11) (Some s) (Param None (bool_at 16) None NoParams)) (OneResult (int_at 22))
+    (line s (Simple (defined s (ident_at x_text 28) (Integer 1 s)))
+    (line s (returns s (name x_text 43)) NoLines))
 
 abbrev pub third_code : List Instruction
 third_code = Push (pos 1) ∷ Store 2 ∷ Load 2 ∷ instructions.Return true ∷ instructions.Return false ∷ []
@@ -375,18 +375,18 @@ abbrev pub UnnamedHaveSlots : Type 0
 UnnamedHaveSlots = (s : Span) → Unnamed s
 
 -- func inner(x int) int { { x := x + 1; println(x) }; if x := 3; x < 4 { return x }; return x }
-abbrev pub inner_looks : Looks
+abbrev pub inner_looks : CodeLooks
 inner_looks =
     looks_by
     ((13, int_type) ∷ (18, int_type) ∷ (31, int_var 11) ∷ (38, meanings.Println) ∷ (46, int_var 26) ∷ (63, int_var 55) ∷ (78, int_var 55) ∷ (90, int_var 11) ∷ []) []
 
 abbrev pub inner : Span → FuncTree
 inner s =
-    function s (codes "inner") (param s x 11 (int_at 13) NoParams) (OneResult (int_at 18))
-    (line s (Block s (line s (Simple (defined s (ident x 26) (Binary (name x 31) operators.Plus s (Integer 1 s))))
-    (line s (Simple (Alone (Call (name (codes "println") 38) (paren 45) (argument s (name x 46) NoItems) s))) NoLines)) s)
-    (line s (If (Branch s (record { init = Some (Some (defined s (ident x 55) (Integer 3 s)), s); condition = Binary (name x 63) operators.Less s (Integer 4 s) }) s (line s (returns s (name x 78)) NoLines) s NoElse))
-    (line s (returns s (name x 90)) NoLines)))
+    sample_func s (codes "inner") (param s x_text 11 (int_at 13) NoParams) (OneResult (int_at 18))
+    (line s (Block s (line s (Simple (defined s (ident_at x_text 26) (Binary (name x_text 31) operators.Plus s (Integer 1 s))))
+    (line s (Simple (Alone (Call (name (codes "println") 38) (paren 45) (argument s (name x_text 46) NoItems) s))) NoLines)) s)
+    (line s (If (Branch s (record { init = Some (Some (defined s (ident_at x_text 55) (Integer 3 s)), s); condition = Binary (name x_text 63) operators.Less s (Integer 4 s) }) s (line s (returns s (name x_text 78)) NoLines) s NoElse))
+    (line s (returns s (name x_text 90)) NoLines)))
 
 abbrev pub inner_code : List Instruction
 inner_code =
@@ -402,37 +402,37 @@ abbrev pub InnerBlocksHaveSlots : Type 0
 InnerBlocksHaveSlots = (s : Span) → IsCoded inner_looks (inner s) 3 inner_code
 
 -- func day() int { return 24 * (60 * 60) }
-abbrev pub day_looks : Looks
+abbrev pub day_looks : CodeLooks
 day_looks = looks_by ((11, int_type) ∷ []) []
 
 abbrev pub day : Span → FuncTree
 day s =
-    function s (codes "day") NoParams (OneResult (int_at 11))
+    sample_func s (codes "day") NoParams (OneResult (int_at 11))
     (line s (returns s (Binary (Integer 24 s) operators.Star s (Paren s (Binary (Integer 60 s) operators.Star s (Integer 60 s)) s))) NoLines)
 
 abbrev pub ConstantsArePushed : Type 0
 ConstantsArePushed = (s : Span) → IsCoded day_looks (day s) 0 (Push (pos 86400) ∷ instructions.Return true ∷ instructions.Return false ∷ [])
 
 -- func (c *count) reset() {}
-abbrev pub reset_looks : Looks
+abbrev pub reset_looks : CodeLooks
 reset_looks = looks_by ((9, int_type) ∷ []) []
 
 abbrev pub reset : Span → FuncTree
-reset s = method s (receiver s (Some (ident c 6)) (Some s) (ident (codes "count") 9)) (codes "reset") NoParams NoResult NoLines
+reset s = sample_method s (receiver s (Some (ident_at c 6)) (Some s) (ident_at (codes "count") 9)) (codes "reset") NoParams NoResult NoLines
 
 -- func root() (n int) { return 1 }
-abbrev pub root_looks : Looks
+abbrev pub root_looks : CodeLooks
 root_looks = looks_by ((15, int_type) ∷ []) []
 
 abbrev pub root : Span → FuncTree
-root s = function s (codes "root") NoParams (Results s (param s n 13 (int_at 15) NoParams) s) (line s (returns s (Integer 1 s)) NoLines)
+root s = sample_func s (codes "root") NoParams (Results s (param s n 13 (int_at 15) NoParams) s) (line s (returns s (Integer 1 s)) NoLines)
 
 -- func label(s string) {}
-abbrev pub label_looks : Looks
+abbrev pub label_looks : CodeLooks
 label_looks = looks_by [] []
 
 abbrev pub label : Span → FuncTree
-label s = function s (codes "label") (param s (codes "s") 11 (type_at (codes "string") 13) NoParams) NoResult NoLines
+label s = sample_func s (codes "label") (param s (codes "s") 11 (type_at (codes "string") 13) NoParams) NoResult NoLines
 
 -- a receiver that is a pointer, a result with a name, a parameter over something else
 pub record Outsiders (s : Span) : Type 0 where

@@ -6,7 +6,7 @@ ghost use Rattle.std.specs.Prelude.{◌≡◌, ◌<◌, ◌++◌, [], ◌∷◌,
 ghost use Rattle.go_fragment_core.specs.instruction_core.declared.instruction.Distance.TheVariants as distances;
 ghost use Rattle.go_fragment_core.specs.instruction_core.declared.instruction.Instruction.{Instruction};
 ghost use Rattle.go_fragment_core.specs.instruction_core.declared.instruction.Instruction.TheVariants as instructions;
-ghost use Rattle.go_fragment_core.specs.Operators.{listed};
+ghost use Rattle.go_fragment_core.specs.Operators.{some_instruction};
 
 use go_fragment_core::instruction_core::{Distance, Instruction};
 use std::alloc::{AllocError, Global};
@@ -55,7 +55,7 @@ impl Code {
 
     /// One more, where there is one. Without memory for it the code is as it was.
     pub(crate) fn put_some(&mut self, instruction: Option<Instruction>) -> Result<(), AllocError>
-        ensures written { OnOk result (self.new ≡ listed instruction ++ self.old) }
+        ensures written { OnOk result (self.new ≡ some_instruction instruction ++ self.old) }
         ensures kept { OnErr result (self.new ≡ self.old) }
     {
         match instruction {

@@ -2,8 +2,8 @@
 ghost use Rattle.std.specs.Prelude.{◌≡◌, ◌++◌, OnOk};
 ghost use Rattle.go_tree_nodes.specs.Shapes.{shape, shape_exprs, shape_simple, shape_some_simple, shape_value, shape_value_spec, shape_values, shape_init};
 ghost use Rattle.go_tree_nodes.specs.TypeShapes.{shape_idents};
-ghost use Rattle.go_code_core.specs.Code.{declared, dropped, expr_code, init_code, initial_code, one_code, simple_code, some_simple_code, store, stored, updated, value_spec_code, value_specs_code};
-ghost use Rattle.go_fragment_core.specs.Names.{frame_of, target_of};
+ghost use Rattle.go_code_core.specs.Code.{declared_code, dropped, expr_code, init_code, initial_code, one_code, simple_code, some_simple_code, store, stored, updated, value_spec_code, value_specs_code};
+ghost use Rattle.go_fragment_core.specs.Names.{frame_of, slot_assigned};
 ghost use Rattle.go_fragment_core.specs.Operators.{update_operator};
 
 use crate::code::Code;
@@ -73,7 +73,7 @@ fn store_declared<N: CodeNames>(
     frame: &Frame<'_, N>,
     names: &Idents,
 ) -> Result<(), AllocError>
-    ensures { OnOk result (code.new ≡ declared (frame_of (N.looks frame.now.names.now) frame.now.slots.now) (shape_idents names.now) ++ code.old) }
+    ensures { OnOk result (code.new ≡ declared_code (frame_of (N.looks frame.now.names.now) frame.now.slots.now) (shape_idents names.now) ++ code.old) }
 {
     match names.more.as_slice() {
         [] => store(code, declared_target(frame, &names.first)),
@@ -87,7 +87,7 @@ fn update<N: CodeNames>(
     frame: &Frame<'_, N>,
     update: &Update,
 ) -> Result<(), AllocError>
-    ensures { OnOk result (code.new ≡ updated (target_of (frame_of (N.looks frame.now.names.now) frame.now.slots.now) (shape update.now.target)) (expr_code (frame_of (N.looks frame.now.names.now) frame.now.slots.now) (shape update.now.value)) (update_operator update.now.operator) ++ code.old) }
+    ensures { OnOk result (code.new ≡ updated (slot_assigned (frame_of (N.looks frame.now.names.now) frame.now.slots.now) (shape update.now.target)) (expr_code (frame_of (N.looks frame.now.names.now) frame.now.slots.now) (shape update.now.value)) (update_operator update.now.operator) ++ code.old) }
 {
     match target_of(frame, &update.target) {
         Target::Slot(slot) => {

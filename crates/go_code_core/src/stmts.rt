@@ -1,7 +1,7 @@
 //! The code of statements.
 ghost use Rattle.std.specs.Prelude.{◌≡◌, ◌≤◌, ◌-◌, ◌++◌, length, Some, IfOk, OnOk};
 ghost use Rattle.go_tree_nodes.specs.Shapes.{shape, shape_for, shape_some_exprs, shape_stmt, shape_branch, shape_else, shape_loop, lines_of};
-ghost use Rattle.go_code_core.specs.Code.{Exits, branch_code, head_init, head_post, head_test, jump, lines_code, returned, some_simple_code, stmt_code, test_code};
+ghost use Rattle.go_code_core.specs.Code.{Exits, branch_code, head_init, head_post, head_test, jump, lines_code, returned_code, some_simple_code, stmt_code, test_code};
 ghost use Rattle.go_fragment_core.specs.Names.{frame_of};
 ghost use Rattle.go_code_core.specs.mirrors.Written.{IsMarked, else_code, exits_at};
 
@@ -50,7 +50,7 @@ fn leave<N: CodeNames>(
     frame: &Frame<'_, N>,
     results: &Option<Box<Exprs>>,
 ) -> Result<(), AllocError>
-    ensures { OnOk result (code.new ≡ returned (frame_of (N.looks frame.now.names.now) frame.now.slots.now) (shape_some_exprs results.now) ++ code.old) }
+    ensures { OnOk result (code.new ≡ returned_code (frame_of (N.looks frame.now.names.now) frame.now.slots.now) (shape_some_exprs results.now) ++ code.old) }
 {
     match results {
         Some(results) => {

@@ -8,7 +8,7 @@ use Rattle.std.proofs.lemmas.Int.{ints, by_lt_z, quot-rem, rem_below}
 use Rattle.go_token_core.specs.declared.kind.Operator.TheVariants as operators
 use Rattle.go_constant_core.specs.declared.values.Constant.{Constant}
 use Rattle.go_constant_core.specs.declared.values.Constant.TheVariants as constants
-use Rattle.go_constant_core.specs.Values.{fits, ranged, divided, int_same, binary, unary}
+use Rattle.go_constant_core.specs.Values.{fits_64_bits, ranged, divided, int_same, binary, unary}
 use Rattle.go_constant_core.specs.Laws.{IsExactly, IsTruthOf, IsTextBefore, IsOneOf, HaveOneSign, Divides, Compares}
 use Rattle.go_constant_core.proofs.Tests.{fits_tells, same_tells, less_tells, text_same_tells, before_tells, bool_same_tells}
 
@@ -19,7 +19,7 @@ refuted false d never = refl
 pub exactly : (z : ℤ) → IsExactly (ranged z) z
 exactly z = record {
   inside = λ p. subst (λ (b : Bool). (if b then Some (constants.Int z) else None) ≡ Some (constants.Int z)) (sym ((fits_tells z).1 p)) refl;
-  outside = λ never. subst (λ (b : Bool). (if b then Some (constants.Int z) else None) ≡ None) (sym (refuted (fits z) (fits_tells z) never)) refl;
+  outside = λ never. subst (λ (b : Bool). (if b then Some (constants.Int z) else None) ≡ None) (sym (refuted (fits_64_bits z) (fits_tells z) never)) refl;
 }
 
 -- a division by what is not 0

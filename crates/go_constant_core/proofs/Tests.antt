@@ -7,10 +7,10 @@ use Rattle.std.proofs.lemmas.Bool.{ltb-true, lt-ltb}
 use Rattle.std.proofs.lemmas.Bool.Decides.{Decides-eqb, Decides-ltb, Decides-like}
 use Rattle.std.proofs.lemmas.Cmp.{ranked, by_ranked}
 use Rattle.std.proofs.lemmas.Int.{ints}
-use Rattle.go_constant_core.specs.Values.{fits, int_same, int_less, text_same, text_less, bool_same}
+use Rattle.go_constant_core.specs.Values.{fits_64_bits, int_same, int_less, text_same, text_less, bool_same}
 use Rattle.go_constant_core.specs.Laws.{IsInRange, IsTextBefore}
 
-pub fits_tells : (z : ℤ) → Decides (fits z) (IsInRange z)
+pub fits_tells : (z : ℤ) → Decides (fits_64_bits z) (IsInRange z)
 fits_tells (pos n) = (
   (λ h. let below : n < 2 ^ 63 = ltb-true n (2 ^ 63) h in (omega (arith, ints), omega (arith, ints))),
   (λ p. let above : pos n <ℤ pos (2 ^ 63) = p.1 in lt-ltb n (2 ^ 63) (omega (arith, ints))),

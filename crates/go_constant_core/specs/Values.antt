@@ -9,9 +9,9 @@ use Rattle.go_constant_core.specs.declared.values.Constant.{Constant}
 use Rattle.go_constant_core.specs.declared.values.Constant.TheVariants as constants
 
 -- -2^63 ≤ z < 2^63
-abbrev pub fits : ℤ → Bool
-fits (pos n) = nat_lt n (2 ^ 63)
-fits (negsuc n) = nat_lt n (2 ^ 63)
+abbrev pub fits_64_bits : ℤ → Bool
+fits_64_bits (pos n) = nat_lt n (2 ^ 63)
+fits_64_bits (negsuc n) = nat_lt n (2 ^ 63)
 
 abbrev pub int_same : ℤ → ℤ → Bool
 int_same (pos m) (pos n) = nat_eq m n
@@ -38,7 +38,7 @@ bool_same false b = not b
 
 -- the integer, or none where it is out of range
 abbrev pub ranged : ℤ → Option Constant
-ranged z = if fits z then Some (constants.Int z) else None
+ranged z = if fits_64_bits z then Some (constants.Int z) else None
 
 -- what comes of a division
 abbrev pub divided : (ℤ → ℤ → ℤ) → ℤ → ℤ → Option Constant

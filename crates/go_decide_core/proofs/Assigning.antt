@@ -4,13 +4,13 @@ use Rattle.go_term_core.specs.declared.term.Basic.{Basic}
 use Rattle.go_term_core.specs.declared.term.Basic.TheVariants as basics
 use Rattle.go_term_core.specs.Terms.{Term, NoType, Predeclared, ErrorType, Defined, PointerTo, StructOf, InterfaceOf, Fields}
 use Rattle.go_term_core.specs.Identity.{Identical}
-use Rattle.go_mset_core.specs.table_core.Entries.{Look, find, underlying_in, IsPlain}
+use Rattle.go_mset_core.specs.table_core.Entries.{EntryLook, find_entry, underlying_in, IsUnnamed}
 use Rattle.go_mset_core.specs.table_core.Assign.{Assigned, AValue, ANil, AnInteger, AText, ABoolean, IsNamed, IsInterface, IsPointer, IsValueAssignable, identical, alike, implements_it, IsFitting}
 use Rattle.go_denote_core.specs.operand_core.declared.types.TypeForm.TheVariants as forms
 use Rattle.go_decide_core.specs.Rules.{form_under}
 use Rattle.go_mset_core.specs.Implementing.{Implements}
 use Rattle.go_decide_core.specs.Identity.{identical_of}
-use Rattle.go_decide_core.specs.Conversion.{is_type}
+use Rattle.go_decide_core.specs.Conversion.{is_type_term}
 use Rattle.go_decide_core.specs.Implementing.{implements_of}
 use Rattle.go_decide_core.specs.Assigning.{assigned_type, is_named, is_interface, is_pointer, is_predeclared, value_fits, untyped_fits, is_fitting}
 use Rattle.go_decide_core.specs.Laws.{AssignabilityIsDecided, RulesAreDecided}
@@ -55,7 +55,7 @@ decides_predeclared b (PointerTo t) = never (λ h. cc)
 decides_predeclared b (StructOf path fs) = never (λ h. cc)
 decides_predeclared b (InterfaceOf path ms) = never (λ h. cc)
 
-module _ (look : Look) (t : Term) (I : Type 0) (implements : Bool) (test : IsTrue implements ↔ I) where
+module _ (look : EntryLook) (t : Term) (I : Type 0) (implements : Bool) (test : IsTrue implements ↔ I) where
   -- the rules for a value of a type
   abbrev ByRule : Term → Type 0
   ByRule v = Identical v t ⊎ ((Identical (underlying_in look v) (underlying_in look t) × ((IsNamed v × IsNamed t) → ⊥)) ⊎ (IsInterface (underlying_in look t) × I))
@@ -87,7 +87,7 @@ module _ (look : Look) (t : Term) (I : Type 0) (implements : Bool) (test : IsTru
       (both_decide (is_interface (underlying_in look t)) implements (decides_interface (underlying_in look t)) test)
 
   decides_fitting : (a : Assigned) → IsTrue (is_fitting look a t implements) ↔ IsFitting look a t I
-  decides_fitting (AValue v) = both_decide (is_type look v) (value_fits look v t implements) (decides_type look v) (decides_value v)
+  decides_fitting (AValue v) = both_decide (is_type_term look v) (value_fits look v t implements) (decides_type look v) (decides_value v)
   decides_fitting ANil = some_decide (is_pointer (underlying_in look t)) (is_interface (underlying_in look t)) (decides_pointer (underlying_in look t)) (decides_interface (underlying_in look t))
   decides_fitting AnInteger = decides_untyped basics.Int
   decides_fitting AText = decides_untyped basics.Text
@@ -95,8 +95,8 @@ module _ (look : Look) (t : Term) (I : Type 0) (implements : Bool) (test : IsTru
 
 pub assignability_decided : AssignabilityIsDecided
 assignability_decided es a t =
-    both_decide (is_type (find es) t) (is_fitting (find es) a t (implements_of es (assigned_type a) t)) (decides_type (find es) t)
-    (decides_fitting (find es) t (Implements (find es) (assigned_type a) t) (implements_of es (assigned_type a) t) (implementation_decided.implements es (assigned_type a) t) a)
+    both_decide (is_type_term (find_entry es) t) (is_fitting (find_entry es) a t (implements_of es (assigned_type a) t)) (decides_type (find_entry es) t)
+    (decides_fitting (find_entry es) t (Implements (find_entry es) (assigned_type a) t) (implements_of es (assigned_type a) t) (implementation_decided.implements es (assigned_type a) t) a)
 
 -- forms
 
@@ -136,7 +136,7 @@ struct_under (PointerTo t) = (λ h. cc, λ h. let e = h.2 in (cc))
 struct_under (StructOf path fs) = (λ h. (path, fs, refl), λ h. refl)
 struct_under (InterfaceOf path ms) = (λ h. cc, λ h. let e = h.2 in (cc))
 
-nothing_under : (u : Term) → IsPlain u → (form_under u ≡ forms.Nothing) ↔ ((u ≡ NoType → ⊥) → ⊥)
+nothing_under : (u : Term) → IsUnnamed u → (form_under u ≡ forms.Nothing) ↔ ((u ≡ NoType → ⊥) → ⊥)
 nothing_under NoType plain = (λ h some. some refl, λ h. refl)
 nothing_under (Predeclared c) plain = (λ h. cc, λ h. absurd (h (λ e. cc)))
 nothing_under ErrorType plain = (λ h. cc, λ h. absurd (h (λ e. cc)))
@@ -150,10 +150,10 @@ rules_decided =
     record {
       identical = λ es path t u. decides_by true t u;
       assignable = λ es path v t. assignability_decided es (AValue v) t;
-      convertible = λ es path s t. convertibility_decided (find es) s t;
-      basic = λ es path t b. basic_under (underlying_in (find es) t) b;
-      pointer = λ es path t base. pointer_under (underlying_in (find es) t) base;
-      interface = λ es path t. interface_under (underlying_in (find es) t);
-      struct_type = λ es path t. struct_under (underlying_in (find es) t);
-      nothing = λ es path t plain. nothing_under (underlying_in (find es) t) plain;
+      convertible = λ es path s t. convertibility_decided (find_entry es) s t;
+      basic = λ es path t b. basic_under (underlying_in (find_entry es) t) b;
+      pointer = λ es path t base. pointer_under (underlying_in (find_entry es) t) base;
+      interface = λ es path t. interface_under (underlying_in (find_entry es) t);
+      struct_type = λ es path t. struct_under (underlying_in (find_entry es) t);
+      nothing = λ es path t plain. nothing_under (underlying_in (find_entry es) t) plain;
     }

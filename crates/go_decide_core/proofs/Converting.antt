@@ -1,15 +1,15 @@
 -- Convertibility is decided.
 use Rattle.std.proofs.Common.{◌≡◌, ◌↔◌, false, IsTrue, ◌⊎◌, inl, inr, refl, subst}
 use Rattle.go_term_core.specs.Terms.{Term, NoType, Predeclared, ErrorType, Defined, PointerTo, StructOf, InterfaceOf}
-use Rattle.go_mset_core.specs.table_core.Entries.{Look, underlying_in}
+use Rattle.go_mset_core.specs.table_core.Entries.{EntryLook, underlying_in}
 use Rattle.go_mset_core.specs.table_core.Assign.{IsType}
 use Rattle.go_decide_core.specs.Identity.{identical_but_for_tags_of}
-use Rattle.go_decide_core.specs.Conversion.{AreAlike, IsConvertible, alike, pointers, is_nothing, is_type, are_alike, pointers_alike, convertible_of}
+use Rattle.go_decide_core.specs.Conversion.{AreAlike, IsTermConvertible, alike, pointers, is_no_type, is_type_term, are_alike, pointers_alike, convertible_of}
 use Rattle.go_decide_core.specs.Laws.{ConvertibilityIsDecided}
 use Rattle.go_decide_core.proofs.Tests.{both_decide, some_decide, never, decides_not}
 use Rattle.go_decide_core.proofs.Alike.{decides_by}
 
-decides_nothing : (t : Term) → IsTrue (is_nothing t) ↔ (t ≡ NoType)
+decides_nothing : (t : Term) → IsTrue (is_no_type t) ↔ (t ≡ NoType)
 decides_nothing NoType = (λ h. refl, λ h. refl)
 decides_nothing (Predeclared b) = never (λ h. cc)
 decides_nothing ErrorType = never (λ h. cc)
@@ -18,19 +18,19 @@ decides_nothing (PointerTo t) = never (λ h. cc)
 decides_nothing (StructOf path fs) = never (λ h. cc)
 decides_nothing (InterfaceOf path ms) = never (λ h. cc)
 
-pub decides_type : (look : Look) (t : Term) → IsTrue (is_type look t) ↔ IsType look t
-decides_type look t = decides_not (is_nothing (underlying_in look t)) (decides_nothing (underlying_in look t))
+pub decides_type : (look : EntryLook) (t : Term) → IsTrue (is_type_term look t) ↔ IsType look t
+decides_type look t = decides_not (is_no_type (underlying_in look t)) (decides_nothing (underlying_in look t))
 
-decides_alike : (look : Look) (s t : Term) → IsTrue (are_alike look s t) ↔ AreAlike look s t
+decides_alike : (look : EntryLook) (s t : Term) → IsTrue (are_alike look s t) ↔ AreAlike look s t
 decides_alike look s t =
-    let both = both_decide (is_type look s) (identical_but_for_tags_of (underlying_in look s) (underlying_in look t)) (decides_type look s) (decides_by false (underlying_in look s) (underlying_in look t)) in
+    let both = both_decide (is_type_term look s) (identical_but_for_tags_of (underlying_in look s) (underlying_in look t)) (decides_type look s) (decides_by false (underlying_in look s) (underlying_in look t)) in
     (λ h. let x = both.0 h in record { is_type = x.0; identical = x.1 }, λ h. both.1 (h.is_type, h.identical))
 
 -- two pointer types, with base types that are alike
-abbrev BasesAlike : Look → Term → Term → Type 0
+abbrev BasesAlike : EntryLook → Term → Term → Type 0
 BasesAlike look s t = (a : Term) × (b : Term) × (s ≡ PointerTo a) × (t ≡ PointerTo b) × AreAlike look a b
 
-decides_pointers : (look : Look) (s t : Term) → IsTrue (pointers_alike look s t) ↔ BasesAlike look s t
+decides_pointers : (look : EntryLook) (s t : Term) → IsTrue (pointers_alike look s t) ↔ BasesAlike look s t
 decides_pointers look (PointerTo a) (PointerTo b) = (
   λ h. (a, b, refl, refl, (decides_alike look a b).0 h),
   λ h.
@@ -47,10 +47,10 @@ convertibility_decided look s t = (λ h. to (both.0 h), λ h. both.1 (from h))
     both : IsTrue (convertible_of look s t) ↔ (AreAlike look s t ⊎ BasesAlike look s t)
     both = some_decide (are_alike look s t) (pointers_alike look s t) (decides_alike look s t) (decides_pointers look s t)
 
-    to : AreAlike look s t ⊎ BasesAlike look s t → IsConvertible look s t
+    to : AreAlike look s t ⊎ BasesAlike look s t → IsTermConvertible look s t
     to (inl h) = alike h
     to (inr h) = pointers h.0 h.1 h.2 h.3 h.4
 
-    from : IsConvertible look s t → AreAlike look s t ⊎ BasesAlike look s t
+    from : IsTermConvertible look s t → AreAlike look s t ⊎ BasesAlike look s t
     from (alike h) = inl h
     from (pointers a b x y h) = inr (a, b, x, y, h)

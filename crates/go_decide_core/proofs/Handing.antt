@@ -2,21 +2,21 @@
 use Rattle.std.proofs.Common.{◌≡◌, ℕ, Bool, List, Ok, Err, ap}
 use Rattle.go_text_core.specs.declared.rule.Rule.{Rule}
 use Rattle.go_term_core.specs.Terms.{Term}
-use Rattle.go_mset_core.specs.table_core.Entries.{Entry, find}
+use Rattle.go_mset_core.specs.table_core.Entries.{Entry, find_entry}
 use Rattle.go_mset_core.specs.embed_core.Owners.{Found, AFieldOf, AMethodOf, AnInterfaces, TheErrorMethod}
-use Rattle.go_mset_core.specs.select_core.Selectors.{IsDenoted, IsRule}
+use Rattle.go_mset_core.specs.level_core.Selectors.{IsDenoted, IsRule}
 use Rattle.go_decide_core.specs.Selecting.{choice, selected_of}
 use Rattle.go_decide_core.specs.Rules.{selection_of}
 use Rattle.go_decide_core.specs.Laws.{SelectionsAreDecided}
 use Rattle.go_decide_core.proofs.Choosing.{denoted_decided, refused_decided}
 
 module _ {D P : Type 0} (decl : Found → D) (path_of : List ℕ → P) (es : List Entry) (t : Term) (name from : List ℕ) where
-  handed : (path : List ℕ) (passes : Bool) (f : Found) → IsDenoted (find es) t name from path passes f
-      → selection_of decl path_of (find es) (selected_of es t name from) ≡ selection_of decl path_of (find es) (Ok (choice path passes f))
-  handed path passes f d = ap (λ r. selection_of decl path_of (find es) r) ((denoted_decided es t name from path passes f).1 d)
+  handed : (path : List ℕ) (passes : Bool) (f : Found) → IsDenoted (find_entry es) t name from path passes f
+      → selection_of decl path_of (find_entry es) (selected_of es t name from) ≡ selection_of decl path_of (find_entry es) (Ok (choice path passes f))
+  handed path passes f d = ap (λ r. selection_of decl path_of (find_entry es) r) ((denoted_decided es t name from path passes f).1 d)
 
-  refused : (rule : Rule) → IsRule (find es) t name from rule → selection_of decl path_of (find es) (selected_of es t name from) ≡ selection_of decl path_of (find es) (Err rule)
-  refused rule d = ap (λ r. selection_of decl path_of (find es) r) ((refused_decided es t name from rule).1 d)
+  refused : (rule : Rule) → IsRule (find_entry es) t name from rule → selection_of decl path_of (find_entry es) (selected_of es t name from) ≡ selection_of decl path_of (find_entry es) (Err rule)
+  refused rule d = ap (λ r. selection_of decl path_of (find_entry es) r) ((refused_decided es t name from rule).1 d)
 
 pub selections_decided : (D P : Type 0) → SelectionsAreDecided D P
 selections_decided D P =

@@ -1,7 +1,7 @@
 -- Items of lists that are put together, and lists whose items differ.
 use Rattle.std.proofs.Common.{◌≡◌, List, [], ◌∷◌, ◌++◌, map, refl, sym, ap, subst, ◌⊎◌, inl, inr}
 use Rattle.std.specs.Prelude.{⊤}
-use Rattle.go_mset_core.specs.select_core.ListLemmas.{In}
+use Rattle.go_mset_core.specs.level_core.ListLemmas.{In}
 
 pub in_append : {A : Type 0} (xs ys : List A) (x : A) → In (xs ++ ys) x → In xs x ⊎ In ys x
 in_append [] ys x h = inr h

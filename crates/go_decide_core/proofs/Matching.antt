@@ -3,19 +3,19 @@ use Rattle.std.proofs.Common.{◌≡◌, ℕ, zero, suc, ◌+◌, ◌≤◌, Boo
 use Rattle.std.specs.Prelude.{slice_get}
 use Rattle.go_text_core.specs.Text.{SameId}
 use Rattle.go_term_core.specs.Terms.{Term, NoType, Predeclared, ErrorType, Defined, PointerTo, StructOf, InterfaceOf, Fields, NoField, AField}
-use Rattle.go_mset_core.specs.table_core.Entries.{Look, same_id, has_method}
-use Rattle.go_mset_core.specs.embed_core.Owners.{OwnerModel, Edge, edge, owner_in, fields_embedded, term_embedded, embedded_in, Found, Named, members_of}
+use Rattle.go_mset_core.specs.table_core.Entries.{EntryLook, same_id, has_method}
+use Rattle.go_mset_core.specs.embed_core.Owners.{OwnerModel, EmbeddedEdge, embedded_edge, owner_in, embedded_edges, term_embedded, embedded_in, Found, Named, members_of}
 use Rattle.go_mset_core.specs.embed_core.OwnersShown.{IsNamedAt}
-use Rattle.go_mset_core.specs.select_core.Paths.{Step, Leads, Hit}
-use Rattle.go_mset_core.specs.select_core.ListLemmas.{In, contained_in}
-use Rattle.go_mset_core.specs.select_core.Edges.{step_edge}
+use Rattle.go_mset_core.specs.level_core.Paths.{Step, FieldsLead, Hit}
+use Rattle.go_mset_core.specs.level_core.ListLemmas.{In, contained_in}
+use Rattle.go_mset_core.specs.level_core.Edges.{step_edge}
 use Rattle.go_decide_core.specs.Selecting.{Trail, trail, behind_edge, behind_edges, trails_of, Match, match_at, matches_among, matches_behind, matches_of}
 use Rattle.go_decide_core.proofs.Lists.{in_append, in_front, in_back, in_mapped, mapped_in, Apart, apart_append, apart_map}
 use Rattle.go_decide_core.proofs.Alike.{decides_id}
 
 -- trails
 
-behind_found : (f : Term → List Trail) (es : List Edge) (w : Trail) → In (behind_edges f es) w → (e : Edge) × In es e × ((v : Trail) × In (f e.target) v × (behind_edge e v ≡ w))
+behind_found : (f : Term → List Trail) (es : List EmbeddedEdge) (w : Trail) → In (behind_edges f es) w → (e : EmbeddedEdge) × In es e × ((v : Trail) × In (f e.target) v × (behind_edge e v ≡ w))
 behind_found f [] w h = absurd h
 behind_found f (e ∷ es) w h =
     elim (in_append (map (behind_edge e) (f e.target)) (behind_edges f es) w h) [
@@ -23,22 +23,22 @@ behind_found f (e ∷ es) w h =
       | inr k ↦ let r = behind_found f es w k in (r.0, inr r.1, r.2)
     ]
 
-found_behind : (f : Term → List Trail) (es : List Edge) (e : Edge) (v : Trail) → In es e → In (f e.target) v → In (behind_edges f es) (behind_edge e v)
+found_behind : (f : Term → List Trail) (es : List EmbeddedEdge) (e : EmbeddedEdge) (v : Trail) → In es e → In (f e.target) v → In (behind_edges f es) (behind_edge e v)
 found_behind f [] e v h k = absurd h
 found_behind f (x ∷ es) e v (inl s) k =
     in_front (map (behind_edge x) (f x.target)) (behind_edges f es) (behind_edge e v)
-    (subst (λ y. In (map (behind_edge x) (f x.target)) (behind_edge y v)) s (mapped_in (behind_edge x) (f x.target) v (subst (λ (y : Edge). In (f y.target) v) (sym s) k)))
+    (subst (λ y. In (map (behind_edge x) (f x.target)) (behind_edge y v)) s (mapped_in (behind_edge x) (f x.target) v (subst (λ (y : EmbeddedEdge). In (f y.target) v) (sym s) k)))
 found_behind f (x ∷ es) e v (inr h) k = in_back (map (behind_edge x) (f x.target)) (behind_edges f es) (behind_edge e v) (found_behind f es e v h k)
 
-edge_step : (look : Look) (t : Term) (e : Edge) → In (embedded_in (owner_in look t)) e → Step look t e.position e.pointer e.target
+edge_step : (look : EntryLook) (t : Term) (e : EmbeddedEdge) → In (embedded_in (owner_in look t)) e → Step look t e.position e.pointer e.target
 unfolding Step
 edge_step look t e h = (e, contained_in (embedded_in (owner_in look t)) e h, refl, refl, refl)
 
 -- each is led to by its path, which is as long as it is deep
-abbrev IsLed : Look → ℕ → Term → Trail → Type 0
-IsLed look depth t w = Leads look t w.path w.pointer w.node × (length w.path ≡ depth)
+abbrev IsLed : EntryLook → ℕ → Term → Trail → Type 0
+IsLed look depth t w = FieldsLead look t w.path w.pointer w.node × (length w.path ≡ depth)
 
-pub led : (look : Look) (depth : ℕ) (t : Term) (w : Trail) → In (trails_of look depth t) w → IsLed look depth t w
+pub led : (look : EntryLook) (depth : ℕ) (t : Term) (w : Trail) → In (trails_of look depth t) w → IsLed look depth t w
 led look zero t w (inl e) = subst (λ v. IsLed look zero t v) e ((refl, refl), refl)
 led look zero t w (inr h) = absurd h
 led look (suc depth) t w h =
@@ -47,7 +47,7 @@ led look (suc depth) t w h =
     subst (λ v. IsLed look (suc depth) t v) r.2.2 ((r.0.target, r.0.pointer, r.2.0.pointer, edge_step look t r.0 r.1, l.0, refl), ap (λ k. suc k) l.1)
 
 -- and each path leads to one
-pub leading : (look : Look) (t : Term) (q : List ℕ) (p : Bool) (u : Term) → Leads look t q p u → In (trails_of look (length q) t) (trail q p u)
+pub leading : (look : EntryLook) (t : Term) (q : List ℕ) (p : Bool) (u : Term) → FieldsLead look t q p u → In (trails_of look (length q) t) (trail q p u)
 leading look t [] p u h = inl (λ i. trail [] (sym h.1 i) (h.0 i))
 leading look t (i ∷ q) p u h =
     let x = step_edge look t i h.1 h.0 h.3 in
@@ -58,30 +58,30 @@ leading look t (i ∷ q) p u h =
 
 -- trails of one depth have paths that differ
 
-abbrev SamePlace : Edge → Edge → Type 0
+abbrev SamePlace : EmbeddedEdge → EmbeddedEdge → Type 0
 SamePlace e f = e.position ≡ f.position
 
 abbrev SamePath : Trail → Trail → Type 0
 SamePath w v = w.path ≡ v.path
 
-above_step : (b : Bool) (i : ℕ) (t : Term) (rest : List Edge) (e : Edge) → (In rest e → suc i ≤ e.position) → In (if b then edge i t ∷ rest else rest) e → i ≤ e.position
-above_step true i t rest e more (inl s) = let p : i ≡ e.position = ap (λ (y : Edge). y.position) s in omega (arith, p)
+above_step : (b : Bool) (i : ℕ) (t : Term) (rest : List EmbeddedEdge) (e : EmbeddedEdge) → (In rest e → suc i ≤ e.position) → In (if b then embedded_edge i t ∷ rest else rest) e → i ≤ e.position
+above_step true i t rest e more (inl s) = let p : i ≡ e.position = ap (λ (y : EmbeddedEdge). y.position) s in omega (arith, p)
 above_step true i t rest e more (inr r) = let l = more r in omega (arith, l)
 above_step false i t rest e more r = let l = more r in omega (arith, l)
 
-above : (o : OwnerModel) (path : List ℕ) (i : ℕ) (fs : Fields) (e : Edge) → In (fields_embedded o path i fs) e → i ≤ e.position
+above : (o : OwnerModel) (path : List ℕ) (i : ℕ) (fs : Fields) (e : EmbeddedEdge) → In (embedded_edges o path i fs) e → i ≤ e.position
 above o path i NoField e h = absurd h
 above o path i (AField name place embedded t tag fs) e h =
-    above_step (embedded && not (has_method o.path o.methods name path)) i t (fields_embedded o path (suc i) fs) e (λ r. above o path (suc i) fs e r) h
+    above_step (embedded && not (has_method o.path o.methods name path)) i t (embedded_edges o path (suc i) fs) e (λ r. above o path (suc i) fs e r) h
 
-apart_step : (b : Bool) (i : ℕ) (t : Term) (rest : List Edge) → ((e : Edge) → In rest e → suc i ≤ e.position) → Apart SamePlace rest → Apart SamePlace (if b then edge i t ∷ rest else rest)
+apart_step : (b : Bool) (i : ℕ) (t : Term) (rest : List EmbeddedEdge) → ((e : EmbeddedEdge) → In rest e → suc i ≤ e.position) → Apart SamePlace rest → Apart SamePlace (if b then embedded_edge i t ∷ rest else rest)
 apart_step true i t rest higher a = (λ e h same. let l = higher e h in omega (arith, l, same), a)
 apart_step false i t rest higher a = a
 
-fields_apart : (o : OwnerModel) (path : List ℕ) (i : ℕ) (fs : Fields) → Apart SamePlace (fields_embedded o path i fs)
+fields_apart : (o : OwnerModel) (path : List ℕ) (i : ℕ) (fs : Fields) → Apart SamePlace (embedded_edges o path i fs)
 fields_apart o path i NoField = tt
 fields_apart o path i (AField name place embedded t tag fs) =
-    apart_step (embedded && not (has_method o.path o.methods name path)) i t (fields_embedded o path (suc i) fs) (λ e h. above o path (suc i) fs e h) (fields_apart o path (suc i) fs)
+    apart_step (embedded && not (has_method o.path o.methods name path)) i t (embedded_edges o path (suc i) fs) (λ e h. above o path (suc i) fs e h) (fields_apart o path (suc i) fs)
 
 edges_apart : (o : OwnerModel) (u : Term) → Apart SamePlace (term_embedded o u)
 edges_apart o NoType = tt
@@ -98,7 +98,7 @@ heads i j p q h = cc
 tails : (i j : ℕ) (p q : List ℕ) → i ∷ p ≡ j ∷ q → p ≡ q
 tails i j p q h = cc
 
-behind_apart : (f : Term → List Trail) (es : List Edge) → Apart SamePlace es → ((u : Term) → Apart SamePath (f u)) → Apart SamePath (behind_edges f es)
+behind_apart : (f : Term → List Trail) (es : List EmbeddedEdge) → Apart SamePlace es → ((u : Term) → Apart SamePath (f u)) → Apart SamePath (behind_edges f es)
 behind_apart f [] a each = tt
 behind_apart f (e ∷ es) a each =
     apart_append SamePath (map (behind_edge e) (f e.target)) (behind_edges f es)
@@ -109,7 +109,7 @@ behind_apart f (e ∷ es) a each =
     let n = behind_found f es y k in
     a.0 n.0 n.1 (heads e.position n.0.position m.0.path n.2.0.path (ap (λ (v : Trail). v.path) m.2 ∙ s ∙ sym (ap (λ (v : Trail). v.path) n.2.2))))
 
-pub trails_apart : (look : Look) (depth : ℕ) (t : Term) → Apart SamePath (trails_of look depth t)
+pub trails_apart : (look : EntryLook) (depth : ℕ) (t : Term) → Apart SamePath (trails_of look depth t)
 trails_apart look zero t = (λ y h. absurd h, tt)
 trails_apart look (suc depth) t = behind_apart (trails_of look depth) (embedded_in (owner_in look t)) (edges_apart (owner_in look t) (owner_in look t).underlying) (λ u. trails_apart look depth u)
 
@@ -165,10 +165,10 @@ among_apart w name from i (n ∷ ns) =
     among_apart_step (same_id n.0 n.1.0 name from) (match_at w i n.1.1) (matches_among w name from (suc i) ns)
     (λ m h. let r = among w name from (suc i) ns m h in let e = r.1.2 in omega (arith, e)) (among_apart w name from (suc i) ns)
 
-abbrev IsMatch : Look → List ℕ → List ℕ → List Trail → Match → Type 0
+abbrev IsMatch : EntryLook → List ℕ → List ℕ → List Trail → Match → Type 0
 IsMatch look name from ws m = In ws m.trail × IsNamedAt (owner_in look m.trail.node) name from m.number m.member
 
-matched : (look : Look) (name from : List ℕ) (ws : List Trail) (m : Match) → In (matches_behind look name from ws) m → IsMatch look name from ws m
+matched : (look : EntryLook) (name from : List ℕ) (ws : List Trail) (m : Match) → In (matches_behind look name from ws) m → IsMatch look name from ws m
 matched look name from [] m h = absurd h
 matched look name from (w ∷ ws) m h =
     elim (in_append (matches_among w name from 0 (members_of (owner_in look w.node))) (matches_behind look name from ws) m h) [
@@ -180,7 +180,7 @@ matched look name from (w ∷ ws) m h =
       | inr k ↦ let r = matched look name from ws m k in (inr r.0, r.1)
     ]
 
-matching : (look : Look) (name from : List ℕ) (ws : List Trail) (w : Trail) (n : ℕ) (f : Found) → In ws w → IsNamedAt (owner_in look w.node) name from n f → In (matches_behind look name from ws) (match_at w n f)
+matching : (look : EntryLook) (name from : List ℕ) (ws : List Trail) (w : Trail) (n : ℕ) (f : Found) → In ws w → IsNamedAt (owner_in look w.node) name from n f → In (matches_behind look name from ws) (match_at w n f)
 matching look name from [] w n f h has = absurd h
 matching look name from (v ∷ ws) w n f (inl e) has =
     let own : IsNamedAt (owner_in look v.node) name from n f = subst (λ (x : Trail). IsNamedAt (owner_in look x.node) name from n f) (sym e) has in
@@ -191,7 +191,7 @@ matching look name from (v ∷ ws) w n f (inl e) has =
 matching look name from (v ∷ ws) w n f (inr h) has =
     in_back (matches_among v name from 0 (members_of (owner_in look v.node))) (matches_behind look name from ws) (match_at w n f) (matching look name from ws w n f h has)
 
-matches_apart : (look : Look) (name from : List ℕ) (ws : List Trail) → Apart SamePath ws → Apart SameMatch (matches_behind look name from ws)
+matches_apart : (look : EntryLook) (name from : List ℕ) (ws : List Trail) → Apart SamePath ws → Apart SameMatch (matches_behind look name from ws)
 matches_apart look name from [] a = tt
 matches_apart look name from (w ∷ ws) a =
     apart_append SameMatch (matches_among w name from 0 (members_of (owner_in look w.node))) (matches_behind look name from ws)
@@ -203,16 +203,16 @@ matches_apart look name from (w ∷ ws) a =
 
 -- the matches of a depth are the hits whose paths are so long, each once
 
-pub hit_of : (look : Look) (t : Term) (name from : List ℕ) (depth : ℕ) (m : Match) → In (matches_of look t name from depth) m
+pub hit_of : (look : EntryLook) (t : Term) (name from : List ℕ) (depth : ℕ) (m : Match) → In (matches_of look t name from depth) m
     → Hit look t name from m.trail.path m.trail.pointer m.number m.member × (length m.trail.path ≡ depth)
 hit_of look t name from depth m h =
     let r = matched look name from (trails_of look depth t) m h in
     let l = led look depth t m.trail r.0 in
     (record { at = m.trail.node; leads = l.0; has = r.1 }, l.1)
 
-pub of_hit : (look : Look) (t : Term) (name from : List ℕ) (q : List ℕ) (p : Bool) (n : ℕ) (f : Found) (h : Hit look t name from q p n f)
+pub of_hit : (look : EntryLook) (t : Term) (name from : List ℕ) (q : List ℕ) (p : Bool) (n : ℕ) (f : Found) (h : Hit look t name from q p n f)
     → In (matches_of look t name from (length q)) (match_at (trail q p h.at) n f)
 of_hit look t name from q p n f h = matching look name from (trails_of look (length q) t) (trail q p h.at) n f (leading look t q p h.at h.leads) h.has
 
-pub all_apart : (look : Look) (t : Term) (name from : List ℕ) (depth : ℕ) → Apart SameMatch (matches_of look t name from depth)
+pub all_apart : (look : EntryLook) (t : Term) (name from : List ℕ) (depth : ℕ) → Apart SameMatch (matches_of look t name from depth)
 all_apart look t name from depth = matches_apart look name from (trails_of look depth t) (trails_apart look depth t)

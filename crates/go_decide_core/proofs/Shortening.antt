@@ -4,15 +4,15 @@ use Rattle.std.specs.Prelude.{nat_eq}
 use Rattle.std.specs.Map.{lookup}
 use Rattle.go_term_core.specs.decl_core.declared.keys.DeclKey.{DeclKey}
 use Rattle.go_term_core.specs.Terms.{Term, NoType, Predeclared, ErrorType, Defined, PointerTo, StructOf, InterfaceOf, Fields, NoField, AField}
-use Rattle.go_mset_core.specs.table_core.Entries.{Entry, find, same_key, term_in, underlying_in, has_method}
-use Rattle.go_mset_core.specs.embed_core.Owners.{OwnerModel, Edge, edge, off, owner_in, fields_embedded, term_embedded, embedded_in}
-use Rattle.go_mset_core.specs.select_core.Paths.{Step, Leads}
-use Rattle.go_mset_core.specs.select_core.mirrors.Ways.{At, IsNumbered}
-use Rattle.go_mset_core.specs.select_core.mirrors.Levels.{left_below, left}
-use Rattle.go_mset_core.specs.select_core.ListLemmas.{In}
-use Rattle.go_mset_core.specs.select_core.Edges.{step_edge}
-use Rattle.go_mset_core.specs.select_core.Weights.{lookup_more, lookup_new, left_falls}
-use Rattle.go_mset_core.specs.select_core.Growing.{numbered_same}
+use Rattle.go_mset_core.specs.table_core.Entries.{Entry, find_entry, same_key, term_in, underlying_in, has_method}
+use Rattle.go_mset_core.specs.embed_core.Owners.{OwnerModel, EmbeddedEdge, embedded_edge, off, owner_in, embedded_edges, term_embedded, embedded_in}
+use Rattle.go_mset_core.specs.level_core.Paths.{Step, FieldsLead}
+use Rattle.go_mset_core.specs.level_core.mirrors.Ways.{At, IsNumbered}
+use Rattle.go_mset_core.specs.level_core.mirrors.Levels.{left_below, left}
+use Rattle.go_mset_core.specs.level_core.ListLemmas.{In}
+use Rattle.go_mset_core.specs.level_core.Edges.{step_edge}
+use Rattle.go_mset_core.specs.level_core.Weights.{lookup_more, lookup_new, left_falls}
+use Rattle.go_mset_core.specs.level_core.Growing.{numbered_same}
 use Rattle.go_decide_core.specs.Selecting.{nesting, fields_nesting, deepest, last_depth}
 use Rattle.go_decide_core.proofs.Tests.{decides_key}
 
@@ -22,9 +22,9 @@ deep_step : (b : Bool) (x e : Entry) (n : ℕ) (rest : Option Entry) → (rest �
 deep_step true x e n rest more h = let s : x ≡ e = (cc) in let d : nesting x.term ≡ nesting e.term = ap (λ (y : Entry). nesting y.term) s in omega (arith, d)
 deep_step false x e n rest more h = let l = more h in omega (arith, l)
 
-find_deep : (es : List Entry) (k : DeclKey) (e : Entry) → find es k ≡ Some e → nesting e.term ≤ deepest es
+find_deep : (es : List Entry) (k : DeclKey) (e : Entry) → find_entry es k ≡ Some e → nesting e.term ≤ deepest es
 find_deep [] k e h = cc
-find_deep (x ∷ es) k e h = deep_step (same_key x.key k) x e (deepest es) (find es k) (λ r. find_deep es k e r) h
+find_deep (x ∷ es) k e h = deep_step (same_key x.key k) x e (deepest es) (find_entry es k) (λ r. find_deep es k e r) h
 
 off_deep : (t : Term) → nesting (off t) ≤ nesting t
 off_deep NoType = omega arith
@@ -35,19 +35,19 @@ off_deep (PointerTo t) = omega arith
 off_deep (StructOf path fs) = omega arith
 off_deep (InterfaceOf path ms) = omega arith
 
-field_step : (b : Bool) (i : ℕ) (t : Term) (n : ℕ) (rest : List Edge) (e : Edge) → (In rest e → nesting e.target ≤ n) → In (if b then edge i t ∷ rest else rest) e → nesting e.target ≤ max (nesting t) n
+field_step : (b : Bool) (i : ℕ) (t : Term) (n : ℕ) (rest : List EmbeddedEdge) (e : EmbeddedEdge) → (In rest e → nesting e.target ≤ n) → In (if b then embedded_edge i t ∷ rest else rest) e → nesting e.target ≤ max (nesting t) n
 field_step true i t n rest e more (inl s) =
-    let d : nesting (off t) ≡ nesting e.target = ap (λ (y : Edge). nesting y.target) s in
+    let d : nesting (off t) ≡ nesting e.target = ap (λ (y : EmbeddedEdge). nesting y.target) s in
     let l = off_deep t in omega (arith, d, l)
 field_step true i t n rest e more (inr r) = let l = more r in omega (arith, l)
 field_step false i t n rest e more r = let l = more r in omega (arith, l)
 
-fields_deep : (o : OwnerModel) (path : List ℕ) (i : ℕ) (fs : Fields) (e : Edge) → In (fields_embedded o path i fs) e → nesting e.target ≤ fields_nesting fs
+fields_deep : (o : OwnerModel) (path : List ℕ) (i : ℕ) (fs : Fields) (e : EmbeddedEdge) → In (embedded_edges o path i fs) e → nesting e.target ≤ fields_nesting fs
 fields_deep o path i NoField e h = absurd h
 fields_deep o path i (AField name place embedded t tag fs) e h =
-    field_step (embedded && not (has_method o.path o.methods name path)) i t (fields_nesting fs) (fields_embedded o path (suc i) fs) e (λ r. fields_deep o path (suc i) fs e r) h
+    field_step (embedded && not (has_method o.path o.methods name path)) i t (fields_nesting fs) (embedded_edges o path (suc i) fs) e (λ r. fields_deep o path (suc i) fs e r) h
 
-term_deep : (o : OwnerModel) (u : Term) (e : Edge) → In (term_embedded o u) e → nesting e.target < nesting u
+term_deep : (o : OwnerModel) (u : Term) (e : EmbeddedEdge) → In (term_embedded o u) e → nesting e.target < nesting u
 term_deep o NoType e h = absurd h
 term_deep o (Predeclared b) e h = absurd h
 term_deep o ErrorType e h = absurd h
@@ -62,38 +62,38 @@ found_step : (b : Bool) (x e : Entry) (rest : Option Entry) (k : DeclKey) (es : 
 found_step true x e rest k es is more h = let s : x ≡ e = (cc) in (0, ap Some s, ap (λ (y : Entry). y.key) (sym s) ∙ (decides_key x.key k).0 is)
 found_step false x e rest k es is more h = let r = more h in (suc r.0, r.1, r.2)
 
-found_at : (es : List Entry) (k : DeclKey) (e : Entry) → find es k ≡ Some e → (n : ℕ) × At es n e × (e.key ≡ k)
+found_at : (es : List Entry) (k : DeclKey) (e : Entry) → find_entry es k ≡ Some e → (n : ℕ) × At es n e × (e.key ≡ k)
 found_at [] k e h = cc
-found_at (x ∷ es) k e h = found_step (same_key x.key k) x e (find es k) k es refl (λ r. found_at es k e r) h
+found_at (x ∷ es) k e h = found_step (same_key x.key k) x e (find_entry es k) k es refl (λ r. found_at es k e r) h
 
-numbered : (es : List Entry) (k : DeclKey) (e : Entry) → find es k ≡ Some e → (n : ℕ) × IsNumbered es n (Defined k)
+numbered : (es : List Entry) (k : DeclKey) (e : Entry) → find_entry es k ≡ Some e → (n : ℕ) × IsNumbered es n (Defined k)
 numbered es k e h =
     let r = found_at es k e h in
-    (r.0, record { entry = e; at = r.1; is = ap Defined (sym r.2); found = ap (find es) r.2 ∙ h })
+    (r.0, record { entry = e; at = r.1; is = ap Defined (sym r.2); found = ap (find_entry es) r.2 ∙ h })
 
 -- a type that embeds one is of the table, or the one stands within it
 abbrev Falls : List Entry → Term → Term → Type 0
 Falls es t v = (((n : ℕ) × IsNumbered es n t) × (nesting v ≤ deepest es)) ⊎ (nesting v < nesting t)
 
-edge_falls : (es : List Entry) (t : Term) (e : Edge) → In (embedded_in (owner_in (find es) t)) e → Falls es t e.target
+edge_falls : (es : List Entry) (t : Term) (e : EmbeddedEdge) → In (embedded_in (owner_in (find_entry es) t)) e → Falls es t e.target
 edge_falls es NoType e h = absurd h
 edge_falls es (Predeclared b) e h = absurd h
 edge_falls es ErrorType e h = absurd h
-edge_falls es (Defined k) e h = by (find es k) refl
+edge_falls es (Defined k) e h = by (find_entry es k) refl
   where
-    by : (r : Option Entry) → find es k ≡ r → Falls es (Defined k) e.target
-    by None is = let u : underlying_in (find es) (Defined k) ≡ NoType = ap term_in is in absurd (subst (λ w. In (term_embedded (owner_in (find es) (Defined k)) w) e) u h)
+    by : (r : Option Entry) → find_entry es k ≡ r → Falls es (Defined k) e.target
+    by None is = let u : underlying_in (find_entry es) (Defined k) ≡ NoType = ap term_in is in absurd (subst (λ w. In (term_embedded (owner_in (find_entry es) (Defined k)) w) e) u h)
     by (Some x) is =
-        let u : underlying_in (find es) (Defined k) ≡ x.term = ap term_in is in
-        let d = term_deep (owner_in (find es) (Defined k)) x.term e (subst (λ w. In (term_embedded (owner_in (find es) (Defined k)) w) e) u h) in
+        let u : underlying_in (find_entry es) (Defined k) ≡ x.term = ap term_in is in
+        let d = term_deep (owner_in (find_entry es) (Defined k)) x.term e (subst (λ w. In (term_embedded (owner_in (find_entry es) (Defined k)) w) e) u h) in
         let l = find_deep es k x is in
         inl (numbered es k x is, omega (arith, d, l))
 edge_falls es (PointerTo t) e h = absurd h
-edge_falls es (StructOf path fs) e h = inr (term_deep (owner_in (find es) (StructOf path fs)) (StructOf path fs) e h)
+edge_falls es (StructOf path fs) e h = inr (term_deep (owner_in (find_entry es) (StructOf path fs)) (StructOf path fs) e h)
 edge_falls es (InterfaceOf path ms) e h = absurd h
 
-step_falls : (es : List Entry) (t : Term) (i : ℕ) (p : Bool) (v : Term) → Step (find es) t i p v → Falls es t v
-step_falls es t i p v s = let x = step_edge (find es) t i p v s in subst (λ w. Falls es t w) x.5 (edge_falls es t x.0 x.2)
+step_falls : (es : List Entry) (t : Term) (i : ℕ) (p : Bool) (v : Term) → Step (find_entry es) t i p v → Falls es t v
+step_falls es t i p v s = let x = step_edge (find_entry es) t i p v s in subst (λ w. Falls es t w) x.5 (edge_falls es t x.0 x.2)
 
 -- whether a type is that defined type
 same_node : (w : Term) (j : DeclKey) → (w ≡ Defined j) ⊎ (w ≡ Defined j → ⊥)
@@ -116,9 +116,9 @@ Free es met u = (n : ℕ) → IsNumbered es n u → lookup (nat_eq n) met ≡ No
 
 abbrev Avoids : List Entry → List (ℕ × ℕ) → Term → List ℕ → Term → Type 0
 Avoids es met t [] u = Free es met t × (t ≡ u)
-Avoids es met t (i ∷ q) u = Free es met t × ((v : Term) × (p : Bool) × Step (find es) t i p v × Avoids es met v q u)
+Avoids es met t (i ∷ q) u = Free es met t × ((v : Term) × (p : Bool) × Step (find_entry es) t i p v × Avoids es met v q u)
 
-avoids_none : (es : List Entry) (t : Term) (q : List ℕ) (p : Bool) (u : Term) → Leads (find es) t q p u → Avoids es [] t q u
+avoids_none : (es : List Entry) (t : Term) (q : List ℕ) (p : Bool) (u : Term) → FieldsLead (find_entry es) t q p u → Avoids es [] t q u
 avoids_none es t [] p u h = (λ n num. refl, h.0)
 avoids_none es t (i ∷ q) p u h = (λ n num. refl, (h.0, h.1, h.3, avoids_none es h.0 q h.2 u h.4))
 
@@ -127,7 +127,7 @@ free_more es met n w free other m num = lookup_more met n 0 m (λ e. other (subs
 
 -- the last time that a path is at t: it never is, or the rest of it never comes back
 abbrev Rest : List Entry → List (ℕ × ℕ) → Term → Term → Type 0
-Rest es met t u = (t ≡ u) ⊎ ((i : ℕ) × (p : Bool) × (v : Term) × (q : List ℕ) × Step (find es) t i p v × Avoids es met v q u)
+Rest es met t u = (t ≡ u) ⊎ ((i : ℕ) × (p : Bool) × (v : Term) × (q : List ℕ) × Step (find_entry es) t i p v × Avoids es met v q u)
 
 same_as : (es : List Entry) (n : ℕ) (t : Term) (num : IsNumbered es n t) (w : Term) → (w ≡ t) ⊎ (w ≡ t → ⊥)
 same_as es n t num w = elim (same_node w num.entry.key) [ inl e ↦ inl (e ∙ sym num.is) | inr d ↦ inr (λ e. d (e ∙ num.is)) ]
@@ -142,7 +142,7 @@ last_visit es met n t num w (i ∷ q) u h =
     elim (last_visit es met n t num h.1.0 q u h.1.3) [
       | inr r ↦ inr r
       | inl a ↦ elim (same_as es n t num w) [
-        | inl z ↦ inr (inr (i, h.1.1, h.1.0, q, subst (λ k. Step (find es) k i h.1.1 h.1.0) z h.1.2, a))
+        | inl z ↦ inr (inr (i, h.1.1, h.1.0, q, subst (λ k. Step (find_entry es) k i h.1.1 h.1.0) z h.1.2, a))
         | inr d ↦ inl (free_more es met n w h.0 (λ m. d (numbered_same es n w t m num)), (h.1.0, h.1.1, h.1.2, a))
       ]
     ]
@@ -169,7 +169,7 @@ abbrev cost : List Entry → List (ℕ × ℕ) → Term → ℕ
 cost es met t = left es met * suc (deepest es) + nesting t
 
 abbrev Short : List Entry → Term → Term → ℕ → Type 0
-Short es t u b = (r : List ℕ) × (p : Bool) × Leads (find es) t r p u × (length r ≤ b)
+Short es t u b = (r : List ℕ) × (p : Bool) × FieldsLead (find_entry es) t r p u × (length r ≤ b)
 
 -- from a type of the table on, where paths can be cut that cost less
 over : (b : ℕ) (es : List Entry) (met : List (ℕ × ℕ)) (t : Term) (q : List ℕ) (u : Term) (n : ℕ) → IsNumbered es n t → cost es met t ≤ suc b → Avoids es met t q u
@@ -189,7 +189,7 @@ over b es met t q u n num l h more =
     fewer : left es (met ++ (n, 0) ∷ []) * suc (deepest es) + suc (deepest es) ≤ left es met * suc (deepest es)
     fewer = drops (deepest es) (left es (met ++ (n, 0) ∷ [])) (left es met) (left_falls es met n 0 t num none)
 
-    onward : (j : ℕ) (p : Bool) (v : Term) (rest : List ℕ) → Step (find es) t j p v → Avoids es (met ++ (n, 0) ∷ []) v rest u → Short es t u (suc b)
+    onward : (j : ℕ) (p : Bool) (v : Term) (rest : List ℕ) → Step (find_entry es) t j p v → Avoids es (met ++ (n, 0) ∷ []) v rest u → Short es t u (suc b)
     onward j p v rest step a =
         let k = fewer in
         elim (step_falls es t j p v step) [
@@ -227,7 +227,7 @@ left_none (suc n) = let l = left_none n in omega (arith, l)
 times : (d l m : ℕ) → l ≤ m → l * suc d ≤ m * suc d
 times d l m h = grind arith
 
-pub short_path : (es : List Entry) (t : Term) (q : List ℕ) (p : Bool) (u : Term) → Leads (find es) t q p u → (r : List ℕ) × (b : Bool) × Leads (find es) t r b u × (length r ≤ last_depth es t)
+pub short_path : (es : List Entry) (t : Term) (q : List ℕ) (p : Bool) (u : Term) → FieldsLead (find_entry es) t q p u → (r : List ℕ) × (b : Bool) × FieldsLead (find_entry es) t r b u × (length r ≤ last_depth es t)
 short_path es t q p u h =
     let l = left_none (length es) in
     let k = times (deepest es) (left es []) (length es) l in

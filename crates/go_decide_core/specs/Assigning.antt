@@ -3,11 +3,11 @@ use Rattle.std.specs.Prelude.{Bool, true, false, not, ◌&&◌, ◌||◌, List}
 use Rattle.go_term_core.specs.declared.term.Basic.{Basic}
 use Rattle.go_term_core.specs.declared.term.Basic.TheVariants as basics
 use Rattle.go_term_core.specs.Terms.{Term, NoType, Predeclared, ErrorType, Defined, PointerTo, StructOf, InterfaceOf}
-use Rattle.go_mset_core.specs.table_core.Entries.{Entry, Look, find, underlying_in}
+use Rattle.go_mset_core.specs.table_core.Entries.{Entry, EntryLook, find_entry, underlying_in}
 use Rattle.go_mset_core.specs.table_core.Assign.{Assigned, AValue, ANil, AnInteger, AText, ABoolean}
 use Rattle.go_denote_core.specs.operand_core.Values.{is_basic}
 use Rattle.go_decide_core.specs.Identity.{identical_of}
-use Rattle.go_decide_core.specs.Conversion.{is_type}
+use Rattle.go_decide_core.specs.Conversion.{is_type_term}
 use Rattle.go_decide_core.specs.Implementing.{implements_of}
 
 -- the type of what is assigned: of an untyped one its default type; nil has none
@@ -56,15 +56,15 @@ is_predeclared b (StructOf path fs) = false
 is_predeclared b (InterfaceOf path ms) = false
 
 -- identical types, identical underlying types of which one is no name, or an interface type that is implemented
-abbrev pub value_fits : Look → Term → Term → Bool → Bool
+abbrev pub value_fits : EntryLook → Term → Term → Bool → Bool
 value_fits look v t implements =
     identical_of v t || ((identical_of (underlying_in look v) (underlying_in look t) && not (is_named v && is_named t)) || (is_interface (underlying_in look t) && implements))
 
-abbrev pub untyped_fits : Look → Basic → Term → Bool → Bool
+abbrev pub untyped_fits : EntryLook → Basic → Term → Bool → Bool
 untyped_fits look b t implements = is_predeclared b (underlying_in look t) || (is_interface (underlying_in look t) && implements)
 
-abbrev pub is_fitting : Look → Assigned → Term → Bool → Bool
-is_fitting look (AValue v) t implements = is_type look v && value_fits look v t implements
+abbrev pub is_fitting : EntryLook → Assigned → Term → Bool → Bool
+is_fitting look (AValue v) t implements = is_type_term look v && value_fits look v t implements
 is_fitting look ANil t implements = is_pointer (underlying_in look t) || is_interface (underlying_in look t)
 is_fitting look AnInteger t implements = untyped_fits look basics.Int t implements
 is_fitting look AText t implements = untyped_fits look basics.Text t implements
@@ -72,4 +72,4 @@ is_fitting look ABoolean t implements = untyped_fits look basics.Bool t implemen
 
 -- what is assigned may stand in a variable of type t
 abbrev pub assignable_of : List Entry → Assigned → Term → Bool
-assignable_of es a t = is_type (find es) t && is_fitting (find es) a t (implements_of es (assigned_type a) t)
+assignable_of es a t = is_type_term (find_entry es) t && is_fitting (find_entry es) a t (implements_of es (assigned_type a) t)

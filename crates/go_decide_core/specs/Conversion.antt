@@ -2,41 +2,41 @@
 use Rattle.std.specs.Prelude.{◌≡◌, Bool, true, false, not, ◌&&◌, ◌||◌}
 use Rattle.go_term_core.specs.Terms.{Term, NoType, Predeclared, ErrorType, Defined, PointerTo, StructOf, InterfaceOf}
 use Rattle.go_term_core.specs.Identity.{IdenticalButForTags}
-use Rattle.go_mset_core.specs.table_core.Entries.{Look, underlying_in}
+use Rattle.go_mset_core.specs.table_core.Entries.{EntryLook, underlying_in}
 use Rattle.go_mset_core.specs.table_core.Assign.{IsType}
 use Rattle.go_decide_core.specs.Identity.{identical_but_for_tags_of}
 
 -- the underlying types are identical apart from tags, and it is one
-pub record AreAlike (look : Look) (s t : Term) : Type 0 where
+pub record AreAlike (look : EntryLook) (s t : Term) : Type 0 where
   pub is_type : IsType look s
   pub identical : IdenticalButForTags (underlying_in look s) (underlying_in look t)
 
 -- a value of type s is convertible to t, beside what is assignable and integers that become strings
-pub data IsConvertible (look : Look) (s t : Term) : Type 0 where
-  alike : AreAlike look s t → IsConvertible look s t
+pub data IsTermConvertible (look : EntryLook) (s t : Term) : Type 0 where
+  alike : AreAlike look s t → IsTermConvertible look s t
   -- two pointer types that are not named, by their base types
-  pointers : (a b : Term) → s ≡ PointerTo a → t ≡ PointerTo b → AreAlike look a b → IsConvertible look s t
+  pointers : (a b : Term) → s ≡ PointerTo a → t ≡ PointerTo b → AreAlike look a b → IsTermConvertible look s t
 
 -- the same as tests
 
-abbrev pub is_nothing : Term → Bool
-is_nothing NoType = true
-is_nothing (Predeclared b) = false
-is_nothing ErrorType = false
-is_nothing (Defined k) = false
-is_nothing (PointerTo t) = false
-is_nothing (StructOf path fs) = false
-is_nothing (InterfaceOf path ms) = false
+abbrev pub is_no_type : Term → Bool
+is_no_type NoType = true
+is_no_type (Predeclared b) = false
+is_no_type ErrorType = false
+is_no_type (Defined k) = false
+is_no_type (PointerTo t) = false
+is_no_type (StructOf path fs) = false
+is_no_type (InterfaceOf path ms) = false
 
-abbrev pub is_type : Look → Term → Bool
-is_type look t = not (is_nothing (underlying_in look t))
+abbrev pub is_type_term : EntryLook → Term → Bool
+is_type_term look t = not (is_no_type (underlying_in look t))
 
-abbrev pub are_alike : Look → Term → Term → Bool
-are_alike look s t = is_type look s && identical_but_for_tags_of (underlying_in look s) (underlying_in look t)
+abbrev pub are_alike : EntryLook → Term → Term → Bool
+are_alike look s t = is_type_term look s && identical_but_for_tags_of (underlying_in look s) (underlying_in look t)
 
-abbrev pub pointers_alike : Look → Term → Term → Bool
+abbrev pub pointers_alike : EntryLook → Term → Term → Bool
 pointers_alike look (PointerTo a) (PointerTo b) = are_alike look a b
 pointers_alike look _ _ = false
 
-abbrev pub convertible_of : Look → Term → Term → Bool
+abbrev pub convertible_of : EntryLook → Term → Term → Bool
 convertible_of look s t = are_alike look s t || pointers_alike look s t

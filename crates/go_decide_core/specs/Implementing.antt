@@ -2,18 +2,18 @@
 use Rattle.std.specs.Prelude.{ℕ, Bool, true, false, not, ◌&&◌, ◌||◌, List, [], Result, Ok, Err, codes}
 use Rattle.go_text_core.specs.declared.rule.Rule.{Rule}
 use Rattle.go_term_core.specs.Terms.{Term, NoType, Predeclared, ErrorType, Defined, PointerTo, StructOf, InterfaceOf, Methods, NoMethod, AMethod, Sign}
-use Rattle.go_mset_core.specs.table_core.Entries.{Entry, find, underlying_in}
+use Rattle.go_mset_core.specs.table_core.Entries.{Entry, find_entry, underlying_in}
 use Rattle.go_mset_core.specs.embed_core.Owners.{Found, AFieldOf, AMethodOf, AnInterfaces, TheErrorMethod}
 use Rattle.go_mset_core.specs.Implementing.{error_sign}
 use Rattle.go_decide_core.specs.Identity.{same_sign_of}
 use Rattle.go_decide_core.specs.Selecting.{Choice, selected_of}
 
 -- a method that needs no pointer, or has one
-abbrev pub is_callable : Found → Bool → Bool
-is_callable (AFieldOf path place t) passes = false
-is_callable (AMethodOf path place pointer g) passes = not pointer || passes
-is_callable (AnInterfaces path place g) passes = true
-is_callable TheErrorMethod passes = true
+abbrev pub is_method_callable : Found → Bool → Bool
+is_method_callable (AFieldOf path place t) passes = false
+is_method_callable (AMethodOf path place pointer g) passes = not pointer || passes
+is_method_callable (AnInterfaces path place g) passes = true
+is_method_callable TheErrorMethod passes = true
 
 -- a method with an identical signature
 abbrev pub is_signed : Found → Sign → Bool
@@ -23,7 +23,7 @@ is_signed (AnInterfaces path place h) g = same_sign_of h g
 is_signed TheErrorMethod g = same_sign_of error_sign g
 
 abbrev pub is_method_chosen : Result Choice Rule → Sign → Bool
-is_method_chosen (Ok c) g = is_callable c.member c.passes && is_signed c.member g
+is_method_chosen (Ok c) g = is_method_callable c.member c.passes && is_signed c.member g
 is_method_chosen (Err rule) g = false
 
 -- the method set of t has a method of the identifier, which is written in a package, with a signature identical to g
@@ -47,4 +47,4 @@ has_methods_under es t (InterfaceOf path ms) = has_methods es t path ms
 
 -- t implements the interface type i
 abbrev pub implements_of : List Entry → Term → Term → Bool
-implements_of es t i = has_methods_under es t (underlying_in (find es) i)
+implements_of es t i = has_methods_under es t (underlying_in (find_entry es) i)

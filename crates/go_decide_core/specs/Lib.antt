@@ -9,6 +9,7 @@ pub mod Laws
 pub mod constant_core
 pub mod denote_core
 pub mod embed_core
+pub mod level_core
 pub mod mset_core
 pub mod operand_core
 pub mod select_core

@@ -3,7 +3,7 @@ use Rattle.std.specs.Prelude.{ℕ, Bool, false, List, [], ◌∷◌, Option, Som
 use Rattle.go_text_core.specs.declared.rule.Rule.{Rule}
 use Rattle.go_term_core.specs.declared.term.Basic.TheVariants as basics
 use Rattle.go_term_core.specs.Terms.{Term, NoType, Predeclared, ErrorType, Defined, PointerTo, StructOf, InterfaceOf, NoMethod, Sign, SignOf, Terms, NoTerm, ATerm}
-use Rattle.go_mset_core.specs.table_core.Entries.{Entry, Look, find, underlying_in}
+use Rattle.go_mset_core.specs.table_core.Entries.{Entry, EntryLook, find_entry, underlying_in}
 use Rattle.go_mset_core.specs.table_core.Assign.{AValue}
 use Rattle.go_mset_core.specs.embed_core.Owners.{Found, AFieldOf, AMethodOf, AnInterfaces, TheErrorMethod}
 use Rattle.go_mset_core.specs.Implementing.{error_sign}
@@ -13,7 +13,7 @@ use Rattle.go_denote_core.specs.operand_core.TypeRules.{TypeRules}
 use Rattle.go_denote_core.specs.declared.things.Selection.{Selection}
 use Rattle.go_denote_core.specs.declared.things.Selection.TheVariants as selections
 use Rattle.go_decide_core.specs.Identity.{identical_of}
-use Rattle.go_decide_core.specs.Conversion.{is_type, convertible_of}
+use Rattle.go_decide_core.specs.Conversion.{is_type_term, convertible_of}
 use Rattle.go_decide_core.specs.Assigning.{assignable_of}
 use Rattle.go_decide_core.specs.Selecting.{Choice}
 
@@ -27,14 +27,14 @@ form_under (PointerTo t) = forms.Pointer t
 form_under (StructOf path fs) = forms.Struct
 form_under (InterfaceOf path ms) = forms.Interface
 
-abbrev pub form_of : Look → Term → TypeForm Term
+abbrev pub form_of : EntryLook → Term → TypeForm Term
 form_of look t = form_under (underlying_in look t)
 
 -- the types of a table, seen from a package
 abbrev pub term_rules : List Entry → List ℕ → TypeRules Term
 term_rules es path =
     record {
-      form = form_of (find es);
+      form = form_of (find_entry es);
       pointer_to = PointerTo;
       int = Predeclared basics.Int;
       string = Predeclared basics.Text;
@@ -42,25 +42,25 @@ term_rules es path =
       any = InterfaceOf path NoMethod;
       identical = identical_of;
       assignable = λ v t. assignable_of es (AValue v) t;
-      convertible = convertible_of (find es);
+      convertible = convertible_of (find_entry es);
     }
 
 -- a type, where it is one
-abbrev pub typed : Look → Term → Option Term
-typed look t = if is_type look t then Some t else None
+abbrev pub typed : EntryLook → Term → Option Term
+typed look t = if is_type_term look t then Some t else None
 
-abbrev pub all_typed : Look → Terms → List (Option Term)
+abbrev pub all_typed : EntryLook → Terms → List (Option Term)
 all_typed look NoTerm = []
 all_typed look (ATerm t ts) = typed look t ∷ all_typed look ts
 
 -- of the parameters, and of the results
-abbrev pub params_of : Look → Sign → List (Option Term)
-params_of look (SignOf ps rs) = all_typed look ps
+abbrev pub param_types_of : EntryLook → Sign → List (Option Term)
+param_types_of look (SignOf ps rs) = all_typed look ps
 
-abbrev pub results_of : Look → Sign → List (Option Term)
+abbrev pub results_of : EntryLook → Sign → List (Option Term)
 results_of look (SignOf ps rs) = all_typed look rs
 
-module _ {D P : Type 0} (decl : Found → D) (path_of : List ℕ → P) (look : Look) where
+module _ {D P : Type 0} (decl : Found → D) (path_of : List ℕ → P) (look : EntryLook) where
   abbrev pub member_selection : List ℕ → Bool → Found → Selection Term Sign D P
   member_selection path passes (AFieldOf home place t) = selections.«Field» (decl (AFieldOf home place t)) (path_of path) (typed look t) passes
   member_selection path passes (AMethodOf home place pointer g) = selections.Method (decl (AMethodOf home place pointer g)) (path_of path) g pointer passes

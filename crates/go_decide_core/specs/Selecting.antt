@@ -4,11 +4,11 @@ use Rattle.go_text_core.specs.Text.{is_blank}
 use Rattle.go_text_core.specs.declared.rule.Rule.{Rule}
 use Rattle.go_text_core.specs.declared.rule.Rule.TheVariants.{S1, S2, S3, S7, S8}
 use Rattle.go_term_core.specs.Terms.{Term, NoType, Predeclared, ErrorType, Defined, PointerTo, StructOf, InterfaceOf, Fields, NoField, AField}
-use Rattle.go_mset_core.specs.table_core.Entries.{Entry, Look, find, same_id}
-use Rattle.go_mset_core.specs.embed_core.Owners.{Edge, owner_in, embedded_in, Found, AFieldOf, AMethodOf, AnInterfaces, TheErrorMethod, Named, members_of, has_spelled}
+use Rattle.go_mset_core.specs.table_core.Entries.{Entry, EntryLook, find_entry, same_id}
+use Rattle.go_mset_core.specs.embed_core.Owners.{EmbeddedEdge, owner_in, embedded_in, Found, AFieldOf, AMethodOf, AnInterfaces, TheErrorMethod, Named, members_of, has_spelled}
 use Rattle.go_mset_core.specs.embed_core.OwnersShown.{found_shown}
-use Rattle.go_mset_core.specs.select_core.declared.search.Selected.{Selected}
-use Rattle.go_mset_core.specs.select_core.Selectors.{Searched, Refused, In, FieldsIn, searched}
+use Rattle.go_mset_core.specs.level_core.declared.search.Selected.{Selected}
+use Rattle.go_mset_core.specs.level_core.Selectors.{Searched, Refused, In, FieldsIn, searched}
 
 -- a type that embedded fields lead to: these, whether one of them has a star, and the type
 pub record Trail : Type 0 where
@@ -20,15 +20,15 @@ abbrev pub trail : List ℕ → Bool → Term → Trail
 trail path pointer node = record { path = path; pointer = pointer; node = node }
 
 -- with one more embedded field before the others
-abbrev pub behind_edge : Edge → Trail → Trail
+abbrev pub behind_edge : EmbeddedEdge → Trail → Trail
 behind_edge e w = trail (e.position ∷ w.path) (e.pointer || w.pointer) w.node
 
-abbrev pub behind_edges : (Term → List Trail) → List Edge → List Trail
+abbrev pub behind_edges : (Term → List Trail) → List EmbeddedEdge → List Trail
 behind_edges trails [] = []
 behind_edges trails (e ∷ es) = map (behind_edge e) (trails e.target) ++ behind_edges trails es
 
 -- the types that lists of so many embedded fields lead to, each once for each list
-abbrev pub trails_of : Look → ℕ → Term → List Trail
+abbrev pub trails_of : EntryLook → ℕ → Term → List Trail
 trails_of look zero t = trail [] false t ∷ []
 trails_of look (suc depth) t = behind_edges (trails_of look depth) (embedded_in (owner_in look t))
 
@@ -46,12 +46,12 @@ matches_among w name from i [] = []
 matches_among w name from i (n ∷ ns) =
     if same_id n.0 n.1.0 name from then match_at w i n.1.1 ∷ matches_among w name from (suc i) ns else matches_among w name from (suc i) ns
 
-abbrev pub matches_behind : Look → List ℕ → List ℕ → List Trail → List Match
+abbrev pub matches_behind : EntryLook → List ℕ → List ℕ → List Trail → List Match
 matches_behind look name from [] = []
 matches_behind look name from (w ∷ ws) = matches_among w name from 0 (members_of (owner_in look w.node)) ++ matches_behind look name from ws
 
 -- all of one depth
-abbrev pub matches_of : Look → Term → List ℕ → List ℕ → ℕ → List Match
+abbrev pub matches_of : EntryLook → Term → List ℕ → List ℕ → ℕ → List Match
 matches_of look t name from depth = matches_behind look name from (trails_of look depth t)
 
 abbrev pub unless_some : List Match → List Match → List Match
@@ -63,7 +63,7 @@ abbrev pub first_matches : (ℕ → List Match) → ℕ → ℕ → List Match
 first_matches matches depth zero = matches depth
 first_matches matches depth (suc more) = unless_some (matches depth) (first_matches matches (suc depth) more)
 
-abbrev pub some_spelled : Look → List ℕ → List Trail → Bool
+abbrev pub some_spelled : EntryLook → List ℕ → List Trail → Bool
 some_spelled look name [] = false
 some_spelled look name (w ∷ ws) = has_spelled (owner_in look w.node) name || some_spelled look name ws
 
@@ -113,7 +113,7 @@ only_match spelled (m ∷ (n ∷ ms)) = Err S2
 -- what a name denotes in a type
 abbrev pub match_in : List Entry → Term → List ℕ → List ℕ → Result Choice Rule
 match_in es t name from =
-    only_match (spelled_from (λ depth. some_spelled (find es) name (trails_of (find es) depth t)) 0 (last_depth es t)) (first_matches (matches_of (find es) t name from) 0 (last_depth es t))
+    only_match (spelled_from (λ depth. some_spelled (find_entry es) name (trails_of (find_entry es) depth t)) 0 (last_depth es t)) (first_matches (matches_of (find_entry es) t name from) 0 (last_depth es t))
 
 -- where the operand is a pointer, one is passed
 abbrev pub passing : Bool → Result Choice Rule → Result Choice Rule
@@ -138,7 +138,7 @@ match_where es (FieldsIn t) name from = fields_alone (passing true (match_in es 
 
 -- what the selector of a name that is written in a package denotes behind an operand of a type, or the rule that it breaks
 abbrev pub selected_of : List Entry → Term → List ℕ → List ℕ → Result Choice Rule
-selected_of es t name from = if is_blank name then Err S8 else match_where es (searched (find es) t) name from
+selected_of es t name from = if is_blank name then Err S8 else match_where es (searched (find_entry es) t) name from
 
 -- the same of what the program has
 abbrev pub chosen_of : Result Selected Rule → Result Choice Rule

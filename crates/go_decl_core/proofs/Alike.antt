@@ -8,10 +8,10 @@ use Rattle.go_tree_nodes.specs.declared.types.TypeName.{TypeName}
 use Rattle.go_tree_nodes.specs.declared.types.TypeName.TheVariants as type_name
 use Rattle.go_tree_nodes.specs.declared.decls.ValueKind.{ValueKind}
 use Rattle.go_tree_nodes.specs.declared.files.Receiver.{Receiver}
-use Rattle.go_tree_nodes.specs.Trees.{Separated, One, Then, TypeTree, FieldTrees, MethodTrees, SignatureTree, ResultTree, ParamTrees, NamedType, Pointer, ParenType, Struct, Interface, NoFields, NamedFields, EmbeddedField, NoMethods, Method, Signed, NoResult, OneResult, Results, NoParams, Param, ExprTree, ItemTrees, Integer, Text, Named, Paren, Unary, Binary, Select, Call, Literal, StructLiteral, NoItems, Item, ValueSpecTree, Specs, Single, Group, TypeSpecTree, FuncTree, DeclTree, Value, Types, Func, TopTree}
+use Rattle.go_tree_nodes.specs.Trees.{Separated, One, Then, TypeTree, FieldTrees, MethodTrees, SignatureTree, ResultTree, ParamTrees, NamedType, Pointer, ParenType, Struct, Interface, NoFields, NamedFields, EmbeddedField, NoMethods, Method, Signed, NoResult, OneResult, Results, NoParams, Param, ExprTree, ItemTrees, Integer, Text, Named, Paren, Unary, Binary, Select, Call, Literal, StructLiteral, NoItems, Item, ValueSpecTree, Specs, Single, Group, TypeSpecTree, FuncTree, DeclTree, Value, Types, Func, TopTree, of_specs}
 use Rattle.go_decl_core.specs.declared.places.DeclKind.{DeclKind}
 use Rattle.go_decl_core.specs.declared.places.DeclKind.TheVariants as kinds
-use Rattle.go_decl_core.specs.Outer.{Outer, Manner, Embedded, outer, last_of, idents_outers, names_outers, type_outers, fields_outers, methods_outers, signature_outers, result_outers, params_outers, expr_outers, items_outers, exprs_outers, some_type_outers, values_outers, kind_of_value, kind_of_func, value_spec_outers, type_spec_outers, specs_outers, receiver_name_outers, receiver_outers, func_outers, decl_outers, tops_outers}
+use Rattle.go_decl_core.specs.Outer.{Outer, Manner, Embedded, outer, last_of, idents_outers, names_outers, type_outers, fields_outers, methods_outers, signature_outers, result_outers, params_outers, expr_outers, items_outers, exprs_outers, some_type_outers, values_outers, kind_of_value, kind_of_func, value_spec_outers, type_spec_outers, receiver_name_outers, receiver_outers, func_outers, decl_outers, tops_outers}
 use Rattle.go_decl_core.specs.TopDecls.{TopDeclTree, numbered, named_decls, value_spec_decls, type_spec_decls, specs_decls, decl_decls, tops_decls}
 use Rattle.go_decl_core.specs.Bodies.{decl_without_bodies, top_without_bodies, bare_idents, bare_names, bare_type_name, bare_type, bare_fields, bare_methods, bare_signature, bare_result, bare_params, bare_expr, bare_items, bare_exprs, bare_some_type, bare_values, bare_value_spec, bare_type_spec, bare_line, bare_specs, bare_receiver_name, bare_receiver, bare_func, bare_decl}
 use Rattle.go_decl_core.specs.Laws.{known, name_and_kind, name_and_number, BodiesDoNotCount}
@@ -157,7 +157,7 @@ group_same : {A : Type 0} (f : A → List Outer) (g : A → A) → ((x : A) → 
 group_same f g each [] = same_none
 group_same f g each (l ∷ ls) = same_both (each l.0) (group_same f g each ls)
 
-specs_same : {A : Type 0} (f : A → List Outer) (g : A → A) → ((x : A) → Same (f x) (f (g x))) → (s : Specs A) → Same (specs_outers f s) (specs_outers f (bare_specs g s))
+specs_same : {A : Type 0} (f : A → List Outer) (g : A → A) → ((x : A) → Same (f x) (f (g x))) → (s : Specs A) → Same (of_specs f s) (of_specs f (bare_specs g s))
 specs_same f g each (Single x) = each x
 specs_same f g each (Group first ls last) = group_same f g each ls
 

@@ -7,10 +7,10 @@ use Rattle.go_text_core.specs.declared.span.Span.{Span}
 use Rattle.go_tree_nodes.specs.declared.names.Ident.{Ident}
 use Rattle.go_tree_nodes.specs.declared.decls.ValueKind.{ValueKind}
 use Rattle.go_tree_nodes.specs.declared.files.Receiver.{Receiver}
-use Rattle.go_tree_nodes.specs.Trees.{Separated, One, Then, TypeTree, FieldTrees, MethodTrees, SignatureTree, ResultTree, ParamTrees, NamedType, Pointer, ParenType, Struct, Interface, NoFields, NamedFields, EmbeddedField, NoMethods, Method, Signed, NoResult, OneResult, Results, NoParams, Param, ExprTree, ItemTrees, Integer, Text, Named, Paren, Unary, Binary, Select, Call, Literal, StructLiteral, NoItems, Item, ValueSpecTree, Specs, Single, Group, TypeSpecTree, DeclTree, Value, Types, Func, TopTree}
-use Rattle.go_tree_core.specs.Names.{take_some, take_each, take_group, take_specs, take_values, take_value_spec, take_type_spec, take_receiver, take_decl, take_tops, one_name, nothing, type_names, field_names, method_names, signature_names, result_names, param_names, expr_names, item_names, declared}
+use Rattle.go_tree_nodes.specs.Trees.{Separated, One, Then, TypeTree, FieldTrees, MethodTrees, SignatureTree, ResultTree, ParamTrees, NamedType, Pointer, ParenType, Struct, Interface, NoFields, NamedFields, EmbeddedField, NoMethods, Method, Signed, NoResult, OneResult, Results, NoParams, Param, ExprTree, ItemTrees, Integer, Text, Named, Paren, Unary, Binary, Select, Call, Literal, StructLiteral, NoItems, Item, ValueSpecTree, Specs, Single, Group, TypeSpecTree, DeclTree, Value, Types, Func, TopTree, of_specs}
+use Rattle.go_tree_core.specs.Names.{take_some, take_each, take_group, take_specs, take_values, take_value_spec, take_type_spec, take_receiver, take_decl, take_tops, one_name, nothing, type_names, field_names, method_names, signature_names, result_names, param_names, expr_names, item_names, taking_names}
 use Rattle.go_decl_core.specs.declared.places.DeclKind.{DeclKind}
-use Rattle.go_decl_core.specs.Outer.{Outer, Whole, Part, Embedded, outer, idents_outers, names_outers, type_outers, fields_outers, methods_outers, signature_outers, result_outers, params_outers, expr_outers, items_outers, exprs_outers, some_type_outers, values_outers, value_spec_outers, type_spec_outers, specs_outers, receiver_name_outers, receiver_outers, decl_outers, tops_outers}
+use Rattle.go_decl_core.specs.Outer.{Outer, Whole, Part, Embedded, outer, idents_outers, names_outers, type_outers, fields_outers, methods_outers, signature_outers, result_outers, params_outers, expr_outers, items_outers, exprs_outers, some_type_outers, values_outers, value_spec_outers, type_spec_outers, receiver_name_outers, receiver_outers, decl_outers, tops_outers}
 use Rattle.go_decl_core.specs.Bodies.{decl_without_bodies, top_without_bodies}
 use Rattle.go_decl_core.specs.Embedded.{type_embedded, fields_embedded, methods_embedded, signature_embedded, result_embedded, params_embedded, expr_embedded, items_embedded, embedding}
 use Rattle.go_decl_core.specs.Laws.{is_embedded, PlacesAreDeclared}
@@ -113,21 +113,21 @@ some_type_splits : (t : Option TypeTree) → Splits (some_type_outers t) (take_s
 some_type_splits None = splits_none
 some_type_splits (Some t) = type_splits t
 
-values_split : (v : Option (Span × Separated ExprTree)) → Splits (values_outers v) (take_values declared v) (take_values embedding v)
+values_split : (v : Option (Span × Separated ExprTree)) → Splits (values_outers v) (take_values taking_names v) (take_values embedding v)
 values_split None = splits_none
 values_split (Some v) = exprs_split v.1
 
-value_spec_splits : (k : ValueKind) (v : ValueSpecTree) → Splits (value_spec_outers k v) (take_value_spec declared v) (take_value_spec embedding v)
+value_spec_splits : (k : ValueKind) (v : ValueSpecTree) → Splits (value_spec_outers k v) (take_value_spec taking_names v) (take_value_spec embedding v)
 value_spec_splits k v = splits_both (wholes_split _ v.names) (splits_both (some_type_splits v.type_expr) (values_split v.values))
 
-type_spec_splits : (t : TypeSpecTree) → Splits (type_spec_outers t) (take_type_spec declared t) (take_type_spec embedding t)
+type_spec_splits : (t : TypeSpecTree) → Splits (type_spec_outers t) (take_type_spec taking_names t) (take_type_spec embedding t)
 type_spec_splits t = splits_whole (type_splits t.type_expr)
 
 group_splits : {A : Type 0} (f : A → List Outer) (g h : A → List Ident) → ((x : A) → Splits (f x) (g x) (h x)) → (ls : List (A × Option Span)) → Splits (flat_map (λ l. f l.0) ls) (take_group g ls) (take_group h ls)
 group_splits f g h each [] = splits_none
 group_splits f g h each (l ∷ ls) = splits_both (each l.0) (group_splits f g h each ls)
 
-specs_split : {A : Type 0} (f : A → List Outer) (g h : A → List Ident) → ((x : A) → Splits (f x) (g x) (h x)) → (s : Specs A) → Splits (specs_outers f s) (take_specs g s) (take_specs h s)
+specs_split : {A : Type 0} (f : A → List Outer) (g h : A → List Ident) → ((x : A) → Splits (f x) (g x) (h x)) → (s : Specs A) → Splits (of_specs f s) (take_specs g s) (take_specs h s)
 specs_split f g h each (Single x) = each x
 specs_split f g h each (Group first ls last) = group_splits f g h each ls
 
@@ -135,7 +135,7 @@ receiver_name_splits : (x : Option Ident) → Splits (receiver_name_outers x) (t
 receiver_name_splits None = splits_none
 receiver_name_splits (Some x) = splits_part splits_none
 
-receiver_splits : (r : Option Receiver) → Splits (receiver_outers r) (take_receiver declared r) (take_receiver embedding r)
+receiver_splits : (r : Option Receiver) → Splits (receiver_outers r) (take_receiver taking_names r) (take_receiver embedding r)
 receiver_splits None = splits_none
 receiver_splits (Some r) = receiver_name_splits r.name
 
@@ -143,12 +143,12 @@ receiver_splits (Some r) = receiver_name_splits r.name
 signature_alone : (s : SignatureTree) → Splits (signature_outers s) (signature_names s ++ []) (signature_embedded s ++ [])
 signature_alone s = let h = signature_splits s in record { own = h.own ∙ sym (append-nil (signature_names s)); embedded = h.embedded ∙ sym (append-nil (signature_embedded s)) }
 
-decl_splits : (d : DeclTree) → Splits (decl_outers d) (take_decl declared (decl_without_bodies d)) (take_decl embedding (decl_without_bodies d))
-decl_splits (Value v) = specs_split (value_spec_outers v.kind) (take_value_spec declared) (take_value_spec embedding) (value_spec_splits v.kind) v.specs
-decl_splits (Types t) = specs_split type_spec_outers (take_type_spec declared) (take_type_spec embedding) type_spec_splits t.specs
+decl_splits : (d : DeclTree) → Splits (decl_outers d) (take_decl taking_names (decl_without_bodies d)) (take_decl embedding (decl_without_bodies d))
+decl_splits (Value v) = specs_split (value_spec_outers v.kind) (take_value_spec taking_names) (take_value_spec embedding) (value_spec_splits v.kind) v.specs
+decl_splits (Types t) = specs_split type_spec_outers (take_type_spec taking_names) (take_type_spec embedding) type_spec_splits t.specs
 decl_splits (Func f) = splits_both (receiver_splits f.receiver) (splits_whole (signature_alone f.signature))
 
-tops_split : (ts : List TopTree) → Splits (tops_outers ts) (take_tops declared (map top_without_bodies ts)) (take_tops embedding (map top_without_bodies ts))
+tops_split : (ts : List TopTree) → Splits (tops_outers ts) (take_tops taking_names (map top_without_bodies ts)) (take_tops embedding (map top_without_bodies ts))
 tops_split [] = splits_none
 tops_split (t ∷ ts) = splits_both (decl_splits t.decl) (tops_split ts)
 

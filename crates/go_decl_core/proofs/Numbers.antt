@@ -8,12 +8,12 @@ use Rattle.go_tree_nodes.specs.declared.names.Ident.{Ident}
 use Rattle.go_tree_nodes.specs.declared.decls.ValueKind.{ValueKind}
 use Rattle.go_tree_nodes.specs.declared.decls.ValueKind.TheVariants as value_kinds
 use Rattle.go_tree_nodes.specs.declared.files.Receiver.{Receiver}
-use Rattle.go_tree_nodes.specs.Trees.{Separated, One, Then, TypeTree, FieldTrees, MethodTrees, SignatureTree, ResultTree, ParamTrees, NamedType, Pointer, ParenType, Struct, Interface, NoFields, NamedFields, EmbeddedField, NoMethods, Method, Signed, NoResult, OneResult, Results, NoParams, Param, ExprTree, ItemTrees, Integer, Text, Named, Paren, Unary, Binary, Select, Call, Literal, StructLiteral, NoItems, Item, ValueSpecTree, Specs, Single, Group, TypeSpecTree, FuncTree, DeclTree, Value, Types, Func, FileTree}
+use Rattle.go_tree_nodes.specs.Trees.{Separated, One, Then, TypeTree, FieldTrees, MethodTrees, SignatureTree, ResultTree, ParamTrees, NamedType, Pointer, ParenType, Struct, Interface, NoFields, NamedFields, EmbeddedField, NoMethods, Method, Signed, NoResult, OneResult, Results, NoParams, Param, ExprTree, ItemTrees, Integer, Text, Named, Paren, Unary, Binary, Select, Call, Literal, StructLiteral, NoItems, Item, ValueSpecTree, Specs, Single, Group, TypeSpecTree, FuncTree, DeclTree, Value, Types, Func, FileTree, of_specs}
 use Rattle.go_decl_core.specs.declared.places.DeclKind.{DeclKind}
 use Rattle.go_decl_core.specs.declared.places.DeclKind.TheVariants as kinds
-use Rattle.go_decl_core.specs.Outer.{Outer, Manner, Whole, Part, Embedded, outer, idents_outers, names_outers, type_outers, fields_outers, methods_outers, signature_outers, result_outers, params_outers, expr_outers, items_outers, exprs_outers, some_type_outers, values_outers, kind_of_value, kind_of_func, rest_outers, value_spec_outers, type_spec_outers, specs_outers, receiver_name_outers, receiver_outers, func_outers, decl_outers, outer_names}
+use Rattle.go_decl_core.specs.Outer.{Outer, Manner, Whole, Part, Embedded, outer, idents_outers, names_outers, type_outers, fields_outers, methods_outers, signature_outers, result_outers, params_outers, expr_outers, items_outers, exprs_outers, some_type_outers, values_outers, kind_of_value, kind_of_func, rest_outers, value_spec_outers, type_spec_outers, receiver_name_outers, receiver_outers, func_outers, decl_outers, outer_names}
 use Rattle.go_decl_core.specs.TopDecls.{TopDeclTree, kind_of_form, numbered, named_decls, value_spec_decls, type_spec_decls, specs_decls, func_decls, decl_decls, top_decls}
-use Rattle.go_decl_core.specs.Laws.{Known, known, if_whole, wholes, MannerFits, NumbersArePlaces}
+use Rattle.go_decl_core.specs.Laws.{KnownDecl, known, if_whole, wholes, MannerFits, NumbersArePlaces}
 
 wholes_append : (n : ℕ) (os ps : List Outer) → wholes n (os ++ ps) ≡ wholes n os ++ wholes (n + length os) ps
 wholes_append n [] ps = ap (λ m. wholes m ps) (let e : n ≡ n + 0 = omega arith in e)
@@ -148,7 +148,7 @@ numbered_are : {A : Type 0} (f : A → List Outer) (ds : ℕ → A → List TopD
 numbered_are f ds each n [] = refl
 numbered_are f ds each n (x ∷ xs) = are_both n (ds n x) (numbered f ds (n + length (f x)) xs) (f x) (flat_map f xs) (each n x) (numbered_are f ds each (n + length (f x)) xs)
 
-specs_are : {A : Type 0} (f : A → List Outer) (ds : ℕ → A → List TopDeclTree) → ((n : ℕ) (x : A) → Are n (ds n x) (f x)) → (n : ℕ) (s : Specs A) → Are n (specs_decls f ds n s) (specs_outers f s)
+specs_are : {A : Type 0} (f : A → List Outer) (ds : ℕ → A → List TopDeclTree) → ((n : ℕ) (x : A) → Are n (ds n x) (f x)) → (n : ℕ) (s : Specs A) → Are n (specs_decls f ds n s) (of_specs f s)
 specs_are f ds each n (Single x) = each n x
 specs_are f ds each n (Group first ls last) = numbered_are (λ l. f l.0) (λ n l. ds n l.0) (λ n l. each n l.0) n ls
 
@@ -169,28 +169,28 @@ table_of f = numbered_are (λ t. decl_outers t.decl) (λ n t. decl_decls n t.dec
 
 -- one of the identifiers that name declarations stands in the table at its number
 
-abbrev At : List Outer → ℕ → Known → Type 0
+abbrev At : List Outer → ℕ → KnownDecl → Type 0
 At os n w = (i : ℕ) × (w.number ≡ n + i) × (slice_get os i ≡ Some (outer w.kind Whole w.ident))
 
-behind_one : (o : Outer) (os : List Outer) (n : ℕ) (w : Known) → At os (n + 1) w → At (o ∷ os) n w
+behind_one : (o : Outer) (os : List Outer) (n : ℕ) (w : KnownDecl) → At os (n + 1) w → At (o ∷ os) n w
 behind_one o os n w r = (suc r.0, (let e : w.number ≡ n + suc r.0 = omega (arith, r.1) in e), r.2)
 
-at_case : (m : Manner) (x : Ident) (kind : DeclKind) (os : List Outer) (n k : ℕ) (w : Known) → ((j : ℕ) → slice_get (wholes (n + 1) os) j ≡ Some w → At os (n + 1) w) → slice_get (if_whole m (record { ident = x; number = n; kind = kind }) ++ wholes (n + 1) os) k ≡ Some w → At (outer kind m x ∷ os) n w
+at_case : (m : Manner) (x : Ident) (kind : DeclKind) (os : List Outer) (n k : ℕ) (w : KnownDecl) → ((j : ℕ) → slice_get (wholes (n + 1) os) j ≡ Some w → At os (n + 1) w) → slice_get (if_whole m (record { ident = x; number = n; kind = kind }) ++ wholes (n + 1) os) k ≡ Some w → At (outer kind m x ∷ os) n w
 at_case Whole x kind os n zero w rest h =
-    let one : Known = record { ident = x; number = n; kind = kind } in
+    let one : KnownDecl = record { ident = x; number = n; kind = kind } in
     let same : one ≡ w = (let e : Some one ≡ Some w = h in cc) in
     subst (At (outer kind Whole x ∷ os) n) same (0, (let e : n ≡ n + 0 = omega arith in e), refl)
 at_case Whole x kind os n (suc k) w rest h = behind_one (outer kind Whole x) os n w (rest k h)
 at_case Part x kind os n k w rest h = behind_one (outer kind Part x) os n w (rest k h)
 at_case Embedded x kind os n k w rest h = behind_one (outer kind Embedded x) os n w (rest k h)
 
-wholes_at : (os : List Outer) (n k : ℕ) (w : Known) → slice_get (wholes n os) k ≡ Some w → At os n w
+wholes_at : (os : List Outer) (n k : ℕ) (w : KnownDecl) → slice_get (wholes n os) k ≡ Some w → At os n w
 wholes_at [] n k w h = (let e : None ≡ Some w = h in cc)
 wholes_at (o ∷ os) n k w h = at_case o.manner o.ident o.kind os n k w (λ j e. wholes_at os (n + 1) j w e) h
 
 -- an identifier of the table that names a declaration is one of these
 
-found_case : (m : Manner) (one : Known) (ks : List Known) (w : Known) → (k : ℕ) × (slice_get ks k ≡ Some w) → (k : ℕ) × (slice_get (if_whole m one ++ ks) k ≡ Some w)
+found_case : (m : Manner) (one : KnownDecl) (ks : List KnownDecl) (w : KnownDecl) → (k : ℕ) × (slice_get ks k ≡ Some w) → (k : ℕ) × (slice_get (if_whole m one ++ ks) k ≡ Some w)
 found_case Whole one ks w r = (suc r.0, r.1)
 found_case Part one ks w r = r
 found_case Embedded one ks w r = r
@@ -199,7 +199,7 @@ whole_found : (os : List Outer) (n i : ℕ) (o : Outer) → slice_get os i ≡ S
 whole_found [] n i o h whole = (let e : None ≡ Some o = h in cc)
 whole_found (p ∷ os) n zero o h whole =
     let same : o ≡ p = (let e : Some p ≡ Some o = h in cc) in
-    let first : Known = record { ident = o.ident; number = n; kind = o.kind } in
+    let first : KnownDecl = record { ident = o.ident; number = n; kind = o.kind } in
     let P : Manner → Type 0 = λ m. (k : ℕ) × (slice_get (if_whole m first ++ wholes (n + 1) os) k ≡ Some (record { ident = o.ident; number = n + 0; kind = o.kind })) in
     let Q : Outer → Type 0 = λ p. (k : ℕ) × (slice_get (wholes n (p ∷ os)) k ≡ Some (record { ident = o.ident; number = n + 0; kind = o.kind })) in
     subst Q same (subst P (sym whole) (0, ap (λ m. Some (record { ident = o.ident; number = m; kind = o.kind })) (let e : n ≡ n + 0 = omega arith in e)))
@@ -210,15 +210,15 @@ whole_found (p ∷ os) n (suc i) o h whole =
 
 -- two of them have two numbers
 
-one_case : (m : Manner) (x : Ident) (kind : DeclKind) (os : List Outer) (n j k : ℕ) (v w : Known) → ((a b : ℕ) → slice_get (wholes (n + 1) os) a ≡ Some v → slice_get (wholes (n + 1) os) b ≡ Some w → a ≡ b) → slice_get (if_whole m (record { ident = x; number = n; kind = kind }) ++ wholes (n + 1) os) j ≡ Some v → slice_get (if_whole m (record { ident = x; number = n; kind = kind }) ++ wholes (n + 1) os) k ≡ Some w → v.number ≡ w.number → j ≡ k
+one_case : (m : Manner) (x : Ident) (kind : DeclKind) (os : List Outer) (n j k : ℕ) (v w : KnownDecl) → ((a b : ℕ) → slice_get (wholes (n + 1) os) a ≡ Some v → slice_get (wholes (n + 1) os) b ≡ Some w → a ≡ b) → slice_get (if_whole m (record { ident = x; number = n; kind = kind }) ++ wholes (n + 1) os) j ≡ Some v → slice_get (if_whole m (record { ident = x; number = n; kind = kind }) ++ wholes (n + 1) os) k ≡ Some w → v.number ≡ w.number → j ≡ k
 one_case Whole x kind os n zero zero v w rest h g same = refl
 one_case Whole x kind os n zero (suc k) v w rest h g same =
-    let one : Known = record { ident = x; number = n; kind = kind } in
+    let one : KnownDecl = record { ident = x; number = n; kind = kind } in
     let first : n ≡ v.number = ap (λ k. k.number) (let e : one ≡ v = (let f : Some one ≡ Some v = h in cc) in e) in
     let later = wholes_at os (n + 1) k w g in
     absurd (omega (arith, first, later.1, same))
 one_case Whole x kind os n (suc j) zero v w rest h g same =
-    let one : Known = record { ident = x; number = n; kind = kind } in
+    let one : KnownDecl = record { ident = x; number = n; kind = kind } in
     let first : n ≡ w.number = ap (λ k. k.number) (let e : one ≡ w = (let f : Some one ≡ Some w = g in cc) in e) in
     let later = wholes_at os (n + 1) j v h in
     absurd (omega (arith, first, later.1, same))
@@ -226,7 +226,7 @@ one_case Whole x kind os n (suc j) (suc k) v w rest h g same = ap suc (rest j k 
 one_case Part x kind os n j k v w rest h g same = rest j k h g
 one_case Embedded x kind os n j k v w rest h g same = rest j k h g
 
-wholes_one : (os : List Outer) (n j k : ℕ) (v w : Known) → slice_get (wholes n os) j ≡ Some v → slice_get (wholes n os) k ≡ Some w → v.number ≡ w.number → j ≡ k
+wholes_one : (os : List Outer) (n j k : ℕ) (v w : KnownDecl) → slice_get (wholes n os) j ≡ Some v → slice_get (wholes n os) k ≡ Some w → v.number ≡ w.number → j ≡ k
 wholes_one [] n j k v w h g same = (let e : None ≡ Some v = h in cc)
 wholes_one (o ∷ os) n j k v w h g same = one_case o.manner o.ident o.kind os n j k v w (λ a b p q. wholes_one os (n + 1) a b v w p q same) h g same
 
@@ -353,7 +353,7 @@ flat_fits : {A : Type 0} (f : A → List Outer) → ((x : A) → Fits (f x)) →
 flat_fits f each [] = fits_none
 flat_fits f each (x ∷ xs) = fits_both (each x) (flat_fits f each xs)
 
-specs_fit : {A : Type 0} (f : A → List Outer) → ((x : A) → Fits (f x)) → (s : Specs A) → Fits (specs_outers f s)
+specs_fit : {A : Type 0} (f : A → List Outer) → ((x : A) → Fits (f x)) → (s : Specs A) → Fits (of_specs f s)
 specs_fit f each (Single x) = each x
 specs_fit f each (Group first ls last) = flat_fits (λ l. f l.0) (λ l. each l.0) ls
 

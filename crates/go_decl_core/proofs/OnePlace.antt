@@ -6,11 +6,12 @@ use Rattle.std.proofs.lemmas.Option.{slice_get_cases}
 use Rattle.go_tree_nodes.specs.Trees.{FileTree}
 use Rattle.go_decl_core.specs.declared.keys.DeclRef.{DeclRef}
 use Rattle.go_decl_core.specs.declared.places.Place.{Place}
-use Rattle.go_decl_core.specs.Outer.{places_of, IsPlaced}
+use Rattle.go_decl_core.specs.Outer.{places_of}
 use Rattle.go_decl_core.specs.Table.{IsAt, Rise}
 use Rattle.go_decl_core.specs.Laws.{PlacesAreOneToOne, place_in, OneKeyAPlace}
 use Rattle.go_decl_core.proofs.Tables.{offset_at}
 use Rattle.go_decl_core.proofs.Order.{places_rise}
+use Rattle.go_tree_nodes.specs.Spelling.{IsPlaced}
 
 not_before : (ps : List Place) → Rise ps → (m n offset : ℕ) → IsAt ps offset m → IsAt ps offset n → m < n → ⊥
 not_before ps rise m n offset h g lt =

@@ -9,13 +9,13 @@ use Rattle.go_tree_nodes.specs.declared.types.TypeName.{TypeName}
 use Rattle.go_tree_nodes.specs.declared.types.TypeName.TheVariants as type_name
 use Rattle.go_tree_nodes.specs.declared.files.Receiver.{Receiver}
 use Rattle.go_tree_nodes.specs.Terminals.{Terminal, InOrder}
-use Rattle.go_tree_nodes.specs.Trees.{Separated, One, Then, TypeTree, FieldTrees, MethodTrees, SignatureTree, ResultTree, ParamTrees, NamedType, Pointer, ParenType, Struct, Interface, NoFields, NamedFields, EmbeddedField, NoMethods, Method, Signed, NoResult, OneResult, Results, NoParams, Param, ExprTree, ItemTrees, Integer, Text, Named, Paren, Unary, Binary, Select, Call, Literal, StructLiteral, NoItems, Item, ValueSpecTree, Specs, Single, Group, TypeSpecTree, FuncTree, DeclTree, Value, Types, Func, TopTree, FileTree}
+use Rattle.go_tree_nodes.specs.Trees.{Separated, One, Then, TypeTree, FieldTrees, MethodTrees, SignatureTree, ResultTree, ParamTrees, NamedType, Pointer, ParenType, Struct, Interface, NoFields, NamedFields, EmbeddedField, NoMethods, Method, Signed, NoResult, OneResult, Results, NoParams, Param, ExprTree, ItemTrees, Integer, Text, Named, Paren, Unary, Binary, Select, Call, Literal, StructLiteral, NoItems, Item, ValueSpecTree, Specs, Single, Group, TypeSpecTree, FuncTree, DeclTree, Value, Types, Func, TopTree, FileTree, of_specs}
 use Rattle.go_tree_nodes.specs.declared.decls.ValueKind.{ValueKind}
-use Rattle.go_tree_nodes.specs.Spelling.{spell_ident, spell_idents, spell_names, spell_type_name, spell_type, spell_fields, spell_methods, spell_signature, spell_result, spell_params, spell, spell_items, spell_exprs, spell_some_type, spell_values, spell_value_spec, spell_specs_of, spell_specs, spell_type_spec, spell_receiver_name, spell_receiver, spell_func, spell_decl, spell_tops, spell_file}
+use Rattle.go_tree_nodes.specs.Spelling.{spell_ident, spell_idents, spell_names, spell_type_name, spell_type, spell_fields, spell_methods, spell_signature, spell_result, spell_params, spell, spell_items, spell_exprs, spell_some_type, spell_values, spell_value_spec, spell_specs_of, spell_specs, spell_type_spec, spell_receiver_name, spell_receiver, spell_func, spell_decl, spell_tops, spell_file, IsPlaced}
 use Rattle.go_tree_nodes.proofs.InOrder.{in_order_split, in_order_ends}
 use Rattle.go_decl_core.specs.declared.places.DeclKind.{DeclKind}
 use Rattle.go_decl_core.specs.declared.places.Place.{Place}
-use Rattle.go_decl_core.specs.Outer.{Outer, Manner, outer, last_of, idents_outers, names_outers, type_outers, fields_outers, methods_outers, signature_outers, result_outers, params_outers, expr_outers, items_outers, exprs_outers, some_type_outers, values_outers, value_spec_outers, type_spec_outers, specs_outers, receiver_name_outers, receiver_outers, func_outers, decl_outers, tops_outers, outer_names, place_of, places_of, IsPlaced}
+use Rattle.go_decl_core.specs.Outer.{Outer, Manner, outer, last_of, idents_outers, names_outers, type_outers, fields_outers, methods_outers, signature_outers, result_outers, params_outers, expr_outers, items_outers, exprs_outers, some_type_outers, values_outers, value_spec_outers, type_spec_outers, receiver_name_outers, receiver_outers, func_outers, decl_outers, tops_outers, outer_names, place_of, places_of}
 use Rattle.go_decl_core.specs.Table.{Rise}
 
 -- identifiers that stand one behind another, between two offsets
@@ -138,7 +138,7 @@ group_gives : {A : Type 0} (f : A → List Terminal) (g : A → List Outer) → 
 group_gives f g each [] = gives_none
 group_gives f g each (x ∷ xs) = gives_both (each x.0) (gives_second _ (group_gives f g each xs))
 
-specs_give : {A : Type 0} (f : A → List Terminal) (g : A → List Outer) → ((x : A) → Gives (f x) (g x)) → (s : Specs A) → Gives (spell_specs f s) (specs_outers g s)
+specs_give : {A : Type 0} (f : A → List Terminal) (g : A → List Outer) → ((x : A) → Gives (f x) (g x)) → (s : Specs A) → Gives (spell_specs f s) (of_specs g s)
 specs_give f g each (Single x) = each x
 specs_give f g each (Group first xs last) = gives_skip (gives_first _ (group_gives f g each xs))
 

@@ -3,35 +3,36 @@ use Rattle.std.specs.Prelude.{◌≡◌, ℕ, ◌+◌, ◌⊎◌, Bool, true, fa
 use Rattle.std.specs.List.{filter}
 use Rattle.go_tree_nodes.specs.declared.names.Ident.{Ident}
 use Rattle.go_tree_nodes.specs.Trees.{FileTree}
-use Rattle.go_tree_core.specs.Names.{declared, take_tops}
+use Rattle.go_tree_core.specs.Names.{taking_names, take_tops}
 use Rattle.go_decl_core.specs.declared.keys.DeclRef.{DeclRef}
 use Rattle.go_decl_core.specs.declared.places.DeclKind.{DeclKind}
 use Rattle.go_decl_core.specs.declared.places.DeclKind.TheVariants as kinds
 use Rattle.go_decl_core.specs.declared.places.Place.{Place}
-use Rattle.go_decl_core.specs.Outer.{Outer, Manner, Whole, Part, Embedded, outer, outer_names, places_of, IsPlaced}
+use Rattle.go_decl_core.specs.Outer.{Outer, Manner, Whole, Part, Embedded, outer, outer_names, places_of}
 use Rattle.go_decl_core.specs.TopDecls.{TopDeclTree, kind_of_form, top_decls}
 use Rattle.go_decl_core.specs.Table.{IsAt}
 use Rattle.go_decl_core.specs.Bodies.{without_bodies, outside}
 use Rattle.go_decl_core.specs.Embedded.{embedding}
+use Rattle.go_tree_nodes.specs.Spelling.{IsPlaced}
 
 -- numbers
 
 -- a declaration as it is known: its identifier, its number and what is declared
-pub record Known : Type 0 where
+pub record KnownDecl : Type 0 where
   pub ident : Ident
   pub number : ℕ
   pub kind : DeclKind
 
-abbrev pub known : TopDeclTree → Known
+abbrev pub known : TopDeclTree → KnownDecl
 known d = record { ident = d.ident; number = d.number; kind = kind_of_form d.form }
 
-abbrev pub if_whole : Manner → Known → List Known
+abbrev pub if_whole : Manner → KnownDecl → List KnownDecl
 if_whole Whole k = k ∷ []
 if_whole Part k = []
 if_whole Embedded k = []
 
 -- the identifiers that name declarations, each with its place in the list, which has this many before it
-abbrev pub wholes : ℕ → List Outer → List Known
+abbrev pub wholes : ℕ → List Outer → List KnownDecl
 wholes n [] = []
 wholes n (o ∷ os) = if_whole o.manner (record { ident = o.ident; number = n; kind = o.kind }) ++ wholes (n + 1) os
 
@@ -94,7 +95,7 @@ is_embedded o = is_embedded_manner o.manner
 -- the identifiers of the table are, each once and in order, the names that the file's declarations without bodies declare, but for
 -- the names of embedded fields, and those are the last identifiers of their types' names
 pub record PlacesAreDeclared : Type 0 where
-  pub own : (f : FileTree) → map (λ o. o.ident) (filter (λ o. not (is_embedded o)) (outer_names f)) ≡ take_tops declared (without_bodies f).decls
+  pub own : (f : FileTree) → map (λ o. o.ident) (filter (λ o. not (is_embedded o)) (outer_names f)) ≡ take_tops taking_names (without_bodies f).decls
   pub embedded : (f : FileTree) → map (λ o. o.ident) (filter is_embedded (outer_names f)) ≡ take_tops embedding (without_bodies f).decls
 
 -- keys

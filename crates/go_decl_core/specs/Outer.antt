@@ -1,5 +1,5 @@
 -- The identifiers that a file declares outside function bodies.
-use Rattle.std.specs.Prelude.{ℕ, List, [], ◌∷◌, ◌++◌, map, Option, Some, None}
+use Rattle.std.specs.Prelude.{List, [], ◌∷◌, ◌++◌, map, Option, Some, None}
 use Rattle.std.specs.List.{flat_map}
 use Rattle.go_text_core.specs.declared.span.Span.{Span}
 use Rattle.go_tree_nodes.specs.declared.names.Ident.{Ident}
@@ -8,9 +8,7 @@ use Rattle.go_tree_nodes.specs.declared.types.TypeName.TheVariants as type_name
 use Rattle.go_tree_nodes.specs.declared.decls.ValueKind.{ValueKind}
 use Rattle.go_tree_nodes.specs.declared.decls.ValueKind.TheVariants as value_kinds
 use Rattle.go_tree_nodes.specs.declared.files.Receiver.{Receiver}
-use Rattle.go_tree_nodes.specs.Terminals.{InOrder}
-use Rattle.go_tree_nodes.specs.Trees.{Separated, One, Then, TypeTree, FieldTrees, MethodTrees, SignatureTree, ResultTree, ParamTrees, NamedType, Pointer, ParenType, Struct, Interface, NoFields, NamedFields, EmbeddedField, NoMethods, Method, Signed, NoResult, OneResult, Results, NoParams, Param, ExprTree, ItemTrees, Integer, Text, Named, Paren, Unary, Binary, Select, Call, Literal, StructLiteral, NoItems, Item, ValueSpecTree, Specs, Single, Group, TypeSpecTree, FuncTree, DeclTree, Value, Types, Func, TopTree, FileTree}
-use Rattle.go_tree_nodes.specs.Spelling.{spell_file}
+use Rattle.go_tree_nodes.specs.Trees.{Separated, One, Then, TypeTree, FieldTrees, MethodTrees, SignatureTree, ResultTree, ParamTrees, NamedType, Pointer, ParenType, Struct, Interface, NoFields, NamedFields, EmbeddedField, NoMethods, Method, Signed, NoResult, OneResult, Results, NoParams, Param, ExprTree, ItemTrees, Integer, Text, Named, Paren, Unary, Binary, Select, Call, Literal, StructLiteral, NoItems, Item, ValueSpecTree, TypeSpecTree, FuncTree, DeclTree, Value, Types, Func, TopTree, FileTree, of_specs}
 use Rattle.go_decl_core.specs.declared.places.DeclKind.{DeclKind}
 use Rattle.go_decl_core.specs.declared.places.DeclKind.TheVariants as kinds
 use Rattle.go_decl_core.specs.declared.places.Place.{Place}
@@ -122,10 +120,6 @@ value_spec_outers k v = idents_outers (kind_of_value k) Whole v.names ++ rest_ou
 abbrev pub type_spec_outers : TypeSpecTree → List Outer
 type_spec_outers t = outer kinds.«Type» Whole t.name ∷ type_outers t.type_expr
 
-abbrev pub specs_outers : {A : Type 0} → (A → List Outer) → Specs A → List Outer
-specs_outers f (Single x) = f x
-specs_outers f (Group first ls last) = flat_map (λ l. f l.0) ls
-
 abbrev pub receiver_name_outers : Option Ident → List Outer
 receiver_name_outers None = []
 receiver_name_outers (Some x) = outer kinds.Param Part x ∷ []
@@ -144,8 +138,8 @@ abbrev pub func_outers : FuncTree → List Outer
 func_outers f = receiver_outers f.receiver ++ (outer (kind_of_func f.receiver) Whole f.name ∷ signature_outers f.signature)
 
 abbrev pub decl_outers : DeclTree → List Outer
-decl_outers (Value v) = specs_outers (value_spec_outers v.kind) v.specs
-decl_outers (Types t) = specs_outers type_spec_outers t.specs
+decl_outers (Value v) = of_specs (value_spec_outers v.kind) v.specs
+decl_outers (Types t) = of_specs type_spec_outers t.specs
 decl_outers (Func f) = func_outers f
 
 abbrev pub tops_outers : List TopTree → List Outer
@@ -161,7 +155,3 @@ place_of o = record { at = o.ident.span.start; kind = o.kind }
 -- the table of a file: an identifier's number is its place in this list, from 0
 abbrev pub places_of : FileTree → List Place
 places_of f = map place_of (outer_names f)
-
--- the terminals that the tree of a file writes follow one another, as those of a text do
-abbrev pub IsPlaced : FileTree → Type 0
-IsPlaced f = (high : ℕ) × InOrder 0 (spell_file f) high

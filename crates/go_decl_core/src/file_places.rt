@@ -2,11 +2,12 @@
 ghost use Rattle.std.specs.Prelude.{◌≡◌, [], ◌∷◌, IfOk, map};
 ghost use Rattle.go_tree_nodes.specs.Shapes.{shape_value_spec, shape_value, shape_type_spec, shape_type_decl, func_of, decl_of, top_of, file_of};
 ghost use Rattle.go_tree_nodes.specs.TypeShapes.{shape_idents};
-ghost use Rattle.go_decl_core.specs.Outer.{IsPlaced, Whole, outer, idents_outers, kind_of_value, kind_of_func, value_spec_outers, type_spec_outers, receiver_outers, func_outers, decl_outers, tops_outers, places_of};
+ghost use Rattle.go_decl_core.specs.Outer.{Whole, outer, idents_outers, kind_of_value, kind_of_func, value_spec_outers, type_spec_outers, receiver_outers, func_outers, decl_outers, tops_outers, places_of};
 ghost use Rattle.go_decl_core.specs.TopDecls.{top_decl, named_decls, value_spec_decls, type_spec_decls, func_decls, decl_decls, tops_decls, top_decls};
 ghost use Rattle.go_tree_nodes.specs.Trees as decls;
 ghost use Rattle.go_decl_core.specs.Shown.{form_shown, decl_shown};
 ghost use Rattle.go_decl_core.specs.mirrors.Listing.{Adds, Lists};
+ghost use Rattle.go_tree_nodes.specs.Spelling.{IsPlaced};
 
 use crate::expr_places::list_rest;
 use crate::lister::Lister;

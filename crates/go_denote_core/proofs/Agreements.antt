@@ -29,7 +29,7 @@ use Rattle.go_denote_core.specs.declared.things.Argument.{Argument}
 use Rattle.go_denote_core.specs.declared.things.Argument.TheVariants as arguments
 use Rattle.go_denote_core.specs.Look.{Look}
 use Rattle.go_denote_core.specs.Answers.{declared, refused, of_value, value_of_type, package_answer, type_answer, func_answer, value_answer, found_answer}
-use Rattle.go_denote_core.specs.Selectors.{place_of, exported_answer, field_answer, method_answer, member_answer, value_selector, selector_answer}
+use Rattle.go_denote_core.specs.Selectors.{usage_place, exported_answer, field_answer, method_answer, member_answer, value_selector, selector_answer}
 use Rattle.go_denote_core.specs.Calls.{of_results, fits_type, all_fit, func_call, of_conversion, convert_argument, conversion, of_length, length_argument, is_printable, builtin_call, judged_call, of_builtin, free_call}
 use Rattle.go_denote_core.specs.Laws.{is_nothing, Agree, RefusedDenotesNothing}
 
@@ -90,9 +90,9 @@ found_agrees look place (founds.«Value» d value) = value_agrees look place d v
 exported_agrees : {T S D P : Type 0} (look : Look T S D P) (usage : Usage) (found : Exported T S D) → Agree {P = P} (exported_answer usage found)
 exported_agrees look usage exporteds.Absent = refl
 exported_agrees look usage exporteds.Hidden = refl
-exported_agrees look usage (exporteds.«Type» d t) = type_agrees look (place_of usage) d t
-exported_agrees look usage (exporteds.Func d s) = func_agrees look (place_of usage) d (denotes.Func d s) refl
-exported_agrees look usage (exporteds.«Value» d value) = value_agrees look (place_of usage) d value
+exported_agrees look usage (exporteds.«Type» d t) = type_agrees look (usage_place usage) d t
+exported_agrees look usage (exporteds.Func d s) = func_agrees look (usage_place usage) d (denotes.Func d s) refl
+exported_agrees look usage (exporteds.«Value» d value) = value_agrees look (usage_place usage) d value
 
 field_agrees : {T S D P : Type 0} (look : Look T S D P) (usage : Usage) (d : D) (path : P) (t : Option T) (is_addressable : Bool) → Agree {S = S} (field_answer usage d path t is_addressable)
 field_agrees look usages.«Type» d path t is_addressable = typed_something look is_addressable t

@@ -33,7 +33,7 @@ use Rattle.go_denote_core.specs.declared.things.Argument.TheVariants as argument
 use Rattle.go_denote_core.specs.Look.{Look}
 use Rattle.go_denote_core.specs.Answers.{declared, refused, found_answer}
 use Rattle.go_denote_core.specs.Selectors.{exported_answer, member_answer, value_selector}
-use Rattle.go_denote_core.specs.Calls.{of_results, fits_type, fits, all_fit, func_call, of_conversion, convert_argument, of_length, length_argument, is_printable, print_call, judged_call, free_call}
+use Rattle.go_denote_core.specs.Calls.{of_results, fits_type, fits_parameter, all_fit, func_call, of_conversion, convert_argument, of_length, length_argument, is_printable, print_call, judged_call, free_call}
 use Rattle.go_denote_core.specs.Rules.{breaks, HasFirst, IsDeclared, IsMember, name_table, declaration_in, package_table, declaration_exported, value_table, suits, suits_builtin, has_misfit, has_bad_conversion, makes_string, call_rules, declaration_called}
 use Rattle.go_denote_core.specs.Laws.{FirstRuleOfName, FirstRuleOfSelector, FirstRuleOfCall}
 
@@ -128,7 +128,7 @@ all_any : {X : Type 0} (p q : X → Bool) → ((x : X) → p x ≡ q x) → (xs 
 all_any p q h [] = refl
 all_any p q h (x ∷ xs) = and_not (p x) (q x) (list_all p xs) (list_any (λ y. not (q y)) xs) (h x) (all_any p q h xs)
 
-fits_is : {T S D P : Type 0} (look : Look T S D P) (argument : Argument T) (param : Option T) → fits look argument param ≡ suits look argument param
+fits_is : {T S D P : Type 0} (look : Look T S D P) (argument : Argument T) (param : Option T) → fits_parameter look argument param ≡ suits look argument param
 fits_is look arguments.Refused None = refl
 fits_is look arguments.Refused (Some t) = refl
 fits_is look arguments.Void None = refl
@@ -140,7 +140,7 @@ all_fit_is : {T S D P : Type 0} (look : Look T S D P) (given : List (Argument T)
 all_fit_is look [] params = refl
 all_fit_is look (argument ∷ given) [] = refl
 all_fit_is look (argument ∷ given) (param ∷ params) =
-    and_not (fits look argument param) (suits look argument param) (all_fit look given params) (list_any (λ pair. not (suits look pair.0 pair.1)) (zip given params)) (fits_is look argument param) (all_fit_is look given params)
+    and_not (fits_parameter look argument param) (suits look argument param) (all_fit look given params) (list_any (λ pair. not (suits look pair.0 pair.1)) (zip given params)) (fits_is look argument param) (all_fit_is look given params)
 
 printable_is : {T S D P : Type 0} (look : Look T S D P) (argument : Argument T) → is_printable look argument ≡ suits_builtin look builtins.Print argument
 printable_is look arguments.Refused = refl

@@ -29,7 +29,7 @@ use Rattle.go_operand_core.specs.Conversions.{convertible, kept, convert, length
 use Rattle.go_denote_core.specs.Look.{Look}
 use Rattle.go_denote_core.specs.Answers.{declared, refused, value_of_type, found_answer, name_answer}
 use Rattle.go_denote_core.specs.Selectors.{exported_answer, member_answer, value_selector, selector_answer}
-use Rattle.go_denote_core.specs.Calls.{of_results, fits, all_fit, func_call, of_conversion, of_length, is_printable, judged_call, free_call}
+use Rattle.go_denote_core.specs.Calls.{of_results, fits_parameter, all_fit, func_call, of_conversion, of_length, is_printable, judged_call, free_call}
 use Rattle.go_denote_core.specs.Laws.{SaysAlike, ValueAlike, GivenAlike, EachAlike, ArgumentAlike, ArgumentsAlike, CallsAlike, OwnNameDecidesName, OwnNameDecidesSelector, NamesAreLocal, SelectorsAreLocal, CallsAreLocal}
 
 -- names
@@ -128,7 +128,7 @@ length_alike rules others o int h =
 
 -- calls
 
-argument_alike : {T S D P : Type 0} (look other : Look T S D P) (argument : Argument T) (param : Option T) → ArgumentAlike look.types other.types argument param → fits look argument param ≡ fits other argument param
+argument_alike : {T S D P : Type 0} (look other : Look T S D P) (argument : Argument T) (param : Option T) → ArgumentAlike look.types other.types argument param → fits_parameter look argument param ≡ fits_parameter other argument param
 argument_alike look other arguments.Refused None h = refl
 argument_alike look other arguments.Refused (Some t) h = refl
 argument_alike look other arguments.Void None h = refl
@@ -140,7 +140,7 @@ fit_alike : {T S D P : Type 0} (look other : Look T S D P) (given : List (Argume
 fit_alike look other [] params h = refl
 fit_alike look other (argument ∷ given) [] h = refl
 fit_alike look other (argument ∷ given) (param ∷ params) h =
-    ap (λ b. b && all_fit look given params) (argument_alike look other argument param h.0) ∙ ap (λ b. fits other argument param && b) (fit_alike look other given params h.1)
+    ap (λ b. b && all_fit look given params) (argument_alike look other argument param h.0) ∙ ap (λ b. fits_parameter other argument param && b) (fit_alike look other given params h.1)
 
 func_alike : {T S D P : Type 0} (look other : Look T S D P) (d : D) (s : S) (given : List (Argument T)) → CallsAlike look other (denotes.Func d s) given → func_call look d s given ≡ func_call other d s given
 func_alike {T} {S} {D} {P} look other d s given h =

@@ -9,7 +9,7 @@ use Rattle.go_denote_core.specs.declared.things.Argument.{Argument}
 use Rattle.go_denote_core.specs.declared.things.Denoted.{Denoted}
 use Rattle.go_denote_core.specs.Look.{Look}
 use Rattle.go_denote_core.specs.Arguments.{argument_of, arguments_of}
-use Rattle.go_denote_core.specs.Calls.{fits, all_fit}
+use Rattle.go_denote_core.specs.Calls.{fits_parameter, all_fit}
 
 -- one more of the first elements
 taken_more : {X Y : Type 0} (f : X → Y) (xs : List X) (i : ℕ) (x : X) → slice_get xs i ≡ Some x → map f (take (i + 1) xs) ≡ map f (take i xs) ++ f x ∷ []
@@ -28,7 +28,7 @@ left_less f done x left more all new is before after =
 -- one argument, and its parameter
 fit_turn : {T S D P : Type 0} (look : Look T S D P) (given : List (Argument T)) (params : List (Option T)) (i : ℕ) (argument : Argument T) (param : Option T)
     → i < length given → argument ≡ get_or given i argument → slice_get params i ≡ Some param
-    → all_fit look (drop i given) (drop i params) ≡ (fits look argument param && all_fit look (drop (i + 1) given) (drop (i + 1) params))
+    → all_fit look (drop i given) (drop i params) ≡ (fits_parameter look argument param && all_fit look (drop (i + 1) given) (drop (i + 1) params))
 fit_turn look given params i argument param lt is at =
     let within : i < length params = slice_get_within params i param at in
     let this : drop i params ≡ param ∷ drop (i + 1) params = drop_more params i param within ∙ ap (λ p. p ∷ drop (i + 1) params) (get_or_from_slice_get params i param param at) in
@@ -38,13 +38,13 @@ fit_turn look given params i argument param lt is at =
 -- where one does not fit, and where it does
 
 pub fit_stops : {T S D P : Type 0} (look : Look T S D P) (given : List (Argument T)) (params : List (Option T)) (i : ℕ) (argument : Argument T) (param : Option T) (good : Bool)
-    → i < length given → argument ≡ get_or given i argument → slice_get params i ≡ Some param → good ≡ fits look argument param
+    → i < length given → argument ≡ get_or given i argument → slice_get params i ≡ Some param → good ≡ fits_parameter look argument param
     → all_fit look (drop i given) (drop i params) ≡ all_fit look given params → good ≡ false → false ≡ all_fit look given params
 fit_stops look given params i argument param good lt is at good_is before bad =
     sym (sym before ∙ (fit_turn look given params i argument param lt is at ∙ ap (λ b. b && all_fit look (drop (i + 1) given) (drop (i + 1) params)) (sym good_is ∙ bad)))
 
 pub fit_goes_on : {T S D P : Type 0} (look : Look T S D P) (given : List (Argument T)) (params : List (Option T)) (i : ℕ) (argument : Argument T) (param : Option T) (good : Bool)
-    → i < length given → argument ≡ get_or given i argument → slice_get params i ≡ Some param → good ≡ fits look argument param
+    → i < length given → argument ≡ get_or given i argument → slice_get params i ≡ Some param → good ≡ fits_parameter look argument param
     → all_fit look (drop i given) (drop i params) ≡ all_fit look given params → good ≡ true → all_fit look (drop (i + 1) given) (drop (i + 1) params) ≡ all_fit look given params
 fit_goes_on look given params i argument param good lt is at good_is before fine =
     sym (fit_turn look given params i argument param lt is at ∙ ap (λ b. b && all_fit look (drop (i + 1) given) (drop (i + 1) params)) (sym good_is ∙ fine)) ∙ before

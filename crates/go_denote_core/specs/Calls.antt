@@ -35,14 +35,14 @@ fits_type look t arguments.Void = false
 fits_type look t (arguments.«Value» operand) = assignable_to look.types operand t
 
 -- a parameter without a type takes each argument
-abbrev pub fits : {T S D P : Type 0} → Look T S D P → Argument T → Option T → Bool
-fits look argument None = true
-fits look argument (Some t) = fits_type look t argument
+abbrev pub fits_parameter : {T S D P : Type 0} → Look T S D P → Argument T → Option T → Bool
+fits_parameter look argument None = true
+fits_parameter look argument (Some t) = fits_type look t argument
 
 abbrev pub all_fit : {T S D P : Type 0} → Look T S D P → List (Argument T) → List (Option T) → Bool
 all_fit look [] params = true
 all_fit look (argument ∷ more) [] = true
-all_fit look (argument ∷ more) (param ∷ params) = fits look argument param && all_fit look more params
+all_fit look (argument ∷ more) (param ∷ params) = fits_parameter look argument param && all_fit look more params
 
 abbrev pub func_call : {T S D P : Type 0} → Look T S D P → D → S → List (Argument T) → Answer T S D P
 func_call look d s given =

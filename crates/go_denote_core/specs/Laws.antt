@@ -20,7 +20,7 @@ use Rattle.go_denote_core.specs.Look.{Look}
 use Rattle.go_denote_core.specs.Answers.{name_answer}
 use Rattle.go_denote_core.specs.Selectors.{selector_answer}
 use Rattle.go_denote_core.specs.Calls.{call_answer}
-use Rattle.go_denote_core.specs.Contexts.{NameAt, SelectorBehind, rule}
+use Rattle.go_denote_core.specs.Contexts.{NameAt, SelectorBehind, name_outcome}
 use Rattle.go_denote_core.specs.Rules.{HasFirst, IsDeclared, IsChosen, name_rules, declaration_in, selector_rules, call_rules, declaration_called}
 
 -- a name has the first rule that it breaks, and its declaration where it breaks none
@@ -73,15 +73,15 @@ SaysAlike look other (dots.«Value» operand) name name' =
     MembersAlike look other (default_type look.types operand.value_type) (default_type other.types operand.value_type) name name'
 
 pub record OwnNameDecidesName (T S D P : Type 0) : Type 0 where
-  pub by_rule : (look : Look T S D P) (place : Place) (name : List ℕ) → (name_answer look place name).outcome ≡ rule look (NameAt place) name
+  pub by_rule : (look : Look T S D P) (place : Place) (name : List ℕ) → (name_answer look place name).outcome ≡ name_outcome look (NameAt place) name
   pub own_name : (look : Look T S D P) (place : Place) (name name' : List ℕ)
-      → is_blank name ≡ is_blank name' → look.names.find name ≡ look.names.find name' → rule look (NameAt place) name ≡ rule look (NameAt place) name'
+      → is_blank name ≡ is_blank name' → look.names.find name ≡ look.names.find name' → name_outcome look (NameAt place) name ≡ name_outcome look (NameAt place) name'
 
 pub record OwnNameDecidesSelector (T S D P : Type 0) : Type 0 where
   pub by_rule : (look : Look T S D P) (usage : Usage) (dot : Dot T D) (name : List ℕ)
-      → (selector_answer look usage dot name).outcome ≡ rule look (SelectorBehind usage dot) name
+      → (selector_answer look usage dot name).outcome ≡ name_outcome look (SelectorBehind usage dot) name
   pub own_name : (look : Look T S D P) (usage : Usage) (dot : Dot T D) (name name' : List ℕ)
-      → is_blank name ≡ is_blank name' → SaysAlike look look dot name name' → rule look (SelectorBehind usage dot) name ≡ rule look (SelectorBehind usage dot) name'
+      → is_blank name ≡ is_blank name' → SaysAlike look look dot name name' → name_outcome look (SelectorBehind usage dot) name ≡ name_outcome look (SelectorBehind usage dot) name'
 
 -- answers are the same under look-ups that agree on what is asked
 

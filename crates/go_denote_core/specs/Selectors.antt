@@ -2,11 +2,9 @@
 --
 -- docs/RULES.md, "Members and selectors", "Names, selectors and calls in expressions". The Go specification, "Qualified identifiers",
 -- "Selectors", "Method values", "Calls".
-use Rattle.std.specs.Prelude.{ℕ, Bool, true, not, ◌||◌, List, Option, Some, None, if◌then◌else◌}
+use Rattle.std.specs.Prelude.{ℕ, Bool, not, ◌||◌, List, Option, Some, None, if◌then◌else◌}
 use Rattle.go_text_core.specs.Text.{is_blank}
 use Rattle.go_text_core.specs.declared.rule.Rule.TheVariants.{N2, N3, S4, S5, S6, S8, C1, X1}
-use Rattle.go_tree_nodes.specs.declared.types.TypeName.{TypeName}
-use Rattle.go_tree_nodes.specs.declared.types.TypeName.TheVariants as type_names
 use Rattle.go_operand_core.specs.Values.{default_type}
 use Rattle.go_denote_core.specs.declared.things.Place.{Place}
 use Rattle.go_denote_core.specs.declared.things.Place.TheVariants as places
@@ -23,20 +21,20 @@ use Rattle.go_denote_core.specs.declared.things.Selection.TheVariants as selecti
 use Rattle.go_denote_core.specs.declared.things.Dot.{Dot}
 use Rattle.go_denote_core.specs.declared.things.Dot.TheVariants as dots
 use Rattle.go_denote_core.specs.Look.{Look}
-use Rattle.go_denote_core.specs.Answers.{refused, value_of_type, type_answer, func_answer, value_answer, name_answer}
+use Rattle.go_denote_core.specs.Answers.{refused, value_of_type, type_answer, func_answer, value_answer}
 
 -- a selector after a package is judged as a name where the whole stands
-abbrev pub place_of : Usage → Place
-place_of usages.«Type» = places.«Type»
-place_of usages.«Value» = places.«Value»
-place_of usages.Callee = places.Callee
+abbrev pub usage_place : Usage → Place
+usage_place usages.«Type» = places.«Type»
+usage_place usages.«Value» = places.«Value»
+usage_place usages.Callee = places.Callee
 
 abbrev pub exported_answer : {T S D P : Type 0} → Usage → Exported T S D → Answer T S D P
 exported_answer usage exporteds.Absent = refused N3
 exported_answer usage exporteds.Hidden = refused N2
-exported_answer usage (exporteds.«Type» d t) = type_answer (place_of usage) d t
-exported_answer usage (exporteds.Func d s) = func_answer (place_of usage) d (denotes.Func d s)
-exported_answer usage (exporteds.«Value» d value) = value_answer (place_of usage) d value
+exported_answer usage (exporteds.«Type» d t) = type_answer (usage_place usage) d t
+exported_answer usage (exporteds.Func d s) = func_answer (usage_place usage) d (denotes.Func d s)
+exported_answer usage (exporteds.«Value» d value) = value_answer (usage_place usage) d value
 
 -- what stands left of a dot, by what it denotes; only a name alone is a qualifier that can be refused
 abbrev pub dot_of : {T S D : Type 0} → Bool → Denoted T S D → Dot T D
@@ -84,9 +82,3 @@ selector_answer look usage dots.Refused name = refused S4
 selector_answer look usage dots.Untyped name = if is_blank name then refused S8 else refused S4
 selector_answer look usage (dots.«Value» operand) name =
     if is_blank name then refused S8 else value_selector look usage operand.addressable (default_type look.types operand.value_type) name
-
--- what the name of a type has; of a qualified one, the identifier behind the dot
-abbrev pub type_name_answer : {T S D P : Type 0} → Look T S D P → TypeName → Answer T S D P
-type_name_answer look (type_names.Plain ident) = name_answer look places.«Type» ident.name
-type_name_answer look (type_names.Qualified qualifier dot ident) =
-    selector_answer look usages.«Type» (dot_of true (name_answer look places.TypeDot qualifier.name).denoted) ident.name

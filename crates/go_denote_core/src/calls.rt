@@ -34,7 +34,7 @@ fn fits<E: Names>(
     argument: &Argument<E::Type>,
     param: &Option<E::Type>,
 ) -> Result<bool, AllocError>
-    ensures { IfOk result (λ fits. fits ≡ calls.fits (look_of (E.types env.now) (E.names env.now)) argument.now param.now) }
+    ensures { IfOk result (λ fits. fits ≡ calls.fits_parameter (look_of (E.types env.now) (E.names env.now)) argument.now param.now) }
 {
     match param {
         None => Ok(true),

@@ -24,7 +24,7 @@ pub use laws::{
     selectors_are_local,
 };
 pub use looks::Names;
-pub use selectors::{dot_of, selector_answer, type_name_answer};
+pub use selectors::{dot_of, selector_answer};
 pub use things::{
     Answer, Argument, Builtin, Denoted, Dot, Exported, Found, Outcome, Place, Selection, Usage,
 };

@@ -4,12 +4,11 @@ ghost use Rattle.go_denote_core.specs.Look.{look_of};
 ghost use Rattle.go_denote_core.specs.Selectors as selectors;
 ghost use Rattle.go_operand_core.specs.Values.{default_type};
 
-use crate::answers::{func_answer, name_answer, refused, type_answer, value_answer, value_of_type};
+use crate::answers::{func_answer, refused, type_answer, value_answer, value_of_type};
 use crate::looks::Names;
 use crate::things::{Answer, Denoted, Dot, Exported, Outcome, Place, Selection, Usage};
 use go_operand_core::{Operand, ValueType};
 use go_text_core::Rule;
-use go_tree_nodes::TypeName;
 use std::alloc::{AllocError, Global};
 
 /// What stands left of a dot, by what it denotes, and whether it is a name alone.
@@ -30,7 +29,7 @@ pub fn dot_of<T: Drop, S: Drop, D: Drop>(is_name: bool, denoted: Denoted<T, S, D
 }
 
 fn place_of(usage: Usage) -> Place
-    ensures { result ≡ selectors.place_of usage }
+    ensures { result ≡ selectors.usage_place usage }
 {
     match usage {
         Usage::Type => Place::Type,
@@ -196,30 +195,6 @@ pub fn selector_answer<E: Names>(
                 return Ok(refused(Rule::S8));
             }
             value_selector(env, alloc, usage, operand, name)
-        }
-    }
-}
-
-/// What the name of a type has, and what it denotes. Of a qualified name it is what the identifier behind the dot has.
-///
-/// The Go specification, "Types", "Qualified identifiers".
-///
-/// # Errors
-///
-/// `AllocError` where memory is wanting.
-pub fn type_name_answer<E: Names>(
-    env: &E,
-    alloc: Global,
-    name: &TypeName,
-) -> Result<Answer<E::Type, E::Signature, E::Decl, E::Path>, AllocError>
-    ensures { IfOk result (λ answer. answer ≡ selectors.type_name_answer (look_of (E.types env.now) (E.names env.now)) name.now) }
-{
-    match name {
-        TypeName::Plain(ident) => name_answer(env, alloc, Place::Type, ident.name.as_str()),
-        TypeName::Qualified(qualifier, _, ident) => {
-            let left = name_answer(env, alloc, Place::TypeDot, qualifier.name.as_str())?;
-            let dot = dot_of(true, left.denoted);
-            selector_answer(env, alloc, Usage::Type, &dot, ident.name.as_str())
         }
     }
 }

@@ -8,7 +8,7 @@ use Rattle.std.proofs.lemmas.List.{drop_more, drop_all}
 use Rattle.go_text_core.specs.Text.{SameId}
 use Rattle.go_term_core.specs.declared.term.Field.{Field}
 use Rattle.go_term_core.specs.declared.term.Method.{Method}
-use Rattle.go_term_core.specs.Shapes.{Line, fields_in, methods_of}
+use Rattle.go_term_core.specs.Shapes.{Line, fields_in, method_shapes}
 use Rattle.go_type_core.specs.table_core.declared.entry.DeclaredMethod.{DeclaredMethod}
 use Rattle.go_type_core.specs.table_core.Entries.{same_id, has_method}
 use Rattle.go_type_core.specs.table_core.Shown.{member_shown}
@@ -73,7 +73,7 @@ pub fields_named : (ls : List Line) (path name from : List ℕ) (fs : List Field
 fields_named ls path name from [] = refl
 fields_named ls path name from (f ∷ fs) = ap (together (field_tally ls path name from f)) (fields_named ls path name from fs)
 
-pub interface_named : (path name from : List ℕ) (ms : List Method) → tallies (interface_tally path name from) ms ≡ tallies (tally_of name from) (methods_found path (methods_of ms))
+pub interface_named : (path name from : List ℕ) (ms : List Method) → tallies (interface_tally path name from) ms ≡ tallies (tally_of name from) (methods_found path (method_shapes ms))
 interface_named path name from [] = refl
 interface_named path name from (m ∷ ms) = ap (together (interface_tally path name from m)) (interface_named path name from ms)
 
@@ -93,7 +93,7 @@ pub fields_spelled : (ls : List Line) (path name : List ℕ) (fs : List Field) �
 fields_spelled ls path name [] = refl
 fields_spelled ls path name (f ∷ fs) = or_if (bytes_eq f.name name) (list_any (λ f. bytes_eq f.name name) fs) ∙ ap (λ l. if bytes_eq f.name name then true else l) (fields_spelled ls path name fs)
 
-pub interface_spelled : (path name : List ℕ) (ms : List Method) → list_any (λ m. bytes_eq m.name name) ms ≡ is_spelled_in (methods_found path (methods_of ms)) name
+pub interface_spelled : (path name : List ℕ) (ms : List Method) → list_any (λ m. bytes_eq m.name name) ms ≡ is_spelled_in (methods_found path (method_shapes ms)) name
 interface_spelled path name [] = refl
 interface_spelled path name (m ∷ ms) = or_if (bytes_eq m.name name) (list_any (λ m. bytes_eq m.name name) ms) ∙ ap (λ l. if bytes_eq m.name name then true else l) (interface_spelled path name ms)
 

@@ -11,12 +11,12 @@ use Rattle.go_term_core.specs.decl_core.declared.keys.DeclKey.{DeclKey}
 use Rattle.go_term_core.specs.declared.term.MemberPlace.{MemberPlace}
 use Rattle.go_term_core.specs.Terms.{Term, StructOf, Fields, NoField, AField}
 use Rattle.go_type_core.specs.settle_core.declared.kind.Kind.{Kind}
-use Rattle.go_type_core.specs.settle_core.Settled.{has_name}
+use Rattle.go_type_core.specs.settle_core.Settled.{is_among_names}
 use Rattle.go_type_core.specs.table_core.Entries.{Member, same_id, has_method}
 use Rattle.go_type_core.specs.table_core.Methods.{is_before, field_before, has_field_before}
-use Rattle.go_type_core.specs.Built.{kept, settled_member}
+use Rattle.go_type_core.specs.Built.{unrepeated_methods, settled_member}
 use Rattle.go_embed_core.specs.declared.faults.MemberFault.{MemberFault}
-use Rattle.go_embed_core.specs.Faults.{fault, fault_if, is_left_out, own_names, named_faults}
+use Rattle.go_embed_core.specs.Faults.{member_fault, member_fault_if, is_left_out, own_names, named_faults}
 use Rattle.go_embed_core.specs.Laws.{IsField, AreApart, own_places, IsOwnField, IsBehindMethod, HiddenIsTold}
 use Rattle.go_embed_core.proofs.Ids.{same_id_is, same_id_from}
 use Rattle.go_embed_core.proofs.Steps.{is_first, is_later, in_none, first_or_later}
@@ -27,8 +27,8 @@ use Rattle.go_embed_core.proofs.Telling.{fault_in, place_in, noted}
 named_at : (names : List (List ℕ)) (fs : Fields) (f : MemberFault) → Contains (named_faults names fs) f → Contains (own_places fs) f.place
 named_at names NoField f h = absurd (in_none f h)
 named_at names (AField name place embedded t tag fs) f h =
-    elim (Contains-append_cases (fault_if (has_name names name) place rules.B5) (named_faults names fs) f h) [
-      | inl one ↦ is_first place f.place (own_places fs) (place_in (has_name names name) place rules.B5 f one)
+    elim (Contains-append_cases (member_fault_if (is_among_names names name) place rules.B5) (named_faults names fs) f h) [
+      | inl one ↦ is_first place f.place (own_places fs) (place_in (is_among_names names name) place rules.B5 f one)
       | inr rest ↦ is_later place f.place (own_places fs) (named_at names fs f rest)
     ]
 
@@ -38,27 +38,27 @@ own_place_in (AField name' place' embedded' t' tag fs) zero name place embedded 
 own_place_in (AField name' place' embedded' t' tag fs) (suc i) name place embedded t h = is_later place' place (own_places fs) (own_place_in fs i name place embedded t h)
 
 named_told : (names : List (List ℕ)) (fs : Fields) (i : ℕ) (name : List ℕ) (place : MemberPlace) (embedded : Bool) (t : Term) → AreApart (own_places fs) → IsField fs i name place embedded t
-    → Contains (named_faults names fs) (fault place rules.B5) → has_name names name ≡ true
+    → Contains (named_faults names fs) (member_fault place rules.B5) → is_among_names names name ≡ true
 named_told names NoField i name place embedded t apart field h = absurd field
 named_told names (AField name' place' embedded' t' tag fs) zero name place embedded t apart field h =
-    elim (Contains-append_cases (fault_if (has_name names name') place' rules.B5) (named_faults names fs) (fault place rules.B5) h) [
-      | inl one ↦ ap (has_name names) (sym field.0) ∙ (fault_in (has_name names name') place' rules.B5 (fault place rules.B5) one).0
-      | inr rest ↦ absurd (apart.0 (subst (Contains (own_places fs)) (sym field.1) (named_at names fs (fault place rules.B5) rest)))
+    elim (Contains-append_cases (member_fault_if (is_among_names names name') place' rules.B5) (named_faults names fs) (member_fault place rules.B5) h) [
+      | inl one ↦ ap (is_among_names names) (sym field.0) ∙ (fault_in (is_among_names names name') place' rules.B5 (member_fault place rules.B5) one).0
+      | inr rest ↦ absurd (apart.0 (subst (Contains (own_places fs)) (sym field.1) (named_at names fs (member_fault place rules.B5) rest)))
     ]
 named_told names (AField name' place' embedded' t' tag fs) (suc i) name place embedded t apart field h =
-    elim (Contains-append_cases (fault_if (has_name names name') place' rules.B5) (named_faults names fs) (fault place rules.B5) h) [
-      | inl one ↦ absurd (apart.0 (subst (Contains (own_places fs)) (sym (place_in (has_name names name') place' rules.B5 (fault place rules.B5) one)) (own_place_in fs i name place embedded t field)))
+    elim (Contains-append_cases (member_fault_if (is_among_names names name') place' rules.B5) (named_faults names fs) (member_fault place rules.B5) h) [
+      | inl one ↦ absurd (apart.0 (subst (Contains (own_places fs)) (sym (place_in (is_among_names names name') place' rules.B5 (member_fault place rules.B5) one)) (own_place_in fs i name place embedded t field)))
       | inr rest ↦ named_told names fs i name place embedded t apart.1 field rest
     ]
 
 named_telling : (names : List (List ℕ)) (fs : Fields) (i : ℕ) (name : List ℕ) (place : MemberPlace) (embedded : Bool) (t : Term) → IsField fs i name place embedded t
-    → has_name names name ≡ true → Contains (named_faults names fs) (fault place rules.B5)
+    → is_among_names names name ≡ true → Contains (named_faults names fs) (member_fault place rules.B5)
 named_telling names NoField i name place embedded t field h = absurd field
 named_telling names (AField name' place' embedded' t' tag fs) zero name place embedded t field h =
-    Contains-append_left (fault_if (has_name names name') place' rules.B5) (named_faults names fs) (fault place rules.B5)
-    (subst (λ p. Contains (fault_if (has_name names name') place' rules.B5) (fault p rules.B5)) field.1 (noted (has_name names name') place' rules.B5 (ap (has_name names) field.0 ∙ h)))
+    Contains-append_left (member_fault_if (is_among_names names name') place' rules.B5) (named_faults names fs) (member_fault place rules.B5)
+    (subst (λ p. Contains (member_fault_if (is_among_names names name') place' rules.B5) (member_fault p rules.B5)) field.1 (noted (is_among_names names name') place' rules.B5 (ap (is_among_names names) field.0 ∙ h)))
 named_telling names (AField name' place' embedded' t' tag fs) (suc i) name place embedded t field h =
-    Contains-append_right (fault_if (has_name names name') place' rules.B5) (named_faults names fs) (fault place rules.B5) (named_telling names fs i name place embedded t field h)
+    Contains-append_right (member_fault_if (is_among_names names name') place' rules.B5) (named_faults names fs) (member_fault place rules.B5) (named_telling names fs i name place embedded t field h)
 
 -- 2. Methods that are a type's own.
 
@@ -86,28 +86,28 @@ own_by_name : (path : List ℕ) (u : Term) (x : Member) (ms : List Member) (name
 own_by_name path u x ms name r true is off rest h = record { source = x; own = first_own path u x ms off; named = (bytes_eq-Decides x.name name).0 is }
 own_by_name path u x ms name r false is off rest h = later_has path u x ms name (rest h)
 
-own_step : (path : List ℕ) (u : Term) (x : Member) (ms : List Member) (name : List ℕ) (names : List (List ℕ)) (b : Bool) → is_left_out path u x ≡ b → (has_name names name ≡ true → HasOwn path u ms name)
-    → has_name (if b then names else x.name ∷ names) name ≡ true → HasOwn path u (x ∷ ms) name
+own_step : (path : List ℕ) (u : Term) (x : Member) (ms : List Member) (name : List ℕ) (names : List (List ℕ)) (b : Bool) → is_left_out path u x ≡ b → (is_among_names names name ≡ true → HasOwn path u ms name)
+    → is_among_names (if b then names else x.name ∷ names) name ≡ true → HasOwn path u (x ∷ ms) name
 own_step path u x ms name names true is rest h = later_has path u x ms name (rest h)
-own_step path u x ms name names false is rest h = own_by_name path u x ms name (has_name names name) (bytes_eq x.name name) refl is rest h
+own_step path u x ms name names false is rest h = own_by_name path u x ms name (is_among_names names name) (bytes_eq x.name name) refl is rest h
 
-named_own : (path : List ℕ) (u : Term) (ms : List Member) (name : List ℕ) → has_name (own_names path u ms) name ≡ true → HasOwn path u ms name
+named_own : (path : List ℕ) (u : Term) (ms : List Member) (name : List ℕ) → is_among_names (own_names path u ms) name ≡ true → HasOwn path u ms name
 named_own path u [] name h = absurd (true≢false (sym h))
 named_own path u (x ∷ ms) name h = own_step path u x ms name (own_names path u ms) (is_left_out path u x) refl (named_own path u ms name) h
 
-name_here : (x name : List ℕ) (names : List (List ℕ)) (b : Bool) → b ≡ false → x ≡ name → has_name (if b then names else x ∷ names) name ≡ true
+name_here : (x name : List ℕ) (names : List (List ℕ)) (b : Bool) → b ≡ false → x ≡ name → is_among_names (if b then names else x ∷ names) name ≡ true
 name_here x name names true is same = absurd (true≢false is)
-name_here x name names false is same = ap (λ c. if c then true else has_name names name) ((bytes_eq-Decides x name).1 same)
+name_here x name names false is same = ap (λ c. if c then true else is_among_names names name) ((bytes_eq-Decides x name).1 same)
 
 if_true : (c r : Bool) → r ≡ true → (if c then true else r) ≡ true
 if_true true r h = refl
 if_true false r h = h
 
-name_there : (x name : List ℕ) (names : List (List ℕ)) (b : Bool) → has_name names name ≡ true → has_name (if b then names else x ∷ names) name ≡ true
+name_there : (x name : List ℕ) (names : List (List ℕ)) (b : Bool) → is_among_names names name ≡ true → is_among_names (if b then names else x ∷ names) name ≡ true
 name_there x name names true h = h
-name_there x name names false h = if_true (bytes_eq x name) (has_name names name) h
+name_there x name names false h = if_true (bytes_eq x name) (is_among_names names name) h
 
-own_named : (path : List ℕ) (u : Term) (ms : List Member) (m : Member) → IsOwn path u ms m → has_name (own_names path u ms) m.name ≡ true
+own_named : (path : List ℕ) (u : Term) (ms : List Member) (m : Member) → IsOwn path u ms m → is_among_names (own_names path u ms) m.name ≡ true
 own_named path u [] m h = absurd (in_none m h.among)
 own_named path u (x ∷ ms) m h =
     elim (first_or_later x m ms h.among) [
@@ -119,7 +119,7 @@ own_named path u (x ∷ ms) m h =
 
 -- a method that is passed over by the list of those that are kept
 abbrev is_dropped : List ℕ → Term → List (List ℕ) → Member → Bool
-is_dropped path u seen m = is_blank m.name || (has_name seen m.name || has_field_before path u m)
+is_dropped path u seen m = is_blank m.name || (is_among_names seen m.name || has_field_before path u m)
 
 left_out_of : (a b c : Bool) → (a || (b || c)) ≡ false → (a || c) ≡ false
 left_out_of true b c q = q
@@ -144,14 +144,14 @@ kept_step : (kind : DeclKey → Kind) (path : List ℕ) (u : Term) (seen : List 
 kept_step kind path u seen x ms same more m true is first rest h = later_kept kind path u x ms m (first h)
 kept_step kind path u seen x ms same more m false is first rest h =
     elim (first_or_later (settled_member kind x) m more h) [
-      | inl here ↦ record { source = x; own = first_own path u x ms (left_out_of (is_blank x.name) (has_name seen x.name) (has_field_before path u x) is); is = here }
+      | inl here ↦ record { source = x; own = first_own path u x ms (left_out_of (is_blank x.name) (is_among_names seen x.name) (has_field_before path u x) is); is = here }
       | inr there ↦ later_kept kind path u x ms m (rest there)
     ]
 
-kept_own : (kind : DeclKey → Kind) (path : List ℕ) (u : Term) (seen : List (List ℕ)) (ms : List Member) (m : Member) → Contains (kept kind path u seen ms) m → IsKept kind path u ms m
+kept_own : (kind : DeclKey → Kind) (path : List ℕ) (u : Term) (seen : List (List ℕ)) (ms : List Member) (m : Member) → Contains (unrepeated_methods kind path u seen ms) m → IsKept kind path u ms m
 kept_own kind path u seen [] m h = absurd (in_none m h)
 kept_own kind path u seen (x ∷ ms) m h =
-    kept_step kind path u seen x ms (kept kind path u seen ms) (kept kind path u (x.name ∷ seen) ms) m (is_dropped path u seen x) refl (kept_own kind path u seen ms m) (kept_own kind path u (x.name ∷ seen) ms m) h
+    kept_step kind path u seen x ms (unrepeated_methods kind path u seen ms) (unrepeated_methods kind path u (x.name ∷ seen) ms) m (is_dropped path u seen x) refl (kept_own kind path u seen ms m) (kept_own kind path u (x.name ∷ seen) ms m) h
 
 -- of the methods of a name that are a type's own, one is kept
 record HasKept (kind : DeclKey → Kind) (path : List ℕ) (u : Term) (ms list : List Member) (name : List ℕ) : Type 0 where
@@ -167,36 +167,36 @@ here_kept kind path u x ms same more name false is own e =
     record { source = x; own = first_own path u x ms own; named = e; there = is_first (settled_member kind x) (settled_member kind x) more refl }
 
 behind_kept : (kind : DeclKey → Kind) (path : List ℕ) (u : Term) (seen : List (List ℕ)) (x : Member) (ms more : List Member) (name : List ℕ) (c : Bool) → bytes_eq x.name name ≡ c → is_dropped path u seen x ≡ false
-    → has_name seen name ≡ false → (has_name (x.name ∷ seen) name ≡ false → HasKept kind path u ms more name) → HasKept kind path u (x ∷ ms) (settled_member kind x ∷ more) name
+    → is_among_names seen name ≡ false → (is_among_names (x.name ∷ seen) name ≡ false → HasKept kind path u ms more name) → HasKept kind path u (x ∷ ms) (settled_member kind x ∷ more) name
 behind_kept kind path u seen x ms more name true e is new rest =
-    here_kept kind path u x ms [] more name false refl (left_out_of (is_blank x.name) (has_name seen x.name) (has_field_before path u x) is) ((bytes_eq-Decides x.name name).0 e)
+    here_kept kind path u x ms [] more name false refl (left_out_of (is_blank x.name) (is_among_names seen x.name) (has_field_before path u x) is) ((bytes_eq-Decides x.name name).0 e)
 behind_kept kind path u seen x ms more name false e is new rest =
-    let h = rest (ap (λ c. if c then true else has_name seen name) e ∙ new) in
+    let h = rest (ap (λ c. if c then true else is_among_names seen name) e ∙ new) in
     record { source = h.source; own = later_own path u x ms h.source h.own; named = h.named; there = is_later (settled_member kind x) (settled_member kind h.source) more h.there }
 
 there_kept : (kind : DeclKey → Kind) (path : List ℕ) (u : Term) (seen : List (List ℕ)) (x : Member) (ms same more : List Member) (name : List ℕ) (b : Bool) → is_dropped path u seen x ≡ b
-    → has_name seen name ≡ false → HasKept kind path u ms same name → (has_name (x.name ∷ seen) name ≡ false → HasKept kind path u ms more name)
+    → is_among_names seen name ≡ false → HasKept kind path u ms same name → (is_among_names (x.name ∷ seen) name ≡ false → HasKept kind path u ms more name)
     → HasKept kind path u (x ∷ ms) (if b then same else settled_member kind x ∷ more) name
 there_kept kind path u seen x ms same more name true is new first rest =
     record { source = first.source; own = later_own path u x ms first.source first.own; named = first.named; there = first.there }
 there_kept kind path u seen x ms same more name false is new first rest = behind_kept kind path u seen x ms more name (bytes_eq x.name name) refl is new rest
 
-own_kept : (kind : DeclKey → Kind) (path : List ℕ) (u : Term) (seen : List (List ℕ)) (ms : List Member) (m : Member) → IsOwn path u ms m → has_name seen m.name ≡ false
-    → HasKept kind path u ms (kept kind path u seen ms) m.name
+own_kept : (kind : DeclKey → Kind) (path : List ℕ) (u : Term) (seen : List (List ℕ)) (ms : List Member) (m : Member) → IsOwn path u ms m → is_among_names seen m.name ≡ false
+    → HasKept kind path u ms (unrepeated_methods kind path u seen ms) m.name
 own_kept kind path u seen [] m h new = absurd (in_none m h.among)
 own_kept kind path u seen (x ∷ ms) m h new =
-    let same = kept kind path u seen ms in
-    let more = kept kind path u (x.name ∷ seen) ms in
+    let same = unrepeated_methods kind path u seen ms in
+    let more = unrepeated_methods kind path u (x.name ∷ seen) ms in
     elim (first_or_later x m ms h.among) [
       | inl here ↦ here_kept kind path u x ms same more m.name (is_dropped path u seen x)
-          (ap (is_dropped path u seen) here ∙ not_dropped (is_blank m.name) (has_name seen m.name) (has_field_before path u m) h.own new)
+          (ap (is_dropped path u seen) here ∙ not_dropped (is_blank m.name) (is_among_names seen m.name) (has_field_before path u m) h.own new)
           (ap (is_left_out path u) here ∙ h.own) (ap (λ (k : Member). k.name) here)
       | inr there ↦ there_kept kind path u seen x ms same more m.name (is_dropped path u seen x) refl new
           (own_kept kind path u seen ms m (record { among = there; own = h.own }) new)
           (λ q. own_kept kind path u (x.name ∷ seen) ms m (record { among = there; own = h.own }) q)
     ]
 
-named_kept : (kind : DeclKey → Kind) (path : List ℕ) (u : Term) (ms : List Member) (name : List ℕ) → has_name (own_names path u ms) name ≡ true → HasKept kind path u ms (kept kind path u [] ms) name
+named_kept : (kind : DeclKey → Kind) (path : List ℕ) (u : Term) (ms : List Member) (name : List ℕ) → is_among_names (own_names path u ms) name ≡ true → HasKept kind path u ms (unrepeated_methods kind path u [] ms) name
 named_kept kind path u ms name h =
     let o = named_own path u ms name h in
     let k = own_kept kind path u [] ms o.source o.own refl in
@@ -232,19 +232,19 @@ same_back a p b q h = (sym h.0, elim h.1 [ inl e ↦ inl (subst (λ n. IsTrue (e
 
 hidden_by : (kind : DeclKey → Kind) (path home : List ℕ) (fs : Fields) (ms : List Member) (i : ℕ) (name : List ℕ) (place : MemberPlace) (embedded : Bool) (t : Term) (b : Bool) → bytes_eq home path ≡ b
     → AreApart (own_places fs) → IsField fs i name place embedded t
-    → Contains (if b then named_faults (own_names path (StructOf home fs) ms) fs else []) (fault place rules.B5)
-    → (home ≡ path) × HasKept kind path (StructOf home fs) ms (kept kind path (StructOf home fs) [] ms) name
-hidden_by kind path home fs ms i name place embedded t false is apart field h = absurd (in_none (fault place rules.B5) h)
+    → Contains (if b then named_faults (own_names path (StructOf home fs) ms) fs else []) (member_fault place rules.B5)
+    → (home ≡ path) × HasKept kind path (StructOf home fs) ms (unrepeated_methods kind path (StructOf home fs) [] ms) name
+hidden_by kind path home fs ms i name place embedded t false is apart field h = absurd (in_none (member_fault place rules.B5) h)
 hidden_by kind path home fs ms i name place embedded t true is apart field h =
     ((bytes_eq-Decides home path).0 is, named_kept kind path (StructOf home fs) ms name (named_told (own_names path (StructOf home fs) ms) fs i name place embedded t apart field h))
 
 hides : (kind : DeclKey → Kind) (path home : List ℕ) (fs : Fields) (ms : List Member) (i : ℕ) (name : List ℕ) (place : MemberPlace) (embedded : Bool) (t : Term) (m : Member) (b : Bool) → bytes_eq home path ≡ b
     → IsField fs i name place embedded t → IsKept kind path (StructOf home fs) ms m → SameId m.name path name home
-    → Contains (if b then named_faults (own_names path (StructOf home fs) ms) fs else []) (fault place rules.B5)
+    → Contains (if b then named_faults (own_names path (StructOf home fs) ms) fs else []) (member_fault place rules.B5)
 hides kind path home fs ms i name place embedded t m true is field k same =
     let u = StructOf home fs in
     let e : k.source.name ≡ name = ap (λ (x : Member). x.name) k.is ∙ same.0 in
-    named_telling (own_names path u ms) fs i name place embedded t field (ap (has_name (own_names path u ms)) (sym e) ∙ own_named path u ms k.source k.own)
+    named_telling (own_names path u ms) fs i name place embedded t field (ap (is_among_names (own_names path u ms)) (sym e) ∙ own_named path u ms k.source k.own)
 hides kind path home fs ms i name place embedded t m false is field k same =
     let e : k.source.name ≡ m.name = ap (λ (x : Member). x.name) k.is in
     let back : SameId name home k.source.name path = subst (λ n. SameId name home n path) (sym e) (same_back m.name path name home same) in
@@ -252,7 +252,7 @@ hides kind path home fs ms i name place embedded t m false is field k same =
     (or_left (not (bytes_eq home path)) (is_before place k.source.place) (ap not is)))
 
 stands_before : (kind : DeclKey → Kind) (path home : List ℕ) (fs : Fields) (ms : List Member) (name : List ℕ) (place : MemberPlace) → IsOwnField path home fs ms name place
-    → (home ≡ path) × HasKept kind path (StructOf home fs) ms (kept kind path (StructOf home fs) [] ms) name → IsBehindMethod kind path home fs ms name place
+    → (home ≡ path) × HasKept kind path (StructOf home fs) ms (unrepeated_methods kind path (StructOf home fs) [] ms) name → IsBehindMethod kind path home fs ms name place
 stands_before kind path home fs ms name place f h =
     let k = h.1 in
     let same : SameId k.source.name path name home = (k.named, inr (sym h.0)) in (
@@ -294,8 +294,8 @@ hidden_told = record {
   );
   left_out = λ kind path home fs ms name place f. (
     λ h. (let r = hidden_by kind path home fs ms f.number name place f.embedded f.term (bytes_eq home path) refl f.apart f.field h in
-        has_from path (kept kind path (StructOf home fs) [] ms) name home (settled_member kind r.1.source) r.1.there (same_id_from r.1.source.name path name home (r.1.named, inr (sym r.0)))),
-    λ h. (let r = has_to path (kept kind path (StructOf home fs) [] ms) name home h in
+        has_from path (unrepeated_methods kind path (StructOf home fs) [] ms) name home (settled_member kind r.1.source) r.1.there (same_id_from r.1.source.name path name home (r.1.named, inr (sym r.0)))),
+    λ h. (let r = has_to path (unrepeated_methods kind path (StructOf home fs) [] ms) name home h in
         hides kind path home fs ms f.number name place f.embedded f.term r.0 (bytes_eq home path) refl f.field (kept_own kind path (StructOf home fs) [] ms r.0 r.1) (same_id_is r.0.name path name home r.2)),
   );
 }

@@ -10,15 +10,15 @@ use Rattle.go_term_core.specs.declared.term.MemberPlace.{MemberPlace}
 use Rattle.go_term_core.specs.declared.term.Field.{Field}
 use Rattle.go_term_core.specs.declared.term.Method.{Method}
 use Rattle.go_term_core.specs.Terms.{Term, NoType, Fields, NoField, AField, Methods, NoMethod, AMethod}
-use Rattle.go_term_core.specs.Shapes.{Line, line_at, term_at, fields_in, terms_in, sign_of, methods_of, params_of}
+use Rattle.go_term_core.specs.Shapes.{Line, line_at, term_at, fields_in, terms_in, sign_of, method_shapes, param_shapes}
 use Rattle.go_type_core.specs.settle_core.declared.kind.Kind.{Kind}
-use Rattle.go_type_core.specs.settle_core.Settled.{can_be_embedded, has_name, repeats}
+use Rattle.go_type_core.specs.settle_core.Settled.{can_be_embedded, is_among_names, repeats_earlier}
 use Rattle.go_type_core.specs.table_core.declared.entry.DeclaredMethod.{DeclaredMethod}
 use Rattle.go_type_core.specs.table_core.Entries.{Member}
 use Rattle.go_type_core.specs.table_core.Methods.{has_field_before}
 use Rattle.go_type_core.specs.table_core.Shown.{member_shown}
 use Rattle.go_embed_core.specs.declared.faults.MemberFault.{MemberFault}
-use Rattle.go_embed_core.specs.Faults.{fault_if, first_place, is_shared, term_faults, line_faults, fields_faults, methods_faults, sign_faults, terms_faults, declared_faults}
+use Rattle.go_embed_core.specs.Faults.{member_fault_if, first_place, is_shared, term_faults, line_faults, fields_faults, methods_faults, sign_faults, terms_faults, declared_faults}
 use Rattle.go_embed_core.specs.mirrors.Passing.{SameNames, field_own, method_own, declared_own}
 
 -- 1. The same names give the same faults.
@@ -29,20 +29,20 @@ same_more a b name h = λ other. ap (λ v. if bytes_eq name other then true else
 same_fields : (kind : DeclKey → Kind) (a b : List (List ℕ)) (last : Option MemberPlace) (fs : Fields) → SameNames a b → fields_faults kind a last fs ≡ fields_faults kind b last fs
 same_fields kind a b last NoField h = refl
 same_fields kind a b last (AField name place embedded t tag fs) h =
-    ap (λ v. fault_if (not (is_blank name) && v) place rules.B5 ++ (fault_if (embedded && not (can_be_embedded kind t)) place rules.Y2 ++ (line_faults kind last t ++ fields_faults kind (name ∷ a) (first_place t) fs))) (h name)
-    ∙ ap (λ l. fault_if (repeats b name) place rules.B5 ++ (fault_if (embedded && not (can_be_embedded kind t)) place rules.Y2 ++ (line_faults kind last t ++ l))) (same_fields kind (name ∷ a) (name ∷ b) (first_place t) fs (same_more a b name h))
+    ap (λ v. member_fault_if (not (is_blank name) && v) place rules.B5 ++ (member_fault_if (embedded && not (can_be_embedded kind t)) place rules.Y2 ++ (line_faults kind last t ++ fields_faults kind (name ∷ a) (first_place t) fs))) (h name)
+    ∙ ap (λ l. member_fault_if (repeats_earlier b name) place rules.B5 ++ (member_fault_if (embedded && not (can_be_embedded kind t)) place rules.Y2 ++ (line_faults kind last t ++ l))) (same_fields kind (name ∷ a) (name ∷ b) (first_place t) fs (same_more a b name h))
 
 same_methods : (kind : DeclKey → Kind) (a b : List (List ℕ)) (ms : Methods) → SameNames a b → methods_faults kind a ms ≡ methods_faults kind b ms
 same_methods kind a b NoMethod h = refl
 same_methods kind a b (AMethod name place g ms) h =
-    ap (λ v. fault_if (is_blank name || v) place rules.B5 ++ (sign_faults kind g ++ methods_faults kind (name ∷ a) ms)) (h name)
-    ∙ ap (λ l. fault_if (is_blank name || has_name b name) place rules.B5 ++ (sign_faults kind g ++ l)) (same_methods kind (name ∷ a) (name ∷ b) ms (same_more a b name h))
+    ap (λ v. member_fault_if (is_blank name || v) place rules.B5 ++ (sign_faults kind g ++ methods_faults kind (name ∷ a) ms)) (h name)
+    ∙ ap (λ l. member_fault_if (is_blank name || is_among_names b name) place rules.B5 ++ (sign_faults kind g ++ l)) (same_methods kind (name ∷ a) (name ∷ b) ms (same_more a b name h))
 
 same_declared : (kind : DeclKey → Kind) (path : List ℕ) (u : Term) (a b : List (List ℕ)) (ms : List Member) → SameNames a b → declared_faults kind path u a ms ≡ declared_faults kind path u b ms
 same_declared kind path u a b [] h = refl
 same_declared kind path u a b (m ∷ ms) h =
-    ap (λ v. fault_if (not (is_blank m.name) && (v || has_field_before path u m)) m.place rules.B5 ++ (sign_faults kind m.sign ++ declared_faults kind path u (m.name ∷ a) ms)) (h m.name)
-    ∙ ap (λ l. fault_if (not (is_blank m.name) && (has_name b m.name || has_field_before path u m)) m.place rules.B5 ++ (sign_faults kind m.sign ++ l)) (same_declared kind path u (m.name ∷ a) (m.name ∷ b) ms (same_more a b m.name h))
+    ap (λ v. member_fault_if (not (is_blank m.name) && (v || has_field_before path u m)) m.place rules.B5 ++ (sign_faults kind m.sign ++ declared_faults kind path u (m.name ∷ a) ms)) (h m.name)
+    ∙ ap (λ l. member_fault_if (not (is_blank m.name) && (is_among_names b m.name || has_field_before path u m)) m.place rules.B5 ++ (sign_faults kind m.sign ++ l)) (same_declared kind path u (m.name ∷ a) (m.name ∷ b) ms (same_more a b m.name h))
 
 -- the faults of a type that is written for one name
 pub line_of : (kind : DeclKey → Kind) (last : Option MemberPlace) (t u : Term) → t ≡ u → is_shared last t ≡ false → term_faults kind u ≡ line_faults kind last t
@@ -66,8 +66,8 @@ pub fields_step : (kind : DeclKey → Kind) (ls : List Line) (seen passed : List
     → first ++ fields_faults kind seen before (fields_in ls (drop i fs)) ≡ all → last ++ fields_faults kind passed after (fields_in ls (drop (i + 1) fs)) ≡ all
 fields_step kind ls seen passed before after fs i f first middle last all lt is names place own inner so_far =
     let rest = fields_faults kind (f.name ∷ seen) (first_place (line_at ls f.line).term) (fields_in ls (drop (i + 1) fs)) in
-    let b5 = fault_if (repeats seen f.name) f.place rules.B5 in
-    let y2 = fault_if ((line_at ls f.line).embedded && not (can_be_embedded kind (line_at ls f.line).term)) f.place rules.Y2 in
+    let b5 = member_fault_if (repeats_earlier seen f.name) f.place rules.B5 in
+    let y2 = member_fault_if ((line_at ls f.line).embedded && not (can_be_embedded kind (line_at ls f.line).term)) f.place rules.Y2 in
     let t = line_faults kind before (line_at ls f.line).term in
     let split : b5 ++ (y2 ++ (t ++ rest)) ≡ ((b5 ++ y2) ++ t) ++ rest = sym (append_assoc (b5 ++ y2) t rest ∙ append_assoc b5 y2 (t ++ rest)) in
     step {S = List (List ℕ) × Option MemberPlace} (λ s l. fields_faults kind s.0 s.1 (fields_in ls l)) (field_own kind ls seen f ++ t) (seen, before) (f.name ∷ seen, first_place (line_at ls f.line).term) (passed, after) fs i f first last all lt is split
@@ -76,18 +76,18 @@ fields_step kind ls seen passed before after fs i f first middle last all lt is 
 
 pub methods_step : (kind : DeclKey → Kind) (seen passed : List (List ℕ)) (ms : List Method) (i : ℕ) (m : Method) (first middle params last all : List MemberFault)
     → i < length ms → m ≡ get_or ms i m → SameNames passed (m.name ∷ seen) → middle ≡ first ++ method_own seen m
-    → params ≡ middle ++ terms_faults kind None (params_of m.signature.params) → last ≡ params ++ terms_faults kind None (params_of m.signature.results)
-    → first ++ methods_faults kind seen (methods_of (drop i ms)) ≡ all → last ++ methods_faults kind passed (methods_of (drop (i + 1) ms)) ≡ all
+    → params ≡ middle ++ terms_faults kind None (param_shapes m.signature.params) → last ≡ params ++ terms_faults kind None (param_shapes m.signature.results)
+    → first ++ methods_faults kind seen (method_shapes (drop i ms)) ≡ all → last ++ methods_faults kind passed (method_shapes (drop (i + 1) ms)) ≡ all
 methods_step kind seen passed ms i m first middle params last all lt is names own ins outs before =
-    let rest = methods_faults kind (m.name ∷ seen) (methods_of (drop (i + 1) ms)) in
+    let rest = methods_faults kind (m.name ∷ seen) (method_shapes (drop (i + 1) ms)) in
     let b5 = method_own seen m in
-    let p = terms_faults kind None (params_of m.signature.params) in
-    let r = terms_faults kind None (params_of m.signature.results) in
+    let p = terms_faults kind None (param_shapes m.signature.params) in
+    let r = terms_faults kind None (param_shapes m.signature.results) in
     let split : b5 ++ ((p ++ r) ++ rest) ≡ (b5 ++ (p ++ r)) ++ rest = sym (append_assoc b5 (p ++ r) rest) in
     let more : last ≡ first ++ (b5 ++ (p ++ r)) =
     outs ∙ (ap (λ l. l ++ r) (ins ∙ ap (λ l. l ++ p) own) ∙ (append_assoc (first ++ b5) p r ∙ append_assoc first b5 (p ++ r))) in
-    step (λ s l. methods_faults kind s (methods_of l)) (b5 ++ (p ++ r)) seen (m.name ∷ seen) passed ms i m first last all lt is split
-    (same_methods kind passed (m.name ∷ seen) (methods_of (drop (i + 1) ms)) names) more before
+    step (λ s l. methods_faults kind s (method_shapes l)) (b5 ++ (p ++ r)) seen (m.name ∷ seen) passed ms i m first last all lt is split
+    (same_methods kind passed (m.name ∷ seen) (method_shapes (drop (i + 1) ms)) names) more before
 
 pub terms_step : (kind : DeclKey → Kind) (us : List Term) (before after : Option MemberPlace) (ns : List ℕ) (i n : ℕ) (first last all : List MemberFault) → i < length ns → n ≡ get_or ns i n
     → after ≡ first_place (term_at us n) → last ≡ first ++ line_faults kind before (term_at us n)

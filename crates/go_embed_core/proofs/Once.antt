@@ -9,9 +9,9 @@ use Rattle.go_term_core.specs.decl_core.declared.keys.DeclKey.{DeclKey}
 use Rattle.go_term_core.specs.declared.term.MemberPlace.{MemberPlace}
 use Rattle.go_term_core.specs.Terms.{Term, NoType, Predeclared, ErrorType, Defined, PointerTo, StructOf, InterfaceOf, Fields, NoField, AField, Methods, NoMethod, AMethod, Sign, SignOf, Terms, NoTerm, ATerm}
 use Rattle.go_type_core.specs.settle_core.declared.kind.Kind.{Kind}
-use Rattle.go_type_core.specs.settle_core.Settled.{can_be_embedded, has_name, repeats}
+use Rattle.go_type_core.specs.settle_core.Settled.{can_be_embedded, is_among_names, repeats_earlier}
 use Rattle.go_embed_core.specs.declared.faults.MemberFault.{MemberFault}
-use Rattle.go_embed_core.specs.Faults.{fault, fault_if, first_place, is_shared, term_faults, fields_faults, methods_faults, sign_faults, terms_faults, line_faults}
+use Rattle.go_embed_core.specs.Faults.{member_fault, member_fault_if, first_place, is_shared, term_faults, fields_faults, methods_faults, sign_faults, terms_faults, line_faults}
 use Rattle.go_embed_core.specs.Laws.{term_places, fields_places, methods_places, sign_places, terms_places, line_places, AreApart, EachFaultOnce}
 use Rattle.go_embed_core.proofs.Steps.{is_first, is_later, in_none}
 use Rattle.go_embed_core.proofs.Telling.{fault_in, place_in, line_at, fields_at, methods_at, sign_at, terms_at, inner_place, rules_differ, apart_right, apart_cross}
@@ -27,8 +27,8 @@ apart_both [] b one other differ = other
 apart_both (x ∷ a) b one other differ =
     (λ h. elim (Contains-append_cases a b x h) [ inl q ↦ one.0 q | inr q ↦ differ x (is_first x x a refl) q ], apart_both a b one.1 other (λ y p q. differ y (is_later x y a p) q))
 
-apart_one : (b : Bool) (p : MemberPlace) (r : Rule) → AreApart (fault_if b p r)
-apart_one true p r = (λ h. in_none (fault p r) h, tt)
+apart_one : (b : Bool) (p : MemberPlace) (r : Rule) → AreApart (member_fault_if b p r)
+apart_one true p r = (λ h. in_none (member_fault p r) h, tt)
 apart_one false p r = tt
 
 apart_line : (b : Bool) (l : List MemberFault) (places : List MemberPlace) → (AreApart places → AreApart l) → AreApart (if b then [] else places) → AreApart (if b then [] else l)
@@ -36,12 +36,12 @@ apart_line true l places inside h = tt
 apart_line false l places inside h = inside h
 
 -- two rules at one place
-apart_rules : (b c : Bool) (p : MemberPlace) (f : MemberFault) → Contains (fault_if b p rules.B5) f → Contains (fault_if c p rules.Y2) f → ⊥
+apart_rules : (b c : Bool) (p : MemberPlace) (f : MemberFault) → Contains (member_fault_if b p rules.B5) f → Contains (member_fault_if c p rules.Y2) f → ⊥
 apart_rules b c p f one other =
     rules_differ (ap (λ (x : MemberFault). x.rule) (fault_in b p rules.B5 f one).1 ∙ sym (ap (λ (x : MemberFault). x.rule) (fault_in c p rules.Y2 f other).1))
 
 -- a fault at a place, and others at other places
-apart_places : (b : Bool) (p : MemberPlace) (r : Rule) (f : MemberFault) (places : List MemberPlace) → (Contains places p → ⊥) → Contains (fault_if b p r) f → Contains places f.place → ⊥
+apart_places : (b : Bool) (p : MemberPlace) (r : Rule) (f : MemberFault) (places : List MemberPlace) → (Contains places p → ⊥) → Contains (member_fault_if b p r) f → Contains places f.place → ⊥
 apart_places b p r f places none one other = none (subst (Contains places) (sym (place_in b p r f one)) other)
 
 member_place : (kind : DeclKey → Kind) (seen : List (List ℕ)) (g : Sign) (ms : Methods) (f : MemberFault) → Contains (sign_faults kind g ++ methods_faults kind seen ms) f → Contains (sign_places g ++ methods_places ms) f.place
@@ -66,8 +66,8 @@ mutual
   fields_once : (kind : DeclKey → Kind) (seen : List (List ℕ)) (last : Option MemberPlace) (fs : Fields) → AreApart (fields_places last fs) → AreApart (fields_faults kind seen last fs)
   fields_once kind seen last NoField h = tt
   fields_once kind seen last (AField name place embedded t tag fs) h =
-      let b5 = fault_if (repeats seen name) place rules.B5 in
-      let y2 = fault_if (embedded && not (can_be_embedded kind t)) place rules.Y2 in
+      let b5 = member_fault_if (repeats_earlier seen name) place rules.B5 in
+      let y2 = member_fault_if (embedded && not (can_be_embedded kind t)) place rules.Y2 in
       let line = line_faults kind last t in
       let rest = fields_faults kind (name ∷ seen) (first_place t) fs in
       let line_at' = line_places last t in
@@ -76,26 +76,26 @@ mutual
       (apart_line (is_shared last t) (term_faults kind t) (term_places t) (term_once kind t) (apart_left line_at' rest_at h.1))
       (fields_once kind (name ∷ seen) (first_place t) fs (apart_right line_at' rest_at h.1))
       (λ f p q. apart_cross line_at' rest_at f.place h.1 (line_at kind last t f p) (fields_at kind (name ∷ seen) (first_place t) fs f q)) in
-      apart_both b5 (y2 ++ (line ++ rest)) (apart_one (repeats seen name) place rules.B5)
+      apart_both b5 (y2 ++ (line ++ rest)) (apart_one (repeats_earlier seen name) place rules.B5)
       (apart_both y2 (line ++ rest) (apart_one (embedded && not (can_be_embedded kind t)) place rules.Y2) behind
       (λ f p q. apart_places (embedded && not (can_be_embedded kind t)) place rules.Y2 f (line_at' ++ rest_at) h.0 p (inner_place kind (name ∷ seen) last (first_place t) t fs f q)))
       (λ f p q. elim (Contains-append_cases y2 (line ++ rest) f q) [
-        | inl r ↦ apart_rules (repeats seen name) (embedded && not (can_be_embedded kind t)) place f p r
-        | inr r ↦ apart_places (repeats seen name) place rules.B5 f (line_at' ++ rest_at) h.0 p (inner_place kind (name ∷ seen) last (first_place t) t fs f r)
+        | inl r ↦ apart_rules (repeats_earlier seen name) (embedded && not (can_be_embedded kind t)) place f p r
+        | inr r ↦ apart_places (repeats_earlier seen name) place rules.B5 f (line_at' ++ rest_at) h.0 p (inner_place kind (name ∷ seen) last (first_place t) t fs f r)
       ])
 
   methods_once : (kind : DeclKey → Kind) (seen : List (List ℕ)) (ms : Methods) → AreApart (methods_places ms) → AreApart (methods_faults kind seen ms)
   methods_once kind seen NoMethod h = tt
   methods_once kind seen (AMethod name place g ms) h =
-      let b5 = fault_if (is_blank name || has_name seen name) place rules.B5 in
+      let b5 = member_fault_if (is_blank name || is_among_names seen name) place rules.B5 in
       let own = sign_faults kind g in
       let rest = methods_faults kind (name ∷ seen) ms in
       let behind : AreApart (own ++ rest) = apart_both own rest
       (sign_once kind g (apart_left (sign_places g) (methods_places ms) h.1))
       (methods_once kind (name ∷ seen) ms (apart_right (sign_places g) (methods_places ms) h.1))
       (λ f p q. apart_cross (sign_places g) (methods_places ms) f.place h.1 (sign_at kind g f p) (methods_at kind (name ∷ seen) ms f q)) in
-      apart_both b5 (own ++ rest) (apart_one (is_blank name || has_name seen name) place rules.B5) behind
-      (λ f p q. apart_places (is_blank name || has_name seen name) place rules.B5 f (sign_places g ++ methods_places ms) h.0 p (member_place kind (name ∷ seen) g ms f q))
+      apart_both b5 (own ++ rest) (apart_one (is_blank name || is_among_names seen name) place rules.B5) behind
+      (λ f p q. apart_places (is_blank name || is_among_names seen name) place rules.B5 f (sign_places g ++ methods_places ms) h.0 p (member_place kind (name ∷ seen) g ms f q))
 
   sign_once : (kind : DeclKey → Kind) (g : Sign) → AreApart (sign_places g) → AreApart (sign_faults kind g)
   sign_once kind (SignOf ps rs) h =

@@ -10,16 +10,17 @@ use Rattle.go_term_core.specs.declared.term.MemberPlace.TheVariants as places
 use Rattle.go_term_core.specs.Terms.{Term, NoType, Predeclared, ErrorType, Defined, PointerTo, StructOf, InterfaceOf, Fields, NoField, AField, Methods, NoMethod, AMethod, Sign, SignOf, Terms, NoTerm, ATerm}
 use Rattle.go_type_core.specs.settle_core.declared.kind.Kind.{Kind}
 use Rattle.go_type_core.specs.settle_core.declared.kind.Kind.TheVariants as kinds
-use Rattle.go_type_core.specs.settle_core.Settled.{can_be_embedded, has_name, repeats}
+use Rattle.go_type_core.specs.settle_core.Settled.{can_be_embedded, is_among_names, repeats_earlier}
 use Rattle.go_type_core.specs.table_core.Entries.{Member, same_decl}
 use Rattle.go_type_core.specs.table_core.Methods.{has_field_before}
 use Rattle.go_embed_core.specs.declared.faults.MemberFault.{MemberFault}
+use Rattle.go_type_core.specs.settle_core.Settled.{can_be_pointed}
 
-abbrev pub fault : MemberPlace → Rule → MemberFault
-fault place rule = record { place = place; rule = rule }
+abbrev pub member_fault : MemberPlace → Rule → MemberFault
+member_fault place rule = record { place = place; rule = rule }
 
-abbrev pub fault_if : Bool → MemberPlace → Rule → List MemberFault
-fault_if b place rule = if b then fault place rule ∷ [] else []
+abbrev pub member_fault_if : Bool → MemberPlace → Rule → List MemberFault
+member_fault_if b place rule = if b then member_fault place rule ∷ [] else []
 
 -- two places are one
 abbrev pub same_place : MemberPlace → MemberPlace → Bool
@@ -71,14 +72,14 @@ abbrev mutual
   pub fields_faults : (DeclKey → Kind) → List (List ℕ) → Option MemberPlace → Fields → List MemberFault
   fields_faults kind seen last NoField = []
   fields_faults kind seen last (AField name place embedded t tag fs) =
-      fault_if (repeats seen name) place rules.B5
-      ++ (fault_if (embedded && not (can_be_embedded kind t)) place rules.Y2 ++ ((if is_shared last t then [] else term_faults kind t) ++ fields_faults kind (name ∷ seen) (first_place t) fs))
+      member_fault_if (repeats_earlier seen name) place rules.B5
+      ++ (member_fault_if (embedded && not (can_be_embedded kind t)) place rules.Y2 ++ ((if is_shared last t then [] else term_faults kind t) ++ fields_faults kind (name ∷ seen) (first_place t) fs))
 
   -- an interface's method that is blank or repeats a name
   pub methods_faults : (DeclKey → Kind) → List (List ℕ) → Methods → List MemberFault
   methods_faults kind seen NoMethod = []
   methods_faults kind seen (AMethod name place g ms) =
-      fault_if (is_blank name || has_name seen name) place rules.B5 ++ (sign_faults kind g ++ methods_faults kind (name ∷ seen) ms)
+      member_fault_if (is_blank name || is_among_names seen name) place rules.B5 ++ (sign_faults kind g ++ methods_faults kind (name ∷ seen) ms)
 
   pub sign_faults : (DeclKey → Kind) → Sign → List MemberFault
   sign_faults kind (SignOf ps rs) = terms_faults kind None ps ++ terms_faults kind None rs
@@ -96,7 +97,7 @@ line_faults kind last t = if is_shared last t then [] else term_faults kind t
 abbrev pub declared_faults : (DeclKey → Kind) → List ℕ → Term → List (List ℕ) → List Member → List MemberFault
 declared_faults kind path u seen [] = []
 declared_faults kind path u seen (m ∷ ms) =
-    fault_if (not (is_blank m.name) && (has_name seen m.name || has_field_before path u m)) m.place rules.B5
+    member_fault_if (not (is_blank m.name) && (is_among_names seen m.name || has_field_before path u m)) m.place rules.B5
     ++ (sign_faults kind m.sign ++ declared_faults kind path u (m.name ∷ seen) ms)
 
 -- a method that is blank, or stands behind a field of the same identifier
@@ -111,7 +112,7 @@ own_names path u (m ∷ ms) = if is_left_out path u m then own_names path u ms e
 -- the fields that have one of these names
 abbrev pub named_faults : List (List ℕ) → Fields → List MemberFault
 named_faults names NoField = []
-named_faults names (AField name place embedded t tag fs) = fault_if (has_name names name) place rules.B5 ++ named_faults names fs
+named_faults names (AField name place embedded t tag fs) = member_fault_if (is_among_names names name) place rules.B5 ++ named_faults names fs
 
 -- the fields that a defined type of the package of a path has over u, its underlying type, which stand behind a method of the same identifier:
 -- those of a struct type that is written in that package. A field of another package comes before the methods
@@ -124,19 +125,13 @@ hidden_faults path (PointerTo t) ms = []
 hidden_faults path (StructOf home fs) ms = if bytes_eq home path then named_faults (own_names path (StructOf home fs) ms) fs else []
 hidden_faults path (InterfaceOf home methods) ms = []
 
-abbrev pub is_open_base : Kind → Bool
-is_open_base kinds.Nothing = true
-is_open_base kinds.Pointer = false
-is_open_base kinds.Interface = false
-is_open_base kinds.Other = true
-
 -- whether a type, as its name is written, may be the base of a receiver in the package of a path. A refused name, which is no type, breaks no
 -- rule
 abbrev pub can_be_base : (DeclKey → Kind) → List ℕ → Term → Bool
 can_be_base kind path NoType = true
 can_be_base kind path (Predeclared b) = false
 can_be_base kind path ErrorType = false
-can_be_base kind path (Defined k) = bytes_eq k.path path && is_open_base (kind k)
+can_be_base kind path (Defined k) = bytes_eq k.path path && can_be_pointed (kind k)
 can_be_base kind path (PointerTo t) = false
 can_be_base kind path (StructOf p fs) = false
 can_be_base kind path (InterfaceOf p ms) = false

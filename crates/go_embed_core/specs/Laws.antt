@@ -7,11 +7,11 @@ use Rattle.go_term_core.specs.declared.term.MemberPlace.{MemberPlace}
 use Rattle.go_term_core.specs.Terms.{Term, NoType, Predeclared, ErrorType, Defined, PointerTo, StructOf, InterfaceOf, Fields, NoField, AField, Methods, NoMethod, AMethod, Sign, SignOf, Terms, NoTerm, ATerm, term_keys}
 use Rattle.go_type_core.specs.settle_core.declared.kind.Kind.{Kind}
 use Rattle.go_type_core.specs.settle_core.declared.kind.Kind.TheVariants as kinds
-use Rattle.go_type_core.specs.table_core.Entries.{Member, Look, underlying_in, declared_methods, has_method}
+use Rattle.go_type_core.specs.table_core.Entries.{Member, EntryLook, underlying_in, declared_methods, has_method}
 use Rattle.go_type_core.specs.table_core.Methods.{is_before}
-use Rattle.go_type_core.specs.Built.{kept}
-use Rattle.go_embed_core.specs.Owners.{Edge, owner_in, path_in, off, is_starred, embedded_in}
-use Rattle.go_embed_core.specs.Faults.{fault, first_place, is_shared, term_faults, hidden_faults}
+use Rattle.go_type_core.specs.Built.{unrepeated_methods}
+use Rattle.go_embed_core.specs.Owners.{EmbeddedEdge, owner_in, path_of_term, off, is_starred, embedded_in}
+use Rattle.go_embed_core.specs.Faults.{member_fault, first_place, is_shared, term_faults, hidden_faults}
 
 -- the field of that number
 abbrev pub IsField : Fields → ℕ → List ℕ → MemberPlace → Bool → Term → Type 0
@@ -20,7 +20,7 @@ IsField (AField name' place' embedded' t' tag fs) zero name place embedded t = (
 IsField (AField name' place' embedded' t' tag fs) (suc i) name place embedded t = IsField fs i name place embedded t
 
 -- an embedded field of a type
-pub record IsStep (look : Look) (t : Term) (e : Edge) : Type 0 where
+pub record IsStep (look : EntryLook) (t : Term) (e : EmbeddedEdge) : Type 0 where
   pub path : List ℕ
   pub fields : Fields
   pub under : underlying_in look t ≡ StructOf path fields
@@ -28,16 +28,16 @@ pub record IsStep (look : Look) (t : Term) (e : Edge) : Type 0 where
   pub place : MemberPlace
   pub term : Term
   pub field : IsField fields e.position name place true term
-  pub shows : has_method (path_in t) (declared_methods look t) name path ≡ false
+  pub shows : has_method (path_of_term t) (declared_methods look t) name path ≡ false
   pub pointer : e.pointer ≡ is_starred term
   pub target : e.target ≡ off term
 
 abbrev pub EmbeddingIsAStep : Type 0
-EmbeddingIsAStep = (look : Look) (t : Term) (e : Edge) → Contains (embedded_in (owner_in look t)) e ↔ IsStep look t e
+EmbeddingIsAStep = (look : EntryLook) (t : Term) (e : EmbeddedEdge) → Contains (embedded_in (owner_in look t)) e ↔ IsStep look t e
 
 -- the members of a type depend on what is known of the type that it names
 abbrev pub OwnerIsLocal : Type 0
-OwnerIsLocal = (look other : Look) (t : Term) → ((k : DeclKey) → t ≡ Defined k → look k ≡ other k) → owner_in look t ≡ owner_in other t
+OwnerIsLocal = (look other : EntryLook) (t : Term) → ((k : DeclKey) → t ≡ Defined k → look k ≡ other k) → owner_in look t ≡ owner_in other t
 
 abbrev pub FaultsAreLocal : Type 0
 FaultsAreLocal = (one other : DeclKey → Kind) (t : Term) → ((k : DeclKey) → Contains (term_keys t) k → one k ≡ other k) → term_faults one t ≡ term_faults other t
@@ -87,25 +87,25 @@ abbrev pub RepeatedIsTold : Type 0
 RepeatedIsTold =
     (kind : DeclKey → Kind) (path : List ℕ) (fs : Fields) (i : ℕ) (name : List ℕ) (place : MemberPlace) (embedded : Bool) (t : Term)
     → AreApart (fields_places None fs) → IsField fs i name place embedded t
-    → Contains (term_faults kind (StructOf path fs)) (fault place rules.B5) ↔ IsRepeated fs i name
+    → Contains (term_faults kind (StructOf path fs)) (member_fault place rules.B5) ↔ IsRepeated fs i name
 
 -- the list of a type's faults names each place with each rule once
 abbrev pub EachFaultOnce : Type 0
 EachFaultOnce = (kind : DeclKey → Kind) (t : Term) → AreApart (term_places t) → AreApart (term_faults kind t)
 
 -- the kind of a type as its name is written
-abbrev pub kind_at : (DeclKey → Kind) → Term → Kind
-kind_at kind NoType = kinds.Nothing
-kind_at kind (Predeclared b) = kinds.Other
-kind_at kind ErrorType = kinds.Interface
-kind_at kind (Defined k) = kind k
-kind_at kind (PointerTo t) = kinds.Pointer
-kind_at kind (StructOf path fs) = kinds.Other
-kind_at kind (InterfaceOf path ms) = kinds.Interface
+abbrev pub written_kind : (DeclKey → Kind) → Term → Kind
+written_kind kind NoType = kinds.Nothing
+written_kind kind (Predeclared b) = kinds.Other
+written_kind kind ErrorType = kinds.Interface
+written_kind kind (Defined k) = kind k
+written_kind kind (PointerTo t) = kinds.Pointer
+written_kind kind (StructOf path fs) = kinds.Other
+written_kind kind (InterfaceOf path ms) = kinds.Interface
 
 -- a pointer type, or a star before a pointer type or an interface type
 abbrev pub MayNotBeEmbedded : (DeclKey → Kind) → Term → Type 0
-MayNotBeEmbedded kind (PointerTo t) = (kind_at kind t ≡ kinds.Pointer) ⊎ (kind_at kind t ≡ kinds.Interface)
+MayNotBeEmbedded kind (PointerTo t) = (written_kind kind t ≡ kinds.Pointer) ⊎ (written_kind kind t ≡ kinds.Interface)
 MayNotBeEmbedded kind NoType = ⊥
 MayNotBeEmbedded kind (Predeclared b) = ⊥
 MayNotBeEmbedded kind ErrorType = ⊥
@@ -119,7 +119,7 @@ abbrev pub StarredInterfaceIsTold : Type 0
 StarredInterfaceIsTold =
     (kind : DeclKey → Kind) (path : List ℕ) (fs : Fields) (i : ℕ) (name : List ℕ) (place : MemberPlace) (embedded : Bool) (t : Term)
     → AreApart (fields_places None fs) → IsField fs i name place embedded t
-    → Contains (term_faults kind (StructOf path fs)) (fault place rules.Y2) ↔ ((embedded ≡ true) × MayNotBeEmbedded kind t)
+    → Contains (term_faults kind (StructOf path fs)) (member_fault place rules.Y2) ↔ ((embedded ≡ true) × MayNotBeEmbedded kind t)
 
 -- the places of the fields of a struct type
 abbrev pub own_places : Fields → List MemberPlace
@@ -139,12 +139,12 @@ pub record IsOwnField (path home : List ℕ) (fs : Fields) (ms : List Member) (n
 -- a method that a type keeps has the field's identifier and stands before it
 abbrev pub IsBehindMethod : (DeclKey → Kind) → List ℕ → List ℕ → Fields → List Member → List ℕ → MemberPlace → Type 0
 IsBehindMethod kind path home fs ms name place =
-    (m : Member) × Contains (kept kind path (StructOf home fs) [] ms) m × SameId m.name path name home × (is_before m.place place ≡ true)
+    (m : Member) × Contains (unrepeated_methods kind path (StructOf home fs) [] ms) m × SameId m.name path name home × (is_before m.place place ≡ true)
 
 pub record HiddenIsTold : Type 0 where
   -- the fault stands at a field exactly where a method of its identifier stands before it that the type keeps: so of the two one is kept
   pub before : (kind : DeclKey → Kind) (path home : List ℕ) (fs : Fields) (ms : List Member) (name : List ℕ) (place : MemberPlace) → IsOwnField path home fs ms name place
-      → Contains (hidden_faults path (StructOf home fs) ms) (fault place rules.B5) ↔ IsBehindMethod kind path home fs ms name place
+      → Contains (hidden_faults path (StructOf home fs) ms) (member_fault place rules.B5) ↔ IsBehindMethod kind path home fs ms name place
   -- and exactly where the field is left out of the members of the type
   pub left_out : (kind : DeclKey → Kind) (path home : List ℕ) (fs : Fields) (ms : List Member) (name : List ℕ) (place : MemberPlace) → IsOwnField path home fs ms name place
-      → Contains (hidden_faults path (StructOf home fs) ms) (fault place rules.B5) ↔ (has_method path (kept kind path (StructOf home fs) [] ms) name home ≡ true)
+      → Contains (hidden_faults path (StructOf home fs) ms) (member_fault place rules.B5) ↔ (has_method path (unrepeated_methods kind path (StructOf home fs) [] ms) name home ≡ true)

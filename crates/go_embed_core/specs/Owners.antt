@@ -4,7 +4,8 @@ use Rattle.std.specs.Str.{bytes_eq}
 use Rattle.go_text_core.specs.Text.{SameId}
 use Rattle.go_term_core.specs.declared.term.MemberPlace.{MemberPlace}
 use Rattle.go_term_core.specs.Terms.{Term, NoType, Predeclared, ErrorType, Defined, PointerTo, StructOf, InterfaceOf, Fields, NoField, AField, Methods, NoMethod, AMethod, Sign}
-use Rattle.go_type_core.specs.table_core.Entries.{Member, Look, underlying_in, declared_methods, has_method}
+use Rattle.go_type_core.specs.table_core.Entries.{Member, EntryLook, underlying_in, declared_methods, has_method}
+use Rattle.go_term_core.specs.Forms.{field_count}
 
 -- a type as a table has it: the path of its package and the methods that are declared of it where it is a defined type, and its
 -- underlying type
@@ -13,12 +14,12 @@ pub record OwnerModel : Type 0 where
   pub methods : List Member
   pub underlying : Term
 
-abbrev pub path_in : Term → List ℕ
-path_in (Defined k) = k.path
-path_in _ = []
+abbrev pub path_of_term : Term → List ℕ
+path_of_term (Defined k) = k.path
+path_of_term _ = []
 
-abbrev pub owner_in : Look → Term → OwnerModel
-owner_in look t = record { path = path_in t; methods = declared_methods look t; underlying = underlying_in look t }
+abbrev pub owner_in : EntryLook → Term → OwnerModel
+owner_in look t = record { path = path_of_term t; methods = declared_methods look t; underlying = underlying_in look t }
 
 -- a type with one star taken off, and whether it has one
 abbrev pub off : Term → Term
@@ -30,44 +31,40 @@ is_starred (PointerTo t) = true
 is_starred _ = false
 
 -- an embedded field: its place among the fields, whether it has a star, the type without it
-pub record Edge : Type 0 where
+pub record EmbeddedEdge : Type 0 where
   pub position : ℕ
   pub pointer : Bool
   pub target : Term
 
-abbrev pub edge : ℕ → Term → Edge
-edge i t = record { position = i; pointer = is_starred t; target = off t }
+abbrev pub embedded_edge : ℕ → Term → EmbeddedEdge
+embedded_edge i t = record { position = i; pointer = is_starred t; target = off t }
 
 -- the embedded fields of a struct type of a package, numbered from a place on, that no method of the owner keeps from it
-abbrev pub fields_embedded : OwnerModel → List ℕ → ℕ → Fields → List Edge
-fields_embedded o path i NoField = []
-fields_embedded o path i (AField name place embedded t tag fs) =
-    if embedded && not (has_method o.path o.methods name path) then edge i t ∷ fields_embedded o path (suc i) fs else fields_embedded o path (suc i) fs
+abbrev pub embedded_edges : OwnerModel → List ℕ → ℕ → Fields → List EmbeddedEdge
+embedded_edges o path i NoField = []
+embedded_edges o path i (AField name place embedded t tag fs) =
+    if embedded && not (has_method o.path o.methods name path) then embedded_edge i t ∷ embedded_edges o path (suc i) fs else embedded_edges o path (suc i) fs
 
-abbrev pub term_embedded : OwnerModel → Term → List Edge
-term_embedded o (StructOf path fs) = fields_embedded o path 0 fs
+abbrev pub term_embedded : OwnerModel → Term → List EmbeddedEdge
+term_embedded o (StructOf path fs) = embedded_edges o path 0 fs
 term_embedded o _ = []
 
-abbrev pub embedded_in : OwnerModel → List Edge
+abbrev pub embedded_in : OwnerModel → List EmbeddedEdge
 embedded_in o = term_embedded o o.underlying
 
-abbrev pub edge_at : List Edge → ℕ → Option Edge
+abbrev pub edge_at : List EmbeddedEdge → ℕ → Option EmbeddedEdge
 edge_at [] i = None
 edge_at (e ∷ es) i = if nat_eq e.position i then Some e else edge_at es i
 
-abbrev pub embeds_at : OwnerModel → ℕ → Option Edge
+abbrev pub embeds_at : OwnerModel → ℕ → Option EmbeddedEdge
 embeds_at o i = edge_at (embedded_in o) i
 
-abbrev pub count_fields : Fields → ℕ
-count_fields NoField = 0
-count_fields (AField name place embedded t tag fs) = suc (count_fields fs)
+abbrev pub term_field_count : Term → ℕ
+term_field_count (StructOf path fs) = field_count fs
+term_field_count _ = 0
 
-abbrev pub term_fields : Term → ℕ
-term_fields (StructOf path fs) = count_fields fs
-term_fields _ = 0
-
-abbrev pub field_count : OwnerModel → ℕ
-field_count o = term_fields o.underlying
+abbrev pub owner_field_count : OwnerModel → ℕ
+owner_field_count o = term_field_count o.underlying
 
 -- a member: a field with its type, a declared method with its receiver and signature, an interface's method, the method of `error`.
 -- Each has the path of the package where it is written, and its place there

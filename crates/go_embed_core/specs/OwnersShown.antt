@@ -13,7 +13,7 @@ use Rattle.go_embed_core.specs.declared.member.Hits.{Hits}
 use Rattle.go_embed_core.specs.declared.member.Hits.TheVariants as hits
 use Rattle.go_embed_core.specs.declared.member.Member.{Member}
 use Rattle.go_embed_core.specs.declared.member.Member.TheVariants as members
-use Rattle.go_embed_core.specs.Owners.{OwnerModel, Edge, Found, AFieldOf, AMethodOf, AnInterfaces, TheErrorMethod, Named, members_of}
+use Rattle.go_embed_core.specs.Owners.{OwnerModel, EmbeddedEdge, Found, AFieldOf, AMethodOf, AnInterfaces, TheErrorMethod, Named, members_of}
 
 -- a defined type of a table
 abbrev pub entry_owner : Entry → OwnerModel
@@ -28,7 +28,7 @@ source_shown (sources.Plain t) = record { path = []; methods = []; underlying = 
 abbrev pub owner_shown : Owner → OwnerModel
 owner_shown o = source_shown o.source
 
-abbrev pub embedded_shown : Embedded → Edge
+abbrev pub embedded_shown : Embedded → EmbeddedEdge
 embedded_shown e = record { position = e.position; pointer = e.pointer; target = shape e.target.now }
 
 abbrev pub found_shown : Member → Found
@@ -44,14 +44,14 @@ name_shown (members.Method path m) = m.now.name
 name_shown (members.InterfaceMethod path m) = m.now.name
 name_shown members.ErrorMethod = codes "Error"
 
-abbrev pub package_shown : Member → List ℕ
-package_shown (members.Field path f) = path.now
-package_shown (members.Method path m) = path.now
-package_shown (members.InterfaceMethod path m) = path.now
-package_shown members.ErrorMethod = []
+abbrev pub member_package_shown : Member → List ℕ
+member_package_shown (members.Field path f) = path.now
+member_package_shown (members.Method path m) = path.now
+member_package_shown (members.InterfaceMethod path m) = path.now
+member_package_shown members.ErrorMethod = []
 
 abbrev pub named_shown : Member → Named
-named_shown m = (name_shown m, (package_shown m, found_shown m))
+named_shown m = (name_shown m, (member_package_shown m, found_shown m))
 
 -- a member that an identifier names: at one place of the list
 abbrev pub IsNamedAt : OwnerModel → List ℕ → List ℕ → ℕ → Found → Type 0

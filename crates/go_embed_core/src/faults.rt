@@ -1,12 +1,13 @@
 //! The faults of struct types, interface types, methods and receivers.
 ghost use Rattle.std.specs.Prelude.{◌≡◌, ◌++◌, ◌∷◌, [], true, false, not, ◌&&◌, ◌||◌, IfOk, OnOk, IfErr, map, List};
 ghost use Rattle.go_text_core.specs.Text.{is_blank};
-ghost use Rattle.go_term_core.specs.Shapes.{Line, shape, sign_of, fields_in, line_at, lines_of, methods_of, term_at, terms_in};
-ghost use Rattle.go_type_core.specs.settle_core.Settled.{can_be_embedded, has_name};
+ghost use Rattle.go_term_core.specs.Shapes.{Line, shape, sign_of, fields_in, line_at, line_shapes, method_shapes, term_at, terms_in};
+ghost use Rattle.go_type_core.specs.settle_core.Settled.{can_be_embedded, is_among_names};
 ghost use Rattle.go_type_core.specs.table_core.Methods.{has_field_before};
 ghost use Rattle.go_type_core.specs.table_core.Shown.{member_shown};
-ghost use Rattle.go_embed_core.specs.Faults.{fault_if, same_place, first_field, first_method, first_place, is_shared, line_faults, term_faults, fields_faults, methods_faults, sign_faults, terms_faults, declared_faults, is_open_base, can_be_base};
+ghost use Rattle.go_embed_core.specs.Faults.{member_fault_if, same_place, first_field, first_method, first_place, is_shared, line_faults, term_faults, fields_faults, methods_faults, sign_faults, terms_faults, declared_faults, can_be_base};
 ghost use Rattle.go_embed_core.specs.mirrors.Passing.{SameNames, field_own, method_own, declared_own};
+ghost use Rattle.go_type_core.specs.settle_core.Settled.{can_be_pointed};
 
 use go_path_core::ImportPath;
 use go_term_core::FieldLine;
@@ -40,7 +41,7 @@ pub(crate) fn note_if(
     place: MemberPlace,
     rule: Rule,
 ) -> Result<(), AllocError>
-    ensures { OnOk result (faults.new.items ≡ faults.old.items ++ fault_if is_fault place rule) }
+    ensures { OnOk result (faults.new.items ≡ faults.old.items ++ member_fault_if is_fault place rule) }
 {
     if !is_fault {
         return Ok(());
@@ -57,7 +58,7 @@ fn is_repeated(name: &Name, is_met: bool) -> bool
 
 // Whether a field is written as an embedded one, and its type may not be embedded.
 fn is_refused<K: Kinds>(kinds: &K, lines: &Vec<FieldLine>, number: usize) -> bool
-    ensures { let l = line_at (lines_of lines.now.items) number in result ≡ l.embedded && not (can_be_embedded (K.kinds kinds.now) l.term) }
+    ensures { let l = line_at (line_shapes lines.now.items) number in result ≡ l.embedded && not (can_be_embedded (K.kinds kinds.now) l.term) }
 {
     match lines.get(number) {
         Some(line) => is_line_refused(kinds, line),
@@ -93,7 +94,7 @@ fn is_preceded(
 
 // Passes a name, and answers whether it was passed before.
 fn meet<'a>(passed: &mut SeenNames<'a>, name: &'a Name) -> Result<bool, AllocError>
-    ensures before { IfOk result (λ before. before ≡ has_name passed.old name.now) }
+    ensures before { IfOk result (λ before. before ≡ is_among_names passed.old name.now) }
     ensures ok { OnOk result (SameNames passed.new (name.now ∷ passed.old)) }
 {
     let is_new = passed.add(name.as_str())?;
@@ -109,7 +110,7 @@ fn check_field<'a, K: Kinds>(
     faults: &mut Vec<MemberFault>,
 ) -> Result<(), AllocError>
     ensures names { OnOk result (SameNames passed.new (field.now.name ∷ passed.old)) }
-    ensures faults { OnOk result (faults.new.items ≡ faults.old.items ++ field_own (K.kinds kinds.now) (lines_of lines.now.items) passed.old field.now) }
+    ensures faults { OnOk result (faults.new.items ≡ faults.old.items ++ field_own (K.kinds kinds.now) (line_shapes lines.now.items) passed.old field.now) }
 {
     let is_met = meet(passed, &field.name)?;
     note_if(
@@ -173,7 +174,7 @@ fn first_field(fields: &Vec<Field>) -> Option<MemberPlace>
 
 // The place of the first of some methods.
 fn first_method(methods: &Vec<Method>) -> Option<MemberPlace>
-    ensures { result ≡ first_method (methods_of methods.now.items) }
+    ensures { result ≡ first_method (method_shapes methods.now.items) }
 {
     match methods.first() {
         Some(method) => Some(method.place),
@@ -244,7 +245,7 @@ fn add_fields<'a, K: Kinds>(
     passed: &mut SeenNames<'a>,
     faults: &mut Vec<MemberFault>,
 ) -> Result<(), AllocError>
-    ensures { OnOk result (faults.new.items ≡ faults.old.items ++ fields_faults (K.kinds kinds.now) passed.old None (fields_in (lines_of lines.now.items) fields.now.items)) }
+    ensures { OnOk result (faults.new.items ≡ faults.old.items ++ fields_faults (K.kinds kinds.now) passed.old None (fields_in (line_shapes lines.now.items) fields.now.items)) }
 {
     let mut last = None;
     for field in fields {
@@ -257,7 +258,7 @@ fn add_fields<'a, K: Kinds>(
 
 // The place of the first member that the type of a line declares.
 fn first_of_line(lines: &Vec<FieldLine>, number: usize) -> Option<MemberPlace>
-    ensures { result ≡ first_place (line_at (lines_of lines.now.items) number).term }
+    ensures { result ≡ first_place (line_at (line_shapes lines.now.items) number).term }
 {
     match lines.get(number) {
         Some(line) => first_place(&line.term),
@@ -275,7 +276,7 @@ fn add_line<'a, K: Kinds>(
     number: usize,
     faults: &mut Vec<MemberFault>,
 ) -> Result<(), AllocError>
-    ensures { OnOk result (faults.new.items ≡ faults.old.items ++ line_faults (K.kinds kinds.now) last (line_at (lines_of lines.now.items) number).term) }
+    ensures { OnOk result (faults.new.items ≡ faults.old.items ++ line_faults (K.kinds kinds.now) last (line_at (line_shapes lines.now.items) number).term) }
 {
     match lines.get(number) {
         Some(line) => add_term(alloc, kinds, last, &line.term, faults),
@@ -292,7 +293,7 @@ fn add_methods<'a, K: Kinds>(
     passed: &mut SeenNames<'a>,
     faults: &mut Vec<MemberFault>,
 ) -> Result<(), AllocError>
-    ensures { OnOk result (faults.new.items ≡ faults.old.items ++ methods_faults (K.kinds kinds.now) passed.old (methods_of methods.now.items)) }
+    ensures { OnOk result (faults.new.items ≡ faults.old.items ++ methods_faults (K.kinds kinds.now) passed.old (method_shapes methods.now.items)) }
 {
     for method in methods {
         check_method(method, passed, faults)?;
@@ -472,7 +473,7 @@ pub fn check_methods<K: Kinds>(
 
 // Whether a defined type of a kind may be the base of a receiver.
 fn is_open_base(kind: Kind) -> bool
-    ensures { result ≡ is_open_base kind }
+    ensures { result ≡ can_be_pointed kind }
 {
     match kind {
         Kind::Nothing => true,

@@ -3,7 +3,7 @@ ghost use Rattle.std.specs.Prelude.{◌≡◌, ◌∷◌, IfOk, List, OnOk, map}
 ghost use Rattle.std.specs.Str.{bytes_eq};
 ghost use Rattle.go_text_core.specs.Text.{is_blank};
 ghost use Rattle.go_term_core.specs.Shapes.{Line, shape, fields_in};
-ghost use Rattle.go_type_core.specs.settle_core.Settled.{has_name};
+ghost use Rattle.go_type_core.specs.settle_core.Settled.{is_among_names};
 ghost use Rattle.go_type_core.specs.table_core.Shown.{member_shown};
 ghost use Rattle.go_embed_core.specs.Faults.{is_left_out, own_names, named_faults, hidden_faults};
 ghost use Rattle.go_embed_core.specs.mirrors.Passing.{SameNames, names_with};
@@ -18,7 +18,7 @@ use std::alloc::{AllocError, Global};
 
 // Whether a name is among these.
 fn has_name(names: &IndexSet<&str>, name: &str) -> bool
-    ensures { result ≡ has_name (map (λ n. n.now) names.now.keys) name.now }
+    ensures { result ≡ is_among_names (map (λ n. n.now) names.now.keys) name.now }
 {
     names.contains(name)
 }

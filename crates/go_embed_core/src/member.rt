@@ -4,11 +4,11 @@ ghost use Rattle.std.specs.List.{list_any};
 ghost use Rattle.std.specs.Str.{bytes_eq, chars};
 ghost use Rattle.go_text_core.specs.Text.{exported};
 ghost use Rattle.go_term_core.specs.Terms.{ErrorType};
-ghost use Rattle.go_term_core.specs.Shapes.{lines_of, shape};
+ghost use Rattle.go_term_core.specs.Shapes.{line_shapes, shape};
 ghost use Rattle.go_type_core.specs.table_core.Entries.{same_id, has_method};
 ghost use Rattle.go_type_core.specs.table_core.Shown.{member_shown};
 ghost use Rattle.go_embed_core.specs.Owners.{term_found, is_spelled_in};
-ghost use Rattle.go_embed_core.specs.OwnersShown.{name_shown, package_shown};
+ghost use Rattle.go_embed_core.specs.OwnersShown.{name_shown, member_package_shown};
 ghost use Rattle.go_embed_core.specs.mirrors.Tallies.{together, hits_shown, tallies, tally_of, method_tally, field_tally, interface_tally, nobody};
 
 use go_path_core::ImportPath;
@@ -52,7 +52,7 @@ impl<'a> Member<'a> {
 
     /// The path of the package where its name is written, which is empty for the method of the predeclared type `error`.
     pub fn package(self) -> &'a str
-        ensures { result.now ≡ package_shown self.entry }
+        ensures { result.now ≡ member_package_shown self.entry }
     {
         match self {
             Member::Field(path, _) => path.as_str(),
@@ -65,7 +65,7 @@ impl<'a> Member<'a> {
     /// Whether an identifier that is written in a package may name it: it is exported, or of that package. The Go specification, "Exported
     /// identifiers", "Uniqueness of identifiers".
     pub fn is_visible(self, from: &ImportPath) -> bool
-        ensures { IsTrue result ↔ (IsTrue (exported (chars (name_shown self.entry))) ⊎ (package_shown self.entry ≡ from.now)) }
+        ensures { IsTrue result ↔ (IsTrue (exported (chars (name_shown self.entry))) ⊎ (member_package_shown self.entry ≡ from.now)) }
     {
         go_text_core::is_exported(self.name()) || self.package() == from.as_str()
     }
@@ -136,7 +136,7 @@ fn field_hit<'a>(
     name: &str,
     from: &ImportPath,
 ) -> Hits<'a>
-    ensures { hits_shown result ≡ field_tally (lines_of lines.now) path.now name.now from.now field.now }
+    ensures { hits_shown result ≡ field_tally (line_shapes lines.now) path.now name.now from.now field.now }
 {
     if is_same_id(field.name.as_str(), path, name, from) {
         Hits::One(Member::Field(path, StructField::of(field, lines)))
@@ -185,7 +185,7 @@ fn field_hits<'a>(
     name: &str,
     from: &ImportPath,
 ) -> Hits<'a>
-    ensures { hits_shown result ≡ tallies (field_tally (lines_of lines.now) path.now name.now from.now) fields.now }
+    ensures { hits_shown result ≡ tallies (field_tally (line_shapes lines.now) path.now name.now from.now) fields.now }
 {
     let mut hits = Hits::Nothing;
     for field in fields {

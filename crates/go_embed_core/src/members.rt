@@ -1,6 +1,6 @@
 //! The methods of a type, listed.
 ghost use Rattle.std.specs.Prelude.{◌≡◌, ◌++◌, OnOk, map};
-ghost use Rattle.go_term_core.specs.Shapes.{methods_of};
+ghost use Rattle.go_term_core.specs.Shapes.{method_shapes};
 ghost use Rattle.go_type_core.specs.table_core.Shown.{member_shown};
 ghost use Rattle.go_embed_core.specs.Owners.{declared_found, methods_found};
 ghost use Rattle.go_embed_core.specs.OwnersShown.{named_shown};
@@ -31,7 +31,7 @@ pub(crate) fn add_interface<'a>(
     methods: &'a [Method],
     members: &mut Vec<Member<'a>>,
 ) -> Result<(), AllocError>
-    ensures { OnOk result (map named_shown members.new.items ≡ map named_shown members.old.items ++ methods_found path.now (methods_of methods.now)) }
+    ensures { OnOk result (map named_shown members.new.items ≡ map named_shown members.old.items ++ methods_found path.now (method_shapes methods.now)) }
 {
     for method in methods {
         add(members, Member::InterfaceMethod(path, method))?;

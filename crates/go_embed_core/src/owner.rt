@@ -1,10 +1,10 @@
 //! A type whose members are asked for.
 ghost use Rattle.std.specs.Prelude.{◌≡◌, ◌++◌, ◌∷◌, [], IfOk, OnOk, map, option_map, option_to_list};
 ghost use Rattle.go_term_core.specs.Terms.{Defined, NoField, StructOf};
-ghost use Rattle.go_term_core.specs.Shapes.{shape, fields_in, line_at, lines_of};
-ghost use Rattle.go_type_core.specs.table_core.Entries.{find};
+ghost use Rattle.go_term_core.specs.Shapes.{shape, fields_in, line_at, line_shapes};
+ghost use Rattle.go_type_core.specs.table_core.Entries.{find_entry};
 ghost use Rattle.go_type_core.specs.table_core.Shown.{line_shown, member_shown};
-ghost use Rattle.go_embed_core.specs.Owners.{AFieldOf, owner_in, embeds_at, embedded_in, field_count, has_spelled, declared_found, fields_found, term_found, members_of, is_spelled_in, edge};
+ghost use Rattle.go_embed_core.specs.Owners.{AFieldOf, owner_in, embeds_at, embedded_in, owner_field_count, has_spelled, declared_found, fields_found, term_found, members_of, is_spelled_in, embedded_edge};
 ghost use Rattle.go_embed_core.specs.OwnersShown.{owner_shown, source_shown, entry_owner, embedded_shown, named_shown, AreHits};
 ghost use Rattle.go_embed_core.specs.mirrors.Edges.{under_shown, struct_fields, hidden_in, IsHiding, edge_if};
 ghost use Rattle.go_embed_core.specs.mirrors.Tallies.{hits_shown, tallies, tally_of, nobody};
@@ -51,7 +51,7 @@ pub struct Embedded<'a> {
 
 // Where the members of a defined type stand.
 fn defined_source<'a>(table: &'a TypeTable, key: &'a DeclKey) -> Source<'a>
-    ensures { source_shown result ≡ owner_in (find table.now) (Defined key.now) }
+    ensures { source_shown result ≡ owner_in (find_entry table.now) (Defined key.now) }
 {
     match table.locate(key) {
         Some(located) => Source::Entry(located.defined),
@@ -61,7 +61,7 @@ fn defined_source<'a>(table: &'a TypeTable, key: &'a DeclKey) -> Source<'a>
 
 // Where the members of a type stand.
 fn source_of<'a>(table: &'a TypeTable, term: &'a TypeTerm) -> Source<'a>
-    ensures { source_shown result ≡ owner_in (find table.now) (shape term.now) }
+    ensures { source_shown result ≡ owner_in (find_entry table.now) (shape term.now) }
 {
     match term {
         TypeTerm::Defined(key) => defined_source(table, key),
@@ -76,7 +76,7 @@ fn source_of<'a>(table: &'a TypeTable, term: &'a TypeTerm) -> Source<'a>
 
 // The fields of a struct type, and none of any other type.
 fn struct_fields<'a>(term: &'a TypeTerm) -> StructFields<'a>
-    ensures { fields_in (lines_of result.lines.now) result.fields.now ≡ struct_fields (shape term.now) }
+    ensures { fields_in (line_shapes result.lines.now) result.fields.now ≡ struct_fields (shape term.now) }
 {
     match term {
         TypeTerm::Struct(_, fields, lines) => StructFields {
@@ -94,7 +94,7 @@ fn struct_fields<'a>(term: &'a TypeTerm) -> StructFields<'a>
 
 // No field.
 fn no_fields<'a>() -> StructFields<'a>
-    ensures { fields_in (lines_of result.lines.now) result.fields.now ≡ NoField }
+    ensures { fields_in (line_shapes result.lines.now) result.fields.now ≡ NoField }
 {
     StructFields {
         fields: &[],
@@ -104,7 +104,7 @@ fn no_fields<'a>() -> StructFields<'a>
 
 // The edge of an embedded field of a type.
 fn edge_to<'a>(term: &'a TypeTerm, position: usize) -> Embedded<'a>
-    ensures { embedded_shown result ≡ edge position (shape term.now) }
+    ensures { embedded_shown result ≡ embedded_edge position (shape term.now) }
 {
     match term {
         TypeTerm::Pointer(base) => Embedded {
@@ -218,8 +218,8 @@ fn add_fields<'a>(
     lines: &'a [FieldLine],
     members: &mut Vec<Member<'a>>,
 ) -> Result<(), AllocError>
-    requires { (owner_shown owner.now).underlying ≡ StructOf path.now (fields_in (lines_of lines.now) fields.now) }
-    ensures { OnOk result (map named_shown members.new.items ≡ map named_shown members.old.items ++ fields_found (owner_shown owner.now) path.now (fields_in (lines_of lines.now) fields.now)) }
+    requires { (owner_shown owner.now).underlying ≡ StructOf path.now (fields_in (line_shapes lines.now) fields.now) }
+    ensures { OnOk result (map named_shown members.new.items ≡ map named_shown members.old.items ++ fields_found (owner_shown owner.now) path.now (fields_in (line_shapes lines.now) fields.now)) }
 {
     for field in fields {
         if !owner.hides(field.name.as_str()) {
@@ -236,7 +236,7 @@ fn add_member<'a>(
     lines: &'a [FieldLine],
     members: &mut Vec<Member<'a>>,
 ) -> Result<(), AllocError>
-    ensures { OnOk result (map named_shown members.new.items ≡ map named_shown members.old.items ++ (field.now.name, (path.now, AFieldOf path.now field.now.place (line_at (lines_of lines.now) field.now.line).term)) ∷ []) }
+    ensures { OnOk result (map named_shown members.new.items ≡ map named_shown members.old.items ++ (field.now.name, (path.now, AFieldOf path.now field.now.place (line_at (line_shapes lines.now) field.now.line).term)) ∷ []) }
 {
     add(members, Member::Field(path, StructField::of(field, lines)))
 }
@@ -263,7 +263,7 @@ fn add_term<'a>(
 impl<'a> Owner<'a> {
     /// The members of a type, in a table.
     pub fn of(table: &'a TypeTable, term: &'a TypeTerm) -> Owner<'a>
-        ensures { owner_shown result ≡ owner_in (find table.now) (shape term.now) }
+        ensures { owner_shown result ≡ owner_in (find_entry table.now) (shape term.now) }
     {
         Owner {
             source: source_of(table, term),
@@ -283,7 +283,7 @@ impl<'a> Owner<'a> {
 
     // The fields of its struct type, or none where it is none.
     fn fields(&self) -> StructFields<'a>
-        ensures { fields_in (lines_of result.lines.now) result.fields.now ≡ struct_fields (owner_shown self.now).underlying }
+        ensures { fields_in (line_shapes result.lines.now) result.fields.now ≡ struct_fields (owner_shown self.now).underlying }
     {
         match self.underlying() {
             Some(term) => struct_fields(term),
@@ -346,7 +346,7 @@ impl<'a> Owner<'a> {
 
     /// How many fields its struct type has, and 0 where it is none.
     pub fn field_count(&self) -> usize
-        ensures { result ≡ field_count (owner_shown self.now) }
+        ensures { result ≡ owner_field_count (owner_shown self.now) }
     {
         self.fields().fields.len()
     }
@@ -436,7 +436,7 @@ pub fn embeds<'a>(
     table: &'a TypeTable,
     term: &'a TypeTerm,
 ) -> Result<Vec<Embedded<'a>>, AllocError>
-    ensures { IfOk result (λ edges. map embedded_shown edges.items ≡ embedded_in (owner_in (find table.now) (shape term.now))) }
+    ensures { IfOk result (λ edges. map embedded_shown edges.items ≡ embedded_in (owner_in (find_entry table.now) (shape term.now))) }
 {
     let owner = Owner::of(table, term);
     let count = owner.field_count();

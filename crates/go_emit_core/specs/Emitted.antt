@@ -13,11 +13,11 @@ use Rattle.go_meaning_core.specs.expr_core.declared.things.Fault.{Fault}
 use Rattle.go_meaning_core.specs.body_core.Notes.{TheUse}
 use Rattle.go_meaning_core.specs.ready_core.Packages.{trees_in}
 use Rattle.go_meaning_core.specs.summary_core.Summaries.{SummaryModel}
-use Rattle.go_meaning_core.specs.summary_core.Views.{AreApart, faces_told, types_told}
+use Rattle.go_meaning_core.specs.summary_core.Views.{PathsAreApart, faces_told, types_told}
 use Rattle.go_meaning_core.specs.part_core.Inputs.{InputModel, path_in}
 use Rattle.go_meaning_core.specs.part_core.Parts.{ContentOf, FileOf, PartModel}
 use Rattle.go_code_core.specs.Code.{code_of}
-use Rattle.go_code_core.specs.fragment_core.Names.{Looks}
+use Rattle.go_code_core.specs.fragment_core.Names.{CodeLooks}
 use Rattle.go_code_core.specs.fragment_core.Slots.{slots_of}
 use Rattle.go_object_core.specs.Objects.{FunctionOf, ObjectOf}
 use Rattle.go_emit_core.specs.Imports.{all_passing}
@@ -54,7 +54,7 @@ body_uses uses f = take_while (λ u. nat_lt u.offset f.close_brace.start) (drop 
 
 -- a function of the file of a number of the package of a path, by what the file's occurrences have; its names come to what they come to in a function
 -- with so many occurrences of the file before its body
-abbrev pub function_of : List ℕ → ℕ → List TheUse → (ℕ → Looks) → TopDeclTree → FuncTree → FunctionOf Declaration
+abbrev pub function_of : List ℕ → ℕ → List TheUse → (ℕ → CodeLooks) → TopDeclTree → FuncTree → FunctionOf Declaration
 function_of path file uses looking d f = record {
   declaration = InFile path (places.Declared (decl_at file d));
   name = d.ident.name;
@@ -65,13 +65,13 @@ function_of path file uses looking d f = record {
 }
 
 -- the function that a declaration is, if it is one
-abbrev pub form_function : List ℕ → ℕ → List TheUse → (ℕ → Looks) → TopDeclTree → FormTree → List (FunctionOf Declaration)
+abbrev pub form_function : List ℕ → ℕ → List TheUse → (ℕ → CodeLooks) → TopDeclTree → FormTree → List (FunctionOf Declaration)
 form_function path file uses looking d (ValueForm k v at) = []
 form_function path file uses looking d (TypeForm t) = []
 form_function path file uses looking d (FuncForm f) = function_of path file uses looking d f ∷ []
 
 -- the functions among declarations of a file, in order
-abbrev pub functions_of : List ℕ → ℕ → List TheUse → (ℕ → Looks) → List TopDeclTree → List (FunctionOf Declaration)
+abbrev pub functions_of : List ℕ → ℕ → List TheUse → (ℕ → CodeLooks) → List TopDeclTree → List (FunctionOf Declaration)
 functions_of path file uses looking ds = flat_map (λ d. form_function path file uses looking d d.form) ds
 
 -- those of a file
@@ -136,7 +136,7 @@ told_by ps = map (λ p. p.content.summary) ps
 
 -- no two of these parts are of packages of one path
 abbrev pub AreOfDifferentPackages : List PartModel → Type 0
-AreOfDifferentPackages ps = AreApart (told_by ps)
+AreOfDifferentPackages ps = PathsAreApart (told_by ps)
 
 -- the objects of parts that have one, in their order, over what some packages tell
 abbrev pub objects_over : List SummaryModel → List PartModel → List (ObjectOf Declaration)

@@ -2,7 +2,6 @@
 use Rattle.std.specs.Prelude.{◌≡◌, ◌↔◌, ◌<◌, ◌&&◌, ℕ, Bool, true, nat_le, nat_lt, List, [], ◌∷◌, Option, Some, None, is_some, slice_get, All, AllPairs, Contains, filter, map}
 use Rattle.go_tree_nodes.specs.Trees.{FileTree, FuncTree}
 use Rattle.go_tree_nodes.specs.Rules.{Wf_file}
-use Rattle.go_term_core.specs.decl_core.Outer.{IsPlaced}
 use Rattle.go_meaning_core.specs.denote_core.declared.things.Outcome.{Outcome}
 use Rattle.go_meaning_core.specs.denote_core.declared.things.Outcome.TheVariants as outcomes
 use Rattle.go_meaning_core.specs.handle_core.Declarations.{Declaration}
@@ -17,6 +16,7 @@ use Rattle.go_object_core.specs.Objects.{ObjectOf}
 use Rattle.go_emit_core.specs.Emitted.{are_clean, body_first, body_uses, declarations_in, object_of, object_over, objects_of, code_scene_over, told_by}
 use Rattle.go_emit_core.specs.Imports.{imported_paths}
 use Rattle.go_meaning_core.specs.Looking.{looks_of}
+use Rattle.go_tree_nodes.specs.Spelling.{IsPlaced}
 
 -- nothing is wrong with a file: each of its occurrences has a declaration, and there is no fault beside
 pub record HasNoFault (f : FileOf) : Type 0 where

@@ -26,7 +26,7 @@ use Rattle.go_meaning_core.specs.face_core.Faces.{TheFace}
 use Rattle.go_meaning_core.specs.face_core.Packages.{PackageFacesModel}
 use Rattle.go_meaning_core.specs.body_core.Notes.{TheUse, TheLocal}
 use Rattle.go_object_core.specs.instruction_core.declared.instruction.Instruction.TheVariants as instructions
-use Rattle.go_code_core.specs.Samples.{argument, ident, int_at, line, name, paren, returns, two_params}
+use Rattle.go_code_core.specs.Samples.{argument, ident_at, int_at, line, name, paren, returns, two_params}
 use Rattle.go_object_core.specs.Objects.{FunctionOf}
 use Rattle.go_emit_core.specs.Emitted.{functions_of}
 use Rattle.go_meaning_core.specs.Looking.{looks_of}
@@ -39,7 +39,7 @@ path = codes "ex.com/a"
 
 abbrev pub sample_function : Span → List ℕ → ℕ → ParamTrees → ResultTree → ℕ → Lines → ℕ → FuncTree
 sample_function s text at params results first body last =
-    record { func = s; receiver = None; name = ident text at; signature = Signed s params s results; open_brace = paren first; body = body; close_brace = paren last }
+    record { func = s; receiver = None; name = ident_at text at; signature = Signed s params s results; open_brace = paren first; body = body; close_brace = paren last }
 
 abbrev pub sample_add : Span → FuncTree
 sample_add s =
@@ -53,7 +53,7 @@ five s =
 
 -- the identifiers that the file declares outside bodies are add, a, b and five
 abbrev pub decls : Span → List TopDeclTree
-decls s = record { ident = ident (codes "add") 16; number = 0; form = FuncForm (sample_add s) } ∷ record { ident = ident (codes "five") 56; number = 3; form = FuncForm (five s) } ∷ []
+decls s = record { ident = ident_at (codes "add") 16; number = 0; form = FuncForm (sample_add s) } ∷ record { ident = ident_at (codes "five") 56; number = 3; form = FuncForm (five s) } ∷ []
 
 -- what the check gives
 

@@ -22,6 +22,11 @@ pub mod answer_core {
     pub use go_meaning_core::answer_core::{Answer, HeldLocal, Site};
 }
 
+/// What the crates above name of `go_code_core`.
+pub mod code_core {
+    pub use go_code_core::{code_is_whole, jumps_stay_inside, outside_is_alone};
+}
+
 /// What the crates above name of `go_constant_core`.
 pub mod constant_core {
     pub use go_code_core::constant_core::Constant;
@@ -52,6 +57,11 @@ pub mod operand_core {
     pub use go_meaning_core::operand_core::{Operand, ValueType};
 }
 
+/// What the crates above name of `go_package_core`.
+pub mod package_core {
+    pub use go_meaning_core::package_core::FileAnswers;
+}
+
 /// What the crates above name of `go_select_core`.
 pub mod select_core {
     pub use go_meaning_core::select_core::{Member, Owner, Selected, select, selectable};
@@ -59,5 +69,5 @@ pub mod select_core {
 
 /// What the crates above name of `go_tree_core`.
 pub mod tree_core {
-    pub use go_meaning_core::tree_core::{OccId, Role};
+    pub use go_meaning_core::tree_core::{OccId, Role, occurrences_are_written};
 }

@@ -3,7 +3,7 @@ ghost use Rattle.std.specs.Prelude.{◌≡◌, ◌++◌, IfOk, OnOk, map};
 ghost use Rattle.std.specs.List.{flat_map};
 ghost use Rattle.std.specs.Option.{option_map};
 ghost use Rattle.go_meaning_core.specs.entry_core.Outlines.{outline_of, outline_shown};
-ghost use Rattle.go_meaning_core.specs.summary_core.Views.{AreApart};
+ghost use Rattle.go_meaning_core.specs.summary_core.Views.{PathsAreApart};
 ghost use Rattle.go_meaning_core.specs.graph_core.Packages.{trees_of};
 ghost use Rattle.go_object_core.specs.Objects.{function_shown, object_shown};
 ghost use Rattle.go_meaning_core.specs.part_core.Parts.{file_shown};
@@ -84,7 +84,7 @@ fn whole_object(alloc: Global, tables: &Tables<'_>, part: &Part) -> Result<Objec
 // What the packages tell that the package of a part reaches, and what it tells itself.
 fn told_to(alloc: Global, part: &Part) -> Result<Vec<Summary>, AllocError>
     ensures told { IfOk result (λ told. told.items ≡ told_to part.now.input part.now.content) }
-    ensures apart { IfOk result (λ told. AreApart told.items) }
+    ensures apart { IfOk result (λ told. PathsAreApart told.items) }
 {
     // Each path is there once, since a package does not reach itself.
     let _content = part.content();

@@ -1,6 +1,6 @@
 //! What the names of packages are looked up in, by what some packages tell.
 ghost use Rattle.std.specs.Prelude.{◌≡◌, IfOk};
-ghost use Rattle.go_meaning_core.specs.summary_core.Views.{AreApart, faces_told, types_told};
+ghost use Rattle.go_meaning_core.specs.summary_core.Views.{PathsAreApart, faces_told, types_told};
 ghost use Rattle.go_meaning_core.specs.Scenes.{methods_spotted};
 
 use go_meaning_core::summary_core::{Summary, view_of};
@@ -13,7 +13,7 @@ use std::alloc::{AllocError, Global};
 ///
 /// `AllocError` where memory is wanting.
 pub(crate) fn tables_of<'a>(alloc: Global, told: &'a [Summary]) -> Result<Tables<'a>, AllocError>
-    requires { AreApart told.now }
+    requires { PathsAreApart told.now }
     ensures types { IfOk result (λ t. t.types ≡ types_told told.now) }
     ensures methods { IfOk result (λ t. t.methods ≡ methods_spotted (types_told told.now) (types_told told.now)) }
     ensures faces { IfOk result (λ t. t.faces ≡ faces_told told.now) }

@@ -7,14 +7,14 @@ use Rattle.go_text_core.specs.declared.rule.Rule.TheVariants.{Y5}
 use Rattle.go_universe_core.specs.declared.Predeclared.TheVariants as predeclared
 use Rattle.go_tree_nodes.specs.declared.names.Ident.{Ident}
 use Rattle.go_tree_nodes.specs.Trees.{Separated, TypeTree, SignatureTree, Signed, OneResult, Results, ParamTrees, Param, ExprTree, ItemTrees, Named, Paren, Call, FuncTree}
-use Rattle.go_handle_core.specs.Declarations.{Universe}
-use Rattle.go_denote_core.specs.declared.things.Outcome.TheVariants as outcomes
-use Rattle.go_expr_core.specs.declared.things.Fault.{Fault}
-use Rattle.go_local_core.specs.declared.Fault.{Fault as LocalFault}
-use Rattle.go_local_core.specs.Law.{Out}
-use Rattle.go_env_core.specs.Looks.{fault_of}
-use Rattle.go_env_core.specs.declared.meaning.Meaning.{Meaning}
-use Rattle.go_body_core.specs.Notes.{TheUse, NoteOf, all_uses, all_faults}
+use Rattle.go_body_core.specs.handle_core.Declarations.{Universe}
+use Rattle.go_body_core.specs.denote_core.declared.things.Outcome.TheVariants as outcomes
+use Rattle.go_body_core.specs.expr_core.declared.things.Fault.{Fault}
+use Rattle.go_body_core.specs.local_core.declared.Fault.{Fault as LocalFault}
+use Rattle.go_body_core.specs.local_core.Law.{Out}
+use Rattle.go_body_core.specs.env_core.Looks.{fault_of}
+use Rattle.go_body_core.specs.env_core.declared.meaning.Meaning.{Meaning}
+use Rattle.go_body_core.specs.Notes.{TheUse, NoteOf, all_uses, noted_faults}
 use Rattle.go_ending_core.specs.Ending.{EndTerminating}
 use Rattle.go_ending_core.specs.Standing.{IsStray}
 
@@ -60,7 +60,7 @@ lack_at close = record { offset = close.start; rule = Y5 }
 -- by what comes of the pieces of a function, a fault is one of its own: of a piece, of a name that a piece declares, of a `break` or a `continue` that
 -- no `for` is around, or of its end
 pub data IsFaultOf (f : FuncTree) (o : Out Meaning NoteOf) (fault : Fault) : Type 0 where
-  OfAPiece : Contains (all_faults o.notes) fault → IsFaultOf f o fault
+  OfAPiece : Contains (noted_faults o.notes) fault → IsFaultOf f o fault
   OfAName : {x : LocalFault} → Contains o.faults x → fault ≡ fault_of x → IsFaultOf f o fault
   OfAJump : {x : LocalFault} → IsStray f.body x → fault ≡ fault_of x → IsFaultOf f o fault
   OfItsEnd : LacksReturn (all_uses o.notes) f → fault ≡ lack_at f.close_brace → IsFaultOf f o fault

@@ -15,15 +15,16 @@ use Rattle.go_term_core.specs.declared.term.MemberPlace.{MemberPlace}
 use Rattle.go_term_core.specs.declared.term.MemberPlace.TheVariants as places
 use Rattle.go_term_core.specs.Terms.{Term, Defined}
 use Rattle.go_table_core.specs.Entries.{Entry, Member}
-use Rattle.go_table_core.specs.Tables.{Rise}
+use Rattle.go_table_core.specs.Tables.{KeysRise}
 use Rattle.go_written_core.specs.Written.{InFile, Meaning}
-use Rattle.go_entry_core.specs.Entries.{Received, Meanings, decl_ref, is_type_of, methods_of, received_of, func_methods, decl_methods, file_methods, package_methods, spec_entry, entry_of, file_at, entries_with, declared_entries, package_meanings, type_key, method_of}
-use Rattle.go_entry_core.specs.Laws.{IsTypeKey, KeysDiffer, IsMethod, IsPlaceBefore, MethodsAreOfTheType}
+use Rattle.go_entry_core.specs.Entries.{Received, Meanings, is_type_of, methods_received, received_of, func_methods, decl_methods, file_methods, package_methods, spec_entry, entry_of, file_at, entries_with, declared_entries, package_meanings, type_key, method_of}
+use Rattle.go_entry_core.specs.Laws.{IsTypeKey, KeysDiffer, IsDeclaredMethod, IsPlaceBefore, MethodsAreOfTheType}
 use Rattle.go_entry_core.specs.Meanings.{Shows}
 use Rattle.go_entry_core.specs.Outlines.{FileOutline, IsOutline}
 use Rattle.go_entry_core.proofs.Among.{Among, among_from, among_to, among_flat, flat_among, among_numbered, numbered_among, among_filter, filter_among, among_map, map_among}
 use Rattle.go_entry_core.proofs.Ordered.{NumbersFrom, IsFrom, outline_rises, before_next, entries_rise, entries_own}
 use Rattle.go_entry_core.proofs.Placing.{same_key_itself, rise_one, type_is}
+use Rattle.go_scope_core.specs.block_core.Declarations.{decl_ref}
 
 -- types and keys
 
@@ -69,11 +70,11 @@ entry_is mean f rs d (FuncForm g) e h = absurd h
 entry_there : (mean : Meaning) (f : InFile) (rs : List Received) (d : TopDeclTree) (form : FormTree) (t : TypeSpecTree) → form ≡ TypeForm t → Among (entry_of mean f rs d form) (spec_entry mean f rs d t)
 entry_there mean f rs d form t h = subst (λ (g : FormTree). Among (entry_of mean f rs d g) (spec_entry mean f rs d t)) (sym h) (inl refl)
 
-entry_methods : (means : Meanings) (path : List ℕ) (rs : List Received) (os : List FileOutline) (e : Entry) → Among (entries_with means path rs os) e → e.methods ≡ methods_of e.key rs
+entry_methods : (means : Meanings) (path : List ℕ) (rs : List Received) (os : List FileOutline) (e : Entry) → Among (entries_with means path rs os) e → e.methods ≡ methods_received e.key rs
 entry_methods means path rs os e h =
     let d = found_in os (entry_at means path rs) e h in
     let t = entry_is (means d.0.file) (file_at path d.0.file d.0.outline) rs d.0.decl d.0.decl.form e d.1 in
-    subst (λ (x : Entry). x.methods ≡ methods_of x.key rs) t.2 refl
+    subst (λ (x : Entry). x.methods ≡ methods_received x.key rs) t.2 refl
 
 -- the key of a type declaration that is found
 found_key : (path : List ℕ) (os : List FileOutline) (d : Found os) (t : TypeSpecTree) (k : DeclKey) → d.decl.form ≡ TypeForm t → k ≡ type_key (file_at path d.file d.outline) d.decl.number → IsTypeKey path os k
@@ -109,7 +110,7 @@ there_key means path rs os k h =
     (put_in os (entry_at means path rs) (spec_entry mean f rs h.decl h.spec) d (entry_there mean f rs h.decl h.decl.form h.spec h.form))
     (sym h.key))
 
-keys_apart : (es : List Entry) → Rise es → AllPairs (λ (e f : Entry). e.key ≡ f.key → ⊥) es
+keys_apart : (es : List Entry) → KeysRise es → AllPairs (λ (e f : Entry). e.key ≡ f.key → ⊥) es
 keys_apart es rise i j d less lt same =
     let first : i < length es = omega (arith, less, lt) in
     let one = rise_one es rise i j (get_or es i d) (get_or es j d) (slice_get-get_or es i d first) (slice_get-get_or es j d lt) same in
@@ -155,7 +156,7 @@ module _ (shows : Shows) (path : List ℕ) (b : BlocksModel) (os : List FileOutl
 
   -- a method that is found, with a receiver whose base means a type
   found_method : (d : Found os) (g : FuncTree) (q : Receiver) (k : DeclKey) (m : Member) → d.decl.form ≡ FuncForm g → g.receiver ≡ Some q → own_means d.file q.base ≡ Defined k
-      → m ≡ method_of (own_means d.file) (file_at path d.file d.outline) d.decl g q → IsMethod shows path b os (Defined k) m
+      → m ≡ method_of (own_means d.file) (file_at path d.file d.outline) d.decl g q → IsDeclaredMethod shows path b os (Defined k) m
   found_method d g q k m form received meant written = record {
     file = d.file;
     outline = d.outline;
@@ -169,21 +170,21 @@ module _ (shows : Shows) (path : List ℕ) (b : BlocksModel) (os : List FileOutl
     written = written;
   }
 
-  own_method : (k : DeclKey) (m : Member) (r : Received) → is_type_of k r.base ≡ true → r.member ≡ m → (d : Found os) → Among (methods_at own_means path d.file d.outline d.decl) r → IsMethod shows path b os (Defined k) m
+  own_method : (k : DeclKey) (m : Member) (r : Received) → is_type_of k r.base ≡ true → r.member ≡ m → (d : Found os) → Among (methods_at own_means path d.file d.outline d.decl) r → IsDeclaredMethod shows path b os (Defined k) m
   own_method k m r meant is d h =
       let g = method_is (own_means d.file) (file_at path d.file d.outline) d.decl d.decl.form r h in
       let base : own_means d.file g.2.0.base ≡ Defined k = ap (λ (x : Received). x.base) g.2.2 ∙ type_is k r.base meant in
       let written : m ≡ method_of (own_means d.file) (file_at path d.file d.outline) d.decl g.0 g.2.0 = sym (ap (λ (x : Received). x.member) g.2.2 ∙ is) in
       found_method d g.0 g.2.0 k m g.1 g.2.1 base written
 
-  in_methods : (k : DeclKey) (m : Member) → Among (methods_of k own_methods) m → IsMethod shows path b os (Defined k) m
+  in_methods : (k : DeclKey) (m : Member) → Among (methods_received k own_methods) m → IsDeclaredMethod shows path b os (Defined k) m
   in_methods k m h =
       let r = among_map (λ (r : Received). r.member) (filter (λ r. is_type_of k r.base) own_methods) m h in
       let passed = among_filter (λ (r : Received). is_type_of k r.base) own_methods r.0 r.1 in
       let d = found_in os (methods_at own_means path) r.0 passed.0 in
       own_method k m r.0 passed.1 r.2 d.0 d.1
 
-  to_methods : (k : DeclKey) (m : Member) → IsMethod shows path b os (Defined k) m → Among (methods_of k own_methods) m
+  to_methods : (k : DeclKey) (m : Member) → IsDeclaredMethod shows path b os (Defined k) m → Among (methods_received k own_methods) m
   to_methods k m h =
       let d : Found os = record { file = h.file; outline = h.outline; decl = h.decl; there = h.there.0; among = among_from h.outline.decls h.decl h.there.1 } in
       let mean = own_means h.file in
@@ -194,7 +195,7 @@ module _ (shows : Shows) (path : List ℕ) (b : BlocksModel) (os : List FileOutl
       (filter_among (λ (s : Received). is_type_of k s.base) own_methods r listed (is_type k r.base h.means))
       (sym h.written)
 
-  belongs : (e : Entry) (m : Member) → Contains (declared_entries shows path b os) e → Contains e.methods m ↔ IsMethod shows path b os (Defined e.key) m
+  belongs : (e : Entry) (m : Member) → Contains (declared_entries shows path b os) e → Contains e.methods m ↔ IsDeclaredMethod shows path b os (Defined e.key) m
   belongs e m h =
       let own = entry_methods own_means path own_methods os e (among_from (declared_entries shows path b os) e h) in (
         (λ c. in_methods e.key m (subst (λ (ms : List Member). Among ms m) own (among_from e.methods m c))),

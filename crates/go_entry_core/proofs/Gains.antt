@@ -11,16 +11,16 @@ use Rattle.go_term_core.specs.decl_core.declared.tops.TopDecl.{TopDecl}
 use Rattle.go_term_core.specs.decl_core.Shown.{decl_shown}
 use Rattle.go_term_core.specs.decl_core.TopDecls.{TopDeclTree, FormTree, ValueForm, TypeForm, FuncForm}
 use Rattle.go_table_core.specs.Entries.{Entry}
-use Rattle.go_table_core.specs.Tables.{Rise}
+use Rattle.go_table_core.specs.Tables.{KeysRise}
 use Rattle.go_written_core.specs.Written.{InFile, Meaning}
-use Rattle.go_entry_core.specs.Entries.{Received, Meanings, is_type_of, methods_of, decl_methods, entry_of, file_at, file_entries, file_methods, entries_with, package_methods}
+use Rattle.go_entry_core.specs.Entries.{Received, Meanings, is_type_of, methods_received, decl_methods, entry_of, file_at, file_entries, file_methods, entries_with, package_methods}
 use Rattle.go_entry_core.specs.Outlines.{FileOutline, outline_shown}
 use Rattle.go_entry_core.specs.mirrors.Gaining.{gaining, all_gaining, IsMeantAt}
 use Rattle.go_entry_core.proofs.Numbered.{map-flat_map, flat_more, flat_item}
 
 -- methods of more
 
-pub methods_of-append : (k : DeclKey) (rs ss : List Received) → methods_of k (rs ++ ss) ≡ methods_of k rs ++ methods_of k ss
+pub methods_of-append : (k : DeclKey) (rs ss : List Received) → methods_received k (rs ++ ss) ≡ methods_received k rs ++ methods_received k ss
 methods_of-append k rs ss =
     ap (map (λ r. r.member)) (filter-append (λ r. is_type_of k r.base) rs ss)
     ∙ map-append (λ r. r.member) (filter (λ r. is_type_of k r.base) rs) (filter (λ r. is_type_of k r.base) ss)
@@ -30,7 +30,7 @@ gaining_none e = λ i. record { key = e.key; name = e.name; term = e.term; metho
 
 gaining_both : (rs ss : List Received) (e : Entry) → gaining (rs ++ ss) e ≡ gaining ss (gaining rs e)
 gaining_both rs ss e =
-    let same : e.methods ++ methods_of e.key (rs ++ ss) ≡ e.methods ++ methods_of e.key rs ++ methods_of e.key ss = ap (λ l. e.methods ++ l) (methods_of-append e.key rs ss) ∙ sym (append_assoc e.methods (methods_of e.key rs) (methods_of e.key ss)) in
+    let same : e.methods ++ methods_received e.key (rs ++ ss) ≡ e.methods ++ methods_received e.key rs ++ methods_received e.key ss = ap (λ l. e.methods ++ l) (methods_of-append e.key rs ss) ∙ sym (append_assoc e.methods (methods_received e.key rs) (methods_received e.key ss)) in
     λ i. record { key = e.key; name = e.name; term = e.term; methods = same i }
 
 pub all_gaining_none : (es : List Entry) → all_gaining [] es ≡ es
@@ -58,29 +58,29 @@ entries_gain means path rs os =
 
 -- the order of keys is as it was
 
-pub rise_gaining : (rs : List Received) (es : List Entry) → Rise es → Rise (all_gaining rs es)
+pub rise_gaining : (rs : List Received) (es : List Entry) → KeysRise es → KeysRise (all_gaining rs es)
 rise_gaining rs [] rise = tt
 rise_gaining rs (e ∷ []) rise = tt
 rise_gaining rs (e ∷ f ∷ es) rise = (rise.0, rise_gaining rs (f ∷ es) rise.1)
 
-pub rise_gained : (rs : List Received) (old new : List Entry) → Rise old → new ≡ all_gaining rs old → Rise new
-rise_gained rs old new rise e = subst (λ (es : List Entry). Rise es) (sym e) (rise_gaining rs old rise)
+pub rise_gained : (rs : List Received) (old new : List Entry) → KeysRise old → new ≡ all_gaining rs old → KeysRise new
+rise_gained rs old new rise e = subst (λ (es : List Entry). KeysRise es) (sym e) (rise_gaining rs old rise)
 
 -- one method
 
-gains_by : (r : Received) (e : Entry) (b : Bool) → is_type_of e.key r.base ≡ b → methods_of e.key (r ∷ []) ≡ cond b (r.member ∷ []) []
+gains_by : (r : Received) (e : Entry) (b : Bool) → is_type_of e.key r.base ≡ b → methods_received e.key (r ∷ []) ≡ cond b (r.member ∷ []) []
 gains_by r e true h = ap (λ b. map (λ (s : Received). s.member) (cond b (r ∷ []) [])) h
 gains_by r e false h = ap (λ b. map (λ (s : Received). s.member) (cond b (r ∷ []) [])) h
 
 gain_not : (r : Received) (e : Entry) → is_type_of e.key r.base ≡ false → gaining (r ∷ []) e ≡ e
 gain_not r e h =
-    let same : e.methods ++ methods_of e.key (r ∷ []) ≡ e.methods = ap (λ l. e.methods ++ l) (gains_by r e false h) ∙ append-nil e.methods in
+    let same : e.methods ++ methods_received e.key (r ∷ []) ≡ e.methods = ap (λ l. e.methods ++ l) (gains_by r e false h) ∙ append-nil e.methods in
     λ i. record { key = e.key; name = e.name; term = e.term; methods = same i }
 
 -- an entry of the method's type gets it behind the others
 pub gain_one : (r : Received) (e new : Entry) → is_type_of e.key r.base ≡ true → new.key ≡ e.key → new.name ≡ e.name → new.term ≡ e.term → new.methods ≡ e.methods ++ r.member ∷ [] → new ≡ gaining (r ∷ []) e
 gain_one r e new h key name term methods =
-    let same : new.methods ≡ e.methods ++ methods_of e.key (r ∷ []) = methods ∙ ap (λ l. e.methods ++ l) (sym (gains_by r e true h)) in
+    let same : new.methods ≡ e.methods ++ methods_received e.key (r ∷ []) = methods ∙ ap (λ l. e.methods ++ l) (sym (gains_by r e true h)) in
     λ i. record { key = key i; name = name i; term = term i; methods = same i }
 
 pub gain_none : (r : Received) (es : List Entry) → IsMeantAt es r.base None → all_gaining (r ∷ []) es ≡ es

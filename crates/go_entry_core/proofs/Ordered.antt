@@ -7,10 +7,10 @@ use Rattle.std.proofs.lemmas.List.Elements.{All-head, All-tail}
 use Rattle.go_term_core.specs.decl_core.declared.keys.DeclRef.{DeclRef}
 use Rattle.go_term_core.specs.decl_core.TopDecls.{TopDeclTree, FormTree, ValueForm, TypeForm, FuncForm, top_decls}
 use Rattle.go_term_core.specs.decl_core.Outer.{Outer, Manner, Whole, Part, Embedded, outer_names}
-use Rattle.go_term_core.specs.decl_core.Laws.{Known, known, wholes, if_whole}
+use Rattle.go_term_core.specs.decl_core.Laws.{KnownDecl, known, wholes, if_whole}
 use Rattle.go_term_core.specs.decl_core.Numbers.{numbers_are_places}
 use Rattle.go_table_core.specs.Entries.{Entry}
-use Rattle.go_table_core.specs.Tables.{AreOf, Rise}
+use Rattle.go_table_core.specs.Tables.{AreOf, KeysRise}
 use Rattle.go_written_core.specs.Written.{InFile, Meaning}
 use Rattle.go_entry_core.specs.Entries.{Received, Meanings, entry_of, file_at, file_entries, entries_with}
 use Rattle.go_entry_core.specs.Outlines.{FileOutline, IsOutline}
@@ -24,13 +24,13 @@ pub numbers_later : (m n : ℕ) (ds : List TopDeclTree) → n ≤ m → NumbersF
 numbers_later m n [] le h = tt
 numbers_later m n (d ∷ ds) le h = (let first = h.0 in omega (arith, le, first), h.1)
 
-numbers_case : (m : Manner) (w : Known) (ds : List TopDeclTree) (n : ℕ) (os : List Outer) → w.number ≡ n → ((es : List TopDeclTree) → map known es ≡ wholes (n + 1) os → NumbersFrom (n + 1) es) → map known ds ≡ if_whole m w ++ wholes (n + 1) os → NumbersFrom n ds
+numbers_case : (m : Manner) (w : KnownDecl) (ds : List TopDeclTree) (n : ℕ) (os : List Outer) → w.number ≡ n → ((es : List TopDeclTree) → map known es ≡ wholes (n + 1) os → NumbersFrom (n + 1) es) → map known ds ≡ if_whole m w ++ wholes (n + 1) os → NumbersFrom n ds
 numbers_case Whole w [] n os is rest h = (let no : [] ≡ w ∷ wholes (n + 1) os = h in cc)
 numbers_case Whole w (d ∷ ds) n os is rest h =
     let cons : known d ∷ map known ds ≡ w ∷ wholes (n + 1) os = h in
     let head : known d ≡ w = cc in
     let tail : map known ds ≡ wholes (n + 1) os = cc in
-    let number : d.number ≡ n = ap (λ (k : Known). k.number) head ∙ is in
+    let number : d.number ≡ n = ap (λ (k : KnownDecl). k.number) head ∙ is in
     ((let e : n ≤ d.number = omega (arith, number) in e), subst (λ (m : ℕ). NumbersFrom (m + 1) ds) (sym number) (rest ds tail))
 numbers_case Part w ds n os is rest h = numbers_later (n + 1) n ds (omega arith) (rest ds h)
 numbers_case Embedded w ds n os is rest h = numbers_later (n + 1) n ds (omega arith) (rest ds h)
@@ -94,13 +94,13 @@ before_next a b h = elim h [
       )
 ]
 
-keys_rise : (file n : ℕ) (es : List Entry) → KeysFrom file n es → Rise es
+keys_rise : (file n : ℕ) (es : List Entry) → KeysFrom file n es → KeysRise es
 keys_rise file n [] h = tt
 keys_rise file n (e ∷ []) h = tt
 keys_rise file n (e ∷ f ∷ es) h = (before_next e.key.decl f.key.decl h.1.0, keys_rise e.key.decl.file (e.key.decl.number + 1) (f ∷ es) h.1)
 
 -- the keys of a package's entries rise
-pub entries_rise : (means : Meanings) (path : List ℕ) (rs : List Received) (os : List FileOutline) → All IsOutline os → Rise (entries_with means path rs os)
+pub entries_rise : (means : Meanings) (path : List ℕ) (rs : List Received) (os : List FileOutline) → All IsOutline os → KeysRise (entries_with means path rs os)
 entries_rise means path rs os all = keys_rise 0 0 (entries_with means path rs os) (entries_keys means path rs os all)
 
 -- and have its path

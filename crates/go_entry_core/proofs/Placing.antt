@@ -14,7 +14,7 @@ use Rattle.go_term_core.specs.Terms.{Term, NoType, Predeclared, ErrorType, Defin
 use Rattle.go_table_core.specs.declared.entry.TypeEntry.{TypeEntry}
 use Rattle.go_table_core.specs.Entries.{Entry, same_decl, same_key}
 use Rattle.go_table_core.specs.Shown.{entry_shown}
-use Rattle.go_table_core.specs.Tables.{Rise}
+use Rattle.go_table_core.specs.Tables.{KeysRise}
 use Rattle.go_entry_core.specs.Entries.{is_type_of}
 use Rattle.go_entry_core.specs.mirrors.Gaining.{is_before, IsMeantAt}
 
@@ -84,16 +84,16 @@ not_before_itself a b e h =
 
 -- entries that rise
 
-rise_rest : (w : Entry) (es : List Entry) → Rise (w ∷ es) → Rise es
+rise_rest : (w : Entry) (es : List Entry) → KeysRise (w ∷ es) → KeysRise es
 rise_rest w [] rise = tt
 rise_rest w (v ∷ es) rise = rise.1
 
-rise_first : (w : Entry) (es : List Entry) → Rise (w ∷ es) → (i : ℕ) (e : Entry) → slice_get es i ≡ Some e → is_before w.key.decl e.key.decl ≡ true
+rise_first : (w : Entry) (es : List Entry) → KeysRise (w ∷ es) → (i : ℕ) (e : Entry) → slice_get es i ≡ Some e → is_before w.key.decl e.key.decl ≡ true
 rise_first w [] rise i e h = absurd (let no : None ≡ Some e = h in cc)
 rise_first w (v ∷ es) rise zero e h = (let ve : v ≡ e = (let s : Some v ≡ Some e = h in cc) in subst (λ (x : Entry). is_before w.key.decl x.key.decl ≡ true) ve rise.0)
 rise_first w (v ∷ es) rise (suc i) e h = is_before_on w.key.decl v.key.decl e.key.decl rise.0 (rise_first v es rise.1 i e h)
 
-pub rise_far : (es : List Entry) → Rise es → (i j : ℕ) (e f : Entry) → slice_get es i ≡ Some e → slice_get es j ≡ Some f → i < j → is_before e.key.decl f.key.decl ≡ true
+pub rise_far : (es : List Entry) → KeysRise es → (i j : ℕ) (e f : Entry) → slice_get es i ≡ Some e → slice_get es j ≡ Some f → i < j → is_before e.key.decl f.key.decl ≡ true
 rise_far [] rise i j e f h k lt = absurd (let no : None ≡ Some e = h in cc)
 rise_far (x ∷ es) rise zero zero e f h k lt = absurd (omega (arith, lt))
 rise_far (x ∷ es) rise zero (suc j) e f h k lt =
@@ -103,7 +103,7 @@ rise_far (x ∷ es) rise (suc i) zero e f h k lt = absurd (omega (arith, lt))
 rise_far (x ∷ es) rise (suc i) (suc j) e f h k lt = rise_far es (rise_rest x es rise) i j e f h k (omega (arith, lt))
 
 -- entries that have one key stand at one place
-pub rise_one : (es : List Entry) → Rise es → (i j : ℕ) (e f : Entry) → slice_get es i ≡ Some e → slice_get es j ≡ Some f → e.key ≡ f.key → i ≡ j
+pub rise_one : (es : List Entry) → KeysRise es → (i j : ℕ) (e f : Entry) → slice_get es i ≡ Some e → slice_get es j ≡ Some f → e.key ≡ f.key → i ≡ j
 rise_one es rise i j e f h k same = elim (cases_order i j) [
   | inl eq ↦ eq
   | inr apart ↦ elim apart [
@@ -117,7 +117,7 @@ rise_one es rise i j e f h k same = elim (cases_order i j) [
 shown_at : (ws : List TypeEntry) (i : ℕ) (d : TypeEntry) → i < length ws → slice_get (map entry_shown ws) i ≡ Some (entry_shown (get_or ws i d))
 shown_at ws i d lt = slice_get-map entry_shown ws i ∙ ap (option_map entry_shown) (slice_get-get_or ws i d lt)
 
-pub rise_split : (ws : List TypeEntry) (d : DeclRef) → Rise (map entry_shown ws) → IsPartitionedBy (λ e. is_before e.key.decl d) ws
+pub rise_split : (ws : List TypeEntry) (d : DeclRef) → KeysRise (map entry_shown ws) → IsPartitionedBy (λ e. is_before e.key.decl d) ws
 rise_split ws d rise i j x le lt h = elim (cases_order i j) [
   | inl same ↦ subst (λ (k : ℕ). is_before (get_or ws k x).key.decl d ≡ true) (sym same) h
   | inr apart ↦ elim apart [
@@ -142,7 +142,7 @@ held [] i e h = absurd (let no : None ≡ Some e = h in cc)
 held (w ∷ ws) zero e h = (w, refl, (let s : Some (entry_shown w) ≡ Some e = h in cc))
 held (w ∷ ws) (suc i) e h = held ws i e h
 
-pub entry_nowhere : (ws : List TypeEntry) (k : DeclKey) (n : ℕ) → Rise (map entry_shown ws) → IsSplit ws k n → ((w : TypeEntry) → slice_get ws n ≡ Some w → w.key ≡ k → ⊥) → IsMeantAt (map entry_shown ws) (Defined k) None
+pub entry_nowhere : (ws : List TypeEntry) (k : DeclKey) (n : ℕ) → KeysRise (map entry_shown ws) → IsSplit ws k n → ((w : TypeEntry) → slice_get ws n ≡ Some w → w.key ≡ k → ⊥) → IsMeantAt (map entry_shown ws) (Defined k) None
 entry_nowhere ws k n rise split none i e at = false_from_ne_true (same_key k e.key) (λ yes.
     (let key : k ≡ e.key = same_key_true k e.key yes in
     let w = held ws i e at in

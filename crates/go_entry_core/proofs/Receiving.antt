@@ -10,7 +10,7 @@ use Rattle.go_table_core.specs.declared.entry.DeclaredMethod.{DeclaredMethod}
 use Rattle.go_table_core.specs.declared.entry.TypeEntry.{TypeEntry}
 use Rattle.go_table_core.specs.Entries.{Entry}
 use Rattle.go_table_core.specs.Shown.{entry_shown, member_shown}
-use Rattle.go_table_core.specs.Tables.{Rise}
+use Rattle.go_table_core.specs.Tables.{KeysRise}
 use Rattle.go_entry_core.specs.Entries.{Received, is_type_of}
 use Rattle.go_entry_core.specs.mirrors.Gaining.{all_gaining, gaining, IsMeantAt}
 use Rattle.go_entry_core.proofs.Gains.{gain_at, gain_one}
@@ -19,12 +19,12 @@ use Rattle.go_entry_core.proofs.Placing.{held, rise_one, type_is}
 same_defined : (j k : DeclKey) → Defined j ≡ Defined k → j ≡ k
 same_defined j k h = cc
 
-one_place : (es : List Entry) (t : Term) (n : ℕ) (e : Entry) → Rise es → slice_get es n ≡ Some e → is_type_of e.key t ≡ true → (i : ℕ) (f : Entry) → slice_get es i ≡ Some f → is_type_of f.key t ≡ true → i ≡ n
+one_place : (es : List Entry) (t : Term) (n : ℕ) (e : Entry) → KeysRise es → slice_get es n ≡ Some e → is_type_of e.key t ≡ true → (i : ℕ) (f : Entry) → slice_get es i ≡ Some f → is_type_of f.key t ≡ true → i ≡ n
 one_place es t n e rise at meant i f there also =
     let same : f.key ≡ e.key = same_defined f.key e.key (sym (type_is f.key t also) ∙ type_is e.key t meant) in
     rise_one es rise i n f e there at same
 
-module _ (r : Received) (ws : List TypeEntry) (place : ℕ) (rise : Rise (map entry_shown ws)) (meant : IsMeantAt (map entry_shown ws) r.base (Some place)) where
+module _ (r : Received) (ws : List TypeEntry) (place : ℕ) (rise : KeysRise (map entry_shown ws)) (meant : IsMeantAt (map entry_shown ws) r.base (Some place)) where
   pub put_to : (old new : TypeEntry) (m : DeclaredMethod) → old ≡ get_or ws place old → new.key ≡ old.key → new.name ≡ old.name → new.term ≡ old.term → new.methods.items ≡ old.methods.items ++ m ∷ [] → member_shown m ≡ r.member
       → map entry_shown (set ws place new) ≡ all_gaining (r ∷ []) (map entry_shown ws)
   put_to old new m is key name term methods shown =

@@ -6,7 +6,6 @@ use Rattle.go_tree_nodes.specs.Trees.{FuncTree, TypeSpecTree}
 use Rattle.go_term_core.specs.decl_core.declared.places.DeclKind.{DeclKind}
 use Rattle.go_term_core.specs.decl_core.declared.places.DeclKind.TheVariants as kinds
 use Rattle.go_term_core.specs.decl_core.declared.keys.DeclKey.{DeclKey}
-use Rattle.go_term_core.specs.decl_core.declared.keys.DeclRef.{DeclRef}
 use Rattle.go_term_core.specs.decl_core.TopDecls.{TopDeclTree, FormTree, ValueForm, TypeForm, FuncForm}
 use Rattle.go_scope_core.specs.block_core.Blocks.{BlocksModel}
 use Rattle.go_term_core.specs.declared.term.MemberPlace.{MemberPlace}
@@ -16,11 +15,9 @@ use Rattle.go_table_core.specs.Entries.{Entry, Member, same_key}
 use Rattle.go_written_core.specs.Written.{InFile, Meaning, term_of, signature_of}
 use Rattle.go_entry_core.specs.Meanings.{Shows, file_meaning}
 use Rattle.go_entry_core.specs.Outlines.{FileOutline}
+use Rattle.go_scope_core.specs.block_core.Declarations.{decl_ref}
 
 -- keys and places
-
-abbrev pub decl_ref : ℕ → ℕ → DeclKind → DeclRef
-decl_ref file number kind = record { file = file; number = number; kind = kind }
 
 -- the key of a type that is declared in a file under a number
 abbrev pub type_key : InFile → ℕ → DeclKey
@@ -75,14 +72,14 @@ is_type_of k (Defined j) = same_key j k
 is_type_of k _ = false
 
 -- the methods whose receivers' bases mean the type of a key
-abbrev pub methods_of : DeclKey → List Received → List Member
-methods_of k rs = map (λ r. r.member) (filter (λ r. is_type_of k r.base) rs)
+abbrev pub methods_received : DeclKey → List Received → List Member
+methods_received k rs = map (λ r. r.member) (filter (λ r. is_type_of k r.base) rs)
 
 -- entries
 
 -- a type declaration: its key, its name, the type that is written, and its methods among these
 abbrev pub spec_entry : Meaning → InFile → List Received → TopDeclTree → TypeSpecTree → Entry
-spec_entry mean f rs d t = record { key = type_key f d.number; name = d.ident.name; term = term_of mean f t.type_expr; methods = methods_of (type_key f d.number) rs }
+spec_entry mean f rs d t = record { key = type_key f d.number; name = d.ident.name; term = term_of mean f t.type_expr; methods = methods_received (type_key f d.number) rs }
 
 abbrev pub entry_of : Meaning → InFile → List Received → TopDeclTree → FormTree → List Entry
 entry_of mean f rs d (ValueForm k v i) = []

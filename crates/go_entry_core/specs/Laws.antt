@@ -10,15 +10,15 @@ use Rattle.go_term_core.specs.declared.term.MemberPlace.{MemberPlace}
 use Rattle.go_term_core.specs.declared.term.MemberPlace.TheVariants as places
 use Rattle.go_term_core.specs.Terms.{Term, Defined}
 use Rattle.go_table_core.specs.Entries.{Entry, Member}
-use Rattle.go_table_core.specs.Tables.{AreOf, Rise}
+use Rattle.go_table_core.specs.Tables.{AreOf, KeysRise}
 use Rattle.go_entry_core.specs.Meanings.{Shows, file_meaning}
 use Rattle.go_entry_core.specs.Outlines.{FileOutline, IsOutline}
 use Rattle.go_entry_core.specs.Entries.{declared_entries, type_key, method_of, file_at}
 use Rattle.go_entry_core.specs.Names.{names_written}
 
 -- a declaration of the file of a number
-abbrev pub IsDeclared : List FileOutline → ℕ → FileOutline → TopDeclTree → Type 0
-IsDeclared os n o d = (slice_get os n ≡ Some o) × Contains o.decls d
+abbrev pub IsDeclaredInFile : List FileOutline → ℕ → FileOutline → TopDeclTree → Type 0
+IsDeclaredInFile os n o d = (slice_get os n ≡ Some o) × Contains o.decls d
 
 -- keys
 
@@ -27,7 +27,7 @@ pub record IsTypeKey (path : List ℕ) (os : List FileOutline) (k : DeclKey) : T
   pub file : ℕ
   pub outline : FileOutline
   pub decl : TopDeclTree
-  pub there : IsDeclared os file outline decl
+  pub there : IsDeclaredInFile os file outline decl
   pub spec : TypeSpecTree
   pub form : decl.form ≡ TypeForm spec
   pub key : k ≡ type_key (file_at path file outline) decl.number
@@ -35,18 +35,18 @@ pub record IsTypeKey (path : List ℕ) (os : List FileOutline) (k : DeclKey) : T
 -- the keys of the entries are those of the package's type declarations, in order of file and number, and no two are the same
 pub record KeysDiffer : Type 0 where
   pub own : (shows : Shows) (path : List ℕ) (b : BlocksModel) (os : List FileOutline) → AreOf path (declared_entries shows path b os)
-  pub rising : (shows : Shows) (path : List ℕ) (b : BlocksModel) (os : List FileOutline) → All IsOutline os → Rise (declared_entries shows path b os)
+  pub rising : (shows : Shows) (path : List ℕ) (b : BlocksModel) (os : List FileOutline) → All IsOutline os → KeysRise (declared_entries shows path b os)
   pub differ : (shows : Shows) (path : List ℕ) (b : BlocksModel) (os : List FileOutline) → All IsOutline os → AllPairs (λ (e f : Entry). e.key ≡ f.key → ⊥) (declared_entries shows path b os)
   pub keys : (shows : Shows) (path : List ℕ) (b : BlocksModel) (os : List FileOutline) (k : DeclKey) → Contains (map (λ e. e.key) (declared_entries shows path b os)) k ↔ IsTypeKey path os k
 
 -- methods
 
 -- a method that is declared in a file of the package, whose receiver's base means a type there
-pub record IsMethod (shows : Shows) (path : List ℕ) (b : BlocksModel) (os : List FileOutline) (base : Term) (m : Member) : Type 0 where
+pub record IsDeclaredMethod (shows : Shows) (path : List ℕ) (b : BlocksModel) (os : List FileOutline) (base : Term) (m : Member) : Type 0 where
   pub file : ℕ
   pub outline : FileOutline
   pub decl : TopDeclTree
-  pub there : IsDeclared os file outline decl
+  pub there : IsDeclaredInFile os file outline decl
   pub func : FuncTree
   pub form : decl.form ≡ FuncForm func
   pub receiver : Receiver
@@ -62,7 +62,7 @@ IsPlaceBefore _ _ = ⊥
 -- a method stands in an entry exactly where its receiver's base means the entry's key; the methods of an entry stand in order of file and
 -- number, each once
 pub record MethodsAreOfTheType : Type 0 where
-  pub methods : (shows : Shows) (path : List ℕ) (b : BlocksModel) (os : List FileOutline) (e : Entry) (m : Member) → Contains (declared_entries shows path b os) e → Contains e.methods m ↔ IsMethod shows path b os (Defined e.key) m
+  pub methods : (shows : Shows) (path : List ℕ) (b : BlocksModel) (os : List FileOutline) (e : Entry) (m : Member) → Contains (declared_entries shows path b os) e → Contains e.methods m ↔ IsDeclaredMethod shows path b os (Defined e.key) m
   pub order : (shows : Shows) (path : List ℕ) (b : BlocksModel) (os : List FileOutline) → All IsOutline os → All (λ (e : Entry). AllPairs (λ (m n : Member). IsPlaceBefore m.place n.place) e.methods) (declared_entries shows path b os)
 
 -- what is looked at

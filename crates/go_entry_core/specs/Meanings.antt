@@ -16,6 +16,7 @@ use Rattle.go_scope_core.specs.block_core.Blocks.{BlocksModel, file_binding}
 use Rattle.go_scope_core.specs.block_core.Tables.{in_block}
 use Rattle.go_term_core.specs.declared.term.Basic.TheVariants as basics
 use Rattle.go_term_core.specs.Terms.{Term, NoType, Predeclared, ErrorType, Defined, InterfaceOf, NoMethod}
+use Rattle.go_scope_core.specs.block_core.Bindings.{key_of}
 
 -- the type that a declaration of this kind declares
 abbrev pub type_of_kind : DeclKey → DeclKind → Term
@@ -47,9 +48,6 @@ type_of_target (targets.Exported k) = type_of_key k
 abbrev pub outside_meaning : List ℕ → List ℕ → Option Binding → Term
 outside_meaning path name None = type_of_universe path (found name)
 outside_meaning path name (Some b) = type_of_target b.target
-
-abbrev pub key_of : List ℕ → DeclRef → DeclKey
-key_of path d = record { path = path; decl = d }
 
 abbrev pub plain_meaning : List ℕ → BlocksModel → ℕ → List ℕ → Option DeclRef → Term
 plain_meaning path b file name None = outside_meaning path name (file_binding b file name)

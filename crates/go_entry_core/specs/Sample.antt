@@ -5,7 +5,7 @@ use Rattle.go_tree_nodes.specs.Trees.{One, Struct, NoFields, NamedFields, Embedd
 use Rattle.go_term_core.specs.decl_core.declared.keys.DeclKey.{DeclKey}
 use Rattle.go_term_core.specs.decl_core.declared.places.DeclKind.{DeclKind}
 use Rattle.go_term_core.specs.decl_core.declared.places.DeclKind.TheVariants as kinds
-use Rattle.go_term_core.specs.decl_core.Sample.{at, int_at, named, one_param, top}
+use Rattle.go_term_core.specs.decl_core.Sample.{at, int_at, called, one_param, top}
 use Rattle.go_scope_core.specs.block_core.declared.binding.Target.TheVariants as targets
 use Rattle.go_scope_core.specs.block_core.Blocks.{BlocksModel, blocks_model}
 use Rattle.go_term_core.specs.declared.term.Basic.TheVariants as basics
@@ -13,61 +13,62 @@ use Rattle.go_term_core.specs.declared.term.MemberPlace.{MemberPlace}
 use Rattle.go_term_core.specs.declared.term.MemberPlace.TheVariants as places
 use Rattle.go_term_core.specs.Terms.{Predeclared, Defined, StructOf, NoField, AField, Sign, SignOf, NoTerm, ATerm}
 use Rattle.go_table_core.specs.Entries.{Entry, Member}
-use Rattle.go_entry_core.specs.Entries.{declared_entries, decl_ref}
+use Rattle.go_entry_core.specs.Entries.{declared_entries}
 use Rattle.go_entry_core.specs.Meanings.{Shows}
 use Rattle.go_entry_core.specs.Outlines.{outline_of}
+use Rattle.go_scope_core.specs.block_core.Declarations.{decl_ref}
 
-abbrev pub file_of : List TopTree → FileTree
-file_of decls = record { clause = at 0; name = named (codes "p") 1; semicolon = at 2; imports = []; decls = decls }
+abbrev pub sample_file : List TopTree → FileTree
+sample_file decls = record { clause = at 0; name = called (codes "p") 1; semicolon = at 2; imports = []; decls = decls }
 
 -- type T struct { U; a int }
-abbrev pub struct_type : TopTree
-struct_type = top (Types (record { keyword = at 3; specs = Single (record { name = named (codes "T") 4; type_expr = Struct (at 5) (at 6) (EmbeddedField None (type_names.Plain (named (codes "U") 7)) None (Some (at 8)) (NamedFields (One (named (codes "a") 9)) (int_at 10) None None NoFields)) (at 11) }) })) 12
+abbrev pub entry_sample_struct : TopTree
+entry_sample_struct = top (Types (record { keyword = at 3; specs = Single (record { name = called (codes "T") 4; type_expr = Struct (at 5) (at 6) (EmbeddedField None (type_names.Plain (called (codes "U") 7)) None (Some (at 8)) (NamedFields (One (called (codes "a") 9)) (int_at 10) None None NoFields)) (at 11) }) })) 12
 
 -- func (u U) g(x int) {}
 abbrev pub plain_method : TopTree
-plain_method = top (Func (record { func = at 13; receiver = Some (record { open_paren = at 14; name = Some (named (codes "u") 15); star = None; base = type_names.Plain (named (codes "U") 16); comma = None; close_paren = at 17 }); name = named (codes "g") 18; signature = one_param (codes "x") 19; open_brace = at 23; body = NoLines; close_brace = at 24 })) 25
+plain_method = top (Func (record { func = at 13; receiver = Some (record { open_paren = at 14; name = Some (called (codes "u") 15); star = None; base = type_names.Plain (called (codes "U") 16); comma = None; close_paren = at 17 }); name = called (codes "g") 18; signature = one_param (codes "x") 19; open_brace = at 23; body = NoLines; close_brace = at 24 })) 25
 
 -- func (t *T) m(q int) {}
 abbrev pub pointer_method : TopTree
-pointer_method = top (Func (record { func = at 3; receiver = Some (record { open_paren = at 4; name = Some (named (codes "t") 5); star = Some (at 6); base = type_names.Plain (named (codes "T") 7); comma = None; close_paren = at 8 }); name = named (codes "m") 9; signature = one_param (codes "q") 10; open_brace = at 14; body = NoLines; close_brace = at 15 })) 16
+pointer_method = top (Func (record { func = at 3; receiver = Some (record { open_paren = at 4; name = Some (called (codes "t") 5); star = Some (at 6); base = type_names.Plain (called (codes "T") 7); comma = None; close_paren = at 8 }); name = called (codes "m") 9; signature = one_param (codes "q") 10; open_brace = at 14; body = NoLines; close_brace = at 15 })) 16
 
 -- type U int
 abbrev pub number_type : TopTree
-number_type = top (Types (record { keyword = at 17; specs = Single (record { name = named (codes "U") 18; type_expr = int_at 19 }) })) 20
+number_type = top (Types (record { keyword = at 17; specs = Single (record { name = called (codes "U") 18; type_expr = int_at 19 }) })) 20
 
 -- func (q.T) k(x int) {}
 abbrev pub far_method : TopTree
-far_method = top (Func (record { func = at 21; receiver = Some (record { open_paren = at 22; name = None; star = None; base = type_names.Qualified (named (codes "q") 23) (at 24) (named (codes "T") 25); comma = None; close_paren = at 26 }); name = named (codes "k") 27; signature = one_param (codes "x") 28; open_brace = at 32; body = NoLines; close_brace = at 33 })) 34
+far_method = top (Func (record { func = at 21; receiver = Some (record { open_paren = at 22; name = None; star = None; base = type_names.Qualified (called (codes "q") 23) (at 24) (called (codes "T") 25); comma = None; close_paren = at 26 }); name = called (codes "k") 27; signature = one_param (codes "x") 28; open_brace = at 32; body = NoLines; close_brace = at 33 })) 34
 
 -- the second file imports a package q of the path r, which shows a type T
-abbrev pub sample_blocks : BlocksModel
-sample_blocks = blocks_model ((codes "T", decl_ref 0 0 kinds.«Type») ∷ ((codes "U", decl_ref 1 3 kinds.«Type») ∷ [])) ([] ∷ (((codes "q", record { at = 2; target = targets.«Package» (codes "r") }) ∷ []) ∷ [])) []
+abbrev pub entry_sample_blocks : BlocksModel
+entry_sample_blocks = blocks_model ((codes "T", decl_ref 0 0 kinds.«Type») ∷ ((codes "U", decl_ref 1 3 kinds.«Type») ∷ [])) ([] ∷ (((codes "q", record { at = 2; target = targets.«Package» (codes "r") }) ∷ []) ∷ [])) []
 
 -- the key of that type differs from the first type's by its path alone
-abbrev pub sample_shows : Shows
-sample_shows = λ path name. Some (decl_ref 0 0 kinds.«Type»)
+abbrev pub entry_sample_shows : Shows
+entry_sample_shows = λ path name. Some (decl_ref 0 0 kinds.«Type»)
 
-abbrev pub sample_key : ℕ → ℕ → DeclKey
-sample_key file number = record { path = codes "p"; decl = decl_ref file number kinds.«Type» }
+abbrev pub entry_sample_key : ℕ → ℕ → DeclKey
+entry_sample_key file number = record { path = codes "p"; decl = decl_ref file number kinds.«Type» }
 
-abbrev pub place : ℕ → ℕ → DeclKind → MemberPlace
-place file number kind = places.Declared (decl_ref file number kind)
+abbrev pub entry_sample_place : ℕ → ℕ → DeclKind → MemberPlace
+entry_sample_place file number kind = places.Declared (decl_ref file number kind)
 
-abbrev pub of_int : Sign
-of_int = SignOf (ATerm (Predeclared basics.Int) NoTerm) NoTerm
+abbrev pub int_sign : Sign
+int_sign = SignOf (ATerm (Predeclared basics.Int) NoTerm) NoTerm
 
-abbrev pub method : List ℕ → MemberPlace → Bool → Member
-method name at_place pointer = record { name = name; place = at_place; pointer = pointer; sign = of_int }
+abbrev pub entry_sample_method : List ℕ → MemberPlace → Bool → Member
+entry_sample_method name at_place pointer = record { name = name; place = at_place; pointer = pointer; sign = int_sign }
 
 abbrev pub first_entry : Entry
-first_entry = record { key = sample_key 0 0; name = codes "T"; term = StructOf (codes "p") (AField (codes "U") (place 0 1 kinds.Field) true (Defined (sample_key 1 3)) [] (AField (codes "a") (place 0 2 kinds.Field) false (Predeclared basics.Int) [] NoField)); methods = method (codes "m") (place 1 1 kinds.Method) true ∷ [] }
+first_entry = record { key = entry_sample_key 0 0; name = codes "T"; term = StructOf (codes "p") (AField (codes "U") (entry_sample_place 0 1 kinds.Field) true (Defined (entry_sample_key 1 3)) [] (AField (codes "a") (entry_sample_place 0 2 kinds.Field) false (Predeclared basics.Int) [] NoField)); methods = entry_sample_method (codes "m") (entry_sample_place 1 1 kinds.Method) true ∷ [] }
 
 abbrev pub second_entry : Entry
-second_entry = record { key = sample_key 1 3; name = codes "U"; term = Predeclared basics.Int; methods = method (codes "g") (place 0 4 kinds.Method) false ∷ [] }
+second_entry = record { key = entry_sample_key 1 3; name = codes "U"; term = Predeclared basics.Int; methods = entry_sample_method (codes "g") (entry_sample_place 0 4 kinds.Method) false ∷ [] }
 
 -- a method stands with its type whichever file it is in; a method of another package's type stands nowhere
-abbrev pub SampleIsRight : Type 0
-SampleIsRight =
-    declared_entries sample_shows (codes "p") sample_blocks (outline_of (file_of (struct_type ∷ (plain_method ∷ []))) ∷ (outline_of (file_of (pointer_method ∷ (number_type ∷ (far_method ∷ [])))) ∷ []))
+abbrev pub EntrySampleIsRight : Type 0
+EntrySampleIsRight =
+    declared_entries entry_sample_shows (codes "p") entry_sample_blocks (outline_of (sample_file (entry_sample_struct ∷ (plain_method ∷ []))) ∷ (outline_of (sample_file (pointer_method ∷ (number_type ∷ (far_method ∷ [])))) ∷ []))
     ≡ first_entry ∷ (second_entry ∷ [])

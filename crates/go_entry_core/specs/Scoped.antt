@@ -8,7 +8,8 @@ use Rattle.go_scope_core.specs.Laws.{denotes}
 use Rattle.go_scope_core.specs.Models.{scopes_model}
 use Rattle.go_scope_core.specs.Scopes.{Denoted, Universe, Package, File, Local}
 use Rattle.go_term_core.specs.Terms.{Term, NoType}
-use Rattle.go_entry_core.specs.Meanings.{Shows, file_meaning, key_of, type_in_target, type_of_key, type_of_predeclared, type_of_target}
+use Rattle.go_entry_core.specs.Meanings.{Shows, file_meaning, type_in_target, type_of_key, type_of_predeclared, type_of_target}
+use Rattle.go_scope_core.specs.block_core.Bindings.{key_of}
 
 -- what a name denotes in a file outside functions: the declaration of it in the innermost of the universe block, the package block and the
 -- file's that has one

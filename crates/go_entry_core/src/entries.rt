@@ -3,7 +3,7 @@ ghost use Rattle.std.specs.Prelude.{◌≡◌, ◌++◌, [], ◌∷◌, All, IfO
 ghost use Rattle.go_term_core.specs.decl_core.Shown.{decl_shown};
 ghost use Rattle.go_tree_nodes.specs.Shapes.{shape_type_spec};
 ghost use Rattle.go_table_core.specs.Shown.{entry_shown};
-ghost use Rattle.go_table_core.specs.Tables.{AreOf, Rise};
+ghost use Rattle.go_table_core.specs.Tables.{AreOf, KeysRise};
 ghost use Rattle.go_written_core.specs.Written.{in_file};
 ghost use Rattle.go_entry_core.specs.Entries.{declared_entries, entries_with, entry_of, file_entries, package_meanings, spec_entry};
 ghost use Rattle.go_entry_core.specs.Outlines.{IsOutline, outline_shown};
@@ -127,7 +127,7 @@ pub fn type_entries<P: ImportedNames>(
     ensures entries { IfOk result (λ es. map entry_shown es.items ≡ declared_entries (P.shows imported.now) path.now blocks.now (map outline_shown outlines.now)) }
     // So the keys are those of one package, and differ.
     ensures own { IfOk result (λ es. AreOf path.now (map entry_shown es.items)) }
-    ensures rising { IfOk result (λ es. Rise (map entry_shown es.items)) }
+    ensures rising { IfOk result (λ es. KeysRise (map entry_shown es.items)) }
 {
     let mut entries = bare_entries(alloc, path, blocks, imported, outlines)?;
     for (file, outline) in outlines.iter().enumerate() {

@@ -4,7 +4,8 @@ ghost use Rattle.go_scope_core.specs.block_core.Blocks.{file_binding};
 ghost use Rattle.go_scope_core.specs.block_core.Tables.{in_block};
 ghost use Rattle.go_term_core.specs.Shapes.{shape};
 ghost use Rattle.go_universe_core.specs.Universe.{found};
-ghost use Rattle.go_entry_core.specs.Meanings.{key_of, outside_meaning, plain_meaning, qualified_meaning, shown_type, type_in_binding, type_in_target, type_of_key, type_of_target, type_of_universe};
+ghost use Rattle.go_entry_core.specs.Meanings.{outside_meaning, plain_meaning, qualified_meaning, shown_type, type_in_binding, type_in_target, type_of_key, type_of_target, type_of_universe};
+ghost use Rattle.go_scope_core.specs.block_core.Bindings.{key_of};
 
 use go_path_core::ImportPath;
 use go_scope_core::block_core::{Binding, Blocks, DeclKey, DeclKind, DeclRef, Target};

@@ -1,6 +1,6 @@
 //! Laws of the types that a package declares, and of what packages show.
 ghost use Rattle.go_entry_core.specs.Laws.{EntriesAreLocal, KeysDiffer, MethodsAreOfTheType};
-ghost use Rattle.go_entry_core.specs.Sample.{SampleIsRight};
+ghost use Rattle.go_entry_core.specs.Sample.{EntrySampleIsRight};
 ghost use Rattle.go_entry_core.specs.Scoped.{NamesAreInScope};
 ghost use Rattle.go_entry_core.specs.Showing.{KeepsOthers, ShowsItsBlock};
 
@@ -38,5 +38,5 @@ pub fn packages_show_their_blocks()
 /// A law, with nothing to run: the types of a package of two files that is worked out by hand. Each method stands with its type whichever of
 /// the files it is in, and one whose receiver is a type of another package, spelled alike and with the same numbers, with none.
 pub fn worked_entries()
-    ensures { SampleIsRight }
+    ensures { EntrySampleIsRight }
 {}

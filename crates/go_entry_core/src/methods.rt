@@ -6,7 +6,7 @@ ghost use Rattle.go_term_core.specs.Shapes.{shape};
 ghost use Rattle.go_term_core.specs.Terms.{Defined};
 ghost use Rattle.go_tree_nodes.specs.Shapes.{func_of};
 ghost use Rattle.go_table_core.specs.Shown.{entry_shown, member_shown};
-ghost use Rattle.go_table_core.specs.Tables.{Rise};
+ghost use Rattle.go_table_core.specs.Tables.{KeysRise};
 ghost use Rattle.go_written_core.specs.Written.{in_file};
 ghost use Rattle.go_entry_core.specs.Entries.{decl_methods, file_methods, method_of, received_of};
 ghost use Rattle.go_entry_core.specs.mirrors.Gaining.{all_gaining, is_before, IsMeantAt};
@@ -28,7 +28,7 @@ fn is_before(one: DeclRef, other: DeclRef) -> bool
 
 // How many entries stand before a declaration.
 fn count_before(entries: &[TypeEntry], decl: DeclRef) -> usize
-    requires { Rise (map entry_shown entries.now) }
+    requires { KeysRise (map entry_shown entries.now) }
     ensures bound { result ≤ length entries.now }
     ensures split { IsPartitionPoint (λ e. is_before e.key.decl decl ≡ true) (λ e. is_before e.key.decl decl ≡ false) entries.now result }
 {
@@ -41,7 +41,7 @@ fn count_before(entries: &[TypeEntry], decl: DeclRef) -> usize
 
 // The place of the entry of a key, or none.
 fn entry_of(entries: &[TypeEntry], key: &DeclKey) -> Option<usize>
-    requires { Rise (map entry_shown entries.now) }
+    requires { KeysRise (map entry_shown entries.now) }
     ensures { IsMeantAt (map entry_shown entries.now) (Defined key.now) result }
 {
     let place = count_before(entries, key.decl);
@@ -59,7 +59,7 @@ fn entry_of(entries: &[TypeEntry], key: &DeclKey) -> Option<usize>
 
 // The place of the entry of a type, or none.
 fn entry_of_type(entries: &[TypeEntry], term: &TypeTerm) -> Option<usize>
-    requires { Rise (map entry_shown entries.now) }
+    requires { KeysRise (map entry_shown entries.now) }
     ensures { IsMeantAt (map entry_shown entries.now) (shape term.now) result }
 {
     match term {
@@ -80,7 +80,7 @@ fn entry_meant<N: TypeNames>(
     entries: &[TypeEntry],
     name: &TypeName,
 ) -> Result<Option<usize>, AllocError>
-    requires { Rise (map entry_shown entries.now) }
+    requires { KeysRise (map entry_shown entries.now) }
     ensures { IfOk result (IsMeantAt (map entry_shown entries.now) (N.meaning names.now name.now)) }
 {
     let term = names.named(alloc, name)?;
@@ -125,7 +125,7 @@ fn add_received<N: TypeNames>(
     receiver: &Receiver,
     entries: &mut Vec<TypeEntry>,
 ) -> Result<(), AllocError>
-    requires { Rise (map entry_shown entries.old.items) }
+    requires { KeysRise (map entry_shown entries.old.items) }
     ensures { OnOk result (map entry_shown entries.new.items ≡ all_gaining (received_of (N.meaning names.now) (in_file at.now) (decl_shown decl.now) (func_of func.now) receiver.now ∷ []) (map entry_shown entries.old.items)) }
 {
     let place = match entry_meant(alloc, names, entries, &receiver.base)? {
@@ -145,7 +145,7 @@ fn add_method<N: TypeNames>(
     decl: &TopDecl<'_>,
     entries: &mut Vec<TypeEntry>,
 ) -> Result<(), AllocError>
-    requires { Rise (map entry_shown entries.old.items) }
+    requires { KeysRise (map entry_shown entries.old.items) }
     ensures { OnOk result (map entry_shown entries.new.items ≡ all_gaining (decl_methods (N.meaning names.now) (in_file at.now) (decl_shown decl.now) (decl_shown decl.now).form) (map entry_shown entries.old.items)) }
 {
     match decl.form {
@@ -166,7 +166,7 @@ pub(crate) fn add_methods<N: TypeNames>(
     decls: &[TopDecl<'_>],
     entries: &mut Vec<TypeEntry>,
 ) -> Result<(), AllocError>
-    requires { Rise (map entry_shown entries.old.items) }
+    requires { KeysRise (map entry_shown entries.old.items) }
     ensures { OnOk result (map entry_shown entries.new.items ≡ all_gaining (file_methods (N.meaning names.now) (in_file at.now) (map decl_shown decls.now)) (map entry_shown entries.old.items)) }
 {
     for decl in decls {

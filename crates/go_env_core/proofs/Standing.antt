@@ -18,7 +18,7 @@ use Rattle.go_inline_core.specs.scope_core.Laws.{denotes}
 use Rattle.go_inline_core.specs.scope_core_lemmas.Lookups.{by_parts, in_scope}
 use Rattle.go_term_core.specs.declared.term.MemberPlace.TheVariants as places
 use Rattle.go_term_core.specs.Terms.{Term, NoType, Predeclared, ErrorType, Defined, PointerTo, StructOf, InterfaceOf, Fields, NoField, AField, Methods, NoMethod, AMethod}
-use Rattle.go_inline_core.specs.table_core.Entries.{Member, find, has_method}
+use Rattle.go_inline_core.specs.table_core.Entries.{Member, find_entry, has_method}
 use Rattle.go_inline_core.specs.embed_core.Owners.{OwnerModel, Named, AFieldOf, owner_in, fields_found, methods_found, declared_found, term_found}
 use Rattle.go_face_core.specs.handle_core.Declarations.{InFile}
 use Rattle.go_expr_core.specs.denote_core.declared.things.Found.TheVariants as founds
@@ -31,7 +31,7 @@ use Rattle.go_env_core.specs.declared.meaning.Meaning.TheVariants as meanings
 use Rattle.go_env_core.specs.Scenes.{SceneModel}
 use Rattle.go_env_core.specs.Fields.{TheField, field_seen, fields_seen, term_seen}
 use Rattle.go_env_core.specs.Found.{TheFound, found_of, found_binding, found_target, found_outside, found_face, found_universe, exported_shown, own_face}
-use Rattle.go_env_core.specs.Laws.{FieldsAreMembers, binding_face, member_field, target_face, stands_for, StandsFor, NamesStandForDeclarations, NamesAreLocal, ShownNamesAreLocal, SameOutside, SameMeaning}
+use Rattle.go_env_core.specs.Laws.{FieldsAreMembers, binding_face, member_field, target_face, stands_for, StandsFor, NamesStandForDeclarations, NamesAreLocalInScenes, ShownNamesAreLocal, SameOutside, SameMeaning}
 
 -- 1. Names stand for what they denote in scope.
 
@@ -93,7 +93,7 @@ module _ (s t : SceneModel) where
     meaning_same file name (Some (meanings.Local at value)) h =
         ap (λ (path : List ℕ). founds.«Value» (InFile path (places.Local (record { file = file; offset = at }))) value) same
 
-pub names_local : NamesAreLocal
+pub names_local : NamesAreLocalInScenes
 names_local s known t others file name m same h = meaning_same s t known others same file name m h
 
 pub shown_local : ShownNamesAreLocal
@@ -134,5 +134,5 @@ module _ (s : SceneModel) where
 
 pub members_seen : FieldsAreMembers
 members_seen s t =
-    let o = owner_in (find s.types) t in
+    let o = owner_in (find_entry s.types) t in
     of_term s o o.underlying ∙ sym (no_methods s o.path o.methods (term_found o o.underlying))

@@ -7,7 +7,7 @@ use Rattle.std.specs.Str.{bytes_eq, chars}
 use Rattle.go_text_core.specs.Text.{exported}
 use Rattle.go_term_core.specs.declared.term.MemberPlace.{MemberPlace}
 use Rattle.go_term_core.specs.Terms.{Term, NoType, Predeclared, ErrorType, Defined, PointerTo, StructOf, InterfaceOf, Fields, NoField, AField}
-use Rattle.go_inline_core.specs.table_core.Entries.{find, has_method}
+use Rattle.go_inline_core.specs.table_core.Entries.{find_entry, has_method}
 use Rattle.go_inline_core.specs.embed_core.Owners.{OwnerModel, owner_in}
 use Rattle.go_face_core.specs.decide_core.Rules.{typed}
 use Rattle.go_expr_core.specs.literal_core.declared.things.LiteralField.{LiteralField}
@@ -25,7 +25,7 @@ is_visible s home name = exported (chars name) || bytes_eq home s.path
 
 -- what is known of it: its declaration, its type where it is one, whether it is visible
 abbrev pub field_known : SceneModel → List ℕ → List ℕ → MemberPlace → Term → LiteralField Term Declaration
-field_known s home name place t = record { decl = InFile home place; field_type = typed (find s.types) t; is_visible = is_visible s home name }
+field_known s home name place t = record { decl = InFile home place; field_type = typed (find_entry s.types) t; is_visible = is_visible s home name }
 
 abbrev pub field_seen : SceneModel → List ℕ → List ℕ → MemberPlace → Term → TheField
 field_seen s home name place t = record { name = name; known = field_known s home name place t }
@@ -50,4 +50,4 @@ abbrev pub owner_seen : SceneModel → OwnerModel → List TheField
 owner_seen s o = term_seen s o o.underlying
 
 abbrev pub literals_in : SceneModel → LiteralRules Term Declaration
-literals_in s = record { fields = λ t. owner_seen s (owner_in (find s.types) t) }
+literals_in s = record { fields = λ t. owner_seen s (owner_in (find_entry s.types) t) }

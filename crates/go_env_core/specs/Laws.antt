@@ -18,7 +18,7 @@ use Rattle.go_inline_core.specs.scope_core.Models.{ScopesModel}
 use Rattle.go_inline_core.specs.scope_core.Scopes as scopes
 use Rattle.go_inline_core.specs.scope_core.Scopes.{Denoted, scope_blocks}
 use Rattle.go_term_core.specs.Terms.{Term}
-use Rattle.go_inline_core.specs.table_core.Entries.{find}
+use Rattle.go_inline_core.specs.table_core.Entries.{find_entry}
 use Rattle.go_inline_core.specs.embed_core.Owners as owners
 use Rattle.go_inline_core.specs.embed_core.Owners.{AFieldOf, AMethodOf, AnInterfaces, TheErrorMethod, members_of, owner_in}
 use Rattle.go_inline_core.specs.entry_core.Meanings.{type_of_predeclared}
@@ -85,8 +85,8 @@ SameMeaning s known t others file name (Some (meanings.Outside o)) = SameOutside
 SameMeaning s known t others file name (Some (meanings.Local at value)) = Unit {0}
 
 -- in two scenes of one package a name stands for the same where this is the same
-abbrev pub NamesAreLocal : Type 0
-NamesAreLocal =
+abbrev pub NamesAreLocalInScenes : Type 0
+NamesAreLocalInScenes =
     (s : SceneModel) (known : List (Option TheFace)) (t : SceneModel) (others : List (Option TheFace)) (file : ℕ) (name : List ℕ) (m : Option Meaning)
     → s.path ≡ t.path → SameMeaning s known t others file name m → found_of s file known name m ≡ found_of t file others name m
 
@@ -128,4 +128,4 @@ member_field s name TheErrorMethod = []
 
 -- the fields that literals of a type may name are those that selectors find as its members, in their order
 abbrev pub FieldsAreMembers : Type 0
-FieldsAreMembers = (s : SceneModel) (t : Term) → (literals_in s).fields t ≡ flat_map (λ n. member_field s n.0 n.1.1) (members_of (owner_in (find s.types) t))
+FieldsAreMembers = (s : SceneModel) (t : Term) → (literals_in s).fields t ≡ flat_map (λ n. member_field s n.0 n.1.1) (members_of (owner_in (find_entry s.types) t))

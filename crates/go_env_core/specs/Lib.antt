@@ -10,6 +10,7 @@ pub mod entry_core
 pub mod face_core
 pub mod handle_core
 pub mod inline_core
+pub mod level_core
 pub mod names_core
 pub mod scope_core
 pub mod select_core

@@ -1,21 +1,21 @@
 -- All that an expression is judged by at a place of a package, by what names mean where they stand.
 use Rattle.std.specs.Prelude.{◌≡◌, ℕ, List, [], Option, Some, None, map}
 use Rattle.go_term_core.specs.Terms.{Term, Sign}
-use Rattle.go_inline_core.specs.table_core.Entries.{Entry, find}
+use Rattle.go_inline_core.specs.table_core.Entries.{Entry, find_entry}
 use Rattle.go_expr_core.specs.operand_core.TypeRules.{TypeRules}
-use Rattle.go_face_core.specs.decide_core.Rules.{term_rules, params_of, results_of, typed}
+use Rattle.go_face_core.specs.decide_core.Rules.{term_rules, param_types_of, results_of, typed}
 use Rattle.go_expr_core.specs.denote_core.Look.{NameRules}
 use Rattle.go_face_core.specs.handle_core.Declarations.{Declaration}
 use Rattle.go_face_core.specs.handle_core.Names.{selection_in}
 use Rattle.go_inline_core.specs.local_core.declared.Fault.{Fault as LocalFault}
-use Rattle.go_inline_core.specs.local_core.Binding.{Look}
+use Rattle.go_inline_core.specs.local_core.Binding.{NameLook}
 use Rattle.go_expr_core.specs.literal_core.Look.{LiteralRules}
 use Rattle.go_expr_core.specs.declared.things.Fault.{Fault}
 use Rattle.go_expr_core.specs.Looks.{Looks, WrittenRules, everywhere}
 use Rattle.go_expr_core.specs.Places.{type_start}
 use Rattle.go_inline_core.specs.Types.{InlineOf, inline_at}
 use Rattle.go_face_core.specs.Faces.{TheFace}
-use Rattle.go_inline_core.specs.names_core.Scope.{look_of}
+use Rattle.go_inline_core.specs.names_core.Scope.{open_look}
 use Rattle.go_env_core.specs.declared.here.Here.{Here}
 use Rattle.go_env_core.specs.declared.meaning.Meaning.{Meaning}
 use Rattle.go_env_core.specs.declared.meaning.Meaning.TheVariants as meanings
@@ -29,7 +29,7 @@ TheLooks = Looks Term Sign Declaration (List ℕ)
 -- types that are written inside a function or in an initialiser: what stands at their first byte
 abbrev pub inline_type : List Entry → Option InlineOf → Option Term
 inline_type es None = None
-inline_type es (Some i) = typed (find es) i.term
+inline_type es (Some i) = typed (find_entry es) i.term
 
 abbrev pub fault_of : LocalFault → Fault
 fault_of f = record { offset = f.offset; rule = f.rule }
@@ -42,13 +42,13 @@ abbrev pub inline_rules : SceneModel → List (ℕ × InlineOf) → WrittenRules
 inline_rules s types = record { type_of = λ named t. inline_type s.types (inline_at types (type_start t)); faults_of = λ named t. inline_faults (inline_at types (type_start t)) }
 
 -- what names stand for where they mean this; struct types that are written out come as an argument
-abbrev pub looks_in : SceneModel → ℕ → List (Option TheFace) → WrittenRules Term → Look Meaning → TheLooks
+abbrev pub looks_in : SceneModel → ℕ → List (Option TheFace) → WrittenRules Term → NameLook Meaning → TheLooks
 looks_in s file known written look = record {
   find = λ name offset. found_of s file known name (look name offset);
   exported = found_exported s;
   select = selection_in s.types s.path;
-  params = params_of (find s.types);
-  results = results_of (find s.types);
+  params = param_types_of (find_entry s.types);
+  results = results_of (find_entry s.types);
   types = term_rules s.types s.path;
   literals = literals_in s;
   written = written;
@@ -56,8 +56,8 @@ looks_in s file known written look = record {
 
 -- at a place
 
-abbrev pub here_look : Here → Look Meaning
-here_look h = look_of meanings.Outside h.names.now
+abbrev pub here_look : Here → NameLook Meaning
+here_look h = open_look meanings.Outside h.names.now
 
 abbrev pub here_looks : Here → TheLooks
 here_looks h = looks_in (scene_shown h.scene.now) h.file h.known.now (inline_rules (scene_shown h.scene.now) h.inline.now) (here_look h)
@@ -66,8 +66,8 @@ here_looks h = looks_in (scene_shown h.scene.now) h.file h.known.now (inline_rul
 abbrev pub types_at : Here → TypeRules Term
 types_at h = (here_looks h).types
 
-abbrev pub names_at : Here → NameRules Term Sign Declaration (List ℕ)
-names_at h = record {
+abbrev pub here_names : Here → NameRules Term Sign Declaration (List ℕ)
+here_names h = record {
   find = λ name. (here_looks h).find name 0;
   exported = (here_looks h).exported;
   select = (here_looks h).select;
@@ -75,12 +75,12 @@ names_at h = record {
   results = (here_looks h).results;
 }
 
-abbrev pub literals_at : Here → LiteralRules Term Declaration
-literals_at h = (here_looks h).literals
+abbrev pub here_literals : Here → LiteralRules Term Declaration
+here_literals h = (here_looks h).literals
 
-abbrev pub written_at : Here → WrittenRules Term
-written_at h = (here_looks h).written
+abbrev pub here_written : Here → WrittenRules Term
+here_written h = (here_looks h).written
 
 -- together they are the look-ups of the place, since a name that is open means the same wherever it stands
 abbrev pub PartsAreLooks : Type 0
-PartsAreLooks = (h : Here) → everywhere (types_at h) (names_at h) (literals_at h) (written_at h) ≡ here_looks h
+PartsAreLooks = (h : Here) → everywhere (types_at h) (here_names h) (here_literals h) (here_written h) ≡ here_looks h

@@ -1,8 +1,8 @@
 //! The fields of struct types, as a place sees them.
 ghost use Rattle.std.specs.Prelude.{◌≡◌, ◌<◌, ◌++◌, IfOk, List, OnOk, Some, length, map, not, option_map, slice_get};
 ghost use Rattle.std.specs.List.{count_by};
-ghost use Rattle.go_term_core.specs.Shapes.{Line, fields_in, lines_of, shape};
-ghost use Rattle.go_inline_core.specs.table_core.Entries.{find, has_method, same_id};
+ghost use Rattle.go_term_core.specs.Shapes.{Line, fields_in, line_shapes, shape};
+ghost use Rattle.go_inline_core.specs.table_core.Entries.{find_entry, has_method, same_id};
 ghost use Rattle.go_inline_core.specs.table_core.Shown.{member_shown};
 ghost use Rattle.go_inline_core.specs.embed_core.Owners.{owner_in};
 ghost use Rattle.go_inline_core.specs.embed_core.OwnersShown.{entry_owner};
@@ -159,7 +159,7 @@ fn defined_fields<'p>(defined: &'p DefinedType) -> Option<SeenFields<'p>>
 
 // The fields that the type of a term has.
 fn owner_fields<'p>(table: &'p TypeTable, term: &'p TypeTerm) -> Option<SeenFields<'p>>
-    ensures { (s : SceneModel) → some_seen s result ≡ owner_seen s (owner_in (find table.now) (shape term.now)) }
+    ensures { (s : SceneModel) → some_seen s result ≡ owner_seen s (owner_in (find_entry table.now) (shape term.now)) }
 {
     match term {
         TypeTerm::Defined(key) => match table.locate(key) {
@@ -199,7 +199,7 @@ fn known_field<'p>(
     seen: &SeenFields<'p>,
     field: &'p Field,
 ) -> LiteralField<TypeRef<'p>, Decl<'p>>
-    ensures { result ≡ (listed_field (scene_shown scene.now) seen.now.home.now (lines_of seen.now.lines.now) field.now).known }
+    ensures { result ≡ (listed_field (scene_shown scene.now) seen.now.home.now (line_shapes seen.now.lines.now) field.now).known }
 {
     LiteralField {
         decl: Decl::at(DeclSite::InFile(seen.home, field.place)),
@@ -230,7 +230,7 @@ fn item<'p>(fields: &'p [Field], at: usize) -> Option<&'p Field>
 
 // The field of a number. It takes constant time where no method keeps one from the type.
 fn numbered<'p>(seen: &SeenFields<'p>, at: usize) -> Option<&'p Field>
-    ensures { (s : SceneModel) → option_map (λ f. listed_field s seen.now.home.now (lines_of seen.now.lines.now) f.now) result ≡ slice_get (seen_shown s seen.now) at }
+    ensures { (s : SceneModel) → option_map (λ f. listed_field s seen.now.home.now (line_shapes seen.now.lines.now) f.now) result ≡ slice_get (seen_shown s seen.now) at }
 {
     match seen.hider {
         Some(_) => kept_at(seen.hider, seen.home, seen.fields, at),

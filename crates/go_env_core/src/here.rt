@@ -148,7 +148,7 @@ impl<'n, 'p> TypeLooks for Here<'n, 'p> {
 }
 
 impl<'n, 'p> Names for Here<'n, 'p> {
-    ghost use Rattle.go_env_core.specs.Looks.{names_at};
+    ghost use Rattle.go_env_core.specs.Looks.{here_names};
 
     type Signature = SignatureRef<'p>;
 
@@ -156,7 +156,7 @@ impl<'n, 'p> Names for Here<'n, 'p> {
 
     type Path = EmbedPath;
 
-    ghost names = { names_at };
+    ghost names = { here_names };
 
     fn again_signature(&self, signature: &SignatureRef<'p>) -> SignatureRef<'p> {
         signature.again()
@@ -216,9 +216,9 @@ impl<'n, 'p> Names for Here<'n, 'p> {
 }
 
 impl<'n, 'p> Literals for Here<'n, 'p> {
-    ghost use Rattle.go_env_core.specs.Looks.{literals_at};
+    ghost use Rattle.go_env_core.specs.Looks.{here_literals};
 
-    ghost literals = { literals_at };
+    ghost literals = { here_literals };
 
     fn field_count(&self, t: &TypeRef<'p>) -> usize {
         field_count(seen_fields(self.scene, t))
@@ -234,9 +234,9 @@ impl<'n, 'p> Literals for Here<'n, 'p> {
 }
 
 impl<'n, 'p> Exprs for Here<'n, 'p> {
-    ghost use Rattle.go_env_core.specs.Looks.{written_at};
+    ghost use Rattle.go_env_core.specs.Looks.{here_written};
 
-    ghost written = { written_at };
+    ghost written = { here_written };
 
     fn written(&self, alloc: Global, tree: &TypeExpr) -> Result<Option<TypeRef<'p>>, AllocError> {
         Ok(inline_type(self.scene.types, self.inline.at(type_start(tree))))

@@ -1,5 +1,5 @@
 //! Laws of what a place sees, with nothing to run.
-ghost use Rattle.go_env_core.specs.Laws.{FieldsAreMembers, NamesAreLocal, NamesStandForDeclarations, ShownNamesAreLocal, UniverseIsThis};
+ghost use Rattle.go_env_core.specs.Laws.{FieldsAreMembers, NamesAreLocalInScenes, NamesStandForDeclarations, ShownNamesAreLocal, UniverseIsThis};
 ghost use Rattle.go_env_core.specs.Looks.{PartsAreLooks};
 
 /// What the environment of a place answers to types, names, fields and written types are the parts of one look-up: that of its scene, its
@@ -17,7 +17,7 @@ pub fn names_stand_for_declarations()
 
 /// Of a package a name takes the face of its own declaration alone, and of other packages what they show under it.
 pub fn names_are_local()
-    ensures own { NamesAreLocal }
+    ensures own { NamesAreLocalInScenes }
     ensures shown { ShownNamesAreLocal }
 {}
 

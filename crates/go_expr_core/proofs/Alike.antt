@@ -42,15 +42,15 @@ use Rattle.go_literal_core.specs.Fields.{named_field}
 use Rattle.go_literal_core.specs.Literals.{is_struct, literal_type, literal_denotes, literal_rule, literal_mode, element_target}
 use Rattle.go_literal_core.specs.Keys.{refused_key, found_key, key_answer}
 use Rattle.go_expr_core.specs.declared.things.Fault.{Fault}
-use Rattle.go_expr_core.specs.Looks.{WrittenRules, Looks, at, literals_at}
+use Rattle.go_expr_core.specs.Looks.{WrittenRules, Looks, look_of_place, literals_at}
 use Rattle.go_expr_core.specs.Places.{inside, under_place, left_place, whole, is_name, is_literal, is_lone_call, is_several, start, item_start, type_name_start, type_start, place_role, role_usage}
 use Rattle.go_expr_core.specs.Operators.{unary_of, binary_of}
 use Rattle.go_expr_core.specs.Denoting.{ident_answer, type_name_answer, named_type, written_type, denoted, denoted_items, select_answer, called_answer}
-use Rattle.go_expr_core.specs.Elements.{key_names, all_keys, count, keys_of, is_mixed, key_target_by, is_again, target, element_rule, whole_mode}
+use Rattle.go_expr_core.specs.Elements.{key_names, all_keys, item_count, keys_of, is_mixed, key_target_by, is_again, element_type, element_rule, whole_mode}
 use Rattle.go_expr_core.specs.Uses.{made_use, uses, spots, type_name_spots, type_name_uses, type_spots, fields_spots, methods_spots, signature_spots, result_spots, params_spots, key_spots, key_uses, args_spots, args_uses, items_spots, items_uses}
 use Rattle.go_expr_core.specs.TypeUses.{type_uses, fields_uses, methods_uses, signature_uses, result_uses, params_uses}
 use Rattle.go_expr_core.specs.Faults.{fault_at, single_rule, listed_rule, faults, args_faults, items_faults, operand_faults, literal_faults}
-use Rattle.go_expr_core.specs.Laws.{type_name_idents, type_idents, fields_idents, methods_idents, signature_idents, result_idents, params_idents, idents, items_idents, Agree, type_names_of, field_names_of, method_names_of, signature_names_of, result_names_of, param_names_of, SameTypes, LooksAtNames, finding, Same, ExpressionsAreLocal}
+use Rattle.go_expr_core.specs.Laws.{type_name_idents, type_idents, fields_idents, methods_idents, signature_type_idents, result_type_idents, params_idents, expr_idents, items_idents, AgreeOnIdents, type_names_of, field_names_of, method_names_of, signature_names_of, result_names_of, param_names_of, SameTypes, LooksAtNames, finding, Same, ExpressionsAreLocal}
 use Rattle.go_expr_core.specs.Needed.{needed_idents, needed_by_args, DenotedByNeededNames}
 use Rattle.go_expr_core.specs.Locality.{struct_types, struct_types_in, needed_types, needed_types_in, SameType, SameWritten, seeing, ExpressionsAreSeenAlike}
 
@@ -85,15 +85,15 @@ arguments_self rules (a ∷ given) (param ∷ params) = (argument_self rules a p
 
 -- identifiers of pieces
 
-agree_left : {T S D : Type 0} (find other : List ℕ → ℕ → Found T S D) (xs ys : List Ident) → Agree find other (xs ++ ys) → Agree find other xs
+agree_left : {T S D : Type 0} (find other : List ℕ → ℕ → Found T S D) (xs ys : List Ident) → AgreeOnIdents find other (xs ++ ys) → AgreeOnIdents find other xs
 agree_left find other [] ys h = tt
 agree_left find other (x ∷ xs) ys h = (h.0, agree_left find other xs ys h.1)
 
-agree_both : {T S D : Type 0} (find other : List ℕ → ℕ → Found T S D) (xs ys : List Ident) → Agree find other xs → Agree find other ys → Agree find other (xs ++ ys)
+agree_both : {T S D : Type 0} (find other : List ℕ → ℕ → Found T S D) (xs ys : List Ident) → AgreeOnIdents find other xs → AgreeOnIdents find other ys → AgreeOnIdents find other (xs ++ ys)
 agree_both find other [] ys h k = k
 agree_both find other (x ∷ xs) ys h k = (h.0, agree_both find other xs ys h.1 k)
 
-agree_right : {T S D : Type 0} (find other : List ℕ → ℕ → Found T S D) (xs ys : List Ident) → Agree find other (xs ++ ys) → Agree find other ys
+agree_right : {T S D : Type 0} (find other : List ℕ → ℕ → Found T S D) (xs ys : List Ident) → AgreeOnIdents find other (xs ++ ys) → AgreeOnIdents find other ys
 agree_right find other [] ys h = h
 agree_right find other (x ∷ xs) ys h = agree_right find other xs ys h.1
 
@@ -112,18 +112,18 @@ module _ {T S D P : Type 0} (looks : Looks T S D P) (find : List ℕ → ℕ →
   other = seeing find written looks
 
   abbrev Agrees : List Ident → Type 0
-  Agrees xs = Agree looks.find find xs
+  Agrees xs = AgreeOnIdents looks.find find xs
 
   name_same : (p : Place) (x : Ident) → looks.find x.name x.span.start ≡ find x.name x.span.start → ident_answer looks p x ≡ ident_answer other p x
   name_same p x h = ap (λ f. if is_blank x.name then refused N8 else found_answer p f) h
 
-  selector_same : (o : ℕ) (u : Usage) (dot : Dot T D) (name : List ℕ) → selector_answer (at looks o) u dot name ≡ selector_answer (at other o) u dot name
+  selector_same : (o : ℕ) (u : Usage) (dot : Dot T D) (name : List ℕ) → selector_answer (look_of_place looks o) u dot name ≡ selector_answer (look_of_place other o) u dot name
   selector_same o u (dots.«Package» d) name = refl
   selector_same o u dots.Refused name = refl
   selector_same o u dots.Untyped name = refl
   selector_same o u (dots.«Value» operand) name = refl
 
-  given_same : (o : ℕ) (ds : List (declared_denoted.Denoted T S D)) → arguments_of (at looks o) ds ≡ arguments_of (at other o) ds
+  given_same : (o : ℕ) (ds : List (declared_denoted.Denoted T S D)) → arguments_of (look_of_place looks o) ds ≡ arguments_of (look_of_place other o) ds
   given_same o [] = refl
   given_same o (denotes.Several s ∷ []) = refl
   given_same o (denotes.Nothing ∷ []) = refl
@@ -136,7 +136,7 @@ module _ {T S D P : Type 0} (looks : Looks T S D P) (find : List ℕ → ℕ →
   given_same o (denotes.Builtin d b ∷ []) = refl
   given_same o (first ∷ second ∷ more) = refl
 
-  calls_self : (o : ℕ) (callee : declared_denoted.Denoted T S D) (given : List (Argument T)) → CallsAlike (at looks o) (at other o) callee given
+  calls_self : (o : ℕ) (callee : declared_denoted.Denoted T S D) (given : List (Argument T)) → CallsAlike (look_of_place looks o) (look_of_place other o) callee given
   calls_self o (denotes.«Type» d None) given = tt
   calls_self o (denotes.«Type» d (Some t)) given = each_self _ (λ v. given_self looks.types v t) given
   calls_self o (denotes.Func d s) given = (refl, refl, arguments_self looks.types given (looks.params s))
@@ -151,12 +151,12 @@ module _ {T S D P : Type 0} (looks : Looks T S D P) (find : List ℕ → ℕ →
   calls_self o denotes.Nothing given = tt
 
   call_same : (o : ℕ) (f f' : declared_denoted.Denoted T S D) (b : Bool) (ds ds' : List (declared_denoted.Denoted T S D)) → f ≡ f' → ds ≡ ds'
-      → call_answer (at looks o) f (is_free b ds) (arguments_of (at looks o) ds) ≡ call_answer (at other o) f' (is_free b ds') (arguments_of (at other o) ds')
+      → call_answer (look_of_place looks o) f (is_free b ds) (arguments_of (look_of_place looks o) ds) ≡ call_answer (look_of_place other o) f' (is_free b ds') (arguments_of (look_of_place other o) ds')
   call_same o f f' b ds ds' e h =
-      calls_local (at looks o) (at other o) f (is_free b ds) (arguments_of (at looks o) ds) (calls_self o f (arguments_of (at looks o) ds))
-      ∙ (ap (λ l. call_answer (at other o) f (is_free b ds) l) (given_same o ds)
-      ∙ (ap (λ x. call_answer (at other o) x (is_free b ds) (arguments_of (at other o) ds)) e
-      ∙ ap (λ l. call_answer (at other o) f' (is_free b l) (arguments_of (at other o) l)) h))
+      calls_local (look_of_place looks o) (look_of_place other o) f (is_free b ds) (arguments_of (look_of_place looks o) ds) (calls_self o f (arguments_of (look_of_place looks o) ds))
+      ∙ (ap (λ l. call_answer (look_of_place other o) f (is_free b ds) l) (given_same o ds)
+      ∙ (ap (λ x. call_answer (look_of_place other o) x (is_free b ds) (arguments_of (look_of_place other o) ds)) e
+      ∙ ap (λ l. call_answer (look_of_place other o) f' (is_free b l) (arguments_of (look_of_place other o) l)) h))
 
   -- keys and elements
 
@@ -206,7 +206,7 @@ module _ {T S D P : Type 0} (looks : Looks T S D P) (find : List ℕ → ℕ →
   type_name_same (type_names.Plain x) h = name_same places.«Type» x h.0
   type_name_same (type_names.Qualified p dot x) h =
       selector_same x.span.start usages.«Type» (dot_of true (ident_answer looks places.TypeDot p).denoted) x.name
-      ∙ ap (λ (a : Answer T S D P). selector_answer (at other x.span.start) usages.«Type» (dot_of true a.denoted) x.name) (name_same places.TypeDot p h.0)
+      ∙ ap (λ (a : Answer T S D P). selector_answer (look_of_place other x.span.start) usages.«Type» (dot_of true a.denoted) x.name) (name_same places.TypeDot p h.0)
 
   named_same : (n : TypeName) → Agrees (type_name_idents n) → named_type looks n ≡ named_type other n
   named_same n h = ap (λ (a : Answer T S D P). literal_type a.denoted) (type_name_same n h)
@@ -237,13 +237,13 @@ module _ {T S D P : Type 0} (looks : Looks T S D P) (find : List ℕ → ℕ →
     methods_used : (ms : MethodTrees) → Agrees (methods_idents ms) → methods_uses looks ms ≡ methods_uses other ms
     methods_used NoMethods h = refl
     methods_used (Method x signature s rest) h =
-        mapped _ _ (signature_spots looks signature) (methods_spots looks rest) (signature_spots other signature) (methods_spots other rest) (signature_used signature (agree_left _ _ (signature_idents signature) (methods_idents rest) h)) (methods_used rest (agree_right _ _ (signature_idents signature) (methods_idents rest) h))
+        mapped _ _ (signature_spots looks signature) (methods_spots looks rest) (signature_spots other signature) (methods_spots other rest) (signature_used signature (agree_left _ _ (signature_type_idents signature) (methods_idents rest) h)) (methods_used rest (agree_right _ _ (signature_type_idents signature) (methods_idents rest) h))
 
-    signature_used : (s : SignatureTree) → Agrees (signature_idents s) → signature_uses looks s ≡ signature_uses other s
+    signature_used : (s : SignatureTree) → Agrees (signature_type_idents s) → signature_uses looks s ≡ signature_uses other s
     signature_used (Signed first params last result) h =
-        mapped _ _ (params_spots looks params) (result_spots looks result) (params_spots other params) (result_spots other result) (params_used params (agree_left _ _ (params_idents params) (result_idents result) h)) (result_used result (agree_right _ _ (params_idents params) (result_idents result) h))
+        mapped _ _ (params_spots looks params) (result_spots looks result) (params_spots other params) (result_spots other result) (params_used params (agree_left _ _ (params_idents params) (result_type_idents result) h)) (result_used result (agree_right _ _ (params_idents params) (result_type_idents result) h))
 
-    result_used : (r : ResultTree) → Agrees (result_idents r) → result_uses looks r ≡ result_uses other r
+    result_used : (r : ResultTree) → Agrees (result_type_idents r) → result_uses looks r ≡ result_uses other r
     result_used NoResult h = refl
     result_used (OneResult t) h = type_used t h
     result_used (Results first params last) h = params_used params h
@@ -289,7 +289,7 @@ module _ {T S D P : Type 0} (looks : Looks T S D P) (find : List ℕ → ℕ →
         ∙ ap (λ d. (binary_of looks.types op (denoted other places.«Value» a) d).denoted) (denoted_needed places.«Value» b (right (needed_idents a) (needed_idents b) (needed_types a) (needed_types b) h))
     denoted_needed p (Select e dot x) h =
         ap (λ (a : Answer T S D P). a.denoted) (selector_same x.span.start (whole p) (dot_of (is_name e) (denoted looks (left_place p e) e)) x.name
-        ∙ ap (λ d. selector_answer (at other x.span.start) (whole p) (dot_of (is_name e) d) x.name) (denoted_needed (left_place p e) e h))
+        ∙ ap (λ d. selector_answer (look_of_place other x.span.start) (whole p) (dot_of (is_name e) d) x.name) (denoted_needed (left_place p e) e h))
     denoted_needed p (Call e first items last) h =
         ap (λ (a : Answer T S D P). a.denoted)
         (call_same first.start _ _ (is_lone_call items) _ _
@@ -314,19 +314,19 @@ module _ {T S D P : Type 0} (looks : Looks T S D P) (find : List ℕ → ℕ →
   beside xs ys ts us h k = (agree_both _ _ xs ys h.0 k.0, made_both ts us h.1 k.1)
 
   mutual
-    expr_needs : (e : ExprTree) → Both (idents e) (struct_types e) → Both (needed_idents e) (needed_types e)
+    expr_needs : (e : ExprTree) → Both (expr_idents e) (struct_types e) → Both (needed_idents e) (needed_types e)
     expr_needs (Integer n span) h = h
     expr_needs (Text t) h = h
     expr_needs (Named x) h = h
     expr_needs (Paren first e last) h = expr_needs e h
     expr_needs (Unary op span e) h = expr_needs e h
     expr_needs (Binary a op span b) h =
-        beside (needed_idents a) (needed_idents b) (needed_types a) (needed_types b) (expr_needs a (left (idents a) (idents b) (struct_types a) (struct_types b) h)) (expr_needs b (right (idents a) (idents b) (struct_types a) (struct_types b) h))
+        beside (needed_idents a) (needed_idents b) (needed_types a) (needed_types b) (expr_needs a (left (expr_idents a) (expr_idents b) (struct_types a) (struct_types b) h)) (expr_needs b (right (expr_idents a) (expr_idents b) (struct_types a) (struct_types b) h))
     expr_needs (Select e dot x) h = expr_needs e h
     expr_needs (Call e first items last) h =
         beside (needed_idents e) (needed_by_args items) (needed_types e) (needed_types_in items)
-        (expr_needs e (left (idents e) (items_idents items) (struct_types e) (struct_types_in items) h))
-        (args_need items (right (idents e) (items_idents items) (struct_types e) (struct_types_in items) h))
+        (expr_needs e (left (expr_idents e) (items_idents items) (struct_types e) (struct_types_in items) h))
+        (args_need items (right (expr_idents e) (items_idents items) (struct_types e) (struct_types_in items) h))
     expr_needs (Literal n first items last) h = (agree_left _ _ (type_name_idents n) (items_idents items) h.0, tt)
     expr_needs (StructLiteral t first items last) h = (agree_left _ _ (type_idents t) (items_idents items) h.0, (h.1.0, tt))
 
@@ -334,40 +334,40 @@ module _ {T S D P : Type 0} (looks : Looks T S D P) (find : List ℕ → ℕ →
     args_need NoItems h = h
     args_need (Item key e comma rest) h =
         beside (needed_idents e) (needed_by_args rest) (needed_types e) (needed_types_in rest)
-        (expr_needs e (left (idents e) (items_idents rest) (struct_types e) (struct_types_in rest) h))
-        (args_need rest (right (idents e) (items_idents rest) (struct_types e) (struct_types_in rest) h))
+        (expr_needs e (left (expr_idents e) (items_idents rest) (struct_types e) (struct_types_in rest) h))
+        (args_need rest (right (expr_idents e) (items_idents rest) (struct_types e) (struct_types_in rest) h))
 
-  denoted_same : (p : Place) (e : ExprTree) → Both (idents e) (struct_types e) → denoted looks p e ≡ denoted other p e
+  denoted_same : (p : Place) (e : ExprTree) → Both (expr_idents e) (struct_types e) → denoted looks p e ≡ denoted other p e
   denoted_same p e h = denoted_needed p e (expr_needs e h)
 
   denoted_all : (items : ItemTrees) → Both (items_idents items) (struct_types_in items) → denoted_items looks items ≡ denoted_items other items
   denoted_all items h = args_needed items (args_need items h)
 
-  select_same : (p : Place) (e : ExprTree) (x : Ident) → Both (idents e) (struct_types e) → select_answer looks p e x ≡ select_answer other p e x
+  select_same : (p : Place) (e : ExprTree) (x : Ident) → Both (expr_idents e) (struct_types e) → select_answer looks p e x ≡ select_answer other p e x
   select_same p e x h =
       selector_same x.span.start (whole p) (dot_of (is_name e) (denoted looks (left_place p e) e)) x.name
-      ∙ ap (λ d. selector_answer (at other x.span.start) (whole p) (dot_of (is_name e) d) x.name) (denoted_same (left_place p e) e h)
+      ∙ ap (λ d. selector_answer (look_of_place other x.span.start) (whole p) (dot_of (is_name e) d) x.name) (denoted_same (left_place p e) e h)
 
   key_used : (t : Option T) (m : Bool) (others : List (List ℕ)) (key : Option Key) → key_uses looks t m others key ≡ key_uses other t m others key
   key_used t m others None = refl
   key_used t m others (Some k) = ap (λ (a : KeyAnswer T D P). made_use k.name.span.start roles.Key a.outcome ∷ []) (key_same k.name.span.start t m (is_again (Some k) others) k.name.name)
 
   mutual
-    used_same : (p : Place) (e : ExprTree) → Both (idents e) (struct_types e) → uses looks p e ≡ uses other p e
+    used_same : (p : Place) (e : ExprTree) → Both (expr_idents e) (struct_types e) → uses looks p e ≡ uses other p e
     used_same p (Integer n span) h = refl
     used_same p (Text t) h = refl
     used_same p (Named x) h = ap (λ (a : Answer T S D P). made_use x.span.start (place_role p) a.outcome ∷ []) (name_same p x h.0.0)
     used_same p (Paren first e last) h = used_same (inside p) e h
     used_same p (Unary op span e) h = used_same (under_place op p) e h
     used_same p (Binary a op span b) h =
-        mapped _ _ (spots looks places.«Value» a) (spots looks places.«Value» b) (spots other places.«Value» a) (spots other places.«Value» b) (used_same places.«Value» a (left (idents a) (idents b) (struct_types a) (struct_types b) h)) (used_same places.«Value» b (right (idents a) (idents b) (struct_types a) (struct_types b) h))
+        mapped _ _ (spots looks places.«Value» a) (spots looks places.«Value» b) (spots other places.«Value» a) (spots other places.«Value» b) (used_same places.«Value» a (left (expr_idents a) (expr_idents b) (struct_types a) (struct_types b) h)) (used_same places.«Value» b (right (expr_idents a) (expr_idents b) (struct_types a) (struct_types b) h))
     used_same p (Select e dot x) h =
         mapped _ _ (spots looks (left_place p e) e) _ (spots other (left_place p e) e) _ (used_same (left_place p e) e h)
         (ap (λ (a : Answer T S D P). made_use x.span.start (roles.Selector (role_usage (whole p))) a.outcome ∷ []) (select_same p e x h))
     used_same p (Call e first items last) h =
-        mapped _ _ (spots looks places.Callee e) _ (spots other places.Callee e) _ (used_same places.Callee e (left (idents e) (items_idents items) (struct_types e) (struct_types_in items) h))
-        (ap (λ (a : Answer T S D P). made_use first.start roles.Call a.outcome ∷ args_uses looks items) (call_same first.start _ _ (is_lone_call items) _ _ (denoted_same places.Callee e (left (idents e) (items_idents items) (struct_types e) (struct_types_in items) h)) (denoted_all items (right (idents e) (items_idents items) (struct_types e) (struct_types_in items) h)))
-        ∙ ap (λ l. made_use first.start roles.Call (called_answer other e first items).outcome ∷ l) (args_used items (right (idents e) (items_idents items) (struct_types e) (struct_types_in items) h)))
+        mapped _ _ (spots looks places.Callee e) _ (spots other places.Callee e) _ (used_same places.Callee e (left (expr_idents e) (items_idents items) (struct_types e) (struct_types_in items) h))
+        (ap (λ (a : Answer T S D P). made_use first.start roles.Call a.outcome ∷ args_uses looks items) (call_same first.start _ _ (is_lone_call items) _ _ (denoted_same places.Callee e (left (expr_idents e) (items_idents items) (struct_types e) (struct_types_in items) h)) (denoted_all items (right (expr_idents e) (items_idents items) (struct_types e) (struct_types_in items) h)))
+        ∙ ap (λ l. made_use first.start roles.Call (called_answer other e first items).outcome ∷ l) (args_used items (right (expr_idents e) (items_idents items) (struct_types e) (struct_types_in items) h)))
     used_same p (Literal n first items last) h =
         mapped _ _ (type_name_spots looks n) (items_spots looks (named_type looks n) (is_mixed (keys_of items)) [] items) (type_name_spots other n) (items_spots other (named_type other n) (is_mixed (keys_of items)) [] items)
         (name_uses n (agree_left _ _ (type_name_idents n) (items_idents items) h.0))
@@ -380,14 +380,14 @@ module _ {T S D P : Type 0} (looks : Looks T S D P) (find : List ℕ → ℕ →
     args_used : (items : ItemTrees) → Both (items_idents items) (struct_types_in items) → args_uses looks items ≡ args_uses other items
     args_used NoItems h = refl
     args_used (Item key e comma rest) h =
-        mapped _ _ (spots looks places.«Value» e) (args_spots looks rest) (spots other places.«Value» e) (args_spots other rest) (used_same places.«Value» e (left (idents e) (items_idents rest) (struct_types e) (struct_types_in rest) h)) (args_used rest (right (idents e) (items_idents rest) (struct_types e) (struct_types_in rest) h))
+        mapped _ _ (spots looks places.«Value» e) (args_spots looks rest) (spots other places.«Value» e) (args_spots other rest) (used_same places.«Value» e (left (expr_idents e) (items_idents rest) (struct_types e) (struct_types_in rest) h)) (args_used rest (right (expr_idents e) (items_idents rest) (struct_types e) (struct_types_in rest) h))
 
     items_used : (t : Option T) (m : Bool) (before : List (List ℕ)) (items : ItemTrees) → Both (items_idents items) (struct_types_in items) → items_uses looks t m before items ≡ items_uses other t m before items
     items_used t m before NoItems h = refl
     items_used t m before (Item key e comma rest) h =
         mapped _ _ (key_spots t m (before ++ all_keys rest) key) _ (key_spots t m (before ++ all_keys rest) key) _ (key_used t m (before ++ all_keys rest) key)
         (mapped _ _ (spots looks places.«Value» e) (items_spots looks t m (before ++ key_names key) rest) (spots other places.«Value» e) (items_spots other t m (before ++ key_names key) rest)
-        (used_same places.«Value» e (left (idents e) (items_idents rest) (struct_types e) (struct_types_in rest) h)) (items_used t m (before ++ key_names key) rest (right (idents e) (items_idents rest) (struct_types e) (struct_types_in rest) h)))
+        (used_same places.«Value» e (left (expr_idents e) (items_idents rest) (struct_types e) (struct_types_in rest) h)) (items_used t m (before ++ key_names key) rest (right (expr_idents e) (items_idents rest) (struct_types e) (struct_types_in rest) h)))
 
   -- faults
 
@@ -395,14 +395,14 @@ module _ {T S D P : Type 0} (looks : Looks T S D P) (find : List ℕ → ℕ →
       → items_faults looks t (whole_mode looks offset t items) (is_mixed (keys_of items)) 0 [] items ≡ items_faults other t (whole_mode looks offset t items) (is_mixed (keys_of items)) 0 [] items
       → literal_faults looks offset t items ≡ literal_faults other offset t items
   literal_noted offset t items fs gs h =
-      pieces _ _ _ _ (ap (fault_at offset) (rule_same offset t (keys_of items) (count items)))
-      (h ∙ ap (λ m. items_faults other t m (is_mixed (keys_of items)) 0 [] items) (mode_same offset t (keys_of items) (count items)))
+      pieces _ _ _ _ (ap (fault_at offset) (rule_same offset t (keys_of items) (item_count items)))
+      (h ∙ ap (λ m. items_faults other t m (is_mixed (keys_of items)) 0 [] items) (mode_same offset t (keys_of items) (item_count items)))
 
-  operand_with : (p : Place) (e : ExprTree) → Both (idents e) (struct_types e) → faults looks p e ≡ faults other p e → operand_faults looks p e ≡ operand_faults other p e
+  operand_with : (p : Place) (e : ExprTree) → Both (expr_idents e) (struct_types e) → faults looks p e ≡ faults other p e → operand_faults looks p e ≡ operand_faults other p e
   operand_with p e h same = pieces _ _ _ _ same (ap (λ d. fault_at (start e) (single_rule d)) (denoted_same p e h))
 
   mutual
-    faults_same : (p : Place) (e : ExprTree) → Both (idents e) (struct_types e) → faults looks p e ≡ faults other p e
+    faults_same : (p : Place) (e : ExprTree) → Both (expr_idents e) (struct_types e) → faults looks p e ≡ faults other p e
     faults_same p (Integer n span) h = refl
     faults_same p (Text t) h = refl
     faults_same p (Named x) h = refl
@@ -410,13 +410,13 @@ module _ {T S D P : Type 0} (looks : Looks T S D P) (find : List ℕ → ℕ →
     faults_same p (Unary op span e) h =
         pieces _ _ _ _ (operand_with (under_place op p) e h (faults_same (under_place op p) e h)) (ap (λ d. fault_at span.start (unary_of looks.types op (is_literal e) d).fault) (denoted_same (under_place op p) e h))
     faults_same p (Binary a op span b) h =
-        pieces _ _ _ _ (operand_with places.«Value» a (left (idents a) (idents b) (struct_types a) (struct_types b) h) (faults_same places.«Value» a (left (idents a) (idents b) (struct_types a) (struct_types b) h)))
-        (pieces _ _ _ _ (operand_with places.«Value» b (right (idents a) (idents b) (struct_types a) (struct_types b) h) (faults_same places.«Value» b (right (idents a) (idents b) (struct_types a) (struct_types b) h)))
-        (ap (λ d. fault_at (start a) (binary_of looks.types op d (denoted looks places.«Value» b)).fault) (denoted_same places.«Value» a (left (idents a) (idents b) (struct_types a) (struct_types b) h))
-        ∙ ap (λ d. fault_at (start a) (binary_of looks.types op (denoted other places.«Value» a) d).fault) (denoted_same places.«Value» b (right (idents a) (idents b) (struct_types a) (struct_types b) h))))
+        pieces _ _ _ _ (operand_with places.«Value» a (left (expr_idents a) (expr_idents b) (struct_types a) (struct_types b) h) (faults_same places.«Value» a (left (expr_idents a) (expr_idents b) (struct_types a) (struct_types b) h)))
+        (pieces _ _ _ _ (operand_with places.«Value» b (right (expr_idents a) (expr_idents b) (struct_types a) (struct_types b) h) (faults_same places.«Value» b (right (expr_idents a) (expr_idents b) (struct_types a) (struct_types b) h)))
+        (ap (λ d. fault_at (start a) (binary_of looks.types op d (denoted looks places.«Value» b)).fault) (denoted_same places.«Value» a (left (expr_idents a) (expr_idents b) (struct_types a) (struct_types b) h))
+        ∙ ap (λ d. fault_at (start a) (binary_of looks.types op (denoted other places.«Value» a) d).fault) (denoted_same places.«Value» b (right (expr_idents a) (expr_idents b) (struct_types a) (struct_types b) h))))
     faults_same p (Select e dot x) h = faults_same (left_place p e) e h
     faults_same p (Call e first items last) h =
-        pieces _ _ _ _ (faults_same places.Callee e (left (idents e) (items_idents items) (struct_types e) (struct_types_in items) h)) (args_same (is_several items) items (right (idents e) (items_idents items) (struct_types e) (struct_types_in items) h))
+        pieces _ _ _ _ (faults_same places.Callee e (left (expr_idents e) (items_idents items) (struct_types e) (struct_types_in items) h)) (args_same (is_several items) items (right (expr_idents e) (items_idents items) (struct_types e) (struct_types_in items) h))
     faults_same p (Literal n first items last) h =
         literal_noted (type_name_start n) (named_type looks n) items [] [] (items_same (named_type looks n) _ _ 0 [] items (right (type_name_idents n) (items_idents items) [] (struct_types_in items) h))
         ∙ ap (λ t. literal_faults other (type_name_start n) t items) (named_same n (agree_left _ _ (type_name_idents n) (items_idents items) h.0))
@@ -428,14 +428,14 @@ module _ {T S D P : Type 0} (looks : Looks T S D P) (find : List ℕ → ℕ →
     args_same : (b : Bool) (items : ItemTrees) → Both (items_idents items) (struct_types_in items) → args_faults looks b items ≡ args_faults other b items
     args_same b NoItems h = refl
     args_same b (Item key e comma rest) h =
-        pieces _ _ _ _ (pieces _ _ _ _ (faults_same places.«Value» e (left (idents e) (items_idents rest) (struct_types e) (struct_types_in rest) h)) (ap (λ d. fault_at (start e) (listed_rule b d)) (denoted_same places.«Value» e (left (idents e) (items_idents rest) (struct_types e) (struct_types_in rest) h))))
-        (args_same b rest (right (idents e) (items_idents rest) (struct_types e) (struct_types_in rest) h))
+        pieces _ _ _ _ (pieces _ _ _ _ (faults_same places.«Value» e (left (expr_idents e) (items_idents rest) (struct_types e) (struct_types_in rest) h)) (ap (λ d. fault_at (start e) (listed_rule b d)) (denoted_same places.«Value» e (left (expr_idents e) (items_idents rest) (struct_types e) (struct_types_in rest) h))))
+        (args_same b rest (right (expr_idents e) (items_idents rest) (struct_types e) (struct_types_in rest) h))
 
     items_same : (t : Option T) (mode : Mode) (m : Bool) (n : ℕ) (before : List (List ℕ)) (items : ItemTrees) → Both (items_idents items) (struct_types_in items) → items_faults looks t mode m n before items ≡ items_faults other t mode m n before items
     items_same t mode m n before NoItems h = refl
     items_same t mode m n before (Item key e comma rest) h =
-        let here = left (idents e) (items_idents rest) (struct_types e) (struct_types_in rest) h in
-        let wanted = target looks (start e) t mode m n (before ++ all_keys rest) key in
+        let here = left (expr_idents e) (items_idents rest) (struct_types e) (struct_types_in rest) h in
+        let wanted = element_type looks (start e) t mode m n (before ++ all_keys rest) key in
         pieces _ _ _ _
         (pieces _ _ _ _ (operand_with places.«Value» e here (faults_same places.«Value» e here))
         (ap (fault_at (item_start key e)) (misfit_same (start e) wanted (denoted looks places.«Value» e)
@@ -443,9 +443,9 @@ module _ {T S D P : Type 0} (looks : Looks T S D P) (find : List ℕ → ℕ →
         ∙ ap (λ w. element_rule other (start e) w (denoted other places.«Value» e))
         (target_same (start e) t mode n (key_target_by looks t m (is_again key (before ++ all_keys rest)) key)
         ∙ ap (element_target (literals_at other (start e)) t mode n) (key_target_same t m (is_again key (before ++ all_keys rest)) key))))))
-        (items_same t mode m (suc n) (before ++ key_names key) rest (right (idents e) (items_idents rest) (struct_types e) (struct_types_in rest) h))
+        (items_same t mode m (suc n) (before ++ key_names key) rest (right (expr_idents e) (items_idents rest) (struct_types e) (struct_types_in rest) h))
 
-  pub all_same : (p : Place) (e : ExprTree) → Both (idents e) (struct_types e) → Same T S D P looks other p e
+  pub all_same : (p : Place) (e : ExprTree) → Both (expr_idents e) (struct_types e) → Same T S D P looks other p e
   all_same p e h = record { denoted = denoted_same p e h; uses = used_same p e h; faults = faults_same p e h }
 
 -- what looks at the names in a struct type alone makes the same of it
@@ -455,7 +455,7 @@ module _ {T S D P : Type 0} (looks : Looks T S D P) (find : List ℕ → ℕ →
   found = finding find looks
 
   abbrev Finds : List Ident → Type 0
-  Finds xs = Agree looks.find find xs
+  Finds xs = AgreeOnIdents looks.find find xs
 
   abbrev Names : List TypeName → Type 0
   Names ns = SameTypes (named_type looks) (named_type found) ns
@@ -478,13 +478,13 @@ module _ {T S D P : Type 0} (looks : Looks T S D P) (find : List ℕ → ℕ →
     methods_agree : (ms : MethodTrees) → Finds (methods_idents ms) → Names (method_names_of ms)
     methods_agree NoMethods h = tt
     methods_agree (Method x signature s rest) h =
-        same_both _ _ (signature_names_of signature) (method_names_of rest) (signature_agrees signature (agree_left _ _ (signature_idents signature) (methods_idents rest) h)) (methods_agree rest (agree_right _ _ (signature_idents signature) (methods_idents rest) h))
+        same_both _ _ (signature_names_of signature) (method_names_of rest) (signature_agrees signature (agree_left _ _ (signature_type_idents signature) (methods_idents rest) h)) (methods_agree rest (agree_right _ _ (signature_type_idents signature) (methods_idents rest) h))
 
-    signature_agrees : (s : SignatureTree) → Finds (signature_idents s) → Names (signature_names_of s)
+    signature_agrees : (s : SignatureTree) → Finds (signature_type_idents s) → Names (signature_names_of s)
     signature_agrees (Signed first params last result) h =
-        same_both _ _ (param_names_of params) (result_names_of result) (params_agree params (agree_left _ _ (params_idents params) (result_idents result) h)) (result_agrees result (agree_right _ _ (params_idents params) (result_idents result) h))
+        same_both _ _ (param_names_of params) (result_names_of result) (params_agree params (agree_left _ _ (params_idents params) (result_type_idents result) h)) (result_agrees result (agree_right _ _ (params_idents params) (result_type_idents result) h))
 
-    result_agrees : (r : ResultTree) → Finds (result_idents r) → Names (result_names_of r)
+    result_agrees : (r : ResultTree) → Finds (result_type_idents r) → Names (result_names_of r)
     result_agrees NoResult h = tt
     result_agrees (OneResult t) h = type_agrees t h
     result_agrees (Results first params last) h = params_agree params h
@@ -501,22 +501,22 @@ module _ {T S D P : Type 0} (looks : Looks T S D P) (find : List ℕ → ℕ →
   made ts us h k = made_both looks find looks.written ts us h k
 
   mutual
-    written_alike : (e : ExprTree) → Finds (idents e) → SameWritten looks found (struct_types e)
+    written_alike : (e : ExprTree) → Finds (expr_idents e) → SameWritten looks found (struct_types e)
     written_alike (Integer n span) h = tt
     written_alike (Text t) h = tt
     written_alike (Named x) h = tt
     written_alike (Paren first e last) h = written_alike e h
     written_alike (Unary op span e) h = written_alike e h
-    written_alike (Binary a op span b) h = made (struct_types a) (struct_types b) (written_alike a (agree_left _ _ (idents a) (idents b) h)) (written_alike b (agree_right _ _ (idents a) (idents b) h))
+    written_alike (Binary a op span b) h = made (struct_types a) (struct_types b) (written_alike a (agree_left _ _ (expr_idents a) (expr_idents b) h)) (written_alike b (agree_right _ _ (expr_idents a) (expr_idents b) h))
     written_alike (Select e dot x) h = written_alike e h
     written_alike (Call e first items last) h =
-        made (struct_types e) (struct_types_in items) (written_alike e (agree_left _ _ (idents e) (items_idents items) h)) (items_alike items (agree_right _ _ (idents e) (items_idents items) h))
+        made (struct_types e) (struct_types_in items) (written_alike e (agree_left _ _ (expr_idents e) (items_idents items) h)) (items_alike items (agree_right _ _ (expr_idents e) (items_idents items) h))
     written_alike (Literal n first items last) h = items_alike items (agree_right _ _ (type_name_idents n) (items_idents items) h)
     written_alike (StructLiteral t first items last) h = (type_made t (agree_left _ _ (type_idents t) (items_idents items) h), items_alike items (agree_right _ _ (type_idents t) (items_idents items) h))
 
     items_alike : (items : ItemTrees) → Finds (items_idents items) → SameWritten looks found (struct_types_in items)
     items_alike NoItems h = tt
-    items_alike (Item key e comma rest) h = made (struct_types e) (struct_types_in rest) (written_alike e (agree_left _ _ (idents e) (items_idents rest) h)) (items_alike rest (agree_right _ _ (idents e) (items_idents rest) h))
+    items_alike (Item key e comma rest) h = made (struct_types e) (struct_types_in rest) (written_alike e (agree_left _ _ (expr_idents e) (items_idents rest) h)) (items_alike rest (agree_right _ _ (expr_idents e) (items_idents rest) h))
 
   mutual
     needed_alike : (e : ExprTree) → Finds (needed_idents e) → SameWritten looks found (needed_types e)

@@ -20,7 +20,7 @@ use Rattle.go_literal_core.specs.denote_core.Arguments.{arguments_of, is_free}
 use Rattle.go_literal_core.specs.denote_core.Calls.{call_answer}
 use Rattle.go_literal_core.specs.Literals.{literal_denotes}
 use Rattle.go_expr_core.specs.declared.things.Use.{Use}
-use Rattle.go_expr_core.specs.Looks.{Looks, at}
+use Rattle.go_expr_core.specs.Looks.{Looks, look_of_place}
 use Rattle.go_expr_core.specs.Places.{is_lone_call, is_several, type_name_start, type_start}
 use Rattle.go_expr_core.specs.Denoting.{named_type, written_type, denoted, denoted_items, answer_by, called_answer}
 use Rattle.go_expr_core.specs.Elements.{keys_of, is_mixed}
@@ -63,16 +63,16 @@ module _ {T S D P : Type 0} (looks : Looks T S D P) (p : Place) (e : Expr) (c : 
 -- what a call has, by whether its only argument is a call and what its arguments denote
 module _ {T S D P : Type 0} (looks : Looks T S D P) (f : declared_denoted.Denoted T S D) (first : Span) (items : ItemTrees) (lone : Bool) (ds : List (declared_denoted.Denoted T S D))
     (el : lone ≡ is_lone_call items) (ed : ds ≡ denoted_items looks items) where
-  answered : call_answer (at looks first.start) f (is_free lone ds) (arguments_of (at looks first.start) ds) ≡ answer_by looks f first items
+  answered : call_answer (look_of_place looks first.start) f (is_free lone ds) (arguments_of (look_of_place looks first.start) ds) ≡ answer_by looks f first items
   answered =
-      let o = at looks first.start in
+      let o = look_of_place looks first.start in
       ap (λ x. call_answer o f (is_free x ds) (arguments_of o ds)) el ∙ ap (λ x. call_answer o f (is_free (is_lone_call items) x) (arguments_of o x)) ed
 
-  pub answered_denoted : (call_answer (at looks first.start) f (is_free lone ds) (arguments_of (at looks first.start) ds)).denoted ≡ (answer_by looks f first items).denoted
+  pub answered_denoted : (call_answer (look_of_place looks first.start) f (is_free lone ds) (arguments_of (look_of_place looks first.start) ds)).denoted ≡ (answer_by looks f first items).denoted
   answered_denoted = ap (λ (a : Answer T S D P). a.denoted) answered
 
   pub call_noted : (u0 u1 u2 : List (Use D P)) (n : ℕ) (y : Use D P) → u1 ≡ u0 ++ y ∷ [] → u2 ≡ u1 ++ args_uses looks items → n ≡ length u0
-      → set u2 n (made_use first.start roles.Call (call_answer (at looks first.start) f (is_free lone ds) (arguments_of (at looks first.start) ds)).outcome)
+      → set u2 n (made_use first.start roles.Call (call_answer (look_of_place looks first.start) f (is_free lone ds) (arguments_of (look_of_place looks first.start) ds)).outcome)
       ≡ u0 ++ made_use first.start roles.Call (answer_by looks f first items).outcome ∷ args_uses looks items
   call_noted u0 u1 u2 n y a1 a2 at_end =
       placed u0 u0 u1 u2 n y _ [] _ (sym (append-nil u0)) a1 a2 at_end

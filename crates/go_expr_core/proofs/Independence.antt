@@ -13,9 +13,9 @@ use Rattle.go_literal_core.specs.Literals.{keys_among}
 use Rattle.go_expr_core.specs.Looks.{Looks}
 use Rattle.go_expr_core.specs.Places.{inside, under_place, left_place}
 use Rattle.go_expr_core.specs.Denoting.{named_type, written_type}
-use Rattle.go_expr_core.specs.Elements.{key_names, all_keys, count, keys_of, is_mixed}
+use Rattle.go_expr_core.specs.Elements.{key_names, all_keys, item_count, keys_of, is_mixed}
 use Rattle.go_expr_core.specs.Uses.{Context, Spot, Identifier, CallAt, use_of, type_name_spots, type_spots, fields_spots, methods_spots, signature_spots, result_spots, params_spots, key_spots, spots, args_spots, items_spots}
-use Rattle.go_expr_core.specs.Respelling.{respelled, RespellsName, InPlain, InQualifier, BehindDot, RespellsType, InNamedType, InPointer, InParenType, InStruct, InInterface, RespellsFields, InFieldType, InLaterFields, InEmbedded, BehindEmbedded, RespellsMethods, InMethod, InLaterMethods, RespellsSignature, InParams, InResult, RespellsResult, InOneResult, InResults, RespellsParams, InParam, InLaterParams, Respells, InName, InParen, InUnary, InLeft, InRight, InOperand, InSelector, InCallee, InArguments, InLiteralType, InElements, InStructType, InStructElements, RespellsArgs, InArgument, InLaterArguments, RespellsItems, InKey, InElement, InLaterElements, NameDecides, Stands, OwnNameDecides}
+use Rattle.go_expr_core.specs.Respelling.{respelled, RespellsName, InPlain, InQualifier, BehindDot, RespellsType, InNamedType, InPointer, InParenType, InStruct, InInterface, RespellsFields, InFieldType, InLaterFields, InEmbedded, BehindEmbedded, RespellsMethods, InMethod, InLaterMethods, RespellsSignature, InParams, InResult, RespellsResult, InOneResult, InResults, RespellsParams, InParam, InLaterParams, Respells, InName, InParen, InUnary, InLeft, InRight, InOperand, InSelector, InCallee, InArguments, InLiteralType, InElements, InStructType, InStructElements, RespellsArgs, InArgument, InLaterArguments, RespellsItems, InKey, InElement, InLaterElements, NameDecides, StandsAmongSpots, OwnNameDecides}
 
 abbrev len : {A : Type 0} → List A → ℕ
 len [] = zero
@@ -130,7 +130,7 @@ module _ {T S D P : Type 0} (looks : Looks T S D P) (x : Ident) (name : List ℕ
   left_same p e f (InStructType r) = refl
   left_same p e f (InStructElements r) = refl
 
-  count_same : (xs ys : ItemTrees) → RespellsItems x name xs ys → count xs ≡ count ys
+  count_same : (xs ys : ItemTrees) → RespellsItems x name xs ys → item_count xs ≡ item_count ys
   count_same xs ys InKey = refl
   count_same xs ys (InElement r) = refl
   count_same xs ys (InLaterElements r) = ap suc (count_same _ _ r)
@@ -149,7 +149,7 @@ module _ {T S D P : Type 0} (looks : Looks T S D P) (x : Ident) (name : List ℕ
   keys_same xs ys (InLaterElements {key} {e} {comma} {rest} {more} r) = commas key e comma rest ∙ (one_key key e e rest more (keys_same rest more r) ∙ sym (commas key e comma more))
 
   mixed_same : (xs ys : ItemTrees) → RespellsItems x name xs ys → is_mixed (keys_of xs) ≡ is_mixed (keys_of ys)
-  mixed_same xs ys r = ap is_mixed (ap (λ n. keys_among n (length (all_keys xs))) (count_same xs ys r) ∙ ap (keys_among (count ys)) (keys_same xs ys r))
+  mixed_same xs ys r = ap is_mixed (ap (λ n. keys_among n (length (all_keys xs))) (count_same xs ys r) ∙ ap (keys_among (item_count ys)) (keys_same xs ys r))
 
   key_len : (t : Option T) (m : Bool) (others more : List (List ℕ)) (key : Option Key) → len (key_spots {T = T} {D = D} {P = P} t m others key) ≡ len (key_spots {T = T} {D = D} {P = P} t m more key)
   key_len t m others more None = refl
@@ -195,14 +195,14 @@ either : {A B C : Type 0} → A ⊎ B → (A → C) → (B → C) → C
 either (inl a) f g = f a
 either (inr b) f g = g b
 
-apart : {T D P : Type 0} (x : Ident) (ps qs : List (Spot T D P)) → Stands x (ps ++ qs) → Stands x ps ⊎ Stands x qs
+apart : {T D P : Type 0} (x : Ident) (ps qs : List (Spot T D P)) → StandsAmongSpots x (ps ++ qs) → StandsAmongSpots x ps ⊎ StandsAmongSpots x qs
 apart x [] qs h = inr h
 apart x (Identifier c y ∷ ps) qs (inl h) = inl (inl h)
 apart x (Identifier c y ∷ ps) qs (inr h) = either (apart x ps qs h) (λ k. inl (inr k)) inr
 apart x (CallAt s o ∷ ps) qs h = apart x ps qs h
 
 module _ {T S D P : Type 0} (looks : Looks T S D P) (x : Ident) (name : List ℕ) where
-  each_name : (n : TypeName) → Stands x (type_name_spots looks n) → (m : TypeName) × RespellsName x name n m
+  each_name : (n : TypeName) → StandsAmongSpots x (type_name_spots looks n) → (m : TypeName) × RespellsName x name n m
   each_name (type_names.Plain y) h =
       either h (λ q. let With : Ident → Type 0 = λ z. (m : TypeName) × RespellsName x name (type_names.Plain z) m in subst With (sym q) (type_names.Plain (respelled name x), InPlain)) absurd
   each_name (type_names.Qualified y dot z) h =
@@ -211,14 +211,14 @@ module _ {T S D P : Type 0} (looks : Looks T S D P) (x : Ident) (name : List ℕ
       (λ k. either k (λ q. let With : Ident → Type 0 = λ w. (m : TypeName) × RespellsName x name (type_names.Qualified y dot w) m in subst With (sym q) (type_names.Qualified y dot (respelled name x), BehindDot)) absurd)
 
   mutual
-    each_type : (t : TypeTree) → Stands x (type_spots looks t) → (u : TypeTree) × RespellsType x name t u
+    each_type : (t : TypeTree) → StandsAmongSpots x (type_spots looks t) → (u : TypeTree) × RespellsType x name t u
     each_type (NamedType n) h = let r = each_name n h in (NamedType r.0, InNamedType r.1)
     each_type (Pointer star t) h = let r = each_type t h in (Pointer star r.0, InPointer r.1)
     each_type (ParenType first t last) h = let r = each_type t h in (ParenType first r.0 last, InParenType r.1)
     each_type (Struct k first ls last) h = let r = each_fields ls h in (Struct k first r.0 last, InStruct r.1)
     each_type (Interface k first ms last) h = let r = each_methods ms h in (Interface k first r.0 last, InInterface r.1)
 
-    each_fields : (ls : FieldTrees) → Stands x (fields_spots looks ls) → (ms : FieldTrees) × RespellsFields x name ls ms
+    each_fields : (ls : FieldTrees) → StandsAmongSpots x (fields_spots looks ls) → (ms : FieldTrees) × RespellsFields x name ls ms
     each_fields NoFields h = absurd h
     each_fields (NamedFields xs t tag s rest) h =
         either (apart x (type_spots looks t) (fields_spots looks rest) h)
@@ -229,25 +229,25 @@ module _ {T S D P : Type 0} (looks : Looks T S D P) (x : Ident) (name : List ℕ
         (λ k. let r = each_name n k in (EmbeddedField star r.0 tag s rest, InEmbedded r.1))
         (λ k. let r = each_fields rest k in (EmbeddedField star n tag s r.0, BehindEmbedded r.1))
 
-    each_methods : (ms : MethodTrees) → Stands x (methods_spots looks ms) → (ns : MethodTrees) × RespellsMethods x name ms ns
+    each_methods : (ms : MethodTrees) → StandsAmongSpots x (methods_spots looks ms) → (ns : MethodTrees) × RespellsMethods x name ms ns
     each_methods NoMethods h = absurd h
     each_methods (Method y signature s rest) h =
         either (apart x (signature_spots looks signature) (methods_spots looks rest) h)
         (λ k. let r = each_signature signature k in (Method y r.0 s rest, InMethod r.1))
         (λ k. let r = each_methods rest k in (Method y signature s r.0, InLaterMethods r.1))
 
-    each_signature : (a : SignatureTree) → Stands x (signature_spots looks a) → (b : SignatureTree) × RespellsSignature x name a b
+    each_signature : (a : SignatureTree) → StandsAmongSpots x (signature_spots looks a) → (b : SignatureTree) × RespellsSignature x name a b
     each_signature (Signed first ps last outcome) h =
         either (apart x (params_spots looks ps) (result_spots looks outcome) h)
         (λ k. let r = each_params ps k in (Signed first r.0 last outcome, InParams r.1))
         (λ k. let r = each_result outcome k in (Signed first ps last r.0, InResult r.1))
 
-    each_result : (a : ResultTree) → Stands x (result_spots looks a) → (b : ResultTree) × RespellsResult x name a b
+    each_result : (a : ResultTree) → StandsAmongSpots x (result_spots looks a) → (b : ResultTree) × RespellsResult x name a b
     each_result NoResult h = absurd h
     each_result (OneResult t) h = let r = each_type t h in (OneResult r.0, InOneResult r.1)
     each_result (Results first ps last) h = let r = each_params ps h in (Results first r.0 last, InResults r.1)
 
-    each_params : (ps : ParamTrees) → Stands x (params_spots looks ps) → (qs : ParamTrees) × RespellsParams x name ps qs
+    each_params : (ps : ParamTrees) → StandsAmongSpots x (params_spots looks ps) → (qs : ParamTrees) × RespellsParams x name ps qs
     each_params NoParams h = absurd h
     each_params (Param xs t comma rest) h =
         either (apart x (type_spots looks t) (params_spots looks rest) h)
@@ -255,7 +255,7 @@ module _ {T S D P : Type 0} (looks : Looks T S D P) (x : Ident) (name : List ℕ
         (λ k. let r = each_params rest k in (Param xs t comma r.0, InLaterParams r.1))
 
   mutual
-    each_expr : (p : Place) (e : ExprTree) → Stands x (spots looks p e) → (f : ExprTree) × Respells x name e f
+    each_expr : (p : Place) (e : ExprTree) → StandsAmongSpots x (spots looks p e) → (f : ExprTree) × Respells x name e f
     each_expr p (Integer n span) h = absurd h
     each_expr p (Text t) h = absurd h
     each_expr p (Named y) h =
@@ -283,14 +283,14 @@ module _ {T S D P : Type 0} (looks : Looks T S D P) (x : Ident) (name : List ℕ
         (λ k. let r = each_type t k in (StructLiteral r.0 first items last, InStructType r.1))
         (λ k. let r = each_items (written_type looks t) (is_mixed (keys_of items)) [] items k in (StructLiteral t first r.0 last, InStructElements r.1))
 
-    each_args : (items : ItemTrees) → Stands x (args_spots looks items) → (others : ItemTrees) × RespellsArgs x name items others
+    each_args : (items : ItemTrees) → StandsAmongSpots x (args_spots looks items) → (others : ItemTrees) × RespellsArgs x name items others
     each_args NoItems h = absurd h
     each_args (Item key e comma rest) h =
         either (apart x (spots looks places.«Value» e) (args_spots looks rest) h)
         (λ k. let r = each_expr places.«Value» e k in (Item key r.0 comma rest, InArgument r.1))
         (λ k. let r = each_args rest k in (Item key e comma r.0, InLaterArguments r.1))
 
-    each_items : (t : Option T) (m : Bool) (before : List (List ℕ)) (items : ItemTrees) → Stands x (items_spots looks t m before items) → (others : ItemTrees) × RespellsItems x name items others
+    each_items : (t : Option T) (m : Bool) (before : List (List ℕ)) (items : ItemTrees) → StandsAmongSpots x (items_spots looks t m before items) → (others : ItemTrees) × RespellsItems x name items others
     each_items t m before NoItems h = absurd h
     each_items t m before (Item None e comma rest) h =
         either (apart x (spots looks places.«Value» e) (items_spots looks t m (before ++ []) rest) h)

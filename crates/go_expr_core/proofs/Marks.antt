@@ -8,12 +8,12 @@ use Rattle.go_text_core.specs.declared.span.Span.{Span}
 use Rattle.go_tree_nodes.specs.declared.exprs.Key.{Key}
 use Rattle.go_tree_nodes.specs.declared.exprs.«Item» as declared_item
 use Rattle.go_tree_nodes.specs.Trees.{ExprTree, ItemTrees, NoItems, Item}
-use Rattle.go_tree_nodes.specs.Shapes.{shape, items_of, key_of}
+use Rattle.go_tree_nodes.specs.Shapes.{shape, items_of, shape_key}
 use Rattle.go_literal_core.specs.declared.things.KeyMark.{KeyMark}
 use Rattle.go_literal_core.specs.Look.{FieldOf}
 use Rattle.go_literal_core.specs.Marks.{made_mark, key_marks}
 use Rattle.go_literal_core.specs.Repeats.{has_name, repeats}
-use Rattle.go_expr_core.specs.Elements.{key_names, all_keys, count}
+use Rattle.go_expr_core.specs.Elements.{key_names, all_keys, item_count}
 use Rattle.go_expr_core.specs.mirrors.Marked.{unmarked, mark_of, marks_of, spread}
 
 bytes_same : (n : List ℕ) → bytes_eq n n ≡ true
@@ -53,7 +53,7 @@ module _ {T D : Type 0} (fields : List (FieldOf T D)) where
 pub literal_marks : {T D : Type 0} (fields : List (FieldOf T D)) (items : ItemTrees) → spread (key_marks fields (all_keys items)) items ≡ marks_of fields [] items
 literal_marks fields items = known_marks fields [] items
 
-pub items_counted : (xs : List declared_item.Item) → count (items_of xs) ≡ length xs
+pub items_counted : (xs : List declared_item.Item) → item_count (items_of xs) ≡ length xs
 items_counted [] = refl
 items_counted (x ∷ xs) = ap suc (items_counted xs)
 
@@ -69,9 +69,9 @@ marks_behind fields before [] zero = refl
 marks_behind fields before [] (suc i) = refl
 marks_behind fields before (x ∷ xs) zero = ap (λ l. marks_of fields l (items_of (x ∷ xs))) (sym (append-nil before))
 marks_behind fields before (x ∷ xs) (suc i) =
-    marks_behind fields (before ++ key_names (key_of x.key)) xs i
-    ∙ ap (λ l. marks_of fields l (items_of (drop i xs))) (append_assoc before (key_names (key_of x.key)) (all_keys (items_of (take i xs)))
-    ∙ ap (λ l. before ++ l) (sym (keys_first (key_of x.key) (shape x.value) x.comma (items_of (take i xs)))))
+    marks_behind fields (before ++ key_names (shape_key x.key)) xs i
+    ∙ ap (λ l. marks_of fields l (items_of (drop i xs))) (append_assoc before (key_names (shape_key x.key)) (all_keys (items_of (take i xs)))
+    ∙ ap (λ l. before ++ l) (sym (keys_first (shape_key x.key) (shape x.value) x.comma (items_of (take i xs)))))
 
 abbrev head_or : KeyMark → List KeyMark → KeyMark
 head_or d [] = d
@@ -83,12 +83,12 @@ head_behind [] (suc i) d = refl
 head_behind (m ∷ ms) zero d = refl
 head_behind (m ∷ ms) (suc i) d = head_behind ms i d
 
-pub first_item : (xs : List declared_item.Item) (i : ℕ) (x : declared_item.Item) → i < length xs → x ≡ get_or xs i x → items_of (drop i xs) ≡ Item (key_of x.key) (shape x.value) x.comma (items_of (drop (i + 1) xs))
+pub first_item : (xs : List declared_item.Item) (i : ℕ) (x : declared_item.Item) → i < length xs → x ≡ get_or xs i x → items_of (drop i xs) ≡ Item (shape_key x.key) (shape x.value) x.comma (items_of (drop (i + 1) xs))
 first_item xs i x h is = ap items_of (drop_more xs i x h ∙ ap (λ y. y ∷ drop (i + 1) xs) (sym is))
 
 -- the mark of an element
 pub mark_there : {T D : Type 0} (fields : List (FieldOf T D)) (ms : List KeyMark) (xs : List declared_item.Item) (i : ℕ) (x : declared_item.Item) → ms ≡ marks_of fields [] (items_of xs) → i < length xs → x ≡ get_or xs i x
-    → get_or ms i unmarked ≡ mark_of fields (key_of x.key) (all_keys (items_of (take i xs)) ++ all_keys (items_of (drop (i + 1) xs)))
+    → get_or ms i unmarked ≡ mark_of fields (shape_key x.key) (all_keys (items_of (take i xs)) ++ all_keys (items_of (drop (i + 1) xs)))
 mark_there fields ms xs i x marks h is =
     head_behind ms i unmarked
     ∙ (ap (λ l. head_or unmarked (drop i l)) marks
@@ -97,14 +97,14 @@ mark_there fields ms xs i x marks h is =
 keys-append : (xs ys : List declared_item.Item) → all_keys (items_of (xs ++ ys)) ≡ all_keys (items_of xs) ++ all_keys (items_of ys)
 keys-append [] ys = refl
 keys-append (x ∷ xs) ys =
-    keys_first (key_of x.key) (shape x.value) x.comma (items_of (xs ++ ys))
-    ∙ (ap (λ l. key_names (key_of x.key) ++ l) (keys-append xs ys)
-    ∙ (sym (append_assoc (key_names (key_of x.key)) (all_keys (items_of xs)) (all_keys (items_of ys)))
-    ∙ ap (λ l. l ++ all_keys (items_of ys)) (sym (keys_first (key_of x.key) (shape x.value) x.comma (items_of xs)))))
+    keys_first (shape_key x.key) (shape x.value) x.comma (items_of (xs ++ ys))
+    ∙ (ap (λ l. key_names (shape_key x.key) ++ l) (keys-append xs ys)
+    ∙ (sym (append_assoc (key_names (shape_key x.key)) (all_keys (items_of xs)) (all_keys (items_of ys)))
+    ∙ ap (λ l. l ++ all_keys (items_of ys)) (sym (keys_first (shape_key x.key) (shape x.value) x.comma (items_of xs)))))
 
 -- the keys of the first elements, and of one more
-pub keys_more : (xs : List declared_item.Item) (i : ℕ) (x : declared_item.Item) → i < length xs → x ≡ get_or xs i x → all_keys (items_of (take i xs)) ++ key_names (key_of x.key) ≡ all_keys (items_of (take (i + 1) xs))
+pub keys_more : (xs : List declared_item.Item) (i : ℕ) (x : declared_item.Item) → i < length xs → x ≡ get_or xs i x → all_keys (items_of (take i xs)) ++ key_names (shape_key x.key) ≡ all_keys (items_of (take (i + 1) xs))
 keys_more xs i x h is =
-    ap (λ l. all_keys (items_of (take i xs)) ++ l) (sym (append-nil (key_names (key_of x.key))) ∙ sym (keys_first (key_of x.key) (shape x.value) x.comma NoItems))
+    ap (λ l. all_keys (items_of (take i xs)) ++ l) (sym (append-nil (key_names (shape_key x.key))) ∙ sym (keys_first (shape_key x.key) (shape x.value) x.comma NoItems))
     ∙ (sym (keys-append (take i xs) (x ∷ []))
     ∙ ap (λ l. all_keys (items_of l)) (ap (λ y. take i xs ++ y ∷ []) is ∙ sym (take_more xs i x h)))

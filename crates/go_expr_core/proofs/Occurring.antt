@@ -80,7 +80,7 @@ name_occurs places.«Value» x = refl
 name_occurs places.Callee x = refl
 name_occurs places.BeforeDot x = refl
 
-inside_same : (p : Place) → context_of (inside p) ≡ occ.inside (context_of p)
+inside_same : (p : Place) → context_of (inside p) ≡ occ.inside_context (context_of p)
 inside_same places.«Type» = refl
 inside_same places.TypeDot = refl
 inside_same places.«Value» = refl
@@ -95,7 +95,7 @@ under_same operators.Star places.Callee = refl
 under_same operators.Star places.BeforeDot = refl
 under_same _ p = refl
 
-whole_same : (p : Place) → role_usage (whole p) ≡ occ.whole (context_of p)
+whole_same : (p : Place) → role_usage (whole p) ≡ occ.whole_usage (context_of p)
 whole_same places.«Type» = refl
 whole_same places.TypeDot = refl
 whole_same places.«Value» = refl

@@ -6,7 +6,7 @@ use Rattle.std.proofs.lemmas.Result.{on_ok_weaker}
 use Rattle.go_tree_nodes.specs.declared.names.Ident.{Ident}
 use Rattle.go_tree_nodes.specs.declared.exprs.Key.{Key}
 use Rattle.go_tree_nodes.specs.declared.exprs.«Item» as declared_item
-use Rattle.go_tree_nodes.specs.Shapes.{items_of, key_of}
+use Rattle.go_tree_nodes.specs.Shapes.{items_of, shape_key}
 use Rattle.go_tree_core.specs.declared.occurrence.Role.{Role}
 use Rattle.go_tree_core.specs.declared.occurrence.Role.TheVariants as roles
 use Rattle.go_literal_core.specs.denote_core.declared.things.Answer.{Answer}
@@ -21,7 +21,7 @@ use Rattle.go_literal_core.specs.declared.things.KeyAnswer.{KeyAnswer}
 use Rattle.go_literal_core.specs.declared.things.KeyMark.{KeyMark}
 use Rattle.go_literal_core.specs.Marks.{marked_answer}
 use Rattle.go_expr_core.specs.declared.things.Use.{Use}
-use Rattle.go_expr_core.specs.Looks.{Looks, at, literals_at}
+use Rattle.go_expr_core.specs.Looks.{Looks, look_of_place, literals_at}
 use Rattle.go_expr_core.specs.Places.{role_usage, is_several, is_lone_call}
 use Rattle.go_expr_core.specs.Uses.{made_use, behind_use}
 use Rattle.go_tree_nodes.specs.Trees.{ExprTree}
@@ -33,7 +33,7 @@ use Rattle.go_literal_core.specs.Literals.{literal_rule, literal_mode, element_t
 use Rattle.go_expr_core.specs.declared.things.Fault.{Fault}
 use Rattle.go_expr_core.specs.Places.{start, item_start}
 use Rattle.go_expr_core.specs.Denoting.{denoted}
-use Rattle.go_expr_core.specs.Elements.{all_keys, count, keys_of, is_mixed, element_rule, whole_rule, whole_mode}
+use Rattle.go_expr_core.specs.Elements.{all_keys, item_count, keys_of, is_mixed, element_rule, whole_rule, whole_mode}
 use Rattle.go_expr_core.specs.Faults.{fault_at, operand_faults, items_faults, literal_faults}
 use Rattle.go_expr_core.specs.mirrors.Turns.{key_uses_marked, key_target_marked, turn_faults}
 use Rattle.std.proofs.Common.{map}
@@ -59,18 +59,18 @@ pub called_as : {T S D P E : Type 0} (r : Result (Answer T S D P) E) (look : Loo
 called_as r look callee b b2 l l2 e f h = ok_is r (call_answer look callee b l) (call_answer look callee b2 l2) (ap (λ x. call_answer look callee x l) e ∙ ap (λ x. call_answer look callee b2 x) f) h
 
 pub selector_noted : {T S D P X E : Type 0} (r : Result X E) (looks : Looks T S D P) (usage : Usage) (dot : Dot T D) (x : Ident) (name : List ℕ) (role : Role) (a : Answer T S D P) (u0 u1 : List (Use D P))
-    → role ≡ roles.Selector (role_usage usage) → name ≡ x.name → a ≡ selector_answer (at looks x.span.start) usage dot name
+    → role ≡ roles.Selector (role_usage usage) → name ≡ x.name → a ≡ selector_answer (look_of_place looks x.span.start) usage dot name
     → OnOk r (u1 ≡ u0 ++ made_use x.span.start role a.outcome ∷ []) → OnOk r (u1 ≡ u0 ++ behind_use looks usage dot x ∷ [])
 selector_noted {T} {S} {D} {P} r looks usage dot x name role a u0 u1 er en ea h =
-    ok_adds r u1 u0 _ _ (ap (λ l. made_use x.span.start l a.outcome ∷ []) er ∙ ap (λ (b : Answer T S D P). made_use x.span.start (roles.Selector (role_usage usage)) b.outcome ∷ []) (ea ∙ ap (λ n. selector_answer (at looks x.span.start) usage dot n) en)) h
+    ok_adds r u1 u0 _ _ (ap (λ l. made_use x.span.start l a.outcome ∷ []) er ∙ ap (λ (b : Answer T S D P). made_use x.span.start (roles.Selector (role_usage usage)) b.outcome ∷ []) (ea ∙ ap (λ n. selector_answer (look_of_place looks x.span.start) usage dot n) en)) h
 
 pub key_noted : {T S D P : Type 0} (looks : Looks T S D P) (t : Option T) (m : Bool) (mark : KeyMark) (key : Option (Box Key)) (k : Box Key) (k2 : Key) (name : List ℕ) (a : KeyAnswer T D P) (u0 u1 : List (Use D P))
     → key ≡ Some k → name ≡ k.value.name.name → k2 ≡ k.value → a ≡ marked_answer (literals_at looks k.value.name.span.start) t m mark name
-    → u1 ≡ u0 ++ made_use k2.name.span.start roles.Key a.outcome ∷ [] → u1 ≡ u0 ++ key_uses_marked looks t m mark (key_of key)
+    → u1 ≡ u0 ++ made_use k2.name.span.start roles.Key a.outcome ∷ [] → u1 ≡ u0 ++ key_uses_marked looks t m mark (shape_key key)
 key_noted {T} {S} {D} {P} looks t m mark key k k2 name a u0 u1 is en e2 ea h =
     h ∙ (ap (λ (x : Key). u0 ++ made_use x.name.span.start roles.Key a.outcome ∷ []) e2
     ∙ (ap (λ (b : KeyAnswer T D P). u0 ++ made_use k.value.name.span.start roles.Key b.outcome ∷ []) (ea ∙ ap (λ n. marked_answer (literals_at looks k.value.name.span.start) t m mark n) en)
-    ∙ ap (λ o. u0 ++ key_uses_marked looks t m mark (key_of o)) (sym is)))
+    ∙ ap (λ o. u0 ++ key_uses_marked looks t m mark (shape_key o)) (sym is)))
 
 pub not_several : (xs : List declared_item.Item) → length xs < 2 → is_several (items_of xs) ≡ false
 not_several [] h = refl
@@ -89,7 +89,7 @@ not_lone (x ∷ y ∷ xs) h = refl
 
 pub keys_marked : {Y : Type 0} (f : Y → List ℕ) (names : List Y) (xs : List declared_item.Item) (n m : ℕ) → n ≡ length xs → m ≡ length names → map f names ≡ all_keys (items_of xs) → keys_among n m ≡ keys_of (items_of xs)
 keys_marked f names xs n m a b e =
-    ap (λ x. keys_among x m) (a ∙ sym (items_counted xs)) ∙ ap (keys_among (count (items_of xs))) (b ∙ (sym (length-map names f) ∙ ap length e))
+    ap (λ x. keys_among x m) (a ∙ sym (items_counted xs)) ∙ ap (keys_among (item_count (items_of xs))) (b ∙ (sym (length-map names f) ∙ ap length e))
 
 pub element_noted : {T S D P X E : Type 0} (r : Result X E) (looks : Looks T S D P) (t : Option T) (mode : Mode) (m : Bool) (number : ℕ) (mark : KeyMark) (key : Option Key) (e : ExprTree)
     (offset : ℕ) (wanted by_key : Option T) (d : Denoted T S D) (f0 f1 f2 : List Fault)

@@ -29,30 +29,30 @@ use Rattle.go_literal_core.specs.denote_core.Arguments.{arguments_of, is_free}
 use Rattle.go_literal_core.specs.denote_core.Calls.{call_answer}
 use Rattle.go_literal_core.specs.Literals.{literal_type, literal_denotes}
 use Rattle.go_expr_core.specs.declared.things.Judged.{Judged}
-use Rattle.go_expr_core.specs.Looks.{Looks, at}
+use Rattle.go_expr_core.specs.Looks.{Looks, look_of_place}
 use Rattle.go_expr_core.specs.Places.{inside, under_place, left_place, whole, is_name, is_literal, is_lone_call}
 use Rattle.go_expr_core.specs.Operators.{unary_of, binary_of}
 
 -- an untyped constant
-abbrev pub untyped : {T S D : Type 0} → ValueType T → Constant → Denoted T S D
-untyped t c = denotes.«Value» (record { value_type = t; constant = Some c; addressable = false })
+abbrev pub untyped_constant : {T S D : Type 0} → ValueType T → Constant → Denoted T S D
+untyped_constant t c = denotes.«Value» (record { value_type = t; constant = Some c; addressable = false })
 
 abbrev pub text_denotes : {T S D : Type 0} → TextLiteral → Denoted T S D
-text_denotes t = untyped value_types.UntypedText (constants.Text (value_of t))
+text_denotes t = untyped_constant value_types.UntypedText (constants.Text (value_of t))
 
 -- an identifier where it stands
 abbrev pub ident_answer : {T S D P : Type 0} → Looks T S D P → Place → Ident → Answer T S D P
-ident_answer looks p x = name_answer (at looks x.span.start) p x.name
+ident_answer looks p x = name_answer (look_of_place looks x.span.start) p x.name
 
 -- an identifier behind a dot
 abbrev pub behind_answer : {T S D P : Type 0} → Looks T S D P → Usage → Dot T D → Ident → Answer T S D P
-behind_answer looks u dot x = selector_answer (at looks x.span.start) u dot x.name
+behind_answer looks u dot x = selector_answer (look_of_place looks x.span.start) u dot x.name
 
 -- the name of a type, each identifier where it stands
 abbrev pub type_name_answer : {T S D P : Type 0} → Looks T S D P → TypeName → Answer T S D P
 type_name_answer looks (type_names.Plain x) = ident_answer looks places.«Type» x
 type_name_answer looks (type_names.Qualified p dot x) =
-    selector_answer (at looks x.span.start) usages.«Type» (dot_of true (ident_answer looks places.TypeDot p).denoted) x.name
+    selector_answer (look_of_place looks x.span.start) usages.«Type» (dot_of true (ident_answer looks places.TypeDot p).denoted) x.name
 
 -- the type that the name of a type denotes
 abbrev pub named_type : {T S D P : Type 0} → Looks T S D P → TypeName → Option T
@@ -64,15 +64,15 @@ written_type looks t = looks.written.type_of (named_type looks) t
 
 abbrev mutual
   pub denoted : {T S D P : Type 0} → Looks T S D P → Place → ExprTree → Denoted T S D
-  denoted looks p (Integer n span) = untyped value_types.UntypedInt (natural n)
+  denoted looks p (Integer n span) = untyped_constant value_types.UntypedInt (natural n)
   denoted looks p (Text t) = text_denotes t
   denoted looks p (Named x) = (ident_answer looks p x).denoted
   denoted looks p (Paren first e last) = denoted looks (inside p) e
   denoted looks p (Unary op span e) = (unary_of looks.types op (is_literal e) (denoted looks (under_place op p) e)).denoted
   denoted looks p (Binary a op span b) = (binary_of looks.types op (denoted looks places.«Value» a) (denoted looks places.«Value» b)).denoted
-  denoted looks p (Select e dot x) = (selector_answer (at looks x.span.start) (whole p) (dot_of (is_name e) (denoted looks (left_place p e) e)) x.name).denoted
+  denoted looks p (Select e dot x) = (selector_answer (look_of_place looks x.span.start) (whole p) (dot_of (is_name e) (denoted looks (left_place p e) e)) x.name).denoted
   denoted looks p (Call e first items last) =
-      (call_answer (at looks first.start) (denoted looks places.Callee e) (is_free (is_lone_call items) (denoted_items looks items)) (arguments_of (at looks first.start) (denoted_items looks items))).denoted
+      (call_answer (look_of_place looks first.start) (denoted looks places.Callee e) (is_free (is_lone_call items) (denoted_items looks items)) (arguments_of (look_of_place looks first.start) (denoted_items looks items))).denoted
   denoted looks p (Literal n first items last) = literal_denotes (named_type looks n)
   denoted looks p (StructLiteral t first items last) = literal_denotes (written_type looks t)
 
@@ -90,12 +90,12 @@ abbrev pub binary_judged : {T S D P : Type 0} → Looks T S D P → Operator →
 binary_judged looks op a b = binary_of looks.types op (denoted looks places.«Value» a) (denoted looks places.«Value» b)
 
 abbrev pub select_answer : {T S D P : Type 0} → Looks T S D P → Place → ExprTree → Ident → Answer T S D P
-select_answer looks p e x = selector_answer (at looks x.span.start) (whole p) (dot_of (is_name e) (denoted looks (left_place p e) e)) x.name
+select_answer looks p e x = selector_answer (look_of_place looks x.span.start) (whole p) (dot_of (is_name e) (denoted looks (left_place p e) e)) x.name
 
 -- what a call has, by what is called
 abbrev pub answer_by : {T S D P : Type 0} → Looks T S D P → Denoted T S D → Span → ItemTrees → Answer T S D P
 answer_by looks callee first items =
-    call_answer (at looks first.start) callee (is_free (is_lone_call items) (denoted_items looks items)) (arguments_of (at looks first.start) (denoted_items looks items))
+    call_answer (look_of_place looks first.start) callee (is_free (is_lone_call items) (denoted_items looks items)) (arguments_of (look_of_place looks first.start) (denoted_items looks items))
 
 abbrev pub called_answer : {T S D P : Type 0} → Looks T S D P → ExprTree → Span → ItemTrees → Answer T S D P
 called_answer looks e first items = answer_by looks (denoted looks places.Callee e) first items

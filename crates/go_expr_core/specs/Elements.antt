@@ -25,21 +25,21 @@ all_keys NoItems = []
 all_keys (Item None e comma rest) = all_keys rest
 all_keys (Item (Some k) e comma rest) = k.name.name ∷ all_keys rest
 
-abbrev pub count : ItemTrees → ℕ
-count NoItems = 0
-count (Item key e comma rest) = suc (count rest)
+abbrev pub item_count : ItemTrees → ℕ
+item_count NoItems = 0
+item_count (Item key e comma rest) = suc (item_count rest)
 
 -- which elements have keys
 abbrev pub keys_of : ItemTrees → Keys
-keys_of items = keys_among (count items) (length (all_keys items))
+keys_of items = keys_among (item_count items) (length (all_keys items))
 
 abbrev pub is_mixed : Keys → Bool
 is_mixed keys.Some = true
 is_mixed keys.All = false
 is_mixed keys.None = false
 
-abbrev pub context : {T : Type 0} → Option T → Bool → List (List ℕ) → KeyContext T
-context t mixed others = record { literal_type = t; is_mixed = mixed; others = others }
+abbrev pub key_context : {T : Type 0} → Option T → Bool → List (List ℕ) → KeyContext T
+key_context t mixed others = record { literal_type = t; is_mixed = mixed; others = others }
 
 -- the type of the field that a key names, by whether another key is spelled the same
 abbrev pub key_target_by : {T S D P : Type 0} → Looks T S D P → Option T → Bool → Bool → Option Key → Option T
@@ -52,8 +52,8 @@ is_again None others = false
 is_again (Some k) others = has_name k.name.name others
 
 -- the type that an element is to be assignable to: by its type, its mode, how many stand before it, the other keys and its own
-abbrev pub target : {T S D P : Type 0} → Looks T S D P → ℕ → Option T → Mode → Bool → ℕ → List (List ℕ) → Option Key → Option T
-target looks place t mode mixed number others key = element_target (literals_at looks place) t mode number (key_target_by looks t mixed (is_again key others) key)
+abbrev pub element_type : {T S D P : Type 0} → Looks T S D P → ℕ → Option T → Mode → Bool → ℕ → List (List ℕ) → Option Key → Option T
+element_type looks place t mode mixed number others key = element_target (literals_at looks place) t mode number (key_target_by looks t mixed (is_again key others) key)
 
 abbrev pub misfit_rule : Bool → Option Rule
 misfit_rule true = Some Y4
@@ -64,7 +64,7 @@ abbrev pub element_rule : {T S D P : Type 0} → Looks T S D P → ℕ → Optio
 element_rule looks place wanted d = misfit_rule (misfits (literals_at looks place) wanted d)
 
 abbrev pub whole_rule : {T S D P : Type 0} → Looks T S D P → ℕ → Option T → ItemTrees → Option Rule
-whole_rule looks place t items = literal_rule (literals_at looks place) t (keys_of items) (count items)
+whole_rule looks place t items = literal_rule (literals_at looks place) t (keys_of items) (item_count items)
 
 abbrev pub whole_mode : {T S D P : Type 0} → Looks T S D P → ℕ → Option T → ItemTrees → Mode
-whole_mode looks place t items = literal_mode (literals_at looks place) t (keys_of items) (count items)
+whole_mode looks place t items = literal_mode (literals_at looks place) t (keys_of items) (item_count items)

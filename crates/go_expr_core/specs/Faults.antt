@@ -17,7 +17,7 @@ use Rattle.go_expr_core.specs.Looks.{Looks}
 use Rattle.go_expr_core.specs.Places.{inside, under_place, left_place, is_literal, is_several, start, item_start, type_name_start, type_start}
 use Rattle.go_expr_core.specs.Operators.{unary_of, binary_of}
 use Rattle.go_expr_core.specs.Denoting.{named_type, written_type, denoted, unary_judged, binary_judged}
-use Rattle.go_expr_core.specs.Elements.{key_names, all_keys, keys_of, is_mixed, target, element_rule, whole_rule, whole_mode}
+use Rattle.go_expr_core.specs.Elements.{key_names, all_keys, keys_of, is_mixed, element_type, element_rule, whole_rule, whole_mode}
 
 abbrev pub fault_at : ℕ → Option Rule → List Fault
 fault_at offset None = []
@@ -74,7 +74,7 @@ abbrev mutual
   items_faults looks t mode mixed number before NoItems = []
   items_faults looks t mode mixed number before (Item key e comma rest) =
       ((faults looks places.«Value» e ++ fault_at (start e) (single_rule (denoted looks places.«Value» e)))
-      ++ fault_at (item_start key e) (element_rule looks (start e) (target looks (start e) t mode mixed number (before ++ all_keys rest) key) (denoted looks places.«Value» e)))
+      ++ fault_at (item_start key e) (element_rule looks (start e) (element_type looks (start e) t mode mixed number (before ++ all_keys rest) key) (denoted looks places.«Value» e)))
       ++ items_faults looks t mode mixed (suc number) (before ++ key_names key) rest
 
 -- each form

@@ -63,15 +63,15 @@ abbrev mutual
 
   pub methods_idents : MethodTrees → List Ident
   methods_idents NoMethods = []
-  methods_idents (Method x signature s rest) = signature_idents signature ++ methods_idents rest
+  methods_idents (Method x signature s rest) = signature_type_idents signature ++ methods_idents rest
 
-  pub signature_idents : SignatureTree → List Ident
-  signature_idents (Signed first params last result) = params_idents params ++ result_idents result
+  pub signature_type_idents : SignatureTree → List Ident
+  signature_type_idents (Signed first params last result) = params_idents params ++ result_type_idents result
 
-  pub result_idents : ResultTree → List Ident
-  result_idents NoResult = []
-  result_idents (OneResult t) = type_idents t
-  result_idents (Results first params last) = params_idents params
+  pub result_type_idents : ResultTree → List Ident
+  result_type_idents NoResult = []
+  result_type_idents (OneResult t) = type_idents t
+  result_type_idents (Results first params last) = params_idents params
 
   pub params_idents : ParamTrees → List Ident
   params_idents NoParams = []
@@ -79,26 +79,26 @@ abbrev mutual
 
 abbrev mutual
   -- the identifiers of an expression that are looked up: keys and names behind a dot are not
-  pub idents : ExprTree → List Ident
-  idents (Integer n span) = []
-  idents (Text t) = []
-  idents (Named x) = x ∷ []
-  idents (Paren first e last) = idents e
-  idents (Unary op span e) = idents e
-  idents (Binary a op span b) = idents a ++ idents b
-  idents (Select e dot x) = idents e
-  idents (Call e first items last) = idents e ++ items_idents items
-  idents (Literal n first items last) = type_name_idents n ++ items_idents items
-  idents (StructLiteral t first items last) = type_idents t ++ items_idents items
+  pub expr_idents : ExprTree → List Ident
+  expr_idents (Integer n span) = []
+  expr_idents (Text t) = []
+  expr_idents (Named x) = x ∷ []
+  expr_idents (Paren first e last) = expr_idents e
+  expr_idents (Unary op span e) = expr_idents e
+  expr_idents (Binary a op span b) = expr_idents a ++ expr_idents b
+  expr_idents (Select e dot x) = expr_idents e
+  expr_idents (Call e first items last) = expr_idents e ++ items_idents items
+  expr_idents (Literal n first items last) = type_name_idents n ++ items_idents items
+  expr_idents (StructLiteral t first items last) = type_idents t ++ items_idents items
 
   pub items_idents : ItemTrees → List Ident
   items_idents NoItems = []
-  items_idents (Item key e comma rest) = idents e ++ items_idents rest
+  items_idents (Item key e comma rest) = expr_idents e ++ items_idents rest
 
 -- two look-ups of names agree on each of these identifiers, where it stands
-abbrev pub Agree : {T S D : Type 0} → (List ℕ → ℕ → Found T S D) → (List ℕ → ℕ → Found T S D) → List Ident → Type 0
-Agree find other [] = ⊤
-Agree find other (x ∷ xs) = (find x.name x.span.start ≡ other x.name x.span.start) × Agree find other xs
+abbrev pub AgreeOnIdents : {T S D : Type 0} → (List ℕ → ℕ → Found T S D) → (List ℕ → ℕ → Found T S D) → List Ident → Type 0
+AgreeOnIdents find other [] = ⊤
+AgreeOnIdents find other (x ∷ xs) = (find x.name x.span.start ≡ other x.name x.span.start) × AgreeOnIdents find other xs
 
 -- the names of types that a type writes
 abbrev mutual
@@ -151,4 +151,4 @@ pub record Same (T S D P : Type 0) (looks other : Looks T S D P) (p : Place) (e 
 -- look-ups that agree on each name of an expression, where it stands, make the same of it
 abbrev pub ExpressionsAreLocal : (T S D P : Type 0) → Type 0
 ExpressionsAreLocal T S D P = (looks : Looks T S D P) (find : List ℕ → ℕ → Found T S D) (p : Place) (e : ExprTree)
-    → LooksAtNames T looks.written → Agree looks.find find (idents e) → Same T S D P looks (finding find looks) p e
+    → LooksAtNames T looks.written → AgreeOnIdents looks.find find (expr_idents e) → Same T S D P looks (finding find looks) p e

@@ -7,7 +7,7 @@ use Rattle.go_literal_core.specs.denote_core.declared.things.Place.{Place}
 use Rattle.go_literal_core.specs.denote_core.declared.things.Found.{Found}
 use Rattle.go_expr_core.specs.Looks.{Looks, WrittenRules}
 use Rattle.go_expr_core.specs.Denoting.{named_type, written_type, denoted}
-use Rattle.go_expr_core.specs.Laws.{idents, Agree, Same}
+use Rattle.go_expr_core.specs.Laws.{expr_idents, AgreeOnIdents, Same}
 use Rattle.go_expr_core.specs.Needed.{needed_idents}
 
 abbrev mutual
@@ -65,7 +65,7 @@ seeing find written looks = record { find = find; exported = looks.exported; sel
 pub record ExpressionsAreSeenAlike (T S D P : Type 0) : Type 0 where
   -- look-ups that agree on each name of an expression, where it stands, and on each struct type before a literal in it, make the same of it
   pub whole : (looks : Looks T S D P) (find : List ℕ → ℕ → Found T S D) (written : WrittenRules T) (p : Place) (e : ExprTree)
-      → Agree looks.find find (idents e) → SameWritten looks (seeing find written looks) (struct_types e) → Same T S D P looks (seeing find written looks) p e
+      → AgreeOnIdents looks.find find (expr_idents e) → SameWritten looks (seeing find written looks) (struct_types e) → Same T S D P looks (seeing find written looks) p e
   -- and it denotes the same where they agree on those outside the elements of literals
   pub needed : (looks : Looks T S D P) (find : List ℕ → ℕ → Found T S D) (written : WrittenRules T) (p : Place) (e : ExprTree)
-      → Agree looks.find find (needed_idents e) → SameWritten looks (seeing find written looks) (needed_types e) → denoted looks p e ≡ denoted (seeing find written looks) p e
+      → AgreeOnIdents looks.find find (needed_idents e) → SameWritten looks (seeing find written looks) (needed_types e) → denoted looks p e ≡ denoted (seeing find written looks) p e

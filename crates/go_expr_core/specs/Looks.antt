@@ -35,8 +35,8 @@ pub record Looks (T S D P : Type 0) : Type 0 where
 abbrev pub names_at : {T S D P : Type 0} → Looks T S D P → ℕ → NameRules T S D P
 names_at looks offset = record { find = λ name. looks.find name offset; exported = looks.exported; select = looks.select; params = looks.params; results = looks.results }
 
-abbrev pub at : {T S D P : Type 0} → Looks T S D P → ℕ → Look T S D P
-at looks offset = look_of looks.types (names_at looks offset)
+abbrev pub look_of_place : {T S D P : Type 0} → Looks T S D P → ℕ → Look T S D P
+look_of_place looks offset = look_of looks.types (names_at looks offset)
 
 abbrev pub literals_at : {T S D P : Type 0} → Looks T S D P → ℕ → LiteralLook T S D P
 literals_at looks offset = literal_look_of looks.types (names_at looks offset) looks.literals

@@ -8,7 +8,7 @@ use Rattle.go_literal_core.specs.denote_core.declared.things.Place.{Place}
 use Rattle.go_literal_core.specs.denote_core.declared.things.Found.{Found}
 use Rattle.go_expr_core.specs.Looks.{Looks}
 use Rattle.go_expr_core.specs.Denoting.{denoted}
-use Rattle.go_expr_core.specs.Laws.{type_name_idents, type_idents, Agree, LooksAtNames, finding}
+use Rattle.go_expr_core.specs.Laws.{type_name_idents, type_idents, AgreeOnIdents, LooksAtNames, finding}
 
 abbrev mutual
   -- the identifiers that are looked up for what an expression denotes, in order of their places
@@ -32,4 +32,4 @@ abbrev mutual
 -- an expression denotes the same by look-ups that agree on each of these identifiers, where it stands
 abbrev pub DenotedByNeededNames : (T S D P : Type 0) → Type 0
 DenotedByNeededNames T S D P = (looks : Looks T S D P) (find : List ℕ → ℕ → Found T S D) (p : Place) (e : ExprTree)
-    → LooksAtNames T looks.written → Agree looks.find find (needed_idents e) → denoted looks p e ≡ denoted (finding find looks) p e
+    → LooksAtNames T looks.written → AgreeOnIdents looks.find find (needed_idents e) → denoted looks p e ≡ denoted (finding find looks) p e

@@ -8,8 +8,8 @@ use Rattle.go_token_core.specs.declared.kind.Operator.{Operator}
 use Rattle.go_token_core.specs.declared.kind.Operator.TheVariants as operators
 use Rattle.go_literal_core.specs.operand_core.declared.types.Operand.{Operand}
 use Rattle.go_literal_core.specs.operand_core.TypeRules.{TypeRules}
-use Rattle.go_literal_core.specs.operand_core.Operators.{binary, refused_binary}
-use Rattle.go_literal_core.specs.operand_core.Prefixes.{unary, refused_unary}
+use Rattle.go_literal_core.specs.operand_core.Operators.{binary_operand, refused_binary}
+use Rattle.go_literal_core.specs.operand_core.Prefixes.{unary_operand, refused_unary}
 use Rattle.go_literal_core.specs.denote_core.declared.things.Denoted.{Denoted}
 use Rattle.go_literal_core.specs.denote_core.declared.things.Denoted.TheVariants as denotes
 use Rattle.go_expr_core.specs.declared.things.Judged.{Judged}
@@ -36,7 +36,7 @@ unary_type rules op d t = if is_star op then record { denoted = denotes.«Type»
 
 -- a unary operator before what its operand denotes, which may be a composite literal
 abbrev pub unary_of : {T S D : Type 0} → TypeRules T → Operator → Bool → Denoted T S D → Judged T S D
-unary_of rules op is_literal (denotes.«Value» operand) = of_operand (unary rules op is_literal operand)
+unary_of rules op is_literal (denotes.«Value» operand) = of_operand (unary_operand rules op is_literal operand)
 unary_of rules op is_literal (denotes.«Type» d t) = unary_type rules op d t
 unary_of rules op is_literal denotes.Refused = passed (refused_unary op)
 unary_of rules op is_literal denotes.Typeless = passed (refused_unary op)
@@ -58,7 +58,7 @@ operand_of (denotes.Func d s) = None
 operand_of (denotes.Builtin d b) = None
 
 abbrev pub binary_operands : {T S D : Type 0} → TypeRules T → Operator → Option (Operand T) → Option (Operand T) → Judged T S D
-binary_operands rules op (Some a) (Some b) = of_operand (binary rules op a b)
+binary_operands rules op (Some a) (Some b) = of_operand (binary_operand rules op a b)
 binary_operands rules op (Some a) None = passed (refused_binary op)
 binary_operands rules op None b = passed (refused_binary op)
 

@@ -27,16 +27,16 @@ inside places.Callee = places.Callee
 inside places.BeforeDot = places.«Value»
 
 -- the place of what stands behind a star: where a type or what is called is wanted, a type
-abbrev pub starred : Place → Place
-starred places.«Type» = places.«Type»
-starred places.TypeDot = places.«Value»
-starred places.«Value» = places.«Value»
-starred places.Callee = places.«Type»
-starred places.BeforeDot = places.«Value»
+abbrev pub starred_place : Place → Place
+starred_place places.«Type» = places.«Type»
+starred_place places.TypeDot = places.«Value»
+starred_place places.«Value» = places.«Value»
+starred_place places.Callee = places.«Type»
+starred_place places.BeforeDot = places.«Value»
 
 -- the place of what stands behind a unary operator
 abbrev pub under_place : Operator → Place → Place
-under_place operators.Star p = starred p
+under_place operators.Star p = starred_place p
 under_place _ p = places.«Value»
 
 -- the place of a name left of a dot: before the dot of a type a name is a package

@@ -93,12 +93,12 @@ pub record NameDecides (T S D P : Type 0) (looks : Looks T S D P) (p : Place) (x
   pub has : slice_get (uses looks p f) number ≡ Some (made_use x.span.start (role_of context) (rule looks context x.span.start name))
 
 -- the identifier is among these
-abbrev pub Stands : {T D P : Type 0} → Ident → List (Spot T D P) → Type 0
-Stands x [] = ⊥
-Stands x (Identifier c y ∷ more) = (y ≡ x) ⊎ Stands x more
-Stands x (CallAt s o ∷ more) = Stands x more
+abbrev pub StandsAmongSpots : {T D P : Type 0} → Ident → List (Spot T D P) → Type 0
+StandsAmongSpots x [] = ⊥
+StandsAmongSpots x (Identifier c y ∷ more) = (y ≡ x) ⊎ StandsAmongSpots x more
+StandsAmongSpots x (CallAt s o ∷ more) = StandsAmongSpots x more
 
 pub record OwnNameDecides (T S D P : Type 0) : Type 0 where
   pub decides : (looks : Looks T S D P) (p : Place) (x : Ident) (name : List ℕ) (e f : ExprTree) → Respells x name e f → NameDecides T S D P looks p x name e f
   -- each identifier that has an outcome can be respelled
-  pub each : (looks : Looks T S D P) (p : Place) (x : Ident) (name : List ℕ) (e : ExprTree) → Stands x (spots looks p e) → (f : ExprTree) × Respells x name e f
+  pub each : (looks : Looks T S D P) (p : Place) (x : Ident) (name : List ℕ) (e : ExprTree) → StandsAmongSpots x (spots looks p e) → (f : ExprTree) × Respells x name e f

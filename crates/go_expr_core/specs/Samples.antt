@@ -84,8 +84,8 @@ goes s t = same s t
 abbrev pub pick : {X : Type 0} → List ℕ → List ℕ → X → X → X
 pick name spelled found more = if bytes_eq name spelled then found else more
 
-abbrev pub find : List ℕ → ℕ → Found Ty Sig ℕ
-find name offset =
+abbrev pub sample_find : List ℕ → ℕ → Found Ty Sig ℕ
+sample_find name offset =
     pick name (codes "int") (founds.«Type» 1 (Some IntT))
     (pick name (codes "nil") (founds.«Value» 4 (Some (record { value_type = value_types.Nil; constant = None; addressable = false })))
     (pick name (codes "p") (founds.«Package» 7)
@@ -99,8 +99,8 @@ find name offset =
     (pick name (codes "x") (founds.«Value» 115 (Some (record { value_type = value_types.Typed IntT; constant = None; addressable = true })))
     founds.Missing))))))))))
 
-abbrev pub exported : ℕ → List ℕ → Exported Ty Sig ℕ
-exported d name = pick name (codes "T") (exporteds.«Type» 701 (Some TypeT)) exporteds.Absent
+abbrev pub sample_exported : ℕ → List ℕ → Exported Ty Sig ℕ
+sample_exported d name = pick name (codes "T") (exporteds.«Type» 701 (Some TypeT)) exporteds.Absent
 
 abbrev pub select : Ty → List ℕ → Selection Ty Sig ℕ ℕ
 select TypeM name = pick name (codes "m") (selections.Method 120 0 SigF true false) (selections.Missing S1)
@@ -111,12 +111,12 @@ abbrev pub params : Sig → List (Option Ty)
 params SigK = Some IntT ∷ (Some IntT ∷ [])
 params _ = []
 
-abbrev pub results : Sig → List (Option Ty)
-results SigG = Some TypeM ∷ []
-results SigH = Some TypeE ∷ []
-results SigTwo = Some IntT ∷ (Some IntT ∷ [])
-results SigK = Some IntT ∷ []
-results SigF = []
+abbrev pub sample_results : Sig → List (Option Ty)
+sample_results SigG = Some TypeM ∷ []
+sample_results SigH = Some TypeE ∷ []
+sample_results SigTwo = Some IntT ∷ (Some IntT ∷ [])
+sample_results SigK = Some IntT ∷ []
+sample_results SigF = []
 
 abbrev pub fields : Ty → List (FieldOf Ty ℕ)
 fields TypeT =
@@ -128,11 +128,11 @@ fields _ = []
 -- each struct type that is written out is that of A
 abbrev pub looks : Looks Ty Sig ℕ ℕ
 looks = record {
-  find = find;
-  exported = exported;
+  find = sample_find;
+  exported = sample_exported;
   select = select;
   params = params;
-  results = results;
+  results = sample_results;
   types = record { form = form; pointer_to = Ptr; int = IntT; string = StringT; bool = BoolT; any = AnyT; identical = same; assignable = goes; convertible = same };
   literals = record { fields = fields };
   written = record { type_of = λ meaning t. Some TypeA; faults_of = λ meaning t. [] };
@@ -147,17 +147,17 @@ ident name n = record { name = name; span = span n }
 abbrev pub name_at : List ℕ → ℕ → ExprTree
 name_at x n = Named (ident x n)
 
-abbrev pub int_at : ℕ → ℕ → ExprTree
-int_at k n = Integer k (span n)
+abbrev pub integer_expr_at : ℕ → ℕ → ExprTree
+integer_expr_at k n = Integer k (span n)
 
 abbrev pub call : ExprTree → ℕ → ItemTrees → ExprTree
 call e n items = Call e (span n) items (span (n + 9))
 
-abbrev pub one : ExprTree → ItemTrees
-one e = Item None e None NoItems
+abbrev pub one_item : ExprTree → ItemTrees
+one_item e = Item None e None NoItems
 
-abbrev pub key : List ℕ → ℕ → Option Key
-key x n = Some (record { name = ident x n; colon = span (n + 1) })
+abbrev pub sample_literal_key : List ℕ → ℕ → Option Key
+sample_literal_key x n = Some (record { name = ident x n; colon = span (n + 1) })
 
 abbrev pub declared_at : ℕ → Role → ℕ → Use ℕ ℕ
 declared_at n r d = made_use n r (outcomes.Declared d)
@@ -165,8 +165,8 @@ declared_at n r d = made_use n r (outcomes.Declared d)
 abbrev pub refused_at : ℕ → Role → Rule → Use ℕ ℕ
 refused_at n r rule = made_use n r (outcomes.Refused rule)
 
-abbrev pub fault : ℕ → Rule → Fault
-fault n r = record { offset = n; rule = r }
+abbrev pub sample_fault : ℕ → Rule → Fault
+sample_fault n r = record { offset = n; rule = r }
 
 -- p.T{..}, at 0
 abbrev pub imported : ItemTrees → ExprTree
@@ -183,56 +183,56 @@ pub record SampleExpressions : Type 0 where
   pub pointer_on_the_way : uses looks places.«Value» (call (Select (call (name_at (codes "h") 0) 1 NoItems) (span 3) (ident (codes "m") 4)) 5 NoItems)
       ≡ declared_at 0 roles.Callee 112 ∷ (declared_at 1 roles.Call 112 ∷ (made_use 4 (roles.Selector tree_usages.Callee) (outcomes.Selected 120 1) ∷ (declared_at 5 roles.Call 120 ∷ [])))
   -- p.T{A: 1} has no fault
-  pub by_key : uses looks places.«Value» (imported (Item (key (codes "A") 4) (int_at 1 6) None NoItems)) ≡ imported_uses (declared_at 4 roles.Key 705 ∷ [])
-  pub by_key_faults : faults looks places.«Value» (imported (Item (key (codes "A") 4) (int_at 1 6) None NoItems)) ≡ []
+  pub by_key : uses looks places.«Value» (imported (Item (sample_literal_key (codes "A") 4) (integer_expr_at 1 6) None NoItems)) ≡ imported_uses (declared_at 4 roles.Key 705 ∷ [])
+  pub by_key_faults : faults looks places.«Value» (imported (Item (sample_literal_key (codes "A") 4) (integer_expr_at 1 6) None NoItems)) ≡ []
   -- p.T{1, 2} and p.T{1}
-  pub in_order : faults looks places.«Value» (imported (Item None (int_at 1 4) None (one (int_at 2 6)))) ≡ fault 0 F7 ∷ []
-  pub too_few : faults looks places.«Value» (imported (one (int_at 1 4))) ≡ fault 0 F6 ∷ []
+  pub in_order : faults looks places.«Value» (imported (Item None (integer_expr_at 1 4) None (one_item (integer_expr_at 2 6)))) ≡ sample_fault 0 F7 ∷ []
+  pub too_few : faults looks places.«Value» (imported (one_item (integer_expr_at 1 4))) ≡ sample_fault 0 F6 ∷ []
   -- p.T{b: 1}
-  pub hidden_key : uses looks places.«Value» (imported (Item (key (codes "b") 4) (int_at 1 6) None NoItems)) ≡ imported_uses (refused_at 4 roles.Key F2 ∷ [])
+  pub hidden_key : uses looks places.«Value» (imported (Item (sample_literal_key (codes "b") 4) (integer_expr_at 1 6) None NoItems)) ≡ imported_uses (refused_at 4 roles.Key F2 ∷ [])
   -- p.T{A: 1, A: 2}: F4 at both keys
-  pub repeated_keys : uses looks places.«Value» (imported (Item (key (codes "A") 4) (int_at 1 6) None (Item (key (codes "A") 8) (int_at 2 10) None NoItems)))
+  pub repeated_keys : uses looks places.«Value» (imported (Item (sample_literal_key (codes "A") 4) (integer_expr_at 1 6) None (Item (sample_literal_key (codes "A") 8) (integer_expr_at 2 10) None NoItems)))
       ≡ imported_uses (refused_at 4 roles.Key F4 ∷ (refused_at 8 roles.Key F4 ∷ []))
   -- E{F: 1}, a promoted field
-  pub promoted_key : uses looks places.«Value» (Literal (type_names.Plain (ident (codes "E") 0)) (span 1) (Item (key (codes "F") 2) (int_at 1 4) None NoItems) (span 6))
+  pub promoted_key : uses looks places.«Value» (Literal (type_names.Plain (ident (codes "E") 0)) (span 1) (Item (sample_literal_key (codes "F") 2) (integer_expr_at 1 4) None NoItems) (span 6))
       ≡ declared_at 0 roles.«Type» 103 ∷ (refused_at 2 roles.Key F3 ∷ [])
   -- A{A: 1, 2}: F5 at the key, and at A
-  pub mixed_uses : uses looks places.«Value» (Literal (type_names.Plain (ident (codes "A") 0)) (span 1) (Item (key (codes "A") 2) (int_at 1 4) None (one (int_at 2 6))) (span 8))
+  pub mixed_uses : uses looks places.«Value» (Literal (type_names.Plain (ident (codes "A") 0)) (span 1) (Item (sample_literal_key (codes "A") 2) (integer_expr_at 1 4) None (one_item (integer_expr_at 2 6))) (span 8))
       ≡ declared_at 0 roles.«Type» 104 ∷ (refused_at 2 roles.Key F5 ∷ [])
-  pub mixed_faults : faults looks places.«Value» (Literal (type_names.Plain (ident (codes "A") 0)) (span 1) (Item (key (codes "A") 2) (int_at 1 4) None (one (int_at 2 6))) (span 8)) ≡ fault 0 F5 ∷ []
+  pub mixed_faults : faults looks places.«Value» (Literal (type_names.Plain (ident (codes "A") 0)) (span 1) (Item (sample_literal_key (codes "A") 2) (integer_expr_at 1 4) None (one_item (integer_expr_at 2 6))) (span 8)) ≡ sample_fault 0 F5 ∷ []
   -- A{A: nil}: Y4 at the key
-  pub misfit : faults looks places.«Value» (Literal (type_names.Plain (ident (codes "A") 0)) (span 1) (Item (key (codes "A") 2) (name_at (codes "nil") 4) None NoItems) (span 8)) ≡ fault 2 Y4 ∷ []
+  pub misfit : faults looks places.«Value» (Literal (type_names.Plain (ident (codes "A") 0)) (span 1) (Item (sample_literal_key (codes "A") 2) (name_at (codes "nil") 4) None NoItems) (span 8)) ≡ sample_fault 2 Y4 ∷ []
   -- struct { n int }{A: 1}: the names of the type are occurrences
-  pub written_type : uses looks places.«Value» (StructLiteral (Struct (span 0) (span 1) (NamedFields (One (ident (codes "n") 2)) (NamedType (type_names.Plain (ident (codes "int") 3))) None None NoFields) (span 4)) (span 5) (Item (key (codes "A") 6) (int_at 1 8) None NoItems) (span 9))
+  pub written_type : uses looks places.«Value» (StructLiteral (Struct (span 0) (span 1) (NamedFields (One (ident (codes "n") 2)) (NamedType (type_names.Plain (ident (codes "int") 3))) None None NoFields) (span 4)) (span 5) (Item (sample_literal_key (codes "A") 6) (integer_expr_at 1 8) None NoItems) (span 9))
       ≡ declared_at 3 roles.«Type» 1 ∷ (declared_at 6 roles.Key 121 ∷ [])
   -- f alone, and f()()
   pub no_call : uses looks places.«Value» (name_at (codes "f") 3) ≡ refused_at 3 roles.«Value» X1 ∷ []
   pub called_twice : uses looks places.«Value» (call (call (name_at (codes "f") 0) 1 NoItems) 3 NoItems)
       ≡ declared_at 0 roles.Callee 110 ∷ (declared_at 1 roles.Call 110 ∷ (refused_at 3 roles.Call C1 ∷ []))
   -- k(two()): two results stand for two arguments
-  pub spread : uses looks places.«Value» (call (name_at (codes "k") 0) 1 (one (call (name_at (codes "two") 2) 5 NoItems)))
+  pub spread : uses looks places.«Value» (call (name_at (codes "k") 0) 1 (one_item (call (name_at (codes "two") 2) 5 NoItems)))
       ≡ declared_at 0 roles.Callee 114 ∷ (declared_at 1 roles.Call 114 ∷ (declared_at 2 roles.Callee 113 ∷ (declared_at 5 roles.Call 113 ∷ [])))
-  pub spread_faults : faults looks places.«Value» (call (name_at (codes "k") 0) 1 (one (call (name_at (codes "two") 2) 5 NoItems))) ≡ []
+  pub spread_faults : faults looks places.«Value» (call (name_at (codes "k") 0) 1 (one_item (call (name_at (codes "two") 2) 5 NoItems))) ≡ []
   -- k(two(), 1): two() is no single value
-  pub member : faults looks places.«Value» (call (name_at (codes "k") 0) 1 (Item None (call (name_at (codes "two") 2) 5 NoItems) None (one (int_at 1 9)))) ≡ fault 2 Y3 ∷ []
+  pub member : faults looks places.«Value» (call (name_at (codes "k") 0) 1 (Item None (call (name_at (codes "two") 2) 5 NoItems) None (one_item (integer_expr_at 1 9)))) ≡ sample_fault 2 Y3 ∷ []
   -- k(nope()) and k(nope): a refused call alone does not count, a refused name does
-  pub refused_call : uses looks places.«Value» (call (name_at (codes "k") 0) 1 (one (call (name_at (codes "nope") 2) 6 NoItems)))
+  pub refused_call : uses looks places.«Value» (call (name_at (codes "k") 0) 1 (one_item (call (name_at (codes "nope") 2) 6 NoItems)))
       ≡ declared_at 0 roles.Callee 114 ∷ (declared_at 1 roles.Call 114 ∷ (refused_at 2 roles.Callee N1 ∷ (refused_at 6 roles.Call C1 ∷ [])))
-  pub refused_name : uses looks places.«Value» (call (name_at (codes "k") 0) 1 (one (name_at (codes "nope") 2)))
+  pub refused_name : uses looks places.«Value» (call (name_at (codes "k") 0) 1 (one_item (name_at (codes "nope") 2)))
       ≡ declared_at 0 roles.Callee 114 ∷ (refused_at 1 roles.Call C2 ∷ (refused_at 2 roles.«Value» N1 ∷ []))
   -- two() + 1, at two()
-  pub no_single_value : faults looks places.«Value» (Binary (call (name_at (codes "two") 0) 3 NoItems) operators.Plus (span 6) (int_at 1 8)) ≡ fault 0 Y3 ∷ []
+  pub no_single_value : faults looks places.«Value» (Binary (call (name_at (codes "two") 0) 3 NoItems) operators.Plus (span 6) (integer_expr_at 1 8)) ≡ sample_fault 0 Y3 ∷ []
   -- 9223372036854775807 + 1, int(9223372036854775807) + 1, x / 0
-  pub untyped_range : faults looks places.«Value» (Binary (int_at 9223372036854775807 0) operators.Plus (span 20) (int_at 1 22)) ≡ fault 0 X1 ∷ []
-  pub typed_range : faults looks places.«Value» (Binary (call (name_at (codes "int") 0) 3 (one (int_at 9223372036854775807 4))) operators.Plus (span 25) (int_at 1 27)) ≡ fault 0 Y7 ∷ []
-  pub divided : faults looks places.«Value» (Binary (name_at (codes "x") 0) operators.Slash (span 2) (int_at 0 4)) ≡ fault 0 Y7 ∷ []
+  pub untyped_range : faults looks places.«Value» (Binary (integer_expr_at 9223372036854775807 0) operators.Plus (span 20) (integer_expr_at 1 22)) ≡ sample_fault 0 X1 ∷ []
+  pub typed_range : faults looks places.«Value» (Binary (call (name_at (codes "int") 0) 3 (one_item (integer_expr_at 9223372036854775807 4))) operators.Plus (span 25) (integer_expr_at 1 27)) ≡ sample_fault 0 Y7 ∷ []
+  pub divided : faults looks places.«Value» (Binary (name_at (codes "x") 0) operators.Slash (span 2) (integer_expr_at 0 4)) ≡ sample_fault 0 Y7 ∷ []
   -- x & x & x: X1 of each of the two operators, at one place
-  pub bits_of_bits : faults looks places.«Value» (Binary (Binary (name_at (codes "x") 0) operators.And (span 2) (name_at (codes "x") 4)) operators.And (span 6) (name_at (codes "x") 8)) ≡ fault 0 X1 ∷ (fault 0 X1 ∷ [])
+  pub bits_of_bits : faults looks places.«Value» (Binary (Binary (name_at (codes "x") 0) operators.And (span 2) (name_at (codes "x") 4)) operators.And (span 6) (name_at (codes "x") 8)) ≡ sample_fault 0 X1 ∷ (sample_fault 0 X1 ∷ [])
   -- (*int)(nil) is a pointer
-  pub to_pointer : denoted looks places.«Value» (call (Paren (span 0) (Unary operators.Star (span 1) (name_at (codes "int") 2)) (span 5)) 6 (one (name_at (codes "nil") 7)))
+  pub to_pointer : denoted looks places.«Value» (call (Paren (span 0) (Unary operators.Star (span 1) (name_at (codes "int") 2)) (span 5)) 6 (one_item (name_at (codes "nil") 7)))
       ≡ denotes.«Value» (record { value_type = value_types.Typed (Ptr IntT); constant = None; addressable = false })
   -- (*x)(1): x is no type, and the call calls none
-  pub no_type : uses looks places.«Value» (call (Paren (span 0) (Unary operators.Star (span 1) (name_at (codes "x") 2)) (span 3)) 4 (one (int_at 1 5))) ≡ refused_at 2 roles.«Type» N6 ∷ (refused_at 4 roles.Call C1 ∷ [])
+  pub no_type : uses looks places.«Value» (call (Paren (span 0) (Unary operators.Star (span 1) (name_at (codes "x") 2)) (span 3)) 4 (one_item (integer_expr_at 1 5))) ≡ refused_at 2 roles.«Type» N6 ∷ (refused_at 4 roles.Call C1 ∷ [])
   -- &x, and &1 at the operator
   pub address : denoted looks places.«Value» (Unary operators.And (span 0) (name_at (codes "x") 1)) ≡ denotes.«Value» (record { value_type = value_types.Typed (Ptr IntT); constant = None; addressable = false })
-  pub no_address : faults looks places.«Value» (Unary operators.And (span 0) (int_at 1 1)) ≡ fault 0 Y3 ∷ []
+  pub no_address : faults looks places.«Value» (Unary operators.And (span 0) (integer_expr_at 1 1)) ≡ sample_fault 0 Y3 ∷ []

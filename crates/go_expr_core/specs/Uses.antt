@@ -23,10 +23,10 @@ use Rattle.go_literal_core.specs.denote_core.Arguments.{arguments_of, is_free}
 use Rattle.go_literal_core.specs.denote_core.Calls.{call_answer}
 use Rattle.go_literal_core.specs.Keys.{KeyContext, key_rule}
 use Rattle.go_expr_core.specs.declared.things.Use.{Use}
-use Rattle.go_expr_core.specs.Looks.{Looks, at, literals_at}
+use Rattle.go_expr_core.specs.Looks.{Looks, look_of_place, literals_at}
 use Rattle.go_expr_core.specs.Places.{inside, under_place, left_place, whole, is_name, is_lone_call, place_role, role_usage}
 use Rattle.go_expr_core.specs.Denoting.{ident_answer, named_type, written_type, denoted, denoted_items, called_answer}
-use Rattle.go_expr_core.specs.Elements.{key_names, all_keys, keys_of, is_mixed, context}
+use Rattle.go_expr_core.specs.Elements.{key_names, all_keys, keys_of, is_mixed, key_context}
 
 -- what the outcome of an identifier depends on, beside its spelling
 pub data Context (T D : Type 0) : Type 0 where
@@ -44,8 +44,8 @@ pub data Spot (T D P : Type 0) : Type 0 where
 
 -- the outcome of a name at an offset, which the context leaves open
 abbrev pub rule : {T S D P : Type 0} → Looks T S D P → Context T D → ℕ → List ℕ → Outcome D P
-rule looks (NameAt p) offset name = (name_answer (at looks offset) p name).outcome
-rule looks (SelectorBehind u dot) offset name = (selector_answer (at looks offset) u dot name).outcome
+rule looks (NameAt p) offset name = (name_answer (look_of_place looks offset) p name).outcome
+rule looks (SelectorBehind u dot) offset name = (selector_answer (look_of_place looks offset) u dot name).outcome
 rule looks (KeyAmong k) offset name = key_rule (literals_at looks offset) k name
 
 abbrev pub role_of : {T D : Type 0} → Context T D → Role
@@ -100,7 +100,7 @@ abbrev mutual
 
 abbrev pub key_spots : {T D P : Type 0} → Option T → Bool → List (List ℕ) → Option Key → List (Spot T D P)
 key_spots t mixed others None = []
-key_spots t mixed others (Some k) = Identifier (KeyAmong (context t mixed others)) k.name ∷ []
+key_spots t mixed others (Some k) = Identifier (KeyAmong (key_context t mixed others)) k.name ∷ []
 
 abbrev mutual
   pub spots : {T S D P : Type 0} → Looks T S D P → Place → ExprTree → List (Spot T D P)
@@ -113,7 +113,7 @@ abbrev mutual
   spots looks p (Select e dot x) = spots looks (left_place p e) e ++ (Identifier (SelectorBehind (whole p) (dot_of (is_name e) (denoted looks (left_place p e) e))) x ∷ [])
   spots looks p (Call e first items last) =
       spots looks places.Callee e
-      ++ (CallAt first (call_answer (at looks first.start) (denoted looks places.Callee e) (is_free (is_lone_call items) (denoted_items looks items)) (arguments_of (at looks first.start) (denoted_items looks items))).outcome
+      ++ (CallAt first (call_answer (look_of_place looks first.start) (denoted looks places.Callee e) (is_free (is_lone_call items) (denoted_items looks items)) (arguments_of (look_of_place looks first.start) (denoted_items looks items))).outcome
       ∷ args_spots looks items)
   spots looks p (Literal n first items last) = type_name_spots looks n ++ items_spots looks (named_type looks n) (is_mixed (keys_of items)) [] items
   spots looks p (StructLiteral t first items last) = type_spots looks t ++ items_spots looks (written_type looks t) (is_mixed (keys_of items)) [] items

@@ -1,6 +1,6 @@
 //! Keys and elements of composite literals, and lists of arguments.
 ghost use Rattle.std.specs.Prelude.{◌≡◌, ◌++◌, [], ◌∷◌, map, get_or, IfOk, OnOk};
-ghost use Rattle.go_tree_nodes.specs.Shapes.{items_of, key_of};
+ghost use Rattle.go_tree_nodes.specs.Shapes.{items_of, shape_key};
 ghost use Rattle.go_literal_core.specs.denote_core.Arguments as arguments;
 ghost use Rattle.go_literal_core.specs.denote_core.Calls as calls;
 ghost use Rattle.go_literal_core.specs.denote_core.Look.{look_of};
@@ -160,8 +160,8 @@ pub(crate) fn check_key<E: Exprs>(
     key: &Option<Box<Key>>,
     uses: &mut Vec<Use<E::Decl, E::Path>>,
 ) -> Result<Option<E::Type>, AllocError>
-    ensures target { IfOk result (λ wanted. wanted ≡ turns.key_target_marked (everywhere (E.types env.now) (E.names env.now) (E.literals env.now) (E.written env.now)) t.now is_mixed mark (key_of key.now)) }
-    ensures uses { OnOk result (uses.new.items ≡ uses.old.items ++ turns.key_uses_marked (everywhere (E.types env.now) (E.names env.now) (E.literals env.now) (E.written env.now)) t.now is_mixed mark (key_of key.now)) }
+    ensures target { IfOk result (λ wanted. wanted ≡ turns.key_target_marked (everywhere (E.types env.now) (E.names env.now) (E.literals env.now) (E.written env.now)) t.now is_mixed mark (shape_key key.now)) }
+    ensures uses { OnOk result (uses.new.items ≡ uses.old.items ++ turns.key_uses_marked (everywhere (E.types env.now) (E.names env.now) (E.literals env.now) (E.written env.now)) t.now is_mixed mark (shape_key key.now)) }
 {
     match key {
         None => Ok(None),

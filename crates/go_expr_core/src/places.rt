@@ -1,6 +1,6 @@
 //! Where the parts of an expression stand.
 ghost use Rattle.std.specs.Prelude.{◌≡◌};
-ghost use Rattle.go_tree_nodes.specs.Shapes.{shape, key_of};
+ghost use Rattle.go_tree_nodes.specs.Shapes.{shape, shape_key};
 ghost use Rattle.go_tree_nodes.specs.TypeShapes.{shape_type};
 ghost use Rattle.go_tree_core.specs.declared.occurrence.Role.TheVariants as roles;
 ghost use Rattle.go_expr_core.specs.Places as places;
@@ -193,7 +193,7 @@ pub fn start(expr: &Expr) -> usize
 
 /// The first byte of an element.
 pub(crate) fn item_start(key: &Option<Box<Key>>, value: &Expr) -> usize
-    ensures { result ≡ places.item_start (key_of key.now) (shape value.now) }
+    ensures { result ≡ places.item_start (shape_key key.now) (shape value.now) }
 {
     match key {
         None => start(value),

@@ -3,7 +3,7 @@ ghost use Rattle.std.specs.Prelude.{◌≡◌, ◌<◌, ◌++◌, [], ◌∷◌,
 ghost use Rattle.go_tree_core.specs.declared.occurrence.Role.TheVariants as roles;
 ghost use Rattle.go_literal_core.specs.denote_core.declared.things.Place.TheVariants as stands;
 ghost use Rattle.go_literal_core.specs.Literals.{literal_denotes as type_denotes};
-ghost use Rattle.go_tree_nodes.specs.Shapes.{shape, items_of, key_of};
+ghost use Rattle.go_tree_nodes.specs.Shapes.{shape, items_of, shape_key};
 ghost use Rattle.go_tree_nodes.specs.TypeShapes.{shape_type};
 ghost use Rattle.go_literal_core.specs.Marks.{type_fields};
 ghost use Rattle.go_literal_core.specs.denote_core.Arguments as arguments;
@@ -45,7 +45,7 @@ fn untyped<T: Drop, S: Drop, D: Drop>(
     value_type: ValueType<T>,
     constant: Constant,
 ) -> Denoted<T, S, D>
-    ensures { result ≡ denoting.untyped value_type constant }
+    ensures { result ≡ denoting.untyped_constant value_type constant }
 {
     Denoted::Value(Operand {
         value_type,
@@ -400,8 +400,8 @@ fn check_element<E: Exprs>(
     value: &Expr,
     notes: &mut Notes<E::Decl, E::Path>,
 ) -> Result<(), AllocError>
-    ensures uses { OnOk result (notes.new.uses.items ≡ notes.old.uses.items ++ turns.turn_uses (everywhere (E.types env.now) (E.names env.now) (E.literals env.now) (E.written env.now)) t.now mixed mark (key_of key.now) (shape value.now)) }
-    ensures faults { OnOk result (notes.new.faults.items ≡ notes.old.faults.items ++ turns.turn_faults (everywhere (E.types env.now) (E.names env.now) (E.literals env.now) (E.written env.now)) t.now mode mixed number mark (key_of key.now) (shape value.now)) }
+    ensures uses { OnOk result (notes.new.uses.items ≡ notes.old.uses.items ++ turns.turn_uses (everywhere (E.types env.now) (E.names env.now) (E.literals env.now) (E.written env.now)) t.now mixed mark (shape_key key.now) (shape value.now)) }
+    ensures faults { OnOk result (notes.new.faults.items ≡ notes.old.faults.items ++ turns.turn_faults (everywhere (E.types env.now) (E.names env.now) (E.literals env.now) (E.written env.now)) t.now mode mixed number mark (shape_key key.now) (shape value.now)) }
 {
     let by_key = check_key(env, alloc, t, mixed, mark, key, &mut notes.uses)?;
     let denoted = check_operand(env, alloc, Place::Value, value, notes)?;

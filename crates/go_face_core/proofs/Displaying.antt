@@ -10,8 +10,8 @@ use Rattle.go_entry_core.specs.block_core.Tables.{has, in_block, with_first}
 use Rattle.go_entry_core.specs.open_core.Blocks.{or_else}
 use Rattle.go_entry_core.proofs.Among.{among_from}
 use Rattle.go_face_core.specs.Packages.{DeclaredOf, PackageFacesModel, as_seen, face_among, face_in_some, names_seen, package_faces, package_in, seen_after, shown_by, shown_in_some, shown_name, with_faces}
-use Rattle.go_face_core.specs.Showing.{FacesAreFound, ShowsItsBlock, TablesShowTheirPackages}
-use Rattle.go_face_core.specs.Written.{same_place}
+use Rattle.go_face_core.specs.Showing.{FacesAreFound, FacesShowTheirBlock, TablesShowTheirPackages}
+use Rattle.go_face_core.specs.Written.{same_decl_place}
 use Rattle.go_face_core.proofs.Placed.{same_itself}
 use Rattle.go_face_core.proofs.Places.{at_among}
 use Rattle.go_face_core.proofs.Searching.{held_by, held_at, number_at}
@@ -86,7 +86,7 @@ module _ (path : List ℕ) (block : List (List ℕ × DeclRef)) (faces : List De
   seen_as : (d : DeclRef) (b : Bool) → in_block block name ≡ Some d → exported (chars name) ≡ b → shown_by ours name ≡ shown_name ours (Some (if b then Some d else None))
   seen_as d b h t = shown_of (Some d) h ∙ ap (λ (c : Bool). shown_name ours (Some (if c then Some d else None))) t
 
-pub shows_its_block : ShowsItsBlock
+pub shows_its_block : FacesShowTheirBlock
 shows_its_block = record {
   absent = λ path block faces name h. shown_of path block faces name None h;
   hidden = λ path block faces name d h t. seen_as path block faces name d false h t;
@@ -97,7 +97,7 @@ shows_its_block = record {
 
 face_as : (es : List DeclaredOf) (d : DeclRef) → face_among es d ≡ held_by (λ e. e.decl) (λ e. e.face) es d
 face_as [] d = refl
-face_as (e ∷ es) d = ap (λ o. if same_place e.decl d then Some e.face else o) (face_as es d)
+face_as (e ∷ es) d = ap (λ o. if same_decl_place e.decl d then Some e.face else o) (face_as es d)
 
 pub faces_are_found : FacesAreFound
 faces_are_found es e rise h =

@@ -14,21 +14,23 @@ use Rattle.go_handle_core.specs.settle_core.Settled.{kind_of_term, settled, sett
 use Rattle.go_handle_core.specs.settle_core.Local.{settling_is_local, sign_alike}
 use Rattle.go_handle_core.specs.settle_core.Mentions.{settled_mentions_written}
 use Rattle.go_term_core.specs.Terms.{Term, NoType, Predeclared, ErrorType, Defined, PointerTo, StructOf, InterfaceOf, term_keys, sign_keys}
-use Rattle.go_handle_core.specs.table_core.Entries.{Entry, find, term_in}
+use Rattle.go_handle_core.specs.table_core.Entries.{Entry, find_entry, term_in}
 use Rattle.go_entry_core.specs.written_core.Laws.{type_names_in, signature_names_in}
 use Rattle.go_entry_core.specs.written_core.Written.{InFile, Meaning, term_of, signature_of}
 use Rattle.go_entry_core.specs.written_core.ByNames.{written_by_names}
-use Rattle.go_handle_core.specs.decide_core.Conversion.{is_nothing}
+use Rattle.go_handle_core.specs.decide_core.Conversion.{is_no_type}
 use Rattle.go_handle_core.specs.decide_core.Rules.{typed}
-use Rattle.go_entry_core.specs.Entries.{decl_ref, file_at, type_key}
+use Rattle.go_entry_core.specs.Entries.{file_at, type_key}
 use Rattle.go_entry_core.specs.Meanings.{Shows, file_meaning}
 use Rattle.go_entry_core.specs.Outlines.{FileOutline}
 use Rattle.go_entry_core.proofs.Among.{Among, among_from, among_to, flat_among, among_numbered}
 use Rattle.go_face_core.specs.declared.face.Face.TheVariants as faces
 use Rattle.go_face_core.specs.Faces.{variable_face}
-use Rattle.go_face_core.specs.Laws.{LookAlike, MeanAlike, WrittenAreLocal}
+use Rattle.go_face_core.specs.Laws.{LookAlike, MeanAlikeInFaces, WrittenAreLocal}
 use Rattle.go_face_core.specs.Names.{value_names, face_names, names_faced}
-use Rattle.go_face_core.specs.Written.{kinds_in, type_written, value_face, form_face, written_of, file_written, package_written}
+use Rattle.go_face_core.specs.Written.{type_written, value_as_written, form_as_written, written_of, file_written, package_written}
+use Rattle.go_entry_core.specs.block_core.Declarations.{decl_ref}
+use Rattle.go_handle_core.specs.table_core.Entries.{kinds_in}
 
 -- lists
 
@@ -50,13 +52,13 @@ flat_alike f g (x ∷ xs) h =
 
 module _ (es fs : List Entry) where
   abbrev Same : List DeclKey → Type 0
-  Same ks = (k : DeclKey) → Contains ks k → find es k ≡ find fs k
+  Same ks = (k : DeclKey) → Contains ks k → find_entry es k ≡ find_entry fs k
 
-  typed_alike : (t : Term) → Same (term_keys t) → typed (find es) t ≡ typed (find fs) t
+  typed_alike : (t : Term) → Same (term_keys t) → typed (find_entry es) t ≡ typed (find_entry fs) t
   typed_alike NoType h = refl
   typed_alike (Predeclared b) h = refl
   typed_alike ErrorType h = refl
-  typed_alike (Defined k) h = ap (λ (o : Option Entry). if not (is_nothing (term_in o)) then Some (Defined k) else None) (h k (Contains-push [] k))
+  typed_alike (Defined k) h = ap (λ (o : Option Entry). if not (is_no_type (term_in o)) then Some (Defined k) else None) (h k (Contains-push [] k))
   typed_alike (PointerTo t) h = refl
   typed_alike (StructOf path fields) h = refl
   typed_alike (InterfaceOf path ms) h = refl
@@ -64,9 +66,9 @@ module _ (es fs : List Entry) where
   kinds_alike : (ks : List DeclKey) → Same ks → (k : DeclKey) → Contains ks k → kinds_in es k ≡ kinds_in fs k
   kinds_alike ks h k c = ap (λ (o : Option Entry). kind_of_term (term_in o)) (h k c)
 
-  settled_alike : (t : Term) → Same (term_keys t) → typed (find es) (settled (kinds_in es) t) ≡ typed (find fs) (settled (kinds_in fs) t)
+  settled_alike : (t : Term) → Same (term_keys t) → typed (find_entry es) (settled (kinds_in es) t) ≡ typed (find_entry fs) (settled (kinds_in fs) t)
   settled_alike t h =
-      ap (typed (find es)) (settling_is_local (kinds_in es) (kinds_in fs) t (kinds_alike (term_keys t) h))
+      ap (typed (find_entry es)) (settling_is_local (kinds_in es) (kinds_in fs) t (kinds_alike (term_keys t) h))
       ∙ typed_alike (settled (kinds_in fs) t) (λ k c. h k (settled_mentions_written (kinds_in fs) t k c).1)
 
   module _ (mean other : Meaning) (f : InFile) where
@@ -74,12 +76,12 @@ module _ (es fs : List Entry) where
     Means ns = (x : TypeName) → Contains ns x → mean x ≡ other x
 
     abbrev Looks : List TypeName → Type 0
-    Looks ns = (x : TypeName) (k : DeclKey) → Contains ns x → Contains (term_keys (mean x)) k → find es k ≡ find fs k
+    Looks ns = (x : TypeName) (k : DeclKey) → Contains ns x → Contains (term_keys (mean x)) k → find_entry es k ≡ find_entry fs k
 
     type_alike : (t : TypeTree) → Means (type_names_in t) → Looks (type_names_in t) → type_written mean f es t ≡ type_written other f fs t
     type_alike t m l =
         settled_alike (term_of mean f t) (λ k c. (let n = written_by_names.mentioned mean f t k c in l n.0 k n.1 n.2))
-        ∙ ap (λ u. typed (find fs) (settled (kinds_in fs) u)) (written_by_names.types mean other f t m)
+        ∙ ap (λ u. typed (find_entry fs) (settled (kinds_in fs) u)) (written_by_names.types mean other f t m)
 
     signature_alike : (g : SignatureTree) → Means (signature_names_in g) → Looks (signature_names_in g) → settled_sign (kinds_in es) (signature_of mean f g) ≡ settled_sign (kinds_in fs) (signature_of other f g)
     signature_alike g m l =
@@ -87,19 +89,19 @@ module _ (es fs : List Entry) where
         (kinds_alike (sign_keys (signature_of mean f g)) (λ k c. (let n = written_by_names.mentioned_in_signature mean f g k c in l n.0 k n.1 n.2)))
         ∙ ap (settled_sign (kinds_in fs)) (written_by_names.signatures mean other f g m)
 
-    value_alike : (k : ValueKind) (t : Option TypeTree) → Means (value_names k t) → Looks (value_names k t) → value_face mean f es k t ≡ value_face other f fs k t
+    value_alike : (k : ValueKind) (t : Option TypeTree) → Means (value_names k t) → Looks (value_names k t) → value_as_written mean f es k t ≡ value_as_written other f fs k t
     value_alike value_kinds.Var (Some t) m l = ap (λ u. Some (variable_face u)) (type_alike t m l)
     value_alike value_kinds.Var None m l = refl
     value_alike value_kinds.Const t m l = refl
 
-    form_alike : (n : ℕ) (form : FormTree) → ((t : TypeSpecTree) → form ≡ TypeForm t → find es (type_key f n) ≡ find fs (type_key f n)) → Means (face_names form) → Looks (face_names form)
-        → form_face mean f es n form ≡ form_face other f fs n form
+    form_alike : (n : ℕ) (form : FormTree) → ((t : TypeSpecTree) → form ≡ TypeForm t → find_entry es (type_key f n) ≡ find_entry fs (type_key f n)) → Means (face_names form) → Looks (face_names form)
+        → form_as_written mean f es n form ≡ form_as_written other f fs n form
     form_alike n (ValueForm k v i) own m l = value_alike k v.type_expr m l
     form_alike n (TypeForm t) own m l =
-        ap (λ (o : Option Entry). Some (faces.«Type» (if not (is_nothing (term_in o)) then Some (Defined (type_key f n)) else None))) (own t refl)
+        ap (λ (o : Option Entry). Some (faces.«Type» (if not (is_no_type (term_in o)) then Some (Defined (type_key f n)) else None))) (own t refl)
     form_alike n (FuncForm g) own m l = ap (λ s. Some (faces.Func s)) (signature_alike g.signature m l)
 
-    decl_alike : (d : TopDeclTree) → ((t : TypeSpecTree) → d.form ≡ TypeForm t → find es (type_key f d.number) ≡ find fs (type_key f d.number)) → Means (face_names d.form) → Looks (face_names d.form)
+    decl_alike : (d : TopDeclTree) → ((t : TypeSpecTree) → d.form ≡ TypeForm t → find_entry es (type_key f d.number) ≡ find_entry fs (type_key f d.number)) → Means (face_names d.form) → Looks (face_names d.form)
         → written_of mean f es d ≡ written_of other f fs d
     decl_alike d own m l = (let face = form_alike d.number d.form own m l in λ i. record { decl = decl_ref f.file d.number (kind_of_form d.form); face = face i })
 
@@ -108,7 +110,7 @@ module _ (es fs : List Entry) where
 name_faced : (o : FileOutline) (d : TopDeclTree) (x : TypeName) → Among o.decls d → Contains (face_names d.form) x → Contains (names_faced o) x
 name_faced o d x a c = among_to (names_faced o) x (flat_among (λ (e : TopDeclTree). face_names e.form) o.decls x d a (among_from (face_names d.form) x c))
 
-module _ (shows other : Shows) (path : List ℕ) (b c : BlocksModel) (es fs : List Entry) (os : List FileOutline) (m : MeanAlike shows other path b c os) (l : LookAlike shows path b es fs os) where
+module _ (shows other : Shows) (path : List ℕ) (b c : BlocksModel) (es fs : List Entry) (os : List FileOutline) (m : MeanAlikeInFaces shows other path b c os) (l : LookAlike shows path b es fs os) where
   file_alike : (n : ℕ) (o : FileOutline) → slice_get os n ≡ Some o
       → file_written (file_meaning shows path b n) (file_at path n o) es o.decls ≡ file_written (file_meaning other path c n) (file_at path n o) fs o.decls
   file_alike n o there =

@@ -8,17 +8,18 @@ use Rattle.go_term_core.specs.decl_core.declared.keys.DeclRef.{DeclRef}
 use Rattle.go_term_core.specs.decl_core.TopDecls.{TopDeclTree, kind_of_form}
 use Rattle.go_entry_core.specs.block_core.Blocks.{BlocksModel}
 use Rattle.go_handle_core.specs.table_core.Entries.{Entry}
-use Rattle.go_entry_core.specs.Entries.{decl_ref, file_at, package_meanings}
-use Rattle.go_entry_core.specs.Laws.{IsDeclared}
+use Rattle.go_entry_core.specs.Entries.{file_at, package_meanings}
+use Rattle.go_entry_core.specs.Laws.{IsDeclaredInFile}
 use Rattle.go_entry_core.specs.Meanings.{Shows, file_meaning}
 use Rattle.go_entry_core.specs.Outlines.{FileOutline, IsOutline}
 use Rattle.go_entry_core.proofs.Among.{Among, among_from, among_to, among_flat, flat_among, among_numbered, numbered_among, among_map, map_among}
 use Rattle.go_entry_core.proofs.Numbered.{map-flat_map}
 use Rattle.go_face_core.specs.Laws.{IsOfFile, PositionsAreExact, Stands, file_decl, package_decls, written_there}
-use Rattle.go_face_core.specs.Written.{DeclsRise, WrittenOf, decls_of, file_written, package_written, position_of, same_place, written_of}
+use Rattle.go_face_core.specs.Written.{DeclsRise, WrittenOf, decls_of, file_written, package_written, position_of, same_decl_place, written_of}
 use Rattle.go_face_core.proofs.Ascending.{written_rises}
 use Rattle.go_face_core.proofs.Placed.{same_itself}
 use Rattle.go_face_core.proofs.Searching.{number_of, number_at}
+use Rattle.go_entry_core.specs.block_core.Declarations.{decl_ref}
 
 -- items and their numbers
 
@@ -38,13 +39,13 @@ at_among (y ∷ xs) x h = elim h [
 
 position_as : (ws : List WrittenOf) (d : DeclRef) → position_of ws d ≡ number_of (λ w. w.decl) ws d
 position_as [] d = refl
-position_as (w ∷ ws) d = ap (λ o. if same_place w.decl d then Some 0 else option_map suc o) (position_as ws d)
+position_as (w ∷ ws) d = ap (λ o. if same_decl_place w.decl d then Some 0 else option_map suc o) (position_as ws d)
 
 position_at : (ws : List WrittenOf) (k : ℕ) (w : WrittenOf) → DeclsRise (decls_of ws) → slice_get ws k ≡ Some w → position_of ws w.decl ≡ Some k
 position_at ws k w rise at = position_as ws w.decl ∙ number_at (λ (v : WrittenOf). v.decl) ws w.decl k w rise at (same_itself w.decl)
 
 abbrev IsThere : List WrittenOf → DeclRef → ℕ → Type 0
-IsThere ws d k = (w : WrittenOf) × (slice_get ws k ≡ Some w) × (same_place w.decl d ≡ true)
+IsThere ws d k = (w : WrittenOf) × (slice_get ws k ≡ Some w) × (same_decl_place w.decl d ≡ true)
 
 there_behind : (w : WrittenOf) (ws : List WrittenOf) (d : DeclRef) (o : Option ℕ) (k : ℕ) → ((j : ℕ) → o ≡ Some j → IsThere ws d j) → option_map suc o ≡ Some k → IsThere (w ∷ ws) d k
 there_behind w ws d None k rest h = absurd (let no : None ≡ Some k = h in cc)
@@ -54,9 +55,9 @@ there_behind w ws d (Some j) k rest h =
 
 position_there : (ws : List WrittenOf) (d : DeclRef) (k : ℕ) → position_of ws d ≡ Some k → IsThere ws d k
 position_there [] d k h = absurd (let no : None ≡ Some k = h in cc)
-position_there (w ∷ ws) d k h = by (same_place w.decl d) refl h (λ j e. position_there ws d j e)
+position_there (w ∷ ws) d k h = by (same_decl_place w.decl d) refl h (λ j e. position_there ws d j e)
   where
-    by : (b : Bool) → same_place w.decl d ≡ b → (if b then Some 0 else option_map suc (position_of ws d)) ≡ Some k → ((j : ℕ) → position_of ws d ≡ Some j → IsThere ws d j) → IsThere (w ∷ ws) d k
+    by : (b : Bool) → same_decl_place w.decl d ≡ b → (if b then Some 0 else option_map suc (position_of ws d)) ≡ Some k → ((j : ℕ) → position_of ws d ≡ Some j → IsThere ws d j) → IsThere (w ∷ ws) d k
     by true t g rest =
         let first : 0 ≡ k = (let s : Some 0 ≡ Some k = g in cc) in
         subst (IsThere (w ∷ ws) d) first (w, refl, t)
@@ -86,7 +87,7 @@ module _ (shows : Shows) (path : List ℕ) (b : BlocksModel) (es : List Entry) (
         is = sym d.2;
       }
 
-  in_list : (n : ℕ) (o : FileOutline) (d : TopDeclTree) → IsDeclared os n o d → Among ours (written_of (file_meaning shows path b n) (file_at path n o) es d)
+  in_list : (n : ℕ) (o : FileOutline) (d : TopDeclTree) → IsDeclaredInFile os n o d → Among ours (written_of (file_meaning shows path b n) (file_at path n o) es d)
   in_list n o d h =
       let w = written_of (file_meaning shows path b n) (file_at path n o) es d in
       let at : 0 + n ≡ n = omega arith in
@@ -98,7 +99,7 @@ module _ (shows : Shows) (path : List ℕ) (b : BlocksModel) (es : List Entry) (
     rise : DeclsRise (decls_of ours)
     rise = written_rises (package_meanings shows path b) path es os all
 
-    declared : (n : ℕ) (o : FileOutline) (d : TopDeclTree) → IsDeclared os n o d
+    declared : (n : ℕ) (o : FileOutline) (d : TopDeclTree) → IsDeclaredInFile os n o d
         → Stands ours (decl_ref n d.number (kind_of_form d.form)) (written_of (file_meaning shows path b n) (file_at path n o) es d)
     declared n o d h =
         let w = written_of (file_meaning shows path b n) (file_at path n o) es d in

@@ -14,7 +14,7 @@ use Rattle.go_face_core.specs.declared.written.WrittenDecl.{WrittenDecl}
 use Rattle.go_face_core.specs.Faces.{face_shown}
 use Rattle.go_face_core.specs.Held.{declared_shown, written_shown}
 use Rattle.go_face_core.specs.Packages.{decls_declared, face_among}
-use Rattle.go_face_core.specs.Written.{DeclsRise, decls_of, position_of, same_place}
+use Rattle.go_face_core.specs.Written.{DeclsRise, decls_of, position_of, same_decl_place}
 use Rattle.go_face_core.specs.mirrors.Ordering.{place_cmp}
 use Rattle.go_face_core.proofs.Placed.{place_total, same_equal, equal_same, before_less, not_less_back, less_apart}
 
@@ -22,7 +22,7 @@ module _ {A : Type 0} (key : A → DeclRef) where
   -- the number of the first item of a place
   abbrev pub number_of : List A → DeclRef → Option ℕ
   number_of [] d = None
-  number_of (x ∷ xs) d = if same_place (key x) d then Some 0 else option_map suc (number_of xs d)
+  number_of (x ∷ xs) d = if same_decl_place (key x) d then Some 0 else option_map suc (number_of xs d)
 
   abbrev pub Rises : List A → Type 0
   Rises xs = DeclsRise (map key xs)
@@ -49,22 +49,22 @@ module _ {A : Type 0} (key : A → DeclRef) where
       subst (λ (m : ℕ). is_lt (place_cmp (key (get_or (x ∷ y ∷ xs) m d)) (key (get_or (y ∷ xs) k d))) ≡ false) (sym next) (rise_sorted (y ∷ xs) rise.1 k d (omega arith) lt')
 
   -- an item stands at its place
-  pub number_at : (xs : List A) (d : DeclRef) (n : ℕ) (x : A) → Rises xs → slice_get xs n ≡ Some x → same_place (key x) d ≡ true → number_of xs d ≡ Some n
+  pub number_at : (xs : List A) (d : DeclRef) (n : ℕ) (x : A) → Rises xs → slice_get xs n ≡ Some x → same_decl_place (key x) d ≡ true → number_of xs d ≡ Some n
   number_at [] d n x rise at same = absurd (let no : None ≡ Some x = at in cc)
   number_at (y ∷ xs) d zero x rise at same =
       let is : y ≡ x = (let s : Some y ≡ Some x = at in cc) in
-      ap (λ (b : Bool). if b then Some 0 else option_map suc (number_of xs d)) (ap (λ w. same_place (key w) d) is ∙ same)
-  number_at (y ∷ xs) d (suc n) x rise at same = by (same_place (key y) d) refl (number_at xs d n x (rise_tail y xs rise) at same)
+      ap (λ (b : Bool). if b then Some 0 else option_map suc (number_of xs d)) (ap (λ w. same_decl_place (key w) d) is ∙ same)
+  number_at (y ∷ xs) d (suc n) x rise at same = by (same_decl_place (key y) d) refl (number_at xs d n x (rise_tail y xs rise) at same)
     where
-      by : (b : Bool) → same_place (key y) d ≡ b → number_of xs d ≡ Some n → (if b then Some 0 else option_map suc (number_of xs d)) ≡ Some (suc n)
+      by : (b : Bool) → same_decl_place (key y) d ≡ b → number_of xs d ≡ Some n → (if b then Some 0 else option_map suc (number_of xs d)) ≡ Some (suc n)
       by true t rest = absurd (less_apart (key y) (key x) d (head_before y xs rise n x at) t same)
       by false t rest = ap (option_map suc) rest
 
-  pub number_none : (xs : List A) (d : DeclRef) → ((i : ℕ) (x : A) → slice_get xs i ≡ Some x → same_place (key x) d ≡ true → ⊥) → number_of xs d ≡ None
+  pub number_none : (xs : List A) (d : DeclRef) → ((i : ℕ) (x : A) → slice_get xs i ≡ Some x → same_decl_place (key x) d ≡ true → ⊥) → number_of xs d ≡ None
   number_none [] d none = refl
-  number_none (y ∷ xs) d none = by (same_place (key y) d) refl (number_none xs d (λ i x at same. none (suc i) x at same))
+  number_none (y ∷ xs) d none = by (same_decl_place (key y) d) refl (number_none xs d (λ i x at same. none (suc i) x at same))
     where
-      by : (b : Bool) → same_place (key y) d ≡ b → number_of xs d ≡ None → (if b then Some 0 else option_map suc (number_of xs d)) ≡ None
+      by : (b : Bool) → same_decl_place (key y) d ≡ b → number_of xs d ≡ None → (if b then Some 0 else option_map suc (number_of xs d)) ≡ None
       by true t rest = absurd (none 0 y refl t)
       by false t rest = ap (option_map suc) rest
 
@@ -90,7 +90,7 @@ module _ {A : Type 0} (key : A → DeclRef) where
   module _ {B : Type 0} (held : A → B) where
     abbrev pub held_by : List A → DeclRef → Option B
     held_by [] d = None
-    held_by (x ∷ xs) d = if same_place (key x) d then Some (held x) else held_by xs d
+    held_by (x ∷ xs) d = if same_decl_place (key x) d then Some (held x) else held_by xs d
 
     abbrev item_at : List A → Option ℕ → Option B
     item_at xs None = None
@@ -102,7 +102,7 @@ module _ {A : Type 0} (key : A → DeclRef) where
 
     held_is : (xs : List A) (d : DeclRef) → held_by xs d ≡ item_at xs (number_of xs d)
     held_is [] d = refl
-    held_is (x ∷ xs) d = by (same_place (key x) d) (held_is xs d)
+    held_is (x ∷ xs) d = by (same_decl_place (key x) d) (held_is xs d)
       where
         by : (b : Bool) → held_by xs d ≡ item_at xs (number_of xs d) → (if b then Some (held x) else held_by xs d) ≡ item_at (x ∷ xs) (if b then Some 0 else option_map suc (number_of xs d))
         by true rest = refl
@@ -118,7 +118,7 @@ module _ {A : Type 0} (key : A → DeclRef) where
 
 pub position_is : (ws : List WrittenDecl) (d : DeclRef) → position_of (map written_shown ws) d ≡ number_of (λ w. w.decl) ws d
 position_is [] d = refl
-position_is (w ∷ ws) d = ap (λ o. if same_place w.decl d then Some 0 else option_map suc o) (position_is ws d)
+position_is (w ∷ ws) d = ap (λ o. if same_decl_place w.decl d then Some 0 else option_map suc o) (position_is ws d)
 
 decls_written : (ws : List WrittenDecl) → decls_of (map written_shown ws) ≡ map (λ w. w.decl) ws
 decls_written [] = refl
@@ -129,7 +129,7 @@ rises_written ws h = subst DeclsRise (decls_written ws) h
 
 pub face_is : (es : List DeclaredFace) (d : DeclRef) → face_among (map declared_shown es) d ≡ held_by (λ e. e.decl) (λ e. face_shown e.face) es d
 face_is [] d = refl
-face_is (e ∷ es) d = ap (λ o. if same_place e.decl d then Some (face_shown e.face) else o) (face_is es d)
+face_is (e ∷ es) d = ap (λ o. if same_decl_place e.decl d then Some (face_shown e.face) else o) (face_is es d)
 
 decls_given : (es : List DeclaredFace) → decls_declared (map declared_shown es) ≡ map (λ e. e.decl) es
 decls_given [] = refl

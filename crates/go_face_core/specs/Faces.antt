@@ -35,9 +35,9 @@ face_shown (faces.Func g) = faces.Func (sign_of g)
 face_shown (faces.«Value» o) = faces.«Value» (option_map operand_shown o)
 
 -- a variable of a type, as an operand
-abbrev pub variable : Term → Operand Term
-variable t = record { value_type = value_types.Typed t; constant = None; addressable = true }
+abbrev pub face_variable : Term → Operand Term
+face_variable t = record { value_type = value_types.Typed t; constant = None; addressable = true }
 
 -- what a variable is, which may have no type
 abbrev pub variable_face : Option Term → TheFace
-variable_face t = faces.«Value» (option_map variable t)
+variable_face t = faces.«Value» (option_map face_variable t)

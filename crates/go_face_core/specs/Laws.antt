@@ -8,13 +8,14 @@ use Rattle.go_tree_nodes.specs.Trees.{TypeSpecTree}
 use Rattle.go_term_core.specs.decl_core.TopDecls.{TopDeclTree, TypeForm, kind_of_form}
 use Rattle.go_entry_core.specs.block_core.Blocks.{BlocksModel}
 use Rattle.go_term_core.specs.Terms.{term_keys}
-use Rattle.go_handle_core.specs.table_core.Entries.{Entry, find}
-use Rattle.go_entry_core.specs.Entries.{decl_ref, file_at, type_key}
-use Rattle.go_entry_core.specs.Laws.{IsDeclared}
+use Rattle.go_handle_core.specs.table_core.Entries.{Entry, find_entry}
+use Rattle.go_entry_core.specs.Entries.{file_at, type_key}
+use Rattle.go_entry_core.specs.Laws.{IsDeclaredInFile}
 use Rattle.go_entry_core.specs.Meanings.{Shows, file_meaning}
 use Rattle.go_entry_core.specs.Outlines.{FileOutline, IsOutline}
 use Rattle.go_face_core.specs.Names.{names_faced}
-use Rattle.go_face_core.specs.Written.{WrittenOf, package_written, position_of, same_place, written_of}
+use Rattle.go_face_core.specs.Written.{WrittenOf, package_written, position_of, same_decl_place, written_of}
+use Rattle.go_entry_core.specs.block_core.Declarations.{decl_ref}
 
 -- places
 
@@ -29,7 +30,7 @@ pub record IsOfFile (shows : Shows) (path : List ℕ) (b : BlocksModel) (es : Li
   pub file : ℕ
   pub outline : FileOutline
   pub decl : TopDeclTree
-  pub there : IsDeclared os file outline decl
+  pub there : IsDeclaredInFile os file outline decl
   pub is : w ≡ written_of (file_meaning shows path b file) (file_at path file outline) es decl
 
 -- the declarations of the files of a package, in order, each with its file
@@ -53,30 +54,30 @@ pub record PositionsAreExact : Type 0 where
   pub listed : (shows : Shows) (path : List ℕ) (b : BlocksModel) (es : List Entry) (os : List FileOutline)
       → package_written shows path b es os ≡ map (written_there shows path b es) (package_decls os)
   pub declared : (shows : Shows) (path : List ℕ) (b : BlocksModel) (es : List Entry) (os : List FileOutline) (n : ℕ) (o : FileOutline) (d : TopDeclTree)
-      → All IsOutline os → IsDeclared os n o d
+      → All IsOutline os → IsDeclaredInFile os n o d
       → Stands (package_written shows path b es os) (decl_ref n d.number (kind_of_form d.form)) (written_of (file_meaning shows path b n) (file_at path n o) es d)
   pub place : (shows : Shows) (path : List ℕ) (b : BlocksModel) (es : List Entry) (os : List FileOutline) (k : ℕ) (w : WrittenOf)
       → All IsOutline os → slice_get (package_written shows path b es os) k ≡ Some w
       → (position_of (package_written shows path b es os) w.decl ≡ Some k) × IsOfFile shows path b es os w
   pub position : (ws : List WrittenOf) (d : DeclRef) (k : ℕ)
-      → position_of ws d ≡ Some k → (k < length ws) × ((w : WrittenOf) × (slice_get ws k ≡ Some w) × (same_place w.decl d ≡ true))
+      → position_of ws d ≡ Some k → (k < length ws) × ((w : WrittenOf) × (slice_get ws k ≡ Some w) × (same_decl_place w.decl d ≡ true))
 
 -- what is looked at
 
 -- names of types mean the same by two packages' shows and two packages' blocks, those that the declarations of the files write
-abbrev pub MeanAlike : (shows other : Shows) (path : List ℕ) (b c : BlocksModel) → List FileOutline → Type 0
-MeanAlike shows other path b c os =
+abbrev pub MeanAlikeInFaces : (shows other : Shows) (path : List ℕ) (b c : BlocksModel) → List FileOutline → Type 0
+MeanAlikeInFaces shows other path b c os =
     (n : ℕ) (o : FileOutline) (x : TypeName) → slice_get os n ≡ Some o → Contains (names_faced o) x → file_meaning shows path b n x ≡ file_meaning other path c n x
 
 -- two tables have the same of the types that the files declare, and of those that these names mean
 pub record LookAlike (shows : Shows) (path : List ℕ) (b : BlocksModel) (es fs : List Entry) (os : List FileOutline) : Type 0 where
-  pub own : (n : ℕ) (o : FileOutline) (d : TopDeclTree) (t : TypeSpecTree) → IsDeclared os n o d → d.form ≡ TypeForm t
-      → find es (type_key (file_at path n o) d.number) ≡ find fs (type_key (file_at path n o) d.number)
+  pub own : (n : ℕ) (o : FileOutline) (d : TopDeclTree) (t : TypeSpecTree) → IsDeclaredInFile os n o d → d.form ≡ TypeForm t
+      → find_entry es (type_key (file_at path n o) d.number) ≡ find_entry fs (type_key (file_at path n o) d.number)
   pub named : (n : ℕ) (o : FileOutline) (x : TypeName) (k : DeclKey) → slice_get os n ≡ Some o → Contains (names_faced o) x
-      → Contains (term_keys (file_meaning shows path b n x)) k → find es k ≡ find fs k
+      → Contains (term_keys (file_meaning shows path b n x)) k → find_entry es k ≡ find_entry fs k
 
 -- the faces depend on nothing else of blocks, of what other packages show and of the table
 abbrev pub WrittenAreLocal : Type 0
 WrittenAreLocal =
     (shows other : Shows) (path : List ℕ) (b c : BlocksModel) (es fs : List Entry) (os : List FileOutline)
-    → MeanAlike shows other path b c os → LookAlike shows path b es fs os → package_written shows path b es os ≡ package_written other path c fs os
+    → MeanAlikeInFaces shows other path b c os → LookAlike shows path b es fs os → package_written shows path b es os ≡ package_written other path c fs os

@@ -13,6 +13,7 @@ pub mod decide_core
 pub mod entry_core
 pub mod graph_core
 pub mod handle_core
+pub mod level_core
 pub mod operand_core
 pub mod select_core
 pub mod table_core

@@ -9,7 +9,7 @@ use Rattle.go_entry_core.specs.block_core.Tables.{in_block, with_first}
 use Rattle.go_face_core.specs.declared.shown.ShownFace.{ShownFace}
 use Rattle.go_face_core.specs.declared.shown.ShownFace.TheVariants as shows
 use Rattle.go_face_core.specs.Faces.{TheFace}
-use Rattle.go_face_core.specs.Written.{same_place}
+use Rattle.go_face_core.specs.Written.{same_decl_place}
 
 -- a declaration, and what it is
 pub record DeclaredOf : Type 0 where
@@ -33,7 +33,7 @@ package_faces path names faces = record { path = path; names = names; faces = fa
 -- the face of a declaration, by file and number
 abbrev pub face_among : List DeclaredOf → DeclRef → Option TheFace
 face_among [] d = None
-face_among (e ∷ es) d = if same_place e.decl d then Some e.face else face_among es d
+face_among (e ∷ es) d = if same_decl_place e.decl d then Some e.face else face_among es d
 
 abbrev pub face_by : PackageFacesModel → DeclRef → Option TheFace
 face_by p d = face_among p.faces d

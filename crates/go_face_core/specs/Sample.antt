@@ -6,90 +6,90 @@ use Rattle.go_tree_nodes.specs.Trees.{One, Then, TypeTree, NamedType, Pointer, I
 use Rattle.go_term_core.specs.decl_core.declared.keys.DeclKey.{DeclKey}
 use Rattle.go_term_core.specs.decl_core.declared.places.DeclKind.{DeclKind}
 use Rattle.go_term_core.specs.decl_core.declared.places.DeclKind.TheVariants as kinds
-use Rattle.go_term_core.specs.decl_core.Sample.{at, int_at, named, one_param, top}
+use Rattle.go_term_core.specs.decl_core.Sample.{at, int_at, called, one_param, top}
 use Rattle.go_entry_core.specs.block_core.Blocks.{BlocksModel, blocks_model}
 use Rattle.go_term_core.specs.declared.term.Basic.TheVariants as basics
 use Rattle.go_term_core.specs.Terms.{Term, Predeclared, Defined, PointerTo, SignOf, NoTerm, ATerm}
 use Rattle.go_handle_core.specs.table_core.Entries.{Entry}
-use Rattle.go_entry_core.specs.Entries.{decl_ref}
 use Rattle.go_entry_core.specs.Meanings.{Shows}
 use Rattle.go_entry_core.specs.Outlines.{outline_of}
-use Rattle.go_entry_core.specs.Sample.{file_of}
+use Rattle.go_entry_core.specs.Sample.{sample_file}
 use Rattle.go_handle_core.specs.operand_core.declared.types.ValueType.TheVariants as value_types
 use Rattle.go_face_core.specs.declared.face.Face.TheVariants as faces
 use Rattle.go_face_core.specs.Faces.{TheFace}
 use Rattle.go_face_core.specs.Written.{WrittenOf, package_written, position_of}
+use Rattle.go_entry_core.specs.block_core.Declarations.{decl_ref}
 
 abbrev pub type_at : List ℕ → ℕ → TypeTree
-type_at name n = NamedType (type_names.Plain (named name n))
+type_at name n = NamedType (type_names.Plain (called name n))
 
 -- type T int
-abbrev pub number_type : TopTree
-number_type = top (Types (record { keyword = at 3; specs = Single (record { name = named (codes "T") 4; type_expr = int_at 5 }) })) 6
+abbrev pub face_number_type : TopTree
+face_number_type = top (Types (record { keyword = at 3; specs = Single (record { name = called (codes "T") 4; type_expr = int_at 5 }) })) 6
 
 -- func f(x *T) {}
-abbrev pub function : TopTree
-function = top (Func (record { func = at 7; receiver = None; name = named (codes "f") 8; signature = Signed (at 9) (Param (Some (One (named (codes "x") 10))) (Pointer (at 11) (type_at (codes "T") 12)) None NoParams) (at 13) NoResult; open_brace = at 14; body = NoLines; close_brace = at 15 })) 16
+abbrev pub face_sample_function : TopTree
+face_sample_function = top (Func (record { func = at 7; receiver = None; name = called (codes "f") 8; signature = Signed (at 9) (Param (Some (One (called (codes "x") 10))) (Pointer (at 11) (type_at (codes "T") 12)) None NoParams) (at 13) NoResult; open_brace = at 14; body = NoLines; close_brace = at 15 })) 16
 
 -- var v, w *T
 abbrev pub typed_variables : TopTree
-typed_variables = top (Value (record { kind = value_kinds.Var; keyword = at 17; specs = Single (record { names = Then (named (codes "v") 18) (at 19) (One (named (codes "w") 20)); type_expr = Some (Pointer (at 21) (type_at (codes "T") 22)); values = None }) })) 23
+typed_variables = top (Value (record { kind = value_kinds.Var; keyword = at 17; specs = Single (record { names = Then (called (codes "v") 18) (at 19) (One (called (codes "w") 20)); type_expr = Some (Pointer (at 21) (type_at (codes "T") 22)); values = None }) })) 23
 
 -- const c int = 1
 abbrev pub typed_constant : TopTree
-typed_constant = top (Value (record { kind = value_kinds.Const; keyword = at 24; specs = Single (record { names = One (named (codes "c") 25); type_expr = Some (int_at 26); values = Some (at 27, One (Integer 1 (at 28))) }) })) 29
+typed_constant = top (Value (record { kind = value_kinds.Const; keyword = at 24; specs = Single (record { names = One (called (codes "c") 25); type_expr = Some (int_at 26); values = Some (at 27, One (Integer 1 (at 28))) }) })) 29
 
 -- var u = 1
 abbrev pub plain_variable : TopTree
-plain_variable = top (Value (record { kind = value_kinds.Var; keyword = at 3; specs = Single (record { names = One (named (codes "u") 4); type_expr = None; values = Some (at 5, One (Integer 1 (at 6))) }) })) 7
+plain_variable = top (Value (record { kind = value_kinds.Var; keyword = at 3; specs = Single (record { names = One (called (codes "u") 4); type_expr = None; values = Some (at 5, One (Integer 1 (at 6))) }) })) 7
 
 -- var z M
 abbrev pub typeless_variable : TopTree
-typeless_variable = top (Value (record { kind = value_kinds.Var; keyword = at 8; specs = Single (record { names = One (named (codes "z") 9); type_expr = Some (type_at (codes "M") 10); values = None }) })) 11
+typeless_variable = top (Value (record { kind = value_kinds.Var; keyword = at 8; specs = Single (record { names = One (called (codes "z") 9); type_expr = Some (type_at (codes "M") 10); values = None }) })) 11
 
 -- func (t T) m(q int) {}
-abbrev pub method : TopTree
-method = top (Func (record { func = at 12; receiver = Some (record { open_paren = at 13; name = Some (named (codes "t") 14); star = None; base = type_names.Plain (named (codes "T") 15); comma = None; close_paren = at 16 }); name = named (codes "m") 17; signature = one_param (codes "q") 18; open_brace = at 22; body = NoLines; close_brace = at 23 })) 24
+abbrev pub face_sample_method : TopTree
+face_sample_method = top (Func (record { func = at 12; receiver = Some (record { open_paren = at 13; name = Some (called (codes "t") 14); star = None; base = type_names.Plain (called (codes "T") 15); comma = None; close_paren = at 16 }); name = called (codes "m") 17; signature = one_param (codes "q") 18; open_brace = at 22; body = NoLines; close_brace = at 23 })) 24
 
 -- type N M
 abbrev pub missing_type : TopTree
-missing_type = top (Types (record { keyword = at 25; specs = Single (record { name = named (codes "N") 26; type_expr = type_at (codes "M") 27 }) })) 28
+missing_type = top (Types (record { keyword = at 25; specs = Single (record { name = called (codes "N") 26; type_expr = type_at (codes "M") 27 }) })) 28
 
-abbrev pub sample_blocks : BlocksModel
-sample_blocks = blocks_model ((codes "T", decl_ref 0 0 kinds.«Type») ∷ ((codes "N", decl_ref 1 5 kinds.«Type») ∷ [])) ([] ∷ ([] ∷ [])) []
+abbrev pub face_sample_blocks : BlocksModel
+face_sample_blocks = blocks_model ((codes "T", decl_ref 0 0 kinds.«Type») ∷ ((codes "N", decl_ref 1 5 kinds.«Type») ∷ [])) ([] ∷ ([] ∷ [])) []
 
-abbrev pub sample_shows : Shows
-sample_shows = λ path name. None
+abbrev pub face_sample_shows : Shows
+face_sample_shows = λ path name. None
 
-abbrev pub sample_key : DeclKey
-sample_key = record { path = codes "p"; decl = decl_ref 0 0 kinds.«Type» }
+abbrev pub face_sample_key : DeclKey
+face_sample_key = record { path = codes "p"; decl = decl_ref 0 0 kinds.«Type» }
 
 -- no other type is in the table
 abbrev pub sample_table : List Entry
-sample_table = record { key = sample_key; name = codes "T"; term = Predeclared basics.Int; methods = [] } ∷ []
+sample_table = record { key = face_sample_key; name = codes "T"; term = Predeclared basics.Int; methods = [] } ∷ []
 
 abbrev pub entry : ℕ → ℕ → DeclKind → Option TheFace → WrittenOf
 entry file number kind face = record { decl = decl_ref file number kind; face = face }
 
 -- a variable of this type
-abbrev pub of_type : Term → Option TheFace
-of_type t = Some (faces.«Value» (Some (record { value_type = value_types.Typed t; constant = None; addressable = true })))
+abbrev pub sample_variable_face : Term → Option TheFace
+sample_variable_face t = Some (faces.«Value» (Some (record { value_type = value_types.Typed t; constant = None; addressable = true })))
 
 abbrev pub pointer : Term
-pointer = PointerTo (Defined sample_key)
+pointer = PointerTo (Defined face_sample_key)
 
 abbrev pub sample_list : List WrittenOf
-sample_list = package_written sample_shows (codes "p") sample_blocks sample_table
-    (outline_of (file_of (number_type ∷ (function ∷ (typed_variables ∷ (typed_constant ∷ []))))) ∷ (outline_of (file_of (plain_variable ∷ (typeless_variable ∷ (method ∷ (missing_type ∷ []))))) ∷ []))
+sample_list = package_written face_sample_shows (codes "p") face_sample_blocks sample_table
+    (outline_of (sample_file (face_number_type ∷ (face_sample_function ∷ (typed_variables ∷ (typed_constant ∷ []))))) ∷ (outline_of (sample_file (plain_variable ∷ (typeless_variable ∷ (face_sample_method ∷ (missing_type ∷ []))))) ∷ []))
 
 -- the parameters and the receiver have numbers of their own, and stand nowhere in the list
-pub record SampleIsRight : Type 0 where
+pub record FaceSampleIsRight : Type 0 where
   pub listed :
       sample_list
-      ≡ entry 0 0 kinds.«Type» (Some (faces.«Type» (Some (Defined sample_key))))
+      ≡ entry 0 0 kinds.«Type» (Some (faces.«Type» (Some (Defined face_sample_key))))
       ∷ (entry 0 1 kinds.Func (Some (faces.Func (SignOf (ATerm pointer NoTerm) NoTerm)))
-      ∷ (entry 0 3 kinds.Var (of_type pointer)
-      ∷ (entry 0 4 kinds.Var (of_type pointer)
+      ∷ (entry 0 3 kinds.Var (sample_variable_face pointer)
+      ∷ (entry 0 4 kinds.Var (sample_variable_face pointer)
       ∷ (entry 0 5 kinds.Const None
       ∷ (entry 1 0 kinds.Var None
       ∷ (entry 1 1 kinds.Var (Some (faces.«Value» None))

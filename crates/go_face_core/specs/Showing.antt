@@ -10,7 +10,7 @@ use Rattle.go_face_core.specs.Written.{DeclsRise}
 
 -- what a package shows behind a dot is what its package block has: an exported name its declaration with the face, another name that it is
 -- not exported, and of what the block has not that it is not there
-pub record ShowsItsBlock : Type 0 where
+pub record FacesShowTheirBlock : Type 0 where
   pub absent : (path : List ℕ) (block : List (List ℕ × DeclRef)) (faces : List DeclaredOf) (name : List ℕ)
       → in_block block name ≡ None → shown_by (package_faces path (names_seen block) faces) name ≡ shows.Absent
   pub hidden : (path : List ℕ) (block : List (List ℕ × DeclRef)) (faces : List DeclaredOf) (name : List ℕ) (d : DeclRef)

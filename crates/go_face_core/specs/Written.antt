@@ -8,21 +8,21 @@ use Rattle.std.specs.Option.{option_map}
 use Rattle.go_tree_nodes.specs.declared.decls.ValueKind.{ValueKind}
 use Rattle.go_tree_nodes.specs.declared.decls.ValueKind.TheVariants as value_kinds
 use Rattle.go_tree_nodes.specs.Trees.{TypeTree}
-use Rattle.go_term_core.specs.decl_core.declared.keys.DeclKey.{DeclKey}
 use Rattle.go_term_core.specs.decl_core.declared.keys.DeclRef.{DeclRef}
 use Rattle.go_term_core.specs.decl_core.TopDecls.{TopDeclTree, FormTree, ValueForm, TypeForm, FuncForm, kind_of_form}
 use Rattle.go_entry_core.specs.block_core.Blocks.{BlocksModel}
-use Rattle.go_handle_core.specs.settle_core.declared.kind.Kind.{Kind}
-use Rattle.go_handle_core.specs.settle_core.Settled.{kind_of_term, settled, settled_sign}
+use Rattle.go_handle_core.specs.settle_core.Settled.{settled, settled_sign}
 use Rattle.go_term_core.specs.Terms.{Term, Defined}
-use Rattle.go_handle_core.specs.table_core.Entries.{Entry, find, term_in}
+use Rattle.go_handle_core.specs.table_core.Entries.{Entry, find_entry}
 use Rattle.go_entry_core.specs.written_core.Written.{InFile, Meaning, term_of, signature_of}
 use Rattle.go_entry_core.specs.Outlines.{FileOutline}
-use Rattle.go_entry_core.specs.Entries.{Meanings, decl_ref, file_at, package_meanings, type_key}
+use Rattle.go_entry_core.specs.Entries.{Meanings, file_at, package_meanings, type_key}
 use Rattle.go_entry_core.specs.Meanings.{Shows}
 use Rattle.go_handle_core.specs.decide_core.Rules.{typed}
 use Rattle.go_face_core.specs.declared.face.Face.TheVariants as faces
 use Rattle.go_face_core.specs.Faces.{TheFace, variable_face}
+use Rattle.go_entry_core.specs.block_core.Declarations.{decl_ref}
+use Rattle.go_handle_core.specs.table_core.Entries.{kinds_in}
 
 -- a declaration with what it is as it is written, if that is written
 pub record WrittenOf : Type 0 where
@@ -32,13 +32,13 @@ pub record WrittenOf : Type 0 where
 -- places in a list of declarations
 
 -- a declaration of one file and number
-abbrev pub same_place : DeclRef → DeclRef → Bool
-same_place a b = nat_eq a.file b.file && nat_eq a.number b.number
+abbrev pub same_decl_place : DeclRef → DeclRef → Bool
+same_decl_place a b = nat_eq a.file b.file && nat_eq a.number b.number
 
 -- the place of a declaration in the list, from 0: none where it does not stand there
 abbrev pub position_of : List WrittenOf → DeclRef → Option ℕ
 position_of [] d = None
-position_of (w ∷ ws) d = if same_place w.decl d then Some 0 else option_map suc (position_of ws d)
+position_of (w ∷ ws) d = if same_decl_place w.decl d then Some 0 else option_map suc (position_of ws d)
 
 -- what stands at a place, and past the end nothing
 abbrev pub face_found : Option WrittenOf → Option TheFace
@@ -62,32 +62,28 @@ decls_of ws = map (λ w. w.decl) ws
 
 -- what is written
 
--- the kinds of the types of a table
-abbrev pub kinds_in : List Entry → DeclKey → Kind
-kinds_in es k = kind_of_term (term_in (find es k))
-
 -- a type that is written in a file, settled: none where it is no type
 abbrev pub type_written : Meaning → InFile → List Entry → TypeTree → Option Term
-type_written mean f es t = typed (find es) (settled (kinds_in es) (term_of mean f t))
+type_written mean f es t = typed (find_entry es) (settled (kinds_in es) (term_of mean f t))
 
 -- a constant follows from its initialiser, and so does a variable whose type is not written
-abbrev pub value_face : Meaning → InFile → List Entry → ValueKind → Option TypeTree → Option TheFace
-value_face mean f es value_kinds.Var (Some t) = Some (variable_face (type_written mean f es t))
-value_face mean f es value_kinds.Var None = None
-value_face mean f es value_kinds.Const t = None
+abbrev pub value_as_written : Meaning → InFile → List Entry → ValueKind → Option TypeTree → Option TheFace
+value_as_written mean f es value_kinds.Var (Some t) = Some (variable_face (type_written mean f es t))
+value_as_written mean f es value_kinds.Var None = None
+value_as_written mean f es value_kinds.Const t = None
 
 -- a type that is declared in a file under a number: its key's, where that is a type
 abbrev pub type_face : InFile → List Entry → ℕ → TheFace
-type_face f es n = faces.«Type» (typed (find es) (Defined (type_key f n)))
+type_face f es n = faces.«Type» (typed (find_entry es) (Defined (type_key f n)))
 
 -- what a declaration is as it is written: a function and a method have the settled signature
-abbrev pub form_face : Meaning → InFile → List Entry → ℕ → FormTree → Option TheFace
-form_face mean f es n (ValueForm k v i) = value_face mean f es k v.type_expr
-form_face mean f es n (TypeForm t) = Some (type_face f es n)
-form_face mean f es n (FuncForm g) = Some (faces.Func (settled_sign (kinds_in es) (signature_of mean f g.signature)))
+abbrev pub form_as_written : Meaning → InFile → List Entry → ℕ → FormTree → Option TheFace
+form_as_written mean f es n (ValueForm k v i) = value_as_written mean f es k v.type_expr
+form_as_written mean f es n (TypeForm t) = Some (type_face f es n)
+form_as_written mean f es n (FuncForm g) = Some (faces.Func (settled_sign (kinds_in es) (signature_of mean f g.signature)))
 
 abbrev pub written_of : Meaning → InFile → List Entry → TopDeclTree → WrittenOf
-written_of mean f es d = record { decl = decl_ref f.file d.number (kind_of_form d.form); face = form_face mean f es d.number d.form }
+written_of mean f es d = record { decl = decl_ref f.file d.number (kind_of_form d.form); face = form_as_written mean f es d.number d.form }
 
 -- the declarations of a file, in order of number
 abbrev pub file_written : Meaning → InFile → List Entry → List TopDeclTree → List WrittenOf

@@ -1,7 +1,7 @@
 //! Laws of the declarations of a package as they are written, and of what packages show.
 ghost use Rattle.go_face_core.specs.Laws.{PositionsAreExact, WrittenAreLocal};
-ghost use Rattle.go_face_core.specs.Sample.{SampleIsRight};
-ghost use Rattle.go_face_core.specs.Showing.{FacesAreFound, ShowsItsBlock, TablesShowTheirPackages};
+ghost use Rattle.go_face_core.specs.Sample.{FaceSampleIsRight};
+ghost use Rattle.go_face_core.specs.Showing.{FacesAreFound, FacesShowTheirBlock, TablesShowTheirPackages};
 
 /// A law, with nothing to run: each declaration of a file stands in the list at its position, what stands at a place is a declaration of a
 /// file with that position, and each position is one of a declaration that stands there.
@@ -17,13 +17,13 @@ pub fn written_are_local()
 
 /// A law, with nothing to run: the declarations of a package of two files that is worked out by hand.
 pub fn worked_faces()
-    ensures { SampleIsRight }
+    ensures { FaceSampleIsRight }
 {}
 
 /// A law, with nothing to run: behind the name of a package and a dot each exported name of its package block is seen, with its declaration
 /// and the face that it was given, each other name of the block is hidden, and no other name is there.
 pub fn packages_show_their_faces()
-    ensures block { ShowsItsBlock }
+    ensures block { FacesShowTheirBlock }
     ensures faces { FacesAreFound }
 {}
 

@@ -2,7 +2,7 @@
 ghost use Rattle.std.specs.Prelude.{◌≡◌, IfOk};
 ghost use Rattle.std.specs.Option.{option_map};
 ghost use Rattle.go_term_core.specs.Shapes.{shape};
-ghost use Rattle.go_face_core.specs.Faces.{face_shown, operand_shown, value_type_shown, variable};
+ghost use Rattle.go_face_core.specs.Faces.{face_shown, operand_shown, value_type_shown, face_variable};
 
 use crate::face::Face;
 use go_handle_core::operand_core::{Operand, ValueType};
@@ -24,7 +24,7 @@ pub(crate) fn lend_type<'a>(term: &'a Option<TypeTerm>) -> Option<TypeRef<'a>>
 ///
 /// The Go specification, "Variables" and "Address operators": a variable is addressable.
 pub(crate) fn variable<'a>(term: &'a TypeTerm) -> Operand<TypeRef<'a>>
-    ensures { result ≡ variable (shape term.now) }
+    ensures { result ≡ face_variable (shape term.now) }
 {
     Operand {
         value_type: ValueType::Typed(TypeRef::of(term)),

@@ -10,7 +10,7 @@ ghost use Rattle.go_entry_core.specs.written_core.Written.{in_file};
 ghost use Rattle.go_entry_core.specs.Entries.{package_meanings};
 ghost use Rattle.go_entry_core.specs.Outlines.{IsOutline, outline_shown};
 ghost use Rattle.go_face_core.specs.Held.{form_held, written_shown};
-ghost use Rattle.go_face_core.specs.Written.{DeclsRise, decls_of, file_written, form_face, package_written, type_face, value_face, written_of, written_with};
+ghost use Rattle.go_face_core.specs.Written.{DeclsRise, decls_of, file_written, form_as_written, package_written, type_face, value_as_written, written_of, written_with};
 
 use crate::settling::{settled_signature, settled_type, typed};
 use crate::written::{WrittenDecl, WrittenFaces, WrittenForm};
@@ -34,7 +34,7 @@ fn value_form<N: TypeNames>(
     kind: ValueKind,
     spec: &ValueSpec,
 ) -> Result<WrittenForm, AllocError>
-    ensures { IfOk result (λ w. form_held w ≡ value_face (N.meaning names.now) (in_file at.now) types.now kind (shape_value_spec spec.now).type_expr) }
+    ensures { IfOk result (λ w. form_held w ≡ value_as_written (N.meaning names.now) (in_file at.now) types.now kind (shape_value_spec spec.now).type_expr) }
 {
     match (kind, &spec.type_expr) {
         (ValueKind::Var, Some(tree)) => Ok(WrittenForm::Variable(settled_type(
@@ -71,7 +71,7 @@ fn form_of<N: TypeNames>(
     types: &TypeTable,
     decl: &TopDecl<'_>,
 ) -> Result<WrittenForm, AllocError>
-    ensures { IfOk result (λ w. form_held w ≡ form_face (N.meaning names.now) (in_file at.now) types.now (decl_shown decl.now).number (decl_shown decl.now).form) }
+    ensures { IfOk result (λ w. form_held w ≡ form_as_written (N.meaning names.now) (in_file at.now) types.now (decl_shown decl.now).number (decl_shown decl.now).form) }
 {
     match decl.form {
         DeclForm::Value(kind, spec, _) => value_form(alloc, names, at, types, kind, spec),

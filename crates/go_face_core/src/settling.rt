@@ -3,12 +3,13 @@ ghost use Rattle.std.specs.Prelude.{◌≡◌, IfOk};
 ghost use Rattle.std.specs.Option.{option_map};
 ghost use Rattle.go_tree_nodes.specs.TypeShapes.{shape_type, shape_signature};
 ghost use Rattle.go_term_core.specs.Shapes.{shape, sign_of};
-ghost use Rattle.go_handle_core.specs.table_core.Entries.{find};
+ghost use Rattle.go_handle_core.specs.table_core.Entries.{find_entry};
 ghost use Rattle.go_handle_core.specs.settle_core.Settled.{settled_sign};
 ghost use Rattle.go_entry_core.specs.written_core.Written.{in_file, signature_of};
-ghost use Rattle.go_handle_core.specs.decide_core.Conversion.{is_nothing};
+ghost use Rattle.go_handle_core.specs.decide_core.Conversion.{is_no_type};
 ghost use Rattle.go_handle_core.specs.decide_core.Rules.{typed};
-ghost use Rattle.go_face_core.specs.Written.{kinds_in, type_written};
+ghost use Rattle.go_face_core.specs.Written.{type_written};
+ghost use Rattle.go_handle_core.specs.table_core.Entries.{kinds_in};
 
 use go_entry_core::written_core::{TypeNames, WrittenIn, write_signature, write_type};
 use go_handle_core::settle_core::{settle, settle_signature};
@@ -19,7 +20,7 @@ use std::alloc::{AllocError, Global};
 
 // Whether it is no type.
 fn is_nothing(term: &TypeTerm) -> bool
-    ensures { result ≡ is_nothing (shape term.now) }
+    ensures { result ≡ is_no_type (shape term.now) }
 {
     match term {
         TypeTerm::NoType => true,
@@ -34,7 +35,7 @@ fn is_nothing(term: &TypeTerm) -> bool
 
 /// A type, where it is one in a table.
 pub(crate) fn typed(types: &TypeTable, term: TypeTerm) -> Option<TypeTerm>
-    ensures { option_map shape result ≡ typed (find types.now) (shape term) }
+    ensures { option_map shape result ≡ typed (find_entry types.now) (shape term) }
 {
     if is_nothing(types.underlying(&term)) {
         close(term);

@@ -1,6 +1,7 @@
 pub mod Places
 pub mod TypeFaults
 pub mod block_core
+pub mod cycle_core
 pub mod entry_core
 pub mod graph_core
 pub mod parse_core

@@ -9,13 +9,10 @@ use Rattle.go_tree_nodes.specs.declared.files.Receiver.{Receiver}
 use Rattle.go_tree_nodes.specs.declared.types.TypeName.{TypeName}
 use Rattle.go_tree_nodes.specs.declared.types.TypeName.TheVariants as type_names
 use Rattle.go_tree_nodes.specs.Trees.{FuncTree}
-use Rattle.go_term_core.specs.decl_core.declared.keys.DeclKey.{DeclKey}
 use Rattle.go_term_core.specs.decl_core.TopDecls.{TopDeclTree, FormTree, ValueForm, TypeForm, FuncForm}
-use Rattle.go_embed_core.specs.settle_core.declared.kind.Kind.{Kind}
-use Rattle.go_embed_core.specs.settle_core.Settled.{kind_of_term}
 use Rattle.go_term_core.specs.declared.term.MemberPlace.TheVariants as places
 use Rattle.go_term_core.specs.Terms.{Term, NoType, Predeclared, ErrorType, Defined, PointerTo, StructOf, InterfaceOf}
-use Rattle.go_embed_core.specs.table_core.Entries.{Entry, find, term_in}
+use Rattle.go_embed_core.specs.table_core.Entries.{Entry, find_entry, term_in}
 use Rattle.go_embed_core.specs.type_core.declared.build.TypeFault.{TypeFault}
 use Rattle.go_embed_core.specs.Faults.{term_faults, declared_faults, hidden_faults, can_be_base}
 use Rattle.go_entry_core.specs.written_core.Written.{Meaning}
@@ -23,10 +20,7 @@ use Rattle.go_entry_core.specs.Entries.{Meanings}
 use Rattle.go_entry_core.specs.Outlines.{FileOutline}
 use Rattle.go_fault_core.specs.declared.places.PackageFault.{PackageFault}
 use Rattle.go_fault_core.specs.Places.{fault_in, located, all_located}
-
--- the kinds of the types of a table
-abbrev pub kind_in : List Entry → DeclKey → Kind
-kind_in es k = kind_of_term (term_in (find es k))
+use Rattle.go_embed_core.specs.table_core.Entries.{kinds_in}
 
 -- the type whose fields the methods of a defined type may meet: its underlying type, or, where it is no type, the type as it is written
 abbrev pub met_type : Term → Term → Term
@@ -39,24 +33,24 @@ met_type (StructOf path fs) written = StructOf path fs
 met_type (InterfaceOf path ms) written = InterfaceOf path ms
 
 abbrev pub met_in : List Entry → Entry → Term
-met_in es e = met_type (term_in (find es e.key)) e.term
+met_in es e = met_type (term_in (find_entry es e.key)) e.term
 
 -- what is amiss in a type declaration and in the methods of its type, as they are written
 abbrev pub entry_faults : List Entry → List ℕ → List FileOutline → Entry → List PackageFault
 entry_faults es path os e =
-    (all_located os (term_faults (kind_in es) e.term) ++ all_located os (declared_faults (kind_in es) path (met_in es e) [] e.methods))
+    (all_located os (term_faults (kinds_in es) e.term) ++ all_located os (declared_faults (kinds_in es) path (met_in es e) [] e.methods))
     ++ all_located os (hidden_faults path (met_in es e) e.methods)
 
 abbrev pub entries_faults : List Entry → List ℕ → List FileOutline → List Entry → List PackageFault
 entries_faults es path os written = flat_map (entry_faults es path os) written
 
 -- types that reach themselves, by their numbers among the entries
-abbrev pub loop_fault : List FileOutline → TypeFault → Option Entry → List PackageFault
-loop_fault os f None = []
-loop_fault os f (Some e) = located os (places.Declared e.key.decl) f.rule
+abbrev pub type_loop_fault : List FileOutline → TypeFault → Option Entry → List PackageFault
+type_loop_fault os f None = []
+type_loop_fault os f (Some e) = located os (places.Declared e.key.decl) f.rule
 
 abbrev pub loops_faults : List FileOutline → List Entry → List TypeFault → List PackageFault
-loops_faults os es fs = flat_map (λ f. loop_fault os f (slice_get es f.entry)) fs
+loops_faults os es fs = flat_map (λ f. type_loop_fault os f (slice_get es f.entry)) fs
 
 -- receivers
 
@@ -66,7 +60,7 @@ base_start (type_names.Plain x) = x.span.start
 base_start (type_names.Qualified p dot x) = p.span.start
 
 abbrev pub base_fault : List Entry → Meaning → List ℕ → ℕ → TypeName → List PackageFault
-base_fault es mean path file base = if can_be_base (kind_in es) path (mean base) then [] else fault_in file (base_start base) B6 ∷ []
+base_fault es mean path file base = if can_be_base (kinds_in es) path (mean base) then [] else fault_in file (base_start base) B6 ∷ []
 
 abbrev pub received_fault : List Entry → Meaning → List ℕ → ℕ → Option Receiver → List PackageFault
 received_fault es mean path file None = []

@@ -4,7 +4,7 @@ ghost use Rattle.go_term_core.specs.Shapes.{shape};
 ghost use Rattle.go_embed_core.specs.table_core.Shown.{entry_shown};
 ghost use Rattle.go_entry_core.specs.Entries.{package_meanings};
 ghost use Rattle.go_entry_core.specs.Outlines.{outline_shown};
-ghost use Rattle.go_fault_core.specs.TypeFaults.{entries_faults, entry_faults, faults_of_types, loop_fault, loops_faults, met_in};
+ghost use Rattle.go_fault_core.specs.TypeFaults.{entries_faults, entry_faults, faults_of_types, type_loop_fault, loops_faults, met_in};
 
 use crate::places::{PackageFault, add_fault, add_faults};
 use crate::receivers::add_receivers;
@@ -90,7 +90,7 @@ fn add_loop(
     fault: TypeFault,
     faults: &mut Vec<PackageFault>,
 ) -> Result<(), AllocError>
-    ensures { OnOk result (faults.new.items ≡ faults.old.items ++ loop_fault (map outline_shown outlines.now) fault (slice_get (map entry_shown entries.now) fault.entry)) }
+    ensures { OnOk result (faults.new.items ≡ faults.old.items ++ type_loop_fault (map outline_shown outlines.now) fault (slice_get (map entry_shown entries.now) fault.entry)) }
 {
     match entries.get(fault.entry) {
         None => Ok(()),

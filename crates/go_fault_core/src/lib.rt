@@ -14,7 +14,7 @@ pub use places::PackageFault;
 /// What the crates above name of `go_block_core`.
 pub mod block_core {
     pub use go_entry_core::block_core::{
-        Binding, BlockFault, Blocks, Exports, Imported, NamedDecl, Target, blocks, import_names,
+        Binding, BlockFault, Blocks, Imported, NamedDecl, Target, blocks, import_names,
         import_specs, one_blocks_alone,
     };
 }

@@ -1,7 +1,7 @@
 //! Faults at places of the files of a package.
 ghost use Rattle.std.specs.Prelude.{◌≡◌, ◌++◌, OnOk, map};
 ghost use Rattle.go_entry_core.specs.Outlines.{outline_shown};
-ghost use Rattle.go_fault_core.specs.Places.{all_located, located, place_of};
+ghost use Rattle.go_fault_core.specs.Places.{all_located, located, file_place_of};
 
 use go_embed_core::MemberFault;
 use go_term_core::MemberPlace;
@@ -21,7 +21,7 @@ pub struct PackageFault {
 
 // The file of a member and its offset there, where the member is one of the package's.
 fn place_of(outlines: &[Outline<'_>], place: MemberPlace) -> Option<(usize, usize)>
-    ensures { result ≡ place_of (map outline_shown outlines.now) place }
+    ensures { result ≡ file_place_of (map outline_shown outlines.now) place }
 {
     match place {
         MemberPlace::Local(local) => Some((local.file, local.offset)),

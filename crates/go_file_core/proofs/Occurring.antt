@@ -5,7 +5,7 @@ use Rattle.std.proofs.lemmas.List.{map-append}
 use Rattle.std.proofs.lemmas.Grind.{flat_map-append}
 use Rattle.go_text_core.specs.declared.span.Span.{Span}
 use Rattle.go_tree_nodes.specs.declared.decls.ValueKind.{ValueKind}
-use Rattle.go_tree_nodes.specs.Trees.{ValueSpecTree, TypeSpecTree, Specs, Single, Group, DeclTree, Value, Types, Func, TopTree, ImportSpecTree, ImportTree}
+use Rattle.go_tree_nodes.specs.Trees.{ValueSpecTree, TypeSpecTree, Specs, Single, Group, DeclTree, Value, Types, Func, TopTree, ImportSpecTree, ImportTree, of_specs}
 use Rattle.go_tree_nodes.specs.Rules.{Wf_group, Wf_specs, Wf_value_spec, Wf_type, Wf_decl, Wf_tops}
 use Rattle.go_func_core.specs.tree_core.declared.occurrence.Role.{Role}
 use Rattle.go_func_core.specs.tree_core.declared.occurrence.Role.TheVariants as roles
@@ -21,7 +21,7 @@ use Rattle.go_top_core.specs.expr_core.Occurring.{uses_occur}
 use Rattle.go_top_core.specs.piece_core.Specifications.{spec_uses}
 use Rattle.go_top_core.specs.piece_core.Occurring.{pieces_occur}
 use Rattle.go_func_core.specs.env_core.Looks.{TheLooks}
-use Rattle.go_top_core.specs.Tops.{of_specs, type_spec_uses}
+use Rattle.go_top_core.specs.Tops.{type_spec_uses}
 use Rattle.go_func_core.specs.body_core.Notes.{TheUse}
 use Rattle.go_func_core.specs.Stands.{FileStand, outer_looks}
 use Rattle.go_func_core.proofs.Occurring.{functions_have_occurrences}

@@ -7,7 +7,7 @@ use Rattle.go_text_core.specs.declared.span.Span.{Span}
 use Rattle.go_tree_nodes.specs.declared.names.Ident.{Ident}
 use Rattle.go_tree_nodes.specs.declared.decls.ValueKind.{ValueKind}
 use Rattle.go_tree_nodes.specs.declared.decls.ValueKind.TheVariants as kinds
-use Rattle.go_tree_nodes.specs.Trees.{Separated, One, Then, TypeTree, ExprTree, ValueSpecTree, TypeSpecTree, Specs, Single, Group, ValueTree, TypeDeclTree}
+use Rattle.go_tree_nodes.specs.Trees.{Separated, One, Then, TypeTree, ExprTree, ValueSpecTree, TypeSpecTree, Specs, Single, Group, ValueTree, TypeDeclTree, of_specs}
 use Rattle.go_term_core.specs.Terms.{Term, Sign}
 use Rattle.go_func_core.specs.handle_core.Declarations.{Declaration}
 use Rattle.go_top_core.specs.local_core.Steps.{Spec, Condition}
@@ -15,7 +15,7 @@ use Rattle.go_top_core.specs.denote_core.declared.things.Place.TheVariants as pl
 use Rattle.go_top_core.specs.expr_core.Places.{start}
 use Rattle.go_top_core.specs.expr_core.Faults.{fault_at}
 use Rattle.go_top_core.specs.expr_core.Denoting.{named_type}
-use Rattle.go_top_core.specs.expr_core.Laws.{Agree, idents}
+use Rattle.go_top_core.specs.expr_core.Laws.{AgreeOnIdents, expr_idents}
 use Rattle.go_top_core.specs.expr_core.Locality.{struct_types, SameWritten}
 use Rattle.go_top_core.specs.expr_core.Alike.{expressions_seen}
 use Rattle.go_top_core.specs.inline_core.Types.{InlineOf}
@@ -25,8 +25,8 @@ use Rattle.go_top_core.specs.piece_core.Specifications.{spec_uses}
 use Rattle.go_top_core.specs.piece_core.Local.{pieces_local}
 use Rattle.go_func_core.specs.env_core.Looks.{TheLooks, inline_rules}
 use Rattle.go_top_core.specs.Initial.{initial_rule, expr_initial_faults, list_initial_faults, values_initial_faults, initial_faults}
-use Rattle.go_top_core.specs.Tops.{of_specs, top_spec_faults, value_decl_uses, value_decl_faults, type_spec_uses, type_decl_uses}
-use Rattle.go_func_core.specs.body_core.Rules.{top_looks}
+use Rattle.go_top_core.specs.Tops.{top_spec_faults, value_decl_uses, value_decl_faults, type_spec_uses, type_decl_uses}
+use Rattle.go_func_core.specs.body_core.Rules.{outside_looks}
 use Rattle.go_func_core.specs.Stands.{FileStand, outer_looks}
 use Rattle.go_func_core.proofs.Listed.{piece_listed}
 use Rattle.go_file_core.specs.mirrors.Steps.{AreSeen}
@@ -35,7 +35,7 @@ use Rattle.go_file_core.proofs.Typed.{both, type_used}
 module _ (st : FileStand) (types : List (ℕ × InlineOf)) where
   -- by the table, and by what names mean
   abbrev pub by_table : TheLooks
-  by_table = top_looks st.scene st.file.file st.known (inline_rules st.scene types)
+  by_table = outside_looks st.scene st.file.file st.known (inline_rules st.scene types)
 
   abbrev by_names : TheLooks
   by_names = outer_looks st
@@ -55,7 +55,7 @@ module _ (st : FileStand) (types : List (ℕ × InlineOf)) where
       let same = h t (0, (let below : 0 < length (t ∷ ts) = omega arith in below), refl) (named_type by_table) in
       (record { type_of = sym same.0; faults_of = sym same.1 }, made ts (seen_right (t ∷ []) ts h))
 
-  agree : (xs : List Ident) → Agree by_table.find by_names.find xs
+  agree : (xs : List Ident) → AgreeOnIdents by_table.find by_names.find xs
   agree [] = tt
   agree (x ∷ xs) = (refl, agree xs)
 
@@ -69,7 +69,7 @@ module _ (st : FileStand) (types : List (ℕ × InlineOf)) where
   expr_same : (e : ExprTree) → Seen (expr_types e) → expr_initial_faults by_table e ≡ expr_initial_faults by_names e
   expr_same e h =
       ap (λ d. fault_at (start e) (initial_rule d))
-      ((expressions_seen Term Sign Declaration (List ℕ)).whole by_table by_names.find by_names.written places.«Value» e (agree (idents e))
+      ((expressions_seen Term Sign Declaration (List ℕ)).whole by_table by_names.find by_names.written places.«Value» e (agree (expr_idents e))
       (made (struct_types e) (subst Seen (piece_listed (Condition e)) h))).denoted
 
   list_same : (es : Separated ExprTree) → Seen (exprs_types es) → list_initial_faults by_table es ≡ list_initial_faults by_names es

@@ -5,7 +5,6 @@ use Rattle.std.specs.Prelude.{◌≡◌, List, ◌∷◌, ◌++◌, length, map,
 use Rattle.go_tree_nodes.specs.Trees.{FuncTree, TopTree, FileTree}
 use Rattle.go_tree_nodes.specs.Rules.{Wf_file}
 use Rattle.go_func_core.specs.tree_core.Occurrences.{file_occs}
-use Rattle.go_term_core.specs.decl_core.Outer.{IsPlaced}
 use Rattle.go_func_core.specs.block_core.declared.imports.Imported.{Imported}
 use Rattle.go_func_core.specs.block_core.Naming.{file_specs}
 use Rattle.go_top_core.specs.local_core.Tables.{IsFuncPlaced}
@@ -13,6 +12,7 @@ use Rattle.go_top_core.specs.expr_core.Laws.{use_place, occurrence_place}
 use Rattle.go_func_core.specs.Stands.{FileStand}
 use Rattle.go_file_core.specs.Files.{decl_uses, decl_faults, decl_locals, tops_uses, tops_faults, tops_locals, file_uses}
 use Rattle.go_file_core.specs.Stands.{file_funcs}
+use Rattle.go_tree_nodes.specs.Spelling.{IsPlaced}
 
 -- what is noted of a file of the grammar, of whose imports each comes to something, stands where its occurrences stand, with their roles and in
 -- their order: each has exactly one outcome, and no other place has one

@@ -18,6 +18,7 @@ pub mod face_core
 pub mod func_core
 pub mod handle_core
 pub mod inline_core
+pub mod level_core
 pub mod literal_core
 pub mod local_core
 pub mod names_core
@@ -32,5 +33,6 @@ pub mod statement_core
 pub mod table_core
 pub mod top_core
 pub mod tree_core
+pub mod type_core
 pub mod walk_core
 pub mod written_core

@@ -4,7 +4,6 @@ use denote.Ref.{Bor}
 use Rattle.go_tree_nodes.specs.declared.files.File.{File}
 use Rattle.go_tree_nodes.specs.Trees.{FileTree}
 use Rattle.go_tree_nodes.specs.Shapes.{file_of}
-use Rattle.go_term_core.specs.decl_core.Outer.{IsPlaced}
 use Rattle.go_func_core.specs.block_core.declared.imports.Imported.{Imported}
 use Rattle.go_func_core.specs.entry_core.Meanings.{Shows}
 use Rattle.go_top_core.specs.expr_core.declared.things.Fault.{Fault}
@@ -14,10 +13,11 @@ use Rattle.go_file_core.specs.declared.file_at.FileAt.{FileAt}
 use Rattle.go_file_core.specs.declared.whole.CheckedFile.{CheckedFile}
 use Rattle.go_file_core.specs.Files.{file_uses, file_faults, file_locals}
 use Rattle.go_file_core.specs.Stands.{AreInitialTypes, AreFunctionTypes, stand_of}
+use Rattle.go_tree_nodes.specs.Spelling.{IsPlaced}
 
 -- the tree that a reference shows
-abbrev pub tree_shown : Bor File → FileTree
-tree_shown t = file_of t.now
+abbrev pub lent_tree : Bor File → FileTree
+lent_tree t = file_of t.now
 
 -- a file may be checked: its tokens follow one another, and the types that it writes are made
 pub record IsReady {P : Type 0} (shows : P → Shows) (at : FileAt P) (f : FileTree) : Type 0 where
@@ -31,8 +31,8 @@ pub record CheckedFileOf : Type 0 where
   pub faults : List Fault
   pub locals : List TheLocal
 
-abbrev pub checked_shown : CheckedFile → CheckedFileOf
-checked_shown c = record { uses = c.uses.items; faults = c.faults.items; locals = c.locals.items }
+abbrev pub checked_file_shown : CheckedFile → CheckedFileOf
+checked_file_shown c = record { uses = c.uses.items; faults = c.faults.items; locals = c.locals.items }
 
 abbrev pub file_checked : FileStand → List Imported → FileTree → CheckedFileOf
 file_checked st imports f = record { uses = file_uses st imports f; faults = file_faults st f; locals = file_locals st f }

@@ -9,7 +9,7 @@ use Rattle.go_top_core.specs.inline_core.Types.{InlineOf}
 use Rattle.go_top_core.specs.inline_core.Trees.{file_types}
 use Rattle.go_top_core.specs.inline_core.Inline.{inlines}
 use Rattle.go_func_core.specs.env_core.Scenes.{scene_shown}
-use Rattle.go_func_core.specs.Stands.{FileStand, kinds_in}
+use Rattle.go_func_core.specs.Stands.{FileStand, kinds_in_scene}
 use Rattle.go_func_core.specs.Laws.{AreFuncTypes}
 use Rattle.go_file_core.specs.declared.file_at.FileAt.{FileAt}
 
@@ -37,7 +37,7 @@ file_funcs f = tops_funcs f.decls
 
 -- these are the types of the specifications of constants and variables of a file, by their first bytes
 abbrev pub AreInitialTypes : FileStand → FileTree → List (ℕ × InlineOf) → Type 0
-AreInitialTypes st f types = types ≡ inlines (kinds_in st.scene) st.file st.top (file_types f)
+AreInitialTypes st f types = types ≡ inlines (kinds_in_scene st.scene) st.file st.top (file_types f)
 
 -- these are the types of each of its functions, in order
 abbrev pub AreFunctionTypes : FileStand → FileTree → List (List (ℕ × InlineOf)) → Type 0

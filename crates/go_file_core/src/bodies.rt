@@ -1,7 +1,7 @@
 //! The check of the files of a package.
 ghost use Rattle.std.specs.Prelude.{◌≡◌, IfOk, map};
 ghost use Rattle.std.specs.List.{AllZip};
-ghost use Rattle.go_file_core.specs.Package.{IsReady, checked_shown, files_checked, tree_shown};
+ghost use Rattle.go_file_core.specs.Package.{IsReady, checked_file_shown, files_checked, lent_tree};
 
 use crate::file_at::FileAt;
 use crate::whole::{CheckedFile, check_file};
@@ -20,8 +20,8 @@ pub fn check_bodies<'n, 'p, P: ImportedNames>(
     files: &[FileAt<'n, 'p, P>],
     trees: &[&File],
 ) -> Result<Vec<CheckedFile<'p>>, AllocError>
-    requires { AllZip (IsReady P.shows) files.now (map tree_shown trees.now) }
-    ensures { IfOk result (λ cs. map checked_shown cs.items ≡ files_checked P.shows files.now (map tree_shown trees.now)) }
+    requires { AllZip (IsReady P.shows) files.now (map lent_tree trees.now) }
+    ensures { IfOk result (λ cs. map checked_file_shown cs.items ≡ files_checked P.shows files.now (map lent_tree trees.now)) }
 {
     let mut checked = Vec::new(alloc);
     for (at, tree) in files.iter().zip(trees) {

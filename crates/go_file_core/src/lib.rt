@@ -37,6 +37,11 @@ pub mod face_core {
     pub use go_func_core::face_core::Face;
 }
 
+/// What the crates above name of `go_func_core`.
+pub mod func_core {
+    pub use go_func_core::{functions_have_one_table, locals_are_declarations};
+}
+
 /// What the crates above name of `go_reach_core`.
 pub mod reach_core {
     pub use go_top_core::reach_core::{NumberSet, Reached};

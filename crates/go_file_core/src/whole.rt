@@ -1,9 +1,9 @@
 //! The check of a file.
 ghost use Rattle.std.specs.Prelude.{◌≡◌, IfOk};
 ghost use Rattle.go_tree_nodes.specs.Shapes.{file_of};
-ghost use Rattle.go_term_core.specs.decl_core.Outer.{IsPlaced};
 ghost use Rattle.go_file_core.specs.Files.{file_uses, file_faults, file_locals};
 ghost use Rattle.go_file_core.specs.Stands.{AreInitialTypes, AreFunctionTypes, stand_of};
+ghost use Rattle.go_tree_nodes.specs.Spelling.{IsPlaced};
 
 use crate::decls::check_decls;
 use crate::file_at::FileAt;

@@ -5,42 +5,42 @@ use Rattle.go_text_core.specs.Text.{is_blank}
 use Rattle.go_text_core.specs.declared.rule.Rule.TheVariants.{N8, S4, S8, C1, C2, C3, C4, X1}
 use Rattle.go_term_core.specs.declared.term.Basic.{Basic}
 use Rattle.go_term_core.specs.declared.term.Basic.TheVariants as basics
-use Rattle.go_constant_core.specs.declared.values.Constant.{Constant}
-use Rattle.go_operand_core.specs.declared.types.ValueType.{ValueType}
-use Rattle.go_operand_core.specs.declared.types.ValueType.TheVariants as value_types
-use Rattle.go_operand_core.specs.declared.types.TypeForm.{TypeForm}
-use Rattle.go_operand_core.specs.declared.types.TypeForm.TheVariants as forms
-use Rattle.go_operand_core.specs.Assign.{takes_untyped}
-use Rattle.go_operand_core.specs.declared.types.Operand.{Operand}
-use Rattle.go_operand_core.specs.TypeRules.{TypeRules}
-use Rattle.go_operand_core.specs.Values.{form_basic, basic_under, default_type}
-use Rattle.go_operand_core.specs.Operators.{value}
-use Rattle.go_operand_core.specs.Conversions.{kept, makes_text, fits}
-use Rattle.go_denote_core.specs.declared.things.Place.TheVariants as places
-use Rattle.go_denote_core.specs.declared.things.Usage.TheVariants as usages
-use Rattle.go_denote_core.specs.declared.things.Outcome.{Outcome}
-use Rattle.go_denote_core.specs.declared.things.Outcome.TheVariants as outcomes
-use Rattle.go_denote_core.specs.declared.things.Denoted.{Denoted}
-use Rattle.go_denote_core.specs.declared.things.Denoted.TheVariants as denotes
-use Rattle.go_denote_core.specs.declared.things.Answer.{Answer}
-use Rattle.go_denote_core.specs.declared.things.Argument.{Argument}
-use Rattle.go_denote_core.specs.declared.things.Argument.TheVariants as arguments
-use Rattle.go_denote_core.specs.declared.things.Found.{Found}
-use Rattle.go_denote_core.specs.declared.things.Found.TheVariants as founds
-use Rattle.go_denote_core.specs.declared.things.Exported.{Exported}
-use Rattle.go_denote_core.specs.declared.things.Exported.TheVariants as exporteds
-use Rattle.go_denote_core.specs.declared.things.Selection.{Selection}
-use Rattle.go_denote_core.specs.declared.things.Selection.TheVariants as selections
-use Rattle.go_denote_core.specs.declared.things.Dot.{Dot}
-use Rattle.go_denote_core.specs.declared.things.Dot.TheVariants as dots
-use Rattle.go_denote_core.specs.Look.{Look}
-use Rattle.go_denote_core.specs.Answers.{declared, refused, value_of_type, found_answer, name_answer}
-use Rattle.go_denote_core.specs.Selectors.{exported_answer, method_answer, member_answer, value_selector, selector_answer}
-use Rattle.go_denote_core.specs.Arguments.{argument_of_result, arguments_of, is_free}
-use Rattle.go_denote_core.specs.Calls.{of_results, of_conversion, convert_argument, conversion, free_call, call_answer}
-use Rattle.go_expr_core.specs.Looks.{Looks, at}
-use Rattle.go_instruction_core.specs.declared.letters.Word.{Word}
-use Rattle.go_instruction_core.specs.declared.letters.Word.TheVariants as words
+use Rattle.go_fragment_core.specs.constant_core.declared.values.Constant.{Constant}
+use Rattle.go_expr_core.specs.operand_core.declared.types.ValueType.{ValueType}
+use Rattle.go_expr_core.specs.operand_core.declared.types.ValueType.TheVariants as value_types
+use Rattle.go_expr_core.specs.operand_core.declared.types.TypeForm.{TypeForm}
+use Rattle.go_expr_core.specs.operand_core.declared.types.TypeForm.TheVariants as forms
+use Rattle.go_expr_core.specs.operand_core.Assign.{takes_untyped}
+use Rattle.go_expr_core.specs.operand_core.declared.types.Operand.{Operand}
+use Rattle.go_expr_core.specs.operand_core.TypeRules.{TypeRules}
+use Rattle.go_expr_core.specs.operand_core.Values.{form_basic, basic_under, default_type}
+use Rattle.go_expr_core.specs.operand_core.Operators.{value}
+use Rattle.go_expr_core.specs.operand_core.Conversions.{kept, makes_text, fits}
+use Rattle.go_expr_core.specs.denote_core.declared.things.Place.TheVariants as places
+use Rattle.go_expr_core.specs.denote_core.declared.things.Usage.TheVariants as usages
+use Rattle.go_expr_core.specs.denote_core.declared.things.Outcome.{Outcome}
+use Rattle.go_expr_core.specs.denote_core.declared.things.Outcome.TheVariants as outcomes
+use Rattle.go_expr_core.specs.denote_core.declared.things.Denoted.{Denoted}
+use Rattle.go_expr_core.specs.denote_core.declared.things.Denoted.TheVariants as denotes
+use Rattle.go_expr_core.specs.denote_core.declared.things.Answer.{Answer}
+use Rattle.go_expr_core.specs.denote_core.declared.things.Argument.{Argument}
+use Rattle.go_expr_core.specs.denote_core.declared.things.Argument.TheVariants as arguments
+use Rattle.go_expr_core.specs.denote_core.declared.things.Found.{Found}
+use Rattle.go_expr_core.specs.denote_core.declared.things.Found.TheVariants as founds
+use Rattle.go_expr_core.specs.denote_core.declared.things.Exported.{Exported}
+use Rattle.go_expr_core.specs.denote_core.declared.things.Exported.TheVariants as exporteds
+use Rattle.go_expr_core.specs.denote_core.declared.things.Selection.{Selection}
+use Rattle.go_expr_core.specs.denote_core.declared.things.Selection.TheVariants as selections
+use Rattle.go_expr_core.specs.denote_core.declared.things.Dot.{Dot}
+use Rattle.go_expr_core.specs.denote_core.declared.things.Dot.TheVariants as dots
+use Rattle.go_expr_core.specs.denote_core.Look.{Look}
+use Rattle.go_expr_core.specs.denote_core.Answers.{declared, refused, value_of_type, found_answer, name_answer}
+use Rattle.go_expr_core.specs.denote_core.Selectors.{exported_answer, method_answer, member_answer, value_selector, selector_answer}
+use Rattle.go_expr_core.specs.denote_core.Arguments.{argument_of_result, arguments_of, is_free}
+use Rattle.go_expr_core.specs.denote_core.Calls.{of_results, of_conversion, convert_argument, conversion, free_call, call_answer}
+use Rattle.go_expr_core.specs.Looks.{Looks, look_of_place}
+use Rattle.go_fragment_core.specs.instruction_core.declared.letters.Word.{Word}
+use Rattle.go_fragment_core.specs.instruction_core.declared.letters.Word.TheVariants as words
 use Rattle.go_fragment_core.specs.declared.names.ConstantWord.{ConstantWord}
 use Rattle.go_fragment_core.specs.declared.names.Gives.{Gives}
 use Rattle.go_fragment_core.specs.declared.names.Gives.TheVariants as gives
@@ -110,18 +110,18 @@ module _ {T S D P : Type 0} (looks : Looks T S D P) (mean : Outcome D P → Mean
   member_callee addressable (selections.Method d path s needs_pointer by_pointer) h sure same = method_callee d path s (not needs_pointer || (by_pointer || addressable)) h sure same
 
   module _ (read : AreNamesRead T S D P looks mean) (sure : Certain → AreRead T S D P looks mean) (x : List ℕ) (n : ℕ) where
-    pub name_callee : m ≡ mean (name_answer (at looks n) places.Callee x).outcome → IsCalleeMeant looks Certain (name_answer (at looks n) places.Callee x).denoted m
+    pub name_callee : m ≡ mean (name_answer (look_of_place looks n) places.Callee x).outcome → IsCalleeMeant looks Certain (name_answer (look_of_place looks n) places.Callee x).denoted m
     name_callee = by (is_blank x)
       where
         by : (b : Bool) → m ≡ mean (if b then refused N8 else found_answer {P = P} places.Callee (looks.find x n)).outcome → IsCalleeMeant looks Certain (if b then refused N8 else found_answer {P = P} places.Callee (looks.find x n)).denoted m
         by true same = tt
         by false same = found_callee (looks.find x n) (read.names x n) same
 
-    selected_callee : (addressable : Bool) (t : Option T) → m ≡ mean (value_selector (at looks n) usages.Callee addressable t x).outcome → IsCalleeMeant looks Certain (value_selector (at looks n) usages.Callee addressable t x).denoted m
+    selected_callee : (addressable : Bool) (t : Option T) → m ≡ mean (value_selector (look_of_place looks n) usages.Callee addressable t x).outcome → IsCalleeMeant looks Certain (value_selector (look_of_place looks n) usages.Callee addressable t x).denoted m
     selected_callee addressable None same = tt
     selected_callee addressable (Some t) same = member_callee addressable (looks.select t x) (read.members t x) (λ certain. (sure certain).selected t x) same
 
-    pub selector_callee : (dot : Dot T D) → m ≡ mean (selector_answer (at looks n) usages.Callee dot x).outcome → IsCalleeMeant looks Certain (selector_answer (at looks n) usages.Callee dot x).denoted m
+    pub selector_callee : (dot : Dot T D) → m ≡ mean (selector_answer (look_of_place looks n) usages.Callee dot x).outcome → IsCalleeMeant looks Certain (selector_answer (look_of_place looks n) usages.Callee dot x).denoted m
     selector_callee dots.Refused same = tt
     selector_callee dots.Untyped same = by (is_blank x)
       where
@@ -135,8 +135,8 @@ module _ {T S D P : Type 0} (looks : Looks T S D P) (mean : Outcome D P → Mean
         by false same = exported_callee (looks.exported d x) (read.exported d x) same
     selector_callee (dots.«Value» o) same = by (is_blank x) same
       where
-        by : (b : Bool) → m ≡ mean (if b then refused S8 else value_selector (at looks n) usages.Callee o.addressable (default_type looks.types o.value_type) x).outcome
-            → IsCalleeMeant looks Certain (if b then refused S8 else value_selector (at looks n) usages.Callee o.addressable (default_type looks.types o.value_type) x).denoted m
+        by : (b : Bool) → m ≡ mean (if b then refused S8 else value_selector (look_of_place looks n) usages.Callee o.addressable (default_type looks.types o.value_type) x).outcome
+            → IsCalleeMeant looks Certain (if b then refused S8 else value_selector (look_of_place looks n) usages.Callee o.addressable (default_type looks.types o.value_type) x).denoted m
         by true same = tt
         by false same = selected_callee o.addressable (default_type looks.types o.value_type) same
 
@@ -371,7 +371,7 @@ module _ {T S D P : Type 0} (looks : Looks T S D P) (Certain Known : Type 0) (ce
     (argument : nat_eq count 1 ≡ true → IsOneArgument T S D looks.types Certain Known ds v) (w : Word) where
   -- the call of this with these arguments
   abbrev Called : Denoted T S D → List (Denoted T S D) → Answer T S D P
-  Called callee l = call_answer (at looks n) callee (is_free {T = T} {S = S} {D = D} lone l) (arguments_of (at looks n) l)
+  Called callee l = call_answer (look_of_place looks n) callee (is_free {T = T} {S = S} {D = D} lone l) (arguments_of (look_of_place looks n) l)
 
   abbrev Judged : Answer T S D P → Option ConstantWord → Type 0
   Judged a c = IsJudged T S D looks.types Certain Known w a.denoted c
@@ -386,18 +386,18 @@ module _ {T S D P : Type 0} (looks : Looks T S D P) (Certain Known : Type 0) (ce
       let a : IsOneArgument T S D looks.types Certain Known ds v = argument single.0 in
       let there : HasDeclaration (Called (denotes.«Type» d t) (a.argument ∷ [])).outcome = subst (λ l. HasDeclaration (Called (denotes.«Type» d t) l).outcome) a.alone is in
       subst (λ l. Judged (Called (denotes.«Type» d t) l) v) (sym a.alone)
-      (conversion_judged (at looks n) Certain Known certain keep d v a.word lone t w a.argument a.judged (subst (λ x. IsOver looks.types x t) single.1 h) there)
+      (conversion_judged (look_of_place looks n) Certain Known certain keep d v a.word lone t w a.argument a.judged (subst (λ x. IsOver looks.types x t) single.1 h) there)
   type_call d t meanings.Other h one is = absurd cc
   type_call d t _ h one is = absurd h
 
   function_call : (d : D) (s : S) (m : Meaning) → IsFunctionMeant looks.types (looks.results s) m ⊎ (IsFieldMeant m × (Certain → IsMethodMeant looks.types (looks.results s) m)) → call_gives m count ≡ gives.One w
-      → (free : Bool) (given : List (Argument T)) → HasDeclaration (call_answer (at looks n) (denotes.Func d s) free given).outcome → Judged (call_answer (at looks n) (denotes.Func d s) free given) (converted m v)
+      → (free : Bool) (given : List (Argument T)) → HasDeclaration (call_answer (look_of_place looks n) (denotes.Func d s) free given).outcome → Judged (call_answer (look_of_place looks n) (denotes.Func d s) free given) (converted m v)
   function_call d s m (inl f) one free given is =
-      subst (Judged (call_answer (at looks n) (denotes.Func d s) free given)) (sym (function_converts looks.types (looks.results s) m v f))
-      (function_judged (at looks n) Certain Known certain d s w (λ sure. function_one looks.types (looks.results s) m count w f one) free given is)
+      subst (Judged (call_answer (look_of_place looks n) (denotes.Func d s) free given)) (sym (function_converts looks.types (looks.results s) m v f))
+      (function_judged (look_of_place looks n) Certain Known certain d s w (λ sure. function_one looks.types (looks.results s) m count w f one) free given is)
   function_call d s m (inr k) one free given is =
-      subst (Judged (call_answer (at looks n) (denotes.Func d s) free given)) (sym (member_converts m v k.0))
-      (function_judged (at looks n) Certain Known certain d s w (λ sure. method_one looks.types (looks.results s) m count w (k.1 sure) one) free given is)
+      subst (Judged (call_answer (look_of_place looks n) (denotes.Func d s) free given)) (sym (member_converts m v k.0))
+      (function_judged (look_of_place looks n) Certain Known certain d s w (λ sure. method_one looks.types (looks.results s) m count w (k.1 sure) one) free given is)
 
   -- a call of what comes to this in code
   pub call_judged : (callee : Denoted T S D) (m : Meaning) → IsCalleeMeant looks Certain callee m → call_gives m count ≡ gives.One w → HasDeclaration (Called callee ds).outcome → Judged (Called callee ds) (converted m v)

@@ -3,27 +3,27 @@ use Rattle.std.proofs.Common.{◌≡◌, ℕ, suc, Bool, true, false, ◌&&◌, 
 use Rattle.std.specs.Prelude.{⊤, nat_eq, nat_lt, ◌^◌, pos}
 use Rattle.std.proofs.lemmas.Bool.{eqb-true}
 use Rattle.go_text_core.specs.declared.span.Span.{Span}
-use Rattle.go_constant_core.specs.declared.values.Constant.TheVariants as values
-use Rattle.go_constant_core.specs.Values.{natural}
+use Rattle.go_fragment_core.specs.constant_core.declared.values.Constant.TheVariants as values
+use Rattle.go_fragment_core.specs.constant_core.Values.{natural}
 use Rattle.go_tree_nodes.specs.Trees.{ExprTree, ItemTrees, Integer, Text, Named, Paren, Unary, Binary, Select, Call, Literal, StructLiteral, NoItems, Item}
-use Rattle.go_operand_core.specs.declared.types.ValueType.TheVariants as value_types
-use Rattle.go_operand_core.specs.Operators.{value}
-use Rattle.go_denote_core.specs.declared.things.Place.{Place}
-use Rattle.go_denote_core.specs.declared.things.Place.TheVariants as places
-use Rattle.go_denote_core.specs.declared.things.Outcome.{Outcome}
-use Rattle.go_denote_core.specs.declared.things.Outcome.TheVariants as outcomes
-use Rattle.go_denote_core.specs.declared.things.Selection.{Selection}
-use Rattle.go_denote_core.specs.declared.things.Selection.TheVariants as selections
-use Rattle.go_operand_core.specs.TypeRules.{TypeRules}
-use Rattle.go_operand_core.specs.declared.types.Operand.{Operand}
-use Rattle.go_denote_core.specs.declared.things.Denoted.TheVariants as denotes
-use Rattle.go_denote_core.specs.Selectors.{dot_of}
+use Rattle.go_expr_core.specs.operand_core.declared.types.ValueType.TheVariants as value_types
+use Rattle.go_expr_core.specs.operand_core.Operators.{value}
+use Rattle.go_expr_core.specs.denote_core.declared.things.Place.{Place}
+use Rattle.go_expr_core.specs.denote_core.declared.things.Place.TheVariants as places
+use Rattle.go_expr_core.specs.denote_core.declared.things.Outcome.{Outcome}
+use Rattle.go_expr_core.specs.denote_core.declared.things.Outcome.TheVariants as outcomes
+use Rattle.go_expr_core.specs.denote_core.declared.things.Selection.{Selection}
+use Rattle.go_expr_core.specs.denote_core.declared.things.Selection.TheVariants as selections
+use Rattle.go_expr_core.specs.operand_core.TypeRules.{TypeRules}
+use Rattle.go_expr_core.specs.operand_core.declared.types.Operand.{Operand}
+use Rattle.go_expr_core.specs.denote_core.declared.things.Denoted.TheVariants as denotes
+use Rattle.go_expr_core.specs.denote_core.Selectors.{dot_of}
 use Rattle.go_expr_core.specs.Looks.{Looks}
 use Rattle.go_expr_core.specs.Places.{inside, under_place, left_place, whole, is_name, is_literal, is_lone_call}
 use Rattle.go_expr_core.specs.Denoting.{denoted, denoted_items}
 use Rattle.go_expr_core.specs.Uses.{spots, use_of}
-use Rattle.go_instruction_core.specs.declared.letters.Word.{Word}
-use Rattle.go_instruction_core.specs.declared.letters.Word.TheVariants as words
+use Rattle.go_fragment_core.specs.instruction_core.declared.letters.Word.{Word}
+use Rattle.go_fragment_core.specs.instruction_core.declared.letters.Word.TheVariants as words
 use Rattle.go_fragment_core.specs.declared.names.ConstantWord.{ConstantWord}
 use Rattle.go_fragment_core.specs.declared.names.ConstantWord.TheVariants as code_constants
 use Rattle.go_fragment_core.specs.declared.names.Gives.{Gives}
@@ -31,7 +31,7 @@ use Rattle.go_fragment_core.specs.declared.names.Gives.TheVariants as gives
 use Rattle.go_fragment_core.specs.declared.names.Meaning.{Meaning}
 use Rattle.go_fragment_core.specs.declared.names.Meaning.TheVariants as meanings
 use Rattle.go_fragment_core.specs.Names as code_names
-use Rattle.go_fragment_core.specs.Names.{Frame, frame_of, called, word_of}
+use Rattle.go_fragment_core.specs.Names.{Frame, frame_of, callee_meaning, word_of}
 use Rattle.go_fragment_core.specs.Fragment.{over, unary_word, binary_word, is_one, expr_gives, all_ones, receiver_fits, call_gives, item_count}
 use Rattle.go_fragment_core.specs.Constants.{held, some_held, folded, folded_one}
 use Rattle.go_fold_core.specs.Reading.{basic_of, IsMethodMeant, IsFieldMeant, IsSelectionMeant, IsMemberMeant, AreNamesRead, AreRead}
@@ -75,7 +75,7 @@ both_true false b h = absurd cc
 one_only : (n : ℕ) → nat_eq (suc (suc n)) 1 ≡ true → ⊥
 one_only n h = (let same : suc (suc n) ≡ 1 = eqb-true (suc (suc n)) 1 h in omega (arith, same))
 
-module _ {T S D P : Type 0} (looks : Looks T S D P) (code : code_names.Looks) (mean : Outcome D P → Meaning) (slots : List (Option ℕ)) (read : AreNamesRead T S D P looks mean)
+module _ {T S D P : Type 0} (looks : Looks T S D P) (code : code_names.CodeLooks) (mean : Outcome D P → Meaning) (slots : List (Option ℕ)) (read : AreNamesRead T S D P looks mean)
     (Certain Known : Type 0) (sure : Certain → AreRead T S D P looks mean) (certain : Known → Certain) (typed : Known → AreTyped T S D P looks mean) (keep : Known → KeepBasics looks.types) where
   abbrev Fine : Place → ExprTree → Type 0
   Fine p e = IsFine T S D P looks code mean p e
@@ -88,7 +88,7 @@ module _ {T S D P : Type 0} (looks : Looks T S D P) (code : code_names.Looks) (m
 
   -- what is called
 
-  callee_meant : (e : ExprTree) → Fine places.Callee e → IsCalleeMeant looks Certain (denoted looks places.Callee e) (called code e)
+  callee_meant : (e : ExprTree) → Fine places.Callee e → IsCalleeMeant looks Certain (denoted looks places.Callee e) (callee_meaning code e)
   callee_meant (Named x) h = name_callee looks mean Certain (code.meaning x.span.start) read sure x.name x.span.start h.meant.0.meaning
   callee_meant (Select e dot x) h =
       selector_callee looks mean Certain (code.meaning x.span.start) read sure x.name x.span.start (dot_of (is_name e) (denoted looks (left_place places.Callee e) e))
@@ -104,10 +104,10 @@ module _ {T S D P : Type 0} (looks : Looks T S D P) (code : code_names.Looks) (m
 
   -- a call, by its one argument where it has one
 
-  call_folds : (p : Place) (e : ExprTree) (first : Span) (items : ItemTrees) (last : Span) (w : Word) → Fine p (Call e first items last) → call_gives (called code e) (item_count items) ≡ gives.One w
+  call_folds : (p : Place) (e : ExprTree) (first : Span) (items : ItemTrees) (last : Span) (w : Word) → Fine p (Call e first items last) → call_gives (callee_meaning code e) (item_count items) ≡ gives.One w
       → (nat_eq (item_count items) 1 ≡ true → IsOneArgument T S D looks.types Certain Known (denoted_items looks items) (folded_one code items)) → Folds w p (Call e first items last)
   call_folds p e first items last w h one argument =
-      call_judged looks Certain Known certain keep first.start (is_lone_call items) (denoted_items looks items) (folded_one code items) (item_count items) argument w (denoted looks places.Callee e) (called code e)
+      call_judged looks Certain Known certain keep first.start (is_lone_call items) (denoted_items looks items) (folded_one code items) (item_count items) argument w (denoted looks places.Callee e) (callee_meaning code e)
       (callee_meant e (fine_callee looks code mean p e first items last h)) one
       (each_right (λ s. IsMeant D P code mean (use_of looks s)) (spots looks places.Callee e) _ h.meant).0.declared
 
@@ -140,8 +140,8 @@ module _ {T S D P : Type 0} (looks : Looks T S D P) (code : code_names.Looks) (m
         selector_judged looks mean Certain Known slots (code.meaning x.span.start) w (selected_name slots (code.meaning x.span.start) w one) read typed x.name x.span.start (whole p)
         (dot_of (is_name e) (denoted looks (left_place p e) e)) u.declared u.meaning
     folds p (Call e first items last) w h one =
-        let by : (receiver_fits frame e && all_ones frame items ≡ true) × (call_gives (called code e) (item_count items) ≡ gives.One w) =
-        if_one (receiver_fits frame e && all_ones frame items) (call_gives (called code e) (item_count items)) w one in
+        let by : (receiver_fits frame e && all_ones frame items ≡ true) × (call_gives (callee_meaning code e) (item_count items) ≡ gives.One w) =
+        if_one (receiver_fits frame e && all_ones frame items) (call_gives (callee_meaning code e) (item_count items)) w one in
         call_folds p e first items last w h by.1 (one_folds items (fine_arguments looks code mean p e first items last h) (both_true (receiver_fits frame e) (all_ones frame items) by.0).1)
     folds p (Literal n first items last) w h one = absurd cc
     folds p (StructLiteral t first items last) w h one = absurd cc
@@ -179,7 +179,7 @@ constants_folded T S D P looks code mean slots p e read meant sound q x there w 
     folds looks code mean slots read ⊥ ⊥ (λ known. absurd known) (λ known. known) (λ known. absurd known) (λ known. absurd known) q x w (fine_inside looks code mean p e (fine looks code mean p e meant sound) q x there) one in
     record { value = j.value; no_text = j.no_text }
 
-operand_folded : {T S D P : Type 0} (looks : Looks T S D P) (code : code_names.Looks) (q : Place) (x : ExprTree) (o : Operand T) → denoted looks q x ≡ denotes.«Value» o → folded code x ≡ some_held (constant_in (denoted looks q x))
+operand_folded : {T S D P : Type 0} (looks : Looks T S D P) (code : code_names.CodeLooks) (q : Place) (x : ExprTree) (o : Operand T) → denoted looks q x ≡ denotes.«Value» o → folded code x ≡ some_held (constant_in (denoted looks q x))
     → IsNoText (constant_in (denoted looks q x)) → IsFolded T S D P looks code q x
 operand_folded looks code q x o is value text = record { operand = o; denotes = is; value = value ∙ ap (λ d. some_held (constant_in d)) is; no_text = subst (λ d. IsNoText (constant_in d)) is text }
 

@@ -8,10 +8,10 @@ use Rattle.go_text_core.specs.declared.span.Span.{Span}
 use Rattle.go_token_core.specs.declared.kind.Operator.{Operator}
 use Rattle.go_tree_nodes.specs.declared.names.Ident.{Ident}
 use Rattle.go_tree_nodes.specs.Trees.{ExprTree, ItemTrees, Integer, Text, Named, Paren, Unary, Binary, Select, Call, Literal, StructLiteral, NoItems, Item}
-use Rattle.go_literal_core.specs.declared.things.Mode.{Mode}
-use Rattle.go_denote_core.specs.declared.things.Place.{Place}
-use Rattle.go_denote_core.specs.declared.things.Place.TheVariants as places
-use Rattle.go_denote_core.specs.declared.things.Outcome.{Outcome}
+use Rattle.go_expr_core.specs.literal_core.declared.things.Mode.{Mode}
+use Rattle.go_expr_core.specs.denote_core.declared.things.Place.{Place}
+use Rattle.go_expr_core.specs.denote_core.declared.things.Place.TheVariants as places
+use Rattle.go_expr_core.specs.denote_core.declared.things.Outcome.{Outcome}
 use Rattle.go_expr_core.specs.Looks.{Looks}
 use Rattle.go_expr_core.specs.Places.{inside, under_place, left_place, is_several}
 use Rattle.go_expr_core.specs.Elements.{key_names, all_keys}
@@ -55,15 +55,15 @@ no_fault n (Some rule) h = absurd cc
 -- expressions
 
 -- an occurrence in its context, or a call, denotes a declaration, which code takes for what it is
-abbrev pub IsMeantAt : (T S D P : Type 0) → Looks T S D P → code_names.Looks → (Outcome D P → Meaning) → Spot T D P → Type 0
+abbrev pub IsMeantAt : (T S D P : Type 0) → Looks T S D P → code_names.CodeLooks → (Outcome D P → Meaning) → Spot T D P → Type 0
 IsMeantAt T S D P looks code mean s = IsMeant D P code mean (use_of looks s)
 
 -- so does each of an expression, and it has no fault
-pub record IsFine (T S D P : Type 0) (looks : Looks T S D P) (code : code_names.Looks) (mean : Outcome D P → Meaning) (p : Place) (e : ExprTree) : Type 0 where
+pub record IsFine (T S D P : Type 0) (looks : Looks T S D P) (code : code_names.CodeLooks) (mean : Outcome D P → Meaning) (p : Place) (e : ExprTree) : Type 0 where
   pub meant : AllByRecursion (IsMeantAt T S D P looks code mean) (spots looks p e)
   pub sound : faults looks p e ≡ []
 
-module _ {T S D P : Type 0} (looks : Looks T S D P) (code : code_names.Looks) (mean : Outcome D P → Meaning) where
+module _ {T S D P : Type 0} (looks : Looks T S D P) (code : code_names.CodeLooks) (mean : Outcome D P → Meaning) where
   abbrev Fine : Place → ExprTree → Type 0
   Fine p e = IsFine T S D P looks code mean p e
 

@@ -3,33 +3,33 @@ use Rattle.std.proofs.Common.{◌≡◌, ℕ, Bool, true, false, ◌||◌, not, 
 use Rattle.std.specs.Prelude.{is_some}
 use Rattle.go_text_core.specs.Text.{is_blank}
 use Rattle.go_text_core.specs.declared.rule.Rule.TheVariants.{N8, S4, S8}
-use Rattle.go_constant_core.specs.declared.values.Constant.{Constant}
-use Rattle.go_constant_core.specs.declared.values.Constant.TheVariants as values
-use Rattle.go_operand_core.specs.declared.types.Operand.{Operand}
-use Rattle.go_operand_core.specs.TypeRules.{TypeRules}
-use Rattle.go_operand_core.specs.declared.types.ValueType.{ValueType}
-use Rattle.go_operand_core.specs.Values.{basic_under, default_type}
-use Rattle.go_denote_core.specs.declared.things.Place.{Place}
-use Rattle.go_denote_core.specs.declared.things.Place.TheVariants as places
-use Rattle.go_denote_core.specs.declared.things.Usage.{Usage}
-use Rattle.go_denote_core.specs.declared.things.Usage.TheVariants as usages
-use Rattle.go_denote_core.specs.declared.things.Outcome.{Outcome}
-use Rattle.go_denote_core.specs.declared.things.Outcome.TheVariants as outcomes
-use Rattle.go_denote_core.specs.declared.things.Denoted.{Denoted}
-use Rattle.go_denote_core.specs.declared.things.Denoted.TheVariants as denotes
-use Rattle.go_denote_core.specs.declared.things.Answer.{Answer}
-use Rattle.go_denote_core.specs.declared.things.Found.{Found}
-use Rattle.go_denote_core.specs.declared.things.Found.TheVariants as founds
-use Rattle.go_denote_core.specs.declared.things.Exported.{Exported}
-use Rattle.go_denote_core.specs.declared.things.Exported.TheVariants as exporteds
-use Rattle.go_denote_core.specs.declared.things.Selection.{Selection}
-use Rattle.go_denote_core.specs.declared.things.Selection.TheVariants as selections
-use Rattle.go_denote_core.specs.declared.things.Dot.{Dot}
-use Rattle.go_denote_core.specs.declared.things.Dot.TheVariants as dots
-use Rattle.go_denote_core.specs.Answers.{refused, of_value, package_answer, type_answer, func_answer, value_answer, found_answer, name_answer}
-use Rattle.go_denote_core.specs.Selectors.{place_of, exported_answer, field_answer, method_answer, member_answer, value_selector, selector_answer}
-use Rattle.go_expr_core.specs.Looks.{Looks, at}
-use Rattle.go_instruction_core.specs.declared.letters.Word.{Word}
+use Rattle.go_fragment_core.specs.constant_core.declared.values.Constant.{Constant}
+use Rattle.go_fragment_core.specs.constant_core.declared.values.Constant.TheVariants as values
+use Rattle.go_expr_core.specs.operand_core.declared.types.Operand.{Operand}
+use Rattle.go_expr_core.specs.operand_core.TypeRules.{TypeRules}
+use Rattle.go_expr_core.specs.operand_core.declared.types.ValueType.{ValueType}
+use Rattle.go_expr_core.specs.operand_core.Values.{basic_under, default_type}
+use Rattle.go_expr_core.specs.denote_core.declared.things.Place.{Place}
+use Rattle.go_expr_core.specs.denote_core.declared.things.Place.TheVariants as places
+use Rattle.go_expr_core.specs.denote_core.declared.things.Usage.{Usage}
+use Rattle.go_expr_core.specs.denote_core.declared.things.Usage.TheVariants as usages
+use Rattle.go_expr_core.specs.denote_core.declared.things.Outcome.{Outcome}
+use Rattle.go_expr_core.specs.denote_core.declared.things.Outcome.TheVariants as outcomes
+use Rattle.go_expr_core.specs.denote_core.declared.things.Denoted.{Denoted}
+use Rattle.go_expr_core.specs.denote_core.declared.things.Denoted.TheVariants as denotes
+use Rattle.go_expr_core.specs.denote_core.declared.things.Answer.{Answer}
+use Rattle.go_expr_core.specs.denote_core.declared.things.Found.{Found}
+use Rattle.go_expr_core.specs.denote_core.declared.things.Found.TheVariants as founds
+use Rattle.go_expr_core.specs.denote_core.declared.things.Exported.{Exported}
+use Rattle.go_expr_core.specs.denote_core.declared.things.Exported.TheVariants as exporteds
+use Rattle.go_expr_core.specs.denote_core.declared.things.Selection.{Selection}
+use Rattle.go_expr_core.specs.denote_core.declared.things.Selection.TheVariants as selections
+use Rattle.go_expr_core.specs.denote_core.declared.things.Dot.{Dot}
+use Rattle.go_expr_core.specs.denote_core.declared.things.Dot.TheVariants as dots
+use Rattle.go_expr_core.specs.denote_core.Answers.{refused, of_value, package_answer, type_answer, func_answer, value_answer, found_answer, name_answer}
+use Rattle.go_expr_core.specs.denote_core.Selectors.{usage_place, exported_answer, field_answer, method_answer, member_answer, value_selector, selector_answer}
+use Rattle.go_expr_core.specs.Looks.{Looks, look_of_place}
+use Rattle.go_fragment_core.specs.instruction_core.declared.letters.Word.{Word}
 use Rattle.go_fragment_core.specs.declared.names.ConstantWord.{ConstantWord}
 use Rattle.go_fragment_core.specs.declared.names.Gives.{Gives}
 use Rattle.go_fragment_core.specs.declared.names.Gives.TheVariants as gives
@@ -188,10 +188,10 @@ module _ {T S D P : Type 0} (looks : Looks T S D P) (mean : Outcome D P → Mean
       → IsJudged T S D looks.types Certain Known w (exported_answer {P = P} u f).denoted (folded_name m)
   exported_judged u exporteds.Absent h typed is same = absurd is
   exported_judged u exporteds.Hidden h typed is same = absurd is
-  exported_judged u (exporteds.«Type» d t) h typed is same = not_this (type_gives slots looks.types t m (subst (IsTypeMeant looks.types t) (came (type_declares (place_of u) d t is) same) h))
+  exported_judged u (exporteds.«Type» d t) h typed is same = not_this (type_gives slots looks.types t m (subst (IsTypeMeant looks.types t) (came (type_declares (usage_place u) d t is) same) h))
   exported_judged u (exporteds.Func d s) h typed is same =
-      not_this (function_gives slots looks.types (looks.results s) m (subst (IsFunctionMeant looks.types (looks.results s)) (came (func_declares (place_of u) d (denotes.Func d s) is) same) h))
-  exported_judged u (exporteds.«Value» d v) h typed is same = judged_value (value_answer (place_of u) d v) d v (value_declares (place_of u) d v is) h typed same
+      not_this (function_gives slots looks.types (looks.results s) m (subst (IsFunctionMeant looks.types (looks.results s)) (came (func_declares (usage_place u) d (denotes.Func d s) is) same) h))
+  exported_judged u (exporteds.«Value» d v) h typed is same = judged_value (value_answer (usage_place u) d v) d v (value_declares (usage_place u) d v is) h typed same
 
   -- a member gives none
   field_never : {A : Type 0} (u : Usage) (d : D) (path : P) (t : Option T) (b : Bool) → IsFieldMeant (mean (outcomes.Selected d path)) → HasDeclaration (field_answer {T = T} {S = S} {D = D} {P = P} u d path t b).outcome
@@ -214,7 +214,7 @@ module _ {T S D P : Type 0} (looks : Looks T S D P) (mean : Outcome D P → Mean
 
   module _ (read : AreNamesRead T S D P looks mean) (typed : Known → AreTyped T S D P looks mean) (x : List ℕ) (n : ℕ) where
     -- a name where it stands
-    pub name_judged : (p : Place) → HasDeclaration (name_answer (at looks n) p x).outcome → m ≡ mean (name_answer (at looks n) p x).outcome → IsJudged T S D looks.types Certain Known w (name_answer (at looks n) p x).denoted (folded_name m)
+    pub name_judged : (p : Place) → HasDeclaration (name_answer (look_of_place looks n) p x).outcome → m ≡ mean (name_answer (look_of_place looks n) p x).outcome → IsJudged T S D looks.types Certain Known w (name_answer (look_of_place looks n) p x).denoted (folded_name m)
     name_judged p = by (is_blank x)
       where
         by : (b : Bool) → HasDeclaration (if b then refused N8 else found_answer {P = P} p (looks.find x n)).outcome → m ≡ mean (if b then refused N8 else found_answer {P = P} p (looks.find x n)).outcome
@@ -222,14 +222,14 @@ module _ {T S D P : Type 0} (looks : Looks T S D P) (mean : Outcome D P → Mean
         by true is same = absurd is
         by false is same = found_judged p (looks.find x n) (read.names x n) (λ known. (typed known).names x n) is same
 
-    member_judged : (u : Usage) (addressable : Bool) (t : Option T) → HasDeclaration (value_selector (at looks n) u addressable t x).outcome → m ≡ mean (value_selector (at looks n) u addressable t x).outcome
-        → IsJudged T S D looks.types Certain Known w (value_selector (at looks n) u addressable t x).denoted (folded_name m)
+    member_judged : (u : Usage) (addressable : Bool) (t : Option T) → HasDeclaration (value_selector (look_of_place looks n) u addressable t x).outcome → m ≡ mean (value_selector (look_of_place looks n) u addressable t x).outcome
+        → IsJudged T S D looks.types Certain Known w (value_selector (look_of_place looks n) u addressable t x).denoted (folded_name m)
     member_judged u addressable None is same = absurd is
     member_judged u addressable (Some t) is same = member_never u addressable (looks.select t x) (read.members t x) is same
 
     -- a selector, by what stands left of its dot
-    pub selector_judged : (u : Usage) (dot : Dot T D) → HasDeclaration (selector_answer (at looks n) u dot x).outcome → m ≡ mean (selector_answer (at looks n) u dot x).outcome
-        → IsJudged T S D looks.types Certain Known w (selector_answer (at looks n) u dot x).denoted (folded_name m)
+    pub selector_judged : (u : Usage) (dot : Dot T D) → HasDeclaration (selector_answer (look_of_place looks n) u dot x).outcome → m ≡ mean (selector_answer (look_of_place looks n) u dot x).outcome
+        → IsJudged T S D looks.types Certain Known w (selector_answer (look_of_place looks n) u dot x).denoted (folded_name m)
     selector_judged u dots.Refused is same = absurd is
     selector_judged u dots.Untyped is same = by (is_blank x) is same
       where
@@ -245,8 +245,8 @@ module _ {T S D P : Type 0} (looks : Looks T S D P) (mean : Outcome D P → Mean
         by false is same = exported_judged u (looks.exported d x) (read.exported d x) (λ known. (typed known).exported d x) is same
     selector_judged u (dots.«Value» o) is same = by (is_blank x) is same
       where
-        by : (b : Bool) → HasDeclaration (if b then refused S8 else value_selector (at looks n) u o.addressable (default_type looks.types o.value_type) x).outcome
-            → m ≡ mean (if b then refused S8 else value_selector (at looks n) u o.addressable (default_type looks.types o.value_type) x).outcome
-            → IsJudged T S D looks.types Certain Known w (if b then refused S8 else value_selector (at looks n) u o.addressable (default_type looks.types o.value_type) x).denoted (folded_name m)
+        by : (b : Bool) → HasDeclaration (if b then refused S8 else value_selector (look_of_place looks n) u o.addressable (default_type looks.types o.value_type) x).outcome
+            → m ≡ mean (if b then refused S8 else value_selector (look_of_place looks n) u o.addressable (default_type looks.types o.value_type) x).outcome
+            → IsJudged T S D looks.types Certain Known w (if b then refused S8 else value_selector (look_of_place looks n) u o.addressable (default_type looks.types o.value_type) x).denoted (folded_name m)
         by true is same = absurd is
         by false is same = member_judged u o.addressable (default_type looks.types o.value_type) is same

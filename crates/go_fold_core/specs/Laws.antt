@@ -3,15 +3,15 @@
 -- docs/RULES.md, "Stack code". The Go specification, "Constant expressions".
 use Rattle.std.specs.Prelude.{◌≡◌, ℕ, Bool, true, false, ⊤, List, [], Option, Some, None}
 use Rattle.std.specs.List.{Contains}
-use Rattle.go_constant_core.specs.declared.values.Constant.{Constant}
-use Rattle.go_constant_core.specs.declared.values.Constant.TheVariants as values
+use Rattle.go_fragment_core.specs.constant_core.declared.values.Constant.{Constant}
+use Rattle.go_fragment_core.specs.constant_core.declared.values.Constant.TheVariants as values
 use Rattle.go_tree_nodes.specs.Trees.{ExprTree}
-use Rattle.go_operand_core.specs.declared.types.Operand.{Operand}
-use Rattle.go_denote_core.specs.declared.things.Place.{Place}
-use Rattle.go_denote_core.specs.declared.things.Outcome.{Outcome}
-use Rattle.go_denote_core.specs.declared.things.Outcome.TheVariants as outcomes
-use Rattle.go_denote_core.specs.declared.things.Denoted.{Denoted}
-use Rattle.go_denote_core.specs.declared.things.Denoted.TheVariants as denotes
+use Rattle.go_expr_core.specs.operand_core.declared.types.Operand.{Operand}
+use Rattle.go_expr_core.specs.denote_core.declared.things.Place.{Place}
+use Rattle.go_expr_core.specs.denote_core.declared.things.Outcome.{Outcome}
+use Rattle.go_expr_core.specs.denote_core.declared.things.Outcome.TheVariants as outcomes
+use Rattle.go_expr_core.specs.denote_core.declared.things.Denoted.{Denoted}
+use Rattle.go_expr_core.specs.denote_core.declared.things.Denoted.TheVariants as denotes
 use Rattle.go_expr_core.specs.declared.things.Use.{Use}
 use Rattle.go_expr_core.specs.Looks.{Looks}
 use Rattle.go_expr_core.specs.Denoting.{denoted}
@@ -19,7 +19,7 @@ use Rattle.go_expr_core.specs.Uses.{uses}
 use Rattle.go_expr_core.specs.Faults.{faults}
 use Rattle.go_fragment_core.specs.declared.names.Gives.TheVariants as gives
 use Rattle.go_fragment_core.specs.declared.names.Meaning.{Meaning}
-use Rattle.go_instruction_core.specs.declared.letters.Word.{Word}
+use Rattle.go_fragment_core.specs.instruction_core.declared.letters.Word.{Word}
 use Rattle.go_fragment_core.specs.Names as code_names
 use Rattle.go_fragment_core.specs.Names.{frame_of}
 use Rattle.go_fragment_core.specs.Fragment.{expr_gives}
@@ -34,11 +34,11 @@ HasDeclaration (outcomes.Selected d path) = ⊤
 HasDeclaration (outcomes.Refused rule) = ⊥
 
 -- code takes an occurrence for what its outcome comes to, and it breaks no rule
-pub record IsMeant (D P : Type 0) (code : code_names.Looks) (mean : Outcome D P → Meaning) (u : Use D P) : Type 0 where
+pub record IsMeant (D P : Type 0) (code : code_names.CodeLooks) (mean : Outcome D P → Meaning) (u : Use D P) : Type 0 where
   pub meaning : code.meaning u.offset ≡ mean u.outcome
   pub declared : HasDeclaration u.outcome
 
-abbrev pub AreMeant : {D P : Type 0} → code_names.Looks → (Outcome D P → Meaning) → List (Use D P) → Type 0
+abbrev pub AreMeant : {D P : Type 0} → code_names.CodeLooks → (Outcome D P → Meaning) → List (Use D P) → Type 0
 AreMeant {D} {P} code mean us = (u : Use D P) → Contains us u → IsMeant D P code mean u
 
 -- no text
@@ -66,20 +66,20 @@ constant_in (denotes.Func d s) = None
 constant_in (denotes.Builtin d b) = None
 
 -- code takes an expression for a constant where it is one over `int` or `bool` to the check, and then with its value
-pub record IsConstantFolded (T S D P : Type 0) (looks : Looks T S D P) (code : code_names.Looks) (p : Place) (e : ExprTree) : Type 0 where
+pub record IsConstantFolded (T S D P : Type 0) (looks : Looks T S D P) (code : code_names.CodeLooks) (p : Place) (e : ExprTree) : Type 0 where
   pub value : folded code e ≡ some_held (constant_in (denoted looks p e))
   pub no_text : IsNoText (constant_in (denoted looks p e))
 
 -- An expression in which each occurrence denotes a declaration, which code takes for what it is, and whose operators and literals break no rule. Each
 -- expression in it of which code is made is constant in code exactly where it is to the check, with the same value.
 abbrev pub ConstantsAreFolded : (T S D P : Type 0) → Type 0
-ConstantsAreFolded T S D P = (looks : Looks T S D P) (code : code_names.Looks) (mean : Outcome D P → Meaning) (slots : List (Option ℕ)) (p : Place) (e : ExprTree)
+ConstantsAreFolded T S D P = (looks : Looks T S D P) (code : code_names.CodeLooks) (mean : Outcome D P → Meaning) (slots : List (Option ℕ)) (p : Place) (e : ExprTree)
     → AreNamesRead T S D P looks mean → AreMeant code mean (uses looks p e) → faults looks p e ≡ []
     → (q : Place) (x : ExprTree) → Contains (parts p e) (q, x) → (w : Word) → expr_gives (frame_of code slots) x ≡ gives.One w
     → IsConstantFolded T S D P looks code q x
 
 -- the check makes an operand of an expression; code takes it for a constant where the operand is one over `int` or `bool`, and then with its value
-pub record IsFolded (T S D P : Type 0) (looks : Looks T S D P) (code : code_names.Looks) (p : Place) (e : ExprTree) : Type 0 where
+pub record IsFolded (T S D P : Type 0) (looks : Looks T S D P) (code : code_names.CodeLooks) (p : Place) (e : ExprTree) : Type 0 where
   pub operand : Operand T
   pub denotes : denoted looks p e ≡ denotes.«Value» operand
   pub value : folded code e ≡ some_held operand.constant
@@ -87,7 +87,7 @@ pub record IsFolded (T S D P : Type 0) (looks : Looks T S D P) (code : code_name
 
 -- where calls of methods give what their signatures give, each such expression is an operand to the check
 abbrev pub ExpressionsAreFolded : (T S D P : Type 0) → Type 0
-ExpressionsAreFolded T S D P = (looks : Looks T S D P) (code : code_names.Looks) (mean : Outcome D P → Meaning) (slots : List (Option ℕ)) (p : Place) (e : ExprTree)
+ExpressionsAreFolded T S D P = (looks : Looks T S D P) (code : code_names.CodeLooks) (mean : Outcome D P → Meaning) (slots : List (Option ℕ)) (p : Place) (e : ExprTree)
     → AreRead T S D P looks mean → AreMeant code mean (uses looks p e) → faults looks p e ≡ []
     → (q : Place) (x : ExprTree) → Contains (parts p e) (q, x) → (w : Word) → expr_gives (frame_of code slots) x ≡ gives.One w
     → IsFolded T S D P looks code q x

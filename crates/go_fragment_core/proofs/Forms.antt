@@ -25,7 +25,7 @@ use Rattle.go_fragment_core.specs.declared.names.Gives.TheVariants as gives
 use Rattle.go_fragment_core.specs.declared.names.Meaning.{Meaning}
 use Rattle.go_fragment_core.specs.Fragment.{all_ones, call_gives, expr_gives, item_count, receiver_fits}
 use Rattle.go_fragment_core.specs.Inside.{head_inside, lines_inside, params_inside, results_inside, signature_inside, stmt_inside}
-use Rattle.go_fragment_core.specs.Names.{Frame, Looks, called}
+use Rattle.go_fragment_core.specs.Names.{Frame, CodeLooks, callee_meaning}
 use Rattle.go_tree_nodes.proofs.ShapeLemmas.{call_parts, literal_parts, struct_literal_parts, shape_block, loop_parts, shape_else_block}
 
 abbrev pub call_tree : CallExpr → ExprTree
@@ -62,17 +62,17 @@ passed b x y h = ap (λ c. if c then x else y) (sym h)
 
 pub call_given : (f : Frame) (e : Expr) (c : Box CallExpr) → e ≡ expr.Call c → (p q r s : CallExpr) → p ≡ c.value → q ≡ c.value → r ≡ c.value → s ≡ c.value
     → (fits ones : Bool) → fits ≡ receiver_fits f (shape (out-CallExpr p).callee) → fits ≡ true → ones ≡ all_ones f (items_of (out-CallExpr q).args.items) → ones ≡ true
-    → (m : Meaning) (n : ℕ) (g : Gives) → m ≡ called f.looks (shape (out-CallExpr r).callee) → n ≡ item_count (items_of (out-CallExpr s).args.items) → g ≡ call_gives m n → g ≡ expr_gives f (shape e)
+    → (m : Meaning) (n : ℕ) (g : Gives) → m ≡ callee_meaning f.looks (shape (out-CallExpr r).callee) → n ≡ item_count (items_of (out-CallExpr s).args.items) → g ≡ call_gives m n → g ≡ expr_gives f (shape e)
 call_given f e c is p q r s ip iq ir is' fits ones h h' k k' m n g at many e' =
     let callee = shape (out-CallExpr c.value).callee in
     let items = items_of (out-CallExpr c.value).args.items in
     let left : receiver_fits f callee ≡ true = sym (ap (λ x. receiver_fits f (shape (out-CallExpr x).callee)) ip) ∙ (sym h ∙ h') in
     let right : all_ones f items ≡ true = sym (ap (λ x. all_ones f (items_of (out-CallExpr x).args.items)) iq) ∙ (sym k ∙ k') in
     let both : (receiver_fits f callee && all_ones f items) ≡ true = ap (λ b. b && all_ones f items) left ∙ right in
-    let what : m ≡ called f.looks callee = at ∙ ap (λ x. called f.looks (shape (out-CallExpr x).callee)) ir in
+    let what : m ≡ callee_meaning f.looks callee = at ∙ ap (λ x. callee_meaning f.looks (shape (out-CallExpr x).callee)) ir in
     let count : n ≡ item_count items = many ∙ ap (λ x. item_count (items_of (out-CallExpr x).args.items)) is' in
-    e' ∙ (ap (λ x. call_gives x n) what ∙ (ap (λ x. call_gives (called f.looks callee) x) count
-    ∙ (taken (receiver_fits f callee && all_ones f items) (call_gives (called f.looks callee) (item_count items)) gives.Other both ∙ sym (ap (expr_gives f) (call_form e c is)))))
+    e' ∙ (ap (λ x. call_gives x n) what ∙ (ap (λ x. call_gives (callee_meaning f.looks callee) x) count
+    ∙ (taken (receiver_fits f callee && all_ones f items) (call_gives (callee_meaning f.looks callee) (item_count items)) gives.Other both ∙ sym (ap (expr_gives f) (call_form e c is)))))
 
 neither : (a b : Bool) → a ≡ false → (a && b) ≡ false
 neither a b h = ap (λ x. x && b) h
@@ -85,7 +85,7 @@ not_given : (f : Frame) (e : Expr) (c : Box CallExpr) → e ≡ expr.Call c
 not_given f e c is h =
     let callee = shape (out-CallExpr c.value).callee in
     let items = items_of (out-CallExpr c.value).args.items in
-    passed (receiver_fits f callee && all_ones f items) (call_gives (called f.looks callee) (item_count items)) gives.Other h ∙ sym (ap (expr_gives f) (call_form e c is))
+    passed (receiver_fits f callee && all_ones f items) (call_gives (callee_meaning f.looks callee) (item_count items)) gives.Other h ∙ sym (ap (expr_gives f) (call_form e c is))
 
 pub receiver_unfit : (f : Frame) (e : Expr) (c : Box CallExpr) → e ≡ expr.Call c → (p : CallExpr) → p ≡ c.value → (fits : Bool) → fits ≡ receiver_fits f (shape (out-CallExpr p).callee) → fits ≡ false → gives.Other ≡ expr_gives f (shape e)
 receiver_unfit f e c is p ip fits h h' =
@@ -111,11 +111,11 @@ loop_without f turns head h h' =
 
 -- signatures of which code is made
 
-pub signature_with : (looks : Looks) (s : Signature) (params results : Bool) → params ≡ params_inside looks (params_of (out-Params (out-Signature s).params).entries.items) → params ≡ true
+pub signature_with : (looks : CodeLooks) (s : Signature) (params results : Bool) → params ≡ params_inside looks (params_of (out-Params (out-Signature s).params).entries.items) → params ≡ true
     → results ≡ results_inside looks (shape_results (out-Signature s).results) → results ≡ signature_inside looks (shape_signature s)
 signature_with looks s params results h h' k =
     k ∙ (ap (λ b. b && results_inside looks (shape_results (out-Signature s).results)) (sym (sym h ∙ h')) ∙ sym (ap (signature_inside looks) (signature_parts s)))
 
-pub signature_without : (looks : Looks) (s : Signature) (params : Bool) → params ≡ params_inside looks (params_of (out-Params (out-Signature s).params).entries.items) → params ≡ false → false ≡ signature_inside looks (shape_signature s)
+pub signature_without : (looks : CodeLooks) (s : Signature) (params : Bool) → params ≡ params_inside looks (params_of (out-Params (out-Signature s).params).entries.items) → params ≡ false → false ≡ signature_inside looks (shape_signature s)
 signature_without looks s params h h' =
     ap (λ b. b && results_inside looks (shape_results (out-Signature s).results)) (sym (sym h ∙ h')) ∙ sym (ap (signature_inside looks) (signature_parts s))

@@ -11,7 +11,7 @@ use Rattle.go_fragment_core.specs.declared.names.ConstantWord.{ConstantWord}
 use Rattle.go_fragment_core.specs.declared.names.ConstantWord.TheVariants as constants
 use Rattle.go_fragment_core.specs.declared.names.Meaning.{Meaning}
 use Rattle.go_fragment_core.specs.declared.names.Meaning.TheVariants as meanings
-use Rattle.go_fragment_core.specs.Names.{Looks, called}
+use Rattle.go_fragment_core.specs.Names.{CodeLooks, callee_meaning}
 
 abbrev pub constant_of : ConstantWord → Constant
 constant_of (constants.Int z) = values.Int z
@@ -48,7 +48,7 @@ converted _ v = None
 
 abbrev mutual
   -- the value of an expression, if it is a constant one over `int` or `bool`
-  pub folded : Looks → ExprTree → Option ConstantWord
+  pub folded : CodeLooks → ExprTree → Option ConstantWord
   folded looks (Integer n s) = held (natural n)
   folded looks (Text t) = None
   folded looks (Named x) = folded_name (looks.meaning x.span.start)
@@ -56,12 +56,12 @@ abbrev mutual
   folded looks (Unary op s e) = folded_unary op (folded looks e)
   folded looks (Binary a op s b) = folded_binary op (folded looks a) (folded looks b)
   folded looks (Select e dot x) = folded_name (looks.meaning x.span.start)
-  folded looks (Call e first items last) = converted (called looks e) (folded_one looks items)
+  folded looks (Call e first items last) = converted (callee_meaning looks e) (folded_one looks items)
   folded looks (Literal n first items last) = None
   folded looks (StructLiteral t first items last) = None
 
   -- of the one argument
-  pub folded_one : Looks → ItemTrees → Option ConstantWord
+  pub folded_one : CodeLooks → ItemTrees → Option ConstantWord
   folded_one looks NoItems = None
   folded_one looks (Item key e comma NoItems) = folded looks e
   folded_one looks (Item key e comma (Item key' e' comma' rest)) = None

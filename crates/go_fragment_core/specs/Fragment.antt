@@ -11,7 +11,7 @@ use Rattle.go_fragment_core.specs.declared.names.Gives.{Gives}
 use Rattle.go_fragment_core.specs.declared.names.Gives.TheVariants as gives
 use Rattle.go_fragment_core.specs.declared.names.Meaning.{Meaning}
 use Rattle.go_fragment_core.specs.declared.names.Meaning.TheVariants as meanings
-use Rattle.go_fragment_core.specs.Names.{Looks, Frame, slot_of, word_of, called}
+use Rattle.go_fragment_core.specs.Names.{CodeLooks, Frame, slot_of, word_of, callee_meaning}
 
 -- types
 
@@ -20,19 +20,19 @@ type_of_meaning (meanings.«Type» w) = Some w
 type_of_meaning _ = None
 
 -- what the name of a type is over: its last identifier says it
-abbrev pub type_name_word : Looks → TypeName → Option Word
+abbrev pub type_name_word : CodeLooks → TypeName → Option Word
 type_name_word looks (type_names.Plain x) = type_of_meaning (looks.meaning x.span.start)
 type_name_word looks (type_names.Qualified q dot x) = type_of_meaning (looks.meaning x.span.start)
 
 -- what a type is over: none where it is over something other than `int` or `bool`
-abbrev pub type_word : Looks → TypeTree → Option Word
+abbrev pub type_word : CodeLooks → TypeTree → Option Word
 type_word looks (NamedType n) = type_name_word looks n
 type_word looks (ParenType first t last) = type_word looks t
 type_word looks (Pointer star t) = None
 type_word looks (Struct s first _ last) = None
 type_word looks (Interface s first _ last) = None
 
-abbrev pub some_type_inside : Looks → Option TypeTree → Bool
+abbrev pub some_type_inside : CodeLooks → Option TypeTree → Bool
 some_type_inside looks None = true
 some_type_inside looks (Some t) = is_some (type_word looks t)
 
@@ -97,9 +97,9 @@ call_gives (meanings.Variable at w) n = gives.Other
 call_gives (meanings.Constant v) n = gives.Other
 call_gives meanings.Other n = gives.Other
 
-abbrev pub is_method : Meaning → Bool
-is_method (meanings.Method g) = true
-is_method _ = false
+abbrev pub means_method : Meaning → Bool
+means_method (meanings.Method g) = true
+means_method _ = false
 
 abbrev pub item_count : ItemTrees → ℕ
 item_count NoItems = 0
@@ -115,13 +115,13 @@ abbrev mutual
   expr_gives f (Unary op s e) = if is_one (expr_gives f e) then over (unary_word op) else gives.Other
   expr_gives f (Binary a op s b) = if is_one (expr_gives f a) && is_one (expr_gives f b) then over (binary_word op) else gives.Other
   expr_gives f (Select e dot x) = selected_gives (f.looks.meaning x.span.start)
-  expr_gives f (Call e first items last) = if receiver_fits f e && all_ones f items then call_gives (called f.looks e) (item_count items) else gives.Other
+  expr_gives f (Call e first items last) = if receiver_fits f e && all_ones f items then call_gives (callee_meaning f.looks e) (item_count items) else gives.Other
   expr_gives f (Literal n first items last) = gives.Other
   expr_gives f (StructLiteral t first items last) = gives.Other
 
   -- the receiver of a method that is called gives one value over `int` or `bool`
   pub receiver_fits : Frame → ExprTree → Bool
-  receiver_fits f (Select e dot x) = not (is_method (f.looks.meaning x.span.start)) || is_one (expr_gives f e)
+  receiver_fits f (Select e dot x) = not (means_method (f.looks.meaning x.span.start)) || is_one (expr_gives f e)
   receiver_fits f (Paren first e last) = receiver_fits f e
   receiver_fits f (Integer n s) = true
   receiver_fits f (Text t) = true

@@ -6,7 +6,7 @@ use Rattle.go_tree_nodes.specs.declared.decls.ValueKind.{ValueKind}
 use Rattle.go_tree_nodes.specs.declared.decls.ValueKind.TheVariants as value_kinds
 use Rattle.go_tree_nodes.specs.declared.files.Receiver.{Receiver}
 use Rattle.go_tree_nodes.specs.Trees.{Separated, One, Then, ParamTrees, NoParams, Param, ResultTree, NoResult, OneResult, Results, SignatureTree, Signed, ExprTree, ValueSpecTree, Specs, Single, Group, SimpleTree, Alone, Step, Assign, Update, Define, ForTree, Forever, While, Clauses, StmtTree, Empty, Declare, Simple, Return, Break, Continue, Block, If, For, BranchTree, Branch, ElseTree, NoElse, ElseBlock, ElseIf, Lines, NoLines, Line, FuncTree}
-use Rattle.go_fragment_core.specs.Names.{Looks, Frame, target_of, declared_target, is_slot, is_target}
+use Rattle.go_fragment_core.specs.Names.{CodeLooks, Frame, slot_assigned, declared_slot, is_slot, is_target}
 use Rattle.go_fragment_core.specs.Fragment.{is_one, is_other, expr_gives, type_word, type_name_word, some_type_inside}
 use Rattle.go_fragment_core.specs.Operators.{step_operator, update_operator}
 
@@ -16,22 +16,22 @@ one_value f (One e) = is_one (expr_gives f e)
 one_value f (Then e comma more) = false
 
 abbrev pub one_target : Frame → Separated ExprTree → Bool
-one_target f (One e) = is_target (target_of f e)
+one_target f (One e) = is_target (slot_assigned f e)
 one_target f (Then e comma more) = false
 
 abbrev pub one_declared : Frame → Separated Ident → Bool
-one_declared f (One x) = is_target (declared_target f x)
+one_declared f (One x) = is_target (declared_slot f x)
 one_declared f (Then x comma more) = false
 
-abbrev pub one_name : Separated Ident → Bool
-one_name (One x) = true
-one_name (Then x comma more) = false
+abbrev pub is_one_name : Separated Ident → Bool
+is_one_name (One x) = true
+is_one_name (Then x comma more) = false
 
 abbrev pub simple_inside : Frame → SimpleTree → Bool
 simple_inside f (Alone e) = not (is_other (expr_gives f e))
-simple_inside f (Step e op s) = is_slot (target_of f e) && is_some (step_operator op)
+simple_inside f (Step e op s) = is_slot (slot_assigned f e) && is_some (step_operator op)
 simple_inside f (Assign ts s es) = one_target f ts && one_value f es
-simple_inside f (Update t op s e) = is_slot (target_of f t) && is_one (expr_gives f e) && is_some (update_operator op)
+simple_inside f (Update t op s e) = is_slot (slot_assigned f t) && is_one (expr_gives f e) && is_some (update_operator op)
 simple_inside f (Define xs s es) = one_declared f xs && one_value f es
 
 abbrev pub values_inside : Frame → Option (Span × Separated ExprTree) → Bool
@@ -40,7 +40,7 @@ values_inside f (Some v) = one_value f v.1
 
 -- one constant, or one variable
 abbrev pub names_inside : Frame → ValueKind → Separated Ident → Bool
-names_inside f value_kinds.Const xs = one_name xs
+names_inside f value_kinds.Const xs = is_one_name xs
 names_inside f value_kinds.Var xs = one_declared f xs
 
 abbrev pub value_spec_inside : Frame → ValueKind → ValueSpecTree → Bool
@@ -100,27 +100,27 @@ abbrev mutual
   lines_inside f (Line s semicolon rest) = stmt_inside f s && lines_inside f rest
 
 -- a value receiver over `int` or `bool`
-abbrev pub receiver_inside : Looks → Option Receiver → Bool
+abbrev pub receiver_inside : CodeLooks → Option Receiver → Bool
 receiver_inside looks None = true
 receiver_inside looks (Some r) = is_none r.star && is_some (type_name_word looks r.base)
 
-abbrev pub params_inside : Looks → ParamTrees → Bool
+abbrev pub params_inside : CodeLooks → ParamTrees → Bool
 params_inside looks NoParams = true
 params_inside looks (Param xs t comma rest) = is_some (type_word looks t) && params_inside looks rest
 
 -- no result, or one without a name
-abbrev pub listed_result_inside : Looks → ParamTrees → Bool
+abbrev pub listed_result_inside : CodeLooks → ParamTrees → Bool
 listed_result_inside looks NoParams = true
 listed_result_inside looks (Param None t comma NoParams) = is_some (type_word looks t)
 listed_result_inside looks (Param None t comma (Param xs u comma' rest)) = false
 listed_result_inside looks (Param (Some xs) t comma rest) = false
 
-abbrev pub results_inside : Looks → ResultTree → Bool
+abbrev pub results_inside : CodeLooks → ResultTree → Bool
 results_inside looks NoResult = true
 results_inside looks (OneResult t) = is_some (type_word looks t)
 results_inside looks (Results first params last) = listed_result_inside looks params
 
-abbrev pub signature_inside : Looks → SignatureTree → Bool
+abbrev pub signature_inside : CodeLooks → SignatureTree → Bool
 signature_inside looks (Signed first params last results) = params_inside looks params && results_inside looks results
 
 -- code is made of a function

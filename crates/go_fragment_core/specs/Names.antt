@@ -14,17 +14,17 @@ use Rattle.go_fragment_core.specs.declared.targets.Target.TheVariants as targets
 
 -- what the identifier at an offset comes to; which reference of the function the call is whose opening parenthesis stands at an offset; and
 -- whether the identifier at an offset, to the left of `:=`, is declared there
-pub record Looks : Type 0 where
+pub record CodeLooks : Type 0 where
   pub meaning : ℕ → Meaning
   pub reference : ℕ → ℕ
   pub is_new : ℕ → Bool
 
 -- a function: its names, and what its slots are for, each by the offset of its identifier
 pub record Frame : Type 0 where
-  pub looks : Looks
+  pub looks : CodeLooks
   pub slots : List (Option ℕ)
 
-abbrev pub frame_of : Looks → List (Option ℕ) → Frame
+abbrev pub frame_of : CodeLooks → List (Option ℕ) → Frame
 frame_of looks slots = record { looks = looks; slots = slots }
 
 -- the number of the first of some slots that is for what is declared at an offset, where the first of all has this number
@@ -41,17 +41,17 @@ word_of (constants.Int z) = words.Int
 word_of (constants.Bool b) = words.Bool
 
 -- what is called: a name, or what is selected, in parentheses too
-abbrev pub called : Looks → ExprTree → Meaning
-called looks (Named x) = looks.meaning x.span.start
-called looks (Select e dot x) = looks.meaning x.span.start
-called looks (Paren first e last) = called looks e
-called looks (Integer n s) = meanings.Other
-called looks (Text t) = meanings.Other
-called looks (Unary op s e) = meanings.Other
-called looks (Binary a op s b) = meanings.Other
-called looks (Call e first items last) = meanings.Other
-called looks (Literal n first items last) = meanings.Other
-called looks (StructLiteral t first items last) = meanings.Other
+abbrev pub callee_meaning : CodeLooks → ExprTree → Meaning
+callee_meaning looks (Named x) = looks.meaning x.span.start
+callee_meaning looks (Select e dot x) = looks.meaning x.span.start
+callee_meaning looks (Paren first e last) = callee_meaning looks e
+callee_meaning looks (Integer n s) = meanings.Other
+callee_meaning looks (Text t) = meanings.Other
+callee_meaning looks (Unary op s e) = meanings.Other
+callee_meaning looks (Binary a op s b) = meanings.Other
+callee_meaning looks (Call e first items last) = meanings.Other
+callee_meaning looks (Literal n first items last) = meanings.Other
+callee_meaning looks (StructLiteral t first items last) = meanings.Other
 
 -- what is assigned to: nothing, a variable of the function by its slot, or something else
 
@@ -67,21 +67,21 @@ meant_target slots _ = targets.Other
 abbrev pub named_target : Frame → Ident → Target
 named_target f x = if is_blank x.name then targets.Blank else meant_target f.slots (f.looks.meaning x.span.start)
 
-abbrev pub declared_target : Frame → Ident → Target
-declared_target f x = if is_blank x.name then targets.Blank else slot_target (slot_of f.slots x.span.start)
+abbrev pub declared_slot : Frame → Ident → Target
+declared_slot f x = if is_blank x.name then targets.Blank else slot_target (slot_of f.slots x.span.start)
 
 -- the left side of an assignment, in parentheses too
-abbrev pub target_of : Frame → ExprTree → Target
-target_of f (Named x) = named_target f x
-target_of f (Paren first e last) = target_of f e
-target_of f (Integer n s) = targets.Other
-target_of f (Text t) = targets.Other
-target_of f (Unary op s e) = targets.Other
-target_of f (Binary a op s b) = targets.Other
-target_of f (Select e dot x) = targets.Other
-target_of f (Call e first items last) = targets.Other
-target_of f (Literal n first items last) = targets.Other
-target_of f (StructLiteral t first items last) = targets.Other
+abbrev pub slot_assigned : Frame → ExprTree → Target
+slot_assigned f (Named x) = named_target f x
+slot_assigned f (Paren first e last) = slot_assigned f e
+slot_assigned f (Integer n s) = targets.Other
+slot_assigned f (Text t) = targets.Other
+slot_assigned f (Unary op s e) = targets.Other
+slot_assigned f (Binary a op s b) = targets.Other
+slot_assigned f (Select e dot x) = targets.Other
+slot_assigned f (Call e first items last) = targets.Other
+slot_assigned f (Literal n first items last) = targets.Other
+slot_assigned f (StructLiteral t first items last) = targets.Other
 
 abbrev pub is_slot : Target → Bool
 is_slot (targets.Slot n) = true

@@ -42,6 +42,6 @@ update_operator operators.PercentAssign = Some instructions.Rem
 update_operator _ = None
 
 -- an instruction, if there is one
-abbrev pub listed : Option Instruction → List Instruction
-listed None = []
-listed (Some i) = i ∷ []
+abbrev pub some_instruction : Option Instruction → List Instruction
+some_instruction None = []
+some_instruction (Some i) = i ∷ []

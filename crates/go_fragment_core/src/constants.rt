@@ -2,7 +2,7 @@
 ghost use Rattle.std.specs.Prelude.{◌≡◌, IfOk};
 ghost use Rattle.go_tree_nodes.specs.Shapes.{shape, items_of};
 ghost use Rattle.go_fragment_core.specs.Constants.{constant_of, converted, folded, folded_binary, folded_name, folded_one, folded_unary, held, some_held};
-ghost use Rattle.go_fragment_core.specs.Names.{called};
+ghost use Rattle.go_fragment_core.specs.Names.{callee_meaning};
 
 use crate::names::{CodeNames, ConstantWord, Frame, Meaning};
 use go_constant_core::{Constant, binary, natural, unary};
@@ -89,7 +89,7 @@ fn convert(called: Meaning, value: Option<ConstantWord>) -> Option<ConstantWord>
 ///
 /// The Go specification, "Calls", "Conversions".
 pub fn called<N: CodeNames>(names: &N, callee: &Expr) -> Meaning
-    ensures { result ≡ called (N.looks names.now) (shape callee.now) }
+    ensures { result ≡ callee_meaning (N.looks names.now) (shape callee.now) }
 {
     match callee {
         Expr::Name(ident) => names.meaning(ident.span.start as usize),

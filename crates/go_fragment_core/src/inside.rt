@@ -2,7 +2,7 @@
 ghost use Rattle.std.specs.Prelude.{◌≡◌};
 ghost use Rattle.go_tree_nodes.specs.Shapes.{shape_exprs, shape_for, shape_init, shape_simple, shape_some_expr, shape_some_exprs, shape_some_simple, shape_stmt, shape_branch, shape_else, shape_loop, shape_value, shape_value_spec, shape_values, lines_of, func_of};
 ghost use Rattle.go_tree_nodes.specs.TypeShapes.{params_of, shape_idents, shape_results, shape_signature};
-ghost use Rattle.go_fragment_core.specs.Inside.{branch_inside, else_inside, head_inside, in_fragment, init_inside, lines_inside, listed_result_inside, names_inside, one_declared, one_name, one_target, one_value, params_inside, receiver_inside, results_given, results_inside, signature_inside, simple_inside, some_simple_inside, stmt_inside, test_inside, value_spec_inside, value_specs_inside, values_inside};
+ghost use Rattle.go_fragment_core.specs.Inside.{branch_inside, else_inside, head_inside, in_fragment, init_inside, lines_inside, listed_result_inside, names_inside, one_declared, is_one_name, one_target, one_value, params_inside, receiver_inside, results_given, results_inside, signature_inside, simple_inside, some_simple_inside, stmt_inside, test_inside, value_spec_inside, value_specs_inside, values_inside};
 ghost use Rattle.go_fragment_core.specs.Names.{frame_of};
 
 use crate::fragment::{expr_gives, is_one, is_other, some_type_inside, type_name_word, type_word};
@@ -43,7 +43,7 @@ fn one_declared<N: CodeNames>(frame: &Frame<'_, N>, names: &Idents) -> bool
 }
 
 fn one_name(names: &Idents) -> bool
-    ensures { result ≡ one_name (shape_idents names.now) }
+    ensures { result ≡ is_one_name (shape_idents names.now) }
 {
     match names.more.as_slice() {
         [] => true,

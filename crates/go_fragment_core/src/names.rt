@@ -45,10 +45,10 @@ pub enum Meaning {
 
 /// What code asks of the names of a file. Offsets are in bytes from the file's start.
 pub trait CodeNames {
-    ghost use Rattle.go_fragment_core.specs.Names.{Looks};
+    ghost use Rattle.go_fragment_core.specs.Names.{CodeLooks};
 
     // the answers to all that is asked
-    ghost looks: { Self → Looks };
+    ghost looks: { Self → CodeLooks };
 
     /// What the identifier comes to that is used at an offset: behind a dot, at the identifier there.
     fn meaning(&self, offset: usize) -> Meaning

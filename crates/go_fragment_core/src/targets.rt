@@ -1,7 +1,7 @@
 //! What is assigned to.
 ghost use Rattle.std.specs.Prelude.{◌≡◌};
 ghost use Rattle.go_tree_nodes.specs.Shapes.{shape};
-ghost use Rattle.go_fragment_core.specs.Names.{declared_target, frame_of, is_slot, is_target, meant_target, named_target, slot_target, target_of};
+ghost use Rattle.go_fragment_core.specs.Names.{declared_slot, frame_of, is_slot, is_target, meant_target, named_target, slot_target, slot_assigned};
 
 use crate::names::{CodeNames, Frame, Meaning};
 use crate::slots::{is_blank, slot_of};
@@ -38,7 +38,7 @@ fn meant_target(slots: &[Option<usize>], meaning: Meaning) -> Target
 
 /// What a variable is, by its identifier where it is declared: `Other` where no slot is for it.
 pub fn declared_target<N: CodeNames>(frame: &Frame<'_, N>, ident: &Ident) -> Target
-    ensures { result ≡ declared_target (frame_of (N.looks frame.now.names.now) frame.now.slots.now) ident.now }
+    ensures { result ≡ declared_slot (frame_of (N.looks frame.now.names.now) frame.now.slots.now) ident.now }
 {
     if is_blank(ident) {
         return Target::Blank;
@@ -60,7 +60,7 @@ fn named_target<N: CodeNames>(frame: &Frame<'_, N>, ident: &Ident) -> Target
 ///
 /// The Go specification, "Assignment statements", "IncDec statements".
 pub fn target_of<N: CodeNames>(frame: &Frame<'_, N>, expr: &Expr) -> Target
-    ensures { result ≡ target_of (frame_of (N.looks frame.now.names.now) frame.now.slots.now) (shape expr.now) }
+    ensures { result ≡ slot_assigned (frame_of (N.looks frame.now.names.now) frame.now.slots.now) (shape expr.now) }
 {
     match expr {
         Expr::Name(ident) => named_target(frame, ident),

@@ -12,7 +12,7 @@ use Rattle.go_body_core.specs.written_core.Written as types
 use Rattle.go_body_core.specs.written_core.Written.{InFile}
 use Rattle.go_body_core.specs.handle_core.Declarations.{Declaration}
 use Rattle.go_body_core.specs.local_core.Steps.{Piece, spell_piece}
-use Rattle.go_body_core.specs.local_core.Binding.{Look}
+use Rattle.go_body_core.specs.local_core.Binding.{NameLook}
 use Rattle.go_body_core.specs.local_core.Alike.{Alike, AlikeAt, LookAtNames}
 use Rattle.go_body_core.specs.expr_core.Locality.{SameWritten}
 use Rattle.go_body_core.specs.inline_core.declared.scoped.Scoped.{Scoped}
@@ -20,7 +20,7 @@ use Rattle.go_body_core.specs.inline_core.declared.scoped.Scoped.TheVariants as 
 use Rattle.go_body_core.specs.inline_core.Types.{InlineOf}
 use Rattle.go_body_core.specs.inline_core.Trees as inline
 use Rattle.go_body_core.specs.inline_core.Inline.{inline_of, inlines}
-use Rattle.go_body_core.specs.inline_core.Functions.{looked_up, is_local, meaning_in}
+use Rattle.go_body_core.specs.inline_core.Functions.{looked_up_ident, is_local, meaning_in}
 use Rattle.go_body_core.specs.inline_core.mirrors.Alike.{inlines_alike}
 use Rattle.go_body_core.specs.piece_core.Headers.{returned_types, returned_names}
 use Rattle.go_body_core.specs.piece_core.Laws.{FindByNames}
@@ -30,28 +30,28 @@ use Rattle.go_body_core.specs.env_core.Found.{found_of}
 use Rattle.go_body_core.specs.env_core.Looks.{inline_type, inline_faults}
 use Rattle.go_body_core.specs.Notes.{NoteOf}
 use Rattle.go_body_core.specs.mirrors.Names.{look_at_names}
-use Rattle.go_func_core.specs.Types.{is_inside, named_where}
-use Rattle.go_func_core.specs.Stands.{FileStand, kinds_in, looks_where, outer_looks}
+use Rattle.go_func_core.specs.Types.{is_local_meaning, named_where}
+use Rattle.go_func_core.specs.Stands.{FileStand, kinds_in_scene, looks_where, outer_looks}
 use Rattle.go_func_core.specs.Functions.{func_rules}
 use Rattle.go_func_core.proofs.Listed.{piece_listed}
 
 -- a name that is a local, as one that is known for a local alone
 
 abbrev scoped_of : Option Meaning → Option Scoped
-scoped_of o = if is_inside o then Some scoped.Local else None
+scoped_of o = if is_local_meaning o then Some scoped.Local else None
 
-abbrev scoped_look : Look Meaning → Look Scoped
+abbrev scoped_look : NameLook Meaning → NameLook Scoped
 scoped_look look name place = scoped_of (look name place)
 
-is_same : (o : Option Meaning) → is_local (scoped_of o) ≡ is_inside o
+is_same : (o : Option Meaning) → is_local (scoped_of o) ≡ is_local_meaning o
 is_same None = refl
 is_same (Some (meanings.Outside o)) = refl
 is_same (Some (meanings.Local at value)) = refl
 
-means_same : (look : Look Meaning) (top : types.Meaning) → meaning_in (scoped_look look) top ≡ named_where look top
-means_same look top = λ j n. ap (λ b. if b then NoType else top n) (is_same (look (looked_up n).name (looked_up n).span.start)) j
+means_same : (look : NameLook Meaning) (top : types.Meaning) → meaning_in (scoped_look look) top ≡ named_where look top
+means_same look top = λ j n. ap (λ b. if b then NoType else top n) (is_same (look (looked_up_ident n).name (looked_up_ident n).span.start)) j
 
-at_scoped : (look other : Look Meaning) (k : TerminalKind) (s : Span) → AlikeAt look other k s → AlikeAt (scoped_look look) (scoped_look other) k s
+at_scoped : (look other : NameLook Meaning) (k : TerminalKind) (s : Span) → AlikeAt look other k s → AlikeAt (scoped_look look) (scoped_look other) k s
 at_scoped look other (Spelled n) s h = ap scoped_of h
 at_scoped look other (Number n) s h = tt
 at_scoped look other (Quoted bs) s h = tt
@@ -59,7 +59,7 @@ at_scoped look other (Word k) s h = tt
 at_scoped look other (Mark o) s h = tt
 at_scoped look other Stray s h = tt
 
-alike_scoped : (look other : Look Meaning) (ts : List Terminal) → Alike look other ts → Alike (scoped_look look) (scoped_look other) ts
+alike_scoped : (look other : NameLook Meaning) (ts : List Terminal) → Alike look other ts → Alike (scoped_look look) (scoped_look other) ts
 alike_scoped look other [] h = tt
 alike_scoped look other (t ∷ ts) h = (at_scoped look other t.kind t.span h.0, alike_scoped look other ts h.1)
 
@@ -83,7 +83,7 @@ module _ (kind : DeclKey → Kind) (f : InFile) where
   each_same mean one (t ∷ ts) h = (ap (first_or (inline_of kind f mean t)) h, each_same mean one ts (ap behind h))
 
   -- the types of a piece are the same where the names that it writes mean the same
-  pub types_same : (top : types.Meaning) (look other : Look Meaning) (p : Piece) → Alike look other (spell_piece p) → AreSame (named_where look top) (named_where other top) (inline.piece_types p)
+  pub types_same : (top : types.Meaning) (look other : NameLook Meaning) (p : Piece) → Alike look other (spell_piece p) → AreSame (named_where look top) (named_where other top) (inline.piece_types p)
   types_same top look other p h =
       let ts = inline.piece_types p in
       each_same (named_where look top) (named_where other top) ts
@@ -92,7 +92,7 @@ module _ (kind : DeclKey → Kind) (f : InFile) where
       ∙ ap (λ mean. inlines kind f mean ts) (means_same other top)))
 
 module _ (st : FileStand) where
-  made_same : (look other : Look Meaning) (ts : List TypeTree) → AreSame (kinds_in st.scene) st.file (named_where look st.top) (named_where other st.top) ts → SameWritten (looks_where st look) (looks_where st other) ts
+  made_same : (look other : NameLook Meaning) (ts : List TypeTree) → AreSame (kinds_in_scene st.scene) st.file (named_where look st.top) (named_where other st.top) ts → SameWritten (looks_where st look) (looks_where st other) ts
   made_same look other [] h = tt
   made_same look other (t ∷ ts) h = (
     record { type_of = ap (λ i. inline_type st.scene.types (Some i)) h.0; faults_of = ap (λ i. inline_faults (Some i)) h.0 },
@@ -104,7 +104,7 @@ module _ (st : FileStand) where
     rest = λ look other. refl;
     find = λ look other name offset h. ap (found_of st.scene st.file.file st.known name) h;
     written = λ look other p h.
-        subst (λ ts. SameWritten (looks_where st look) (looks_where st other) ts) (piece_listed p) (made_same look other (inline.piece_types p) (types_same (kinds_in st.scene) st.file st.top look other p h));
+        subst (λ ts. SameWritten (looks_where st look) (looks_where st other) ts) (piece_listed p) (made_same look other (inline.piece_types p) (types_same (kinds_in_scene st.scene) st.file st.top look other p h));
   }
 
   pub rules_look_at_names : (f : FuncTree) → LookAtNames Meaning NoteOf (func_rules st f)

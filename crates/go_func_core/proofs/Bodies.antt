@@ -9,11 +9,11 @@ use Rattle.go_body_core.specs.handle_core.Declarations.{Declaration}
 use Rattle.go_body_core.specs.denote_core.declared.things.Found.{Found}
 use Rattle.go_body_core.specs.local_core.Steps.{Piece, Header, Steps, Done, Check, Declare, Inner}
 use Rattle.go_body_core.specs.local_core.Outline.{func_steps, func_opens}
-use Rattle.go_body_core.specs.local_core.Binding.{Local, Look, bound, is_first}
+use Rattle.go_body_core.specs.local_core.Binding.{Local, NameLook, bound, is_first}
 use Rattle.go_body_core.specs.local_core.Law.{Rules}
-use Rattle.go_body_core.specs.local_core.Tables.{IsFuncPlaced, walked, given}
+use Rattle.go_body_core.specs.local_core.Tables.{IsFuncPlaced, walked, out_by_intervals}
 use Rattle.go_body_core.specs.local_core.TablesProofs.{one_table}
-use Rattle.go_body_core.specs.expr_core.Laws.{Agree}
+use Rattle.go_body_core.specs.expr_core.Laws.{AgreeOnIdents}
 use Rattle.go_body_core.specs.expr_core.Locality.{SameWritten}
 use Rattle.go_body_core.specs.inline_core.Types.{InlineOf}
 use Rattle.go_body_core.specs.inline_core.Trees as inline
@@ -24,14 +24,14 @@ use Rattle.go_body_core.specs.piece_core.Laws.{SamePiece, piece_idents}
 use Rattle.go_body_core.specs.piece_core.Local.{pieces_local}
 use Rattle.go_body_core.specs.env_core.declared.meaning.Meaning.{Meaning}
 use Rattle.go_body_core.specs.env_core.Looks.{TheLooks, looks_in, inline_rules, inline_type, inline_faults}
-use Rattle.go_body_core.specs.Agreement.{AreAlike}
+use Rattle.go_body_core.specs.Agreement.{NoteAlike}
 use Rattle.go_body_core.specs.Notes.{NoteOf, note}
 use Rattle.go_body_core.specs.Rules as body
-use Rattle.go_body_core.specs.Rules.{local_at, piece_locals, top_looks}
+use Rattle.go_body_core.specs.Rules.{local_at, piece_locals, outside_looks}
 use Rattle.go_body_core.specs.Body.{body_of}
 use Rattle.go_body_core.proofs.Agreement.{alike_rules_give_one}
 use Rattle.go_func_core.specs.Types.{named_where}
-use Rattle.go_func_core.specs.Stands.{FileStand, kinds_in, looks_where, outer_names, outer_look, outer_looks}
+use Rattle.go_func_core.specs.Stands.{FileStand, kinds_in_scene, looks_where, outer_meanings, outer_look, outer_looks}
 use Rattle.go_func_core.specs.Functions.{own_rules, func_rules, walked_func, func_by, AreFuncDeclarations}
 use Rattle.go_func_core.specs.Laws.{AreFuncTypes, BodiesAreAsWritten, FunctionsHaveOneTable}
 use Rattle.go_func_core.proofs.Alike.{types_same, rules_look_at_names}
@@ -42,13 +42,13 @@ use Rattle.go_func_core.proofs.Seen.{HasAt, here_named, has_at}
 
 pub functions_have_one_table : FunctionsHaveOneTable
 functions_have_one_table = record {
-  table = λ st f placed all. (one_table Meaning NoteOf (func_rules st f) (rules_look_at_names st f) (outer_names st) f placed).0 all;
+  table = λ st f placed all. (one_table Meaning NoteOf (func_rules st f) (rules_look_at_names st f) (outer_meanings st) f placed).0 all;
   regions = λ st f placed all right.
-      let one = one_table Meaning NoteOf (func_rules st f) (rules_look_at_names st f) (outer_names st) f placed in
+      let one = one_table Meaning NoteOf (func_rules st f) (rules_look_at_names st f) (outer_meanings st) f placed in
       ap (λ l. func_by st f l) ((one.0 all).0 right) ∙ ap (body_of f) one.1;
 }
 
-agree_self : {T S D : Type 0} (find : List ℕ → ℕ → Found T S D) (xs : List Ident) → Agree find find xs
+agree_self : {T S D : Type 0} (find : List ℕ → ℕ → Found T S D) (xs : List Ident) → AgreeOnIdents find find xs
 agree_self find [] = tt
 agree_self find (x ∷ xs) = (refl, agree_self find xs)
 
@@ -58,8 +58,8 @@ each_of P [] h = tt
 each_of P (t ∷ ts) h = (h t (Contains-append_left (t ∷ []) ts t (Contains-push [] t)), each_of P ts (λ u there. h u (Contains-append_right (t ∷ []) ts u there)))
 
 module _ (st : FileStand) (types : List (ℕ × InlineOf)) (all : List (Local Meaning)) where
-  abbrev look : Look Meaning
-  look = bound (outer_names st) all
+  abbrev look : NameLook Meaning
+  look = bound (outer_meanings st) all
 
   -- by the types as they are written, and by the table
   abbrev written : TheLooks
@@ -93,7 +93,7 @@ module _ (st : FileStand) (types : List (ℕ × InlineOf)) (all : List (Local Me
     meant : (firsts : List Bool) (p : Piece) → SamePiece Term Sign Declaration (List ℕ) written listed p → own.means look firsts p ≡ theirs.means look firsts p
     meant firsts p same = ap (local_at p) (same.values firsts)
 
-    steps_same : (opens : ℕ) (steps : Steps) → Each Has (steps_types steps) → AreAlike own theirs (outer_names st) all opens steps
+    steps_same : (opens : ℕ) (steps : Steps) → Each Has (steps_types steps) → NoteAlike own theirs (outer_meanings st) all opens steps
     steps_same opens Done h = tt
     steps_same opens (Check p rest) h =
         let same = piece_same p (each_left Has (inline.piece_types p) (steps_types rest) h) in
@@ -110,32 +110,32 @@ module _ (st : FileStand) (types : List (ℕ × InlineOf)) (f : FuncTree) (place
   each_at = each_of (HasAt st types (here_named st all)) (inline.func_types f) (λ t there. has_at st types f placed are all table t there)
 
   -- the types of the results, by their names outside the function
-  returned : returned_types (outer_looks st) f.signature ≡ returned_types (top_looks st.scene st.file.file st.known (inline_rules st.scene types)) f.signature
+  returned : returned_types (outer_looks st) f.signature ≡ returned_types (outside_looks st.scene st.file.file st.known (inline_rules st.scene types)) f.signature
   returned =
-      let top = top_looks st.scene st.file.file st.known (inline_rules st.scene types) in
+      let top = outside_looks st.scene st.file.file st.known (inline_rules st.scene types) in
       let mean = here_named st all in
       let one = named_where (outer_look st) st.top in
-      let kind = kinds_in st.scene in
+      let kind = kinds_in_scene st.scene in
       returned_same (outer_looks st) top f.signature
       (each_both (HasAt st types mean) (λ t. inline_of kind st.file mean t ≡ inline_of kind st.file one t) (IsOne (outer_looks st) top)
       (λ t h k. ap (λ i. inline_type st.scene.types (Some i)) (sym k) ∙ ap (inline_type st.scene.types) (sym h)) (inline.signature_types f.signature)
       (each_left (HasAt st types mean) (inline.signature_types f.signature) (inline.lines_types f.body) each_at)
-      (types_same kind st.file st.top (bound (outer_names st) all) (outer_look st) (Header f.receiver f.signature) (header_unseen (func_rules st f) (outer_names st) all f placed table)))
+      (types_same kind st.file st.top (bound (outer_meanings st) all) (outer_look st) (Header f.receiver f.signature) (header_unseen (func_rules st f) (outer_meanings st) all f placed table)))
 
-  alike : AreAlike (func_rules st f) (body.func_rules st.scene st.file.file st.known (inline_rules st.scene types) f) (outer_names st) all (func_opens f) (func_steps f)
+  alike : NoteAlike (func_rules st f) (body.func_body_rules st.scene st.file.file st.known (inline_rules st.scene types) f) (outer_meanings st) all (func_opens f) (func_steps f)
   alike =
-      subst (λ rs. AreAlike (func_rules st f) (body.body_rules st.scene st.file.file st.known (inline_rules st.scene types) rs (returned_names f.signature)) (outer_names st) all (func_opens f) (func_steps f)) returned
+      subst (λ rs. NoteAlike (func_rules st f) (body.body_rules st.scene st.file.file st.known (inline_rules st.scene types) rs (returned_names f.signature)) (outer_meanings st) all (func_opens f) (func_steps f)) returned
       (steps_same st types all (returned_types (outer_looks st) f.signature) (returned_names f.signature) (func_opens f) (func_steps f) (subst (Each (HasAt st types (here_named st all))) (sym (func_all f)) each_at))
 
 pub bodies_are_as_written : BodiesAreAsWritten
 bodies_are_as_written st types f us fs ls placed are is =
     let rules = func_rules st f in
-    let other = body.func_rules st.scene st.file.file st.known (inline_rules st.scene types) f in
-    let beyond = outer_names st in
+    let other = body.func_body_rules st.scene st.file.file st.known (inline_rules st.scene types) f in
+    let beyond = outer_meanings st in
     let all : List (Local Meaning) = (walked_func st f).declares in
     let one = one_table Meaning NoteOf rules (rules_look_at_names st f) beyond f placed in
     let table : AreFuncDeclarations st f all = (one.0 all).1 refl in
     let both = alike_rules_give_one Meaning NoteOf rules other beyond f all table (alike st types f placed are all table) in
     let theirs = is all both.0 in
-    let same : given other beyond f all ≡ walked rules beyond f = both.1 ∙ one.1 in
+    let same : out_by_intervals other beyond f all ≡ walked rules beyond f = both.1 ∙ one.1 in
     (theirs.0 ∙ ap (λ o. (body_of f o).uses) same, theirs.1 ∙ ap (λ o. (body_of f o).faults) same, theirs.2 ∙ ap (λ o. (body_of f o).locals) same)

@@ -8,9 +8,9 @@ use Rattle.go_tree_nodes.specs.declared.names.Ident.{Ident}
 use Rattle.go_tree_nodes.specs.Trees.{FuncTree}
 use Rattle.go_body_core.specs.local_core.Steps.{Piece, Steps, Done, Check, Declare, Inner}
 use Rattle.go_body_core.specs.local_core.Outline.{func_steps, func_opens, func_closes}
-use Rattle.go_body_core.specs.local_core.Binding.{Local, Look, bound, is_first, is_second}
-use Rattle.go_body_core.specs.local_core.Law.{Rules, declared, declared_from, law_out}
-use Rattle.go_body_core.specs.local_core.Tables.{given, IsTable}
+use Rattle.go_body_core.specs.local_core.Binding.{Local, NameLook, bound, is_first, is_second}
+use Rattle.go_body_core.specs.local_core.Law.{Rules, locals_of_names, declared_from, law_out}
+use Rattle.go_body_core.specs.local_core.Tables.{out_by_intervals, IsTable}
 use Rattle.go_body_core.specs.names_core.Body.{each_means}
 use Rattle.go_body_core.specs.piece_core.Pieces.{piece_names}
 use Rattle.go_body_core.specs.env_core.declared.meaning.Meaning.{Meaning}
@@ -25,7 +25,7 @@ held all d = local_if (not (is_second all d.opens d.name d.at)) d.means
 
 -- of each piece its locals are noted, by what the rules say that its names mean
 abbrev pub NoteLocals : Rules Meaning NoteOf → Type 0
-NoteLocals rules = (look : Look Meaning) (firsts : List Bool) (p : Piece) → all_locals (rules.notes look firsts p) ≡ piece_locals firsts p (rules.means look firsts p)
+NoteLocals rules = (look : NameLook Meaning) (firsts : List Bool) (p : Piece) → all_locals (rules.notes look firsts p) ≡ piece_locals firsts p (rules.means look firsts p)
 
 module _ (all : List (Local Meaning)) (opens closes from : ℕ) (means : ℕ → Meaning) where
   names_held : (n : ℕ) (xs : List Ident) → declared_among (map (is_first all opens) xs) (each_means means n xs) ≡ flat_map (held all) (declared_from opens closes from means n xs)
@@ -55,5 +55,5 @@ module _ (rules : Rules Meaning NoteOf) (noted : NoteLocals rules) (beyond : Lis
       join (law_out rules beyond all o c steps).notes (law_out rules beyond all opens closes rest).notes (law_out rules beyond all o c steps).declares (law_out rules beyond all opens closes rest).declares
       (steps_held steps o c h.0) (steps_held rest opens closes h.1)
 
-  pub locals_declared : (f : FuncTree) → IsTable rules beyond f all → all_locals (given rules beyond f all).notes ≡ declared_locals all
+  pub locals_declared : (f : FuncTree) → IsTable rules beyond f all → all_locals (out_by_intervals rules beyond f all).notes ≡ declared_locals all
   locals_declared f table = steps_held (func_steps f) (func_opens f) (func_closes f) (steps_are_named f) ∙ ap (flat_map (held all)) (sym table)

@@ -13,7 +13,7 @@ use Rattle.go_body_core.specs.env_core.declared.meaning.Meaning.{Meaning}
 use Rattle.go_body_core.specs.env_core.declared.meaning.Meaning.TheVariants as meanings
 use Rattle.go_body_core.specs.Notes.{TheValue, TheLocal}
 use Rattle.go_body_core.specs.Rules.{local_if}
-use Rattle.go_func_core.specs.Types.{is_inside}
+use Rattle.go_func_core.specs.Types.{is_local_meaning}
 use Rattle.go_func_core.specs.Locals.{declared_locals}
 use Rattle.go_func_core.proofs.Declared.{held}
 
@@ -59,19 +59,19 @@ module _ (all : List (Local Meaning)) where
       by true rest e = h.0 at value (same e)
       by false rest e = rest e
 
-  pub denoted_declared : (beyond : List ℕ → Option Meaning) (name : List ℕ) (place at : ℕ) (value : TheValue) → is_inside (beyond name) ≡ false → bound beyond all name place ≡ Some (meanings.Local at value)
+  pub denoted_declared : (beyond : List ℕ → Option Meaning) (name : List ℕ) (place at : ℕ) (value : TheValue) → is_local_meaning (beyond name) ≡ false → bound beyond all name place ≡ Some (meanings.Local at value)
       → Contains (declared_locals all) (record { offset = at; value = value })
   denoted_declared beyond name place at value outside =
       let found : List (Local Meaning) = filter (λ d. bytes_eq name d.name) (shown all place all) in
       let means : Each (Means (declared_locals all)) found = each-filter (Means (declared_locals all)) (λ d. bytes_eq name d.name) (shown all place all) (shown_means place (declared_locals all) all (each_gives all (declared_locals all) (λ l there. there))) in
       by (innermost_of found) (beyond name) outside (found_means (λ d. list_all (λ e. binding.is_inside d e) found) (declared_locals all) found means at value)
     where
-      none : (o : Option Meaning) → is_inside o ≡ false → o ≡ Some (meanings.Local at value) → Contains (declared_locals all) (record { offset = at; value = value })
+      none : (o : Option Meaning) → is_local_meaning o ≡ false → o ≡ Some (meanings.Local at value) → Contains (declared_locals all) (record { offset = at; value = value })
       none None h e = absurd (let e' : None ≡ Some (meanings.Local at value) = e in cc)
       none (Some (meanings.Outside o)) h e = absurd (let e' : Some (meanings.Outside o) ≡ Some (meanings.Local at value) = e in cc)
       none (Some (meanings.Local a v)) h e = absurd (cc)
 
-      by : (m o : Option Meaning) → is_inside o ≡ false → (m ≡ Some (meanings.Local at value) → Contains (declared_locals all) (record { offset = at; value = value })) → or_else m o ≡ Some (meanings.Local at value)
+      by : (m o : Option Meaning) → is_local_meaning o ≡ false → (m ≡ Some (meanings.Local at value) → Contains (declared_locals all) (record { offset = at; value = value })) → or_else m o ≡ Some (meanings.Local at value)
           → Contains (declared_locals all) (record { offset = at; value = value })
       by None o h k e = none o h e
       by (Some x) o h k e = k e

@@ -65,7 +65,7 @@ simple_listed (Assign ts span es) = ap (λ l. l ++ inline.exprs_types es) (exprs
 simple_listed (Update t op span e) = ap (λ l. l ++ inline.expr_types e) (expr_listed t) ∙ ap (λ l. struct_types t ++ l) (expr_listed e)
 simple_listed (Define xs span es) = exprs_listed es
 
-returned_listed : (es : Option (Separated ExprTree)) → inline.some_exprs_types es ≡ pieces.returned_types es
+returned_listed : (es : Option (Separated ExprTree)) → inline.some_exprs_types es ≡ pieces.returned_type_trees es
 returned_listed None = refl
 returned_listed (Some es) = exprs_listed es
 

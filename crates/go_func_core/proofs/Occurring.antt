@@ -19,7 +19,7 @@ use Rattle.go_body_core.specs.Pieces.{of_pieces}
 use Rattle.go_body_core.specs.WellFormed.{IsOfGrammar}
 use Rattle.go_body_core.proofs.Walks.{NotesOfPieces, walked_notes}
 use Rattle.go_body_core.proofs.WellFormed.{pieces_are_of_grammar}
-use Rattle.go_func_core.specs.Stands.{FileStand, looks_where, outer_names}
+use Rattle.go_func_core.specs.Stands.{FileStand, looks_where, outer_meanings}
 use Rattle.go_func_core.specs.Functions.{func_rules, walked_func}
 use Rattle.go_func_core.specs.Laws.{FunctionsHaveOccurrences}
 
@@ -55,5 +55,5 @@ each st f look firsts p h = append-nil (map use_place (piece_uses (looks_where s
 pub functions_have_occurrences : FunctionsHaveOccurrences
 functions_have_occurrences st f h =
     note_places (walked_func st f).notes
-    ∙ (walked_notes Meaning NoteOf (ℕ × Role) (func_rules st f) IsOfGrammar noted places (each st f) (outer_names st) (func_steps f) [] [] (func_opens f) (func_closes f) (pieces_are_of_grammar f h)
+    ∙ (walked_notes Meaning NoteOf (ℕ × Role) (func_rules st f) IsOfGrammar noted places (each st f) (outer_meanings st) (func_steps f) [] [] (func_opens f) (func_closes f) (pieces_are_of_grammar f h)
     ∙ (steps_places (func_steps f) ∙ ap (map occurrence_place) (sym ((pieces_occur Term Sign Declaration (List ℕ)).functions f))))

@@ -19,9 +19,9 @@ use Rattle.go_body_core.specs.scope_core.Models.{scopes_model}
 use Rattle.go_body_core.specs.scope_core.Laws.{denotes}
 use Rattle.go_body_core.specs.local_core.Steps.{Piece, Steps, Done, Check, Declare, Inner, Header, spell_piece}
 use Rattle.go_body_core.specs.local_core.Outline.{func_steps, func_opens, func_closes, header_idents, lines_steps}
-use Rattle.go_body_core.specs.local_core.Binding.{Local, Look, bound, is_first, is_second, shown, region_has, innermost_of}
+use Rattle.go_body_core.specs.local_core.Binding.{Local, NameLook, bound, is_first, is_second, shown, region_has, innermost_of}
 use Rattle.go_body_core.specs.local_core.Binding as binding
-use Rattle.go_body_core.specs.local_core.Law.{Rules, declared, declared_from, law_out}
+use Rattle.go_body_core.specs.local_core.Law.{Rules, locals_of_names, declared_from, law_out}
 use Rattle.go_body_core.specs.local_core.Alike.{Alike, AlikeAt}
 use Rattle.go_body_core.specs.local_core.Tables.{IsFuncPlaced, IsTable}
 use Rattle.go_body_core.specs.local_core.Placed.{Placed, func_placed}
@@ -30,33 +30,33 @@ use Rattle.go_body_core.specs.names_core.Scope.{some_meaning}
 use Rattle.go_body_core.specs.inline_core.Hiding.{hides}
 use Rattle.go_body_core.specs.env_core.declared.meaning.Meaning.{Meaning}
 use Rattle.go_body_core.specs.env_core.declared.meaning.Meaning.TheVariants as meanings
-use Rattle.go_func_core.specs.Types.{is_inside}
+use Rattle.go_func_core.specs.Types.{is_local_meaning}
 
 -- outside functions no name is a local
 
-nothing_at : (k : ℕ) → is_inside (slice_get [] k) ≡ false
+nothing_at : (k : ℕ) → is_local_meaning (slice_get [] k) ≡ false
 nothing_at zero = refl
 nothing_at (suc k) = refl
 
-none_of : (d : Option Denoted) → is_inside (some_meaning meanings.Outside [] d) ≡ false
+none_of : (d : Option Denoted) → is_local_meaning (some_meaning meanings.Outside [] d) ≡ false
 none_of None = refl
 none_of (Some (scopes.Local id)) = nothing_at id.0
 none_of (Some (scopes.Package d)) = refl
 none_of (Some (scopes.File b)) = refl
 none_of (Some (scopes.Universe p)) = refl
 
-pub none_outside : (blocks : BlocksModel) (file : ℕ) (name : List ℕ) → is_inside (some_meaning meanings.Outside [] (denotes (scopes_model blocks file []) name)) ≡ false
+pub none_outside : (blocks : BlocksModel) (file : ℕ) (name : List ℕ) → is_local_meaning (some_meaning meanings.Outside [] (denotes (scopes_model blocks file []) name)) ≡ false
 none_outside blocks file name = none_of (denotes (scopes_model blocks file []) name)
 
 -- all that a function declares is a local
 
 abbrev IsLocal : Local Meaning → Type 0
-IsLocal d = is_inside (Some d.means) ≡ true
+IsLocal d = is_local_meaning (Some d.means) ≡ true
 
-names_local : (opens closes from : ℕ) (means : ℕ → Meaning) → ((n : ℕ) → is_inside (Some (means n)) ≡ true) → (n : ℕ) (xs : List Ident) → Each IsLocal (declared_from opens closes from means n xs)
+names_local : (opens closes from : ℕ) (means : ℕ → Meaning) → ((n : ℕ) → is_local_meaning (Some (means n)) ≡ true) → (n : ℕ) (xs : List Ident) → Each IsLocal (declared_from opens closes from means n xs)
 names_local opens closes from means h n [] = tt
 names_local opens closes from means h n (x ∷ xs) =
-    each-append IsLocal (declared opens closes from means n x) (declared_from opens closes from means (suc n) xs) (by (is_blank x.name)) (names_local opens closes from means h (suc n) xs)
+    each-append IsLocal (locals_of_names opens closes from means n x) (declared_from opens closes from means (suc n) xs) (by (is_blank x.name)) (names_local opens closes from means h (suc n) xs)
   where
     by : (b : Bool) → Each IsLocal (if b then [] else record { name = x.name; at = x.span.start; from = from; opens = opens; closes = closes; means = means n } ∷ [])
     by true = tt
@@ -64,7 +64,7 @@ names_local opens closes from means h n (x ∷ xs) =
 
 -- rules by which each name that a piece declares is a local
 abbrev pub MeanLocals : {N : Type 0} → Rules Meaning N → Type 0
-MeanLocals rules = (look : Look Meaning) (firsts : List Bool) (p : Piece) (n : ℕ) → is_inside (Some (rules.means look firsts p n)) ≡ true
+MeanLocals rules = (look : NameLook Meaning) (firsts : List Bool) (p : Piece) (n : ℕ) → is_local_meaning (Some (rules.means look firsts p n)) ≡ true
 
 module _ {N : Type 0} (rules : Rules Meaning N) (locals : MeanLocals rules) (beyond : List ℕ → Option Meaning) (all : List (Local Meaning)) where
   steps_local : (opens closes : ℕ) (steps : Steps) → Each IsLocal (law_out rules beyond all opens closes steps).declares
@@ -80,28 +80,28 @@ module _ {N : Type 0} (rules : Rules Meaning N) (locals : MeanLocals rules) (bey
   table_local : (f : FuncTree) → IsTable rules beyond f all → Each IsLocal all
   table_local f table = subst (Each IsLocal) (sym table) (steps_local (func_opens f) (func_closes f) (func_steps f))
 
-found_local : (q : Local Meaning → Bool) (ds : List (Local Meaning)) → Each IsLocal ds → is_inside (option_map (λ d. d.means) (find q ds)) ≡ is_some (option_map (λ d. d.means) (find q ds))
+found_local : (q : Local Meaning → Bool) (ds : List (Local Meaning)) → Each IsLocal ds → is_local_meaning (option_map (λ d. d.means) (find q ds)) ≡ is_some (option_map (λ d. d.means) (find q ds))
 found_local q [] h = refl
 found_local q (d ∷ ds) h = by (q d) (found_local q ds h.1)
   where
-    by : (b : Bool) → is_inside (option_map (λ d. d.means) (find q ds)) ≡ is_some (option_map (λ d. d.means) (find q ds))
-        → is_inside (option_map (λ d. d.means) (cond b (Some d) (find q ds))) ≡ is_some (option_map (λ d. d.means) (cond b (Some d) (find q ds)))
+    by : (b : Bool) → is_local_meaning (option_map (λ d. d.means) (find q ds)) ≡ is_some (option_map (λ d. d.means) (find q ds))
+        → is_local_meaning (option_map (λ d. d.means) (cond b (Some d) (find q ds))) ≡ is_some (option_map (λ d. d.means) (cond b (Some d) (find q ds)))
     by true rest = h.0
     by false rest = rest
 
 -- a name is a local exactly where a declaration hides it
-hidden_among : (beyond : List ℕ → Option Meaning) (all : List (Local Meaning)) → Each IsLocal all → (name : List ℕ) (place : ℕ) → is_inside (beyond name) ≡ false → is_inside (bound beyond all name place) ≡ hides all name place
+hidden_among : (beyond : List ℕ → Option Meaning) (all : List (Local Meaning)) → Each IsLocal all → (name : List ℕ) (place : ℕ) → is_local_meaning (beyond name) ≡ false → is_local_meaning (bound beyond all name place) ≡ hides all name place
 hidden_among beyond all locals name place out =
     let found : List (Local Meaning) = filter (λ d. bytes_eq name d.name) (shown all place all) in
     by (innermost_of found) (found_local (λ d. list_all (λ e. binding.is_inside d e) found) found
     (each-filter IsLocal (λ d. bytes_eq name d.name) (shown all place all) (each-filter IsLocal (λ d. region_has d place && not (is_second all d.opens d.name d.at)) all locals)))
   where
-    by : (o : Option Meaning) → is_inside o ≡ is_some o → is_inside (or_else o (beyond name)) ≡ is_some o
+    by : (o : Option Meaning) → is_local_meaning o ≡ is_some o → is_local_meaning (or_else o (beyond name)) ≡ is_some o
     by None e = out
     by (Some x) e = e
 
 pub hidden : {N : Type 0} (rules : Rules Meaning N) (locals : MeanLocals rules) (beyond : List ℕ → Option Meaning) (all : List (Local Meaning)) (f : FuncTree) → IsTable rules beyond f all
-    → (name : List ℕ) (place : ℕ) → is_inside (beyond name) ≡ false → is_inside (bound beyond all name place) ≡ hides all name place
+    → (name : List ℕ) (place : ℕ) → is_local_meaning (beyond name) ≡ false → is_local_meaning (bound beyond all name place) ≡ hides all name place
 hidden rules locals beyond all f table = hidden_among beyond all (table_local rules locals beyond all f table)
 
 -- before the regions of all declarations a name means what it means outside
@@ -133,7 +133,7 @@ module _ {X : Type 0} (beyond : List ℕ → Option X) (all : List (Local X)) (h
 names_from : {X : Type 0} (opens closes from : ℕ) (means : ℕ → X) (n : ℕ) (xs : List Ident) → Each (λ d. from ≤ d.from) (declared_from opens closes from means n xs)
 names_from opens closes from means n [] = tt
 names_from {X} opens closes from means n (x ∷ xs) =
-    each-append (λ d. from ≤ d.from) (declared opens closes from means n x) (declared_from opens closes from means (suc n) xs) (by (is_blank x.name)) (names_from opens closes from means (suc n) xs)
+    each-append (λ d. from ≤ d.from) (locals_of_names opens closes from means n x) (declared_from opens closes from means (suc n) xs) (by (is_blank x.name)) (names_from opens closes from means (suc n) xs)
   where
     by : (b : Bool) → Each (λ (d : Local X). from ≤ d.from) (if b then [] else record { name = x.name; at = x.span.start; from = from; opens = opens; closes = closes; means = means n } ∷ [])
     by true = tt

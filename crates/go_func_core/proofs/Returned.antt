@@ -4,7 +4,7 @@ use Rattle.go_text_core.proofs.Each.{Each}
 use Rattle.go_tree_nodes.specs.Trees.{TypeTree, SignatureTree, ResultTree, ParamTrees, Signed, NoResult, OneResult, Results, NoParams, Param}
 use Rattle.go_body_core.specs.expr_core.Denoting.{written_type}
 use Rattle.go_body_core.specs.inline_core.Trees as inline
-use Rattle.go_body_core.specs.piece_core.Headers.{of_entry, entry_types, result_types, returned_types}
+use Rattle.go_body_core.specs.piece_core.Headers.{of_entry, entry_types, types_of_result, returned_types}
 use Rattle.go_body_core.specs.env_core.Looks.{TheLooks}
 
 pub each_left : {A : Type 0} (P : A → Type 0) (xs ys : List A) → Each P (xs ++ ys) → Each P xs
@@ -29,7 +29,7 @@ module _ (looks other : TheLooks) where
   entries_same (Param xs t comma rest) h =
       ap (λ u. of_entry true xs u ++ entry_types looks true rest) h.0 ∙ ap (λ l. of_entry true xs (written_type other t) ++ l) (entries_same rest h.1)
 
-  results_same : (r : ResultTree) → Each IsOne (inline.result_types r) → result_types looks true r ≡ result_types other true r
+  results_same : (r : ResultTree) → Each IsOne (inline.result_types r) → types_of_result looks true r ≡ types_of_result other true r
   results_same NoResult h = refl
   results_same (OneResult t) h = ap (λ u. u ∷ []) h.0
   results_same (Results first params last) h = entries_same params h

@@ -9,12 +9,12 @@ use Rattle.go_tree_nodes.specs.Trees.{FuncTree}
 use Rattle.go_tree_nodes.proofs.InOrder.{in_order_ends, AreInTurn}
 use Rattle.go_body_core.specs.local_core.Steps.{Piece, Steps, Done, Check, Declare, Inner, spell_piece}
 use Rattle.go_body_core.specs.local_core.Outline.{func_steps, func_opens, func_closes}
-use Rattle.go_body_core.specs.local_core.Binding.{Local, Look, bound, is_first, is_second}
-use Rattle.go_body_core.specs.local_core.Law.{Rules, declared, declared_from, law_out}
+use Rattle.go_body_core.specs.local_core.Binding.{Local, NameLook, bound, is_first, is_second}
+use Rattle.go_body_core.specs.local_core.Law.{Rules, locals_of_names, declared_from, law_out}
 use Rattle.go_body_core.specs.local_core.Tables.{IsFuncPlaced, IsTable}
 use Rattle.go_body_core.specs.local_core.Placed.{Placed, placed_ends, func_placed}
 use Rattle.go_body_core.specs.local_core.Parts.{names_parts, law_parts}
-use Rattle.go_body_core.specs.names_core.Uses.{place_of}
+use Rattle.go_body_core.specs.names_core.Uses.{ident_place}
 use Rattle.go_body_core.specs.piece_core.Pieces.{piece_names}
 use Rattle.go_body_core.specs.env_core.declared.meaning.Meaning.{Meaning}
 use Rattle.go_body_core.specs.env_core.declared.meaning.Meaning.TheVariants as meanings
@@ -51,13 +51,13 @@ IsOwn d = (value : TheValue) × (d.means ≡ meanings.Local d.at value)
 
 further : (o c from : ℕ) (means : ℕ → Meaning) (n : ℕ) (xs : List Ident) → declared_from o c from means (suc n) xs ≡ declared_from o c from (λ k. means (suc k)) n xs
 further o c from means n [] = refl
-further o c from means n (x ∷ xs) = ap (λ l. declared o c from means (suc n) x ++ l) (further o c from means (suc n) xs)
+further o c from means n (x ∷ xs) = ap (λ l. locals_of_names o c from means (suc n) x ++ l) (further o c from means (suc n) xs)
 
-names_own : (o c from : ℕ) (values : ℕ → TheValue) (xs : List Ident) → Each IsOwn (declared_from o c from (λ n. meanings.Local (place_of xs n) (values n)) 0 xs)
+names_own : (o c from : ℕ) (values : ℕ → TheValue) (xs : List Ident) → Each IsOwn (declared_from o c from (λ n. meanings.Local (ident_place xs n) (values n)) 0 xs)
 names_own o c from values [] = tt
 names_own o c from values (x ∷ xs) =
-    let means : ℕ → Meaning = λ n. meanings.Local (place_of (x ∷ xs) n) (values n) in
-    each-append IsOwn (declared o c from means 0 x) (declared_from o c from means 1 xs) (by (is_blank x.name))
+    let means : ℕ → Meaning = λ n. meanings.Local (ident_place (x ∷ xs) n) (values n) in
+    each-append IsOwn (locals_of_names o c from means 0 x) (declared_from o c from means 1 xs) (by (is_blank x.name))
     (subst (Each IsOwn) (sym (further o c from means 0 xs)) (names_own o c from (λ n. values (suc n)) xs))
   where
     by : (b : Bool) → Each IsOwn (if b then [] else record { name = x.name; at = x.span.start; from = from; opens = o; closes = c; means = meanings.Local x.span.start (values 0) } ∷ [])
@@ -66,7 +66,7 @@ names_own o c from values (x ∷ xs) =
 
 -- rules by which each name that a piece declares is a local at its place
 abbrev pub MeanOwn : {N : Type 0} → Rules Meaning N → Type 0
-MeanOwn rules = (look : Look Meaning) (firsts : List Bool) (p : Piece) → (values : ℕ → TheValue) × (rules.means look firsts p ≡ (λ n. meanings.Local (place_of (piece_names p) n) (values n)))
+MeanOwn rules = (look : NameLook Meaning) (firsts : List Bool) (p : Piece) → (values : ℕ → TheValue) × (rules.means look firsts p ≡ (λ n. meanings.Local (ident_place (piece_names p) n) (values n)))
 
 module _ {N : Type 0} (rules : Rules Meaning N) (own : MeanOwn rules) (beyond : List ℕ → Option Meaning) (all : List (Local Meaning)) where
   rising : (ss : Steps) (o c lo hi : ℕ) → o < lo → Placed lo hi ss → Rising (law_out rules beyond all o c ss).declares
@@ -91,7 +91,7 @@ module _ {N : Type 0} (rules : Rules Meaning N) (own : MeanOwn rules) (beyond : 
       let firsts = map (is_first all o) xs in
       let means = own (bound beyond all) firsts p in
       each-append IsOwn (declared_from o c from (rules.means (bound beyond all) firsts p) 0 xs) (law_out rules beyond all o c rest).declares
-      (subst (λ f. Each IsOwn (declared_from o c from f 0 xs)) (sym (means.1 ∙ ap (λ ys n. meanings.Local (place_of ys n) (means.0 n)) (sym h.0))) (names_own o c from means.0 xs))
+      (subst (λ f. Each IsOwn (declared_from o c from f 0 xs)) (sym (means.1 ∙ ap (λ ys n. meanings.Local (ident_place ys n) (means.0 n)) (sym h.0))) (names_own o c from means.0 xs))
       (steps_own rest o c h.1)
   steps_own (Inner o' c' steps rest) o c h =
       each-append IsOwn (law_out rules beyond all o' c' steps).declares (law_out rules beyond all o c rest).declares (steps_own steps o' c' h.0) (steps_own rest o c h.1)

@@ -5,7 +5,6 @@ use Rattle.std.specs.Prelude.{◌≡◌, ℕ, List, Option, Contains, map, ◌�
 use Rattle.go_tree_nodes.specs.Trees.{TypeTree, FuncTree, FileTree}
 use Rattle.go_tree_nodes.specs.declared.types.TypeName.{TypeName}
 use Rattle.go_body_core.specs.tree_core.Occurrences.{func_occs}
-use Rattle.go_term_core.specs.decl_core.Outer.{IsPlaced}
 use Rattle.go_term_core.specs.Terms.{Term}
 use Rattle.go_body_core.specs.local_core.Binding.{Local, bound}
 use Rattle.go_body_core.specs.local_core.Tables.{IsFuncPlaced}
@@ -23,12 +22,13 @@ use Rattle.go_body_core.specs.Notes.{TheUse, TheLocal}
 use Rattle.go_body_core.specs.WellFormed.{IsFuncOfGrammar}
 use Rattle.go_body_core.specs.Body.{IsGivenBody}
 use Rattle.go_func_core.specs.Types.{named_where}
-use Rattle.go_func_core.specs.Stands.{FileStand, kinds_in, types_where, outer_names, outer_look}
+use Rattle.go_func_core.specs.Stands.{FileStand, kinds_in_scene, types_where, outer_meanings, outer_look}
 use Rattle.go_func_core.specs.Functions.{walked_func, checked_func, func_by, AreFuncDeclarations}
+use Rattle.go_tree_nodes.specs.Spelling.{IsPlaced}
 
 -- these are the types of a function, by their first bytes, as they are made before the function is checked
 abbrev pub AreFuncTypes : FileStand → FuncTree → List (ℕ × InlineOf) → Type 0
-AreFuncTypes st f types = AreInlines (kinds_in st.scene) st.file st.top (beyond_in scoped_outside st.scene.blocks st.file.file) f types
+AreFuncTypes st f types = AreInlines (kinds_in_scene st.scene) st.file st.top (beyond_in scoped_outside st.scene.blocks st.file.file) f types
 
 -- what is given of a function by a table of its types is what its occurrences have, its faults and its locals, with each type as it is written
 abbrev pub BodiesAreAsWritten : Type 0
@@ -57,10 +57,10 @@ pub record TypesAreSeenAlike : Type 0 where
   -- inside a function, where names are bound by its declarations
   pub in_function :
       (st : FileStand) (types : List (ℕ × InlineOf)) (f : FuncTree) → IsFuncPlaced f → AreFuncTypes st f types → (all : List (Local Meaning)) → AreFuncDeclarations st f all
-      → (t : TypeTree) → Contains (func_types f) t → MakeSame (types_where st (bound (outer_names st) all)) (inline_rules st.scene types) t
+      → (t : TypeTree) → Contains (func_types f) t → MakeSame (types_where st (bound (outer_meanings st) all)) (inline_rules st.scene types) t
   -- in the specifications of constants and variables outside functions
   pub in_file :
-      (st : FileStand) (types : List (ℕ × InlineOf)) (f : FileTree) → IsPlaced f → types ≡ inlines (kinds_in st.scene) st.file st.top (file_types f)
+      (st : FileStand) (types : List (ℕ × InlineOf)) (f : FileTree) → IsPlaced f → types ≡ inlines (kinds_in_scene st.scene) st.file st.top (file_types f)
       → (t : TypeTree) → Contains (file_types f) t → MakeSame (types_where st (outer_look st)) (inline_rules st.scene types) t
   -- outside functions a name of a type means what it means at the top of the file
   pub outside : (st : FileStand) (n : TypeName) → named_where (outer_look st) st.top n ≡ st.top n

@@ -14,6 +14,7 @@ pub mod expr_core
 pub mod face_core
 pub mod handle_core
 pub mod inline_core
+pub mod level_core
 pub mod local_core
 pub mod names_core
 pub mod open_core

@@ -10,7 +10,7 @@ use Rattle.go_body_core.specs.env_core.declared.meaning.Meaning.{Meaning}
 use Rattle.go_body_core.specs.env_core.declared.meaning.Meaning.TheVariants as meanings
 use Rattle.go_body_core.specs.Notes.{TheValue, TheLocal}
 use Rattle.go_body_core.specs.Rules.{local_if}
-use Rattle.go_func_core.specs.Stands.{FileStand, outer_names}
+use Rattle.go_func_core.specs.Stands.{FileStand, outer_meanings}
 use Rattle.go_func_core.specs.Functions.{checked_func, AreFuncDeclarations}
 
 -- of declarations those that hold, each as the local that it means: where an earlier one of the name stands in its block, a later one does not hold
@@ -27,6 +27,6 @@ pub record LocalsAreDeclarations : Type 0 where
   pub declared : (st : FileStand) (f : FuncTree) → IsFuncPlaced f → (all : List (Local Meaning)) → AreFuncDeclarations st f all → (checked_func st f).locals ≡ declared_locals all
   -- a name that means a local where it stands means one of them, and stands for what that one stands for
   pub denoted : (st : FileStand) (f : FuncTree) → IsFuncPlaced f → (all : List (Local Meaning)) → AreFuncDeclarations st f all → (name : List ℕ) (place at : ℕ) (value : TheValue)
-      → bound (outer_names st) all name place ≡ Some (meanings.Local at value) → Contains (checked_func st f).locals (record { offset = at; value = value })
+      → bound (outer_meanings st) all name place ≡ Some (meanings.Local at value) → Contains (checked_func st f).locals (record { offset = at; value = value })
   -- no two of them stand at one offset
   pub rise : (st : FileStand) (f : FuncTree) → IsFuncPlaced f → OffsetsRise (checked_func st f).locals

@@ -6,10 +6,10 @@ use Rattle.go_term_core.specs.decl_core.declared.keys.DeclKey.{DeclKey}
 use Rattle.go_term_core.specs.Terms.{Term}
 use Rattle.go_body_core.specs.settle_core.declared.kind.Kind.{Kind}
 use Rattle.go_body_core.specs.settle_core.Settled.{kind_of_term}
-use Rattle.go_body_core.specs.table_core.Entries.{find, term_in}
+use Rattle.go_body_core.specs.table_core.Entries.{find_entry, term_in}
 use Rattle.go_body_core.specs.written_core.Written as types
 use Rattle.go_body_core.specs.written_core.Written.{InFile}
-use Rattle.go_body_core.specs.local_core.Binding.{Look}
+use Rattle.go_body_core.specs.local_core.Binding.{NameLook}
 use Rattle.go_body_core.specs.expr_core.Looks.{WrittenRules}
 use Rattle.go_body_core.specs.inline_core.Inline.{inline_of}
 use Rattle.go_body_core.specs.face_core.Faces.{TheFace}
@@ -32,26 +32,26 @@ pub record FileStand : Type 0 where
   pub top : types.Meaning
 
 -- what is known of declared types
-abbrev pub kinds_in : SceneModel → DeclKey → Kind
-kinds_in s k = kind_of_term (term_in (find s.types k))
+abbrev pub kinds_in_scene : SceneModel → DeclKey → Kind
+kinds_in_scene s k = kind_of_term (term_in (find_entry s.types k))
 
 -- each type that is written is what its names mean where they stand
-abbrev pub types_where : FileStand → Look Meaning → WrittenRules Term
+abbrev pub types_where : FileStand → NameLook Meaning → WrittenRules Term
 types_where st look = record {
-  type_of = λ named t. inline_type st.scene.types (Some (inline_of (kinds_in st.scene) st.file (named_where look st.top) t));
-  faults_of = λ named t. inline_faults (Some (inline_of (kinds_in st.scene) st.file (named_where look st.top) t));
+  type_of = λ named t. inline_type st.scene.types (Some (inline_of (kinds_in_scene st.scene) st.file (named_where look st.top) t));
+  faults_of = λ named t. inline_faults (Some (inline_of (kinds_in_scene st.scene) st.file (named_where look st.top) t));
 }
 
 -- all that a piece is judged by where names mean this
-abbrev pub looks_where : FileStand → Look Meaning → TheLooks
+abbrev pub looks_where : FileStand → NameLook Meaning → TheLooks
 looks_where st look = looks_in st.scene st.file.file st.known (types_where st look) look
 
 -- what names mean outside the functions of the file
-abbrev pub outer_names : FileStand → List ℕ → Option Meaning
-outer_names st = outside_in st.scene st.file.file
+abbrev pub outer_meanings : FileStand → List ℕ → Option Meaning
+outer_meanings st = outside_in st.scene st.file.file
 
-abbrev pub outer_look : FileStand → Look Meaning
-outer_look st name place = outer_names st name
+abbrev pub outer_look : FileStand → NameLook Meaning
+outer_look st name place = outer_meanings st name
 
 abbrev pub outer_looks : FileStand → TheLooks
 outer_looks st = looks_where st (outer_look st)

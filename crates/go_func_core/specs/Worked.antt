@@ -48,22 +48,22 @@ type_at name n = NamedType (type_name.Plain (called name n))
 abbrev type_decl : DeclRef
 type_decl = record { file = 0; number = 0; kind = decl_kind.«Type» }
 
-abbrev type_key : DeclKey
-type_key = record { path = codes "p"; decl = type_decl }
+abbrev sample_type_key : DeclKey
+sample_type_key = record { path = codes "p"; decl = type_decl }
 
 abbrev blocks : BlocksModel
 blocks = blocks_model ((codes "T", type_decl) ∷ []) ([] ∷ []) []
 
-abbrev stand : FileStand
-stand = record {
+abbrev sample_stand : FileStand
+sample_stand = record {
   scene = record {
     path = codes "p";
     blocks = blocks;
-    types = record { key = type_key; name = codes "T"; term = Predeclared basics.Int; methods = [] } ∷ [];
+    types = record { key = sample_type_key; name = codes "T"; term = Predeclared basics.Int; methods = [] } ∷ [];
     others = [];
-    written = record { decl = type_decl; face = Some (faces.«Type» (Some (Defined type_key))) } ∷ [];
+    written = record { decl = type_decl; face = Some (faces.«Type» (Some (Defined sample_type_key))) } ∷ [];
   };
-  known = Some (faces.«Type» (Some (Defined type_key))) ∷ [];
+  known = Some (faces.«Type» (Some (Defined sample_type_key))) ∷ [];
   file = record { path = codes "p"; file = 0; places = [] };
   top = file_meaning (λ path name. None) (codes "p") blocks 0;
 }
@@ -76,8 +76,8 @@ variable_of x t = record { names = One x; type_expr = Some t; values = None }
 --   var b struct { x T; y int }
 --   return T
 -- }
-abbrev pub function : FuncTree
-function = record {
+abbrev pub func_sample_function : FuncTree
+func_sample_function = record {
   func = at 0;
   receiver = None;
   name = called (codes "f") 1;
@@ -95,37 +95,37 @@ function = record {
   close_brace = at 26;
 }
 
-abbrev local_at : ℕ → MemberPlace
-local_at n = places.Local (record { file = 0; offset = n })
+abbrev sample_local : ℕ → MemberPlace
+sample_local n = places.Local (record { file = 0; offset = n })
 
-abbrev use_at : ℕ → Role → Outcome Declaration (List ℕ) → TheUse
-use_at n role outcome = record { offset = n; role = role; outcome = outcome }
+abbrev func_sample_use : ℕ → Role → Outcome Declaration (List ℕ) → TheUse
+func_sample_use n role outcome = record { offset = n; role = role; outcome = outcome }
 
 -- in the header T is the type, and in the body it is the parameter
-abbrev pub uses : List TheUse
-uses =
-    use_at 4 roles.«Type» (outcomes.Declared (InFile (codes "p") (places.Declared type_decl)))
-    ∷ use_at 6 roles.«Type» (outcomes.Declared (InFile (codes "p") (places.Declared type_decl)))
-    ∷ use_at 10 roles.«Type» (outcomes.Refused N6)
-    ∷ use_at 17 roles.«Type» (outcomes.Refused N6)
-    ∷ use_at 20 roles.«Type» (outcomes.Declared (Universe predeclared.Int))
-    ∷ use_at 24 roles.«Value» (outcomes.Declared (InFile (codes "p") (local_at 3)))
+abbrev pub func_sample_uses : List TheUse
+func_sample_uses =
+    func_sample_use 4 roles.«Type» (outcomes.Declared (InFile (codes "p") (places.Declared type_decl)))
+    ∷ func_sample_use 6 roles.«Type» (outcomes.Declared (InFile (codes "p") (places.Declared type_decl)))
+    ∷ func_sample_use 10 roles.«Type» (outcomes.Refused N6)
+    ∷ func_sample_use 17 roles.«Type» (outcomes.Refused N6)
+    ∷ func_sample_use 20 roles.«Type» (outcomes.Declared (Universe predeclared.Int))
+    ∷ func_sample_use 24 roles.«Value» (outcomes.Declared (InFile (codes "p") (sample_local 3)))
     ∷ []
 
 -- a field of a type that is hidden has no type, and neither has a variable of it
 abbrev pub locals : List Meaning
 locals =
-    meanings.Local 3 (variable (Some (Defined type_key)))
+    meanings.Local 3 (variable (Some (Defined sample_type_key)))
     ∷ meanings.Local 9 (variable None)
-    ∷ meanings.Local 13 (variable (Some (StructOf (codes "p") (AField (codes "x") (local_at 16) false NoType [] (AField (codes "y") (local_at 19) false (Predeclared basics.Int) [] NoField)))))
+    ∷ meanings.Local 13 (variable (Some (StructOf (codes "p") (AField (codes "x") (sample_local 16) false NoType [] (AField (codes "y") (sample_local 19) false (Predeclared basics.Int) [] NoField)))))
     ∷ []
 
 -- each identifier has what is written here, the function breaks no rule beside, and each local means what is written here: on the way through it, and
 -- by the regions of its declarations
-pub record WorkedTypes : Type 0 where
-  pub uses_walked : (checked_func stand function).uses ≡ uses
-  pub faults_walked : (checked_func stand function).faults ≡ []
-  pub locals_are : map (λ d. d.means) (walked_func stand function).declares ≡ locals
-  pub locals_walked : (checked_func stand function).locals ≡ flat_map local_meant locals
-  pub uses_given : (func_by stand function (walked_func stand function).declares).uses ≡ uses
-  pub faults_given : (func_by stand function (walked_func stand function).declares).faults ≡ []
+pub record WorkedFunctionTypes : Type 0 where
+  pub uses_walked : (checked_func sample_stand func_sample_function).uses ≡ func_sample_uses
+  pub faults_walked : (checked_func sample_stand func_sample_function).faults ≡ []
+  pub locals_are : map (λ d. d.means) (walked_func sample_stand func_sample_function).declares ≡ locals
+  pub locals_walked : (checked_func sample_stand func_sample_function).locals ≡ flat_map local_meant locals
+  pub uses_given : (func_by sample_stand func_sample_function (walked_func sample_stand func_sample_function).declares).uses ≡ func_sample_uses
+  pub faults_given : (func_by sample_stand func_sample_function (walked_func sample_stand func_sample_function).declares).faults ≡ []

@@ -1,7 +1,7 @@
 //! Laws of functions and the types that they write, with nothing to run.
 ghost use Rattle.go_func_core.specs.Laws.{BodiesAreAsWritten, FunctionsHaveOccurrences, FunctionsHaveOneTable, TypesAreSeenAlike};
 ghost use Rattle.go_func_core.specs.Locals.{LocalsAreDeclarations};
-ghost use Rattle.go_func_core.specs.Worked.{WorkedTypes};
+ghost use Rattle.go_func_core.specs.Worked.{WorkedFunctionTypes};
 
 /// What the check of a function's body gives, by the regions of its declarations and by a table of the types that it writes, is what its
 /// occurrences have, its faults and its locals, where each type is what its names mean at their places. No table is named there.
@@ -44,5 +44,5 @@ pub fn types_are_seen_alike()
 /// A function with a parameter that hides a type of its package, in which each identifier has what was worked out by hand, and each local means
 /// what was: a name of a type that is a local where it stands means no type, and in the header names mean what they mean outside.
 pub fn worked_types()
-    ensures { WorkedTypes }
+    ensures { WorkedFunctionTypes }
 {}

@@ -19,7 +19,6 @@ pub mod PlanOrder
 pub mod PlanReach
 pub mod Reaching
 pub mod Reading
-pub mod Spellings
 pub mod Standings
-pub mod Views
+pub mod ToldApart
 pub mod Zips

@@ -15,7 +15,7 @@ use Rattle.std.proofs.lemmas.Str.{IsUtf8-from_ascii}
 use Rattle.go_path_core.specs.Path.{elements, IsPath, IsElement, IsPathByte}
 use Rattle.go_graph_core.specs.Sources.{SourceModel}
 use Rattle.go_graph_core.specs.Workspaces.{PackageModel, by_bytes, IsWorkspace}
-use Rattle.go_graph_core.specs.Imports.{IsNumbered, IsNowhere}
+use Rattle.go_graph_core.specs.Imports.{IsNumbered, HasNoPackage}
 use Rattle.go_graph_core.proofs.Assemblies.{none_passes}
 use Rattle.go_graph_core.proofs.Places.{same_text, some_item, path_below}
 
@@ -35,10 +35,10 @@ one_number ps path i j f g well a b lt =
     let no : Less ≡ Equal = sym here ∙ same in cc
 
 -- the number of a path's package, where a search through the paths finds it
-pub number_of_position : (ps : List PackageModel) (keys : List (List ℕ)) (text path : List ℕ) (r : Option ℕ) → keys ≡ keys_of ps → text ≡ path → r ≡ position (bytes_eq text) keys → MatchOption r (IsNowhere ps path) (IsNumber ps path)
+pub number_of_position : (ps : List PackageModel) (keys : List (List ℕ)) (text path : List ℕ) (r : Option ℕ) → keys ≡ keys_of ps → text ≡ path → r ≡ position (bytes_eq text) keys → MatchOption r (HasNoPackage ps path) (IsNumber ps path)
 number_of_position ps keys text path r e f h = number_found ps path r (h ∙ (ap (λ q. position (bytes_eq q) keys) f ∙ ap (position (bytes_eq path)) e))
   where
-    number_found : (ps : List PackageModel) (path : List ℕ) (r : Option ℕ) → r ≡ position (bytes_eq path) (keys_of ps) → MatchOption r (IsNowhere ps path) (IsNumber ps path)
+    number_found : (ps : List PackageModel) (path : List ℕ) (r : Option ℕ) → r ≡ position (bytes_eq path) (keys_of ps) → MatchOption r (HasNoPackage ps path) (IsNumber ps path)
     number_found ps path (Some i) h =
         let n : length (keys_of ps) ≡ length ps = length-map ps (λ p. p.0) in
         let found = position-Some (bytes_eq path) (keys_of ps) i path (sym h) in

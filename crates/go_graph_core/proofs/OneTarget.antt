@@ -9,7 +9,7 @@ use Rattle.go_graph_core.specs.declared.imports.ImportOutcome.TheVariants.{Packa
 use Rattle.go_graph_core.specs.Sources.{SourceModel}
 use Rattle.go_graph_core.specs.Packages.{Trees, trees_of, IsAssembled}
 use Rattle.go_graph_core.specs.Workspaces.{PackageModel, IsWorkspace}
-use Rattle.go_graph_core.specs.Imports.{AreFaulty, AreMain, AreLibrary, IsNumbered, IsNowhere, IsTarget}
+use Rattle.go_graph_core.specs.Imports.{AreFaulty, AreMain, AreLibrary, IsNumbered, HasNoPackage, IsTarget}
 use Rattle.go_graph_core.proofs.Assemblies.{one_name}
 use Rattle.go_graph_core.proofs.AssemblyLaws.{has_no_other_assembly}
 use Rattle.go_graph_core.proofs.Numbers.{one_number}
@@ -19,7 +19,7 @@ abbrev OfFiles : List SourceModel → ℕ → ImportOutcome → Type 0
 OfFiles files i o = ((o ≡ Refused I6) × AreFaulty files) ⊎ (((o ≡ Refused I5) × AreMain files) ⊎ ((o ≡ Package i) × AreLibrary files))
 
 abbrev OfPackages : List PackageModel → List ℕ → ImportOutcome → Type 0
-OfPackages ps text o = ((o ≡ Refused I2) × IsNowhere ps text) ⊎ ((i : ℕ) × (files : List SourceModel) × IsNumbered ps text i files × OfFiles files i o)
+OfPackages ps text o = ((o ≡ Refused I2) × HasNoPackage ps text) ⊎ ((i : ℕ) × (files : List SourceModel) × IsNumbered ps text i files × OfFiles files i o)
 
 abbrev OfPath : List PackageModel → List ℕ → List ℕ → ImportOutcome → Type 0
 OfPath ps q text o = ((o ≡ Refused I3) × (MayImport (elements q) (elements text) → ⊥)) ⊎ (MayImport (elements q) (elements text) × OfPackages ps text o)

@@ -19,7 +19,7 @@ use Rattle.go_graph_core.specs.declared.imports.ImportOutcome.TheVariants.{Packa
 use Rattle.go_graph_core.specs.Sources.{SourceModel}
 use Rattle.go_graph_core.specs.Packages.{Trees, IsAssembly, IsAssembled, IsNameOf}
 use Rattle.go_graph_core.specs.Workspaces.{PackageModel, IsPackage, IsWorkspace}
-use Rattle.go_graph_core.specs.Imports.{AreFaulty, AreMain, AreLibrary, IsNumbered, IsNowhere, IsAllowed, IsTarget, IsImport, IsJudged, IsEdge, LiesOnCycle, import_texts, edge, main}
+use Rattle.go_graph_core.specs.Imports.{AreFaulty, AreMain, AreLibrary, IsNumbered, HasNoPackage, IsAllowed, IsTarget, IsImport, IsJudged, IsEdge, LiesOnCycle, import_texts, edge, main}
 use Rattle.go_graph_core.specs.Plans.{IsAssembledAt}
 use Rattle.go_graph_core.specs.ImportLaws.{HasTarget, HasNoOtherTarget, HasOneOutcome, CyclesAreAssembled}
 use Rattle.go_graph_core.proofs.AssemblyLaws.{has_assembly}
@@ -144,7 +144,7 @@ same_text : (s t : List ℕ) → Decided (s ≡ t)
 same_text s t = by_bool (bytes_eq s t) (bytes_eq-Decides s t)
 
 -- the package of a path, or that there is none
-found : (ps : List PackageModel) (text : List ℕ) → ((i : ℕ) × (files : List SourceModel) × IsNumbered ps text i files) ⊎ IsNowhere ps text
+found : (ps : List PackageModel) (text : List ℕ) → ((i : ℕ) × (files : List SourceModel) × IsNumbered ps text i files) ⊎ HasNoPackage ps text
 found [] text = inr (λ i files h. let no : None ≡ Some (text, files) = h in cc)
 found (p ∷ ps) text = elim (same_text p.0 text) [
   | inl same ↦ inl (0, p.1, ap (λ (t : List ℕ). Some (t, p.1)) same)
@@ -154,7 +154,7 @@ found (p ∷ ps) text = elim (same_text p.0 text) [
   ]
 ]
   where
-    not_in : (p : PackageModel) (ps : List PackageModel) (text : List ℕ) → (p.0 ≡ text → ⊥) → IsNowhere ps text → IsNowhere (p ∷ ps) text
+    not_in : (p : PackageModel) (ps : List PackageModel) (text : List ℕ) → (p.0 ≡ text → ⊥) → HasNoPackage ps text → HasNoPackage (p ∷ ps) text
     not_in p ps text differs none zero files h = differs (let k : Some p ≡ Some (text, files) = h in let e : p ≡ (text, files) = cc in ap (λ (x : PackageModel). x.0) e)
     not_in p ps text differs none (suc i) files h = none i files h
 

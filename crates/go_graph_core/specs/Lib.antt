@@ -4,6 +4,5 @@ pub mod Lists
 pub mod Packages
 pub mod Plans
 pub mod Sources
-pub mod Views
 pub mod Workspaces
 pub mod mirrors

@@ -5,8 +5,7 @@ use denote.Ref.{Bor}
 use Rattle.go_tree_nodes.specs.declared.files.File.{File}
 use Rattle.go_tree_nodes.specs.declared.names.Ident.{Ident}
 use Rattle.go_tree_nodes.specs.Shapes.{file_of}
-use Rattle.go_tree_nodes.specs.Spelling.{spell_file}
-use Rattle.go_tree_nodes.specs.Terminals.{InOrder}
+use Rattle.go_tree_nodes.specs.Spelling.{IsPlaced}
 use Rattle.go_tree_nodes.specs.Trees.{FileTree}
 use Rattle.go_parse_core.specs.declared.error.SynFault.{SynFault}
 use Rattle.go_parse_core.specs.contracts.error.SynFault as syn_fault
@@ -19,10 +18,6 @@ use Rattle.go_tree_nodes.specs.codes.TreeCodes.{coded_file}
 abbrev pub IsContent : List ℕ → Result FileTree SynFault → Type 0
 IsContent text (Ok f) = IsParse text f
 IsContent text (Err fault) = IsSynFault text fault × IsRuleRead text fault.rule
-
--- the tokens that a tree writes follow one another, as those of a text do
-abbrev pub IsPlaced : FileTree → Type 0
-IsPlaced f = (high : ℕ) × InOrder 0 (spell_file f) high
 
 -- the same of a content, where it is a tree
 abbrev pub IsPlacedContent : Result FileTree SynFault → Type 0

@@ -3,5 +3,4 @@ pub mod Clauses
 pub mod Flaws
 pub mod Positions
 pub mod Sameness
-pub mod Spellings
 pub mod Targets

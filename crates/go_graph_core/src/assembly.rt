@@ -3,9 +3,9 @@ ghost use Rattle.std.specs.Prelude.{◌≡◌, ◌<◌, length, option_map, slic
 ghost use Rattle.go_tree_nodes.specs.Shapes.{file_of};
 ghost use Rattle.go_graph_core.specs.mirrors.Clauses.{clause_has_name};
 ghost use Rattle.go_graph_core.specs.mirrors.Flaws.{has_flaw, IsFirstFault, IsFlaw};
-ghost use Rattle.go_graph_core.specs.Sources.{IsPlaced};
 ghost use Rattle.go_graph_core.specs.Packages.{IsAssembly, IsPackageName, IsAssembled, IsNameOf, IsTreeAt, trees_of, tree_shown, assembly_shown};
 ghost use Rattle.go_graph_core.specs.Workspaces.{IsPackage};
+ghost use Rattle.go_tree_nodes.specs.Spelling.{IsPlaced};
 
 use crate::source::SourceFile;
 use crate::workspace::PackageSource;

@@ -12,7 +12,6 @@ mod laws;
 mod path_table;
 mod planning;
 mod source;
-mod unchanged;
 mod workspace;
 
 pub use assembly::{KFault, Package, assemble};
@@ -24,5 +23,4 @@ pub use imports::{ImportAt, ImportOutcome};
 pub use laws::one_assembly;
 pub use planning::{Plan, plan_imports};
 pub use source::SourceFile;
-pub use unchanged::have_same_imports;
 pub use workspace::{PackageSource, Workspace};

@@ -1,8 +1,9 @@
 //! Source files.
 ghost use Rattle.std.specs.Prelude.{◌≡◌, ◌↔◌, IfOk, IsTrue, string_bytes, option_map, Ok};
 ghost use Rattle.go_tree_nodes.specs.Shapes.{file_of};
-ghost use Rattle.go_graph_core.specs.Sources.{source, IsRead, IsPlaced, IsPlacedContent, content_shown, clause_of};
+ghost use Rattle.go_graph_core.specs.Sources.{source, IsRead, IsPlacedContent, content_shown, clause_of};
 ghost use Rattle.go_graph_core.specs.mirrors.Sameness.{HaveSameFault};
+ghost use Rattle.go_tree_nodes.specs.Spelling.{IsPlaced};
 
 use go_parse_core::{ParseError, SynFault, tree_of};
 use go_tree_nodes::{File, Ident};

@@ -1,7 +1,7 @@
 //! Which values are assignable to variables of a type.
 ghost use Rattle.std.specs.Prelude.{◌≡◌, ◌&&◌, not, true, false, MatchOption, IfOk};
 ghost use Rattle.go_term_core.specs.Shapes.{shape};
-ghost use Rattle.go_decide_core.specs.table_core.Entries.{find, underlying_in};
+ghost use Rattle.go_decide_core.specs.table_core.Entries.{find_entry, underlying_in};
 ghost use Rattle.go_decide_core.specs.table_core.Assign.{AValue};
 ghost use Rattle.go_decide_core.specs.Identity.{identical_of};
 ghost use Rattle.go_decide_core.specs.Assigning.{is_named, is_interface, value_fits, assignable_of};
@@ -38,7 +38,7 @@ fn is_named(t: &TypeRef<'_>) -> bool
 
 // An interface type, be it named or not; none where a type is another.
 fn interface<'a>(table: &'a TypeTable, t: &TypeRef<'a>) -> Option<&'a TypeTerm>
-    ensures { MatchOption result (is_interface (underlying_in (find table.now) t.now) ≡ false) (λ i. (shape i.now ≡ t.now) × (is_interface (underlying_in (find table.now) t.now) ≡ true)) }
+    ensures { MatchOption result (is_interface (underlying_in (find_entry table.now) t.now) ≡ false) (λ i. (shape i.now ≡ t.now) × (is_interface (underlying_in (find_entry table.now) t.now) ≡ true)) }
 {
     if t.stars > 0 {
         return None;
@@ -51,7 +51,7 @@ fn interface<'a>(table: &'a TypeTable, t: &TypeRef<'a>) -> Option<&'a TypeTerm>
 
 // Whether two types have identical underlying types, and one of the two is not named.
 fn are_alike_unnamed<'a>(table: &'a TypeTable, a: &TypeRef<'a>, b: &TypeRef<'a>) -> bool
-    ensures { result ≡ identical_of (underlying_in (find table.now) a.now) (underlying_in (find table.now) b.now) && not (is_named a.now && is_named b.now) }
+    ensures { result ≡ identical_of (underlying_in (find_entry table.now) a.now) (underlying_in (find_entry table.now) b.now) && not (is_named a.now && is_named b.now) }
 {
     is_identical(&a.underlying(table), &b.underlying(table)) && !(is_named(a) && is_named(b))
 }
@@ -63,7 +63,7 @@ fn fits<'a>(
     value: &TypeRef<'a>,
     variable: &TypeRef<'a>,
 ) -> Result<bool, AllocError>
-    ensures { IfOk result (λ taken. taken ≡ value_fits (find table.now) value.now variable.now (implements_of table.now value.now variable.now)) }
+    ensures { IfOk result (λ taken. taken ≡ value_fits (find_entry table.now) value.now variable.now (implements_of table.now value.now variable.now)) }
 {
     if is_identical(value, variable) {
         return Ok(true);

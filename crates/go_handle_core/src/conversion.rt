@@ -1,7 +1,7 @@
 //! Which types are convertible to one another.
 ghost use Rattle.std.specs.Prelude.{◌≡◌};
-ghost use Rattle.go_decide_core.specs.table_core.Entries.{find};
-ghost use Rattle.go_decide_core.specs.Conversion.{is_nothing, is_type, are_alike, pointers_alike, convertible_of};
+ghost use Rattle.go_decide_core.specs.table_core.Entries.{find_entry};
+ghost use Rattle.go_decide_core.specs.Conversion.{is_no_type, is_type_term, are_alike, pointers_alike, convertible_of};
 
 use crate::identity::is_identical_but_for_tags;
 use crate::types::TypeRef;
@@ -10,28 +10,28 @@ use go_decide_core::table_core::TypeTable;
 
 // Whether it is no type.
 fn is_nothing(t: &TypeRef<'_>) -> bool
-    ensures { result ≡ is_nothing t.now }
+    ensures { result ≡ is_no_type t.now }
 {
     t.stars == 0 && kind_of(t.term) == Kind::Nothing
 }
 
 /// Whether what lies under a type is one, in a table. It takes no memory.
 pub fn is_type<'a>(table: &'a TypeTable, t: &TypeRef<'a>) -> bool
-    ensures { result ≡ is_type (find table.now) t.now }
+    ensures { result ≡ is_type_term (find_entry table.now) t.now }
 {
     !is_nothing(&t.underlying(table))
 }
 
 // Whether what lies under a type is one, and identical but for tags to what lies under another.
 fn are_alike<'a>(table: &'a TypeTable, a: &TypeRef<'a>, b: &TypeRef<'a>) -> bool
-    ensures { result ≡ are_alike (find table.now) a.now b.now }
+    ensures { result ≡ are_alike (find_entry table.now) a.now b.now }
 {
     is_type(table, a) && is_identical_but_for_tags(&a.underlying(table), &b.underlying(table))
 }
 
 // Whether two types are pointer types as they are written, and what lies under those they point to is alike but for tags.
 fn are_pointers_alike<'a>(table: &'a TypeTable, a: &TypeRef<'a>, b: &TypeRef<'a>) -> bool
-    ensures { result ≡ pointers_alike (find table.now) a.now b.now }
+    ensures { result ≡ pointers_alike (find_entry table.now) a.now b.now }
 {
     match (a.base(), b.base()) {
         (Some(a), Some(b)) => are_alike(table, &a, &b),
@@ -44,7 +44,7 @@ fn are_pointers_alike<'a>(table: &'a TypeTable, a: &TypeRef<'a>, b: &TypeRef<'a>
 ///
 /// The Go specification, "Conversions".
 pub fn is_convertible<'a>(table: &'a TypeTable, value: &TypeRef<'a>, to: &TypeRef<'a>) -> bool
-    ensures { result ≡ convertible_of (find table.now) value.now to.now }
+    ensures { result ≡ convertible_of (find_entry table.now) value.now to.now }
 {
     are_alike(table, value, to) || are_pointers_alike(table, value, to)
 }

@@ -1,7 +1,7 @@
 //! What selectors choose.
 ghost use Rattle.std.specs.Prelude.{◌≡◌, ◌↔◌, IsTrue, IfOk, Ok};
-ghost use Rattle.go_decide_core.specs.table_core.Entries.{find};
-ghost use Rattle.go_decide_core.specs.select_core.Selectors.{IsAnswer};
+ghost use Rattle.go_decide_core.specs.table_core.Entries.{find_entry};
+ghost use Rattle.go_decide_core.specs.level_core.Selectors.{IsSelectorAnswer};
 ghost use Rattle.go_decide_core.specs.Selecting.{chosen_of};
 ghost use Rattle.go_handle_core.specs.Names.{shown_choice, selection_in};
 
@@ -32,7 +32,7 @@ fn answer<'a>(
     name: &str,
     from: &ImportPath,
 ) -> Result<Selected<'a>, Rule>
-    ensures { IsAnswer (find table.now) t.now name.now from.now result }
+    ensures { IsSelectorAnswer (find_entry table.now) t.now name.now from.now result }
 {
     if t.stars == 0 {
         return select(alloc, table, t.term, name, from);
@@ -52,7 +52,7 @@ fn shown<'a>(
     home: &'a Home,
     selected: Selected<'a>,
 ) -> Selection<TypeRef<'a>, SignatureRef<'a>, Decl<'a>, EmbedPath>
-    ensures { result ≡ shown_choice (find table.now) (chosen_of (Ok selected.entry)) }
+    ensures { result ≡ shown_choice (find_entry table.now) (chosen_of (Ok selected.entry)) }
 {
     let decl = member_decl(selected.member);
     let path = selected.path;

@@ -1,8 +1,8 @@
 //! Signatures that are lent.
 ghost use Rattle.std.specs.Prelude.{◌≡◌, ◌<◌, length, slice_get, Some};
 ghost use Rattle.go_term_core.specs.Shapes.{sign_of, shape_found};
-ghost use Rattle.go_decide_core.specs.table_core.Entries.{find};
-ghost use Rattle.go_decide_core.specs.Rules.{typed, params_of, results_of};
+ghost use Rattle.go_decide_core.specs.table_core.Entries.{find_entry};
+ghost use Rattle.go_decide_core.specs.Rules.{typed, param_types_of, results_of};
 
 use crate::conversion::is_type;
 use crate::types::TypeRef;
@@ -30,7 +30,7 @@ impl<'a> Model for SignatureRef<'a> {
 
 /// A type, where it is one in a table; `None` stands for no type. It takes no memory.
 pub fn typed<'a>(table: &'a TypeTable, term: Option<&'a TypeTerm>) -> Option<TypeRef<'a>>
-    ensures { result ≡ typed (find table.now) (shape_found term.entry) }
+    ensures { result ≡ typed (find_entry table.now) (shape_found term.entry) }
 {
     match term {
         Some(term) => {
@@ -67,30 +67,30 @@ impl<'a> SignatureRef<'a> {
 
     /// How many parameters there are.
     pub fn param_count(&self, table: &TypeTable) -> usize
-        ensures { result ≡ length (params_of (find table.now) self.now) }
+        ensures { result ≡ length (param_types_of (find_entry table.now) self.now) }
     {
         self.signature.param_count()
     }
 
     /// The type of a parameter, by its number from 0: none where it is no type.
     pub fn param_at(&self, table: &'a TypeTable, at: usize) -> Option<TypeRef<'a>>
-        requires { at < length (params_of (find table.now) self.now) }
-        ensures { slice_get (params_of (find table.now) self.now) at ≡ Some result }
+        requires { at < length (param_types_of (find_entry table.now) self.now) }
+        ensures { slice_get (param_types_of (find_entry table.now) self.now) at ≡ Some result }
     {
         typed(table, self.signature.param_at(at))
     }
 
     /// How many results there are.
     pub fn result_count(&self, table: &TypeTable) -> usize
-        ensures { result ≡ length (results_of (find table.now) self.now) }
+        ensures { result ≡ length (results_of (find_entry table.now) self.now) }
     {
         self.signature.result_count()
     }
 
     /// The type of a result, by its number from 0: none where it is no type.
     pub fn result_at(&self, table: &'a TypeTable, at: usize) -> Option<TypeRef<'a>>
-        requires { at < length (results_of (find table.now) self.now) }
-        ensures { slice_get (results_of (find table.now) self.now) at ≡ Some result }
+        requires { at < length (results_of (find_entry table.now) self.now) }
+        ensures { slice_get (results_of (find_entry table.now) self.now) at ≡ Some result }
     {
         typed(table, self.signature.result_at(at))
     }

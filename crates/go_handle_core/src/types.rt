@@ -2,7 +2,7 @@
 ghost use Rattle.std.specs.Prelude.{◌≡◌, ◌≤◌, ◌^◌, suc, IfOk, OnErr};
 ghost use Rattle.go_term_core.specs.Shapes.{shape};
 ghost use Rattle.go_term_core.specs.Terms.{PointerTo};
-ghost use Rattle.go_decide_core.specs.table_core.Entries.{find, underlying_in};
+ghost use Rattle.go_decide_core.specs.table_core.Entries.{find_entry, underlying_in};
 ghost use Rattle.go_handle_core.specs.Stars.{base_in, star_count, starred};
 ghost use Rattle.go_decide_core.specs.Rules.{form_of, form_under};
 
@@ -102,7 +102,7 @@ impl<'a> TypeRef<'a> {
 
     /// Its underlying type, in a table: of what is no type none.
     pub fn underlying(&self, table: &'a TypeTable) -> TypeRef<'a>
-        ensures { result ≡ underlying_in (find table.now) self.now }
+        ensures { result ≡ underlying_in (find_entry table.now) self.now }
     {
         if self.stars > 0 {
             return self.again();
@@ -114,7 +114,7 @@ impl<'a> TypeRef<'a> {
     ///
     /// The Go specification, "Underlying types".
     pub fn form(&self, table: &'a TypeTable) -> TypeForm<TypeRef<'a>>
-        ensures { result ≡ form_of (find table.now) self.now }
+        ensures { result ≡ form_of (find_entry table.now) self.now }
     {
         if self.stars > 0 {
             return TypeForm::Pointer(TypeRef {

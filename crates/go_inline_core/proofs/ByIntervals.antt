@@ -17,7 +17,7 @@ use Rattle.go_inline_core.specs.declared.scoped.Scoped.{Scoped}
 use Rattle.go_inline_core.specs.Types.{InlineOf}
 use Rattle.go_inline_core.specs.Trees.{piece_types, expr_types, spec_types, specs_types, simple_types, some_simple_types, some_expr_types, init_types, if_types, for_types, stmt_types, branch_types, else_types, lines_types, func_types}
 use Rattle.go_inline_core.specs.Inline.{inline_with}
-use Rattle.go_inline_core.specs.Functions.{meaning_in, inlines_in, inline_rules}
+use Rattle.go_inline_core.specs.Functions.{meaning_in, inlines_in, inline_note_rules}
 
 -- the types of the pieces of steps
 abbrev pub steps_types : Steps → List TypeTree
@@ -108,10 +108,10 @@ module _ (kind : DeclKey → Kind) (f : InFile) (top : Meaning) (beyond : List �
   noted_both a b = map-append (inline_with kind f (meaning_in (bound beyond all) top)) a b
 
   -- what the rules note of steps, by intervals
-  pub steps_noted : (opens closes : ℕ) (steps : Steps) → (law_out (inline_rules kind f top) beyond all opens closes steps).notes ≡ inlines_in kind f top (bound beyond all) (steps_types steps)
+  pub steps_noted : (opens closes : ℕ) (steps : Steps) → (law_out (inline_note_rules kind f top) beyond all opens closes steps).notes ≡ inlines_in kind f top (bound beyond all) (steps_types steps)
   steps_noted opens closes Done = refl
   steps_noted opens closes (Check p rest) = ap (λ l. noted (piece_types p) ++ l) (steps_noted opens closes rest) ∙ sym (noted_both (piece_types p) (steps_types rest))
   steps_noted opens closes (Declare m from p xs rest) = ap (λ l. noted (piece_types p) ++ l) (steps_noted opens closes rest) ∙ sym (noted_both (piece_types p) (steps_types rest))
   steps_noted opens closes (Inner o c steps rest) =
-      ap (λ l. l ++ (law_out (inline_rules kind f top) beyond all opens closes rest).notes) (steps_noted o c steps)
+      ap (λ l. l ++ (law_out (inline_note_rules kind f top) beyond all opens closes rest).notes) (steps_noted o c steps)
       ∙ (ap (λ l. noted (steps_types steps) ++ l) (steps_noted opens closes rest) ∙ sym (noted_both (steps_types steps) (steps_types rest)))

@@ -19,11 +19,11 @@ use Rattle.go_tree_nodes.specs.declared.types.«Param» as declared_param
 use Rattle.go_tree_nodes.specs.Trees.{FieldTrees}
 use Rattle.go_tree_nodes.specs.TypeShapes.{shape_type, shape_signature, shape_results, fields_before, fields_of, methods_of, params_of}
 use Rattle.go_tree_nodes.proofs.TypeShapes.{listed_parts, signature_parts}
-use Rattle.go_embed_core.specs.settle_core.Settled.{repeats}
+use Rattle.go_embed_core.specs.settle_core.Settled.{repeats_earlier}
 use Rattle.go_names_core.specs.local_core.declared.Fault.{Fault}
-use Rattle.go_names_core.specs.local_core.Faults.{fault_at}
+use Rattle.go_names_core.specs.local_core.Faults.{ident_fault}
 use Rattle.go_names_core.specs.local_core.Outline.{signature_idents}
-use Rattle.go_inline_core.specs.Inline.{repeated, repeated_params, repeated_in_fields, repeated_in_methods, repeated_in_signature, repeated_in_result, repeated_in_entries}
+use Rattle.go_inline_core.specs.Inline.{repeat_faults, repeated_params, repeated_in_fields, repeated_in_methods, repeated_in_signature, repeated_in_result, repeated_in_entries}
 use Rattle.go_inline_core.specs.mirrors.Names.{SameNames, names_of, field_repeated}
 
 abbrev pub line_repeated : FieldLine → List Fault
@@ -31,7 +31,7 @@ line_repeated l = field_repeated l.fields
 
 -- of a signature: its names, and then its types
 abbrev pub both_repeated : Signature → List Fault
-both_repeated s = repeated [] (signature_idents (shape_signature s)) ++ repeated_in_signature (shape_signature s)
+both_repeated s = repeat_faults [] (signature_idents (shape_signature s)) ++ repeated_in_signature (shape_signature s)
 
 abbrev pub method_repeated : MethodLine → List Fault
 method_repeated (MethodLine' x s semicolon) = both_repeated s
@@ -70,20 +70,20 @@ same_more : (a b : List (List ℕ)) (n : List ℕ) → SameNames a b → SameNam
 same_more a b n same m = ap (λ x. if bytes_eq n m then true else x) (same m)
 
 -- which names repeat one rests on the names alone that were seen
-repeated_same : (xs : List Ident) (a b : List (List ℕ)) → SameNames a b → repeated a xs ≡ repeated b xs
+repeated_same : (xs : List Ident) (a b : List (List ℕ)) → SameNames a b → repeat_faults a xs ≡ repeat_faults b xs
 repeated_same [] a b same = refl
 repeated_same (x ∷ xs) a b same =
-    ap (λ h. (if not (is_blank x.name) && h then fault_at x rules.B1 ∷ [] else []) ++ repeated (x.name ∷ a) xs) (same x.name)
-    ∙ ap (λ fs. (if repeats b x.name then fault_at x rules.B1 ∷ [] else []) ++ fs) (repeated_same xs (x.name ∷ a) (x.name ∷ b) (same_more a b x.name same))
+    ap (λ h. (if not (is_blank x.name) && h then ident_fault x rules.B1 ∷ [] else []) ++ repeat_faults (x.name ∷ a) xs) (same x.name)
+    ∙ ap (λ fs. (if repeats_earlier b x.name then ident_fault x rules.B1 ∷ [] else []) ++ fs) (repeated_same xs (x.name ∷ a) (x.name ∷ b) (same_more a b x.name same))
 
 -- one turn of the loop over the names of a signature
 pub repeated_step : (xs : List (Bor Ident)) (i : ℕ) (x : Bor Ident) (seen next : List (List ℕ)) (faults more all : List Fault) → i < length xs → x ≡ get_or xs i x → SameNames next (x.now.name ∷ seen)
-    → more ≡ faults ++ (if repeats seen x.now.name then fault_at x.now rules.B1 ∷ [] else [])
-    → all ≡ faults ++ repeated seen (names_of (drop i xs)) → all ≡ more ++ repeated next (names_of (drop (i + 1) xs))
+    → more ≡ faults ++ (if repeats_earlier seen x.now.name then ident_fault x.now rules.B1 ∷ [] else [])
+    → all ≡ faults ++ repeat_faults seen (names_of (drop i xs)) → all ≡ more ++ repeat_faults next (names_of (drop (i + 1) xs))
 repeated_step xs i x seen next faults more all below is names now before =
-    let own : List Fault = if repeats seen x.now.name then fault_at x.now rules.B1 ∷ [] else [] in
+    let own : List Fault = if repeats_earlier seen x.now.name then ident_fault x.now rules.B1 ∷ [] else [] in
     let rest : List Ident = names_of (drop (i + 1) xs) in
     before
-    ∙ (ap (λ l. faults ++ repeated seen (names_of l)) (drop_more xs i x below ∙ ap (λ y. y ∷ drop (i + 1) xs) (sym is))
-    ∙ (sym (append_assoc faults own (repeated (x.now.name ∷ seen) rest))
-    ∙ (ap (λ l. l ++ repeated (x.now.name ∷ seen) rest) (sym now) ∙ ap (λ l. more ++ l) (sym (repeated_same rest next (x.now.name ∷ seen) names)))))
+    ∙ (ap (λ l. faults ++ repeat_faults seen (names_of l)) (drop_more xs i x below ∙ ap (λ y. y ∷ drop (i + 1) xs) (sym is))
+    ∙ (sym (append_assoc faults own (repeat_faults (x.now.name ∷ seen) rest))
+    ∙ (ap (λ l. l ++ repeat_faults (x.now.name ∷ seen) rest) (sym now) ∙ ap (λ l. more ++ l) (sym (repeated_same rest next (x.now.name ∷ seen) names)))))

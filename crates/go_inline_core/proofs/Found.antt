@@ -2,7 +2,6 @@
 use Rattle.std.proofs.Common.{◌≡◌, ℕ, List, [], Option, ap, ◌∙◌}
 use Rattle.go_tree_nodes.specs.Trees.{FuncTree, FileTree}
 use Rattle.go_term_core.specs.decl_core.declared.keys.DeclKey.{DeclKey}
-use Rattle.go_term_core.specs.decl_core.Outer.{IsPlaced}
 use Rattle.go_term_core.specs.decl_core.TopDecls.{TopDeclTree, top_decls}
 use Rattle.go_embed_core.specs.settle_core.declared.kind.Kind.{Kind}
 use Rattle.go_entry_core.specs.written_core.Written.{InFile, Meaning}
@@ -14,14 +13,15 @@ use Rattle.go_names_core.specs.Body.{AreGiven}
 use Rattle.go_inline_core.specs.declared.scoped.Scoped.{Scoped}
 use Rattle.go_inline_core.specs.Types.{InlineOf, inline_at}
 use Rattle.go_inline_core.specs.Trees.{outline_types, file_types, func_types}
-use Rattle.go_inline_core.specs.Inline.{inlines, AreAlike}
-use Rattle.go_inline_core.specs.Functions.{meaning_in, inlines_in, inline_rules, AreInlines}
+use Rattle.go_inline_core.specs.Inline.{inlines, AreFoundAlike}
+use Rattle.go_inline_core.specs.Functions.{meaning_in, inlines_in, inline_note_rules, AreInlines}
 use Rattle.go_inline_core.specs.Laws.{TypesAreFound}
 use Rattle.go_inline_core.specs.mirrors.Gathering.{kept}
 use Rattle.go_inline_core.proofs.Spread.{AreSpread, func_begins, file_begins}
 use Rattle.go_inline_core.proofs.Kept.{kept_spread, kept_alike, found_spread}
 use Rattle.go_inline_core.proofs.ByIntervals.{func_all, steps_noted}
 use Rattle.go_inline_core.proofs.Outlines.{outline_all, offsets_kept}
+use Rattle.go_tree_nodes.specs.Spelling.{IsPlaced}
 
 func_spread : (f : FuncTree) (h : IsFuncPlaced f) → AreSpread h.0 (func_types f) h.1.0
 func_spread f h = (func_begins f).rise h.0 h.1.0 h.1.1
@@ -31,7 +31,7 @@ file_spread f h = (file_begins f).rise 0 h.0 h.1
 
 -- what the rules note of a function, kept by offset
 pub noted_inlines : (kind : DeclKey → Kind) (f : InFile) (top : Meaning) (beyond : List ℕ → Option Scoped) (func : FuncTree) (types notes : List (ℕ × InlineOf)) (faults : List Fault)
-    → IsFuncPlaced func → AreGiven (inline_rules kind f top) beyond func notes faults → types ≡ kept [] notes → AreInlines kind f top beyond func types
+    → IsFuncPlaced func → AreGiven (inline_note_rules kind f top) beyond func notes faults → types ≡ kept [] notes → AreInlines kind f top beyond func types
 noted_inlines kind f top beyond func types notes faults h given is all table =
     let look = bound beyond all in
     let noted : notes ≡ inlines_in kind f top look (func_types func) =
@@ -40,7 +40,7 @@ noted_inlines kind f top beyond func types notes faults h given is all table =
 
 module _ (kind : DeclKey → Kind) (f : InFile) (mean : Meaning) where
   -- what is kept of listed types is found as it is listed
-  pub listed_alike : (ds : List TopDeclTree) (types : List (ℕ × InlineOf)) → types ≡ kept [] (inlines kind f mean (outline_types ds)) → AreAlike types (inlines kind f mean (outline_types ds))
+  pub listed_alike : (ds : List TopDeclTree) (types : List (ℕ × InlineOf)) → types ≡ kept [] (inlines kind f mean (outline_types ds)) → AreFoundAlike types (inlines kind f mean (outline_types ds))
   listed_alike ds types is n = ap (λ l. inline_at l n) is ∙ kept_alike [] (inlines kind f mean (outline_types ds)) n
 
   -- and all is kept of the outline of a file

@@ -9,7 +9,7 @@ use Rattle.go_embed_core.specs.settle_core.declared.kind.Kind.{Kind}
 use Rattle.go_entry_core.specs.written_core.Written.{InFile, Meaning}
 use Rattle.go_inline_core.specs.Types.{InlineOf, inline_at}
 use Rattle.go_inline_core.specs.Trees.{type_start}
-use Rattle.go_inline_core.specs.Inline.{inline_of, inline_with, inlines, AreAlike}
+use Rattle.go_inline_core.specs.Inline.{inline_of, inline_with, inlines, AreFoundAlike}
 use Rattle.go_inline_core.specs.mirrors.Gathering.{with_first, kept}
 use Rattle.go_inline_core.proofs.Spread.{AreSpread}
 
@@ -96,7 +96,7 @@ some_first : (o p : Option InlineOf) → is_some o ≡ true → first_of o p ≡
 some_first (Some a) p h = refl
 some_first None p h = absurd (true≢false (sym h))
 
-skip_one : (done ts : List (ℕ × InlineOf)) (t : ℕ × InlineOf) → is_some (inline_at done t.0) ≡ true → AreAlike (done ++ ts) (done ++ t ∷ ts)
+skip_one : (done ts : List (ℕ × InlineOf)) (t : ℕ × InlineOf) → is_some (inline_at done t.0) ≡ true → AreFoundAlike (done ++ ts) (done ++ t ∷ ts)
 skip_one done ts t there n = at_both done ts n ∙ (by (nat_eq n t.0) refl ∙ sym (at_both done (t ∷ ts) n))
   where
     by : (b : Bool) → nat_eq n t.0 ≡ b → first_of (inline_at done n) (inline_at ts n) ≡ first_of (inline_at done n) (inline_at (t ∷ ts) n)
@@ -105,7 +105,7 @@ skip_one done ts t there n = at_both done ts n ∙ (by (nat_eq n t.0) refl ∙ s
         some_first (inline_at done n) (inline_at ts n) here ∙ sym (some_first (inline_at done n) (inline_at (t ∷ ts) n) here)
     by false e = ap (λ b. first_of (inline_at done n) (cond b (Some t.1) (inline_at ts n))) (sym e)
 
-pub kept_alike : (done ts : List (ℕ × InlineOf)) → AreAlike (kept done ts) (done ++ ts)
+pub kept_alike : (done ts : List (ℕ × InlineOf)) → AreFoundAlike (kept done ts) (done ++ ts)
 kept_alike done [] n = ap (λ l. inline_at l n) (sym (append-nil done))
 kept_alike done (t ∷ ts) n = kept_alike (with_first done t) ts n ∙ by (is_some (inline_at done t.0)) refl
   where

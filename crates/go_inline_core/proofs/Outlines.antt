@@ -12,9 +12,9 @@ use Rattle.go_term_core.specs.decl_core.declared.tops.TopDecl.{TopDecl}
 use Rattle.go_term_core.specs.decl_core.Shown.{decl_shown, form_shown}
 use Rattle.go_term_core.specs.decl_core.Outer.{Outer, value_spec_outers, type_spec_outers, decl_outers}
 use Rattle.go_term_core.specs.decl_core.TopDecls.{TopDeclTree, ValueForm, numbered, named_decls, value_spec_decls, type_spec_decls, specs_decls, decl_decls, top_decls}
-use Rattle.go_entry_core.specs.written_core.Written.{InFile, number_from, placed, member_place}
+use Rattle.go_entry_core.specs.written_core.Written.{InFile, number_from, written_member_place, member_place}
 use Rattle.go_inline_core.specs.Trees.{spec_types, specs_types, form_types, outline_types, decl_types, file_types}
-use Rattle.go_inline_core.specs.Inline.{at_place, offset_of}
+use Rattle.go_inline_core.specs.Inline.{at_place, member_offset}
 
 -- outlines
 
@@ -90,10 +90,10 @@ number_is n (p ∷ ps) offset m h = by (nat_eq p.at offset) refl (number_is (suc
         let there = rest (sym (ap (λ b. if b then Some n else number_from (suc n) ps offset) e) ∙ h) in
         (suc there.0, (let same = there.1 in omega (arith, same)), there.2)
 
-pub offsets_kept : (f : InFile) (kind : DeclKind) (offset : ℕ) → offset_of f.places (member_place f kind offset) ≡ offset
+pub offsets_kept : (f : InFile) (kind : DeclKind) (offset : ℕ) → member_offset f.places (member_place f kind offset) ≡ offset
 offsets_kept f kind offset = by (number_from 0 f.places offset) refl
   where
-    by : (r : Option ℕ) → number_from 0 f.places offset ≡ r → offset_of f.places (placed f kind offset r) ≡ offset
+    by : (r : Option ℕ) → number_from 0 f.places offset ≡ r → member_offset f.places (written_member_place f kind offset r) ≡ offset
     by None e = refl
     by (Some m) e =
         let there = number_is 0 f.places offset m e in

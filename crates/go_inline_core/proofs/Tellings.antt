@@ -10,7 +10,7 @@ use Rattle.go_tree_nodes.specs.declared.names.Ident.{Ident}
 use Rattle.go_tree_nodes.specs.Trees.{FuncTree}
 use Rattle.go_names_core.specs.local_core.Steps.{Steps, Done, Check, Declare, Inner}
 use Rattle.go_names_core.specs.local_core.Binding.{Local, region_has, is_second, shown, is_inside, innermost_of}
-use Rattle.go_names_core.specs.local_core.Law.{Rules, declared, declared_from, law_out}
+use Rattle.go_names_core.specs.local_core.Law.{Rules, locals_of_names, declared_from, law_out}
 use Rattle.go_names_core.specs.local_core.Outline.{func_opens, func_closes, func_steps}
 use Rattle.go_names_core.specs.local_core.Tables.{IsTable}
 use Rattle.go_names_core.specs.open_core.Blocks.{or_else}
@@ -32,7 +32,7 @@ use Rattle.go_inline_core.specs.declared.scoped.Scoped.TheVariants as scoped
 use Rattle.go_inline_core.specs.Types.{InlineOf}
 use Rattle.go_inline_core.specs.Trees.{func_types}
 use Rattle.go_inline_core.specs.Inline.{inlines}
-use Rattle.go_inline_core.specs.Functions.{is_local, looked_up, meaning_in, inline_rules, scoped_outside}
+use Rattle.go_inline_core.specs.Functions.{is_local, looked_up_ident, meaning_in, inline_note_rules, scoped_outside}
 use Rattle.go_inline_core.specs.Hiding.{hides, meaning_beside, AnyTableTells}
 use Rattle.go_inline_core.specs.mirrors.Alike.{inlines_alike}
 
@@ -106,9 +106,9 @@ module _ {X Y : Type 0} (y : Y) where
   declared_so : (opens closes from : ℕ) (means : ℕ → X) (n m : ℕ) (xs : List Ident) → map (meaning_so y) (declared_from opens closes from means n xs) ≡ declared_from opens closes from (λ _. y) m xs
   declared_so opens closes from means n m [] = refl
   declared_so opens closes from means n m (x ∷ xs) =
-      map-append (meaning_so y) (declared opens closes from means n x) (declared_from opens closes from means (suc n) xs)
+      map-append (meaning_so y) (locals_of_names opens closes from means n x) (declared_from opens closes from means (suc n) xs)
       ∙ (ap (λ l. l ++ map (meaning_so y) (declared_from opens closes from means (suc n) xs)) (by (is_blank x.name))
-      ∙ ap (λ l. declared opens closes from (λ _. y) m x ++ l) (declared_so opens closes from means (suc n) (suc m) xs))
+      ∙ ap (λ l. locals_of_names opens closes from (λ _. y) m x ++ l) (declared_so opens closes from means (suc n) (suc m) xs))
     where
       by : (b : Bool) → map (meaning_so y) (if b then [] else record { name = x.name; at = x.span.start; from = from; opens = opens; closes = closes; means = means n } ∷ []) ≡ (if b then [] else record { name = x.name; at = x.span.start; from = from; opens = opens; closes = closes; means = y } ∷ [])
       by true = refl
@@ -134,12 +134,12 @@ module _ {X Y : Type 0} (y : Y) where
 
 -- the declarations of a function that are told apart from what is outside alone
 module _ (kind : DeclKey → Kind) (f : InFile) (top : Meaning) (beyond : List ℕ → Option Scoped) (all : List (Local Scoped)) where
-  local_places : (opens closes : ℕ) (steps : Steps) → (law_out (inline_rules kind f top) beyond all opens closes steps).declares ≡ steps_places scoped.Local opens closes steps
+  local_places : (opens closes : ℕ) (steps : Steps) → (law_out (inline_note_rules kind f top) beyond all opens closes steps).declares ≡ steps_places scoped.Local opens closes steps
   local_places opens closes Done = refl
   local_places opens closes (Check p rest) = local_places opens closes rest
   local_places opens closes (Declare m from p xs rest) = ap (λ l. declared_from opens closes from (λ _. scoped.Local) 0 xs ++ l) (local_places opens closes rest)
   local_places opens closes (Inner o c steps rest) =
-      ap (λ l. l ++ (law_out (inline_rules kind f top) beyond all opens closes rest).declares) (local_places o c steps) ∙ ap (λ l. steps_places scoped.Local o c steps ++ l) (local_places opens closes rest)
+      ap (λ l. l ++ (law_out (inline_note_rules kind f top) beyond all opens closes rest).declares) (local_places o c steps) ∙ ap (λ l. steps_places scoped.Local o c steps ++ l) (local_places opens closes rest)
 
 nothing_at : (k : ℕ) → is_local (slice_get [] k) ≡ false
 nothing_at zero = refl
@@ -165,9 +165,9 @@ is_hidden {X} beyond locals all same name out place =
 pub any_table_tells : {X N : Type 0} → AnyTableTells X N
 any_table_tells {X} {N} rules outer all kind f top blocks number func types placed table are =
     let beyond : List ℕ → Option Scoped = beyond_in scoped_outside blocks number in
-    let locals : List (Local Scoped) = (walked (inline_rules kind f top) beyond func).declares in
-    let own : IsTable (inline_rules kind f top) beyond func locals = ((one_table Scoped (ℕ × InlineOf) (inline_rules kind f top) (inlines_alike kind f top) beyond func placed).0 locals).1 refl in
+    let locals : List (Local Scoped) = (walked (inline_note_rules kind f top) beyond func).declares in
+    let own : IsTable (inline_note_rules kind f top) beyond func locals = ((one_table Scoped (ℕ × InlineOf) (inline_note_rules kind f top) (inlines_alike kind f top) beyond func placed).0 locals).1 refl in
     let same : locals ≡ map (meaning_so scoped.Local) all = own ∙ (local_places kind f top beyond locals (func_opens func) (func_closes func) (func_steps func) ∙ sym (table_places scoped.Local rules outer all func table)) in
     let pointwise : (n : TypeName) → meaning_in (bound beyond locals) top n ≡ meaning_beside all top n = λ n.
-    ap (λ b. if b then NoType else top n) (is_hidden beyond locals all same (looked_up n).name (none_outside (denotes (scopes_model blocks number []) (looked_up n).name)) (looked_up n).span.start) in
+    ap (λ b. if b then NoType else top n) (is_hidden beyond locals all same (looked_up_ident n).name (none_outside (denotes (scopes_model blocks number []) (looked_up_ident n).name)) (looked_up_ident n).span.start) in
     are locals own ∙ ap (λ mean. inlines kind f mean (func_types func)) (λ j n. pointwise n j)

@@ -16,7 +16,7 @@ use Rattle.go_names_core.specs.Scope.{beyond_in}
 use Rattle.go_inline_core.specs.Types.{InlineOf}
 use Rattle.go_inline_core.specs.Trees.{func_types}
 use Rattle.go_inline_core.specs.Inline.{inlines}
-use Rattle.go_inline_core.specs.Functions.{looked_up, scoped_outside, AreInlines}
+use Rattle.go_inline_core.specs.Functions.{looked_up_ident, scoped_outside, AreInlines}
 
 -- whether a name is bound to a declaration of the function where it stands
 abbrev pub hides : {X : Type 0} → List (Local X) → List ℕ → ℕ → Bool
@@ -24,7 +24,7 @@ hides all name place = is_some (innermost_of (filter (λ d. bytes_eq name d.name
 
 -- a name of a type that is hidden means no type, and any other what it means at the top of the file
 abbrev pub meaning_beside : {X : Type 0} → List (Local X) → Meaning → Meaning
-meaning_beside all top n = if hides all (looked_up n).name (looked_up n).span.start then NoType else top n
+meaning_beside all top n = if hides all (looked_up_ident n).name (looked_up_ident n).span.start then NoType else top n
 
 -- the declarations of a function with whatever its pieces give them to mean tell which names its types see
 abbrev pub AnyTableTells : Type 0 → Type 0 → Type 0

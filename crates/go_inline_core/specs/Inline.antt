@@ -10,12 +10,12 @@ use Rattle.go_term_core.specs.decl_core.declared.places.Place.{Place}
 use Rattle.go_term_core.specs.declared.term.MemberPlace.{MemberPlace}
 use Rattle.go_term_core.specs.declared.term.MemberPlace.TheVariants as places
 use Rattle.go_embed_core.specs.settle_core.declared.kind.Kind.{Kind}
-use Rattle.go_embed_core.specs.settle_core.Settled.{settled, repeats}
+use Rattle.go_embed_core.specs.settle_core.Settled.{settled, repeats_earlier}
 use Rattle.go_embed_core.specs.declared.faults.MemberFault.{MemberFault}
 use Rattle.go_embed_core.specs.Faults.{term_faults}
 use Rattle.go_entry_core.specs.written_core.Written.{InFile, Meaning, term_of}
 use Rattle.go_names_core.specs.local_core.declared.Fault.{Fault}
-use Rattle.go_names_core.specs.local_core.Faults.{fault_at}
+use Rattle.go_names_core.specs.local_core.Faults.{ident_fault}
 use Rattle.go_names_core.specs.local_core.Outline.{signature_idents}
 use Rattle.go_inline_core.specs.Types.{InlineOf, inline_at}
 use Rattle.go_inline_core.specs.Trees.{type_start}
@@ -27,17 +27,17 @@ at_place None = 0
 at_place (Some p) = p.at
 
 -- the offset of a member's identifier in a file that declares these outside function bodies
-abbrev pub offset_of : List Place → MemberPlace → ℕ
-offset_of ps (places.Declared d) = at_place (slice_get ps d.number)
-offset_of ps (places.Local l) = l.offset
+abbrev pub member_offset : List Place → MemberPlace → ℕ
+member_offset ps (places.Declared d) = at_place (slice_get ps d.number)
+member_offset ps (places.Local l) = l.offset
 
-abbrev pub fault_in : List Place → MemberFault → Fault
-fault_in ps f = record { offset = offset_of ps f.place; rule = f.rule }
+abbrev pub located_fault : List Place → MemberFault → Fault
+located_fault ps f = record { offset = member_offset ps f.place; rule = f.rule }
 
 -- parameters and results that are not blank and have the name of an earlier one of their signature
-abbrev pub repeated : List (List ℕ) → List Ident → List Fault
-repeated seen [] = []
-repeated seen (x ∷ xs) = (if repeats seen x.name then fault_at x rules.B1 ∷ [] else []) ++ repeated (x.name ∷ seen) xs
+abbrev pub repeat_faults : List (List ℕ) → List Ident → List Fault
+repeat_faults seen [] = []
+repeat_faults seen (x ∷ xs) = (if repeats_earlier seen x.name then ident_fault x rules.B1 ∷ [] else []) ++ repeat_faults (x.name ∷ seen) xs
 
 -- those of the methods of the interface types in a type, at any depth
 abbrev mutual
@@ -56,7 +56,7 @@ abbrev mutual
   -- of a method its own come before those in its types
   pub repeated_in_methods : MethodTrees → List Fault
   repeated_in_methods NoMethods = []
-  repeated_in_methods (Method x g s rest) = (repeated [] (signature_idents g) ++ repeated_in_signature g) ++ repeated_in_methods rest
+  repeated_in_methods (Method x g s rest) = (repeat_faults [] (signature_idents g) ++ repeated_in_signature g) ++ repeated_in_methods rest
 
   pub repeated_in_signature : SignatureTree → List Fault
   repeated_in_signature (Signed first params last result) = repeated_in_entries params ++ repeated_in_result result
@@ -75,7 +75,7 @@ abbrev mutual
 -- what a type is, by what is known of declared types, by the file where it is written, and by what names of types mean there
 abbrev pub inline_of : (DeclKey → Kind) → InFile → Meaning → TypeTree → InlineOf
 inline_of kind f mean t =
-    record { term = settled kind (term_of mean f t); faults = map (fault_in f.places) (term_faults kind (term_of mean f t)) ++ repeated_params t }
+    record { term = settled kind (term_of mean f t); faults = map (located_fault f.places) (term_faults kind (term_of mean f t)) ++ repeated_params t }
 
 -- types by their first bytes
 abbrev pub inline_with : (DeclKey → Kind) → InFile → Meaning → TypeTree → ℕ × InlineOf
@@ -85,5 +85,5 @@ abbrev pub inlines : (DeclKey → Kind) → InFile → Meaning → List TypeTree
 inlines kind f mean ts = map (inline_with kind f mean) ts
 
 -- the same is found at each offset
-abbrev pub AreAlike : List (ℕ × InlineOf) → List (ℕ × InlineOf) → Type 0
-AreAlike types other = (offset : ℕ) → inline_at types offset ≡ inline_at other offset
+abbrev pub AreFoundAlike : List (ℕ × InlineOf) → List (ℕ × InlineOf) → Type 0
+AreFoundAlike types other = (offset : ℕ) → inline_at types offset ≡ inline_at other offset

@@ -18,4 +18,5 @@ pub mod scope_core
 pub mod scope_core_lemmas
 pub mod settle_core
 pub mod table_core
+pub mod type_core
 pub mod written_core

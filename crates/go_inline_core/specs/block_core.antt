@@ -4,6 +4,7 @@ pub use Rattle.go_names_core.specs.block_core.AllLemmas as AllLemmas
 pub use Rattle.go_names_core.specs.block_core.BindingLemmas as BindingLemmas
 pub use Rattle.go_names_core.specs.block_core.Bindings as Bindings
 pub use Rattle.go_names_core.specs.block_core.Blocks as Blocks
+pub use Rattle.go_names_core.specs.block_core.Declarations as Declarations
 pub use Rattle.go_names_core.specs.block_core.Exports as Exports
 pub use Rattle.go_names_core.specs.block_core.GivenSteps as GivenSteps
 pub use Rattle.go_names_core.specs.block_core.Growing as Growing

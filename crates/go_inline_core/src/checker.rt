@@ -2,7 +2,7 @@
 
 ghost use Rattle.std.specs.Prelude.{◌≡◌, ◌++◌, false, map, IfOk, OnOk};
 ghost use Rattle.go_tree_nodes.specs.TypeShapes.{shape_type};
-ghost use Rattle.go_names_core.specs.Scope.{look_of};
+ghost use Rattle.go_names_core.specs.Scope.{open_look};
 ghost use Rattle.go_entry_core.specs.written_core.Written.{in_file};
 ghost use Rattle.go_inline_core.specs.Functions.{inlines_in, scoped_outside};
 
@@ -38,7 +38,7 @@ impl<'a, N: TypeNames, K: Kinds> InlineChecker<'a, N, K> {
         notes: &mut Vec<Note>,
     ) -> Result<(), AllocError>
         ensures memory { OnOk result (list.now.lacks_memory ≡ false) }
-        ensures notes { OnOk result (notes.new.items ≡ notes.old.items ++ inlines_in (K.kinds self.now.kinds.now) (in_file self.now.at.now) (N.meaning self.now.top.now) (look_of scoped_outside names.now) (map (λ t. shape_type t.now) list.now.trees.items)) }
+        ensures notes { OnOk result (notes.new.items ≡ notes.old.items ++ inlines_in (K.kinds self.now.kinds.now) (in_file self.now.at.now) (N.meaning self.now.top.now) (open_look scoped_outside names.now) (map (λ t. shape_type t.now) list.now.trees.items)) }
     {
         note_under(
             self.alloc, self.top, self.at, self.kinds, names, list, notes,
@@ -57,7 +57,7 @@ fn note_under<'a, N: TypeNames, K: Kinds>(
     notes: &mut Vec<Note>,
 ) -> Result<(), AllocError>
     ensures memory { OnOk result (list.now.lacks_memory ≡ false) }
-    ensures notes { OnOk result (notes.new.items ≡ notes.old.items ++ inlines_in (K.kinds kinds.now) (in_file at.now) (N.meaning top.now) (look_of scoped_outside names.now) (map (λ t. shape_type t.now) list.now.trees.items)) }
+    ensures notes { OnOk result (notes.new.items ≡ notes.old.items ++ inlines_in (K.kinds kinds.now) (in_file at.now) (N.meaning top.now) (open_look scoped_outside names.now) (map (λ t. shape_type t.now) list.now.trees.items)) }
 {
     let scoped = ScopedNames { top, names };
     note_types(alloc, &scoped, at, kinds, list, notes)
@@ -80,10 +80,10 @@ impl<'a, N: TypeNames, K: Kinds> Checker for InlineChecker<'a, N, K> {
     type Note = Note;
 
     ghost use Rattle.go_entry_core.specs.written_core.Written.{in_file};
-    ghost use Rattle.go_inline_core.specs.Functions.{inline_rules};
+    ghost use Rattle.go_inline_core.specs.Functions.{inline_note_rules};
     ghost use Rattle.go_inline_core.specs.mirrors.Alike.{inlines_alike};
 
-    ghost rules = { λ c. inline_rules (K.kinds c.kinds.now) (in_file c.at.now) (N.meaning c.top.now) };
+    ghost rules = { λ c. inline_note_rules (K.kinds c.kinds.now) (in_file c.at.now) (N.meaning c.top.now) };
 
     fn check_header(
         &self,

@@ -4,7 +4,6 @@ ghost use Rattle.std.specs.Prelude.{◌≡◌, [], IfOk, map};
 ghost use Rattle.go_tree_nodes.specs.TypeShapes.{shape_type};
 ghost use Rattle.go_tree_nodes.specs.Shapes.{func_of};
 ghost use Rattle.go_tree_nodes.specs.Trees.{FileTree};
-ghost use Rattle.go_term_core.specs.decl_core.Outer.{IsPlaced};
 ghost use Rattle.go_term_core.specs.decl_core.Shown.{decl_shown, form_shown};
 ghost use Rattle.go_term_core.specs.decl_core.TopDecls.{top_decls};
 ghost use Rattle.go_entry_core.specs.written_core.Written.{in_file};
@@ -15,6 +14,7 @@ ghost use Rattle.go_inline_core.specs.Functions as functions;
 ghost use Rattle.go_inline_core.specs.Inline as inline;
 ghost use Rattle.go_inline_core.specs.mirrors.Gathering.{kept};
 ghost use Rattle.go_inline_core.specs.mirrors.Listing.{Lists};
+ghost use Rattle.go_tree_nodes.specs.Spelling.{IsPlaced};
 
 use crate::checker::InlineChecker;
 use crate::ground::Ground;
@@ -67,7 +67,7 @@ pub fn function_types<P: ImportedNames>(
     func: &FuncDecl,
 ) -> Result<InlineTypes, AllocError>
     requires placed { IsFuncPlaced (func_of func.now) }
-    ensures { IfOk result (functions.AreInlines (functions.kinds_in ground.now) (functions.file_in ground.now) (functions.top_in P.shows ground.now) (functions.beyond ground.now) (func_of func.now)) }
+    ensures { IfOk result (functions.AreInlines (functions.kinds_in_ground ground.now) (functions.file_in ground.now) (functions.top_in P.shows ground.now) (functions.scoped_beyond ground.now) (func_of func.now)) }
 {
     let top = FileNames {
         path: ground.path,
@@ -137,8 +137,8 @@ pub fn initialiser_types<P: ImportedNames>(
     ground: &Ground<'_, P>,
     decls: &[TopDecl<'_>],
 ) -> Result<InlineTypes, AllocError>
-    ensures listed { IfOk result (λ types. inline.AreAlike types (inline.inlines (functions.kinds_in ground.now) (functions.file_in ground.now) (functions.top_in P.shows ground.now) (outline_types (map decl_shown decls.now)))) }
-    ensures placed { IfOk result (λ types. (f : FileTree) → IsPlaced f → map decl_shown decls.now ≡ top_decls f → types ≡ inline.inlines (functions.kinds_in ground.now) (functions.file_in ground.now) (functions.top_in P.shows ground.now) (file_types f)) }
+    ensures listed { IfOk result (λ types. inline.AreFoundAlike types (inline.inlines (functions.kinds_in_ground ground.now) (functions.file_in ground.now) (functions.top_in P.shows ground.now) (outline_types (map decl_shown decls.now)))) }
+    ensures placed { IfOk result (λ types. (f : FileTree) → IsPlaced f → map decl_shown decls.now ≡ top_decls f → types ≡ inline.inlines (functions.kinds_in_ground ground.now) (functions.file_in ground.now) (functions.top_in P.shows ground.now) (file_types f)) }
 {
     let top = FileNames {
         path: ground.path,

@@ -47,7 +47,7 @@ pub fn type_start(tree: &TypeExpr) -> usize
 
 // The offset in bytes of a member's identifier.
 fn offset_of(places: &Places, place: MemberPlace) -> usize
-    ensures { result ≡ inline.offset_of places.now place }
+    ensures { result ≡ inline.member_offset places.now place }
 {
     match place {
         MemberPlace::Local(local) => local.offset,
@@ -64,7 +64,7 @@ fn add_members(
     members: &[MemberFault],
     faults: &mut Vec<Fault>,
 ) -> Result<(), AllocError>
-    ensures { OnOk result (faults.new.items ≡ faults.old.items ++ map (inline.fault_in places.now) members.now) }
+    ensures { OnOk result (faults.new.items ≡ faults.old.items ++ map (inline.located_fault places.now) members.now) }
 {
     for member in members {
         let fault = Fault {
@@ -94,7 +94,7 @@ fn type_faults<K: Kinds>(
     tree: &TypeExpr,
     term: &TypeTerm,
 ) -> Result<Vec<Fault>, AllocError>
-    ensures { IfOk result (λ faults. faults.items ≡ map (inline.fault_in places.now) (term_faults (K.kinds kinds.now) (shape term.now)) ++ inline.repeated_params (shape_type tree.now)) }
+    ensures { IfOk result (λ faults. faults.items ≡ map (inline.located_fault places.now) (term_faults (K.kinds kinds.now) (shape term.now)) ++ inline.repeated_params (shape_type tree.now)) }
 {
     let members = check_struct(alloc, kinds, term)?;
     let repeated = repeated_params(alloc, tree)?;
@@ -113,7 +113,7 @@ fn settle_type<K: Kinds>(
     term: &TypeTerm,
 ) -> Result<InlineType, AllocError>
     ensures term { IfOk result (λ t. shape t.term ≡ settled (K.kinds kinds.now) (shape term.now)) }
-    ensures faults { IfOk result (λ t. t.faults.items ≡ map (inline.fault_in places.now) (term_faults (K.kinds kinds.now) (shape term.now)) ++ inline.repeated_params (shape_type tree.now)) }
+    ensures faults { IfOk result (λ t. t.faults.items ≡ map (inline.located_fault places.now) (term_faults (K.kinds kinds.now) (shape term.now)) ++ inline.repeated_params (shape_type tree.now)) }
 {
     let faults = type_faults(alloc, places, kinds, tree, term)?;
     let term = settle(alloc, kinds, term)?;

@@ -3,8 +3,8 @@
 ghost use Rattle.std.specs.Prelude.{◌≡◌, ◌++◌, ◌∷◌, [], false, not, ◌&&◌, map, IfOk, OnOk, if◌then◌else◌};
 ghost use Rattle.go_text_core.specs.Text.{is_blank};
 ghost use Rattle.go_tree_nodes.specs.TypeShapes.{shape_type, shape_signature, shape_results, fields_of, methods_of, params_of};
-ghost use Rattle.go_embed_core.specs.settle_core.Settled.{repeats};
-ghost use Rattle.go_names_core.specs.local_core.Faults.{fault_at};
+ghost use Rattle.go_embed_core.specs.settle_core.Settled.{repeats_earlier};
+ghost use Rattle.go_names_core.specs.local_core.Faults.{ident_fault};
 ghost use Rattle.go_names_core.specs.local_core.Outline.{signature_idents};
 ghost use Rattle.go_inline_core.specs.Inline as inline;
 ghost use Rattle.go_inline_core.specs.mirrors.Listing.{Breaks};
@@ -33,7 +33,7 @@ fn is_repeated(name: &str, is_met: bool) -> bool
 
 // Notes a fault at an identifier, where there is one.
 fn note_if(ident: &Ident, is_fault: bool, faults: &mut Vec<Fault>) -> Result<(), AllocError>
-    ensures { OnOk result (faults.new.items ≡ faults.old.items ++ (if is_fault then fault_at ident.now Rule.B1 ∷ [] else [])) }
+    ensures { OnOk result (faults.new.items ≡ faults.old.items ++ (if is_fault then ident_fault ident.now Rule.B1 ∷ [] else [])) }
 {
     if !is_fault {
         return Ok(());
@@ -54,7 +54,7 @@ fn pass<'a>(
     faults: &mut Vec<Fault>,
 ) -> Result<(), AllocError>
     ensures names { OnOk result (SameNames seen.new (ident.now.name ∷ seen.old)) }
-    ensures faults { OnOk result (faults.new.items ≡ faults.old.items ++ (if repeats seen.old ident.now.name then fault_at ident.now Rule.B1 ∷ [] else [])) }
+    ensures faults { OnOk result (faults.new.items ≡ faults.old.items ++ (if repeats_earlier seen.old ident.now.name then ident_fault ident.now Rule.B1 ∷ [] else [])) }
 {
     let is_new = seen.add(ident.name.as_str())?;
     note_if(ident, is_repeated(ident.name.as_str(), !is_new), faults)
@@ -66,7 +66,7 @@ fn add_repeated<'a>(
     idents: &[&'a Ident],
     faults: &mut Vec<Fault>,
 ) -> Result<(), AllocError>
-    ensures { OnOk result (faults.new.items ≡ faults.old.items ++ inline.repeated [] (names_of idents.now)) }
+    ensures { OnOk result (faults.new.items ≡ faults.old.items ++ inline.repeat_faults [] (names_of idents.now)) }
 {
     let mut seen = SeenNames::new(alloc);
     for ident in idents {
@@ -81,7 +81,7 @@ fn add_signature_names(
     signature: &Signature,
     faults: &mut Vec<Fault>,
 ) -> Result<(), AllocError>
-    ensures { OnOk result (faults.new.items ≡ faults.old.items ++ inline.repeated [] (signature_idents (shape_signature signature.now))) }
+    ensures { OnOk result (faults.new.items ≡ faults.old.items ++ inline.repeat_faults [] (signature_idents (shape_signature signature.now))) }
 {
     let list = signature_idents(alloc, signature)?;
     add_repeated(alloc, list.as_slice(), faults)
@@ -89,7 +89,7 @@ fn add_signature_names(
 
 // The names of a signature.
 fn check_names(alloc: Global, signature: &Signature, list: &mut FaultList)
-    ensures { Breaks list.old (inline.repeated [] (signature_idents (shape_signature signature.now))) list.new }
+    ensures { Breaks list.old (inline.repeat_faults [] (signature_idents (shape_signature signature.now))) list.new }
 {
     if list.lacks_memory {
         return;
@@ -145,7 +145,7 @@ fn check_methods(alloc: Global, methods: &Vec<MethodLine>, list: &mut FaultList)
 // A signature: its names, and its types.
 #[cycle(types)]
 fn check_signature(alloc: Global, signature: &Signature, list: &mut FaultList)
-    ensures { Breaks list.old (inline.repeated [] (signature_idents (shape_signature signature.now)) ++ inline.repeated_in_signature (shape_signature signature.now)) list.new }
+    ensures { Breaks list.old (inline.repeat_faults [] (signature_idents (shape_signature signature.now)) ++ inline.repeated_in_signature (shape_signature signature.now)) list.new }
 {
     check_names(alloc, signature, list);
     check_params(alloc, &signature.params.entries, list);

@@ -1,7 +1,7 @@
 //! What names mean where a type is written inside a function.
 ghost use Rattle.std.specs.Prelude.{◌≡◌, IfOk};
-ghost use Rattle.go_names_core.specs.Scope.{look_of};
-ghost use Rattle.go_inline_core.specs.Functions.{is_local, looked_up, scoped_outside};
+ghost use Rattle.go_names_core.specs.Scope.{open_look};
+ghost use Rattle.go_inline_core.specs.Functions.{is_local, looked_up_ident, scoped_outside};
 
 use go_entry_core::written_core::TypeNames;
 use go_names_core::{Meant, OpenNames, Outside};
@@ -41,7 +41,7 @@ pub(crate) struct ScopedNames<'a, N> {
 
 // The identifier of a type's name that is looked up.
 fn looked_up(name: &TypeName) -> &Ident
-    ensures { result.now ≡ looked_up name.now }
+    ensures { result.now ≡ looked_up_ident name.now }
 {
     match name {
         TypeName::Plain(ident) => ident,
@@ -62,17 +62,17 @@ fn is_local(found: Option<Scoped>) -> bool
 
 // Whether an identifier names what is declared inside the function.
 fn is_hidden(names: &OpenNames<Scoped>, ident: &Ident) -> Result<bool, AllocError>
-    ensures { IfOk result (λ b. b ≡ is_local (look_of scoped_outside names.now ident.now.name ident.now.span.start)) }
+    ensures { IfOk result (λ b. b ≡ is_local (open_look scoped_outside names.now ident.now.name ident.now.span.start)) }
 {
     let found = names.find(ident.name.as_str())?;
     Ok(is_local(found))
 }
 
 impl<'a, N: TypeNames> TypeNames for ScopedNames<'a, N> {
-    ghost use Rattle.go_names_core.specs.Scope.{look_of};
+    ghost use Rattle.go_names_core.specs.Scope.{open_look};
     ghost use Rattle.go_inline_core.specs.Functions.{meaning_in, scoped_outside};
 
-    ghost meaning = { λ s. meaning_in (look_of scoped_outside s.names.now) (N.meaning s.top.now) };
+    ghost meaning = { λ s. meaning_in (open_look scoped_outside s.names.now) (N.meaning s.top.now) };
 
     fn named(&self, alloc: Global, name: &TypeName) -> Result<TypeTerm, AllocError> {
         if is_hidden(self.names, looked_up(name))? {

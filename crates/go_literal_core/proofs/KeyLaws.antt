@@ -13,8 +13,8 @@ use Rattle.go_literal_core.specs.Fields.{named_field}
 use Rattle.go_literal_core.specs.Literals.{is_struct}
 use Rattle.go_literal_core.specs.Keys.{refused_key, field_key, missing_rule, found_key, key_answer, KeyContext}
 use Rattle.go_literal_core.specs.Repeats.{has_name}
-use Rattle.go_literal_core.specs.Rules.{is_field}
-use Rattle.go_literal_core.specs.Laws.{SaysAlike, OwnNameDecidesKey, KeysAreLocal}
+use Rattle.go_literal_core.specs.Rules.{is_field_selection}
+use Rattle.go_literal_core.specs.Laws.{LiteralSaysAlike, OwnNameDecidesKey, KeysAreLocal}
 use Rattle.go_literal_core.proofs.RepeatLaws.{repeats_is, others_stay}
 
 abbrev context_of : {T : Type 0} → Option T → Bool → List (List ℕ) → KeyContext T
@@ -31,32 +31,32 @@ abbrev answer_by : {T D P : Type 0} → Bool → Bool → Bool → Bool → Name
 answer_by struct is_mixed blank is_repeated found selects =
     if struct then (if is_mixed then refused_key F5 else (if blank then refused_key F1 else found_by is_repeated found selects)) else refused_key F8
 
-missing_is : {T S D P : Type 0} (selection : Selection T S D P) → missing_rule selection ≡ (if is_field selection then F3 else F1)
+missing_is : {T S D P : Type 0} (selection : Selection T S D P) → missing_rule selection ≡ (if is_field_selection selection then F3 else F1)
 missing_is (selections.Missing rule) = refl
 missing_is (selections.«Field» d path t by_pointer) = refl
 missing_is (selections.Method d path s needs_pointer by_pointer) = refl
 
 found_is : {T S D P : Type 0} (look : LiteralLook T S D P) (t : T) (is_repeated : Bool) (name : List ℕ) (found : NamedField T D)
-    → found_key look t is_repeated name found ≡ found_by is_repeated found (is_field (look.names.select t name))
+    → found_key look t is_repeated name found ≡ found_by is_repeated found (is_field_selection (look.names.select t name))
 found_is look t is_repeated name nameds.Hidden = refl
 found_is look t is_repeated name nameds.Missing = ap refused_key (missing_is (look.names.select t name))
 found_is look t is_repeated name (nameds.Visible field) = refl
 
 answer_is : {T S D P : Type 0} (look : LiteralLook T S D P) (t : T) (is_mixed is_repeated : Bool) (name : List ℕ)
     → key_answer look (Some t) is_mixed is_repeated name
-    ≡ answer_by (is_struct (look.types.form t)) is_mixed (is_blank name) is_repeated (named_field (look.literals.fields t) name) (is_field (look.names.select t name))
+    ≡ answer_by (is_struct (look.types.form t)) is_mixed (is_blank name) is_repeated (named_field (look.literals.fields t) name) (is_field_selection (look.names.select t name))
 answer_is look t is_mixed is_repeated name =
     ap (λ answer. if is_struct (look.types.form t) then (if is_mixed then refused_key F5 else (if is_blank name then refused_key F1 else answer)) else refused_key F8)
     (found_is look t is_repeated name (named_field (look.literals.fields t) name))
 
 answers_alike : {T S D P : Type 0} (look other : LiteralLook T S D P) (t : Option T) (is_mixed is_repeated is_repeated' : Bool) (name name' : List ℕ)
-    → is_blank name ≡ is_blank name' → is_repeated ≡ is_repeated' → SaysAlike look other t name name'
+    → is_blank name ≡ is_blank name' → is_repeated ≡ is_repeated' → LiteralSaysAlike look other t name name'
     → key_answer look t is_mixed is_repeated name ≡ key_answer other t is_mixed is_repeated' name'
 answers_alike look other None is_mixed is_repeated is_repeated' name name' blank same says = refl
 answers_alike look other (Some t) is_mixed is_repeated is_repeated' name name' blank same says =
     let found = named_field (look.literals.fields t) name in
     let found' = named_field (other.literals.fields t) name' in
-    let selects = is_field (look.names.select t name) in
+    let selects = is_field_selection (look.names.select t name) in
     answer_is look t is_mixed is_repeated name
     ∙ (ap (λ form. answer_by (is_struct form) is_mixed (is_blank name) is_repeated found selects) says.0
     ∙ (ap (λ b. answer_by (is_struct (other.types.form t)) is_mixed b is_repeated found selects) blank

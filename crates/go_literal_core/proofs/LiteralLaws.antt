@@ -14,7 +14,7 @@ use Rattle.go_denote_core.specs.Rules.{breaks, first_of}
 use Rattle.go_literal_core.specs.declared.things.Keys.{Keys}
 use Rattle.go_literal_core.specs.declared.things.Keys.TheVariants as keys
 use Rattle.go_literal_core.specs.Look.{FieldOf, LiteralLook}
-use Rattle.go_literal_core.specs.Literals.{keys_among, is_struct, is_visible, unkeyed_rule, struct_rule, literal_rule}
+use Rattle.go_literal_core.specs.Literals.{keys_among, is_struct, is_visible_field, unkeyed_rule, struct_rule, literal_rule}
 use Rattle.go_literal_core.specs.Rules.{has_no_key, has_some_keys}
 use Rattle.go_literal_core.specs.Laws.{KeysOfElements, FirstRuleOfLiteral, HasFields, RulesOfLiterals}
 
@@ -123,7 +123,7 @@ any_not p (x ∷ xs) = by (p x) (any_not p xs)
 
 -- whether there are as many elements as fields
 unkeyed_table : {T D : Type 0} (count : ℕ) (fields : List (FieldOf T D))
-    → unkeyed_rule count fields ≡ first_of (None ∷ (None ∷ (breaks F6 (not (count == 0) && not (count == length fields)) ∷ (breaks F7 (list_any (λ f. not (is_visible f)) (take count fields)) ∷ []))))
+    → unkeyed_rule count fields ≡ first_of (None ∷ (None ∷ (breaks F6 (not (count == 0) && not (count == length fields)) ∷ (breaks F7 (list_any (λ f. not (is_visible_field f)) (take count fields)) ∷ []))))
 unkeyed_table {T} {D} count fields = by (count == 0) (count == length fields) (eqb_tells count 0) (eqb_tells count (length fields))
   where
     shown : (b : Bool) → (if b then None else Some F7) ≡ first_of (breaks F7 (not b) ∷ [])
@@ -131,19 +131,19 @@ unkeyed_table {T} {D} count fields = by (count == 0) (count == length fields) (e
     shown false = refl
 
     by : (z e : Bool) → ((z ≡ true) × (count ≡ 0)) ⊎ ((z ≡ false) × (count ≢ 0)) → ((e ≡ true) × (count ≡ length fields)) ⊎ ((e ≡ false) × (count ≢ length fields))
-        → (if z then None else (if e then (if list_all is_visible fields then None else Some F7) else Some F6))
-        ≡ first_of (breaks F6 (not z && not e) ∷ (breaks F7 (list_any (λ f. not (is_visible f)) (take count fields)) ∷ []))
-    by true e (inl h) k = sym (ap (λ n. first_of (breaks F7 (list_any (λ f. not (is_visible f)) (take n fields)) ∷ [])) h.1)
+        → (if z then None else (if e then (if list_all is_visible_field fields then None else Some F7) else Some F6))
+        ≡ first_of (breaks F6 (not z && not e) ∷ (breaks F7 (list_any (λ f. not (is_visible_field f)) (take count fields)) ∷ []))
+    by true e (inl h) k = sym (ap (λ n. first_of (breaks F7 (list_any (λ f. not (is_visible_field f)) (take n fields)) ∷ [])) h.1)
     by true e (inr h) k = absurd (true≢false h.0)
     by false true h (inl k) =
-        shown (list_all is_visible fields)
-        ∙ (ap (λ b. first_of (breaks F7 b ∷ [])) (sym (any_not is_visible fields)) ∙ ap (λ l. first_of (breaks F7 (list_any (λ f. not (is_visible f)) l) ∷ [])) (sym (take_all fields count k.1)))
+        shown (list_all is_visible_field fields)
+        ∙ (ap (λ b. first_of (breaks F7 b ∷ [])) (sym (any_not is_visible_field fields)) ∙ ap (λ l. first_of (breaks F7 (list_any (λ f. not (is_visible_field f)) l) ∷ [])) (sym (take_all fields count k.1)))
     by false true h (inr k) = absurd (true≢false k.0)
     by false false h k = refl
 
 struct_table : {T D : Type 0} (ks : Keys) (count : ℕ) (fields : List (FieldOf T D))
     → struct_rule ks count fields
-    ≡ first_of (None ∷ (breaks F5 (has_some_keys ks) ∷ (breaks F6 (has_no_key ks && (not (count == 0) && not (count == length fields))) ∷ (breaks F7 (has_no_key ks && list_any (λ f. not (is_visible f)) (take count fields)) ∷ []))))
+    ≡ first_of (None ∷ (breaks F5 (has_some_keys ks) ∷ (breaks F6 (has_no_key ks && (not (count == 0) && not (count == length fields))) ∷ (breaks F7 (has_no_key ks && list_any (λ f. not (is_visible_field f)) (take count fields)) ∷ []))))
 struct_table keys.None count fields = unkeyed_table count fields
 struct_table keys.All count fields = refl
 struct_table keys.Some count fields = refl
@@ -154,41 +154,41 @@ first_of_literal look (Some t) ks count = by (is_struct (look.types.form t)) (st
   where
     by : (b : Bool)
         → struct_rule ks count (look.literals.fields t)
-        ≡ first_of (None ∷ (breaks F5 (has_some_keys ks) ∷ (breaks F6 (has_no_key ks && (not (count == 0) && not (count == length (look.literals.fields t)))) ∷ (breaks F7 (has_no_key ks && list_any (λ f. not (is_visible f)) (take count (look.literals.fields t))) ∷ []))))
+        ≡ first_of (None ∷ (breaks F5 (has_some_keys ks) ∷ (breaks F6 (has_no_key ks && (not (count == 0) && not (count == length (look.literals.fields t)))) ∷ (breaks F7 (has_no_key ks && list_any (λ f. not (is_visible_field f)) (take count (look.literals.fields t))) ∷ []))))
         → (if b then struct_rule ks count (look.literals.fields t) else Some F8)
-        ≡ first_of (breaks F8 (not b) ∷ (breaks F5 (has_some_keys ks) ∷ (breaks F6 (has_no_key ks && (not (count == 0) && not (count == length (look.literals.fields t)))) ∷ (breaks F7 (has_no_key ks && list_any (λ f. not (is_visible f)) (take count (look.literals.fields t))) ∷ []))))
+        ≡ first_of (breaks F8 (not b) ∷ (breaks F5 (has_some_keys ks) ∷ (breaks F6 (has_no_key ks && (not (count == 0) && not (count == length (look.literals.fields t)))) ∷ (breaks F7 (has_no_key ks && list_any (λ f. not (is_visible_field f)) (take count (look.literals.fields t))) ∷ []))))
     by true h = h
     by false h = refl
 
 -- the rules, each both ways
 
-all_visible_at : {T D : Type 0} (fields : List (FieldOf T D)) → list_all is_visible fields ≡ true → (at : ℕ) (f : FieldOf T D) → slice_get fields at ≡ Some f → is_visible f ≡ true
+all_visible_at : {T D : Type 0} (fields : List (FieldOf T D)) → list_all is_visible_field fields ≡ true → (at : ℕ) (f : FieldOf T D) → slice_get fields at ≡ Some f → is_visible_field f ≡ true
 all_visible_at [] h at f there = absurd (none-some f there)
-all_visible_at (x ∷ xs) h at f there = by (is_visible x) refl (λ h n there. all_visible_at xs h n f there) h at there
+all_visible_at (x ∷ xs) h at f there = by (is_visible_field x) refl (λ h n there. all_visible_at xs h n f there) h at there
   where
-    by : (b : Bool) → is_visible x ≡ b → (list_all is_visible xs ≡ true → (n : ℕ) → slice_get xs n ≡ Some f → is_visible f ≡ true)
-        → (b && list_all is_visible xs) ≡ true → (n : ℕ) → slice_get (x ∷ xs) n ≡ Some f → is_visible f ≡ true
+    by : (b : Bool) → is_visible_field x ≡ b → (list_all is_visible_field xs ≡ true → (n : ℕ) → slice_get xs n ≡ Some f → is_visible_field f ≡ true)
+        → (b && list_all is_visible_field xs) ≡ true → (n : ℕ) → slice_get (x ∷ xs) n ≡ Some f → is_visible_field f ≡ true
     by false e later h n there = absurd (true≢false (sym h))
-    by true e later h zero there = ap is_visible (sym (same_Some x f there)) ∙ e
+    by true e later h zero there = ap is_visible_field (sym (same_Some x f there)) ∙ e
     by true e later h (suc n) there = later h n there
 
-visible_at_all : {T D : Type 0} (fields : List (FieldOf T D)) → ((at : ℕ) (f : FieldOf T D) → slice_get fields at ≡ Some f → is_visible f ≡ true) → list_all is_visible fields ≡ true
+visible_at_all : {T D : Type 0} (fields : List (FieldOf T D)) → ((at : ℕ) (f : FieldOf T D) → slice_get fields at ≡ Some f → is_visible_field f ≡ true) → list_all is_visible_field fields ≡ true
 visible_at_all [] h = refl
-visible_at_all (x ∷ xs) h = ap (λ b. b && list_all is_visible xs) (h 0 x refl) ∙ visible_at_all xs (λ at f there. h (suc at) f there)
+visible_at_all (x ∷ xs) h = ap (λ b. b && list_all is_visible_field xs) (h 0 x refl) ∙ visible_at_all xs (λ at f there. h (suc at) f there)
 
-hidden_at : {T D : Type 0} (fields : List (FieldOf T D)) → list_all is_visible fields ≡ false → (at : ℕ) × (f : FieldOf T D) × (slice_get fields at ≡ Some f) × (is_visible f ≡ false)
+hidden_at : {T D : Type 0} (fields : List (FieldOf T D)) → list_all is_visible_field fields ≡ false → (at : ℕ) × (f : FieldOf T D) × (slice_get fields at ≡ Some f) × (is_visible_field f ≡ false)
 hidden_at [] h = absurd (true≢false h)
-hidden_at {T} {D} (x ∷ xs) h = by (is_visible x) refl (hidden_at xs) h
+hidden_at {T} {D} (x ∷ xs) h = by (is_visible_field x) refl (hidden_at xs) h
   where
-    by : (b : Bool) → is_visible x ≡ b → (list_all is_visible xs ≡ false → (at : ℕ) × (f : FieldOf T D) × (slice_get xs at ≡ Some f) × (is_visible f ≡ false))
-        → (b && list_all is_visible xs) ≡ false → (at : ℕ) × (f : FieldOf T D) × (slice_get (x ∷ xs) at ≡ Some f) × (is_visible f ≡ false)
+    by : (b : Bool) → is_visible_field x ≡ b → (list_all is_visible_field xs ≡ false → (at : ℕ) × (f : FieldOf T D) × (slice_get xs at ≡ Some f) × (is_visible_field f ≡ false))
+        → (b && list_all is_visible_field xs) ≡ false → (at : ℕ) × (f : FieldOf T D) × (slice_get (x ∷ xs) at ≡ Some f) × (is_visible_field f ≡ false)
     by false e later h = (zero, x, refl, e)
     by true e later h = let it = later h in (suc it.0, it.1, it.2, it.3)
 
-at_hidden : {T D : Type 0} (fields : List (FieldOf T D)) (at : ℕ) (f : FieldOf T D) → slice_get fields at ≡ Some f → is_visible f ≡ false → list_all is_visible fields ≡ false
-at_hidden fields at f there hidden = by (list_all is_visible fields) refl
+at_hidden : {T D : Type 0} (fields : List (FieldOf T D)) (at : ℕ) (f : FieldOf T D) → slice_get fields at ≡ Some f → is_visible_field f ≡ false → list_all is_visible_field fields ≡ false
+at_hidden fields at f there hidden = by (list_all is_visible_field fields) refl
   where
-    by : (b : Bool) → list_all is_visible fields ≡ b → b ≡ false
+    by : (b : Bool) → list_all is_visible_field fields ≡ b → b ≡ false
     by true h = absurd (true≢false (sym (all_visible_at fields h at f there) ∙ hidden))
     by false h = refl
 
@@ -196,13 +196,13 @@ at_hidden fields at f there hidden = by (list_all is_visible fields) refl
 abbrev Says : (T S D P : Type 0) → LiteralLook T S D P → Option T → Keys → ℕ → Option Rule → Type 0
 Says T S D P look t ks count None =
     (fields : List (FieldOf T D)) × HasFields T S D P look t fields
-    × ((ks ≡ keys.All) ⊎ ((ks ≡ keys.None) × ((count ≡ 0) ⊎ ((count ≡ length fields) × ((at : ℕ) (f : FieldOf T D) → slice_get fields at ≡ Some f → is_visible f ≡ true)))))
+    × ((ks ≡ keys.All) ⊎ ((ks ≡ keys.None) × ((count ≡ 0) ⊎ ((count ≡ length fields) × ((at : ℕ) (f : FieldOf T D) → slice_get fields at ≡ Some f → is_visible_field f ≡ true)))))
 Says T S D P look t ks count (Some F8) = (fields : List (FieldOf T D)) → HasFields T S D P look t fields → ⊥
 Says T S D P look t ks count (Some F5) = (fields : List (FieldOf T D)) × HasFields T S D P look t fields × (ks ≡ keys.Some)
 Says T S D P look t ks count (Some F6) = (fields : List (FieldOf T D)) × HasFields T S D P look t fields × (ks ≡ keys.None) × (count ≢ 0) × (count ≢ length fields)
 Says T S D P look t ks count (Some F7) =
     (fields : List (FieldOf T D)) × HasFields T S D P look t fields × (ks ≡ keys.None) × (count ≡ length fields)
-    × (at : ℕ) × (f : FieldOf T D) × (slice_get fields at ≡ Some f) × (is_visible f ≡ false)
+    × (at : ℕ) × (f : FieldOf T D) × (slice_get fields at ≡ Some f) × (is_visible_field f ≡ false)
 Says T S D P look t ks count (Some other) = ⊥
 
 struct_form : {T : Type 0} (form : TypeForm T) → is_struct form ≡ true → form ≡ forms.Struct
@@ -214,9 +214,9 @@ struct_form forms.Interface h = absurd (true≢false (sym h))
 
 says_unkeyed : (T S D P : Type 0) (look : LiteralLook T S D P) (t : Option T) (count : ℕ) (fields : List (FieldOf T D)) → HasFields T S D P look t fields
     → Says T S D P look t keys.None count (unkeyed_rule count fields)
-says_unkeyed T S D P look t count fields has = by (count == 0) (count == length fields) (list_all is_visible fields) refl (eqb_tells count 0) (eqb_tells count (length fields))
+says_unkeyed T S D P look t count fields has = by (count == 0) (count == length fields) (list_all is_visible_field fields) refl (eqb_tells count 0) (eqb_tells count (length fields))
   where
-    by : (z e v : Bool) → list_all is_visible fields ≡ v → ((z ≡ true) × (count ≡ 0)) ⊎ ((z ≡ false) × (count ≢ 0)) → ((e ≡ true) × (count ≡ length fields)) ⊎ ((e ≡ false) × (count ≢ length fields))
+    by : (z e v : Bool) → list_all is_visible_field fields ≡ v → ((z ≡ true) × (count ≡ 0)) ⊎ ((z ≡ false) × (count ≢ 0)) → ((e ≡ true) × (count ≡ length fields)) ⊎ ((e ≡ false) × (count ≢ length fields))
         → Says T S D P look t keys.None count (if z then None else (if e then (if v then None else Some F7) else Some F6))
     by true e v shown (inl h) k = (fields, has, inr (refl, inl h.1))
     by true e v shown (inr h) k = absurd (true≢false h.0)
@@ -276,15 +276,15 @@ count_differs a b e = by (eqb_tells a b)
 abbrev counted : Bool → Bool → Bool → Option Rule
 counted z e v = if z then None else (if e then (if v then None else Some F7) else Some F6)
 
-unkeyed_by : {T D : Type 0} (count : ℕ) (fields : List (FieldOf T D)) (z e v : Bool) → (count == 0) ≡ z → (count == length fields) ≡ e → list_all is_visible fields ≡ v
+unkeyed_by : {T D : Type 0} (count : ℕ) (fields : List (FieldOf T D)) (z e v : Bool) → (count == 0) ≡ z → (count == length fields) ≡ e → list_all is_visible_field fields ≡ v
     → unkeyed_rule count fields ≡ counted z e v
 unkeyed_by count fields z e v hz he hv =
-    ap (λ b. counted b (count == length fields) (list_all is_visible fields)) hz ∙ (ap (λ b. counted z b (list_all is_visible fields)) he ∙ ap (counted z e) hv)
+    ap (λ b. counted b (count == length fields) (list_all is_visible_field fields)) hz ∙ (ap (λ b. counted z b (list_all is_visible_field fields)) he ∙ ap (counted z e) hv)
 
 none_empty : {T D : Type 0} (count : ℕ) (fields : List (FieldOf T D)) → count ≡ 0 → unkeyed_rule count fields ≡ None
-none_empty count fields e = ap (λ b. counted b (count == length fields) (list_all is_visible fields)) (count_is count 0 e)
+none_empty count fields e = ap (λ b. counted b (count == length fields) (list_all is_visible_field fields)) (count_is count 0 e)
 
-none_counted : {T D : Type 0} (count : ℕ) (fields : List (FieldOf T D)) → count ≡ length fields → list_all is_visible fields ≡ true → unkeyed_rule count fields ≡ None
+none_counted : {T D : Type 0} (count : ℕ) (fields : List (FieldOf T D)) → count ≡ length fields → list_all is_visible_field fields ≡ true → unkeyed_rule count fields ≡ None
 none_counted count fields e v = unkeyed_by count fields (count == 0) true true refl (count_is count (length fields) e) v ∙ by (count == 0)
   where
     by : (z : Bool) → counted z true true ≡ None
@@ -298,11 +298,11 @@ has_some (y ∷ ys) at x count there e = λ z. absurd (omega arith)
 of_fine : (T S D P : Type 0) (look : LiteralLook T S D P) (t : Option T) (ks : Keys) (count : ℕ) → Says T S D P look t ks count None → literal_rule look t ks count ≡ None
 of_fine T S D P look t ks count h = of_struct T S D P look t ks count h.0 h.1 ∙ by h.2
   where
-    by : (ks ≡ keys.All) ⊎ ((ks ≡ keys.None) × ((count ≡ 0) ⊎ ((count ≡ length h.0) × ((at : ℕ) (f : FieldOf T D) → slice_get h.0 at ≡ Some f → is_visible f ≡ true)))) → struct_rule ks count h.0 ≡ None
+    by : (ks ≡ keys.All) ⊎ ((ks ≡ keys.None) × ((count ≡ 0) ⊎ ((count ≡ length h.0) × ((at : ℕ) (f : FieldOf T D) → slice_get h.0 at ≡ Some f → is_visible_field f ≡ true)))) → struct_rule ks count h.0 ≡ None
     by (inl k) = ap (λ l. struct_rule l count h.0) k
     by (inr k) = ap (λ l. struct_rule l count h.0) k.0 ∙ at_last k.1
       where
-        at_last : (count ≡ 0) ⊎ ((count ≡ length h.0) × ((at : ℕ) (f : FieldOf T D) → slice_get h.0 at ≡ Some f → is_visible f ≡ true)) → unkeyed_rule count h.0 ≡ None
+        at_last : (count ≡ 0) ⊎ ((count ≡ length h.0) × ((at : ℕ) (f : FieldOf T D) → slice_get h.0 at ≡ Some f → is_visible_field f ≡ true)) → unkeyed_rule count h.0 ≡ None
         at_last (inl e) = none_empty count h.0 e
         at_last (inr e) = none_counted count h.0 e.0 (visible_at_all h.0 e.1)
 
@@ -316,7 +316,7 @@ of_miscounted : (T S D P : Type 0) (look : LiteralLook T S D P) (t : Option T) (
 of_miscounted T S D P look t ks count h =
     of_struct T S D P look t ks count h.0 h.1
     ∙ (ap (λ l. struct_rule l count h.0) h.2
-    ∙ unkeyed_by count h.0 false false (list_all is_visible h.0) (count_differs count 0 h.3) (count_differs count (length h.0) h.4) refl)
+    ∙ unkeyed_by count h.0 false false (list_all is_visible_field h.0) (count_differs count 0 h.3) (count_differs count (length h.0) h.4) refl)
 
 of_mixed : (T S D P : Type 0) (look : LiteralLook T S D P) (t : Option T) (ks : Keys) (count : ℕ) → Says T S D P look t ks count (Some F5) → literal_rule look t ks count ≡ Some F5
 of_mixed T S D P look t ks count h = of_struct T S D P look t ks count h.0 h.1 ∙ ap (λ l. struct_rule l count h.0) h.2

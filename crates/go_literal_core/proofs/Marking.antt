@@ -13,7 +13,7 @@ use Rattle.go_literal_core.specs.Look.{FieldOf}
 use Rattle.go_literal_core.specs.Fields.{named_field, shown_field}
 use Rattle.go_literal_core.specs.Keys.{refused_key, found_key}
 use Rattle.go_literal_core.specs.Literals.{is_struct}
-use Rattle.go_literal_core.specs.Marks.{number_from, field_number, field_if, numbered_field}
+use Rattle.go_literal_core.specs.Marks.{name_number_from, field_number, field_if, numbered_field}
 use Rattle.go_literal_core.specs.Laws.{MarksTellKeys}
 use Rattle.go_literal_core.specs.mirrors.Numbers.{number_of, first_known}
 use Rattle.go_literal_core.proofs.Names.{bytes_same, bytes_turned, names_more}
@@ -63,16 +63,16 @@ name_added old es k at absent is n =
 -- the loop over names
 
 pub number_turn : (xs : List (Bor (List ℕ))) (i : ℕ) (d : Bor (List ℕ)) (old new : List (Bor (List ℕ) × ℕ)) → i < length xs
-    → ((n : List ℕ) → first_known (number_of old n) (number_from i (map (λ m. m.now) (drop i xs)) n) ≡ number_from 0 (map (λ m. m.now) xs) n)
+    → ((n : List ℕ) → first_known (number_of old n) (name_number_from i (map (λ m. m.now) (drop i xs)) n) ≡ name_number_from 0 (map (λ m. m.now) xs) n)
     → ((n : List ℕ) → number_of new n ≡ first_known (number_of old n) (if bytes_eq (get_or xs i d).now n then Some i else None))
-    → (n : List ℕ) → first_known (number_of new n) (number_from (i + 1) (map (λ m. m.now) (drop (i + 1) xs)) n) ≡ number_from 0 (map (λ m. m.now) xs) n
+    → (n : List ℕ) → first_known (number_of new n) (name_number_from (i + 1) (map (λ m. m.now) (drop (i + 1) xs)) n) ≡ name_number_from 0 (map (λ m. m.now) xs) n
 number_turn xs i d old new lt before adds n =
     ap (λ o. first_known o rest) (adds n)
     ∙ (by (number_of old n) (bytes_eq (get_or xs i d).now n)
-    ∙ (ap (λ l. first_known (number_of old n) (number_from i (map (λ m. m.now) l) n)) (sym (drop_more xs i d lt)) ∙ before n))
+    ∙ (ap (λ l. first_known (number_of old n) (name_number_from i (map (λ m. m.now) l) n)) (sym (drop_more xs i d lt)) ∙ before n))
   where
     rest : Option ℕ
-    rest = number_from (i + 1) (map (λ m. m.now) (drop (i + 1) xs)) n
+    rest = name_number_from (i + 1) (map (λ m. m.now) (drop (i + 1) xs)) n
 
     by : (o : Option ℕ) (b : Bool) → first_known (first_known o (if b then Some i else None)) rest ≡ first_known o (if b then Some i else rest)
     by None true = refl
@@ -80,26 +80,26 @@ number_turn xs i d old new lt before adds n =
     by (Some m) b = refl
 
 pub numbers_end : (xs : List (Bor (List ℕ))) (i : ℕ) (es : List (Bor (List ℕ) × ℕ)) → length xs ≤ i
-    → ((n : List ℕ) → first_known (number_of es n) (number_from i (map (λ m. m.now) (drop i xs)) n) ≡ number_from 0 (map (λ m. m.now) xs) n)
-    → (n : List ℕ) → number_of es n ≡ number_from 0 (map (λ m. m.now) xs) n
+    → ((n : List ℕ) → first_known (number_of es n) (name_number_from i (map (λ m. m.now) (drop i xs)) n) ≡ name_number_from 0 (map (λ m. m.now) xs) n)
+    → (n : List ℕ) → number_of es n ≡ name_number_from 0 (map (λ m. m.now) xs) n
 numbers_end xs i es past before n =
     known_alone (number_of es n)
-    ∙ (ap (λ l. first_known (number_of es n) (number_from i (map (λ m. m.now) l) n)) (sym (drop_all i xs past)) ∙ before n)
+    ∙ (ap (λ l. first_known (number_of es n) (name_number_from i (map (λ m. m.now) l) n)) (sym (drop_all i xs past)) ∙ before n)
 
 -- the search along names
 
 module _ (xs : List (Bor (List ℕ))) (i : ℕ) (d : Bor (List ℕ)) (name : List ℕ) (lt : i < length xs) where
-  next_number : number_from i (map (λ m. m.now) (drop i xs)) name ≡ (if bytes_eq (get_or xs i d).now name then Some i else number_from (i + 1) (map (λ m. m.now) (drop (i + 1) xs)) name)
-  next_number = ap (λ l. number_from i (map (λ m. m.now) l) name) (drop_more xs i d lt)
+  next_number : name_number_from i (map (λ m. m.now) (drop i xs)) name ≡ (if bytes_eq (get_or xs i d).now name then Some i else name_number_from (i + 1) (map (λ m. m.now) (drop (i + 1) xs)) name)
+  next_number = ap (λ l. name_number_from i (map (λ m. m.now) l) name) (drop_more xs i d lt)
 
-  pub number_passed : bytes_eq (get_or xs i d).now name ≡ false → number_from (i + 1) (map (λ m. m.now) (drop (i + 1) xs)) name ≡ number_from i (map (λ m. m.now) (drop i xs)) name
-  number_passed off = sym (next_number ∙ ap (λ b. if b then Some i else number_from (i + 1) (map (λ m. m.now) (drop (i + 1) xs)) name) off)
+  pub number_passed : bytes_eq (get_or xs i d).now name ≡ false → name_number_from (i + 1) (map (λ m. m.now) (drop (i + 1) xs)) name ≡ name_number_from i (map (λ m. m.now) (drop i xs)) name
+  number_passed off = sym (next_number ∙ ap (λ b. if b then Some i else name_number_from (i + 1) (map (λ m. m.now) (drop (i + 1) xs)) name) off)
 
-  pub number_here : bytes_eq (get_or xs i d).now name ≡ true → Some i ≡ number_from i (map (λ m. m.now) (drop i xs)) name
-  number_here on = sym (next_number ∙ ap (λ b. if b then Some i else number_from (i + 1) (map (λ m. m.now) (drop (i + 1) xs)) name) on)
+  pub number_here : bytes_eq (get_or xs i d).now name ≡ true → Some i ≡ name_number_from i (map (λ m. m.now) (drop i xs)) name
+  number_here on = sym (next_number ∙ ap (λ b. if b then Some i else name_number_from (i + 1) (map (λ m. m.now) (drop (i + 1) xs)) name) on)
 
-pub number_none : (xs : List (Bor (List ℕ))) (i : ℕ) (name : List ℕ) → length xs ≤ i → None ≡ number_from i (map (λ m. m.now) (drop i xs)) name
-number_none xs i name past = ap (λ l. number_from i (map (λ m. m.now) l) name) (sym (drop_all i xs past))
+pub number_none : (xs : List (Bor (List ℕ))) (i : ℕ) (name : List ℕ) → length xs ≤ i → None ≡ name_number_from i (map (λ m. m.now) (drop i xs)) name
+number_none xs i name past = ap (λ l. name_number_from i (map (λ m. m.now) l) name) (sym (drop_all i xs past))
 
 -- one more of some items that are made of names
 pub made_turn : {X : Type 0} (f : List ℕ → X) (xs : List (Bor (List ℕ))) (i : ℕ) (d : Bor (List ℕ)) (ms ms' : List X) (m : X) → i < length xs
@@ -138,13 +138,13 @@ tailed [] (suc k) = refl
 tailed (x ∷ xs) zero = from_none xs
 tailed (x ∷ xs) (suc k) = tailed xs k
 
-named_from : {T D : Type 0} (all fs : List (FieldOf T D)) (k : ℕ) (name : List ℕ) → fs ≡ drop k all → numbered_field all (number_from k (map (λ f. f.name) fs) name) ≡ named_field fs name
+named_from : {T D : Type 0} (all fs : List (FieldOf T D)) (k : ℕ) (name : List ℕ) → fs ≡ drop k all → numbered_field all (name_number_from k (map (λ f. f.name) fs) name) ≡ named_field fs name
 named_from all [] k name e = refl
 named_from {T} {D} all (f ∷ fs) k name e =
     by (bytes_eq f.name name) (named_from all fs (k + 1) name (ap tail_of e ∙ (tailed all k ∙ ap (λ n. drop n all) (sym (add-one k)))))
   where
-    by : (b : Bool) → numbered_field all (number_from (k + 1) (map (λ f. f.name) fs) name) ≡ named_field fs name
-        → numbered_field all (if b then Some k else number_from (k + 1) (map (λ f. f.name) fs) name) ≡ (if b then shown_field f.known.is_visible f.known else named_field fs name)
+    by : (b : Bool) → numbered_field all (name_number_from (k + 1) (map (λ f. f.name) fs) name) ≡ named_field fs name
+        → numbered_field all (if b then Some k else name_number_from (k + 1) (map (λ f. f.name) fs) name) ≡ (if b then shown_field f.known.is_visible f.known else named_field fs name)
     by true rest = ap field_if (headed all k ∙ ap head_of (sym e))
     by false rest = rest
 

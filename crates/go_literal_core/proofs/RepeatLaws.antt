@@ -6,7 +6,7 @@ use Rattle.std.proofs.lemmas.Option.{none-some, same_Some, slice_get-map}
 use Rattle.std.proofs.lemmas.Bool.{true≢false}
 use Rattle.std.proofs.lemmas.List.{length-map}
 use Rattle.go_literal_core.specs.Repeats.{has_name, repeats, repeated, others}
-use Rattle.go_literal_core.specs.Laws.{respelled, RepeatedNames}
+use Rattle.go_literal_core.specs.Laws.{with_name_at, RepeatedNames}
 use Rattle.go_literal_core.proofs.Names.{bytes_same, bytes_itself}
 
 -- the names but one, by a successor
@@ -91,7 +91,7 @@ respelled_rest [] i name lt = absurd (omega arith)
 respelled_rest (x ∷ xs) zero name lt = refl
 respelled_rest (x ∷ xs) (suc i) name lt = ap (λ l. x ∷ l) (respelled_rest xs i name (omega arith))
 
-pub others_stay : (names : List (List ℕ)) (i : ℕ) (name : List ℕ) → i < length names → others (respelled names i name) i ≡ others names i
+pub others_stay : (names : List (List ℕ)) (i : ℕ) (name : List ℕ) → i < length names → others (with_name_at names i name) i ≡ others names i
 others_stay names i name lt =
     ap (λ j. others (take i names ++ name ∷ drop j names) i) (add-one i)
     ∙ (others_rest (take i names ++ name ∷ drop (suc i) names) i ∙ (respelled_rest names i name lt ∙ sym (others_rest names i)))

@@ -18,39 +18,39 @@ use Rattle.go_literal_core.specs.declared.things.LiteralField.{LiteralField}
 use Rattle.go_literal_core.specs.declared.things.NamedField.TheVariants as nameds
 use Rattle.go_literal_core.specs.Look.{FieldOf, LiteralLook}
 use Rattle.go_literal_core.specs.Fields.{named_field}
-use Rattle.go_literal_core.specs.Literals.{keys_among, is_visible, literal_type, literal_denotes, literal_rule, literal_mode, element_target, misfits}
+use Rattle.go_literal_core.specs.Literals.{keys_among, is_visible_field, literal_type, literal_denotes, literal_rule, literal_mode, element_target, misfits}
 use Rattle.go_literal_core.specs.Keys.{key_answer, KeyContext, key_rule}
 use Rattle.go_literal_core.specs.Repeats.{has_name, repeats, repeated, others}
 use Rattle.go_literal_core.specs.Marks.{type_fields, made_mark, marked_answer}
-use Rattle.go_literal_core.specs.Rules.{is_field, fields_in, key_rules, declaration_of_field, wanted, literal_rules}
+use Rattle.go_literal_core.specs.Rules.{is_field_selection, literal_fields, key_rules, declaration_of_field, field_wanted, literal_rules}
 
 -- keys
 
 pub record FirstRuleOfKey (T S D P : Type 0) : Type 0 where
   -- a key has the first rule that it breaks, and the declaration of the field of its name where it breaks none
   pub outcome : (look : LiteralLook T S D P) (t : Option T) (is_mixed is_repeated : Bool) (name : List ℕ)
-      → HasFirst (key_rules look t is_mixed is_repeated name) (IsDeclared (declaration_of_field (named_field (fields_in look t) name))) (key_answer look t is_mixed is_repeated name).outcome
+      → HasFirst (key_rules look t is_mixed is_repeated name) (IsDeclared (declaration_of_field (named_field (literal_fields look t) name))) (key_answer look t is_mixed is_repeated name).outcome
   -- its element is wanted to be of the type of that field, and is not tested where the key breaks a rule
   pub target : (look : LiteralLook T S D P) (t : Option T) (is_mixed is_repeated : Bool) (name : List ℕ)
-      → (key_answer look t is_mixed is_repeated name).target ≡ wanted (key_answer look t is_mixed is_repeated name).outcome (named_field (fields_in look t) name)
+      → (key_answer look t is_mixed is_repeated name).target ≡ field_wanted (key_answer look t is_mixed is_repeated name).outcome (named_field (literal_fields look t) name)
 
 -- a field of the list is spelled so
-pub record IsSpelled (T D : Type 0) (fields : List (FieldOf T D)) (name : List ℕ) (known : LiteralField T D) : Type 0 where
+pub record IsFieldSpelled (T D : Type 0) (fields : List (FieldOf T D)) (name : List ℕ) (known : LiteralField T D) : Type 0 where
   pub at : ℕ
   pub there : slice_get fields at ≡ Some (record { name = name; known = known })
 
 -- one name stands for one field
 abbrev pub AreOneEach : (T D : Type 0) → List (FieldOf T D) → List ℕ → Type 0
-AreOneEach T D fields name = (known other : LiteralField T D) → IsSpelled T D fields name known → IsSpelled T D fields name other → known ≡ other
+AreOneEach T D fields name = (known other : LiteralField T D) → IsFieldSpelled T D fields name known → IsFieldSpelled T D fields name other → known ≡ other
 
 -- which field is found, where the fields of one name are one
 pub record NamedFields (T D : Type 0) : Type 0 where
   pub visible : (fields : List (FieldOf T D)) (name : List ℕ) → AreOneEach T D fields name → (known : LiteralField T D)
-      → (named_field fields name ≡ nameds.Visible known) ↔ (IsSpelled T D fields name known × (known.is_visible ≡ true))
+      → (named_field fields name ≡ nameds.Visible known) ↔ (IsFieldSpelled T D fields name known × (known.is_visible ≡ true))
   pub hidden : (fields : List (FieldOf T D)) (name : List ℕ) → AreOneEach T D fields name
-      → (named_field fields name ≡ nameds.Hidden) ↔ ((known : LiteralField T D) × IsSpelled T D fields name known × (known.is_visible ≡ false))
+      → (named_field fields name ≡ nameds.Hidden) ↔ ((known : LiteralField T D) × IsFieldSpelled T D fields name known × (known.is_visible ≡ false))
   pub missing : (fields : List (FieldOf T D)) (name : List ℕ)
-      → (named_field fields name ≡ nameds.Missing) ↔ ((known : LiteralField T D) → IsSpelled T D fields name known → ⊥)
+      → (named_field fields name ≡ nameds.Missing) ↔ ((known : LiteralField T D) → IsFieldSpelled T D fields name known → ⊥)
 
 -- a key has by its mark what it has by its name
 abbrev pub MarksTellKeys : (T S D P : Type 0) → Type 0
@@ -63,15 +63,15 @@ MarksTellKeys T S D P =
 -- says of it.
 
 -- the literal's type says the same of two names: the field that is spelled so, and whether the selector denotes a field
-abbrev pub SaysAlike : {T S D P : Type 0} → LiteralLook T S D P → LiteralLook T S D P → Option T → List ℕ → List ℕ → Type 0
-SaysAlike look other t name name' =
+abbrev pub LiteralSaysAlike : {T S D P : Type 0} → LiteralLook T S D P → LiteralLook T S D P → Option T → List ℕ → List ℕ → Type 0
+LiteralSaysAlike look other t name name' =
     MatchOption t ⊤ (λ u. (look.types.form u ≡ other.types.form u)
     × (named_field (look.literals.fields u) name ≡ named_field (other.literals.fields u) name')
-    × (is_field (look.names.select u name) ≡ is_field (other.names.select u name')))
+    × (is_field_selection (look.names.select u name) ≡ is_field_selection (other.names.select u name')))
 
 -- the names with another one at a place
-abbrev pub respelled : List (List ℕ) → ℕ → List ℕ → List (List ℕ)
-respelled names i name = take i names ++ name ∷ drop (i + 1) names
+abbrev pub with_name_at : List (List ℕ) → ℕ → List ℕ → List (List ℕ)
+with_name_at names i name = take i names ++ name ∷ drop (i + 1) names
 
 abbrev pub context : {T : Type 0} → Option T → Bool → List (List ℕ) → ℕ → KeyContext T
 context t is_mixed names i = record { literal_type = t; is_mixed = is_mixed; others = others names i }
@@ -80,13 +80,13 @@ pub record OwnNameDecidesKey (T S D P : Type 0) : Type 0 where
   pub by_rule : (look : LiteralLook T S D P) (t : Option T) (is_mixed : Bool) (names : List (List ℕ)) (i : ℕ) (name : List ℕ) → slice_get names i ≡ Some name
       → (key_answer look t is_mixed (repeats name names) name).outcome ≡ key_rule look (context t is_mixed names i) name
   pub same_context : (t : Option T) (is_mixed : Bool) (names : List (List ℕ)) (i : ℕ) (name : List ℕ) → i < length names
-      → context t is_mixed (respelled names i name) i ≡ context t is_mixed names i
+      → context t is_mixed (with_name_at names i name) i ≡ context t is_mixed names i
   pub own_name : (look : LiteralLook T S D P) (c : KeyContext T) (name name' : List ℕ)
-      → is_blank name ≡ is_blank name' → has_name name c.others ≡ has_name name' c.others → SaysAlike look look c.literal_type name name' → key_rule look c name ≡ key_rule look c name'
+      → is_blank name ≡ is_blank name' → has_name name c.others ≡ has_name name' c.others → LiteralSaysAlike look look c.literal_type name name' → key_rule look c name ≡ key_rule look c name'
 
 abbrev pub KeysAreLocal : (T S D P : Type 0) → Type 0
 KeysAreLocal T S D P = (look other : LiteralLook T S D P) (t : Option T) (is_mixed is_repeated : Bool) (name : List ℕ)
-    → SaysAlike look other t name name → key_answer look t is_mixed is_repeated name ≡ key_answer other t is_mixed is_repeated name
+    → LiteralSaysAlike look other t name name → key_answer look t is_mixed is_repeated name ≡ key_answer other t is_mixed is_repeated name
 
 -- repeated names
 
@@ -131,11 +131,11 @@ pub record RulesOfLiterals (T S D P : Type 0) : Type 0 where
   pub hidden : (look : LiteralLook T S D P) (t : Option T) (ks : Keys) (count : ℕ)
       → (literal_rule look t ks count ≡ Some F7)
       ↔ ((fields : List (FieldOf T D)) × HasFields T S D P look t fields × (ks ≡ keys.None) × (count ≡ length fields)
-      × (at : ℕ) × (f : FieldOf T D) × (slice_get fields at ≡ Some f) × (is_visible f ≡ false))
+      × (at : ℕ) × (f : FieldOf T D) × (slice_get fields at ≡ Some f) × (is_visible_field f ≡ false))
   pub fine : (look : LiteralLook T S D P) (t : Option T) (ks : Keys) (count : ℕ)
       → (literal_rule look t ks count ≡ None)
       ↔ ((fields : List (FieldOf T D)) × HasFields T S D P look t fields
-      × ((ks ≡ keys.All) ⊎ ((ks ≡ keys.None) × ((count ≡ 0) ⊎ ((count ≡ length fields) × ((at : ℕ) (f : FieldOf T D) → slice_get fields at ≡ Some f → is_visible f ≡ true))))))
+      × ((ks ≡ keys.All) ⊎ ((ks ≡ keys.None) × ((count ≡ 0) ⊎ ((count ≡ length fields) × ((at : ℕ) (f : FieldOf T D) → slice_get fields at ≡ Some f → is_visible_field f ≡ true))))))
 
 -- what elements are wanted to be assignable to
 pub record TargetsOfElements (T S D P : Type 0) : Type 0 where
@@ -167,13 +167,13 @@ ElementsFit T S D P = (look : LiteralLook T S D P) (target : Option T) (denoted 
 abbrev pub LiteralsAlike : {T S D P : Type 0} → LiteralLook T S D P → LiteralLook T S D P → Option T → Type 0
 LiteralsAlike look other t = MatchOption t ⊤ (λ u. (look.types.form u ≡ other.types.form u) × (look.literals.fields u ≡ other.literals.fields u))
 
-abbrev pub FitsAlike : {T S D P : Type 0} → LiteralLook T S D P → LiteralLook T S D P → Option T → Denoted T S D → Type 0
-FitsAlike look other (Some t) (denotes.«Value» operand) = GivenAlike look.types other.types operand.value_type t
-FitsAlike look other _ _ = ⊤
+abbrev pub ElementFitsAlike : {T S D P : Type 0} → LiteralLook T S D P → LiteralLook T S D P → Option T → Denoted T S D → Type 0
+ElementFitsAlike look other (Some t) (denotes.«Value» operand) = GivenAlike look.types other.types operand.value_type t
+ElementFitsAlike look other _ _ = ⊤
 
 pub record LiteralsAreLocal (T S D P : Type 0) : Type 0 where
   pub rule : (look other : LiteralLook T S D P) (t : Option T) (ks : Keys) (count : ℕ) → LiteralsAlike look other t → literal_rule look t ks count ≡ literal_rule other t ks count
   pub mode : (look other : LiteralLook T S D P) (t : Option T) (ks : Keys) (count : ℕ) → LiteralsAlike look other t → literal_mode look t ks count ≡ literal_mode other t ks count
   pub target : (look other : LiteralLook T S D P) (t : Option T) (mode : Mode) (at : ℕ) (by_key : Option T) → LiteralsAlike look other t
       → element_target look t mode at by_key ≡ element_target other t mode at by_key
-  pub fit : (look other : LiteralLook T S D P) (target : Option T) (denoted : Denoted T S D) → FitsAlike look other target denoted → misfits look target denoted ≡ misfits other target denoted
+  pub fit : (look other : LiteralLook T S D P) (target : Option T) (denoted : Denoted T S D) → ElementFitsAlike look other target denoted → misfits look target denoted ≡ misfits other target denoted

@@ -46,8 +46,8 @@ is_struct (forms.Basic b) = false
 is_struct (forms.Pointer t) = false
 is_struct forms.Interface = false
 
-abbrev pub is_visible : {T D : Type 0} → FieldOf T D → Bool
-is_visible f = f.known.is_visible
+abbrev pub is_visible_field : {T D : Type 0} → FieldOf T D → Bool
+is_visible_field f = f.known.is_visible
 
 -- the rule that a literal breaks as a whole
 
@@ -55,7 +55,7 @@ abbrev pub unkeyed_rule : {T D : Type 0} → ℕ → List (FieldOf T D) → Opti
 unkeyed_rule count fields =
     if count == 0 then None
     else (if count == length fields
-    then (if list_all is_visible fields then None else Some F7)
+    then (if list_all is_visible_field fields then None else Some F7)
     else Some F6)
 
 abbrev pub struct_rule : {T D : Type 0} → Keys → ℕ → List (FieldOf T D) → Option Rule
@@ -84,12 +84,12 @@ abbrev pub field_type : {T D : Type 0} → Option (FieldOf T D) → Option T
 field_type None = None
 field_type (Some f) = f.known.field_type
 
-abbrev pub type_at : {T D : Type 0} → List (FieldOf T D) → ℕ → Option T
-type_at fields at = field_type (slice_get fields at)
+abbrev pub field_type_at : {T D : Type 0} → List (FieldOf T D) → ℕ → Option T
+field_type_at fields at = field_type (slice_get fields at)
 
 abbrev pub target_in_order : {T S D P : Type 0} → LiteralLook T S D P → Option T → ℕ → Option T
 target_in_order look None at = None
-target_in_order look (Some t) at = if is_struct (look.types.form t) then type_at (look.literals.fields t) at else None
+target_in_order look (Some t) at = if is_struct (look.types.form t) then field_type_at (look.literals.fields t) at else None
 
 -- by how the elements are tested, the number of the element, and what its key gives
 abbrev pub element_target : {T S D P : Type 0} → LiteralLook T S D P → Option T → Mode → ℕ → Option T → Option T

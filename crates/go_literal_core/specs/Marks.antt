@@ -16,13 +16,13 @@ use Rattle.go_literal_core.specs.Literals.{is_struct}
 use Rattle.go_literal_core.specs.Repeats.{repeats}
 
 -- the number of the first name that is spelled so, behind so many others
-abbrev pub number_from : ℕ → List (List ℕ) → List ℕ → Option ℕ
-number_from k [] name = None
-number_from k (n ∷ ns) name = if bytes_eq n name then Some k else number_from (k + 1) ns name
+abbrev pub name_number_from : ℕ → List (List ℕ) → List ℕ → Option ℕ
+name_number_from k [] name = None
+name_number_from k (n ∷ ns) name = if bytes_eq n name then Some k else name_number_from (k + 1) ns name
 
 -- the number of the first field that is spelled so
 abbrev pub field_number : {T D : Type 0} → List (FieldOf T D) → List ℕ → Option ℕ
-field_number fields name = number_from 0 (map (λ f. f.name) fields) name
+field_number fields name = name_number_from 0 (map (λ f. f.name) fields) name
 
 -- the fields of the type of a literal: none without a type
 abbrev pub type_fields : {T D : Type 0} → LiteralRules T D → Option T → List (FieldOf T D)

@@ -18,7 +18,7 @@ use Rattle.go_literal_core.specs.declared.things.NamedField.{NamedField}
 use Rattle.go_literal_core.specs.declared.things.NamedField.TheVariants as nameds
 use Rattle.go_literal_core.specs.Look.{FieldOf, LiteralLook}
 use Rattle.go_literal_core.specs.Fields.{named_field}
-use Rattle.go_literal_core.specs.Literals.{is_struct, is_visible}
+use Rattle.go_literal_core.specs.Literals.{is_struct, is_visible_field}
 
 -- the literal's type is refused, or no struct type
 abbrev pub has_no_struct : {T S D P : Type 0} → LiteralLook T S D P → Option T → Bool
@@ -26,31 +26,31 @@ has_no_struct look None = true
 has_no_struct look (Some t) = not (is_struct (look.types.form t))
 
 -- the fields of the literal's type
-abbrev pub fields_in : {T S D P : Type 0} → LiteralLook T S D P → Option T → List (FieldOf T D)
-fields_in look None = []
-fields_in look (Some t) = look.literals.fields t
+abbrev pub literal_fields : {T S D P : Type 0} → LiteralLook T S D P → Option T → List (FieldOf T D)
+literal_fields look None = []
+literal_fields look (Some t) = look.literals.fields t
 
 -- keys
 
-abbrev pub is_hidden : {T D : Type 0} → NamedField T D → Bool
-is_hidden nameds.Hidden = true
-is_hidden nameds.Missing = false
-is_hidden (nameds.Visible field) = false
+abbrev pub is_hidden_field : {T D : Type 0} → NamedField T D → Bool
+is_hidden_field nameds.Hidden = true
+is_hidden_field nameds.Missing = false
+is_hidden_field (nameds.Visible field) = false
 
-abbrev pub is_missing : {T D : Type 0} → NamedField T D → Bool
-is_missing nameds.Missing = true
-is_missing nameds.Hidden = false
-is_missing (nameds.Visible field) = false
+abbrev pub is_missing_field : {T D : Type 0} → NamedField T D → Bool
+is_missing_field nameds.Missing = true
+is_missing_field nameds.Hidden = false
+is_missing_field (nameds.Visible field) = false
 
-abbrev pub is_field : {T S D P : Type 0} → Selection T S D P → Bool
-is_field (selections.«Field» d path t by_pointer) = true
-is_field (selections.Missing rule) = false
-is_field (selections.Method d path s needs_pointer by_pointer) = false
+abbrev pub is_field_selection : {T S D P : Type 0} → Selection T S D P → Bool
+is_field_selection (selections.«Field» d path t by_pointer) = true
+is_field_selection (selections.Missing rule) = false
+is_field_selection (selections.Method d path s needs_pointer by_pointer) = false
 
 -- the selector of the name behind a value of the literal's type denotes a field
 abbrev pub selects_field : {T S D P : Type 0} → LiteralLook T S D P → Option T → List ℕ → Bool
 selects_field look None name = false
-selects_field look (Some t) name = is_field (look.names.select t name)
+selects_field look (Some t) name = is_field_selection (look.names.select t name)
 
 abbrev pub key_table : {T D : Type 0} → Bool → Bool → Bool → Bool → NamedField T D → Bool → List (Option Rule)
 key_table no_struct is_mixed is_repeated blank found selects =
@@ -59,18 +59,18 @@ key_table no_struct is_mixed is_repeated blank found selects =
     -- some elements have keys, and some have not
     ∷ breaks F5 is_mixed
     -- the field that is spelled so is not visible here; none is spelled `_`
-    ∷ breaks F2 (not blank && is_hidden found)
+    ∷ breaks F2 (not blank && is_hidden_field found)
     -- no field of the type is spelled so, but a promoted one
-    ∷ breaks F3 (not blank && (is_missing found && selects))
+    ∷ breaks F3 (not blank && (is_missing_field found && selects))
     -- it is `_`, or no field of the type is spelled so
-    ∷ breaks F1 (blank || is_missing found)
+    ∷ breaks F1 (blank || is_missing_field found)
     -- another key is spelled the same
     ∷ breaks F4 is_repeated
     ∷ []
 
 abbrev pub key_rules : {T S D P : Type 0} → LiteralLook T S D P → Option T → Bool → Bool → List ℕ → List (Option Rule)
 key_rules look t is_mixed is_repeated name =
-    key_table (has_no_struct look t) is_mixed is_repeated (is_blank name) (named_field (fields_in look t) name) (selects_field look t name)
+    key_table (has_no_struct look t) is_mixed is_repeated (is_blank name) (named_field (literal_fields look t) name) (selects_field look t name)
 
 -- the declaration of the field that is named
 abbrev pub declaration_of_field : {T D : Type 0} → NamedField T D → Option D
@@ -84,10 +84,10 @@ type_of_field nameds.Missing = None
 type_of_field (nameds.Visible field) = field.field_type
 
 -- the type that is wanted: that of the field where the key denotes one, and none where it breaks a rule
-abbrev pub wanted : {T D P : Type 0} → Outcome D P → NamedField T D → Option T
-wanted (outcomes.Declared d) found = type_of_field found
-wanted (outcomes.Selected d path) found = None
-wanted (outcomes.Refused rule) found = None
+abbrev pub field_wanted : {T D P : Type 0} → Outcome D P → NamedField T D → Option T
+field_wanted (outcomes.Declared d) found = type_of_field found
+field_wanted (outcomes.Selected d path) found = None
+field_wanted (outcomes.Refused rule) found = None
 
 -- literals
 
@@ -108,7 +108,7 @@ literal_rules look t ks count =
     -- some elements have keys, and some have not
     ∷ breaks F5 (has_some_keys ks)
     -- no element has a key, and there are elements, but not as many as fields
-    ∷ breaks F6 (has_no_key ks && (not (count == 0) && not (count == length (fields_in look t))))
+    ∷ breaks F6 (has_no_key ks && (not (count == 0) && not (count == length (literal_fields look t))))
     -- no element has a key, and one is for a field that is not visible here
-    ∷ breaks F7 (has_no_key ks && list_any (λ f. not (is_visible f)) (take count (fields_in look t)))
+    ∷ breaks F7 (has_no_key ks && list_any (λ f. not (is_visible_field f)) (take count (literal_fields look t)))
     ∷ []

@@ -66,7 +66,7 @@ pub(crate) fn is_struct<E: Literals>(env: &E, t: &E::Type) -> bool
 
 // Whether all fields of a struct type are visible.
 fn all_visible<E: Literals>(env: &E, t: &E::Type) -> bool
-    ensures { result ≡ list_all literals.is_visible ((E.literals env.now).fields t.now) }
+    ensures { result ≡ list_all literals.is_visible_field ((E.literals env.now).fields t.now) }
 {
     for at in 0..env.field_count(t) {
         if !env.field_at(t, at).is_visible {
@@ -165,7 +165,7 @@ pub fn literal_mode<E: Literals>(env: &E, t: &Option<E::Type>, keys: Keys, count
 
 // The type of the field of a number, where there is such a field and it has a type.
 fn type_at<E: Literals>(env: &E, t: &E::Type, at: usize) -> Option<E::Type>
-    ensures { result ≡ literals.type_at ((E.literals env.now).fields t.now) at }
+    ensures { result ≡ literals.field_type_at ((E.literals env.now).fields t.now) at }
 {
     if at < env.field_count(t) {
         env.field_at(t, at).field_type

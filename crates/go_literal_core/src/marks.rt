@@ -35,7 +35,7 @@ fn numbers_of<'n>(
     alloc: Global,
     names: &Vec<&'n str>,
 ) -> Result<IndexMap<&'n str, usize>, AllocError>
-    ensures { IfOk result (λ numbers. (n : List ℕ) → number_of numbers.entries n ≡ marks.number_from 0 (map (λ m. m.now) names.now.items) n) }
+    ensures { IfOk result (λ numbers. (n : List ℕ) → number_of numbers.entries n ≡ marks.name_number_from 0 (map (λ m. m.now) names.now.items) n) }
 {
     let mut numbers = IndexMap::new(alloc);
     for (at, name) in names.iter().enumerate() {
@@ -82,7 +82,7 @@ fn mark_each(
 
 // The number of the first of some names that is spelled so, from 0.
 fn search(names: &Vec<&str>, name: &str) -> Option<usize>
-    ensures { result ≡ marks.number_from 0 (map (λ m. m.now) names.now.items) name.now }
+    ensures { result ≡ marks.name_number_from 0 (map (λ m. m.now) names.now.items) name.now }
 {
     for (at, other) in names.iter().enumerate() {
         if *other == name {

@@ -13,8 +13,8 @@ use Rattle.go_tree_nodes.specs.Terminals.{Terminal, TerminalKind, Spelled, Numbe
 use Rattle.go_tree_nodes.proofs.InOrder.{in_order_ends, AreInTurn, turn_ends}
 use Rattle.go_local_core.specs.Steps.{Steps, Done, Check, Declare, Inner, spell_piece}
 use Rattle.go_open_core.specs.Blocks.{or_else}
-use Rattle.go_local_core.specs.Binding.{Local, Look, region_has, is_second, shown, innermost_of, bound, is_first}
-use Rattle.go_local_core.specs.Law.{Rules, Out, out, both, declared, declared_from, declare_out, check_out, law_out}
+use Rattle.go_local_core.specs.Binding.{Local, NameLook, region_has, is_second, shown, innermost_of, bound, is_first}
+use Rattle.go_local_core.specs.Law.{Rules, Out, out, both, locals_of_names, declared_from, declare_out, check_out, law_out}
 use Rattle.go_local_core.specs.Faults.{name_faults}
 use Rattle.go_local_core.specs.mirrors.Walk.{latest, look_in, is_new, with_names, news, names_of, walk_out}
 use Rattle.go_local_core.specs.Alike.{AlikeAt, Alike, LookAtNames}
@@ -96,9 +96,9 @@ module _ (X : Type 0) (all past rest outer block : List (Local X)) (seen : List 
   abbrev taken : Bool
   taken = list_any (λ e. bytes_eq x.name e.name) block
 
-  one_name : Fits X all past outer block o c from at → at ≤ x.span.start → AreSeen seen block → all ≡ past ++ (declared o c from means n x ++ rest) → Each (λ e. x.span.start < e.at) rest
+  one_name : Fits X all past outer block o c from at → at ≤ x.span.start → AreSeen seen block → all ≡ past ++ (locals_of_names o c from means n x ++ rest) → Each (λ e. x.span.start < e.at) rest
       → (is_first all o x ≡ (not (is_blank x.name) && not (list_any (bytes_eq x.name) seen))) × (is_new (pairs block) x ≡ (not (is_blank x.name) && not taken))
-      × Fits X all (past ++ declared o c from means n x) outer (if not (is_blank x.name) && not taken then block ++ d ∷ [] else block) o c from (x.span.start + 1)
+      × Fits X all (past ++ locals_of_names o c from means n x) outer (if not (is_blank x.name) && not taken then block ++ d ∷ [] else block) o c from (x.span.start + 1)
       × AreSeen (seen ++ x.name ∷ []) (if not (is_blank x.name) && not taken then block ++ d ∷ [] else block)
   one_name f l s e later = by (is_blank x.name) refl e
     where
@@ -155,7 +155,7 @@ names_agree : (X : Type 0) (all rest outer : List (Local X)) (o c from : ℕ) (m
 names_agree X all rest outer o c from means [] past block seen at n f h s e later = (refl, subst (λ l. Fits X all l outer block o c from from) (sym (append-nil past)) (fits_later X all past outer block o c from at from from f (omega arith) h))
 names_agree X all rest outer o c from means (x ∷ xs) past block seen at n f h s e later =
     let d : Local X = record { name = x.name; at = x.span.start; from = from; opens = o; closes = c; means = means n } in
-    let mine = declared o c from means n x in
+    let mine = locals_of_names o c from means n x in
     let theirs = declared_from o c from means (suc n) xs in
     let low = f.low in
     let ends = turn_ends xs (x.span.start + 1) from h.1 in
@@ -226,7 +226,7 @@ module _ (X N : Type 0) (rules : Rules X N) (at_names : LookAtNames X N rules) (
       let low = f.low in
       let starts = in_order_ends (spell_piece p) lo from h.0 in
       let ends = placed_ends ss from hi h.2 in
-      let here : Look X = look_in beyond (pairs outer ++ pairs block) in
+      let here : NameLook X = look_in beyond (pairs outer ++ pairs block) in
       let new = news (names_of (pairs block)) xs in
       let firsts = map (is_first all o) xs in
       let law_means : ℕ → X = rules.means (bound beyond all) firsts p in
@@ -258,7 +258,7 @@ module _ (X N : Type 0) (rules : Rules X N) (at_names : LookAtNames X N rules) (
     where
       names_from : (o c from : ℕ) (means : ℕ → X) (n : ℕ) (xs : List Ident) → Each (λ y. from ≤ y.from) (declared_from o c from means n xs)
       names_from o c from means n [] = tt
-      names_from o c from means n (x ∷ xs) = each-append _ (declared o c from means n x) (declared_from o c from means (suc n) xs) (by (is_blank x.name)) (names_from o c from means (suc n) xs)
+      names_from o c from means n (x ∷ xs) = each-append _ (locals_of_names o c from means n x) (declared_from o c from means (suc n) xs) (by (is_blank x.name)) (names_from o c from means (suc n) xs)
         where
           by : (b : Bool) → Each (λ (y : Local X). from ≤ y.from) (if b then [] else record { name = x.name; at = x.span.start; from = from; opens = o; closes = c; means = means n } ∷ [])
           by true = tt

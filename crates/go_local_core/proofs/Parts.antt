@@ -6,7 +6,7 @@ use Rattle.go_tree_nodes.specs.declared.names.Ident.{Ident}
 use Rattle.go_tree_nodes.proofs.InOrder.{in_order_ends, AreInTurn, turn_ends}
 use Rattle.go_local_core.specs.Steps.{Steps, Done, Check, Declare, Inner, spell_piece}
 use Rattle.go_local_core.specs.Binding.{Local, bound, is_first}
-use Rattle.go_local_core.specs.Law.{Rules, declared, declared_from, law_out}
+use Rattle.go_local_core.specs.Law.{Rules, locals_of_names, declared_from, law_out}
 use Rattle.go_local_core.specs.mirrors.Walk.{Names, look_in, news, names_of, with_names, walk_out}
 use Rattle.go_text_core.proofs.Each.{Each, each-weaker, each-append}
 use Rattle.go_local_core.proofs.Placed.{Placed, placed_ends}
@@ -57,7 +57,7 @@ pub names_parts : (X : Type 0) (o c lo at from : ℕ) (means : ℕ → X) (n : �
 names_parts X o c lo at from means n [] l m h = tt
 names_parts X o c lo at from means n (x ∷ xs) l m h =
     let ends = turn_ends xs (x.span.start + 1) from h.1 in
-    each-append (IsPart X o c lo from) (declared o c from means n x) (declared_from o c from means (suc n) xs) (by (is_blank x.name) ends) (names_parts X o c lo (x.span.start + 1) from means (suc n) xs l (omega (arith, h.0)) h.1)
+    each-append (IsPart X o c lo from) (locals_of_names o c from means n x) (declared_from o c from means (suc n) xs) (by (is_blank x.name) ends) (names_parts X o c lo (x.span.start + 1) from means (suc n) xs l (omega (arith, h.0)) h.1)
   where
     by : (b : Bool) → x.span.start + 1 ≤ from → Each (IsPart X o c lo from) (if b then [] else record { name = x.name; at = x.span.start; from = from; opens = o; closes = c; means = means n } ∷ [])
     by true ends = tt

@@ -10,7 +10,7 @@ use Rattle.go_open_core.specs.Blocks as open_blocks
 use Rattle.go_open_core.specs.declared.short.ShortName.TheVariants.{New, Old, Blank, Repeated}
 use Rattle.go_open_core.proofs.Names.{listed-append, listed-block}
 use Rattle.go_tree_nodes.specs.declared.names.Ident.{Ident}
-use Rattle.go_local_core.specs.Faults.{spellings, fault_at, none_new_fault, repeated_faults}
+use Rattle.go_local_core.specs.Faults.{spellings, ident_fault, none_new_fault, repeated_faults}
 use Rattle.go_local_core.specs.Short.{fault_of_short, faults_of_each, meant, ShortFaults, ShortWalk}
 use Rattle.go_local_core.specs.mirrors.Walk.{Names, names_of, news, is_new, with_name, with_names}
 
@@ -25,7 +25,7 @@ module _ {X : Type 0} (block : List (List ℕ × X)) where
       ap (λ fs. fs ++ repeated_faults (repeated_behind (before ++ x.name ∷ []) (spellings xs)) xs) (by (is_repeated before x.name) (is_blank x.name) (is_some (in_block block x.name)))
       ∙ ap (λ fs. fault_of_short (short_name block before x.name) x ++ fs) (repeats xs (before ++ x.name ∷ []))
     where
-      by : (r b s : Bool) → (if r then fault_at x B1 ∷ [] else []) ≡ fault_of_short (if r then Repeated else (if b then Blank else (if s then Old else New))) x
+      by : (r b s : Bool) → (if r then ident_fault x B1 ∷ [] else []) ≡ fault_of_short (if r then Repeated else (if b then Blank else (if s then Old else New))) x
       by true b s = refl
       by false true s = refl
       by false false true = refl

@@ -8,14 +8,14 @@ use Rattle.go_tree_nodes.specs.declared.names.Ident.{Ident}
 use Rattle.go_local_core.specs.declared.Fault.{Fault}
 use Rattle.go_local_core.specs.Steps.{OneNew}
 use Rattle.go_local_core.specs.mirrors.Walk.{names_of, news, with_names}
-use Rattle.go_local_core.specs.Faults.{spellings, fault_at, name_faults}
+use Rattle.go_local_core.specs.Faults.{spellings, ident_fault, name_faults}
 
 -- what one name breaks
 abbrev pub fault_of_short : ShortName → Ident → List Fault
 fault_of_short New x = []
 fault_of_short Old x = []
 fault_of_short Blank x = []
-fault_of_short Repeated x = fault_at x B1 ∷ []
+fault_of_short Repeated x = ident_fault x B1 ∷ []
 
 -- what each of them breaks, in their order
 abbrev pub faults_of_each : List ShortName → List Ident → List Fault
@@ -26,7 +26,7 @@ faults_of_each (s ∷ shorts) (x ∷ xs) = fault_of_short s x ++ faults_of_each 
 -- what they break together: B4 at the first where none is new, and what each breaks
 abbrev pub short_faults : List ShortName → List Ident → List Fault
 short_faults shorts [] = []
-short_faults shorts (x ∷ xs) = (if any_new shorts then [] else fault_at x B4 ∷ []) ++ faults_of_each shorts (x ∷ xs)
+short_faults shorts (x ∷ xs) = (if any_new shorts then [] else ident_fault x B4 ∷ []) ++ faults_of_each shorts (x ∷ xs)
 
 -- the faults of names of which one is to be new are those of what these names are in any block
 abbrev pub ShortFaults : Type 0 → Type 0

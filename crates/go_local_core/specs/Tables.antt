@@ -18,8 +18,8 @@ abbrev pub walked : {X N : Type 0} → Rules X N → (List ℕ → Option X) →
 walked rules beyond f = walk_out rules beyond [] [] (func_opens f) (func_closes f) (func_steps f)
 
 -- what comes of a function, by intervals, where these are its declarations
-abbrev pub given : {X N : Type 0} → Rules X N → (List ℕ → Option X) → FuncTree → List (Local X) → Out X N
-given rules beyond f all = law_out rules beyond all (func_opens f) (func_closes f) (func_steps f)
+abbrev pub out_by_intervals : {X N : Type 0} → Rules X N → (List ℕ → Option X) → FuncTree → List (Local X) → Out X N
+out_by_intervals rules beyond f all = law_out rules beyond all (func_opens f) (func_closes f) (func_steps f)
 
 -- a list of the declarations of a function is right where each means what its piece gives
 abbrev pub IsTable : {X N : Type 0} → Rules X N → (List ℕ → Option X) → FuncTree → List (Local X) → Type 0
@@ -29,4 +29,4 @@ IsTable rules beyond f all = IsRight rules beyond (func_opens f) (func_closes f)
 abbrev pub OneTable : (X N : Type 0) → Type 0
 OneTable X N =
     (rules : Rules X N) → LookAtNames X N rules → (beyond : List ℕ → Option X) (f : FuncTree) → IsFuncPlaced f
-    → ((all : List (Local X)) → IsTable rules beyond f all ↔ (all ≡ (walked rules beyond f).declares)) × (given rules beyond f (walked rules beyond f).declares ≡ walked rules beyond f)
+    → ((all : List (Local X)) → IsTable rules beyond f all ↔ (all ≡ (walked rules beyond f).declares)) × (out_by_intervals rules beyond f (walked rules beyond f).declares ≡ walked rules beyond f)

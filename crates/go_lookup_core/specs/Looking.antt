@@ -4,7 +4,7 @@ use Rattle.std.specs.List.{position_from}
 use Rattle.std.specs.Map.{lookup}
 use Rattle.go_fragment_core.specs.declared.names.Meaning.{Meaning}
 use Rattle.go_fragment_core.specs.declared.names.Meaning.TheVariants as meanings
-use Rattle.go_fragment_core.specs.Names.{Looks}
+use Rattle.go_fragment_core.specs.Names.{CodeLooks}
 
 abbrev pub meaning_or_other : Option Meaning → Meaning
 meaning_or_other None = meanings.Other
@@ -19,7 +19,7 @@ place_or_zero None = 0
 place_or_zero (Some n) = n
 
 -- by what stands at the offsets of occurrences and of the identifiers of locals, of a function with so many occurrences before its body
-abbrev pub looks_with : List (ℕ × Meaning) → List (ℕ × Meaning) → ℕ → Looks
+abbrev pub looks_with : List (ℕ × Meaning) → List (ℕ × Meaning) → ℕ → CodeLooks
 looks_with uses locals before = record {
   meaning = λ at. meaning_or_other (lookup (nat_eq at) uses);
   reference = λ at. place_or_zero (place_at uses at) - before;

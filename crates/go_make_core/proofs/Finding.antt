@@ -6,7 +6,7 @@ use Rattle.std.specs.List.Sorted.{IsStrictlySortedBy, IsBinarySearchResult, IsSe
 use Rattle.std.specs.Map.{keys_of}
 use Rattle.std.specs.Result.{result_ok}
 use Rattle.std.proofs.lemmas.Option.{same_Some}
-use Rattle.go_whole_core.specs.graph_core.Imports.{IsNowhere, IsNumbered}
+use Rattle.go_whole_core.specs.graph_core.Imports.{HasNoPackage, IsNumbered}
 use Rattle.go_whole_core.specs.graph_core.Sources.{SourceModel}
 use Rattle.go_whole_core.specs.graph_core.Workspaces.{PackageModel, IsWorkspace, by_bytes}
 use Rattle.go_whole_core.specs.part_core.Parts.{PartModel}
@@ -16,10 +16,10 @@ use Rattle.go_make_core.proofs.Searching.{found, not_found, one_key}
 
 -- what a search for a package answers
 pub package_found : (ps : List PackageModel) (path : List ℕ) (r : Result ℕ ℕ) (o : Option ℕ) → o ≡ result_ok r → IsStrictlySortedBy by_bytes (keys_of ps) → IsSearchInRange r (length ps) → IsBinarySearchResult (λ (p : PackageModel). by_bytes p.0 path) ps r
-    → MatchOption o (IsNowhere ps path) (λ number. (files : List SourceModel) × IsNumbered ps path number files)
-package_found ps path r o is order within search_is = subst (λ x. MatchOption x (IsNowhere ps path) (λ number. (files : List SourceModel) × IsNumbered ps path number files)) (sym is) (by r within search_is)
+    → MatchOption o (HasNoPackage ps path) (λ number. (files : List SourceModel) × IsNumbered ps path number files)
+package_found ps path r o is order within search_is = subst (λ x. MatchOption x (HasNoPackage ps path) (λ number. (files : List SourceModel) × IsNumbered ps path number files)) (sym is) (by r within search_is)
   where
-    by : (r : Result ℕ ℕ) → IsSearchInRange r (length ps) → IsBinarySearchResult (λ (p : PackageModel). by_bytes p.0 path) ps r → MatchOption (result_ok r) (IsNowhere ps path) (λ number. (files : List SourceModel) × IsNumbered ps path number files)
+    by : (r : Result ℕ ℕ) → IsSearchInRange r (length ps) → IsBinarySearchResult (λ (p : PackageModel). by_bytes p.0 path) ps r → MatchOption (result_ok r) (HasNoPackage ps path) (λ number. (files : List SourceModel) × IsNumbered ps path number files)
     by (Ok i) low at = (let f = found (λ (p : PackageModel). p.0) ps path i low at in (f.0.1, f.1 ∙ ap (λ (k : List ℕ). Some (k, f.0.1)) f.2))
     by (Err i) low at = λ j files numbered. not_found (λ (p : PackageModel). p.0) ps path i order at j (path, files) numbered refl
 

@@ -17,10 +17,10 @@ use crate::inputs::input_of;
 use crate::kept::{earlier_part, is_told_again, keep};
 use crate::told::Told;
 use go_whole_core::graph_core::{Plan, Workspace, plan_imports};
-use go_whole_core::locality_core::{check_is_local, imports_bind_theirs};
 use go_whole_core::part_core::{Part, PartInput, Parts, close_view, compile_over};
 use go_whole_core::reach_core::Reached;
 use go_whole_core::summary_core::{View, view_of};
+use go_whole_core::{check_is_local, imports_bind_theirs};
 use std::alloc::{AllocError, Global};
 
 /// The part of an input, over what is seen, to which the types of the package are added.

@@ -2,7 +2,7 @@
 ghost use Rattle.std.specs.Prelude.{◌≡◌, List, MatchOption, None, Some, slice_get};
 ghost use Rattle.std.specs.List.Sorted.{IsStrictlySortedBy};
 ghost use Rattle.std.specs.Map.{keys_of};
-ghost use Rattle.go_whole_core.specs.graph_core.Imports.{IsNowhere, IsNumbered};
+ghost use Rattle.go_whole_core.specs.graph_core.Imports.{HasNoPackage, IsNumbered};
 ghost use Rattle.go_whole_core.specs.graph_core.Sources.{SourceModel};
 ghost use Rattle.go_whole_core.specs.graph_core.Workspaces.{IsWorkspace, by_bytes};
 ghost use Rattle.go_whole_core.specs.part_core.Parts.{PartModel};
@@ -15,7 +15,7 @@ use go_whole_core::part_core::Part;
 /// the packages.
 pub fn package_of(packages: &[PackageSource], path: &str) -> Option<usize>
     requires { IsStrictlySortedBy by_bytes (keys_of packages.now) }
-    ensures { MatchOption result (IsNowhere packages.now path.now) (λ number. (files : List SourceModel) × IsNumbered packages.now path.now number files) }
+    ensures { MatchOption result (HasNoPackage packages.now path.now) (λ number. (files : List SourceModel) × IsNumbered packages.now path.now number files) }
 {
     packages
         .binary_search_by(|source| source.path().as_str().cmp(path))

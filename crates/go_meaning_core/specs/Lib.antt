@@ -13,13 +13,13 @@ pub mod expr_core
 pub mod face_core
 pub mod graph_core
 pub mod handle_core
+pub mod level_core
 pub mod lookup_core
 pub mod operand_core
 pub mod package_core
 pub mod part_core
 pub mod ready_core
 pub mod report_core
-pub mod select_core
 pub mod summary_core
 pub mod tree_core
 pub mod used_core

@@ -3,7 +3,7 @@ use Rattle.std.specs.Prelude.{ℕ, List, map}
 use Rattle.go_part_core.specs.table_core.Entries.{Entry}
 use Rattle.go_part_core.specs.body_core.Notes.{TheUse, TheLocal}
 use Rattle.go_lookup_core.specs.fragment_core.declared.names.Meaning.{Meaning}
-use Rattle.go_lookup_core.specs.fragment_core.Names.{Looks}
+use Rattle.go_lookup_core.specs.fragment_core.Names.{CodeLooks}
 use Rattle.go_meaning_core.specs.Meanings.{local_meaning}
 use Rattle.go_lookup_core.specs.Looking.{looks_with}
 use Rattle.go_meaning_core.specs.Scenes.{CodeScene, outcome_meaning}
@@ -18,5 +18,5 @@ uses_meant s file locals uses = map (λ u. (u.offset, outcome_meaning s file loc
 
 -- the answers to what code asks, in the file of a number whose occurrences have this and whose functions declare these locals, of a function with so
 -- many occurrences of the file before its body
-abbrev pub looks_of : CodeScene → ℕ → List TheUse → List TheLocal → ℕ → Looks
+abbrev pub looks_of : CodeScene → ℕ → List TheUse → List TheLocal → ℕ → CodeLooks
 looks_of s file uses locals before = looks_with (uses_meant s file (locals_meant s.types locals) uses) (locals_meant s.types locals) before

@@ -9,7 +9,7 @@ use Rattle.go_part_core.specs.operand_core.declared.types.TypeForm.{TypeForm}
 use Rattle.go_part_core.specs.operand_core.declared.types.TypeForm.TheVariants as forms
 use Rattle.go_part_core.specs.operand_core.declared.types.ValueType.{ValueType}
 use Rattle.go_part_core.specs.operand_core.declared.types.ValueType.TheVariants as value_types
-use Rattle.go_part_core.specs.table_core.Entries.{Entry, find}
+use Rattle.go_part_core.specs.table_core.Entries.{Entry, find_entry}
 use Rattle.go_part_core.specs.decide_core.Rules.{form_of, results_of}
 use Rattle.go_lookup_core.specs.instruction_core.declared.letters.Word.{Word}
 use Rattle.go_lookup_core.specs.instruction_core.declared.letters.Word.TheVariants as words
@@ -31,7 +31,7 @@ form_word forms.Interface = None
 
 -- what a type of a table is over: what lies under it says it
 abbrev pub word_in : List Entry → Term → Option Word
-word_in es t = form_word (form_of (find es) t)
+word_in es t = form_word (form_of (find_entry es) t)
 
 abbrev pub some_word : List Entry → Option Term → Option Word
 some_word es None = None
@@ -52,4 +52,4 @@ results_give es (t ∷ (u ∷ ts)) = gives.Other
 
 -- what a call gives of something with this signature
 abbrev pub sign_gives : List Entry → Sign → Gives
-sign_gives es g = results_give es (results_of (find es) g)
+sign_gives es g = results_give es (results_of (find_entry es) g)

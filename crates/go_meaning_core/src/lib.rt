@@ -54,6 +54,11 @@ pub mod operand_core {
     pub use go_part_core::operand_core::{Operand, ValueType};
 }
 
+/// What the crates above name of `go_package_core`.
+pub mod package_core {
+    pub use go_part_core::package_core::FileAnswers;
+}
+
 /// What the crates above name of `go_part_core`.
 pub mod part_core {
     pub use go_part_core::{Part, PartFile, one_part, part_has_occurrences};

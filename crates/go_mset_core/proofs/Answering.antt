@@ -14,15 +14,15 @@ use Rattle.go_term_core.specs.declared.term.Method.{Method}
 use Rattle.go_term_core.specs.declared.term.MemberPlace.{MemberPlace}
 use Rattle.go_term_core.specs.Terms.{Term, NoType, Predeclared, ErrorType, Defined, PointerTo, StructOf, InterfaceOf, Methods, Sign, SignOf, Terms, NoTerm, ATerm, term_list, sign_params, sign_results}
 use Rattle.go_term_core.specs.Identity.{IsMethod, SameSign, SameTerms, Identical}
-use Rattle.go_term_core.specs.Shapes.{shape, sign_of, methods_of}
-use Rattle.go_select_core.specs.table_core.Entries.{Look, underlying_in}
+use Rattle.go_term_core.specs.Shapes.{shape, sign_of, method_shapes}
+use Rattle.go_select_core.specs.table_core.Entries.{EntryLook, underlying_in}
 use Rattle.go_select_core.specs.embed_core.OwnersShown.{found_shown}
-use Rattle.go_select_core.specs.declared.search.Selected.{Selected}
-use Rattle.go_select_core.specs.Selectors.{IsAnswer, IsRule}
-use Rattle.go_select_core.proofs.ListLemmas.{not_same}
+use Rattle.go_select_core.specs.level_core.declared.search.Selected.{Selected}
+use Rattle.go_select_core.specs.level_core.Selectors.{IsSelectorAnswer, IsRule}
+use Rattle.go_select_core.specs.level_core.ListLemmas.{not_same}
 use Rattle.go_mset_core.specs.declared.interface.Missing.{Missing}
 use Rattle.go_mset_core.specs.MethodSets.{IsCallable, IsInMethodSet}
-use Rattle.go_mset_core.specs.Implementing.{IsSigned, HasMethod, HasMethodsOf, IsFirstMissing, IsAnswerOf, error_sign}
+use Rattle.go_mset_core.specs.Implementing.{IsSigned, HasMethod, HasMethodsOf, IsFirstMissing, IsImplementsAnswer, error_sign}
 use Rattle.go_mset_core.specs.Laws.{OneImplementation, IsSameAnswer}
 use Rattle.go_mset_core.specs.mirrors.Asking.{IsBefore, IsNextMissing, IsLeastMissing}
 use Rattle.go_mset_core.proofs.Orders.{by_bytes, never_before, before_onward, compared}
@@ -30,14 +30,14 @@ use Rattle.go_mset_core.proofs.Sets.{selectors, has_method_by}
 
 -- at most one answer
 
-one_name : (look : Look) (t u : Term) (a b : List ℕ) → IsFirstMissing look t u a → IsFirstMissing look t u b → a ≡ b
+one_name : (look : EntryLook) (t u : Term) (a b : List ℕ) → IsFirstMissing look t u a → IsFirstMissing look t u b → a ≡ b
 one_name look t u a b x y =
     elim (compared a b) [
       | inl l ↦ absurd (x.lacks (y.first a x.from x.sign x.of_interface l))
       | inr r ↦ elim r [ inl e ↦ e | inr g ↦ absurd (y.lacks (x.first b y.from y.sign y.of_interface g)) ]
     ]
 
-one_answer : {A : Type 0} (look : Look) (t u : Term) (r s : Result A Missing) → IsAnswerOf look t u r → IsAnswerOf look t u s → IsSameAnswer r s
+one_answer : {A : Type 0} (look : EntryLook) (t u : Term) (r s : Result A Missing) → IsImplementsAnswer look t u r → IsImplementsAnswer look t u s → IsSameAnswer r s
 one_answer look t u (Ok x) (Ok y) a b = tt
 one_answer look t u (Ok x) (Err m) a b = b.lacks (a m.name.now b.from b.sign b.of_interface)
 one_answer look t u (Err m) (Ok y) a b = a.lacks (b m.name.now a.from a.sign a.of_interface)
@@ -48,7 +48,7 @@ one look t i r s a b = one_answer look t (underlying_in look i) r s a b
 
 -- what one selector says
 
-pub answer_has : (look : Look) (t : Term) (name from : List ℕ) (g : Sign) (s : Selected) → IsAnswer look t name from (Ok s)
+pub answer_has : (look : EntryLook) (t : Term) (name from : List ℕ) (g : Sign) (s : Selected) → IsSelectorAnswer look t name from (Ok s)
     → (IsCallable (found_shown s.member) s.through_pointer × IsSigned (found_shown s.member) g) ↔ HasMethod look t name from g
 answer_has look t name from g s a = (
   λ h. (s.path, found_shown s.member, (selectors.selected look t name from s a).1 h.0, h.1),
@@ -58,29 +58,29 @@ answer_has look t name from g s a = (
       ((selectors.selected look t name from s a).0 own, subst (λ f. IsSigned f g) e.1 h.3),
 )
 
-pub rule_lacks : (look : Look) (t : Term) (name from : List ℕ) (g : Sign) (r : Rule) → IsRule look t name from r → HasMethod look t name from g → ⊥
+pub rule_lacks : (look : EntryLook) (t : Term) (name from : List ℕ) (g : Sign) (r : Rule) → IsRule look t name from r → HasMethod look t name from g → ⊥
 rule_lacks look t name from g r a h = selectors.none look t name from r h.0 h.1 a h.2
 
 -- methods in a row
 
-method_or_last : (ms : List Method) (m : Method) (name : List ℕ) (place : MemberPlace) (g : Sign) → IsMethod (methods_of (ms ++ m ∷ [])) name place g
-    → IsMethod (methods_of ms) name place g ⊎ ((m.name ≡ name) × (m.place ≡ place) × (sign_of m.signature ≡ g))
+method_or_last : (ms : List Method) (m : Method) (name : List ℕ) (place : MemberPlace) (g : Sign) → IsMethod (method_shapes (ms ++ m ∷ [])) name place g
+    → IsMethod (method_shapes ms) name place g ⊎ ((m.name ≡ name) × (m.place ≡ place) × (sign_of m.signature ≡ g))
 method_or_last [] m name place g (inl h) = inr h
 method_or_last [] m name place g (inr h) = absurd h
 method_or_last (x ∷ ms) m name place g (inl h) = inl (inl h)
 method_or_last (x ∷ ms) m name place g (inr h) = elim (method_or_last ms m name place g h) [ inl k ↦ inl (inr k) | inr e ↦ inr e ]
 
-method_still : (ms : List Method) (m : Method) (name : List ℕ) (place : MemberPlace) (g : Sign) → IsMethod (methods_of ms) name place g → IsMethod (methods_of (ms ++ m ∷ [])) name place g
+method_still : (ms : List Method) (m : Method) (name : List ℕ) (place : MemberPlace) (g : Sign) → IsMethod (method_shapes ms) name place g → IsMethod (method_shapes (ms ++ m ∷ [])) name place g
 method_still [] m name place g h = absurd h
 method_still (x ∷ ms) m name place g (inl h) = inl h
 method_still (x ∷ ms) m name place g (inr h) = inr (method_still ms m name place g h)
 
-method_last : (ms : List Method) (m : Method) → IsMethod (methods_of (ms ++ m ∷ [])) m.name m.place (sign_of m.signature)
+method_last : (ms : List Method) (m : Method) → IsMethod (method_shapes (ms ++ m ∷ [])) m.name m.place (sign_of m.signature)
 method_last [] m = inl (refl, refl, refl)
 method_last (x ∷ ms) m = inr (method_last ms m)
 
-module _ (look : Look) (t : Term) (path : List ℕ) where
-  pub least_begin : IsLeastMissing look t path (methods_of []) None
+module _ (look : EntryLook) (t : Term) (path : List ℕ) where
+  pub least_begin : IsLeastMissing look t path (method_shapes []) None
   least_begin = λ name place g h. absurd h
 
   has_last : (m : Method) (name : List ℕ) (g : Sign) → m.name ≡ name → sign_of m.signature ≡ g → HasMethod look t m.name path (sign_of m.signature) → HasMethod look t name path g
@@ -88,7 +88,7 @@ module _ (look : Look) (t : Term) (path : List ℕ) where
 
   -- the one more method is there, or stands behind the missing one
   kept_missing : (ms : List Method) (m : Method) (missing : Option (List ℕ)) → (IsBefore m.name missing → ⊥) ⊎ HasMethod look t m.name path (sign_of m.signature)
-      → IsLeastMissing look t path (methods_of ms) missing → IsLeastMissing look t path (methods_of (ms ++ m ∷ [])) missing
+      → IsLeastMissing look t path (method_shapes ms) missing → IsLeastMissing look t path (method_shapes (ms ++ m ∷ [])) missing
   kept_missing ms m None (inl behind) least = absurd (behind tt)
   kept_missing ms m None (inr has) least = λ name place g h.
       elim (method_or_last ms m name place g h) [ inl k ↦ least name place g k | inr e ↦ has_last m name g e.0 e.2 has ]
@@ -106,7 +106,7 @@ module _ (look : Look) (t : Term) (path : List ℕ) where
 
   -- the one more method is missing, and stands before the missing one
   new_missing : (ms : List Method) (m : Method) (missing : Option (List ℕ)) → IsBefore m.name missing → (HasMethod look t m.name path (sign_of m.signature) → ⊥)
-      → IsLeastMissing look t path (methods_of ms) missing → IsLeastMissing look t path (methods_of (ms ++ m ∷ [])) (Some m.name)
+      → IsLeastMissing look t path (method_shapes ms) missing → IsLeastMissing look t path (method_shapes (ms ++ m ∷ [])) (Some m.name)
   new_missing ms m missing before lacks least = (
     (m.place, sign_of m.signature, method_last ms m, lacks),
     λ name place g h less.
@@ -116,15 +116,15 @@ module _ (look : Look) (t : Term) (path : List ℕ) where
         ],
   )
     where
-      earlier : (missing : Option (List ℕ)) → IsBefore m.name missing → IsLeastMissing look t path (methods_of ms) missing
-          → (name : List ℕ) (place : MemberPlace) (g : Sign) → IsMethod (methods_of ms) name place g → by_bytes name m.name ≡ Less → HasMethod look t name path g
+      earlier : (missing : Option (List ℕ)) → IsBefore m.name missing → IsLeastMissing look t path (method_shapes ms) missing
+          → (name : List ℕ) (place : MemberPlace) (g : Sign) → IsMethod (method_shapes ms) name place g → by_bytes name m.name ≡ Less → HasMethod look t name path g
       earlier None before least name place g k less = least name place g k
       earlier (Some missing) before least name place g k less = least.1 name place g k (before_onward name m.name missing less before)
 
   pub least_next : (ms : List Method) (m : Method) (missing next : Option (List ℕ)) → IsNextMissing look t path missing m.name (sign_of m.signature) next
-      → IsLeastMissing look t path (methods_of ms) missing → IsLeastMissing look t path (methods_of (ms ++ m ∷ [])) next
-  least_next ms m missing next (inl x) least = subst (λ o. IsLeastMissing look t path (methods_of (ms ++ m ∷ [])) o) (sym x.1) (kept_missing ms m missing x.0 least)
-  least_next ms m missing next (inr x) least = subst (λ o. IsLeastMissing look t path (methods_of (ms ++ m ∷ [])) o) (sym x.2) (new_missing ms m missing x.0 x.1 least)
+      → IsLeastMissing look t path (method_shapes ms) missing → IsLeastMissing look t path (method_shapes (ms ++ m ∷ [])) next
+  least_next ms m missing next (inl x) least = subst (λ o. IsLeastMissing look t path (method_shapes (ms ++ m ∷ [])) o) (sym x.1) (kept_missing ms m missing x.0 least)
+  least_next ms m missing next (inr x) least = subst (λ o. IsLeastMissing look t path (method_shapes (ms ++ m ∷ [])) o) (sym x.2) (new_missing ms m missing x.0 x.1 least)
 
   pub all_there : (ms : Methods) → IsLeastMissing look t path ms None → HasMethodsOf look t (InterfaceOf path ms)
   all_there ms least = λ name from g h. subst (λ p. HasMethod look t name p g) (sym h.0) (least name h.1.0 g h.1.1)
@@ -196,12 +196,12 @@ error_exported : IsTrue (exported (chars (codes "Error")))
 unfolding uppercase general_category value_in general_category_rows chars
 error_exported = refl
 
-pub error_has : (look : Look) (t : Term) (from : List ℕ) → HasMethod look t (codes "Error") from error_sign → HasMethodsOf look t ErrorType
+pub error_has : (look : EntryLook) (t : Term) (from : List ℕ) → HasMethod look t (codes "Error") from error_sign → HasMethodsOf look t ErrorType
 error_has look t from h = λ name home g of.
     let same : SameId (codes "Error") from name home = (sym of.0, inl error_exported) in
     subst (λ k. HasMethod look t name home k) (sym of.2) (has_method_by look t (codes "Error") from name home error_sign same h)
 
-pub error_lacks : (look : Look) (t : Term) (from : List ℕ) → (HasMethod look t (codes "Error") from error_sign → ⊥) → IsFirstMissing look t ErrorType (codes "Error")
+pub error_lacks : (look : EntryLook) (t : Term) (from : List ℕ) → (HasMethod look t (codes "Error") from error_sign → ⊥) → IsFirstMissing look t ErrorType (codes "Error")
 error_lacks look t from lacks =
     record {
       from = [];

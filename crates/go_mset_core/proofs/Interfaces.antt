@@ -8,11 +8,11 @@ use Rattle.go_term_core.specs.Identity.{IsMethod, SameSign, SameTerms}
 use Rattle.go_term_core.specs.Laws.{HasNone}
 use Rattle.go_term_core.proofs.Meanings.{itself, onward}
 use Rattle.go_select_core.specs.table_core.Assign.{IsInterface}
-use Rattle.go_select_core.specs.table_core.Entries.{Look, underlying_in}
-use Rattle.go_select_core.specs.embed_core.Owners.{OwnerModel, Edge, Found, AFieldOf, AMethodOf, AnInterfaces, TheErrorMethod, Named, owner_in, path_in, term_embedded, declared_found, methods_found, term_found, members_of}
+use Rattle.go_select_core.specs.table_core.Entries.{EntryLook, underlying_in}
+use Rattle.go_select_core.specs.embed_core.Owners.{OwnerModel, EmbeddedEdge, Found, AFieldOf, AMethodOf, AnInterfaces, TheErrorMethod, Named, owner_in, path_of_term, term_embedded, declared_found, methods_found, term_found, members_of}
 use Rattle.go_select_core.specs.embed_core.OwnersShown.{IsNamedAt}
-use Rattle.go_select_core.specs.Paths.{Step, Leads, IsSelected}
-use Rattle.go_select_core.proofs.Walks.{selects_here}
+use Rattle.go_select_core.specs.level_core.Paths.{Step, FieldsLead, IsSelected}
+use Rattle.go_select_core.specs.level_core.Walks.{selects_here}
 use Rattle.go_mset_core.specs.MethodSets.{IsCallable}
 use Rattle.go_mset_core.specs.Implementing.{IsSigned, IsOfInterface, error_sign}
 use Rattle.go_mset_core.specs.Laws.{IsInterfaceType, AreNamed, HasNamed, ImplementsItself, ImplementsIsTransitive, InterfacesHaveNoMore}
@@ -161,7 +161,7 @@ stands_alone o (InterfaceOf path ms) name from g named h =
       only = λ j n k e. one_entry path ms r.0 j (name, (path, AnInterfaces path h.1.0 g)) n named r.1 k (sym e);
     }
 
-no_edges : (o : OwnerModel) (u : Term) (e : Edge) → IsInterface u → Contains (term_embedded o u) e → ⊥
+no_edges : (o : OwnerModel) (u : Term) (e : EmbeddedEdge) → IsInterface u → Contains (term_embedded o u) e → ⊥
 no_edges o NoType e is h = is
 no_edges o (Predeclared b) e is h = is
 no_edges o ErrorType e is h = omega (arith, h.1)
@@ -170,18 +170,18 @@ no_edges o (PointerTo t) e is h = is
 no_edges o (StructOf path fs) e is h = is
 no_edges o (InterfaceOf path ms) e is h = omega (arith, h.1)
 
-no_step : (look : Look) (t : Term) (i : ℕ) (p : Bool) (v : Term) → IsInterface (underlying_in look t) → Step look t i p v → ⊥
+no_step : (look : EntryLook) (t : Term) (i : ℕ) (p : Bool) (v : Term) → IsInterface (underlying_in look t) → Step look t i p v → ⊥
 unfolding Step
 no_step look t i p v is s = no_edges (owner_in look t) (underlying_in look t) s.0 is s.1
 
-no_path : (look : Look) (t : Term) (path : List ℕ) (p : Bool) (v : Term) → IsInterface (underlying_in look t) → Leads look t path p v → t ≡ v
+no_path : (look : EntryLook) (t : Term) (path : List ℕ) (p : Bool) (v : Term) → IsInterface (underlying_in look t) → FieldsLead look t path p v → t ≡ v
 no_path look t [] p v is h = h.0
 no_path look t (i ∷ path) p v is h = absurd (no_step look t i h.1 h.0 is h.3)
 
-own_members : (look : Look) (t : Term) → IsInterfaceType look t → members_of (owner_in look t) ≡ term_found (owner_in look t) (underlying_in look t)
-own_members look t is = ap (λ ms. declared_found (path_in t) ms ++ term_found (owner_in look t) (underlying_in look t)) is.1
+own_members : (look : EntryLook) (t : Term) → IsInterfaceType look t → members_of (owner_in look t) ≡ term_found (owner_in look t) (underlying_in look t)
+own_members look t is = ap (λ ms. declared_found (path_of_term t) ms ++ term_found (owner_in look t) (underlying_in look t)) is.1
 
-record IsItsMethod (look : Look) (t : Term) (name from : List ℕ) (f : Found) : Type 0 where
+record IsItsMethod (look : EntryLook) (t : Term) (name from : List ℕ) (f : Found) : Type 0 where
   pub own_name : List ℕ
   pub own_from : List ℕ
   pub sign : Sign
@@ -190,14 +190,14 @@ record IsItsMethod (look : Look) (t : Term) (name from : List ℕ) (f : Found) :
   pub has : IsSignOf f sign
 
 -- what is selected behind an interface type is one of its methods
-its_method : (look : Look) (t : Term) (name from path : List ℕ) (p : Bool) (f : Found) → IsInterfaceType look t → IsSelected look t name from path p f → IsItsMethod look t name from f
+its_method : (look : EntryLook) (t : Term) (name from path : List ℕ) (p : Bool) (f : Found) → IsInterfaceType look t → IsSelected look t name from path p f → IsItsMethod look t name from f
 its_method look t name from path p f is s =
     let at = no_path look t path p s.hit.at is.0 s.hit.leads in
     let h : IsNamedAt (owner_in look t) name from s.number f = subst (λ v. IsNamedAt (owner_in look v) name from s.number f) (sym at) s.hit.has in
     let e = interface_entry (owner_in look t) (underlying_in look t) s.number h.0 is.0 (sym (ap (λ ns. slice_get ns s.number) (own_members look t is)) ∙ h.1) in
     record { own_name = h.0.0; own_from = h.0.1.0; sign = e.0; of_interface = e.1; same = h.2; has = subst (λ g. IsSignOf g e.0) h.3 e.2 }
 
-pub interface_callable : (look : Look) (t : Term) (name from path : List ℕ) (p : Bool) (f : Found) → IsInterfaceType look t → IsSelected look t name from path p f → (passes : Bool) → IsCallable f passes
+pub interface_callable : (look : EntryLook) (t : Term) (name from path : List ℕ) (p : Bool) (f : Found) → IsInterfaceType look t → IsSelected look t name from path p f → (passes : Bool) → IsCallable f passes
 interface_callable look t name from path p f is s passes =
     let m = its_method look t name from path p f is s in
     of_callable f m.sign passes m.has
@@ -219,7 +219,7 @@ transitive look t i j is ti ij name from g h =
     let y = has_method_by look t m.own_name m.own_from name from m.sign m.same (ti m.own_name m.own_from m.sign m.of_interface) in
     (y.0, y.1, y.2, signed_on y.1 m.sign g y.3 (signed_sign x.1 m.sign g m.has x.3))
 
-no_fields : (look : Look) (t : Term) (path : List ℕ) (p : Bool) (v : Term) → IsInterface (underlying_in look t) → Leads look t path p v → path ≡ []
+no_fields : (look : EntryLook) (t : Term) (path : List ℕ) (p : Bool) (v : Term) → IsInterface (underlying_in look t) → FieldsLead look t path p v → path ≡ []
 no_fields look t [] p v is h = refl
 no_fields look t (i ∷ path) p v is h = absurd (no_step look t i h.1 h.0 is h.3)
 

@@ -1,20 +1,20 @@
 -- Method sets depend on what a type reaches alone.
 use Rattle.std.proofs.Common.{ℕ, List, Result, Ok, Err, sym, subst}
 use Rattle.go_term_core.specs.Terms.{Term, Sign}
-use Rattle.go_select_core.specs.table_core.Entries.{Look, underlying_in}
+use Rattle.go_select_core.specs.table_core.Entries.{EntryLook, underlying_in}
 use Rattle.go_select_core.specs.table_core.Laws.{AgreeFrom}
 use Rattle.go_select_core.specs.table_core.Meanings.{underlying_local}
 use Rattle.go_select_core.specs.embed_core.Owners.{Found}
-use Rattle.go_select_core.specs.Selectors.{Searched, Refused, In, FieldsIn, searched}
+use Rattle.go_select_core.specs.level_core.Selectors.{Searched, Refused, In, FieldsIn, searched}
 use Rattle.go_select_core.proofs.Local.{ReachesWhat, agree_along, agree_back, selected_there, searched_same, reach_searched}
 use Rattle.go_mset_core.specs.declared.interface.Missing.{Missing}
 use Rattle.go_mset_core.specs.declared.methods.SetMethod.{SetMethod}
 use Rattle.go_mset_core.specs.MethodSets.{IsMethodFound, IsInMethodSet}
 use Rattle.go_mset_core.specs.MethodLists.{IsMethodSet}
-use Rattle.go_mset_core.specs.Implementing.{HasMethod, IsAnswerOf}
+use Rattle.go_mset_core.specs.Implementing.{HasMethod, IsImplementsAnswer}
 use Rattle.go_mset_core.specs.Laws.{ImplementationIsLocal}
 
-module _ (look other : Look) (t : Term) (a : AgreeFrom look other t) where
+module _ (look other : EntryLook) (t : Term) (a : AgreeFrom look other t) where
   found_there : (w : Searched) (name from path : List ℕ) (m : Found) → ReachesWhat look t w → IsMethodFound look w name from path m → IsMethodFound other w name from path m
   found_there (Refused why) name from path m inside h = h
   found_there (In u by_pointer) name from path m inside h = (h.0, selected_there look other u name from path h.0 m (agree_along look other t u a inside) h.1, h.2)
@@ -27,7 +27,7 @@ module _ (look other : Look) (t : Term) (a : AgreeFrom look other t) where
   has_there : (name from : List ℕ) (g : Sign) → HasMethod look t name from g → HasMethod other t name from g
   has_there name from g h = (h.0, h.1, set_there name from h.0 h.1 h.2, h.3)
 
-listed_there : (look other : Look) (t : Term) (ms : List SetMethod) → AgreeFrom look other t → IsMethodSet look t ms → IsMethodSet other t ms
+listed_there : (look other : EntryLook) (t : Term) (ms : List SetMethod) → AgreeFrom look other t → IsMethodSet look t ms → IsMethodSet other t ms
 listed_there look other t ms a s =
     record {
       rising = s.rising;
@@ -35,7 +35,7 @@ listed_there look other t ms a s =
       whole = λ name from path f h. s.whole name from path f (set_there other look t (agree_back look other t a) name from path f h);
     }
 
-answer_there : {A : Type 0} (look other : Look) (t u : Term) (r : Result A Missing) → AgreeFrom look other t → IsAnswerOf look t u r → IsAnswerOf other t u r
+answer_there : {A : Type 0} (look other : EntryLook) (t u : Term) (r : Result A Missing) → AgreeFrom look other t → IsImplementsAnswer look t u r → IsImplementsAnswer other t u r
 answer_there look other t u (Ok x) a h = λ name from g of. has_there look other t a name from g (h name from g of)
 answer_there look other t u (Err m) a h =
     record {
@@ -52,7 +52,7 @@ local =
       sets = λ look other t ms a. (listed_there look other t ms a, listed_there other look t ms (agree_back look other t a));
       answers = λ look other t i r a b.
           let under = underlying_local.same look other i b in (
-            λ h. subst (λ u. IsAnswerOf other t u r) under (answer_there look other t (underlying_in look i) r a h),
-            λ h. answer_there other look t (underlying_in look i) r (agree_back look other t a) (subst (λ u. IsAnswerOf other t u r) (sym under) h),
+            λ h. subst (λ u. IsImplementsAnswer other t u r) under (answer_there look other t (underlying_in look i) r a h),
+            λ h. answer_there other look t (underlying_in look i) r (agree_back look other t a) (subst (λ u. IsImplementsAnswer other t u r) (sym under) h),
           );
     }

@@ -3,14 +3,14 @@ use Rattle.std.proofs.Common.{◌≡◌, ◌↔◌, ℕ, Bool, true, false, ◌|
 use Rattle.std.specs.Prelude.{map}
 use Rattle.go_text_core.specs.Text.{SameId}
 use Rattle.go_term_core.specs.Terms.{Term}
-use Rattle.go_select_core.specs.table_core.Entries.{Look}
+use Rattle.go_select_core.specs.table_core.Entries.{EntryLook}
 use Rattle.go_select_core.specs.embed_core.declared.member.Member.{Member}
 use Rattle.go_select_core.specs.embed_core.declared.member.Member.TheVariants as members
 use Rattle.go_select_core.specs.embed_core.Owners.{Found, AFieldOf, AMethodOf, AnInterfaces, TheErrorMethod, Named}
-use Rattle.go_select_core.specs.embed_core.OwnersShown.{found_shown, name_shown, package_shown}
-use Rattle.go_select_core.specs.declared.search.Selected.{Selected}
-use Rattle.go_select_core.specs.Selectors.{Searched, Refused, In as InType, FieldsIn, searched, IsFoundAs}
-use Rattle.go_select_core.proofs.ListLemmas.{In, in_contained, contained_in}
+use Rattle.go_select_core.specs.embed_core.OwnersShown.{found_shown, name_shown, member_package_shown}
+use Rattle.go_select_core.specs.level_core.declared.search.Selected.{Selected}
+use Rattle.go_select_core.specs.level_core.Selectors.{Searched, Refused, In as InType, FieldsIn, searched, IsFoundAs}
+use Rattle.go_select_core.specs.level_core.ListLemmas.{In, in_contained, contained_in}
 use Rattle.go_select_core.specs.Selections.{IsIdBefore, IsSelectedBefore, AreSelections}
 use Rattle.go_mset_core.specs.declared.methods.SetMethod.{SetMethod}
 use Rattle.go_mset_core.specs.MethodSets.{IsCallable, IsMethodFound, IsInMethodSet}
@@ -29,7 +29,7 @@ found_path (AMethodOf path place pointer g) = path
 found_path (AnInterfaces path place g) = path
 found_path TheErrorMethod = []
 
-package_found : (m : Member) → package_shown m ≡ found_path (found_shown m)
+package_found : (m : Member) → member_package_shown m ≡ found_path (found_shown m)
 package_found (members.Field path f) = refl
 package_found (members.Method path m) = refl
 package_found (members.InterfaceMethod path m) = refl
@@ -47,14 +47,14 @@ rises_shown (m ∷ ms) r = (
 
 shown_same : (m n : SetMethod) → name_shown m.member ≡ name_shown n.member → m.path ≡ n.path → found_shown m.member ≡ found_shown n.member → method_shown m ≡ method_shown n
 shown_same m n name path found =
-    let home : package_shown m.member ≡ package_shown n.member = package_found m.member ∙ ap found_path found ∙ sym (package_found n.member) in
+    let home : member_package_shown m.member ≡ member_package_shown n.member = package_found m.member ∙ ap found_path found ∙ sym (package_found n.member) in
     (cc)
 
-in_other : (look : Look) (t : Term) (ms ns : List SetMethod) → IsMethodSet look t ms → IsMethodSet look t ns → (y : Named × List ℕ) → In (map method_shown ms) y → In (map method_shown ns) y
+in_other : (look : EntryLook) (t : Term) (ms ns : List SetMethod) → IsMethodSet look t ms → IsMethodSet look t ns → (y : Named × List ℕ) → In (map method_shown ms) y → In (map method_shown ns) y
 in_other look t ms ns a b y h =
     let x = map_in method_shown ms y h in
     let m = x.0 in
-    let n = b.whole (name_shown m.member) (package_shown m.member) m.path (found_shown m.member) (a.sound m (contained_in ms m x.1)) in
+    let n = b.whole (name_shown m.member) (member_package_shown m.member) m.path (found_shown m.member) (a.sound m (contained_in ms m x.1)) in
     subst (λ z. In (map method_shown ns) z) (shown_same n.0 m n.2.0 n.3 n.4 ∙ x.2) (in_map method_shown ns n.0 (in_contained ns n.0 n.1))
 
 pub one_set : OneMethodSet
@@ -116,35 +116,35 @@ rises_kept (s ∷ ss) r =
     rises_step (callable (found_shown s.member) s.through_pointer) (method_of s) (kept ss)
     (λ y h. let x = kept_from ss y h in subst (λ z. IsMethodBefore (method_of s) z) x.3 (r.0 x.0 x.1)) (rises_kept ss r.1)
 
-found_as : (look : Look) (w : Searched) (name from path : List ℕ) (m : Found) → IsMethodFound look w name from path m → (passes : Bool) × IsFoundAs look w name from path passes m
+found_as : (look : EntryLook) (w : Searched) (name from path : List ℕ) (m : Found) → IsMethodFound look w name from path m → (passes : Bool) × IsFoundAs look w name from path passes m
 found_as look (Refused why) name from path m h = absurd h
 found_as look (InType t by_pointer) name from path m h = (by_pointer || h.0, (h.0, h.1, refl))
 found_as look (FieldsIn t) name from path m h = absurd h
 
-module _ (look : Look) (t : Term) (ss : List Selected) (all : AreSelections look t ss) where
-  sound : (m : SetMethod) → In (kept ss) m → IsInMethodSet look t (name_shown m.member) (package_shown m.member) m.path (found_shown m.member)
+module _ (look : EntryLook) (t : Term) (ss : List Selected) (all : AreSelections look t ss) where
+  sound : (m : SetMethod) → In (kept ss) m → IsInMethodSet look t (name_shown m.member) (member_package_shown m.member) m.path (found_shown m.member)
   sound m h =
       let s = kept_from ss m h in
       let a = all.sound s.0 (contained_in ss s.0 s.1) in
-      subst (λ (x : SetMethod). IsInMethodSet look t (name_shown x.member) (package_shown x.member) x.path (found_shown x.member)) s.3
-      ((selectors.selected look t (name_shown s.0.member) (package_shown s.0.member) s.0 a).1 (callable_is (found_shown s.0.member) s.0.through_pointer s.2))
+      subst (λ (x : SetMethod). IsInMethodSet look t (name_shown x.member) (member_package_shown x.member) x.path (found_shown x.member)) s.3
+      ((selectors.selected look t (name_shown s.0.member) (member_package_shown s.0.member) s.0 a).1 (callable_is (found_shown s.0.member) s.0.through_pointer s.2))
 
   whole : (name from path : List ℕ) (f : Found) → IsInMethodSet look t name from path f
-      → (m : SetMethod) × Contains (kept ss) m × SameId (name_shown m.member) (package_shown m.member) name from × (m.path ≡ path) × (found_shown m.member ≡ f)
+      → (m : SetMethod) × Contains (kept ss) m × SameId (name_shown m.member) (member_package_shown m.member) name from × (m.path ≡ path) × (found_shown m.member ≡ f)
   whole name from path f h =
       let d = found_as look (searched look t) name from path f h.1 in
       let r = all.whole name from path d.0 f (h.0, d.1) in
       let s = r.0 in
       let a = all.sound s r.1 in
-      let own = in_set_by look t name from (name_shown s.member) (package_shown s.member) path f (back s name from r.2) h in
-      let only = selectors.only look t (name_shown s.member) (package_shown s.member) s path f a own in
-      let member = subst (λ (p : List ℕ). IsInMethodSet look t (name_shown s.member) (package_shown s.member) p (found_shown s.member)) only.0
-      (subst (λ (g : Found). IsInMethodSet look t (name_shown s.member) (package_shown s.member) path g) only.1 own) in
-      let passes = is_callable (found_shown s.member) s.through_pointer ((selectors.selected look t (name_shown s.member) (package_shown s.member) s a).0 member) in
+      let own = in_set_by look t name from (name_shown s.member) (member_package_shown s.member) path f (back s name from r.2) h in
+      let only = selectors.only look t (name_shown s.member) (member_package_shown s.member) s path f a own in
+      let member = subst (λ (p : List ℕ). IsInMethodSet look t (name_shown s.member) (member_package_shown s.member) p (found_shown s.member)) only.0
+      (subst (λ (g : Found). IsInMethodSet look t (name_shown s.member) (member_package_shown s.member) path g) only.1 own) in
+      let passes = is_callable (found_shown s.member) s.through_pointer ((selectors.selected look t (name_shown s.member) (member_package_shown s.member) s a).0 member) in
       (method_of s, contained_in (kept ss) (method_of s) (in_kept ss s (in_contained ss s r.1) passes), r.2, sym only.0, sym only.1)
     where
-      back : (s : Selected) (name from : List ℕ) → SameId (name_shown s.member) (package_shown s.member) name from → SameId name from (name_shown s.member) (package_shown s.member)
-      back s name from same = id_back (name_shown s.member) (package_shown s.member) name from same
+      back : (s : Selected) (name from : List ℕ) → SameId (name_shown s.member) (member_package_shown s.member) name from → SameId name from (name_shown s.member) (member_package_shown s.member)
+      back s name from same = id_back (name_shown s.member) (member_package_shown s.member) name from same
 
   pub set_of_kept : IsMethodSet look t (kept ss)
   set_of_kept =

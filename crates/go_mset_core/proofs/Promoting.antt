@@ -2,11 +2,11 @@
 use Rattle.std.proofs.Common.{◌≡◌, ◌↔◌, ℕ, ◌<◌, Bool, true, false, ◌||◌, List, [], ◌∷◌, length, refl, sym, ap, ◌∙◌, subst, arith, ◌⊎◌, inl, inr}
 use Rattle.go_text_core.specs.Text.{is_blank}
 use Rattle.go_term_core.specs.Terms.{Term, PointerTo}
-use Rattle.go_select_core.specs.table_core.Entries.{Look}
+use Rattle.go_select_core.specs.table_core.Entries.{EntryLook}
 use Rattle.go_select_core.specs.embed_core.Owners.{Found, AFieldOf, AMethodOf, AnInterfaces, TheErrorMethod}
-use Rattle.go_select_core.specs.Paths.{Step, Leads, IsSelected}
-use Rattle.go_select_core.proofs.Edges.{step_same}
-use Rattle.go_select_core.proofs.Walks.{selects_here}
+use Rattle.go_select_core.specs.level_core.Paths.{Step, FieldsLead, IsSelected}
+use Rattle.go_select_core.specs.level_core.Edges.{step_same}
+use Rattle.go_select_core.specs.level_core.Walks.{selects_here}
 use Rattle.go_mset_core.specs.MethodSets.{IsCallable, IsInMethodSet}
 use Rattle.go_mset_core.specs.Laws.{IsOther, IsInterfaceType, PointerHasMore, PointerImplementsMore, IsOwn, ReceiversDecide, IsPromoted, Promotion}
 use Rattle.go_mset_core.proofs.Sets.{searched_other, searched_pointer, searched_interface, set_by, in_set_at}
@@ -30,7 +30,7 @@ not_star : (b : Bool) → (b ≡ true → false ≡ true) → b ≡ false
 not_star true h = sym (h refl)
 not_star false h = refl
 
-own_selected : (look : Look) (t : Term) (name from : List ℕ) (f : Found) → IsOwn look t name from f → IsSelected look t name from [] false f
+own_selected : (look : EntryLook) (t : Term) (name from : List ℕ) (f : Found) → IsOwn look t name from f → IsSelected look t name from [] false f
 own_selected look t name from f o = selects_here look t name from o.number f o.has o.only
 
 pub receivers : ReceiversDecide
@@ -47,12 +47,12 @@ receivers =
 
 -- a path that begins with an embedded field, without it
 
-selected_behind : (look : Look) (s t : Term) (name from : List ℕ) (i : ℕ) (star : Bool) (path : List ℕ) (passes : Bool) (m : Found) → Step look s i star t → IsSelected look s name from (i ∷ path) passes m
+selected_behind : (look : EntryLook) (s t : Term) (name from : List ℕ) (i : ℕ) (star : Bool) (path : List ℕ) (passes : Bool) (m : Found) → Step look s i star t → IsSelected look s name from (i ∷ path) passes m
     → (rest : Bool) × IsSelected look t name from path rest m × (passes ≡ star || rest)
 selected_behind look s t name from i star path passes m step sel =
     let l = sel.hit.leads in
     let e = step_same look s i l.1 star l.0 t l.3 step in
-    let leads : Leads look t path l.2 sel.hit.at = subst (λ v. Leads look v path l.2 sel.hit.at) e.1 l.4 in (
+    let leads : FieldsLead look t path l.2 sel.hit.at = subst (λ v. FieldsLead look v path l.2 sel.hit.at) e.1 l.4 in (
       l.2,
       record {
         number = sel.number;
@@ -69,7 +69,7 @@ selected_behind look s t name from i star path passes m step sel =
 through : {A B : Type 0} (name : List ℕ) (m : Found) (b c : Bool) → A ↔ ((is_blank name ≡ false) × IsCallable m b) → B ↔ ((is_blank name ≡ false) × IsCallable m c) → (IsCallable m b → IsCallable m c) → (IsCallable m c → IsCallable m b) → A ↔ B
 through name m b c x y there back = (λ a. let h = x.0 a in y.1 (h.0, there h.1), λ z. let h = y.0 z in x.1 (h.0, back h.1))
 
-module _ (look : Look) (s t : Term) (name from : List ℕ) (i : ℕ) (star : Bool) (path : List ℕ) (m : Found) (p : IsPromoted look s t name from i star path m) where
+module _ (look : EntryLook) (s t : Term) (name from : List ℕ) (i : ℕ) (star : Bool) (path : List ℕ) (m : Found) (p : IsPromoted look s t name from i star path m) where
   abbrev behind : (rest : Bool) × IsSelected look t name from path rest m × (p.passes ≡ star || rest)
   behind = selected_behind look s t name from i star path p.passes m p.embeds p.selected
 

@@ -6,14 +6,14 @@ use Rattle.go_text_core.specs.declared.rule.Rule.{Rule}
 use Rattle.go_term_core.specs.Terms.{Term, NoType, Predeclared, ErrorType, Defined, PointerTo, StructOf, InterfaceOf, Sign}
 use Rattle.go_select_core.specs.settle_core.declared.kind.Kind.TheVariants as kinds
 use Rattle.go_select_core.specs.settle_core.Settled.{kind_of_term}
-use Rattle.go_select_core.specs.table_core.Entries.{Look, underlying_in}
+use Rattle.go_select_core.specs.table_core.Entries.{EntryLook, underlying_in}
 use Rattle.go_select_core.specs.table_core.Assign.{IsInterface}
 use Rattle.go_select_core.specs.embed_core.Owners.{OwnerModel, Found, AFieldOf, AMethodOf, AnInterfaces, TheErrorMethod}
 use Rattle.go_select_core.specs.embed_core.OwnersShown.{IsNamedAt, found_shown}
-use Rattle.go_select_core.specs.declared.search.Selected.{Selected}
-use Rattle.go_select_core.specs.Paths.{Hit, IsSelected}
-use Rattle.go_select_core.specs.Selectors.{Searched, Refused, In, FieldsIn, unless_refused, searched_under, searched, IsFieldFound, IsMissing, ambiguous, hidden, absent, IsFound, IsRefused, IsRule}
-use Rattle.go_select_core.proofs.ListLemmas.{true_false}
+use Rattle.go_select_core.specs.level_core.declared.search.Selected.{Selected}
+use Rattle.go_select_core.specs.level_core.Paths.{Hit, IsSelected}
+use Rattle.go_select_core.specs.level_core.Selectors.{Searched, Refused, In, FieldsIn, unless_refused, searched_under, searched, IsFieldFound, IsMissing, ambiguous, hidden, absent, IsFoundSelected, IsRefused, IsRule}
+use Rattle.go_select_core.specs.level_core.ListLemmas.{true_false}
 use Rattle.go_select_core.proofs.Meanings.{selected_same}
 use Rattle.go_mset_core.specs.MethodSets.{IsCallable, IsMethodFound, IsInMethodSet}
 use Rattle.go_mset_core.specs.Implementing.{HasMethod}
@@ -33,10 +33,10 @@ id_on a p b q c r (e, inr h) (f, inr k) = (e ∙ f, inr (h ∙ k))
 named_by : (o : OwnerModel) (a p b q : List ℕ) (i : ℕ) (f : Found) → SameId a p b q → IsNamedAt o a p i f → IsNamedAt o b q i f
 named_by o a p b q i f same h = (h.0, h.1, id_on h.0.0 h.0.1.0 a p b q h.2 same, h.3)
 
-hit_by : (look : Look) (t : Term) (a p b q : List ℕ) (path : List ℕ) (pointer : Bool) (m : ℕ) (f : Found) → SameId a p b q → Hit look t a p path pointer m f → Hit look t b q path pointer m f
+hit_by : (look : EntryLook) (t : Term) (a p b q : List ℕ) (path : List ℕ) (pointer : Bool) (m : ℕ) (f : Found) → SameId a p b q → Hit look t a p path pointer m f → Hit look t b q path pointer m f
 hit_by look t a p b q path pointer m f same h = record { at = h.at; leads = h.leads; has = named_by _ a p b q m f same h.has }
 
-selected_by : (look : Look) (t : Term) (a p b q : List ℕ) (path : List ℕ) (pointer : Bool) (f : Found) → SameId a p b q → IsSelected look t a p path pointer f → IsSelected look t b q path pointer f
+selected_by : (look : EntryLook) (t : Term) (a p b q : List ℕ) (path : List ℕ) (pointer : Bool) (f : Found) → SameId a p b q → IsSelected look t a p path pointer f → IsSelected look t b q path pointer f
 selected_by look t a p b q path pointer f same s =
     record {
       number = s.number;
@@ -44,16 +44,16 @@ selected_by look t a p b q path pointer f same s =
       shortest = λ r c m g h. s.shortest r c m g (hit_by look t b q a p r c m g (id_back a p b q same) h);
     }
 
-found_by : (look : Look) (w : Searched) (a p b q : List ℕ) (path : List ℕ) (m : Found) → SameId a p b q → IsMethodFound look w a p path m → IsMethodFound look w b q path m
+found_by : (look : EntryLook) (w : Searched) (a p b q : List ℕ) (path : List ℕ) (m : Found) → SameId a p b q → IsMethodFound look w a p path m → IsMethodFound look w b q path m
 found_by look (Refused rule) a p b q path m same h = h
 found_by look (In t by_pointer) a p b q path m same h = (h.0, selected_by look t a p b q path h.0 m same h.1, h.2)
 found_by look (FieldsIn t) a p b q path m same h = h
 
 -- the same identifier, from whichever package
-pub in_set_by : (look : Look) (t : Term) (a p b q : List ℕ) (path : List ℕ) (m : Found) → SameId a p b q → IsInMethodSet look t a p path m → IsInMethodSet look t b q path m
+pub in_set_by : (look : EntryLook) (t : Term) (a p b q : List ℕ) (path : List ℕ) (m : Found) → SameId a p b q → IsInMethodSet look t a p path m → IsInMethodSet look t b q path m
 in_set_by look t a p b q path m same h = (sym (ap is_blank same.0) ∙ h.0, found_by look (searched look t) a p b q path m same h.1)
 
-pub has_method_by : (look : Look) (t : Term) (a p b q : List ℕ) (g : Sign) → SameId a p b q → HasMethod look t a p g → HasMethod look t b q g
+pub has_method_by : (look : EntryLook) (t : Term) (a p b q : List ℕ) (g : Sign) → SameId a p b q → HasMethod look t a p g → HasMethod look t b q g
 has_method_by look t a p b q g same h = (h.0, h.1, in_set_by look t a p b q h.0 h.1 same h.2, h.3)
 
 -- what selectors denote
@@ -64,7 +64,7 @@ field_not_callable (AMethodOf path place pointer g) passes h c = h
 field_not_callable (AnInterfaces path place g) passes h c = h
 field_not_callable TheErrorMethod passes h c = h
 
-found_decides : (look : Look) (w : Searched) (name from : List ℕ) (s : Selected) → IsFound look w name from s
+found_decides : (look : EntryLook) (w : Searched) (name from : List ℕ) (s : Selected) → IsFoundSelected look w name from s
     → IsMethodFound look w name from s.path (found_shown s.member) ↔ IsCallable (found_shown s.member) s.through_pointer
 found_decides look (Refused why) name from s f = absurd f
 found_decides look (In t by_pointer) name from s f = (
@@ -73,7 +73,7 @@ found_decides look (In t by_pointer) name from s f = (
 )
 found_decides look (FieldsIn t) name from s f = (λ x. absurd x, λ c. field_not_callable (found_shown s.member) s.through_pointer f.1 c)
 
-found_only : (look : Look) (w : Searched) (name from : List ℕ) (s : Selected) (path : List ℕ) (m : Found) → IsFound look w name from s → IsMethodFound look w name from path m
+found_only : (look : EntryLook) (w : Searched) (name from : List ℕ) (s : Selected) (path : List ℕ) (m : Found) → IsFoundSelected look w name from s → IsMethodFound look w name from path m
     → (path ≡ s.path) × (m ≡ found_shown s.member)
 found_only look (Refused why) name from s path m f h = absurd f
 found_only look (In t by_pointer) name from s path m f h =
@@ -81,17 +81,17 @@ found_only look (In t by_pointer) name from s path m f h =
     (e.0, e.2)
 found_only look (FieldsIn t) name from s path m f h = absurd h
 
-missing_or_selected : (look : Look) (t : Term) (name from : List ℕ) (p : List ℕ) (a : Bool) (f : Found) (r : Rule) → IsSelected look t name from p a f → IsMissing look t name from r → ⊥
+missing_or_selected : (look : EntryLook) (t : Term) (name from : List ℕ) (p : List ℕ) (a : Bool) (f : Found) (r : Rule) → IsSelected look t name from p a f → IsMissing look t name from r → ⊥
 missing_or_selected look t name from p a f r s (ambiguous x) = x.none p a f s
 missing_or_selected look t name from p a f r s (hidden none x) = none (p, a, s.number, f, s.hit)
 missing_or_selected look t name from p a f r s (absent none x) = none (p, a, s.number, f, s.hit)
 
-refused_has_none : (look : Look) (w : Searched) (name from : List ℕ) (r : Rule) (path : List ℕ) (m : Found) → IsRefused look w name from r → IsMethodFound look w name from path m → ⊥
+refused_has_none : (look : EntryLook) (w : Searched) (name from : List ℕ) (r : Rule) (path : List ℕ) (m : Found) → IsRefused look w name from r → IsMethodFound look w name from path m → ⊥
 refused_has_none look (Refused why) name from r path m f h = h
 refused_has_none look (In t by_pointer) name from r path m f h = missing_or_selected look t name from path h.0 m r h.1 f
 refused_has_none look (FieldsIn t) name from r path m f h = h
 
-pub rule_has_none : (look : Look) (t : Term) (name from : List ℕ) (r : Rule) (path : List ℕ) (m : Found) → IsRule look t name from r → IsInMethodSet look t name from path m → ⊥
+pub rule_has_none : (look : EntryLook) (t : Term) (name from : List ℕ) (r : Rule) (path : List ℕ) (m : Found) → IsRule look t name from r → IsInMethodSet look t name from path m → ⊥
 rule_has_none look t name from r path m (inl x) h = true_false (is_blank name) x.0 h.0
 rule_has_none look t name from r path m (inr x) h = refused_has_none look (searched look t) name from r path m x.1 h.1
 
@@ -105,7 +105,7 @@ selectors =
 
 -- where methods are searched
 
-under_other : (look : Look) (t u : Term) → kind_of_term u ≡ kinds.Other → searched_under look t u ≡ In t false
+under_other : (look : EntryLook) (t u : Term) → kind_of_term u ≡ kinds.Other → searched_under look t u ≡ In t false
 under_other look t NoType h = cc
 under_other look t (Predeclared b) h = refl
 under_other look t ErrorType h = refl
@@ -114,7 +114,7 @@ under_other look t (PointerTo u) h = cc
 under_other look t (StructOf path fs) h = refl
 under_other look t (InterfaceOf path ms) h = refl
 
-pub searched_other : (look : Look) (t : Term) → IsOther look t → searched look t ≡ In t false
+pub searched_other : (look : EntryLook) (t : Term) → IsOther look t → searched look t ≡ In t false
 searched_other look NoType h = cc
 searched_other look (Predeclared b) h = refl
 searched_other look ErrorType h = refl
@@ -123,10 +123,10 @@ searched_other look (PointerTo t) h = cc
 searched_other look (StructOf path fs) h = refl
 searched_other look (InterfaceOf path ms) h = refl
 
-pub searched_pointer : (look : Look) (t : Term) → IsOther look t → searched look (PointerTo t) ≡ In t true
+pub searched_pointer : (look : EntryLook) (t : Term) → IsOther look t → searched look (PointerTo t) ≡ In t true
 searched_pointer look t h = ap (λ k. unless_refused k (In t true)) h
 
-under_interface : (look : Look) (t u : Term) → IsInterface u → searched_under look t u ≡ In t false
+under_interface : (look : EntryLook) (t u : Term) → IsInterface u → searched_under look t u ≡ In t false
 under_interface look t NoType h = absurd h
 under_interface look t (Predeclared b) h = refl
 under_interface look t ErrorType h = refl
@@ -135,7 +135,7 @@ under_interface look t (PointerTo u) h = absurd h
 under_interface look t (StructOf path fs) h = refl
 under_interface look t (InterfaceOf path ms) h = refl
 
-pub searched_interface : (look : Look) (t : Term) → IsInterface (underlying_in look t) → searched look t ≡ In t false
+pub searched_interface : (look : EntryLook) (t : Term) → IsInterface (underlying_in look t) → searched look t ≡ In t false
 searched_interface look NoType h = absurd h
 searched_interface look (Predeclared b) h = refl
 searched_interface look ErrorType h = refl
@@ -145,7 +145,7 @@ searched_interface look (StructOf path fs) h = refl
 searched_interface look (InterfaceOf path ms) h = refl
 
 -- in the set, of a method that is selected where it is searched
-pub set_by : (look : Look) (t u : Term) (by_pointer : Bool) (name from path : List ℕ) (pointer : Bool) (m : Found) → searched look t ≡ In u by_pointer → IsSelected look u name from path pointer m
+pub set_by : (look : EntryLook) (t u : Term) (by_pointer : Bool) (name from path : List ℕ) (pointer : Bool) (m : Found) → searched look t ≡ In u by_pointer → IsSelected look u name from path pointer m
     → IsInMethodSet look t name from path m ↔ ((is_blank name ≡ false) × IsCallable m (by_pointer || pointer))
 set_by look t u by_pointer name from path pointer m w s = (
   λ h. (
@@ -156,6 +156,6 @@ set_by look t u by_pointer name from path pointer m w s = (
   λ h. (h.0, subst (λ v. IsMethodFound look v name from path m) (sym w) (pointer, s, h.1)),
 )
 
-pub in_set_at : (look : Look) (t u : Term) (by_pointer : Bool) (name from path : List ℕ) (m : Found) → searched look t ≡ In u by_pointer → IsInMethodSet look t name from path m
+pub in_set_at : (look : EntryLook) (t u : Term) (by_pointer : Bool) (name from path : List ℕ) (m : Found) → searched look t ≡ In u by_pointer → IsInMethodSet look t name from path m
     → (pointer : Bool) × IsSelected look u name from path pointer m × IsCallable m (by_pointer || pointer)
 in_set_at look t u by_pointer name from path m w h = subst (λ v. IsMethodFound look v name from path m) w h.1

@@ -7,7 +7,7 @@ use Rattle.go_term_core.specs.declared.term.Basic.TheVariants as basics
 use Rattle.go_term_core.specs.declared.term.MemberPlace.{MemberPlace}
 use Rattle.go_term_core.specs.Terms.{Term, Predeclared, ErrorType, InterfaceOf, Sign, SignOf, NoTerm, ATerm}
 use Rattle.go_term_core.specs.Identity.{IsMethod, SameSign}
-use Rattle.go_select_core.specs.table_core.Entries.{Look, underlying_in}
+use Rattle.go_select_core.specs.table_core.Entries.{EntryLook, underlying_in}
 use Rattle.go_select_core.specs.embed_core.Owners.{Found, AFieldOf, AMethodOf, AnInterfaces, TheErrorMethod}
 use Rattle.go_mset_core.specs.declared.interface.Missing.{Missing}
 use Rattle.go_mset_core.specs.MethodSets.{IsInMethodSet}
@@ -30,15 +30,15 @@ IsOfInterface (InterfaceOf path ms) name from g = (from ≡ path) × ((place : M
 IsOfInterface _ name from g = ⊥
 
 -- the method set of t has a method of the identifier with a signature identical to g
-abbrev pub HasMethod : Look → Term → List ℕ → List ℕ → Sign → Type 0
+abbrev pub HasMethod : EntryLook → Term → List ℕ → List ℕ → Sign → Type 0
 HasMethod look t name from g = (path : List ℕ) × (m : Found) × IsInMethodSet look t name from path m × IsSigned m g
 
 -- t has each method of the underlying type u
-abbrev pub HasMethodsOf : Look → Term → Term → Type 0
+abbrev pub HasMethodsOf : EntryLook → Term → Term → Type 0
 HasMethodsOf look t u = (name from : List ℕ) (g : Sign) → IsOfInterface u name from g → HasMethod look t name from g
 
 -- t has not a method of u of that name, and has each of those before it by the bytes of their names
-pub record IsFirstMissing (look : Look) (t u : Term) (name : List ℕ) : Type 0 where
+pub record IsFirstMissing (look : EntryLook) (t u : Term) (name : List ℕ) : Type 0 where
   pub from : List ℕ
   pub sign : Sign
   pub of_interface : IsOfInterface u name from sign
@@ -46,14 +46,14 @@ pub record IsFirstMissing (look : Look) (t u : Term) (name : List ℕ) : Type 0 
   pub first : (other other_from : List ℕ) (g : Sign) → IsOfInterface u other other_from g → slice_cmp nat_cmp other name ≡ Less → HasMethod look t other other_from g
 
 -- what is answered to the question whether t has each method of u
-abbrev pub IsAnswerOf : {A : Type 0} → Look → Term → Term → Result A Missing → Type 0
-IsAnswerOf look t u (Ok _) = HasMethodsOf look t u
-IsAnswerOf look t u (Err missing) = IsFirstMissing look t u missing.name.now
+abbrev pub IsImplementsAnswer : {A : Type 0} → EntryLook → Term → Term → Result A Missing → Type 0
+IsImplementsAnswer look t u (Ok _) = HasMethodsOf look t u
+IsImplementsAnswer look t u (Err missing) = IsFirstMissing look t u missing.name.now
 
 -- t implements the interface type i
-abbrev pub Implements : Look → Term → Term → Type 0
+abbrev pub Implements : EntryLook → Term → Term → Type 0
 Implements look t i = HasMethodsOf look t (underlying_in look i)
 
 -- what is answered to the question whether t implements i
-abbrev pub IsImplementing : {A : Type 0} → Look → Term → Term → Result A Missing → Type 0
-IsImplementing look t i answer = IsAnswerOf look t (underlying_in look i) answer
+abbrev pub IsImplementing : {A : Type 0} → EntryLook → Term → Term → Result A Missing → Type 0
+IsImplementing look t i answer = IsImplementsAnswer look t (underlying_in look i) answer

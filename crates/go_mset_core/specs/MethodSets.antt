@@ -2,10 +2,10 @@
 use Rattle.std.specs.Prelude.{◌≡◌, ℕ, Bool, true, false, ◌||◌, List, ⊤}
 use Rattle.go_text_core.specs.Text.{is_blank}
 use Rattle.go_term_core.specs.Terms.{Term}
-use Rattle.go_select_core.specs.table_core.Entries.{Look}
+use Rattle.go_select_core.specs.table_core.Entries.{EntryLook}
 use Rattle.go_select_core.specs.embed_core.Owners.{Found, AFieldOf, AMethodOf, AnInterfaces, TheErrorMethod}
-use Rattle.go_select_core.specs.Paths.{IsSelected}
-use Rattle.go_select_core.specs.Selectors.{Searched, Refused, In, FieldsIn, searched}
+use Rattle.go_select_core.specs.level_core.Paths.{IsSelected}
+use Rattle.go_select_core.specs.level_core.Selectors.{Searched, Refused, In, FieldsIn, searched}
 
 -- a method that needs no pointer, or has one: a star at its receiver wants that a pointer is passed
 abbrev pub IsCallable : Found → Bool → Type 0
@@ -15,11 +15,11 @@ IsCallable (AnInterfaces path place g) passes = ⊤
 IsCallable TheErrorMethod passes = ⊤
 
 -- the method m that an identifier selects where it is searched, by the path
-abbrev pub IsMethodFound : Look → Searched → List ℕ → List ℕ → List ℕ → Found → Type 0
+abbrev pub IsMethodFound : EntryLook → Searched → List ℕ → List ℕ → List ℕ → Found → Type 0
 IsMethodFound look (Refused rule) name from path m = ⊥
 IsMethodFound look (In t by_pointer) name from path m = (pointer : Bool) × IsSelected look t name from path pointer m × IsCallable m (by_pointer || pointer)
 IsMethodFound look (FieldsIn t) name from path m = ⊥
 
 -- the method m of an identifier, which is written in the package `from`, is in the method set of t; the embedded fields on the path lead to it
-abbrev pub IsInMethodSet : Look → Term → List ℕ → List ℕ → List ℕ → Found → Type 0
+abbrev pub IsInMethodSet : EntryLook → Term → List ℕ → List ℕ → List ℕ → Found → Type 0
 IsInMethodSet look t name from path m = (is_blank name ≡ false) × IsMethodFound look (searched look t) name from path m

@@ -1,10 +1,10 @@
 //! Which types implement an interface type.
 ghost use Rattle.std.specs.Prelude.{◌≡◌, ◌↔◌, IfOk, IsTrue};
-ghost use Rattle.go_select_core.specs.table_core.Entries.{find};
+ghost use Rattle.go_select_core.specs.table_core.Entries.{find_entry};
 ghost use Rattle.go_term_core.specs.Terms.{PointerTo, ErrorType, InterfaceOf};
-ghost use Rattle.go_term_core.specs.Shapes.{shape, sign_of, methods_of};
-ghost use Rattle.go_select_core.specs.Selectors.{IsAnswer};
-ghost use Rattle.go_mset_core.specs.Implementing.{HasMethod, IsAnswerOf, IsImplementing};
+ghost use Rattle.go_term_core.specs.Shapes.{shape, sign_of, method_shapes};
+ghost use Rattle.go_select_core.specs.level_core.Selectors.{IsSelectorAnswer};
+ghost use Rattle.go_mset_core.specs.Implementing.{HasMethod, IsImplementsAnswer, IsImplementing};
 ghost use Rattle.go_mset_core.specs.mirrors.Asking.{holder_shown, sign_wanted, text_shown, IsBefore, IsNextMissing, IsLeastMissing};
 
 use crate::wanted::{Wanted, is_wanted};
@@ -43,7 +43,7 @@ fn selected<'a>(
     name: &str,
     from: &ImportPath,
 ) -> Result<Selected<'a>, Rule>
-    ensures { IsAnswer (find table.now) (holder_shown holder.entry) name.now from.now result }
+    ensures { IsSelectorAnswer (find_entry table.now) (holder_shown holder.entry) name.now from.now result }
 {
     match holder {
         Holder::Of(term) => select(alloc, table, term, name, from),
@@ -60,7 +60,7 @@ fn has_method<'a>(
     from: &ImportPath,
     wanted: Wanted<'_>,
 ) -> Result<bool, AllocError>
-    ensures { IfOk result (λ has. IsTrue has ↔ HasMethod (find table.now) (holder_shown holder.entry) name.now from.now (sign_wanted wanted.entry)) }
+    ensures { IfOk result (λ has. IsTrue has ↔ HasMethod (find_entry table.now) (holder_shown holder.entry) name.now from.now (sign_wanted wanted.entry)) }
 {
     match selected(alloc, table, holder, name, from) {
         Ok(found) => Ok(is_wanted(found.member, found.through_pointer, wanted)),
@@ -92,7 +92,7 @@ fn next_missing<'a>(
     missing: Option<&'a str>,
     method: &'a Method,
 ) -> Result<Option<&'a str>, AllocError>
-    ensures { IfOk result (λ next. IsNextMissing (find table.now) (holder_shown holder.entry) path.now (text_shown missing.entry) method.now.name (sign_of method.now.signature) (text_shown next)) }
+    ensures { IfOk result (λ next. IsNextMissing (find_entry table.now) (holder_shown holder.entry) path.now (text_shown missing.entry) method.now.name (sign_of method.now.signature) (text_shown next)) }
 {
     let name = method.name.as_str();
     if !is_before(name, missing) {
@@ -119,7 +119,7 @@ fn first_missing<'a>(
     path: &ImportPath,
     methods: &'a [Method],
 ) -> Result<Option<&'a str>, AllocError>
-    ensures { IfOk result (λ missing. IsLeastMissing (find table.now) (holder_shown holder.entry) path.now (methods_of methods.now) (text_shown missing)) }
+    ensures { IfOk result (λ missing. IsLeastMissing (find_entry table.now) (holder_shown holder.entry) path.now (method_shapes methods.now) (text_shown missing)) }
 {
     let mut missing: Option<&'a str> = None;
     'methods: for method in methods {
@@ -136,7 +136,7 @@ fn has_all<'a>(
     path: &ImportPath,
     methods: &'a [Method],
 ) -> Result<Result<(), Missing<'a>>, AllocError>
-    ensures { IfOk result (λ answer. IsAnswerOf (find table.now) (holder_shown holder.entry) (InterfaceOf path.now (methods_of methods.now)) answer) }
+    ensures { IfOk result (λ answer. IsImplementsAnswer (find_entry table.now) (holder_shown holder.entry) (InterfaceOf path.now (method_shapes methods.now)) answer) }
 {
     match first_missing(alloc, table, holder, path, methods)? {
         Some(name) => Ok(Err(Missing { name })),
@@ -150,7 +150,7 @@ fn has_error<'a>(
     table: &'a TypeTable,
     holder: Holder<'a>,
 ) -> Result<Result<(), Missing<'a>>, AllocError>
-    ensures { IfOk result (λ answer. IsAnswerOf (find table.now) (holder_shown holder.entry) ErrorType answer) }
+    ensures { IfOk result (λ answer. IsImplementsAnswer (find_entry table.now) (holder_shown holder.entry) ErrorType answer) }
 {
     let from = match ImportPath::read(alloc, "errors") {
         Ok(from) => from,
@@ -169,7 +169,7 @@ fn holder_implements<'a>(
     holder: Holder<'a>,
     interface: &'a TypeTerm,
 ) -> Result<Result<(), Missing<'a>>, AllocError>
-    ensures { IfOk result (λ answer. IsImplementing (find table.now) (holder_shown holder.entry) (shape interface.now) answer) }
+    ensures { IfOk result (λ answer. IsImplementing (find_entry table.now) (holder_shown holder.entry) (shape interface.now) answer) }
 {
     match table.underlying(interface) {
         TypeTerm::Interface(path, methods) => has_all(alloc, table, holder, path, methods),
@@ -197,7 +197,7 @@ pub fn implements<'a>(
     term: &'a TypeTerm,
     interface: &'a TypeTerm,
 ) -> Result<Result<(), Missing<'a>>, AllocError>
-    ensures { IfOk result (λ answer. IsImplementing (find table.now) (shape term.now) (shape interface.now) answer) }
+    ensures { IfOk result (λ answer. IsImplementing (find_entry table.now) (shape term.now) (shape interface.now) answer) }
 {
     holder_implements(alloc, table, Holder::Of(term), interface)
 }
@@ -213,7 +213,7 @@ pub fn implements_by_pointer<'a>(
     base: &'a TypeTerm,
     interface: &'a TypeTerm,
 ) -> Result<Result<(), Missing<'a>>, AllocError>
-    ensures { IfOk result (λ answer. IsImplementing (find table.now) (PointerTo (shape base.now)) (shape interface.now) answer) }
+    ensures { IfOk result (λ answer. IsImplementing (find_entry table.now) (PointerTo (shape base.now)) (shape interface.now) answer) }
 {
     holder_implements(alloc, table, Holder::PointerTo(base), interface)
 }

@@ -1,6 +1,6 @@
 //! The method set of a type.
 ghost use Rattle.std.specs.Prelude.{◌≡◌, ◌++◌, ◌∷◌, [], IfOk, OnOk};
-ghost use Rattle.go_select_core.specs.table_core.Entries.{find};
+ghost use Rattle.go_select_core.specs.table_core.Entries.{find_entry};
 ghost use Rattle.go_term_core.specs.Shapes.{shape};
 ghost use Rattle.go_mset_core.specs.MethodLists.{IsMethodSet};
 ghost use Rattle.go_mset_core.specs.mirrors.Keeping.{kept};
@@ -63,7 +63,7 @@ pub fn method_set<'a>(
     table: &'a TypeTable,
     term: &'a TypeTerm,
 ) -> Result<Vec<SetMethod<'a>>, AllocError>
-    ensures { IfOk result (λ methods. IsMethodSet (find table.now) (shape term.now) methods.items) }
+    ensures { IfOk result (λ methods. IsMethodSet (find_entry table.now) (shape term.now) methods.items) }
 {
     keep(alloc, selections(alloc, table, term)?)
 }

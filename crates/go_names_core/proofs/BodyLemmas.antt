@@ -12,12 +12,12 @@ use Rattle.go_walk_core.specs.local_core.Steps.{Steps, Done, Declare, EachFirst}
 use Rattle.go_walk_core.specs.local_core.Law.{Rules, Out}
 use Rattle.go_walk_core.specs.local_core.Outline.{lines_steps, func_steps, func_opens, func_closes}
 use Rattle.go_walk_core.specs.local_core.Alike.{LookAtNames}
-use Rattle.go_walk_core.specs.local_core.Tables.{IsFuncPlaced, walked, given}
+use Rattle.go_walk_core.specs.local_core.Tables.{IsFuncPlaced, walked, out_by_intervals}
 use Rattle.go_walk_core.specs.local_core.TablesProofs.{one_table}
 use Rattle.go_names_core.specs.declared.meaning.Outside.{Outside}
 use Rattle.go_names_core.specs.Scope.{beyond_in}
 use Rattle.go_names_core.specs.Body.{func_idents, func_header, AreWalked, AreGiven}
-use Rattle.go_names_core.specs.Scenes.{Scene, scene}
+use Rattle.go_names_core.specs.Scenes.{NameScene, name_scene}
 use Rattle.go_names_core.specs.mirrors.Run.{Noted, noted, Ran, ran, before, run}
 use Rattle.go_names_core.specs.mirrors.States.{State, state, IsAhead, LeadsTo}
 use Rattle.go_names_core.specs.mirrors.StateLaws.{also_none}
@@ -41,8 +41,8 @@ module _ {X N : Type 0} (outside : Outside → X) (rules : Rules X N) (at_names 
       let steps : Steps = func_steps (func_of f) in
       let along = leads ok in
       let ahead = when_ok r lacks is_lacking along.0 header in
-      let first : Scene X = scene (scopes_model around file ([] ∷ [])) [] in
-      let same : scene (with_open s (s.open_blocks ++ [] ∷ [])) ls ≡ first = ap (λ t. scene (with_open t (t.open_blocks ++ [] ∷ [])) ls) begins ∙ ap (scene (scopes_model around file ([] ∷ []))) no_locals in
+      let first : NameScene X = name_scene (scopes_model around file ([] ∷ [])) [] in
+      let same : name_scene (with_open s (s.open_blocks ++ [] ∷ [])) ls ≡ first = ap (λ t. name_scene (with_open t (t.open_blocks ++ [] ∷ [])) ls) begins ∙ ap (name_scene (scopes_model around file ([] ∷ []))) no_locals in
       let all : before (noted [] []) (run rules outside first steps) ≡ ran c.noted c.scene.locals =
       ap (λ l. before (noted l []) (run rules outside first steps)) (sym no_notes)
       ∙ (ap (λ l. before (noted ns l) (run rules outside first steps)) (sym no_faults)
@@ -56,5 +56,5 @@ module _ {X N : Type 0} (outside : Outside → X) (rules : Rules X N) (at_names 
   pub are_given : IsFuncPlaced (func_of f) → (ns : List N) (fs : List Fault) → noted ns fs ≡ noted_of (walked rules beyond (func_of f)) → AreGiven rules beyond (func_of f) ns fs
   are_given placed ns fs e all right =
       let table = one_table X N rules at_names beyond (func_of f) placed in
-      let same : given rules beyond (func_of f) all ≡ walked rules beyond (func_of f) = ap (given rules beyond (func_of f)) ((table.0 all).0 right) ∙ table.1 in
+      let same : out_by_intervals rules beyond (func_of f) all ≡ walked rules beyond (func_of f) = ap (out_by_intervals rules beyond (func_of f)) ((table.0 all).0 right) ∙ table.1 in
       (ap (λ (n : Noted N). n.notes) e ∙ ap (λ (o : Out X N). o.notes) (sym same), ap (λ (n : Noted N). n.faults) e ∙ ap (λ (o : Out X N). o.faults) (sym same))

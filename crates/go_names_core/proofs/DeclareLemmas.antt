@@ -8,7 +8,7 @@ use Rattle.go_scope_core.specs.open_core.declared.DeclId.{DeclId}
 use Rattle.go_scope_core.specs.open_core.Blocks.{in_block, innermost, with_innermost, is_taken, is_new, block_after}
 use Rattle.go_scope_core.specs.Models.{ScopesModel}
 use Rattle.go_scope_core.specs.Scopes.{with_open}
-use Rattle.go_names_core.specs.Scenes.{scene, local_declared}
+use Rattle.go_names_core.specs.Scenes.{name_scene, local_declared}
 use Rattle.go_names_core.specs.mirrors.States.{Blocks}
 
 innermost_kept : (bs : Blocks) → with_innermost bs (innermost bs) ≡ bs
@@ -24,10 +24,10 @@ taken_is_old bs name h = by (is_blank name) (is_some (in_block (innermost bs) na
     by false true h = refl
     by false false h = absurd (cc)
 
-pub taken_declared : {X : Type 0} {P Q : Type 0} (s s' : ScopesModel) (ls ls' : List X) (n : List ℕ) (x : Ident) (m : X) (rule : Rule) → rule ≡ B1 → s' ≡ s → ls' ≡ ls ++ m ∷ [] → n ≡ x.name → ((rule ≡ M0) × P) ⊎ (Q × (is_taken s.open_blocks n ≡ true)) → scene s' ls' ≡ local_declared (scene s ls) x m
+pub taken_declared : {X : Type 0} {P Q : Type 0} (s s' : ScopesModel) (ls ls' : List X) (n : List ℕ) (x : Ident) (m : X) (rule : Rule) → rule ≡ B1 → s' ≡ s → ls' ≡ ls ++ m ∷ [] → n ≡ x.name → ((rule ≡ M0) × P) ⊎ (Q × (is_taken s.open_blocks n ≡ true)) → name_scene s' ls' ≡ local_declared (name_scene s ls) x m
 taken_declared s s' ls ls' n x m rule is_second same more name (inl w) = (let clash : B1 ≡ M0 = sym is_second ∙ w.0 in cc)
 taken_declared s s' ls ls' n x m rule is_second same more name (inr w) =
     let new : List ℕ × DeclId = (x.name, record { 0 = length ls }) in
     let kept : with_innermost s.open_blocks (block_after (innermost s.open_blocks) (new ∷ [])) ≡ s.open_blocks =
     ap (λ b. with_innermost s.open_blocks (if b then innermost s.open_blocks ++ new ∷ [] else innermost s.open_blocks)) (taken_is_old s.open_blocks x.name (ap (is_taken s.open_blocks) (sym name) ∙ w.1)) ∙ innermost_kept s.open_blocks in
-    ap (λ t. scene t ls') same ∙ (ap (scene s) more ∙ ap (λ o. scene (with_open s o) (ls ++ m ∷ [])) (sym kept))
+    ap (λ t. name_scene t ls') same ∙ (ap (name_scene s) more ∙ ap (λ o. name_scene (with_open s o) (ls ++ m ∷ [])) (sym kept))

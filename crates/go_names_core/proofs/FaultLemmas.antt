@@ -6,7 +6,7 @@ use Rattle.go_tree_nodes.specs.declared.names.Ident.{Ident}
 use Rattle.go_scope_core.specs.open_core.Blocks.{in_block, is_listed, any_new, short_name, short_names, short_names_behind, is_short_new}
 use Rattle.go_scope_core.specs.open_core.declared.short.ShortName.{ShortName}
 use Rattle.go_scope_core.specs.open_core.declared.short.ShortName.TheVariants.{New, Old, Blank, Repeated}
-use Rattle.go_walk_core.specs.local_core.Faults.{fault_at, name_faults, second_faults, none_new_fault, spellings}
+use Rattle.go_walk_core.specs.local_core.Faults.{ident_fault, name_faults, second_faults, none_new_fault, spellings}
 use Rattle.go_walk_core.specs.local_core.Short.{fault_of_short, faults_of_each, short_faults}
 use Rattle.go_walk_core.specs.local_core.ShortProofs.{short_faults_are}
 use Rattle.go_names_core.specs.mirrors.Declaring.{manner_of, is_second, faults_of_second, found_faults}
@@ -17,9 +17,9 @@ module _ {X : Type 0} (block : List (List ℕ × X)) where
   second_are [] before = refl
   second_are (x ∷ xs) before =
       ap (λ fs. fs ++ faults_of_second false (short_names_behind block (before ++ x.name ∷ []) (spellings xs)) xs) (by (is_blank x.name) (is_listed before x.name) (is_some (in_block block x.name)))
-      ∙ ap (λ fs. (if not (is_blank x.name) && not (is_short_new (short_name block before x.name)) then fault_at x B1 ∷ [] else []) ++ fs) (second_are xs (before ++ x.name ∷ []))
+      ∙ ap (λ fs. (if not (is_blank x.name) && not (is_short_new (short_name block before x.name)) then ident_fault x B1 ∷ [] else []) ++ fs) (second_are xs (before ++ x.name ∷ []))
     where
-      by : (b l s : Bool) → (if is_second false (if not b && l then Repeated else (if b then Blank else (if s then Old else New))) then fault_at x B1 ∷ [] else []) ≡ (if not b && not (is_short_new (if not b && l then Repeated else (if b then Blank else (if s then Old else New)))) then fault_at x B1 ∷ [] else [])
+      by : (b l s : Bool) → (if is_second false (if not b && l then Repeated else (if b then Blank else (if s then Old else New))) then ident_fault x B1 ∷ [] else []) ≡ (if not b && not (is_short_new (if not b && l then Repeated else (if b then Blank else (if s then Old else New)))) then ident_fault x B1 ∷ [] else [])
       by true true s = refl
       by true false s = refl
       by false true s = refl
@@ -31,7 +31,7 @@ each_are [] xs = refl
 each_are (s ∷ shorts) [] = refl
 each_are (s ∷ shorts) (x ∷ xs) = ap (λ fs. fs ++ faults_of_second true shorts xs) (by s) ∙ ap (λ fs. fault_of_short s x ++ fs) (each_are shorts xs)
   where
-    by : (s : ShortName) → (if is_second true s then fault_at x B1 ∷ [] else []) ≡ fault_of_short s x
+    by : (s : ShortName) → (if is_second true s then ident_fault x B1 ∷ [] else []) ≡ fault_of_short s x
     by New = refl
     by Old = refl
     by Blank = refl

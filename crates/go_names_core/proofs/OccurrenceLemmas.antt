@@ -18,11 +18,11 @@ use Rattle.go_tree_core.specs.declared.occurrence.Role.TheVariants as role
 use Rattle.go_tree_core.specs.declared.occurrence.Context.{Context}
 use Rattle.go_tree_core.specs.declared.occurrence.Context.TheVariants as context
 use Rattle.go_tree_core.specs.declared.occurrence.Occ.{Occ}
-use Rattle.go_tree_core.specs.Occurrences.{occurrence, call_at, type_name_occs, type_occs, fields_occs, methods_occs, signature_occs, result_occs, params_occs, key_occs, named_occs, expr_occs, items_occs, exprs_occs, inside, under, some_type_occs, values_occs, value_spec_occs, group_occs, specs_occs, simple_occs, some_simple_occs, some_expr_occs, some_exprs_occs, init_occs, if_occs, for_occs, stmt_occs, branch_occs, else_occs, lines_occs, receiver_occs}
-use Rattle.go_walk_core.specs.local_core.Steps.{Piece, Spec, Act, Condition, Given, Manner, EachFirst, OneNew, Steps, Done, Check, Declare, Inner}
+use Rattle.go_tree_core.specs.Occurrences.{occurrence, call_at, type_name_occs, type_occs, fields_occs, methods_occs, signature_occs, result_occs, params_occs, key_occs, named_occs, expr_occs, items_occs, exprs_occs, inside_context, under, some_type_occs, values_occs, value_spec_occs, group_occs, specs_occs, simple_occs, some_simple_occs, some_expr_occs, some_exprs_occs, init_occs, if_occs, for_occs, stmt_occs, branch_occs, else_occs, lines_occs, receiver_occs}
+use Rattle.go_walk_core.specs.local_core.Steps.{Piece, Spec, Act, Condition, Given, Newness, EachFirst, OneNew, Steps, Done, Check, Declare, Inner}
 use Rattle.go_walk_core.specs.local_core.Outline.{idents, end_of, spec_steps, group_steps, specs_steps, simple_steps, some_simple_steps, init_steps, some_condition_steps, if_steps, for_steps, stmt_steps, branch_steps, else_steps, lines_steps}
-use Rattle.go_names_core.specs.Uses.{type_name_uses, type_uses, fields_uses, methods_uses, signature_uses, result_uses, params_uses, receiver_uses, expr_uses, items_uses, exprs_uses, some_exprs_uses, target_uses, targets_uses, some_type_uses, values_uses, value_spec_uses, simple_uses, piece_uses}
-use Rattle.go_names_core.specs.Occurrences.{is_looked_up, looked_up, steps_uses, UsesAreOccurrences}
+use Rattle.go_names_core.specs.Uses.{type_name_used_idents, type_used_idents, fields_used_idents, methods_used_idents, signature_used_idents, result_used_idents, params_used_idents, receiver_used_idents, expr_used_idents, items_used_idents, exprs_used_idents, some_exprs_used_idents, target_used_idents, targets_used_idents, some_type_used_idents, values_used_idents, value_spec_used_idents, simple_used_idents, piece_used_idents}
+use Rattle.go_names_core.specs.Occurrences.{is_looked_up, looked_up, steps_uses, PieceNamesAreOccurrences}
 
 looked_append : (xs ys : List Occ) → looked_up (xs ++ ys) ≡ looked_up xs ++ looked_up ys
 looked_append [] ys = refl
@@ -52,40 +52,40 @@ but_last {xs} {us} o h first = record { is = (both first (skip o h none)).is ∙
 
 -- types
 
-type_name_looked : (n : TypeName) → Looked (type_name_occs n) (type_name_uses n)
+type_name_looked : (n : TypeName) → Looked (type_name_occs n) (type_name_used_idents n)
 type_name_looked (type_name.Plain x) = record { is = refl }
 type_name_looked (type_name.Qualified p dot x) = record { is = refl }
 
 mutual
-  type_looked : (t : TypeTree) → Looked (type_occs t) (type_uses t)
+  type_looked : (t : TypeTree) → Looked (type_occs t) (type_used_idents t)
   type_looked (NamedType n) = type_name_looked n
   type_looked (Pointer star t) = type_looked t
   type_looked (ParenType first t last) = type_looked t
   type_looked (Struct k first ls last) = fields_looked ls
   type_looked (Interface k first methods last) = methods_looked methods
 
-  fields_looked : (fs : FieldTrees) → Looked (fields_occs fs) (fields_uses fs)
+  fields_looked : (fs : FieldTrees) → Looked (fields_occs fs) (fields_used_idents fs)
   fields_looked NoFields = none
   fields_looked (NamedFields xs t tag s rest) = both (type_looked t) (fields_looked rest)
   fields_looked (EmbeddedField star n tag s rest) = both (type_name_looked n) (fields_looked rest)
 
-  methods_looked : (ms : MethodTrees) → Looked (methods_occs ms) (methods_uses ms)
+  methods_looked : (ms : MethodTrees) → Looked (methods_occs ms) (methods_used_idents ms)
   methods_looked NoMethods = none
   methods_looked (Method x signature s rest) = both (signature_looked signature) (methods_looked rest)
 
-  signature_looked : (s : SignatureTree) → Looked (signature_occs s) (signature_uses s)
+  signature_looked : (s : SignatureTree) → Looked (signature_occs s) (signature_used_idents s)
   signature_looked (Signed first params last result) = both (params_looked params) (result_looked result)
 
-  result_looked : (r : ResultTree) → Looked (result_occs r) (result_uses r)
+  result_looked : (r : ResultTree) → Looked (result_occs r) (result_used_idents r)
   result_looked NoResult = none
   result_looked (OneResult t) = type_looked t
   result_looked (Results first params last) = params_looked params
 
-  params_looked : (ps : ParamTrees) → Looked (params_occs ps) (params_uses ps)
+  params_looked : (ps : ParamTrees) → Looked (params_occs ps) (params_used_idents ps)
   params_looked NoParams = none
   params_looked (Param xs t comma rest) = both (type_looked t) (params_looked rest)
 
-receiver_looked : (r : Option Receiver) → Looked (receiver_occs r) (receiver_uses r)
+receiver_looked : (r : Option Receiver) → Looked (receiver_occs r) (receiver_used_idents r)
 receiver_looked None = none
 receiver_looked (Some r) = type_name_looked r.base
 
@@ -105,7 +105,7 @@ named_looked context.Callee h x = record { is = refl }
 named_looked context.BeforeDot h x = record { is = refl }
 named_looked context.Target h x = absurd (cc)
 
-inside_plain : (p : Context) → is_target p ≡ false → is_target (inside p) ≡ false
+inside_plain : (p : Context) → is_target p ≡ false → is_target (inside_context p) ≡ false
 inside_plain context.«Type» h = refl
 inside_plain context.«Value» h = refl
 inside_plain context.Callee h = refl
@@ -174,11 +174,11 @@ key_looked None = none
 key_looked (Some k) = record { is = refl }
 
 mutual
-  expr_looked : (p : Context) → is_target p ≡ false → (t : ExprTree) → Looked (expr_occs p t) (expr_uses t)
+  expr_looked : (p : Context) → is_target p ≡ false → (t : ExprTree) → Looked (expr_occs p t) (expr_used_idents t)
   expr_looked p h (Integer n span) = none
   expr_looked p h (Text t) = none
   expr_looked p h (Named x) = named_looked p h x
-  expr_looked p h (Paren first t last) = expr_looked (inside p) (inside_plain p h) t
+  expr_looked p h (Paren first t last) = expr_looked (inside_context p) (inside_plain p h) t
   expr_looked p h (Unary op span t) = expr_looked (under op p) (under_plain op p) t
   expr_looked p h (Binary a op span b) = both (expr_looked context.«Value» refl a) (expr_looked context.«Value» refl b)
   expr_looked p h (Select t dot x) = but_last _ refl (expr_looked context.BeforeDot refl t)
@@ -186,18 +186,18 @@ mutual
   expr_looked p h (Literal n first items last) = both (type_name_looked n) (items_looked items)
   expr_looked p h (StructLiteral t first items last) = both (type_looked t) (items_looked items)
 
-  items_looked : (is : ItemTrees) → Looked (items_occs is) (items_uses is)
+  items_looked : (is : ItemTrees) → Looked (items_occs is) (items_used_idents is)
   items_looked NoItems = none
   items_looked (Item key t comma rest) = both (key_looked key) (both (expr_looked context.«Value» refl t) (items_looked rest))
 
-value : (t : ExprTree) → Looked (expr_occs context.«Value» t) (expr_uses t)
+value : (t : ExprTree) → Looked (expr_occs context.«Value» t) (expr_used_idents t)
 value t = expr_looked context.«Value» refl t
 
-exprs_looked : (es : Separated ExprTree) → Looked (exprs_occs context.«Value» es) (exprs_uses es)
+exprs_looked : (es : Separated ExprTree) → Looked (exprs_occs context.«Value» es) (exprs_used_idents es)
 exprs_looked (One t) = value t
 exprs_looked (Then t comma more) = both (value t) (exprs_looked more)
 
-target : (t : ExprTree) → Looked (expr_occs context.Target t) (target_uses t)
+target : (t : ExprTree) → Looked (expr_occs context.Target t) (target_used_idents t)
 target (Integer n span) = none
 target (Text t) = none
 target (Named x) = by (is_blank x.name)
@@ -213,31 +213,31 @@ target (Call t first items last) = both (expr_looked context.Callee refl t) (ski
 target (Literal n first items last) = both (type_name_looked n) (items_looked items)
 target (StructLiteral t first items last) = both (type_looked t) (items_looked items)
 
-targets_looked : (ts : Separated ExprTree) → Looked (exprs_occs context.Target ts) (targets_uses ts)
+targets_looked : (ts : Separated ExprTree) → Looked (exprs_occs context.Target ts) (targets_used_idents ts)
 targets_looked (One t) = target t
 targets_looked (Then t comma more) = both (target t) (targets_looked more)
 
 -- pieces
 
-some_type_looked : (t : Option TypeTree) → Looked (some_type_occs t) (some_type_uses t)
+some_type_looked : (t : Option TypeTree) → Looked (some_type_occs t) (some_type_used_idents t)
 some_type_looked None = none
 some_type_looked (Some t) = type_looked t
 
-values_looked : (v : Option (Span × Separated ExprTree)) → Looked (values_occs v) (values_uses v)
+values_looked : (v : Option (Span × Separated ExprTree)) → Looked (values_occs v) (values_used_idents v)
 values_looked None = none
 values_looked (Some v) = exprs_looked v.1
 
-value_spec_looked : (v : ValueSpecTree) → Looked (value_spec_occs v) (value_spec_uses v)
+value_spec_looked : (v : ValueSpecTree) → Looked (value_spec_occs v) (value_spec_used_idents v)
 value_spec_looked v = both (some_type_looked v.type_expr) (values_looked v.values)
 
-simple_looked : (s : SimpleTree) → Looked (simple_occs s) (simple_uses s)
+simple_looked : (s : SimpleTree) → Looked (simple_occs s) (simple_used_idents s)
 simple_looked (Alone t) = value t
 simple_looked (Step t op span) = value t
 simple_looked (Assign ts span es) = both (targets_looked ts) (exprs_looked es)
 simple_looked (Update t op span e) = both (value t) (value e)
 simple_looked (Define xs span es) = exprs_looked es
 
-some_exprs_looked : (es : Option (Separated ExprTree)) → Looked (some_exprs_occs es) (some_exprs_uses es)
+some_exprs_looked : (es : Option (Separated ExprTree)) → Looked (some_exprs_occs es) (some_exprs_used_idents es)
 some_exprs_looked None = none
 some_exprs_looked (Some es) = exprs_looked es
 
@@ -248,10 +248,10 @@ record Goes (os : List Occ) (f : Steps → Steps) : Type 0 where
 nothing : Goes [] (λ rest. rest)
 nothing = record { goes = λ us rest h. h }
 
-check : {os : List Occ} (p : Piece) → Looked os (piece_uses p) → Goes os (λ rest. Check p rest)
+check : {os : List Occ} (p : Piece) → Looked os (piece_used_idents p) → Goes os (λ rest. Check p rest)
 check {os} p here = record { goes = λ us rest h. both here h }
 
-declare : {os : List Occ} (m : Manner) (from : ℕ) (p : Piece) (xs : List Ident) → Looked os (piece_uses p) → Goes os (λ rest. Declare m from p xs rest)
+declare : {os : List Occ} (m : Newness) (from : ℕ) (p : Piece) (xs : List Ident) → Looked os (piece_used_idents p) → Goes os (λ rest. Declare m from p xs rest)
 declare {os} m from p xs here = record { goes = λ us rest h. both here h }
 
 one_then : {os ps : List Occ} {f g : Steps → Steps} → Goes os f → Goes ps g → Goes (os ++ ps) (λ rest. f (g rest))
@@ -329,7 +329,7 @@ mutual
   lines_go NoLines = nothing
   lines_go (Line s semicolon more) = one_then (stmt_goes s) (lines_go more)
 
-pub uses_are_occurrences : UsesAreOccurrences
+pub uses_are_occurrences : PieceNamesAreOccurrences
 uses_are_occurrences f =
     ap looked_up (sym (append_assoc (receiver_occs f.receiver) (signature_occs f.signature) (lines_occs f.body)))
     ∙ (both (both (receiver_looked f.receiver) (signature_looked f.signature)) (whole (lines_go f.body))).is

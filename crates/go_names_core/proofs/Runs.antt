@@ -15,7 +15,7 @@ use Rattle.go_scope_core.specs.open_core.declared.short.ShortName.TheVariants.{N
 use Rattle.go_scope_core.specs.block_core.Blocks.{BlocksModel}
 use Rattle.go_scope_core.specs.Models.{scopes_model}
 use Rattle.go_walk_core.specs.local_core.Steps.{Steps, Done, Check, Declare, Inner, spell_piece}
-use Rattle.go_walk_core.specs.local_core.Binding.{Look}
+use Rattle.go_walk_core.specs.local_core.Binding.{NameLook}
 use Rattle.go_walk_core.specs.local_core.Law.{Rules, Out}
 use Rattle.go_walk_core.specs.local_core.Faults.{name_faults, spellings}
 use Rattle.go_walk_core.specs.local_core.Short.{meant}
@@ -25,7 +25,7 @@ use Rattle.go_walk_core.specs.local_core.ShortProofs.{news_are_short, with_names
 use Rattle.go_names_core.specs.declared.meaning.Outside.{Outside}
 use Rattle.go_names_core.specs.Body.{each_means}
 use Rattle.go_names_core.specs.Scope.{beyond_in}
-use Rattle.go_names_core.specs.Scenes.{Scene, scene, look_at, news_at, locals_declared}
+use Rattle.go_names_core.specs.Scenes.{NameScene, name_scene, look_at, news_at, locals_declared}
 use Rattle.go_names_core.specs.mirrors.Run.{Noted, noted, also, Ran, before, run}
 use Rattle.go_names_core.specs.mirrors.States.{Blocks}
 use Rattle.go_names_core.proofs.ScopeLemmas.{meant_or, scope_means}
@@ -209,7 +209,7 @@ flat_push : {X : Type 0} (bs : List (Names X)) (b : Names X) → flat (bs ++ b �
 flat_push [] b = append-nil b
 flat_push (x ∷ bs) b = ap (λ l. x ++ l) (flat_push bs b) ∙ sym (append_assoc x (flat bs) b)
 
-all_alike : {X : Type 0} (look other : Look X) → ((n : List ℕ) (p : ℕ) → look n p ≡ other n p) → (ts : List Terminal) → Alike look other ts
+all_alike : {X : Type 0} (look other : NameLook X) → ((n : List ℕ) (p : ℕ) → look n p ≡ other n p) → (ts : List Terminal) → Alike look other ts
 all_alike look other h [] = tt
 all_alike look other h (t ∷ ts) = (by t.kind, all_alike look other h ts)
   where
@@ -233,8 +233,8 @@ module _ (X N : Type 0) (rules : Rules X N) (at_names : LookAtNames X N rules) (
   abbrev beyond : List ℕ → Option X
   beyond = beyond_in outside around file
 
-  abbrev at : Blocks → List X → Scene X
-  at bs ms = scene (scopes_model around file bs) ms
+  abbrev at : Blocks → List X → NameScene X
+  at bs ms = name_scene (scopes_model around file bs) ms
 
   agrees_means : (ms : List X) (d : Option DeclId) (x o : Option X) → Agrees ms d x → meant_or ms d o ≡ or_else x o
   agrees_means ms None None o h = refl
@@ -272,14 +272,14 @@ module _ (X N : Type 0) (rules : Rules X N) (at_names : LookAtNames X N rules) (
       → Gives (run rules outside (at (bs ++ b ∷ []) ms) ss) (noted_of (walk_out rules beyond (flat cs) c o e ss)) ms
   run_is Done ms bs b cs c o e h k each first = (refl, ([], sym (append-nil ms)))
   run_is (Check p rest) ms bs b cs c o e h k each first =
-      let here : Scene X = at (bs ++ b ∷ []) ms in
+      let here : NameScene X = at (bs ++ b ∷ []) ms in
       let others = run_is rest ms bs b cs c o e h k each first in
       let same : rules.notes (look_at outside here) [] p ≡ rules.notes (look_in beyond (flat cs ++ c)) [] p = at_names.notes (look_at outside here) (look_in beyond (flat cs ++ c)) [] p (all_alike _ _ (looks_same ms bs b cs c h k each first) (spell_piece p)) in
       (ap (λ ns. also (noted ns []) (run rules outside here rest).noted) same ∙ ap (also (noted (rules.notes (look_in beyond (flat cs ++ c)) [] p) [])) others.0, others.1)
   run_is (Declare m from p xs rest) ms bs b cs c o e h k each first =
-      let here : Scene X = at (bs ++ b ∷ []) ms in
-      let look : Look X = look_at outside here in
-      let other : Look X = look_in beyond (flat cs ++ c) in
+      let here : NameScene X = at (bs ++ b ∷ []) ms in
+      let look : NameLook X = look_at outside here in
+      let other : NameLook X = look_in beyond (flat cs ++ c) in
       let alike = all_alike look other (looks_same ms bs b cs c h k each first) (spell_piece p) in
       let new : List Bool = news (names_of c) xs in
       let means : ℕ → X = rules.means other new p in

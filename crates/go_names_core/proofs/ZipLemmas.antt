@@ -10,7 +10,7 @@ use Rattle.std.proofs.lemmas.Slice.Zip.{either_empty_from_Zip, Zip-so_far}
 use Rattle.go_tree_nodes.specs.declared.names.Ident.{Ident}
 use Rattle.go_scope_core.specs.open_core.declared.short.ShortName.{ShortName}
 use Rattle.go_names_core.specs.mirrors.Declaring.{faults_of_second}
-use Rattle.go_names_core.specs.Scenes.{Scene, locals_declared}
+use Rattle.go_names_core.specs.Scenes.{NameScene, locals_declared}
 
 -- one of the two lists is over
 pub zip_over : {A B : Type 0} (ks : List A) (vs : List B) (xs : List (Bor A × Bor B)) (s t u : Zip (Iter A) (Iter B)) (r : Option (Bor A × Bor B)) → iter_rest (zip_first s) ≡ ks → iter_rest (zip_second s) ≡ vs → Yields (zips fronts fronts) s xs t → r ≡ None → zips fronts fronts t r u
@@ -31,10 +31,10 @@ pub faults_over : (is_short : Bool) (shorts : List ShortName) (idents : List (Bo
 faults_over is_short shorts idents n (inl e) = ap (λ l. faults_of_second is_short (drop n shorts) (map (λ (i : Bor Ident). i.now) l)) e ∙ no_faults is_short (drop n shorts)
 faults_over is_short shorts idents n (inr e) = ap (λ l. faults_of_second is_short l (map (λ (i : Bor Ident). i.now) (drop n idents))) e
 
-none_declared : {X : Type 0} (s : Scene X) (xs : List Ident) → locals_declared s xs [] ≡ s
+none_declared : {X : Type 0} (s : NameScene X) (xs : List Ident) → locals_declared s xs [] ≡ s
 none_declared s [] = refl
 none_declared s (x ∷ xs) = refl
 
-pub locals_over : {X : Type 0} (s : Scene X) (idents : List (Bor Ident)) (ms : List X) (n : ℕ) → (drop n idents ≡ []) ⊎ (drop n ms ≡ []) → locals_declared s (map (λ i. i.now) (drop n idents)) (drop n ms) ≡ s
+pub locals_over : {X : Type 0} (s : NameScene X) (idents : List (Bor Ident)) (ms : List X) (n : ℕ) → (drop n idents ≡ []) ⊎ (drop n ms ≡ []) → locals_declared s (map (λ i. i.now) (drop n idents)) (drop n ms) ≡ s
 locals_over s idents ms n (inl e) = ap (λ l. locals_declared s (map (λ (i : Bor Ident). i.now) l) (drop n ms)) e
 locals_over s idents ms n (inr e) = ap (locals_declared s (map (λ (i : Bor Ident). i.now) (drop n idents))) e ∙ none_declared s (map (λ (i : Bor Ident). i.now) (drop n idents))

@@ -9,7 +9,7 @@ use Rattle.go_walk_core.specs.local_core.Steps.{Piece, Header}
 use Rattle.go_walk_core.specs.local_core.Outline.{header_idents}
 use Rattle.go_walk_core.specs.local_core.Binding.{Local}
 use Rattle.go_walk_core.specs.local_core.Law.{Rules}
-use Rattle.go_walk_core.specs.local_core.Tables.{walked, given, IsTable}
+use Rattle.go_walk_core.specs.local_core.Tables.{walked, out_by_intervals, IsTable}
 
 -- the names of a function's receiver, parameters and results, and what is checked of them
 abbrev pub func_idents : FuncDecl → List Ident
@@ -31,4 +31,4 @@ AreWalked rules beyond f notes faults = (notes ≡ (walked rules beyond f).notes
 -- are bound by these very declarations
 abbrev pub AreGiven : {X N : Type 0} → Rules X N → (List ℕ → Option X) → FuncTree → List N → List Fault → Type 0
 AreGiven {X} rules beyond f notes faults =
-    (all : List (Local X)) → IsTable rules beyond f all → (notes ≡ (given rules beyond f all).notes) × (faults ≡ (given rules beyond f all).faults)
+    (all : List (Local X)) → IsTable rules beyond f all → (notes ≡ (out_by_intervals rules beyond f all).notes) × (faults ≡ (out_by_intervals rules beyond f all).faults)

@@ -8,7 +8,7 @@ use Rattle.go_tree_core.specs.declared.occurrence.Occ.{Occ}
 use Rattle.go_tree_core.specs.Occurrences.{func_occs}
 use Rattle.go_walk_core.specs.local_core.Steps.{Steps, Done, Check, Declare, Inner}
 use Rattle.go_walk_core.specs.local_core.Outline.{func_steps}
-use Rattle.go_names_core.specs.Uses.{piece_uses}
+use Rattle.go_names_core.specs.Uses.{piece_used_idents}
 
 -- an occurrence of this role is a name that is looked up in scope
 abbrev pub is_looked_up : Role → Bool
@@ -29,10 +29,10 @@ looked_up (o ∷ os) = (if is_looked_up o.role then record { name = o.spelling; 
 -- the uses of the pieces of some steps
 abbrev pub steps_uses : Steps → List Ident
 steps_uses Done = []
-steps_uses (Check p rest) = piece_uses p ++ steps_uses rest
-steps_uses (Declare m from p xs rest) = piece_uses p ++ steps_uses rest
+steps_uses (Check p rest) = piece_used_idents p ++ steps_uses rest
+steps_uses (Declare m from p xs rest) = piece_used_idents p ++ steps_uses rest
 steps_uses (Inner o c steps rest) = steps_uses steps ++ steps_uses rest
 
 -- the pieces of a function use those names among its occurrences that are looked up, each once and in their order
-abbrev pub UsesAreOccurrences : Type 0
-UsesAreOccurrences = (f : FuncTree) → looked_up (func_occs f) ≡ steps_uses (func_steps f)
+abbrev pub PieceNamesAreOccurrences : Type 0
+PieceNamesAreOccurrences = (f : FuncTree) → looked_up (func_occs f) ≡ steps_uses (func_steps f)

@@ -5,7 +5,7 @@ use Rattle.go_scope_core.specs.Scopes as scopes
 use Rattle.go_scope_core.specs.Scopes.{Denoted}
 use Rattle.go_scope_core.specs.Models.{ScopesModel, scopes_model}
 use Rattle.go_scope_core.specs.Laws.{denotes}
-use Rattle.go_walk_core.specs.local_core.Binding.{Look}
+use Rattle.go_walk_core.specs.local_core.Binding.{NameLook}
 use Rattle.go_names_core.specs.declared.meaning.Outside.{Outside}
 use Rattle.go_names_core.specs.declared.meaning.Outside.TheVariants as outside
 use Rattle.go_names_core.specs.declared.look.OpenNames.{OpenNames}
@@ -22,12 +22,12 @@ some_meaning of_outside locals None = None
 some_meaning of_outside locals (Some found) = meaning_of of_outside locals found
 
 -- what a name means in a scope, wherever it stands
-abbrev pub look_in_scope : {X : Type 0} → (Outside → X) → ScopesModel → List X → Look X
+abbrev pub look_in_scope : {X : Type 0} → (Outside → X) → ScopesModel → List X → NameLook X
 look_in_scope of_outside s locals name place = some_meaning of_outside locals (denotes s name)
 
 -- what a name means among the names that are open
-abbrev pub look_of : {X : Type 0} → (Outside → X) → OpenNames X → Look X
-look_of of_outside o = look_in_scope of_outside o.scopes.now o.locals.now
+abbrev pub open_look : {X : Type 0} → (Outside → X) → OpenNames X → NameLook X
+open_look of_outside o = look_in_scope of_outside o.scopes.now o.locals.now
 
 -- what a name means outside the function: in the blocks of the file, of the package and of the universe
 abbrev pub beyond_in : {X : Type 0} → (Outside → X) → BlocksModel → ℕ → List ℕ → Option X

@@ -12,7 +12,7 @@ use Rattle.go_tree_nodes.specs.Trees.{Separated, One, Then, TypeTree, FieldTrees
 use Rattle.go_walk_core.specs.Ends.{is_blank_target}
 use Rattle.go_walk_core.specs.local_core.Steps.{Piece, Header, Spec, Act, Condition, Given}
 use Rattle.go_walk_core.specs.local_core.Outline.{idents, header_idents}
-use Rattle.go_walk_core.specs.local_core.Binding.{Look}
+use Rattle.go_walk_core.specs.local_core.Binding.{NameLook}
 use Rattle.go_walk_core.specs.local_core.Law.{Rules}
 use Rattle.go_names_core.specs.declared.meaning.Outside.{Outside}
 use Rattle.go_names_core.specs.declared.names.Denoted.{Denoted}
@@ -21,110 +21,110 @@ use Rattle.go_names_core.specs.declared.names.NameUse.{NameUse}
 
 -- types: of a qualified name the package's name is looked up alone
 
-abbrev pub type_name_uses : TypeName → List Ident
-type_name_uses (type_name.Plain x) = x ∷ []
-type_name_uses (type_name.Qualified p dot x) = p ∷ []
+abbrev pub type_name_used_idents : TypeName → List Ident
+type_name_used_idents (type_name.Plain x) = x ∷ []
+type_name_used_idents (type_name.Qualified p dot x) = p ∷ []
 
 abbrev mutual
-  pub type_uses : TypeTree → List Ident
-  type_uses (NamedType n) = type_name_uses n
-  type_uses (Pointer star t) = type_uses t
-  type_uses (ParenType first t last) = type_uses t
-  type_uses (Struct k first ls last) = fields_uses ls
-  type_uses (Interface k first methods last) = methods_uses methods
+  pub type_used_idents : TypeTree → List Ident
+  type_used_idents (NamedType n) = type_name_used_idents n
+  type_used_idents (Pointer star t) = type_used_idents t
+  type_used_idents (ParenType first t last) = type_used_idents t
+  type_used_idents (Struct k first ls last) = fields_used_idents ls
+  type_used_idents (Interface k first methods last) = methods_used_idents methods
 
-  pub fields_uses : FieldTrees → List Ident
-  fields_uses NoFields = []
-  fields_uses (NamedFields xs t tag s rest) = type_uses t ++ fields_uses rest
-  fields_uses (EmbeddedField star n tag s rest) = type_name_uses n ++ fields_uses rest
+  pub fields_used_idents : FieldTrees → List Ident
+  fields_used_idents NoFields = []
+  fields_used_idents (NamedFields xs t tag s rest) = type_used_idents t ++ fields_used_idents rest
+  fields_used_idents (EmbeddedField star n tag s rest) = type_name_used_idents n ++ fields_used_idents rest
 
-  pub methods_uses : MethodTrees → List Ident
-  methods_uses NoMethods = []
-  methods_uses (Method x signature s rest) = signature_uses signature ++ methods_uses rest
+  pub methods_used_idents : MethodTrees → List Ident
+  methods_used_idents NoMethods = []
+  methods_used_idents (Method x signature s rest) = signature_used_idents signature ++ methods_used_idents rest
 
-  pub signature_uses : SignatureTree → List Ident
-  signature_uses (Signed first params last result) = params_uses params ++ result_uses result
+  pub signature_used_idents : SignatureTree → List Ident
+  signature_used_idents (Signed first params last result) = params_used_idents params ++ result_used_idents result
 
-  pub result_uses : ResultTree → List Ident
-  result_uses NoResult = []
-  result_uses (OneResult t) = type_uses t
-  result_uses (Results first params last) = params_uses params
+  pub result_used_idents : ResultTree → List Ident
+  result_used_idents NoResult = []
+  result_used_idents (OneResult t) = type_used_idents t
+  result_used_idents (Results first params last) = params_used_idents params
 
-  pub params_uses : ParamTrees → List Ident
-  params_uses NoParams = []
-  params_uses (Param xs t comma rest) = type_uses t ++ params_uses rest
+  pub params_used_idents : ParamTrees → List Ident
+  params_used_idents NoParams = []
+  params_used_idents (Param xs t comma rest) = type_used_idents t ++ params_used_idents rest
 
 -- the fields of one line
-abbrev pub field_uses : Fields → List Ident
-field_uses (fields.Named xs t) = type_uses (shape_type t)
-field_uses (fields.Embedded star n) = type_name_uses n
+abbrev pub field_used_idents : Fields → List Ident
+field_used_idents (fields.Named xs t) = type_used_idents (shape_type t)
+field_used_idents (fields.Embedded star n) = type_name_used_idents n
 
-abbrev pub receiver_uses : Option Receiver → List Ident
-receiver_uses None = []
-receiver_uses (Some r) = type_name_uses r.base
+abbrev pub receiver_used_idents : Option Receiver → List Ident
+receiver_used_idents None = []
+receiver_used_idents (Some r) = type_name_used_idents r.base
 
 -- expressions: not the name right of a dot, nor the key of an element
 
 abbrev mutual
-  pub expr_uses : ExprTree → List Ident
-  expr_uses (Integer n span) = []
-  expr_uses (Text t) = []
-  expr_uses (Named x) = x ∷ []
-  expr_uses (Paren first t last) = expr_uses t
-  expr_uses (Unary op span t) = expr_uses t
-  expr_uses (Binary a op span b) = expr_uses a ++ expr_uses b
-  expr_uses (Select t dot x) = expr_uses t
-  expr_uses (Call t first items last) = expr_uses t ++ items_uses items
-  expr_uses (Literal n first items last) = type_name_uses n ++ items_uses items
-  expr_uses (StructLiteral t first items last) = type_uses t ++ items_uses items
+  pub expr_used_idents : ExprTree → List Ident
+  expr_used_idents (Integer n span) = []
+  expr_used_idents (Text t) = []
+  expr_used_idents (Named x) = x ∷ []
+  expr_used_idents (Paren first t last) = expr_used_idents t
+  expr_used_idents (Unary op span t) = expr_used_idents t
+  expr_used_idents (Binary a op span b) = expr_used_idents a ++ expr_used_idents b
+  expr_used_idents (Select t dot x) = expr_used_idents t
+  expr_used_idents (Call t first items last) = expr_used_idents t ++ items_used_idents items
+  expr_used_idents (Literal n first items last) = type_name_used_idents n ++ items_used_idents items
+  expr_used_idents (StructLiteral t first items last) = type_used_idents t ++ items_used_idents items
 
-  pub items_uses : ItemTrees → List Ident
-  items_uses NoItems = []
-  items_uses (Item key t comma rest) = expr_uses t ++ items_uses rest
+  pub items_used_idents : ItemTrees → List Ident
+  items_used_idents NoItems = []
+  items_used_idents (Item key t comma rest) = expr_used_idents t ++ items_used_idents rest
 
-abbrev pub exprs_uses : Separated ExprTree → List Ident
-exprs_uses (One t) = expr_uses t
-exprs_uses (Then t comma more) = expr_uses t ++ exprs_uses more
+abbrev pub exprs_used_idents : Separated ExprTree → List Ident
+exprs_used_idents (One t) = expr_used_idents t
+exprs_used_idents (Then t comma more) = expr_used_idents t ++ exprs_used_idents more
 
-abbrev pub some_exprs_uses : Option (Separated ExprTree) → List Ident
-some_exprs_uses None = []
-some_exprs_uses (Some es) = exprs_uses es
+abbrev pub some_exprs_used_idents : Option (Separated ExprTree) → List Ident
+some_exprs_used_idents None = []
+some_exprs_used_idents (Some es) = exprs_used_idents es
 
 -- targets of assignments: the blank identifier is none that is looked up
 
-abbrev pub target_uses : ExprTree → List Ident
-target_uses t = if is_blank_target t then [] else expr_uses t
+abbrev pub target_used_idents : ExprTree → List Ident
+target_used_idents t = if is_blank_target t then [] else expr_used_idents t
 
-abbrev pub targets_uses : Separated ExprTree → List Ident
-targets_uses (One t) = target_uses t
-targets_uses (Then t comma more) = target_uses t ++ targets_uses more
+abbrev pub targets_used_idents : Separated ExprTree → List Ident
+targets_used_idents (One t) = target_used_idents t
+targets_used_idents (Then t comma more) = target_used_idents t ++ targets_used_idents more
 
 -- pieces
 
-abbrev pub some_type_uses : Option TypeTree → List Ident
-some_type_uses None = []
-some_type_uses (Some t) = type_uses t
+abbrev pub some_type_used_idents : Option TypeTree → List Ident
+some_type_used_idents None = []
+some_type_used_idents (Some t) = type_used_idents t
 
-abbrev pub values_uses : Option (Span × Separated ExprTree) → List Ident
-values_uses None = []
-values_uses (Some v) = exprs_uses v.1
+abbrev pub values_used_idents : Option (Span × Separated ExprTree) → List Ident
+values_used_idents None = []
+values_used_idents (Some v) = exprs_used_idents v.1
 
-abbrev pub value_spec_uses : ValueSpecTree → List Ident
-value_spec_uses v = some_type_uses v.type_expr ++ values_uses v.values
+abbrev pub value_spec_used_idents : ValueSpecTree → List Ident
+value_spec_used_idents v = some_type_used_idents v.type_expr ++ values_used_idents v.values
 
-abbrev pub simple_uses : SimpleTree → List Ident
-simple_uses (Alone t) = expr_uses t
-simple_uses (Step t op span) = expr_uses t
-simple_uses (Assign ts span es) = targets_uses ts ++ exprs_uses es
-simple_uses (Update t op span e) = expr_uses t ++ expr_uses e
-simple_uses (Define xs span es) = exprs_uses es
+abbrev pub simple_used_idents : SimpleTree → List Ident
+simple_used_idents (Alone t) = expr_used_idents t
+simple_used_idents (Step t op span) = expr_used_idents t
+simple_used_idents (Assign ts span es) = targets_used_idents ts ++ exprs_used_idents es
+simple_used_idents (Update t op span e) = expr_used_idents t ++ expr_used_idents e
+simple_used_idents (Define xs span es) = exprs_used_idents es
 
-abbrev pub piece_uses : Piece → List Ident
-piece_uses (Header r s) = receiver_uses r ++ signature_uses s
-piece_uses (Spec k v) = value_spec_uses v
-piece_uses (Act s) = simple_uses s
-piece_uses (Condition t) = expr_uses t
-piece_uses (Given place es) = some_exprs_uses es
+abbrev pub piece_used_idents : Piece → List Ident
+piece_used_idents (Header r s) = receiver_used_idents r ++ signature_used_idents s
+piece_used_idents (Spec k v) = value_spec_used_idents v
+piece_used_idents (Act s) = simple_used_idents s
+piece_used_idents (Condition t) = expr_used_idents t
+piece_used_idents (Given place es) = some_exprs_used_idents es
 
 -- the names that a piece declares
 
@@ -143,18 +143,18 @@ piece_declares (Condition t) = []
 piece_declares (Given place es) = []
 
 -- the place of the n-th of some names
-abbrev pub place_of : List Ident → ℕ → ℕ
-place_of [] n = 0
-place_of (x ∷ xs) zero = x.span.start
-place_of (x ∷ xs) (suc n) = place_of xs n
+abbrev pub ident_place : List Ident → ℕ → ℕ
+ident_place [] n = 0
+ident_place (x ∷ xs) zero = x.span.start
+ident_place (x ∷ xs) (suc n) = ident_place xs n
 
 -- what a name denotes where it stands
-abbrev pub use_of : Look Denoted → Ident → NameUse
-use_of look x = record { offset = x.span.start; denoted = look x.name x.span.start }
+abbrev pub name_use : NameLook Denoted → Ident → NameUse
+name_use look x = record { offset = x.span.start; denoted = look x.name x.span.start }
 
 -- each use is noted with what it denotes, and a local is known by the place of its declared identifier
-abbrev pub name_rules : Rules Denoted NameUse
-name_rules = record { notes = λ look firsts p. map (use_of look) (piece_uses p); means = λ look firsts p n. denoted.Local (place_of (piece_declares p) n) }
+abbrev pub name_use_rules : Rules Denoted NameUse
+name_use_rules = record { notes = λ look firsts p. map (name_use look) (piece_used_idents p); means = λ look firsts p n. denoted.Local (ident_place (piece_declares p) n) }
 
 -- what is declared outside the function is known as what it is
 abbrev pub denoted_outside : Outside → Denoted

@@ -14,13 +14,13 @@ use Rattle.go_scope_core.specs.decl_core.declared.keys.DeclRef.{DeclRef}
 use Rattle.go_scope_core.specs.block_core.declared.binding.Target.TheVariants as target
 use Rattle.go_scope_core.specs.block_core.Blocks.{BlocksModel, blocks_model}
 use Rattle.go_walk_core.specs.local_core.declared.Fault.{Fault}
-use Rattle.go_walk_core.specs.local_core.Tables.{walked, given}
+use Rattle.go_walk_core.specs.local_core.Tables.{walked, out_by_intervals}
 use Rattle.go_names_core.specs.declared.meaning.Outside.TheVariants as outside
 use Rattle.go_names_core.specs.declared.names.Denoted.{Denoted}
 use Rattle.go_names_core.specs.declared.names.Denoted.TheVariants as denoted
 use Rattle.go_names_core.specs.declared.names.NameUse.{NameUse}
 use Rattle.go_names_core.specs.Scope.{beyond_in}
-use Rattle.go_names_core.specs.Uses.{name_rules, denoted_outside}
+use Rattle.go_names_core.specs.Uses.{name_use_rules, denoted_outside}
 
 abbrev pub at : ℕ → Span
 at n = record { start = n; end = suc n }
@@ -35,11 +35,11 @@ name_at name n = Named (called name n)
 abbrev pub decl : ℕ → decl_kind.the_data → DeclRef
 decl n kind = record { file = 0; number = n; kind = kind }
 
-abbrev pub blocks : BlocksModel
-blocks = blocks_model ((codes "T", decl 0 decl_kind.«Type») ∷ (codes "f", decl 1 decl_kind.Func) ∷ (codes "g", decl 9 decl_kind.Func) ∷ (codes "len", decl 10 decl_kind.Func) ∷ []) (((codes "p", record { at = 91; target = target.Refused I1 }) ∷ []) ∷ []) []
+abbrev pub names_sample_blocks : BlocksModel
+names_sample_blocks = blocks_model ((codes "T", decl 0 decl_kind.«Type») ∷ (codes "f", decl 1 decl_kind.Func) ∷ (codes "g", decl 9 decl_kind.Func) ∷ (codes "len", decl 10 decl_kind.Func) ∷ []) (((codes "p", record { at = 91; target = target.Refused I1 }) ∷ []) ∷ []) []
 
-abbrev pub constant : Ident → ℕ → ExprTree → ValueSpecTree
-constant x p v = record { names = One x; type_expr = None; values = Some (at p, One v) }
+abbrev pub constant_spec : Ident → ℕ → ExprTree → ValueSpecTree
+constant_spec x p v = record { names = One x; type_expr = None; values = Some (at p, One v) }
 
 -- func f(a, b T) {
 --   const ( c = a; d = p.X )
@@ -47,15 +47,15 @@ constant x p v = record { names = One x; type_expr = None; values = Some (at p, 
 --   b, h := h, b
 --   b, _ := T{h: h}, int
 -- }
-abbrev pub function : FuncTree
-function = record {
+abbrev pub names_sample_function : FuncTree
+names_sample_function = record {
   func = at 0;
   receiver = None;
   name = called (codes "f") 1;
   signature = Signed (at 2) (Param (Some (Then (called (codes "a") 3) (at 4) (One (called (codes "b") 5)))) (NamedType (type_name.Plain (called (codes "T") 6))) None NoParams) (at 7) NoResult;
   open_brace = at 8;
   body =
-      Line (tree.Declare (record { kind = kinds.Const; keyword = at 9; specs = Group (at 10) ((constant (called (codes "c") 11) 12 (name_at (codes "a") 13), Some (at 14)) ∷ (constant (called (codes "d") 15) 16 (Select (name_at (codes "p") 17) (at 18) (called (codes "X") 19)), None) ∷ []) (at 20) })) (Some (at 21))
+      Line (tree.Declare (record { kind = kinds.Const; keyword = at 9; specs = Group (at 10) ((constant_spec (called (codes "c") 11) 12 (name_at (codes "a") 13), Some (at 14)) ∷ (constant_spec (called (codes "d") 15) 16 (Select (name_at (codes "p") 17) (at 18) (called (codes "X") 19)), None) ∷ []) (at 20) })) (Some (at 21))
       (Line (If (Branch (at 22) (record { init = Some (Some (Define (Then (called (codes "a") 23) (at 24) (One (called (codes "e") 25))) (at 26) (Then (name_at (codes "b") 27) (at 28) (One (name_at (codes "c") 29)))), at 30); condition = Binary (name_at (codes "a") 31) operator.Equal (at 32) (name_at (codes "e") 33) })
       (at 34) (Line (Return (at 35) (Some (One (name_at (codes "d") 36)))) None NoLines) (at 37)
       (ElseIf (at 38) (Branch (at 39) (record { init = None; condition = Call (name_at (codes "g") 40) (at 41) (Item None (name_at (codes "a") 42) (Some (at 43)) (Item None (name_at (codes "len") 44) None NoItems)) (at 45) })
@@ -65,42 +65,42 @@ function = record {
   close_brace = at 72;
 }
 
-abbrev pub use_at : ℕ → Denoted → NameUse
-use_at n d = record { offset = n; denoted = Some d }
+abbrev pub names_sample_use : ℕ → Denoted → NameUse
+names_sample_use n d = record { offset = n; denoted = Some d }
 
-abbrev pub uses : List NameUse
-uses =
-    use_at 6 (denoted.Outside (outside.Package (decl 0 decl_kind.«Type»)))
-    ∷ use_at 13 (denoted.Local 3)
-    ∷ use_at 17 (denoted.Outside (outside.File 91))
-    ∷ use_at 27 (denoted.Local 5)
-    ∷ use_at 29 (denoted.Local 11)
-    ∷ use_at 31 (denoted.Local 23)
-    ∷ use_at 33 (denoted.Local 25)
-    ∷ use_at 36 (denoted.Local 15)
-    ∷ use_at 40 (denoted.Outside (outside.Package (decl 9 decl_kind.Func)))
-    ∷ use_at 42 (denoted.Local 23)
-    ∷ use_at 44 (denoted.Outside (outside.Package (decl 10 decl_kind.Func)))
-    ∷ use_at 49 (denoted.Local 25)
+abbrev pub names_sample_uses : List NameUse
+names_sample_uses =
+    names_sample_use 6 (denoted.Outside (outside.Package (decl 0 decl_kind.«Type»)))
+    ∷ names_sample_use 13 (denoted.Local 3)
+    ∷ names_sample_use 17 (denoted.Outside (outside.File 91))
+    ∷ names_sample_use 27 (denoted.Local 5)
+    ∷ names_sample_use 29 (denoted.Local 11)
+    ∷ names_sample_use 31 (denoted.Local 23)
+    ∷ names_sample_use 33 (denoted.Local 25)
+    ∷ names_sample_use 36 (denoted.Local 15)
+    ∷ names_sample_use 40 (denoted.Outside (outside.Package (decl 9 decl_kind.Func)))
+    ∷ names_sample_use 42 (denoted.Local 23)
+    ∷ names_sample_use 44 (denoted.Outside (outside.Package (decl 10 decl_kind.Func)))
+    ∷ names_sample_use 49 (denoted.Local 25)
     ∷ record { offset = 56; denoted = None }
-    ∷ use_at 58 (denoted.Local 5)
-    ∷ use_at 64 (denoted.Outside (outside.Package (decl 0 decl_kind.«Type»)))
-    ∷ use_at 68 (denoted.Local 54)
-    ∷ use_at 71 (denoted.Outside (outside.Universe predeclared.Int))
+    ∷ names_sample_use 58 (denoted.Local 5)
+    ∷ names_sample_use 64 (denoted.Outside (outside.Package (decl 0 decl_kind.«Type»)))
+    ∷ names_sample_use 68 (denoted.Local 54)
+    ∷ names_sample_use 71 (denoted.Outside (outside.Universe predeclared.Int))
     ∷ []
 
 -- no name before the last `:=` is new
-abbrev pub faults : List Fault
-faults = record { offset = 60; rule = B4 } ∷ []
+abbrev pub names_sample_faults : List Fault
+names_sample_faults = record { offset = 60; rule = B4 } ∷ []
 
 -- what a name denotes outside the function
-abbrev pub beyond : List ℕ → Option Denoted
-beyond = beyond_in denoted_outside blocks 0
+abbrev pub sample_beyond : List ℕ → Option Denoted
+sample_beyond = beyond_in denoted_outside names_sample_blocks 0
 
 -- each name that is used has the declaration that is written here, and the faults are these: on the way through the function, and by the
 -- intervals of its declarations
 pub record WorkedNames : Type 0 where
-  pub uses_walked : (walked name_rules beyond function).notes ≡ uses
-  pub uses_given : (given name_rules beyond function (walked name_rules beyond function).declares).notes ≡ uses
-  pub faults_walked : (walked name_rules beyond function).faults ≡ faults
-  pub faults_given : (given name_rules beyond function (walked name_rules beyond function).declares).faults ≡ faults
+  pub uses_walked : (walked name_use_rules sample_beyond names_sample_function).notes ≡ names_sample_uses
+  pub uses_given : (out_by_intervals name_use_rules sample_beyond names_sample_function (walked name_use_rules sample_beyond names_sample_function).declares).notes ≡ names_sample_uses
+  pub faults_walked : (walked name_use_rules sample_beyond names_sample_function).faults ≡ names_sample_faults
+  pub faults_given : (out_by_intervals name_use_rules sample_beyond names_sample_function (walked name_use_rules sample_beyond names_sample_function).declares).faults ≡ names_sample_faults

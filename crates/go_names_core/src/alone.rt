@@ -37,10 +37,10 @@ impl Checker for NamesAlone {
 
     type Note = NameUse;
 
-    ghost use Rattle.go_names_core.specs.Uses.{name_rules};
+    ghost use Rattle.go_names_core.specs.Uses.{name_use_rules};
     ghost use Rattle.go_names_core.specs.mirrors.NameLaws.{names_alike};
 
-    ghost rules = { λ _. name_rules };
+    ghost rules = { λ _. name_use_rules };
 
     fn check_header(
         &self,

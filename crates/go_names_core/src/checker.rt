@@ -8,7 +8,7 @@ ghost use Rattle.go_walk_core.specs.local_core.Steps.{Spec, Act, Condition, Give
 ghost use Rattle.go_walk_core.specs.local_core.Outline.{idents};
 ghost use Rattle.go_walk_core.specs.local_core.Law.{Rules as TheRules};
 ghost use Rattle.go_walk_core.specs.local_core.Alike.{LookAtNames};
-ghost use Rattle.go_names_core.specs.Scope.{look_of};
+ghost use Rattle.go_names_core.specs.Scope.{open_look};
 ghost use Rattle.go_names_core.specs.Body.{each_means, func_idents, func_header};
 
 use crate::look::OpenNames;
@@ -40,8 +40,8 @@ pub trait Checker {
         firsts: &[bool],
         notes: &mut Vec<Self::Note>,
     ) -> Result<Vec<Self::Meaning>, AllocError>
-        ensures notes { OnOk result (notes.new.items ≡ notes.old.items ++ (rules self.now).notes (look_of Self.Meaning.outside names.now) firsts.now (func_header func.now)) }
-        ensures means { IfOk result (λ means. means.items ≡ each_means ((rules self.now).means (look_of Self.Meaning.outside names.now) firsts.now (func_header func.now)) 0 (func_idents func.now)) };
+        ensures notes { OnOk result (notes.new.items ≡ notes.old.items ++ (rules self.now).notes (open_look Self.Meaning.outside names.now) firsts.now (func_header func.now)) }
+        ensures means { IfOk result (λ means. means.items ≡ each_means ((rules self.now).means (open_look Self.Meaning.outside names.now) firsts.now (func_header func.now)) 0 (func_idents func.now)) };
 
     /// Checks a specification of constants or variables, and answers what its names mean.
     fn check_spec(
@@ -52,8 +52,8 @@ pub trait Checker {
         firsts: &[bool],
         notes: &mut Vec<Self::Note>,
     ) -> Result<Vec<Self::Meaning>, AllocError>
-        ensures notes { OnOk result (notes.new.items ≡ notes.old.items ++ (rules self.now).notes (look_of Self.Meaning.outside names.now) firsts.now (Spec kind (shape_value_spec spec.now))) }
-        ensures means { IfOk result (λ means. means.items ≡ each_means ((rules self.now).means (look_of Self.Meaning.outside names.now) firsts.now (Spec kind (shape_value_spec spec.now))) 0 (idents (shape_idents spec.now.names))) };
+        ensures notes { OnOk result (notes.new.items ≡ notes.old.items ++ (rules self.now).notes (open_look Self.Meaning.outside names.now) firsts.now (Spec kind (shape_value_spec spec.now))) }
+        ensures means { IfOk result (λ means. means.items ≡ each_means ((rules self.now).means (open_look Self.Meaning.outside names.now) firsts.now (Spec kind (shape_value_spec spec.now))) 0 (idents (shape_idents spec.now.names))) };
 
     /// Checks a short declaration, and answers what its names mean.
     fn check_short(
@@ -63,8 +63,8 @@ pub trait Checker {
         firsts: &[bool],
         notes: &mut Vec<Self::Note>,
     ) -> Result<Vec<Self::Meaning>, AllocError>
-        ensures notes { OnOk result (notes.new.items ≡ notes.old.items ++ (rules self.now).notes (look_of Self.Meaning.outside names.now) firsts.now (Act (Define (shape_idents definition.now.names) definition.now.define (shape_exprs definition.now.values)))) }
-        ensures means { IfOk result (λ means. means.items ≡ each_means ((rules self.now).means (look_of Self.Meaning.outside names.now) firsts.now (Act (Define (shape_idents definition.now.names) definition.now.define (shape_exprs definition.now.values)))) 0 (idents (shape_idents definition.now.names))) };
+        ensures notes { OnOk result (notes.new.items ≡ notes.old.items ++ (rules self.now).notes (open_look Self.Meaning.outside names.now) firsts.now (Act (Define (shape_idents definition.now.names) definition.now.define (shape_exprs definition.now.values)))) }
+        ensures means { IfOk result (λ means. means.items ≡ each_means ((rules self.now).means (open_look Self.Meaning.outside names.now) firsts.now (Act (Define (shape_idents definition.now.names) definition.now.define (shape_exprs definition.now.values)))) 0 (idents (shape_idents definition.now.names))) };
 
     /// Checks a statement that declares nothing and may stand in a header.
     fn check_simple(
@@ -73,7 +73,7 @@ pub trait Checker {
         simple: &Simple,
         notes: &mut Vec<Self::Note>,
     ) -> Result<(), AllocError>
-        ensures { OnOk result (notes.new.items ≡ notes.old.items ++ (rules self.now).notes (look_of Self.Meaning.outside names.now) [] (Act (shape_simple simple.now))) };
+        ensures { OnOk result (notes.new.items ≡ notes.old.items ++ (rules self.now).notes (open_look Self.Meaning.outside names.now) [] (Act (shape_simple simple.now))) };
 
     /// Checks a condition.
     fn check_condition(
@@ -82,7 +82,7 @@ pub trait Checker {
         condition: &Expr,
         notes: &mut Vec<Self::Note>,
     ) -> Result<(), AllocError>
-        ensures { OnOk result (notes.new.items ≡ notes.old.items ++ (rules self.now).notes (look_of Self.Meaning.outside names.now) [] (Condition (shape condition.now))) };
+        ensures { OnOk result (notes.new.items ≡ notes.old.items ++ (rules self.now).notes (open_look Self.Meaning.outside names.now) [] (Condition (shape condition.now))) };
 
     /// Checks what is returned.
     fn check_given(
@@ -92,7 +92,7 @@ pub trait Checker {
         values: &Option<Box<Exprs>>,
         notes: &mut Vec<Self::Note>,
     ) -> Result<(), AllocError>
-        ensures { OnOk result (notes.new.items ≡ notes.old.items ++ (rules self.now).notes (look_of Self.Meaning.outside names.now) [] (Given place (shape_some_exprs values.now))) };
+        ensures { OnOk result (notes.new.items ≡ notes.old.items ++ (rules self.now).notes (open_look Self.Meaning.outside names.now) [] (Given place (shape_some_exprs values.now))) };
 
     // the rules look at the names of a piece alone
     ghost at_names: { (a : Self) → LookAtNames Self.Meaning Self.Note (rules a) };

@@ -2,12 +2,12 @@
 
 ghost use Rattle.std.specs.Prelude.{◌≡◌, [], ◌∷◌, ◌++◌, IfOk, OnOk, map, if◌then◌else◌};
 ghost use Rattle.go_scope_core.specs.open_core.Blocks.{innermost, short_name, short_names, is_short_new, list_name, any_new};
-ghost use Rattle.go_walk_core.specs.local_core.Faults.{fault_at, none_new_fault, spellings};
+ghost use Rattle.go_walk_core.specs.local_core.Faults.{ident_fault, none_new_fault, spellings};
 ghost use Rattle.go_tree_nodes.specs.TypeShapes.{shape_idents};
 ghost use Rattle.go_walk_core.specs.local_core.Outline.{idents};
 ghost use Rattle.go_names_core.specs.Body.{func_idents};
 ghost use Rattle.go_names_core.specs.mirrors.Declaring.{is_second, faults_of_second, found_faults, AreNew};
-ghost use Rattle.go_names_core.specs.Scenes.{scene, local_declared, locals_declared};
+ghost use Rattle.go_names_core.specs.Scenes.{name_scene, local_declared, locals_declared};
 
 use crate::idents::{header_idents, listed_idents};
 use crate::meaning::Meant;
@@ -143,7 +143,7 @@ fn add_fault_if(
     ident: &Ident,
     rule: Rule,
 ) -> Result<(), AllocError>
-    ensures { OnOk result (faults.new.items ≡ faults.old.items ++ (if is_fault then fault_at ident.now rule ∷ [] else [])) }
+    ensures { OnOk result (faults.new.items ≡ faults.old.items ++ (if is_fault then ident_fault ident.now rule ∷ [] else [])) }
 {
     if is_fault {
         let offset = ident.span.start as usize;
@@ -203,7 +203,7 @@ fn declare_local<M: Drop>(
     ident: &Ident,
     meaning: M,
 ) -> Result<(), AllocError>
-    ensures { OnOk result (scene scopes.new locals.new.items ≡ local_declared (scene scopes.old locals.old.items) ident.now meaning) }
+    ensures { OnOk result (name_scene scopes.new locals.new.items ≡ local_declared (name_scene scopes.old locals.old.items) ident.now meaning) }
 {
     let id = DeclId(locals.len());
     locals.push(meaning)?;
@@ -225,7 +225,7 @@ fn declare_locals<M: Meant + Drop>(
     idents: &[&Ident],
     means: &[M],
 ) -> Result<(), AllocError>
-    ensures { OnOk result (scene scopes.new locals.new.items ≡ locals_declared (scene scopes.old locals.old.items) (map (λ i. i.now) idents.now) means.now) }
+    ensures { OnOk result (name_scene scopes.new locals.new.items ≡ locals_declared (name_scene scopes.old locals.old.items) (map (λ i. i.now) idents.now) means.now) }
 {
     for (ident, meaning) in idents.iter().zip(means) {
         let again = meaning.again()?;
@@ -245,7 +245,7 @@ pub(crate) fn declare<M: Meant + Drop>(
     means: &[M],
 ) -> Result<(), AllocError>
     ensures faults { OnOk result (faults.new.items ≡ faults.old.items ++ found_faults is_short names.now.shorts.items (map (λ i. i.now) names.now.idents.items)) }
-    ensures scene { OnOk result (scene scopes.new locals.new.items ≡ locals_declared (scene scopes.old locals.old.items) (map (λ i. i.now) names.now.idents.items) means.now) }
+    ensures scene { OnOk result (name_scene scopes.new locals.new.items ≡ locals_declared (name_scene scopes.old locals.old.items) (map (λ i. i.now) names.now.idents.items) means.now) }
 {
     add_name_faults(
         faults,

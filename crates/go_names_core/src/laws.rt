@@ -1,5 +1,5 @@
 //! Laws of what the names of a function denote, with nothing to run.
-ghost use Rattle.go_names_core.specs.Occurrences.{UsesAreOccurrences};
+ghost use Rattle.go_names_core.specs.Occurrences.{PieceNamesAreOccurrences};
 ghost use Rattle.go_names_core.specs.Scenes.{OpenNamesAreBound};
 ghost use Rattle.go_names_core.specs.Worked.{WorkedNames};
 
@@ -14,7 +14,7 @@ pub fn open_names_are_bound<X, N>()
 /// The pieces of a function use those names among its occurrences that are looked up in scope, each once and in their order: names of
 /// values, of types and of what is called, and names left of a dot.
 pub fn uses_are_occurrences()
-    ensures { UsesAreOccurrences }
+    ensures { PieceNamesAreOccurrences }
 {}
 
 /// A function with a header, an `else` chain, a group of constants and a short declaration that redeclares, in which each name denotes the

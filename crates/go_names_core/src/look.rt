@@ -1,7 +1,7 @@
 //! The names that are open at a place of a function.
 ghost use Rattle.std.specs.Prelude.{◌≡◌, ℕ, [], slice_get, IfOk};
 ghost use Rattle.go_scope_core.specs.Scopes.{denoted_of};
-ghost use Rattle.go_names_core.specs.Scope.{meaning_of, look_of};
+ghost use Rattle.go_names_core.specs.Scope.{meaning_of, open_look};
 
 use crate::meaning::{Meant, Outside};
 use go_scope_core::open_core::DeclId;
@@ -71,7 +71,7 @@ impl<'a, M: Meant> OpenNames<'a, M> {
     ///
     /// [`AllocError`] where memory is wanting for what is shared with the meaning of a local ([`Meant::again`]).
     pub fn find(&self, name: &str) -> Result<Option<M>, AllocError>
-        ensures { IfOk result (λ meaning. (place : ℕ) → meaning ≡ look_of M.outside self.now name.now place) }
+        ensures { IfOk result (λ meaning. (place : ℕ) → meaning ≡ open_look M.outside self.now name.now place) }
     {
         match self.scopes.find(name) {
             Some(found) => meaning_of(self.locals, found),

@@ -5,7 +5,7 @@ ghost use Rattle.go_tree_nodes.specs.Shapes.{func_of};
 ghost use Rattle.go_walk_core.specs.local_core.Tables.{IsFuncPlaced};
 ghost use Rattle.go_names_core.specs.Scope.{beyond_in};
 ghost use Rattle.go_names_core.specs.Body.{AreWalked, AreGiven};
-ghost use Rattle.go_names_core.specs.Uses.{denoted_outside, name_rules};
+ghost use Rattle.go_names_core.specs.Uses.{denoted_outside, name_use_rules};
 
 use crate::alone::NamesAlone;
 use crate::function::check_function;
@@ -74,8 +74,8 @@ pub fn function_names(
     func: &FuncDecl,
 ) -> Result<FuncNames, AllocError>
     requires placed { IsFuncPlaced (func_of func.now) }
-    ensures walked { IfOk result (λ names. AreWalked name_rules (beyond_in denoted_outside blocks.now file) (func_of func.now) names.uses.items names.faults.items) }
-    ensures given { IfOk result (λ names. AreGiven name_rules (beyond_in denoted_outside blocks.now file) (func_of func.now) names.uses.items names.faults.items) }
+    ensures walked { IfOk result (λ names. AreWalked name_use_rules (beyond_in denoted_outside blocks.now file) (func_of func.now) names.uses.items names.faults.items) }
+    ensures given { IfOk result (λ names. AreGiven name_use_rules (beyond_in denoted_outside blocks.now file) (func_of func.now) names.uses.items names.faults.items) }
 {
     let checker = NamesAlone { alloc };
     let checked = check_function(alloc, &checker, blocks, file, func)?;

@@ -19,8 +19,8 @@ use Rattle.go_file_core.specs.operand_core.declared.prefixes.Prefix.TheVariants 
 use Rattle.go_file_core.specs.operand_core.TypeRules.{TypeRules}
 use Rattle.go_file_core.specs.operand_core.Values.{is_over, form_basic, basic_under, default_type, untyped, basic_type}
 use Rattle.go_file_core.specs.operand_core.Assign.{takes_nil, takes_untyped, untyped_assignable, assignable, taken, common_typed, common_untyped, common_nil, common, comparable_typed, comparable_untyped, comparable_nil, comparable}
-use Rattle.go_file_core.specs.operand_core.Operators.{group, divides, takes, is_zero, with_constants, value, arithmetic, ordered, equated, binary_in, binary}
-use Rattle.go_file_core.specs.operand_core.Prefixes.{prefix, refused_unary, signed, pointed, indirection, address, signed_over, unary_in, unary}
+use Rattle.go_file_core.specs.operand_core.Operators.{group, divides, takes, is_some_zero, with_constants, value, arithmetic, ordered, equated, binary_in, binary_operand}
+use Rattle.go_file_core.specs.operand_core.Prefixes.{prefix, refused_unary, signed, pointed, indirection, address, signed_over, unary_in, unary_operand}
 use Rattle.go_file_core.specs.denote_core.declared.things.Place.{Place}
 use Rattle.go_file_core.specs.denote_core.declared.things.Usage.{Usage}
 use Rattle.go_file_core.specs.denote_core.declared.things.Builtin.TheVariants as builtins
@@ -44,15 +44,16 @@ use Rattle.go_file_core.specs.literal_core.declared.things.NamedField.{NamedFiel
 use Rattle.go_file_core.specs.literal_core.declared.things.NamedField.TheVariants as nameds
 use Rattle.go_file_core.specs.literal_core.Look.{FieldOf}
 use Rattle.go_file_core.specs.literal_core.Fields.{shown_field, named_field}
-use Rattle.go_file_core.specs.literal_core.Literals.{is_struct, struct_rule, struct_mode, type_at, literal_rule, literal_mode, element_target}
+use Rattle.go_file_core.specs.literal_core.Literals.{is_struct, struct_rule, struct_mode, field_type_at, literal_rule, literal_mode, element_target}
 use Rattle.go_file_core.specs.literal_core.Keys.{refused_key, missing_rule, found_key, key_answer}
 use Rattle.go_file_core.specs.expr_core.declared.things.Judged.{Judged}
-use Rattle.go_file_core.specs.expr_core.Looks.{Looks, at, literals_at}
+use Rattle.go_file_core.specs.expr_core.Looks.{Looks, look_of_place, literals_at}
 use Rattle.go_file_core.specs.expr_core.Operators.{of_operand, pointer_type, is_star, passed, unary_of, operand_of, binary_operands, binary_of}
-use Rattle.go_file_core.specs.expr_core.Elements.{key_target_by, is_again, target, misfit_rule, element_rule}
-use Rattle.go_near_core.specs.Near.{NearRest, Each, IfAny, IfFine, NearValue, NearOperand, NearArgument, NearDot, NearField, NearDenoted}
+use Rattle.go_file_core.specs.expr_core.Elements.{key_target_by, is_again, element_type, misfit_rule, element_rule}
+use Rattle.go_near_core.specs.Near.{NearRest, IfAny, IfFine, NearValue, NearOperand, NearArgument, NearDot, NearField, NearDenoted}
 use Rattle.go_near_core.specs.Looks.{AreRulesClosed, AreClosed, RulesAgree, LooksAgree}
 use Rattle.go_near_core.proofs.Closing.{either, common_near, unary_near, binary_near}
+use Rattle.go_file_core.specs.statement_core.Locality.{Each}
 
 -- operands
 
@@ -174,7 +175,7 @@ module _ {T : Type 0} (Near : T → Type 0) (rules others : TypeRules T) (law : 
 
   arithmetic_by : (op : Operator) (v : Option (ValueType T)) (x y : Option Constant) → IfAny (NearValue Near) v → arithmetic rules op v x y ≡ arithmetic others op v x y
   arithmetic_by op None x y h = refl
-  arithmetic_by op (Some v) x y h = λ j. if takes (group op) (basic_same v h j) then (if divides op && is_zero y then Err Y7 else with_constants v op x y) else Err Y3
+  arithmetic_by op (Some v) x y h = λ j. if takes (group op) (basic_same v h j) then (if divides op && is_some_zero y then Err Y7 else with_constants v op x y) else Err Y3
 
   ordered_by : (op : Operator) (v : Option (ValueType T)) (x y : Option Constant) → IfAny (NearValue Near) v → ordered rules op v x y ≡ ordered others op v x y
   ordered_by op None x y h = refl
@@ -196,7 +197,7 @@ module _ {T : Type 0} (Near : T → Type 0) (rules others : TypeRules T) (law : 
       ∙ ap (λ v. ordered others op v a.constant b.constant) (common_same a.value_type b.value_type h k)
   binary_in_same groups.Equality op a b h k = λ j. equated op (comparable_same a.value_type b.value_type h k j) a.constant b.constant
 
-  pub binary_same : (op : Operator) (a b : Operand T) → NearOperand Near a → NearOperand Near b → binary rules op a b ≡ binary others op a b
+  pub binary_same : (op : Operator) (a b : Operand T) → NearOperand Near a → NearOperand Near b → binary_operand rules op a b ≡ binary_operand others op a b
   binary_same op a b h k = binary_in_same (group op) op a b h k
 
   over_same : (b : Basic) (op : Operator) (o : Operand T) → NearOperand Near o → signed_over rules b op o ≡ signed_over others b op o
@@ -223,7 +224,7 @@ module _ {T : Type 0} (Near : T → Type 0) (rules others : TypeRules T) (law : 
   unary_in_same prefixes.Address op literal o h = address_same (literal || o.addressable) o.value_type h
   unary_in_same prefixes.Bits op literal o h = refl
 
-  pub unary_same : (op : Operator) (literal : Bool) (o : Operand T) → NearOperand Near o → unary rules op literal o ≡ unary others op literal o
+  pub unary_same : (op : Operator) (literal : Bool) (o : Operand T) → NearOperand Near o → unary_operand rules op literal o ≡ unary_operand others op literal o
   unary_same op literal o h = unary_in_same (prefix op) op literal o h
 
   -- what operators make of what their operands denote
@@ -271,7 +272,7 @@ module _ {T : Type 0} (Near : T → Type 0) (rules others : TypeRules T) (law : 
   pointer_near (Some t) h = law.pointer_to t h
 
   pub unary_of_near : {S D : Type 0} (Rest : NearRest S D) (op : Operator) (literal : Bool) (d : Denoted T S D) → NearDenoted Near Rest d → NearDenoted Near Rest (unary_of rules op literal d).denoted
-  unary_of_near Rest op literal (denotes.«Value» o) h = operand_judged _ _ Rest (unary rules op literal o) (unary_near Near rules law op literal o h)
+  unary_of_near Rest op literal (denotes.«Value» o) h = operand_judged _ _ Rest (unary_operand rules op literal o) (unary_near Near rules law op literal o h)
   unary_of_near {S = S} {D = D} Rest op literal (denotes.«Type» d t) h = either (λ (x : Judged T S D). NearDenoted Near Rest x.denoted) (is_star op) _ _ (pointer_near t h) tt
   unary_of_near Rest op literal denotes.Refused h = tt
   unary_of_near Rest op literal denotes.Typeless h = tt
@@ -282,7 +283,7 @@ module _ {T : Type 0} (Near : T → Type 0) (rules others : TypeRules T) (law : 
   unary_of_near Rest op literal (denotes.Builtin d b) h = tt
 
   operands_near : (S D : Type 0) (Rest : NearRest S D) (op : Operator) (a b : Option (Operand T)) → IfAny (NearOperand Near) a → IfAny (NearOperand Near) b → NearDenoted Near Rest (binary_operands {S = S} {D = D} rules op a b).denoted
-  operands_near S D Rest op (Some a) (Some b) h k = operand_judged _ _ Rest (binary rules op a b) (binary_near Near rules law op a b h k)
+  operands_near S D Rest op (Some a) (Some b) h k = operand_judged _ _ Rest (binary_operand rules op a b) (binary_near Near rules law op a b h k)
   operands_near S D Rest op (Some a) None h k = tt
   operands_near S D Rest op None b h k = tt
 
@@ -292,10 +293,10 @@ module _ {T : Type 0} (Near : T → Type 0) (rules others : TypeRules T) (law : 
 -- names, selectors, calls and literals
 
 module _ {T S D P : Type 0} (Near : T → Type 0) (Rest : NearRest S D) (looks others : Looks T S D P) (law : AreClosed Near Rest looks) (agree : LooksAgree Near Rest looks others) where
-  pub name_same : (o : ℕ) (p : Place) (name : List ℕ) → name_answer (at looks o) p name ≡ name_answer (at others o) p name
+  pub name_same : (o : ℕ) (p : Place) (name : List ℕ) → name_answer (look_of_place looks o) p name ≡ name_answer (look_of_place others o) p name
   name_same o p name = λ j. if is_blank name then refused N8 else found_answer p (agree.find name o j)
 
-  says_alike : (o : ℕ) (dot : Dot T D) (name : List ℕ) → NearDot Near Rest dot → SaysAlike (at looks o) (at others o) dot name name
+  says_alike : (o : ℕ) (dot : Dot T D) (name : List ℕ) → NearDot Near Rest dot → SaysAlike (look_of_place looks o) (look_of_place others o) dot name name
   says_alike o (dots.«Package» d) name h = agree.exported d name h
   says_alike o dots.Refused name h = tt
   says_alike o dots.Untyped name h = tt
@@ -304,8 +305,8 @@ module _ {T S D P : Type 0} (Near : T → Type 0) (Rest : NearRest S D) (looks o
     default_each Near looks.types others.types law.types agree.types (λ v. looks.select v name ≡ others.select v name) (λ v near. agree.select v name near) operand.value_type h,
   )
 
-  pub selector_same : (o : ℕ) (u : Usage) (dot : Dot T D) (name : List ℕ) → NearDot Near Rest dot → selector_answer (at looks o) u dot name ≡ selector_answer (at others o) u dot name
-  selector_same o u dot name h = selectors_local (at looks o) (at others o) u dot name (says_alike o dot name h)
+  pub selector_same : (o : ℕ) (u : Usage) (dot : Dot T D) (name : List ℕ) → NearDot Near Rest dot → selector_answer (look_of_place looks o) u dot name ≡ selector_answer (look_of_place others o) u dot name
+  selector_same o u dot name h = selectors_local (look_of_place looks o) (look_of_place others o) u dot name (says_alike o dot name h)
 
   -- calls
 
@@ -332,7 +333,7 @@ module _ {T S D P : Type 0} (Near : T → Type 0) (Rest : NearRest S D) (looks o
   arguments_alike (a ∷ given) [] h k = tt
   arguments_alike (a ∷ given) (param ∷ params) h k = (argument_alike a param h.0 k.0, arguments_alike given params h.1 k.1)
 
-  calls_alike : (o : ℕ) (d : Denoted T S D) (given : List (Argument T)) → NearDenoted Near Rest d → Each (NearArgument Near) given → CallsAlike (at looks o) (at others o) d given
+  calls_alike : (o : ℕ) (d : Denoted T S D) (given : List (Argument T)) → NearDenoted Near Rest d → Each (NearArgument Near) given → CallsAlike (look_of_place looks o) (look_of_place others o) d given
   calls_alike o (denotes.«Type» d None) given h k = tt
   calls_alike o (denotes.«Type» d (Some t)) given h k = each_alike _ (λ v near. given_to v t near h) given k
   calls_alike o (denotes.Func d s) given h k =
@@ -348,10 +349,10 @@ module _ {T S D P : Type 0} (Near : T → Type 0) (Rest : NearRest S D) (looks o
   calls_alike o denotes.Nothing given h k = tt
 
   pub call_same : (o : ℕ) (d : Denoted T S D) (free : Bool) (given : List (Argument T)) → NearDenoted Near Rest d → Each (NearArgument Near) given
-      → call_answer (at looks o) d free given ≡ call_answer (at others o) d free given
-  call_same o d free given h k = calls_local (at looks o) (at others o) d free given (calls_alike o d given h k)
+      → call_answer (look_of_place looks o) d free given ≡ call_answer (look_of_place others o) d free given
+  call_same o d free given h k = calls_local (look_of_place looks o) (look_of_place others o) d free given (calls_alike o d given h k)
 
-  pub arguments_same : (o : ℕ) (ds : List (Denoted T S D)) → Each (NearDenoted Near Rest) ds → arguments_of (at looks o) ds ≡ arguments_of (at others o) ds
+  pub arguments_same : (o : ℕ) (ds : List (Denoted T S D)) → Each (NearDenoted Near Rest) ds → arguments_of (look_of_place looks o) ds ≡ arguments_of (look_of_place others o) ds
   arguments_same o [] h = refl
   arguments_same o (denotes.Several s ∷ []) h = λ j. map argument_of_result (agree.results s h.0 j)
   arguments_same o (denotes.Nothing ∷ []) h = refl
@@ -393,9 +394,9 @@ module _ {T S D P : Type 0} (Near : T → Type 0) (Rest : NearRest S D) (looks o
   by_mode_same o t modes.Untested n by_key h = refl
   by_mode_same o t modes.ByKey n by_key h = refl
   by_mode_same o None modes.InOrder n by_key h = refl
-  by_mode_same o (Some t) modes.InOrder n by_key h = λ j. if is_struct (agree.types.form t h j) then type_at (agree.fields t h j) n else None
+  by_mode_same o (Some t) modes.InOrder n by_key h = λ j. if is_struct (agree.types.form t h j) then field_type_at (agree.fields t h j) n else None
 
-  pub target_same : (o : ℕ) (t : Option T) (mode : Mode) (m : Bool) (n : ℕ) (keys : List (List ℕ)) (key : Option Key) → IfAny Near t → target looks o t mode m n keys key ≡ target others o t mode m n keys key
+  pub target_same : (o : ℕ) (t : Option T) (mode : Mode) (m : Bool) (n : ℕ) (keys : List (List ℕ)) (key : Option Key) → IfAny Near t → element_type looks o t mode m n keys key ≡ element_type others o t mode m n keys key
   target_same o t mode m n keys key h =
       by_mode_same o t mode n (key_target_by looks t m (is_again key keys) key) h
       ∙ ap (element_target (literals_at others o) t mode n) (key_target_same t m (is_again key keys) key h)
@@ -446,7 +447,7 @@ module _ {T S D P : Type 0} (Near : T → Type 0) (Rest : NearRest S D) (looks o
   key_target_near t m again None h = tt
   key_target_near t m again (Some k) h = key_near k.name.span.start t m again k.name.name h
 
-  at_near : (fs : List (FieldOf T D)) (n : ℕ) → Each (NearField Near) fs → IfAny Near (type_at fs n)
+  at_near : (fs : List (FieldOf T D)) (n : ℕ) → Each (NearField Near) fs → IfAny Near (field_type_at fs n)
   at_near [] n h = tt
   at_near (f ∷ fs) zero h = h.0
   at_near (f ∷ fs) (suc n) h = at_near fs n h.1
@@ -457,5 +458,5 @@ module _ {T S D P : Type 0} (Near : T → Type 0) (Rest : NearRest S D) (looks o
   by_mode_near o None modes.InOrder n by_key h k = tt
   by_mode_near o (Some t) modes.InOrder n by_key h k = either (IfAny Near) (is_struct (looks.types.form t)) _ _ (at_near (looks.literals.fields t) n (law.fields t h)) tt
 
-  pub target_near : (o : ℕ) (t : Option T) (mode : Mode) (m : Bool) (n : ℕ) (keys : List (List ℕ)) (key : Option Key) → IfAny Near t → IfAny Near (target looks o t mode m n keys key)
+  pub target_near : (o : ℕ) (t : Option T) (mode : Mode) (m : Bool) (n : ℕ) (keys : List (List ℕ)) (key : Option Key) → IfAny Near t → IfAny Near (element_type looks o t mode m n keys key)
   target_near o t mode m n keys key h = by_mode_near o t mode n (key_target_by looks t m (is_again key keys) key) h (key_target_near t m (is_again key keys) key h)

@@ -20,8 +20,8 @@ use Rattle.go_file_core.specs.operand_core.declared.prefixes.Prefix.TheVariants 
 use Rattle.go_file_core.specs.operand_core.TypeRules.{TypeRules}
 use Rattle.go_file_core.specs.operand_core.Values.{is_basic, is_over, basic_under, default_type, untyped}
 use Rattle.go_file_core.specs.operand_core.Assign.{assignable, taken, common_typed, common_kind, common_untyped, common_nil, common}
-use Rattle.go_file_core.specs.operand_core.Operators.{group, divides, takes, is_zero, computed, with_constants, arithmetic, ordered, equated, binary_in, binary}
-use Rattle.go_file_core.specs.operand_core.Prefixes.{prefix, signed, pointed, indirection, address, signed_over, unary_in, unary}
+use Rattle.go_file_core.specs.operand_core.Operators.{group, divides, takes, is_some_zero, computed, with_constants, arithmetic, ordered, equated, binary_in, binary_operand}
+use Rattle.go_file_core.specs.operand_core.Prefixes.{prefix, signed, pointed, indirection, address, signed_over, unary_in, unary_operand}
 use Rattle.go_file_core.specs.operand_core.Conversions.{makes_text, fits, convert, length_of}
 use Rattle.go_file_core.specs.denote_core.declared.things.Place.{Place}
 use Rattle.go_file_core.specs.denote_core.declared.things.Place.TheVariants as places
@@ -43,12 +43,13 @@ use Rattle.go_file_core.specs.denote_core.declared.things.Denoted.{Denoted}
 use Rattle.go_file_core.specs.denote_core.declared.things.Denoted.TheVariants as denotes
 use Rattle.go_file_core.specs.denote_core.declared.things.Answer.{Answer}
 use Rattle.go_file_core.specs.denote_core.Answers.{of_value, value_of_type, package_answer, type_answer, func_answer, value_answer, found_answer, name_answer}
-use Rattle.go_file_core.specs.denote_core.Selectors.{place_of, exported_answer, dot_of, field_answer, method_answer, member_answer, value_selector, selector_answer}
+use Rattle.go_file_core.specs.denote_core.Selectors.{usage_place, exported_answer, dot_of, field_answer, method_answer, member_answer, value_selector, selector_answer}
 use Rattle.go_file_core.specs.denote_core.Arguments.{argument_of_result, argument_of, arguments_alone, arguments_of}
 use Rattle.go_file_core.specs.denote_core.Calls.{of_results, all_fit, func_call, of_conversion, convert_argument, conversion, of_length, length_argument, fits_type, is_printable, builtin_call, judged_call, of_builtin, free_call, call_answer}
-use Rattle.go_file_core.specs.expr_core.Looks.{Looks, at}
-use Rattle.go_near_core.specs.Near.{NearRest, Each, IfAny, IfFine, NearForm, NearValue, NearOperand, NearArgument, NearDot, NearFound, NearExported, NearSelection, NearDenoted}
+use Rattle.go_file_core.specs.expr_core.Looks.{Looks, look_of_place}
+use Rattle.go_near_core.specs.Near.{NearRest, IfAny, IfFine, NearForm, NearValue, NearOperand, NearArgument, NearDot, NearFound, NearExported, NearSelection, NearDenoted}
 use Rattle.go_near_core.specs.Looks.{AreRulesClosed, AreClosed}
+use Rattle.go_file_core.specs.statement_core.Locality.{Each}
 
 pub either : {A : Type 0} (Is : A → Type 0) (b : Bool) (x y : A) → Is x → Is y → Is (if b then x else y)
 either Is true x y h k = h
@@ -121,7 +122,7 @@ module _ {T : Type 0} (Near : T → Type 0) (rules : TypeRules T) (law : AreRule
   arithmetic_near : (op : Operator) (v : Option (ValueType T)) (x y : Option Constant) → Both v → Fine (arithmetic rules op v x y)
   arithmetic_near op None x y h = tt
   arithmetic_near op (Some v) x y h =
-      either Fine (takes (group op) (basic_under rules v)) _ _ (either Fine (divides op && is_zero y) _ _ tt (constants_near v op x y h)) tt
+      either Fine (takes (group op) (basic_under rules v)) _ _ (either Fine (divides op && is_some_zero y) _ _ tt (constants_near v op x y h)) tt
 
   ordered_near : (op : Operator) (v : Option (ValueType T)) (x y : Option Constant) → Fine (ordered rules op v x y)
   ordered_near op None x y = tt
@@ -138,7 +139,7 @@ module _ {T : Type 0} (Near : T → Type 0) (rules : TypeRules T) (law : AreRule
   binary_in_near groups.Order op a b h k = ordered_near op _ _ _
   binary_in_near groups.Equality op a b h k = equated_near op _ _ _
 
-  pub binary_near : (op : Operator) (a b : Operand T) → NearOperand Near a → NearOperand Near b → Fine (binary rules op a b)
+  pub binary_near : (op : Operator) (a b : Operand T) → NearOperand Near a → NearOperand Near b → Fine (binary_operand rules op a b)
   binary_near op a b h k = binary_in_near (group op) op a b h k
 
   signed_near : (op : Operator) (v : ValueType T) (c : Option Constant) → NearValue Near v → Fine (signed op v c)
@@ -176,7 +177,7 @@ module _ {T : Type 0} (Near : T → Type 0) (rules : TypeRules T) (law : AreRule
   unary_in_near prefixes.Address op literal o h = address_near (literal || o.addressable) o.value_type h
   unary_in_near prefixes.Bits op literal o h = tt
 
-  pub unary_near : (op : Operator) (literal : Bool) (o : Operand T) → NearOperand Near o → Fine (unary rules op literal o)
+  pub unary_near : (op : Operator) (literal : Bool) (o : Operand T) → NearOperand Near o → Fine (unary_operand rules op literal o)
   unary_near op literal o h = unary_in_near (prefix op) op literal o h
 
   pub convert_near : (o : Operand T) (t : T) → Near t → Fine (convert rules o t)
@@ -240,15 +241,15 @@ module _ {T S D P : Type 0} (Near : T → Type 0) (Rest : NearRest S D) (looks :
   found_near p (founds.Builtin d b) h = func_near p d (denotes.Builtin d b) tt
   found_near p (founds.«Value» d o) h = valued_near p d o h
 
-  pub name_near : (o : ℕ) (p : Place) (name : List ℕ) → Answers (name_answer (at looks o) p name)
+  pub name_near : (o : ℕ) (p : Place) (name : List ℕ) → Answers (name_answer (look_of_place looks o) p name)
   name_near o p name = either Answers (is_blank name) _ _ tt (found_near p (looks.find name o) (law.find name o))
 
   exported_near : (u : Usage) (e : Exported T S D) → NearExported Near Rest e → Answers (exported_answer u e)
   exported_near u exporteds.Absent h = tt
   exported_near u exporteds.Hidden h = tt
-  exported_near u (exporteds.«Type» d t) h = type_near (place_of u) d t h
-  exported_near u (exporteds.Func d s) h = func_near (place_of u) d (denotes.Func d s) h
-  exported_near u (exporteds.«Value» d o) h = valued_near (place_of u) d o h
+  exported_near u (exporteds.«Type» d t) h = type_near (usage_place u) d t h
+  exported_near u (exporteds.Func d s) h = func_near (usage_place u) d (denotes.Func d s) h
+  exported_near u (exporteds.«Value» d o) h = valued_near (usage_place u) d o h
 
   field_near : (u : Usage) (d : D) (path : P) (t : Option T) (b : Bool) → IfAny Near t → Answers (field_answer u d path t b)
   field_near usages.Callee d path t b h = tt
@@ -265,11 +266,11 @@ module _ {T S D P : Type 0} (Near : T → Type 0) (Rest : NearRest S D) (looks :
   member_near u b (selections.«Field» d path t by_pointer) h = field_near u d path t (by_pointer || b) h
   member_near u b (selections.Method d path s needs by_pointer) h = method_near u d path s (not needs || (by_pointer || b)) h
 
-  behind_near : (o : ℕ) (u : Usage) (b : Bool) (t : Option T) (name : List ℕ) → IfAny Near t → Answers (value_selector (at looks o) u b t name)
+  behind_near : (o : ℕ) (u : Usage) (b : Bool) (t : Option T) (name : List ℕ) → IfAny Near t → Answers (value_selector (look_of_place looks o) u b t name)
   behind_near o u b None name h = tt
   behind_near o u b (Some t) name h = member_near u b (looks.select t name) (law.select t name h)
 
-  pub selector_near : (o : ℕ) (u : Usage) (dot : Dot T D) (name : List ℕ) → NearDot Near Rest dot → Answers (selector_answer (at looks o) u dot name)
+  pub selector_near : (o : ℕ) (u : Usage) (dot : Dot T D) (name : List ℕ) → NearDot Near Rest dot → Answers (selector_answer (look_of_place looks o) u dot name)
   selector_near o u (dots.«Package» d) name h = either Answers (is_blank name) _ _ tt (exported_near u (looks.exported d name) (law.exported d name h))
   selector_near o u dots.Refused name h = tt
   selector_near o u dots.Untyped name h = either Answers (is_blank name) _ _ tt tt
@@ -309,7 +310,7 @@ module _ {T S D P : Type 0} (Near : T → Type 0) (Rest : NearRest S D) (looks :
   each_argument [] h = tt
   each_argument (d ∷ ds) h = (argument_near d h.0, each_argument ds h.1)
 
-  alone_near : (o : ℕ) (d : Denoted T S D) → Denotes d → Each (NearArgument Near) (arguments_alone (at looks o) d)
+  alone_near : (o : ℕ) (d : Denoted T S D) → Denotes d → Each (NearArgument Near) (arguments_alone (look_of_place looks o) d)
   alone_near o (denotes.Several s) h = results_near (looks.results s) (law.results s h)
   alone_near o denotes.Nothing h = (tt, tt)
   alone_near o (denotes.«Value» operand) h = (h, tt)
@@ -320,7 +321,7 @@ module _ {T S D P : Type 0} (Near : T → Type 0) (Rest : NearRest S D) (looks :
   alone_near o (denotes.Func d s) h = (tt, tt)
   alone_near o (denotes.Builtin d b) h = (tt, tt)
 
-  pub arguments_near : (o : ℕ) (ds : List (Denoted T S D)) → Each Denotes ds → Each (NearArgument Near) (arguments_of (at looks o) ds)
+  pub arguments_near : (o : ℕ) (ds : List (Denoted T S D)) → Each Denotes ds → Each (NearArgument Near) (arguments_of (look_of_place looks o) ds)
   arguments_near o [] h = tt
   arguments_near o (d ∷ []) h = alone_near o d h.0
   arguments_near o (d ∷ e ∷ ds) h = each_argument (d ∷ e ∷ ds) h
@@ -336,13 +337,13 @@ module _ {T S D P : Type 0} (Near : T → Type 0) (Rest : NearRest S D) (looks :
   converted_near d (Ok o) h = h
   converted_near d (Err rule) h = tt
 
-  one_near : (o : ℕ) (d : D) (t : Option T) (a : Argument T) → IfAny Near t → Answers (convert_argument (at looks o) d t a)
+  one_near : (o : ℕ) (d : D) (t : Option T) (a : Argument T) → IfAny Near t → Answers (convert_argument (look_of_place looks o) d t a)
   one_near o d t arguments.Refused h = of_type_near false t h
   one_near o d t arguments.Void h = tt
   one_near o d None (arguments.«Value» operand) h = tt
   one_near o d (Some t) (arguments.«Value» operand) h = converted_near d (convert looks.types operand t) (convert_near Near looks.types law.types operand t h)
 
-  conversion_near : (o : ℕ) (d : D) (t : Option T) (given : List (Argument T)) → IfAny Near t → Answers (conversion (at looks o) d t given)
+  conversion_near : (o : ℕ) (d : D) (t : Option T) (given : List (Argument T)) → IfAny Near t → Answers (conversion (look_of_place looks o) d t given)
   conversion_near o d t [] h = tt
   conversion_near o d t (a ∷ []) h = one_near o d t a h
   conversion_near o d t (a ∷ b ∷ more) h = tt
@@ -351,26 +352,26 @@ module _ {T S D P : Type 0} (Near : T → Type 0) (Rest : NearRest S D) (looks :
   lengths_near d None h = tt
   lengths_near d (Some o) h = h
 
-  length_argument_near : (o : ℕ) (d : D) (a : Argument T) → Answers (length_argument (at looks o) d a)
+  length_argument_near : (o : ℕ) (d : D) (a : Argument T) → Answers (length_argument (look_of_place looks o) d a)
   length_argument_near o d arguments.Refused = law.types.int
   length_argument_near o d arguments.Void = tt
   length_argument_near o d (arguments.«Value» operand) = lengths_near d (length_of looks.types operand) (length_near Near looks.types law.types operand)
 
-  builtin_near : (o : ℕ) (d : D) (b : Builtin) (given : List (Argument T)) → Answers (builtin_call (at looks o) d b given)
+  builtin_near : (o : ℕ) (d : D) (b : Builtin) (given : List (Argument T)) → Answers (builtin_call (look_of_place looks o) d b given)
   builtin_near o d builtins.Len [] = tt
   builtin_near o d builtins.Len (a ∷ []) = length_argument_near o d a
   builtin_near o d builtins.Len (a ∷ b ∷ more) = tt
   builtin_near o d builtins.Panic [] = tt
-  builtin_near o d builtins.Panic (a ∷ []) = either Answers (fits_type (at looks o) looks.types.any a) _ _ tt tt
+  builtin_near o d builtins.Panic (a ∷ []) = either Answers (fits_type (look_of_place looks o) looks.types.any a) _ _ tt tt
   builtin_near o d builtins.Panic (a ∷ b ∷ more) = tt
-  builtin_near o d builtins.Print given = either Answers (list_all (is_printable (at looks o)) given) _ _ tt tt
+  builtin_near o d builtins.Print given = either Answers (list_all (is_printable (look_of_place looks o)) given) _ _ tt tt
 
-  func_call_near : (o : ℕ) (d : D) (s : S) (given : List (Argument T)) → Rest.sign s → Answers (func_call (at looks o) d s given)
+  func_call_near : (o : ℕ) (d : D) (s : S) (given : List (Argument T)) → Rest.sign s → Answers (func_call (look_of_place looks o) d s given)
   func_call_near o d s given h =
       either Answers (length given == length (looks.params s)) _ _
-      (either Answers (all_fit (at looks o) given (looks.params s)) _ _ (called_near s (looks.results s) h (law.results s h)) tt) tt
+      (either Answers (all_fit (look_of_place looks o) given (looks.params s)) _ _ (called_near s (looks.results s) h (law.results s h)) tt) tt
 
-  judged_near : (o : ℕ) (d : Denoted T S D) (given : List (Argument T)) → Denotes d → Answers (judged_call (at looks o) d given)
+  judged_near : (o : ℕ) (d : Denoted T S D) (given : List (Argument T)) → Denotes d → Answers (judged_call (look_of_place looks o) d given)
   judged_near o (denotes.«Type» d t) given h = conversion_near o d t given h
   judged_near o (denotes.Func d s) given h = func_call_near o d s given h
   judged_near o (denotes.Builtin d b) given h = builtin_near o d b given
@@ -381,12 +382,12 @@ module _ {T S D P : Type 0} (Near : T → Type 0) (Rest : NearRest S D) (looks :
   judged_near o (denotes.Several s) given h = tt
   judged_near o denotes.Nothing given h = tt
 
-  of_builtin_near : (o : ℕ) (b : Builtin) → Denotes (of_builtin (at looks o) b)
+  of_builtin_near : (o : ℕ) (b : Builtin) → Denotes (of_builtin (look_of_place looks o) b)
   of_builtin_near o builtins.Len = law.types.int
   of_builtin_near o builtins.Panic = tt
   of_builtin_near o builtins.Print = tt
 
-  free_near : (o : ℕ) (d : Denoted T S D) → Denotes d → Answers (free_call (at looks o) d)
+  free_near : (o : ℕ) (d : Denoted T S D) → Denotes d → Answers (free_call (look_of_place looks o) d)
   free_near o (denotes.«Type» d t) h = of_type_near false t h
   free_near o (denotes.Func d s) h = called_near s (looks.results s) h (law.results s h)
   free_near o (denotes.Builtin d b) h = of_builtin_near o b
@@ -397,6 +398,6 @@ module _ {T S D P : Type 0} (Near : T → Type 0) (Rest : NearRest S D) (looks :
   free_near o (denotes.Several s) h = tt
   free_near o denotes.Nothing h = tt
 
-  pub call_near : (o : ℕ) (d : Denoted T S D) (free : Bool) (given : List (Argument T)) → Denotes d → Answers (call_answer (at looks o) d free given)
+  pub call_near : (o : ℕ) (d : Denoted T S D) (free : Bool) (given : List (Argument T)) → Denotes d → Answers (call_answer (look_of_place looks o) d free given)
   call_near o d true given h = free_near o d h
   call_near o d false given h = judged_near o d given h

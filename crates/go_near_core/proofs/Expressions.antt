@@ -22,19 +22,20 @@ use Rattle.go_file_core.specs.literal_core.declared.things.KeyAnswer.{KeyAnswer}
 use Rattle.go_file_core.specs.literal_core.declared.things.Mode.{Mode}
 use Rattle.go_file_core.specs.literal_core.Literals.{literal_type, literal_denotes}
 use Rattle.go_file_core.specs.literal_core.Repeats.{has_name}
-use Rattle.go_file_core.specs.expr_core.Looks.{Looks, at}
+use Rattle.go_file_core.specs.expr_core.Looks.{Looks, look_of_place}
 use Rattle.go_file_core.specs.expr_core.Places.{inside, under_place, left_place, whole, is_name, is_literal, is_lone_call, is_several, start, item_start, type_name_start, type_start, place_role, role_usage}
 use Rattle.go_file_core.specs.expr_core.Operators.{unary_of, binary_of}
 use Rattle.go_file_core.specs.expr_core.Denoting.{ident_answer, type_name_answer, named_type, written_type, denoted, denoted_items, select_answer}
-use Rattle.go_file_core.specs.expr_core.Elements.{key_names, all_keys, count, keys_of, is_mixed, target, element_rule, whole_mode}
+use Rattle.go_file_core.specs.expr_core.Elements.{key_names, all_keys, item_count, keys_of, is_mixed, element_type, element_rule, whole_mode}
 use Rattle.go_file_core.specs.expr_core.Uses.{made_use, use_of, uses, spots, type_name_spots, type_name_uses, type_spots, fields_spots, methods_spots, signature_spots, result_spots, params_spots, key_spots, key_uses, args_spots, args_uses, items_spots, items_uses}
 use Rattle.go_file_core.specs.expr_core.TypeUses.{type_uses, fields_uses, methods_uses, signature_uses, result_uses, params_uses}
 use Rattle.go_file_core.specs.expr_core.Faults.{fault_at, single_rule, listed_rule, faults, args_faults, items_faults, operand_faults, literal_faults}
-use Rattle.go_near_core.specs.Near.{NearRest, Each, IfAny, NearArgument, NearDot, NearDenoted}
+use Rattle.go_near_core.specs.Near.{NearRest, IfAny, NearArgument, NearDot, NearDenoted}
 use Rattle.go_near_core.specs.Looks.{AreClosed, LooksAgree}
 use Rattle.go_near_core.specs.Laws.{IsNearby}
 use Rattle.go_near_core.proofs.Closing.{name_near, selector_near, dot_near, arguments_near, call_near}
 use Rattle.go_near_core.proofs.Agreeing.{unary_judged, binary_judged, unary_of_near, binary_of_near, name_same, selector_same, call_same, arguments_same, key_same, rule_same, mode_same, target_same, target_near, misfit_same}
+use Rattle.go_file_core.specs.statement_core.Locality.{Each}
 
 pub mapped : {A B : Type 0} (f g : A → B) (xs ys zs ws : List A) → map f xs ≡ map g zs → map f ys ≡ map g ws → map f (xs ++ ys) ≡ map g (zs ++ ws)
 mapped f g xs ys zs ws e h = map-append f xs ys ∙ ((λ j. e j ++ h j) ∙ sym (map-append g zs ws))
@@ -62,7 +63,7 @@ module _ {T S D P : Type 0} (Near : T → Type 0) (Rest : NearRest S D) (looks o
   type_name_same (type_names.Plain x) = ident_same places.«Type» x
   type_name_same (type_names.Qualified q dot x) =
       selector_same Near Rest looks others law agree x.span.start usages.«Type» (dot_of true (ident_answer looks places.TypeDot q).denoted) x.name (qualifier_near q)
-      ∙ ap (λ (a : Answer T S D P). selector_answer (at others x.span.start) usages.«Type» (dot_of true a.denoted) x.name) (ident_same places.TypeDot q)
+      ∙ ap (λ (a : Answer T S D P). selector_answer (look_of_place others x.span.start) usages.«Type» (dot_of true a.denoted) x.name) (ident_same places.TypeDot q)
 
   literal_near : (d : things.Denoted T S D) → Denotes d → IfAny Near (literal_type d)
   literal_near (denotes.«Type» d t) h = h
@@ -105,7 +106,7 @@ module _ {T S D P : Type 0} (Near : T → Type 0) (Rest : NearRest S D) (looks o
     denoted_near p (Select e dot x) =
         selector_near Near Rest looks law x.span.start (whole p) (dot_of (is_name e) (denoted looks (left_place p e) e)) x.name (dot_near Near Rest looks law (is_name e) (denoted looks (left_place p e) e) (denoted_near (left_place p e) e))
     denoted_near p (Call e first items last) =
-        call_near Near Rest looks law first.start (denoted looks places.Callee e) (is_free (is_lone_call items) (denoted_items looks items)) (arguments_of (at looks first.start) (denoted_items looks items)) (denoted_near places.Callee e)
+        call_near Near Rest looks law first.start (denoted looks places.Callee e) (is_free (is_lone_call items) (denoted_items looks items)) (arguments_of (look_of_place looks first.start) (denoted_items looks items)) (denoted_near places.Callee e)
     denoted_near p (Literal n first items last) = literal_denotes_near (named_type looks n) (named_near n)
     denoted_near p (StructLiteral t first items last) = literal_denotes_near (written_type looks t) (written_near t)
 
@@ -113,7 +114,7 @@ module _ {T S D P : Type 0} (Near : T → Type 0) (Rest : NearRest S D) (looks o
     items_near NoItems = tt
     items_near (Item key e comma rest) = (denoted_near places.«Value» e, items_near rest)
 
-  called_near : (first : ℕ) (items : ItemTrees) → Each (NearArgument Near) (arguments_of (at looks first) (denoted_items looks items))
+  called_near : (first : ℕ) (items : ItemTrees) → Each (NearArgument Near) (arguments_of (look_of_place looks first) (denoted_items looks items))
   called_near first items = arguments_near Near Rest looks law first (denoted_items looks items) (items_near items)
 
   left_near : (p : Place) (e : ExprTree) → NearDot Near Rest (dot_of (is_name e) (denoted looks (left_place p e) e))
@@ -122,15 +123,15 @@ module _ {T S D P : Type 0} (Near : T → Type 0) (Rest : NearRest S D) (looks o
   select_by : (p : Place) (e : ExprTree) (x : Ident) → denoted looks (left_place p e) e ≡ denoted others (left_place p e) e → select_answer looks p e x ≡ select_answer others p e x
   select_by p e x same =
       selector_same Near Rest looks others law agree x.span.start (whole p) (dot_of (is_name e) (denoted looks (left_place p e) e)) x.name (left_near p e)
-      ∙ ap (λ d. selector_answer (at others x.span.start) (whole p) (dot_of (is_name e) d) x.name) same
+      ∙ ap (λ d. selector_answer (look_of_place others x.span.start) (whole p) (dot_of (is_name e) d) x.name) same
 
   call_by : (e : ExprTree) (o : ℕ) (items : ItemTrees) → denoted looks places.Callee e ≡ denoted others places.Callee e → denoted_items looks items ≡ denoted_items others items
-      → call_answer (at looks o) (denoted looks places.Callee e) (is_free (is_lone_call items) (denoted_items looks items)) (arguments_of (at looks o) (denoted_items looks items))
-      ≡ call_answer (at others o) (denoted others places.Callee e) (is_free (is_lone_call items) (denoted_items others items)) (arguments_of (at others o) (denoted_items others items))
+      → call_answer (look_of_place looks o) (denoted looks places.Callee e) (is_free (is_lone_call items) (denoted_items looks items)) (arguments_of (look_of_place looks o) (denoted_items looks items))
+      ≡ call_answer (look_of_place others o) (denoted others places.Callee e) (is_free (is_lone_call items) (denoted_items others items)) (arguments_of (look_of_place others o) (denoted_items others items))
   call_by e o items same all =
-      call_same Near Rest looks others law agree o (denoted looks places.Callee e) (is_free (is_lone_call items) (denoted_items looks items)) (arguments_of (at looks o) (denoted_items looks items)) (denoted_near places.Callee e) (called_near o items)
-      ∙ (ap (λ l. call_answer (at others o) (denoted looks places.Callee e) (is_free (is_lone_call items) (denoted_items looks items)) l) (arguments_same Near Rest looks others law agree o (denoted_items looks items) (items_near items))
-      ∙ (λ j. call_answer (at others o) (same j) (is_free (is_lone_call items) (all j)) (arguments_of (at others o) (all j))))
+      call_same Near Rest looks others law agree o (denoted looks places.Callee e) (is_free (is_lone_call items) (denoted_items looks items)) (arguments_of (look_of_place looks o) (denoted_items looks items)) (denoted_near places.Callee e) (called_near o items)
+      ∙ (ap (λ l. call_answer (look_of_place others o) (denoted looks places.Callee e) (is_free (is_lone_call items) (denoted_items looks items)) l) (arguments_same Near Rest looks others law agree o (denoted_items looks items) (items_near items))
+      ∙ (λ j. call_answer (look_of_place others o) (same j) (is_free (is_lone_call items) (all j)) (arguments_of (look_of_place others o) (all j))))
 
   unary_by : (p : Place) (op : Operator) (e : ExprTree) → denoted looks p e ≡ denoted others p e → unary_of looks.types op (is_literal e) (denoted looks p e) ≡ unary_of others.types op (is_literal e) (denoted others p e)
   unary_by p op e same =
@@ -242,13 +243,13 @@ module _ {T S D P : Type 0} (Near : T → Type 0) (Rest : NearRest S D) (looks o
       → items_faults looks t (whole_mode looks offset t items) (is_mixed (keys_of items)) 0 [] items ≡ items_faults others t (whole_mode looks offset t items) (is_mixed (keys_of items)) 0 [] items
       → literal_faults looks offset t items ≡ literal_faults others offset t items
   literal_with offset t items h same =
-      let elements = same ∙ ap (λ m. items_faults others t m (is_mixed (keys_of items)) 0 [] items) (mode_same Near Rest looks others law agree offset t (keys_of items) (count items) h) in
-      λ j. fault_at offset (rule_same Near Rest looks others law agree offset t (keys_of items) (count items) h j) ++ elements j
+      let elements = same ∙ ap (λ m. items_faults others t m (is_mixed (keys_of items)) 0 [] items) (mode_same Near Rest looks others law agree offset t (keys_of items) (item_count items) h) in
+      λ j. fault_at offset (rule_same Near Rest looks others law agree offset t (keys_of items) (item_count items) h j) ++ elements j
 
   element_by : (t : Option T) (mode : Mode) (m : Bool) (n : ℕ) (keys : List (List ℕ)) (key : Option Key) (e : ExprTree) → IfAny Near t
-      → element_rule looks (start e) (target looks (start e) t mode m n keys key) (denoted looks places.«Value» e) ≡ element_rule others (start e) (target others (start e) t mode m n keys key) (denoted others places.«Value» e)
+      → element_rule looks (start e) (element_type looks (start e) t mode m n keys key) (denoted looks places.«Value» e) ≡ element_rule others (start e) (element_type others (start e) t mode m n keys key) (denoted others places.«Value» e)
   element_by t mode m n keys key e h =
-      misfit_same Near Rest looks others law agree (start e) (target looks (start e) t mode m n keys key) (denoted looks places.«Value» e) (target_near Near Rest looks others law agree (start e) t mode m n keys key h) (denoted_near places.«Value» e)
+      misfit_same Near Rest looks others law agree (start e) (element_type looks (start e) t mode m n keys key) (denoted looks places.«Value» e) (target_near Near Rest looks others law agree (start e) t mode m n keys key h) (denoted_near places.«Value» e)
       ∙ (λ j. element_rule others (start e) (target_same Near Rest looks others law agree (start e) t mode m n keys key h j) (denoted_same places.«Value» e j))
 
   pub written_faults : (t : TypeTree) → looks.written.faults_of (named_type looks) t ≡ others.written.faults_of (named_type others) t

@@ -14,7 +14,7 @@ use Rattle.go_file_core.specs.embed_core.Telling.{faults_local}
 use Rattle.go_file_core.specs.written_core.Written as types
 use Rattle.go_file_core.specs.written_core.Written.{InFile, term_of}
 use Rattle.go_file_core.specs.written_core.ByNames.{written_by_names}
-use Rattle.go_file_core.specs.local_core.Binding.{Look}
+use Rattle.go_file_core.specs.local_core.Binding.{NameLook}
 use Rattle.go_file_core.specs.local_core.Steps.{Piece}
 use Rattle.go_file_core.specs.local_core.Outline.{func_steps, func_opens, func_closes}
 use Rattle.go_file_core.specs.local_core.mirrors.Walk.{walk_out}
@@ -22,14 +22,14 @@ use Rattle.go_file_core.specs.operand_core.declared.types.Operand.{Operand}
 use Rattle.go_file_core.specs.denote_core.declared.things.Found.TheVariants as founds
 use Rattle.go_file_core.specs.face_core.Faces.{TheFace}
 use Rattle.go_file_core.specs.handle_core.Declarations.{InFile as DeclaredIn}
-use Rattle.go_file_core.specs.names_core.Uses.{place_of}
+use Rattle.go_file_core.specs.names_core.Uses.{ident_place}
 use Rattle.go_file_core.specs.names_core.Scope.{some_meaning}
 use Rattle.go_file_core.specs.scope_core.Scopes as scopes
 use Rattle.go_file_core.specs.scope_core.Scopes.{Denoted}
 use Rattle.go_file_core.specs.scope_core.Models.{scopes_model}
 use Rattle.go_file_core.specs.scope_core.Laws.{denotes}
-use Rattle.go_file_core.specs.inline_core.Functions.{looked_up}
-use Rattle.go_file_core.specs.inline_core.Inline.{inline_of, fault_in, repeated_params}
+use Rattle.go_file_core.specs.inline_core.Functions.{looked_up_ident}
+use Rattle.go_file_core.specs.inline_core.Inline.{inline_of, located_fault, repeated_params}
 use Rattle.go_file_core.specs.env_core.declared.meaning.Meaning.{Meaning}
 use Rattle.go_file_core.specs.env_core.declared.meaning.Meaning.TheVariants as meanings
 use Rattle.go_file_core.specs.env_core.Scenes.{SceneModel}
@@ -40,10 +40,10 @@ use Rattle.go_file_core.specs.piece_core.Pieces.{piece_values, piece_names}
 use Rattle.go_file_core.specs.body_core.Body.{body_of}
 use Rattle.go_file_core.specs.body_core.Notes.{note}
 use Rattle.go_file_core.specs.body_core.Rules.{value_at, local_at, piece_locals}
-use Rattle.go_file_core.specs.func_core.Types.{is_inside, named_where}
-use Rattle.go_file_core.specs.func_core.Stands.{FileStand, kinds_in, types_where, looks_where, outer_names, outer_look, outer_looks}
+use Rattle.go_file_core.specs.func_core.Types.{is_local_meaning, named_where}
+use Rattle.go_file_core.specs.func_core.Stands.{FileStand, kinds_in_scene, types_where, looks_where, outer_meanings, outer_look, outer_looks}
 use Rattle.go_file_core.specs.func_core.Functions.{own_rules, walked_func, checked_func}
-use Rattle.go_near_core.specs.Near.{Each, IfAny, NearOperand, NearFound}
+use Rattle.go_near_core.specs.Near.{IfAny, NearOperand, NearFound}
 use Rattle.go_near_core.specs.Looks.{AreClosed, LooksAgree}
 use Rattle.go_near_core.specs.Tables.{Nearby, IsNear, near_rest}
 use Rattle.go_near_core.specs.Scenes.{NamesAgree, WrittenAgree}
@@ -54,6 +54,7 @@ use Rattle.go_near_core.proofs.Reaching.{typed_near, typed_same}
 use Rattle.go_near_core.proofs.Seeing.{scene_closed, scenes_agree}
 use Rattle.go_near_core.proofs.Pieces.{pieces_nearby, returned_near, returned_same}
 use Rattle.go_near_core.proofs.Walking.{MeansNear, SayAlike, walk_same}
+use Rattle.go_file_core.specs.statement_core.Locality.{Each}
 
 module _ (near : Nearby) (file : InFile) (s t : SceneModel) (known others : List (Option TheFace)) (top other : types.Meaning) (law : StandsAgree near file s t known others top other) where
   abbrev one : FileStand
@@ -80,34 +81,34 @@ module _ (near : Nearby) (file : InFile) (s t : SceneModel) (known others : List
 
   -- types that are written
 
-  kind_same : (k : DeclKey) → near.types k → kinds_in s k ≡ kinds_in t k
+  kind_same : (k : DeclKey) → near.types k → kinds_in_scene s k ≡ kinds_in_scene t k
   kind_same k h = ap (λ e. kind_of_term (term_in e)) (law.scenes.types.same k h)
 
-  module _ (look again : Look Meaning) (same : look ≡ again) where
+  module _ (look again : NameLook Meaning) (same : look ≡ again) where
     meaning_near : (n : TypeName) → IsNear near (named_where look top n)
-    meaning_near n = either (IsNear near) (is_inside (look (looked_up n).name (looked_up n).span.start)) _ _ (λ k h. absurd (omega (arith, h.1))) (law.meanings_near n)
+    meaning_near n = either (IsNear near) (is_local_meaning (look (looked_up_ident n).name (looked_up_ident n).span.start)) _ _ (λ k h. absurd (omega (arith, h.1))) (law.meanings_near n)
 
     meaning_same : named_where look top ≡ named_where again other
-    meaning_same = λ j n. if is_inside (same j (looked_up n).name (looked_up n).span.start) then NoType else law.meanings n j
+    meaning_same = λ j n. if is_local_meaning (same j (looked_up_ident n).name (looked_up_ident n).span.start) then NoType else law.meanings n j
 
     term_near : (x : TypeTree) → IsNear near (term_of (named_where look top) file x)
     term_near x k h = let m = written_by_names.mentioned (named_where look top) file x k h in meaning_near m.0 k m.2
 
-    settled_near : (x : TypeTree) → IsNear near (settled (kinds_in s) (term_of (named_where look top) file x))
-    settled_near x k h = term_near x k (settled_mentions_written (kinds_in s) (term_of (named_where look top) file x) k h).1
+    settled_near : (x : TypeTree) → IsNear near (settled (kinds_in_scene s) (term_of (named_where look top) file x))
+    settled_near x k h = term_near x k (settled_mentions_written (kinds_in_scene s) (term_of (named_where look top) file x) k h).1
 
-    inline_same : (x : TypeTree) → inline_of (kinds_in s) file (named_where look top) x ≡ inline_of (kinds_in t) file (named_where again other) x
+    inline_same : (x : TypeTree) → inline_of (kinds_in_scene s) file (named_where look top) x ≡ inline_of (kinds_in_scene t) file (named_where again other) x
     inline_same x =
         let u = term_of (named_where look top) file x in
         let kinds = λ (k : DeclKey) (h : _). kind_same k (term_near x k h) in
-        (λ j. record { term = settling_is_local (kinds_in s) (kinds_in t) u kinds j; faults = map (fault_in file.places) (faults_local (kinds_in s) (kinds_in t) u kinds j) ++ repeated_params x })
-        ∙ (λ j. inline_of (kinds_in t) file (meaning_same j) x)
+        (λ j. record { term = settling_is_local (kinds_in_scene s) (kinds_in_scene t) u kinds j; faults = map (located_fault file.places) (faults_local (kinds_in_scene s) (kinds_in_scene t) u kinds j) ++ repeated_params x })
+        ∙ (λ j. inline_of (kinds_in_scene t) file (meaning_same j) x)
 
     types_agree : WrittenAgree near (types_where one look) (types_where two again)
     types_agree = record {
-      type_of = λ named x. typed_same near s.types t.types law.scenes.types (settled (kinds_in s) (term_of (named_where look top) file x)) (settled_near x) ∙ ap (λ i. inline_type t.types (Some i)) (inline_same x);
+      type_of = λ named x. typed_same near s.types t.types law.scenes.types (settled (kinds_in_scene s) (term_of (named_where look top) file x)) (settled_near x) ∙ ap (λ i. inline_type t.types (Some i)) (inline_same x);
       faults_of = λ named x. ap (λ i. inline_faults (Some i)) (inline_same x);
-      are_near = λ named x. typed_near near s.types t.types law.scenes.types (settled (kinds_in s) (term_of (named_where look top) file x)) (settled_near x);
+      are_near = λ named x. typed_near near s.types t.types law.scenes.types (settled (kinds_in_scene s) (term_of (named_where look top) file x)) (settled_near x);
     }
 
     module _ (sees : MeansNear NearMeaning look) where
@@ -159,7 +160,7 @@ module _ (near : Nearby) (file : InFile) (s t : SceneModel) (known others : List
     own_alike = record {
       notes = λ look firsts p sees.
           (λ j. note ((piece look look refl sees p).uses j) ((piece look look refl sees p).faults results has_names firsts inside j) (piece_locals firsts p (local_at p ((piece look look refl sees p).values firsts j))) ∷ []);
-      means = λ look firsts p sees. (λ j n. meanings.Local (place_of (piece_names p) n) (value_at ((piece look look refl sees p).values firsts j) n));
+      means = λ look firsts p sees. (λ j n. meanings.Local (ident_place (piece_names p) n) (value_at ((piece look look refl sees p).values firsts j) n));
       are_near = λ look firsts p n sees. value_near (piece_values (looks_where one look) firsts p) n ((piece look look refl sees p).near firsts);
     }
 
@@ -168,7 +169,7 @@ module _ (near : Nearby) (file : InFile) (s t : SceneModel) (known others : List
       let results = returned_types (outer_looks one) f.signature in
       let names = returned_names f.signature in
       let inside = returned_near (IsNear near) (near_rest near) (outer_looks one) (outer_looks two) outer_closed outer_agree f.signature in
-      walk_same NearMeaning (outer_names one) (λ name. outer_near name 0) (own_rules one results names) (own_rules two results names) (own_alike results names inside) [] [] (func_opens f) (func_closes f) (func_steps f) tt tt
+      walk_same NearMeaning (outer_meanings one) (λ name. outer_near name 0) (own_rules one results names) (own_rules two results names) (own_alike results names inside) [] [] (func_opens f) (func_closes f) (func_steps f) tt tt
       ∙ (λ j. walk_out (own_rules two (returned_same (IsNear near) (near_rest near) (outer_looks one) (outer_looks two) outer_closed outer_agree f.signature j) names) (λ name. law.names name j) [] [] (func_opens f) (func_closes f) (func_steps f))
 
   pub function_same : (f : FuncTree) → checked_func one f ≡ checked_func two f

@@ -27,30 +27,31 @@ use Rattle.go_file_core.specs.statement_core.Returns.{return_rule}
 use Rattle.go_file_core.specs.statement_core.Statements.{statement_rule, condition_rule}
 use Rattle.go_file_core.specs.statement_core.Updates.{update_rule, increment_rule}
 use Rattle.go_file_core.specs.statement_core.Constants.{constants_rule, constant_answer}
-use Rattle.go_file_core.specs.statement_core.Locality.{written_type, StatementsAreLocal}
+use Rattle.go_file_core.specs.statement_core.Locality.{type_if_written, StatementsAreLocal}
 use Rattle.go_file_core.specs.statement_core.Alike.{local}
-use Rattle.go_file_core.specs.expr_core.Looks.{Looks, at}
+use Rattle.go_file_core.specs.expr_core.Looks.{Looks, look_of_place}
 use Rattle.go_file_core.specs.expr_core.Places.{start}
 use Rattle.go_file_core.specs.expr_core.Lists.{is_list, denoted_exprs, exprs_faults}
 use Rattle.go_file_core.specs.expr_core.Denoting as denoting
 use Rattle.go_file_core.specs.expr_core.Denoting.{denoted, ident_answer}
 use Rattle.go_file_core.specs.expr_core.Uses.{uses}
 use Rattle.go_file_core.specs.expr_core.Faults.{fault_at, listed_rule, faults, member_faults, operand_faults}
-use Rattle.go_file_core.specs.piece_core.Values.{variable, is_lone_call, list_start, behind, given, is_unknown, list_uses, list_faults}
-use Rattle.go_file_core.specs.piece_core.Types.{type_faults, some_type, some_type_uses, some_type_faults}
+use Rattle.go_file_core.specs.piece_core.Values.{variable, is_call_alone, list_start, behind, given, is_unknown, list_uses, list_faults}
+use Rattle.go_file_core.specs.piece_core.Types.{type_faults, some_written_type, some_type_uses, some_type_faults}
 use Rattle.go_file_core.specs.piece_core.Targets.{target, target_uses, target_faults, targets_uses, targets_faults, old_target, short_target, flag_of, flags_behind, short_targets}
 use Rattle.go_file_core.specs.piece_core.Targets as lefts
 use Rattle.go_file_core.specs.piece_core.Specifications.{names_start, values_uses, values_faults, values_given, spec_faults, variables_faults, variable_types, constant_fault, each_constant_faults, constants_faults, constant_value, constant_values, own_faults, names_values}
-use Rattle.go_file_core.specs.piece_core.Headers.{receiver_uses, receiver_type, starred, named_receiver, receiver_types, of_entry, entry_types, result_types, signature_types, params_faults, result_faults, signature_faults, header_types, returned_types}
-use Rattle.go_file_core.specs.piece_core.Statements.{callee_of, operand, simple_uses, simple_faults, short_name_types}
+use Rattle.go_file_core.specs.piece_core.Headers.{receiver_uses, receiver_type, some_starred, named_receiver, receiver_types, of_entry, entry_types, types_of_result, types_of_signature, params_faults, result_faults, signature_faults, header_types, returned_types}
+use Rattle.go_file_core.specs.piece_core.Statements.{callee_of, operand_argument, simple_uses, simple_faults, short_name_types}
 use Rattle.go_file_core.specs.piece_core.Pieces.{piece_uses, piece_faults, piece_values, simple_values}
-use Rattle.go_near_core.specs.Near.{NearRest, Each, IfAny, NearOperand, NearArgument, NearDenoted}
+use Rattle.go_near_core.specs.Near.{NearRest, IfAny, NearOperand, NearArgument, NearDenoted}
 use Rattle.go_near_core.specs.Looks.{AreClosed, LooksAgree}
 use Rattle.go_near_core.specs.Pieces.{IsPieceNearby}
 use Rattle.go_near_core.proofs.Closing.{either, argument_near, arguments_near}
 use Rattle.go_near_core.proofs.Agreeing.{arguments_same}
 use Rattle.go_near_core.proofs.Expressions.{ident_near, ident_same, named_near, named_same, written_near, written_same, denoted_near, denoted_same, name_uses, type_used, signature_used, used_same, operand_with, written_faults, faults_same}
 use Rattle.go_near_core.proofs.Statements.{NearTarget, copies, pairs_alike, results_alike, each_given, each_type, wanted_alike, under_alike, form_alike, condition_alike, update_same, increment_same, constants_same, declared_near, short_near, constant_near, target_near}
+use Rattle.go_file_core.specs.statement_core.Locality.{Each}
 
 pub each_both : {X : Type 0} (Is : X → Type 0) (xs ys : List X) → Each Is xs → Each Is ys → Each Is (xs ++ ys)
 each_both Is [] ys h k = k
@@ -113,10 +114,10 @@ module _ {T S D P : Type 0} (Near : T → Type 0) (Rest : NearRest S D) (looks o
 
   given_same : (es : Separated ExprTree) → given looks es ≡ given others es
   given_same es =
-      arguments_same Near Rest looks others law agree (list_start es) (denoted_exprs looks es) (exprs_near es) ∙ ap (arguments_of (at others (list_start es))) (exprs_same es)
+      arguments_same Near Rest looks others law agree (list_start es) (denoted_exprs looks es) (exprs_near es) ∙ ap (arguments_of (look_of_place others (list_start es))) (exprs_same es)
 
   unknown_same : (es : Separated ExprTree) → is_unknown looks es ≡ is_unknown others es
-  unknown_same es = ap (is_free (is_lone_call es)) (exprs_same es)
+  unknown_same es = ap (is_free (is_call_alone es)) (exprs_same es)
 
   -- types
 
@@ -129,11 +130,11 @@ module _ {T S D P : Type 0} (Near : T → Type 0) (Rest : NearRest S D) (looks o
   type_breaks : (t : TypeTree) → type_faults looks t ≡ type_faults others t
   type_breaks t = written_faults Near Rest looks others law agree t
 
-  some_near : (t : Option TypeTree) → IfAny (IfAny Near) (some_type looks t)
+  some_near : (t : Option TypeTree) → IfAny (IfAny Near) (some_written_type looks t)
   some_near None = tt
   some_near (Some t) = type_near t
 
-  some_same : (t : Option TypeTree) → some_type looks t ≡ some_type others t
+  some_same : (t : Option TypeTree) → some_written_type looks t ≡ some_written_type others t
   some_same None = refl
   some_same (Some t) = λ j. Some (type_same t j)
 
@@ -147,12 +148,12 @@ module _ {T S D P : Type 0} (Near : T → Type 0) (Rest : NearRest S D) (looks o
 
   -- headers
 
-  starred_near : (star : Option Span) (t : Option T) → IfAny Near t → IfAny Near (starred rules star t)
+  starred_near : (star : Option Span) (t : Option T) → IfAny Near t → IfAny Near (some_starred rules star t)
   starred_near None t h = h
   starred_near (Some star) None h = tt
   starred_near (Some star) (Some t) h = law.types.pointer_to t h
 
-  starred_same : (star : Option Span) (t : Option T) → IfAny Near t → starred rules star t ≡ starred other_rules star t
+  starred_same : (star : Option Span) (t : Option T) → IfAny Near t → some_starred rules star t ≡ some_starred other_rules star t
   starred_same None t h = refl
   starred_same (Some star) None h = refl
   starred_same (Some star) (Some t) h = λ j. Some (agree.types.pointer_to t h j)
@@ -162,7 +163,7 @@ module _ {T S D P : Type 0} (Near : T → Type 0) (Rest : NearRest S D) (looks o
 
   receiver_same : (r : Receiver) → receiver_type looks r ≡ receiver_type others r
   receiver_same r =
-      starred_same r.star (denoting.named_type looks r.base) (named_near Near Rest looks others law agree r.base) ∙ ap (starred other_rules r.star) (named_same Near Rest looks others law agree r.base)
+      starred_same r.star (denoting.named_type looks r.base) (named_near Near Rest looks others law agree r.base) ∙ ap (some_starred other_rules r.star) (named_same Near Rest looks others law agree r.base)
 
   name_near : (x : Option Ident) (t : Option T) → IfAny Near t → Each (IfAny Near) (named_receiver x t)
   name_near None t h = tt
@@ -192,20 +193,20 @@ module _ {T S D P : Type 0} (Near : T → Type 0) (Rest : NearRest S D) (looks o
   entries_same all NoParams = refl
   entries_same all (Param xs t comma rest) = λ j. of_entry all xs (type_same t j) ++ entries_same all rest j
 
-  results_near : (all : Bool) (r : ResultTree) → Each (IfAny Near) (result_types looks all r)
+  results_near : (all : Bool) (r : ResultTree) → Each (IfAny Near) (types_of_result looks all r)
   results_near all NoResult = tt
   results_near all (OneResult t) = entry_near all None (denoting.written_type looks t) (type_near t)
   results_near all (Results first params last) = entries_near all params
 
-  results_same : (all : Bool) (r : ResultTree) → result_types looks all r ≡ result_types others all r
+  results_same : (all : Bool) (r : ResultTree) → types_of_result looks all r ≡ types_of_result others all r
   results_same all NoResult = refl
   results_same all (OneResult t) = λ j. of_entry all None (type_same t j)
   results_same all (Results first params last) = entries_same all params
 
-  signature_near : (s : SignatureTree) → Each (IfAny Near) (signature_types looks s)
-  signature_near (Signed first params last result) = each_both (IfAny Near) (entry_types looks false params) (result_types looks false result) (entries_near false params) (results_near false result)
+  signature_near : (s : SignatureTree) → Each (IfAny Near) (types_of_signature looks s)
+  signature_near (Signed first params last result) = each_both (IfAny Near) (entry_types looks false params) (types_of_result looks false result) (entries_near false params) (results_near false result)
 
-  signature_same : (s : SignatureTree) → signature_types looks s ≡ signature_types others s
+  signature_same : (s : SignatureTree) → types_of_signature looks s ≡ types_of_signature others s
   signature_same (Signed first params last result) = λ j. entries_same false params j ++ results_same false result j
 
   pub returned_near : (s : SignatureTree) → Each (IfAny Near) (returned_types looks s)
@@ -249,75 +250,75 @@ module _ {T S D P : Type 0} (Near : T → Type 0) (Rest : NearRest S D) (looks o
   values_same None = refl
   values_same (Some es) = given_same es.1
 
-  flat_near : (w : Option (Option T)) → IfAny (IfAny Near) w → IfAny Near (written_type w)
+  flat_near : (w : Option (Option T)) → IfAny (IfAny Near) w → IfAny Near (type_if_written w)
   flat_near None h = tt
   flat_near (Some t) h = h
 
-  variables_break : (xs : Separated Ident) (t : Option TypeTree) (es : Option (Span × Separated ExprTree)) → variables_faults looks xs (some_type looks t) es ≡ variables_faults others xs (some_type others t) es
+  variables_break : (xs : Separated Ident) (t : Option TypeTree) (es : Option (Span × Separated ExprTree)) → variables_faults looks xs (some_written_type looks t) es ≡ variables_faults others xs (some_written_type others t) es
   variables_break xs t None = refl
   variables_break xs t (Some es) =
       ap (fault_at (names_start xs))
-      (alike.variables rules other_rules (some_type looks t) (length (idents xs)) (is_unknown looks es.1) (given looks es.1)
-      (each_given Near rules other_rules law.types agree.types (written_type (some_type looks t)) (given looks es.1) (flat_near (some_type looks t) (some_near t)) (given_near es.1))
+      (alike.variables rules other_rules (some_written_type looks t) (length (idents xs)) (is_unknown looks es.1) (given looks es.1)
+      (each_given Near rules other_rules law.types agree.types (type_if_written (some_written_type looks t)) (given looks es.1) (flat_near (some_written_type looks t) (some_near t)) (given_near es.1))
       ∙ (λ j. variables_rule other_rules (some_same t j) (length (idents xs)) (unknown_same es.1 j) (given_same es.1 j)))
 
-  variable_same : (xs : Separated Ident) (t : Option TypeTree) (es : Option (Span × Separated ExprTree)) → variable_types looks xs (some_type looks t) es ≡ variable_types others xs (some_type others t) es
+  variable_same : (xs : Separated Ident) (t : Option TypeTree) (es : Option (Span × Separated ExprTree)) → variable_types looks xs (some_written_type looks t) es ≡ variable_types others xs (some_written_type others t) es
   variable_same xs t es =
-      alike.types rules other_rules (some_type looks t) (length (idents xs)) (values_given looks es) (each_type Near rules other_rules law.types agree.types (values_given looks es))
+      alike.types rules other_rules (some_written_type looks t) (length (idents xs)) (values_given looks es) (each_type Near rules other_rules law.types agree.types (values_given looks es))
       ∙ (λ j. declared_types other_rules (some_same t j) (length (idents xs)) (values_same es j))
 
-  answer_same : (t : Option TypeTree) (a : Argument T) → NearArgument Near a → constant_answer rules (some_type looks t) a ≡ constant_answer other_rules (some_type others t) a
+  answer_same : (t : Option TypeTree) (a : Argument T) → NearArgument Near a → constant_answer rules (some_written_type looks t) a ≡ constant_answer other_rules (some_written_type others t) a
   answer_same t a h =
-      alike.constants rules other_rules (some_type looks t) a
-      (form_alike Near rules other_rules law.types agree.types (written_type (some_type looks t)) (flat_near (some_type looks t) (some_near t)))
+      alike.constants rules other_rules (some_written_type looks t) a
+      (form_alike Near rules other_rules law.types agree.types (type_if_written (some_written_type looks t)) (flat_near (some_written_type looks t) (some_near t)))
       (under_alike Near rules other_rules law.types agree.types a h)
-      (wanted_alike Near rules other_rules law.types agree.types (written_type (some_type looks t)) a (flat_near (some_type looks t) (some_near t)) h)
+      (wanted_alike Near rules other_rules law.types agree.types (type_if_written (some_written_type looks t)) a (flat_near (some_written_type looks t) (some_near t)) h)
       ∙ (λ j. constant_answer other_rules (some_same t j) a)
 
   each_breaks : (t : Option TypeTree) (first : ℕ) (es : Separated ExprTree) (given : List (Argument T)) → Each (NearArgument Near) given
-      → each_constant_faults rules (some_type looks t) first es given ≡ each_constant_faults other_rules (some_type others t) first es given
+      → each_constant_faults rules (some_written_type looks t) first es given ≡ each_constant_faults other_rules (some_written_type others t) first es given
   each_breaks t first es [] h = refl
   each_breaks t first es (a ∷ given) h = λ j. constant_fault first (list_start es) (answer_same t a h.0 j).rule ++ each_breaks t first (behind es) given h.1 j
 
-  constants_break : (xs : Separated Ident) (t : Option TypeTree) (es : Option (Span × Separated ExprTree)) → constants_faults looks xs (some_type looks t) es ≡ constants_faults others xs (some_type others t) es
+  constants_break : (xs : Separated Ident) (t : Option TypeTree) (es : Option (Span × Separated ExprTree)) → constants_faults looks xs (some_written_type looks t) es ≡ constants_faults others xs (some_written_type others t) es
   constants_break xs t None = refl
   constants_break xs t (Some es) =
-      let count = constants_same Near rules other_rules law.types agree.types (is_lone_call es.1) (length (idents xs)) (given looks es.1) (given_near es.1) ∙ ap (constants_rule other_rules (is_lone_call es.1) (length (idents xs))) (given_same es.1) in
-      let each = each_breaks t (names_start xs) es.1 (given looks es.1) (given_near es.1) ∙ ap (each_constant_faults other_rules (some_type others t) (names_start xs) es.1) (given_same es.1) in
+      let count = constants_same Near rules other_rules law.types agree.types (is_call_alone es.1) (length (idents xs)) (given looks es.1) (given_near es.1) ∙ ap (constants_rule other_rules (is_call_alone es.1) (length (idents xs))) (given_same es.1) in
+      let each = each_breaks t (names_start xs) es.1 (given looks es.1) (given_near es.1) ∙ ap (each_constant_faults other_rules (some_written_type others t) (names_start xs) es.1) (given_same es.1) in
       λ j. fault_at (names_start xs) (count j) ++ each j
 
-  each_value : (t : Option TypeTree) (given : List (Argument T)) → Each (NearArgument Near) given → map (constant_value rules (some_type looks t)) given ≡ map (constant_value other_rules (some_type others t)) given
+  each_value : (t : Option TypeTree) (given : List (Argument T)) → Each (NearArgument Near) given → map (constant_value rules (some_written_type looks t)) given ≡ map (constant_value other_rules (some_written_type others t)) given
   each_value t [] h = refl
   each_value t (a ∷ given) h = λ j. (answer_same t a h.0 j).value ∷ each_value t given h.1 j
 
-  constant_values_same : (t : Option TypeTree) (n : ℕ) (given : List (Argument T)) → Each (NearArgument Near) given → constant_values rules (some_type looks t) n given ≡ constant_values other_rules (some_type others t) n given
+  constant_values_same : (t : Option TypeTree) (n : ℕ) (given : List (Argument T)) → Each (NearArgument Near) given → constant_values rules (some_written_type looks t) n given ≡ constant_values other_rules (some_written_type others t) n given
   constant_values_same t n given h = λ j. if n == length given then each_value t given h j else replicate n ((answer_same t arguments.Refused tt j).value)
 
-  each_value_near : (t : Option TypeTree) (given : List (Argument T)) → Each (NearArgument Near) given → Each (IfAny (NearOperand Near)) (map (constant_value rules (some_type looks t)) given)
+  each_value_near : (t : Option TypeTree) (given : List (Argument T)) → Each (NearArgument Near) given → Each (IfAny (NearOperand Near)) (map (constant_value rules (some_written_type looks t)) given)
   each_value_near t [] h = tt
-  each_value_near t (a ∷ given) h = (constant_near Near rules other_rules law.types agree.types (some_type looks t) a (some_near t) h.0, each_value_near t given h.1)
+  each_value_near t (a ∷ given) h = (constant_near Near rules other_rules law.types agree.types (some_written_type looks t) a (some_near t) h.0, each_value_near t given h.1)
 
-  constant_values_near : (t : Option TypeTree) (n : ℕ) (given : List (Argument T)) → Each (NearArgument Near) given → Each (IfAny (NearOperand Near)) (constant_values rules (some_type looks t) n given)
+  constant_values_near : (t : Option TypeTree) (n : ℕ) (given : List (Argument T)) → Each (NearArgument Near) given → Each (IfAny (NearOperand Near)) (constant_values rules (some_written_type looks t) n given)
   constant_values_near t n given h =
       either (Each (IfAny (NearOperand Near))) (n == length given) _ _ (each_value_near t given h)
-      (copies (IfAny (NearOperand Near)) n (constant_value rules (some_type looks t) arguments.Refused) (constant_near Near rules other_rules law.types agree.types (some_type looks t) arguments.Refused (some_near t) tt))
+      (copies (IfAny (NearOperand Near)) n (constant_value rules (some_written_type looks t) arguments.Refused) (constant_near Near rules other_rules law.types agree.types (some_written_type looks t) arguments.Refused (some_near t) tt))
 
-  own_breaks : (k : ValueKind) (xs : Separated Ident) (t : Option TypeTree) (es : Option (Span × Separated ExprTree)) → own_faults looks k xs (some_type looks t) es ≡ own_faults others k xs (some_type others t) es
+  own_breaks : (k : ValueKind) (xs : Separated Ident) (t : Option TypeTree) (es : Option (Span × Separated ExprTree)) → own_faults looks k xs (some_written_type looks t) es ≡ own_faults others k xs (some_written_type others t) es
   own_breaks kinds.Const xs t es = constants_break xs t es
   own_breaks kinds.Var xs t es = variables_break xs t es
 
   spec_breaks : (k : ValueKind) (v : ValueSpecTree) → spec_faults looks k v ≡ spec_faults others k v
   spec_breaks k v = λ j. some_breaks v.type_expr j ++ (values_break v.values j ++ own_breaks k v.names v.type_expr v.values j)
 
-  names_same : (k : ValueKind) (xs : Separated Ident) (t : Option TypeTree) (es : Option (Span × Separated ExprTree)) → names_values looks k xs (some_type looks t) es ≡ names_values others k xs (some_type others t) es
+  names_same : (k : ValueKind) (xs : Separated Ident) (t : Option TypeTree) (es : Option (Span × Separated ExprTree)) → names_values looks k xs (some_written_type looks t) es ≡ names_values others k xs (some_written_type others t) es
   names_same kinds.Const xs t es =
-      constant_values_same t (length (idents xs)) (values_given looks es) (values_near es) ∙ ap (constant_values other_rules (some_type others t) (length (idents xs))) (values_same es)
+      constant_values_same t (length (idents xs)) (values_given looks es) (values_near es) ∙ ap (constant_values other_rules (some_written_type others t) (length (idents xs))) (values_same es)
   names_same kinds.Var xs t es = ap (map variable) (variable_same xs t es)
 
-  names_near : (k : ValueKind) (xs : Separated Ident) (t : Option TypeTree) (es : Option (Span × Separated ExprTree)) → Each (IfAny (NearOperand Near)) (names_values looks k xs (some_type looks t) es)
+  names_near : (k : ValueKind) (xs : Separated Ident) (t : Option TypeTree) (es : Option (Span × Separated ExprTree)) → Each (IfAny (NearOperand Near)) (names_values looks k xs (some_written_type looks t) es)
   names_near kinds.Const xs t es = constant_values_near t (length (idents xs)) (values_given looks es) (values_near es)
   names_near kinds.Var xs t es =
-      variables_near (variable_types looks xs (some_type looks t) es) (declared_near Near rules other_rules law.types agree.types (some_type looks t) (length (idents xs)) (values_given looks es) (some_near t) (values_near es))
+      variables_near (variable_types looks xs (some_written_type looks t) es) (declared_near Near rules other_rules law.types agree.types (some_written_type looks t) (length (idents xs)) (values_given looks es) (some_near t) (values_near es))
 
   -- targets
 
@@ -383,10 +384,10 @@ module _ {T S D P : Type 0} (Near : T → Type 0) (Rest : NearRest S D) (looks o
   callee_same (Literal n first items last) = refl
   callee_same (StructLiteral t first items last) = refl
 
-  operand_near : (e : ExprTree) → NearArgument Near (operand looks e)
+  operand_near : (e : ExprTree) → NearArgument Near (operand_argument looks e)
   operand_near e = argument_near Near Rest looks law (denoted looks places.«Value» e) (value_near e)
 
-  operand_same : (e : ExprTree) → operand looks e ≡ operand others e
+  operand_same : (e : ExprTree) → operand_argument looks e ≡ operand_argument others e
   operand_same e = ap argument_of (value_same e)
 
   assigned_same : (ts : List (Target T)) (us : List (Target T)) (es : Separated ExprTree) → ts ≡ us → Each (NearTarget Near) ts
@@ -405,12 +406,12 @@ module _ {T S D P : Type 0} (Near : T → Type 0) (Rest : NearRest S D) (looks o
   simple_breaks : (firsts : List Bool) (s : SimpleTree) → simple_faults looks firsts s ≡ simple_faults others firsts s
   simple_breaks firsts (Alone e) = λ j. value_faults e j ++ fault_at (start e) (statement_rule (callee_same e j) (value_same e j))
   simple_breaks firsts (Step e op span) =
-      let rule = increment_same Near rules other_rules law.types agree.types (operand looks e) (operand_near e) ∙ ap (increment_rule other_rules) (operand_same e) in
+      let rule = increment_same Near rules other_rules law.types agree.types (operand_argument looks e) (operand_near e) ∙ ap (increment_rule other_rules) (operand_same e) in
       λ j. operand_breaks e j ++ fault_at (start e) (rule j)
   simple_breaks firsts (Assign ts span es) =
       λ j. lefts_break (is_list ts) ts j ++ (list_breaks es j ++ fault_at (list_start ts) (assigned_same (lefts.targets looks (is_list ts) ts) (lefts.targets others (is_list ts) ts) es (lefts_same (is_list ts) ts) (lefts_near (is_list ts) ts) j))
   simple_breaks firsts (Update e op span v) =
-      let rule = update_same Near rules other_rules law.types agree.types op (operand looks e) (operand looks v) (operand_near e) (operand_near v) ∙ (λ j. update_rule other_rules op (operand_same e j) (operand_same v j)) in
+      let rule = update_same Near rules other_rules law.types agree.types op (operand_argument looks e) (operand_argument looks v) (operand_near e) (operand_near v) ∙ (λ j. update_rule other_rules op (operand_same e j) (operand_same v j)) in
       λ j. operand_breaks e j ++ (operand_breaks v j ++ fault_at (start e) (rule j))
   simple_breaks firsts (Define xs span es) =
       λ j. list_breaks es j ++ fault_at (names_start xs) (assigned_same (short_targets looks firsts [] (idents xs)) (short_targets others firsts [] (idents xs)) es (news_same firsts [] (idents xs)) (news_near firsts [] (idents xs)) j)
@@ -470,7 +471,7 @@ module _ {T S D P : Type 0} (Near : T → Type 0) (Rest : NearRest S D) (looks o
   piece_same firsts (Given place es) = refl
 
   piece_near : (firsts : List Bool) (p : Piece) → Each (IfAny (NearOperand Near)) (piece_values looks firsts p)
-  piece_near firsts (Header r s) = variables_near (header_types looks r s) (each_both (IfAny Near) (receiver_types looks r) (signature_types looks s) (receivers_near r) (signature_near s))
+  piece_near firsts (Header r s) = variables_near (header_types looks r s) (each_both (IfAny Near) (receiver_types looks r) (types_of_signature looks s) (receivers_near r) (signature_near s))
   piece_near firsts (Spec kind v) = names_near kind v.names v.type_expr v.values
   piece_near firsts (Act s) = simple_near firsts s
   piece_near firsts (Condition e) = tt

@@ -7,9 +7,9 @@ use Rattle.go_text_core.specs.Text.{exported}
 use Rattle.go_term_core.specs.decl_core.declared.keys.DeclKey.{DeclKey}
 use Rattle.go_term_core.specs.declared.term.MemberPlace.{MemberPlace}
 use Rattle.go_term_core.specs.Terms.{Term, NoType, Predeclared, ErrorType, Defined, PointerTo, StructOf, InterfaceOf, Fields, NoField, AField, term_keys, fields_keys}
-use Rattle.go_file_core.specs.table_core.Entries.{find, has_method}
+use Rattle.go_file_core.specs.table_core.Entries.{find_entry, has_method}
 use Rattle.go_file_core.specs.table_core.Meanings.{underlying_local}
-use Rattle.go_file_core.specs.embed_core.Owners.{OwnerModel, path_in, owner_in}
+use Rattle.go_file_core.specs.embed_core.Owners.{OwnerModel, path_of_term, owner_in}
 use Rattle.go_file_core.specs.decide_core.Rules.{term_rules}
 use Rattle.go_file_core.specs.handle_core.Declarations.{InFile}
 use Rattle.go_file_core.specs.handle_core.Names.{selection_in}
@@ -20,7 +20,7 @@ use Rattle.go_file_core.specs.env_core.declared.meaning.Meaning.{Meaning}
 use Rattle.go_file_core.specs.env_core.Scenes.{SceneModel}
 use Rattle.go_file_core.specs.env_core.Fields.{field_known, fields_seen, term_seen, owner_seen}
 use Rattle.go_file_core.specs.env_core.Looks.{looks_in}
-use Rattle.go_near_core.specs.Near.{Each, NearField}
+use Rattle.go_near_core.specs.Near.{NearField}
 use Rattle.go_near_core.specs.Looks.{AreClosed, RulesAgree, LooksAgree}
 use Rattle.go_near_core.specs.Tables.{near_by, Nearby, IsNear, near_rest}
 use Rattle.go_near_core.specs.Scenes.{ScenesAgree, WrittenAgree, NamesAgree}
@@ -28,6 +28,7 @@ use Rattle.go_near_core.specs.Laws.{TablesLookNearby, ScenesLookNearby}
 use Rattle.go_near_core.proofs.Closing.{either}
 use Rattle.go_near_core.proofs.Reaching.{agree_from, turned, under_near, under_same, rules_closed, rules_agree, typed_near, typed_same, params_near, results_near, params_same, results_same, select_near, select_same}
 use Rattle.go_near_core.proofs.Expressions.{nearby}
+use Rattle.go_file_core.specs.statement_core.Locality.{Each}
 
 module _ (near : Nearby) (s t : SceneModel) (law : ScenesAgree near s t) where
   abbrev NearFields : Fields → Type 0
@@ -73,22 +74,22 @@ module _ (near : Nearby) (s t : SceneModel) (law : ScenesAgree near s t) where
   term_same o (StructOf home fs) h = fields_same o home fs h
   term_same o (InterfaceOf path ms) h = refl
 
-  owner_same : (u : Term) → IsNear near u → owner_in (find s.types) u ≡ owner_in (find t.types) u
+  owner_same : (u : Term) → IsNear near u → owner_in (find_entry s.types) u ≡ owner_in (find_entry t.types) u
   owner_same u h =
       λ j. record {
-        path = path_in u;
-        methods = underlying_local.methods (find s.types) (find t.types) u (agree_from near s.types t.types law.types u h) j;
+        path = path_of_term u;
+        methods = underlying_local.methods (find_entry s.types) (find_entry t.types) u (agree_from near s.types t.types law.types u h) j;
         underlying = under_same near s.types t.types law.types u h j;
       }
 
-  seen_near : (u : Term) → IsNear near u → Each (NearField (IsNear near)) (owner_seen s (owner_in (find s.types) u))
-  seen_near u h = term_near (owner_in (find s.types) u) (owner_in (find s.types) u).underlying (under_near near s.types t.types law.types u h)
+  seen_near : (u : Term) → IsNear near u → Each (NearField (IsNear near)) (owner_seen s (owner_in (find_entry s.types) u))
+  seen_near u h = term_near (owner_in (find_entry s.types) u) (owner_in (find_entry s.types) u).underlying (under_near near s.types t.types law.types u h)
 
-  seen_same : (u : Term) → IsNear near u → owner_seen s (owner_in (find s.types) u) ≡ owner_seen t (owner_in (find t.types) u)
+  seen_same : (u : Term) → IsNear near u → owner_seen s (owner_in (find_entry s.types) u) ≡ owner_seen t (owner_in (find_entry t.types) u)
   seen_same u h =
-      term_same (owner_in (find s.types) u) (owner_in (find s.types) u).underlying (under_near near s.types t.types law.types u h) ∙ ap (owner_seen t) (owner_same u h)
+      term_same (owner_in (find_entry s.types) u) (owner_in (find_entry s.types) u).underlying (under_near near s.types t.types law.types u h) ∙ ap (owner_seen t) (owner_same u h)
 
-  module _ (file : ℕ) (known others : List (Option TheFace)) (look other : binding.Look Meaning) (written made : WrittenRules Term) (names : NamesAgree near s t file known others look other) (types : WrittenAgree near written made) where
+  module _ (file : ℕ) (known others : List (Option TheFace)) (look other : binding.NameLook Meaning) (written made : WrittenRules Term) (names : NamesAgree near s t file known others look other) (types : WrittenAgree near written made) where
     pub scene_closed : AreClosed (IsNear near) (near_rest near) (looks_in s file known written look)
     scene_closed = record {
       find = names.are_near;

@@ -27,9 +27,9 @@ use Rattle.go_file_core.specs.statement_core.declared.constants.ConstantAnswer.{
 use Rattle.go_file_core.specs.statement_core.Targets.{target_of_value, no_single_value, target_of}
 use Rattle.go_file_core.specs.statement_core.Updates.{update_rule, increment_rule}
 use Rattle.go_file_core.specs.statement_core.Declarations.{given_type, declared_types, type_after, paired_types, short_types}
-use Rattle.go_file_core.specs.statement_core.Constants.{is_constant, constants_rule, constant_of, own_value, of_own_type, of_no_type, assigned_value, value_of, of_basic_type, of_type, constant_answer}
-use Rattle.go_file_core.specs.statement_core.Locality.{FitsAlike, GivenAlike, wanted, EachPair, Each as AllAlike, TypeAlike, UnderAlike, FormAlike, ConditionAlike}
-use Rattle.go_near_core.specs.Near.{NearRest, Each, IfAny, NearValue, NearOperand, NearArgument, NearDenoted}
+use Rattle.go_file_core.specs.statement_core.Constants.{is_constant, constants_rule, operand_constant, own_value, of_own_type, of_no_type, assigned_value, answer_of_value, of_basic_type, of_type, constant_answer}
+use Rattle.go_file_core.specs.statement_core.Locality.{FitsAlike, ArgumentGivenAlike, target_wanted, EachPair, Each, TypeAlike, UnderAlike, FormAlike, ConditionAlike}
+use Rattle.go_near_core.specs.Near.{NearRest, IfAny, NearValue, NearOperand, NearArgument, NearDenoted}
 use Rattle.go_near_core.specs.Looks.{AreRulesClosed, RulesAgree}
 use Rattle.go_near_core.proofs.Closing.{either, default_near}
 use Rattle.go_near_core.proofs.Agreeing.{default_same, default_each, value_alike, basic_same, binary_same}
@@ -50,34 +50,34 @@ module _ {T : Type 0} (Near : T → Type 0) (rules others : TypeRules T) (law : 
   fits_alike : (v : ValueType T) (t : T) → NearValue Near v → Near t → FitsAlike rules others v t
   fits_alike v t h k = (default_same Near rules others law agree v, agree.form t k, default_each Near rules others law agree (λ s. rules.assignable s t ≡ others.assignable s t) (λ s near. agree.assignable s t near k) v h)
 
-  pub wanted_alike : (t : Option T) (a : Argument T) → IfAny Near t → NearArgument Near a → GivenAlike rules others t a
+  pub wanted_alike : (t : Option T) (a : Argument T) → IfAny Near t → NearArgument Near a → ArgumentGivenAlike rules others t a
   wanted_alike None a h k = tt
   wanted_alike (Some t) arguments.Refused h k = tt
   wanted_alike (Some t) arguments.Void h k = tt
   wanted_alike (Some t) (arguments.«Value» o) h k = fits_alike o.value_type t k h
 
-  wanted_near : (x : Target T) → NearTarget Near x → IfAny Near (wanted x)
+  wanted_near : (x : Target T) → NearTarget Near x → IfAny Near (target_wanted x)
   wanted_near targets.Blank h = tt
   wanted_near targets.New h = tt
   wanted_near (targets.Variable t) h = h
   wanted_near targets.Typeless h = tt
   wanted_near targets.Fixed h = tt
 
-  pub pairs_alike : (ts : List (Target T)) (given : List (Argument T)) → Each (NearTarget Near) ts → Each (NearArgument Near) given → EachPair (λ target argument. GivenAlike rules others (wanted target) argument) ts given
+  pub pairs_alike : (ts : List (Target T)) (given : List (Argument T)) → Each (NearTarget Near) ts → Each (NearArgument Near) given → EachPair (λ target argument. ArgumentGivenAlike rules others (target_wanted target) argument) ts given
   pairs_alike [] given h k = tt
   pairs_alike (x ∷ ts) [] h k = tt
-  pairs_alike (x ∷ ts) (a ∷ given) h k = (wanted_alike (wanted x) a (wanted_near x h.0) k.0, pairs_alike ts given h.1 k.1)
+  pairs_alike (x ∷ ts) (a ∷ given) h k = (wanted_alike (target_wanted x) a (wanted_near x h.0) k.0, pairs_alike ts given h.1 k.1)
 
-  pub results_alike : (ts : List (Option T)) (given : List (Argument T)) → Each (IfAny Near) ts → Each (NearArgument Near) given → EachPair (GivenAlike rules others) ts given
+  pub results_alike : (ts : List (Option T)) (given : List (Argument T)) → Each (IfAny Near) ts → Each (NearArgument Near) given → EachPair (ArgumentGivenAlike rules others) ts given
   results_alike [] given h k = tt
   results_alike (t ∷ ts) [] h k = tt
   results_alike (t ∷ ts) (a ∷ given) h k = (wanted_alike t a h.0 k.0, results_alike ts given h.1 k.1)
 
-  pub each_given : (t : Option T) (given : List (Argument T)) → IfAny Near t → Each (NearArgument Near) given → AllAlike (GivenAlike rules others t) given
+  pub each_given : (t : Option T) (given : List (Argument T)) → IfAny Near t → Each (NearArgument Near) given → Each (ArgumentGivenAlike rules others t) given
   each_given t [] h k = tt
   each_given t (a ∷ given) h k = (wanted_alike t a h k.0, each_given t given h k.1)
 
-  pub each_type : (given : List (Argument T)) → AllAlike (TypeAlike rules others) given
+  pub each_type : (given : List (Argument T)) → Each (TypeAlike rules others) given
   each_type [] = tt
   each_type (arguments.Refused ∷ given) = (tt, each_type given)
   each_type (arguments.Void ∷ given) = (tt, each_type given)
@@ -180,7 +180,7 @@ module _ {T : Type 0} (Near : T → Type 0) (rules others : TypeRules T) (law : 
   own_type_near : (a : Argument T) → NearArgument Near a → Held (of_own_type rules a)
   own_type_near arguments.Refused h = tt
   own_type_near arguments.Void h = tt
-  own_type_near (arguments.«Value» o) h = own_near o.value_type (constant_of rules o) h
+  own_type_near (arguments.«Value» o) h = own_near o.value_type (operand_constant rules o) h
 
   no_type_near : (a : Argument T) → Held (of_no_type rules a)
   no_type_near arguments.Refused = tt
@@ -191,14 +191,14 @@ module _ {T : Type 0} (Near : T → Type 0) (rules others : TypeRules T) (law : 
   assigned_near t true k h = h
   assigned_near t false k h = h
 
-  value_near : (t : T) (b : Bool) (c : Option Constant) → Near t → Held (value_of t b c)
+  value_near : (t : T) (b : Bool) (c : Option Constant) → Near t → Held (answer_of_value t b c)
   value_near t b None h = h
   value_near t b (Some k) h = assigned_near t b k h
 
   basic_near : (t : T) (a : Argument T) → Near t → Held (of_basic_type rules t a)
   basic_near t arguments.Refused h = h
   basic_near t arguments.Void h = h
-  basic_near t (arguments.«Value» o) h = value_near t (assignable_to rules o t) (constant_of rules o) h
+  basic_near t (arguments.«Value» o) h = value_near t (assignable_to rules o t) (operand_constant rules o) h
 
   of_type_near : (t : T) (b : Option Basic) (a : Argument T) → Near t → Held (of_type rules t b a)
   of_type_near t None a h = tt

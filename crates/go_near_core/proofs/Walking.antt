@@ -5,26 +5,27 @@ use Rattle.std.specs.Str.{bytes_eq}
 use Rattle.go_tree_nodes.specs.declared.names.Ident.{Ident}
 use Rattle.go_file_core.specs.open_core.Blocks.{or_else}
 use Rattle.go_file_core.specs.local_core.Steps.{Piece, Steps, Done, Check, Declare, Inner}
-use Rattle.go_file_core.specs.local_core.Binding.{Look}
+use Rattle.go_file_core.specs.local_core.Binding.{NameLook}
 use Rattle.go_file_core.specs.local_core.Faults.{name_faults}
 use Rattle.go_file_core.specs.local_core.Law.{Rules, out, both, declared_from, declare_out}
 use Rattle.go_file_core.specs.local_core.mirrors.Walk.{Names, latest, look_in, is_new, with_name, with_names, news, names_of, walk_out}
-use Rattle.go_near_core.specs.Near.{Each, IfAny}
+use Rattle.go_near_core.specs.Near.{IfAny}
 use Rattle.go_near_core.proofs.Closing.{either}
 use Rattle.go_near_core.proofs.Pieces.{each_both}
+use Rattle.go_file_core.specs.statement_core.Locality.{Each}
 
 or_near : {X : Type 0} (Near : X → Type 0) (a b : Option X) → IfAny Near a → IfAny Near b → IfAny Near (or_else a b)
 or_near Near None b h k = k
 or_near Near (Some x) b h k = h
 
-abbrev pub MeansNear : {X : Type 0} → (X → Type 0) → Look X → Type 0
+abbrev pub MeansNear : {X : Type 0} → (X → Type 0) → NameLook X → Type 0
 MeansNear Near look = (name : List ℕ) (place : ℕ) → IfAny Near (look name place)
 
 -- the same is noted where names mean near things, the names of a piece mean the same there, and mean near things
 pub record SayAlike {X N : Type 0} (Near : X → Type 0) (rules others : Rules X N) : Type 0 where
-  pub notes : (look : Look X) (firsts : List Bool) (p : Piece) → MeansNear Near look → rules.notes look firsts p ≡ others.notes look firsts p
-  pub means : (look : Look X) (firsts : List Bool) (p : Piece) → MeansNear Near look → rules.means look firsts p ≡ others.means look firsts p
-  pub are_near : (look : Look X) (firsts : List Bool) (p : Piece) (n : ℕ) → MeansNear Near look → Near (rules.means look firsts p n)
+  pub notes : (look : NameLook X) (firsts : List Bool) (p : Piece) → MeansNear Near look → rules.notes look firsts p ≡ others.notes look firsts p
+  pub means : (look : NameLook X) (firsts : List Bool) (p : Piece) → MeansNear Near look → rules.means look firsts p ≡ others.means look firsts p
+  pub are_near : (look : NameLook X) (firsts : List Bool) (p : Piece) (n : ℕ) → MeansNear Near look → Near (rules.means look firsts p n)
 
 module _ {X N : Type 0} (Near : X → Type 0) (beyond : List ℕ → Option X) (outside : (name : List ℕ) → IfAny Near (beyond name)) (rules others : Rules X N) (law : SayAlike Near rules others) where
   abbrev NearNames : Names X → Type 0

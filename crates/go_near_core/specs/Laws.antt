@@ -10,18 +10,18 @@ use Rattle.go_file_core.specs.expr_core.Denoting as denoting
 use Rattle.go_file_core.specs.expr_core.Uses as all_uses
 use Rattle.go_file_core.specs.expr_core.Faults as all_faults
 use Rattle.go_term_core.specs.Terms.{Term, Sign}
-use Rattle.go_file_core.specs.table_core.Entries.{Entry, find}
+use Rattle.go_file_core.specs.table_core.Entries.{Entry, find_entry}
 use Rattle.go_file_core.specs.table_core.Laws.{AgreeFrom}
-use Rattle.go_file_core.specs.decide_core.Rules.{term_rules, params_of, results_of}
+use Rattle.go_file_core.specs.decide_core.Rules.{term_rules, param_types_of, results_of}
 use Rattle.go_file_core.specs.handle_core.Names.{selection_in}
-use Rattle.go_file_core.specs.local_core.Binding.{Look}
+use Rattle.go_file_core.specs.local_core.Binding.{NameLook}
 use Rattle.go_file_core.specs.expr_core.Looks.{WrittenRules}
 use Rattle.go_file_core.specs.face_core.Faces.{TheFace}
 use Rattle.go_file_core.specs.env_core.declared.meaning.Meaning.{Meaning}
 use Rattle.go_file_core.specs.env_core.Scenes.{SceneModel}
 use Rattle.go_file_core.specs.env_core.Fields.{literals_in}
 use Rattle.go_file_core.specs.env_core.Looks.{TheLooks, looks_in}
-use Rattle.go_near_core.specs.Near.{NearRest, Each, IfAny, NearField, NearSelection, NearDenoted}
+use Rattle.go_near_core.specs.Near.{NearRest, IfAny, NearField, NearSelection, NearDenoted}
 use Rattle.go_near_core.specs.Looks.{AreRulesClosed, AreClosed, RulesAgree, LooksAgree}
 use Rattle.go_near_core.specs.Tables.{NearTests, near_by, IsNear, IsNearSign, near_rest, AgreeOn}
 use Rattle.go_file_core.specs.local_core.Steps.{Piece}
@@ -33,21 +33,22 @@ use Rattle.go_file_core.specs.face_core.Written.{package_written}
 use Rattle.go_near_core.specs.Packages.{PackageOf, stand_over, IsPackageNear}
 use Rattle.go_near_core.specs.Functions.{stand, with_types, IsStandNear, StandsAgree}
 use Rattle.go_near_core.specs.Scenes.{ScenesAgree, NamesAgree, WrittenAgree}
+use Rattle.go_file_core.specs.statement_core.Locality.{Each}
 
 -- what is asked of near types is the same in two tables that agree on what is near, and is near: what lies under a type, what is decided of types, what
 -- a selector chooses, the types of parameters and of results
 pub record TablesLookNearby : Type 0 where
   -- what a near type leads to is near: two tables that agree on what is near have the same of all of it, and it makes no difference which is first
-  pub reached : (near : NearTests) (es others : List Entry) (t : Term) → AgreeOn (near_by near) es others → IsNear (near_by near) t → AgreeFrom (find es) (find others) t
+  pub reached : (near : NearTests) (es others : List Entry) (t : Term) → AgreeOn (near_by near) es others → IsNear (near_by near) t → AgreeFrom (find_entry es) (find_entry others) t
   pub turned : (near : NearTests) (es others : List Entry) → AgreeOn (near_by near) es others → AgreeOn (near_by near) others es
   pub closed : (near : NearTests) (es others : List Entry) (path : List ℕ) → AgreeOn (near_by near) es others → AreRulesClosed (IsNear (near_by near)) (term_rules es path)
   pub same : (near : NearTests) (es others : List Entry) (path : List ℕ) → AgreeOn (near_by near) es others → RulesAgree (IsNear (near_by near)) (term_rules es path) (term_rules others path)
   pub selected : (near : NearTests) (es others : List Entry) (from : List ℕ) (t : Term) (name : List ℕ) → AgreeOn (near_by near) es others → IsNear (near_by near) t
       → NearSelection (IsNear (near_by near)) (near_rest (near_by near)) (selection_in es from t name) × (selection_in es from t name ≡ selection_in others from t name)
   pub params : (near : NearTests) (es others : List Entry) (g : Sign) → AgreeOn (near_by near) es others → IsNearSign (near_by near) g
-      → Each (IfAny (IsNear (near_by near))) (params_of (find es) g) × (params_of (find es) g ≡ params_of (find others) g)
+      → Each (IfAny (IsNear (near_by near))) (param_types_of (find_entry es) g) × (param_types_of (find_entry es) g ≡ param_types_of (find_entry others) g)
   pub results : (near : NearTests) (es others : List Entry) (g : Sign) → AgreeOn (near_by near) es others → IsNearSign (near_by near) g
-      → Each (IfAny (IsNear (near_by near))) (results_of (find es) g) × (results_of (find es) g ≡ results_of (find others) g)
+      → Each (IfAny (IsNear (near_by near))) (results_of (find_entry es) g) × (results_of (find_entry es) g ≡ results_of (find_entry others) g)
   pub fields : (near : NearTests) (s t : SceneModel) (u : Term) → ScenesAgree (near_by near) s t → IsNear (near_by near) u
       → Each (NearField (IsNear (near_by near))) ((literals_in s).fields u) × ((literals_in s).fields u ≡ (literals_in t).fields u)
 
@@ -67,7 +68,7 @@ ExpressionsLookNearby = (near : NearTests) (looks others : TheLooks) (p : Place)
 -- so in two scenes of one package that agree on what is near, where names stand for the same near things and written types are the same near types,
 -- an expression comes to the same, and what it denotes is near
 abbrev pub ScenesLookNearby : Type 0
-ScenesLookNearby = (near : NearTests) (s t : SceneModel) (file : ℕ) (known others : List (Option TheFace)) (look other : Look Meaning) (written made : WrittenRules Term) (p : Place) (e : ExprTree)
+ScenesLookNearby = (near : NearTests) (s t : SceneModel) (file : ℕ) (known others : List (Option TheFace)) (look other : NameLook Meaning) (written made : WrittenRules Term) (p : Place) (e : ExprTree)
     → ScenesAgree (near_by near) s t → NamesAgree (near_by near) s t file known others look other → WrittenAgree (near_by near) written made
     → IsNearby (IsNear (near_by near)) (near_rest (near_by near)) (looks_in s file known written look) (looks_in t file others made other) p e
 

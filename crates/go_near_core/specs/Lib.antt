@@ -27,7 +27,8 @@ pub mod piece_core
 pub mod reach_core
 pub mod scope_core
 pub mod settle_core
+pub mod statement_core
 pub mod table_core
-pub mod top_core
+pub mod type_core
 pub mod walk_core
 pub mod written_core

@@ -4,7 +4,8 @@ use Rattle.go_tree_nodes.specs.declared.types.TypeName.{TypeName}
 use Rattle.go_tree_nodes.specs.Trees.{TypeTree}
 use Rattle.go_file_core.specs.operand_core.TypeRules.{TypeRules}
 use Rattle.go_file_core.specs.expr_core.Looks.{Looks}
-use Rattle.go_near_core.specs.Near.{NearRest, Each, IfAny, NearForm, NearField, NearFound, NearExported, NearSelection}
+use Rattle.go_near_core.specs.Near.{NearRest, IfAny, NearForm, NearField, NearFound, NearExported, NearSelection}
+use Rattle.go_file_core.specs.statement_core.Locality.{Each}
 
 -- the rules of types lead from near types to near ones, and the predeclared types are near
 pub record AreRulesClosed {T : Type 0} (Near : T → Type 0) (rules : TypeRules T) : Type 0 where

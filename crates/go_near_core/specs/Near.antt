@@ -1,6 +1,6 @@
 -- What expressions are judged by, where all types, signatures and packages in it are near: near is any property of types, one of signatures and one of
 -- the packages that names stand for.
-use Rattle.std.specs.Prelude.{List, [], ◌∷◌, Option, Some, None, Result, Ok, Err, ⊤}
+use Rattle.std.specs.Prelude.{[], ◌∷◌, Option, Some, None, Result, Ok, Err, ⊤}
 use Rattle.go_file_core.specs.operand_core.declared.types.ValueType.{ValueType}
 use Rattle.go_file_core.specs.operand_core.declared.types.ValueType.TheVariants as value_types
 use Rattle.go_file_core.specs.operand_core.declared.types.TypeForm.{TypeForm}
@@ -24,11 +24,6 @@ use Rattle.go_file_core.specs.literal_core.Look.{FieldOf}
 pub record NearRest (S D : Type 0) : Type 1 where
   pub sign : S → Type 0
   pub decl : D → Type 0
-
--- each of a list
-abbrev pub Each : {X : Type 0} → (X → Type 0) → List X → Type 0
-Each Near [] = ⊤
-Each Near (x ∷ xs) = Near x × Each Near xs
 
 -- where there is one
 abbrev pub IfAny : {X : Type 0} → (X → Type 0) → Option X → Type 0

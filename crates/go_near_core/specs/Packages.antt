@@ -6,7 +6,7 @@ use Rattle.go_tree_nodes.specs.Trees.{TypeSpecTree}
 use Rattle.go_file_core.specs.block_core.Blocks.{BlocksModel}
 use Rattle.go_file_core.specs.table_core.Entries.{Entry}
 use Rattle.go_file_core.specs.entry_core.Entries.{file_at, type_key}
-use Rattle.go_file_core.specs.entry_core.Laws.{IsDeclared}
+use Rattle.go_file_core.specs.entry_core.Laws.{IsDeclaredInFile}
 use Rattle.go_file_core.specs.entry_core.Meanings.{Shows, file_meaning}
 use Rattle.go_file_core.specs.entry_core.Outlines.{FileOutline}
 use Rattle.go_file_core.specs.names_core.declared.meaning.Outside.{Outside}
@@ -39,7 +39,7 @@ stand_over p es known n o = record { scene = scene_over p es; known = known; fil
 
 -- its own types are near, what names of types mean in its files, what its declarations are, and what near packages show
 pub record IsPackageNear (near : Nearby) (p : PackageOf) (es : List Entry) (known : List (Option TheFace)) : Type 0 where
-  pub own : (n : ℕ) (o : FileOutline) (d : TopDeclTree) (t : TypeSpecTree) → IsDeclared p.outlines n o d → d.form ≡ TypeForm t → near.types (type_key (file_at p.path n o) d.number)
+  pub own : (n : ℕ) (o : FileOutline) (d : TopDeclTree) (t : TypeSpecTree) → IsDeclaredInFile p.outlines n o d → d.form ≡ TypeForm t → near.types (type_key (file_at p.path n o) d.number)
   pub meanings : (n : ℕ) (x : TypeName) → IsNear near (file_meaning p.shows p.path p.blocks n x)
   pub exported : (d : Declaration) (name : List ℕ) → IsNearPackage near d → NearExported (IsNear near) (near_rest near) (found_exported (scene_over p es) d name)
   pub outside : (n : ℕ) (name : List ℕ) (x : Outside) → NearFound (IsNear near) (near_rest near) (found_outside (scene_over p es) n known name x)

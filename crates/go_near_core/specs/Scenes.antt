@@ -3,7 +3,7 @@ use Rattle.std.specs.Prelude.{◌≡◌, ℕ, List, Option}
 use Rattle.go_tree_nodes.specs.declared.types.TypeName.{TypeName}
 use Rattle.go_tree_nodes.specs.Trees.{TypeTree}
 use Rattle.go_term_core.specs.Terms.{Term}
-use Rattle.go_file_core.specs.local_core.Binding.{Look}
+use Rattle.go_file_core.specs.local_core.Binding.{NameLook}
 use Rattle.go_file_core.specs.expr_core.Looks.{WrittenRules}
 use Rattle.go_file_core.specs.handle_core.Declarations.{Declaration}
 use Rattle.go_file_core.specs.face_core.Faces.{TheFace}
@@ -21,7 +21,7 @@ pub record ScenesAgree (near : Nearby) (s t : SceneModel) : Type 0 where
   pub exported_near : (d : Declaration) (name : List ℕ) → IsNearPackage near d → NearExported (IsNear near) (near_rest near) (found_exported s d name)
 
 -- names stand for the same near things
-pub record NamesAgree (near : Nearby) (s t : SceneModel) (file : ℕ) (known others : List (Option TheFace)) (look other : Look Meaning) : Type 0 where
+pub record NamesAgree (near : Nearby) (s t : SceneModel) (file : ℕ) (known others : List (Option TheFace)) (look other : NameLook Meaning) : Type 0 where
   pub same : (name : List ℕ) (offset : ℕ) → found_of s file known name (look name offset) ≡ found_of t file others name (other name offset)
   pub are_near : (name : List ℕ) (offset : ℕ) → NearFound (IsNear near) (near_rest near) (found_of s file known name (look name offset))
 

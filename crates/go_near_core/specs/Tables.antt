@@ -2,7 +2,7 @@
 use Rattle.std.specs.Prelude.{◌≡◌, ℕ, Bool, true, List, Some, Contains, ⊤}
 use Rattle.go_term_core.specs.decl_core.declared.keys.DeclKey.{DeclKey}
 use Rattle.go_term_core.specs.Terms.{Term, Sign, term_keys, sign_keys}
-use Rattle.go_file_core.specs.table_core.Entries.{Entry, find, entry_keys}
+use Rattle.go_file_core.specs.table_core.Entries.{Entry, find_entry, entry_keys}
 use Rattle.go_file_core.specs.handle_core.Declarations.{Declaration, Universe, OfError, Package, InFile}
 use Rattle.go_near_core.specs.Near.{NearRest}
 
@@ -37,5 +37,5 @@ near_rest near = record { sign = IsNearSign near; decl = IsNearPackage near }
 
 -- two tables have the same of each near key, and what its entry mentions is near: its term, and the signatures of its methods
 pub record AgreeOn (near : Nearby) (es others : List Entry) : Type 0 where
-  pub same : (k : DeclKey) → near.types k → find es k ≡ find others k
-  pub closed : (k : DeclKey) (e : Entry) → near.types k → find es k ≡ Some e → (j : DeclKey) → Contains (entry_keys e) j → near.types j
+  pub same : (k : DeclKey) → near.types k → find_entry es k ≡ find_entry others k
+  pub closed : (k : DeclKey) (e : Entry) → near.types k → find_entry es k ≡ Some e → (j : DeclKey) → Contains (entry_keys e) j → near.types j

@@ -25,6 +25,16 @@ pub mod face_core {
     pub use go_file_core::face_core::Face;
 }
 
+/// What the crates above name of `go_file_core`.
+pub mod file_core {
+    pub use go_file_core::functions_are_placed;
+}
+
+/// What the crates above name of `go_func_core`.
+pub mod func_core {
+    pub use go_file_core::func_core::{functions_have_one_table, locals_are_declarations};
+}
+
 /// What the crates above name of `go_reach_core`.
 pub mod reach_core {
     pub use go_file_core::reach_core::{NumberSet, Reached};

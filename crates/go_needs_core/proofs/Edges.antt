@@ -10,7 +10,7 @@ use Rattle.go_cycle_core.specs.declared.edge.Edge.{Edge}
 use Rattle.go_cycle_core.specs.Cycle as cycle
 use Rattle.go_cycle_core.specs.Cycle.{InRange, Reaches, IsOnCycle}
 use Rattle.go_cycle_core.proofs.Walks.{leads_back}
-use Rattle.go_needs_core.specs.Needs.{AllInside, needed, Leads, IsEndless}
+use Rattle.go_needs_core.specs.Needs.{NeedsAreInside, needed, NeedsLead, IsEndless}
 use Rattle.go_needs_core.specs.mirrors.Filling.{edges_at, edges_from}
 
 abbrev pub edge : ℕ → ℕ → Edge
@@ -68,19 +68,19 @@ needs_inside rows a b h = elim (cases_lt a (length rows)) [
   | inr past ↦ absurd (none_inside b (subst (λ l. Contains l b) (get_or_past rows a [] past) h))
 ]
 
-pub needed_inside : (rows : List (List ℕ)) → AllInside rows → (a b : ℕ) → Contains (needed rows a) b → b < length rows
+pub needed_inside : (rows : List (List ℕ)) → NeedsAreInside rows → (a b : ℕ) → Contains (needed rows a) b → b < length rows
 needed_inside rows all a b h = All-contains (λ x. x < length rows) (needed rows a) b (all a [] (needs_inside rows a b h)) h
 
-pub row_inside : (rows : List (List ℕ)) → AllInside rows → (a : ℕ) → All (λ x. x < length rows) (needed rows a)
+pub row_inside : (rows : List (List ℕ)) → NeedsAreInside rows → (a : ℕ) → All (λ x. x < length rows) (needed rows a)
 row_inside rows all a = All-weaker (Contains (needed rows a)) (λ x. x < length rows) (λ b has. needed_inside rows all a b has) (needed rows a) (All-contains_itself (needed rows a))
 
-pub edges_inside : (rows : List (List ℕ)) → AllInside rows → InRange (length rows) (edges_from 0 rows)
+pub edges_inside : (rows : List (List ℕ)) → NeedsAreInside rows → InRange (length rows) (edges_from 0 rows)
 edges_inside rows all = All-weaker (Contains (edges_from 0 rows)) (λ e. (e.from < length rows) × (e.to < length rows))
     (λ e has. (let n = edge_needs rows e has in (needs_inside rows e.from e.to n, needed_inside rows all e.from e.to n)))
     (edges_from 0 rows) (All-contains_itself (edges_from 0 rows))
 
 -- a list of edges is a path
-pub path_of : (rows : List (List ℕ)) (es : List Edge) (a b : ℕ) → cycle.Leads (edges_from 0 rows) es a b → (path : List ℕ) × Leads rows a path b
+pub path_of : (rows : List (List ℕ)) (es : List Edge) (a b : ℕ) → cycle.Leads (edges_from 0 rows) es a b → (path : List ℕ) × NeedsLead rows a path b
 path_of rows [] a b h = ([], h)
 path_of rows (e ∷ es) a b h =
     let rest = path_of rows es e.to b h.2 in

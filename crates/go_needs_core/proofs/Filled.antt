@@ -9,7 +9,7 @@ use Rattle.std.proofs.lemmas.List.FromFn.{length-range_with_len}
 use Rattle.std.proofs.lemmas.List.Elements.{All-contains}
 use Rattle.std.proofs.lemmas.List.Sorted.{Contains-permutation, length_permutation}
 use Rattle.go_cycle_core.specs.Cycle.{IsRanked, IsRanking, IsAfter}
-use Rattle.go_needs_core.specs.Needs.{AllInside, needed, EndsWithin, IsEndless, known_in, LooksAtNeeds, AreValues}
+use Rattle.go_needs_core.specs.Needs.{NeedsAreInside, needed, EndsWithin, IsEndless, known_in, LooksAtNeeds, AreValues}
 use Rattle.go_needs_core.specs.mirrors.Filling.{edges_from, IsMissing, IsThere, IsStep, IsFilled}
 use Rattle.go_needs_core.proofs.Needed.{within_more}
 use Rattle.go_needs_core.proofs.Edges.{edge, need_edge, needed_inside, cycle_back, back_before, in_all}
@@ -89,7 +89,7 @@ module _ (V : Type 0) (rows : List (List ℕ)) (value : (ℕ → Option V) → �
         ];
       }
 
-    module _ (inside : AllInside rows) (ranking : IsRanking (edges_from 0 rows) ranks) (after : IsAfter (edges_from 0 rows) order) (each : IsPermutation (range_with_len 0 (length rows)) order) (lt : i < length order) where
+    module _ (inside : NeedsAreInside rows) (ranking : IsRanking (edges_from 0 rows) ranks) (after : IsAfter (edges_from 0 rows) order) (each : IsPermutation (range_with_len 0 (length rows)) order) (lt : i < length order) where
       ranked : (b : ℕ) → Contains (needed rows node) b → IsRanked (edges_from 0 rows) ranks (edge node b)
       ranked b has = All-contains (IsRanked (edges_from 0 rows) ranks) (edges_from 0 rows) (edge node b) ranking (need_edge rows node b has)
 
@@ -127,7 +127,7 @@ module _ (V : Type 0) (rows : List (List ℕ)) (value : (ℕ → Option V) → �
       }
 
   -- what becomes of the table at a node of the order
-  pub filled_more : LooksAtNeeds rows value → AllInside rows → (order ranks : List ℕ) → IsRanking (edges_from 0 rows) ranks → IsAfter (edges_from 0 rows) order → IsPermutation (range_with_len 0 (length rows)) order
+  pub filled_more : LooksAtNeeds rows value → NeedsAreInside rows → (order ranks : List ℕ) → IsRanking (edges_from 0 rows) ranks → IsAfter (edges_from 0 rows) order → IsPermutation (range_with_len 0 (length rows)) order
       → (i : ℕ) → i < length order → get_or order i 0 < length rows → (old new : List (Option V)) → IsStep ranks (needed rows (get_or order i 0)) (get_or order i 0) value old new
       → IsFilled V rows value order i old → IsFilled V rows value order (i + 1) new
   filled_more local inside order ranks ranking after perm i lt below old new step filled =

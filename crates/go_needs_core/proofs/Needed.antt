@@ -3,8 +3,8 @@ use Rattle.std.proofs.Common.{◌≡◌, ℕ, zero, suc, ◌<◌, ◌≤◌, inl
 use Rattle.std.specs.List.{Contains}
 use Rattle.std.proofs.lemmas.Bool.{cases_lt}
 use Rattle.std.proofs.lemmas.List.{same_lists, get_or_default, get_or_past}
-use Rattle.go_needs_core.specs.Needs.{needed, Leads, EndsWithin, known_in, LooksAtNeeds, AreValues}
-use Rattle.go_needs_core.specs.Laws.{EndlessNeverEnds, OneTable}
+use Rattle.go_needs_core.specs.Needs.{needed, NeedsLead, EndsWithin, known_in, LooksAtNeeds, AreValues}
+use Rattle.go_needs_core.specs.Laws.{EndlessNeverEnds, OneTableOfValues}
 
 -- a bound and one more
 pub within_more : (rows : List (List ℕ)) (n a : ℕ) → EndsWithin rows n a → EndsWithin rows (suc n) a
@@ -12,13 +12,13 @@ within_more rows zero a h = absurd h
 within_more rows (suc n) a h = λ b has. within_more rows n b (h b has)
 
 -- a bound holds further on
-ends_along : (rows : List (List ℕ)) (n : ℕ) (path : List ℕ) (a b : ℕ) → Leads rows a path b → EndsWithin rows n a → EndsWithin rows n b
+ends_along : (rows : List (List ℕ)) (n : ℕ) (path : List ℕ) (a b : ℕ) → NeedsLead rows a path b → EndsWithin rows n a → EndsWithin rows n b
 ends_along rows n [] a b h w = subst (λ x. EndsWithin rows n x) h w
 ends_along rows zero (c ∷ path) a b h w = absurd w
 ends_along rows (suc n) (c ∷ path) a b h w = ends_along rows (suc n) path c b h.1 (within_more rows n c (w c h.0))
 
 -- what leads back to itself does not end
-around_never : (rows : List (List ℕ)) (n a c : ℕ) (path : List ℕ) → Leads rows a (c ∷ path) a → EndsWithin rows n a → ⊥
+around_never : (rows : List (List ℕ)) (n a c : ℕ) (path : List ℕ) → NeedsLead rows a (c ∷ path) a → EndsWithin rows n a → ⊥
 around_never rows zero a c path h w = w
 around_never rows (suc n) a c path h w = around_never rows n a c path h (ends_along rows n path c a h.1 (w c h.0))
 
@@ -56,5 +56,5 @@ module _ (V : Type 0) (rows : List (List ℕ)) (value : (ℕ → Option V) → �
         let lt'' : k < length u = omega (arith, lt', au.as_many) in
         get_or_default t k d None lt ∙ (either k lt' (known_in t k) (known_in u k) refl refl ∙ sym (get_or_default u k d None lt'')))
 
-pub one_table : (V : Type 0) → OneTable V
+pub one_table : (V : Type 0) → OneTableOfValues V
 one_table V rows value t u local at au = one V rows value local t u at au

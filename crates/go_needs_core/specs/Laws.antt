@@ -7,7 +7,7 @@ abbrev pub EndlessNeverEnds : Type 0
 EndlessNeverEnds = (rows : List (List ℕ)) (n a : ℕ) → IsEndless rows a → EndsWithin rows n a → ⊥
 
 -- there is one table of values
-abbrev pub OneTable : Type 0 → Type 0
-OneTable V =
+abbrev pub OneTableOfValues : Type 0 → Type 0
+OneTableOfValues V =
     (rows : List (List ℕ)) (value : (ℕ → Option V) → ℕ → V) (t u : List (Option V)) → LooksAtNeeds rows value
     → AreValues V rows value t → AreValues V rows value u → t ≡ u

@@ -11,22 +11,22 @@ abbrev pub needed : List (List ℕ) → ℕ → List ℕ
 needed rows a = slice_index_or rows a []
 
 -- each node needs nodes of the list
-abbrev pub AllInside : List (List ℕ) → Type 0
-AllInside rows = All (λ row. All (λ b. b < length rows) row) rows
+abbrev pub NeedsAreInside : List (List ℕ) → Type 0
+NeedsAreInside rows = All (λ row. All (λ b. b < length rows) row) rows
 
 -- the nodes on the path are those behind a, up to b, of which each needs the next
-abbrev pub Leads : List (List ℕ) → ℕ → List ℕ → ℕ → Type 0
-Leads rows a [] b = a ≡ b
-Leads rows a (c ∷ path) b = Contains (needed rows a) c × Leads rows c path b
+abbrev pub NeedsLead : List (List ℕ) → ℕ → List ℕ → ℕ → Type 0
+NeedsLead rows a [] b = a ≡ b
+NeedsLead rows a (c ∷ path) b = Contains (needed rows a) c × NeedsLead rows c path b
 
 -- a leads to a node that leads back to itself
 pub record IsEndless (rows : List (List ℕ)) (a : ℕ) : Type 0 where
   pub node : ℕ
   pub path : List ℕ
-  pub leads : Leads rows a path node
+  pub leads : NeedsLead rows a path node
   pub first : ℕ
   pub around : List ℕ
-  pub back : Leads rows node (first ∷ around) node
+  pub back : NeedsLead rows node (first ∷ around) node
 
 -- each path from a, a in front, has at most n nodes
 abbrev pub EndsWithin : List (List ℕ) → ℕ → ℕ → Type 0

@@ -1,5 +1,5 @@
 //! Laws of what needs one another.
-ghost use Rattle.go_needs_core.specs.Laws.{EndlessNeverEnds, OneTable};
+ghost use Rattle.go_needs_core.specs.Laws.{EndlessNeverEnds, OneTableOfValues};
 
 /// A law, with nothing to run: where what a node needs leads back to itself, no bound holds for the paths from the node. So a table of
 /// values has one for a node exactly where each path from it ends.
@@ -9,5 +9,5 @@ pub fn endless_never_ends()
 
 /// A law, with nothing to run: there is at most one table of values.
 pub fn one_table<V: Drop>()
-    ensures { OneTable V }
+    ensures { OneTableOfValues V }
 {}

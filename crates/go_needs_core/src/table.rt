@@ -1,6 +1,6 @@
 //! The table of values.
 ghost use Rattle.std.specs.Prelude.{◌≡◌, ◌<◌, ◌++◌, ℕ, All, Contains, IfOk, OnOk, MatchOption, None, Some, length, slice_set};
-ghost use Rattle.go_needs_core.specs.Needs.{AllInside, AreValues, known_in, needed, rows_of};
+ghost use Rattle.go_needs_core.specs.Needs.{NeedsAreInside, AreValues, known_in, needed, rows_of};
 ghost use Rattle.go_needs_core.specs.mirrors.Filling.{edges_at, edges_from, IsMissing, IsStep, IsThere};
 
 use crate::needing::Needing;
@@ -109,7 +109,7 @@ pub fn values_of<S: Needing>(
     stage: &S,
     needs: &[Vec<usize>],
 ) -> Result<Vec<Option<S::Value>>, AllocError>
-    requires inside { AllInside (rows_of needs.now) }
+    requires inside { NeedsAreInside (rows_of needs.now) }
     requires rows { S.rows stage.now ≡ rows_of needs.now }
     ensures { IfOk result (λ table. AreValues S.Value (rows_of needs.now) (S.value stage.now) table.items) }
 {

@@ -20,10 +20,10 @@ use Rattle.go_operand_core.specs.declared.operators.Group.TheVariants as groups
 use Rattle.go_operand_core.specs.TypeRules.{TypeRules}
 use Rattle.go_operand_core.specs.Values.{is_over, form_basic, basic_under, untyped}
 use Rattle.go_operand_core.specs.Assign.{common, comparable}
-use Rattle.go_operand_core.specs.Operators.{group, divides, takes, is_zero, value, computed, with_constants, arithmetic, ordered, equated, binary}
-use Rattle.go_operand_core.specs.Prefixes.{signed, signed_over, pointed, indirection, address, unary}
+use Rattle.go_operand_core.specs.Operators.{group, divides, takes, is_some_zero, value, computed, with_constants, arithmetic, ordered, equated, binary_operand}
+use Rattle.go_operand_core.specs.Prefixes.{signed, signed_over, pointed, indirection, address, unary_operand}
 use Rattle.go_operand_core.specs.Relations.{IsAssignable, by_type, nil_to_pointer, nil_to_interface, by_kind, by_default_type, HaveCommon, of_one_type, first_takes, second_takes, of_one_kind, AreComparable, first_to_second, second_to_first, both_untyped, IsValueOf}
-use Rattle.go_operand_core.specs.Known.{KeepsKinds, IsOfType, IsWhole}
+use Rattle.go_operand_core.specs.Known.{KeepsKinds, IsOfType, IsConstantOfItsType}
 use Rattle.go_operand_core.proofs.Relating.{basic_same, if_some, shared, compared}
 use Rattle.go_operand_core.proofs.Typing.{if_ok, accepted, constant_of}
 
@@ -31,7 +31,7 @@ use Rattle.go_operand_core.proofs.Typing.{if_ok, accepted, constant_of}
 
 ranged_value : (z : ℤ) (m : Constant) → constants.ranged z ≡ Some m → IsValueOf basics.Int m
 ranged_value z m h =
-    let p = if_some (constants.fits z) (constant.Int z) m h in
+    let p = if_some (constants.fits_64_bits z) (constant.Int z) m h in
     let P : Constant → Type 0 = IsValueOf basics.Int in
     subst P (sym p.1) ((fits_tells z).0 p.0)
 
@@ -209,15 +209,15 @@ compared_alike rules keeps v w b c (both_untyped d k l) p q = itself_alike rules
 moved : (b c : Basic) (k : Constant) → b ≡ c → IsValueOf b k → IsValueOf c k
 moved b c k e h = let P : Basic → Type 0 = λ d. IsValueOf d k in subst P e h
 
-not_constant : {T : Type 0} (rules : TypeRules T) (o : Operand T) → o.constant ≡ None → IsWhole rules o
+not_constant : {T : Type 0} (rules : TypeRules T) (o : Operand T) → o.constant ≡ None → IsConstantOfItsType rules o
 not_constant rules o e = let P : Option Constant → Type 0 = λ c. IsOfType rules o.value_type c in subst P (sym e) tt
 
 computed_whole : {T : Type 0} (rules : TypeRules T) (v : ValueType T) (c : Option Constant) (o : Operand T) (b : Basic) → basic_under rules v ≡ Some b
-    → ((m : Constant) → c ≡ Some m → IsValueOf b m) → computed v c ≡ Ok o → IsWhole rules o
+    → ((m : Constant) → c ≡ Some m → IsValueOf b m) → computed v c ≡ Ok o → IsConstantOfItsType rules o
 computed_whole rules v None o b u f h = absurd cc
 computed_whole {T = T} rules v (Some m) o b u f h =
     let e : value v (Some m) ≡ o = cc in
-    let P : Operand T → Type 0 = λ z. IsWhole rules z in
+    let P : Operand T → Type 0 = λ z. IsConstantOfItsType rules z in
     subst P e (b, (u, f m refl))
 
 takes_none : (g : Group) → takes g None ≡ false
@@ -235,7 +235,7 @@ unless_both false r e o h = (refl, h)
 made_whole : {T : Type 0} (rules : TypeRules T) (keeps : KeepsKinds rules) (op : Operator)
     → ((b : Basic) → takes (group op) (Some b) ≡ true → (k l m : Constant) → (divides op && constants.is_zero l) ≡ false → IsValueOf b k → IsValueOf b l → constants.binary op k l ≡ Some m → IsValueOf b m)
     → (v w both : ValueType T) (u : Option Basic) (x y : Option Constant) (o : Operand T) → HaveCommon rules v w both → basic_under rules both ≡ u → takes (group op) u ≡ true
-    → (divides op && is_zero y) ≡ false → IsOfType rules v x → IsOfType rules w y → with_constants both op x y ≡ Ok o → IsWhole rules o
+    → (divides op && is_some_zero y) ≡ false → IsOfType rules v x → IsOfType rules w y → with_constants both op x y ≡ Ok o → IsConstantOfItsType rules o
 made_whole rules keeps op makes v w both u None y o have e t z p q h = not_constant rules o (constant_of both None o h)
 made_whole rules keeps op makes v w both u (Some k) None o have e t z p q h = not_constant rules o (constant_of both None o h)
 made_whole rules keeps op makes v w both None (Some k) (Some l) o have e t z p q h = let never = takes_none (group op) in absurd cc
@@ -247,23 +247,23 @@ made_whole rules keeps op makes v w both (Some b) (Some k) (Some l) o have e t z
 arithmetic_in : {T : Type 0} (rules : TypeRules T) (keeps : KeepsKinds rules) (op : Operator)
     → ((b : Basic) → takes (group op) (Some b) ≡ true → (k l m : Constant) → (divides op && constants.is_zero l) ≡ false → IsValueOf b k → IsValueOf b l → constants.binary op k l ≡ Some m → IsValueOf b m)
     → (v w : ValueType T) (n : Option (ValueType T)) (x y : Option Constant) (o : Operand T) → common rules v w ≡ n → IsOfType rules v x → IsOfType rules w y
-    → arithmetic rules op n x y ≡ Ok o → IsWhole rules o
+    → arithmetic rules op n x y ≡ Ok o → IsConstantOfItsType rules o
 arithmetic_in rules keeps op makes v w None x y o e p q h = absurd cc
 arithmetic_in rules keeps op makes v w (Some both) x y o e p q h =
-    let g = if_ok (takes (group op) (basic_under rules both)) (if divides op && is_zero y then Err Y7 else with_constants both op x y) Y3 o h in
-    let r = unless_both (divides op && is_zero y) (with_constants both op x y) Y7 o g.1 in
+    let g = if_ok (takes (group op) (basic_under rules both)) (if divides op && is_some_zero y then Err Y7 else with_constants both op x y) Y3 o h in
+    let r = unless_both (divides op && is_some_zero y) (with_constants both op x y) Y7 o g.1 in
     made_whole rules keeps op makes v w both (basic_under rules both) x y o (shared rules v w both e) refl g.0 r.0 p q r.1
 
 arithmetic_whole : {T : Type 0} (rules : TypeRules T) (keeps : KeepsKinds rules) (op : Operator)
     → ((b : Basic) → takes (group op) (Some b) ≡ true → (k l m : Constant) → (divides op && constants.is_zero l) ≡ false → IsValueOf b k → IsValueOf b l → constants.binary op k l ≡ Some m → IsValueOf b m)
-    → (a b o : Operand T) → IsWhole rules a → IsWhole rules b → arithmetic rules op (common rules a.value_type b.value_type) a.constant b.constant ≡ Ok o → IsWhole rules o
+    → (a b o : Operand T) → IsConstantOfItsType rules a → IsConstantOfItsType rules b → arithmetic rules op (common rules a.value_type b.value_type) a.constant b.constant ≡ Ok o → IsConstantOfItsType rules o
 arithmetic_whole rules keeps op makes a b o p q h =
     arithmetic_in rules keeps op makes a.value_type b.value_type (common rules a.value_type b.value_type) a.constant b.constant o refl p q h
 
 compared_whole : {T : Type 0} (rules : TypeRules T) (keeps : KeepsKinds rules) (op : Operator)
     → ((b : Basic) → takes (group op) (Some b) ≡ true → (k l m : Constant) → IsValueOf b k → IsValueOf b l → constants.binary op k l ≡ Some m → IsValueOf basics.Bool m)
     → (v w both : ValueType T) (u : Option Basic) (x y : Option Constant) (o : Operand T) → HaveCommon rules v w both → basic_under rules both ≡ u → takes (group op) u ≡ true
-    → IsOfType rules v x → IsOfType rules w y → with_constants types.UntypedBool op x y ≡ Ok o → IsWhole rules o
+    → IsOfType rules v x → IsOfType rules w y → with_constants types.UntypedBool op x y ≡ Ok o → IsConstantOfItsType rules o
 compared_whole rules keeps op makes v w both u None y o have e t p q h = not_constant rules o (constant_of types.UntypedBool None o h)
 compared_whole rules keeps op makes v w both u (Some k) None o have e t p q h = not_constant rules o (constant_of types.UntypedBool None o h)
 compared_whole rules keeps op makes v w both None (Some k) (Some l) o have e t p q h = let never = takes_none (group op) in absurd cc
@@ -275,7 +275,7 @@ compared_whole rules keeps op makes v w both (Some b) (Some k) (Some l) o have e
 ordered_in : {T : Type 0} (rules : TypeRules T) (keeps : KeepsKinds rules) (op : Operator)
     → ((b : Basic) → takes (group op) (Some b) ≡ true → (k l m : Constant) → IsValueOf b k → IsValueOf b l → constants.binary op k l ≡ Some m → IsValueOf basics.Bool m)
     → (v w : ValueType T) (n : Option (ValueType T)) (x y : Option Constant) (o : Operand T) → common rules v w ≡ n → IsOfType rules v x → IsOfType rules w y
-    → ordered rules op n x y ≡ Ok o → IsWhole rules o
+    → ordered rules op n x y ≡ Ok o → IsConstantOfItsType rules o
 ordered_in rules keeps op makes v w None x y o e p q h = absurd cc
 ordered_in rules keeps op makes v w (Some both) x y o e p q h =
     let g = if_ok (takes (group op) (basic_under rules both)) (with_constants types.UntypedBool op x y) Y3 o h in
@@ -283,14 +283,14 @@ ordered_in rules keeps op makes v w (Some both) x y o e p q h =
 
 ordered_whole : {T : Type 0} (rules : TypeRules T) (keeps : KeepsKinds rules) (op : Operator)
     → ((b : Basic) → takes (group op) (Some b) ≡ true → (k l m : Constant) → IsValueOf b k → IsValueOf b l → constants.binary op k l ≡ Some m → IsValueOf basics.Bool m)
-    → (a b o : Operand T) → IsWhole rules a → IsWhole rules b → ordered rules op (common rules a.value_type b.value_type) a.constant b.constant ≡ Ok o → IsWhole rules o
+    → (a b o : Operand T) → IsConstantOfItsType rules a → IsConstantOfItsType rules b → ordered rules op (common rules a.value_type b.value_type) a.constant b.constant ≡ Ok o → IsConstantOfItsType rules o
 ordered_whole rules keeps op makes a b o p q h =
     ordered_in rules keeps op makes a.value_type b.value_type (common rules a.value_type b.value_type) a.constant b.constant o refl p q h
 
 equal_constants : {T : Type 0} (rules : TypeRules T) (keeps : KeepsKinds rules) (op : Operator)
     → ((b : Basic) (k l m : Constant) → IsValueOf b k → IsValueOf b l → constants.binary op k l ≡ Some m → IsValueOf basics.Bool m)
     → (v w : ValueType T) (x y : Option Constant) (o : Operand T) → AreComparable rules v w → IsOfType rules v x → IsOfType rules w y
-    → with_constants types.UntypedBool op x y ≡ Ok o → IsWhole rules o
+    → with_constants types.UntypedBool op x y ≡ Ok o → IsConstantOfItsType rules o
 equal_constants rules keeps op makes v w None y o have p q h = not_constant rules o (constant_of types.UntypedBool None o h)
 equal_constants rules keeps op makes v w (Some k) None o have p q h = not_constant rules o (constant_of types.UntypedBool None o h)
 equal_constants rules keeps op makes v w (Some k) (Some l) o have p q h =
@@ -299,12 +299,12 @@ equal_constants rules keeps op makes v w (Some k) (Some l) o have p q h =
 
 equal_whole : {T : Type 0} (rules : TypeRules T) (keeps : KeepsKinds rules) (op : Operator)
     → ((b : Basic) (k l m : Constant) → IsValueOf b k → IsValueOf b l → constants.binary op k l ≡ Some m → IsValueOf basics.Bool m)
-    → (a b o : Operand T) → IsWhole rules a → IsWhole rules b → equated op (comparable rules a.value_type b.value_type) a.constant b.constant ≡ Ok o → IsWhole rules o
+    → (a b o : Operand T) → IsConstantOfItsType rules a → IsConstantOfItsType rules b → equated op (comparable rules a.value_type b.value_type) a.constant b.constant ≡ Ok o → IsConstantOfItsType rules o
 equal_whole rules keeps op makes a b o p q h =
     let g = if_ok (comparable rules a.value_type b.value_type) (with_constants types.UntypedBool op a.constant b.constant) Y3 o h in
     equal_constants rules keeps op makes a.value_type b.value_type a.constant b.constant o (compared rules a.value_type b.value_type g.0) p q g.1
 
-pub of_two : {T : Type 0} (rules : TypeRules T) (op : Operator) (a b o : Operand T) → KeepsKinds rules → IsWhole rules a → IsWhole rules b → binary rules op a b ≡ Ok o → IsWhole rules o
+pub of_two : {T : Type 0} (rules : TypeRules T) (op : Operator) (a b o : Operand T) → KeepsKinds rules → IsConstantOfItsType rules a → IsConstantOfItsType rules b → binary_operand rules op a b ≡ Ok o → IsConstantOfItsType rules o
 of_two rules operators.Plus a b o keeps p q h = arithmetic_whole rules keeps operators.Plus sum_value a b o p q h
 of_two rules operators.Minus a b o keeps p q h = arithmetic_whole rules keeps operators.Minus difference_value a b o p q h
 of_two rules operators.Star a b o keeps p q h = arithmetic_whole rules keeps operators.Star product_value a b o p q h
@@ -322,7 +322,7 @@ of_two rules _ a b o keeps p q h = absurd cc
 
 signed_constants : {T : Type 0} (rules : TypeRules T) (op : Operator) (taken : Basic)
     → ((k m : Constant) → IsValueOf taken k → constants.unary op k ≡ Some m → IsValueOf taken m)
-    → (v : ValueType T) (u : Option Basic) (x : Option Constant) (o : Operand T) → basic_under rules v ≡ u → is_over taken u ≡ true → IsOfType rules v x → signed op v x ≡ Ok o → IsWhole rules o
+    → (v : ValueType T) (u : Option Basic) (x : Option Constant) (o : Operand T) → basic_under rules v ≡ u → is_over taken u ≡ true → IsOfType rules v x → signed op v x ≡ Ok o → IsConstantOfItsType rules o
 signed_constants rules op taken makes v u None o e t p h = not_constant rules o (constant_of v None o h)
 signed_constants rules op taken makes v None (Some k) o e t p h = absurd cc
 signed_constants rules op taken makes v (Some b) (Some k) o e t p h =
@@ -332,7 +332,7 @@ signed_constants rules op taken makes v (Some b) (Some k) o e t p h =
 
 signed_whole : {T : Type 0} (rules : TypeRules T) (op : Operator) (taken : Basic)
     → ((k m : Constant) → IsValueOf taken k → constants.unary op k ≡ Some m → IsValueOf taken m)
-    → (a o : Operand T) → IsWhole rules a → signed_over rules taken op a ≡ Ok o → IsWhole rules o
+    → (a o : Operand T) → IsConstantOfItsType rules a → signed_over rules taken op a ≡ Ok o → IsConstantOfItsType rules o
 signed_whole rules op taken makes a o p h =
     let g = if_ok (is_over taken (basic_under rules a.value_type)) (signed op a.value_type a.constant) Y3 o h in
     signed_constants rules op taken makes a.value_type (basic_under rules a.value_type) a.constant o refl g.0 p g.1
@@ -385,7 +385,7 @@ address_constant rules may types.UntypedText o h = absurd cc
 address_constant rules may types.UntypedBool o h = absurd cc
 address_constant rules may types.Nil o h = absurd cc
 
-pub of_one : {T : Type 0} (rules : TypeRules T) (op : Operator) (literal : Bool) (a o : Operand T) → IsWhole rules a → unary rules op literal a ≡ Ok o → IsWhole rules o
+pub of_one : {T : Type 0} (rules : TypeRules T) (op : Operator) (literal : Bool) (a o : Operand T) → IsConstantOfItsType rules a → unary_operand rules op literal a ≡ Ok o → IsConstantOfItsType rules o
 of_one rules operators.Plus literal a o p h = signed_whole rules operators.Plus basics.Int plus_value a o p h
 of_one rules operators.Minus literal a o p h = signed_whole rules operators.Minus basics.Int minus_value a o p h
 of_one rules operators.Not literal a o p h = signed_whole rules operators.Not basics.Bool not_value a o p h

@@ -13,17 +13,17 @@ use Rattle.go_operand_core.specs.declared.types.Operand.{Operand}
 use Rattle.go_operand_core.specs.TypeRules.{TypeRules}
 use Rattle.go_operand_core.specs.Values.{is_over, basic_under}
 use Rattle.go_operand_core.specs.Assign.{common}
-use Rattle.go_operand_core.specs.Operators.{group, divides, takes, is_zero, with_constants, arithmetic, binary, refused_binary}
+use Rattle.go_operand_core.specs.Operators.{group, divides, takes, is_some_zero, with_constants, arithmetic, binary_operand, refused_binary}
 use Rattle.go_operand_core.specs.Prefixes.{refused_unary}
 use Rattle.go_operand_core.specs.Relations.{HaveCommon}
 use Rattle.go_operand_core.specs.Laws.{IsArithmetic, IsOrder, IsEquality}
-use Rattle.go_operand_core.specs.Refusals.{IsBitOperator, IsPrefix, IsDivision, AreIntegers}
+use Rattle.go_operand_core.specs.Refusals.{IsBitOperator, IsPrefixOperator, IsDivision, AreIntegers}
 use Rattle.go_operand_core.proofs.Relating.{basic_same, basic_itself, shared, shares}
 
-at_known : {T : Type 0} (rules : TypeRules T) (op known : Operator) (a b : Operand T) (r : Result (Operand T) Rule) → op ≡ known → binary rules known a b ≡ r → binary rules op a b ≡ r
-at_known rules op known a b r e h = subst (λ (p : Operator). binary rules p a b ≡ r) (sym e) h
+at_known : {T : Type 0} (rules : TypeRules T) (op known : Operator) (a b : Operand T) (r : Result (Operand T) Rule) → op ≡ known → binary_operand rules known a b ≡ r → binary_operand rules op a b ≡ r
+at_known rules op known a b r e h = subst (λ (p : Operator). binary_operand rules p a b ≡ r) (sym e) h
 
-pub bits_outside : {T : Type 0} (rules : TypeRules T) (op : Operator) (a b : Operand T) → IsBitOperator op → binary rules op a b ≡ Err X1
+pub bits_outside : {T : Type 0} (rules : TypeRules T) (op : Operator) (a b : Operand T) → IsBitOperator op → binary_operand rules op a b ≡ Err X1
 bits_outside rules op a b (inl e) = at_known rules op operators.And a b (Err X1) e refl
 bits_outside rules op a b (inr (inl e)) = at_known rules op operators.Or a b (Err X1) e refl
 bits_outside rules op a b (inr (inr (inl e))) = at_known rules op operators.Caret a b (Err X1) e refl
@@ -63,7 +63,7 @@ passed op (inr (inr (inr e))) = refused_at op operators.NotEqual None e refl
 prefix_at : (op known : Operator) → op ≡ known → refused_unary known ≡ None → refused_unary op ≡ None
 prefix_at op known e h = subst (λ (p : Operator). refused_unary p ≡ None) (sym e) h
 
-pub prefix_passed : (op : Operator) → IsPrefix op → refused_unary op ≡ None
+pub prefix_passed : (op : Operator) → IsPrefixOperator op → refused_unary op ≡ None
 prefix_passed op (inl e) = prefix_at op operators.Plus e refl
 prefix_passed op (inr (inl e)) = prefix_at op operators.Minus e refl
 prefix_passed op (inr (inr (inl e))) = prefix_at op operators.Not e refl
@@ -78,26 +78,26 @@ over_tells b None h = absurd cc
 over_tells b (Some c) h = ap Some (sym (basic_same b c h))
 
 zero_in : {T : Type 0} (rules : TypeRules T) (op : Operator) (both : ValueType T) (x y : Option Constant) → takes (group op) (basic_under rules both) ≡ true
-    → (divides op && is_zero y) ≡ true → arithmetic rules op (Some both) x y ≡ Err Y7
+    → (divides op && is_some_zero y) ≡ true → arithmetic rules op (Some both) x y ≡ Err Y7
 zero_in {T = T} rules op both x y t z =
     let R : Result (Operand T) Rule = Err Y7 in
-    let P : Bool → Type 0 = λ b. (if b then (if divides op && is_zero y then Err Y7 else with_constants both op x y) else Err Y3) ≡ R in
+    let P : Bool → Type 0 = λ b. (if b then (if divides op && is_some_zero y then Err Y7 else with_constants both op x y) else Err Y3) ≡ R in
     let Q : Bool → Type 0 = λ b. (if b then Err Y7 else with_constants both op x y) ≡ R in
     subst P (sym t) (subst Q (sym z) refl)
 
 zero_at : {T : Type 0} (rules : TypeRules T) (op : Operator) (v w : ValueType T) (x y : Option Constant) (are : AreIntegers rules v w)
-    → ((u : Option Basic) → takes (group op) u ≡ is_over basics.Int u) → (divides op && is_zero y) ≡ true → arithmetic rules op (common rules v w) x y ≡ Err Y7
+    → ((u : Option Basic) → takes (group op) u ≡ is_over basics.Int u) → (divides op && is_some_zero y) ≡ true → arithmetic rules op (common rules v w) x y ≡ Err Y7
 zero_at {T = T} rules op v w x y are t z =
     let R : Result (Operand T) Rule = Err Y7 in
     let P : Option (ValueType T) → Type 0 = λ m. arithmetic rules op m x y ≡ R in
     subst P (sym (shares rules v w are.both are.common))
     (zero_in rules op are.both x y (t (basic_under rules are.both) ∙ over_itself basics.Int (basic_under rules are.both) are.over_int) z)
 
-zero_constant : (y : Option Constant) → y ≡ Some (constant.Int (pos 0)) → is_zero y ≡ true
-zero_constant y e = let P : Option Constant → Type 0 = λ c. is_zero c ≡ true in subst P (sym e) refl
+zero_constant : (y : Option Constant) → y ≡ Some (constant.Int (pos 0)) → is_some_zero y ≡ true
+zero_constant y e = let P : Option Constant → Type 0 = λ c. is_some_zero c ≡ true in subst P (sym e) refl
 
 pub by_zero : {T : Type 0} (rules : TypeRules T) (op : Operator) (a b : Operand T) → IsDivision op → AreIntegers rules a.value_type b.value_type
-    → b.constant ≡ Some (constant.Int (pos 0)) → binary rules op a b ≡ Err Y7
+    → b.constant ≡ Some (constant.Int (pos 0)) → binary_operand rules op a b ≡ Err Y7
 by_zero rules op a b (inl e) are z =
     at_known rules op operators.Slash a b (Err Y7) e (zero_at rules operators.Slash a.value_type b.value_type a.constant b.constant are (λ u. refl) (zero_constant b.constant z))
 by_zero rules op a b (inr e) are z =
@@ -109,7 +109,7 @@ misfit_over rules op v w both x y true e have t never =
     absurd (never (record { both = both; common = have; over_int = over_tells basics.Int (basic_under rules both) e }))
 misfit_over {T = T} rules op v w both x y false e have t never =
     let R : Result (Operand T) Rule = Err Y3 in
-    let P : Bool → Type 0 = λ b. (if b then (if divides op && is_zero y then Err Y7 else with_constants both op x y) else Err Y3) ≡ R in
+    let P : Bool → Type 0 = λ b. (if b then (if divides op && is_some_zero y then Err Y7 else with_constants both op x y) else Err Y3) ≡ R in
     subst P (sym (t (basic_under rules both) ∙ e)) refl
 
 misfit_in : {T : Type 0} (rules : TypeRules T) (op : Operator) (v w : ValueType T) (m : Option (ValueType T)) (x y : Option Constant) → common rules v w ≡ m
@@ -122,6 +122,6 @@ misfit_at : {T : Type 0} (rules : TypeRules T) (op : Operator) (a b : Operand T)
     → (AreIntegers rules a.value_type b.value_type → ⊥) → arithmetic rules op (common rules a.value_type b.value_type) a.constant b.constant ≡ Err Y3
 misfit_at rules op a b t never = misfit_in rules op a.value_type b.value_type (common rules a.value_type b.value_type) a.constant b.constant refl t never
 
-pub misfit : {T : Type 0} (rules : TypeRules T) (op : Operator) (a b : Operand T) → IsDivision op → (AreIntegers rules a.value_type b.value_type → ⊥) → binary rules op a b ≡ Err Y3
+pub misfit : {T : Type 0} (rules : TypeRules T) (op : Operator) (a b : Operand T) → IsDivision op → (AreIntegers rules a.value_type b.value_type → ⊥) → binary_operand rules op a b ≡ Err Y3
 misfit rules op a b (inl e) never = at_known rules op operators.Slash a b (Err Y3) e (misfit_at rules operators.Slash a b (λ u. refl) never)
 misfit rules op a b (inr e) never = at_known rules op operators.Percent a b (Err Y3) e (misfit_at rules operators.Percent a b (λ u. refl) never)

@@ -16,8 +16,8 @@ use Rattle.go_operand_core.specs.declared.operators.Group.TheVariants as groups
 use Rattle.go_operand_core.specs.TypeRules.{TypeRules}
 use Rattle.go_operand_core.specs.Values.{is_over, basic_under}
 use Rattle.go_operand_core.specs.Assign.{common, comparable}
-use Rattle.go_operand_core.specs.Operators.{group, divides, takes, is_zero, value, computed, with_constants, arithmetic, ordered, equated, binary_in, binary}
-use Rattle.go_operand_core.specs.Prefixes.{signed, signed_over, unary}
+use Rattle.go_operand_core.specs.Operators.{group, divides, takes, is_some_zero, value, computed, with_constants, arithmetic, ordered, equated, binary_in, binary_operand}
+use Rattle.go_operand_core.specs.Prefixes.{signed, signed_over, unary_operand}
 use Rattle.go_operand_core.specs.Relations.{HaveCommon, AreComparable}
 use Rattle.go_operand_core.specs.Laws.{IsArithmetic, IsOrder, IsEquality, HaveOneType}
 use Rattle.go_operand_core.proofs.Relating.{shared, compared}
@@ -53,8 +53,8 @@ arithmetic_type : {T : Type 0} (rules : TypeRules T) (op : Operator) (m : Option
     → arithmetic rules op m x y ≡ Ok o → m ≡ Some o.value_type
 arithmetic_type rules op None x y o h = absurd cc
 arithmetic_type rules op (Some v) x y o h =
-    let p = if_ok (takes (group op) (basic_under rules v)) (if divides op && is_zero y then Err Y7 else with_constants v op x y) Y3 o h in
-    ap Some (sym (made_type v op x y o (unless_ok (divides op && is_zero y) (with_constants v op x y) Y7 o p.1)))
+    let p = if_ok (takes (group op) (basic_under rules v)) (if divides op && is_some_zero y then Err Y7 else with_constants v op x y) Y3 o h in
+    ap Some (sym (made_type v op x y o (unless_ok (divides op && is_some_zero y) (with_constants v op x y) Y7 o p.1)))
 
 own : {T : Type 0} (rules : TypeRules T) (op : Operator) (a b o : Operand T)
     → arithmetic rules op (common rules a.value_type b.value_type) a.constant b.constant ≡ Ok o → HaveCommon rules a.value_type b.value_type o.value_type
@@ -62,10 +62,10 @@ own rules op a b o h =
     shared rules a.value_type b.value_type o.value_type (arithmetic_type rules op (common rules a.value_type b.value_type) a.constant b.constant o h)
 
 -- at an operator that is known
-at_operator : {T : Type 0} (rules : TypeRules T) (op known : Operator) (a b o : Operand T) → op ≡ known → binary rules op a b ≡ Ok o → binary rules known a b ≡ Ok o
-at_operator rules op known a b o e h = subst (λ (p : Operator). binary rules p a b ≡ Ok o) e h
+at_operator : {T : Type 0} (rules : TypeRules T) (op known : Operator) (a b o : Operand T) → op ≡ known → binary_operand rules op a b ≡ Ok o → binary_operand rules known a b ≡ Ok o
+at_operator rules op known a b o e h = subst (λ (p : Operator). binary_operand rules p a b ≡ Ok o) e h
 
-pub own_type : {T : Type 0} (rules : TypeRules T) (op : Operator) (a b o : Operand T) → IsArithmetic op → binary rules op a b ≡ Ok o → HaveCommon rules a.value_type b.value_type o.value_type
+pub own_type : {T : Type 0} (rules : TypeRules T) (op : Operator) (a b o : Operand T) → IsArithmetic op → binary_operand rules op a b ≡ Ok o → HaveCommon rules a.value_type b.value_type o.value_type
 own_type rules op a b o (inl e) h = own rules operators.Plus a b o (at_operator rules op operators.Plus a b o e h)
 own_type rules op a b o (inr (inl e)) h = own rules operators.Minus a b o (at_operator rules op operators.Minus a b o e h)
 own_type rules op a b o (inr (inr (inl e))) h = own rules operators.Star a b o (at_operator rules op operators.Star a b o e h)
@@ -85,7 +85,7 @@ ordered_by : {T : Type 0} (rules : TypeRules T) (op : Operator) (a b o : Operand
     → ordered rules op (common rules a.value_type b.value_type) a.constant b.constant ≡ Ok o → HaveOneType rules a.value_type b.value_type × (o.value_type ≡ types.UntypedBool)
 ordered_by rules op a b o h = in_order rules op a.value_type b.value_type (common rules a.value_type b.value_type) a.constant b.constant o refl h
 
-pub ordered_type : {T : Type 0} (rules : TypeRules T) (op : Operator) (a b o : Operand T) → IsOrder op → binary rules op a b ≡ Ok o
+pub ordered_type : {T : Type 0} (rules : TypeRules T) (op : Operator) (a b o : Operand T) → IsOrder op → binary_operand rules op a b ≡ Ok o
     → HaveOneType rules a.value_type b.value_type × (o.value_type ≡ types.UntypedBool)
 ordered_type rules op a b o (inl e) h = ordered_by rules operators.Less a b o (at_operator rules op operators.Less a b o e h)
 ordered_type rules op a b o (inr (inl e)) h = ordered_by rules operators.LessEqual a b o (at_operator rules op operators.LessEqual a b o e h)
@@ -98,7 +98,7 @@ equated_by rules op a b o h =
     let p = if_ok (comparable rules a.value_type b.value_type) (with_constants types.UntypedBool op a.constant b.constant) Y3 o h in
     (compared rules a.value_type b.value_type p.0, made_type types.UntypedBool op a.constant b.constant o p.1)
 
-pub equated_type : {T : Type 0} (rules : TypeRules T) (op : Operator) (a b o : Operand T) → IsEquality op → binary rules op a b ≡ Ok o
+pub equated_type : {T : Type 0} (rules : TypeRules T) (op : Operator) (a b o : Operand T) → IsEquality op → binary_operand rules op a b ≡ Ok o
     → AreComparable rules a.value_type b.value_type × (o.value_type ≡ types.UntypedBool)
 equated_type rules op a b o (inl e) h = equated_by rules operators.Equal a b o (at_operator rules op operators.Equal a b o e h)
 equated_type rules op a b o (inr e) h = equated_by rules operators.NotEqual a b o (at_operator rules op operators.NotEqual a b o e h)
@@ -124,8 +124,8 @@ arithmetic_constant : {T : Type 0} (rules : TypeRules T) (op : Operator) (m : Op
     → arithmetic rules op m x y ≡ Ok o → IsSome o.constant ↔ (IsSome x × IsSome y)
 arithmetic_constant rules op None x y o h = absurd cc
 arithmetic_constant rules op (Some v) x y o h =
-    let p = if_ok (takes (group op) (basic_under rules v)) (if divides op && is_zero y then Err Y7 else with_constants v op x y) Y3 o h in
-    made_constant v op x y o (unless_ok (divides op && is_zero y) (with_constants v op x y) Y7 o p.1)
+    let p = if_ok (takes (group op) (basic_under rules v)) (if divides op && is_some_zero y then Err Y7 else with_constants v op x y) Y3 o h in
+    made_constant v op x y o (unless_ok (divides op && is_some_zero y) (with_constants v op x y) Y7 o p.1)
 
 ordered_constant : {T : Type 0} (rules : TypeRules T) (op : Operator) (m : Option (ValueType T)) (x y : Option Constant) (o : Operand T)
     → ordered rules op m x y ≡ Ok o → IsSome o.constant ↔ (IsSome x × IsSome y)
@@ -145,7 +145,7 @@ constant_in rules groups.Equality op a b o h =
     let p = if_ok (comparable rules a.value_type b.value_type) (with_constants types.UntypedBool op a.constant b.constant) Y3 o h in
     made_constant types.UntypedBool op a.constant b.constant o p.1
 
-pub of_two : {T : Type 0} (rules : TypeRules T) (op : Operator) (a b o : Operand T) → binary rules op a b ≡ Ok o → IsSome o.constant ↔ (IsSome a.constant × IsSome b.constant)
+pub of_two : {T : Type 0} (rules : TypeRules T) (op : Operator) (a b o : Operand T) → binary_operand rules op a b ≡ Ok o → IsSome o.constant ↔ (IsSome a.constant × IsSome b.constant)
 of_two rules op a b o h = constant_in rules (group op) op a b o h
 
 signed_constant : {T : Type 0} (op : Operator) (v : ValueType T) (c : Option Constant) (o : Operand T) → signed op v c ≡ Ok o → IsSome o.constant ↔ IsSome c
@@ -157,11 +157,11 @@ over_constant rules b op a o h =
     let p = if_ok (is_over b (basic_under rules a.value_type)) (signed op a.value_type a.constant) Y3 o h in
     signed_constant op a.value_type a.constant o p.1
 
-at_prefix : {T : Type 0} (rules : TypeRules T) (op known : Operator) (literal : Bool) (a o : Operand T) → op ≡ known → unary rules op literal a ≡ Ok o → unary rules known literal a ≡ Ok o
-at_prefix rules op known literal a o e h = subst (λ (p : Operator). unary rules p literal a ≡ Ok o) e h
+at_prefix : {T : Type 0} (rules : TypeRules T) (op known : Operator) (literal : Bool) (a o : Operand T) → op ≡ known → unary_operand rules op literal a ≡ Ok o → unary_operand rules known literal a ≡ Ok o
+at_prefix rules op known literal a o e h = subst (λ (p : Operator). unary_operand rules p literal a ≡ Ok o) e h
 
 pub of_one : {T : Type 0} (rules : TypeRules T) (op : Operator) (literal : Bool) (a o : Operand T)
-    → ((op ≡ operators.Plus) ⊎ ((op ≡ operators.Minus) ⊎ (op ≡ operators.Not))) → unary rules op literal a ≡ Ok o → IsSome o.constant ↔ IsSome a.constant
+    → ((op ≡ operators.Plus) ⊎ ((op ≡ operators.Minus) ⊎ (op ≡ operators.Not))) → unary_operand rules op literal a ≡ Ok o → IsSome o.constant ↔ IsSome a.constant
 of_one rules op literal a o (inl e) h = over_constant rules basics.Int operators.Plus a o (at_prefix rules op operators.Plus literal a o e h)
 of_one rules op literal a o (inr (inl e)) h = over_constant rules basics.Int operators.Minus a o (at_prefix rules op operators.Minus literal a o e h)
 of_one rules op literal a o (inr (inr e)) h = over_constant rules basics.Bool operators.Not a o (at_prefix rules op operators.Not literal a o e h)

@@ -17,8 +17,8 @@ use Rattle.go_operand_core.specs.declared.operators.Group.TheVariants as groups
 use Rattle.go_operand_core.specs.TypeRules.{TypeRules}
 use Rattle.go_operand_core.specs.Values.{form_basic, basic_under}
 use Rattle.go_operand_core.specs.Assign.{takes_untyped, assignable, common}
-use Rattle.go_operand_core.specs.Operators.{group, takes, value, arithmetic, binary_in, binary, refused_in}
-use Rattle.go_operand_core.specs.Prefixes.{pointed, unary}
+use Rattle.go_operand_core.specs.Operators.{group, takes, value, arithmetic, binary_in, binary_operand, refused_in}
+use Rattle.go_operand_core.specs.Prefixes.{pointed, unary_operand}
 use Rattle.go_operand_core.specs.Updates.{broken, update_with, update_by, increment}
 use Rattle.go_operand_core.specs.Relations.{HasNoType, HaveCommon, of_one_type, first_takes, second_takes, of_one_kind}
 use Rattle.go_operand_core.specs.Laws.{IsArithmetic}
@@ -27,20 +27,20 @@ use Rattle.go_operand_core.proofs.Relating.{no_type}
 use Rattle.go_operand_core.proofs.Typing.{own_type}
 
 pub address : {T : Type 0} (rules : TypeRules T) (t : T) (c : Option Constant) (p literal : Bool) → IsTrue (literal || p)
-    → unary rules operators.And literal (operand (types.Typed t) c p) ≡ Ok (operand (types.Typed (rules.pointer_to t)) None false)
+    → unary_operand rules operators.And literal (operand (types.Typed t) c p) ≡ Ok (operand (types.Typed (rules.pointer_to t)) None false)
 address {T = T} rules t c p literal h =
     let R : Result (Operand T) Rule = Ok (operand (types.Typed (rules.pointer_to t)) None false) in
     let P : Bool → Type 0 = λ b. (if b then Ok (value (types.Typed (rules.pointer_to t)) None) else Err Y3) ≡ R in
     subst P (sym h) refl
 
-pub no_variable : {T : Type 0} (rules : TypeRules T) (v : ValueType T) (c : Option Constant) → unary rules operators.And false (operand v c false) ≡ Err Y3
+pub no_variable : {T : Type 0} (rules : TypeRules T) (v : ValueType T) (c : Option Constant) → unary_operand rules operators.And false (operand v c false) ≡ Err Y3
 no_variable rules (types.Typed t) c = refl
 no_variable rules types.UntypedInt c = refl
 no_variable rules types.UntypedText c = refl
 no_variable rules types.UntypedBool c = refl
 no_variable rules types.Nil c = refl
 
-pub no_address : {T : Type 0} (rules : TypeRules T) (v : ValueType T) (c : Option Constant) (p literal : Bool) → HasNoType v → unary rules operators.And literal (operand v c p) ≡ Err Y3
+pub no_address : {T : Type 0} (rules : TypeRules T) (v : ValueType T) (c : Option Constant) (p literal : Bool) → HasNoType v → unary_operand rules operators.And literal (operand v c p) ≡ Err Y3
 no_address rules (types.Typed t) c p literal n = absurd n
 no_address rules types.UntypedInt c p literal n = refl
 no_address rules types.UntypedText c p literal n = refl
@@ -48,18 +48,18 @@ no_address rules types.UntypedBool c p literal n = refl
 no_address rules types.Nil c p literal n = refl
 
 pub points : {T : Type 0} (rules : TypeRules T) (t base : T) (c : Option Constant) (p literal : Bool) → rules.form t ≡ forms.Pointer base
-    → unary rules operators.Star literal (operand (types.Typed t) c p) ≡ Ok (operand (types.Typed base) None true)
+    → unary_operand rules operators.Star literal (operand (types.Typed t) c p) ≡ Ok (operand (types.Typed base) None true)
 points rules t base c p literal e = ap pointed e
 
 pub back : {T : Type 0} (rules : TypeRules T) (t : T) (c : Option Constant) (o : Operand T) → rules.form (rules.pointer_to t) ≡ forms.Pointer t
-    → unary rules operators.And false (operand (types.Typed t) c true) ≡ Ok o → unary rules operators.Star false o ≡ Ok (operand (types.Typed t) None true)
+    → unary_operand rules operators.And false (operand (types.Typed t) c true) ≡ Ok o → unary_operand rules operators.Star false o ≡ Ok (operand (types.Typed t) None true)
 back {T = T} rules t c o f h =
     let R : Result (Operand T) Rule = Ok (operand (types.Typed t) None true) in
     let e : operand (types.Typed (rules.pointer_to t)) None false ≡ o = cc in
-    let P : Operand T → Type 0 = λ z. unary rules operators.Star false z ≡ R in
+    let P : Operand T → Type 0 = λ z. unary_operand rules operators.Star false z ≡ R in
     subst P e (points rules (rules.pointer_to t) t None false false f)
 
-pub no_pointer : {T : Type 0} (rules : TypeRules T) (v : ValueType T) (c : Option Constant) (p literal : Bool) → HasNoType v → unary rules operators.Star literal (operand v c p) ≡ Err Y3
+pub no_pointer : {T : Type 0} (rules : TypeRules T) (v : ValueType T) (c : Option Constant) (p literal : Bool) → HasNoType v → unary_operand rules operators.Star literal (operand v c p) ≡ Err Y3
 no_pointer rules (types.Typed t) c p literal n = absurd n
 no_pointer rules types.UntypedInt c p literal n = refl
 no_pointer rules types.UntypedText c p literal n = refl
@@ -83,11 +83,11 @@ outside : {T : Type 0} (rules : TypeRules T) (g : Group) (op : Operator) (x y : 
 outside rules g op x y e h = let P : Group → Type 0 = λ k. IsOk (binary_in rules k op x y) in let never : false ≡ true = subst P e h in absurd cc
 
 accepted_by : {T : Type 0} (rules : TypeRules T) (op : Operator) (x y : Operand T) (m : Option Rule) → refused_in (group op) ≡ m
-    → (update_with rules op m x y ≡ None) ↔ (IsTrue x.addressable × IsOk (binary rules op x y))
+    → (update_with rules op m x y ≡ None) ↔ (IsTrue x.addressable × IsOk (binary_operand rules op x y))
 accepted_by rules op x y (Some r) e = ((λ h. absurd cc), (λ p. absurd (outside rules (group op) op x y (bits_alone (group op) r e) p.1)))
-accepted_by rules op x y None e = gate x.addressable (binary rules op x y)
+accepted_by rules op x y None e = gate x.addressable (binary_operand rules op x y)
 
-pub accepted : {T : Type 0} (rules : TypeRules T) (op : Operator) (x y : Operand T) → (update_by rules op x y ≡ None) ↔ (IsTrue x.addressable × IsOk (binary rules op x y))
+pub accepted : {T : Type 0} (rules : TypeRules T) (op : Operator) (x y : Operand T) → (update_by rules op x y ≡ None) ↔ (IsTrue x.addressable × IsOk (binary_operand rules op x y))
 accepted rules op x y = accepted_by rules op x y (refused_in (group op)) refl
 
 never_typed : {T : Type 0} (v : ValueType T) (t : T) → v ≡ types.Typed t → HasNoType v → ⊥
@@ -100,7 +100,7 @@ own_of rules v w both t k (second_takes s e n a g) = g ∙ (sym e ∙ k)
 own_of {T = T} rules v w both t k (of_one_kind b e f g) =
     let P : ValueType T → Type 0 = λ x. HasNoType x in absurd (never_typed v t k (subst P (sym e) (no_type T b)))
 
-pub own : {T : Type 0} (rules : TypeRules T) (op : Operator) (x y o : Operand T) (t : T) → IsArithmetic op → x.value_type ≡ types.Typed t → binary rules op x y ≡ Ok o
+pub own : {T : Type 0} (rules : TypeRules T) (op : Operator) (x y o : Operand T) (t : T) → IsArithmetic op → x.value_type ≡ types.Typed t → binary_operand rules op x y ≡ Ok o
     → o.value_type ≡ types.Typed t
 own rules op x y o t i k h = own_of rules x.value_type y.value_type o.value_type t k (own_type rules op x y o i h)
 

@@ -7,8 +7,8 @@ use Rattle.go_operand_core.specs.declared.types.ValueType.{ValueType}
 use Rattle.go_operand_core.specs.declared.types.Operand.{Operand}
 use Rattle.go_operand_core.specs.TypeRules.{TypeRules}
 use Rattle.go_operand_core.specs.Values.{form_basic, basic_under}
-use Rattle.go_operand_core.specs.Operators.{binary}
-use Rattle.go_operand_core.specs.Prefixes.{unary}
+use Rattle.go_operand_core.specs.Operators.{binary_operand}
+use Rattle.go_operand_core.specs.Prefixes.{unary_operand}
 use Rattle.go_operand_core.specs.Relations.{IsValueOf}
 
 -- of two types over bool, int or string that are identical, or of which one is assignable to the other, both are over the same
@@ -21,11 +21,11 @@ abbrev pub IsOfType : {T : Type 0} → TypeRules T → ValueType T → Option Co
 IsOfType rules v None = ⊤
 IsOfType rules v (Some k) = (b : Basic) × ((basic_under rules v ≡ Some b) × IsValueOf b k)
 
-abbrev pub IsWhole : {T : Type 0} → TypeRules T → Operand T → Type 0
-IsWhole rules o = IsOfType rules o.value_type o.constant
+abbrev pub IsConstantOfItsType : {T : Type 0} → TypeRules T → Operand T → Type 0
+IsConstantOfItsType rules o = IsOfType rules o.value_type o.constant
 
 -- what operators make of values whose constants are of their types has a constant of its type: none that is not known, and none out of range
 pub record ConstantsOfTheirTypes (T : Type 0) : Type 0 where
-  pub of_two : (rules : TypeRules T) (op : Operator) (a b o : Operand T) → KeepsKinds rules → IsWhole rules a → IsWhole rules b
-      → binary rules op a b ≡ Ok o → IsWhole rules o
-  pub of_one : (rules : TypeRules T) (op : Operator) (literal : Bool) (a o : Operand T) → IsWhole rules a → unary rules op literal a ≡ Ok o → IsWhole rules o
+  pub of_two : (rules : TypeRules T) (op : Operator) (a b o : Operand T) → KeepsKinds rules → IsConstantOfItsType rules a → IsConstantOfItsType rules b
+      → binary_operand rules op a b ≡ Ok o → IsConstantOfItsType rules o
+  pub of_one : (rules : TypeRules T) (op : Operator) (literal : Bool) (a o : Operand T) → IsConstantOfItsType rules a → unary_operand rules op literal a ≡ Ok o → IsConstantOfItsType rules o

@@ -14,8 +14,8 @@ use Rattle.go_operand_core.specs.declared.types.TypeForm.TheVariants as forms
 use Rattle.go_operand_core.specs.TypeRules.{TypeRules}
 use Rattle.go_operand_core.specs.Values.{untyped}
 use Rattle.go_operand_core.specs.Assign.{assignable_to, common, comparable}
-use Rattle.go_operand_core.specs.Operators.{binary}
-use Rattle.go_operand_core.specs.Prefixes.{unary}
+use Rattle.go_operand_core.specs.Operators.{binary_operand}
+use Rattle.go_operand_core.specs.Prefixes.{unary_operand}
 use Rattle.go_operand_core.specs.Relations.{IsAssignable, HaveCommon, AreComparable, IsValueOf}
 
 abbrev pub AssignabilityIsARelation : Type 0 → Type 0
@@ -58,13 +58,13 @@ judged t Outside = Err X1
 abbrev pub Row : Type 0 → Operator → Verdict → Verdict → Verdict → Type 0
 Row T op of_bool of_int of_text =
     (rules : TypeRules T) (s t : T) (p q : Bool) (b : Basic) → rules.identical s t ≡ true → rules.assignable s t ≡ true → rules.form s ≡ forms.Basic b
-    → binary rules op (plain (types.Typed s) p) (plain (types.Typed t) q) ≡ judged s (column b of_bool of_int of_text)
+    → binary_operand rules op (plain (types.Typed s) p) (plain (types.Typed t) q) ≡ judged s (column b of_bool of_int of_text)
 
 -- what a unary operator makes of one
 abbrev pub UnaryRow : Type 0 → Operator → Verdict → Verdict → Verdict → Type 0
 UnaryRow T op of_bool of_int of_text =
     (rules : TypeRules T) (s : T) (p literal : Bool) (b : Basic) → rules.form s ≡ forms.Basic b
-    → unary rules op literal (plain (types.Typed s) p) ≡ judged s (column b of_bool of_int of_text)
+    → unary_operand rules op literal (plain (types.Typed s) p) ≡ judged s (column b of_bool of_int of_text)
 
 -- "Arithmetic operators", "Comparison operators", "Logical operators"
 pub record OperatorsAreToldApart (T : Type 0) : Type 0 where
@@ -111,15 +111,15 @@ pub record HaveOneType {T : Type 0} (rules : TypeRules T) (v w : ValueType T) : 
 
 pub record OwnTypes (T : Type 0) : Type 0 where
   -- what an operator gives that is no comparison has the type that both operands have
-  pub arithmetic : (rules : TypeRules T) (op : Operator) (a b o : Operand T) → IsArithmetic op → binary rules op a b ≡ Ok o → HaveCommon rules a.value_type b.value_type o.value_type
+  pub arithmetic : (rules : TypeRules T) (op : Operator) (a b o : Operand T) → IsArithmetic op → binary_operand rules op a b ≡ Ok o → HaveCommon rules a.value_type b.value_type o.value_type
   -- what is ordered has one type, and the comparison is an untyped boolean
-  pub ordered : (rules : TypeRules T) (op : Operator) (a b o : Operand T) → IsOrder op → binary rules op a b ≡ Ok o
+  pub ordered : (rules : TypeRules T) (op : Operator) (a b o : Operand T) → IsOrder op → binary_operand rules op a b ≡ Ok o
       → HaveOneType rules a.value_type b.value_type × (o.value_type ≡ types.UntypedBool)
-  pub equated : (rules : TypeRules T) (op : Operator) (a b o : Operand T) → IsEquality op → binary rules op a b ≡ Ok o
+  pub equated : (rules : TypeRules T) (op : Operator) (a b o : Operand T) → IsEquality op → binary_operand rules op a b ≡ Ok o
       → AreComparable rules a.value_type b.value_type × (o.value_type ≡ types.UntypedBool)
 
 -- what is made of constants alone is constant, and nothing else is
 pub record ConstantsInConstantsOut (T : Type 0) : Type 0 where
-  pub of_two : (rules : TypeRules T) (op : Operator) (a b o : Operand T) → binary rules op a b ≡ Ok o → IsSome o.constant ↔ (IsSome a.constant × IsSome b.constant)
+  pub of_two : (rules : TypeRules T) (op : Operator) (a b o : Operand T) → binary_operand rules op a b ≡ Ok o → IsSome o.constant ↔ (IsSome a.constant × IsSome b.constant)
   pub of_one : (rules : TypeRules T) (op : Operator) (literal : Bool) (a o : Operand T) → ((op ≡ operators.Plus) ⊎ ((op ≡ operators.Minus) ⊎ (op ≡ operators.Not)))
-      → unary rules op literal a ≡ Ok o → IsSome o.constant ↔ IsSome a.constant
+      → unary_operand rules op literal a ≡ Ok o → IsSome o.constant ↔ IsSome a.constant

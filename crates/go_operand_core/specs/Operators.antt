@@ -49,9 +49,9 @@ takes groups.Order b = is_over basics.Int b || is_over basics.Text b
 takes groups.Equality b = false
 takes groups.Bits b = false
 
-abbrev pub is_zero : Option Constant → Bool
-is_zero None = false
-is_zero (Some c) = constants.is_zero c
+abbrev pub is_some_zero : Option Constant → Bool
+is_some_zero None = false
+is_some_zero (Some c) = constants.is_zero c
 
 -- the rule of a constant that is out of range: of a typed one Y7, of an untyped one X1
 abbrev pub out_of_range : {T : Type 0} → ValueType T → Rule
@@ -79,7 +79,7 @@ abbrev pub arithmetic : {T : Type 0} → TypeRules T → Operator → Option (Va
 arithmetic rules op None x y = Err Y3
 arithmetic rules op (Some v) x y =
     if takes (group op) (basic_under rules v)
-    then (if divides op && is_zero y then Err Y7 else with_constants v op x y)
+    then (if divides op && is_some_zero y then Err Y7 else with_constants v op x y)
     else Err Y3
 
 -- a comparison gives an untyped boolean
@@ -99,8 +99,8 @@ binary_in rules groups.Order op a b = ordered rules op (common rules a.value_typ
 binary_in rules groups.Equality op a b = equated op (comparable rules a.value_type b.value_type) a.constant b.constant
 
 -- what a binary operator makes of two operands
-abbrev pub binary : {T : Type 0} → TypeRules T → Operator → Operand T → Operand T → Result (Operand T) Rule
-binary rules op a b = binary_in rules (group op) op a b
+abbrev pub binary_operand : {T : Type 0} → TypeRules T → Operator → Operand T → Operand T → Result (Operand T) Rule
+binary_operand rules op a b = binary_in rules (group op) op a b
 
 abbrev pub refused_in : Group → Option Rule
 refused_in groups.Bits = Some X1

@@ -68,8 +68,8 @@ unary_in rules prefixes.Address op literal o = address rules (literal || o.addre
 unary_in rules prefixes.Bits op literal o = Err X1
 
 -- what a unary operator makes of an operand, which may be a composite literal
-abbrev pub unary : {T : Type 0} → TypeRules T → Operator → Bool → Operand T → Result (Operand T) Rule
-unary rules op literal o = unary_in rules (prefix op) op literal o
+abbrev pub unary_operand : {T : Type 0} → TypeRules T → Operator → Bool → Operand T → Result (Operand T) Rule
+unary_operand rules op literal o = unary_in rules (prefix op) op literal o
 
 abbrev pub refused_prefix : Prefix → Option Rule
 refused_prefix prefixes.Bits = Some X1

@@ -9,8 +9,8 @@ use Rattle.go_operand_core.specs.declared.types.ValueType.{ValueType}
 use Rattle.go_operand_core.specs.declared.types.Operand.{Operand}
 use Rattle.go_operand_core.specs.TypeRules.{TypeRules}
 use Rattle.go_operand_core.specs.Values.{basic_under}
-use Rattle.go_operand_core.specs.Operators.{binary, refused_binary}
-use Rattle.go_operand_core.specs.Prefixes.{unary, refused_unary}
+use Rattle.go_operand_core.specs.Operators.{binary_operand, refused_binary}
+use Rattle.go_operand_core.specs.Prefixes.{unary_operand, refused_unary}
 use Rattle.go_operand_core.specs.Relations.{HaveCommon}
 use Rattle.go_operand_core.specs.Laws.{IsArithmetic, IsOrder, IsEquality}
 
@@ -21,17 +21,17 @@ IsBitOperator op =
     ⊎ (op ≡ operators.ShiftRight)))))
 
 -- `+`, `-`, `!`, `*` and `&` in front of an operand
-abbrev pub IsPrefix : Operator → Type 0
-IsPrefix op = (op ≡ operators.Plus) ⊎ ((op ≡ operators.Minus) ⊎ ((op ≡ operators.Not) ⊎ ((op ≡ operators.Star) ⊎ (op ≡ operators.And))))
+abbrev pub IsPrefixOperator : Operator → Type 0
+IsPrefixOperator op = (op ≡ operators.Plus) ⊎ ((op ≡ operators.Minus) ⊎ ((op ≡ operators.Not) ⊎ ((op ≡ operators.Star) ⊎ (op ≡ operators.And))))
 
 -- bit operators and shifts are X1 whatever they stand between, refused operands included; no other operator is, beside a refused operand
 pub record BitsAreOutside (T : Type 0) : Type 0 where
-  pub two : (rules : TypeRules T) (op : Operator) (a b : Operand T) → IsBitOperator op → binary rules op a b ≡ Err X1
+  pub two : (rules : TypeRules T) (op : Operator) (a b : Operand T) → IsBitOperator op → binary_operand rules op a b ≡ Err X1
   pub refused_two : (op : Operator) → IsBitOperator op → refused_binary op ≡ Some X1
   pub passed_two : (op : Operator) → (IsArithmetic op ⊎ (IsOrder op ⊎ IsEquality op)) → refused_binary op ≡ None
-  pub one : (rules : TypeRules T) (literal : Bool) (a : Operand T) → unary rules operators.Caret literal a ≡ Err X1
+  pub one : (rules : TypeRules T) (literal : Bool) (a : Operand T) → unary_operand rules operators.Caret literal a ≡ Err X1
   pub refused_one : refused_unary operators.Caret ≡ Some X1
-  pub passed_one : (op : Operator) → IsPrefix op → refused_unary op ≡ None
+  pub passed_one : (op : Operator) → IsPrefixOperator op → refused_unary op ≡ None
 
 abbrev pub IsDivision : Operator → Type 0
 IsDivision op = (op ≡ operators.Slash) ⊎ (op ≡ operators.Percent)
@@ -45,6 +45,6 @@ pub record AreIntegers {T : Type 0} (rules : TypeRules T) (v w : ValueType T) : 
 -- a divisor that is the constant 0 is Y7 where the operands fit; where they do not it is Y3 alone
 pub record NoDivisionByZero (T : Type 0) : Type 0 where
   pub by_zero : (rules : TypeRules T) (op : Operator) (a b : Operand T) → IsDivision op → AreIntegers rules a.value_type b.value_type
-      → b.constant ≡ Some (constant.Int (pos 0)) → binary rules op a b ≡ Err Y7
+      → b.constant ≡ Some (constant.Int (pos 0)) → binary_operand rules op a b ≡ Err Y7
   pub misfit : (rules : TypeRules T) (op : Operator) (a b : Operand T) → IsDivision op → (AreIntegers rules a.value_type b.value_type → ⊥)
-      → binary rules op a b ≡ Err Y3
+      → binary_operand rules op a b ≡ Err Y3

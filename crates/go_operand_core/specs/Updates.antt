@@ -8,7 +8,7 @@ use Rattle.go_constant_core.specs.declared.values.Constant.TheVariants as consta
 use Rattle.go_operand_core.specs.declared.types.ValueType.TheVariants as types
 use Rattle.go_operand_core.specs.declared.types.Operand.{Operand}
 use Rattle.go_operand_core.specs.TypeRules.{TypeRules}
-use Rattle.go_operand_core.specs.Operators.{refused_binary, binary, value}
+use Rattle.go_operand_core.specs.Operators.{refused_binary, binary_operand, value}
 
 -- the operator in front of `=`; what is no assignment operation stands for itself
 abbrev pub operator_of : Operator → Operator
@@ -31,7 +31,7 @@ broken (Err r) = Some r
 
 abbrev pub update_with : {T : Type 0} → TypeRules T → Operator → Option Rule → Operand T → Operand T → Option Rule
 update_with rules op (Some r) target o = Some r
-update_with rules op None target o = if target.addressable then broken (binary rules op target o) else Some Y3
+update_with rules op None target o = if target.addressable then broken (binary_operand rules op target o) else Some Y3
 
 -- the rule that `x op y` breaks, if it breaks one: bit operators whatever stands there, then a target that is not addressable
 abbrev pub update_by : {T : Type 0} → TypeRules T → Operator → Operand T → Operand T → Option Rule

@@ -11,8 +11,8 @@ use Rattle.go_operand_core.specs.declared.types.Operand.{Operand}
 use Rattle.go_operand_core.specs.declared.types.TypeForm.TheVariants as forms
 use Rattle.go_operand_core.specs.TypeRules.{TypeRules}
 use Rattle.go_operand_core.specs.Values.{basic_under}
-use Rattle.go_operand_core.specs.Operators.{binary}
-use Rattle.go_operand_core.specs.Prefixes.{unary}
+use Rattle.go_operand_core.specs.Operators.{binary_operand}
+use Rattle.go_operand_core.specs.Prefixes.{unary_operand}
 use Rattle.go_operand_core.specs.Updates.{update_by, increment}
 use Rattle.go_operand_core.specs.Relations.{HasNoType}
 use Rattle.go_operand_core.specs.Laws.{IsArithmetic}
@@ -24,23 +24,23 @@ operand v c p = record { value_type = v; constant = c; addressable = p }
 pub record AddressesPointBack (T : Type 0) : Type 0 where
   -- the address of a variable or a composite literal is a pointer to its type
   pub address : (rules : TypeRules T) (t : T) (c : Option Constant) (p literal : Bool) → IsTrue (literal || p)
-      → unary rules operators.And literal (operand (types.Typed t) c p) ≡ Ok (operand (types.Typed (rules.pointer_to t)) None false)
-  pub no_variable : (rules : TypeRules T) (v : ValueType T) (c : Option Constant) → unary rules operators.And false (operand v c false) ≡ Err Y3
-  pub no_type : (rules : TypeRules T) (v : ValueType T) (c : Option Constant) (p literal : Bool) → HasNoType v → unary rules operators.And literal (operand v c p) ≡ Err Y3
+      → unary_operand rules operators.And literal (operand (types.Typed t) c p) ≡ Ok (operand (types.Typed (rules.pointer_to t)) None false)
+  pub no_variable : (rules : TypeRules T) (v : ValueType T) (c : Option Constant) → unary_operand rules operators.And false (operand v c false) ≡ Err Y3
+  pub no_type : (rules : TypeRules T) (v : ValueType T) (c : Option Constant) (p literal : Bool) → HasNoType v → unary_operand rules operators.And literal (operand v c p) ≡ Err Y3
   -- what a pointer points to is a variable
   pub pointed : (rules : TypeRules T) (t base : T) (c : Option Constant) (p literal : Bool) → rules.form t ≡ forms.Pointer base
-      → unary rules operators.Star literal (operand (types.Typed t) c p) ≡ Ok (operand (types.Typed base) None true)
+      → unary_operand rules operators.Star literal (operand (types.Typed t) c p) ≡ Ok (operand (types.Typed base) None true)
   -- so the variable at the address of a variable has its type
   pub back : (rules : TypeRules T) (t : T) (c : Option Constant) (o : Operand T) → rules.form (rules.pointer_to t) ≡ forms.Pointer t
-      → unary rules operators.And false (operand (types.Typed t) c true) ≡ Ok o → unary rules operators.Star false o ≡ Ok (operand (types.Typed t) None true)
-  pub no_pointer : (rules : TypeRules T) (v : ValueType T) (c : Option Constant) (p literal : Bool) → HasNoType v → unary rules operators.Star literal (operand v c p) ≡ Err Y3
+      → unary_operand rules operators.And false (operand (types.Typed t) c true) ≡ Ok o → unary_operand rules operators.Star false o ≡ Ok (operand (types.Typed t) None true)
+  pub no_pointer : (rules : TypeRules T) (v : ValueType T) (c : Option Constant) (p literal : Bool) → HasNoType v → unary_operand rules operators.Star literal (operand v c p) ≡ Err Y3
 
 -- "Assignment statements", "IncDec statements"
 pub record UpdatesAssign (T : Type 0) : Type 0 where
   -- `x op= y` stands where x is addressable and `x op y` stands
-  pub accepted : (rules : TypeRules T) (op : Operator) (x y : Operand T) → (update_by rules op x y ≡ None) ↔ (IsTrue x.addressable × IsOk (binary rules op x y))
+  pub accepted : (rules : TypeRules T) (op : Operator) (x y : Operand T) → (update_by rules op x y ≡ None) ↔ (IsTrue x.addressable × IsOk (binary_operand rules op x y))
   -- and then `x op y` has the type of x
-  pub own : (rules : TypeRules T) (op : Operator) (x y o : Operand T) (t : T) → IsArithmetic op → x.value_type ≡ types.Typed t → binary rules op x y ≡ Ok o
+  pub own : (rules : TypeRules T) (op : Operator) (x y o : Operand T) (t : T) → IsArithmetic op → x.value_type ≡ types.Typed t → binary_operand rules op x y ≡ Ok o
       → o.value_type ≡ types.Typed t
   -- `x++` and `x--` stand where x is a variable over int
   pub increment : (rules : TypeRules T) (x : Operand T) → x.constant ≡ None

@@ -60,7 +60,7 @@ fn takes(group: Group, basic: Option<Basic>) -> bool
 }
 
 fn is_zero(constant: &Option<Constant>) -> bool
-    ensures { result ≡ operators.is_zero constant.now }
+    ensures { result ≡ operators.is_some_zero constant.now }
 {
     match constant {
         Some(constant) => go_constant_core::is_zero(constant),
@@ -194,7 +194,7 @@ pub fn binary<E: TypeLooks>(
     a: Operand<E::Type>,
     b: Operand<E::Type>,
 ) -> Result<Result<Operand<E::Type>, Rule>, AllocError>
-    ensures { IfOk result (λ r. r ≡ operators.binary (E.types env.now) operator a b) }
+    ensures { IfOk result (λ r. r ≡ operators.binary_operand (E.types env.now) operator a b) }
 {
     match group_of(operator) {
         Group::Bits => Ok(Err(Rule::X1)),

@@ -132,7 +132,7 @@ pub fn unary<E: TypeLooks>(
     is_literal: bool,
     operand: Operand<E::Type>,
 ) -> Result<Result<Operand<E::Type>, Rule>, AllocError>
-    ensures { IfOk result (λ r. r ≡ prefixes.unary (E.types env.now) operator is_literal operand) }
+    ensures { IfOk result (λ r. r ≡ prefixes.unary_operand (E.types env.now) operator is_literal operand) }
 {
     match prefix_of(operator) {
         Prefix::Sign => Ok(signed_over(env, Basic::Int, operator, operand)),

@@ -3,8 +3,7 @@ use Rattle.std.proofs.Common.{◌≡◌, ℕ, ◌+◌, ◌++◌, inl, inr, List,
 use Rattle.std.specs.Prelude.{◌↔◌, Option, Some, Bool, Contains, slice_get}
 use Rattle.std.specs.List.{AllZip, enumerate_from}
 use Rattle.go_tree_nodes.specs.Trees.{FileTree}
-use Rattle.go_term_core.specs.decl_core.Outer.{IsPlaced}
-use Rattle.go_known_core.specs.table_core.Entries.{Entry, find}
+use Rattle.go_known_core.specs.table_core.Entries.{Entry, find_entry}
 use Rattle.go_ready_core.specs.type_core.Meanings.{one_settled}
 use Rattle.go_answer_core.specs.entry_core.Entries.{package_meanings}
 use Rattle.go_answer_core.specs.fault_core.declared.places.PackageFault.{PackageFault}
@@ -44,7 +43,7 @@ one_file p types known faults looped f a b h k =
 
 pub one_check : OneCheck
 one_check p far one other placed h k =
-    let built = one_settled (find far) (entries_in p) one.types other.types h.types.loops k.types.loops h.types.built k.types.built in
+    let built = one_settled (find_entry far) (entries_in p) one.types other.types h.types.loops k.types.loops h.types.built k.types.built in
     let types = built.0 in
     let means = package_meanings p.shows p.path p.blocks in
     let faults : h.type_faults ≡ k.type_faults =

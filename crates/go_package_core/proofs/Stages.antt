@@ -21,7 +21,7 @@ use Rattle.go_file_core.specs.body_core.Notes.{TheUse}
 use Rattle.go_known_core.proofs.Alike.{decls_stand_alike}
 use Rattle.go_answer_core.specs.Shown.{package_shown}
 use Rattle.go_ready_core.specs.Inlines.{initial_in, initial_types, types_stand}
-use Rattle.go_ready_core.specs.Laws.{placed_in}
+use Rattle.go_ready_core.specs.Laws.{package_placed}
 use Rattle.go_ready_core.specs.Packages.{PackageIn, outlines_in, scene_in}
 use Rattle.go_ready_core.specs.Types.{AreTypes}
 use Rattle.go_ready_core.specs.Values.{AreDeclared, AreLooped}
@@ -41,7 +41,7 @@ written_many p types ws inl os ws_is os_is =
 
 -- what holds of the scene and the declarations that were made holds of those of the package
 pub as_made : (p : PackageIn) (types : List Entry) (s : SceneModel) (inl : List (List (ℕ × InlineOf))) (os : List FileOutline) (T : SceneModel → List PlacedOf → Type 0)
-    → s ≡ scene_in p types → inl ≡ initial_in p types → os ≡ outlines_in p → T s (placed_decls inl os) → T (scene_in p types) (placed_in p types)
+    → s ≡ scene_in p types → inl ≡ initial_in p types → os ≡ outlines_in p → T s (placed_decls inl os) → T (scene_in p types) (package_placed p types)
 as_made p types s inl os T s_is inl_is os_is h =
     subst (λ l. T (scene_in p types) (placed_decls (initial_in p types) l)) os_is
     (subst (λ i. T (scene_in p types) (placed_decls i os)) inl_is

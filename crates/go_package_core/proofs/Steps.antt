@@ -31,7 +31,7 @@ use Rattle.go_known_core.specs.inline_core.Outlines.{outline_all}
 use Rattle.go_answer_core.specs.face_core.Faces.{TheFace}
 use Rattle.go_answer_core.specs.face_core.Laws.{FileDecl, file_decl, package_decls}
 use Rattle.go_known_core.specs.env_core.Scenes.{SceneModel}
-use Rattle.go_file_core.specs.func_core.Stands.{FileStand, kinds_in}
+use Rattle.go_file_core.specs.func_core.Stands.{FileStand, kinds_in_scene}
 use Rattle.go_file_core.specs.func_core.Laws.{AreFuncTypes}
 use Rattle.go_file_core.specs.Files.{file_uses, file_faults, file_locals}
 use Rattle.go_file_core.specs.Stands.{AreFunctionTypes, AreInitialTypes, file_funcs}
@@ -72,7 +72,7 @@ module _ (p : PackageIn) (types : List Entry) (s : SceneModel) (known : List (Op
       let made : x ≡ inside.initial_types (types_stand p types (n, o)) o = at ∙ (get_or_default held n x [] lt ∙ (ap (λ h. get_or h n []) is ∙ held_there p types n o there)) in
       let listed = ap (λ (x : FileOutline). outline_types x.decls) of_tree ∙ outline_all f in
       subst (λ st. AreInitialTypes st f x) (sym stand_is)
-      (made ∙ ap (inlines (kinds_in (scene_in p types)) (stand_in p types known n o).file (stand_in p types known n o).top) listed)
+      (made ∙ ap (inlines (kinds_in_scene (scene_in p types)) (stand_in p types known n o).file (stand_in p types known n o).top) listed)
 
   -- and in its functions
   pub functions_there : (held : List (Vec (List (ℕ × InlineOf)) Global)) (v : Vec (List (ℕ × InlineOf)) Global) (x : List (List (ℕ × InlineOf))) → AreFunctionsIn p types (map (λ of_file. of_file.items) held) → v ≡ get_or held n v → x ≡ v.items
@@ -80,7 +80,7 @@ module _ (p : PackageIn) (types : List Entry) (s : SceneModel) (known : List (Op
   functions_there held v x all at is =
       let at_zero : 0 + n ≡ n = omega arith in
       let numbered = subst (λ (k : ℕ). slice_get (enumerate_from 0 (outlines_in p)) n ≡ Some (k, o)) at_zero (numbered_at 0 (outlines_in p) n o there) in
-      let made = zip_read (λ q of_file. inside.AreFunctionTypes (types_stand p types q) q.1 of_file) (λ of_file. of_file.items) (enumerate_from 0 (outlines_in p)) held n (n, o) v all numbered at in
+      let made = zip_read (λ q of_file. inside.AreOutlinedTypes (types_stand p types q) q.1 of_file) (λ of_file. of_file.items) (enumerate_from 0 (outlines_in p)) held n (n, o) v all numbered at in
       let listed = ap (λ (x : FileOutline). outline_funcs x.decls) of_tree ∙ funcs_all f in
       subst (λ st. AreFunctionTypes st f x) (sym stand_is)
       (subst (λ ts. AllZip (AreFuncTypes (stand_in p types known n o)) (file_funcs f) ts) (sym is) (subst (λ fs. AllZip (AreFuncTypes (stand_in p types known n o)) fs v.items) listed made))

@@ -1,2 +1,3 @@
 -- What the crates above name of go_needs_core.
+pub use Rattle.go_known_core.specs.needs_core.Needed as Needed
 pub use Rattle.go_known_core.specs.needs_core.Needs as Needs

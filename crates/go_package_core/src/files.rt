@@ -1,7 +1,6 @@
 //! The check of the files of a package.
 ghost use Rattle.std.specs.Prelude.{◌≡◌, ◌++◌, [], ℕ, List, IfOk, drop, length, map, slice_index_or};
 ghost use Rattle.std.specs.List.{AllZip, enumerate_from};
-ghost use Rattle.go_term_core.specs.decl_core.Outer.{IsPlaced};
 ghost use Rattle.go_term_core.specs.decl_core.Shown.{decl_shown};
 ghost use Rattle.go_tree_nodes.specs.Shapes.{file_of};
 ghost use Rattle.go_answer_core.specs.entry_core.Outlines.{outline_shown};
@@ -11,10 +10,11 @@ ghost use Rattle.go_known_core.specs.env_core.Scenes.{scene_shown};
 ghost use Rattle.go_file_core.specs.Files.{file_faults, file_locals, file_uses};
 ghost use Rattle.go_file_core.specs.Stands.{AreFunctionTypes, AreInitialTypes, stand_of};
 ghost use Rattle.go_answer_core.specs.Outer.{outer_faults};
-ghost use Rattle.go_ready_core.specs.Packages.{outlines_in, package_in, scene_in};
+ghost use Rattle.go_ready_core.specs.Packages.{outlines_in, package_in_shown, scene_in};
 ghost use Rattle.go_ready_core.specs.Values.{decls_in};
 ghost use Rattle.go_package_core.specs.Checked.{IsFileChecked, answers_shown, local_shown};
 ghost use Rattle.go_package_core.specs.mirrors.Stages.{IsReady};
+ghost use Rattle.go_tree_nodes.specs.Spelling.{IsPlaced};
 
 use crate::checked::FileAnswers;
 use crate::locals::held_locals;
@@ -90,11 +90,11 @@ pub(crate) fn check_files<'n, 'p, P: ImportedNames>(
     declared: &'n Declared<'p>,
     type_faults: &'n [PackageFault],
 ) -> Result<Vec<FileAnswers>, AllocError>
-    requires outlines { map outline_shown outlines.now ≡ outlines_in (package_in P.shows at.now) }
-    requires scene { scene_shown scene.now ≡ scene_in (package_in P.shows at.now) (scene_shown scene.now).types }
-    requires ready { IsReady (package_in P.shows at.now) (scene_shown scene.now).types ready.now }
-    requires looped { length declared.now.looped.items ≡ length (decls_in (package_in P.shows at.now)) }
-    ensures { IfOk result (λ files. AllZip (IsFileChecked (package_in P.shows at.now) (scene_shown scene.now).types declared.now.known.items type_faults.now declared.now.looped.items) (enumerate_from 0 (package_in P.shows at.now).trees) (map answers_shown files.items)) }
+    requires outlines { map outline_shown outlines.now ≡ outlines_in (package_in_shown P.shows at.now) }
+    requires scene { scene_shown scene.now ≡ scene_in (package_in_shown P.shows at.now) (scene_shown scene.now).types }
+    requires ready { IsReady (package_in_shown P.shows at.now) (scene_shown scene.now).types ready.now }
+    requires looped { length declared.now.looped.items ≡ length (decls_in (package_in_shown P.shows at.now)) }
+    ensures { IfOk result (λ files. AllZip (IsFileChecked (package_in_shown P.shows at.now) (scene_shown scene.now).types declared.now.known.items type_faults.now declared.now.looped.items) (enumerate_from 0 (package_in_shown P.shows at.now).trees) (map answers_shown files.items)) }
 {
     let mut files = Vec::new(alloc);
     let mut first = 0;

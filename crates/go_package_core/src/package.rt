@@ -1,7 +1,6 @@
 //! The check of a package.
 ghost use Rattle.std.specs.Prelude.{◌≡◌, ◌++◌, All, List, IfOk, length, map};
 ghost use Rattle.std.specs.List.{AllByRecursion};
-ghost use Rattle.go_term_core.specs.decl_core.Outer.{IsPlaced};
 ghost use Rattle.go_known_core.specs.table_core.Entries.{Entry};
 ghost use Rattle.go_known_core.specs.table_core.Tables.{AreOthers};
 ghost use Rattle.go_answer_core.specs.entry_core.Outlines.{outline_shown};
@@ -9,10 +8,11 @@ ghost use Rattle.go_known_core.specs.env_core.Scenes.{scene_shown};
 ghost use Rattle.go_known_core.specs.value_core.Laws.{AreFaces};
 ghost use Rattle.go_known_core.specs.value_core.Package.{AreThroughThemselves, placed_decls};
 ghost use Rattle.go_ready_core.specs.Inlines.{IsPlacedOutline};
-ghost use Rattle.go_ready_core.specs.Packages.{outlines_in, package_in};
+ghost use Rattle.go_ready_core.specs.Packages.{outlines_in, package_in_shown};
 ghost use Rattle.go_ready_core.specs.Types.{AreTypes};
 ghost use Rattle.go_package_core.specs.Checked.{IsChecked, checked_shown};
 ghost use Rattle.go_package_core.specs.mirrors.Stages.{IsReady};
+ghost use Rattle.go_tree_nodes.specs.Spelling.{IsPlaced};
 
 use crate::checked::CheckedPackage;
 use crate::files::{Declared, check_files};
@@ -75,11 +75,11 @@ fn check_ready<'p, P: ImportedNames>(
     ready: &'p Ready,
     own: OwnTypes,
 ) -> Result<CheckedPackage, AllocError>
-    requires outlines { map outline_shown outlines.now ≡ outlines_in (package_in P.shows at.now) }
-    requires placed { All IsPlaced (package_in P.shows at.now).trees }
-    requires ready { IsReady (package_in P.shows at.now) types.now ready.now }
+    requires outlines { map outline_shown outlines.now ≡ outlines_in (package_in_shown P.shows at.now) }
+    requires placed { All IsPlaced (package_in_shown P.shows at.now).trees }
+    requires ready { IsReady (package_in_shown P.shows at.now) types.now ready.now }
     ensures types { IfOk result (λ c. c.types ≡ own.types) }
-    ensures checked { IfOk result (λ c. (far : List Entry) → types.now ≡ far ++ own.types.entries → AreTypes (package_in P.shows at.now) far own.types.entries own.faults.items → IsChecked (package_in P.shows at.now) far (checked_shown c)) }
+    ensures checked { IfOk result (λ c. (far : List Entry) → types.now ≡ far ++ own.types.entries → AreTypes (package_in_shown P.shows at.now) far own.types.entries own.faults.items → IsChecked (package_in_shown P.shows at.now) far (checked_shown c)) }
 {
     let written = &ready.written;
     let scene = scene_of(&ready.home, at.blocks, types, at.faces, written);
@@ -108,11 +108,11 @@ fn check_typed<P: ImportedNames>(
     outlines: &[Outline<'_>],
     own: OwnTypes,
 ) -> Result<CheckedPackage, AllocError>
-    requires outlines { map outline_shown outlines.now ≡ outlines_in (package_in P.shows at.now) }
+    requires outlines { map outline_shown outlines.now ≡ outlines_in (package_in_shown P.shows at.now) }
     requires tokens { AllByRecursion IsPlacedOutline (map outline_shown outlines.now) }
-    requires placed { All IsPlaced (package_in P.shows at.now).trees }
+    requires placed { All IsPlaced (package_in_shown P.shows at.now).trees }
     ensures types { IfOk result (λ c. c.types ≡ own.types) }
-    ensures checked { IfOk result (λ c. (far : List Entry) → types.now ≡ far ++ own.types.entries → AreTypes (package_in P.shows at.now) far own.types.entries own.faults.items → IsChecked (package_in P.shows at.now) far (checked_shown c)) }
+    ensures checked { IfOk result (λ c. (far : List Entry) → types.now ≡ far ++ own.types.entries → AreTypes (package_in_shown P.shows at.now) far own.types.entries own.faults.items → IsChecked (package_in_shown P.shows at.now) far (checked_shown c)) }
 {
     let ready = make_ready(alloc, &*at, &*outlines, &*types)?;
     check_ready(alloc, &*at, &*types, &*outlines, &ready, own)
@@ -134,10 +134,10 @@ pub fn check_package<P: ImportedNames>(
     at: &PackageAt<'_, P>,
     types: &mut TypeTable,
 ) -> Result<CheckedPackage, AllocError>
-    requires { AreOthers (package_in P.shows at.now).path types.old }
-    ensures path { IfOk result (λ c. c.types.path ≡ (package_in P.shows at.now).path) }
+    requires { AreOthers (package_in_shown P.shows at.now).path types.old }
+    ensures path { IfOk result (λ c. c.types.path ≡ (package_in_shown P.shows at.now).path) }
     ensures table { IfOk result (λ c. types.new ≡ types.old ++ c.types.entries) }
-    ensures checked { IfOk result (λ c. IsChecked (package_in P.shows at.now) types.old (checked_shown c)) }
+    ensures checked { IfOk result (λ c. IsChecked (package_in_shown P.shows at.now) types.old (checked_shown c)) }
 {
     let outlines = package_outlines(alloc, &*at)?;
     let own = package_types(alloc, &*at, &outlines, types)?;

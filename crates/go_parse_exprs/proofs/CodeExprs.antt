@@ -13,7 +13,7 @@ use Rattle.go_tree_nodes.specs.declared.types.TypeName.TheVariants as type_name
 use Rattle.go_tree_nodes.specs.declared.exprs.«Item» as declared_item
 use Rattle.go_tree_nodes.specs.Terminals.{TerminalKind, Spelled, Number, Quoted, Word, Mark, Stray, Terminal}
 use Rattle.go_tree_nodes.specs.Trees.{TypeTree, ExprTree, ItemTrees, Item, Integer, Text, Named, Paren, Literal, StructLiteral}
-use Rattle.go_tree_nodes.specs.Shapes.{key_of, shape, items_of}
+use Rattle.go_tree_nodes.specs.Shapes.{shape_key, shape, items_of}
 use Rattle.go_tree_nodes.specs.Heights.{height}
 use Rattle.go_tree_nodes.specs.Rules.{is_unary}
 use Rattle.go_parse_types.specs.declared.stop.Stop.{Stop}
@@ -173,7 +173,7 @@ named_high inner b header x ts e none =
 
 pub items_are : (is : List declared_item.Item) → as_items (map item_of is) ≡ items_of is
 items_are [] = refl
-items_are (i ∷ is) = ap (Item (key_of i.key) (shape i.value) i.comma) (items_are is)
+items_are (i ∷ is) = ap (Item (shape_key i.key) (shape i.value) i.comma) (items_are is)
 
 pub items_found : (inner : Inner) (keyed : Bool) (close : Operator) (ts rest : List Terminal) (is : List declared_item.Item) → list_all (item_ahead inner keyed) operator.Comma close ts ≡ Ok (map item_of is, rest) → items_at inner keyed close ts ≡ Ok (items_of is, rest)
 items_found inner keyed close ts rest is e =

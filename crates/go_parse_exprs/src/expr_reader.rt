@@ -14,12 +14,13 @@ ghost use Rattle.go_parse_exprs.specs.mirrors.ExprReading.{item_ahead, body_at, 
 
 use crate::after::{After, next};
 use crate::literal::{key, literal_name, opens_body};
-use crate::operators::{LOWEST, UNARY, prefix, rank};
+use crate::operators::prefix;
 use go_parse_types::{Ahead, Stop, add, boxed, fitted, struct_type, type_height};
 use go_text_core::Span;
 use go_token_core::{Keyword, Operator};
 use go_tree_nodes::{
-    BinaryExpr, CallExpr, Expr, Ident, Item, LiteralExpr, SelectExpr, StructLiteralExpr,
+    BinaryExpr, CallExpr, Expr, Ident, Item, LOWEST, LiteralExpr, SelectExpr, StructLiteralExpr,
+    UNARY, rank,
 };
 use std::alloc::Global;
 

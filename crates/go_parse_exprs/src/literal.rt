@@ -1,6 +1,6 @@
 //! The front of a composite literal, and the keys of its elements.
 ghost use Rattle.std.specs.Prelude.{◌≡◌, IfOk};
-ghost use Rattle.go_tree_nodes.specs.Shapes.{key_of};
+ghost use Rattle.go_tree_nodes.specs.Shapes.{shape_key};
 ghost use Rattle.go_parse_exprs.specs.mirrors.ExprReading as reading;
 ghost use Rattle.go_parse_exprs.specs.mirrors.CodeShapes as shapes;
 
@@ -56,7 +56,7 @@ pub fn key<'a>(
     ahead: Ahead<'a>,
     keyed: bool,
 ) -> Result<(Option<Box<Key>>, Ahead<'a>), AllocError>
-    ensures { IfOk result (λ x. (key_of x.0, x.1) ≡ shapes.some_key keyed ahead.entry) }
+    ensures { IfOk result (λ x. (shape_key x.0, x.1) ≡ shapes.some_key keyed ahead.entry) }
 {
     if !keyed {
         return Ok((None, ahead));

@@ -10,7 +10,7 @@ use Rattle.go_used_core.specs.handle_core.Declarations.{Declaration}
 use Rattle.go_used_core.specs.expr_core.declared.things.Fault.{Fault}
 use Rattle.go_used_core.specs.report_core.Faults.{IsSettled}
 use Rattle.go_used_core.specs.Reported.{IsReported}
-use Rattle.go_used_core.specs.Used.{TheUse, blank_places, judged, used_places, without_unused}
+use Rattle.go_used_core.specs.Used.{TheUse, blank_places, judged_import, used_places, without_unused}
 use Rattle.go_package_core.specs.Checked.{AnswersOf}
 use Rattle.go_part_core.specs.Parts.{FileOf, IsFileMade}
 
@@ -21,7 +21,7 @@ file_with a uses faults report = record { answers = record { uses = uses; faults
 -- what is written over the answers of a check has as many
 pub refilled : (b : BlocksModel) (n : ℕ) (f : FileTree) (v : Vec TheUse Global) (lent new : List TheUse) → lent ≡ v.items → new ≡ without_unused b n f lent → (with_items v new).items ≡ without_unused b n f lent
 refilled b n f v lent new first is =
-    let many : length new ≡ v.len = ap length is ∙ (length-map lent (judged (blank_places f ++ used_places b n (file_occs f) lent)) ∙ (ap length first ∙ sym v.ok.0)) in
+    let many : length new ≡ v.len = ap length is ∙ (length-map lent (judged_import (blank_places f ++ used_places b n (file_occs f) lent)) ∙ (ap length first ∙ sym v.ok.0)) in
     with_items_is v new many ∙ is
 
 -- the lists that calls are lent are those that the file has

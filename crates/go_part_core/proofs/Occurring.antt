@@ -11,7 +11,7 @@ use Rattle.go_used_core.specs.block_core.declared.imports.Imported.{Imported}
 use Rattle.go_used_core.specs.block_core.Blocks.{BlocksModel}
 use Rattle.go_used_core.specs.block_core.Naming.{HaveOneEach, file_specs}
 use Rattle.go_used_core.specs.expr_core.Laws.{use_place, occurrence_place}
-use Rattle.go_used_core.specs.Used.{TheUse, blank_places, is_import, judged, refused_use, used_places, without_unused}
+use Rattle.go_used_core.specs.Used.{TheUse, blank_places, is_import, judged_import, refused_use, used_places, without_unused}
 use Rattle.go_package_core.specs.ready_core.Packages.{trees_in}
 use Rattle.go_package_core.proofs.Meanings.{has_occurrences}
 use Rattle.go_part_core.specs.Inputs.{InputModel, IsInput}
@@ -19,16 +19,16 @@ use Rattle.go_part_core.specs.Laws.{PartHasOccurrences}
 use Rattle.go_part_core.specs.Parts.{ContentOf, FileOf, IsFileMadeIn, IsPart, package_seen, seen_by}
 
 -- what is refused for not being used stands where it stood
-judged_stays : (places : List ℕ) (u : TheUse) → use_place (judged places u) ≡ use_place u
+judged_stays : (places : List ℕ) (u : TheUse) → use_place (judged_import places u) ≡ use_place u
 judged_stays places u = by (is_import u.role && not (list_any (λ place. nat_eq place u.offset) places))
   where
     by : (b : Bool) → use_place (if b then refused_use u else u) ≡ use_place u
     by true = refl
     by false = refl
 
-all_stay : (places : List ℕ) (us : List TheUse) → map use_place (map (judged places) us) ≡ map use_place us
+all_stay : (places : List ℕ) (us : List TheUse) → map use_place (map (judged_import places) us) ≡ map use_place us
 all_stay places [] = refl
-all_stay places (u ∷ us) = ap (λ p. p ∷ map use_place (map (judged places) us)) (judged_stays places u) ∙ ap (λ l. use_place u ∷ l) (all_stay places us)
+all_stay places (u ∷ us) = ap (λ p. p ∷ map use_place (map (judged_import places) us)) (judged_stays places u) ∙ ap (λ l. use_place u ∷ l) (all_stay places us)
 
 -- a file has as many imports as come to something
 imports_there : (ts : Trees) (files : List (List Imported)) (n : ℕ) (f : FileTree) → HaveOneEach ts files → slice_get (map tree_shown ts) n ≡ Some f → length (file_specs f) ≡ length (slice_index_or files n [])

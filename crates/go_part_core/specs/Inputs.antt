@@ -7,7 +7,7 @@ use Rattle.go_used_core.specs.block_core.declared.imports.Imported.{Imported}
 use Rattle.go_used_core.specs.block_core.contracts.imports.Imported as imported
 use Rattle.go_used_core.specs.block_core.Naming.{HaveOneEach}
 use Rattle.go_told_core.specs.summary_core.Summaries.{SummaryModel, IsOfOne, path_of}
-use Rattle.go_told_core.specs.summary_core.Views.{AreApart}
+use Rattle.go_told_core.specs.summary_core.Views.{PathsAreApart}
 use Rattle.go_told_core.specs.summary_core.codes.SummaryCodes.{coded_summary}
 
 -- the package, what the imports of each of its files come to, and what the packages tell that it reaches
@@ -27,12 +27,12 @@ abbrev pub path_in : InputModel → List ℕ
 path_in i = i.source.0
 
 -- these summaries are of other packages than that of a path, each path once
-pub record AreReached (path : List ℕ) (reached : List SummaryModel) : Type 0 where
-  pub apart : AreApart reached
+pub record AreOfOthers (path : List ℕ) (reached : List SummaryModel) : Type 0 where
+  pub apart : PathsAreApart reached
   pub others : All (λ s. path ≡ path_of s → ⊥) reached
 
 -- each import of each file comes to something, and the summaries are those of other packages
 pub record IsInput (i : InputModel) : Type 0 where
   pub imports : HaveOneEach (trees_of i.source.1) i.imports
-  pub reached : AreReached (path_in i) i.reached
+  pub reached : AreOfOthers (path_in i) i.reached
   pub own : All IsOfOne i.reached

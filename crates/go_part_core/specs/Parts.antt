@@ -42,8 +42,8 @@ pub record ContentOf : Type 0 where
 abbrev pub file_shown : PartFile → FileOf
 file_shown f = record { answers = answers_shown f.answers; report = f.report.items }
 
-abbrev pub content_shown : PackageContent → ContentOf
-content_shown c = record { blocks = c.blocks; declared = map (option_map face_shown) c.declared.items; files = map file_shown c.files.items; summary = c.summary }
+abbrev pub part_content_shown : PackageContent → ContentOf
+part_content_shown c = record { blocks = c.blocks; declared = map (option_map face_shown) c.declared.items; files = map file_shown c.files.items; summary = c.summary }
 
 -- what stands in the file of a number and a tree, where its package has these blocks, and its check gives this of it: its occurrences have what the
 -- check gives them, but that an import which is not used is refused; its faults are those of the check, without those that an outcome says; and the

@@ -9,7 +9,7 @@ ghost use Rattle.go_told_core.specs.summary_core.Summaries.{summary_of};
 ghost use Rattle.go_package_core.specs.ready_core.Packages.{trees_in};
 ghost use Rattle.go_package_core.specs.Checked.{IsChecked, answers_shown, checked_shown};
 ghost use Rattle.go_part_core.specs.Inputs.{path_in};
-ghost use Rattle.go_part_core.specs.Parts.{AreFilesMade, IsMade, content_shown, file_shown, package_seen, seen_with};
+ghost use Rattle.go_part_core.specs.Parts.{AreFilesMade, IsMade, part_content_shown, file_shown, package_seen, seen_with};
 
 use crate::files::{PartFile, files_made};
 use crate::input::PartInput;
@@ -112,7 +112,7 @@ pub fn compile_over(
     seen: &mut View,
 ) -> Result<PackageContent, AllocError>
     requires { AreOthers (path_in input.now) seen.old.types }
-    ensures made { IfOk result (λ c. IsMade input.now (seen_with seen.old.types (shown_in seen.old.shown) seen.old.faces) (content_shown c)) }
+    ensures made { IfOk result (λ c. IsMade input.now (seen_with seen.old.types (shown_in seen.old.shown) seen.old.faces) (part_content_shown c)) }
     ensures types { IfOk result (λ c. seen.new.types ≡ seen.old.types ++ c.summary.types.entries) }
     ensures shown { seen.new.shown ≡ seen.old.shown }
     ensures faces { seen.new.faces ≡ seen.old.faces }

@@ -3,7 +3,7 @@ ghost use Rattle.std.specs.Prelude.{◌≡◌, ◌↔◌, IfOk, IsTrue, map};
 ghost use Rattle.go_package_core.specs.graph_core.Packages.{trees_of};
 ghost use Rattle.go_package_core.specs.graph_core.Workspaces.{AreAllRead};
 ghost use Rattle.go_used_core.specs.block_core.Naming.{HaveOneEach, imported_in};
-ghost use Rattle.go_part_core.specs.Inputs.{AreReached, IsInput, input_with, path_in};
+ghost use Rattle.go_part_core.specs.Inputs.{AreOfOthers, IsInput, input_with, path_in};
 
 use crate::same::same_imports;
 use go_package_core::graph_core::Package;
@@ -60,7 +60,7 @@ impl PartInput {
         reached: ReachedSummaries,
     ) -> Result<PartInput, AllocError>
         requires imports { HaveOneEach (trees_of source.1) (map imported_in imports.items) }
-        requires reached { AreReached source.0 reached }
+        requires reached { AreOfOthers source.0 reached }
         ensures { IfOk result (λ i. i ≡ input_with source (map imported_in imports.items) reached) }
     {
         // All of each summary is of one package.

@@ -55,8 +55,8 @@ pub mod face_core {
 /// What the crates above name of `go_graph_core`.
 pub mod graph_core {
     pub use go_package_core::graph_core::{
-        ImportAt, ImportOutcome, Package, Plan, SourceFile, Workspace, assemble, one_outcome,
-        plan_imports,
+        ImportAt, ImportOutcome, Package, PackageSource, Plan, SourceFile, Workspace, assemble,
+        one_outcome, plan_imports,
     };
 }
 
@@ -72,7 +72,7 @@ pub mod operand_core {
 
 /// What the crates above name of `go_package_core`.
 pub mod package_core {
-    pub use go_package_core::one_check;
+    pub use go_package_core::{FileAnswers, one_check};
 }
 
 /// What the crates above name of `go_parse_core`.

@@ -1,7 +1,7 @@
 //! The part of a package.
 ghost use Rattle.std.specs.Prelude.{◌≡◌, IfOk};
 ghost use Rattle.go_part_core.specs.Inputs.{path_in};
-ghost use Rattle.go_part_core.specs.Parts.{IsPart, content_shown, part_with};
+ghost use Rattle.go_part_core.specs.Parts.{IsPart, part_content_shown, part_with};
 
 use crate::content::{PackageContent, compile_over};
 use crate::input::PartInput;
@@ -27,15 +27,15 @@ impl Model for Part {
     ghost use Rattle.go_used_core.specs.face_core.codes.FaceCodes.{coded_face, coded_operand};
     ghost use Rattle.go_told_core.specs.summary_core.codes.SummaryCodes.{coded_summary};
     ghost use Rattle.go_part_core.specs.Inputs.{coded_input};
-    ghost use Rattle.go_part_core.specs.Parts.{IsPart, PartModel, content_shown, part_with};
+    ghost use Rattle.go_part_core.specs.Parts.{IsPart, PartModel, part_content_shown, part_with};
 
     ghost Value = { PartModel };
 
     ghost coded = { Prim.hlevel (codes, coded_input, coded_blocks, coded_face, coded_operand, coded_summary) };
 
-    ghost view = { λ p. part_with p.input (content_shown (arc_value p.content)) };
+    ghost view = { λ p. part_with p.input (part_content_shown (arc_value p.content)) };
 
-    ghost invariant = { λ p. IsPart p.input (content_shown (arc_value p.content)) };
+    ghost invariant = { λ p. IsPart p.input (part_content_shown (arc_value p.content)) };
 }
 
 impl Part {
@@ -45,8 +45,8 @@ impl Part {
     ///
     /// `AllocError` where memory is wanting.
     pub fn new(alloc: Global, input: PartInput, content: PackageContent) -> Result<Part, AllocError>
-        requires { IsPart input (content_shown content) }
-        ensures { IfOk result (λ p. p ≡ part_with input (content_shown content)) }
+        requires { IsPart input (part_content_shown content) }
+        ensures { IfOk result (λ p. p ≡ part_with input (part_content_shown content)) }
     {
         let content = Arc::new(alloc, content)?;
         Ok(Part { input, content })
@@ -81,7 +81,7 @@ impl Part {
 
     /// What the package has. It is what the input gives.
     pub fn content(&self) -> &PackageContent
-        ensures value { content_shown result.now ≡ self.now.content }
+        ensures value { part_content_shown result.now ≡ self.now.content }
         ensures made { IsPart self.now.input self.now.content }
     {
         &self.content

@@ -1,41 +1,10 @@
 //! Equality of what inputs hold.
 ghost use Rattle.std.specs.Prelude.{◌≡◌, ◌↔◌, IsTrue, map};
-ghost use Rattle.go_used_core.specs.block_core.Exports.{name_and_decl};
 ghost use Rattle.go_used_core.specs.block_core.Naming.{imported_in};
 
 use go_text_core::Rule;
-use go_used_core::block_core::{Exports, Imported, NamedDecl};
-
-// Whether two names are spelled alike, and have the same declaration.
-fn is_same_named(one: &NamedDecl, other: &NamedDecl) -> bool
-    ensures { IsTrue result ↔ (name_and_decl one.now ≡ name_and_decl other.now) }
-{
-    one.name.as_str() == other.name.as_str() && one.decl == other.decl
-}
-
-// Whether two lists have the same names with the same declarations, in order.
-fn same_decls(names: &[NamedDecl], others: &[NamedDecl]) -> bool
-    ensures { IsTrue result ↔ (map name_and_decl names.now ≡ map name_and_decl others.now) }
-{
-    if names.len() != others.len() {
-        return false;
-    }
-    for place in 0..names.len() {
-        if !is_same_named(&names[place], &others[place]) {
-            return false;
-        }
-    }
-    true
-}
-
-// Whether two packages have the same path, the same name in their clauses, and the same exported names with the same declarations.
-fn same_exports(one: &Exports, other: &Exports) -> bool
-    ensures { IsTrue result ↔ (one.now ≡ other.now) }
-{
-    one.path().is_same(other.path())
-        && one.name().as_str() == other.name().as_str()
-        && same_decls(one.names(), other.names())
-}
+use go_told_core::alike_core::same_exports;
+use go_used_core::block_core::Imported;
 
 // Whether two rules are the same.
 fn is_same_rule(one: Rule, other: Rule) -> bool

@@ -21,7 +21,7 @@ use Rattle.go_expr_core.specs.Looks.{Looks}
 use Rattle.go_piece_core.specs.Values.{variable}
 use Rattle.go_piece_core.specs.Targets.{flags_behind, short_targets}
 use Rattle.go_piece_core.specs.Specifications.{constant_value, constant_values, names_values}
-use Rattle.go_piece_core.specs.Headers.{of_entry, entry_types, result_types, signature_types, named_receiver, receiver_types, header_types}
+use Rattle.go_piece_core.specs.Headers.{of_entry, entry_types, types_of_result, types_of_signature, named_receiver, receiver_types, header_types}
 use Rattle.go_piece_core.specs.Laws.{NamesHaveValues}
 
 -- a condition that holds or not
@@ -72,12 +72,12 @@ entries_count : {T S D P : Type 0} (looks : Looks T S D P) (ps : ParamTrees) →
 entries_count looks NoParams = refl
 entries_count looks (Param xs t comma rest) = joined _ _ (some_idents xs) (param_idents rest) (entry_count xs _) (entries_count looks rest)
 
-results_count : {T S D P : Type 0} (looks : Looks T S D P) (r : ResultTree) → length (result_types looks false r) ≡ length (result_idents r)
+results_count : {T S D P : Type 0} (looks : Looks T S D P) (r : ResultTree) → length (types_of_result looks false r) ≡ length (result_idents r)
 results_count looks NoResult = refl
 results_count looks (OneResult t) = refl
 results_count looks (Results first params last) = entries_count looks params
 
-signature_count : {T S D P : Type 0} (looks : Looks T S D P) (s : SignatureTree) → length (signature_types looks s) ≡ length (signature_idents s)
+signature_count : {T S D P : Type 0} (looks : Looks T S D P) (s : SignatureTree) → length (types_of_signature looks s) ≡ length (signature_idents s)
 signature_count looks (Signed first params last result) = joined _ _ (param_idents params) (result_idents result) (entries_count looks params) (results_count looks result)
 
 named_count : {T : Type 0} (x : Option Ident) (t : Option T) → length (named_receiver x t) ≡ length (some_ident x)

@@ -9,7 +9,7 @@ use Rattle.go_tree_nodes.specs.TypeShapes.{idents_from}
 use Rattle.go_walk_core.specs.local_core.Outline.{idents}
 use Rattle.go_expr_core.specs.Looks.{Looks}
 use Rattle.go_expr_core.specs.Places.{is_call, start}
-use Rattle.go_piece_core.specs.Values.{is_lone_call, list_start, behind}
+use Rattle.go_piece_core.specs.Values.{is_call_alone, list_start, behind}
 use Rattle.go_piece_core.specs.Targets.{target, target_uses, target_faults, targets, targets_uses, targets_faults}
 use Rattle.go_piece_core.specs.Specifications.{names_start}
 use Rattle.go_piece_core.specs.mirrors.Later.{later_targets, later_uses, later_faults, later_idents}
@@ -34,11 +34,11 @@ pub no_more : (e : Expr) (ns : List NextExpr) → length ns ≤ 0 → behind (ex
 no_more e [] h = refl
 no_more e (n ∷ ns) h = absurd (omega (arith, h))
 
-pub not_alone : (e : Expr) (ns : List NextExpr) → 1 ≤ length ns → is_lone_call (exprs_from e ns) ≡ false
+pub not_alone : (e : Expr) (ns : List NextExpr) → 1 ≤ length ns → is_call_alone (exprs_from e ns) ≡ false
 not_alone e [] h = absurd (omega (arith, h))
 not_alone e (n ∷ ns) h = refl
 
-pub alone : (e : Expr) (ns : List NextExpr) → length ns ≡ 0 → is_lone_call (exprs_from e ns) ≡ is_call (shape e)
+pub alone : (e : Expr) (ns : List NextExpr) → length ns ≡ 0 → is_call_alone (exprs_from e ns) ≡ is_call (shape e)
 alone e [] h = refl
 alone e (n ∷ ns) h = absurd (omega (arith, h))
 

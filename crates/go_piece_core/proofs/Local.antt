@@ -28,7 +28,7 @@ use Rattle.go_statement_core.specs.Constants.{constants_rule}
 use Rattle.go_statement_core.specs.Returns.{return_rule}
 use Rattle.go_statement_core.specs.Statements.{statement_rule, condition_rule}
 use Rattle.go_statement_core.specs.Updates.{update_rule, increment_rule}
-use Rattle.go_expr_core.specs.Looks.{Looks, WrittenRules, at}
+use Rattle.go_expr_core.specs.Looks.{Looks, WrittenRules, look_of_place}
 use Rattle.go_expr_core.specs.Places.{start}
 use Rattle.go_expr_core.specs.Denoting.{denoted, named_type, written_type}
 use Rattle.go_expr_core.specs.Uses.{uses, type_name_uses, params_spots, result_spots, type_spots, use_of}
@@ -36,26 +36,26 @@ use Rattle.go_expr_core.specs.TypeUses.{type_uses, signature_uses, result_uses, 
 use Rattle.go_expr_core.specs.Faults.{fault_at, single_rule, listed_rule, operand_faults, member_faults}
 use Rattle.go_expr_core.specs.Lists.{is_list, denoted_exprs, exprs_uses, exprs_faults}
 use Rattle.go_expr_core.specs.Laws as expressions
-use Rattle.go_expr_core.specs.Laws.{Agree, Same}
+use Rattle.go_expr_core.specs.Laws.{AgreeOnIdents, Same}
 use Rattle.go_expr_core.specs.Locality.{struct_types, struct_types_in, SameType, SameWritten, seeing}
 use Rattle.go_expr_core.proofs.Alike.{expressions_seen}
 use Rattle.std.proofs.lemmas.List.{map-append}
 use Rattle.std.proofs.Common.{append-nil}
-use Rattle.go_piece_core.specs.Values.{variable, is_lone_call, list_start, given, is_unknown}
-use Rattle.go_piece_core.specs.Types.{type_faults, some_type, some_type_uses, some_type_faults}
+use Rattle.go_piece_core.specs.Values.{variable, is_call_alone, list_start, given, is_unknown}
+use Rattle.go_piece_core.specs.Types.{type_faults, some_written_type, some_type_uses, some_type_faults}
 use Rattle.go_piece_core.specs.Targets.{target, target_uses, target_faults, targets, targets_uses, targets_faults, old_target, short_target, flag_of, flags_behind, short_targets}
 use Rattle.go_piece_core.specs.Specifications.{names_start, values_uses, values_faults, values_given, variables_faults, each_constant_faults, constants_faults, constant_values, own_faults, names_values}
-use Rattle.go_piece_core.specs.Headers.{receiver_uses, starred, named_receiver, receiver_types, of_entry, entry_types, result_types, signature_types, params_faults, result_faults, signature_faults}
-use Rattle.go_piece_core.specs.Statements.{callee_of, operand, simple_uses, simple_faults}
+use Rattle.go_piece_core.specs.Headers.{receiver_uses, some_starred, named_receiver, receiver_types, of_entry, entry_types, types_of_result, types_of_signature, params_faults, result_faults, signature_faults}
+use Rattle.go_piece_core.specs.Statements.{callee_of, operand_argument, simple_uses, simple_faults}
 use Rattle.go_piece_core.specs.Pieces.{simple_values}
 use Rattle.go_piece_core.specs.Laws as laws
 use Rattle.go_piece_core.specs.Laws.{SamePiece, PiecesAreLocal}
 
-agree_left : {T S D : Type 0} (find other : List ℕ → ℕ → Found T S D) (xs ys : List Ident) → Agree find other (xs ++ ys) → Agree find other xs
+agree_left : {T S D : Type 0} (find other : List ℕ → ℕ → Found T S D) (xs ys : List Ident) → AgreeOnIdents find other (xs ++ ys) → AgreeOnIdents find other xs
 agree_left find other [] ys h = tt
 agree_left find other (x ∷ xs) ys h = (h.0, agree_left find other xs ys h.1)
 
-agree_right : {T S D : Type 0} (find other : List ℕ → ℕ → Found T S D) (xs ys : List Ident) → Agree find other (xs ++ ys) → Agree find other ys
+agree_right : {T S D : Type 0} (find other : List ℕ → ℕ → Found T S D) (xs ys : List Ident) → AgreeOnIdents find other (xs ++ ys) → AgreeOnIdents find other ys
 agree_right find other [] ys h = h
 agree_right find other (x ∷ xs) ys h = agree_right find other xs ys h.1
 
@@ -67,7 +67,7 @@ module _ {T S D P : Type 0} (looks : Looks T S D P) (find : List ℕ → ℕ →
   other = seeing find written looks
 
   abbrev Finds : List Ident → Type 0
-  Finds xs = Agree looks.find find xs
+  Finds xs = AgreeOnIdents looks.find find xs
 
   abbrev Makes : List TypeTree → Type 0
   Makes ts = SameWritten looks other ts
@@ -93,7 +93,7 @@ module _ {T S D P : Type 0} (looks : Looks T S D P) (find : List ℕ → ℕ →
   abbrev SameExpr : ExprTree → Type 0
   SameExpr e = Same T S D P looks other places.«Value» e
 
-  expr_same : (e : ExprTree) → Both (expressions.idents e) (struct_types e) → SameExpr e
+  expr_same : (e : ExprTree) → Both (expressions.expr_idents e) (struct_types e) → SameExpr e
   expr_same e h = (expressions_seen T S D P).whole looks find written places.«Value» e h.0 h.1
 
   -- types
@@ -125,17 +125,17 @@ module _ {T S D P : Type 0} (looks : Looks T S D P) (find : List ℕ → ℕ →
       ∙ (pieces (type_uses looks t) (params_uses looks rest) (type_uses other t) (params_uses other rest) (type_used t (agree_left looks.find find (expressions.type_idents t) (expressions.params_idents rest) h) (k.0, tt)) (params_used rest (agree_right looks.find find (expressions.type_idents t) (expressions.params_idents rest) h) k.1)
       ∙ sym (map-append (use_of other) (type_spots other t) (params_spots other rest)))
 
-  result_used : (r : ResultTree) → Finds (expressions.result_idents r) → Makes (laws.result_types r) → result_uses looks r ≡ result_uses other r
+  result_used : (r : ResultTree) → Finds (expressions.result_type_idents r) → Makes (laws.result_types r) → result_uses looks r ≡ result_uses other r
   result_used NoResult h k = refl
   result_used (OneResult t) h k = type_used t h k
   result_used (Results first params last) h k = params_used params h k
 
-  signature_used : (s : SignatureTree) → Finds (expressions.signature_idents s) → Makes (laws.signature_types s) → signature_uses looks s ≡ signature_uses other s
+  signature_used : (s : SignatureTree) → Finds (expressions.signature_type_idents s) → Makes (laws.signature_types s) → signature_uses looks s ≡ signature_uses other s
   signature_used (Signed first params last result) h k =
       map-append (use_of looks) (params_spots looks params) (result_spots looks result)
       ∙ (pieces (params_uses looks params) (result_uses looks result) (params_uses other params) (result_uses other result)
-      (params_used params (agree_left looks.find find (expressions.params_idents params) (expressions.result_idents result) h) (makes_left (laws.params_types params) (laws.result_types result) k))
-      (result_used result (agree_right looks.find find (expressions.params_idents params) (expressions.result_idents result) h) (makes_right (laws.params_types params) (laws.result_types result) k))
+      (params_used params (agree_left looks.find find (expressions.params_idents params) (expressions.result_type_idents result) h) (makes_left (laws.params_types params) (laws.result_types result) k))
+      (result_used result (agree_right looks.find find (expressions.params_idents params) (expressions.result_type_idents result) h) (makes_right (laws.params_types params) (laws.result_types result) k))
       ∙ sym (map-append (use_of other) (params_spots other params) (result_spots other result)))
 
   params_noted : (ps : ParamTrees) → Makes (laws.params_types ps) → params_faults looks ps ≡ params_faults other ps
@@ -157,23 +157,23 @@ module _ {T S D P : Type 0} (looks : Looks T S D P) (find : List ℕ → ℕ →
   entries_same (Param xs t comma rest) k =
       pieces (of_entry false xs (written_type looks t)) (entry_types looks false rest) (of_entry false xs (written_type other t)) (entry_types other false rest) (ap (of_entry false xs) k.0.type_of) (entries_same rest k.1)
 
-  results_same : (r : ResultTree) → Makes (laws.result_types r) → result_types looks false r ≡ result_types other false r
+  results_same : (r : ResultTree) → Makes (laws.result_types r) → types_of_result looks false r ≡ types_of_result other false r
   results_same NoResult k = refl
   results_same (OneResult t) k = refl
   results_same (Results first params last) k = entries_same params k
 
-  signature_same : (s : SignatureTree) → Makes (laws.signature_types s) → signature_types looks s ≡ signature_types other s
+  signature_same : (s : SignatureTree) → Makes (laws.signature_types s) → types_of_signature looks s ≡ types_of_signature other s
   signature_same (Signed first params last result) k =
-      pieces (entry_types looks false params) (result_types looks false result) (entry_types other false params) (result_types other false result)
+      pieces (entry_types looks false params) (types_of_result looks false result) (entry_types other false params) (types_of_result other false result)
       (entries_same params (makes_left (laws.params_types params) (laws.result_types result) k)) (results_same result (makes_right (laws.params_types params) (laws.result_types result) k))
 
-  receiver_used : (r : Option Receiver) → Finds (laws.receiver_idents r) → receiver_uses looks r ≡ receiver_uses other r
+  receiver_used : (r : Option Receiver) → Finds (laws.receiver_type_idents r) → receiver_uses looks r ≡ receiver_uses other r
   receiver_used None h = refl
   receiver_used (Some r) h = name_used r.base h
 
-  receiver_same : (r : Option Receiver) → Finds (laws.receiver_idents r) → receiver_types looks r ≡ receiver_types other r
+  receiver_same : (r : Option Receiver) → Finds (laws.receiver_type_idents r) → receiver_types looks r ≡ receiver_types other r
   receiver_same None h = refl
-  receiver_same (Some r) h = ap (λ t. named_receiver r.name (starred looks.types r.star t)) (name_same r.base h)
+  receiver_same (Some r) h = ap (λ t. named_receiver r.name (some_starred looks.types r.star t)) (name_same r.base h)
 
   -- lists of expressions
 
@@ -191,15 +191,15 @@ module _ {T S D P : Type 0} (looks : Looks T S D P) (find : List ℕ → ℕ →
   list_same : (es : Separated ExprTree) → Both (laws.list_idents es) (laws.list_types es) → SameList es
   list_same (One e) h = let s = expr_same e h in record { denoted = ap (λ d. d ∷ []) s.denoted; uses = s.uses; faults = λ b. member_same b e s }
   list_same (Then e comma more) h =
-      let s = expr_same e (left (expressions.idents e) (laws.list_idents more) (struct_types e) (laws.list_types more) h) in
-      let rest = list_same more (right (expressions.idents e) (laws.list_idents more) (struct_types e) (laws.list_types more) h) in
+      let s = expr_same e (left (expressions.expr_idents e) (laws.list_idents more) (struct_types e) (laws.list_types more) h) in
+      let rest = list_same more (right (expressions.expr_idents e) (laws.list_idents more) (struct_types e) (laws.list_types more) h) in
       record {
         denoted = ap (λ d. d ∷ denoted_exprs looks more) s.denoted ∙ ap (λ l. denoted other places.«Value» e ∷ l) rest.denoted;
         uses = pieces _ _ _ _ s.uses rest.uses;
         faults = λ b. pieces _ _ _ _ (member_same b e s) (rest.faults b);
       }
 
-  arguments_same : (o : ℕ) (ds : List (Denoted T S D)) → arguments_of (at looks o) ds ≡ arguments_of (at other o) ds
+  arguments_same : (o : ℕ) (ds : List (Denoted T S D)) → arguments_of (look_of_place looks o) ds ≡ arguments_of (look_of_place other o) ds
   arguments_same o [] = refl
   arguments_same o (denotes.Refused ∷ []) = refl
   arguments_same o (denotes.Typeless ∷ []) = refl
@@ -213,10 +213,10 @@ module _ {T S D P : Type 0} (looks : Looks T S D P) (find : List ℕ → ℕ →
   arguments_same o (d ∷ e ∷ ds) = refl
 
   given_same : (es : Separated ExprTree) → SameList es → given looks es ≡ given other es
-  given_same es s = arguments_same (list_start es) (denoted_exprs looks es) ∙ ap (arguments_of (at other (list_start es))) s.denoted
+  given_same es s = arguments_same (list_start es) (denoted_exprs looks es) ∙ ap (arguments_of (look_of_place other (list_start es))) s.denoted
 
   unknown_same : (es : Separated ExprTree) → SameList es → is_unknown looks es ≡ is_unknown other es
-  unknown_same es s = ap (is_free (is_lone_call es)) s.denoted
+  unknown_same es s = ap (is_free (is_call_alone es)) s.denoted
 
   -- left sides
 
@@ -224,7 +224,7 @@ module _ {T S D P : Type 0} (looks : Looks T S D P) (find : List ℕ → ℕ →
       → (target looks b e ≡ target other b e) × (target_uses looks e ≡ target_uses other e) × (target_faults looks b e ≡ target_faults other b e)
   target_same b e h k = by (is_blank_target e) h
     where
-      by : (blank : Bool) → Finds (if blank then [] else expressions.idents e)
+      by : (blank : Bool) → Finds (if blank then [] else expressions.expr_idents e)
           → ((if blank then targets_are.Blank else target_of (denoted looks places.«Value» e) (not b)) ≡ (if blank then targets_are.Blank else target_of (denoted other places.«Value» e) (not b)))
           × ((if blank then [] else uses looks places.«Value» e) ≡ (if blank then [] else uses other places.«Value» e))
           × ((if blank then [] else member_faults looks b e) ≡ (if blank then [] else member_faults other b e))
@@ -252,7 +252,7 @@ module _ {T S D P : Type 0} (looks : Looks T S D P) (find : List ℕ → ℕ →
   -- specifications
 
   some_type_same : (t : Option TypeTree) → Both (laws.some_type_idents t) (laws.some_type t)
-      → (some_type looks t ≡ some_type other t) × (some_type_uses looks t ≡ some_type_uses other t) × (some_type_faults looks t ≡ some_type_faults other t)
+      → (some_written_type looks t ≡ some_written_type other t) × (some_type_uses looks t ≡ some_type_uses other t) × (some_type_faults looks t ≡ some_type_faults other t)
   some_type_same None h = (refl, refl, refl)
   some_type_same (Some t) h = (ap (λ t. Some t) h.1.0.type_of, type_used t h.0 h.1, h.1.0.faults_of)
 
@@ -267,7 +267,7 @@ module _ {T S D P : Type 0} (looks : Looks T S D P) (find : List ℕ → ℕ →
   own_same kinds.Const xs w w' (Some v) e h =
       let s = list_same v.1 h in
       ap (λ x. constants_faults looks xs x (Some v)) e
-      ∙ ap (λ g. fault_at (names_start xs) (constants_rule looks.types (is_lone_call v.1) (length (outline.idents xs)) g) ++ each_constant_faults looks.types w' (names_start xs) v.1 g) (given_same v.1 s)
+      ∙ ap (λ g. fault_at (names_start xs) (constants_rule looks.types (is_call_alone v.1) (length (outline.idents xs)) g) ++ each_constant_faults looks.types w' (names_start xs) v.1 g) (given_same v.1 s)
   own_same kinds.Var xs w w' None e h = refl
   own_same kinds.Var xs w w' (Some v) e h =
       let s = list_same v.1 h in
@@ -282,9 +282,9 @@ module _ {T S D P : Type 0} (looks : Looks T S D P) (find : List ℕ → ℕ →
 
   -- statements
 
-  callee_same : (e : ExprTree) → Both (expressions.idents e) (struct_types e) → callee_of looks e ≡ callee_of other e
+  callee_same : (e : ExprTree) → Both (expressions.expr_idents e) (struct_types e) → callee_of looks e ≡ callee_of other e
   callee_same (Call e first items last) h =
-      ap (λ d. Some d) ((expressions_seen T S D P).whole looks find written places.Callee e (agree_left looks.find find (expressions.idents e) (expressions.items_idents items) h.0)
+      ap (λ d. Some d) ((expressions_seen T S D P).whole looks find written places.Callee e (agree_left looks.find find (expressions.expr_idents e) (expressions.items_idents items) h.0)
       (makes_left (struct_types e) (struct_types_in items) h.1)).denoted
   callee_same (Paren first e last) h = callee_same e h
   callee_same (Integer n span) h = refl
@@ -315,11 +315,11 @@ module _ {T S D P : Type 0} (looks : Looks T S D P) (find : List ℕ → ℕ →
         λ firsts. refl,
       )
   simple_same (Update e op span v) h =
-      let s = expr_same e (left (expressions.idents e) (expressions.idents v) (struct_types e) (struct_types v) h) in
-      let r = expr_same v (right (expressions.idents e) (expressions.idents v) (struct_types e) (struct_types v) h) in (
+      let s = expr_same e (left (expressions.expr_idents e) (expressions.expr_idents v) (struct_types e) (struct_types v) h) in
+      let r = expr_same v (right (expressions.expr_idents e) (expressions.expr_idents v) (struct_types e) (struct_types v) h) in (
         pieces _ _ _ _ s.uses r.uses,
         λ firsts. pieces _ _ _ _ (operand_same e s) (pieces _ _ _ _ (operand_same v r) (ap (fault_at (start e))
-            (ap (λ d. update_rule looks.types op (argument_of d) (operand looks v)) s.denoted ∙ ap (λ d. update_rule looks.types op (operand other e) (argument_of d)) r.denoted))),
+            (ap (λ d. update_rule looks.types op (argument_of d) (operand_argument looks v)) s.denoted ∙ ap (λ d. update_rule looks.types op (operand_argument other e) (argument_of d)) r.denoted))),
         λ firsts. refl,
       )
   simple_same (Define xs span es) h =
@@ -337,9 +337,9 @@ module _ {T S D P : Type 0} (looks : Looks T S D P) (find : List ℕ → ℕ →
 
   piece_same : (p : Piece) → Both (laws.piece_idents p) (laws.piece_types p) → SamePiece T S D P looks other p
   piece_same (Header r s) h =
-      let of_receiver = agree_left looks.find find (laws.receiver_idents r) (expressions.signature_idents s) h.0 in
+      let of_receiver = agree_left looks.find find (laws.receiver_type_idents r) (expressions.signature_type_idents s) h.0 in
       record {
-        uses = pieces _ _ _ _ (receiver_used r of_receiver) (signature_used s (agree_right looks.find find (laws.receiver_idents r) (expressions.signature_idents s) h.0) h.1);
+        uses = pieces _ _ _ _ (receiver_used r of_receiver) (signature_used s (agree_right looks.find find (laws.receiver_type_idents r) (expressions.signature_type_idents s) h.0) h.1);
         faults = λ results has_names firsts. signature_noted s h.1;
         values = λ firsts. ap (map variable) (pieces _ _ _ _ (receiver_same r of_receiver) (signature_same s h.1));
       }
@@ -349,8 +349,8 @@ module _ {T S D P : Type 0} (looks : Looks T S D P) (find : List ℕ → ℕ →
       let s = values_same v.values in_list in
       record {
         uses = pieces _ _ _ _ t.1 s.1;
-        faults = λ results has_names firsts. pieces _ _ _ _ t.2 (pieces _ _ _ _ s.2 (own_same kind v.names (some_type looks v.type_expr) (some_type other v.type_expr) v.values t.0 in_list));
-        values = λ firsts. names_same kind v.names (some_type looks v.type_expr) (some_type other v.type_expr) v.values t.0 s.0;
+        faults = λ results has_names firsts. pieces _ _ _ _ t.2 (pieces _ _ _ _ s.2 (own_same kind v.names (some_written_type looks v.type_expr) (some_written_type other v.type_expr) v.values t.0 in_list));
+        values = λ firsts. names_same kind v.names (some_written_type looks v.type_expr) (some_written_type other v.type_expr) v.values t.0 s.0;
       }
   piece_same (Act s) h = let same = simple_same s h in record { uses = same.0; faults = λ results has_names firsts. same.1 firsts; values = same.2 }
   piece_same (Condition e) h =

@@ -17,7 +17,7 @@ use Rattle.go_expr_core.specs.tree_core.declared.occurrence.Context.TheVariants 
 use Rattle.go_expr_core.specs.tree_core.declared.occurrence.Occ.{Occ}
 use Rattle.go_expr_core.specs.tree_core.Occurrences.{under, expr_occs, exprs_occs, type_occs, signature_occs, receiver_occs, some_type_occs, values_occs, value_spec_occs, group_occs, specs_occs, simple_occs, some_simple_occs, some_expr_occs, init_occs, if_occs, for_occs, stmt_occs, branch_occs, else_occs, lines_occs, func_occs}
 use Rattle.go_walk_core.specs.Ends.{is_blank_target}
-use Rattle.go_walk_core.specs.local_core.Steps.{Piece, Header, Spec, Act, Condition, Given, Manner, EachFirst, OneNew, Steps, Done, Check, Declare, Inner}
+use Rattle.go_walk_core.specs.local_core.Steps.{Piece, Header, Spec, Act, Condition, Given, Newness, EachFirst, OneNew, Steps, Done, Check, Declare, Inner}
 use Rattle.go_walk_core.specs.local_core.Outline.{idents, end_of, spec_steps, group_steps, specs_steps, simple_steps, some_simple_steps, init_steps, some_condition_steps, if_steps, for_steps, stmt_steps, branch_steps, else_steps, lines_steps, func_steps}
 use Rattle.go_statement_core.specs.denote_core.declared.things.Place.TheVariants as places
 use Rattle.go_expr_core.specs.declared.things.Use.{Use}
@@ -145,7 +145,7 @@ nothing = record { goes = λ us rest h. h }
 check : (p : Piece) → Goes (piece_occs p) (λ rest. Check p rest)
 check p = record { goes = λ us rest h. ap (λ l. piece_occs p ++ l) h }
 
-declare : (m : Manner) (from : ℕ) (p : Piece) (xs : List Ident) → Goes (piece_occs p) (λ rest. Declare m from p xs rest)
+declare : (m : Newness) (from : ℕ) (p : Piece) (xs : List Ident) → Goes (piece_occs p) (λ rest. Declare m from p xs rest)
 declare m from p xs = record { goes = λ us rest h. ap (λ l. piece_occs p ++ l) h }
 
 one_then : {os ps : List Occ} {f g : Steps → Steps} → Goes os f → Goes ps g → Goes (os ++ ps) (λ rest. f (g rest))

@@ -12,19 +12,19 @@ use Rattle.go_tree_nodes.specs.Trees.{Separated, One, Then, TypeTree, FieldTrees
 use Rattle.go_tree_nodes.specs.Spelling.{spell_ident, spell_idents, spell_some, spell_type_name, spell_tag, spell_names, spell_type, spell_fields, spell_methods, spell_signature, spell_result, spell_params, spell_key, spell, spell_items, spell_exprs, spell_some_type, spell_values, spell_simple, spell_receiver_name, spell_receiver}
 use Rattle.go_walk_core.specs.local_core.Steps.{Piece, Header, Spec, Act, Condition, Given, spell_piece}
 use Rattle.go_walk_core.specs.local_core.Outline as outline
-use Rattle.go_walk_core.specs.local_core.Binding.{Look}
+use Rattle.go_walk_core.specs.local_core.Binding.{NameLook}
 use Rattle.go_walk_core.specs.local_core.Alike.{Alike}
 use Rattle.go_walk_core.specs.Ends.{is_blank_target}
 use Rattle.go_expr_core.specs.Looks.{Looks}
-use Rattle.go_expr_core.specs.Laws.{Agree, type_name_idents, type_idents, fields_idents, methods_idents, signature_idents, result_idents, params_idents, idents, items_idents}
+use Rattle.go_expr_core.specs.Laws.{AgreeOnIdents, type_name_idents, type_idents, fields_idents, methods_idents, signature_type_idents, result_type_idents, params_idents, expr_idents, items_idents}
 use Rattle.go_expr_core.specs.Locality.{SameWritten, seeing}
 use Rattle.go_piece_core.specs.Pieces.{piece_uses, piece_faults}
-use Rattle.go_piece_core.specs.Laws.{receiver_idents, some_type_idents, list_idents, values_idents, target_idents, targets_idents, simple_idents, piece_idents, piece_types, SamePiece, FindByNames, PiecesLookAtNames}
+use Rattle.go_piece_core.specs.Laws.{receiver_type_idents, some_type_idents, list_idents, values_idents, target_idents, targets_idents, simple_idents, piece_idents, piece_types, SamePiece, FindByNames, PiecesLookAtNames}
 use Rattle.go_piece_core.proofs.Local.{pieces_local}
 
-module _ {X T S D P : Type 0} (looks : Look X → Looks T S D P) (law : FindByNames X T S D P looks) (look other : Look X) where
+module _ {X T S D P : Type 0} (looks : NameLook X → Looks T S D P) (law : FindByNames X T S D P looks) (look other : NameLook X) where
   abbrev Agrees : List Ident → Type 0
-  Agrees xs = Agree (looks look).find (looks other).find xs
+  Agrees xs = AgreeOnIdents (looks look).find (looks other).find xs
 
   -- these are found alike where the names among these terminals mean the same
   record Shown (xs : List Ident) (ts : List Terminal) : Type 0 where
@@ -81,10 +81,10 @@ module _ {X T S D P : Type 0} (looks : Look X → Looks T S D P) (law : FindByNa
     methods_shown NoMethods = none
     methods_shown (Method x signature s rest) = skip (both (signature_shown signature) (back (spell_some operator.Semicolon s) (methods_shown rest)))
 
-    signature_shown : (s : SignatureTree) → Shown (signature_idents s) (spell_signature s)
+    signature_shown : (s : SignatureTree) → Shown (signature_type_idents s) (spell_signature s)
     signature_shown (Signed first params last result) = skip (both (params_shown params) (skip (result_shown result)))
 
-    result_shown : (r : ResultTree) → Shown (result_idents r) (spell_result r)
+    result_shown : (r : ResultTree) → Shown (result_type_idents r) (spell_result r)
     result_shown NoResult = none
     result_shown (OneResult t) = type_shown t
     result_shown (Results first params last) = skip (front _ (params_shown params))
@@ -94,7 +94,7 @@ module _ {X T S D P : Type 0} (looks : Look X → Looks T S D P) (law : FindByNa
     params_shown (Param xs t comma rest) = back (spell_names xs) (both (type_shown t) (back (spell_some operator.Comma comma) (params_shown rest)))
 
   mutual
-    expr_shown : (t : ExprTree) → Shown (idents t) (spell t)
+    expr_shown : (t : ExprTree) → Shown (expr_idents t) (spell t)
     expr_shown (Integer n span) = none
     expr_shown (Text t) = none
     expr_shown (Named x) = one x
@@ -117,7 +117,7 @@ module _ {X T S D P : Type 0} (looks : Look X → Looks T S D P) (law : FindByNa
   target_shown : (t : ExprTree) → Shown (target_idents t) (spell t)
   target_shown t = by (is_blank_target t)
     where
-      by : (b : Bool) → Shown (if b then [] else idents t) (spell t)
+      by : (b : Bool) → Shown (if b then [] else expr_idents t) (spell t)
       by true = none
       by false = expr_shown t
 
@@ -140,7 +140,7 @@ module _ {X T S D P : Type 0} (looks : Look X → Looks T S D P) (law : FindByNa
   simple_shown (Update t op span e) = both (expr_shown t) (skip (expr_shown e))
   simple_shown (Define xs span es) = both (names_shown xs) (skip (list_shown es))
 
-  receiver_shown : (r : Option Receiver) → Shown (receiver_idents r) (spell_receiver r)
+  receiver_shown : (r : Option Receiver) → Shown (receiver_type_idents r) (spell_receiver r)
   receiver_shown None = none
   receiver_shown (Some r) = skip (back (spell_receiver_name r.name) (back (spell_some operator.Star r.star) (front _ (type_name_shown r.base))))
 

@@ -25,13 +25,13 @@ receiver_uses looks None = []
 receiver_uses looks (Some r) = type_name_uses looks r.base
 
 -- a type behind a star, if one stands there
-abbrev pub starred : {T : Type 0} → TypeRules T → Option Span → Option T → Option T
-starred rules None t = t
-starred rules (Some star) None = None
-starred rules (Some star) (Some t) = Some (rules.pointer_to t)
+abbrev pub some_starred : {T : Type 0} → TypeRules T → Option Span → Option T → Option T
+some_starred rules None t = t
+some_starred rules (Some star) None = None
+some_starred rules (Some star) (Some t) = Some (rules.pointer_to t)
 
 abbrev pub receiver_type : {T S D P : Type 0} → Looks T S D P → Receiver → Option T
-receiver_type looks r = starred looks.types r.star (named_type looks r.base)
+receiver_type looks r = some_starred looks.types r.star (named_type looks r.base)
 
 -- a receiver may have no name
 abbrev pub named_receiver : {T : Type 0} → Option Ident → Option T → List (Option T)
@@ -54,14 +54,14 @@ abbrev pub entry_types : {T S D P : Type 0} → Looks T S D P → Bool → Param
 entry_types looks all NoParams = []
 entry_types looks all (Param xs t comma rest) = of_entry all xs (written_type looks t) ++ entry_types looks all rest
 
-abbrev pub result_types : {T S D P : Type 0} → Looks T S D P → Bool → ResultTree → List (Option T)
-result_types looks all NoResult = []
-result_types looks all (OneResult t) = of_entry all None (written_type looks t)
-result_types looks all (Results first params last) = entry_types looks all params
+abbrev pub types_of_result : {T S D P : Type 0} → Looks T S D P → Bool → ResultTree → List (Option T)
+types_of_result looks all NoResult = []
+types_of_result looks all (OneResult t) = of_entry all None (written_type looks t)
+types_of_result looks all (Results first params last) = entry_types looks all params
 
 -- of the names of a signature
-abbrev pub signature_types : {T S D P : Type 0} → Looks T S D P → SignatureTree → List (Option T)
-signature_types looks (Signed first params last result) = entry_types looks false params ++ result_types looks false result
+abbrev pub types_of_signature : {T S D P : Type 0} → Looks T S D P → SignatureTree → List (Option T)
+types_of_signature looks (Signed first params last result) = entry_types looks false params ++ types_of_result looks false result
 
 abbrev pub params_faults : {T S D P : Type 0} → Looks T S D P → ParamTrees → List Fault
 params_faults looks NoParams = []
@@ -82,18 +82,18 @@ header_uses looks r s = receiver_uses looks r ++ signature_uses looks s
 
 -- the types of the names of the receiver, the parameters and the results
 abbrev pub header_types : {T S D P : Type 0} → Looks T S D P → Option Receiver → SignatureTree → List (Option T)
-header_types looks r s = receiver_types looks r ++ signature_types looks s
+header_types looks r s = receiver_types looks r ++ types_of_signature looks s
 
 -- what a function returns: the types of its results, with names or without, and whether they have names
 
-abbrev pub result_names : ResultTree → Bool
-result_names NoResult = false
-result_names (OneResult t) = false
-result_names (Results first params last) = is_grouped params
+abbrev pub has_result_names : ResultTree → Bool
+has_result_names NoResult = false
+has_result_names (OneResult t) = false
+has_result_names (Results first params last) = is_grouped params
 
 -- of a signature
 abbrev pub returned_types : {T S D P : Type 0} → Looks T S D P → SignatureTree → List (Option T)
-returned_types looks (Signed first _ last result) = result_types looks true result
+returned_types looks (Signed first _ last result) = types_of_result looks true result
 
 abbrev pub returned_names : SignatureTree → Bool
-returned_names (Signed first _ last result) = result_names result
+returned_names (Signed first _ last result) = has_result_names result

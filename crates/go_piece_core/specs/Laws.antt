@@ -15,7 +15,7 @@ use Rattle.go_walk_core.specs.Ends.{is_blank_target}
 use Rattle.go_walk_core.specs.local_core.Steps.{Piece, Header, Spec, Act, Condition, Given, Steps, Done, Check, Declare, Inner, spell_piece}
 use Rattle.go_walk_core.specs.local_core.Outline.{func_steps}
 use Rattle.go_walk_core.specs.local_core.Outline as outline
-use Rattle.go_walk_core.specs.local_core.Binding.{Look}
+use Rattle.go_walk_core.specs.local_core.Binding.{NameLook}
 use Rattle.go_walk_core.specs.local_core.Law.{Rules}
 use Rattle.go_walk_core.specs.local_core.Alike.{Alike, LookAtNames}
 use Rattle.go_statement_core.specs.operand_core.declared.types.Operand.{Operand}
@@ -65,17 +65,17 @@ NamesHaveValues T S D P = (looks : Looks T S D P) (firsts : List Bool) (p : Piec
 
 -- a piece looks at the names in it alone, each where it stands
 
-abbrev pub receiver_idents : Option Receiver → List Ident
-receiver_idents None = []
-receiver_idents (Some r) = expressions.type_name_idents r.base
+abbrev pub receiver_type_idents : Option Receiver → List Ident
+receiver_type_idents None = []
+receiver_type_idents (Some r) = expressions.type_name_idents r.base
 
 abbrev pub some_type_idents : Option TypeTree → List Ident
 some_type_idents None = []
 some_type_idents (Some t) = expressions.type_idents t
 
 abbrev pub list_idents : Separated ExprTree → List Ident
-list_idents (One e) = expressions.idents e
-list_idents (Then e comma more) = expressions.idents e ++ list_idents more
+list_idents (One e) = expressions.expr_idents e
+list_idents (Then e comma more) = expressions.expr_idents e ++ list_idents more
 
 abbrev pub values_idents : Option (Span × Separated ExprTree) → List Ident
 values_idents None = []
@@ -87,25 +87,25 @@ returned_idents (Some es) = list_idents es
 
 -- `_` left of `=` is looked up nowhere
 abbrev pub target_idents : ExprTree → List Ident
-target_idents e = if is_blank_target e then [] else expressions.idents e
+target_idents e = if is_blank_target e then [] else expressions.expr_idents e
 
 abbrev pub targets_idents : Separated ExprTree → List Ident
 targets_idents (One e) = target_idents e
 targets_idents (Then e comma more) = target_idents e ++ targets_idents more
 
 abbrev pub simple_idents : SimpleTree → List Ident
-simple_idents (Alone e) = expressions.idents e
-simple_idents (Step e op span) = expressions.idents e
+simple_idents (Alone e) = expressions.expr_idents e
+simple_idents (Step e op span) = expressions.expr_idents e
 simple_idents (Assign ts span es) = targets_idents ts ++ list_idents es
-simple_idents (Update e op span v) = expressions.idents e ++ expressions.idents v
+simple_idents (Update e op span v) = expressions.expr_idents e ++ expressions.expr_idents v
 simple_idents (Define xs span es) = outline.idents xs ++ list_idents es
 
 -- the identifiers of a piece that are looked up
 abbrev pub piece_idents : Piece → List Ident
-piece_idents (Header r s) = receiver_idents r ++ expressions.signature_idents s
+piece_idents (Header r s) = receiver_type_idents r ++ expressions.signature_type_idents s
 piece_idents (Spec kind v) = some_type_idents v.type_expr ++ values_idents v.values
 piece_idents (Act s) = simple_idents s
-piece_idents (Condition e) = expressions.idents e
+piece_idents (Condition e) = expressions.expr_idents e
 piece_idents (Given place es) = returned_idents es
 
 -- the types that a piece writes: those of its declarations, and struct types before literals
@@ -134,9 +134,9 @@ abbrev pub values_types : Option (Span × Separated ExprTree) → List TypeTree
 values_types None = []
 values_types (Some v) = list_types v.1
 
-abbrev pub returned_types : Option (Separated ExprTree) → List TypeTree
-returned_types None = []
-returned_types (Some es) = list_types es
+abbrev pub returned_type_trees : Option (Separated ExprTree) → List TypeTree
+returned_type_trees None = []
+returned_type_trees (Some es) = list_types es
 
 abbrev pub simple_types : SimpleTree → List TypeTree
 simple_types (Alone e) = struct_types e
@@ -150,7 +150,7 @@ piece_types (Header r s) = signature_types s
 piece_types (Spec kind v) = some_type v.type_expr ++ values_types v.values
 piece_types (Act s) = simple_types s
 piece_types (Condition e) = struct_types e
-piece_types (Given place es) = returned_types es
+piece_types (Given place es) = returned_type_trees es
 
 -- the same is noted, and the names stand for the same
 pub record SamePiece (T S D P : Type 0) (looks other : Looks T S D P) (p : Piece) : Type 0 where
@@ -161,23 +161,23 @@ pub record SamePiece (T S D P : Type 0) (looks other : Looks T S D P) (p : Piece
 -- look-ups that agree on each name of a piece, where it stands, and make the same of each type that it writes, make the same of it
 abbrev pub PiecesAreLocal : (T S D P : Type 0) → Type 0
 PiecesAreLocal T S D P = (looks : Looks T S D P) (find : List ℕ → ℕ → Found T S D) (written : WrittenRules T) (p : Piece)
-    → expressions.Agree looks.find find (piece_idents p) → SameWritten looks (seeing find written looks) (piece_types p) → SamePiece T S D P looks (seeing find written looks) p
+    → expressions.AgreeOnIdents looks.find find (piece_idents p) → SameWritten looks (seeing find written looks) (piece_types p) → SamePiece T S D P looks (seeing find written looks) p
 
 -- rules that are made of what pieces have, break and declare, by look-ups that are made of what names mean
 
-abbrev pub piece_rules : {X N T S D P : Type 0} → (Look X → Looks T S D P) → List (Option T) → Bool → (Piece → List (Use D P) → List Fault → List N) → (Piece → List (Option (Operand T)) → ℕ → X) → Rules X N
+abbrev pub piece_rules : {X N T S D P : Type 0} → (NameLook X → Looks T S D P) → List (Option T) → Bool → (Piece → List (Use D P) → List Fault → List N) → (Piece → List (Option (Operand T)) → ℕ → X) → Rules X N
 piece_rules looks results has_names note mean = record {
   notes = λ look firsts p. note p (piece_uses (looks look) p) (piece_faults (looks look) results has_names firsts p);
   means = λ look firsts p. mean p (piece_values (looks look) firsts p);
 }
 
 -- what a name stands for rests on what it means where it stands, and the rest of the look-ups on nothing
-pub record FindByNames (X T S D P : Type 0) (looks : Look X → Looks T S D P) : Type 0 where
-  pub rest : (look other : Look X) → looks other ≡ seeing (looks other).find (looks other).written (looks look)
-  pub find : (look other : Look X) (name : List ℕ) (offset : ℕ) → look name offset ≡ other name offset → (looks look).find name offset ≡ (looks other).find name offset
+pub record FindByNames (X T S D P : Type 0) (looks : NameLook X → Looks T S D P) : Type 0 where
+  pub rest : (look other : NameLook X) → looks other ≡ seeing (looks other).find (looks other).written (looks look)
+  pub find : (look other : NameLook X) (name : List ℕ) (offset : ℕ) → look name offset ≡ other name offset → (looks look).find name offset ≡ (looks other).find name offset
   -- each type that a piece writes is the same where its names mean the same
-  pub written : (look other : Look X) (p : Piece) → Alike look other (spell_piece p) → SameWritten (looks look) (looks other) (piece_types p)
+  pub written : (look other : NameLook X) (p : Piece) → Alike look other (spell_piece p) → SameWritten (looks look) (looks other) (piece_types p)
 
 abbrev pub PiecesLookAtNames : (X N T S D P : Type 0) → Type 0
-PiecesLookAtNames X N T S D P = (looks : Look X → Looks T S D P) (results : List (Option T)) (has_names : Bool) (note : Piece → List (Use D P) → List Fault → List N) (mean : Piece → List (Option (Operand T)) → ℕ → X)
+PiecesLookAtNames X N T S D P = (looks : NameLook X → Looks T S D P) (results : List (Option T)) (has_names : Bool) (note : Piece → List (Use D P) → List Fault → List N) (mean : Piece → List (Option (Operand T)) → ℕ → X)
     → FindByNames X T S D P looks → LookAtNames X N (piece_rules looks results has_names note mean)

@@ -20,8 +20,8 @@ use Rattle.go_expr_core.specs.declared.things.Use.{Use}
 use Rattle.go_expr_core.specs.declared.things.Fault.{Fault}
 use Rattle.go_expr_core.specs.Looks.{Looks}
 use Rattle.go_expr_core.specs.Faults.{fault_at}
-use Rattle.go_piece_core.specs.Values.{variable, is_lone_call, list_start, behind, given, is_unknown, list_uses, list_faults}
-use Rattle.go_piece_core.specs.Types.{some_type, some_type_uses, some_type_faults}
+use Rattle.go_piece_core.specs.Values.{variable, is_call_alone, list_start, behind, given, is_unknown, list_uses, list_faults}
+use Rattle.go_piece_core.specs.Types.{some_written_type, some_type_uses, some_type_faults}
 
 -- the first byte of some names
 abbrev pub names_start : Separated Ident → ℕ
@@ -74,7 +74,7 @@ each_constant_faults rules written first es (a ∷ more) =
 abbrev pub constants_faults : {T S D P : Type 0} → Looks T S D P → Separated Ident → Option (Option T) → Option (Span × Separated ExprTree) → List Fault
 constants_faults looks xs written None = []
 constants_faults looks xs written (Some es) =
-    fault_at (names_start xs) (constants_rule looks.types (is_lone_call es.1) (length (idents xs)) (given looks es.1))
+    fault_at (names_start xs) (constants_rule looks.types (is_call_alone es.1) (length (idents xs)) (given looks es.1))
     ++ each_constant_faults looks.types written (names_start xs) es.1 (given looks es.1)
 
 abbrev pub constant_value : {T : Type 0} → TypeRules T → Option (Option T) → Argument T → Option (Operand T)
@@ -91,7 +91,7 @@ own_faults looks kinds.Const xs written es = constants_faults looks xs written e
 own_faults looks kinds.Var xs written es = variables_faults looks xs written es
 
 abbrev pub spec_faults : {T S D P : Type 0} → Looks T S D P → ValueKind → ValueSpecTree → List Fault
-spec_faults looks kind v = some_type_faults looks v.type_expr ++ (values_faults looks v.values ++ own_faults looks kind v.names (some_type looks v.type_expr) v.values)
+spec_faults looks kind v = some_type_faults looks v.type_expr ++ (values_faults looks v.values ++ own_faults looks kind v.names (some_written_type looks v.type_expr) v.values)
 
 -- what each of the names stands for, by the type that is written
 abbrev pub names_values : {T S D P : Type 0} → Looks T S D P → ValueKind → Separated Ident → Option (Option T) → Option (Span × Separated ExprTree) → List (Option (Operand T))
@@ -99,4 +99,4 @@ names_values looks kinds.Const xs written es = constant_values looks.types writt
 names_values looks kinds.Var xs written es = map variable (variable_types looks xs written es)
 
 abbrev pub spec_values : {T S D P : Type 0} → Looks T S D P → ValueKind → ValueSpecTree → List (Option (Operand T))
-spec_values looks kind v = names_values looks kind v.names (some_type looks v.type_expr) v.values
+spec_values looks kind v = names_values looks kind v.names (some_written_type looks v.type_expr) v.values

@@ -36,8 +36,8 @@ callee_of looks (Paren first e last) = callee_of looks e
 callee_of looks _ = None
 
 -- an operand, as a rule takes it
-abbrev pub operand : {T S D P : Type 0} → Looks T S D P → ExprTree → Argument T
-operand looks e = argument_of (denoted looks places.«Value» e)
+abbrev pub operand_argument : {T S D P : Type 0} → Looks T S D P → ExprTree → Argument T
+operand_argument looks e = argument_of (denoted looks places.«Value» e)
 
 abbrev pub assign_uses : {T S D P : Type 0} → Looks T S D P → Separated ExprTree → Separated ExprTree → List (Use D P)
 assign_uses looks ts es = targets_uses looks ts ++ list_uses looks es
@@ -58,7 +58,7 @@ abbrev pub alone_faults : {T S D P : Type 0} → Looks T S D P → ExprTree → 
 alone_faults looks e = faults looks places.«Value» e ++ fault_at (start e) (statement_rule (callee_of looks e) (denoted looks places.«Value» e))
 
 abbrev pub step_faults : {T S D P : Type 0} → Looks T S D P → ExprTree → List Fault
-step_faults looks e = operand_faults looks places.«Value» e ++ fault_at (start e) (increment_rule looks.types (operand looks e))
+step_faults looks e = operand_faults looks places.«Value» e ++ fault_at (start e) (increment_rule looks.types (operand_argument looks e))
 
 abbrev pub assign_faults : {T S D P : Type 0} → Looks T S D P → Separated ExprTree → Separated ExprTree → List Fault
 assign_faults looks ts es =
@@ -66,10 +66,10 @@ assign_faults looks ts es =
 
 abbrev pub update_faults : {T S D P : Type 0} → Looks T S D P → ExprTree → Operator → ExprTree → List Fault
 update_faults looks e op v =
-    operand_faults looks places.«Value» e ++ (operand_faults looks places.«Value» v ++ fault_at (start e) (update_rule looks.types op (operand looks e) (operand looks v)))
+    operand_faults looks places.«Value» e ++ (operand_faults looks places.«Value» v ++ fault_at (start e) (update_rule looks.types op (operand_argument looks e) (operand_argument looks v)))
 
-abbrev pub short_faults : {T S D P : Type 0} → Looks T S D P → List Bool → Separated Ident → Separated ExprTree → List Fault
-short_faults looks firsts xs es =
+abbrev pub short_piece_faults : {T S D P : Type 0} → Looks T S D P → List Bool → Separated Ident → Separated ExprTree → List Fault
+short_piece_faults looks firsts xs es =
     list_faults looks es ++ fault_at (names_start xs) (assignment_rule looks.types (short_targets looks firsts [] (idents xs)) (is_unknown looks es) (given looks es))
 
 abbrev pub simple_faults : {T S D P : Type 0} → Looks T S D P → List Bool → SimpleTree → List Fault
@@ -77,7 +77,7 @@ simple_faults looks firsts (Alone e) = alone_faults looks e
 simple_faults looks firsts (Step e op span) = step_faults looks e
 simple_faults looks firsts (Assign ts span es) = assign_faults looks ts es
 simple_faults looks firsts (Update e op span v) = update_faults looks e op v
-simple_faults looks firsts (Define xs span es) = short_faults looks firsts xs es
+simple_faults looks firsts (Define xs span es) = short_piece_faults looks firsts xs es
 
 -- the types of the names left of `:=`
 abbrev pub short_name_types : {T S D P : Type 0} → Looks T S D P → List Bool → Separated Ident → Separated ExprTree → List (Option T)

@@ -14,9 +14,9 @@ abbrev pub type_faults : {T S D P : Type 0} → Looks T S D P → TypeTree → L
 type_faults looks t = looks.written.faults_of (named_type looks) t
 
 -- the type of a specification: none where none is written, and `Some None` where what is written is no type
-abbrev pub some_type : {T S D P : Type 0} → Looks T S D P → Option TypeTree → Option (Option T)
-some_type looks None = None
-some_type looks (Some t) = Some (written_type looks t)
+abbrev pub some_written_type : {T S D P : Type 0} → Looks T S D P → Option TypeTree → Option (Option T)
+some_written_type looks None = None
+some_written_type looks (Some t) = Some (written_type looks t)
 
 abbrev pub some_type_uses : {T S D P : Type 0} → Looks T S D P → Option TypeTree → List (Use D P)
 some_type_uses looks None = []

@@ -10,7 +10,7 @@ use Rattle.go_statement_core.specs.denote_core.declared.things.Argument.{Argumen
 use Rattle.go_statement_core.specs.denote_core.Arguments.{arguments_of, is_free}
 use Rattle.go_expr_core.specs.declared.things.Use.{Use}
 use Rattle.go_expr_core.specs.declared.things.Fault.{Fault}
-use Rattle.go_expr_core.specs.Looks.{Looks, at}
+use Rattle.go_expr_core.specs.Looks.{Looks, look_of_place}
 use Rattle.go_expr_core.specs.Places.{is_call, start}
 use Rattle.go_expr_core.specs.Lists.{is_list, denoted_exprs, exprs_uses, exprs_faults}
 
@@ -20,9 +20,9 @@ variable None = None
 variable (Some t) = Some (record { value_type = value_types.Typed t; constant = None; addressable = true })
 
 -- the only expression of a list is a call, in parentheses or not
-abbrev pub is_lone_call : Separated ExprTree → Bool
-is_lone_call (One e) = is_call e
-is_lone_call (Then e comma more) = false
+abbrev pub is_call_alone : Separated ExprTree → Bool
+is_call_alone (One e) = is_call e
+is_call_alone (Then e comma more) = false
 
 -- the first byte of a list
 abbrev pub list_start : Separated ExprTree → ℕ
@@ -36,11 +36,11 @@ behind (Then e comma more) = more
 
 -- the values of a list: a call alone with several results stands for these
 abbrev pub given : {T S D P : Type 0} → Looks T S D P → Separated ExprTree → List (Argument T)
-given looks es = arguments_of (at looks (list_start es)) (denoted_exprs looks es)
+given looks es = arguments_of (look_of_place looks (list_start es)) (denoted_exprs looks es)
 
 -- nothing is known of the values: the only expression is a call that is refused
 abbrev pub is_unknown : {T S D P : Type 0} → Looks T S D P → Separated ExprTree → Bool
-is_unknown looks es = is_free (is_lone_call es) (denoted_exprs looks es)
+is_unknown looks es = is_free (is_call_alone es) (denoted_exprs looks es)
 
 -- what a list has, and what its expressions break
 abbrev pub list_uses : {T S D P : Type 0} → Looks T S D P → Separated ExprTree → List (Use D P)

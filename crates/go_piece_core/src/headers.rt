@@ -21,7 +21,7 @@ fn starred<E: TypeLooks>(
     star: &Option<Span>,
     t: Option<E::Type>,
 ) -> Result<Option<E::Type>, AllocError>
-    ensures { IfOk result (λ p. p ≡ headers.starred (E.types env.now) star.now t) }
+    ensures { IfOk result (λ p. p ≡ headers.some_starred (E.types env.now) star.now t) }
 {
     if star.is_none() {
         return Ok(t);
@@ -122,7 +122,7 @@ fn add_results<E: Exprs>(
     types: &mut Vec<Option<E::Type>>,
     faults: &mut Vec<Fault>,
 ) -> Result<(), AllocError>
-    ensures types { OnOk result (types.new.items ≡ types.old.items ++ headers.result_types (everywhere (E.types env.now) (E.names env.now) (E.literals env.now) (E.written env.now)) is_each (shape_results results.now)) }
+    ensures types { OnOk result (types.new.items ≡ types.old.items ++ headers.types_of_result (everywhere (E.types env.now) (E.names env.now) (E.literals env.now) (E.written env.now)) is_each (shape_results results.now)) }
     ensures faults { OnOk result (faults.new.items ≡ faults.old.items ++ headers.result_faults (everywhere (E.types env.now) (E.names env.now) (E.literals env.now) (E.written env.now)) (shape_results results.now)) }
 {
     match results {
@@ -145,7 +145,7 @@ fn add_signature<E: Exprs>(
     types: &mut Vec<Option<E::Type>>,
     faults: &mut Vec<Fault>,
 ) -> Result<(), AllocError>
-    ensures types { OnOk result (types.new.items ≡ types.old.items ++ headers.signature_types (everywhere (E.types env.now) (E.names env.now) (E.literals env.now) (E.written env.now)) (shape_signature signature.now)) }
+    ensures types { OnOk result (types.new.items ≡ types.old.items ++ headers.types_of_signature (everywhere (E.types env.now) (E.names env.now) (E.literals env.now) (E.written env.now)) (shape_signature signature.now)) }
     ensures faults { OnOk result (faults.new.items ≡ faults.old.items ++ headers.signature_faults (everywhere (E.types env.now) (E.names env.now) (E.literals env.now) (E.written env.now)) (shape_signature signature.now)) }
 {
     add_params(env, alloc, false, &signature.params.entries, types, faults)?;

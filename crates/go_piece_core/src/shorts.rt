@@ -119,7 +119,7 @@ pub fn check_short<E: Exprs>(
 ) -> Result<Vec<Option<Operand<E::Type>>>, AllocError>
     ensures values { IfOk result (λ vs. vs.items ≡ map values.variable (statements.short_name_types (everywhere (E.types env.now) (E.names env.now) (E.literals env.now) (E.written env.now)) firsts.now (shape_idents names.now) (shape_exprs exprs.now))) }
     ensures uses { OnOk result (notes.new.uses.items ≡ notes.old.uses.items ++ values.list_uses (everywhere (E.types env.now) (E.names env.now) (E.literals env.now) (E.written env.now)) (shape_exprs exprs.now)) }
-    ensures faults { OnOk result (notes.new.faults.items ≡ notes.old.faults.items ++ statements.short_faults (everywhere (E.types env.now) (E.names env.now) (E.literals env.now) (E.written env.now)) firsts.now (shape_idents names.now) (shape_exprs exprs.now)) }
+    ensures faults { OnOk result (notes.new.faults.items ≡ notes.old.faults.items ++ statements.short_piece_faults (everywhere (E.types env.now) (E.names env.now) (E.literals env.now) (E.written env.now)) firsts.now (shape_idents names.now) (shape_exprs exprs.now)) }
 {
     let given = check_list(env, alloc, exprs, notes)?;
     let targets = short_targets(env, alloc, names, firsts)?;

@@ -10,7 +10,7 @@ use go_tree_nodes::{Exprs, Idents};
 
 /// Whether the only expression of a list is a call, in parentheses or not.
 pub(crate) fn is_lone_call(exprs: &Exprs) -> bool
-    ensures { result ≡ values.is_lone_call (shape_exprs exprs.now) }
+    ensures { result ≡ values.is_call_alone (shape_exprs exprs.now) }
 {
     match exprs.more.as_slice() {
         [] => is_call(&exprs.first),

@@ -33,7 +33,7 @@ pub(crate) fn check_some_type<E: Exprs>(
     tree: &Option<TypeExpr>,
     notes: &mut Notes<E::Decl, E::Path>,
 ) -> Result<Option<Option<E::Type>>, AllocError>
-    ensures t { IfOk result (λ t. t ≡ types.some_type (everywhere (E.types env.now) (E.names env.now) (E.literals env.now) (E.written env.now)) (shape_some_type tree.now)) }
+    ensures t { IfOk result (λ t. t ≡ types.some_written_type (everywhere (E.types env.now) (E.names env.now) (E.literals env.now) (E.written env.now)) (shape_some_type tree.now)) }
     ensures uses { OnOk result (notes.new.uses.items ≡ notes.old.uses.items ++ types.some_type_uses (everywhere (E.types env.now) (E.names env.now) (E.literals env.now) (E.written env.now)) (shape_some_type tree.now)) }
     ensures faults { OnOk result (notes.new.faults.items ≡ notes.old.faults.items ++ types.some_type_faults (everywhere (E.types env.now) (E.names env.now) (E.literals env.now) (E.written env.now)) (shape_some_type tree.now)) }
 {

@@ -7,15 +7,15 @@ use Rattle.go_tree_nodes.specs.declared.decls.ValueKind.{ValueKind}
 use Rattle.go_tree_nodes.specs.Trees.{Separated, One, Then, TypeTree, ExprTree, ItemTrees, Integer, Text, Named, Paren, Unary, Binary, Select, Call, Literal, StructLiteral, NoItems, Item, ValueSpecTree}
 use Rattle.go_func_core.specs.denote_core.declared.things.Place.TheVariants as places
 use Rattle.go_func_core.specs.denote_core.Arguments.{arguments_of}
-use Rattle.go_func_core.specs.expr_core.Looks.{Looks, WrittenRules, at}
+use Rattle.go_func_core.specs.expr_core.Looks.{Looks, WrittenRules, look_of_place}
 use Rattle.go_func_core.specs.expr_core.Denoting.{denoted}
 use Rattle.go_func_core.specs.expr_core.Lists.{denoted_exprs}
-use Rattle.go_func_core.specs.expr_core.Laws.{Agree, idents}
+use Rattle.go_func_core.specs.expr_core.Laws.{AgreeOnIdents, expr_idents}
 use Rattle.go_func_core.specs.expr_core.Locality.{struct_types, struct_types_in, SameWritten, seeing}
 use Rattle.go_func_core.specs.expr_core.Alike.{expressions_seen}
 use Rattle.go_func_core.specs.inline_core.Trees as trees
 use Rattle.go_func_core.specs.inline_core.Trees.{expr_types, items_types, exprs_types, values_types, spec_types}
-use Rattle.go_value_core.specs.Initial.{count, initial, list_start, some_type, values_given, values_of}
+use Rattle.go_value_core.specs.Initial.{spec_name_count, initial, list_start, some_written_type, values_given, values_of}
 
 pieces : (a b c d : List TypeTree) → a ≡ c → b ≡ d → a ++ b ≡ c ++ d
 pieces a b c d e f = ap (λ l. l ++ b) e ∙ ap (λ l. c ++ l) f
@@ -53,12 +53,12 @@ module _ {T S D P : Type 0} (looks : Looks T S D P) (written : WrittenRules T) w
   makes_right [] us h = h
   makes_right (t ∷ ts) us h = makes_right ts us h.1
 
-  agrees : (xs : List Ident) → Agree looks.find looks.find xs
+  agrees : (xs : List Ident) → AgreeOnIdents looks.find looks.find xs
   agrees [] = tt
   agrees (x ∷ xs) = (refl, agrees xs)
 
   expr_same : (e : ExprTree) → Makes (expr_types e) → denoted looks places.«Value» e ≡ denoted other places.«Value» e
-  expr_same e h = ((expressions_seen T S D P).whole looks looks.find written places.«Value» e (agrees (idents e)) (subst Makes (struct_types_are e) h)).denoted
+  expr_same e h = ((expressions_seen T S D P).whole looks looks.find written places.«Value» e (agrees (expr_idents e)) (subst Makes (struct_types_are e) h)).denoted
 
   exprs_same : (es : Separated ExprTree) → Makes (exprs_types es) → denoted_exprs looks es ≡ denoted_exprs other es
   exprs_same (One e) h = ap (λ d. d ∷ []) (expr_same e h)
@@ -68,13 +68,13 @@ module _ {T S D P : Type 0} (looks : Looks T S D P) (written : WrittenRules T) w
 
   values_same : (vs : Option (Span × Separated ExprTree)) → Makes (values_types vs) → values_given looks vs ≡ values_given other vs
   values_same None h = refl
-  values_same (Some v) h = ap (arguments_of (at looks (list_start v.1))) (exprs_same v.1 h)
+  values_same (Some v) h = ap (arguments_of (look_of_place looks (list_start v.1))) (exprs_same v.1 h)
 
-  type_same : (t : Option TypeTree) → Makes (trees.some_type t) → some_type looks t ≡ some_type other t
+  type_same : (t : Option TypeTree) → Makes (trees.some_type t) → some_written_type looks t ≡ some_written_type other t
   type_same None h = refl
   type_same (Some t) h = ap Some h.0.type_of
 
   pub initial_seen : (k : ValueKind) (v : ValueSpecTree) (i : ℕ) → Makes (spec_types v) → initial looks k v i ≡ initial other k v i
   initial_seen k v i h =
-      ap (λ w. slice_index_or (values_of looks.types k w (count v) (values_given looks v.values)) i None) (type_same v.type_expr (makes_left (trees.some_type v.type_expr) (values_types v.values) h))
-      ∙ ap (λ g. slice_index_or (values_of looks.types k (some_type other v.type_expr) (count v) g) i None) (values_same v.values (makes_right (trees.some_type v.type_expr) (values_types v.values) h))
+      ap (λ w. slice_index_or (values_of looks.types k w (spec_name_count v) (values_given looks v.values)) i None) (type_same v.type_expr (makes_left (trees.some_type v.type_expr) (values_types v.values) h))
+      ∙ ap (λ g. slice_index_or (values_of looks.types k (some_written_type other v.type_expr) (spec_name_count v) g) i None) (values_same v.values (makes_right (trees.some_type v.type_expr) (values_types v.values) h))

@@ -10,11 +10,10 @@ use Rattle.go_fault_core.specs.graph_core.Packages.{trees_of, tree_shown}
 use Rattle.go_fault_core.specs.graph_core.Sources.{SourceModel, source, IsPlacedContent, IsPlacedSource}
 use Rattle.go_term_core.specs.decl_core.declared.places.Place.{Place}
 use Rattle.go_term_core.specs.decl_core.declared.tops.TopDecl.{TopDecl}
-use Rattle.go_term_core.specs.decl_core.Outer.{IsPlaced}
 use Rattle.go_term_core.specs.decl_core.Shown.{decl_shown, form_shown}
 use Rattle.go_fault_core.specs.block_core.Blocks.{BlocksModel}
 use Rattle.go_fault_core.specs.settle_core.Settled.{kind_of_term}
-use Rattle.go_fault_core.specs.table_core.Entries.{Entry, find, term_in}
+use Rattle.go_fault_core.specs.table_core.Entries.{Entry, find_entry, term_in}
 use Rattle.go_fault_core.specs.type_core.declared.build.TypeFault.{TypeFault}
 use Rattle.go_fault_core.specs.type_core.Built.{IsBuilt}
 use Rattle.go_fault_core.specs.entry_core.Meanings.{Shows, file_meaning}
@@ -31,6 +30,7 @@ use Rattle.go_ready_core.specs.Packages.{PackageIn, entries_in, outlines_in}
 use Rattle.go_ready_core.specs.Types.{AreTypes}
 use Rattle.go_ready_core.specs.mirrors.Adding.{Adds}
 use Rattle.go_ready_core.proofs.Lists.{zip_both}
+use Rattle.go_tree_nodes.specs.Spelling.{IsPlaced}
 
 -- trees
 
@@ -50,13 +50,13 @@ all_outlines os fs is = subst (All IsOutline) (sym is) (All-map IsOutline outlin
 -- types
 
 pub types_are : (p : PackageIn) (far own table : List Entry) (path : List ℕ) (os : List FileOutline) (written built faulted : List Entry) (loops found : List TypeFault) (faults : List PackageFault)
-    → path ≡ p.path → os ≡ outlines_in p → written ≡ declared_entries p.shows path p.blocks os → built ≡ written → IsBuilt (find far) built own loops → table ≡ far ++ own → faulted ≡ written → found ≡ loops
+    → path ≡ p.path → os ≡ outlines_in p → written ≡ declared_entries p.shows path p.blocks os → built ≡ written → IsBuilt (find_entry far) built own loops → table ≡ far ++ own → faulted ≡ written → found ≡ loops
     → faults ≡ faults_of_types table (package_meanings p.shows path p.blocks) path os faulted found → AreTypes p far own faults
 types_are p far own table path os written built faulted loops found faults path_is os_is written_is built_is is table_is faulted_is found_is faults_is =
     let entries : written ≡ entries_in p = written_is ∙ (ap (λ q. declared_entries p.shows q p.blocks os) path_is ∙ ap (declared_entries p.shows p.path p.blocks) os_is) in
     record {
       loops = loops;
-      built = subst (λ w. IsBuilt (find far) w own loops) (built_is ∙ entries) is;
+      built = subst (λ w. IsBuilt (find_entry far) w own loops) (built_is ∙ entries) is;
       faults_are =
           faults_is
           ∙ (ap (λ t. faults_of_types t (package_meanings p.shows path p.blocks) path os faulted found) table_is
@@ -71,7 +71,7 @@ types_are p far own table path os written built faulted loops found faults path_
 -- those of a function of a file of this path and number
 abbrev pub MadeOf : Shows → BlocksModel → List Entry → ℕ → List Place → List ℕ → FuncTree → List (ℕ × InlineOf) → Type 0
 MadeOf shows b es file places path =
-    AreInlines (λ k. kind_of_term (term_in (find es k))) (record { path = path; file = file; places = places }) (file_meaning shows path b file) (beyond_in scoped_outside b file)
+    AreInlines (λ k. kind_of_term (term_in (find_entry es k))) (record { path = path; file = file; places = places }) (file_meaning shows path b file) (beyond_in scoped_outside b file)
 
 pub funcs_step : {B : Type 0} (R : FuncTree → B → Type 0) (ds : List TopDecl) (i : ℕ) (d : TopDecl) (old new : List B) → i < length ds → d ≡ get_or ds i d → Adds R (form_funcs (form_shown d.form)) old new
     → AllZip R (outline_funcs (map decl_shown (take i ds))) old → AllZip R (outline_funcs (map decl_shown (take (i + 1) ds))) new

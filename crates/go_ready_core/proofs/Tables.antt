@@ -4,7 +4,6 @@ use Rattle.std.specs.Prelude.{◌↔◌, Option, Some, None, Contains, slice_get
 use Rattle.std.proofs.lemmas.Bool.{true≢false}
 use Rattle.std.specs.Option.{option_map}
 use Rattle.std.proofs.lemmas.List.{length-map}
-use Rattle.go_term_core.specs.decl_core.Outer.{IsPlaced}
 use Rattle.go_fault_core.specs.table_core.Entries.{Entry}
 use Rattle.go_value_core.specs.needs_core.Needs.{AreValues, EndsWithin, IsEndless, LooksAtNeeds, known_in, needed}
 use Rattle.go_value_core.specs.needs_core.Needed.{one_table}
@@ -16,10 +15,11 @@ use Rattle.go_value_core.specs.Package as values
 use Rattle.go_value_core.specs.Package.{AreThroughThemselves, IsThroughItself, placed_decls}
 use Rattle.go_value_core.proofs.Seeing.{looks_at_needs}
 use Rattle.go_ready_core.specs.Inlines.{initial_in}
-use Rattle.go_ready_core.specs.Laws.{DeclarationsHaveOneTable, ValuesAreAsWritten, placed_in}
+use Rattle.go_ready_core.specs.Laws.{DeclarationsHaveOneTable, ValuesAreAsWritten, package_placed}
 use Rattle.go_ready_core.specs.Packages.{PackageIn, outlines_in, scene_in}
-use Rattle.go_ready_core.specs.Values.{AreDeclared, AreLooped, IsLooped, declared_in, decls_in, needs_in, some_constant}
+use Rattle.go_ready_core.specs.Values.{AreDeclared, AreLooped, IsLoopedConstant, declared_in, decls_in, needs_in, some_decl_constant}
 use Rattle.go_ready_core.proofs.Values.{at_place, faces_same, needs_same, placed_as, with_types}
+use Rattle.go_tree_nodes.specs.Spelling.{IsPlaced}
 
 -- a table of values where the needs are the same, and values by what is known in it
 same_values : {V : Type 0} (rows more : List (List ℕ)) (value other : (ℕ → Option V) → ℕ → V) (table : List (Option V)) → rows ≡ more → ((a : ℕ) → value (known_in table) a ≡ other (known_in table) a)
@@ -34,20 +34,20 @@ same_values rows more value other table e same t = record {
 module _ (p : PackageIn) (types : List Entry) where
   -- values
 
-  pub values_written : (known : List (Option TheFace)) → All IsPlaced p.trees → AreFaces (scene_in p types) (placed_in p types) known → AreDeclared p types known
+  pub values_written : (known : List (Option TheFace)) → All IsPlaced p.trees → AreFaces (scene_in p types) (package_placed p types) known → AreDeclared p types known
   values_written known all t =
-      same_values (values.package_needs (scene_in p types) (placed_in p types)) (needs_in p types) (values.declared_face (scene_in p types) (placed_in p types)) (declared_in p types) known
+      same_values (values.package_needs (scene_in p types) (package_placed p types)) (needs_in p types) (values.declared_face (scene_in p types) (package_placed p types)) (declared_in p types) known
       (needs_same p types) (λ a. faces_same p types all (known_in known) a) t
 
-  values_made : (known : List (Option TheFace)) → All IsPlaced p.trees → AreDeclared p types known → AreFaces (scene_in p types) (placed_in p types) known
+  values_made : (known : List (Option TheFace)) → All IsPlaced p.trees → AreDeclared p types known → AreFaces (scene_in p types) (package_placed p types) known
   values_made known all t =
-      same_values (needs_in p types) (values.package_needs (scene_in p types) (placed_in p types)) (declared_in p types) (values.declared_face (scene_in p types) (placed_in p types)) known
+      same_values (needs_in p types) (values.package_needs (scene_in p types) (package_placed p types)) (declared_in p types) (values.declared_face (scene_in p types) (package_placed p types)) known
       (sym (needs_same p types)) (λ a. sym (faces_same p types all (known_in known) a)) t
 
   looks : All IsPlaced p.trees → LooksAtNeeds (needs_in p types) (declared_in p types)
   looks all f g a h =
       sym (faces_same p types all f a)
-      ∙ (looks_at_needs (scene_in p types) (placed_in p types) f g a (λ b has. h b (subst (λ rows. Contains (needed rows a) b) (needs_same p types) has))
+      ∙ (looks_at_needs (scene_in p types) (package_placed p types) f g a (λ b has. h b (subst (λ rows. Contains (needed rows a) b) (needs_same p types) has))
       ∙ faces_same p types all g a)
 
   one_known : (one other : List (Option TheFace)) → All IsPlaced p.trees → AreDeclared p types one → AreDeclared p types other → one ≡ other
@@ -55,26 +55,26 @@ module _ (p : PackageIn) (types : List Entry) where
 
   -- constants
 
-  constant_as : (o : Option FileDecl) → values.some_constant (option_map (with_types (initial_in p types)) o) ≡ some_constant o
+  constant_as : (o : Option FileDecl) → values.some_constant (option_map (with_types (initial_in p types)) o) ≡ some_decl_constant o
   constant_as None = refl
   constant_as (Some d) = refl
 
-  constants_same : (n : ℕ) → values.some_constant (slice_get (placed_in p types) n) ≡ some_constant (slice_get (decls_in p) n)
+  constants_same : (n : ℕ) → values.some_constant (slice_get (package_placed p types) n) ≡ some_decl_constant (slice_get (decls_in p) n)
   constants_same n = ap values.some_constant (at_place p types n) ∙ constant_as (slice_get (decls_in p) n)
 
-  as_many : length (placed_in p types) ≡ length (decls_in p)
+  as_many : length (package_placed p types) ≡ length (decls_in p)
   as_many = ap length (sym (placed_as (initial_in p types) (outlines_in p))) ∙ length-map (decls_in p) (with_types (initial_in p types))
 
-  loop_written : (n : ℕ) → IsThroughItself (scene_in p types) (placed_in p types) n → IsLooped p types n
+  loop_written : (n : ℕ) → IsThroughItself (scene_in p types) (package_placed p types) n → IsLoopedConstant p types n
   loop_written n h = record { constant = sym (constants_same n) ∙ h.constant; leads = subst (λ rows. LeadsBack rows n) (needs_same p types) h.leads }
 
-  loop_made : (n : ℕ) → IsLooped p types n → IsThroughItself (scene_in p types) (placed_in p types) n
+  loop_made : (n : ℕ) → IsLoopedConstant p types n → IsThroughItself (scene_in p types) (package_placed p types) n
   loop_made n h = record { constant = constants_same n ∙ h.constant; leads = subst (λ rows. LeadsBack rows n) (sym (needs_same p types)) h.leads }
 
-  pub looped_written : (flags : List Bool) → AreThroughThemselves (scene_in p types) (placed_in p types) flags → AreLooped p types flags
+  pub looped_written : (flags : List Bool) → AreThroughThemselves (scene_in p types) (package_placed p types) flags → AreLooped p types flags
   looped_written flags h = record { as_many = h.as_many ∙ as_many; each = λ n. ((λ t. loop_written n ((h.each n).0 t)), (λ l. (h.each n).1 (loop_made n l))) }
 
-  looped_made : (flags : List Bool) → AreLooped p types flags → AreThroughThemselves (scene_in p types) (placed_in p types) flags
+  looped_made : (flags : List Bool) → AreLooped p types flags → AreThroughThemselves (scene_in p types) (package_placed p types) flags
   looped_made flags h = record { as_many = h.as_many ∙ sym as_many; each = λ n. ((λ t. loop_made n ((h.each n).0 t)), (λ l. (h.each n).1 (loop_written n l))) }
 
   one_looped : (one other : List Bool) → AreLooped p types one → AreLooped p types other → one ≡ other

@@ -8,7 +8,6 @@ use Rattle.go_tree_nodes.specs.declared.decls.ValueKind.{ValueKind}
 use Rattle.go_tree_nodes.specs.declared.decls.ValueKind.TheVariants as kinds
 use Rattle.go_tree_nodes.specs.Trees.{TypeTree, NamedType, Pointer, ParenType, Struct, Interface, ValueSpecTree, Specs, Single, Group, DeclTree, Value, Types, Func, TopTree, FileTree}
 use Rattle.go_text_core.specs.declared.span.Span.{Span}
-use Rattle.go_term_core.specs.decl_core.Outer.{IsPlaced}
 use Rattle.go_term_core.specs.decl_core.TopDecls.{TopDeclTree, FormTree, ValueForm, TypeForm, FuncForm, top_decls}
 use Rattle.go_func_core.specs.scope_core.Models.{scopes_model}
 use Rattle.go_func_core.specs.scope_core.Scopes as scopes
@@ -25,21 +24,22 @@ use Rattle.go_func_core.specs.inline_core.Types.{InlineOf, inline_at}
 use Rattle.go_func_core.specs.inline_core.Trees as trees
 use Rattle.go_func_core.specs.inline_core.Trees.{spec_types, specs_types, decl_types, file_types}
 use Rattle.go_func_core.specs.inline_core.Inline.{inline_of, inlines}
-use Rattle.go_func_core.specs.inline_core.Functions.{looked_up}
+use Rattle.go_func_core.specs.inline_core.Functions.{looked_up_ident}
 use Rattle.go_func_core.specs.inline_core.Found.{types_are_found}
 use Rattle.go_func_core.specs.face_core.Faces.{TheFace}
 use Rattle.go_func_core.specs.face_core.declared.face.Face.TheVariants as faces
 use Rattle.go_func_core.specs.env_core.declared.meaning.Meaning.TheVariants as meanings
 use Rattle.go_func_core.specs.env_core.Looks.{TheLooks, looks_in, inline_rules, inline_type, inline_faults}
 use Rattle.go_value_core.specs.Package.{value_face, form_face}
-use Rattle.go_func_core.specs.Types.{is_inside, named_where}
-use Rattle.go_func_core.specs.Stands.{FileStand, kinds_in, types_where, outer_look, outer_looks}
+use Rattle.go_func_core.specs.Types.{is_local_meaning, named_where}
+use Rattle.go_func_core.specs.Stands.{FileStand, kinds_in_scene, types_where, outer_look, outer_looks}
 use Rattle.go_ready_core.proofs.Forms.{DeclHolds, Forms, SpecsHold, file_holds, specs_all}
 use Rattle.go_ready_core.proofs.Initials.{initial_seen, makes_left, makes_right}
+use Rattle.go_tree_nodes.specs.Spelling.{IsPlaced}
 
 -- outside functions a name of a type means what it means at the top of the file
 
-never_inside : (o : Option Denoted) → is_inside (some_meaning meanings.Outside [] o) ≡ false
+never_inside : (o : Option Denoted) → is_local_meaning (some_meaning meanings.Outside [] o) ≡ false
 never_inside None = refl
 never_inside (Some (scopes.Universe p)) = refl
 never_inside (Some (scopes.Package d)) = refl
@@ -47,7 +47,7 @@ never_inside (Some (scopes.File b)) = refl
 never_inside (Some (scopes.Local id)) = refl
 
 pub outside_is : (st : FileStand) (n : TypeName) → named_where (outer_look st) st.top n ≡ st.top n
-outside_is st n = ap (λ b. if b then NoType else st.top n) (never_inside (denotes (scopes_model st.scene.blocks st.file.file []) (looked_up n).name))
+outside_is st n = ap (λ b. if b then NoType else st.top n) (never_inside (denotes (scopes_model st.scene.blocks st.file.file []) (looked_up_ident n).name))
 
 outside_all : (st : FileStand) → named_where (outer_look st) st.top ≡ st.top
 outside_all st = λ i n. outside_is st n i
@@ -67,7 +67,7 @@ starts (Interface k first ms last) = refl
 
 module _ (st : FileStand) (f : FileTree) (placed : IsPlaced f) where
   abbrev held : List (ℕ × InlineOf)
-  held = inlines (kinds_in st.scene) st.file st.top (file_types f)
+  held = inlines (kinds_in_scene st.scene) st.file st.top (file_types f)
 
   -- by the types that were made
   abbrev pub made_looks : TheLooks
@@ -76,11 +76,11 @@ module _ (st : FileStand) (f : FileTree) (placed : IsPlaced f) where
   abbrev own_rules : WrittenRules Term
   own_rules = types_where st (outer_look st)
 
-  there : (t : TypeTree) → Among (file_types f) t → inline_at held (places.type_start t) ≡ Some (inline_of (kinds_in st.scene) st.file (named_where (outer_look st) st.top) t)
+  there : (t : TypeTree) → Among (file_types f) t → inline_at held (places.type_start t) ≡ Some (inline_of (kinds_in_scene st.scene) st.file (named_where (outer_look st) st.top) t)
   there t has =
       ap (inline_at held) (starts t)
-      ∙ (types_are_found.in_file f placed (kinds_in st.scene) st.file st.top t (among_to (file_types f) t has)
-      ∙ ap (λ m. Some (inline_of (kinds_in st.scene) st.file m t)) (sym (outside_all st)))
+      ∙ (types_are_found.in_file f placed (kinds_in_scene st.scene) st.file st.top t (among_to (file_types f) t has)
+      ∙ ap (λ m. Some (inline_of (kinds_in_scene st.scene) st.file m t)) (sym (outside_all st)))
 
   one_same : (t : TypeTree) → Among (file_types f) t → SameType Term Sign Declaration (List ℕ) made_looks (outer_looks st) t
   one_same t has = record { type_of = ap (inline_type st.scene.types) (there t has); faults_of = ap inline_faults (there t has) }

@@ -8,7 +8,6 @@ use Rattle.std.proofs.lemmas.List.FromFn.{length-enumerate_from, get_or-enumerat
 use Rattle.std.proofs.lemmas.List.Elements.{recursion_from_All}
 use Rattle.std.proofs.lemmas.Option.{slice_get-map, get_or_from_slice_get, slice_get_within}
 use Rattle.go_tree_nodes.specs.Trees.{FileTree}
-use Rattle.go_term_core.specs.decl_core.Outer.{IsPlaced}
 use Rattle.go_term_core.specs.decl_core.TopDecls.{TopDeclTree, top_decls}
 use Rattle.go_fault_core.specs.table_core.Entries.{Entry}
 use Rattle.go_fault_core.specs.entry_core.Outlines.{FileOutline, outline_of}
@@ -23,13 +22,14 @@ use Rattle.go_func_core.specs.face_core.Laws.{FileDecl, file_decl, package_decls
 use Rattle.go_func_core.specs.face_core.Written.{written_at}
 use Rattle.go_value_core.specs.Package as values
 use Rattle.go_value_core.specs.Package.{PlacedOf, placed, placed_decls, package_needs, top_looks, first_values, form_face}
-use Rattle.go_func_core.specs.Stands.{kinds_in}
+use Rattle.go_func_core.specs.Stands.{kinds_in_scene}
 use Rattle.go_ready_core.specs.Inlines.{initial_in, initial_types, types_stand}
-use Rattle.go_ready_core.specs.Laws.{placed_in}
+use Rattle.go_ready_core.specs.Laws.{package_placed}
 use Rattle.go_ready_core.specs.Packages.{PackageIn, outlines_in, scene_in, stand_in}
-use Rattle.go_ready_core.specs.Values.{decl_needs, declared_in, decls_in, face_there, needs_in, some_face}
+use Rattle.go_ready_core.specs.Values.{file_decl_needs, declared_in, decls_in, face_there, needs_in, some_decl_face}
 use Rattle.go_ready_core.proofs.Lists.{among_at, holds_at, map_map, mapped_at}
 use Rattle.go_ready_core.proofs.Typed.{face_same}
+use Rattle.go_tree_nodes.specs.Spelling.{IsPlaced}
 
 -- declarations with the types of their files
 
@@ -46,12 +46,12 @@ module _ (p : PackageIn) (types : List Entry) where
   abbrev held : List (List (ℕ × InlineOf))
   held = initial_in p types
 
-  pub needs_same : package_needs (scene_in p types) (placed_in p types) ≡ needs_in p types
+  pub needs_same : package_needs (scene_in p types) (package_placed p types) ≡ needs_in p types
   needs_same =
       ap (package_needs (scene_in p types)) (sym (placed_as held (outlines_in p)))
-      ∙ map_map (with_types held) (values.decl_needs (scene_in p types)) (decl_needs (scene_in p types)) (λ d. refl) (decls_in p)
+      ∙ map_map (with_types held) (values.decl_needs (scene_in p types)) (file_decl_needs (scene_in p types)) (λ d. refl) (decls_in p)
 
-  pub at_place : (n : ℕ) → slice_get (placed_in p types) n ≡ option_map (with_types held) (slice_get (decls_in p) n)
+  pub at_place : (n : ℕ) → slice_get (package_placed p types) n ≡ option_map (with_types held) (slice_get (decls_in p) n)
   at_place n = ap (λ l. slice_get l n) (sym (placed_as held (outlines_in p))) ∙ slice_get-map (with_types held) (decls_in p) n
 
   -- the types of a file
@@ -101,15 +101,15 @@ module _ (p : PackageIn) (types : List Entry) where
         let s = scene_in p types in
         let st = stand_in p types (first_values (length s.written) known) d.file d.outline in
         let tree : IsPlaced h.file = holds_at IsPlaced p.trees d.file h.file (recursion_from_All IsPlaced p.trees all) h.tree in
-        let of_file : slice_index_or held d.file [] ≡ inlines (kinds_in s) st.file st.top (file_types h.file) =
+        let of_file : slice_index_or held d.file [] ≡ inlines (kinds_in_scene s) st.file st.top (file_types h.file) =
         held_there d.file d.outline h.outlined
-        ∙ (ap (λ (ts : List _). inlines (kinds_in s) st.file st.top ts) (ap (λ (o : FileOutline). outline_types o.decls) h.outline ∙ outline_all h.file)) in
+        ∙ (ap (λ (ts : List _). inlines (kinds_in_scene s) st.file st.top ts) (ap (λ (o : FileOutline). outline_types o.decls) h.outline ∙ outline_all h.file)) in
         ap (λ ts. form_face (top_looks s d.file ts known) (written_at s.written n) d.decl.form) of_file
         ∙ face_same st h.file tree d.decl (written_at s.written n) h.among
 
-    pub faces_same : (known : ℕ → Option TheFace) (n : ℕ) → values.declared_face (scene_in p types) (placed_in p types) known n ≡ declared_in p types known n
+    pub faces_same : (known : ℕ → Option TheFace) (n : ℕ) → values.declared_face (scene_in p types) (package_placed p types) known n ≡ declared_in p types known n
     faces_same known n = ap (values.some_face (scene_in p types) known n) (at_place n) ∙ by (slice_get (decls_in p) n) refl
       where
-        by : (o : Option FileDecl) → slice_get (decls_in p) n ≡ o → values.some_face (scene_in p types) known n (option_map (with_types held) o) ≡ some_face p types known n o
+        by : (o : Option FileDecl) → slice_get (decls_in p) n ≡ o → values.some_face (scene_in p types) known n (option_map (with_types held) o) ≡ some_decl_face p types known n o
         by None e = refl
         by (Some d) e = face_as known n d e

@@ -4,16 +4,16 @@
 use Rattle.std.specs.Prelude.{◌≡◌, ℕ, List, [], ◌∷◌, map}
 use Rattle.std.specs.List.{AllZip, flat_map, enumerate_from}
 use Rattle.go_tree_nodes.specs.Trees.{FuncTree, FileTree}
-use Rattle.go_term_core.specs.decl_core.Outer.{IsPlaced}
 use Rattle.go_term_core.specs.decl_core.TopDecls.{TopDeclTree, FormTree, ValueForm, TypeForm, FuncForm}
 use Rattle.go_fault_core.specs.table_core.Entries.{Entry}
 use Rattle.go_fault_core.specs.entry_core.Outlines.{FileOutline, outline_of}
 use Rattle.go_func_core.specs.inline_core.Types.{InlineOf}
 use Rattle.go_func_core.specs.inline_core.Trees.{outline_types}
 use Rattle.go_func_core.specs.inline_core.Inline.{inlines}
-use Rattle.go_func_core.specs.Stands.{FileStand, kinds_in}
+use Rattle.go_func_core.specs.Stands.{FileStand, kinds_in_scene}
 use Rattle.go_func_core.specs.Laws.{AreFuncTypes}
 use Rattle.go_ready_core.specs.Packages.{PackageIn, outlines_in, stand_in}
+use Rattle.go_tree_nodes.specs.Spelling.{IsPlaced}
 
 -- an outline of a file whose tokens follow one another
 pub record IsPlacedOutline (o : FileOutline) : Type 0 where
@@ -23,7 +23,7 @@ pub record IsPlacedOutline (o : FileOutline) : Type 0 where
 
 -- those in the specifications of constants and variables of a file
 abbrev pub initial_types : FileStand → FileOutline → List (ℕ × InlineOf)
-initial_types st o = inlines (kinds_in st.scene) st.file st.top (outline_types o.decls)
+initial_types st o = inlines (kinds_in_scene st.scene) st.file st.top (outline_types o.decls)
 
 -- the functions of declarations, in order
 abbrev pub form_funcs : FormTree → List FuncTree
@@ -35,8 +35,8 @@ abbrev pub outline_funcs : List TopDeclTree → List FuncTree
 outline_funcs ds = flat_map (λ d. form_funcs d.form) ds
 
 -- these are the types of each of the functions of a file
-abbrev pub AreFunctionTypes : FileStand → FileOutline → List (List (ℕ × InlineOf)) → Type 0
-AreFunctionTypes st o types = AllZip (AreFuncTypes st) (outline_funcs o.decls) types
+abbrev pub AreOutlinedTypes : FileStand → FileOutline → List (List (ℕ × InlineOf)) → Type 0
+AreOutlinedTypes st o types = AllZip (AreFuncTypes st) (outline_funcs o.decls) types
 
 -- in a package
 
@@ -50,4 +50,4 @@ initial_in p types = map (λ o. initial_types (types_stand p types o) o.1) (enum
 
 -- of each file those in each of its functions
 abbrev pub AreFunctionsIn : PackageIn → List Entry → List (List (List (ℕ × InlineOf))) → Type 0
-AreFunctionsIn p types all = AllZip (λ o of_file. AreFunctionTypes (types_stand p types o) o.1 of_file) (enumerate_from 0 (outlines_in p)) all
+AreFunctionsIn p types all = AllZip (λ o of_file. AreOutlinedTypes (types_stand p types o) o.1 of_file) (enumerate_from 0 (outlines_in p)) all

@@ -4,8 +4,6 @@ pub mod Packages
 pub mod Types
 pub mod Values
 pub mod mirrors
-pub mod fault_core
 pub mod graph_core
 pub mod parse_core
-pub mod table_core
 pub mod type_core

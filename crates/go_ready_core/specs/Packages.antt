@@ -33,8 +33,8 @@ pub record PackageIn : Type 0 where
 abbrev pub trees_in : PackageModel → List FileTree
 trees_in p = map tree_shown (trees_of p.1)
 
-abbrev pub package_in : {P : Type 0} → (P → Shows) → PackageAt P → PackageIn
-package_in shows p = record {
+abbrev pub package_in_shown : {P : Type 0} → (P → Shows) → PackageAt P → PackageIn
+package_in_shown shows p = record {
   path = p.package.now.0;
   trees = trees_in p.package.now;
   blocks = p.blocks.now;

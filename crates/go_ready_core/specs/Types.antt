@@ -2,7 +2,7 @@
 --
 -- docs/RULES.md, "Types". The Go specification, "Type declarations", "Underlying types".
 use Rattle.std.specs.Prelude.{◌≡◌, ◌++◌, List}
-use Rattle.go_fault_core.specs.table_core.Entries.{Entry, find}
+use Rattle.go_fault_core.specs.table_core.Entries.{Entry, find_entry}
 use Rattle.go_fault_core.specs.type_core.declared.build.TypeFault.{TypeFault}
 use Rattle.go_fault_core.specs.type_core.Built.{IsBuilt}
 use Rattle.go_fault_core.specs.entry_core.Entries.{package_meanings}
@@ -14,5 +14,5 @@ use Rattle.go_ready_core.specs.Packages.{PackageIn, outlines_in, entries_in}
 pub record AreTypes (p : PackageIn) (far own : List Entry) (faults : List PackageFault) : Type 0 where
   -- those that reach themselves
   pub loops : List TypeFault
-  pub built : IsBuilt (find far) (entries_in p) own loops
+  pub built : IsBuilt (find_entry far) (entries_in p) own loops
   pub faults_are : faults ≡ faults_of_types (far ++ own) (package_meanings p.shows p.path p.blocks) p.path (outlines_in p) (entries_in p) loops

@@ -5,8 +5,8 @@ ghost use Rattle.go_term_core.specs.decl_core.Shown.{decl_shown, form_shown};
 ghost use Rattle.go_func_core.specs.local_core.Tables.{IsFuncPlaced};
 ghost use Rattle.go_fault_core.specs.entry_core.Outlines.{outline_shown};
 ghost use Rattle.go_func_core.specs.inline_core.Functions as functions;
-ghost use Rattle.go_ready_core.specs.Inlines.{AreFunctionTypes, AreFunctionsIn, IsPlacedOutline, form_funcs, initial_in, initial_types, outline_funcs};
-ghost use Rattle.go_ready_core.specs.Packages.{outlines_in, package_in, stand_in};
+ghost use Rattle.go_ready_core.specs.Inlines.{AreOutlinedTypes, AreFunctionsIn, IsPlacedOutline, form_funcs, initial_in, initial_types, outline_funcs};
+ghost use Rattle.go_ready_core.specs.Packages.{outlines_in, package_in_shown, stand_in};
 ghost use Rattle.go_ready_core.specs.mirrors.Adding.{Adds};
 
 use crate::package_at::PackageAt;
@@ -26,7 +26,7 @@ fn file_initial<P: ImportedNames>(
     outline: &Outline<'_>,
 ) -> Result<InlineTypes, AllocError>
     requires { IsPlacedOutline (outline_shown outline.now) }
-    ensures { IfOk result (λ written. written ≡ initial_types (stand_in (package_in P.shows at.now) types.now [] file (outline_shown outline.now)) (outline_shown outline.now)) }
+    ensures { IfOk result (λ written. written ≡ initial_types (stand_in (package_in_shown P.shows at.now) types.now [] file (outline_shown outline.now)) (outline_shown outline.now)) }
 {
     let ground = Ground {
         path: at.package.path(),
@@ -53,9 +53,9 @@ pub fn package_initial<P: ImportedNames>(
     outlines: &[Outline<'_>],
     types: &TypeTable,
 ) -> Result<Vec<InlineTypes>, AllocError>
-    requires outlines { map outline_shown outlines.now ≡ outlines_in (package_in P.shows at.now) }
+    requires outlines { map outline_shown outlines.now ≡ outlines_in (package_in_shown P.shows at.now) }
     requires placed { AllByRecursion IsPlacedOutline (map outline_shown outlines.now) }
-    ensures { IfOk result (λ written. written.items ≡ initial_in (package_in P.shows at.now) types.now) }
+    ensures { IfOk result (λ written. written.items ≡ initial_in (package_in_shown P.shows at.now) types.now) }
 {
     let mut written = Vec::new(alloc);
     for (file, outline) in outlines.iter().enumerate() {
@@ -72,7 +72,7 @@ fn add_function<P: ImportedNames>(
     written: &mut Vec<InlineTypes>,
 ) -> Result<(), AllocError>
     requires { AllByRecursion IsFuncPlaced (form_funcs (form_shown form)) }
-    ensures { OnOk result (Adds (functions.AreInlines (functions.kinds_in ground.now) (functions.file_in ground.now) (functions.top_in P.shows ground.now) (functions.beyond ground.now)) (form_funcs (form_shown form.entry)) written.old.items written.new.items) }
+    ensures { OnOk result (Adds (functions.AreInlines (functions.kinds_in_ground ground.now) (functions.file_in ground.now) (functions.top_in P.shows ground.now) (functions.scoped_beyond ground.now)) (form_funcs (form_shown form.entry)) written.old.items written.new.items) }
 {
     match form {
         DeclForm::Func(func) => add(written, function_types(alloc, ground, func)?),
@@ -88,7 +88,7 @@ fn decl_functions<P: ImportedNames>(
     decls: &[TopDecl<'_>],
 ) -> Result<Vec<InlineTypes>, AllocError>
     requires { AllByRecursion IsFuncPlaced (outline_funcs (map decl_shown decls.now)) }
-    ensures { IfOk result (λ written. AllZip (functions.AreInlines (functions.kinds_in ground.now) (functions.file_in ground.now) (functions.top_in P.shows ground.now) (functions.beyond ground.now)) (outline_funcs (map decl_shown decls.now)) written.items) }
+    ensures { IfOk result (λ written. AllZip (functions.AreInlines (functions.kinds_in_ground ground.now) (functions.file_in ground.now) (functions.top_in P.shows ground.now) (functions.scoped_beyond ground.now)) (outline_funcs (map decl_shown decls.now)) written.items) }
 {
     let mut written = Vec::new(alloc);
     for decl in decls {
@@ -106,7 +106,7 @@ fn file_functions<P: ImportedNames>(
     outline: &Outline<'_>,
 ) -> Result<Vec<InlineTypes>, AllocError>
     requires { IsPlacedOutline (outline_shown outline.now) }
-    ensures { IfOk result (λ written. AreFunctionTypes (stand_in (package_in P.shows at.now) types.now [] file (outline_shown outline.now)) (outline_shown outline.now) written.items) }
+    ensures { IfOk result (λ written. AreOutlinedTypes (stand_in (package_in_shown P.shows at.now) types.now [] file (outline_shown outline.now)) (outline_shown outline.now) written.items) }
 {
     let ground = Ground {
         path: at.package.path(),
@@ -133,9 +133,9 @@ pub fn package_functions<P: ImportedNames>(
     outlines: &[Outline<'_>],
     types: &TypeTable,
 ) -> Result<Vec<Vec<InlineTypes>>, AllocError>
-    requires outlines { map outline_shown outlines.now ≡ outlines_in (package_in P.shows at.now) }
+    requires outlines { map outline_shown outlines.now ≡ outlines_in (package_in_shown P.shows at.now) }
     requires placed { AllByRecursion IsPlacedOutline (map outline_shown outlines.now) }
-    ensures { IfOk result (λ written. AreFunctionsIn (package_in P.shows at.now) types.now (map (λ of_file. of_file.items) written.items)) }
+    ensures { IfOk result (λ written. AreFunctionsIn (package_in_shown P.shows at.now) types.now (map (λ of_file. of_file.items) written.items)) }
 {
     let mut written = Vec::new(alloc);
     for (file, outline) in outlines.iter().enumerate() {

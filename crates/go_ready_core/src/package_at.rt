@@ -1,10 +1,10 @@
 //! A package that is checked.
 ghost use Rattle.std.specs.Prelude.{◌≡◌, All, IfOk, map};
 ghost use Rattle.std.specs.List.{AllByRecursion};
-ghost use Rattle.go_term_core.specs.decl_core.Outer.{IsPlaced};
 ghost use Rattle.go_fault_core.specs.entry_core.Outlines.{outline_shown};
 ghost use Rattle.go_ready_core.specs.Inlines.{IsPlacedOutline};
-ghost use Rattle.go_ready_core.specs.Packages.{outlines_in, package_in};
+ghost use Rattle.go_ready_core.specs.Packages.{outlines_in, package_in_shown};
+ghost use Rattle.go_tree_nodes.specs.Spelling.{IsPlaced};
 
 use go_fault_core::block_core::{Blocks, Imported};
 use go_fault_core::entry_core::{ImportedNames, outlines};
@@ -36,9 +36,9 @@ pub fn package_outlines<'a, P: ImportedNames>(
     alloc: Global,
     at: &PackageAt<'a, P>,
 ) -> Result<Vec<Outline<'a>>, AllocError>
-    ensures outlines { IfOk result (λ os. map outline_shown os.items ≡ outlines_in (package_in P.shows at.now)) }
+    ensures outlines { IfOk result (λ os. map outline_shown os.items ≡ outlines_in (package_in_shown P.shows at.now)) }
     ensures placed { IfOk result (λ os. AllByRecursion IsPlacedOutline (map outline_shown os.items)) }
-    ensures trees { IfOk result (λ os. All IsPlaced (package_in P.shows at.now).trees) }
+    ensures trees { IfOk result (λ os. All IsPlaced (package_in_shown P.shows at.now).trees) }
 {
     outlines(alloc, at.package.files())
 }

@@ -3,7 +3,7 @@ ghost use Rattle.std.specs.Prelude.{◌≡◌, IfOk, map};
 ghost use Rattle.std.specs.List.{AllByRecursion};
 ghost use Rattle.go_fault_core.specs.entry_core.Outlines.{outline_shown};
 ghost use Rattle.go_ready_core.specs.Inlines.{AreFunctionsIn, IsPlacedOutline, initial_in};
-ghost use Rattle.go_ready_core.specs.Packages.{outlines_in, package_in, scene_in};
+ghost use Rattle.go_ready_core.specs.Packages.{outlines_in, package_in_shown, scene_in};
 
 use crate::inlines::{package_functions, package_initial};
 use crate::package_at::PackageAt;
@@ -42,12 +42,12 @@ pub fn make_ready<P: ImportedNames>(
     outlines: &[Outline<'_>],
     types: &TypeTable,
 ) -> Result<Ready, AllocError>
-    requires outlines { map outline_shown outlines.now ≡ outlines_in (package_in P.shows at.now) }
+    requires outlines { map outline_shown outlines.now ≡ outlines_in (package_in_shown P.shows at.now) }
     requires placed { AllByRecursion IsPlacedOutline (map outline_shown outlines.now) }
-    ensures home { IfOk result (λ ready. ready.home ≡ (package_in P.shows at.now).path) }
-    ensures written { IfOk result (λ ready. ready.written ≡ (scene_in (package_in P.shows at.now) types.now).written) }
-    ensures initial { IfOk result (λ ready. ready.initial.items ≡ initial_in (package_in P.shows at.now) types.now) }
-    ensures functions { IfOk result (λ ready. AreFunctionsIn (package_in P.shows at.now) types.now (map (λ of_file. of_file.items) ready.functions.items)) }
+    ensures home { IfOk result (λ ready. ready.home ≡ (package_in_shown P.shows at.now).path) }
+    ensures written { IfOk result (λ ready. ready.written ≡ (scene_in (package_in_shown P.shows at.now) types.now).written) }
+    ensures initial { IfOk result (λ ready. ready.initial.items ≡ initial_in (package_in_shown P.shows at.now) types.now) }
+    ensures functions { IfOk result (λ ready. AreFunctionsIn (package_in_shown P.shows at.now) types.now (map (λ of_file. of_file.items) ready.functions.items)) }
 {
     let path = at.package.path();
     let initial = package_initial(alloc, at, outlines, types)?;

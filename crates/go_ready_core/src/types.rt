@@ -2,7 +2,7 @@
 ghost use Rattle.std.specs.Prelude.{◌≡◌, ◌++◌, IfOk, map};
 ghost use Rattle.go_fault_core.specs.table_core.Tables.{AreOthers};
 ghost use Rattle.go_fault_core.specs.entry_core.Outlines.{outline_shown};
-ghost use Rattle.go_ready_core.specs.Packages.{outlines_in, package_in};
+ghost use Rattle.go_ready_core.specs.Packages.{outlines_in, package_in_shown};
 ghost use Rattle.go_ready_core.specs.Types.{AreTypes};
 
 use crate::package_at::PackageAt;
@@ -33,10 +33,10 @@ pub fn package_types<P: ImportedNames>(
     outlines: &[Outline<'_>],
     types: &mut TypeTable,
 ) -> Result<OwnTypes, AllocError>
-    requires outlines { map outline_shown outlines.now ≡ outlines_in (package_in P.shows at.now) }
-    requires others { AreOthers (package_in P.shows at.now).path types.old }
-    ensures path { IfOk result (λ own. own.types.path ≡ (package_in P.shows at.now).path) }
-    ensures types { IfOk result (λ own. AreTypes (package_in P.shows at.now) types.old own.types.entries own.faults.items) }
+    requires outlines { map outline_shown outlines.now ≡ outlines_in (package_in_shown P.shows at.now) }
+    requires others { AreOthers (package_in_shown P.shows at.now).path types.old }
+    ensures path { IfOk result (λ own. own.types.path ≡ (package_in_shown P.shows at.now).path) }
+    ensures types { IfOk result (λ own. AreTypes (package_in_shown P.shows at.now) types.old own.types.entries own.faults.items) }
     ensures table { IfOk result (λ own. types.new ≡ types.old ++ own.types.entries) }
 {
     let path = at.package.path();

@@ -2,4 +2,3 @@ pub mod Numbers
 pub mod Members
 pub mod Order
 pub mod Settled
-pub mod Found

@@ -1,5 +1,4 @@
 pub mod Faults
-pub mod Places
 pub mod Laws
 pub mod mirrors
 pub mod denote_core

@@ -11,7 +11,7 @@ use Rattle.go_token_core.specs.declared.token.Comment.{Comment}
 use Rattle.go_token_core.specs.declared.token.LexFault.{LexFault}
 use Rattle.go_token_core.specs.declared.token.Token.{Token}
 use Rattle.go_token_core.specs.Characters.{first_passes}
-use Rattle.go_scan_core.specs.Parts.{Break, Gap, Note, Part, Word, comments_in, holds_line_end, span_between, semicolon_after, width}
+use Rattle.go_scan_core.specs.Parts.{Break, Gap, Note, TextPart, Word, comments_in, holds_line_end, span_between, semicolon_after, width}
 use Rattle.go_scan_core.specs.mirrors.Cutting.{close, closed, cut, cut_next, part_of, remarked, with_front}
 use Rattle.go_scan_core.specs.mirrors.Reading.{piece_at}
 use borrow.Author.Tests.{tests}
@@ -59,17 +59,17 @@ with_front-with_front xs ys (Ok zs) = ap Ok (sym (append_assoc xs ys zs))
 with_front-with_front xs ys (Err e) = refl
 
 -- one part more
-pub closed_gap : (last : Option Token) (r : Result (List Part) LexFault) → closed last (with_front (Gap ∷ []) r) ≡ closed last r
+pub closed_gap : (last : Option Token) (r : Result (List TextPart) LexFault) → closed last (with_front (Gap ∷ []) r) ≡ closed last r
 unfolding close
 closed_gap last (Ok ps) = refl
 closed_gap last (Err e) = refl
 
-closed_break : (last : Option Token) (r : Result (List Part) LexFault) → closed last (with_front (Break ∷ []) r) ≡ with_front (semicolon_after last) (closed None r)
+closed_break : (last : Option Token) (r : Result (List TextPart) LexFault) → closed last (with_front (Break ∷ []) r) ≡ with_front (semicolon_after last) (closed None r)
 unfolding close
 closed_break last (Ok ps) = refl
 closed_break last (Err e) = refl
 
-closed_word : (t : Token) (last : Option Token) (r : Result (List Part) LexFault) → closed last (with_front (Word t ∷ []) r) ≡ with_front (t ∷ []) (closed (Some t) r)
+closed_word : (t : Token) (last : Option Token) (r : Result (List TextPart) LexFault) → closed last (with_front (Word t ∷ []) r) ≡ with_front (t ∷ []) (closed (Some t) r)
 unfolding close
 closed_word t last (Ok ps) = refl
 closed_word t last (Err e) = refl
@@ -78,7 +78,7 @@ pub with_none : {X E : Type 0} (r : Result (List X) E) → r ≡ with_front [] r
 with_none (Ok xs) = refl
 with_none (Err e) = refl
 
-closed_note : (c : Comment) (b : Bool) (last : Option Token) (r : Result (List Part) LexFault) → closed last (with_front (Note c b ∷ []) r) ≡ with_front (cond b (semicolon_after last) []) (closed (cond b None last) r)
+closed_note : (c : Comment) (b : Bool) (last : Option Token) (r : Result (List TextPart) LexFault) → closed last (with_front (Note c b ∷ []) r) ≡ with_front (cond b (semicolon_after last) []) (closed (cond b None last) r)
 unfolding close
 closed_note c true last (Ok ps) = refl
 closed_note c true last (Err e) = refl
@@ -86,13 +86,13 @@ closed_note c false last (Ok ps) = refl
 closed_note c false last (Err e) = refl
 
 -- the comments of one part
-abbrev pub comments_of_part : Part → List Comment
+abbrev pub comments_of_part : TextPart → List Comment
 comments_of_part Gap = []
 comments_of_part Break = []
 comments_of_part (Word t) = []
 comments_of_part (Note c b) = c ∷ []
 
-pub remarked_part : (p : Part) (r : Result (List Part) LexFault) → remarked (with_front (p ∷ []) r) ≡ with_front (comments_of_part p) (remarked r)
+pub remarked_part : (p : TextPart) (r : Result (List TextPart) LexFault) → remarked (with_front (p ∷ []) r) ≡ with_front (comments_of_part p) (remarked r)
 unfolding comments_in
 remarked_part Gap (Ok ps) = refl
 remarked_part Break (Ok ps) = refl
@@ -143,12 +143,12 @@ turn_note tokens last cs start x kind some e s =
     sym (with_front-with_front tokens (cond b (semicolon_after last) []) (closed (cond b None last) rest)) ∙ ap (with_front tokens) (sym (ap (closed last) (cut_step cs start x some e ∙ ap (λ p. with_front (part_of p (span_between start far) (take x.1 cs) ∷ []) rest) s) ∙ closed_note c b last rest))
 
 -- the comments of a turn
-pub turn_comments : (comments : List Comment) (cs : List ℕ) (start : ℕ) (x : Piece × ℕ) (p : Part) → 0 < length cs → piece_at cs ≡ Ok x → part_of x.0 (span_between start (far_of start cs x)) (take x.1 cs) ≡ p → with_front (comments ++ comments_of_part p) (remarked (cut (drop x.1 cs) 0 (far_of start cs x))) ≡ with_front comments (remarked (cut cs 0 start))
+pub turn_comments : (comments : List Comment) (cs : List ℕ) (start : ℕ) (x : Piece × ℕ) (p : TextPart) → 0 < length cs → piece_at cs ≡ Ok x → part_of x.0 (span_between start (far_of start cs x)) (take x.1 cs) ≡ p → with_front (comments ++ comments_of_part p) (remarked (cut (drop x.1 cs) 0 (far_of start cs x))) ≡ with_front comments (remarked (cut cs 0 start))
 turn_comments comments cs start x p some e s =
     let rest = cut (drop x.1 cs) 0 (far_of start cs x) in
     sym (with_front-with_front comments (comments_of_part p) (remarked rest)) ∙ ap (with_front comments) (sym (ap remarked (cut_step cs start x some e ∙ ap (λ q. with_front (q ∷ []) rest) s) ∙ remarked_part p rest))
 
-pub turn_no_comments : (comments : List Comment) (cs : List ℕ) (start : ℕ) (x : Piece × ℕ) (p : Part) → 0 < length cs → piece_at cs ≡ Ok x → part_of x.0 (span_between start (far_of start cs x)) (take x.1 cs) ≡ p → comments_of_part p ≡ [] → with_front comments (remarked (cut (drop x.1 cs) 0 (far_of start cs x))) ≡ with_front comments (remarked (cut cs 0 start))
+pub turn_no_comments : (comments : List Comment) (cs : List ℕ) (start : ℕ) (x : Piece × ℕ) (p : TextPart) → 0 < length cs → piece_at cs ≡ Ok x → part_of x.0 (span_between start (far_of start cs x)) (take x.1 cs) ≡ p → comments_of_part p ≡ [] → with_front comments (remarked (cut (drop x.1 cs) 0 (far_of start cs x))) ≡ with_front comments (remarked (cut cs 0 start))
 turn_no_comments comments cs start x p some e s none =
     let rest = cut (drop x.1 cs) 0 (far_of start cs x) in
     ap (with_front comments) (with_none (remarked rest) ∙ ap (λ q. with_front q (remarked rest)) (sym none) ∙ sym (ap remarked (cut_step cs start x some e ∙ ap (λ q. with_front (q ∷ []) rest) s) ∙ remarked_part p rest))

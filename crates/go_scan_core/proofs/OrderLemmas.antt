@@ -7,9 +7,9 @@ use Rattle.go_text_core.proofs.Each.{true_or_false}
 use Rattle.go_token_core.specs.declared.token.Comment.{Comment}
 use Rattle.go_token_core.specs.declared.token.Token.{Token}
 use Rattle.go_token_core.specs.Characters.{first_passes}
-use Rattle.go_scan_core.specs.Parts.{Break, Gap, Note, Part, Word, comments_in, ends_statement, semicolon_after, semicolon_behind, width}
+use Rattle.go_scan_core.specs.Parts.{Break, Gap, Note, TextPart, Word, comments_in, ends_statement, semicolon_after, semicolon_behind, width}
 use Rattle.go_scan_core.specs.mirrors.Cutting.{close}
-use Rattle.go_scan_core.specs.Tokens.{AreParts, CommentsInOrder, TokensInOrder, IsAnswer, IsAnswerFrom, IsAnswerOf, tokens_by_line}
+use Rattle.go_scan_core.specs.Tokens.{AreTextParts, CommentsInOrder, TokensInOrder, IsAnswer, IsAnswerFrom, IsAnswerOf, tokens_by_line}
 use Rattle.go_scan_core.proofs.AnswerLemmas.{tokens_by_line-close}
 use Rattle.go_token_core.proofs.CharacterLemmas.{width-chars}
 use Rattle.go_scan_core.proofs.CutLemmas.{width_behind_mark}
@@ -30,7 +30,7 @@ semicolon_order (Some t) low high ts e h = with_semicolon_order (ends_statement 
 wider : (w rest cs : List ℕ) → cs ≡ w ++ rest → width cs ≡ width w + width rest
 wider w rest cs e = ap width e ∙ sum_by-append len_utf8 w rest
 
-in_order : (ps : List Part) (cs : List ℕ) (start low : ℕ) (last : Option Token) → AreParts ps cs start None → low ≤ start → EndsAt last low → TokensInOrder low (close last ps) (start + width cs)
+in_order : (ps : List TextPart) (cs : List ℕ) (start low : ℕ) (last : Option Token) → AreTextParts ps cs start None → low ≤ start → EndsAt last low → TokensInOrder low (close last ps) (start + width cs)
 unfolding close
 in_order [] cs start low last a h e = subst (λ x. TokensInOrder low x (start + width cs)) (unused last) (semicolon_order last low (start + width cs) [] e (omega arith))
   where
@@ -68,7 +68,7 @@ text_order text ts u a = elim (true_or_false (first_passes (λ c. c == 65279) (c
 ]
 
 -- comments follow one another
-comments_order : (ps : List Part) (cs : List ℕ) (start low : ℕ) → AreParts ps cs start None → low ≤ start → CommentsInOrder low (comments_in ps) (start + width cs)
+comments_order : (ps : List TextPart) (cs : List ℕ) (start low : ℕ) → AreTextParts ps cs start None → low ≤ start → CommentsInOrder low (comments_in ps) (start + width cs)
 unfolding comments_in
 comments_order [] cs start low a h = omega arith
 comments_order (Gap ∷ ps) cs start low a h =

@@ -10,7 +10,7 @@ use Rattle.go_token_core.specs.declared.token.Comment.{Comment}
 use Rattle.go_token_core.specs.declared.token.LexFault.{LexFault}
 use Rattle.go_token_core.specs.declared.token.Token.{Token}
 use Rattle.go_token_core.specs.Characters.{is_space}
-use Rattle.go_scan_core.specs.Parts.{Gap, Part, width}
+use Rattle.go_scan_core.specs.Parts.{Gap, TextPart, width}
 use Rattle.go_scan_core.specs.mirrors.Cutting.{closed, cut, remarked, with_front}
 use Rattle.go_scan_core.specs.mirrors.Reading.{piece_at, piece_by}
 use Rattle.go_token_core.proofs.CharacterLemmas.{width-cons}
@@ -40,7 +40,7 @@ no_spaces : (c : ℕ) (cs : List ℕ) → (is_space c ≡ true → ⊥) → spac
 no_spaces c cs h = elim (true_or_false (is_space c)) [ inl a ↦ absurd (h a) | inr a ↦ rw a refl ]
 
 -- what takes no notice of gaps takes none of the white space at the front
-spaces_skipped : {X : Type 0} (f : Result (List Part) LexFault → X) → ((r : Result (List Part) LexFault) → f (with_front (Gap ∷ []) r) ≡ f r) → (cs : List ℕ) (start : ℕ) → f (cut (drop (spaces cs) cs) 0 (start + spaces cs)) ≡ f (cut cs 0 start)
+spaces_skipped : {X : Type 0} (f : Result (List TextPart) LexFault → X) → ((r : Result (List TextPart) LexFault) → f (with_front (Gap ∷ []) r) ≡ f r) → (cs : List ℕ) (start : ℕ) → f (cut (drop (spaces cs) cs) 0 (start + spaces cs)) ≡ f (cut cs 0 start)
 spaces_skipped f gap [] start = ap (λ s. f (cut [] 0 s)) (omega arith)
 spaces_skipped f gap (c ∷ cs) start =
     let P : ℕ → Type 0 = λ m. f (cut (drop m (c ∷ cs)) 0 (start + m)) ≡ f (cut (c ∷ cs) 0 start) in
@@ -81,7 +81,7 @@ moved_tokens tokens last others rest end at e p =
     ∙ ap (λ a. with_front tokens (closed last (cut (drop (spaces others) others) 0 a))) p
     ∙ ap (with_front tokens) (spaces_skipped (closed last) (closed_gap last) others end)
 
-gap_unremarked : (r : Result (List Part) LexFault) → remarked (with_front (Gap ∷ []) r) ≡ remarked r
+gap_unremarked : (r : Result (List TextPart) LexFault) → remarked (with_front (Gap ∷ []) r) ≡ remarked r
 gap_unremarked r = remarked_part Gap r ∙ sym (with_none (remarked r))
 
 pub moved_comments : (comments : List Comment) (others rest : List ℕ) (end at : ℕ) → rest ≡ drop (spaces others) others → at ≡ end + spaces others → with_front comments (remarked (cut rest 0 at)) ≡ with_front comments (remarked (cut others 0 end))

@@ -13,9 +13,9 @@ use Rattle.go_text_core.specs.declared.span.Span.{Span}
 use Rattle.go_token_core.specs.declared.kind.TokenKind.{TokenKind}
 use Rattle.go_token_core.specs.declared.token.Token.{Token}
 use Rattle.go_token_core.specs.Characters.{first_passes}
-use Rattle.go_scan_core.specs.Parts.{Break, Gap, Note, Part, Word, comments_in, ends_statement, span_between, semicolon_after, semicolon_behind, width}
+use Rattle.go_scan_core.specs.Parts.{Break, Gap, Note, TextPart, Word, comments_in, ends_statement, span_between, semicolon_after, semicolon_behind, width}
 use Rattle.go_scan_core.specs.mirrors.Cutting.{close}
-use Rattle.go_scan_core.specs.Tokens.{AreParts, IsAnswer, IsAnswerFrom, IsAnswerOf, IsComment, IsGood, IsLexeme, tokens_by_line}
+use Rattle.go_scan_core.specs.Tokens.{AreTextParts, IsAnswer, IsAnswerFrom, IsAnswerOf, IsComment, IsGood, IsLexeme, tokens_by_line}
 use Rattle.go_scan_core.specs.Texts.{CommentHasItsText, HasItsText, IsEncodedComment, IsFilled, IsSpelled}
 use Rattle.go_scan_core.proofs.AnswerLemmas.{tokens_by_line-close}
 use Rattle.go_token_core.proofs.Choices.{chosen}
@@ -114,7 +114,7 @@ semicolon_texts : (text : List ℕ) (last : Option Token) (ts : List Token) → 
 semicolon_texts text None ts e h = h
 semicolon_texts text (Some t) ts e h = asked_texts (ends_statement t.kind) text t ts e h
 
-part_texts : (text : List ℕ) (ps : List Part) (cs : List ℕ) (start : ℕ) (last : Option Token) → Begins text cs start → Ends text last → AreParts ps cs start None → HaveTexts text (close last ps)
+part_texts : (text : List ℕ) (ps : List TextPart) (cs : List ℕ) (start : ℕ) (last : Option Token) → Begins text cs start → Ends text last → AreTextParts ps cs start None → HaveTexts text (close last ps)
 unfolding close
 part_texts text [] cs start last b e a = subst (HaveTexts text) (append-nil (semicolon_after last)) (semicolon_texts text last [] e tt)
 part_texts text (Gap ∷ ps) cs start last b e a =
@@ -222,7 +222,7 @@ comment_text text w rest start c b comment place = subst (λ o. MatchOption o �
 abbrev AllComments : List ℕ → List Comment → Type 0
 AllComments text cs = AllByRecursion (CommentHasItsText text) cs
 
-part_comments : (text : List ℕ) (ps : List Part) (cs : List ℕ) (start : ℕ) → Begins text cs start → AreParts ps cs start None → AllComments text (comments_in ps)
+part_comments : (text : List ℕ) (ps : List TextPart) (cs : List ℕ) (start : ℕ) → Begins text cs start → AreTextParts ps cs start None → AllComments text (comments_in ps)
 unfolding comments_in
 part_comments text [] cs start b a = tt
 part_comments text (Gap ∷ ps) cs start b a =

@@ -25,11 +25,11 @@ span_between start end = record { start = start; end = end }
 
 -- a piece of a text: white space, the end of a line, a token, or a comment and whether the end of
 -- a line is in it
-pub data Part : Type 0 where
-  Gap : Part
-  Break : Part
-  Word : Token → Part
-  Note : Comment → Bool → Part
+pub data TextPart : Type 0 where
+  Gap : TextPart
+  Break : TextPart
+  Word : Token → TextPart
+  Note : Comment → Bool → TextPart
 
 abbrev pub ending_keyword : Keyword → Bool
 ending_keyword keywords.Break = true
@@ -64,7 +64,7 @@ semicolon_after None = []
 semicolon_after (Some t) = if ends_statement t.kind then semicolon_behind t ∷ [] else []
 
 -- the comments of the pieces
-unfoldable pub comments_in : List Part → List Comment
+unfoldable pub comments_in : List TextPart → List Comment
 comments_in [] = []
 comments_in (Note c breaks ∷ ps) = c ∷ comments_in ps
 comments_in (Gap ∷ ps) = comments_in ps

@@ -14,7 +14,7 @@ use Rattle.go_universe_core.specs.Universe.{spelling_of, found}
 use Rattle.go_universe_core.proofs.Spellings.{each_is_found}
 use Rattle.go_scope_core.specs.Models.{ScopesModel}
 use Rattle.go_scope_core.specs.Scopes.{Denoted, Universe, inside_universe, scope_blocks}
-use Rattle.go_scope_core.specs.Laws.{DenotesInnermost, DenotesOne, DenotesLocal, Has, LocalHides, PackageNeverHidden, FileInside, UniverseOutermost, denotes}
+use Rattle.go_scope_core.specs.Laws.{DenotesInnermost, DenotesOne, DenotesLocal, BlockHas, LocalHides, PackageNeverHidden, FileInside, UniverseOutermost, denotes}
 use Rattle.go_open_core.proofs.Innermost.{found_innermost, innermost_found, found_none, none_found}
 use Rattle.go_scope_core.proofs.Lookups.{inner_parts, by_parts, in_inside, by_inside, in_scope}
 
@@ -69,7 +69,7 @@ universe_outermost = record {
     from : (s : ScopesModel) (name : List ℕ) (p : Predeclared) → NoneHas (inside_universe s) name × (name ≡ spelling_of p) → denotes s name ≡ Some (Universe p)
     from s name p h = by_inside s name None (none_found (inside_universe s) name h.0) ∙ ap (option_map Universe) ((each_is_found name p).1 h.1)
 
-    hidden : (s : ScopesModel) (name : List ℕ) → Any (Has name) (inside_universe s) → (o : Option Denoted) → found_in (inside_universe s) name ≡ o → denotes s name ≡ found_in (inside_universe s) name
+    hidden : (s : ScopesModel) (name : List ℕ) → Any (BlockHas name) (inside_universe s) → (o : Option Denoted) → found_in (inside_universe s) name ≡ o → denotes s name ≡ found_in (inside_universe s) name
     hidden s name h None is =
         let none = All-contains (λ block. in_block block name ≡ None) (inside_universe s) h.1 (found_none (inside_universe s) name is) (h.0, h.2, h.3) in
         absurd (true≢false (sym h.4 ∙ ap is_some none))

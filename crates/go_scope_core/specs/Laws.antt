@@ -24,8 +24,8 @@ abbrev pub DenotesOne : Type 0
 DenotesOne = (s : ScopesModel) (name : List ℕ) (d e : Denoted) → IsInnermost (scope_blocks s) name d → IsInnermost (scope_blocks s) name e → d ≡ e
 
 -- a block has a declaration of this name
-abbrev pub Has : {X : Type 0} → List ℕ → List (List ℕ × X) → Type 0
-Has name block = IsSome (in_block block name)
+abbrev pub BlockHas : {X : Type 0} → List ℕ → List (List ℕ × X) → Type 0
+BlockHas name block = IsSome (in_block block name)
 
 -- a name denotes the innermost declaration of it in these blocks
 abbrev pub DenotesLocal : ScopesModel → List ℕ → Type 0
@@ -33,7 +33,7 @@ DenotesLocal s name = (id : DeclId) × IsInnermost s.open_blocks name id × (den
 
 -- a name that an open block of the function has denotes the innermost declaration of it there
 abbrev pub LocalHides : Type 0
-LocalHides = (s : ScopesModel) (name : List ℕ) → Any (Has name) s.open_blocks → DenotesLocal s name
+LocalHides = (s : ScopesModel) (name : List ℕ) → Any (BlockHas name) s.open_blocks → DenotesLocal s name
 
 -- a name of the package block that no open block of the function has denotes its declaration in the package block
 abbrev pub PackageNeverHidden : Type 0
@@ -48,7 +48,7 @@ pub record UniverseOutermost : Type 0 where
   -- a name denotes the predeclared name that is spelled so where no block of the package, the file and the function has it, and only there
   pub denotes_predeclared : (s : ScopesModel) (name : List ℕ) (p : Predeclared) → (denotes s name ≡ Some (Universe p)) ↔ (NoneHas (inside_universe s) name × (name ≡ spelling_of p))
   -- a name that one of these blocks has denotes the innermost of its declarations in them, whether it is predeclared or not
-  pub is_hidden : (s : ScopesModel) (name : List ℕ) → Any (Has name) (inside_universe s) → denotes s name ≡ found_in (inside_universe s) name
+  pub is_hidden : (s : ScopesModel) (name : List ℕ) → Any (BlockHas name) (inside_universe s) → denotes s name ≡ found_in (inside_universe s) name
 
 -- no step from open blocks of a function leads to a block that has the blank identifier
 pub record KeepsBlankOut (open_blocks : List (List (List ℕ × DeclId))) : Type 0 where

@@ -4,6 +4,7 @@ pub use Rattle.go_block_core.proofs.AllLemmas as AllLemmas
 pub use Rattle.go_block_core.proofs.BindingLemmas as BindingLemmas
 pub use Rattle.go_block_core.specs.Bindings as Bindings
 pub use Rattle.go_block_core.specs.Blocks as Blocks
+pub use Rattle.go_block_core.specs.Declarations as Declarations
 pub use Rattle.go_block_core.specs.Exports as Exports
 pub use Rattle.go_block_core.specs.Faults as Faults
 pub use Rattle.go_block_core.proofs.GivenSteps as GivenSteps

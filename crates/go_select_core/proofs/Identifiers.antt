@@ -10,7 +10,7 @@ use Rattle.std.proofs.lemmas.Slice.Eq.{bytes_eq-Decides}
 use Rattle.go_text_core.specs.Text.{exported, SameId}
 use Rattle.go_select_core.specs.Selections.{IsIdBefore}
 use Rattle.go_select_core.specs.mirrors.Names.{Identifier, identifier_of, Key, key_shown, key_cmp, same_identifier}
-use Rattle.go_select_core.proofs.ListLemmas.{tell, true_false}
+use Rattle.go_level_core.proofs.ListLemmas.{tell, true_false}
 
 pub identifiers_same : (a b : Identifier) → same_identifier a b ≡ true → a ≡ b
 identifiers_same a b h =

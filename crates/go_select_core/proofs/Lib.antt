@@ -1,11 +1,3 @@
-pub mod ListLemmas
-pub mod Edges
-pub mod Walks
-pub mod WayLemmas
-pub mod Weights
-pub mod Growing
-pub mod Judging
-pub mod Searching
 pub mod Identifiers
 pub mod Naming
 pub mod Surveying
@@ -14,4 +6,3 @@ pub mod Meanings
 pub mod Local
 pub mod Short
 pub mod OnlyListing
-pub mod Answering

@@ -17,22 +17,22 @@ use Rattle.go_text_core.specs.Text.{exported, SameId, is_blank}
 use Rattle.go_text_core.specs.declared.name.Name.{Name}
 use Rattle.go_text_core.specs.declared.rule.Rule.{Rule}
 use Rattle.go_term_core.specs.Terms.{Term}
-use Rattle.go_embed_core.specs.table_core.Entries.{Look}
-use Rattle.go_embed_core.specs.declared.member.Member as declared_member
-use Rattle.go_embed_core.specs.Owners.{Found, AFieldOf, AMethodOf, AnInterfaces, TheErrorMethod}
-use Rattle.go_embed_core.specs.OwnersShown.{found_shown, name_shown, package_shown}
-use Rattle.go_select_core.specs.declared.level.Reached.{Reached}
+use Rattle.go_level_core.specs.table_core.Entries.{EntryLook}
+use Rattle.go_level_core.specs.embed_core.declared.member.Member as declared_member
+use Rattle.go_level_core.specs.embed_core.Owners.{Found, AFieldOf, AMethodOf, AnInterfaces, TheErrorMethod}
+use Rattle.go_level_core.specs.embed_core.OwnersShown.{found_shown, name_shown, member_package_shown}
+use Rattle.go_level_core.specs.declared.level.Reached.{Reached}
 use Rattle.go_select_core.specs.declared.names.Known.{Known}
 use Rattle.go_select_core.specs.declared.names.Known.TheVariants.{One, More}
-use Rattle.go_select_core.specs.declared.search.Selected.{Selected}
-use Rattle.go_select_core.specs.Paths.{IsSelected}
-use Rattle.go_select_core.specs.Selectors.{Refused, FieldsIn, searched, IsFieldFound, IsSelectedAs, IsFound, IsFoundAs, IsAnswer}
-use Rattle.go_select_core.specs.Selectors as searches
+use Rattle.go_level_core.specs.declared.search.Selected.{Selected}
+use Rattle.go_level_core.specs.Paths.{IsSelected}
+use Rattle.go_level_core.specs.Selectors.{Refused, FieldsIn, searched, IsFieldFound, IsSelectedAs, IsFoundSelected, IsFoundAs, IsSelectorAnswer}
+use Rattle.go_level_core.specs.Selectors as searches
 use Rattle.go_select_core.specs.Selections.{IsIdBefore, IsSelectedBefore, AreSelections, IsListing}
 use Rattle.go_select_core.specs.mirrors.Names.{Identifier, identifier_of, identifier_in, Key, key_shown, key_cmp, same_identifier, names_shown, known_of, IsKnown, AreKnown}
 use Rattle.go_select_core.specs.mirrors.Listings.{IsWithin, AreWithin, AreListed, is_field_found, selected_at, listed_if, entry_listed, listed_of, IsShown, AreSelectionsIn, is_seen, named_if, seen_of}
 use Rattle.go_select_core.proofs.Identifiers.{identifiers_same, same_identifiers, same_swap, identifier_same, same_identifier_of, keys_tie, keys_apart, key_before, names_below}
-use Rattle.go_select_core.proofs.ListLemmas.{In, in_contained, contained_in, at_in, at_within, tell}
+use Rattle.go_level_core.proofs.ListLemmas.{In, in_contained, contained_in, at_in, at_within, tell}
 use Rattle.go_select_core.proofs.Meanings.{selected_same}
 
 abbrev pub KeyedNames : Type 0
@@ -156,7 +156,7 @@ entry_member paths types by_pointer methods (One i m) s h =
     of (Some r) (inl e) = (i, ap (λ (q : Selected). One i q.member) e)
     of (Some r) (inr e) = absurd e
 
-module _ (look : Look) (t : Term) (name from : List ℕ) (paths : List (List ℕ)) (types : List Reached) (by_pointer methods : Bool) where
+module _ (look : EntryLook) (t : Term) (name from : List ℕ) (paths : List (List ℕ)) (types : List Reached) (by_pointer methods : Bool) where
   -- what is listed of a name is what it denotes
   pub entry_sound : (i : ℕ) (m : declared_member.Member) (s : Selected) → name_shown m ≡ name → IsKnown look t name from paths types (Some (One i m)) → In (entry_listed paths types by_pointer methods (One i m)) s
       → (is_blank name ≡ false) × IsSelectedAs look t by_pointer name from s × IsShown methods (found_shown s.member)
@@ -232,12 +232,12 @@ module _ (paths : List (List ℕ)) (types : List Reached) (by_pointer methods : 
   Named es = (e : Key × Known) (n : ℕ) (m : declared_member.Member) → In es e → e.1 ≡ One n m → identifier_in m ≡ key_shown e.0
 
   rising_more : (b : Bool) (path : List ℕ) (m : declared_member.Member) (r : Option Reached) (rest : List Selected)
-      → ((o : Selected) → In rest o → IsIdBefore (name_shown m) (package_shown m) (name_shown o.member) (package_shown o.member)) → Pairs IsSelectedBefore rest → Pairs IsSelectedBefore (listed_if b (selected_at path by_pointer m r) ++ rest)
+      → ((o : Selected) → In rest o → IsIdBefore (name_shown m) (member_package_shown m) (name_shown o.member) (member_package_shown o.member)) → Pairs IsSelectedBefore rest → Pairs IsSelectedBefore (listed_if b (selected_at path by_pointer m r) ++ rest)
   rising_more false path m r rest below h = h
   rising_more true path m None rest below h = h
   rising_more true path m (Some r) rest below h = (below, h)
 
-  rising_entry : (known : Known) (rest : List Selected) → ((n : ℕ) (m : declared_member.Member) → known ≡ One n m → (o : Selected) → In rest o → IsIdBefore (name_shown m) (package_shown m) (name_shown o.member) (package_shown o.member))
+  rising_entry : (known : Known) (rest : List Selected) → ((n : ℕ) (m : declared_member.Member) → known ≡ One n m → (o : Selected) → In rest o → IsIdBefore (name_shown m) (member_package_shown m) (name_shown o.member) (member_package_shown o.member))
       → Pairs IsSelectedBefore rest → Pairs IsSelectedBefore (entry_listed paths types by_pointer methods known ++ rest)
   rising_entry More rest below h = h
   rising_entry (One i m) rest below h = rising_more (not (is_blank (name_shown m)) && (methods || is_field_found (found_shown m))) (get_or paths i []) m (slice_get types i) rest (below i m refl) h
@@ -250,10 +250,10 @@ module _ (paths : List (List ℕ)) (types : List Reached) (by_pointer methods : 
       let f = listed_from es o there in
       let k = entry_member paths types by_pointer methods f.0.1 o f.2 in
       let less = below_all d.0 es (sorted_head key_cmp d.0 (keys_of es) sorted) f.0 f.1 in
-      key_before d.0 f.0.0 (name_shown m) (package_shown m) (name_shown o.member) (package_shown o.member) (sym (named d n m (inl refl) is)) (sym (named f.0 k.0 o.member (inr f.1) k.1)) less)
+      key_before d.0 f.0.0 (name_shown m) (member_package_shown m) (name_shown o.member) (member_package_shown o.member) (sym (named d n m (inl refl) is)) (sym (named f.0 k.0 o.member (inr f.1) k.1)) less)
       (rising_list es (sorted_tail key_cmp d.0 (keys_of es) sorted) (λ e n m there is. named e n m (inr there) is))
 
-module _ (look : Look) (t : Term) (paths : List (List ℕ)) (types : List Reached) (by_pointer methods : Bool) (es : KeyedNames) (found : List Selected) (known : AreKnown look t paths types (names_shown es))
+module _ (look : EntryLook) (t : Term) (paths : List (List ℕ)) (types : List Reached) (by_pointer methods : Bool) (es : KeyedNames) (found : List Selected) (known : AreKnown look t paths types (names_shown es))
     (listed : AreListed paths types by_pointer methods es found) where
   abbrev all : List Selected
   all = listed_of paths types by_pointer methods (names_shown es)
@@ -261,23 +261,23 @@ module _ (look : Look) (t : Term) (paths : List (List ℕ)) (types : List Reache
   named : (e : Key × Known) (n : ℕ) (m : declared_member.Member) → In es e → e.1 ≡ One n m → identifier_in m ≡ key_shown e.0
   named e n m there is = known.named (key_shown e.0) n m (found_own es listed.ordered e there ∙ ap (λ k. Some k) is)
 
-  seen : (s : Selected) → In all s → (name from : List ℕ) → SameId (name_shown s.member) (package_shown s.member) name from
+  seen : (s : Selected) → In all s → (name from : List ℕ) → SameId (name_shown s.member) (member_package_shown s.member) name from
       → (is_blank name ≡ false) × IsSelectedAs look t by_pointer name from s × IsShown methods (found_shown s.member)
   seen s there name from same =
       let f = listed_from paths types by_pointer methods es s there in
       let k = entry_member paths types by_pointer methods f.0.1 s f.2 in
-      let id : key_shown f.0.0 ≡ identifier_of name from = sym (named f.0 k.0 s.member f.1 k.1) ∙ same_identifier_of (name_shown s.member) (package_shown s.member) name from same in
+      let id : key_shown f.0.0 ≡ identifier_of name from = sym (named f.0 k.0 s.member f.1 k.1) ∙ same_identifier_of (name_shown s.member) (member_package_shown s.member) name from same in
       let r : known_of (names_shown es) (identifier_of name from) ≡ Some (One k.0 s.member) = sym (ap (known_of (names_shown es)) id) ∙ (found_own es listed.ordered f.0 f.1 ∙ ap (λ q. Some q) k.1) in
       entry_sound look t name from paths types by_pointer methods k.0 s.member s same.0 (subst (IsKnown look t name from paths types) r (known.each name from)) (subst (λ q. In (entry_listed paths types by_pointer methods q) s) k.1 f.2)
 
   whole : (name from path : List ℕ) (pointer : Bool) (f : Found) → is_blank name ≡ false → IsSelected look t name from path pointer f → IsShown methods f → (r : Option Known) → known_of (names_shown es) (identifier_of name from) ≡ r
-      → (s : Selected) × Contains all s × SameId (name_shown s.member) (package_shown s.member) name from
+      → (s : Selected) × Contains all s × SameId (name_shown s.member) (member_package_shown s.member) name from
   whole name from path pointer f blank sel shown None e = absurd (let h : IsKnown look t name from paths types None = subst (IsKnown look t name from paths types) e (known.each name from) in h path pointer f sel)
   whole name from path pointer f blank sel shown (Some v) e =
       let g = found_in es (identifier_of name from) v e in
       let h : IsKnown look t name from paths types (Some v) = subst (IsKnown look t name from paths types) e (known.each name from) in
-      let id : (n : ℕ) (m : declared_member.Member) → v ≡ One n m → SameId (name_shown m) (package_shown m) name from =
-      λ n m is. identifier_same (name_shown m) (package_shown m) name from (known.named (identifier_of name from) n m (e ∙ ap (λ k. Some k) is)) in
+      let id : (n : ℕ) (m : declared_member.Member) → v ≡ One n m → SameId (name_shown m) (member_package_shown m) name from =
+      λ n m is. identifier_same (name_shown m) (member_package_shown m) name from (known.named (identifier_of name from) n m (e ∙ ap (λ k. Some k) is)) in
       let n = entry_whole look t name from paths types by_pointer methods v path pointer f (λ n m is. (id n m is).0) h blank sel shown in
       let k = entry_member paths types by_pointer methods v n.0 n.1 in
       (n.0, contained_in all n.0 (listed_to paths types by_pointer methods es g.0 n.0 g.1 (subst (λ q. In (entry_listed paths types by_pointer methods q) n.0) (sym g.3) n.1)), id k.0 n.0.member k.1)
@@ -293,14 +293,14 @@ module _ (look : Look) (t : Term) (paths : List (List ℕ)) (types : List Reache
 
 -- 5. The loop over the map.
 
-within_known : (look : Look) (t : Term) (name from : List ℕ) (paths : List (List ℕ)) (types : List Reached) (known : Known) → IsKnown look t name from paths types (Some known) → IsWithin types known
+within_known : (look : EntryLook) (t : Term) (name from : List ℕ) (paths : List (List ℕ)) (types : List Reached) (known : Known) → IsKnown look t name from paths types (Some known) → IsWithin types known
 within_known look t name from paths types (One n m) h = at_within types n h.0 h.1
 within_known look t name from paths types More h = tt
 
-pub are_within : (look : Look) (t : Term) (paths : List (List ℕ)) (types : List Reached) (ns : List (Identifier × Known)) → AreKnown look t paths types ns → AreWithin types ns
+pub are_within : (look : EntryLook) (t : Term) (paths : List (List ℕ)) (types : List Reached) (ns : List (Identifier × Known)) → AreKnown look t paths types ns → AreWithin types ns
 are_within look t paths types ns known id (One n m) e =
     let r : known_of ns (identifier_in m) ≡ Some (One n m) = ap (known_of ns) (known.named id n m e) ∙ e in
-    within_known look t (name_shown m) (package_shown m) paths types (One n m) (subst (IsKnown look t (name_shown m) (package_shown m) paths types) r (known.each (name_shown m) (package_shown m)))
+    within_known look t (name_shown m) (member_package_shown m) paths types (One n m) (subst (IsKnown look t (name_shown m) (member_package_shown m) paths types) r (known.each (name_shown m) (member_package_shown m)))
 are_within look t paths types ns known id More e = tt
 
 -- the entry at a place of a map in order
@@ -309,33 +309,33 @@ entry_within types es i e sorted within at = within (key_shown e.0) e.1 (found_o
 
 -- 6. Behind an operand.
 
-pub selections_in_type : (look : Look) (t u : Term) (b : Bool) (found : List Selected) → searches.In u b ≡ searched look t → AreSelectionsIn look u b true found → AreSelections look t found
+pub selections_in_type : (look : EntryLook) (t u : Term) (b : Bool) (found : List Selected) → searches.In u b ≡ searched look t → AreSelectionsIn look u b true found → AreSelections look t found
 selections_in_type look t u b found is l =
     record {
       rising = l.rising;
-      sound = λ s c. answer s c (name_shown s.member) (package_shown s.member) (refl, inr refl);
+      sound = λ s c. answer s c (name_shown s.member) (member_package_shown s.member) (refl, inr refl);
       seen = answer;
       whole = λ name from path passes f d. let g : IsFoundAs look (searches.In u b) name from path passes f = subst (λ w. IsFoundAs look w name from path passes f) (sym is) d.1 in l.whole name from path g.0 f d.0 g.1 tt;
     }
   where
-    answer : (s : Selected) → Contains found s → (name from : List ℕ) → SameId (name_shown s.member) (package_shown s.member) name from → IsAnswer look t name from (Ok s)
-    answer s c name from same = let h = l.seen s c name from same in (h.0, subst (λ w. IsFound look w name from s) is h.1)
+    answer : (s : Selected) → Contains found s → (name from : List ℕ) → SameId (name_shown s.member) (member_package_shown s.member) name from → IsSelectorAnswer look t name from (Ok s)
+    answer s c name from same = let h = l.seen s c name from same in (h.0, subst (λ w. IsFoundSelected look w name from s) is h.1)
 
 -- where methods are left out
-pub selections_of_fields : (look : Look) (t u : Term) (found : List Selected) → FieldsIn u ≡ searched look t → AreSelectionsIn look u true false found → AreSelections look t found
+pub selections_of_fields : (look : EntryLook) (t u : Term) (found : List Selected) → FieldsIn u ≡ searched look t → AreSelectionsIn look u true false found → AreSelections look t found
 selections_of_fields look t u found is l =
     record {
       rising = l.rising;
-      sound = λ s c. answer s c (name_shown s.member) (package_shown s.member) (refl, inr refl);
+      sound = λ s c. answer s c (name_shown s.member) (member_package_shown s.member) (refl, inr refl);
       seen = answer;
       whole = λ name from path passes f d. let g : IsFoundAs look (FieldsIn u) name from path passes f = subst (λ w. IsFoundAs look w name from path passes f) (sym is) d.1 in l.whole name from path g.0.0 f d.0 g.0.1 g.1;
     }
   where
-    answer : (s : Selected) → Contains found s → (name from : List ℕ) → SameId (name_shown s.member) (package_shown s.member) name from → IsAnswer look t name from (Ok s)
-    answer s c name from same = let h = l.seen s c name from same in (h.0, subst (λ w. IsFound look w name from s) is (h.1, h.2))
+    answer : (s : Selected) → Contains found s → (name from : List ℕ) → SameId (name_shown s.member) (member_package_shown s.member) name from → IsSelectorAnswer look t name from (Ok s)
+    answer s c name from same = let h = l.seen s c name from same in (h.0, subst (λ w. IsFoundSelected look w name from s) is (h.1, h.2))
 
 -- where the operand is refused
-pub selections_of_none : (look : Look) (t : Term) (rule : Rule) (found : List Selected) → Refused rule ≡ searched look t → found ≡ [] → AreSelections look t found
+pub selections_of_none : (look : EntryLook) (t : Term) (rule : Rule) (found : List Selected) → Refused rule ≡ searched look t → found ≡ [] → AreSelections look t found
 selections_of_none look t rule found is none =
     subst (AreSelections look t) (sym none) (record {
       rising = λ i j d less l. absurd (omega (arith, l));
@@ -352,14 +352,14 @@ pairs_from R (x ∷ xs) h =
     (λ y m. let c = contained_in xs y m in subst (R x) c.2 (h 0 (suc c.0) y (omega arith) (omega (arith, c.1))), pairs_from R xs (λ i j d less l. h (suc i) (suc j) d (omega (arith, less)) (omega (arith, l))))
 
 module _ (from : List ℕ) where
-  is_seen_so : (s : Selected) → is_seen from s ≡ true → SameId (name_shown s.member) (package_shown s.member) (name_shown s.member) from
-  is_seen_so s h = (refl, elim (or_cases (exported (chars (name_shown s.member))) (bytes_eq (package_shown s.member) from) h) [ inl e ↦ inl e | inr e ↦ inr ((bytes_eq-Decides (package_shown s.member) from).0 e) ])
+  is_seen_so : (s : Selected) → is_seen from s ≡ true → SameId (name_shown s.member) (member_package_shown s.member) (name_shown s.member) from
+  is_seen_so s h = (refl, elim (or_cases (exported (chars (name_shown s.member))) (bytes_eq (member_package_shown s.member) from) h) [ inl e ↦ inl e | inr e ↦ inr ((bytes_eq-Decides (member_package_shown s.member) from).0 e) ])
 
-  so_is_seen : (s : Selected) (name : List ℕ) → SameId (name_shown s.member) (package_shown s.member) name from → is_seen from s ≡ true
+  so_is_seen : (s : Selected) (name : List ℕ) → SameId (name_shown s.member) (member_package_shown s.member) name from → is_seen from s ≡ true
   so_is_seen s name h =
       elim h.1 [
-        | inl e ↦ or_left (exported (chars (name_shown s.member))) (bytes_eq (package_shown s.member) from) e
-        | inr e ↦ or_right (exported (chars (name_shown s.member))) (bytes_eq (package_shown s.member) from) ((bytes_eq-Decides (package_shown s.member) from).1 e)
+        | inl e ↦ or_left (exported (chars (name_shown s.member))) (bytes_eq (member_package_shown s.member) from) e
+        | inr e ↦ or_right (exported (chars (name_shown s.member))) (bytes_eq (member_package_shown s.member) from) ((bytes_eq-Decides (member_package_shown s.member) from).1 e)
       ]
 
   named_item : (b : Bool) (s : Selected) (n : Name × Selected) → In (named_if b s) n → (b ≡ true) × ((name_shown s.member, s) ≡ n)
@@ -399,17 +399,17 @@ module _ (from : List ℕ) where
       (λ on o m.
       let r = seen_back ss o m in
       subst (λ q. slice_cmp nat_cmp (name_shown s.member) q ≡ Less) r.1
-      (names_below (name_shown s.member) (package_shown s.member) (name_shown o.1.member) (package_shown o.1.member) from (h.0 o.1 r.0) (is_seen_so s on) (is_seen_so o.1 r.2)))
+      (names_below (name_shown s.member) (member_package_shown s.member) (name_shown o.1.member) (member_package_shown o.1.member) from (h.0 o.1 r.0) (is_seen_so s on) (is_seen_so o.1 r.2)))
       (rising_seen ss h.1)
 
-pub listing_from : (look : Look) (t : Term) (from : List ℕ) (found : List Selected) (names : List (Name × Selected)) → AreSelections look t found → names ≡ seen_of from found → IsListing look t from names
+pub listing_from : (look : EntryLook) (t : Term) (from : List ℕ) (found : List Selected) (names : List (Name × Selected)) → AreSelections look t found → names ≡ seen_of from found → IsListing look t from names
 listing_from look t from found names l is =
     subst (IsListing look t from) (sym is) (record {
       rising = all_pairs (λ (a b : Name × Selected). slice_cmp nat_cmp a.0 b.0 ≡ Less) (seen_of from found) (rising_seen from found (pairs_from IsSelectedBefore found l.rising));
       sound = λ n c.
           let r = seen_back from found n (in_contained (seen_of from found) n c) in
           let v = is_seen_so from n.1 r.2 in
-          subst (λ q. IsAnswer look t q from (Ok n.1)) r.1 (l.seen n.1 (contained_in found n.1 r.0) (name_shown n.1.member) from v);
+          subst (λ q. IsSelectorAnswer look t q from (Ok n.1)) r.1 (l.seen n.1 (contained_in found n.1 r.0) (name_shown n.1.member) from v);
       whole = λ name path passes f d.
           let s = l.whole name from path passes f d in
           let there = seen_there from found s.0 (in_contained found s.0 s.1) (so_is_seen from s.0 name s.2) in

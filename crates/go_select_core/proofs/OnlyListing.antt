@@ -5,15 +5,15 @@ use Rattle.std.specs.Ordering.{nat_cmp}
 use Rattle.std.specs.Cmp.Lexicographic.{slice_cmp}
 use Rattle.go_text_core.specs.declared.name.Name.{Name}
 use Rattle.go_term_core.specs.Terms.{Term}
-use Rattle.go_embed_core.specs.table_core.Entries.{Look}
-use Rattle.go_embed_core.specs.Owners.{Found}
-use Rattle.go_embed_core.specs.OwnersShown.{found_shown}
-use Rattle.go_select_core.specs.declared.search.Selected.{Selected}
-use Rattle.go_select_core.specs.Selectors.{IsAnswer}
+use Rattle.go_level_core.specs.table_core.Entries.{EntryLook}
+use Rattle.go_level_core.specs.embed_core.Owners.{Found}
+use Rattle.go_level_core.specs.embed_core.OwnersShown.{found_shown}
+use Rattle.go_level_core.specs.declared.search.Selected.{Selected}
+use Rattle.go_level_core.specs.Selectors.{IsSelectorAnswer}
 use Rattle.go_select_core.specs.Selections.{IsListing}
 use Rattle.go_select_core.specs.Laws.{name_listed, OneListing}
 use Rattle.go_select_core.proofs.Identifiers.{never_below, never_both}
-use Rattle.go_select_core.proofs.ListLemmas.{In, in_contained, contained_in}
+use Rattle.go_level_core.proofs.ListLemmas.{In, in_contained, contained_in}
 use Rattle.go_select_core.proofs.ListedNames.{Pairs, pairs_from}
 use Rattle.go_select_core.proofs.Meanings.{one_answer}
 
@@ -61,12 +61,12 @@ rows_rise [] h = tt
 rows_rise (n ∷ ns) h = (λ r m. let o = rows_in ns r m in subst (λ q. Below (name_listed n) q) o.2 (h.0 o.0 o.1), rows_rise ns h.1)
 
 -- what one has the other has
-there : (look : Look) (t : Term) (from : List ℕ) (a b : List (Name × Selected)) → IsListing look t from a → IsListing look t from b → (r : Row) → In (map name_listed a) r → In (map name_listed b) r
+there : (look : EntryLook) (t : Term) (from : List ℕ) (a b : List (Name × Selected)) → IsListing look t from a → IsListing look t from b → (r : Row) → In (map name_listed a) r → In (map name_listed b) r
 there look t from a b la lb r h =
     let n = rows_in a r h in
     let answer = la.sound n.0 (contained_in a n.0 n.1) in
     let m = lb.whole n.0.0 n.0.1.path n.0.1.through_pointer (found_shown n.0.1.member) answer in
-    let other : IsAnswer look t n.0.0 from (Ok m.0.1) = subst (λ q. IsAnswer look t q from (Ok m.0.1)) m.2 (lb.sound m.0 m.1) in
+    let other : IsSelectorAnswer look t n.0.0 from (Ok m.0.1) = subst (λ q. IsSelectorAnswer look t q from (Ok m.0.1)) m.2 (lb.sound m.0 m.1) in
     let same = one_answer.selected look t n.0.0 from m.0.1 n.0.1 other answer in
     subst (In (map name_listed b)) ((λ i. (m.2 i, (same.0 i, (same.1 i, same.2 i)))) ∙ n.2) (in_rows b m.0 (in_contained b m.0 m.1))
 

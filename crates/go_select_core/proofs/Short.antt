@@ -9,16 +9,16 @@ use Rattle.std.proofs.lemmas.Slice.Eq.{bytes_eq-Decides}
 use Rattle.go_term_core.specs.decl_core.contracts.places.DeclKind as decl_kind
 use Rattle.go_term_core.specs.decl_core.declared.keys.DeclKey.{DeclKey}
 use Rattle.go_term_core.specs.Terms.{Term, NoType, Predeclared, ErrorType, Defined, PointerTo, StructOf, InterfaceOf, Fields}
-use Rattle.go_embed_core.specs.table_core.Entries.{Entry, find, same_key, same_decl, term_in, underlying_in}
-use Rattle.go_embed_core.specs.Owners.{Edge, Found, owner_in, term_embedded, embedded_in}
-use Rattle.go_select_core.specs.Paths.{Step, Leads, Hit}
+use Rattle.go_level_core.specs.table_core.Entries.{Entry, find_entry, same_key, same_decl, term_in, underlying_in}
+use Rattle.go_level_core.specs.embed_core.Owners.{EmbeddedEdge, Found, owner_in, term_embedded, embedded_in}
+use Rattle.go_level_core.specs.Paths.{Step, FieldsLead, Hit}
 use Rattle.go_select_core.specs.Laws.{ShortPathsSuffice}
-use Rattle.go_select_core.specs.mirrors.Ways.{At, IsNumbered}
-use Rattle.go_select_core.specs.mirrors.Levels.{left_below, left}
-use Rattle.go_select_core.proofs.ListLemmas.{In}
-use Rattle.go_select_core.proofs.Edges.{step_edge}
-use Rattle.go_select_core.proofs.Weights.{lookup_more, lookup_new, left_falls}
-use Rattle.go_select_core.proofs.Growing.{numbered_same}
+use Rattle.go_level_core.specs.mirrors.Ways.{At, IsNumbered}
+use Rattle.go_level_core.specs.mirrors.Levels.{left_below, left}
+use Rattle.go_level_core.proofs.ListLemmas.{In}
+use Rattle.go_level_core.proofs.Edges.{step_edge}
+use Rattle.go_level_core.proofs.Weights.{lookup_more, lookup_new, left_falls}
+use Rattle.go_level_core.proofs.Growing.{numbered_same}
 
 -- keys
 
@@ -66,38 +66,38 @@ found_step : (b : Bool) (x e : Entry) (rest : Option Entry) (k : DeclKey) (es : 
 found_step true x e rest k es is more h = let s : x ≡ e = (cc) in (0, ap Some s, ap (λ (y : Entry). y.key) (sym s) ∙ key_same x.key k is)
 found_step false x e rest k es is more h = let r = more h in (suc r.0, r.1, r.2)
 
-found_at : (es : List Entry) (k : DeclKey) (e : Entry) → find es k ≡ Some e → (n : ℕ) × At es n e × (e.key ≡ k)
+found_at : (es : List Entry) (k : DeclKey) (e : Entry) → find_entry es k ≡ Some e → (n : ℕ) × At es n e × (e.key ≡ k)
 found_at [] k e h = cc
-found_at (x ∷ es) k e h = found_step (same_key x.key k) x e (find es k) k es refl (λ r. found_at es k e r) h
+found_at (x ∷ es) k e h = found_step (same_key x.key k) x e (find_entry es k) k es refl (λ r. found_at es k e r) h
 
-numbered : (es : List Entry) (k : DeclKey) (e : Entry) → find es k ≡ Some e → (n : ℕ) × IsNumbered es n (Defined k)
+numbered : (es : List Entry) (k : DeclKey) (e : Entry) → find_entry es k ≡ Some e → (n : ℕ) × IsNumbered es n (Defined k)
 numbered es k e h =
     let r = found_at es k e h in
-    (r.0, record { entry = e; at = r.1; is = ap Defined (sym r.2); found = ap (find es) r.2 ∙ h })
+    (r.0, record { entry = e; at = r.1; is = ap Defined (sym r.2); found = ap (find_entry es) r.2 ∙ h })
 
 -- no path from a type leads to a struct type as it is written
 abbrev Clean : List Entry → Term → Type 0
-Clean es v = (q : List ℕ) (b : Bool) (p : List ℕ) (fs : Fields) → Leads (find es) v q b (StructOf p fs) → ⊥
+Clean es v = (q : List ℕ) (b : Bool) (p : List ℕ) (fs : Fields) → FieldsLead (find_entry es) v q b (StructOf p fs) → ⊥
 
-clean_step : (es : List Entry) (t : Term) (i : ℕ) (p : Bool) (v : Term) → Clean es t → Step (find es) t i p v → Clean es v
+clean_step : (es : List Entry) (t : Term) (i : ℕ) (p : Bool) (v : Term) → Clean es t → Step (find_entry es) t i p v → Clean es v
 clean_step es t i p v clean s q b path fs h = clean (i ∷ q) (p || b) path fs (v, p, b, s, h, refl)
 
 -- a type with an edge is of the table
-step_numbered : (es : List Entry) (t : Term) (i : ℕ) (p : Bool) (v : Term) → Clean es t → Step (find es) t i p v → (n : ℕ) × IsNumbered es n t
-step_numbered es t i p v clean s = by t refl (let x = step_edge (find es) t i p v s in (x.0, x.2))
+step_numbered : (es : List Entry) (t : Term) (i : ℕ) (p : Bool) (v : Term) → Clean es t → Step (find_entry es) t i p v → (n : ℕ) × IsNumbered es n t
+step_numbered es t i p v clean s = by t refl (let x = step_edge (find_entry es) t i p v s in (x.0, x.2))
   where
-    defined : (k : DeclKey) (r : Option Entry) → find es k ≡ r → (e : Edge) × In (embedded_in (owner_in (find es) (Defined k))) e → (n : ℕ) × IsNumbered es n (Defined k)
-    defined k None is e = let u : underlying_in (find es) (Defined k) ≡ NoType = ap term_in is in absurd (subst (λ w. In (term_embedded (owner_in (find es) (Defined k)) w) e.0) u e.1)
+    defined : (k : DeclKey) (r : Option Entry) → find_entry es k ≡ r → (e : EmbeddedEdge) × In (embedded_in (owner_in (find_entry es) (Defined k))) e → (n : ℕ) × IsNumbered es n (Defined k)
+    defined k None is e = let u : underlying_in (find_entry es) (Defined k) ≡ NoType = ap term_in is in absurd (subst (λ w. In (term_embedded (owner_in (find_entry es) (Defined k)) w) e.0) u e.1)
     defined k (Some x) is e = numbered es k x is
 
-    by : (w : Term) → t ≡ w → (e : Edge) × In (embedded_in (owner_in (find es) t)) e → (n : ℕ) × IsNumbered es n t
-    by NoType same e = absurd (subst (λ w. In (embedded_in (owner_in (find es) w)) e.0) same e.1)
-    by (Predeclared b) same e = absurd (subst (λ w. In (embedded_in (owner_in (find es) w)) e.0) same e.1)
-    by ErrorType same e = absurd (subst (λ w. In (embedded_in (owner_in (find es) w)) e.0) same e.1)
-    by (Defined k) same e = let r = defined k (find es k) refl (e.0, subst (λ w. In (embedded_in (owner_in (find es) w)) e.0) same e.1) in (r.0, subst (λ w. IsNumbered es r.0 w) (sym same) r.1)
-    by (PointerTo u) same e = absurd (subst (λ w. In (embedded_in (owner_in (find es) w)) e.0) same e.1)
+    by : (w : Term) → t ≡ w → (e : EmbeddedEdge) × In (embedded_in (owner_in (find_entry es) t)) e → (n : ℕ) × IsNumbered es n t
+    by NoType same e = absurd (subst (λ w. In (embedded_in (owner_in (find_entry es) w)) e.0) same e.1)
+    by (Predeclared b) same e = absurd (subst (λ w. In (embedded_in (owner_in (find_entry es) w)) e.0) same e.1)
+    by ErrorType same e = absurd (subst (λ w. In (embedded_in (owner_in (find_entry es) w)) e.0) same e.1)
+    by (Defined k) same e = let r = defined k (find_entry es k) refl (e.0, subst (λ w. In (embedded_in (owner_in (find_entry es) w)) e.0) same e.1) in (r.0, subst (λ w. IsNumbered es r.0 w) (sym same) r.1)
+    by (PointerTo u) same e = absurd (subst (λ w. In (embedded_in (owner_in (find_entry es) w)) e.0) same e.1)
     by (StructOf path fs) same e = absurd (clean [] false path fs (same, refl))
-    by (InterfaceOf path ms) same e = absurd (subst (λ w. In (embedded_in (owner_in (find es) w)) e.0) same e.1)
+    by (InterfaceOf path ms) same e = absurd (subst (λ w. In (embedded_in (owner_in (find_entry es) w)) e.0) same e.1)
 
 -- paths that meet no type that is marked
 
@@ -106,9 +106,9 @@ Free es met u = (n : ℕ) → IsNumbered es n u → lookup (nat_eq n) met ≡ No
 
 abbrev Avoids : List Entry → List (ℕ × ℕ) → Term → List ℕ → Term → Type 0
 Avoids es met t [] u = Free es met t × (t ≡ u)
-Avoids es met t (i ∷ q) u = Free es met t × ((v : Term) × (p : Bool) × Step (find es) t i p v × Avoids es met v q u)
+Avoids es met t (i ∷ q) u = Free es met t × ((v : Term) × (p : Bool) × Step (find_entry es) t i p v × Avoids es met v q u)
 
-avoids_none : (es : List Entry) (t : Term) (q : List ℕ) (p : Bool) (u : Term) → Leads (find es) t q p u → Avoids es [] t q u
+avoids_none : (es : List Entry) (t : Term) (q : List ℕ) (p : Bool) (u : Term) → FieldsLead (find_entry es) t q p u → Avoids es [] t q u
 avoids_none es t [] p u h = (λ n num. refl, h.0)
 avoids_none es t (i ∷ q) p u h = (λ n num. refl, (h.0, h.1, h.3, avoids_none es h.0 q h.2 u h.4))
 
@@ -117,7 +117,7 @@ free_more es met n w free other m num = lookup_more met n 0 m (λ e. other (subs
 
 -- the last time that a path is at t: it never is, or the rest of it never comes back
 abbrev Rest : List Entry → List (ℕ × ℕ) → Term → Term → Type 0
-Rest es met t u = (t ≡ u) ⊎ ((i : ℕ) × (p : Bool) × (v : Term) × (q : List ℕ) × Step (find es) t i p v × Avoids es met v q u)
+Rest es met t u = (t ≡ u) ⊎ ((i : ℕ) × (p : Bool) × (v : Term) × (q : List ℕ) × Step (find_entry es) t i p v × Avoids es met v q u)
 
 same_as : (es : List Entry) (n : ℕ) (t : Term) (num : IsNumbered es n t) (w : Term) → (w ≡ t) ⊎ (w ≡ t → ⊥)
 same_as es n t num w = elim (same_node w num.entry.key) [ inl e ↦ inl (e ∙ sym num.is) | inr d ↦ inr (λ e. d (e ∙ num.is)) ]
@@ -132,7 +132,7 @@ last_visit es met n t num w (i ∷ q) u h =
     elim (last_visit es met n t num h.1.0 q u h.1.3) [
       | inr r ↦ inr r
       | inl a ↦ elim (same_as es n t num w) [
-        | inl z ↦ inr (inr (i, h.1.1, h.1.0, q, subst (λ k. Step (find es) k i h.1.1 h.1.0) z h.1.2, a))
+        | inl z ↦ inr (inr (i, h.1.1, h.1.0, q, subst (λ k. Step (find_entry es) k i h.1.1 h.1.0) z h.1.2, a))
         | inr d ↦ inl (free_more es met n w h.0 (λ m. d (numbered_same es n w t m num)), (h.1.0, h.1.1, h.1.2, a))
       ]
     ]
@@ -150,7 +150,7 @@ marked es met n t q u num none a =
     some_none : (p : ℕ) → Some p ≡ None → ⊥
     some_none p z = cc
 
-short : (b : ℕ) (es : List Entry) (met : List (ℕ × ℕ)) (t : Term) (q : List ℕ) (u : Term) → left es met ≤ b → Clean es t → Avoids es met t q u → (r : List ℕ) × (p : Bool) × Leads (find es) t r p u × (length r ≤ b)
+short : (b : ℕ) (es : List Entry) (met : List (ℕ × ℕ)) (t : Term) (q : List ℕ) (u : Term) → left es met ≤ b → Clean es t → Avoids es met t q u → (r : List ℕ) × (p : Bool) × FieldsLead (find_entry es) t r p u × (length r ≤ b)
 short b es met t [] u l clean h = ([], false, (h.1, refl), omega arith)
 short zero es met t (i ∷ q) u l clean h =
     let num = step_numbered es t i h.1.1 h.1.0 clean h.1.2 in
@@ -177,8 +177,8 @@ left_none (suc n) = let l = left_none n in omega (arith, l)
 pub short_paths : ShortPathsSuffice
 short_paths es t name from names h = by h.0 h.1 h.4
   where
-    by : (q : List ℕ) (p : Bool) (g : Hit (find es) t name from q p h.2 h.3)
-        → (path : List ℕ) × (pointer : Bool) × (number : ℕ) × (f : Found) × Hit (find es) t name from path pointer number f × (length path ≤ suc (length es))
+    by : (q : List ℕ) (p : Bool) (g : Hit (find_entry es) t name from q p h.2 h.3)
+        → (path : List ℕ) × (pointer : Bool) × (number : ℕ) × (f : Found) × Hit (find_entry es) t name from path pointer number f × (length path ≤ suc (length es))
     by [] p g = ([], p, h.2, h.3, g, omega arith)
     by (i ∷ q) p g =
         let s = g.leads in

@@ -1,8 +1,7 @@
-pub mod Paths
-pub mod Selectors
 pub mod Selections
 pub mod Laws
 pub mod mirrors
 pub mod embed_core
+pub mod level_core
 pub mod settle_core
 pub mod table_core

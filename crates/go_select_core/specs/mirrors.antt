@@ -1,8 +1,3 @@
 -- Definitions that follow the code step by step, for its proof. No statement that a caller rests on needs them.
-pub mod Trails
-pub mod Ways
-pub mod Levels
-pub mod Operands
-pub mod Searches
 pub mod Names
 pub mod Listings

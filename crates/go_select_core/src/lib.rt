@@ -1,39 +1,33 @@
-//! What a selector denotes: the field or method at the shallowest depth, over embedded fields.
+//! All that selectors denote behind an operand, and the laws of what they denote: the field or method at the shallowest depth, over embedded
+//! fields.
 //!
 //! The Go specification, "Selectors", "Struct types".
 #![tactic(auto)]
 
 mod laws;
-mod level;
 mod listing;
 mod names;
-mod numbers;
-mod operand;
-mod path;
-mod search;
-mod trails;
 
-pub use go_embed_core::{Member, Owner};
+pub use go_level_core::embed_core::{Member, Owner};
+pub use go_level_core::{EmbedPath, Selected, select, select_behind_pointer};
 pub use laws::{
     listing_is_local, one_listing, only_one_answer, selection_is_local, short_paths_suffice,
 };
 pub use listing::{selectable, selections};
-pub use path::EmbedPath;
-pub use search::{Selected, select, select_behind_pointer};
 
 /// What the crates above name of `go_settle_core`.
 pub mod settle_core {
-    pub use go_embed_core::settle_core::{Kind, kind_of, settle, settle_signature};
+    pub use go_level_core::settle_core::{Kind, kind_of, settle, settle_signature};
 }
 
 /// What the crates above name of `go_table_core`.
 pub mod table_core {
-    pub use go_embed_core::table_core::{DeclaredMethod, DefinedType, PackageTypes, TypeTable};
+    pub use go_level_core::table_core::{DeclaredMethod, DefinedType, PackageTypes, TypeTable};
 }
 
 /// What the crates above name of `go_type_core`.
 pub mod type_core {
-    pub use go_embed_core::type_core::{
+    pub use go_level_core::type_core::{
         Basic, Method, Signature, TypeTable, TypeTerm, has_same_signature,
     };
 }

@@ -1,17 +1,15 @@
 //! All that selectors may denote behind an operand.
 ghost use Rattle.std.specs.Prelude.{◌≡◌, length, option_to_list, IfOk, OnOk};
-ghost use Rattle.go_embed_core.specs.table_core.Entries.{find};
+ghost use Rattle.go_level_core.specs.table_core.Entries.{find_entry};
 ghost use Rattle.go_term_core.specs.Shapes.{shape};
 ghost use Rattle.go_select_core.specs.Selections.{AreSelections, IsListing};
 ghost use Rattle.go_select_core.specs.mirrors.Names.{names_of, AreBefore, AreNamed, AreSaid, AreKnown};
 ghost use Rattle.go_select_core.specs.mirrors.Listings.{IsWithin, AreWithin, AreListed, AreSelectionsIn, entry_listed, seen_of};
 
-use crate::level::{Levels, Reached, expand};
 use crate::names::{Known, Names};
-use crate::operand::{Operand, behind};
-use crate::search::{Selected, is_field};
-use go_embed_core::Owner;
-use go_embed_core::type_core::{TypeTable, TypeTerm};
+use go_level_core::embed_core::Owner;
+use go_level_core::type_core::{TypeTable, TypeTerm};
+use go_level_core::{Levels, Operand, Reached, Selected, behind, expand, is_field};
 use go_path_core::ImportPath;
 use go_text_core::{Name, add};
 use std::alloc::{AllocError, Global};
@@ -33,7 +31,7 @@ fn note_level<'a>(
 ) -> Result<(), AllocError>
     requires before { AreBefore first (names_of names.old) }
     requires named { AreNamed (names_of names.old) }
-    ensures said { OnOk result (AreSaid (find table.now) types.now first (names_of names.old) (names_of names.new)) }
+    ensures said { OnOk result (AreSaid (find_entry table.now) types.now first (names_of names.old) (names_of names.new)) }
     ensures named { OnOk result (AreNamed (names_of names.new)) }
 {
     'types: for n in first..types.len() {
@@ -52,7 +50,7 @@ fn survey_from<'a>(
     table: &'a TypeTable,
     start: &'a TypeTerm,
 ) -> Result<Survey<'a>, AllocError>
-    ensures { IfOk result (λ s. AreKnown (find table.now) (shape start.now) s.levels.trails s.levels.types.items (names_of s.names)) }
+    ensures { IfOk result (λ s. AreKnown (find_entry table.now) (shape start.now) s.levels.trails s.levels.types.items (names_of s.names)) }
 {
     let mut levels = Levels::begin(alloc, table, start)?;
     let mut names = Names::new(alloc);
@@ -125,7 +123,7 @@ fn selections_in<'a>(
     by_pointer: bool,
     with_methods: bool,
 ) -> Result<Vec<Selected<'a>>, AllocError>
-    ensures { IfOk result (λ found. AreSelectionsIn (find table.now) (shape start.now) by_pointer with_methods found.items) }
+    ensures { IfOk result (λ found. AreSelectionsIn (find_entry table.now) (shape start.now) by_pointer with_methods found.items) }
 {
     let survey = survey_from(alloc, table, start)?;
     let listed = list_names(alloc, &survey, by_pointer, with_methods)?;
@@ -146,7 +144,7 @@ pub fn selections<'a>(
     table: &'a TypeTable,
     term: &'a TypeTerm,
 ) -> Result<Vec<Selected<'a>>, AllocError>
-    ensures { IfOk result (λ found. AreSelections (find table.now) (shape term.now) found.items) }
+    ensures { IfOk result (λ found. AreSelections (find_entry table.now) (shape term.now) found.items) }
 {
     match behind(table, term) {
         Ok(Operand::In(start, by_pointer)) => selections_in(alloc, table, start, by_pointer, true),
@@ -188,7 +186,7 @@ pub fn selectable<'a>(
     term: &'a TypeTerm,
     from: &ImportPath,
 ) -> Result<Vec<(Name, Selected<'a>)>, AllocError>
-    ensures { IfOk result (λ names. IsListing (find table.now) (shape term.now) from.now names.items) }
+    ensures { IfOk result (λ names. IsListing (find_entry table.now) (shape term.now) from.now names.items) }
 {
     let found = selections(alloc, table, term)?;
     let listed = seen_from(alloc, found, from)?;

@@ -6,7 +6,7 @@ use Rattle.go_term_core.specs.declared.term.MemberPlace.{MemberPlace}
 use Rattle.go_term_core.specs.Terms.{Term, NoType, Predeclared, ErrorType, Defined, PointerTo, StructOf, InterfaceOf, Fields, NoField, AField, Methods, NoMethod, AMethod, Sign, SignOf, Terms, NoTerm, ATerm}
 use Rattle.go_settle_core.specs.declared.kind.Kind.{Kind}
 use Rattle.go_settle_core.specs.declared.kind.Kind.TheVariants as kinds
-use Rattle.go_settle_core.specs.Settled.{is_no_pointer, can_be_pointed, can_point, can_be_embedded, pointer_to, defined_unless, has_name, repeats, settled, settled_fields, settled_methods, settled_sign, settled_terms}
+use Rattle.go_settle_core.specs.Settled.{is_no_pointer, can_be_pointed, can_point, can_be_embedded, pointer_to, defined_unless, is_among_names, repeats_earlier, settled, settled_fields, settled_methods, settled_sign, settled_terms}
 use Rattle.go_settle_core.specs.Laws.{SettlingIsIdempotent}
 use Rattle.go_settle_core.proofs.Names.{SameNames, one_more, repeats_alike, left_alike}
 
@@ -66,7 +66,7 @@ module _ (kind : DeclKey → Kind) where
       → SameNames other seen → settled kind (settled kind t) ≡ settled kind t
       → settled_fields kind other (settled_fields kind seen fs) ≡ settled_fields kind seen fs
       → settled_fields kind (name ∷ other) (settled_fields kind (name ∷ seen) fs) ≡ settled_fields kind (name ∷ seen) fs
-      → (b : Bool) → repeats seen name ≡ b
+      → (b : Bool) → repeats_earlier seen name ≡ b
       → let whole : Bool → Fields = λ b. if b then settled_fields kind seen fs else AField name place (embedded && can_be_embedded kind t) (settled kind t) tag (settled_fields kind (name ∷ seen) fs) in
       settled_fields kind other (whole b) ≡ whole b
   field_again seen other name place embedded t tag fs same ht without hfs true e = without
@@ -81,7 +81,7 @@ module _ (kind : DeclKey → Kind) where
       → SameNames other seen → settled_sign kind (settled_sign kind g) ≡ settled_sign kind g
       → settled_methods kind other (settled_methods kind seen ms) ≡ settled_methods kind seen ms
       → settled_methods kind (name ∷ other) (settled_methods kind (name ∷ seen) ms) ≡ settled_methods kind (name ∷ seen) ms
-      → (b : Bool) → (is_blank name || has_name seen name) ≡ b
+      → (b : Bool) → (is_blank name || is_among_names seen name) ≡ b
       → let whole : Bool → Methods = λ b. if b then settled_methods kind seen ms else AMethod name place (settled_sign kind g) (settled_methods kind (name ∷ seen) ms) in
       settled_methods kind other (whole b) ≡ whole b
   method_again seen other name place g ms same hg without hms true e = without
@@ -104,12 +104,12 @@ module _ (kind : DeclKey → Kind) where
     fields_again : (fs : Fields) (seen other : List (List ℕ)) → SameNames other seen → settled_fields kind other (settled_fields kind seen fs) ≡ settled_fields kind seen fs
     fields_again NoField seen other same = refl
     fields_again (AField name place embedded t tag fs) seen other same =
-        field_again seen other name place embedded t tag fs same (term_again t) (fields_again fs seen other same) (fields_again fs (name ∷ seen) (name ∷ other) (one_more name other seen same)) (repeats seen name) refl
+        field_again seen other name place embedded t tag fs same (term_again t) (fields_again fs seen other same) (fields_again fs (name ∷ seen) (name ∷ other) (one_more name other seen same)) (repeats_earlier seen name) refl
 
     methods_again : (ms : Methods) (seen other : List (List ℕ)) → SameNames other seen → settled_methods kind other (settled_methods kind seen ms) ≡ settled_methods kind seen ms
     methods_again NoMethod seen other same = refl
     methods_again (AMethod name place g ms) seen other same =
-        method_again seen other name place g ms same (sign_again g) (methods_again ms seen other same) (methods_again ms (name ∷ seen) (name ∷ other) (one_more name other seen same)) (is_blank name || has_name seen name) refl
+        method_again seen other name place g ms same (sign_again g) (methods_again ms seen other same) (methods_again ms (name ∷ seen) (name ∷ other) (one_more name other seen same)) (is_blank name || is_among_names seen name) refl
 
     sign_again : (g : Sign) → settled_sign kind (settled_sign kind g) ≡ settled_sign kind g
     sign_again (SignOf ps rs) = (λ i. SignOf (terms_again ps i) (terms_again rs i))

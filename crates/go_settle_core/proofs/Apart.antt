@@ -7,7 +7,7 @@ use Rattle.go_term_core.specs.Terms.{Term, NoType, Predeclared, ErrorType, Defin
 use Rattle.go_term_core.specs.Laws.{HasNone, IsApart, FieldsApart, MethodsApart, SignApart, TermsApart}
 use Rattle.go_settle_core.specs.declared.kind.Kind.{Kind}
 use Rattle.go_settle_core.specs.declared.kind.Kind.TheVariants as kinds
-use Rattle.go_settle_core.specs.Settled.{can_be_embedded, pointer_to, defined_unless, has_name, repeats, settled, settled_fields, settled_methods, settled_sign, settled_terms}
+use Rattle.go_settle_core.specs.Settled.{can_be_embedded, pointer_to, defined_unless, is_among_names, repeats_earlier, settled, settled_fields, settled_methods, settled_sign, settled_terms}
 use Rattle.go_settle_core.specs.Laws.{SettledIsApart}
 use Rattle.go_settle_core.proofs.Names.{has_first, has_later}
 
@@ -32,24 +32,24 @@ module _ (kind : DeclKey → Kind) where
   pointer_apart (InterfaceOf path ms) h = h
 
   -- a name that was seen is kept no more
-  none_step : (seen : List (List ℕ)) (name other : List ℕ) (place : MemberPlace) (g : Sign) (ms : Methods) → has_name seen name ≡ true
+  none_step : (seen : List (List ℕ)) (name other : List ℕ) (place : MemberPlace) (g : Sign) (ms : Methods) → is_among_names seen name ≡ true
       → HasNone name (settled_methods kind seen ms) → HasNone name (settled_methods kind (other ∷ seen) ms)
-      → (b : Bool) → (is_blank other || has_name seen other) ≡ b
+      → (b : Bool) → (is_blank other || is_among_names seen other) ≡ b
       → HasNone name (if b then settled_methods kind seen ms else AMethod other place (settled_sign kind g) (settled_methods kind (other ∷ seen) ms))
   none_step seen name other place g ms there without rest true e = without
   none_step seen name other place g ms there without rest false e = (
     λ same.
-        let P : List ℕ → Type 0 = λ x. has_name seen x ≡ true in
-        let is : has_name seen other ≡ true = subst P same there in
-        let not' = or_false_right (is_blank other) (has_name seen other) e in
+        let P : List ℕ → Type 0 = λ x. is_among_names seen x ≡ true in
+        let is : is_among_names seen other ≡ true = subst P same there in
+        let not' = or_false_right (is_blank other) (is_among_names seen other) e in
         cc,
     rest,
   )
 
-  pub none_of : (ms : Methods) (seen : List (List ℕ)) (name : List ℕ) → has_name seen name ≡ true → HasNone name (settled_methods kind seen ms)
+  pub none_of : (ms : Methods) (seen : List (List ℕ)) (name : List ℕ) → is_among_names seen name ≡ true → HasNone name (settled_methods kind seen ms)
   none_of NoMethod seen name there = tt
   none_of (AMethod other place g ms) seen name there =
-      none_step seen name other place g ms there (none_of ms seen name there) (none_of ms (other ∷ seen) name (has_later other name seen there)) (is_blank other || has_name seen other) refl
+      none_step seen name other place g ms there (none_of ms seen name there) (none_of ms (other ∷ seen) name (has_later other name seen there)) (is_blank other || is_among_names seen other) refl
 
   fields_if : (f fs : Fields) (b : Bool) → FieldsApart f → FieldsApart fs → FieldsApart (if b then f else fs)
   fields_if f fs true h k = h
@@ -72,13 +72,13 @@ module _ (kind : DeclKey → Kind) where
     fields_apart : (fs : Fields) (seen : List (List ℕ)) → FieldsApart (settled_fields kind seen fs)
     fields_apart NoField seen = tt
     fields_apart (AField name place embedded t tag fs) seen =
-        fields_if (settled_fields kind seen fs) (AField name place (embedded && can_be_embedded kind t) (settled kind t) tag (settled_fields kind (name ∷ seen) fs)) (repeats seen name)
+        fields_if (settled_fields kind seen fs) (AField name place (embedded && can_be_embedded kind t) (settled kind t) tag (settled_fields kind (name ∷ seen) fs)) (repeats_earlier seen name)
         (fields_apart fs seen) (term_apart t, fields_apart fs (name ∷ seen))
 
     methods_apart : (ms : Methods) (seen : List (List ℕ)) → MethodsApart (settled_methods kind seen ms)
     methods_apart NoMethod seen = tt
     methods_apart (AMethod name place g ms) seen =
-        methods_if (settled_methods kind seen ms) (AMethod name place (settled_sign kind g) (settled_methods kind (name ∷ seen) ms)) (is_blank name || has_name seen name)
+        methods_if (settled_methods kind seen ms) (AMethod name place (settled_sign kind g) (settled_methods kind (name ∷ seen) ms)) (is_blank name || is_among_names seen name)
         (methods_apart ms seen) (none_of ms (name ∷ seen) name (has_first name seen), sign_apart g, methods_apart ms (name ∷ seen))
 
     sign_apart : (g : Sign) → SignApart (settled_sign kind g)

@@ -9,7 +9,7 @@ use Rattle.go_term_core.specs.Terms.{Term, NoType, Predeclared, ErrorType, Defin
 use Rattle.go_term_core.specs.Laws.{HasNone}
 use Rattle.go_settle_core.specs.declared.kind.Kind.{Kind}
 use Rattle.go_settle_core.specs.declared.kind.Kind.TheVariants as kinds
-use Rattle.go_settle_core.specs.Settled.{can_be_embedded, pointer_to, defined_unless, has_name, repeats, settled, settled_fields, settled_methods, settled_sign, settled_terms}
+use Rattle.go_settle_core.specs.Settled.{can_be_embedded, pointer_to, defined_unless, is_among_names, repeats_earlier, settled, settled_fields, settled_methods, settled_sign, settled_terms}
 use Rattle.go_settle_core.specs.Clean.{HasNoField, IsClean, FieldsClean, MethodsClean, SignClean, TermsClean, SettlingCleans}
 use Rattle.go_settle_core.proofs.Names.{bytes_same, has_first, has_later}
 use Rattle.go_settle_core.proofs.Again.{embedded_again}
@@ -35,12 +35,12 @@ pointer_some (InterfaceOf path ms) some = refl
 -- no field repeats a name that was seen
 abbrev NotSeen : List (List ℕ) → Fields → Type 0
 NotSeen seen NoField = Unit {0}
-NotSeen seen (AField name place embedded t tag fs) = (repeats seen name ≡ false) × NotSeen seen fs
+NotSeen seen (AField name place embedded t tag fs) = (repeats_earlier seen name ≡ false) × NotSeen seen fs
 
-one_field : (seen : List (List ℕ)) (name n : List ℕ) (b c : Bool) → bytes_eq name n ≡ b → is_blank n ≡ c → (is_blank name ≡ false → name ≡ n → ⊥) → repeats seen n ≡ false → not c && (if b then true else has_name seen n) ≡ false
+one_field : (seen : List (List ℕ)) (name n : List ℕ) (b c : Bool) → bytes_eq name n ≡ b → is_blank n ≡ c → (is_blank name ≡ false → name ≡ n → ⊥) → repeats_earlier seen n ≡ false → not c && (if b then true else is_among_names seen n) ≡ false
 one_field seen name n b true same blank apart was = refl
 one_field seen name n true false same blank apart was = absurd (apart (ap is_blank (bytes_same name n same) ∙ blank) (bytes_same name n same))
-one_field seen name n false false same blank apart was = ap (λ x. not x && has_name seen n) (sym blank) ∙ was
+one_field seen name n false false same blank apart was = ap (λ x. not x && is_among_names seen n) (sym blank) ∙ was
 
 more_seen : (seen : List (List ℕ)) (name : List ℕ) (fs : Fields) → (is_blank name ≡ false → HasNoField name fs) → NotSeen seen fs → NotSeen (name ∷ seen) fs
 more_seen seen name NoField apart was = tt
@@ -60,9 +60,9 @@ none_seen (AField name place embedded t tag fs) = (by (is_blank name), none_seen
 -- no method has a name that was seen
 abbrev NotIn : List (List ℕ) → Methods → Type 0
 NotIn seen NoMethod = Unit {0}
-NotIn seen (AMethod name place g ms) = (has_name seen name ≡ false) × NotIn seen ms
+NotIn seen (AMethod name place g ms) = (is_among_names seen name ≡ false) × NotIn seen ms
 
-one_method : (seen : List (List ℕ)) (name n : List ℕ) (b : Bool) → bytes_eq name n ≡ b → (name ≡ n → ⊥) → has_name seen n ≡ false → (if b then true else has_name seen n) ≡ false
+one_method : (seen : List (List ℕ)) (name n : List ℕ) (b : Bool) → bytes_eq name n ≡ b → (name ≡ n → ⊥) → is_among_names seen n ≡ false → (if b then true else is_among_names seen n) ≡ false
 one_method seen name n true same apart was = absurd (apart (bytes_same name n same))
 one_method seen name n false same apart was = was
 
@@ -102,7 +102,7 @@ module _ (kind : DeclKey → Kind) where
     methods_left (AMethod name place g ms) seen was clean =
         let rest = methods_left ms (name ∷ seen) (more_in seen name ms clean.1 was.1) clean.3 in
         let kept : Methods = AMethod name place (settled_sign kind g) (settled_methods kind (name ∷ seen) ms) in
-        ap (λ b. if b || has_name seen name then settled_methods kind seen ms else kept) clean.0
+        ap (λ b. if b || is_among_names seen name then settled_methods kind seen ms else kept) clean.0
         ∙ (ap (λ b. if b then settled_methods kind seen ms else kept) was.0
         ∙ (λ i. AMethod name place (sign_left g clean.2 i) (rest i)))
 
@@ -131,23 +131,23 @@ module _ (kind : DeclKey → Kind) where
   pointer_clean (InterfaceOf path ms) h = ((λ e. cc), h)
 
   -- a name that was seen is kept no more, unless it is blank
-  no_field_step : (seen : List (List ℕ)) (name other : List ℕ) (place : MemberPlace) (embedded : Bool) (t : Term) (tag : List ℕ) (fs : Fields) → is_blank name ≡ false → has_name seen name ≡ true
+  no_field_step : (seen : List (List ℕ)) (name other : List ℕ) (place : MemberPlace) (embedded : Bool) (t : Term) (tag : List ℕ) (fs : Fields) → is_blank name ≡ false → is_among_names seen name ≡ true
       → HasNoField name (settled_fields kind seen fs) → HasNoField name (settled_fields kind (other ∷ seen) fs)
-      → (b : Bool) → repeats seen other ≡ b
+      → (b : Bool) → repeats_earlier seen other ≡ b
       → HasNoField name (if b then settled_fields kind seen fs else AField other place (embedded && can_be_embedded kind t) (settled kind t) tag (settled_fields kind (other ∷ seen) fs))
   no_field_step seen name other place embedded t tag fs blank there without rest true e = without
   no_field_step seen name other place embedded t tag fs blank there without rest false e = (
     λ same.
-        let shown : repeats seen name ≡ true = ap (λ x. not x && has_name seen name) blank ∙ there in
-        let both : true ≡ false = sym shown ∙ (ap (repeats seen) same ∙ e) in
+        let shown : repeats_earlier seen name ≡ true = ap (λ x. not x && is_among_names seen name) blank ∙ there in
+        let both : true ≡ false = sym shown ∙ (ap (repeats_earlier seen) same ∙ e) in
         cc,
     rest,
   )
 
-  no_field_of : (fs : Fields) (seen : List (List ℕ)) (name : List ℕ) → is_blank name ≡ false → has_name seen name ≡ true → HasNoField name (settled_fields kind seen fs)
+  no_field_of : (fs : Fields) (seen : List (List ℕ)) (name : List ℕ) → is_blank name ≡ false → is_among_names seen name ≡ true → HasNoField name (settled_fields kind seen fs)
   no_field_of NoField seen name blank there = tt
   no_field_of (AField other place embedded t tag fs) seen name blank there =
-      no_field_step seen name other place embedded t tag fs blank there (no_field_of fs seen name blank there) (no_field_of fs (other ∷ seen) name blank (has_later other name seen there)) (repeats seen other) refl
+      no_field_step seen name other place embedded t tag fs blank there (no_field_of fs seen name blank there) (no_field_of fs (other ∷ seen) name blank (has_later other name seen there)) (repeats_earlier seen other) refl
 
   fields_if : (f fs : Fields) (b : Bool) → FieldsClean kind f → FieldsClean kind fs → FieldsClean kind (if b then f else fs)
   fields_if f fs true h k = h
@@ -171,7 +171,7 @@ module _ (kind : DeclKey → Kind) where
     fields_clean : (fs : Fields) (seen : List (List ℕ)) → FieldsClean kind (settled_fields kind seen fs)
     fields_clean NoField seen = tt
     fields_clean (AField name place embedded t tag fs) seen =
-        fields_if (settled_fields kind seen fs) (AField name place (embedded && can_be_embedded kind t) (settled kind t) tag (settled_fields kind (name ∷ seen) fs)) (repeats seen name)
+        fields_if (settled_fields kind seen fs) (AField name place (embedded && can_be_embedded kind t) (settled kind t) tag (settled_fields kind (name ∷ seen) fs)) (repeats_earlier seen name)
         (fields_clean fs seen) (
           (λ h. embedded_again kind t (and_parts embedded (can_be_embedded kind t) h).1),
           (λ blank. no_field_of fs (name ∷ seen) name blank (has_first name seen)),
@@ -182,7 +182,7 @@ module _ (kind : DeclKey → Kind) where
     methods_clean : (ms : Methods) (seen : List (List ℕ)) → MethodsClean kind (settled_methods kind seen ms)
     methods_clean NoMethod seen = tt
     methods_clean (AMethod name place g ms) seen =
-        methods_if (settled_methods kind seen ms) (AMethod name place (settled_sign kind g) (settled_methods kind (name ∷ seen) ms)) (is_blank name) (has_name seen name)
+        methods_if (settled_methods kind seen ms) (AMethod name place (settled_sign kind g) (settled_methods kind (name ∷ seen) ms)) (is_blank name) (is_among_names seen name)
         (methods_clean ms seen)
         (λ blank. (blank, none_of kind ms (name ∷ seen) name (has_first name seen), sign_clean g, methods_clean ms (name ∷ seen)))
 

@@ -6,7 +6,7 @@ use Rattle.go_decl_core.specs.declared.keys.DeclKey.{DeclKey}
 use Rattle.go_text_core.specs.Text.{is_blank}
 use Rattle.go_term_core.specs.Terms.{Term, NoType, Predeclared, ErrorType, Defined, PointerTo, StructOf, InterfaceOf, Fields, NoField, AField, Methods, NoMethod, AMethod, Sign, SignOf, Terms, NoTerm, ATerm, term_keys, fields_keys, methods_keys, sign_keys, terms_keys}
 use Rattle.go_settle_core.specs.declared.kind.Kind.{Kind}
-use Rattle.go_settle_core.specs.Settled.{is_no_pointer, can_be_pointed, can_point, can_be_embedded, pointer_to, defined_unless, has_name, repeats, settled, settled_fields, settled_methods, settled_sign, settled_terms}
+use Rattle.go_settle_core.specs.Settled.{is_no_pointer, can_be_pointed, can_point, can_be_embedded, pointer_to, defined_unless, is_among_names, repeats_earlier, settled, settled_fields, settled_methods, settled_sign, settled_terms}
 use Rattle.go_settle_core.specs.Laws.{SettlingIsLocal}
 
 module _ (kind other : DeclKey → Kind) where
@@ -56,14 +56,14 @@ module _ (kind other : DeclKey → Kind) where
     fields_alike (AField name place embedded t tag fs) seen same =
         let first = before (term_keys t) (fields_keys fs) same in
         let rest = behind (term_keys t) (fields_keys fs) same in
-        (λ i. if repeats seen name then fields_alike fs seen rest i else AField name place (embedded && embedded_alike t first i) (term_alike t first i) tag (fields_alike fs (name ∷ seen) rest i))
+        (λ i. if repeats_earlier seen name then fields_alike fs seen rest i else AField name place (embedded && embedded_alike t first i) (term_alike t first i) tag (fields_alike fs (name ∷ seen) rest i))
 
     methods_alike : (ms : Methods) (seen : List (List ℕ)) → Agree (methods_keys ms) → settled_methods kind seen ms ≡ settled_methods other seen ms
     methods_alike NoMethod seen same = refl
     methods_alike (AMethod name place g ms) seen same =
         let first = before (sign_keys g) (methods_keys ms) same in
         let rest = behind (sign_keys g) (methods_keys ms) same in
-        (λ i. if is_blank name || has_name seen name then methods_alike ms seen rest i else AMethod name place (sign_alike g first i) (methods_alike ms (name ∷ seen) rest i))
+        (λ i. if is_blank name || is_among_names seen name then methods_alike ms seen rest i else AMethod name place (sign_alike g first i) (methods_alike ms (name ∷ seen) rest i))
 
     pub sign_alike : (g : Sign) → Agree (sign_keys g) → settled_sign kind g ≡ settled_sign other g
     sign_alike (SignOf ps rs) same =

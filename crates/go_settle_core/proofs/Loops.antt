@@ -3,7 +3,7 @@ use Rattle.std.proofs.Common.{◌≡◌, ℕ, ◌+◌, ◌<◌, ◌≤◌, Bool,
 use Rattle.std.specs.Prelude.{IfOk}
 use Rattle.std.specs.declared.result.Result.{Result}
 use Rattle.std.proofs.lemmas.List.{drop_more, drop_all}
-use Rattle.go_settle_core.specs.Settled.{has_name}
+use Rattle.go_settle_core.specs.Settled.{is_among_names}
 use Rattle.go_settle_core.specs.mirrors.Kept.{kept_names}
 use Rattle.go_settle_core.proofs.Names.{SameNames, one_more}
 
@@ -72,18 +72,18 @@ module _ {X : Type 0} (keeps : List ℕ → Bool → Bool) (name_of : X → List
   Keeps seen before xs all = (s : List (List ℕ)) × SameNames s seen × (before ++ kept_names keeps s (map name_of xs) ≡ all)
 
   pub one_flag : (xs : List X) (i : ℕ) (x : X) (old new : List (List ℕ)) (name : List ℕ) (before after : List Bool) (is_new flag : Bool) (all : List Bool)
-      → i < length xs → x ≡ get_or xs i x → name ≡ name_of x → is_new ≡ not (has_name old name) → SameNames new (name ∷ old) → flag ≡ keeps name is_new → after ≡ before ++ flag ∷ []
+      → i < length xs → x ≡ get_or xs i x → name ≡ name_of x → is_new ≡ not (is_among_names old name) → SameNames new (name ∷ old) → flag ≡ keeps name is_new → after ≡ before ++ flag ∷ []
       → Keeps old before (drop i xs) all → Keeps new after (drop (i + 1) xs) all
   one_flag xs i x old new name before after is_new flag all lt is named added seen flagged pushed h =
       let s : List (List ℕ) = h.0 in
       let rest : List (List ℕ) = map name_of (drop (i + 1) xs) in
-      let flag_is : flag ≡ keeps name (not (has_name s name)) = flagged ∙ ap (keeps name) (added ∙ ap not (sym (h.1 name))) in (
+      let flag_is : flag ≡ keeps name (not (is_among_names s name)) = flagged ∙ ap (keeps name) (added ∙ ap not (sym (h.1 name))) in (
         name ∷ s,
         λ n. one_more name s old h.1 n ∙ sym (seen n),
         ap (λ l. l ++ kept_names keeps (name ∷ s) rest) pushed
             ∙ (append_assoc before (flag ∷ []) (kept_names keeps (name ∷ s) rest)
             ∙ (ap (λ b. before ++ b ∷ kept_names keeps (name ∷ s) rest) flag_is
-            ∙ (ap (λ m. before ++ keeps m (not (has_name s m)) ∷ kept_names keeps (m ∷ s) rest) named
+            ∙ (ap (λ m. before ++ keeps m (not (is_among_names s m)) ∷ kept_names keeps (m ∷ s) rest) named
             ∙ (sym (ap (λ l. before ++ kept_names keeps s (map name_of l)) (first_of_rest xs i x lt is))
             ∙ h.2)))),
       )

@@ -8,9 +8,9 @@ use Rattle.go_term_core.specs.declared.term.Field.{Field}
 use Rattle.go_term_core.specs.declared.term.FieldLine.{FieldLine}
 use Rattle.go_term_core.specs.declared.term.Method.{Method}
 use Rattle.go_term_core.specs.Terms.{Term, Fields, NoField, AField, Methods, NoMethod, AMethod, ATerm}
-use Rattle.go_term_core.specs.Shapes.{Line, line_at, line_shape, lines_of, term_at, fields_in, terms_in, shape, methods_of}
+use Rattle.go_term_core.specs.Shapes.{Line, line_at, line_shape, line_shapes, term_at, fields_in, terms_in, shape, method_shapes}
 use Rattle.go_settle_core.specs.declared.kind.Kind.{Kind}
-use Rattle.go_settle_core.specs.Settled.{can_be_embedded, has_name, settled, settled_fields, settled_methods, settled_sign, settled_terms}
+use Rattle.go_settle_core.specs.Settled.{can_be_embedded, is_among_names, settled, settled_fields, settled_methods, settled_sign, settled_terms}
 use Rattle.go_settle_core.specs.mirrors.Kept.{keeps_field, keeps_method, kept_names, kept_fields, kept_methods, those_kept, settled_line, make_field, put_method, make_method}
 use Rattle.go_settle_core.proofs.Names.{SameNames, one_more, repeats_alike, seen_again, bytes_same}
 use Rattle.go_settle_core.proofs.Loops.{onto, masked, made}
@@ -46,11 +46,11 @@ pub fields_onto : (fs : List Field) → onto put_field put_field [] fs [] ≡ fs
 fields_onto [] = refl
 fields_onto (f ∷ fs) = ap (put_field f) (fields_onto fs)
 
-pub lines_onto : (make : FieldLine → List Line → List Line) (ls : List FieldLine) → onto put_line make [] ls [] ≡ lines_of ls
+pub lines_onto : (make : FieldLine → List Line → List Line) (ls : List FieldLine) → onto put_line make [] ls [] ≡ line_shapes ls
 lines_onto make [] = refl
 lines_onto make (l ∷ ls) = ap (put_line l) (lines_onto make ls)
 
-pub methods_onto : (make : Method → Methods → Methods) (ms : List Method) → onto put_method make NoMethod ms NoMethod ≡ methods_of ms
+pub methods_onto : (make : Method → Methods → Methods) (ms : List Method) → onto put_method make NoMethod ms NoMethod ≡ method_shapes ms
 methods_onto make [] = refl
 methods_onto make (m ∷ ms) = ap (put_method m) (methods_onto make ms)
 
@@ -73,23 +73,23 @@ method_before kind m x same rest = ap (λ l. methods_first l rest) same
 
 -- two lists of names leave out the same methods
 abbrev LeftAlike : List (List ℕ) → List (List ℕ) → Type 0
-LeftAlike seen other = (n : List ℕ) → (is_blank n || has_name seen n) ≡ (is_blank n || has_name other n)
+LeftAlike seen other = (n : List ℕ) → (is_blank n || is_among_names seen n) ≡ (is_blank n || is_among_names other n)
 
 left_more : (name : List ℕ) (seen other : List (List ℕ)) → LeftAlike seen other → LeftAlike (name ∷ seen) (name ∷ other)
 left_more name seen other same n = by (is_blank n) (bytes_eq name n) (same n)
   where
-    by : (a b : Bool) → (a || has_name seen n) ≡ (a || has_name other n) → (a || (if b then true else has_name seen n)) ≡ (a || (if b then true else has_name other n))
+    by : (a b : Bool) → (a || is_among_names seen n) ≡ (a || is_among_names other n) → (a || (if b then true else is_among_names seen n)) ≡ (a || (if b then true else is_among_names other n))
     by true b h = refl
     by false true h = refl
     by false false h = h
 
-left_seen : (name : List ℕ) (seen : List (List ℕ)) → has_name seen name ≡ true → LeftAlike (name ∷ seen) seen
+left_seen : (name : List ℕ) (seen : List (List ℕ)) → is_among_names seen name ≡ true → LeftAlike (name ∷ seen) seen
 left_seen name seen h n = ap (λ b. is_blank n || b) (seen_again name seen h n)
 
 left_blank : (name : List ℕ) (seen : List (List ℕ)) → is_blank name ≡ true → LeftAlike (name ∷ seen) seen
 left_blank name seen blank n = by (is_blank n) (bytes_eq name n) (λ e. let P : List ℕ → Type 0 = λ x. is_blank x ≡ true in subst P (bytes_same name n e) blank)
   where
-    by : (a b : Bool) → (b ≡ true → a ≡ true) → (a || (if b then true else has_name seen n)) ≡ (a || has_name seen n)
+    by : (a b : Bool) → (b ≡ true → a ≡ true) → (a || (if b then true else is_among_names seen n)) ≡ (a || is_among_names seen n)
     by true b h = refl
     by false true h = (let e = h refl in cc)
     by false false h = refl
@@ -138,7 +138,7 @@ module _ (kind : DeclKey → Kind) where
     fields_masked [] seen = refl
     fields_masked (f ∷ fs) seen =
         let with : Fields = settled_fields kind (f.name ∷ seen) (fields_in ls fs) in
-        field_kept f (is_blank f.name) (has_name seen f.name) with (settled_fields kind seen (fields_in ls fs)) _ (fields_masked fs (f.name ∷ seen))
+        field_kept f (is_blank f.name) (is_among_names seen f.name) with (settled_fields kind seen (fields_in ls fs)) _ (fields_masked fs (f.name ∷ seen))
         (λ h. fields_seen (fields_in ls fs) (f.name ∷ seen) seen (seen_again f.name seen h))
 
   method_kept : (m : Method) (blank has : Bool) (with without rest : Methods) → rest ≡ with → (has ≡ true → with ≡ without) → (blank ≡ true → with ≡ without)
@@ -148,14 +148,14 @@ module _ (kind : DeclKey → Kind) where
   method_kept m false false with without rest e h b = ap (make_method kind m) e
 
   pub methods_masked : (ms : List Method) (seen : List (List ℕ))
-      → masked put_method (make_method kind) NoMethod (kept_names keeps_method seen (map (λ m. m.name) ms)) ms ≡ settled_methods kind seen (methods_of ms)
+      → masked put_method (make_method kind) NoMethod (kept_names keeps_method seen (map (λ m. m.name) ms)) ms ≡ settled_methods kind seen (method_shapes ms)
   methods_masked [] seen = refl
   methods_masked (m ∷ ms) seen =
-      let with : Methods = settled_methods kind (m.name ∷ seen) (methods_of ms) in
-      method_kept m (is_blank m.name) (has_name seen m.name) with (settled_methods kind seen (methods_of ms)) _ (methods_masked ms (m.name ∷ seen))
-      (λ h. methods_seen (methods_of ms) (m.name ∷ seen) seen (left_seen m.name seen h)) (λ h. methods_seen (methods_of ms) (m.name ∷ seen) seen (left_blank m.name seen h))
+      let with : Methods = settled_methods kind (m.name ∷ seen) (method_shapes ms) in
+      method_kept m (is_blank m.name) (is_among_names seen m.name) with (settled_methods kind seen (method_shapes ms)) _ (methods_masked ms (m.name ∷ seen))
+      (λ h. methods_seen (method_shapes ms) (m.name ∷ seen) seen (left_seen m.name seen h)) (λ h. methods_seen (method_shapes ms) (m.name ∷ seen) seen (left_blank m.name seen h))
 
-  pub lines_made : (ls : List FieldLine) → made put_line (make_line kind) [] ls ≡ map (settled_line kind) (lines_of ls)
+  pub lines_made : (ls : List FieldLine) → made put_line (make_line kind) [] ls ≡ map (settled_line kind) (line_shapes ls)
   lines_made [] = refl
   lines_made (l ∷ ls) = ap (make_line kind l) (lines_made ls)
 
@@ -164,11 +164,11 @@ module _ (kind : DeclKey → Kind) where
   terms_made (t ∷ ts) = ap (make_term kind t) (terms_made ts)
 
   -- before a loop
-  pub lines_start : (settled : List FieldLine) (items : List FieldLine) → settled ≡ [] → onto put_line (make_line kind) [] settled (made put_line (make_line kind) [] items) ≡ map (settled_line kind) (lines_of items)
+  pub lines_start : (settled : List FieldLine) (items : List FieldLine) → settled ≡ [] → onto put_line (make_line kind) [] settled (made put_line (make_line kind) [] items) ≡ map (settled_line kind) (line_shapes items)
   lines_start settled items none = ap (λ l. onto put_line (make_line kind) [] l (made put_line (make_line kind) [] items)) none ∙ lines_made items
 
   pub methods_start : (settled : List Method) (kept : List Bool) (items methods : List Method) → settled ≡ [] → kept ≡ kept_methods methods → methods ≡ items
-      → onto put_method (make_method kind) NoMethod settled (masked put_method (make_method kind) NoMethod kept items) ≡ settled_methods kind [] (methods_of items)
+      → onto put_method (make_method kind) NoMethod settled (masked put_method (make_method kind) NoMethod kept items) ≡ settled_methods kind [] (method_shapes items)
   methods_start settled kept items methods none is same =
       ap (λ l. onto put_method (make_method kind) NoMethod l (masked put_method (make_method kind) NoMethod kept items)) none
       ∙ (ap (λ ks. masked put_method (make_method kind) NoMethod ks items) (is ∙ ap kept_methods same) ∙ methods_masked items [])

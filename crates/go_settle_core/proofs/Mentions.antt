@@ -7,7 +7,7 @@ use Rattle.go_text_core.specs.Text.{is_blank}
 use Rattle.go_term_core.specs.Terms.{Term, NoType, Predeclared, ErrorType, Defined, PointerTo, StructOf, InterfaceOf, Fields, NoField, AField, Methods, NoMethod, AMethod, Sign, SignOf, Terms, NoTerm, ATerm, term_keys, fields_keys, methods_keys, sign_keys, terms_keys}
 use Rattle.go_settle_core.specs.declared.kind.Kind.{Kind}
 use Rattle.go_settle_core.specs.declared.kind.Kind.TheVariants as kinds
-use Rattle.go_settle_core.specs.Settled.{can_be_embedded, pointer_to, defined_unless, has_name, repeats, settled, settled_fields, settled_methods, settled_sign, settled_terms}
+use Rattle.go_settle_core.specs.Settled.{can_be_embedded, pointer_to, defined_unless, is_among_names, repeats_earlier, settled, settled_fields, settled_methods, settled_sign, settled_terms}
 use Rattle.go_settle_core.specs.Laws.{SettledMentionsWritten}
 
 none_in : (k : DeclKey) → Contains [] k → ⊥
@@ -75,7 +75,7 @@ module _ (kind : DeclKey → Kind) where
         let u : Term = settled kind t in
         let without : Fields = settled_fields kind seen fs in
         let rest : Fields = settled_fields kind (name ∷ seen) fs in
-        fields_if without (AField name place (embedded && can_be_embedded kind t) u tag rest) (term_keys t ++ fields_keys fs) (repeats seen name)
+        fields_if without (AField name place (embedded && can_be_embedded kind t) u tag rest) (term_keys t ++ fields_keys fs) (repeats_earlier seen name)
         (later (fields_keys without) (term_keys t) (fields_keys fs) (fields_mention fs seen))
         (joined (term_keys u) (term_keys t) (fields_keys rest) (fields_keys fs) (term_mentions t) (fields_mention fs (name ∷ seen)))
 
@@ -85,7 +85,7 @@ module _ (kind : DeclKey → Kind) where
         let h : Sign = settled_sign kind g in
         let without : Methods = settled_methods kind seen ms in
         let rest : Methods = settled_methods kind (name ∷ seen) ms in
-        methods_if without (AMethod name place h rest) (sign_keys g ++ methods_keys ms) (is_blank name || has_name seen name)
+        methods_if without (AMethod name place h rest) (sign_keys g ++ methods_keys ms) (is_blank name || is_among_names seen name)
         (later (methods_keys without) (sign_keys g) (methods_keys ms) (methods_mention ms seen))
         (joined (sign_keys h) (sign_keys g) (methods_keys rest) (methods_keys ms) (sign_mentions g) (methods_mention ms (name ∷ seen)))
 

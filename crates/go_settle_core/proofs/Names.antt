@@ -6,19 +6,19 @@ use Rattle.std.proofs.lemmas.List.{map-append}
 use Rattle.std.specs.Str.{bytes_eq}
 use Rattle.std.proofs.lemmas.Slice.Eq.{bytes_eq-Decides}
 use Rattle.go_text_core.specs.Text.{is_blank}
-use Rattle.go_settle_core.specs.Settled.{has_name, repeats}
+use Rattle.go_settle_core.specs.Settled.{is_among_names, repeats_earlier}
 
 -- the same names stand among two lists
 abbrev pub SameNames : List (List ℕ) → List (List ℕ) → Type 0
-SameNames seen other = (n : List ℕ) → has_name seen n ≡ has_name other n
+SameNames seen other = (n : List ℕ) → is_among_names seen n ≡ is_among_names other n
 
 pub one_more : (name : List ℕ) (seen other : List (List ℕ)) → SameNames seen other → SameNames (name ∷ seen) (name ∷ other)
 one_more name seen other same n = ap (λ b. if bytes_eq name n then true else b) (same n)
 
-pub repeats_alike : (seen other : List (List ℕ)) (name : List ℕ) → SameNames seen other → repeats seen name ≡ repeats other name
+pub repeats_alike : (seen other : List (List ℕ)) (name : List ℕ) → SameNames seen other → repeats_earlier seen name ≡ repeats_earlier other name
 repeats_alike seen other name same = ap (λ b. not (is_blank name) && b) (same name)
 
-pub left_alike : (seen other : List (List ℕ)) (name : List ℕ) → SameNames seen other → (is_blank name || has_name seen name) ≡ (is_blank name || has_name other name)
+pub left_alike : (seen other : List (List ℕ)) (name : List ℕ) → SameNames seen other → (is_blank name || is_among_names seen name) ≡ (is_blank name || is_among_names other name)
 left_alike seen other name same = ap (λ b. is_blank name || b) (same name)
 
 pub bytes_same : (x y : List ℕ) → bytes_eq x y ≡ true → x ≡ y
@@ -27,22 +27,22 @@ bytes_same x y h = (bytes_eq-Decides x y).0 h
 pub bytes_itself : (x : List ℕ) → bytes_eq x x ≡ true
 bytes_itself x = (bytes_eq-Decides x x).1 refl
 
-pub has_first : (name : List ℕ) (seen : List (List ℕ)) → has_name (name ∷ seen) name ≡ true
-has_first name seen = ap (λ b. if b then true else has_name seen name) (bytes_itself name)
+pub has_first : (name : List ℕ) (seen : List (List ℕ)) → is_among_names (name ∷ seen) name ≡ true
+has_first name seen = ap (λ b. if b then true else is_among_names seen name) (bytes_itself name)
 
-pub has_later : (other name : List ℕ) (seen : List (List ℕ)) → has_name seen name ≡ true → has_name (other ∷ seen) name ≡ true
+pub has_later : (other name : List ℕ) (seen : List (List ℕ)) → is_among_names seen name ≡ true → is_among_names (other ∷ seen) name ≡ true
 has_later other name seen h = by (bytes_eq other name)
   where
-    by : (b : Bool) → (if b then true else has_name seen name) ≡ true
+    by : (b : Bool) → (if b then true else is_among_names seen name) ≡ true
     by true = refl
     by false = h
 
 -- a name that is there changes nothing
-pub seen_again : (name : List ℕ) (seen : List (List ℕ)) → has_name seen name ≡ true → SameNames (name ∷ seen) seen
+pub seen_again : (name : List ℕ) (seen : List (List ℕ)) → is_among_names seen name ≡ true → SameNames (name ∷ seen) seen
 seen_again name seen h n = by (bytes_eq name n) (bytes_same name n)
   where
-    by : (b : Bool) → (b ≡ true → name ≡ n) → (if b then true else has_name seen n) ≡ has_name seen n
-    by true same = (let P : List ℕ → Type 0 = λ x. has_name seen x ≡ true in sym (subst P (same refl) h))
+    by : (b : Bool) → (b ≡ true → name ≡ n) → (if b then true else is_among_names seen n) ≡ is_among_names seen n
+    by true same = (let P : List ℕ → Type 0 = λ x. is_among_names seen x ≡ true in sym (subst P (same refl) h))
     by false same = refl
 
 -- names behind others
@@ -56,17 +56,17 @@ bytes_turned : (x y : List ℕ) → bytes_eq x y ≡ bytes_eq y x
 bytes_turned x y =
     same_bools (bytes_eq x y) (bytes_eq y x) (λ h. (bytes_eq-Decides y x).1 (sym (bytes_same x y h))) (λ h. (bytes_eq-Decides x y).1 (sym (bytes_same y x h)))
 
-pub has_append : (xs ys : List (List ℕ)) (n : List ℕ) → has_name (xs ++ ys) n ≡ (if has_name xs n then true else has_name ys n)
+pub has_append : (xs ys : List (List ℕ)) (n : List ℕ) → is_among_names (xs ++ ys) n ≡ (if is_among_names xs n then true else is_among_names ys n)
 has_append [] ys n = refl
 has_append (x ∷ xs) ys n = by (bytes_eq x n) (has_append xs ys n)
   where
-    by : (b : Bool) → has_name (xs ++ ys) n ≡ (if has_name xs n then true else has_name ys n) → (if b then true else has_name (xs ++ ys) n) ≡ (if (if b then true else has_name xs n) then true else has_name ys n)
+    by : (b : Bool) → is_among_names (xs ++ ys) n ≡ (if is_among_names xs n then true else is_among_names ys n) → (if b then true else is_among_names (xs ++ ys) n) ≡ (if (if b then true else is_among_names xs n) then true else is_among_names ys n)
     by true rest = refl
     by false rest = rest
 
 -- a name behind others stands among them as one before them
-pub has_last : (xs : List (List ℕ)) (y n : List ℕ) → has_name (xs ++ y ∷ []) n ≡ has_name (y ∷ xs) n
-has_last xs y n = has_append xs (y ∷ []) n ∙ by (has_name xs n) (bytes_eq y n)
+pub has_last : (xs : List (List ℕ)) (y n : List ℕ) → is_among_names (xs ++ y ∷ []) n ≡ is_among_names (y ∷ xs) n
+has_last xs y n = has_append xs (y ∷ []) n ∙ by (is_among_names xs n) (bytes_eq y n)
   where
     by : (a b : Bool) → (if a then true else (if b then true else false)) ≡ (if b then true else a)
     by true true = refl
@@ -75,44 +75,44 @@ has_last xs y n = has_append xs (y ∷ []) n ∙ by (has_name xs n) (bytes_eq y 
     by false false = refl
 
 -- names behind references
-pub any_named : (name : List ℕ) (xs : List (Bor (List ℕ))) → list_any (λ x. bytes_eq name x.now) xs ≡ has_name (map (λ x. x.now) xs) name
+pub any_named : (name : List ℕ) (xs : List (Bor (List ℕ))) → list_any (λ x. bytes_eq name x.now) xs ≡ is_among_names (map (λ x. x.now) xs) name
 any_named name [] = refl
 any_named name (x ∷ xs) = ap (λ b. b || list_any (λ x. bytes_eq name x.now) xs) (bytes_turned name x.now) ∙ by (bytes_eq x.now name) (any_named name xs)
   where
-    by : (b : Bool) → list_any (λ x. bytes_eq name x.now) xs ≡ has_name (map (λ x. x.now) xs) name → (b || list_any (λ x. bytes_eq name x.now) xs) ≡ (if b then true else has_name (map (λ x. x.now) xs) name)
+    by : (b : Bool) → list_any (λ x. bytes_eq name x.now) xs ≡ is_among_names (map (λ x. x.now) xs) name → (b || list_any (λ x. bytes_eq name x.now) xs) ≡ (if b then true else is_among_names (map (λ x. x.now) xs) name)
     by true rest = refl
     by false rest = rest
 
 -- a set of them with one more
 pub inserted : (xs ys : List (Bor (List ℕ))) (x : Bor (List ℕ)) → ys ≡ (if list_any (λ y. bytes_eq x.now y.now) xs then xs else xs ++ x ∷ []) → SameNames (map (λ y. y.now) ys) (x.now ∷ map (λ y. y.now) xs)
 inserted xs ys x is n =
-    ap (λ l. has_name (map (λ y. y.now) l) n) is ∙ by (list_any (λ y. bytes_eq x.now y.now) xs) (any_named x.now xs)
+    ap (λ l. is_among_names (map (λ y. y.now) l) n) is ∙ by (list_any (λ y. bytes_eq x.now y.now) xs) (any_named x.now xs)
   where
-    by : (b : Bool) → b ≡ has_name (map (λ y. y.now) xs) x.now → has_name (map (λ y. y.now) (if b then xs else xs ++ x ∷ [])) n ≡ has_name (x.now ∷ map (λ y. y.now) xs) n
+    by : (b : Bool) → b ≡ is_among_names (map (λ y. y.now) xs) x.now → is_among_names (map (λ y. y.now) (if b then xs else xs ++ x ∷ [])) n ≡ is_among_names (x.now ∷ map (λ y. y.now) xs) n
     by true h = sym (seen_again x.now (map (λ y. y.now) xs) (sym h) n)
-    by false h = ap (λ l. has_name l n) (map-append (λ y. y.now) xs (x ∷ [])) ∙ has_last (map (λ y. y.now) xs) x.now n
+    by false h = ap (λ l. is_among_names l n) (map-append (λ y. y.now) xs (x ∷ [])) ∙ has_last (map (λ y. y.now) xs) x.now n
 
 -- two lists of names, of which the first has the name
-pub among_few : (xs ys : List (List ℕ)) (n : List ℕ) → has_name xs n ≡ true → has_name (xs ++ ys) n ≡ true
-among_few xs ys n h = has_append xs ys n ∙ ap (λ b. if b then true else has_name ys n) h
+pub among_few : (xs ys : List (List ℕ)) (n : List ℕ) → is_among_names xs n ≡ true → is_among_names (xs ++ ys) n ≡ true
+among_few xs ys n h = has_append xs ys n ∙ ap (λ b. if b then true else is_among_names ys n) h
 
 -- or not
-pub among_more : (xs ys : List (List ℕ)) (n : List ℕ) → has_name xs n ≡ false → has_name (xs ++ ys) n ≡ has_name ys n
-among_more xs ys n h = has_append xs ys n ∙ ap (λ b. if b then true else has_name ys n) h
+pub among_more : (xs ys : List (List ℕ)) (n : List ℕ) → is_among_names xs n ≡ false → is_among_names (xs ++ ys) n ≡ is_among_names ys n
+among_more xs ys n h = has_append xs ys n ∙ ap (λ b. if b then true else is_among_names ys n) h
 
 pub more_few : (xs xs' ys : List (List ℕ)) (name : List ℕ) → SameNames xs' (name ∷ xs) → SameNames (xs' ++ ys) (name ∷ (xs ++ ys))
 more_few xs xs' ys name same n =
-    has_append xs' ys n ∙ (ap (λ b. if b then true else has_name ys n) (same n) ∙ (by (bytes_eq name n) ∙ ap (λ b. if bytes_eq name n then true else b) (sym (has_append xs ys n))))
+    has_append xs' ys n ∙ (ap (λ b. if b then true else is_among_names ys n) (same n) ∙ (by (bytes_eq name n) ∙ ap (λ b. if bytes_eq name n then true else b) (sym (has_append xs ys n))))
   where
-    by : (b : Bool) → (if (if b then true else has_name xs n) then true else has_name ys n) ≡ (if b then true else (if has_name xs n then true else has_name ys n))
+    by : (b : Bool) → (if (if b then true else is_among_names xs n) then true else is_among_names ys n) ≡ (if b then true else (if is_among_names xs n then true else is_among_names ys n))
     by true = refl
     by false = refl
 
 pub more_more : (xs ys ys' : List (List ℕ)) (name : List ℕ) → SameNames ys' (name ∷ ys) → SameNames (xs ++ ys') (name ∷ (xs ++ ys))
 more_more xs ys ys' name same n =
-    has_append xs ys' n ∙ (ap (λ b. if has_name xs n then true else b) (same n) ∙ (by (has_name xs n) (bytes_eq name n) ∙ ap (λ b. if bytes_eq name n then true else b) (sym (has_append xs ys n))))
+    has_append xs ys' n ∙ (ap (λ b. if is_among_names xs n then true else b) (same n) ∙ (by (is_among_names xs n) (bytes_eq name n) ∙ ap (λ b. if bytes_eq name n then true else b) (sym (has_append xs ys n))))
   where
-    by : (a b : Bool) → (if a then true else (if b then true else has_name ys n)) ≡ (if b then true else (if a then true else has_name ys n))
+    by : (a b : Bool) → (if a then true else (if b then true else is_among_names ys n)) ≡ (if b then true else (if a then true else is_among_names ys n))
     by true true = refl
     by true false = refl
     by false true = refl

@@ -67,13 +67,13 @@ defined_unless kinds.Interface k = Defined k
 defined_unless kinds.Other k = Defined k
 
 -- a name stands among others
-abbrev pub has_name : List (List ℕ) → List ℕ → Bool
-has_name [] name = false
-has_name (n ∷ ns) name = if bytes_eq n name then true else has_name ns name
+abbrev pub is_among_names : List (List ℕ) → List ℕ → Bool
+is_among_names [] name = false
+is_among_names (n ∷ ns) name = if bytes_eq n name then true else is_among_names ns name
 
 -- a name that is not blank stands among earlier ones
-abbrev pub repeats : List (List ℕ) → List ℕ → Bool
-repeats seen name = not (is_blank name) && has_name seen name
+abbrev pub repeats_earlier : List (List ℕ) → List ℕ → Bool
+repeats_earlier seen name = not (is_blank name) && is_among_names seen name
 
 abbrev mutual
   pub settled : (DeclKey → Kind) → Term → Term
@@ -89,14 +89,14 @@ abbrev mutual
   pub settled_fields : (DeclKey → Kind) → List (List ℕ) → Fields → Fields
   settled_fields kind seen NoField = NoField
   settled_fields kind seen (AField name place embedded t tag fs) =
-      if repeats seen name then settled_fields kind seen fs
+      if repeats_earlier seen name then settled_fields kind seen fs
       else AField name place (embedded && can_be_embedded kind t) (settled kind t) tag (settled_fields kind (name ∷ seen) fs)
 
   -- the methods that are not blank and repeat no earlier name
   pub settled_methods : (DeclKey → Kind) → List (List ℕ) → Methods → Methods
   settled_methods kind seen NoMethod = NoMethod
   settled_methods kind seen (AMethod name place g ms) =
-      if is_blank name || has_name seen name then settled_methods kind seen ms
+      if is_blank name || is_among_names seen name then settled_methods kind seen ms
       else AMethod name place (settled_sign kind g) (settled_methods kind (name ∷ seen) ms)
 
   pub settled_sign : (DeclKey → Kind) → Sign → Sign

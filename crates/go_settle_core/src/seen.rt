@@ -1,6 +1,6 @@
 //! Names that were seen.
 ghost use Rattle.std.specs.Prelude.{◌≡◌, ℕ, List, [], ◌∷◌, ◌++◌, IfOk, OnOk, map, not};
-ghost use Rattle.go_settle_core.specs.Settled.{has_name};
+ghost use Rattle.go_settle_core.specs.Settled.{is_among_names};
 
 use indexmap::IndexSet;
 use std::alloc::{AllocError, Global};
@@ -27,7 +27,7 @@ impl<'a> Model for SeenNames<'a> {
 
 // Whether a name is among these.
 fn is_among(names: &[&str], name: &str) -> bool
-    ensures { result ≡ has_name (map (λ n. n.now) names.now) name.now }
+    ensures { result ≡ is_among_names (map (λ n. n.now) names.now) name.now }
 {
     for other in names {
         if *other == name {
@@ -39,8 +39,8 @@ fn is_among(names: &[&str], name: &str) -> bool
 
 // Adds a name to a set, unless it is there, and answers whether it was not.
 fn insert<'a>(names: &mut IndexSet<&'a str>, name: &'a str) -> Result<bool, AllocError>
-    ensures added { IfOk result (λ is_new. is_new ≡ not (has_name (map (λ n. n.now) names.old.keys) name.now)) }
-    ensures seen { OnOk result ((n : List ℕ) → has_name (map (λ n. n.now) names.new.keys) n ≡ has_name (name.now ∷ map (λ n. n.now) names.old.keys) n) }
+    ensures added { IfOk result (λ is_new. is_new ≡ not (is_among_names (map (λ n. n.now) names.old.keys) name.now)) }
+    ensures seen { OnOk result ((n : List ℕ) → is_among_names (map (λ n. n.now) names.new.keys) n ≡ is_among_names (name.now ∷ map (λ n. n.now) names.old.keys) n) }
 {
     match names.insert(name) {
         Ok(is_new) => Ok(is_new),
@@ -69,8 +69,8 @@ impl<'a> SeenNames<'a> {
 
     /// Adds a name, unless it is there, and answers whether it was not. It takes constant expected time for a name.
     pub fn add(&mut self, name: &'a str) -> Result<bool, AllocError>
-        ensures added { IfOk result (λ is_new. is_new ≡ not (has_name self.old name.now)) }
-        ensures seen { OnOk result ((n : List ℕ) → has_name self.new n ≡ has_name (name.now ∷ self.old) n) }
+        ensures added { IfOk result (λ is_new. is_new ≡ not (is_among_names self.old name.now)) }
+        ensures seen { OnOk result ((n : List ℕ) → is_among_names self.new n ≡ is_among_names (name.now ∷ self.old) n) }
     {
         if is_among(&self.few, name) {
             return Ok(false);

@@ -1,7 +1,7 @@
 //! Settling terms.
 ghost use Rattle.std.specs.Prelude.{◌≡◌, [], IfOk, IsTrue, ◌↔◌, map};
 ghost use Rattle.go_term_core.specs.Terms.{NoType, NoMethod};
-ghost use Rattle.go_term_core.specs.Shapes.{shape, sign_of, line_shape, lines_of, methods_of, params_of};
+ghost use Rattle.go_term_core.specs.Shapes.{shape, sign_of, line_shape, line_shapes, method_shapes, param_shapes};
 ghost use Rattle.go_settle_core.specs.Settled.{defined_unless, pointer_to, settled, settled_methods, settled_sign, settled_terms};
 ghost use Rattle.go_settle_core.specs.mirrors.Kept.{make_method, put_method, settled_line};
 
@@ -107,7 +107,7 @@ fn settle_lines<K: Kinds>(
     kinds: &K,
     lines: &Vec<FieldLine>,
 ) -> Result<Vec<FieldLine>, AllocError>
-    ensures { IfOk result (λ ls. lines_of ls.items ≡ map (settled_line (K.kinds kinds.now)) (lines_of lines.now.items)) }
+    ensures { IfOk result (λ ls. line_shapes ls.items ≡ map (settled_line (K.kinds kinds.now)) (line_shapes lines.now.items)) }
 {
     let mut settled = Vec::new(alloc);
     for line in lines {
@@ -141,7 +141,7 @@ fn settle_methods<K: Kinds>(
     kinds: &K,
     methods: &Vec<Method>,
 ) -> Result<Vec<Method>, AllocError>
-    ensures { IfOk result (λ ms. methods_of ms.items ≡ settled_methods (K.kinds kinds.now) [] (methods_of methods.now.items)) }
+    ensures { IfOk result (λ ms. method_shapes ms.items ≡ settled_methods (K.kinds kinds.now) [] (method_shapes methods.now.items)) }
 {
     let kept = made!(kept_methods(alloc, methods));
     let mut settled = Vec::new(alloc);
@@ -197,7 +197,7 @@ fn copy_numbers(alloc: Global, numbers: &Vec<usize>) -> Result<Vec<usize>, Alloc
 // The settled types of parameters or of results.
 #[cycle(settling)]
 fn settle_params<K: Kinds>(alloc: Global, kinds: &K, params: &Params) -> Result<Params, AllocError>
-    ensures { IfOk result (λ ps. params_of ps ≡ settled_terms (K.kinds kinds.now) (params_of params.now)) }
+    ensures { IfOk result (λ ps. param_shapes ps ≡ settled_terms (K.kinds kinds.now) (param_shapes params.now)) }
 {
     let lines = copy_numbers(alloc, &params.lines);
     let (lines, terms) = made!(both(lines, settle_terms(alloc, kinds, &params.terms)));

@@ -6,22 +6,22 @@ use Rattle.std.proofs.lemmas.List.{length-map}
 use Rattle.std.proofs.lemmas.Option.{slice_get-map, slice_get_within, get_or_from_slice_get}
 use Rattle.go_tree_nodes.specs.Trees.{FileTree}
 use Rattle.go_emit_core.specs.expr_core.declared.things.Fault.{Fault}
-use Rattle.go_whole_core.specs.graph_core.declared.assembly.KFault.{KFault}
-use Rattle.go_whole_core.specs.graph_core.Assemblies.{as_many}
-use Rattle.go_whole_core.specs.graph_core.AssemblyLaws.{has_assembly}
-use Rattle.go_whole_core.specs.graph_core.Packages.{IsAssembled, IsAssembly, Trees, tree_shown, trees_of}
-use Rattle.go_whole_core.specs.graph_core.Sources.{SourceModel}
-use Rattle.go_whole_core.specs.graph_core.Workspaces.{PackageModel, IsPackage, IsWorkspace}
-use Rattle.go_whole_core.specs.graph_core.Zips.{numbered_at, numbered_back}
-use Rattle.go_whole_core.specs.ready_core.Packages.{trees_in}
+use Rattle.go_make_core.specs.graph_core.declared.assembly.KFault.{KFault}
+use Rattle.go_make_core.specs.graph_core.Assemblies.{as_many}
+use Rattle.go_make_core.specs.graph_core.AssemblyLaws.{has_assembly}
+use Rattle.go_make_core.specs.graph_core.Packages.{IsAssembled, IsAssembly, Trees, tree_shown, trees_of}
+use Rattle.go_make_core.specs.graph_core.Sources.{SourceModel}
+use Rattle.go_make_core.specs.graph_core.Workspaces.{PackageModel, IsPackage, IsWorkspace}
+use Rattle.go_make_core.specs.graph_core.Zips.{numbered_at, numbered_back}
+use Rattle.go_emit_core.specs.ready_core.Packages.{trees_in}
 use Rattle.go_emit_core.specs.report_core.Faults.{IsSaid}
 use Rattle.go_emit_core.specs.used_core.Used.{TheUse}
-use Rattle.go_whole_core.specs.part_core.Parts.{ContentOf, FileOf, IsFileMadeIn, PartModel}
-use Rattle.go_whole_core.specs.Inputs.{AreParts, IsPartOf}
-use Rattle.go_whole_core.proofs.Lists.{all_from_among, none_is_some}
-use Rattle.go_whole_core.specs.entry_core.Among.{among_to}
+use Rattle.go_make_core.specs.part_core.Parts.{ContentOf, FileOf, IsFileMadeIn, PartModel}
+use Rattle.go_make_core.specs.whole_core.Inputs.{AreParts, IsPartOf}
+use Rattle.go_make_core.specs.whole_core.Lists.{all_from_among, none_is_some}
+use Rattle.go_make_core.specs.entry_core.Among.{among_to}
 use Rattle.go_snap_core.specs.declared.fault.PlacedFault.{PlacedFault}
-use Rattle.go_snap_core.specs.Faults.{AreFaults, ComesBefore, IsFault, IsOfAssembly, IsOfText, IsReportedOf, IsUnassembled, LiesIn, here}
+use Rattle.go_snap_core.specs.Faults.{AreFaults, IsPlacedBefore, IsWorkspaceFault, IsOfAssembly, IsOfText, IsReportedOf, IsUnassembled, LiesIn, here}
 use Rattle.go_snap_core.specs.Laws.{FaultsDiffer, FaultsLieInFiles, IsFaultless, NoFaultNoRefusal, RefusalsAreFaults}
 use Rattle.go_snap_core.specs.Snapshots.{IsAnswerAt, IsSnapshot, contents_of}
 use Rattle.go_snap_core.specs.mirrors.Reports.{assembly_fault, fault_with}
@@ -78,12 +78,12 @@ module _ (ps : List PackageModel) (parts : List (Option PartModel)) (all : ArePa
       by (inl a) = (let s = assembly_there h.source.1 a.fault a.assembly in record { of_package = h.source; there = h.there; source = s.0; in_package = subst (λ k. slice_get h.source.1 k ≡ Some s.0) (sym a.file) s.1 })
       by (inr t) = record { of_package = h.source; there = h.there; source = t.source; in_package = t.in_package }
 
-  fault_lies : (f : PlacedFault) → IsFault ps (contents_of parts) f → LiesIn ps f
+  fault_lies : (f : PlacedFault) → IsWorkspaceFault ps (contents_of parts) f → LiesIn ps f
   fault_lies f (inl r) = reported_lies f r
   fault_lies f (inr u) = unassembled_lies f u
 
   -- what an occurrence is refused by is reported of its file
-  refused_is_fault : (path name : List ℕ) (n : ℕ) (u : TheUse) (at : IsAnswerAt ps parts path name n u) (f : PlacedFault) → f.«package» ≡ at.in_workspace.number → f.file ≡ at.number → IsSaid (u ∷ []) (here f) → IsFault ps (contents_of parts) f
+  refused_is_fault : (path name : List ℕ) (n : ℕ) (u : TheUse) (at : IsAnswerAt ps parts path name n u) (f : PlacedFault) → f.«package» ≡ at.in_workspace.number → f.file ≡ at.number → IsSaid (u ∷ []) (here f) → IsWorkspaceFault ps (contents_of parts) f
   refused_is_fault path name n u at f of_package of_file said =
       let part = at.of_part in
       let there = at.in_workspace.there in
@@ -99,7 +99,7 @@ module _ (ps : List PackageModel) (parts : List (Option PartModel)) (all : ArePa
         reported = (file.2.made_of.reported.same (here f)).1 (inl (said_at at.file.answers.uses n u (here f) at.answer said));
       })
 
-  module _ (well : IsWorkspace ps) (none : (f : PlacedFault) → IsFault ps (contents_of parts) f → ⊥) where
+  module _ (well : IsWorkspace ps) (none : (f : PlacedFault) → IsWorkspaceFault ps (contents_of parts) f → ⊥) where
     some_files : (n : ℕ) (p : PackageModel) → slice_get ps n ≡ Some p → 0 < length p.1
     some_files n p at = (let one : IsPackage p = subst IsPackage (get_or_from_slice_get ps n p p at) (well.packages n p (slice_get_within ps n p at)) in one.some)
 
@@ -125,8 +125,8 @@ faults_lie ps parts faults h = all_from_among (LiesIn ps) faults (λ f a. fault_
 
 pub faults_differ : FaultsDiffer
 faults_differ ps parts faults h = λ i j d lt below. λ same.
-    let before : ComesBefore (get_or faults i d) (get_or faults j d) = h.faults_are.ordered i j d lt below in
-    let again : ComesBefore (get_or faults j d) (get_or faults j d) = subst (λ f. ComesBefore f (get_or faults j d)) same before in
+    let before : IsPlacedBefore (get_or faults i d) (get_or faults j d) = h.faults_are.ordered i j d lt below in
+    let again : IsPlacedBefore (get_or faults j d) (get_or faults j d) = subst (λ f. IsPlacedBefore f (get_or faults j d)) same before in
     never_both (get_or faults j d) (get_or faults j d) again again
 
 pub refusals_are_faults : RefusalsAreFaults

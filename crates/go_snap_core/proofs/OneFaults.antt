@@ -1,16 +1,16 @@
 -- The faults of packages are one list.
 use Rattle.std.proofs.Common.{◌≡◌, List, Option, arith}
 use Rattle.go_text_core.specs.Rules.{rule_number}
-use Rattle.go_whole_core.specs.entry_core.Among.{among_from, among_to}
-use Rattle.go_whole_core.specs.graph_core.Workspaces.{PackageModel}
-use Rattle.go_whole_core.specs.part_core.Parts.{ContentOf}
+use Rattle.go_make_core.specs.entry_core.Among.{among_from, among_to}
+use Rattle.go_make_core.specs.graph_core.Workspaces.{PackageModel}
+use Rattle.go_make_core.specs.part_core.Parts.{ContentOf}
 use Rattle.go_snap_core.specs.declared.fault.PlacedFault.{PlacedFault}
-use Rattle.go_snap_core.specs.Faults.{AreFaults, ComesBefore, InPackage, InFile, ByOffset, ByRule}
+use Rattle.go_snap_core.specs.Faults.{AreFaults, IsPlacedBefore, InPackage, InFile, ByOffset, ByRule}
 use Rattle.go_snap_core.proofs.Rising.{ordered_same}
 use Rattle.go_make_core.proofs.Searching.{never_less}
 
 -- no two faults stand each before the other
-pub never_both : (f g : PlacedFault) → ComesBefore f g → ComesBefore g f → ⊥
+pub never_both : (f g : PlacedFault) → IsPlacedBefore f g → IsPlacedBefore g f → ⊥
 never_both f g (InPackage a) (InPackage b) = omega (arith, a, b)
 never_both f g (InPackage a) (InFile p b) = omega (arith, a, p)
 never_both f g (InPackage a) (ByOffset p q b) = omega (arith, a, p)
@@ -30,6 +30,6 @@ never_both f g (ByRule p q r a) (ByRule s t u b) = never_less (rule_number f.rul
 
 pub one_faults : (ps : List PackageModel) (cs : List (Option ContentOf)) (fs gs : List PlacedFault) → AreFaults ps cs fs → AreFaults ps cs gs → fs ≡ gs
 one_faults ps cs fs gs h k =
-    ordered_same ComesBefore never_both fs gs h.ordered k.ordered
+    ordered_same IsPlacedBefore never_both fs gs h.ordered k.ordered
     (λ f a. among_from gs f ((k.same f).1 ((h.same f).0 (among_to fs f a))))
     (λ f a. among_from fs f ((h.same f).1 ((k.same f).0 (among_to gs f a))))

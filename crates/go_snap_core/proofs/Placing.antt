@@ -11,24 +11,24 @@ use Rattle.go_token_core.specs.Characters.{first_passes}
 use Rattle.go_token_core.proofs.CharacterLemmas.{width-chars}
 use Rattle.go_scan_core.specs.declared.enclosed.Enclosure.{Enclosure}
 use Rattle.go_scan_core.specs.Enclosed.{opening}
-use Rattle.go_scan_core.specs.Parts.{Part, width}
-use Rattle.go_scan_core.specs.Tokens.{AreParts, IsAnswer}
+use Rattle.go_scan_core.specs.Parts.{TextPart, width}
+use Rattle.go_scan_core.specs.Tokens.{AreTextParts, IsAnswer}
 use Rattle.go_scan_core.specs.Tokens as lexemes
 use Rattle.go_scan_core.proofs.CutLemmas.{width_behind_mark}
 use Rattle.go_tree_nodes.specs.declared.names.Ident.{Ident}
 use Rattle.go_tree_nodes.specs.Spelling.{mark, spell_imports, spell_tops}
 use Rattle.go_tree_nodes.specs.Trees.{FileTree}
 use Rattle.go_tree_nodes.proofs.InOrder.{in_order_ends}
-use Rattle.go_whole_core.specs.parse_core.declared.error.SynFault.{SynFault}
-use Rattle.go_whole_core.specs.parse_core.Correct.{IsSynFault}
-use Rattle.go_whole_core.specs.graph_core.declared.assembly.KFault.{KFault}
-use Rattle.go_whole_core.specs.graph_core.Packages.{IsAssembly}
-use Rattle.go_whole_core.specs.graph_core.Sources.{SourceModel, IsContent, IsRead, clause_in}
-use Rattle.go_whole_core.specs.graph_core.Workspaces.{PackageModel, IsWorkspace}
-use Rattle.go_whole_core.specs.part_core.Parts.{PartModel}
-use Rattle.go_whole_core.proofs.Lists.{none_is_some, one_at}
+use Rattle.go_make_core.specs.parse_core.declared.error.SynFault.{SynFault}
+use Rattle.go_make_core.specs.parse_core.Correct.{IsSynFault}
+use Rattle.go_make_core.specs.graph_core.declared.assembly.KFault.{KFault}
+use Rattle.go_make_core.specs.graph_core.Packages.{IsAssembly}
+use Rattle.go_make_core.specs.graph_core.Sources.{SourceModel, IsContent, IsRead, clause_in}
+use Rattle.go_make_core.specs.graph_core.Workspaces.{PackageModel, IsWorkspace}
+use Rattle.go_make_core.specs.part_core.Parts.{PartModel}
+use Rattle.go_make_core.specs.whole_core.Lists.{none_is_some, one_at}
 use Rattle.go_snap_core.specs.declared.fault.PlacedFault.{PlacedFault}
-use Rattle.go_snap_core.specs.Faults.{IsFault, IsOfAssembly, IsOfText, IsUnassembled, LiesIn}
+use Rattle.go_snap_core.specs.Faults.{IsWorkspaceFault, IsOfAssembly, IsOfText, IsUnassembled, LiesIn}
 use Rattle.go_snap_core.specs.Laws.{UnassembledFaultsLieInTexts}
 use Rattle.go_snap_core.specs.Snapshots.{contents_of}
 use Rattle.go_snap_core.proofs.Faulty.{contents_at, read_there}
@@ -53,7 +53,7 @@ fault_inside rule before cs (inl a) = at_start before cs a.1
 fault_inside rule before cs (inr (inl b)) = at_start before cs b.1
 fault_inside rule before cs (inr (inr c)) = flawed_inside c.0 rule before cs c.1.0 c.1.1 c.1.2 c.1.4
 
-parts_inside : (parts : List Part) (cs : List ℕ) (start : ℕ) (fault : LexFault) → AreParts parts cs start (Some fault) → fault.offset ≤ start + width cs
+parts_inside : (parts : List TextPart) (cs : List ℕ) (start : ℕ) (fault : LexFault) → AreTextParts parts cs start (Some fault) → fault.offset ≤ start + width cs
 parts_inside [] cs start fault h = (let low = fault_inside fault.rule h.0 cs h.1 in let at = h.2 in omega (arith, low, at))
 parts_inside (p ∷ parts) cs start fault h =
     let inside = parts_inside parts h.1 (start + width h.0) fault h.4 in
@@ -110,7 +110,7 @@ module _ (ps : List PackageModel) (parts : List (Option PartModel)) (well : IsWo
       let content : lies.source.content ≡ Err t.fault = subst (λ (s : SourceModel). s.content ≡ Err t.fault) one t.content in
       subst (λ n. n ≤ length lies.source.text) (sym t.offset) (syntax_inside lies.source.text t.fault u (subst (IsContent lies.source.text) content source_read).0)
 
-  fault_stands : IsFault ps (contents_of parts) f → f.offset ≤ length lies.source.text
+  fault_stands : IsWorkspaceFault ps (contents_of parts) f → f.offset ≤ length lies.source.text
   fault_stands (inl r) = absurd (let o : Some None ≡ Some (Some r.content) = sym (contents_at parts f.«package» None none) ∙ r.there in let k : None ≡ Some r.content = cc in none_is_some k)
   fault_stands (inr h) = by_reason h.source (one_at ps f.«package» h.source lies.of_package h.there lies.there) h.why
 

@@ -11,26 +11,26 @@ use Rattle.go_text_core.specs.declared.rule.Rule.{Rule}
 use Rattle.go_text_core.specs.declared.rule.Rule.TheVariants.{L1, L2, L3, P1, P2, K4}
 use Rattle.go_token_core.specs.declared.token.LexFault.{LexFault}
 use Rattle.go_token_core.specs.Characters.{first_passes}
-use Rattle.go_scan_core.specs.Parts.{Part, width}
-use Rattle.go_scan_core.specs.Tokens.{AreParts, IsAnswer}
+use Rattle.go_scan_core.specs.Parts.{TextPart, width}
+use Rattle.go_scan_core.specs.Tokens.{AreTextParts, IsAnswer}
 use Rattle.go_scan_core.specs.Tokens as lexemes
 use Rattle.go_tree_nodes.specs.Trees.{FileTree}
-use Rattle.go_whole_core.specs.parse_core.declared.error.SynFault.{SynFault}
-use Rattle.go_whole_core.specs.parse_core.Correct.{IsSynFault}
-use Rattle.go_whole_core.specs.graph_core.declared.assembly.KFault.{KFault}
-use Rattle.go_whole_core.specs.graph_core.Packages.{AllHaveTrees, HasNoClause, IsAssembly, IsK4}
-use Rattle.go_whole_core.specs.graph_core.Sources.{SourceModel, IsContent, IsRead, clause_in}
-use Rattle.go_whole_core.specs.graph_core.Workspaces.{PackageModel}
-use Rattle.go_whole_core.specs.graph_core.AssemblyLaws.{has_no_other_assembly}
+use Rattle.go_make_core.specs.parse_core.declared.error.SynFault.{SynFault}
+use Rattle.go_make_core.specs.parse_core.Correct.{IsSynFault}
+use Rattle.go_make_core.specs.graph_core.declared.assembly.KFault.{KFault}
+use Rattle.go_make_core.specs.graph_core.Packages.{AllHaveTrees, HasNoClause, IsAssembly, IsK4}
+use Rattle.go_make_core.specs.graph_core.Sources.{SourceModel, IsContent, IsRead, clause_in}
+use Rattle.go_make_core.specs.graph_core.Workspaces.{PackageModel}
+use Rattle.go_make_core.specs.graph_core.AssemblyLaws.{has_no_other_assembly}
 use Rattle.go_emit_core.specs.expr_core.declared.things.Fault.{Fault}
 use Rattle.go_emit_core.specs.report_core.Faults.{number_order}
 use Rattle.go_emit_core.specs.report_core.Faults as report
-use Rattle.go_whole_core.specs.entry_core.Among.{Among, among_cases, among_from, among_left, among_map, among_right, among_to, map_among}
-use Rattle.go_whole_core.specs.part_core.Parts.{ContentOf, FileOf}
+use Rattle.go_make_core.specs.entry_core.Among.{Among, among_cases, among_from, among_left, among_map, among_right, among_to, map_among}
+use Rattle.go_make_core.specs.part_core.Parts.{ContentOf, FileOf}
 use Rattle.go_snap_core.specs.declared.fault.PlacedFault.{PlacedFault}
-use Rattle.go_snap_core.specs.Faults.{AreFaults, ComesBefore, InPackage, InFile, ByOffset, ByRule, IsFault, IsOfAssembly, IsOfText, IsReportedOf, IsUnassembled, here}
+use Rattle.go_snap_core.specs.Faults.{AreFaults, IsPlacedBefore, InPackage, InFile, ByOffset, ByRule, IsWorkspaceFault, IsOfAssembly, IsOfText, IsReportedOf, IsUnassembled, here}
 use Rattle.go_snap_core.specs.mirrors.Reports.{AreFaultsTo, AreOfPackage, AreUnassembled, assembly_fault, fault_with, part_faults, placed, text_fault, text_faults}
-use Rattle.go_whole_core.proofs.Lists.{all_from_among, none_is_some, one_at, pairs_head, pairs_tail}
+use Rattle.go_make_core.specs.whole_core.Lists.{all_from_among, none_is_some, one_at, pairs_head, pairs_tail}
 
 -- lists in order
 
@@ -54,7 +54,7 @@ pairs_append {A} R (x ∷ xs) ys h k f =
 
 -- what is reported of files
 
-reported_before : (number file : ℕ) (f g : Fault) → report.ComesBefore f g → ComesBefore (placed number file f) (placed number file g)
+reported_before : (number file : ℕ) (f g : Fault) → report.ComesBefore f g → IsPlacedBefore (placed number file f) (placed number file g)
 reported_before number file f g (inl lt) = ByOffset refl refl lt
 reported_before number file f g (inr h) = ByRule refl refl h.0 h.1
 
@@ -94,11 +94,11 @@ part_to number k (x ∷ fs) f h = by h.place h.there h.at (λ r. part_to number 
     by (suc place) there at rest =
         among_right (map (placed number k) x.report) (part_faults number (suc k) fs) f (rest (record { place = place; file = h.file; there = there; at = omega (arith, at); of_package = h.of_package; reported = h.reported }))
 
-part_ordered : (number k : ℕ) (fs : List FileOf) → ((i : ℕ) (x : FileOf) → slice_get fs i ≡ Some x → AllPairs report.ComesBefore x.report) → AllPairs ComesBefore (part_faults number k fs)
+part_ordered : (number k : ℕ) (fs : List FileOf) → ((i : ℕ) (x : FileOf) → slice_get fs i ≡ Some x → AllPairs report.ComesBefore x.report) → AllPairs IsPlacedBefore (part_faults number k fs)
 part_ordered number k [] h = λ i j d lt below. absurd (omega (arith, below))
 part_ordered number k (x ∷ fs) h =
-    pairs_append ComesBefore (map (placed number k) x.report) (part_faults number (suc k) fs)
-    (pairs_map report.ComesBefore ComesBefore (placed number k) x.report (λ f g b. reported_before number k f g b) (h 0 x refl))
+    pairs_append IsPlacedBefore (map (placed number k) x.report) (part_faults number (suc k) fs)
+    (pairs_map report.ComesBefore IsPlacedBefore (placed number k) x.report (λ f g b. reported_before number k f g b) (h 0 x refl))
     (part_ordered number (suc k) fs (λ i y at. h (suc i) y at))
     (λ f g a b. (let m = among_map (placed number k) x.report f a in
     let r = part_has number (suc k) fs g b in
@@ -146,14 +146,14 @@ text_to number k (s ∷ ss) f h = by h.place h.there h.at (λ r. text_to number 
         among_right (text_fault number k s.content) (text_faults number (suc k) ss) f
         (rest (record { place = place; source = h.source; there = there; fault = h.fault; content = h.content; at = omega (arith, at); of_package = h.of_package; offset = h.offset; rule = h.rule }))
 
-lone : (number k : ℕ) (r : Result FileTree SynFault) → AllPairs ComesBefore (text_fault number k r)
+lone : (number k : ℕ) (r : Result FileTree SynFault) → AllPairs IsPlacedBefore (text_fault number k r)
 lone number k (Ok t) = λ i j d lt below. absurd (omega (arith, below))
 lone number k (Err e) = λ i j d lt below. absurd (omega (arith, lt, below))
 
-text_ordered : (number k : ℕ) (ss : List SourceModel) → AllPairs ComesBefore (text_faults number k ss)
+text_ordered : (number k : ℕ) (ss : List SourceModel) → AllPairs IsPlacedBefore (text_faults number k ss)
 text_ordered number k [] = λ i j d lt below. absurd (omega (arith, below))
 text_ordered number k (s ∷ ss) =
-    pairs_append ComesBefore (text_fault number k s.content) (text_faults number (suc k) ss) (lone number k s.content) (text_ordered number (suc k) ss)
+    pairs_append IsPlacedBefore (text_fault number k s.content) (text_faults number (suc k) ss) (lone number k s.content) (text_ordered number (suc k) ss)
     (λ f g a b. (let t = one_text number k s.content f a in
     let r = text_has number (suc k) ss g b in
     let file = t.2 in
@@ -180,7 +180,7 @@ of_fault rule before cs (inr (inr c)) = elim c.1.4 [
   | inr r ↦ elim r [ inl b ↦ inr (inl b.0) | inr d ↦ inr (inr (inl d.0)) ]
 ]
 
-of_parts : (parts : List Part) (cs : List ℕ) (start : ℕ) (fault : LexFault) → AreParts parts cs start (Some fault) → IsTextRule fault.rule
+of_parts : (parts : List TextPart) (cs : List ℕ) (start : ℕ) (fault : LexFault) → AreTextParts parts cs start (Some fault) → IsTextRule fault.rule
 of_parts [] cs start fault h = of_fault fault.rule h.0 cs h.1
 of_parts (p ∷ parts) cs start fault h = of_parts parts h.1 (start + width h.0) fault h.4
 
@@ -210,7 +210,7 @@ no_clause s fault e = ap clause_in e
 no_texts : (number k : ℕ) (ss : List SourceModel) → AllHaveTrees ss → (f : PlacedFault) → Among (text_faults number k ss) f → ⊥
 no_texts number k ss all f h = (let r = text_has number k ss f h in subst (λ (s : SourceModel). HasNoClause s → ⊥) (get_or_from_slice_get ss r.place r.source r.source r.there) (all r.place r.source (slice_get_within ss r.place r.source r.there)) (no_clause r.source r.fault r.content))
 
-first_stands : (number : ℕ) (ss : List SourceModel) (fault : KFault) → All IsRead ss → IsK4 ss fault → (g : PlacedFault) → Among (text_faults number 0 ss) g → ComesBefore (assembly_fault number fault) g
+first_stands : (number : ℕ) (ss : List SourceModel) (fault : KFault) → All IsRead ss → IsK4 ss fault → (g : PlacedFault) → Among (text_faults number 0 ss) g → IsPlacedBefore (assembly_fault number fault) g
 first_stands number ss fault read k4 g h =
     let r = text_has number 0 ss g h in
     let at = r.at in
@@ -225,7 +225,7 @@ first_stands number ss fault read k4 g h =
       ]
     ]
 
-stands : (number : ℕ) (ss : List SourceModel) (fault : KFault) → All IsRead ss → IsAssembly ss (Err fault) → (g : PlacedFault) → Among (text_faults number 0 ss) g → ComesBefore (assembly_fault number fault) g
+stands : (number : ℕ) (ss : List SourceModel) (fault : KFault) → All IsRead ss → IsAssembly ss (Err fault) → (g : PlacedFault) → Among (text_faults number 0 ss) g → IsPlacedBefore (assembly_fault number fault) g
 stands number ss fault read (inl k4) g h = first_stands number ss fault read k4 g h
 stands number ss fault read (inr (inl k3)) g h = absurd (no_texts number 0 ss k3.trees g h)
 stands number ss fault read (inr (inr k2)) g h = absurd (no_texts number 0 ss k2.trees g h)
@@ -234,21 +234,21 @@ stands number ss fault read (inr (inr k2)) g h = absurd (no_texts number 0 ss k2
 
 module _ (ps : List PackageModel) (cs : List (Option ContentOf)) (number : ℕ) (p : PackageModel) (at : slice_get ps number ≡ Some p) (read : All IsRead p.1) where
   pub record IsAll (more : List PlacedFault) : Type 0 where
-    pub ordered : AllPairs ComesBefore more
-    pub here : (f : PlacedFault) → Among more f → (f.«package» ≡ number) × IsFault ps cs f
-    pub all : (f : PlacedFault) → f.«package» ≡ number → IsFault ps cs f → Among more f
+    pub ordered : AllPairs IsPlacedBefore more
+    pub here : (f : PlacedFault) → Among more f → (f.«package» ≡ number) × IsWorkspaceFault ps cs f
+    pub all : (f : PlacedFault) → f.«package» ≡ number → IsWorkspaceFault ps cs f → Among more f
 
   unassembled : (more : List PlacedFault) → slice_get cs number ≡ Some None → AreUnassembled number p.1 more → IsAll more
   unassembled more none h = record {
     ordered =
-        subst (AllPairs ComesBefore) (sym h.is)
-        (AllPairs-cons ComesBefore (assembly_fault number h.fault) (text_faults number 0 p.1)
-        (all_from_among (ComesBefore (assembly_fault number h.fault)) (text_faults number 0 p.1) (λ g a. stands number p.1 h.fault read h.assembly g a)) (text_ordered number 0 p.1));
+        subst (AllPairs IsPlacedBefore) (sym h.is)
+        (AllPairs-cons IsPlacedBefore (assembly_fault number h.fault) (text_faults number 0 p.1)
+        (all_from_among (IsPlacedBefore (assembly_fault number h.fault)) (text_faults number 0 p.1) (λ g a. stands number p.1 h.fault read h.assembly g a)) (text_ordered number 0 p.1));
     here = λ f a. from f (subst (λ (l : List PlacedFault). Among l f) h.is a);
     all = λ f e fault. subst (λ (l : List PlacedFault). Among l f) (sym h.is) (to f e fault);
   }
     where
-      from : (f : PlacedFault) → Among (assembly_fault number h.fault ∷ text_faults number 0 p.1) f → (f.«package» ≡ number) × IsFault ps cs f
+      from : (f : PlacedFault) → Among (assembly_fault number h.fault ∷ text_faults number 0 p.1) f → (f.«package» ≡ number) × IsWorkspaceFault ps cs f
       from f (inl e) =
           let on : f.«package» ≡ number = sym (ap (λ (g : PlacedFault). g.«package») e) in (
             on,
@@ -280,7 +280,7 @@ module _ (ps : List PackageModel) (cs : List (Option ContentOf)) (number : ℕ) 
           inl (same_fault (assembly_fault number h.fault) f (sym e) (ap (λ (x : KFault). x.file) same ∙ sym a.file) (ap (λ (x : KFault). x.offset) same ∙ sym a.offset) (ap (λ (x : KFault). x.rule) same ∙ sym a.rule))
       why f e (inr t) = inr (text_to number 0 p.1 f (record { place = f.file; source = t.source; there = t.in_package; fault = t.fault; content = t.content; at = omega arith; of_package = e; offset = t.offset; rule = t.rule }))
 
-      to : (f : PlacedFault) → f.«package» ≡ number → IsFault ps cs f → Among (assembly_fault number h.fault ∷ text_faults number 0 p.1) f
+      to : (f : PlacedFault) → f.«package» ≡ number → IsWorkspaceFault ps cs f → Among (assembly_fault number h.fault ∷ text_faults number 0 p.1) f
       to f e (inl r) = absurd (let o : Some None ≡ Some (Some r.content) = sym none ∙ subst (λ n. slice_get cs n ≡ Some (Some r.content)) e r.there in let k : None ≡ Some r.content = cc in none_is_some k)
       to f e (inr u) = why f e (of_none f e u)
 
@@ -304,7 +304,7 @@ module _ (ps : List PackageModel) (cs : List (Option ContentOf)) (number : ℕ) 
       of_part : (f : PlacedFault) → f.«package» ≡ number → (r : IsReportedOf cs f) → r.content ≡ c
       of_part f e r = (let o : Some r.content ≡ Some c = one_at cs number (Some r.content) (Some c) (subst (λ n. slice_get cs n ≡ Some (Some r.content)) e r.there) there in cc)
 
-      to : (f : PlacedFault) → f.«package» ≡ number → IsFault ps cs f → Among (part_faults number 0 c.files) f
+      to : (f : PlacedFault) → f.«package» ≡ number → IsWorkspaceFault ps cs f → Among (part_faults number 0 c.files) f
       to f e (inl r) =
           part_to number 0 c.files f
           (record { place = f.file; file = r.file; there = subst (λ (x : ContentOf). slice_get x.files f.file ≡ Some r.file) (of_part f e r) r.in_package; at = omega arith; of_package = e; reported = among_from r.file.report (here f) r.reported })
@@ -318,16 +318,16 @@ module _ (ps : List PackageModel) (cs : List (Option ContentOf)) (number : ℕ) 
   pub one_more : (old more : List PlacedFault) → AreFaultsTo ps cs number old → IsAll more → AreFaultsTo ps cs (suc number) (old ++ more)
   one_more old more before h = record {
     ordered =
-        pairs_append ComesBefore old more before.ordered h.ordered
+        pairs_append IsPlacedBefore old more before.ordered h.ordered
         (λ f g a b. (let low = ((before.same f).0 (among_to old f a)).0 in let on = (h.here g b).0 in InPackage (omega (arith, low, on))));
     same = λ f. (λ c. from f (among_cases old more f (among_from (old ++ more) f c)), λ c. among_to (old ++ more) f (to f c.0 c.1));
   }
     where
-      from : (f : PlacedFault) → Among old f ⊎ Among more f → (f.«package» < suc number) × IsFault ps cs f
+      from : (f : PlacedFault) → Among old f ⊎ Among more f → (f.«package» < suc number) × IsWorkspaceFault ps cs f
       from f (inl a) = (let b = (before.same f).0 (among_to old f a) in let low = b.0 in (omega (arith, low), b.1))
       from f (inr a) = (let b = h.here f a in let on = b.0 in (omega (arith, on), b.1))
 
-      to : (f : PlacedFault) → f.«package» < suc number → IsFault ps cs f → Among (old ++ more) f
+      to : (f : PlacedFault) → f.«package» < suc number → IsWorkspaceFault ps cs f → Among (old ++ more) f
       to f low fault = elim (cases_lt f.«package» number) [
         | inl lt ↦ among_left old more f (among_from old f ((before.same f).1 (lt, fault)))
         | inr ge ↦ among_right old more f (h.all f (omega (arith, ge, low)) fault)
@@ -336,7 +336,7 @@ module _ (ps : List PackageModel) (cs : List (Option ContentOf)) (number : ℕ) 
 pub no_faults : (ps : List PackageModel) (cs : List (Option ContentOf)) → AreFaultsTo ps cs 0 []
 no_faults ps cs = record { ordered = λ i j d lt below. absurd (omega (arith, below)); same = λ f. (λ c. absurd (omega (arith, c.1)), λ c. absurd (omega (arith, c.0))) }
 
-within : (ps : List PackageModel) (cs : List (Option ContentOf)) (f : PlacedFault) → length cs ≡ length ps → IsFault ps cs f → f.«package» < length ps
+within : (ps : List PackageModel) (cs : List (Option ContentOf)) (f : PlacedFault) → length cs ≡ length ps → IsWorkspaceFault ps cs f → f.«package» < length ps
 within ps cs f same (inl r) = omega (arith, same, slice_get_within cs f.«package» (Some r.content) r.there)
 within ps cs f same (inr u) = omega (arith, slice_get_within ps f.«package» u.source u.there)
 

@@ -4,14 +4,14 @@
 use Rattle.std.specs.Prelude.{◌≡◌, ◌↔◌, ◌⊎◌, ◌<◌, ℕ, List, Option, Some, None, Err, AllPairs, Contains, slice_get}
 use Rattle.std.specs.declared.cmp.Ordering.TheVariants.{Less}
 use Rattle.go_text_core.specs.declared.rule.Rule.{Rule}
-use Rattle.go_whole_core.specs.graph_core.declared.assembly.KFault.{KFault}
-use Rattle.go_whole_core.specs.graph_core.Packages.{IsAssembly}
-use Rattle.go_whole_core.specs.graph_core.Sources.{SourceModel}
-use Rattle.go_whole_core.specs.graph_core.Workspaces.{PackageModel}
-use Rattle.go_whole_core.specs.parse_core.declared.error.SynFault.{SynFault}
+use Rattle.go_make_core.specs.graph_core.declared.assembly.KFault.{KFault}
+use Rattle.go_make_core.specs.graph_core.Packages.{IsAssembly}
+use Rattle.go_make_core.specs.graph_core.Sources.{SourceModel}
+use Rattle.go_make_core.specs.graph_core.Workspaces.{PackageModel}
+use Rattle.go_make_core.specs.parse_core.declared.error.SynFault.{SynFault}
 use Rattle.go_emit_core.specs.expr_core.declared.things.Fault.{Fault}
 use Rattle.go_emit_core.specs.report_core.Faults.{number_order}
-use Rattle.go_whole_core.specs.part_core.Parts.{ContentOf, FileOf}
+use Rattle.go_make_core.specs.part_core.Parts.{ContentOf, FileOf}
 use Rattle.go_snap_core.specs.declared.fault.PlacedFault.{PlacedFault}
 
 -- the same place in a file
@@ -49,15 +49,15 @@ pub record IsUnassembled (ps : List PackageModel) (cs : List (Option ContentOf))
   pub none : slice_get cs f.«package» ≡ Some None
   pub why : IsOfAssembly source f ⊎ IsOfText source f
 
-abbrev pub IsFault : List PackageModel → List (Option ContentOf) → PlacedFault → Type 0
-IsFault ps cs f = IsReportedOf cs f ⊎ IsUnassembled ps cs f
+abbrev pub IsWorkspaceFault : List PackageModel → List (Option ContentOf) → PlacedFault → Type 0
+IsWorkspaceFault ps cs f = IsReportedOf cs f ⊎ IsUnassembled ps cs f
 
 -- by package, file, offset, and the bytes of the rule's number
-pub data ComesBefore (f g : PlacedFault) : Type 0 where
-  InPackage : f.«package» < g.«package» → ComesBefore f g
-  InFile : f.«package» ≡ g.«package» → f.file < g.file → ComesBefore f g
-  ByOffset : f.«package» ≡ g.«package» → f.file ≡ g.file → f.offset < g.offset → ComesBefore f g
-  ByRule : f.«package» ≡ g.«package» → f.file ≡ g.file → f.offset ≡ g.offset → number_order f.rule g.rule ≡ Less → ComesBefore f g
+pub data IsPlacedBefore (f g : PlacedFault) : Type 0 where
+  InPackage : f.«package» < g.«package» → IsPlacedBefore f g
+  InFile : f.«package» ≡ g.«package» → f.file < g.file → IsPlacedBefore f g
+  ByOffset : f.«package» ≡ g.«package» → f.file ≡ g.file → f.offset < g.offset → IsPlacedBefore f g
+  ByRule : f.«package» ≡ g.«package» → f.file ≡ g.file → f.offset ≡ g.offset → number_order f.rule g.rule ≡ Less → IsPlacedBefore f g
 
 -- the file of the workspace in which it lies
 pub record LiesIn (ps : List PackageModel) (f : PlacedFault) : Type 0 where
@@ -68,5 +68,5 @@ pub record LiesIn (ps : List PackageModel) (f : PlacedFault) : Type 0 where
 
 -- exactly the faults, in order, each once
 pub record AreFaults (ps : List PackageModel) (cs : List (Option ContentOf)) (faults : List PlacedFault) : Type 0 where
-  pub ordered : AllPairs ComesBefore faults
-  pub same : (f : PlacedFault) → Contains faults f ↔ IsFault ps cs f
+  pub ordered : AllPairs IsPlacedBefore faults
+  pub same : (f : PlacedFault) → Contains faults f ↔ IsWorkspaceFault ps cs f

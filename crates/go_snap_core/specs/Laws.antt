@@ -2,8 +2,8 @@
 use Rattle.std.specs.Prelude.{◌≡◌, ◌≢◌, ◌≤◌, ℕ, List, [], ◌∷◌, length, Option, Some, None, All, AllPairs, Contains, slice_get}
 use Rattle.std.specs.Str.{IsUtf8}
 use Rattle.go_emit_core.specs.expr_core.declared.things.Fault.{Fault}
-use Rattle.go_whole_core.specs.graph_core.Workspaces.{PackageModel, IsWorkspace}
-use Rattle.go_whole_core.specs.part_core.Parts.{PartModel}
+use Rattle.go_make_core.specs.graph_core.Workspaces.{PackageModel, IsWorkspace}
+use Rattle.go_make_core.specs.part_core.Parts.{PartModel}
 use Rattle.go_emit_core.specs.report_core.Faults.{IsSaid}
 use Rattle.go_emit_core.specs.used_core.Used.{TheUse}
 use Rattle.go_snap_core.specs.declared.fault.PlacedFault.{PlacedFault}
@@ -31,19 +31,19 @@ abbrev pub FaultsDiffer : Type 0
 FaultsDiffer = (ps : List PackageModel) (parts : List (Option PartModel)) (faults : List PlacedFault) → IsSnapshot ps parts faults → AllPairs (λ f g. f ≢ g) faults
 
 -- an occurrence is refused by a rule, at its place
-abbrev pub IsRefused : TheUse → Fault → Type 0
-IsRefused u f = IsSaid (u ∷ []) f
+abbrev pub IsUseRefused : TheUse → Fault → Type 0
+IsUseRefused u f = IsSaid (u ∷ []) f
 
 -- the rule that an occurrence of a file is refused by is a fault of this file
 abbrev pub RefusalsAreFaults : Type 0
 RefusalsAreFaults =
     (ps : List PackageModel) (parts : List (Option PartModel)) (faults : List PlacedFault) → IsSnapshot ps parts faults → (path name : List ℕ) (n : ℕ) (u : TheUse) (at : IsAnswerAt ps parts path name n u) (f : PlacedFault)
-    → f.«package» ≡ at.in_workspace.number → f.file ≡ at.number → IsRefused u (here f) → Contains faults f
+    → f.«package» ≡ at.in_workspace.number → f.file ≡ at.number → IsUseRefused u (here f) → Contains faults f
 
 -- in a workspace without a fault each package has a part, and no occurrence is refused: each has a declaration
 pub record IsFaultless (ps : List PackageModel) (parts : List (Option PartModel)) : Type 0 where
   pub made : (n : ℕ) (p : PackageModel) → slice_get ps n ≡ Some p → (part : PartModel) × (slice_get parts n ≡ Some (Some part))
-  pub declared : (path name : List ℕ) (n : ℕ) (u : TheUse) → IsAnswerAt ps parts path name n u → (f : Fault) → ¬ IsRefused u f
+  pub declared : (path name : List ℕ) (n : ℕ) (u : TheUse) → IsAnswerAt ps parts path name n u → (f : Fault) → ¬ IsUseRefused u f
 
 abbrev pub NoFaultNoRefusal : Type 0
 NoFaultNoRefusal = (ps : List PackageModel) (parts : List (Option PartModel)) → IsWorkspace ps → IsSnapshot ps parts [] → IsFaultless ps parts

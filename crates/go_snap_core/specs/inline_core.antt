@@ -1,2 +1,2 @@
 -- What the crates above name of go_inline_core.
-pub use Rattle.go_whole_core.specs.inline_core.Functions as Functions
+pub use Rattle.go_make_core.specs.inline_core.Functions as Functions

@@ -1,16 +1,16 @@
 //! The snapshot of a workspace.
 ghost use Rattle.std.specs.Prelude.{◌≡◌, IfOk};
-ghost use Rattle.go_whole_core.specs.graph_core.Workspaces.{IsWorkspace};
-ghost use Rattle.go_whole_core.specs.Inputs.{AreParts};
+ghost use Rattle.go_make_core.specs.graph_core.Workspaces.{IsWorkspace};
+ghost use Rattle.go_make_core.specs.whole_core.Inputs.{AreParts};
 ghost use Rattle.go_make_core.specs.Keeping.{AreKept};
 ghost use Rattle.go_snap_core.specs.Snapshots.{IsSnapshot};
 
 use crate::fault::{PlacedFault, faults_of};
 use crate::snapshot::Snapshot;
+use go_make_core::graph_core::Workspace;
+use go_make_core::part_core::Parts;
+use go_make_core::whole_core::{check_is_local, imports_bind_theirs};
 use go_make_core::{parts_again, parts_of};
-use go_whole_core::graph_core::Workspace;
-use go_whole_core::locality_core::{check_is_local, imports_bind_theirs};
-use go_whole_core::part_core::Parts;
 use std::alloc::{AllocError, Global};
 
 /// A snapshot that was made over an earlier one.
@@ -90,9 +90,9 @@ pub fn compile(alloc: Global, workspace: &Workspace) -> Result<Snapshot, AllocEr
 }
 
 /// The snapshot of a workspace, over an earlier one of any workspace: what `compile` gives, since a workspace has one snapshot (`one_snapshot`). A
-/// package whose input is the one that its part was made from keeps that part, which is shared: nothing of it is checked again, and no memory is
-/// taken for it. What a package tells that is made again is compared once with what it told; so an edit of a body has one package checked again, and
-/// none of those that import it.
+/// package whose input is the one that its part was made from keeps that part, which is shared: nothing of it is checked again. Its new input is made
+/// to be compared, and then let go. What a package tells that is checked again is compared once with what it told: where that is the same, as after an
+/// edit of a body, those that import it keep their parts.
 ///
 /// The Go specification, "Packages", "Import declarations".
 ///

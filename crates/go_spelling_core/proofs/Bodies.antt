@@ -7,16 +7,16 @@ use Rattle.go_tree_nodes.specs.Trees.{FuncTree, Lines, TopTree, FileTree}
 use Rattle.go_term_core.specs.decl_core.declared.places.Place.{Place}
 use Rattle.go_term_core.specs.decl_core.Outer.{decl_outers, tops_outers, places_of, place_of}
 use Rattle.go_term_core.specs.decl_core.TopDecls.{decl_decls, tops_decls}
-use Rattle.go_context_core.specs.block_core.Blocks.{BlocksModel}
-use Rattle.go_context_core.specs.written_core.Written.{InFile}
-use Rattle.go_context_core.specs.entry_core.Meanings.{Shows, file_meaning}
-use Rattle.go_context_core.specs.entry_core.Outlines.{FileOutline, outline_of}
-use Rattle.go_context_core.specs.table_core.Entries.{Entry}
-use Rattle.go_context_core.specs.face_core.Faces.{TheFace}
-use Rattle.go_context_core.specs.face_core.Written.{WrittenOf, written_of, file_written, package_written}
-use Rattle.go_context_core.specs.func_core.Stands.{FileStand}
-use Rattle.go_context_core.specs.ready_core.Packages.{PackageIn, stand_in}
-use Rattle.go_context_core.specs.Files.{WritesBody, InFunc, BehindTop, with_decls, with_trees}
+use Rattle.go_package_core.specs.block_core.Blocks.{BlocksModel}
+use Rattle.go_package_core.specs.written_core.Written.{InFile}
+use Rattle.go_package_core.specs.entry_core.Meanings.{Shows, file_meaning}
+use Rattle.go_package_core.specs.entry_core.Outlines.{FileOutline, outline_of}
+use Rattle.go_package_core.specs.table_core.Entries.{Entry}
+use Rattle.go_package_core.specs.face_core.Faces.{TheFace}
+use Rattle.go_package_core.specs.face_core.Written.{WrittenOf, written_of, file_written, package_written}
+use Rattle.go_package_core.specs.func_core.Stands.{FileStand}
+use Rattle.go_package_core.specs.ready_core.Packages.{PackageIn, stand_in}
+use Rattle.go_spelling_core.specs.Files.{WritesBody, InFunc, BehindTop, with_decls, with_trees}
 
 module _ (f : FuncTree) (body : Lines) where
   -- the identifiers that it declares outside bodies

@@ -6,29 +6,28 @@ use Rattle.std.proofs.lemmas.List.{map-append}
 use Rattle.go_text_core.specs.declared.span.Span.{Span}
 use Rattle.go_tree_nodes.specs.declared.names.Ident.{Ident}
 use Rattle.go_tree_nodes.specs.declared.decls.ValueKind.TheVariants as kinds
-use Rattle.go_tree_nodes.specs.Trees.{Specs, Single, Group, DeclTree, Value, Types, Func, FuncTree, TopTree}
+use Rattle.go_tree_nodes.specs.Trees.{Specs, Single, Group, DeclTree, Value, Types, Func, FuncTree, TopTree, of_specs}
 use Rattle.go_term_core.specs.Terms.{Term}
-use Rattle.go_context_core.specs.local_core.Binding.{Look}
-use Rattle.go_context_core.specs.local_core.Outline.{func_steps, func_opens, func_closes}
-use Rattle.go_context_core.specs.local_core.Steps.{Piece, Spec, Steps, Done, Check, Declare, Inner}
-use Rattle.go_context_core.specs.local_core.mirrors.Walk.{Names, look_in, with_names, news, names_of, walk_out}
-use Rattle.go_context_core.specs.expr_core.TypeUses.{type_uses}
-use Rattle.go_context_core.specs.expr_core.Uses.{use_of, type_spots}
-use Rattle.go_context_core.specs.piece_core.Headers.{returned_types, returned_names}
-use Rattle.go_context_core.specs.piece_core.Pieces.{piece_uses, piece_values}
-use Rattle.go_context_core.specs.piece_core.Specifications.{spec_uses}
-use Rattle.go_context_core.specs.env_core.declared.meaning.Meaning.{Meaning}
-use Rattle.go_context_core.specs.body_core.Notes.{NoteOf, all_uses}
-use Rattle.go_context_core.specs.body_core.Rules.{local_at}
-use Rattle.go_context_core.specs.top_core.Tops.{of_specs}
-use Rattle.go_context_core.specs.func_core.Stands.{FileStand, looks_where, outer_names, outer_look, outer_looks}
-use Rattle.go_context_core.specs.func_core.Functions.{own_rules, checked_func}
-use Rattle.go_context_core.specs.file_core.Files.{decl_uses, tops_uses}
-use Rattle.go_context_core.specs.respell_core.Functions.{spot_rules}
-use Rattle.go_context_core.specs.respell_core.Spots.{spec_spots, piece_spots}
-use Rattle.go_context_core.specs.respell_core.Pieces.{piece_used}
-use Rattle.go_context_core.specs.Functions.{TheSpot}
-use Rattle.go_context_core.specs.Spots.{decl_spots, tops_spots}
+use Rattle.go_package_core.specs.local_core.Binding.{NameLook}
+use Rattle.go_package_core.specs.local_core.Outline.{func_steps, func_opens, func_closes}
+use Rattle.go_package_core.specs.local_core.Steps.{Piece, Spec, Steps, Done, Check, Declare, Inner}
+use Rattle.go_package_core.specs.local_core.mirrors.Walk.{Names, look_in, with_names, news, names_of, walk_out}
+use Rattle.go_package_core.specs.expr_core.TypeUses.{type_uses}
+use Rattle.go_package_core.specs.expr_core.Uses.{use_of, type_spots}
+use Rattle.go_package_core.specs.piece_core.Headers.{returned_types, returned_names}
+use Rattle.go_package_core.specs.piece_core.Pieces.{piece_uses, piece_values}
+use Rattle.go_package_core.specs.piece_core.Specifications.{spec_uses}
+use Rattle.go_package_core.specs.env_core.declared.meaning.Meaning.{Meaning}
+use Rattle.go_package_core.specs.body_core.Notes.{NoteOf, all_uses}
+use Rattle.go_package_core.specs.body_core.Rules.{local_at}
+use Rattle.go_package_core.specs.func_core.Stands.{FileStand, looks_where, outer_meanings, outer_look, outer_looks}
+use Rattle.go_package_core.specs.func_core.Functions.{own_rules, checked_func}
+use Rattle.go_package_core.specs.file_core.Files.{decl_uses, tops_uses}
+use Rattle.go_spelling_core.specs.PieceContexts.{spot_rules}
+use Rattle.go_spelling_core.specs.PieceSpots.{spec_spots, piece_spots}
+use Rattle.go_spelling_core.proofs.Pieces.{piece_used}
+use Rattle.go_spelling_core.specs.Functions.{TheSpot}
+use Rattle.go_spelling_core.specs.Spots.{decl_spots, tops_spots}
 use Rattle.go_spelling_core.specs.Places.{PlacedSpot, placed_spot, placed_use, piece_places, place_rules, func_places, decl_places, tops_places}
 
 -- lists that are mapped
@@ -47,7 +46,7 @@ specs_mapped {A = A} f us ps h (Group first ls last) = each_mapped f (λ (l : A 
 abbrev spot_of : PlacedSpot → TheSpot
 spot_of s = s.spot
 
-spots_back : (names : Look Meaning) (ps : List TheSpot) → ps ≡ map spot_of (map (placed_spot names) ps)
+spots_back : (names : NameLook Meaning) (ps : List TheSpot) → ps ≡ map spot_of (map (placed_spot names) ps)
 spots_back names [] = refl
 spots_back names (p ∷ ps) = ap (λ l. p ∷ l) (spots_back names ps)
 
@@ -56,26 +55,26 @@ all_both [] ms = refl
 all_both (n ∷ ns) ms = ap (λ l. n.uses ++ l) (all_both ns ms) ∙ sym (append_assoc n.uses (all_uses ns) (all_uses ms))
 
 module _ (st : FileStand) where
-  uses_placed : (names : Look Meaning) (ps : List TheSpot) → map (use_of (looks_where st names)) ps ≡ map (placed_use st) (map (placed_spot names) ps)
+  uses_placed : (names : NameLook Meaning) (ps : List TheSpot) → map (use_of (looks_where st names)) ps ≡ map (placed_use st) (map (placed_spot names) ps)
   uses_placed names [] = refl
   uses_placed names (p ∷ ps) = ap (λ l. use_of (looks_where st names) p ∷ l) (uses_placed names ps)
 
-  pub piece_noted : (names : Look Meaning) (p : Piece) → piece_uses (looks_where st names) p ≡ map (placed_use st) (piece_places st names p)
+  pub piece_noted : (names : NameLook Meaning) (p : Piece) → piece_uses (looks_where st names) p ≡ map (placed_use st) (piece_places st names p)
   piece_noted names p = piece_used (looks_where st names) p ∙ uses_placed names (piece_spots (looks_where st names) p)
 
   -- on the way through a function
 
-  abbrev pub there : Names Meaning → Names Meaning → Look Meaning
-  there outer block = look_in (outer_names st) (outer ++ block)
+  abbrev pub there : Names Meaning → Names Meaning → NameLook Meaning
+  there outer block = look_in (outer_meanings st) (outer ++ block)
 
   abbrev pub block_after : Names Meaning → Names Meaning → Piece → List Ident → Names Meaning
   block_after outer block p xs = with_names block (local_at p (piece_values (looks_where st (there outer block)) (news (names_of block) xs) p)) 0 xs
 
   abbrev pub place_walk : Names Meaning → Names Meaning → ℕ → ℕ → Steps → List PlacedSpot
-  place_walk outer block o c s = (walk_out (place_rules st) (outer_names st) outer block o c s).notes
+  place_walk outer block o c s = (walk_out (place_rules st) (outer_meanings st) outer block o c s).notes
 
   abbrev spot_walk : Names Meaning → Names Meaning → ℕ → ℕ → Steps → List TheSpot
-  spot_walk outer block o c s = (walk_out (spot_rules (looks_where st) local_at) (outer_names st) outer block o c s).notes
+  spot_walk outer block o c s = (walk_out (spot_rules (looks_where st) local_at) (outer_meanings st) outer block o c s).notes
 
   spots_walked : (s : Steps) (outer block : Names Meaning) (o c : ℕ) → spot_walk outer block o c s ≡ map spot_of (place_walk outer block o c s)
   spots_walked Done outer block o c = refl
@@ -94,7 +93,7 @@ module _ (st : FileStand) where
 
   module _ (results : List (Option Term)) (has_names : Bool) where
     abbrev note_walk : Names Meaning → Names Meaning → ℕ → ℕ → Steps → List NoteOf
-    note_walk outer block o c s = (walk_out (own_rules st results has_names) (outer_names st) outer block o c s).notes
+    note_walk outer block o c s = (walk_out (own_rules st results has_names) (outer_meanings st) outer block o c s).notes
 
     uses_walked : (s : Steps) (outer block : Names Meaning) (o c : ℕ) → all_uses (note_walk outer block o c s) ≡ map (placed_use st) (place_walk outer block o c s)
     uses_walked Done outer block o c = refl

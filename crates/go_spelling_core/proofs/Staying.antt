@@ -5,22 +5,22 @@ use Rattle.std.specs.List.{enumerate_from}
 use Rattle.go_tree_nodes.specs.declared.names.Ident.{Ident}
 use Rattle.go_tree_nodes.specs.Trees.{ValueSpecTree, FuncTree, Lines, TopTree, FileTree}
 use Rattle.go_term_core.specs.Terms.{Term, Sign}
-use Rattle.go_context_core.specs.entry_core.Outlines.{outline_of}
-use Rattle.go_context_core.specs.table_core.Entries.{Entry}
-use Rattle.go_context_core.specs.handle_core.Declarations.{Declaration}
-use Rattle.go_context_core.specs.local_core.Binding.{Look}
-use Rattle.go_context_core.specs.expr_core.Uses.{Context, Identifier, rule, role_of, made_use}
-use Rattle.go_context_core.specs.env_core.declared.meaning.Meaning.{Meaning}
-use Rattle.go_context_core.specs.func_core.Stands.{FileStand, looks_where, outer_look, outer_looks}
-use Rattle.go_context_core.specs.file_core.Files.{tops_uses}
-use Rattle.go_context_core.specs.respell_core.Contexts.{ContextStays}
-use Rattle.go_context_core.specs.ready_core.Packages.{PackageIn, stand_in}
-use Rattle.go_context_core.specs.ready_core.Values.{AreDeclared}
+use Rattle.go_package_core.specs.entry_core.Outlines.{outline_of}
+use Rattle.go_package_core.specs.table_core.Entries.{Entry}
+use Rattle.go_package_core.specs.handle_core.Declarations.{Declaration}
+use Rattle.go_package_core.specs.local_core.Binding.{NameLook}
+use Rattle.go_package_core.specs.expr_core.Uses.{Context, Identifier, rule, role_of, made_use}
+use Rattle.go_package_core.specs.env_core.declared.meaning.Meaning.{Meaning}
+use Rattle.go_package_core.specs.func_core.Stands.{FileStand, looks_where, outer_look, outer_looks}
+use Rattle.go_package_core.specs.file_core.Files.{tops_uses}
+use Rattle.go_spelling_core.specs.Contexts.{ContextStays}
+use Rattle.go_package_core.specs.ready_core.Packages.{PackageIn, stand_in}
+use Rattle.go_package_core.specs.ready_core.Values.{AreDeclared}
 use Rattle.go_package_core.specs.Checked.{CheckedOf, IsChecked, IsFileChecked}
-use Rattle.go_context_core.specs.Files.{IsWrittenIn, IsBodyIn, WritesInTops, WritesBody, with_decls, with_trees}
-use Rattle.go_context_core.specs.Outer.{OuterTypesInFilesStay}
-use Rattle.go_context_core.specs.Packages.{FileInitialisersStay, PackageBodiesStay, TypesStay}
-use Rattle.go_context_core.specs.Spots.{tops_spots}
+use Rattle.go_spelling_core.specs.Files.{IsWrittenIn, IsBodyIn, WritesInTops, WritesBody, with_decls, with_trees}
+use Rattle.go_spelling_core.specs.Outer.{OuterTypesInFilesStay}
+use Rattle.go_spelling_core.specs.Packages.{FileInitialisersStay, PackageBodiesStay, TypesStay}
+use Rattle.go_spelling_core.specs.Spots.{tops_spots}
 use Rattle.go_spelling_core.specs.Laws.{some_uses, uses_in, checked_stand, import_outcomes, ContextsDecide, StaysInFile, IsInValues, IsInBody, ContextsStayInPackages}
 use Rattle.go_spelling_core.specs.Places.{placed_spot, placed_use, tops_places, MeanThere}
 use Rattle.go_spelling_core.specs.Spellings.{RespellsTops, InInitialiser, InOuterTypes, InBody}
@@ -81,14 +81,14 @@ module _ (types_law : TypesStay) (initial_law : FileInitialisersStay) (outer_law
   record Kept (r : RespellsTops x name file.decls decls) : Type 0 where
     at : ℕ
     context : Context Term Declaration
-    names : Look Meaning
-    others : Look Meaning
+    names : NameLook Meaning
+    others : NameLook Meaning
     stands : slice_get (tops_places st file.decls) at ≡ Some (placed_spot names (Identifier context x))
     there : MeanThere st other r names others
     has : slice_get (tops_uses other decls) at ≡ Some (made_use x.span.start (role_of context) (rule (looks_where other others) context x.span.start name))
 
   -- outside functions
-  kept_outside : (r : RespellsTops x name file.decls decls) → ((names : Look Meaning) → MeanThere st other r names (outer_look other))
+  kept_outside : (r : RespellsTops x name file.decls decls) → ((names : NameLook Meaning) → MeanThere st other r names (outer_look other))
       → ContextStays Term Sign Declaration (List ℕ) (outer_looks other) x name (tops_spots st file.decls) (tops_uses other decls) → Kept r
   kept_outside r there stays =
       let spot = mapped_from (λ s. s.spot) (tops_places st file.decls) stays.number (Identifier stays.context x) (ap (λ l. slice_get l stays.number) (sym (tops_spotted st file.decls)) ∙ stays.stands) in

@@ -6,19 +6,19 @@ use Rattle.std.proofs.lemmas.List.{map-append, length-map}
 use Rattle.go_tree_nodes.specs.declared.names.Ident.{Ident}
 use Rattle.go_tree_nodes.specs.Trees.{FuncTree, Lines, TopTree}
 use Rattle.go_term_core.specs.Terms.{Term}
-use Rattle.go_context_core.specs.handle_core.Declarations.{Declaration}
-use Rattle.go_context_core.specs.local_core.Binding.{Look}
-use Rattle.go_context_core.specs.local_core.Outline.{func_steps, func_opens, func_closes}
-use Rattle.go_context_core.specs.local_core.Steps.{Piece, Steps}
-use Rattle.go_context_core.specs.local_core.mirrors.Walk.{Names}
-use Rattle.go_context_core.specs.expr_core.Uses.{Context, Identifier, rule, role_of, made_use}
-use Rattle.go_context_core.specs.env_core.declared.meaning.Meaning.{Meaning}
-use Rattle.go_context_core.specs.func_core.Stands.{FileStand, looks_where}
-use Rattle.go_context_core.specs.respell_core.Spots.{piece_spots}
-use Rattle.go_context_core.specs.respell_core.Trees.{RespellsPiece, RespellsSteps, AtCheck, AtDeclare, BehindCheck, BehindDeclare, InBlock, BehindBlock, RespellsLines, InFuncBody, with_body}
-use Rattle.go_context_core.specs.respell_core.Pieces.{piece_stays}
-use Rattle.go_context_core.specs.respell_core.Treading.{func_respelled}
-use Rattle.go_context_core.specs.Files.{WritesBody, InFunc, BehindTop}
+use Rattle.go_package_core.specs.handle_core.Declarations.{Declaration}
+use Rattle.go_package_core.specs.local_core.Binding.{NameLook}
+use Rattle.go_package_core.specs.local_core.Outline.{func_steps, func_opens, func_closes}
+use Rattle.go_package_core.specs.local_core.Steps.{Piece, Steps}
+use Rattle.go_package_core.specs.local_core.mirrors.Walk.{Names}
+use Rattle.go_package_core.specs.expr_core.Uses.{Context, Identifier, rule, role_of, made_use}
+use Rattle.go_package_core.specs.env_core.declared.meaning.Meaning.{Meaning}
+use Rattle.go_package_core.specs.func_core.Stands.{FileStand, looks_where}
+use Rattle.go_spelling_core.specs.PieceSpots.{piece_spots}
+use Rattle.go_spelling_core.specs.Trees.{RespellsPiece, RespellsSteps, AtCheck, AtDeclare, BehindCheck, BehindDeclare, InBlock, BehindBlock, RespellsLines, InFuncBody, with_body}
+use Rattle.go_spelling_core.proofs.Pieces.{piece_stays}
+use Rattle.go_spelling_core.proofs.Treading.{func_respelled}
+use Rattle.go_spelling_core.specs.Files.{WritesBody, InFunc, BehindTop}
 use Rattle.go_spelling_core.specs.Places.{PlacedSpot, placed_spot, placed_use, piece_places, func_places, decl_places, tops_places}
 use Rattle.go_spelling_core.proofs.Listed.{get_mapped, get_front, get_behind}
 use Rattle.go_spelling_core.proofs.Noted.{piece_noted, there, block_after, place_walk}
@@ -28,7 +28,7 @@ module _ (st : FileStand) (x : Ident) (name : List ℕ) where
   pub record PlaceStays (ps qs : List PlacedSpot) : Type 0 where
     pub number : ℕ
     pub context : Context Term Declaration
-    pub names : Look Meaning
+    pub names : NameLook Meaning
     pub stands : slice_get ps number ≡ Some (placed_spot names (Identifier context x))
     pub has : slice_get (map (placed_use st) qs) number ≡ Some (made_use x.span.start (role_of context) (rule (looks_where st names) context x.span.start name))
 
@@ -55,7 +55,7 @@ module _ (st : FileStand) (x : Ident) (name : List ℕ) where
             ∙ (ap (λ (k : ℕ). slice_get (uses ++ others) (k + h.number)) (sym (length-map front (placed_use st))) ∙ (get_behind uses others h.number ∙ h.has));
       }
 
-  in_piece : (names : Look Meaning) (p q : Piece) → RespellsPiece x name p q → PlaceStays (piece_places st names p) (piece_places st names q)
+  in_piece : (names : NameLook Meaning) (p q : Piece) → RespellsPiece x name p q → PlaceStays (piece_places st names p) (piece_places st names q)
   in_piece names p q r =
       let c = piece_stays (looks_where st names) x name p q r in
       record {

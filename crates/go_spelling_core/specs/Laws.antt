@@ -6,18 +6,18 @@ use Rattle.std.specs.Prelude.{◌≡◌, ⊤, ℕ, ◌+◌, List, [], ◌++◌, 
 use Rattle.go_tree_nodes.specs.declared.names.Ident.{Ident}
 use Rattle.go_tree_nodes.specs.Trees.{TopTree, FileTree}
 use Rattle.go_term_core.specs.Terms.{Term}
-use Rattle.go_context_core.specs.block_core.Naming.{file_specs}
-use Rattle.go_context_core.specs.table_core.Entries.{Entry}
-use Rattle.go_context_core.specs.handle_core.Declarations.{Declaration}
-use Rattle.go_context_core.specs.local_core.Binding.{Look}
-use Rattle.go_context_core.specs.expr_core.Uses.{Context, Identifier, rule, role_of, made_use}
-use Rattle.go_context_core.specs.env_core.declared.meaning.Meaning.{Meaning}
-use Rattle.go_context_core.specs.body_core.Notes.{TheUse}
-use Rattle.go_context_core.specs.func_core.Stands.{FileStand, looks_where}
-use Rattle.go_context_core.specs.file_core.Imports.{imports_uses}
-use Rattle.go_context_core.specs.ready_core.Packages.{PackageIn}
+use Rattle.go_package_core.specs.block_core.Naming.{file_specs}
+use Rattle.go_package_core.specs.table_core.Entries.{Entry}
+use Rattle.go_package_core.specs.handle_core.Declarations.{Declaration}
+use Rattle.go_package_core.specs.local_core.Binding.{NameLook}
+use Rattle.go_package_core.specs.expr_core.Uses.{Context, Identifier, rule, role_of, made_use}
+use Rattle.go_package_core.specs.env_core.declared.meaning.Meaning.{Meaning}
+use Rattle.go_package_core.specs.body_core.Notes.{TheUse}
+use Rattle.go_package_core.specs.func_core.Stands.{FileStand, looks_where}
+use Rattle.go_package_core.specs.file_core.Imports.{imports_uses}
+use Rattle.go_package_core.specs.ready_core.Packages.{PackageIn}
 use Rattle.go_package_core.specs.Checked.{AnswersOf, CheckedOf, IsChecked, imports_at, stand_at}
-use Rattle.go_context_core.specs.Files.{with_decls}
+use Rattle.go_spelling_core.specs.Files.{with_decls}
 use Rattle.go_spelling_core.specs.Places.{placed_spot, placed_use, tops_places, MeanThere}
 use Rattle.go_spelling_core.specs.Spellings.{RespellsTops, InInitialiser, InOuterTypes, InBody, RespellsPackage}
 
@@ -52,8 +52,8 @@ pub record StaysInFile (x : Ident) (name : List ℕ) (st other : FileStand) (ds 
   pub number : ℕ
   pub context : Context Term Declaration
   -- what names mean there, before and after
-  pub names : Look Meaning
-  pub others : Look Meaning
+  pub names : NameLook Meaning
+  pub others : NameLook Meaning
   pub stands : slice_get (tops_places st ds) number ≡ Some (placed_spot names (Identifier context x))
   pub there : MeanThere st other r names others
   -- each package has what the rule of this context gives for its spelling

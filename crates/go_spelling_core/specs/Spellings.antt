@@ -4,10 +4,10 @@
 use Rattle.std.specs.Prelude.{◌≡◌, ℕ, List, ◌∷◌, ◌++◌, length}
 use Rattle.go_tree_nodes.specs.declared.names.Ident.{Ident}
 use Rattle.go_tree_nodes.specs.Trees.{ValueSpecTree, FuncTree, Lines, TopTree, FileTree}
-use Rattle.go_context_core.specs.respell_core.Trees.{RespellsValues, RespellsLines}
-use Rattle.go_context_core.specs.ready_core.Packages.{PackageIn}
-use Rattle.go_context_core.specs.Files.{WritesInTops, WritesBody, with_decls, with_trees}
-use Rattle.go_context_core.specs.Outer.{RespellsOuterTops}
+use Rattle.go_spelling_core.specs.Trees.{RespellsValues, RespellsLines}
+use Rattle.go_package_core.specs.ready_core.Packages.{PackageIn}
+use Rattle.go_spelling_core.specs.Files.{WritesInTops, WritesBody, with_decls, with_trees}
+use Rattle.go_spelling_core.specs.Outer.{RespellsOuterTops}
 
 -- the declarations of a file: in an initialiser, in a type outside functions, a header or a receiver, or in the body of a function
 pub data RespellsTops (x : Ident) (name : List ℕ) (ds es : List TopTree) : Type 0 where

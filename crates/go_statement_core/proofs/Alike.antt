@@ -19,12 +19,12 @@ use Rattle.go_denote_core.specs.declared.things.Denoted.TheVariants as denotes
 use Rattle.go_denote_core.specs.Laws.{ValueAlike}
 use Rattle.go_statement_core.specs.declared.targets.Target.{Target}
 use Rattle.go_statement_core.specs.declared.targets.Target.TheVariants as targets
-use Rattle.go_statement_core.specs.Assignments.{fits_type, takes, is_left_side, all_pairs, assignment_rule}
+use Rattle.go_statement_core.specs.Assignments.{fits_type, takes_argument, is_left_side, all_pairs, assignment_rule}
 use Rattle.go_statement_core.specs.Declarations.{given_type, declared_types, declared_target, variables_rule, type_after, paired_types, short_types}
-use Rattle.go_statement_core.specs.Constants.{answer, constant_of, own_value, value_of, of_type, constant_answer}
+use Rattle.go_statement_core.specs.Constants.{answer, operand_constant, own_value, answer_of_value, of_type, constant_answer}
 use Rattle.go_statement_core.specs.Returns.{returned, return_rule}
 use Rattle.go_statement_core.specs.Statements.{condition_rule}
-use Rattle.go_statement_core.specs.Locality.{FitsAlike, GivenAlike, wanted, EachPair, Each, TypeAlike, UnderAlike, written_type, FormAlike, ConditionAlike, StatementsAreLocal}
+use Rattle.go_statement_core.specs.Locality.{FitsAlike, ArgumentGivenAlike, target_wanted, EachPair, Each, TypeAlike, UnderAlike, type_if_written, FormAlike, ConditionAlike, StatementsAreLocal}
 use Rattle.go_statement_core.proofs.Pairing.{counted}
 
 -- a value of the type may be assigned, if there is one
@@ -69,47 +69,47 @@ map_alike f g R k (x ∷ xs) h = ap (λ y. y ∷ map f xs) (k x h.0) ∙ ap (λ 
 
 -- targets and results
 
-fits_alike : {T : Type 0} (rules others : TypeRules T) (t : T) (argument : Argument T) → GivenAlike rules others (Some t) argument → fits_type rules t argument ≡ fits_type others t argument
+fits_alike : {T : Type 0} (rules others : TypeRules T) (t : T) (argument : Argument T) → ArgumentGivenAlike rules others (Some t) argument → fits_type rules t argument ≡ fits_type others t argument
 fits_alike rules others t arguments.Refused h = refl
 fits_alike rules others t arguments.Void h = refl
 fits_alike rules others t (arguments.«Value» o) h = assignable_alike rules others o.value_type t h
 
-takes_alike : {T : Type 0} (rules others : TypeRules T) (target : Target T) (argument : Argument T) → GivenAlike rules others (wanted target) argument → takes rules target argument ≡ takes others target argument
+takes_alike : {T : Type 0} (rules others : TypeRules T) (target : Target T) (argument : Argument T) → ArgumentGivenAlike rules others (target_wanted target) argument → takes_argument rules target argument ≡ takes_argument others target argument
 takes_alike rules others targets.Blank argument h = refl
 takes_alike rules others targets.New argument h = refl
 takes_alike rules others (targets.Variable t) argument h = fits_alike rules others t argument h
 takes_alike rules others targets.Typeless argument h = refl
 takes_alike rules others targets.Fixed argument h = refl
 
-returned_alike : {T : Type 0} (rules others : TypeRules T) (result : Option T) (argument : Argument T) → GivenAlike rules others result argument → returned rules result argument ≡ returned others result argument
+returned_alike : {T : Type 0} (rules others : TypeRules T) (result : Option T) (argument : Argument T) → ArgumentGivenAlike rules others result argument → returned rules result argument ≡ returned others result argument
 returned_alike rules others None argument h = refl
 returned_alike rules others (Some t) argument h = fits_alike rules others t argument h
 
 assignments_alike : {T : Type 0} (rules others : TypeRules T) (ts : List (Target T)) (is_free : Bool) (given : List (Argument T))
-    → EachPair (λ target argument. GivenAlike rules others (wanted target) argument) ts given → assignment_rule rules ts is_free given ≡ assignment_rule others ts is_free given
+    → EachPair (λ target argument. ArgumentGivenAlike rules others (target_wanted target) argument) ts given → assignment_rule rules ts is_free given ≡ assignment_rule others ts is_free given
 assignments_alike rules others ts is_free given h =
     ap (λ b. if list_all is_left_side ts then (if is_free then None else counted (length ts == length given) b) else Some Y4)
-    (pairs_alike (takes rules) (takes others) (λ target argument. GivenAlike rules others (wanted target) argument) (takes_alike rules others) ts given h)
+    (pairs_alike (takes_argument rules) (takes_argument others) (λ target argument. ArgumentGivenAlike rules others (target_wanted target) argument) (takes_alike rules others) ts given h)
 
 returns_alike : {T : Type 0} (rules others : TypeRules T) (results : List (Option T)) (has_names is_free : Bool) (given : List (Argument T))
-    → EachPair (GivenAlike rules others) results given → return_rule rules results has_names is_free given ≡ return_rule others results has_names is_free given
+    → EachPair (ArgumentGivenAlike rules others) results given → return_rule rules results has_names is_free given ≡ return_rule others results has_names is_free given
 returns_alike rules others results has_names is_free given h =
     ap (λ b. if is_free then None else (if has_names && (length given == 0) then None else counted (length results == length given) b))
-    (pairs_alike (returned rules) (returned others) (GivenAlike rules others) (returned_alike rules others) results given h)
+    (pairs_alike (returned rules) (returned others) (ArgumentGivenAlike rules others) (returned_alike rules others) results given h)
 
 -- variables
 
-declared_alike : {T : Type 0} (rules others : TypeRules T) (written : Option (Option T)) (argument : Argument T) → GivenAlike rules others (written_type written) argument
-    → takes rules (declared_target written) argument ≡ takes others (declared_target written) argument
+declared_alike : {T : Type 0} (rules others : TypeRules T) (written : Option (Option T)) (argument : Argument T) → ArgumentGivenAlike rules others (type_if_written written) argument
+    → takes_argument rules (declared_target written) argument ≡ takes_argument others (declared_target written) argument
 declared_alike rules others None argument h = refl
 declared_alike rules others (Some None) argument h = refl
 declared_alike rules others (Some (Some t)) argument h = fits_alike rules others t argument h
 
 variables_alike : {T : Type 0} (rules others : TypeRules T) (written : Option (Option T)) (count : ℕ) (is_free : Bool) (given : List (Argument T))
-    → Each (GivenAlike rules others (written_type written)) given → variables_rule rules written count is_free given ≡ variables_rule others written count is_free given
+    → Each (ArgumentGivenAlike rules others (type_if_written written)) given → variables_rule rules written count is_free given ≡ variables_rule others written count is_free given
 variables_alike rules others written count is_free given h =
     ap (λ b. if is_free then None else counted (count == length given) b)
-    (all_alike (takes rules (declared_target written)) (takes others (declared_target written)) (GivenAlike rules others (written_type written)) (declared_alike rules others written) given h)
+    (all_alike (takes_argument rules (declared_target written)) (takes_argument others (declared_target written)) (ArgumentGivenAlike rules others (type_if_written written)) (declared_alike rules others written) given h)
 
 type_alike : {T : Type 0} (rules others : TypeRules T) (argument : Argument T) → TypeAlike rules others argument → given_type rules argument ≡ given_type others argument
 type_alike rules others arguments.Refused h = refl
@@ -148,19 +148,19 @@ short_alike rules others ts given h =
 
 -- constants
 
-constant_alike : {T : Type 0} (rules others : TypeRules T) (o : Operand T) → ValueAlike rules others o.value_type → constant_of rules o ≡ constant_of others o
+constant_alike : {T : Type 0} (rules others : TypeRules T) (o : Operand T) → ValueAlike rules others o.value_type → operand_constant rules o ≡ operand_constant others o
 constant_alike rules others o h = ap (λ b. kept b o.constant) (basic_alike rules others o.value_type h)
 
-basic_answer : {T : Type 0} (rules others : TypeRules T) (t : T) (b : Option Basic) (given : Argument T) → UnderAlike rules others given → GivenAlike rules others (Some t) given
+basic_answer : {T : Type 0} (rules others : TypeRules T) (t : T) (b : Option Basic) (given : Argument T) → UnderAlike rules others given → ArgumentGivenAlike rules others (Some t) given
     → of_type rules t b given ≡ of_type others t b given
 basic_answer rules others t None given u h = refl
 basic_answer rules others t (Some b) arguments.Refused u h = refl
 basic_answer rules others t (Some b) arguments.Void u h = refl
 basic_answer rules others t (Some b) (arguments.«Value» o) u h =
-    ap (λ fits. value_of t fits (constant_of rules o)) (assignable_alike rules others o.value_type t h) ∙ ap (value_of t (assignable_to others o t)) (constant_alike rules others o u)
+    ap (λ fits. answer_of_value t fits (operand_constant rules o)) (assignable_alike rules others o.value_type t h) ∙ ap (answer_of_value t (assignable_to others o t)) (constant_alike rules others o u)
 
 constants_alike : {T : Type 0} (rules others : TypeRules T) (written : Option (Option T)) (given : Argument T)
-    → FormAlike rules others (written_type written) → UnderAlike rules others given → GivenAlike rules others (written_type written) given
+    → FormAlike rules others (type_if_written written) → UnderAlike rules others given → ArgumentGivenAlike rules others (type_if_written written) given
     → constant_answer rules written given ≡ constant_answer others written given
 constants_alike rules others None arguments.Refused f u h = refl
 constants_alike rules others None arguments.Void f u h = refl

@@ -16,7 +16,7 @@ use Rattle.go_denote_core.specs.Arguments.{is_refused}
 use Rattle.go_statement_core.specs.declared.targets.Target.{Target}
 use Rattle.go_statement_core.specs.declared.targets.Target.TheVariants as targets
 use Rattle.go_statement_core.specs.Targets.{target_of_value, target_of}
-use Rattle.go_statement_core.specs.Assignments.{has_type, takes, is_left_side, all_pairs, assignment_rule}
+use Rattle.go_statement_core.specs.Assignments.{has_type, takes_argument, is_left_side, all_pairs, assignment_rule}
 use Rattle.go_statement_core.specs.Statements.{single_rule}
 use Rattle.go_statement_core.specs.Relations.{Takes, to_operand, to_blank, to_new, to_typeless, of_refused, IsAssigned}
 use Rattle.go_statement_core.specs.Laws.{AssignmentsStand, TargetsAreAddressable}
@@ -38,7 +38,7 @@ is_typed value_types.UntypedText h = refl
 is_typed value_types.UntypedBool h = refl
 is_typed value_types.Nil h = absurd (h refl)
 
-pub taken : {T : Type 0} (rules : TypeRules T) (target : Target T) (argument : Argument T) → takes rules target argument ≡ true → Takes rules target argument
+pub taken : {T : Type 0} (rules : TypeRules T) (target : Target T) (argument : Argument T) → takes_argument rules target argument ≡ true → Takes rules target argument
 taken rules targets.Blank arguments.Refused h = of_refused (λ e. absurd cc) refl
 taken rules targets.Blank arguments.Void h = absurd cc
 taken rules targets.Blank (arguments.«Value» o) h = to_blank o refl refl (typed_is o.value_type h)
@@ -51,7 +51,7 @@ taken rules (targets.Variable t) (arguments.«Value» o) h = to_operand t o refl
 taken rules targets.Typeless argument h = to_typeless refl
 taken rules targets.Fixed argument h = absurd cc
 
-refused_taken : {T : Type 0} (rules : TypeRules T) (target : Target T) → target ≢ targets.Fixed → takes rules target arguments.Refused ≡ true
+refused_taken : {T : Type 0} (rules : TypeRules T) (target : Target T) → target ≢ targets.Fixed → takes_argument rules target arguments.Refused ≡ true
 refused_taken rules targets.Blank h = refl
 refused_taken rules targets.New h = refl
 refused_taken rules (targets.Variable t) h = refl
@@ -59,15 +59,15 @@ refused_taken rules targets.Typeless h = refl
 refused_taken rules targets.Fixed h = absurd (h refl)
 
 -- of two that are known
-known_pair : {T : Type 0} (rules : TypeRules T) (target other : Target T) (argument given : Argument T) → target ≡ other → argument ≡ given → takes rules other given ≡ true → takes rules target argument ≡ true
-known_pair rules target other argument given e k h = ap (λ t. takes rules t argument) e ∙ (ap (λ a. takes rules other a) k ∙ h)
+known_pair : {T : Type 0} (rules : TypeRules T) (target other : Target T) (argument given : Argument T) → target ≡ other → argument ≡ given → takes_argument rules other given ≡ true → takes_argument rules target argument ≡ true
+known_pair rules target other argument given e k h = ap (λ t. takes_argument rules t argument) e ∙ (ap (λ a. takes_argument rules other a) k ∙ h)
 
-pub takes_it : {T : Type 0} (rules : TypeRules T) (target : Target T) (argument : Argument T) → Takes rules target argument → takes rules target argument ≡ true
+pub takes_it : {T : Type 0} (rules : TypeRules T) (target : Target T) (argument : Argument T) → Takes rules target argument → takes_argument rules target argument ≡ true
 takes_it rules target argument (to_operand t o e k h) = known_pair rules target (targets.Variable t) argument (arguments.«Value» o) e k (assigns rules o.value_type t h)
 takes_it rules target argument (to_blank o e k h) = known_pair rules target targets.Blank argument (arguments.«Value» o) e k (is_typed o.value_type h)
 takes_it rules target argument (to_new o e k h) = known_pair rules target targets.New argument (arguments.«Value» o) e k (is_typed o.value_type h)
-takes_it rules target argument (to_typeless e) = ap (λ t. takes rules t argument) e
-takes_it rules target argument (of_refused e k) = ap (λ a. takes rules target a) k ∙ refused_taken rules target e
+takes_it rules target argument (to_typeless e) = ap (λ t. takes_argument rules t argument) e
+takes_it rules target argument (of_refused e k) = ap (λ a. takes_argument rules target a) k ∙ refused_taken rules target e
 
 left_side : {T : Type 0} (target : Target T) → is_left_side target ≡ true → target ≢ targets.Fixed
 left_side targets.Blank h k = absurd cc
@@ -110,22 +110,22 @@ judged_only true false false pairs = refl
 judged_only false is_free same pairs = refl
 
 pub assignment_only : {T : Type 0} (rules : TypeRules T) (ts : List (Target T)) (is_free : Bool) (given : List (Argument T)) → IfSome (assignment_rule rules ts is_free given) (λ rule. rule ≡ Y4)
-assignment_only rules ts is_free given = judged_only (list_all is_left_side ts) is_free (length ts == length given) (all_pairs (takes rules) ts given)
+assignment_only rules ts is_free given = judged_only (list_all is_left_side ts) is_free (length ts == length given) (all_pairs (takes_argument rules) ts given)
 
 assignment_stands : {T : Type 0} (rules : TypeRules T) (ts : List (Target T)) (is_free : Bool) (given : List (Argument T)) → assignment_rule rules ts is_free given ≡ None → IsAssigned rules ts is_free given
 assignment_stands rules ts is_free given h =
     let left = list_all is_left_side ts in
-    let rule = counted (length ts == length given) (all_pairs (takes rules) ts given) in
+    let rule = counted (length ts == length given) (all_pairs (takes_argument rules) ts given) in
     record {
       left_sides = λ i target e. left_side target (all_each is_left_side ts (judged_left left is_free rule h) i target e);
-      values = λ k. corresponds (takes rules) (Takes rules) (taken rules) ts given (judged_rule left is_free rule h k);
+      values = λ k. corresponds (takes_argument rules) (Takes rules) (taken rules) ts given (judged_rule left is_free rule h k);
     }
 
 stands_assigned : {T : Type 0} (rules : TypeRules T) (ts : List (Target T)) (is_free : Bool) (given : List (Argument T)) → IsAssigned rules ts is_free given → assignment_rule rules ts is_free given ≡ None
 stands_assigned rules ts is_free given h =
-    judged_well (list_all is_left_side ts) is_free (counted (length ts == length given) (all_pairs (takes rules) ts given))
+    judged_well (list_all is_left_side ts) is_free (counted (length ts == length given) (all_pairs (takes_argument rules) ts given))
     (each_all is_left_side ts (λ i target e. is_left target (h.left_sides i target e)))
-    (λ k. corresponded (takes rules) (Takes rules) (takes_it rules) ts given (h.values k))
+    (λ k. corresponded (takes_argument rules) (Takes rules) (takes_it rules) ts given (h.values k))
 
 pub assignments : {T : Type 0} → AssignmentsStand T
 assignments = record {

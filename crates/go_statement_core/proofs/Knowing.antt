@@ -19,12 +19,12 @@ use Rattle.go_operand_core.specs.Assign.{assignable_to}
 use Rattle.go_operand_core.specs.Operators.{value}
 use Rattle.go_operand_core.specs.Conversions.{kept}
 use Rattle.go_operand_core.specs.Relations.{IsAssignable, by_type, nil_to_pointer, nil_to_interface, by_kind, by_default_type, IsValueOf}
-use Rattle.go_operand_core.specs.Known.{KeepsKinds, IsOfType, IsWhole}
+use Rattle.go_operand_core.specs.Known.{KeepsKinds, IsOfType, IsConstantOfItsType}
 use Rattle.go_operand_core.proofs.Relating.{assigned, assigns}
 use Rattle.go_denote_core.specs.declared.things.Argument.{Argument}
 use Rattle.go_denote_core.specs.declared.things.Argument.TheVariants as arguments
 use Rattle.go_statement_core.specs.declared.constants.ConstantAnswer.{ConstantAnswer}
-use Rattle.go_statement_core.specs.Constants.{is_constant_value, is_constant, constants_rule, answer, constant_of, own_value, value_of, of_basic_type, of_type, constant_answer}
+use Rattle.go_statement_core.specs.Constants.{is_constant_value, is_constant, constants_rule, answer, operand_constant, own_value, answer_of_value, of_basic_type, of_type, constant_answer}
 use Rattle.go_statement_core.specs.Relations.{IsConstant, IsDeclaredAs, of_expression, of_written_type, of_no_type as declared_of_no_type, of_refused, of_refused_no_type, of_refused_typed, IsNoConstant, other_type, no_value, variable, other_value, IsOfOtherType}
 use Rattle.go_statement_core.specs.Laws.{ConstantsAreDeclared}
 
@@ -34,12 +34,12 @@ kept_is : (b : Option Basic) (c : Option Constant) (k : Constant) → kept b c �
 kept_is (Some basic) c k h = (h, (basic, refl))
 kept_is None c k h = absurd cc
 
-constant_is : {T : Type 0} (rules : TypeRules T) (o : Operand T) (k : Constant) → constant_of rules o ≡ Some k → IsConstant rules (arguments.«Value» o) o k
+constant_is : {T : Type 0} (rules : TypeRules T) (o : Operand T) (k : Constant) → operand_constant rules o ≡ Some k → IsConstant rules (arguments.«Value» o) o k
 constant_is rules o k h =
     let p = kept_is (basic_under rules o.value_type) o.constant k h in
     record { given_is = refl; constant_is = p.0; basic = p.1.0; over = p.1.1 }
 
-is_kept : {T : Type 0} (rules : TypeRules T) (given : Argument T) (o : Operand T) (k : Constant) → IsConstant rules given o k → constant_of rules o ≡ Some k
+is_kept : {T : Type 0} (rules : TypeRules T) (given : Argument T) (o : Operand T) (k : Constant) → IsConstant rules given o k → operand_constant rules o ≡ Some k
 is_kept rules given o k h = ap (λ b. kept b o.constant) h.over ∙ h.constant_is
 
 not_kept : (b : Option Basic) (c : Option Constant) → kept b c ≡ None → (c ≡ None) ⊎ (b ≡ None)
@@ -81,8 +81,8 @@ seventh_some : (b : Bool) → seventh b ≡ Some Y7 → b ≡ false
 seventh_some true h = absurd cc
 seventh_some false h = refl
 
-typed_is : {T : Type 0} (t : T) (fits : Bool) (c : Option Constant) → (value_of t fits c).rule ≡ None
-    → (fits ≡ true) × ((k : Constant) × ((c ≡ Some k) × ((value_of t fits c).value ≡ Some (value (value_types.Typed t) (Some k)))))
+typed_is : {T : Type 0} (t : T) (fits : Bool) (c : Option Constant) → (answer_of_value t fits c).rule ≡ None
+    → (fits ≡ true) × ((k : Constant) × ((c ≡ Some k) × ((answer_of_value t fits c).value ≡ Some (value (value_types.Typed t) (Some k)))))
 typed_is t fits None h = absurd cc
 typed_is t true (Some k) h = (refl, (k, (refl, refl)))
 typed_is t false (Some k) h = absurd cc
@@ -92,7 +92,7 @@ of_form : {T : Type 0} (rules : TypeRules T) (t : T) (f : TypeForm T) (given : A
 of_form rules t (forms.Basic b) arguments.Refused e h = of_refused_typed t b refl e refl refl
 of_form rules t (forms.Basic b) arguments.Void e h = absurd cc
 of_form rules t (forms.Basic b) (arguments.«Value» o) e h =
-    let p = typed_is t (assignable_to rules o t) (constant_of rules o) h in
+    let p = typed_is t (assignable_to rules o t) (operand_constant rules o) h in
     of_written_type t b o p.1.0 refl e (constant_is rules o p.1.0 p.1.1.0) (assigned rules o.value_type t p.0) p.1.1.1
 of_form rules t forms.Nothing given e h = absurd cc
 of_form rules t (forms.Pointer u) given e h = absurd cc
@@ -104,7 +104,7 @@ declared_so : {T : Type 0} (rules : TypeRules T) (written : Option (Option T)) (
 declared_so rules None arguments.Refused h = of_refused refl refl refl
 declared_so rules None arguments.Void h = absurd cc
 declared_so rules None (arguments.«Value» o) h =
-    let p = own_is o.value_type (constant_of rules o) h in
+    let p = own_is o.value_type (operand_constant rules o) h in
     of_expression o p.0 refl (constant_is rules o p.0 p.1.0) p.1.1
 declared_so rules (Some None) arguments.Refused h = of_refused_no_type refl refl refl
 declared_so rules (Some None) arguments.Void h = absurd cc
@@ -134,8 +134,8 @@ declares rules written given d (of_expression o k e c is) =
 declares rules written given d (of_written_type t b o k e f c a is) =
     by_parts rules written (Some (Some t)) given (arguments.«Value» o) e c.given_is
     ∙ (basic_form rules t b (arguments.«Value» o) f
-    ∙ (ap (λ fits. value_of t fits (constant_of rules o)) (assigns rules o.value_type t a)
-    ∙ (ap (value_of t true) (is_kept rules given o k c) ∙ ap (λ v. answer v None) (sym is))))
+    ∙ (ap (λ fits. answer_of_value t fits (operand_constant rules o)) (assigns rules o.value_type t a)
+    ∙ (ap (answer_of_value t true) (is_kept rules given o k c) ∙ ap (λ v. answer v None) (sym is))))
 declares rules written given d (declared_of_no_type o k e c is) =
     by_parts rules written (Some None) given (arguments.«Value» o) e c.given_is
     ∙ (ap (λ b. answer None (if b then None else Some Y7)) (constant_value rules given o k c) ∙ ap (λ v. answer v None) (sym is))
@@ -150,12 +150,12 @@ no_own : {T : Type 0} (v : ValueType T) (c : Option Constant) → (own_value v c
 no_own v None h = refl
 no_own v (Some k) h = absurd cc
 
-no_typed : {T : Type 0} (t : T) (fits : Bool) (c : Option Constant) → (value_of t fits c).rule ≡ Some Y7 → c ≡ None
+no_typed : {T : Type 0} (t : T) (fits : Bool) (c : Option Constant) → (answer_of_value t fits c).rule ≡ Some Y7 → c ≡ None
 no_typed t fits None h = refl
 no_typed t true (Some k) h = absurd cc
 no_typed t false (Some k) h = absurd cc
 
-unknown_value : {T : Type 0} (rules : TypeRules T) (written : Option (Option T)) (o : Operand T) → constant_of rules o ≡ None → IsNoConstant rules written (arguments.«Value» o)
+unknown_value : {T : Type 0} (rules : TypeRules T) (written : Option (Option T)) (o : Operand T) → operand_constant rules o ≡ None → IsNoConstant rules written (arguments.«Value» o)
 unknown_value rules written o h = elim (not_kept (basic_under rules o.value_type) o.constant h) [
   | inl e ↦ variable o refl e
   | inr e ↦ other_value o refl e
@@ -165,7 +165,7 @@ no_form : {T : Type 0} (rules : TypeRules T) (t : T) (f : TypeForm T) (given : A
     → IsNoConstant rules (Some (Some t)) given
 no_form rules t (forms.Basic b) arguments.Refused e h = absurd cc
 no_form rules t (forms.Basic b) arguments.Void e h = no_value refl
-no_form rules t (forms.Basic b) (arguments.«Value» o) e h = unknown_value rules (Some (Some t)) o (no_typed t (assignable_to rules o t) (constant_of rules o) h)
+no_form rules t (forms.Basic b) (arguments.«Value» o) e h = unknown_value rules (Some (Some t)) o (no_typed t (assignable_to rules o t) (operand_constant rules o) h)
 no_form rules t forms.Nothing given e h = other_type t refl (ap form_basic e)
 no_form rules t (forms.Pointer u) given e h = other_type t refl (ap form_basic e)
 no_form rules t forms.Struct given e h = other_type t refl (ap form_basic e)
@@ -174,7 +174,7 @@ no_form rules t forms.Interface given e h = other_type t refl (ap form_basic e)
 not_constant : {T : Type 0} (rules : TypeRules T) (written : Option (Option T)) (given : Argument T) → (constant_answer rules written given).rule ≡ Some Y7 → IsNoConstant rules written given
 not_constant rules None arguments.Refused h = absurd cc
 not_constant rules None arguments.Void h = no_value refl
-not_constant rules None (arguments.«Value» o) h = unknown_value rules None o (no_own o.value_type (constant_of rules o) h)
+not_constant rules None (arguments.«Value» o) h = unknown_value rules None o (no_own o.value_type (operand_constant rules o) h)
 not_constant rules (Some None) arguments.Refused h = absurd cc
 not_constant rules (Some None) arguments.Void h = no_value refl
 not_constant rules (Some None) (arguments.«Value» o) h =
@@ -193,11 +193,11 @@ void_rule rules None = refl
 void_rule rules (Some None) = refl
 void_rule rules (Some (Some t)) = void_typed rules t (form_basic (rules.form t))
 
-other_typed : {T : Type 0} (rules : TypeRules T) (t : T) (b : Option Basic) (o : Operand T) → constant_of rules o ≡ None → (of_type rules t b (arguments.«Value» o)).rule ≡ Some Y7
+other_typed : {T : Type 0} (rules : TypeRules T) (t : T) (b : Option Basic) (o : Operand T) → operand_constant rules o ≡ None → (of_type rules t b (arguments.«Value» o)).rule ≡ Some Y7
 other_typed rules t None o h = refl
-other_typed rules t (Some b) o h = ap (λ c. (value_of t (assignable_to rules o t) c).rule) h
+other_typed rules t (Some b) o h = ap (λ c. (answer_of_value t (assignable_to rules o t) c).rule) h
 
-other_rule : {T : Type 0} (rules : TypeRules T) (written : Option (Option T)) (o : Operand T) → constant_of rules o ≡ None → is_constant_value rules o ≡ false
+other_rule : {T : Type 0} (rules : TypeRules T) (written : Option (Option T)) (o : Operand T) → operand_constant rules o ≡ None → is_constant_value rules o ≡ false
     → (constant_answer rules written (arguments.«Value» o)).rule ≡ Some Y7
 other_rule rules None o h k = ap (λ c. (own_value o.value_type c).rule) h
 other_rule rules (Some None) o h k = ap (λ b. if b then None else Some Y7) k
@@ -219,7 +219,7 @@ breaks_seventh rules written given (other_value o g b) =
 
 -- Y4
 
-misfit : {T : Type 0} (t : T) (fits : Bool) (c : Option Constant) → (value_of t fits c).rule ≡ Some Y4 → (fits ≡ false) × ((k : Constant) × (c ≡ Some k))
+misfit : {T : Type 0} (t : T) (fits : Bool) (c : Option Constant) → (answer_of_value t fits c).rule ≡ Some Y4 → (fits ≡ false) × ((k : Constant) × (c ≡ Some k))
 misfit t fits None h = absurd cc
 misfit t true (Some k) h = absurd cc
 misfit t false (Some k) h = (refl, (k, refl))
@@ -229,7 +229,7 @@ other_form : {T : Type 0} (rules : TypeRules T) (t : T) (f : TypeForm T) (given 
 other_form rules t (forms.Basic b) arguments.Refused e h = absurd cc
 other_form rules t (forms.Basic b) arguments.Void e h = absurd cc
 other_form rules t (forms.Basic b) (arguments.«Value» o) e h =
-    let p = misfit t (assignable_to rules o t) (constant_of rules o) h in
+    let p = misfit t (assignable_to rules o t) (operand_constant rules o) h in
     record {
       t = t;
       written_is = refl;
@@ -256,7 +256,7 @@ seventh_fourth false h = absurd cc
 of_other : {T : Type 0} (rules : TypeRules T) (written : Option (Option T)) (given : Argument T) → (constant_answer rules written given).rule ≡ Some Y4 → IsOfOtherType rules written given
 of_other rules None arguments.Refused h = absurd cc
 of_other rules None arguments.Void h = absurd cc
-of_other rules None (arguments.«Value» o) h = absurd (no_fourth o.value_type (constant_of rules o) h)
+of_other rules None (arguments.«Value» o) h = absurd (no_fourth o.value_type (operand_constant rules o) h)
 of_other rules (Some None) arguments.Refused h = absurd cc
 of_other rules (Some None) arguments.Void h = absurd cc
 of_other rules (Some None) (arguments.«Value» o) h = absurd (seventh_fourth (is_constant_value rules o) h)
@@ -269,8 +269,8 @@ unless_assigned rules o t n false e = refl
 breaks_fourth : {T : Type 0} (rules : TypeRules T) (written : Option (Option T)) (given : Argument T) → IsOfOtherType rules written given → (constant_answer rules written given).rule ≡ Some Y4
 breaks_fourth rules written given h =
     ap (λ a. a.rule) (by_parts rules written (Some (Some h.t)) given (arguments.«Value» h.o) h.written_is h.constant.given_is ∙ basic_form rules h.t h.basic (arguments.«Value» h.o) h.form_is)
-    ∙ (ap (λ fits. (value_of h.t fits (constant_of rules h.o)).rule) (unless_assigned rules h.o h.t h.not_assignable (assignable_to rules h.o h.t) refl)
-    ∙ ap (λ c. (value_of h.t false c).rule) (is_kept rules given h.o h.k h.constant))
+    ∙ (ap (λ fits. (answer_of_value h.t fits (operand_constant rules h.o)).rule) (unless_assigned rules h.o h.t h.not_assignable (assignable_to rules h.o h.t) refl)
+    ∙ ap (λ c. (answer_of_value h.t false c).rule) (is_kept rules given h.o h.k h.constant))
 
 -- no other rule
 
@@ -282,7 +282,7 @@ seventh_only : (b : Bool) → IfSome (seventh b) (λ rule. (rule ≡ Y4) ⊎ (ru
 seventh_only true = tt
 seventh_only false = inr refl
 
-typed_only : {T : Type 0} (t : T) (fits : Bool) (c : Option Constant) → IfSome (value_of t fits c).rule (λ rule. (rule ≡ Y4) ⊎ (rule ≡ Y7))
+typed_only : {T : Type 0} (t : T) (fits : Bool) (c : Option Constant) → IfSome (answer_of_value t fits c).rule (λ rule. (rule ≡ Y4) ⊎ (rule ≡ Y7))
 typed_only t fits None = inr refl
 typed_only t true (Some k) = tt
 typed_only t false (Some k) = inl refl
@@ -291,12 +291,12 @@ form_only : {T : Type 0} (rules : TypeRules T) (t : T) (b : Option Basic) (given
 form_only rules t None given = inr refl
 form_only rules t (Some b) arguments.Refused = tt
 form_only rules t (Some b) arguments.Void = inr refl
-form_only rules t (Some b) (arguments.«Value» o) = typed_only t (assignable_to rules o t) (constant_of rules o)
+form_only rules t (Some b) (arguments.«Value» o) = typed_only t (assignable_to rules o t) (operand_constant rules o)
 
 answer_only : {T : Type 0} (rules : TypeRules T) (written : Option (Option T)) (given : Argument T) → IfSome (constant_answer rules written given).rule (λ rule. (rule ≡ Y4) ⊎ (rule ≡ Y7))
 answer_only rules None arguments.Refused = tt
 answer_only rules None arguments.Void = inr refl
-answer_only rules None (arguments.«Value» o) = own_only o.value_type (constant_of rules o)
+answer_only rules None (arguments.«Value» o) = own_only o.value_type (operand_constant rules o)
 answer_only rules (Some None) arguments.Refused = tt
 answer_only rules (Some None) arguments.Void = inr refl
 answer_only rules (Some None) (arguments.«Value» o) = seventh_only (is_constant_value rules o)
@@ -320,18 +320,18 @@ same_basic rules v t b c keeps f u (by_kind a e g) =
     cc
 same_basic rules v t b c keeps f u (by_default_type a e g h) = let m : None ≡ Some b = sym (ap form_basic g) ∙ ap form_basic f in absurd cc
 
-whole : {T : Type 0} (rules : TypeRules T) (written : Option (Option T)) (o v : Operand T) → KeepsKinds rules → IsWhole rules o → IsDeclaredAs rules written (arguments.«Value» o) (Some v) → IsWhole rules v
+whole : {T : Type 0} (rules : TypeRules T) (written : Option (Option T)) (o v : Operand T) → KeepsKinds rules → IsConstantOfItsType rules o → IsDeclaredAs rules written (arguments.«Value» o) (Some v) → IsConstantOfItsType rules v
 whole {T} rules written o v keeps w (of_expression p k e c is) =
     let same : o ≡ p = (let g = c.given_is in cc) in
     let here : v ≡ value p.value_type (Some k) = cc in
     let P : Option Constant → Type 0 = λ x. IsOfType rules p.value_type x in
-    let Q : Operand T → Type 0 = λ x. IsWhole rules x in
+    let Q : Operand T → Type 0 = λ x. IsConstantOfItsType rules x in
     subst Q (sym here) (subst P c.constant_is (subst Q same w))
 whole {T} rules written o v keeps w (of_written_type t b p k e f c a is) =
     let same : o ≡ p = (let g = c.given_is in cc) in
     let here : v ≡ value (value_types.Typed t) (Some k) = cc in
     let P : Option Constant → Type 0 = λ x. IsOfType rules p.value_type x in
-    let Q : Operand T → Type 0 = λ x. IsWhole rules x in
+    let Q : Operand T → Type 0 = λ x. IsConstantOfItsType rules x in
     let known = subst P c.constant_is (subst Q same w) in
     let R : Basic → Type 0 = λ x. IsValueOf x k in
     subst Q (sym here) (b, (ap form_basic f, subst R (same_basic rules p.value_type t b known.0 keeps f known.1.0 a) known.1.1))

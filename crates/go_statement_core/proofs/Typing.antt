@@ -17,7 +17,7 @@ use Rattle.go_denote_core.specs.declared.things.Argument.{Argument}
 use Rattle.go_denote_core.specs.declared.things.Argument.TheVariants as arguments
 use Rattle.go_statement_core.specs.declared.targets.Target.{Target}
 use Rattle.go_statement_core.specs.declared.targets.Target.TheVariants as targets
-use Rattle.go_statement_core.specs.Assignments.{has_type, takes, is_left_side, all_pairs, assignment_rule}
+use Rattle.go_statement_core.specs.Assignments.{has_type, takes_argument, is_left_side, all_pairs, assignment_rule}
 use Rattle.go_statement_core.specs.Declarations.{given_type, declared_types, declared_target, variables_rule, type_after, paired_types, short_types}
 use Rattle.go_statement_core.specs.Laws.{KnowsTypes, Initialises, VariablesAreDeclared, ShortDeclarations}
 use Rattle.go_statement_core.proofs.Pairing.{all_each, counted, counted_only}
@@ -58,12 +58,12 @@ left_declared (Some None) = refl
 left_declared (Some (Some t)) = refl
 
 as_assigned : {T : Type 0} (rules : TypeRules T) (target : Target T) (n : ℕ) (is_free : Bool) (given : List (Argument T)) → is_left_side target ≡ true
-    → assignment_rule rules (replicate n target) is_free given ≡ (if is_free then None else counted (n == length given) (list_all (takes rules target) given))
+    → assignment_rule rules (replicate n target) is_free given ≡ (if is_free then None else counted (n == length given) (list_all (takes_argument rules target) given))
 as_assigned rules target n is_free given h =
-    let pairs = all_pairs (takes rules) (replicate n target) given in
+    let pairs = all_pairs (takes_argument rules) (replicate n target) given in
     ap (λ b. if b then (if is_free then None else counted (length (replicate n target) == length given) pairs) else Some Y4) (all_same is_left_side n target h)
     ∙ (ap (λ m. if is_free then None else counted (m == length given) pairs) (length-replicate n target)
-    ∙ ap (λ r. if is_free then None else r) (counted_alike (takes rules) target given n))
+    ∙ ap (λ r. if is_free then None else r) (counted_alike (takes_argument rules) target given n))
 
 abbrev types_if : {T : Type 0} → TypeRules T → ℕ → List (Argument T) → Bool → List (Option T)
 types_if rules n given same = if same then map (given_type rules) given else replicate n None
@@ -97,8 +97,8 @@ has_default rules knows value_types.Nil h = absurd cc
 initialised : {T : Type 0} (rules : TypeRules T) (n : ℕ) (given : List (Argument T)) (i : ℕ) (o : Operand T) → KnowsTypes rules
     → variables_rule rules None n false given ≡ None → slice_get given i ≡ Some (arguments.«Value» o) → Initialises rules o (slice_get (declared_types rules None n given) i)
 initialised rules n given i o knows h e =
-    let parts = counted_only (n == length given) (list_all (takes rules targets.New) given) h in
-    let d = has_default rules knows o.value_type (all_each (takes rules targets.New) given parts.1 i (arguments.«Value» o) e) in
+    let parts = counted_only (n == length given) (list_all (takes_argument rules targets.New) given) h in
+    let d = has_default rules knows o.value_type (all_each (takes_argument rules targets.New) given parts.1 i (arguments.«Value» o) e) in
     record { t = d.0; declared_is = own_type rules n given i o (eqb-true n (length given) parts.0) e ∙ ap Some d.1.0; assignable = d.1.1 }
 
 pub variables : {T : Type 0} → VariablesAreDeclared T

@@ -34,12 +34,12 @@ fits_type rules t arguments.Void = false
 fits_type rules t (arguments.«Value» operand) = assignable_to rules operand t
 
 -- a target takes what it is given
-abbrev pub takes : {T : Type 0} → TypeRules T → Target T → Argument T → Bool
-takes rules targets.Blank argument = gives_type argument
-takes rules targets.New argument = gives_type argument
-takes rules (targets.Variable t) argument = fits_type rules t argument
-takes rules targets.Typeless argument = true
-takes rules targets.Fixed argument = false
+abbrev pub takes_argument : {T : Type 0} → TypeRules T → Target T → Argument T → Bool
+takes_argument rules targets.Blank argument = gives_type argument
+takes_argument rules targets.New argument = gives_type argument
+takes_argument rules (targets.Variable t) argument = fits_type rules t argument
+takes_argument rules targets.Typeless argument = true
+takes_argument rules targets.Fixed argument = false
 
 abbrev pub is_left_side : {T : Type 0} → Target T → Bool
 is_left_side targets.Blank = true
@@ -63,5 +63,5 @@ unless false = Some Y4
 abbrev pub assignment_rule : {T : Type 0} → TypeRules T → List (Target T) → Bool → List (Argument T) → Option Rule
 assignment_rule rules ts is_free given =
     if list_all is_left_side ts
-    then (if is_free then None else (if length ts == length given then unless (all_pairs (takes rules) ts given) else Some Y4))
+    then (if is_free then None else (if length ts == length given then unless (all_pairs (takes_argument rules) ts given) else Some Y4))
     else Some Y4

@@ -40,8 +40,8 @@ answer v r = record { value = v; rule = r }
 abbrev pub constant_operand : {T : Type 0} → ValueType T → Constant → Option (Operand T)
 constant_operand v k = Some (value v (Some k))
 
-abbrev pub constant_of : {T : Type 0} → TypeRules T → Operand T → Option Constant
-constant_of rules operand = kept (basic_under rules operand.value_type) operand.constant
+abbrev pub operand_constant : {T : Type 0} → TypeRules T → Operand T → Option Constant
+operand_constant rules operand = kept (basic_under rules operand.value_type) operand.constant
 
 -- without a written type
 
@@ -50,7 +50,7 @@ own_value v None = answer None (Some Y7)
 own_value v (Some k) = answer (constant_operand v k) None
 
 abbrev pub untyped_value : {T : Type 0} → TypeRules T → Operand T → ConstantAnswer T
-untyped_value rules operand = own_value operand.value_type (constant_of rules operand)
+untyped_value rules operand = own_value operand.value_type (operand_constant rules operand)
 
 abbrev pub of_own_type : {T : Type 0} → TypeRules T → Argument T → ConstantAnswer T
 of_own_type rules arguments.Refused = answer None None
@@ -74,12 +74,12 @@ abbrev pub assigned_value : {T : Type 0} → T → Bool → Constant → Constan
 assigned_value t true k = answer (constant_operand (value_types.Typed t) k) None
 assigned_value t false k = answer (unknown t) (Some Y4)
 
-abbrev pub value_of : {T : Type 0} → T → Bool → Option Constant → ConstantAnswer T
-value_of t fits None = answer (unknown t) (Some Y7)
-value_of t fits (Some k) = assigned_value t fits k
+abbrev pub answer_of_value : {T : Type 0} → T → Bool → Option Constant → ConstantAnswer T
+answer_of_value t fits None = answer (unknown t) (Some Y7)
+answer_of_value t fits (Some k) = assigned_value t fits k
 
 abbrev pub typed_value : {T : Type 0} → TypeRules T → T → Operand T → ConstantAnswer T
-typed_value rules t operand = value_of t (assignable_to rules operand t) (constant_of rules operand)
+typed_value rules t operand = answer_of_value t (assignable_to rules operand t) (operand_constant rules operand)
 
 abbrev pub of_basic_type : {T : Type 0} → TypeRules T → T → Argument T → ConstantAnswer T
 of_basic_type rules t arguments.Refused = answer (unknown t) None

@@ -12,7 +12,7 @@ use Rattle.go_denote_core.specs.declared.things.Argument.{Argument}
 use Rattle.go_denote_core.specs.declared.things.Argument.TheVariants as arguments
 use Rattle.go_statement_core.specs.declared.targets.Target.{Target}
 use Rattle.go_statement_core.specs.declared.targets.Target.TheVariants as targets
-use Rattle.go_statement_core.specs.Assignments.{takes, unless}
+use Rattle.go_statement_core.specs.Assignments.{takes_argument, unless}
 
 -- the type that a value gives a variable: its own, or the default type of an untyped one
 abbrev pub given_type : {T : Type 0} → TypeRules T → Argument T → Option T
@@ -35,7 +35,7 @@ abbrev pub variables_rule : {T : Type 0} → TypeRules T → Option (Option T) �
 variables_rule rules written count is_free given =
     if is_free
     then None
-    else (if count == length given then unless (list_all (takes rules (declared_target written)) given) else Some Y4)
+    else (if count == length given then unless (list_all (takes_argument rules (declared_target written)) given) else Some Y4)
 
 -- a new variable has the type that it is given, and one that was declared before keeps its own
 abbrev pub type_after : {T : Type 0} → TypeRules T → Target T → Argument T → Option T

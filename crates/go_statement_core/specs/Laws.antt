@@ -12,7 +12,7 @@ use Rattle.go_operand_core.specs.declared.types.Operand.{Operand}
 use Rattle.go_operand_core.specs.TypeRules.{TypeRules}
 use Rattle.go_operand_core.specs.Values.{basic_type, basic_under, default_type}
 use Rattle.go_operand_core.specs.Relations.{IsAssignable}
-use Rattle.go_operand_core.specs.Known.{KeepsKinds, IsWhole}
+use Rattle.go_operand_core.specs.Known.{KeepsKinds, IsConstantOfItsType}
 use Rattle.go_operand_core.specs.Updates.{update, increment}
 use Rattle.go_denote_core.specs.declared.things.Builtin.TheVariants as builtins
 use Rattle.go_denote_core.specs.declared.things.Denoted.{Denoted}
@@ -104,8 +104,8 @@ pub record ConstantsAreDeclared (T : Type 0) : Type 0 where
   pub only : (rules : TypeRules T) (written : Option (Option T)) (given : Argument T)
       → IfSome (constant_answer rules written given).rule (λ rule. (rule ≡ Y4) ⊎ (rule ≡ Y7))
   -- what is declared of a constant of its type is a constant of its type: none that is out of range, and none that is not known
-  pub of_its_type : (rules : TypeRules T) (written : Option (Option T)) (o v : Operand T) → KeepsKinds rules → IsWhole rules o
-      → constant_answer rules written (arguments.«Value» o) ≡ answer (Some v) None → IsWhole rules v
+  pub of_its_type : (rules : TypeRules T) (written : Option (Option T)) (o v : Operand T) → KeepsKinds rules → IsConstantOfItsType rules o
+      → constant_answer rules written (arguments.«Value» o) ≡ answer (Some v) None → IsConstantOfItsType rules v
   -- the number of constants is equal to the number of expressions
   pub counted : (rules : TypeRules T) (count : ℕ) (given : List (Argument T)) → (constants_rule rules false count given ≡ None) ↔ (count ≡ length given)
   pub lone_constant : (rules : TypeRules T) (count : ℕ) (given : Argument T) (o : Operand T) (k : Constant) → IsConstant rules given o k

@@ -25,19 +25,19 @@ FitsAlike rules others v t =
     × MatchOption (default_type others v) ⊤ (λ s. rules.assignable s t ≡ others.assignable s t)
 
 -- of what is given where a type is wanted, if one is
-abbrev pub GivenAlike : {T : Type 0} → TypeRules T → TypeRules T → Option T → Argument T → Type 0
-GivenAlike rules others None argument = ⊤
-GivenAlike rules others (Some t) arguments.Refused = ⊤
-GivenAlike rules others (Some t) arguments.Void = ⊤
-GivenAlike rules others (Some t) (arguments.«Value» o) = FitsAlike rules others o.value_type t
+abbrev pub ArgumentGivenAlike : {T : Type 0} → TypeRules T → TypeRules T → Option T → Argument T → Type 0
+ArgumentGivenAlike rules others None argument = ⊤
+ArgumentGivenAlike rules others (Some t) arguments.Refused = ⊤
+ArgumentGivenAlike rules others (Some t) arguments.Void = ⊤
+ArgumentGivenAlike rules others (Some t) (arguments.«Value» o) = FitsAlike rules others o.value_type t
 
 -- the type that a target wants; `_` and a new variable take any
-abbrev pub wanted : {T : Type 0} → Target T → Option T
-wanted (targets.Variable t) = Some t
-wanted targets.Blank = None
-wanted targets.New = None
-wanted targets.Typeless = None
-wanted targets.Fixed = None
+abbrev pub target_wanted : {T : Type 0} → Target T → Option T
+target_wanted (targets.Variable t) = Some t
+target_wanted targets.Blank = None
+target_wanted targets.New = None
+target_wanted targets.Typeless = None
+target_wanted targets.Fixed = None
 
 -- each of the first list with its own of the second
 abbrev pub EachPair : {X Y : Type 0} → (X → Y → Type 0) → List X → List Y → Type 0
@@ -61,9 +61,9 @@ UnderAlike rules others arguments.Refused = ⊤
 UnderAlike rules others arguments.Void = ⊤
 UnderAlike rules others (arguments.«Value» o) = ValueAlike rules others o.value_type
 
-abbrev pub written_type : {T : Type 0} → Option (Option T) → Option T
-written_type None = None
-written_type (Some t) = t
+abbrev pub type_if_written : {T : Type 0} → Option (Option T) → Option T
+type_if_written None = None
+type_if_written (Some t) = t
 
 abbrev pub FormAlike : {T : Type 0} → TypeRules T → TypeRules T → Option T → Type 0
 FormAlike rules others None = ⊤
@@ -75,16 +75,16 @@ ConditionAlike rules others denoted = ⊤
 
 pub record StatementsAreLocal (T S D : Type 0) : Type 0 where
   pub assignments : (rules others : TypeRules T) (ts : List (Target T)) (is_free : Bool) (given : List (Argument T))
-      → EachPair (λ target argument. GivenAlike rules others (wanted target) argument) ts given → assignment_rule rules ts is_free given ≡ assignment_rule others ts is_free given
+      → EachPair (λ target argument. ArgumentGivenAlike rules others (target_wanted target) argument) ts given → assignment_rule rules ts is_free given ≡ assignment_rule others ts is_free given
   pub variables : (rules others : TypeRules T) (written : Option (Option T)) (count : ℕ) (is_free : Bool) (given : List (Argument T))
-      → Each (GivenAlike rules others (written_type written)) given → variables_rule rules written count is_free given ≡ variables_rule others written count is_free given
+      → Each (ArgumentGivenAlike rules others (type_if_written written)) given → variables_rule rules written count is_free given ≡ variables_rule others written count is_free given
   pub types : (rules others : TypeRules T) (written : Option (Option T)) (count : ℕ) (given : List (Argument T))
       → Each (TypeAlike rules others) given → declared_types rules written count given ≡ declared_types others written count given
   pub short : (rules others : TypeRules T) (ts : List (Target T)) (given : List (Argument T))
       → Each (TypeAlike rules others) given → short_types rules ts given ≡ short_types others ts given
   pub constants : (rules others : TypeRules T) (written : Option (Option T)) (given : Argument T)
-      → FormAlike rules others (written_type written) → UnderAlike rules others given → GivenAlike rules others (written_type written) given
+      → FormAlike rules others (type_if_written written) → UnderAlike rules others given → ArgumentGivenAlike rules others (type_if_written written) given
       → constant_answer rules written given ≡ constant_answer others written given
   pub returns : (rules others : TypeRules T) (results : List (Option T)) (has_names is_free : Bool) (given : List (Argument T))
-      → EachPair (GivenAlike rules others) results given → return_rule rules results has_names is_free given ≡ return_rule others results has_names is_free given
+      → EachPair (ArgumentGivenAlike rules others) results given → return_rule rules results has_names is_free given ≡ return_rule others results has_names is_free given
   pub conditions : (rules others : TypeRules T) (denoted : Denoted T S D) → ConditionAlike rules others denoted → condition_rule rules denoted ≡ condition_rule others denoted

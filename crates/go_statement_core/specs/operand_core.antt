@@ -6,4 +6,5 @@ pub use Rattle.go_operand_core.specs.Prefixes as Prefixes
 pub use Rattle.go_operand_core.specs.TypeRules as TypeRules
 pub use Rattle.go_operand_core.specs.Updates as Updates
 pub use Rattle.go_operand_core.specs.Values as Values
+pub use Rattle.go_operand_core.specs.Variables as Variables
 pub use Rattle.go_operand_core.specs.declared as declared

@@ -53,7 +53,7 @@ pub(crate) fn takes<E: TypeLooks>(
     target: &Target<E::Type>,
     argument: &Argument<E::Type>,
 ) -> Result<bool, AllocError>
-    ensures { IfOk result (λ b. b ≡ assignments.takes (E.types env.now) target.now argument.now) }
+    ensures { IfOk result (λ b. b ≡ assignments.takes_argument (E.types env.now) target.now argument.now) }
 {
     match target {
         Target::Blank | Target::New => Ok(gives_type(argument)),
@@ -91,7 +91,7 @@ fn all_taken<E: TypeLooks>(
     given: &[Argument<E::Type>],
 ) -> Result<bool, AllocError>
     requires { length targets.now ≡ length given.now }
-    ensures { IfOk result (λ b. b ≡ assignments.all_pairs (assignments.takes (E.types env.now)) targets.now given.now) }
+    ensures { IfOk result (λ b. b ≡ assignments.all_pairs (assignments.takes_argument (E.types env.now)) targets.now given.now) }
 {
     for (at, target) in targets.iter().enumerate() {
         if !takes(env, alloc, target, &given[at])? {

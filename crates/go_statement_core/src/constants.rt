@@ -90,7 +90,7 @@ fn constant_of<E: TypeLooks>(
     env: &E,
     operand: &Operand<E::Type>,
 ) -> Result<Option<Constant>, AllocError>
-    ensures { IfOk result (λ c. c ≡ constants.constant_of (E.types env.now) operand.now) }
+    ensures { IfOk result (λ c. c ≡ constants.operand_constant (E.types env.now) operand.now) }
 {
     if basic_under(env, &operand.value_type).is_none() {
         return Ok(None);

@@ -119,7 +119,7 @@ fn takes_all<E: TypeLooks>(
     target: &Target<E::Type>,
     given: &[Argument<E::Type>],
 ) -> Result<bool, AllocError>
-    ensures { IfOk result (λ b. b ≡ list_all (assignments.takes (E.types env.now) target.now) given.now) }
+    ensures { IfOk result (λ b. b ≡ list_all (assignments.takes_argument (E.types env.now) target.now) given.now) }
 {
     for argument in given {
         if !takes(env, alloc, target, argument)? {

@@ -1,6 +1,3 @@
-pub mod Equal
-pub mod Listed
 pub mod Records
-pub mod SameLists
 pub mod Telling
 pub mod Viewed

@@ -5,20 +5,20 @@ use Rattle.std.specs.Str.{chars}
 use Rattle.std.proofs.lemmas.Bool.{true≢false}
 use Rattle.std.proofs.lemmas.List.Elements.{All-head, All-tail}
 use Rattle.go_text_core.specs.Text.{exported}
-use Rattle.go_term_core.specs.decl_core.declared.keys.DeclKey.{DeclKey}
-use Rattle.go_term_core.specs.decl_core.declared.keys.DeclRef.{DeclRef}
-use Rattle.go_face_core.specs.block_core.Tables.{in_block, has}
-use Rattle.go_face_core.specs.block_core.Exports.{exports_model}
-use Rattle.go_face_core.specs.entry_core.Showing.{names_shown}
-use Rattle.go_face_core.specs.table_core.Entries.{Entry, find, same_key, same_decl}
-use Rattle.go_face_core.specs.table_core.Tables.{AreOf}
-use Rattle.go_face_core.specs.table_core.Finding.{find-append, or_else}
-use Rattle.go_face_core.specs.declared.shown.ShownFace.{ShownFace}
-use Rattle.go_face_core.specs.declared.shown.ShownFace.TheVariants as shows
-use Rattle.go_face_core.specs.Packages.{DeclaredOf, package_in, package_faces, names_seen, shown_by, shown_in_some, face_in_some}
-use Rattle.go_face_core.proofs.Displaying.{shows_its_block}
+use Rattle.go_alike_core.specs.decl_core.declared.keys.DeclKey.{DeclKey}
+use Rattle.go_alike_core.specs.decl_core.declared.keys.DeclRef.{DeclRef}
+use Rattle.go_alike_core.specs.block_core.Tables.{in_block, has}
+use Rattle.go_alike_core.specs.block_core.Exports.{exports_model}
+use Rattle.go_alike_core.specs.entry_core.Showing.{names_shown}
+use Rattle.go_alike_core.specs.table_core.Entries.{Entry, find_entry, same_key, same_decl}
+use Rattle.go_alike_core.specs.table_core.Tables.{AreOf}
+use Rattle.go_alike_core.specs.table_core.Finding.{find-append, or_else}
+use Rattle.go_alike_core.specs.face_core.declared.shown.ShownFace.{ShownFace}
+use Rattle.go_alike_core.specs.face_core.declared.shown.ShownFace.TheVariants as shows
+use Rattle.go_alike_core.specs.face_core.Packages.{DeclaredOf, package_in, package_faces, names_seen, shown_by, shown_in_some, face_in_some}
+use Rattle.go_alike_core.specs.face_core.Displaying.{shows_its_block}
 use Rattle.go_summary_core.specs.Summaries.{SummaryModel, IsOfOne, path_of, summary_with}
-use Rattle.go_summary_core.specs.Views.{AreApart, exports_told, faces_told, types_told}
+use Rattle.go_summary_core.specs.Views.{PathsAreApart, exports_told, faces_told, types_told}
 use Rattle.go_summary_core.specs.Laws.{HiddenNamesAreKnown, HiddenNamesDoNotCount, ViewsTellNothingElse, ViewsTellSummaries}
 use Rattle.go_summary_core.proofs.Viewed.{AreElsewhere, AreOfOne, text_apart, text_same}
 
@@ -34,7 +34,7 @@ elsewhere (s ∷ ss) path all = (
 )
 
 -- those behind the first have other paths
-behind : (s : SummaryModel) (ss : List SummaryModel) → AreApart (s ∷ ss) → AreElsewhere ss (path_of s)
+behind : (s : SummaryModel) (ss : List SummaryModel) → PathsAreApart (s ∷ ss) → AreElsewhere ss (path_of s)
 behind s [] apart = tt
 behind s (t ∷ ss) apart = (
   (λ e. apart zero (suc zero) s (omega arith) (omega arith) (sym e)),
@@ -42,17 +42,17 @@ behind s (t ∷ ss) apart = (
 )
   where
     -- the same without the second
-    two : (s t : SummaryModel) (ss : List SummaryModel) → AreApart (s ∷ t ∷ ss) → AreApart (s ∷ ss)
+    two : (s t : SummaryModel) (ss : List SummaryModel) → PathsAreApart (s ∷ t ∷ ss) → PathsAreApart (s ∷ ss)
     two s t ss apart zero zero d l w = absurd (omega (arith, l))
     two s t ss apart zero (suc k) d l w = apart zero (suc (suc k)) d (omega arith) (omega (arith, w))
     two s t ss apart (suc j) zero d l w = absurd (omega (arith, l))
     two s t ss apart (suc j) (suc k) d l w = apart (suc (suc j)) (suc (suc k)) d (omega (arith, l)) (omega (arith, w))
 
-tail_apart : (s : SummaryModel) (ss : List SummaryModel) → AreApart (s ∷ ss) → AreApart ss
+tail_apart : (s : SummaryModel) (ss : List SummaryModel) → PathsAreApart (s ∷ ss) → PathsAreApart ss
 tail_apart s ss apart j k d l w = apart (suc j) (suc k) d (omega (arith, l)) (omega (arith, w))
 
 -- the first is not at the path of a later one
-first_apart : (t : SummaryModel) (ts : List SummaryModel) (i : ℕ) (s : SummaryModel) → AreApart (t ∷ ts) → i < length ts → slice_index_or ts i s ≡ s → path_of t ≡ path_of s → ⊥
+first_apart : (t : SummaryModel) (ts : List SummaryModel) (i : ℕ) (s : SummaryModel) → PathsAreApart (t ∷ ts) → i < length ts → slice_index_or ts i s ≡ s → path_of t ≡ path_of s → ⊥
 first_apart t ts i s apart lt is e = apart zero (suc i) s (omega arith) (omega (arith, lt)) (e ∙ ap path_of (sym is))
 
 -- types
@@ -60,29 +60,29 @@ first_apart t ts i s apart lt is e = apart zero (suc i) s (omega arith) (omega (
 other_key : (a k : DeclKey) (path : List ℕ) → a.path ≡ path → (path ≡ k.path → ⊥) → same_key a k ≡ false
 other_key a k path own other = ap (λ b. b && same_decl a.decl k.decl) (text_apart a.path k.path (λ e. other (sym own ∙ e)))
 
-find-other : (es : List Entry) (path : List ℕ) (k : DeclKey) → AreOf path es → (path ≡ k.path → ⊥) → find es k ≡ None
+find-other : (es : List Entry) (path : List ℕ) (k : DeclKey) → AreOf path es → (path ≡ k.path → ⊥) → find_entry es k ≡ None
 find-other [] path k own other = refl
-find-other (e ∷ es) path k own other = ap (λ b. if b then Some e else find es k) (other_key e.key k path own.0 other) ∙ find-other es path k own.1 other
+find-other (e ∷ es) path k own other = ap (λ b. if b then Some e else find_entry es k) (other_key e.key k path own.0 other) ∙ find-other es path k own.1 other
 
 or_none : (o : Option Entry) → or_else o None ≡ o
 or_none (Some a) = refl
 or_none None = refl
 
-find_nowhere : (ss : List SummaryModel) (k : DeclKey) → AreOfOne ss → AreElsewhere ss k.path → find (types_told ss) k ≡ None
+find_nowhere : (ss : List SummaryModel) (k : DeclKey) → AreOfOne ss → AreElsewhere ss k.path → find_entry (types_told ss) k ≡ None
 find_nowhere [] k own other = refl
 find_nowhere (s ∷ ss) k own other =
     find-append s.types.entries (types_told ss) k
-    ∙ (ap (λ o. or_else o (find (types_told ss) k)) (find-other s.types.entries (path_of s) k own.0.own other.0) ∙ find_nowhere ss k own.1 other.1)
+    ∙ (ap (λ o. or_else o (find_entry (types_told ss) k)) (find-other s.types.entries (path_of s) k own.0.own other.0) ∙ find_nowhere ss k own.1 other.1)
 
-find_told : (ss : List SummaryModel) (i : ℕ) (s : SummaryModel) (k : DeclKey) → AreApart ss → AreOfOne ss → i < length ss → slice_index_or ss i s ≡ s → k.path ≡ path_of s → find (types_told ss) k ≡ find s.types.entries k
+find_told : (ss : List SummaryModel) (i : ℕ) (s : SummaryModel) (k : DeclKey) → PathsAreApart ss → AreOfOne ss → i < length ss → slice_index_or ss i s ≡ s → k.path ≡ path_of s → find_entry (types_told ss) k ≡ find_entry s.types.entries k
 find_told [] i s k apart own lt is at = absurd (omega (arith, lt))
 find_told (t ∷ ts) zero s k apart own lt is at =
     find-append t.types.entries (types_told ts) k
-    ∙ (ap (or_else (find t.types.entries k)) (find_nowhere ts k own.1 (subst (AreElsewhere ts) (ap path_of is ∙ sym at) (behind t ts apart)))
-    ∙ (or_none (find t.types.entries k) ∙ ap (λ (x : SummaryModel). find x.types.entries k) is))
+    ∙ (ap (or_else (find_entry t.types.entries k)) (find_nowhere ts k own.1 (subst (AreElsewhere ts) (ap path_of is ∙ sym at) (behind t ts apart)))
+    ∙ (or_none (find_entry t.types.entries k) ∙ ap (λ (x : SummaryModel). find_entry x.types.entries k) is))
 find_told (t ∷ ts) (suc i) s k apart own lt is at =
     find-append t.types.entries (types_told ts) k
-    ∙ (ap (λ o. or_else o (find (types_told ts) k)) (find-other t.types.entries (path_of t) k own.0.own (λ e. first_apart t ts i s apart (omega (arith, lt)) is (e ∙ at)))
+    ∙ (ap (λ o. or_else o (find_entry (types_told ts) k)) (find-other t.types.entries (path_of t) k own.0.own (λ e. first_apart t ts i s apart (omega (arith, lt)) is (e ∙ at)))
     ∙ find_told ts i s k (tail_apart t ts apart) own.1 (omega (arith, lt)) is at)
 
 -- names
@@ -92,7 +92,7 @@ shown_nowhere [] path other = refl
 shown_nowhere (s ∷ ss) path other =
     ap (λ b. if b then s.exports.names else names_shown (exports_told ss) path) (text_apart path (path_of s) (λ e. other.0 (sym e))) ∙ shown_nowhere ss path other.1
 
-shown_told : (ss : List SummaryModel) (i : ℕ) (s : SummaryModel) → AreApart ss → i < length ss → slice_index_or ss i s ≡ s → names_shown (exports_told ss) (path_of s) ≡ s.exports.names
+shown_told : (ss : List SummaryModel) (i : ℕ) (s : SummaryModel) → PathsAreApart ss → i < length ss → slice_index_or ss i s ≡ s → names_shown (exports_told ss) (path_of s) ≡ s.exports.names
 shown_told [] i s apart lt is = absurd (omega (arith, lt))
 shown_told (t ∷ ts) zero s apart lt is =
     ap (λ b. if b then t.exports.names else names_shown (exports_told ts) (path_of s)) (text_same (path_of s) (path_of t) (ap path_of (sym is))) ∙ ap (λ (x : SummaryModel). x.exports.names) is
@@ -114,7 +114,7 @@ faces_nowhere [] path own other = refl
 faces_nowhere (s ∷ ss) path own other =
     ap (λ b. if b then Some s.faces else package_in (faces_told ss) path) (text_apart path s.faces.path (λ e. other.0 (sym (e ∙ own.0.faces)))) ∙ faces_nowhere ss path own.1 other.1
 
-faces_there : (ss : List SummaryModel) (i : ℕ) (s : SummaryModel) → AreApart ss → AreOfOne ss → i < length ss → slice_index_or ss i s ≡ s → package_in (faces_told ss) (path_of s) ≡ Some s.faces
+faces_there : (ss : List SummaryModel) (i : ℕ) (s : SummaryModel) → PathsAreApart ss → AreOfOne ss → i < length ss → slice_index_or ss i s ≡ s → package_in (faces_told ss) (path_of s) ≡ Some s.faces
 faces_there [] i s apart own lt is = absurd (omega (arith, lt))
 faces_there (t ∷ ts) zero s apart own lt is =
     ap (λ b. if b then Some t.faces else package_in (faces_told ts) (path_of s)) (text_same (path_of s) t.faces.path (ap path_of (sym is) ∙ sym own.0.faces)) ∙ ap (λ (x : SummaryModel). Some x.faces) is

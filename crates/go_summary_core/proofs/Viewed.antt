@@ -5,13 +5,13 @@ use Rattle.std.specs.Str.{bytes_eq}
 use Rattle.std.proofs.lemmas.List.{map-append, take_more}
 use Rattle.std.proofs.lemmas.List.Elements.{All-append, All-cons}
 use Rattle.std.proofs.lemmas.Slice.Eq.{bytes_eq-Decides}
-use Rattle.go_face_core.specs.block_core.Exports.{ExportsModel}
-use Rattle.go_face_core.specs.entry_core.Showing.{with_shown}
-use Rattle.go_face_core.specs.table_core.Entries.{Entry}
-use Rattle.go_face_core.specs.table_core.Tables.{AreOf, AreOthers}
-use Rattle.go_face_core.specs.Packages.{PackageFacesModel, with_faces}
+use Rattle.go_alike_core.specs.block_core.Exports.{ExportsModel}
+use Rattle.go_alike_core.specs.entry_core.Showing.{with_shown}
+use Rattle.go_alike_core.specs.table_core.Entries.{Entry}
+use Rattle.go_alike_core.specs.table_core.Tables.{AreOf, AreOthers}
+use Rattle.go_alike_core.specs.face_core.Packages.{PackageFacesModel, with_faces}
 use Rattle.go_summary_core.specs.Summaries.{SummaryModel, IsOfOne, path_of}
-use Rattle.go_summary_core.specs.Views.{AreApart, exports_told, faces_told, types_told}
+use Rattle.go_summary_core.specs.Views.{PathsAreApart, exports_told, faces_told, types_told}
 
 pub text_apart : (x y : List ℕ) → (x ≡ y → ⊥) → bytes_eq x y ≡ false
 text_apart x y apart = by (bytes_eq x y) refl
@@ -34,7 +34,7 @@ AreOfOne [] = ⊤
 AreOfOne (s ∷ ss) = IsOfOne s × AreOfOne ss
 
 -- those in front of one have other paths
-pub before : (ss : List SummaryModel) (i : ℕ) (s : SummaryModel) → AreApart ss → i < length ss → s ≡ get_or ss i s → AreElsewhere (take i ss) (path_of s)
+pub before : (ss : List SummaryModel) (i : ℕ) (s : SummaryModel) → PathsAreApart ss → i < length ss → s ≡ get_or ss i s → AreElsewhere (take i ss) (path_of s)
 before [] i s apart lt is = absurd (omega (arith, lt))
 before (t ∷ ts) zero s apart lt is = tt
 before (t ∷ ts) (suc i) s apart lt is = (
@@ -78,7 +78,7 @@ exports_added (s ∷ ss) e other =
     ap (λ b. if b then e ∷ exports_told ss else s.exports ∷ with_shown (exports_told ss) e) (text_apart e.path (path_of s) (λ is. other.0 (sym is)))
     ∙ ap (λ l. s.exports ∷ l) (exports_added ss e other.1)
 
-pub exports_more : (ss : List SummaryModel) (i : ℕ) (s : SummaryModel) (old new : List ExportsModel) → i < length ss → s ≡ get_or ss i s → AreApart ss → new ≡ with_shown old s.exports → old ≡ exports_told (take i ss) → new ≡ exports_told (take (i + 1) ss)
+pub exports_more : (ss : List SummaryModel) (i : ℕ) (s : SummaryModel) (old new : List ExportsModel) → i < length ss → s ≡ get_or ss i s → PathsAreApart ss → new ≡ with_shown old s.exports → old ≡ exports_told (take i ss) → new ≡ exports_told (take (i + 1) ss)
 exports_more ss i s old new lt is apart added so_far =
     added ∙ (ap (λ l. with_shown l s.exports) so_far
     ∙ (exports_added (take i ss) s.exports (before ss i s apart lt is)
@@ -93,7 +93,7 @@ faces_added (s ∷ ss) f own other =
     ap (λ b. if b then f ∷ faces_told ss else s.faces ∷ with_faces (faces_told ss) f) (text_apart f.path s.faces.path (λ is. other.0 (sym (is ∙ own.0.faces))))
     ∙ ap (λ l. s.faces ∷ l) (faces_added ss f own.1 other.1)
 
-pub faces_more : (ss : List SummaryModel) (i : ℕ) (s : SummaryModel) (old new : List PackageFacesModel) → i < length ss → s ≡ get_or ss i s → AreApart ss → IsOfOne s → AreOfOne (take i ss) → new ≡ with_faces old s.faces → old ≡ faces_told (take i ss) → new ≡ faces_told (take (i + 1) ss)
+pub faces_more : (ss : List SummaryModel) (i : ℕ) (s : SummaryModel) (old new : List PackageFacesModel) → i < length ss → s ≡ get_or ss i s → PathsAreApart ss → IsOfOne s → AreOfOne (take i ss) → new ≡ with_faces old s.faces → old ≡ faces_told (take i ss) → new ≡ faces_told (take (i + 1) ss)
 faces_more ss i s old new lt is apart own all added so_far =
     added ∙ (ap (λ l. with_faces l s.faces) so_far
     ∙ (faces_added (take i ss) s.faces all (subst (AreElsewhere (take i ss)) (sym own.faces) (before ss i s apart lt is))

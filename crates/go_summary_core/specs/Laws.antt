@@ -2,37 +2,37 @@
 use Rattle.std.specs.Prelude.{◌≡◌, ◌↔◌, ℕ, true, false, List, [], ◌∷◌, None, All, Contains}
 use Rattle.std.specs.Str.{chars}
 use Rattle.go_text_core.specs.Text.{exported}
-use Rattle.go_face_core.specs.graph_core.Packages.{trees_of}
-use Rattle.go_face_core.specs.graph_core.Workspaces.{PackageModel, names_of_files}
-use Rattle.go_term_core.specs.decl_core.declared.keys.DeclKey.{DeclKey}
-use Rattle.go_term_core.specs.decl_core.declared.keys.DeclRef.{DeclRef}
-use Rattle.go_face_core.specs.block_core.Blocks.{BlocksModel}
-use Rattle.go_face_core.specs.block_core.Exports.{clause_name, exported_names}
-use Rattle.go_face_core.specs.block_core.Tables.{has}
-use Rattle.go_face_core.specs.entry_core.Showing.{shown_in}
-use Rattle.go_face_core.specs.table_core.Entries.{find}
-use Rattle.go_face_core.specs.table_core.Tables.{PackageTypesModel}
-use Rattle.go_face_core.specs.declared.shown.ShownFace.TheVariants as shows
-use Rattle.go_face_core.specs.Packages.{DeclaredOf, exported_in, face_by, face_in, names_seen, package_faces, shown_by}
+use Rattle.go_alike_core.specs.graph_core.Packages.{trees_of}
+use Rattle.go_alike_core.specs.graph_core.Workspaces.{PackageModel, names_of_files}
+use Rattle.go_alike_core.specs.decl_core.declared.keys.DeclKey.{DeclKey}
+use Rattle.go_alike_core.specs.decl_core.declared.keys.DeclRef.{DeclRef}
+use Rattle.go_alike_core.specs.block_core.Blocks.{BlocksModel}
+use Rattle.go_alike_core.specs.block_core.Exports.{clause_name, exported_names}
+use Rattle.go_alike_core.specs.block_core.Tables.{has}
+use Rattle.go_alike_core.specs.entry_core.Showing.{shown_in}
+use Rattle.go_alike_core.specs.table_core.Entries.{find_entry}
+use Rattle.go_alike_core.specs.table_core.Tables.{PackageTypesModel}
+use Rattle.go_alike_core.specs.face_core.declared.shown.ShownFace.TheVariants as shows
+use Rattle.go_alike_core.specs.face_core.Packages.{DeclaredOf, exported_in, face_by, face_in, names_seen, package_faces, shown_by}
 use Rattle.go_summary_core.specs.Summaries.{SummaryModel, IsOfOne, path_of, summary_of, summary_with}
-use Rattle.go_summary_core.specs.Views.{AreApart, exports_told, faces_told, types_told}
+use Rattle.go_summary_core.specs.Views.{PathsAreApart, exports_told, faces_told, types_told}
 
 -- views
 
 -- a view tells of the package of a summary exactly what the summary does: the types by their keys, what it shows behind a dot, and what
 -- the declarations are
 pub record TellsWhatItDoes (ss : List SummaryModel) (s : SummaryModel) : Type 0 where
-  pub types : (k : DeclKey) → k.path ≡ path_of s → find (types_told ss) k ≡ find s.types.entries k
+  pub types : (k : DeclKey) → k.path ≡ path_of s → find_entry (types_told ss) k ≡ find_entry s.types.entries k
   pub names : (name : List ℕ) → shown_in (exports_told ss) (path_of s) name ≡ shown_in (s.exports ∷ []) (path_of s) name
   pub faces : (name : List ℕ) → exported_in (faces_told ss) (path_of s) name ≡ shown_by s.faces name
   pub declared : (d : DeclRef) → face_in (faces_told ss) (path_of s) d ≡ face_by s.faces d
 
 abbrev pub ViewsTellSummaries : Type 0
-ViewsTellSummaries = (ss : List SummaryModel) (s : SummaryModel) → AreApart ss → All IsOfOne ss → Contains ss s → TellsWhatItDoes ss s
+ViewsTellSummaries = (ss : List SummaryModel) (s : SummaryModel) → PathsAreApart ss → All IsOfOne ss → Contains ss s → TellsWhatItDoes ss s
 
 -- of a path that no summary has a view tells nothing
 pub record TellsNothing (ss : List SummaryModel) (path : List ℕ) : Type 0 where
-  pub types : (k : DeclKey) → k.path ≡ path → find (types_told ss) k ≡ None
+  pub types : (k : DeclKey) → k.path ≡ path → find_entry (types_told ss) k ≡ None
   pub names : (name : List ℕ) → shown_in (exports_told ss) path name ≡ None
   pub faces : (name : List ℕ) → exported_in (faces_told ss) path name ≡ shows.Absent
   pub declared : (d : DeclRef) → face_in (faces_told ss) path d ≡ None

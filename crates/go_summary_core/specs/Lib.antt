@@ -2,7 +2,7 @@ pub mod Laws
 pub mod Summaries
 pub mod Views
 pub mod codes
-pub mod mirrors
+pub mod alike_core
 pub mod decide_core
+pub mod level_core
 pub mod operand_core
-pub mod select_core

@@ -1,14 +1,14 @@
 -- What a package sees by the summaries of the packages that it reaches.
 use Rattle.std.specs.Prelude.{◌≡◌, List, map, AllPairs}
 use Rattle.std.specs.List.{flat_map}
-use Rattle.go_face_core.specs.block_core.Exports.{ExportsModel}
-use Rattle.go_face_core.specs.table_core.Entries.{Entry}
-use Rattle.go_face_core.specs.Packages.{PackageFacesModel}
+use Rattle.go_alike_core.specs.block_core.Exports.{ExportsModel}
+use Rattle.go_alike_core.specs.table_core.Entries.{Entry}
+use Rattle.go_alike_core.specs.face_core.Packages.{PackageFacesModel}
 use Rattle.go_summary_core.specs.Summaries.{SummaryModel, path_of}
 
 -- each path once
-abbrev pub AreApart : List SummaryModel → Type 0
-AreApart ss = AllPairs (λ s t. path_of s ≡ path_of t → ⊥) ss
+abbrev pub PathsAreApart : List SummaryModel → Type 0
+PathsAreApart ss = AllPairs (λ s t. path_of s ≡ path_of t → ⊥) ss
 
 -- their types, one package's behind the other's
 abbrev pub types_told : List SummaryModel → List Entry

@@ -4,12 +4,8 @@
 //! does not declare itself. The Go specification, "Import declarations", "Exported identifiers".
 #![tactic(auto)]
 
-mod entries;
-mod faces;
 mod laws;
-mod names;
 mod summary;
-mod terms;
 mod view;
 
 pub use laws::{
@@ -19,12 +15,17 @@ pub use laws::{
 pub use summary::{Summary, import_view, summarize};
 pub use view::{View, view_of};
 
+/// What the crates above name of `go_alike_core`.
+pub mod alike_core {
+    pub use go_alike_core::same_exports;
+}
+
 /// What the crates above name of `go_operand_core`.
 pub mod operand_core {
-    pub use go_face_core::operand_core::{Operand, TypeForm, ValueType};
+    pub use go_alike_core::operand_core::{Operand, TypeForm, ValueType};
 }
 
 /// What the crates above name of `go_select_core`.
 pub mod select_core {
-    pub use go_face_core::select_core::{EmbedPath, Member, Owner, Selected, select, selectable};
+    pub use go_alike_core::select_core::{EmbedPath, Member, Owner, Selected, select, selectable};
 }

@@ -1,14 +1,14 @@
 //! What a package sees of those that it reaches.
 ghost use Rattle.std.specs.Prelude.{◌≡◌, ◌++◌, IfOk, OnOk};
-ghost use Rattle.go_face_core.specs.table_core.Tables.{AreOthers};
-ghost use Rattle.go_face_core.specs.Packages.{with_faces};
+ghost use Rattle.go_alike_core.specs.table_core.Tables.{AreOthers};
+ghost use Rattle.go_alike_core.specs.face_core.Packages.{with_faces};
 ghost use Rattle.go_summary_core.specs.Summaries.{IsOfOne, path_of};
-ghost use Rattle.go_summary_core.specs.Views.{AreApart, exports_told, faces_told, types_told};
+ghost use Rattle.go_summary_core.specs.Views.{PathsAreApart, exports_told, faces_told, types_told};
 
 use crate::summary::Summary;
-use go_face_core::FaceTable;
-use go_face_core::entry_core::ShownPackages;
-use go_face_core::table_core::TypeTable;
+use go_alike_core::entry_core::ShownPackages;
+use go_alike_core::face_core::FaceTable;
+use go_alike_core::table_core::TypeTable;
 use std::alloc::{AllocError, Global};
 
 /// What a package sees of the packages that it reaches by imports: their types, what they show behind a dot, and what their declarations are.
@@ -31,7 +31,7 @@ fn add_types(types: &mut TypeTable, summary: &Summary) -> Result<(), AllocError>
 
 /// The types of all these packages.
 fn types_of(alloc: Global, summaries: &[Summary]) -> Result<TypeTable, AllocError>
-    requires { AreApart summaries.now }
+    requires { PathsAreApart summaries.now }
     ensures { IfOk result (λ t. t ≡ types_told summaries.now) }
 {
     let mut types = TypeTable::new(alloc);
@@ -43,7 +43,7 @@ fn types_of(alloc: Global, summaries: &[Summary]) -> Result<TypeTable, AllocErro
 
 /// What all these packages show.
 fn shown_of(alloc: Global, summaries: &[Summary]) -> Result<ShownPackages, AllocError>
-    requires { AreApart summaries.now }
+    requires { PathsAreApart summaries.now }
     ensures { IfOk result (λ s. s ≡ exports_told summaries.now) }
 {
     let mut shown = ShownPackages::new(alloc);
@@ -64,7 +64,7 @@ fn add_faces(faces: &mut FaceTable, summary: &Summary) -> Result<(), AllocError>
 
 /// What the declarations of all these packages are.
 fn faces_of(alloc: Global, summaries: &[Summary]) -> Result<FaceTable, AllocError>
-    requires { AreApart summaries.now }
+    requires { PathsAreApart summaries.now }
     ensures { IfOk result (λ f. f ≡ faces_told summaries.now) }
 {
     let mut faces = FaceTable::new(alloc);
@@ -81,7 +81,7 @@ fn faces_of(alloc: Global, summaries: &[Summary]) -> Result<FaceTable, AllocErro
 ///
 /// `AllocError` where memory is wanting.
 pub fn view_of(alloc: Global, summaries: &[Summary]) -> Result<View, AllocError>
-    requires { AreApart summaries.now }
+    requires { PathsAreApart summaries.now }
     ensures types { IfOk result (λ v. v.types ≡ types_told summaries.now) }
     ensures shown { IfOk result (λ v. v.shown ≡ exports_told summaries.now) }
     ensures faces { IfOk result (λ v. v.faces ≡ faces_told summaries.now) }

@@ -4,8 +4,8 @@ use Rattle.std.specs.Prelude.{IsTrue}
 use Rattle.go_decl_core.specs.declared.keys.DeclKey.{DeclKey}
 use Rattle.go_term_core.specs.Terms.{Term, NoType, Predeclared, ErrorType, Defined, PointerTo, StructOf, InterfaceOf}
 use Rattle.go_term_core.specs.Identity.{Identical}
-use Rattle.go_table_core.specs.Entries.{Entry, Look, find, term_in, underlying_in}
-use Rattle.go_table_core.specs.Assign.{AValue, ANil, IsNamed, IsInterface, IsPointer, IsType, IsValueAssignable, identical, alike, implements_it, IsAssignable}
+use Rattle.go_table_core.specs.Entries.{Entry, EntryLook, find_entry, term_in, underlying_in}
+use Rattle.go_table_core.specs.Assign.{AValue, ANil, IsNamed, IsInterface, IsPointer, IsType, IsValueAssignable, identical, alike, implements_it, IsTermAssignable}
 use Rattle.go_table_core.specs.Laws.{IsOneUnnamed, TakesUntyped, AssignabilityByRule, AddingKeeps}
 use Rattle.go_table_core.proofs.Finding.{or_else, find-append}
 
@@ -15,7 +15,7 @@ nothing_alone : (u : Term) → Identical u NoType → u ≡ NoType
 nothing_alone NoType h = refl
 nothing_alone _ h = absurd h
 
-type_moves : (look : Look) (v t : Term) → Identical v t → IsType look v → IsType look t
+type_moves : (look : EntryLook) (v t : Term) → Identical v t → IsType look v → IsType look t
 type_moves look NoType t h is none = is refl
 type_moves look (Predeclared b) (Predeclared c) h is none = absurd (cc)
 type_moves look (Predeclared b) _ h is none = h
@@ -30,7 +30,7 @@ type_moves look (StructOf p fs) _ h is none = h
 type_moves look (InterfaceOf p ms) (InterfaceOf q ns) h is none = absurd (cc)
 type_moves look (InterfaceOf p ms) _ h is none = h
 
-alike_moves : (look : Look) (v t : Term) → Identical (underlying_in look v) (underlying_in look t) → IsType look v → IsType look t
+alike_moves : (look : EntryLook) (v t : Term) → Identical (underlying_in look v) (underlying_in look t) → IsType look v → IsType look t
 alike_moves look v t h is none = is (nothing_alone (underlying_in look v) (subst (λ (u : Term). Identical (underlying_in look v) u) none h))
 
 -- an interface type and a pointer type are types
@@ -60,15 +60,15 @@ not_both v t h both = elim h [ inl v' ↦ v' both.0 | inr t' ↦ t' both.1 ]
 
 -- the rules for a value of a type
 
-abbrev ValueRules : Look → Term → Term → Bool → Type 0
+abbrev ValueRules : EntryLook → Term → Term → Bool → Type 0
 ValueRules look v t implements = Identical v t ⊎ ((Identical (underlying_in look v) (underlying_in look t) × IsOneUnnamed v t) ⊎ (IsInterface (underlying_in look t) × IsTrue implements))
 
-value_by : (look : Look) (v t : Term) (implements : Bool) → IsValueAssignable look v t (IsTrue implements) → ValueRules look v t implements
+value_by : (look : EntryLook) (v t : Term) (implements : Bool) → IsValueAssignable look v t (IsTrue implements) → ValueRules look v t implements
 value_by look v t implements (identical h) = inl h
 value_by look v t implements (alike h apart) = inr (inl (h, one_unnamed v t apart))
 value_by look v t implements (implements_it i h) = inr (inr (i, h))
 
-value_from : (look : Look) (v t : Term) (implements : Bool) → IsType look v → ValueRules look v t implements → IsAssignable look (AValue v) t (IsTrue implements)
+value_from : (look : EntryLook) (v t : Term) (implements : Bool) → IsType look v → ValueRules look v t implements → IsTermAssignable look (AValue v) t (IsTrue implements)
 value_from look v t implements is h = elim h [
   | inl same ↦ (type_moves look v t same is, (is, identical same))
   | inr more ↦ elim more [
@@ -77,18 +77,18 @@ value_from look v t implements is h = elim h [
   ]
 ]
 
-by_value : (look : Look) (v t : Term) (implements : Bool) → IsType look v → IsAssignable look (AValue v) t (IsTrue implements) ↔ ValueRules look v t implements
+by_value : (look : EntryLook) (v t : Term) (implements : Bool) → IsType look v → IsTermAssignable look (AValue v) t (IsTrue implements) ↔ ValueRules look v t implements
 by_value look v t implements is = ((λ h. value_by look v t implements h.1.1), value_from look v t implements is)
 
 -- and for others
 
-by_nil : (look : Look) (t : Term) (implements : Bool) → IsAssignable look ANil t (IsTrue implements) ↔ (IsPointer (underlying_in look t) ⊎ IsInterface (underlying_in look t))
+by_nil : (look : EntryLook) (t : Term) (implements : Bool) → IsTermAssignable look ANil t (IsTrue implements) ↔ (IsPointer (underlying_in look t) ⊎ IsInterface (underlying_in look t))
 by_nil look t implements = (
   (λ h. h.1),
   (λ h. ((λ none. elim h [ inl p ↦ pointer_type (underlying_in look t) p none | inr i ↦ interface_type (underlying_in look t) i none ]), h)),
 )
 
-untyped_type : (look : Look) (basic t : Term) (implements : Bool) → (basic ≡ NoType → ⊥) → TakesUntyped look basic t implements → IsType look t
+untyped_type : (look : EntryLook) (basic t : Term) (implements : Bool) → (basic ≡ NoType → ⊥) → TakesUntyped look basic t implements → IsType look t
 untyped_type look basic t implements is h none = elim h [ inl same ↦ is (sym same ∙ none) | inr face ↦ interface_type (underlying_in look t) face.0 none ]
 
 pub by_rule : AssignabilityByRule
@@ -109,11 +109,11 @@ by_rule = record {
 
 -- tables with more types
 
-found_kept : (es more : List Entry) (k : DeclKey) (e : Entry) → find es k ≡ Some e → find (es ++ more) k ≡ Some e
-found_kept es more k e h = find-append es more k ∙ ap (λ o. or_else o (find more k)) h
+found_kept : (es more : List Entry) (k : DeclKey) (e : Entry) → find_entry es k ≡ Some e → find_entry (es ++ more) k ≡ Some e
+found_kept es more k e h = find-append es more k ∙ ap (λ o. or_else o (find_entry more k)) h
 
-found_added : (es more : List Entry) (k : DeclKey) → find es k ≡ None → find (es ++ more) k ≡ find more k
-found_added es more k h = find-append es more k ∙ ap (λ o. or_else o (find more k)) h
+found_added : (es more : List Entry) (k : DeclKey) → find_entry es k ≡ None → find_entry (es ++ more) k ≡ find_entry more k
+found_added es more k h = find-append es more k ∙ ap (λ o. or_else o (find_entry more k)) h
 
 pub adding : AddingKeeps
 adding = record { found = found_kept; added = found_added }

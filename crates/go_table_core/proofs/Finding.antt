@@ -9,7 +9,7 @@ use Rattle.std.proofs.lemmas.Option.{slice_get_within}
 use Rattle.go_decl_core.specs.declared.keys.DeclKey.{DeclKey}
 use Rattle.go_term_core.specs.Terms.{Term}
 use Rattle.go_table_core.specs.declared.table.Numbered.{Numbered}
-use Rattle.go_table_core.specs.Entries.{Entry, same_decl, same_key, find, IsPlain}
+use Rattle.go_table_core.specs.Entries.{Entry, same_decl, same_key, find_entry, IsUnnamed}
 use Rattle.go_table_core.specs.Tables.{AreOf, AreOthers, IsPlaceOf}
 use Rattle.go_table_core.specs.mirrors.Holding.{all_entries, package_at, AreKept, IsTable}
 
@@ -38,11 +38,11 @@ or_none : (o : Option Entry) → or_else o None ≡ o
 or_none (Some a) = refl
 or_none None = refl
 
-pub find-append : (xs ys : List Entry) (k : DeclKey) → find (xs ++ ys) k ≡ or_else (find xs k) (find ys k)
+pub find-append : (xs ys : List Entry) (k : DeclKey) → find_entry (xs ++ ys) k ≡ or_else (find_entry xs k) (find_entry ys k)
 find-append [] ys k = refl
 find-append (x ∷ xs) ys k = by (same_key x.key k) (find-append xs ys k)
   where
-    by : (b : Bool) → find (xs ++ ys) k ≡ or_else (find xs k) (find ys k) → (if b then Some x else find (xs ++ ys) k) ≡ or_else (if b then Some x else find xs k) (find ys k)
+    by : (b : Bool) → find_entry (xs ++ ys) k ≡ or_else (find_entry xs k) (find_entry ys k) → (if b then Some x else find_entry (xs ++ ys) k) ≡ or_else (if b then Some x else find_entry xs k) (find_entry ys k)
     by true h = refl
     by false h = h
 
@@ -54,28 +54,28 @@ other_key a k path own other = by (bytes_eq a.path k.path) refl
     by true e = absurd (bytes_apart k.path path other (sym (same_bytes a.path k.path e) ∙ own))
     by false e = refl
 
-find-other : (es : List Entry) (path : List ℕ) (k : DeclKey) → AreOf path es → bytes_eq k.path path ≡ false → find es k ≡ None
+find-other : (es : List Entry) (path : List ℕ) (k : DeclKey) → AreOf path es → bytes_eq k.path path ≡ false → find_entry es k ≡ None
 find-other [] path k own other = refl
-find-other (e ∷ es) path k own other = ap (λ b. if b then Some e else find es k) (other_key e.key k path own.0 other) ∙ find-other es path k own.1 other
+find-other (e ∷ es) path k own other = ap (λ b. if b then Some e else find_entry es k) (other_key e.key k path own.0 other) ∙ find-other es path k own.1 other
 
 -- what a package that may be there has of a key
 abbrev pub found : Option Numbered → DeclKey → Option Entry
 found None k = None
-found (Some p) k = find p.types.entries k
+found (Some p) k = find_entry p.types.entries k
 
 -- a key is found in its own package alone
-pub find_in : (n : ℕ) (ps : List (List ℕ × Numbered)) (k : DeclKey) → AreKept n ps → find (all_entries ps) k ≡ found (package_at ps k.path) k
+pub find_in : (n : ℕ) (ps : List (List ℕ × Numbered)) (k : DeclKey) → AreKept n ps → find_entry (all_entries ps) k ≡ found (package_at ps k.path) k
 find_in n [] k kept = refl
 find_in n (p ∷ ps) k kept =
     find-append p.1.types.entries (all_entries ps) k ∙ by (bytes_eq k.path p.0) refl (find_in (n + length p.1.types.entries) ps k kept.1)
   where
-    by : (b : Bool) → bytes_eq k.path p.0 ≡ b → find (all_entries ps) k ≡ found (package_at ps k.path) k → or_else (find p.1.types.entries k) (find (all_entries ps) k) ≡ found (cond b (Some p.1) (package_at ps k.path)) k
+    by : (b : Bool) → bytes_eq k.path p.0 ≡ b → find_entry (all_entries ps) k ≡ found (package_at ps k.path) k → or_else (find_entry p.1.types.entries k) (find_entry (all_entries ps) k) ≡ found (cond b (Some p.1) (package_at ps k.path)) k
     by true e rest =
-        let none : find (all_entries ps) k ≡ None = rest ∙ (ap (λ q. found (package_at ps q) k) (same_bytes k.path p.0 e) ∙ ap (λ o. found o k) kept.0.once) in
-        ap (or_else (find p.1.types.entries k)) none ∙ or_none (find p.1.types.entries k)
+        let none : find_entry (all_entries ps) k ≡ None = rest ∙ (ap (λ q. found (package_at ps q) k) (same_bytes k.path p.0 e) ∙ ap (λ o. found o k) kept.0.once) in
+        ap (or_else (find_entry p.1.types.entries k)) none ∙ or_none (find_entry p.1.types.entries k)
     by false e rest =
         let other : bytes_eq k.path p.1.types.path ≡ false = ap (bytes_eq k.path) (sym kept.0.keyed) ∙ e in
-        ap (λ o. or_else o (find (all_entries ps) k)) (find-other p.1.types.entries p.1.types.path k kept.0.well.own other) ∙ rest
+        ap (λ o. or_else o (find_entry (all_entries ps) k)) (find-other p.1.types.entries p.1.types.path k kept.0.well.own other) ∙ rest
 
 -- places
 
@@ -175,10 +175,10 @@ at_path n (q ∷ ps) path p kept there = by (bytes_eq path q.0) refl there (at_p
     by false e h rest = rest h
 
 -- what is found of a key, by its package
-pub find_nowhere : (len : ℕ) (ps : List (List ℕ × Numbered)) (nothing : Term) (k : DeclKey) → IsTable len ps nothing → package_at ps k.path ≡ None → find (all_entries ps) k ≡ None
+pub find_nowhere : (len : ℕ) (ps : List (List ℕ × Numbered)) (nothing : Term) (k : DeclKey) → IsTable len ps nothing → package_at ps k.path ≡ None → find_entry (all_entries ps) k ≡ None
 find_nowhere len ps nothing k well none = find_in 0 ps k well.kept ∙ ap (λ o. found o k) none
 
-pub find_there : (len : ℕ) (ps : List (List ℕ × Numbered)) (nothing : Term) (k : DeclKey) (p : Numbered) → IsTable len ps nothing → package_at ps k.path ≡ Some p → find (all_entries ps) k ≡ find p.types.entries k
+pub find_there : (len : ℕ) (ps : List (List ℕ × Numbered)) (nothing : Term) (k : DeclKey) (p : Numbered) → IsTable len ps nothing → package_at ps k.path ≡ Some p → find_entry (all_entries ps) k ≡ find_entry p.types.entries k
 find_there len ps nothing k p well there = find_in 0 ps k well.kept ∙ ap (λ o. found o k) there
 
 -- the place of a type in the table's list
@@ -191,17 +191,17 @@ stands_at len ps nothing k p i well there at =
     ((e, here, find_there len ps nothing k p well there ∙ at.2, at.3), omega (arith, slice_get_within (all_entries ps) (p.first + i) e here, well.counted))
 
 -- an empty table has nothing
-pub find_empty : (len : ℕ) (ps : List (List ℕ × Numbered)) (nothing : Term) (k : DeclKey) → IsTable len ps nothing → len ≡ 0 → find (all_entries ps) k ≡ None
+pub find_empty : (len : ℕ) (ps : List (List ℕ × Numbered)) (nothing : Term) (k : DeclKey) → IsTable len ps nothing → len ≡ 0 → find_entry (all_entries ps) k ≡ None
 find_empty len ps nothing k well none = by (all_entries ps) (sym well.counted ∙ none)
   where
-    by : (es : List Entry) → length es ≡ 0 → find es k ≡ None
+    by : (es : List Entry) → length es ≡ 0 → find_entry es k ≡ None
     by [] h = refl
     by (e ∷ es) h = absurd (omega arith)
 
 -- each type of a table has its underlying type
-all_plain : (n : ℕ) (ps : List (List ℕ × Numbered)) → AreKept n ps → All (λ e. IsPlain e.term) (all_entries ps)
-all_plain n [] kept = All-nil (λ e. IsPlain e.term)
-all_plain n (p ∷ ps) kept = All-append (λ e. IsPlain e.term) p.1.types.entries (all_entries ps) kept.0.well.plain (all_plain (n + length p.1.types.entries) ps kept.1)
+all_plain : (n : ℕ) (ps : List (List ℕ × Numbered)) → AreKept n ps → All (λ e. IsUnnamed e.term) (all_entries ps)
+all_plain n [] kept = All-nil (λ e. IsUnnamed e.term)
+all_plain n (p ∷ ps) kept = All-append (λ e. IsUnnamed e.term) p.1.types.entries (all_entries ps) kept.0.well.plain (all_plain (n + length p.1.types.entries) ps kept.1)
 
-pub table_plain : (len : ℕ) (ps : List (List ℕ × Numbered)) (nothing : Term) → IsTable len ps nothing → All (λ e. IsPlain e.term) (all_entries ps)
+pub table_plain : (len : ℕ) (ps : List (List ℕ × Numbered)) (nothing : Term) → IsTable len ps nothing → All (λ e. IsUnnamed e.term) (all_entries ps)
 table_plain len ps nothing well = all_plain 0 ps well.kept

@@ -7,17 +7,17 @@ use Rattle.go_decl_core.specs.declared.keys.DeclKey.{DeclKey}
 use Rattle.go_term_core.specs.declared.term.Basic.TheVariants as basics
 use Rattle.go_term_core.specs.Terms.{Term, NoType, Predeclared, ErrorType, Defined, PointerTo, StructOf, InterfaceOf, term_keys}
 use Rattle.go_term_core.specs.Identity.{Identical}
-use Rattle.go_table_core.specs.Entries.{Entry, Look, term_in, underlying_in, methods_in, declared_methods, members_keys}
-use Rattle.go_table_core.specs.Assign.{Assigned, AValue, ANil, AnInteger, AText, ABoolean, IsNamed, IsInterface, IsPointer, IsValueAssignable, identical, alike, implements_it, IsFitting, IsAssignable}
+use Rattle.go_table_core.specs.Entries.{Entry, EntryLook, term_in, underlying_in, methods_in, declared_methods, members_keys}
+use Rattle.go_table_core.specs.Assign.{Assigned, AValue, ANil, AnInteger, AText, ABoolean, IsNamed, IsInterface, IsPointer, IsValueAssignable, identical, alike, implements_it, IsFitting, IsTermAssignable}
 use Rattle.go_table_core.specs.Laws.{IsReached, AgreeFrom, UnderlyingIsLocal, AssignedAgrees, AssignableIsLocal}
 
 pub alone : (k : DeclKey) → Contains (k ∷ []) k
 alone k = (0, omega arith, refl)
 
-pub reached_itself : (look : Look) (k : DeclKey) → IsReached look (Defined k) k
+pub reached_itself : (look : EntryLook) (k : DeclKey) → IsReached look (Defined k) k
 reached_itself look k = ([], alone k)
 
-same_underlying : (look other : Look) (t : Term) → AgreeFrom look other t → underlying_in look t ≡ underlying_in other t
+same_underlying : (look other : EntryLook) (t : Term) → AgreeFrom look other t → underlying_in look t ≡ underlying_in other t
 same_underlying look other NoType agree = refl
 same_underlying look other (Predeclared b) agree = refl
 same_underlying look other ErrorType agree = refl
@@ -26,7 +26,7 @@ same_underlying look other (PointerTo t) agree = refl
 same_underlying look other (StructOf path fs) agree = refl
 same_underlying look other (InterfaceOf path ms) agree = refl
 
-same_methods : (look other : Look) (t : Term) → AgreeFrom look other t → declared_methods look t ≡ declared_methods other t
+same_methods : (look other : EntryLook) (t : Term) → AgreeFrom look other t → declared_methods look t ≡ declared_methods other t
 same_methods look other NoType agree = refl
 same_methods look other (Predeclared b) agree = refl
 same_methods look other ErrorType agree = refl
@@ -36,7 +36,7 @@ same_methods look other (StructOf path fs) agree = refl
 same_methods look other (InterfaceOf path ms) agree = refl
 
 -- what an underlying type mentions is reached
-mentioned : (look : Look) (t : Term) (k : DeclKey) → Contains (term_keys (underlying_in look t)) k → IsReached look t k
+mentioned : (look : EntryLook) (t : Term) (k : DeclKey) → Contains (term_keys (underlying_in look t)) k → IsReached look t k
 mentioned look NoType k h = ([], h)
 mentioned look (Predeclared b) k h = ([], h)
 mentioned look ErrorType k h = ([], h)
@@ -54,31 +54,31 @@ underlying_local = record { same = same_underlying; methods = same_methods; insi
 
 -- what is assignable depends on underlying types alone
 
-value_moves : (look other : Look) (v t : Term) (implements : Type 0) → underlying_in look v ≡ underlying_in other v → underlying_in look t ≡ underlying_in other t → IsValueAssignable look v t implements → IsValueAssignable other v t implements
+value_moves : (look other : EntryLook) (v t : Term) (implements : Type 0) → underlying_in look v ≡ underlying_in other v → underlying_in look t ≡ underlying_in other t → IsValueAssignable look v t implements → IsValueAssignable other v t implements
 value_moves look other v t implements vs ts (identical h) = identical h
 value_moves look other v t implements vs ts (alike h apart) =
     alike (subst (λ (u : Term). Identical (underlying_in other v) u) ts (subst (λ (u : Term). Identical u (underlying_in look t)) vs h)) apart
 value_moves look other v t implements vs ts (implements_it i h) = implements_it (subst (λ (u : Term). IsInterface u) ts i) h
 
 -- the operand's underlying type is the same
-abbrev SameOperand : Look → Look → Assigned → Type 0
+abbrev SameOperand : EntryLook → EntryLook → Assigned → Type 0
 SameOperand look other (AValue v) = underlying_in look v ≡ underlying_in other v
 SameOperand look other ANil = Unit {0}
 SameOperand look other AnInteger = Unit {0}
 SameOperand look other AText = Unit {0}
 SameOperand look other ABoolean = Unit {0}
 
-fits_moves : (look other : Look) (a : Assigned) (t : Term) (implements : Type 0) → SameOperand look other a → underlying_in look t ≡ underlying_in other t → IsFitting look a t implements → IsFitting other a t implements
+fits_moves : (look other : EntryLook) (a : Assigned) (t : Term) (implements : Type 0) → SameOperand look other a → underlying_in look t ≡ underlying_in other t → IsFitting look a t implements → IsFitting other a t implements
 fits_moves look other (AValue v) t implements vs ts h = (subst (λ (u : Term). u ≡ NoType → ⊥) vs h.0, value_moves look other v t implements vs ts h.1)
 fits_moves look other ANil t implements vs ts h = subst (λ (u : Term). IsPointer u ⊎ IsInterface u) ts h
 fits_moves look other AnInteger t implements vs ts h = subst (λ (u : Term). (u ≡ Predeclared basics.Int) ⊎ (IsInterface u × implements)) ts h
 fits_moves look other AText t implements vs ts h = subst (λ (u : Term). (u ≡ Predeclared basics.Text) ⊎ (IsInterface u × implements)) ts h
 fits_moves look other ABoolean t implements vs ts h = subst (λ (u : Term). (u ≡ Predeclared basics.Bool) ⊎ (IsInterface u × implements)) ts h
 
-moves : (look other : Look) (a : Assigned) (t : Term) (implements : Type 0) → SameOperand look other a → underlying_in look t ≡ underlying_in other t → IsAssignable look a t implements → IsAssignable other a t implements
+moves : (look other : EntryLook) (a : Assigned) (t : Term) (implements : Type 0) → SameOperand look other a → underlying_in look t ≡ underlying_in other t → IsTermAssignable look a t implements → IsTermAssignable other a t implements
 moves look other a t implements vs ts h = (subst (λ (u : Term). u ≡ NoType → ⊥) ts h.0, fits_moves look other a t implements vs ts h.1)
 
-operand_agrees : (look other : Look) (a : Assigned) → AssignedAgrees look other a → SameOperand look other a × SameOperand other look a
+operand_agrees : (look other : EntryLook) (a : Assigned) → AssignedAgrees look other a → SameOperand look other a × SameOperand other look a
 operand_agrees look other (AValue v) agree = (let e = same_underlying look other v agree in (e, sym e))
 operand_agrees look other ANil agree = (tt, tt)
 operand_agrees look other AnInteger agree = (tt, tt)
@@ -93,33 +93,33 @@ assignable_local look other a t implements operand target =
 
 -- what the code finds of a value of a type
 
-abbrev Fits : Look → Term → Term → Type 0 → Type 0
+abbrev Fits : EntryLook → Term → Term → Type 0 → Type 0
 Fits look v t implements = IsFitting look (AValue v) t implements
 
-pub value_of_nothing : (look : Look) (v t uv : Term) (implements : Type 0) → uv ≡ underlying_in look v → uv ≡ NoType → IsTrue false ↔ Fits look v t implements
+pub value_of_nothing : (look : EntryLook) (v t uv : Term) (implements : Type 0) → uv ≡ underlying_in look v → uv ≡ NoType → IsTrue false ↔ Fits look v t implements
 value_of_nothing look v t uv implements vs none = (λ h. absurd (true≢false (sym h)), λ h. absurd (h.0 (sym vs ∙ none)))
 
-pub value_identical : (look : Look) (v t uv : Term) (implements : Type 0) → uv ≡ underlying_in look v → (uv ≡ NoType → ⊥) → Identical v t → IsTrue true ↔ Fits look v t implements
+pub value_identical : (look : EntryLook) (v t uv : Term) (implements : Type 0) → uv ≡ underlying_in look v → (uv ≡ NoType → ⊥) → Identical v t → IsTrue true ↔ Fits look v t implements
 value_identical look v t uv implements vs some h = (λ x. (λ none. some (vs ∙ none), identical h), λ x. refl)
 
-pub value_implements : (look : Look) (v t uv ut : Term) (implements : Type 0) → uv ≡ underlying_in look v → (uv ≡ NoType → ⊥) → ut ≡ underlying_in look t → IsInterface ut × implements → IsTrue true ↔ Fits look v t implements
+pub value_implements : (look : EntryLook) (v t uv ut : Term) (implements : Type 0) → uv ≡ underlying_in look v → (uv ≡ NoType → ⊥) → ut ≡ underlying_in look t → IsInterface ut × implements → IsTrue true ↔ Fits look v t implements
 value_implements look v t uv ut implements vs some ts h = (λ x. (λ none. some (vs ∙ none), implements_it (subst (λ (u : Term). IsInterface u) ts h.0) h.1), λ x. refl)
 
-value_refused : (look : Look) (v t ut : Term) (implements : Type 0) → ut ≡ underlying_in look t → (Identical v t → ⊥) → (IsInterface ut × implements → ⊥) → IsNamed v × IsNamed t → IsValueAssignable look v t implements → ⊥
+value_refused : (look : EntryLook) (v t ut : Term) (implements : Type 0) → ut ≡ underlying_in look t → (Identical v t → ⊥) → (IsInterface ut × implements → ⊥) → IsNamed v × IsNamed t → IsValueAssignable look v t implements → ⊥
 value_refused look v t ut implements ts other foreign named (identical h) = other h
 value_refused look v t ut implements ts other foreign named (alike h apart) = apart named
 value_refused look v t ut implements ts other foreign named (implements_it i h) = foreign (subst (λ (u : Term). IsInterface u) (sym ts) i, h)
 
-pub value_named : (look : Look) (v t ut : Term) (implements : Type 0) → ut ≡ underlying_in look t → (Identical v t → ⊥) → (IsInterface ut × implements → ⊥) → IsNamed v × IsNamed t → IsTrue false ↔ Fits look v t implements
+pub value_named : (look : EntryLook) (v t ut : Term) (implements : Type 0) → ut ≡ underlying_in look t → (Identical v t → ⊥) → (IsInterface ut × implements → ⊥) → IsNamed v × IsNamed t → IsTrue false ↔ Fits look v t implements
 value_named look v t ut implements ts other foreign named = (λ h. absurd (true≢false (sym h)), λ h. absurd (value_refused look v t ut implements ts other foreign named h.1))
 
-value_left : (look : Look) (v t uv ut : Term) (implements : Type 0) → uv ≡ underlying_in look v → ut ≡ underlying_in look t → (Identical v t → ⊥) → (IsInterface ut × implements → ⊥) → IsValueAssignable look v t implements → Identical uv ut
+value_left : (look : EntryLook) (v t uv ut : Term) (implements : Type 0) → uv ≡ underlying_in look v → ut ≡ underlying_in look t → (Identical v t → ⊥) → (IsInterface ut × implements → ⊥) → IsValueAssignable look v t implements → Identical uv ut
 value_left look v t uv ut implements vs ts other foreign (identical h) = absurd (other h)
 value_left look v t uv ut implements vs ts other foreign (alike h apart) =
     subst (λ (u : Term). Identical uv u) (sym ts) (subst (λ (u : Term). Identical u (underlying_in look t)) (sym vs) h)
 value_left look v t uv ut implements vs ts other foreign (implements_it i h) = absurd (foreign (subst (λ (u : Term). IsInterface u) (sym ts) i, h))
 
-pub value_alike : (look : Look) (v t uv ut : Term) (implements : Type 0) (r : Bool) → uv ≡ underlying_in look v → (uv ≡ NoType → ⊥) → ut ≡ underlying_in look t → (Identical v t → ⊥) → (IsInterface ut × implements → ⊥) → (IsNamed v × IsNamed t → ⊥) → (IsTrue r ↔ Identical uv ut)
+pub value_alike : (look : EntryLook) (v t uv ut : Term) (implements : Type 0) (r : Bool) → uv ≡ underlying_in look v → (uv ≡ NoType → ⊥) → ut ≡ underlying_in look t → (Identical v t → ⊥) → (IsInterface ut × implements → ⊥) → (IsNamed v × IsNamed t → ⊥) → (IsTrue r ↔ Identical uv ut)
     → IsTrue r ↔ Fits look v t implements
 value_alike look v t uv ut implements r vs some ts other foreign unnamed same = (
   λ x. (λ none. some (vs ∙ none), alike (subst (λ (u : Term). Identical (underlying_in look v) u) ts (subst (λ (u : Term). Identical u ut) vs (same.0 x))) unnamed),
@@ -128,8 +128,8 @@ value_alike look v t uv ut implements r vs some ts other foreign unnamed same = 
 
 -- what it finds of an operand
 
-pub no_target : (look : Look) (a : Assigned) (t ut : Term) (implements : Type 0) → ut ≡ underlying_in look t → ut ≡ NoType → IsTrue false ↔ IsAssignable look a t implements
+pub no_target : (look : EntryLook) (a : Assigned) (t ut : Term) (implements : Type 0) → ut ≡ underlying_in look t → ut ≡ NoType → IsTrue false ↔ IsTermAssignable look a t implements
 no_target look a t ut implements ts none = (λ h. absurd (true≢false (sym h)), λ h. absurd (h.0 (sym ts ∙ none)))
 
-pub target_fits : (look : Look) (a : Assigned) (t ut : Term) (implements : Type 0) (r : Bool) → ut ≡ underlying_in look t → (ut ≡ NoType → ⊥) → (IsTrue r ↔ IsFitting look a t implements) → IsTrue r ↔ IsAssignable look a t implements
+pub target_fits : (look : EntryLook) (a : Assigned) (t ut : Term) (implements : Type 0) (r : Bool) → ut ≡ underlying_in look t → (ut ≡ NoType → ⊥) → (IsTrue r ↔ IsFitting look a t implements) → IsTrue r ↔ IsTermAssignable look a t implements
 target_fits look a t ut implements r ts some d = (λ x. (λ none. some (ts ∙ none), d.0 x), λ h. d.1 h.1)

@@ -4,7 +4,7 @@ use Rattle.std.specs.Prelude.{Contains}
 use Rattle.std.proofs.lemmas.List.Elements.{Contains-append_left, Contains-append_right, Contains-push_cases}
 use Rattle.go_decl_core.specs.declared.keys.DeclKey.{DeclKey}
 use Rattle.go_term_core.specs.Terms.{Term, NoType, Predeclared, ErrorType, Defined, PointerTo, StructOf, InterfaceOf, term_keys}
-use Rattle.go_table_core.specs.Entries.{Entry, Look, term_in, underlying_in, methods_in, declared_methods, members_keys, entry_keys}
+use Rattle.go_table_core.specs.Entries.{Entry, EntryLook, term_in, underlying_in, methods_in, declared_methods, members_keys, entry_keys}
 use Rattle.go_table_core.specs.Laws.{LeadsTo, IsReached, AgreeFrom, ReachIsClosed}
 use Rattle.go_table_core.proofs.Meanings.{alone, reached_itself}
 
@@ -15,11 +15,11 @@ one_of : (j k : DeclKey) → Contains (j ∷ []) k → k ≡ j
 one_of j k at = elim (Contains-push_cases [] j k at) [ inl none ↦ absurd (none_in k none) | inr same ↦ sym same ]
 
 -- a way that goes on from a type which it reaches
-leads_on : (look : Look) (mentioned : List DeclKey) (js : List DeclKey) (j : DeclKey) (e : Entry) (ks : List DeclKey) (k : DeclKey) → LeadsTo look mentioned js j → look j ≡ Some e → LeadsTo look (entry_keys e) ks k → LeadsTo look mentioned (js ++ j ∷ ks) k
+leads_on : (look : EntryLook) (mentioned : List DeclKey) (js : List DeclKey) (j : DeclKey) (e : Entry) (ks : List DeclKey) (k : DeclKey) → LeadsTo look mentioned js j → look j ≡ Some e → LeadsTo look (entry_keys e) ks k → LeadsTo look mentioned (js ++ j ∷ ks) k
 leads_on look mentioned [] j e ks k h is rest = (h, (e, is, rest))
 leads_on look mentioned (i ∷ is) j e ks k h at rest = (h.0, (h.1.0, h.1.1, leads_on look (entry_keys h.1.0) is j e ks k h.1.2 at rest))
 
-reached_onward : (look : Look) (t : Term) (j k : DeclKey) → IsReached look t j → IsReached look (Defined j) k → IsReached look t k
+reached_onward : (look : EntryLook) (t : Term) (j k : DeclKey) → IsReached look t j → IsReached look (Defined j) k → IsReached look t k
 reached_onward look t j k h (ks, way) = by ks way
   where
     by : (ks : List DeclKey) → LeadsTo look (j ∷ []) ks k → IsReached look t k
@@ -29,15 +29,15 @@ reached_onward look t j k h (ks, way) = by ks way
         (h.0 ++ j ∷ ms, leads_on look (term_keys t) h.0 j way.1.0 ms k h.1 is way.1.2)
 
 -- a way from more types
-leads_from : (look : Look) (some all : List DeclKey) (js : List DeclKey) (k : DeclKey) → ((i : DeclKey) → Contains some i → Contains all i) → LeadsTo look some js k → LeadsTo look all js k
+leads_from : (look : EntryLook) (some all : List DeclKey) (js : List DeclKey) (k : DeclKey) → ((i : DeclKey) → Contains some i → Contains all i) → LeadsTo look some js k → LeadsTo look all js k
 leads_from look some all [] k more h = more k h
 leads_from look some all (j ∷ js) k more h = (more j h.0, h.1)
 
-leads_none : (look : Look) (js : List DeclKey) (k : DeclKey) → LeadsTo look [] js k → ⊥
+leads_none : (look : EntryLook) (js : List DeclKey) (k : DeclKey) → LeadsTo look [] js k → ⊥
 leads_none look [] k h = none_in k h
 leads_none look (j ∷ js) k h = none_in j h.0
 
-reached_under : (look : Look) (t : Term) (k : DeclKey) → IsReached look (underlying_in look t) k → IsReached look t k
+reached_under : (look : EntryLook) (t : Term) (k : DeclKey) → IsReached look (underlying_in look t) k → IsReached look t k
 reached_under look NoType k h = h
 reached_under look (Predeclared b) k h = h
 reached_under look ErrorType k h = h
@@ -50,7 +50,7 @@ reached_under look (PointerTo t) k h = h
 reached_under look (StructOf path fs) k h = h
 reached_under look (InterfaceOf path ms) k h = h
 
-reached_methods : (look : Look) (t : Term) (k : DeclKey) → Contains (members_keys (declared_methods look t)) k → IsReached look t k
+reached_methods : (look : EntryLook) (t : Term) (k : DeclKey) → Contains (members_keys (declared_methods look t)) k → IsReached look t k
 reached_methods look NoType k h = absurd (none_in k h)
 reached_methods look (Predeclared b) k h = absurd (none_in k h)
 reached_methods look ErrorType k h = absurd (none_in k h)
@@ -66,29 +66,29 @@ reached_methods look (InterfaceOf path ms) k h = absurd (none_in k h)
 -- tables that agree
 
 -- two tables have the same of all to which ways lead from some types
-abbrev AgreeAlong : Look → Look → List DeclKey → Type 0
+abbrev AgreeAlong : EntryLook → EntryLook → List DeclKey → Type 0
 AgreeAlong look other mentioned = (k : DeclKey) → (through : List DeclKey) × LeadsTo look mentioned through k → look k ≡ other k
 
-agree_rest : (look other : Look) (mentioned : List DeclKey) (j : DeclKey) (e : Entry) → AgreeAlong look other mentioned → Contains mentioned j → look j ≡ Some e → AgreeAlong look other (entry_keys e)
+agree_rest : (look other : EntryLook) (mentioned : List DeclKey) (j : DeclKey) (e : Entry) → AgreeAlong look other mentioned → Contains mentioned j → look j ≡ Some e → AgreeAlong look other (entry_keys e)
 agree_rest look other mentioned j e agree at is k h = agree k (j ∷ h.0, (at, (e, is, h.1)))
 
-leads_there : (look other : Look) (mentioned : List DeclKey) (js : List DeclKey) (k : DeclKey) → AgreeAlong look other mentioned → LeadsTo look mentioned js k → LeadsTo other mentioned js k
+leads_there : (look other : EntryLook) (mentioned : List DeclKey) (js : List DeclKey) (k : DeclKey) → AgreeAlong look other mentioned → LeadsTo look mentioned js k → LeadsTo other mentioned js k
 leads_there look other mentioned [] k agree h = h
 leads_there look other mentioned (j ∷ js) k agree h =
     let e = h.1.0 in
     (h.0, (e, sym (agree j ([], h.0)) ∙ h.1.1, leads_there look other (entry_keys e) js k (agree_rest look other mentioned j e agree h.0 h.1.1) h.1.2))
 
-leads_here : (look other : Look) (mentioned : List DeclKey) (js : List DeclKey) (k : DeclKey) → AgreeAlong look other mentioned → LeadsTo other mentioned js k → LeadsTo look mentioned js k
+leads_here : (look other : EntryLook) (mentioned : List DeclKey) (js : List DeclKey) (k : DeclKey) → AgreeAlong look other mentioned → LeadsTo other mentioned js k → LeadsTo look mentioned js k
 leads_here look other mentioned [] k agree h = h
 leads_here look other mentioned (j ∷ js) k agree h =
     let e = h.1.0 in
     let is : look j ≡ Some e = agree j ([], h.0) ∙ h.1.1 in
     (h.0, (e, is, leads_here look other (entry_keys e) js k (agree_rest look other mentioned j e agree h.0 is) h.1.2))
 
-reached_here : (look other : Look) (t : Term) (k : DeclKey) → AgreeFrom look other t → IsReached other t k → IsReached look t k
+reached_here : (look other : EntryLook) (t : Term) (k : DeclKey) → AgreeFrom look other t → IsReached other t k → IsReached look t k
 reached_here look other t k agree h = (h.0, leads_here look other (term_keys t) h.0 k agree h.1)
 
-reached_same : (look other : Look) (t : Term) (k : DeclKey) → AgreeFrom look other t → IsReached look t k ↔ IsReached other t k
+reached_same : (look other : EntryLook) (t : Term) (k : DeclKey) → AgreeFrom look other t → IsReached look t k ↔ IsReached other t k
 reached_same look other t k agree = ((λ h. (h.0, leads_there look other (term_keys t) h.0 k agree h.1)), reached_here look other t k agree)
 
 pub reach_closed : ReachIsClosed

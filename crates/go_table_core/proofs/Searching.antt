@@ -16,8 +16,8 @@ use denote.Enum.Bare.{sameb, same_true, true_same}
 use Rattle.go_decl_core.specs.contracts.places.DeclKind as decl_kind
 use Rattle.go_decl_core.specs.declared.keys.DeclKey.{DeclKey}
 use Rattle.go_decl_core.specs.declared.keys.DeclRef.{DeclRef}
-use Rattle.go_table_core.specs.Entries.{Entry, same_decl, same_key, find}
-use Rattle.go_table_core.specs.Tables.{AreOf, Rise, ArePackageTypes, IsPlaceOf}
+use Rattle.go_table_core.specs.Entries.{Entry, same_decl, same_key, find_entry}
+use Rattle.go_table_core.specs.Tables.{AreOf, KeysRise, ArePackageTypes, IsPlaceOf}
 use Rattle.go_table_core.specs.mirrors.Holding.{decl_cmp}
 use Rattle.go_table_core.proofs.Finding.{same_bytes, bytes_same}
 
@@ -42,7 +42,7 @@ before_is_less a b h = by (nat_lt a.file b.file) (nat_eq a.file b.file) refl ref
 not_less_back : (a b : DeclRef) → decl_cmp a b ≡ Less → is_lt (decl_cmp b a) ≡ false
 not_less_back a b h = ap is_lt (decl_total.antisymm b a ∙ ap ordering_reverse h)
 
-rise_sorted : (es : List Entry) → Rise es → (k : ℕ) (d : Entry) → 0 ≤ k → k + 1 < length es → is_lt (decl_cmp (get_or es (k + 1) d).key.decl (get_or es k d).key.decl) ≡ false
+rise_sorted : (es : List Entry) → KeysRise es → (k : ℕ) (d : Entry) → 0 ≤ k → k + 1 < length es → is_lt (decl_cmp (get_or es (k + 1) d).key.decl (get_or es k d).key.decl) ≡ false
 rise_sorted [] rise k d low lt = absurd (omega arith)
 rise_sorted (e ∷ []) rise k d low lt = absurd (omega arith)
 rise_sorted (e ∷ f ∷ es) rise zero d low lt = not_less_back e.key.decl f.key.decl (before_is_less e.key.decl f.key.decl rise.0)
@@ -67,11 +67,11 @@ same_compares a b same = subst (λ (d : DeclRef). decl_cmp a d ≡ Equal) same (
 
 -- the order along a list whose keys rise
 
-rise_tail : (e : Entry) (es : List Entry) → Rise (e ∷ es) → Rise es
+rise_tail : (e : Entry) (es : List Entry) → KeysRise (e ∷ es) → KeysRise es
 rise_tail e [] rise = tt
 rise_tail e (f ∷ es) rise = rise.1
 
-head_before : (e : Entry) (es : List Entry) → Rise (e ∷ es) → (j : ℕ) (f : Entry) → slice_get es j ≡ Some f → decl_cmp e.key.decl f.key.decl ≡ Less
+head_before : (e : Entry) (es : List Entry) → KeysRise (e ∷ es) → (j : ℕ) (f : Entry) → slice_get es j ≡ Some f → decl_cmp e.key.decl f.key.decl ≡ Less
 head_before e [] rise j f h = absurd (let no : None ≡ Some f = h in cc)
 head_before e (g ∷ es) rise zero f h =
     let same : g ≡ f = cc in
@@ -79,7 +79,7 @@ head_before e (g ∷ es) rise zero f h =
 head_before e (g ∷ es) rise (suc j) f h =
     decl_total.trans e.key.decl g.key.decl f.key.decl (before_is_less e.key.decl g.key.decl rise.0) (head_before g es rise.1 j f h)
 
-far_before : (es : List Entry) → Rise es → (i j : ℕ) (e f : Entry) → slice_get es i ≡ Some e → slice_get es j ≡ Some f → i < j → decl_cmp e.key.decl f.key.decl ≡ Less
+far_before : (es : List Entry) → KeysRise es → (i j : ℕ) (e f : Entry) → slice_get es i ≡ Some e → slice_get es j ≡ Some f → i < j → decl_cmp e.key.decl f.key.decl ≡ Less
 far_before [] rise i j e f h k lt = absurd (let no : None ≡ Some e = h in cc)
 far_before (x ∷ es) rise zero zero e f h k lt = absurd (omega arith)
 far_before (x ∷ es) rise zero (suc j) e f h k lt =
@@ -127,25 +127,25 @@ same_key-true a k same = subst (λ (x : DeclKey). same_key a x ≡ true) same (a
 
 -- the first of a key
 
-find_at : (es : List Entry) (k : DeclKey) (i : ℕ) (e : Entry) → Rise es → slice_get es i ≡ Some e → e.key ≡ k → find es k ≡ Some e
+find_at : (es : List Entry) (k : DeclKey) (i : ℕ) (e : Entry) → KeysRise es → slice_get es i ≡ Some e → e.key ≡ k → find_entry es k ≡ Some e
 find_at [] k i e rise h key = absurd (let no : None ≡ Some e = h in cc)
 find_at (x ∷ es) k zero e rise h key =
     let same : x ≡ e = cc in
-    ap (λ b. if b then Some x else find es k) (same_key-true x.key k (ap (λ y. y.key) same ∙ key)) ∙ h
+    ap (λ b. if b then Some x else find_entry es k) (same_key-true x.key k (ap (λ y. y.key) same ∙ key)) ∙ h
 find_at (x ∷ es) k (suc i) e rise h key = by (same_key x.key k) refl (find_at es k i e (rise_tail x es rise) h key)
   where
-    by : (b : Bool) → same_key x.key k ≡ b → find es k ≡ Some e → (if b then Some x else find es k) ≡ Some e
+    by : (b : Bool) → same_key x.key k ≡ b → find_entry es k ≡ Some e → (if b then Some x else find_entry es k) ≡ Some e
     by true same rest =
         let decls : x.key.decl ≡ e.key.decl = ap (λ y. y.decl) (same_key-is x.key k same ∙ sym key) in
         let less : decl_cmp x.key.decl e.key.decl ≡ Less = head_before x es rise i e h in
         absurd (let no : Equal ≡ Less = sym (same_compares x.key.decl e.key.decl decls) ∙ less in cc)
     by false same rest = rest
 
-find_none : (es : List Entry) (k : DeclKey) → ((i : ℕ) (e : Entry) → slice_get es i ≡ Some e → e.key ≡ k → ⊥) → find es k ≡ None
+find_none : (es : List Entry) (k : DeclKey) → ((i : ℕ) (e : Entry) → slice_get es i ≡ Some e → e.key ≡ k → ⊥) → find_entry es k ≡ None
 find_none [] k none = refl
 find_none (x ∷ es) k none = by (same_key x.key k) refl (find_none es k (λ i e h key. none (suc i) e h key))
   where
-    by : (b : Bool) → same_key x.key k ≡ b → find es k ≡ None → (if b then Some x else find es k) ≡ None
+    by : (b : Bool) → same_key x.key k ≡ b → find_entry es k ≡ None → (if b then Some x else find_entry es k) ≡ None
     by true same rest = absurd (none 0 x refl (same_key-is x.key k same))
     by false same rest = rest
 
@@ -154,7 +154,7 @@ find_none (x ∷ es) k none = by (same_key x.key k) refl (find_none es k (λ i e
 there : (es : List Entry) (i : ℕ) (e : Entry) → slice_get es i ≡ Some e → (i < length es) × ((d : Entry) → get_or es i d ≡ e)
 there es i e h = (slice_get_within es i e h, λ d. get_or_from_slice_get es i e d h)
 
-pub answer_none : (es : List Entry) (k : DeclKey) (n : ℕ) → ArePackageTypes k.path es → IsBinarySearchResult (λ e. decl_cmp e.key.decl k.decl) es (Err n) → find es k ≡ None
+pub answer_none : (es : List Entry) (k : DeclKey) (n : ℕ) → ArePackageTypes k.path es → IsBinarySearchResult (λ e. decl_cmp e.key.decl k.decl) es (Err n) → find_entry es k ≡ None
 answer_none es k n well parted = find_none es k (λ i e h key.
     let split = parted (searchable_from_sorted decl_total (λ e. e.key.decl) es k.decl (rise_sorted es well.rising)) in
     let at = there es i e h in
@@ -170,7 +170,7 @@ own_path [] n e path own h = absurd (let no : None ≡ Some e = h in cc)
 own_path (x ∷ es) zero e path own h = (let same : x ≡ e = cc in ap (λ y. y.key.path) (sym same) ∙ own.0)
 own_path (x ∷ es) (suc n) e path own h = own_path es n e path own.1 h
 
-pub answer_some : (es : List Entry) (k : DeclKey) (n : ℕ) (e : Entry) → ArePackageTypes k.path es → n < length es → e ≡ get_or es n e → e.key.decl ≡ k.decl → (Some e ≡ find es k) × IsPlaceOf es k n
+pub answer_some : (es : List Entry) (k : DeclKey) (n : ℕ) (e : Entry) → ArePackageTypes k.path es → n < length es → e ≡ get_or es n e → e.key.decl ≡ k.decl → (Some e ≡ find_entry es k) × IsPlaceOf es k n
 answer_some es k n e well lt is decl =
     let at : slice_get es n ≡ Some e = slice_get_read es (length es) n e refl lt is in
     let path : e.key.path ≡ k.path = own_path es n e k.path well.own at in
@@ -179,7 +179,7 @@ answer_some es k n e well lt is decl =
     (sym found, (e, at, found, key))
 
 -- it is another of the same place
-pub answer_other : (es : List Entry) (k : DeclKey) (n : ℕ) (e : Entry) → ArePackageTypes k.path es → n < length es → e ≡ get_or es n e → decl_cmp (get_or es n e).key.decl k.decl ≡ Equal → (e.key.decl ≡ k.decl → ⊥) → find es k ≡ None
+pub answer_other : (es : List Entry) (k : DeclKey) (n : ℕ) (e : Entry) → ArePackageTypes k.path es → n < length es → e ≡ get_or es n e → decl_cmp (get_or es n e).key.decl k.decl ≡ Equal → (e.key.decl ≡ k.decl → ⊥) → find_entry es k ≡ None
 answer_other es k n e well lt is equal other =
     let at : slice_get es n ≡ Some e = slice_get_read es (length es) n e refl lt is in
     let tied : decl_cmp e.key.decl k.decl ≡ Equal = ap (λ y. decl_cmp y.key.decl k.decl) is ∙ equal in

@@ -3,7 +3,7 @@ use Rattle.std.specs.Prelude.{◌≡◌, ◌⊎◌, ⊤}
 use Rattle.go_term_core.specs.declared.term.Basic.TheVariants as basics
 use Rattle.go_term_core.specs.Terms.{Term, NoType, Predeclared, ErrorType, Defined, PointerTo, InterfaceOf}
 use Rattle.go_term_core.specs.Identity.{Identical}
-use Rattle.go_table_core.specs.Entries.{Look, underlying_in}
+use Rattle.go_table_core.specs.Entries.{EntryLook, underlying_in}
 
 -- what is assigned: a value of a type, nil, or an untyped constant or boolean value
 pub data Assigned : Type 0 where
@@ -30,21 +30,21 @@ IsPointer (PointerTo t) = ⊤
 IsPointer _ = ⊥
 
 -- it is a type, and what it is defined by is one
-abbrev pub IsType : Look → Term → Type 0
+abbrev pub IsType : EntryLook → Term → Type 0
 IsType look t = (underlying_in look t ≡ NoType) → ⊥
 
 -- a value of type v is assignable to t
-pub data IsValueAssignable (look : Look) (v t : Term) (implements : Type 0) : Type 0 where
+pub data IsValueAssignable (look : EntryLook) (v t : Term) (implements : Type 0) : Type 0 where
   identical : Identical v t → IsValueAssignable look v t implements
   alike : Identical (underlying_in look v) (underlying_in look t) → ((IsNamed v × IsNamed t) → ⊥) → IsValueAssignable look v t implements
   implements_it : IsInterface (underlying_in look t) → implements → IsValueAssignable look v t implements
 
-abbrev pub IsFitting : Look → Assigned → Term → Type 0 → Type 0
+abbrev pub IsFitting : EntryLook → Assigned → Term → Type 0 → Type 0
 IsFitting look (AValue v) t implements = IsType look v × IsValueAssignable look v t implements
 IsFitting look ANil t implements = IsPointer (underlying_in look t) ⊎ IsInterface (underlying_in look t)
 IsFitting look AnInteger t implements = (underlying_in look t ≡ Predeclared basics.Int) ⊎ (IsInterface (underlying_in look t) × implements)
 IsFitting look AText t implements = (underlying_in look t ≡ Predeclared basics.Text) ⊎ (IsInterface (underlying_in look t) × implements)
 IsFitting look ABoolean t implements = (underlying_in look t ≡ Predeclared basics.Bool) ⊎ (IsInterface (underlying_in look t) × implements)
 
-abbrev pub IsAssignable : Look → Assigned → Term → Type 0 → Type 0
-IsAssignable look a t implements = IsType look t × IsFitting look a t implements
+abbrev pub IsTermAssignable : EntryLook → Assigned → Term → Type 0 → Type 0
+IsTermAssignable look a t implements = IsType look t × IsFitting look a t implements

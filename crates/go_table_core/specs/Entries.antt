@@ -7,6 +7,8 @@ use Rattle.go_decl_core.specs.contracts.places.DeclKind as decl_kind
 use Rattle.go_decl_core.specs.declared.keys.DeclKey.{DeclKey}
 use Rattle.go_decl_core.specs.declared.keys.DeclRef.{DeclRef}
 use Rattle.go_term_core.specs.declared.term.MemberPlace.{MemberPlace}
+use Rattle.go_settle_core.specs.declared.kind.Kind.{Kind}
+use Rattle.go_settle_core.specs.Settled.{kind_of_term}
 use Rattle.go_term_core.specs.Terms.{Term, NoType, Predeclared, ErrorType, Defined, PointerTo, StructOf, InterfaceOf, Sign, term_keys, sign_keys}
 
 -- a method that is declared: its name, its place, whether its receiver is a pointer, its signature
@@ -25,8 +27,8 @@ pub record Entry : Type 0 where
   pub methods : List Member
 
 -- what is known of defined types
-abbrev pub Look : Type 0
-Look = DeclKey → Option Entry
+abbrev pub EntryLook : Type 0
+EntryLook = DeclKey → Option Entry
 
 abbrev pub same_decl : DeclRef → DeclRef → Bool
 same_decl a b = nat_eq a.file b.file && (nat_eq a.number b.number && sameb decl_kind.the_type a.kind b.kind)
@@ -35,16 +37,16 @@ abbrev pub same_key : DeclKey → DeclKey → Bool
 same_key a b = bytes_eq a.path b.path && same_decl a.decl b.decl
 
 -- the entry of a key in a list: the first
-abbrev pub find : List Entry → Look
-find [] k = None
-find (e ∷ es) k = if same_key e.key k then Some e else find es k
+abbrev pub find_entry : List Entry → EntryLook
+find_entry [] k = None
+find_entry (e ∷ es) k = if same_key e.key k then Some e else find_entry es k
 
 -- what a type of a table is, with names passed: its underlying type, or none
 abbrev pub term_in : Option Entry → Term
 term_in None = NoType
 term_in (Some e) = e.term
 
-abbrev pub underlying_in : Look → Term → Term
+abbrev pub underlying_in : EntryLook → Term → Term
 underlying_in look NoType = NoType
 underlying_in look (Predeclared b) = Predeclared b
 underlying_in look ErrorType = ErrorType
@@ -58,7 +60,7 @@ methods_in None = []
 methods_in (Some e) = e.methods
 
 -- the methods that are declared of a type
-abbrev pub declared_methods : Look → Term → List Member
+abbrev pub declared_methods : EntryLook → Term → List Member
 declared_methods look NoType = []
 declared_methods look (Predeclared b) = []
 declared_methods look ErrorType = []
@@ -76,9 +78,9 @@ abbrev pub entry_keys : Entry → List DeclKey
 entry_keys e = term_keys e.term ++ members_keys e.methods
 
 -- a type that is no name; and what is none
-abbrev pub IsPlain : Term → Type 0
-IsPlain (Defined k) = ⊥
-IsPlain _ = Unit {0}
+abbrev pub IsUnnamed : Term → Type 0
+IsUnnamed (Defined k) = ⊥
+IsUnnamed _ = Unit {0}
 
 -- the same identifier, of two that are written in packages
 abbrev pub same_id : List ℕ → List ℕ → List ℕ → List ℕ → Bool
@@ -88,3 +90,7 @@ same_id a a_path b b_path = bytes_eq a b && (exported (chars a) || bytes_eq a_pa
 abbrev pub has_method : List ℕ → List Member → List ℕ → List ℕ → Bool
 has_method path [] name from = false
 has_method path (m ∷ ms) name from = same_id m.name path name from || has_method path ms name from
+
+-- the kinds of the types of a table
+abbrev pub kinds_in : List Entry → DeclKey → Kind
+kinds_in es k = kind_of_term (term_in (find_entry es k))

@@ -39,12 +39,12 @@ abbrev pub HidesRightly : Bool → Entry → Type 0
 HidesRightly hides e = (hides ≡ false) → hides_some e.key.path e.methods e.term ≡ false
 
 -- what an operand is
-abbrev pub operand_shown : Operand → Assigned
-operand_shown (operands.Value t) = AValue (shape t.now)
-operand_shown operands.Nil = ANil
-operand_shown operands.Integer = AnInteger
-operand_shown operands.Text = AText
-operand_shown operands.Boolean = ABoolean
+abbrev pub assigned_shown : Operand → Assigned
+assigned_shown (operands.Value t) = AValue (shape t.now)
+assigned_shown operands.Nil = ANil
+assigned_shown operands.Integer = AnInteger
+assigned_shown operands.Text = AText
+assigned_shown operands.Boolean = ABoolean
 
 -- the line that a field may have
 abbrev pub line_shown : Option (Bor FieldLine) → Line

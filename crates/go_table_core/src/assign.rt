@@ -1,11 +1,11 @@
 //! What is assignable.
 ghost use Rattle.std.specs.Prelude.{◌≡◌, ◌⊎◌, IsTrue, ◌↔◌};
-ghost use Rattle.go_table_core.specs.Entries.{find};
+ghost use Rattle.go_table_core.specs.Entries.{find_entry};
 ghost use Rattle.go_term_core.specs.declared.term.Basic.TheVariants as basics;
 ghost use Rattle.go_term_core.specs.Shapes.{shape};
 ghost use Rattle.go_term_core.specs.Terms.{NoType, Predeclared};
-ghost use Rattle.go_table_core.specs.Assign.{AValue, IsNamed, IsInterface, IsPointer, IsFitting, IsAssignable};
-ghost use Rattle.go_table_core.specs.Shown.{operand_shown};
+ghost use Rattle.go_table_core.specs.Assign.{AValue, IsNamed, IsInterface, IsPointer, IsFitting, IsTermAssignable};
+ghost use Rattle.go_table_core.specs.Shown.{assigned_shown};
 
 use crate::table::TypeTable;
 use go_settle_core::{Kind, kind_of};
@@ -89,7 +89,7 @@ fn takes_untyped(term: &TypeTerm, basic: Basic, implements: bool) -> bool
 
 /// Whether a value of a type may be assigned to a variable of another type.
 fn takes_value(table: &TypeTable, value: &TypeTerm, target: &TypeTerm, implements: bool) -> bool
-    ensures { IsTrue result ↔ IsFitting (find table.now) (AValue (shape value.now)) (shape target.now) (IsTrue implements) }
+    ensures { IsTrue result ↔ IsFitting (find_entry table.now) (AValue (shape value.now)) (shape target.now) (IsTrue implements) }
 {
     let own = table.underlying(value);
     if is_nothing(own) {
@@ -118,7 +118,7 @@ pub fn assignable(
     target: &TypeTerm,
     implements: bool,
 ) -> bool
-    ensures { IsTrue result ↔ IsAssignable (find table.now) (operand_shown operand.entry) (shape target.now) (IsTrue implements) }
+    ensures { IsTrue result ↔ IsTermAssignable (find_entry table.now) (assigned_shown operand.entry) (shape target.now) (IsTrue implements) }
 {
     let underlying = table.underlying(target);
     if is_nothing(underlying) {

@@ -1,6 +1,6 @@
 //! The fields of a struct type by their names.
 ghost use Rattle.std.specs.Prelude.{◌≡◌, IfOk, OnOk, option_map, [], ◌<◌};
-ghost use Rattle.go_term_core.specs.Shapes.{shape, shape_found, fields_in, line_at, lines_of};
+ghost use Rattle.go_term_core.specs.Shapes.{shape, shape_found, fields_in, line_at, line_shapes};
 ghost use Rattle.go_table_core.specs.Shown.{line_shown, member_shown};
 ghost use Rattle.go_table_core.specs.Methods.{has_field_before, field_spelled, term_fields};
 ghost use Rattle.go_table_core.specs.mirrors.Spots.{spot_before, earlier_of, earliest_with, earliest_before, named_places, struct_path, HasPlaces, AddsField};
@@ -143,7 +143,7 @@ impl<'a> StructField<'a> {
     /// A field in one of these lines.
     pub fn of(field: &'a Field, lines: &'a [FieldLine]) -> StructField<'a>
         ensures field { result.field.now ≡ field.now }
-        ensures line { line_shown result.line ≡ line_at (lines_of lines.now) field.now.line }
+        ensures line { line_shown result.line ≡ line_at (line_shapes lines.now) field.now.line }
     {
         StructField {
             field,
@@ -174,7 +174,7 @@ impl<'a> StructField<'a> {
 
 /// The fields of a struct type in order, as they stand in the term; none of a type that is written otherwise, be it defined by a struct type.
 pub fn term_fields(term: &TypeTerm) -> StructFields<'_>
-    ensures { fields_in (lines_of result.lines.now) result.fields.now ≡ term_fields (shape term.now) }
+    ensures { fields_in (line_shapes result.lines.now) result.fields.now ≡ term_fields (shape term.now) }
 {
     match term {
         TypeTerm::Struct(_, fields, lines) => StructFields {
@@ -234,7 +234,7 @@ fn places_of<'a>(
     alloc: Global,
     all: StructFields<'a>,
 ) -> Result<IndexMap<&'a str, Earliest>, AllocError>
-    ensures { IfOk result (λ places. HasPlaces (named_places places) (fields_in (lines_of all.entry.lines.now) all.entry.fields.now)) }
+    ensures { IfOk result (λ places. HasPlaces (named_places places) (fields_in (line_shapes all.entry.lines.now) all.entry.fields.now)) }
 {
     let mut places = IndexMap::new(alloc);
     for field in all.fields {

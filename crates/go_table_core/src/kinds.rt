@@ -1,6 +1,6 @@
 //! The kinds of the types of a table.
 ghost use Rattle.std.specs.Prelude.{◌≡◌};
-ghost use Rattle.go_table_core.specs.Entries.{find, term_in};
+ghost use Rattle.go_table_core.specs.Entries.{find_entry, term_in};
 ghost use Rattle.go_settle_core.specs.Settled.{kind_of_term};
 
 use crate::table::TypeTable;
@@ -8,7 +8,7 @@ use go_decl_core::DeclKey;
 use go_settle_core::{Kind, Kinds, kind_of};
 
 impl Kinds for TypeTable {
-    ghost kinds = { λ table k. kind_of_term (term_in (find table k)) };
+    ghost kinds = { λ table k. kind_of_term (term_in (find_entry table k)) };
 
     /// The kind of a defined type of the table, by its underlying type; `Kind::Nothing` where the table has no such type.
     fn kind(&self, key: &DeclKey) -> Kind {

@@ -1,8 +1,8 @@
 //! Tables of defined types.
 ghost use Rattle.std.specs.Prelude.{◌≡◌, ◌↔◌, ◌++◌, [], length, IfOk, OnOk, OnErr, IfSome, option_map, false, All};
-ghost use Rattle.go_table_core.specs.Entries.{find, underlying_in, IsPlain};
+ghost use Rattle.go_table_core.specs.Entries.{find_entry, underlying_in, IsUnnamed};
 ghost use Rattle.go_term_core.specs.Shapes.{shape};
-ghost use Rattle.go_table_core.specs.Tables.{package_types, AreOf, Rise, ArePackageTypes, IsPlaceOf, AreOthers};
+ghost use Rattle.go_table_core.specs.Tables.{package_types, AreOf, KeysRise, ArePackageTypes, IsPlaceOf, AreOthers};
 ghost use Rattle.go_table_core.specs.mirrors.Holding.{decl_cmp};
 
 use crate::entry::DefinedType;
@@ -96,8 +96,8 @@ impl PackageTypes {
         entries: Vec<DefinedType>,
     ) -> Result<PackageTypes, AllocError>
         requires own { AreOf path entries.items }
-        requires rising { Rise entries.items }
-        requires plain { All (λ e. IsPlain e.term) entries.items }
+        requires rising { KeysRise entries.items }
+        requires plain { All (λ e. IsUnnamed e.term) entries.items }
         ensures { IfOk result (λ types. types ≡ package_types path entries.items) }
     {
         let content = Arc::new(alloc, TypesContent { path, entries })?;
@@ -145,7 +145,7 @@ fn place_order(one: DeclRef, other: DeclRef) -> Ordering
 /// The type of a key among the types of the key's package, with its place there.
 fn locate_in<'a>(types: &'a [DefinedType], key: &DeclKey) -> Option<Located<'a>>
     requires { ArePackageTypes key.now.path types.now }
-    ensures entry { option_map (λ l. l.defined.now) result ≡ find types.now key.now }
+    ensures entry { option_map (λ l. l.defined.now) result ≡ find_entry types.now key.now }
     ensures number { IfSome result (λ l. IsPlaceOf types.now key.now l.number) }
 {
     let found = types.binary_search_by(|defined| place_order(defined.key().decl, key.decl));
@@ -177,7 +177,7 @@ impl TypeTable {
     /// How many types the table has.
     pub fn len(&self) -> usize
         ensures value { result ≡ length self.now }
-        ensures plain { All (λ e. IsPlain e.term) self.now }
+        ensures plain { All (λ e. IsUnnamed e.term) self.now }
     {
         self.len
     }
@@ -224,7 +224,7 @@ impl TypeTable {
 
     /// The defined type of a declaration, with its place in the table's list, or none where the table has none.
     pub fn locate<'a>(&'a self, key: &DeclKey) -> Option<Located<'a>>
-        ensures entry { option_map (λ l. l.defined.now) result ≡ find self.now key.now }
+        ensures entry { option_map (λ l. l.defined.now) result ≡ find_entry self.now key.now }
         ensures number { IfSome result (λ l. IsPlaceOf self.now key.now l.number) }
     {
         if self.len == 0 {
@@ -241,7 +241,7 @@ impl TypeTable {
     /// The underlying type of a type: of a defined type what it comes to with all names passed, of any other the type itself. No type where
     /// there is none. It takes no memory. The Go specification, "Underlying types".
     pub fn underlying<'a>(&'a self, term: &'a TypeTerm) -> &'a TypeTerm
-        ensures { shape result.now ≡ underlying_in (find self.now) (shape term.now) }
+        ensures { shape result.now ≡ underlying_in (find_entry self.now) (shape term.now) }
     {
         match term {
             TypeTerm::Defined(key) => match self.locate(key) {

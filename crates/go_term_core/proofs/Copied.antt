@@ -5,7 +5,7 @@ use Rattle.std.specs.declared.result.Result.{Result}
 use Rattle.std.proofs.lemmas.List.{take_all, map_more, map-append}
 use Rattle.go_term_core.specs.declared.term.Method.{Method}
 use Rattle.go_term_core.specs.Terms.{Methods, NoMethod, AMethod}
-use Rattle.go_term_core.specs.Shapes.{sign_of, methods_of}
+use Rattle.go_term_core.specs.Shapes.{sign_of, method_shapes}
 
 -- a loop that adds an element with an equal part
 module _ {X T : Type 0} (part : X → T) where
@@ -40,5 +40,5 @@ abbrev methods_first : Methods → Methods → Methods
 methods_first NoMethod rest = rest
 methods_first (AMethod name place g _) rest = AMethod name place g rest
 
-pub same_methods : (ms ns : List Method) → map method_term ms ≡ map method_term ns → methods_of ms ≡ methods_of ns
-same_methods = same_whole methods_of methods_first (λ m ms. refl)
+pub same_methods : (ms ns : List Method) → map method_term ms ≡ map method_term ns → method_shapes ms ≡ method_shapes ns
+same_methods = same_whole method_shapes methods_first (λ m ms. refl)

@@ -11,7 +11,7 @@ use Rattle.go_term_core.specs.declared.term.TypeTerm.{TypeTerm}
 use Rattle.go_term_core.specs.declared.term.Method.{Method}
 use Rattle.go_term_core.specs.declared.same.Pair.{Pair}
 use Rattle.go_term_core.specs.Terms.{Term, NoType, Sign, term_list}
-use Rattle.go_term_core.specs.Shapes.{shape, shape_found, Line, line_with, line_at, term_at, fields_in, terms_in, sign_of, methods_of}
+use Rattle.go_term_core.specs.Shapes.{shape, shape_found, Line, line_with, line_at, term_at, fields_in, terms_in, sign_of, method_shapes}
 use Rattle.go_term_core.specs.Identity.{TagsAgree, IdenticalBy, SameFieldsBy, HasAllBy, SameSignBy, SameTermsBy, IsMethod, method_count}
 use Rattle.go_term_core.specs.mirrors.Alike.{HasAlike, IsMet, IsNoLine, SameLine}
 
@@ -36,30 +36,30 @@ as_many_terms tags ts us [] (m ∷ ms) h = absurd h
 as_many_terms tags ts us (n ∷ ns) [] h = absurd h
 as_many_terms tags ts us (n ∷ ns) (m ∷ ms) h = ap suc (as_many_terms tags ts us ns ms h.1)
 
-pub methods_counted : (ms : List Method) → method_count (methods_of ms) ≡ length ms
+pub methods_counted : (ms : List Method) → method_count (method_shapes ms) ≡ length ms
 methods_counted [] = refl
 methods_counted (m ∷ ms) = ap suc (methods_counted ms)
 
 -- a method among others
 
 module _ (name : List ℕ) (place : MemberPlace) (g : Sign) where
-  in_front : (xs ys : List Method) → IsMethod (methods_of xs) name place g → IsMethod (methods_of (xs ++ ys)) name place g
+  in_front : (xs ys : List Method) → IsMethod (method_shapes xs) name place g → IsMethod (method_shapes (xs ++ ys)) name place g
   in_front [] ys h = absurd h
   in_front (x ∷ xs) ys (inl h) = inl h
   in_front (x ∷ xs) ys (inr h) = inr (in_front xs ys h)
 
-  in_back : (xs ys : List Method) → IsMethod (methods_of ys) name place g → IsMethod (methods_of (xs ++ ys)) name place g
+  in_back : (xs ys : List Method) → IsMethod (method_shapes ys) name place g → IsMethod (method_shapes (xs ++ ys)) name place g
   in_back [] ys h = h
   in_back (x ∷ xs) ys h = inr (in_back xs ys h)
 
-  in_either : (xs ys : List Method) → IsMethod (methods_of (xs ++ ys)) name place g → IsMethod (methods_of xs) name place g ⊎ IsMethod (methods_of ys) name place g
+  in_either : (xs ys : List Method) → IsMethod (method_shapes (xs ++ ys)) name place g → IsMethod (method_shapes xs) name place g ⊎ IsMethod (method_shapes ys) name place g
   in_either [] ys h = inr h
   in_either (x ∷ xs) ys (inl h) = inl (inl h)
   in_either (x ∷ xs) ys (inr h) = elim (in_either xs ys h) [ inl k ↦ inl (inr k) | inr k ↦ inr k ]
 
 module _ (tags : Bool) (p name : List ℕ) (g : Sign) (q : List ℕ) where
   abbrev Has : List Method → Type 0
-  Has ns = HasAlike tags p name g q (methods_of ns)
+  Has ns = HasAlike tags p name g q (method_shapes ns)
 
   -- a loop that finds one
   pub alike_found : (ns : List Method) (i : ℕ) (n : Method) → i < length ns → n ≡ get_or ns i n → SameId name p n.name q → SameSignBy tags g (sign_of n.signature) → (Has (drop i ns) ↔ Has ns) → IsTrue true ↔ Has ns
@@ -219,16 +219,16 @@ module _ (tags : Bool) (p q : List ℕ) (items ms ns : List Method) (i : ℕ) (m
   at_m = subst (λ l. drop i l ≡ m ∷ drop (i + 1) l) are (first_is items i m lt is)
 
   abbrev All : List Method → Type 0
-  All l = HasAllBy tags p (methods_of l) q (methods_of ns)
+  All l = HasAllBy tags p (method_shapes l) q (method_shapes ns)
 
-  pub all_step : HasAlike tags p m.name (sign_of m.signature) q (methods_of ns) → (All (drop i ms) ↔ All ms) → All (drop (i + 1) ms) ↔ All ms
+  pub all_step : HasAlike tags p m.name (sign_of m.signature) q (method_shapes ns) → (All (drop i ms) ↔ All ms) → All (drop (i + 1) ms) ↔ All ms
   all_step has so_far = (λ r. so_far.0 (subst All (sym at_m) (has, r)), λ w. (subst All at_m (so_far.1 w)).1)
 
-  pub all_missing : {C : Type 0} → (HasAlike tags p m.name (sign_of m.signature) q (methods_of ns) → ⊥) → (All (drop i ms) ↔ All ms) → IsTrue false ↔ (C × All ms)
+  pub all_missing : {C : Type 0} → (HasAlike tags p m.name (sign_of m.signature) q (method_shapes ns) → ⊥) → (All (drop i ms) ↔ All ms) → IsTrue false ↔ (C × All ms)
   all_missing never so_far = fails (λ w. never (subst All at_m (so_far.1 w.1)).0)
 
-pub all_end : (tags : Bool) (p q : List ℕ) (items ms ns : List Method) (i : ℕ) → items ≡ ms → length items ≤ i → (HasAllBy tags p (methods_of (drop i ms)) q (methods_of ns) ↔ HasAllBy tags p (methods_of ms) q (methods_of ns)) → HasAllBy tags p (methods_of ms) q (methods_of ns)
-all_end tags p q items ms ns i are h so_far = so_far.0 (subst (λ l. HasAllBy tags p (methods_of (drop i l)) q (methods_of ns)) are (subst (λ l. HasAllBy tags p (methods_of l) q (methods_of ns)) (sym (drop_all i items h)) tt))
+pub all_end : (tags : Bool) (p q : List ℕ) (items ms ns : List Method) (i : ℕ) → items ≡ ms → length items ≤ i → (HasAllBy tags p (method_shapes (drop i ms)) q (method_shapes ns) ↔ HasAllBy tags p (method_shapes ms) q (method_shapes ns)) → HasAllBy tags p (method_shapes ms) q (method_shapes ns)
+all_end tags p q items ms ns i are h so_far = so_far.0 (subst (λ l. HasAllBy tags p (method_shapes (drop i l)) q (method_shapes ns)) are (subst (λ l. HasAllBy tags p (method_shapes l) q (method_shapes ns)) (sym (drop_all i items h)) tt))
 
 -- types
 

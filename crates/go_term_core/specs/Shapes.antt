@@ -62,18 +62,18 @@ abbrev mutual
 abbrev pub line_shape : FieldLine → Line
 line_shape l = line_with l.embedded (shape l.term) l.tag
 
-abbrev pub lines_of : List FieldLine → List Line
-lines_of ls = map line_shape ls
+abbrev pub line_shapes : List FieldLine → List Line
+line_shapes ls = map line_shape ls
 
-abbrev pub params_of : Params → Terms
-params_of ps = terms_in (map shape ps.terms.items) ps.lines.items
+abbrev pub param_shapes : Params → Terms
+param_shapes ps = terms_in (map shape ps.terms.items) ps.lines.items
 
 abbrev pub sign_of : Signature → Sign
-sign_of g = SignOf (params_of g.params) (params_of g.results)
+sign_of g = SignOf (param_shapes g.params) (param_shapes g.results)
 
-abbrev pub methods_of : List Method → Methods
-methods_of [] = NoMethod
-methods_of (m ∷ ms) = AMethod m.name m.place (sign_of m.signature) (methods_of ms)
+abbrev pub method_shapes : List Method → Methods
+method_shapes [] = NoMethod
+method_shapes (m ∷ ms) = AMethod m.name m.place (sign_of m.signature) (method_shapes ms)
 
 -- the type that may be there
 abbrev pub shape_found : Option (Bor TypeTerm) → Term

@@ -1,6 +1,6 @@
 //! Copies of terms.
 ghost use Rattle.std.specs.Prelude.{◌≡◌, IfOk, map};
-ghost use Rattle.go_term_core.specs.Shapes.{shape, sign_of, lines_of, methods_of, params_of};
+ghost use Rattle.go_term_core.specs.Shapes.{shape, sign_of, line_shapes, method_shapes, param_shapes};
 
 use crate::term::{Field, FieldLine, Method, Params, Signature, TypeTerm};
 use go_text_core::{add, boxed};
@@ -85,7 +85,7 @@ fn copy_fields(alloc: Global, fields: &Vec<Field>) -> Result<Vec<Field>, AllocEr
 /// The same lines.
 #[cycle(copies)]
 fn copy_lines(alloc: Global, lines: &Vec<FieldLine>) -> Result<Vec<FieldLine>, AllocError>
-    ensures { IfOk result (λ ls. lines_of ls.items ≡ lines_of lines.now.items) }
+    ensures { IfOk result (λ ls. line_shapes ls.items ≡ line_shapes lines.now.items) }
 {
     let mut copies = copied!(Vec::with_capacity(alloc, lines.len()));
     for line in lines {
@@ -105,7 +105,7 @@ fn copy_lines(alloc: Global, lines: &Vec<FieldLine>) -> Result<Vec<FieldLine>, A
 /// The same methods.
 #[cycle(copies)]
 fn copy_methods(alloc: Global, methods: &Vec<Method>) -> Result<Vec<Method>, AllocError>
-    ensures { IfOk result (λ ms. methods_of ms.items ≡ methods_of methods.now.items) }
+    ensures { IfOk result (λ ms. method_shapes ms.items ≡ method_shapes methods.now.items) }
 {
     let mut copies = copied!(Vec::with_capacity(alloc, methods.len()));
     for method in methods {
@@ -147,7 +147,7 @@ fn copy_numbers(alloc: Global, numbers: &Vec<usize>) -> Result<Vec<usize>, Alloc
 /// The same types, shared as they are.
 #[cycle(copies)]
 fn copy_params(alloc: Global, params: &Params) -> Result<Params, AllocError>
-    ensures { IfOk result (λ ps. params_of ps ≡ params_of params.now) }
+    ensures { IfOk result (λ ps. param_shapes ps ≡ param_shapes params.now) }
 {
     let lines = copy_numbers(alloc, &params.lines);
     let (lines, terms) = copied!(both(lines, copy_terms(alloc, &params.terms)));

@@ -1,21 +1,21 @@
 //! The types of parameters and of results by their numbers.
 ghost use Rattle.std.specs.Prelude.{◌≡◌, ◌<◌, length, slice_get, Some};
 ghost use Rattle.go_term_core.specs.Terms.{sign_params, sign_results, term_list};
-ghost use Rattle.go_term_core.specs.Shapes.{params_of, shape_found, sign_of};
+ghost use Rattle.go_term_core.specs.Shapes.{param_shapes, shape_found, sign_of};
 
 use crate::term::{Params, Signature, TypeTerm};
 
 /// How many types there are.
 fn count(params: &Params) -> usize
-    ensures { result ≡ length (term_list (params_of params.now)) }
+    ensures { result ≡ length (term_list (param_shapes params.now)) }
 {
     params.lines.len()
 }
 
 /// The type of a number.
 fn type_at(params: &Params, at: usize) -> Option<&TypeTerm>
-    requires { at < length (term_list (params_of params.now)) }
-    ensures { slice_get (term_list (params_of params.now)) at ≡ Some (shape_found result) }
+    requires { at < length (term_list (param_shapes params.now)) }
+    ensures { slice_get (term_list (param_shapes params.now)) at ≡ Some (shape_found result) }
 {
     match params.lines.get(at) {
         Some(line) => params.terms.get(*line),

@@ -1,7 +1,7 @@
 //! Identity of types.
 ghost use Rattle.std.specs.Prelude.{◌≡◌, ◌↔◌, ◌⊎◌, IsTrue, map};
 ghost use Rattle.go_text_core.specs.Text.{SameId};
-ghost use Rattle.go_term_core.specs.Shapes.{shape, sign_of, fields_in, line_at, line_shape, lines_of, methods_of, params_of, term_at, terms_in};
+ghost use Rattle.go_term_core.specs.Shapes.{shape, sign_of, fields_in, line_at, line_shape, line_shapes, method_shapes, param_shapes, term_at, terms_in};
 ghost use Rattle.go_term_core.specs.Terms.{NoType};
 ghost use Rattle.go_term_core.specs.Identity.{Identical, IdenticalButForTags, SameSign, TagsAgree, IdenticalBy, SameFieldsBy, HasAllBy, SameSignBy, SameTermsBy, method_count};
 ghost use Rattle.go_term_core.specs.mirrors.Alike.{HasAlike, IsMet, IsNoLine, SameLine};
@@ -100,7 +100,7 @@ fn same_fields(
     gs: &Vec<Field>,
     ks: &Vec<FieldLine>,
 ) -> bool
-    ensures { IsTrue result ↔ SameFieldsBy tags p.now (fields_in (lines_of ls.now.items) fs.now.items) q.now (fields_in (lines_of ks.now.items) gs.now.items) }
+    ensures { IsTrue result ↔ SameFieldsBy tags p.now (fields_in (line_shapes ls.now.items) fs.now.items) q.now (fields_in (line_shapes ks.now.items) gs.now.items) }
 {
     if fs.len() != gs.len() {
         return false;
@@ -136,7 +136,7 @@ fn are_lines_same(
     met: Option<Pair>,
     pair: Pair,
 ) -> bool
-    ensures { IsTrue result ↔ (IsMet met pair ⊎ SameLine tags (line_at (lines_of ls.now.items) pair.one) (line_at (lines_of ks.now.items) pair.other)) }
+    ensures { IsTrue result ↔ (IsMet met pair ⊎ SameLine tags (line_at (line_shapes ls.now.items) pair.one) (line_at (line_shapes ks.now.items) pair.other)) }
 {
     if is_met(met, pair) {
         return true;
@@ -190,7 +190,7 @@ fn same_methods(
     q: &ImportPath,
     ns: &Vec<Method>,
 ) -> bool
-    ensures { IsTrue result ↔ ((method_count (methods_of ms.now.items) ≡ method_count (methods_of ns.now.items)) × HasAllBy tags p.now (methods_of ms.now.items) q.now (methods_of ns.now.items)) }
+    ensures { IsTrue result ↔ ((method_count (method_shapes ms.now.items) ≡ method_count (method_shapes ns.now.items)) × HasAllBy tags p.now (method_shapes ms.now.items) q.now (method_shapes ns.now.items)) }
 {
     if ms.len() != ns.len() {
         return false;
@@ -208,7 +208,7 @@ fn same_methods(
 /// Whether one of the methods is the same identifier with the same signature.
 #[cycle(same)]
 fn has_alike(tags: bool, p: &ImportPath, m: &Method, q: &ImportPath, ns: &[Method]) -> bool
-    ensures { IsTrue result ↔ HasAlike tags p.now m.now.name (sign_of m.now.signature) q.now (methods_of ns.now) }
+    ensures { IsTrue result ↔ HasAlike tags p.now m.now.name (sign_of m.now.signature) q.now (method_shapes ns.now) }
 {
     for n in ns {
         if is_same_name(&m.name, p, &n.name, q)
@@ -231,7 +231,7 @@ fn same_signature(tags: bool, a: &Signature, b: &Signature) -> bool
 /// Whether two lists have as many types, each identical to the other's at its place. Two terms are compared where they meet first.
 #[cycle(same)]
 fn same_params(tags: bool, ps: &Params, qs: &Params) -> bool
-    ensures { IsTrue result ↔ SameTermsBy tags (params_of ps.now) (params_of qs.now) }
+    ensures { IsTrue result ↔ SameTermsBy tags (param_shapes ps.now) (param_shapes qs.now) }
 {
     same_terms(tags, &ps.terms, &ps.lines, &qs.terms, &qs.lines)
 }

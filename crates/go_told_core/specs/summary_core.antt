@@ -1,5 +1,4 @@
 -- What the crates above name of go_summary_core.
-pub use Rattle.go_summary_core.proofs.Listed as Listed
 pub use Rattle.go_summary_core.specs.Summaries as Summaries
 pub use Rattle.go_summary_core.proofs.Telling as Telling
 pub use Rattle.go_summary_core.proofs.Viewed as Viewed

@@ -11,6 +11,11 @@ mod reached;
 pub use list::SummaryList;
 pub use reached::ReachedSummaries;
 
+/// What the crates above name of `go_alike_core`.
+pub mod alike_core {
+    pub use go_summary_core::alike_core::same_exports;
+}
+
 /// What the crates above name of `go_operand_core`.
 pub mod operand_core {
     pub use go_summary_core::operand_core::{Operand, TypeForm, ValueType};

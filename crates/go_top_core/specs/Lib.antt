@@ -12,4 +12,5 @@ pub mod operand_core
 pub mod piece_core
 pub mod reach_core
 pub mod statement_core
+pub mod type_core
 pub mod walk_core

@@ -3,9 +3,8 @@
 -- docs/RULES.md, "Declarations outside functions". The Go specification, "Constant declarations", "Variable declarations", "Type
 -- declarations".
 use Rattle.std.specs.Prelude.{List, ◌++◌, map}
-use Rattle.std.specs.List.{flat_map}
 use Rattle.go_tree_nodes.specs.declared.decls.ValueKind.{ValueKind}
-use Rattle.go_tree_nodes.specs.Trees.{Specs, Single, Group, ValueSpecTree, ValueTree, TypeSpecTree, TypeDeclTree}
+use Rattle.go_tree_nodes.specs.Trees.{ValueSpecTree, ValueTree, TypeSpecTree, TypeDeclTree, of_specs}
 use Rattle.go_piece_core.specs.local_core.declared.Fault as local
 use Rattle.go_piece_core.specs.expr_core.declared.things.Use.{Use}
 use Rattle.go_piece_core.specs.expr_core.declared.things.Fault.{Fault}
@@ -14,11 +13,6 @@ use Rattle.go_piece_core.specs.expr_core.TypeUses.{type_uses}
 use Rattle.go_piece_core.specs.Specifications.{spec_uses, spec_faults}
 use Rattle.go_inline_core.specs.Inline.{repeated_params}
 use Rattle.go_top_core.specs.Initial.{initial_faults}
-
--- what each specification of a declaration gives, in order
-abbrev pub of_specs : {A B : Type 0} → (A → List B) → Specs A → List B
-of_specs f (Single x) = f x
-of_specs f (Group first ls last) = flat_map (λ l. f l.0) ls
 
 -- constants and variables
 

@@ -18,7 +18,7 @@ use Rattle.go_tree_nodes.specs.declared.exprs.NextExpr.{NextExpr}
 use Rattle.go_tree_nodes.specs.declared.stmts.«Line» as declared_line
 use Rattle.go_tree_nodes.specs.Trees.{Separated, One, Then, FieldTrees, NoFields, NamedFields, EmbeddedField, MethodTrees, NoMethods, Method, ParamTrees, NoParams, Param, ExprTree, ItemTrees, NoItems, Item, Lines, NoLines, Line, DeclTree, TopTree}
 use Rattle.go_tree_nodes.specs.TypeShapes.{shape_names, shape_type, fields_before, fields_of, method_before, methods_of, params_of}
-use Rattle.go_tree_nodes.specs.Shapes.{key_of, shape, items_of, exprs_from, shape_stmt, lines_of}
+use Rattle.go_tree_nodes.specs.Shapes.{shape_key, shape, items_of, exprs_from, shape_stmt, lines_of}
 
 -- a loop that adds an equal element
 pub one_kept : {X : Type 0} (copies more xs : List X) (i : ℕ) (x y : X) → i < length xs → x ≡ get_or xs i x → more ≡ copies ++ y ∷ [] → y ≡ x → copies ≡ take i xs → more ≡ take (i + 1) xs
@@ -111,7 +111,7 @@ same_params = same_whole params_of params_first (λ p ps. refl)
 -- arguments and elements
 
 abbrev pub item_tree : declared_item.Item → ItemTrees
-item_tree i = Item (key_of i.key) (shape i.value) i.comma NoItems
+item_tree i = Item (shape_key i.key) (shape i.value) i.comma NoItems
 
 abbrev items_first : ItemTrees → ItemTrees → ItemTrees
 items_first NoItems rest = rest

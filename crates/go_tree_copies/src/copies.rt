@@ -393,7 +393,7 @@ fn copy_struct_literal(
 
 // The same key, where one stands.
 fn copy_key(alloc: Global, key: &Option<Box<Key>>) -> Result<Option<Box<Key>>, AllocError>
-    ensures { IfOk result (λ x. shapes.key_of x ≡ shapes.key_of key.now) }
+    ensures { IfOk result (λ x. shapes.shape_key x ≡ shapes.shape_key key.now) }
 {
     match key {
         None => Ok(None),

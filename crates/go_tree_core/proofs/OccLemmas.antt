@@ -34,7 +34,7 @@ use Rattle.go_tree_core.specs.declared.occurrence.Context.TheVariants as context
 use Rattle.go_tree_core.specs.declared.occurrence.Occ.{Occ}
 use Rattle.go_tree_nodes.specs.Trees.{FieldTrees}
 use Rattle.go_tree_nodes.specs.TypeShapes.{shape_type, shape_signature, shape_results, fields_before, fields_of, methods_of, params_of}
-use Rattle.go_tree_nodes.specs.Shapes.{key_of, shape, items_of, exprs_from, shape_if, shape_for, shape_stmt, shape_branch, shape_else, lines_of, decl_of, top_of, import_of, shape_import_specs}
+use Rattle.go_tree_nodes.specs.Shapes.{shape_key, shape, items_of, exprs_from, shape_if, shape_for, shape_stmt, shape_branch, shape_else, lines_of, decl_of, top_of, import_of, shape_import_specs}
 use Rattle.go_tree_core.specs.Occurrences.{type_name_occs, type_occs, field_occs, fields_occs, signature_occs, result_occs, methods_occs, call_at, params_occs, key_occs, expr_occs, items_occs, exprs_occs, group_occs, specs_occs, import_occs, imports_occs, if_occs, for_occs, stmt_occs, branch_occs, else_occs, lines_occs, decl_occs, tops_occs}
 use Rattle.go_tree_nodes.proofs.TypeShapes.{listed_parts, signature_parts}
 use Rattle.go_tree_nodes.proofs.ShapeLemmas.{call_parts, literal_parts, struct_literal_parts, shape_block, loop_parts, shape_else_block, branch_parts}
@@ -49,7 +49,7 @@ abbrev pub param_occs : declared_param.Param → List Occ
 param_occs p = type_occs (shape_type p.type_expr)
 
 abbrev pub item_occs : declared_item.Item → List Occ
-item_occs i = key_occs (key_of i.key) ++ expr_occs context.«Value» (shape i.value)
+item_occs i = key_occs (shape_key i.key) ++ expr_occs context.«Value» (shape i.value)
 
 abbrev pub next_occs : Context → NextExpr → List Occ
 next_occs p n = expr_occs p (shape n.expr)
@@ -84,7 +84,7 @@ params_occs_list (p ∷ ps) = ap (λ os. param_occs p ++ os) (params_occs_list p
 
 pub items_occs_list : (is : List declared_item.Item) → items_occs (items_of is) ≡ flat_map item_occs is
 items_occs_list [] = refl
-items_occs_list (i ∷ is) = ap (λ os. key_occs (key_of i.key) ++ (expr_occs context.«Value» (shape i.value) ++ os)) (items_occs_list is) ∙ sym (append_assoc (key_occs (key_of i.key)) (expr_occs context.«Value» (shape i.value)) (flat_map item_occs is))
+items_occs_list (i ∷ is) = ap (λ os. key_occs (shape_key i.key) ++ (expr_occs context.«Value» (shape i.value) ++ os)) (items_occs_list is) ∙ sym (append_assoc (key_occs (shape_key i.key)) (expr_occs context.«Value» (shape i.value)) (flat_map item_occs is))
 
 pub exprs_occs_list : (p : Context) (e : Expr) (ns : List NextExpr) → exprs_occs p (exprs_from e ns) ≡ expr_occs p (shape e) ++ flat_map (next_occs p) ns
 exprs_occs_list p e [] = simp append-nil

@@ -16,7 +16,7 @@ use Rattle.go_tree_nodes.specs.Terminals.{Terminal, InOrder, least_width}
 use Rattle.go_tree_nodes.specs.Trees.{Separated, One, Then, TypeTree, FieldTrees, MethodTrees, SignatureTree, ResultTree, ParamTrees, NamedType, Pointer, ParenType, Struct, Interface, NoFields, NamedFields, EmbeddedField, NoMethods, Method, Signed, NoResult, OneResult, Results, NoParams, Param, ExprTree, ItemTrees, Integer, Text, Named, Paren, Unary, Binary, Select, Call, Literal, StructLiteral, NoItems, Item, ValueSpecTree, Specs, Single, Group, ValueTree, TypeSpecTree, TypeDeclTree, SimpleTree, Alone, Step, Assign, Update, Define, IfTree, ForTree, Forever, While, Clauses, StmtTree, BranchTree, ElseTree, Lines, Empty, Declare, Simple, Return, Break, Continue, Block, If, For, Branch, NoElse, ElseBlock, ElseIf, NoLines, Line, FuncTree, DeclTree, Value, Types, Func, TopTree, ImportSpecTree, ImportTree, FileTree}
 use Rattle.go_tree_nodes.specs.Spelling.{spell_ident, spell_type_name, spell_type, spell_fields, spell_methods, spell_signature, spell_result, spell_params, spell_key, spell, spell_items, spell_exprs, spell_some_type, spell_values, spell_value_spec, spell_specs_of, spell_specs, spell_value, spell_type_spec, spell_types, spell_simple, spell_some_simple, spell_some_expr, spell_init, spell_if, spell_for, spell_some_exprs, spell_stmt, spell_branch, spell_else, spell_lines, spell_receiver, spell_func, spell_decl, spell_tops, spell_import, spell_imports, spell_file}
 use Rattle.go_tree_nodes.proofs.InOrder.{in_order_split, in_order_ends}
-use Rattle.go_tree_core.specs.Occurrences.{occurrence, type_name_occs, type_occs, fields_occs, methods_occs, signature_occs, result_occs, params_occs, named_occs, inside, under, key_occs, expr_occs, items_occs, exprs_occs, some_expr_occs, some_exprs_occs, some_type_occs, values_occs, value_spec_occs, group_occs, specs_occs, value_occs, type_spec_occs, type_decl_occs, simple_occs, some_simple_occs, init_occs, if_occs, for_occs, stmt_occs, branch_occs, else_occs, lines_occs, receiver_occs, func_occs, decl_occs, tops_occs, import_occs, imports_occs, file_occs, Follow}
+use Rattle.go_tree_core.specs.Occurrences.{occurrence, type_name_occs, type_occs, fields_occs, methods_occs, signature_occs, result_occs, params_occs, named_occs, inside_context, under, key_occs, expr_occs, items_occs, exprs_occs, some_expr_occs, some_exprs_occs, some_type_occs, values_occs, value_spec_occs, group_occs, specs_occs, value_occs, type_spec_occs, type_decl_occs, simple_occs, some_simple_occs, init_occs, if_occs, for_occs, stmt_occs, branch_occs, else_occs, lines_occs, receiver_occs, func_occs, decl_occs, tops_occs, import_occs, imports_occs, file_occs, Follow}
 
 follow_lower : (os : List Occ) (low lower high : ℕ) → lower ≤ low → Follow low os high → Follow lower os high
 follow_lower [] low lower high l h = omega arith
@@ -120,7 +120,7 @@ mutual
   expr_makes p (Integer n span) = makes_none
   expr_makes p (Text t) = makes_none
   expr_makes p (Named x) = named_makes p x
-  expr_makes p (Paren first t last) = makes_skip (makes_first _ (expr_makes (inside p) t))
+  expr_makes p (Paren first t last) = makes_skip (makes_first _ (expr_makes (inside_context p) t))
   expr_makes p (Unary op span t) = makes_skip (expr_makes (under op p) t)
   expr_makes p (Binary a op span b) = makes_both (expr_makes context.«Value» a) (makes_skip (expr_makes context.«Value» b))
   expr_makes p (Select t dot x) = makes_both (expr_makes context.BeforeDot t) (makes_skip makes_one)

@@ -22,8 +22,8 @@ use Rattle.go_tree_core.specs.declared.occurrence.Role.TheVariants as role
 use Rattle.go_tree_core.specs.declared.occurrence.Context.{Context}
 use Rattle.go_tree_core.specs.declared.occurrence.Context.TheVariants as context
 use Rattle.go_tree_core.specs.declared.occurrence.Occ.{Occ}
-use Rattle.go_tree_core.specs.Occurrences.{is_identifier, occ_at, call_at, pointed, occurrence, type_name_occs, type_occs, fields_occs, methods_occs, signature_occs, result_occs, params_occs, named_occs, inside, under, key_occs, expr_occs, items_occs, exprs_occs, some_expr_occs, some_exprs_occs, some_type_occs, values_occs, value_spec_occs, group_occs, specs_occs, value_occs, type_spec_occs, type_decl_occs, simple_occs, some_simple_occs, init_occs, if_occs, for_occs, stmt_occs, branch_occs, else_occs, lines_occs, receiver_occs, func_occs, decl_occs, tops_occs, import_occs, imports_occs, file_occs}
-use Rattle.go_tree_core.specs.Names.{take_some, take_each, take_group, take_specs, take_values, take_value_spec, take_value, take_type_spec, take_types, take_simple, take_init, take_if, take_for, take_stmt, take_branch, take_else, take_lines, take_receiver, take_func, take_decl, take_tops, take_import_name, take_imports, one_name, type_names, field_names, method_names, signature_names, result_names, param_names, expr_names, item_names, declared, blank_target, nothing, blank, expr_calls, item_calls, called, import_strings, declared_names, blank_targets, file_calls}
+use Rattle.go_tree_core.specs.Occurrences.{is_identifier, occ_at, call_at, pointed_context, occurrence, type_name_occs, type_occs, fields_occs, methods_occs, signature_occs, result_occs, params_occs, named_occs, inside_context, under, key_occs, expr_occs, items_occs, exprs_occs, some_expr_occs, some_exprs_occs, some_type_occs, values_occs, value_spec_occs, group_occs, specs_occs, value_occs, type_spec_occs, type_decl_occs, simple_occs, some_simple_occs, init_occs, if_occs, for_occs, stmt_occs, branch_occs, else_occs, lines_occs, receiver_occs, func_occs, decl_occs, tops_occs, import_occs, imports_occs, file_occs}
+use Rattle.go_tree_core.specs.Names.{take_some, take_each, take_group, take_specs, take_values, take_value_spec, take_value, take_type_spec, take_types, take_simple, take_init, take_if, take_for, take_stmt, take_branch, take_else, take_lines, take_receiver, take_func, take_decl, take_tops, take_import_name, take_imports, one_name, type_names, field_names, method_names, signature_names, result_names, param_names, expr_names, item_names, taking_names, blank_target, nothing, taking_blanks, expr_calls, item_calls, taking_calls, import_strings, declared_names, blank_targets, file_calls}
 use Rattle.go_tree_core.specs.Laws.{name_of, written_names, used_name, used_names, call_of, used_calls, string_of, used_imports, Interleave, Done, First, Second, Third, IsKindOf, AreWritten, NoneLeft, Passed, Written, NamesAreUsedOrDeclared, CallsAreOccurrences, ImportsAreOccurrences, OccurrencesAreWritten}
 
 interleave_both : {A : Type 0} {xs ys zs all us vs ws more : List A} → Interleave xs ys zs all → Interleave us vs ws more → Interleave (xs ++ us) (ys ++ vs) (zs ++ ws) (all ++ more)
@@ -217,14 +217,14 @@ abbrev is_target : Context → Bool
 is_target context.Target = true
 is_target _ = false
 
-inside_not : (p : Context) → is_target p ≡ false → is_target (inside p) ≡ false
+inside_not : (p : Context) → is_target p ≡ false → is_target (inside_context p) ≡ false
 inside_not context.«Type» h = refl
 inside_not context.«Value» h = refl
 inside_not context.Callee h = refl
 inside_not context.BeforeDot h = refl
 inside_not context.Target h = h
 
-pointed_not : (p : Context) → is_target (pointed p) ≡ false
+pointed_not : (p : Context) → is_target (pointed_context p) ≡ false
 pointed_not context.«Type» = refl
 pointed_not context.«Value» = refl
 pointed_not context.Callee = refl
@@ -251,7 +251,7 @@ mutual
   expr_tells p h (Integer n span) = tells_none refl
   expr_tells p h (Text t) = tells_none refl
   expr_tells p h (Named x) = named_tells p h x
-  expr_tells p h (Paren first t last) = tells_skip refl (tells_first _ refl (expr_tells (inside p) (inside_not p h) t))
+  expr_tells p h (Paren first t last) = tells_skip refl (tells_first _ refl (expr_tells (inside_context p) (inside_not p h) t))
   expr_tells p h (Unary op span t) = tells_skip refl (expr_tells (under op p) (under_not op p) t)
   expr_tells p h (Binary a op span b) = tells_both (expr_tells context.«Value» refl a) (tells_skip refl (expr_tells context.«Value» refl b))
   expr_tells p h (Select t dot x) = tells_behind (expr_tells context.BeforeDot refl t) (tells_skip refl (tells_used refl (tells_none refl)))
@@ -304,11 +304,11 @@ some_type_tells : (t : Option TypeTree) → Tells (spell_some_type t) (some_type
 some_type_tells None = tells_none refl
 some_type_tells (Some t) = type_tells t
 
-values_tell : (v : Option (Span × Separated ExprTree)) → Tells (spell_values v) (values_occs v) (take_values declared v) (take_values blank v) (take_values called v) []
+values_tell : (v : Option (Span × Separated ExprTree)) → Tells (spell_values v) (values_occs v) (take_values taking_names v) (take_values taking_blanks v) (take_values taking_calls v) []
 values_tell None = tells_none refl
 values_tell (Some v) = tells_skip refl (exprs_tell v.1)
 
-value_spec_tells : (v : ValueSpecTree) → Tells (spell_value_spec v) (value_spec_occs v) (take_value_spec declared v) (take_value_spec blank v) (take_value_spec called v) []
+value_spec_tells : (v : ValueSpecTree) → Tells (spell_value_spec v) (value_spec_occs v) (take_value_spec taking_names v) (take_value_spec taking_blanks v) (take_value_spec taking_calls v) []
 value_spec_tells v = tells_both (declared_tell v.names) (tells_both (some_type_tells v.type_expr) (values_tell v.values))
 
 module _ {A : Type 0} (f : A → List Terminal) (g : A → List Occ) (d b : A → List Ident) (c : A → List Span) (i : A → List TextLiteral) (each : (x : A) → Tells (f x) (g x) (d x) (b x) (c x) (i x)) where
@@ -332,42 +332,42 @@ specs_nothing (Group first xs last) = group_nothing xs
 plain_tell : {A : Type 0} (s : Specs A) {ts : List Terminal} {os : List Occ} {ds bs : List Ident} {cs : List Span} → Tells ts os ds bs cs (take_specs nothing s) → Tells ts os ds bs cs []
 plain_tell s m = record { names = m.names; calls = m.calls; imports = m.imports ∙ specs_nothing s; written = m.written }
 
-value_decl_tells : (v : ValueTree) → Tells (spell_value v) (value_occs v) (take_value declared v) (take_value blank v) (take_value called v) []
-value_decl_tells v = tells_skip refl (plain_tell v.specs (specs_tell spell_value_spec value_spec_occs (take_value_spec declared) (take_value_spec blank) (take_value_spec called) nothing value_spec_tells v.specs))
+value_decl_tells : (v : ValueTree) → Tells (spell_value v) (value_occs v) (take_value taking_names v) (take_value taking_blanks v) (take_value taking_calls v) []
+value_decl_tells v = tells_skip refl (plain_tell v.specs (specs_tell spell_value_spec value_spec_occs (take_value_spec taking_names) (take_value_spec taking_blanks) (take_value_spec taking_calls) nothing value_spec_tells v.specs))
 
-type_spec_tells : (t : TypeSpecTree) → Tells (spell_type_spec t) (type_spec_occs t) (take_type_spec declared t) (take_type_spec blank t) (take_type_spec called t) []
+type_spec_tells : (t : TypeSpecTree) → Tells (spell_type_spec t) (type_spec_occs t) (take_type_spec taking_names t) (take_type_spec taking_blanks t) (take_type_spec taking_calls t) []
 type_spec_tells t = tells_declared (type_tells t.type_expr)
 
-type_decl_tells : (t : TypeDeclTree) → Tells (spell_types t) (type_decl_occs t) (take_types declared t) (take_types blank t) (take_types called t) []
-type_decl_tells t = tells_skip refl (plain_tell t.specs (specs_tell spell_type_spec type_spec_occs (take_type_spec declared) (take_type_spec blank) (take_type_spec called) nothing type_spec_tells t.specs))
+type_decl_tells : (t : TypeDeclTree) → Tells (spell_types t) (type_decl_occs t) (take_types taking_names t) (take_types taking_blanks t) (take_types taking_calls t) []
+type_decl_tells t = tells_skip refl (plain_tell t.specs (specs_tell spell_type_spec type_spec_occs (take_type_spec taking_names) (take_type_spec taking_blanks) (take_type_spec taking_calls) nothing type_spec_tells t.specs))
 
 -- statements
 
-simple_tells : (s : SimpleTree) → Tells (spell_simple s) (simple_occs s) (take_simple declared s) (take_simple blank s) (take_simple called s) []
+simple_tells : (s : SimpleTree) → Tells (spell_simple s) (simple_occs s) (take_simple taking_names s) (take_simple taking_blanks s) (take_simple taking_calls s) []
 simple_tells (Alone t) = value_tells t
 simple_tells (Step t op span) = tells_first _ refl (value_tells t)
 simple_tells (Assign ts span es) = tells_both (targets_tell ts) (tells_skip refl (exprs_tell es))
 simple_tells (Update t op span e) = tells_both (value_tells t) (tells_skip refl (value_tells e))
 simple_tells (Define xs span es) = tells_both (declared_tell xs) (tells_skip refl (exprs_tell es))
 
-some_simple_tells : (s : Option SimpleTree) → Tells (spell_some_simple s) (some_simple_occs s) (take_some (take_simple declared) s) (take_some (take_simple blank) s) (take_some (take_simple called) s) []
+some_simple_tells : (s : Option SimpleTree) → Tells (spell_some_simple s) (some_simple_occs s) (take_some (take_simple taking_names) s) (take_some (take_simple taking_blanks) s) (take_some (take_simple taking_calls) s) []
 some_simple_tells None = tells_none refl
 some_simple_tells (Some s) = simple_tells s
 
-init_tells : (i : Option (Option SimpleTree × Span)) → Tells (spell_init i) (init_occs i) (take_init declared i) (take_init blank i) (take_init called i) []
+init_tells : (i : Option (Option SimpleTree × Span)) → Tells (spell_init i) (init_occs i) (take_init taking_names i) (take_init taking_blanks i) (take_init taking_calls i) []
 init_tells None = tells_none refl
 init_tells (Some i) = tells_first _ refl (some_simple_tells i.0)
 
-if_tells : (h : IfTree) → Tells (spell_if h) (if_occs h) (take_if declared h) (take_if blank h) (take_if called h) []
+if_tells : (h : IfTree) → Tells (spell_if h) (if_occs h) (take_if taking_names h) (take_if taking_blanks h) (take_if taking_calls h) []
 if_tells h = tells_both (init_tells h.init) (value_tells h.condition)
 
-for_tells : (h : ForTree) → Tells (spell_for h) (for_occs h) (take_for declared h) (take_for blank h) (take_for called h) []
+for_tells : (h : ForTree) → Tells (spell_for h) (for_occs h) (take_for taking_names h) (take_for taking_blanks h) (take_for taking_calls h) []
 for_tells Forever = tells_none refl
 for_tells (While t) = value_tells t
 for_tells (Clauses init a test b post) = tells_both (some_simple_tells init) (tells_skip refl (tells_both (some_expr_tells test) (tells_skip refl (some_simple_tells post))))
 
 mutual
-  stmt_tells : (s : StmtTree) → Tells (spell_stmt s) (stmt_occs s) (take_stmt declared s) (take_stmt blank s) (take_stmt called s) []
+  stmt_tells : (s : StmtTree) → Tells (spell_stmt s) (stmt_occs s) (take_stmt taking_names s) (take_stmt taking_blanks s) (take_stmt taking_calls s) []
   stmt_tells Empty = tells_none refl
   stmt_tells (Declare v) = value_decl_tells v
   stmt_tells (Simple s) = simple_tells s
@@ -378,15 +378,15 @@ mutual
   stmt_tells (If b) = branch_tells b
   stmt_tells (For k head first ls last) = tells_skip refl (tells_both (for_tells head) (tells_skip refl (tells_first _ refl (lines_tell ls))))
 
-  branch_tells : (b : BranchTree) → Tells (spell_branch b) (branch_occs b) (take_branch declared b) (take_branch blank b) (take_branch called b) []
+  branch_tells : (b : BranchTree) → Tells (spell_branch b) (branch_occs b) (take_branch taking_names b) (take_branch taking_blanks b) (take_branch taking_calls b) []
   branch_tells (Branch k head first ls last otherwise) = tells_skip refl (tells_both (if_tells head) (tells_skip refl (tells_both (lines_tell ls) (tells_skip refl (else_tells otherwise)))))
 
-  else_tells : (e : ElseTree) → Tells (spell_else e) (else_occs e) (take_else declared e) (take_else blank e) (take_else called e) []
+  else_tells : (e : ElseTree) → Tells (spell_else e) (else_occs e) (take_else taking_names e) (take_else taking_blanks e) (take_else taking_calls e) []
   else_tells NoElse = tells_none refl
   else_tells (ElseBlock k first ls last) = tells_skip refl (tells_skip refl (tells_first _ refl (lines_tell ls)))
   else_tells (ElseIf k b) = tells_skip refl (branch_tells b)
 
-  lines_tell : (ls : Lines) → Tells (spell_lines ls) (lines_occs ls) (take_lines declared ls) (take_lines blank ls) (take_lines called ls) []
+  lines_tell : (ls : Lines) → Tells (spell_lines ls) (lines_occs ls) (take_lines taking_names ls) (take_lines taking_blanks ls) (take_lines taking_calls ls) []
   lines_tell NoLines = tells_none refl
   lines_tell (Line c s rest) = tells_both (stmt_tells c) (tells_second _ (some_quiet operator.Semicolon s) (lines_tell rest))
 
@@ -396,34 +396,34 @@ receiver_name_tells : (x : Option Ident) → Tells (spell_receiver_name x) [] (t
 receiver_name_tells None = tells_none refl
 receiver_name_tells (Some x) = tells_declared (tells_none refl)
 
-receiver_tells : (r : Option Receiver) → Tells (spell_receiver r) (receiver_occs r) (take_receiver declared r) (take_receiver blank r) (take_receiver called r) []
+receiver_tells : (r : Option Receiver) → Tells (spell_receiver r) (receiver_occs r) (take_receiver taking_names r) (take_receiver taking_blanks r) (take_receiver taking_calls r) []
 receiver_tells None = tells_none refl
 receiver_tells (Some r) = tells_skip refl (tells_behind (receiver_name_tells r.name) (tells_second _ (some_quiet operator.Star r.star) (tells_first _ (close_quiet operator.Comma r.comma operator.CloseParen r.close_paren) (type_name_tells r.base))))
 
-func_tells : (f : FuncTree) → Tells (spell_func f) (func_occs f) (take_func declared f) (take_func blank f) (take_func called f) []
+func_tells : (f : FuncTree) → Tells (spell_func f) (func_occs f) (take_func taking_names f) (take_func taking_blanks f) (take_func taking_calls f) []
 func_tells f = tells_skip refl (tells_both (receiver_tells f.receiver) (tells_declared (tells_both (signature_tells f.signature) (tells_skip refl (tells_first _ refl (lines_tell f.body))))))
 
-decl_tells : (d : DeclTree) → Tells (spell_decl d) (decl_occs d) (take_decl declared d) (take_decl blank d) (take_decl called d) []
+decl_tells : (d : DeclTree) → Tells (spell_decl d) (decl_occs d) (take_decl taking_names d) (take_decl taking_blanks d) (take_decl taking_calls d) []
 decl_tells (Value v) = value_decl_tells v
 decl_tells (Types t) = type_decl_tells t
 decl_tells (Func f) = func_tells f
 
-tops_tell : (ds : List TopTree) → Tells (spell_tops ds) (tops_occs ds) (take_tops declared ds) (take_tops blank ds) (take_tops called ds) []
+tops_tell : (ds : List TopTree) → Tells (spell_tops ds) (tops_occs ds) (take_tops taking_names ds) (take_tops taking_blanks ds) (take_tops taking_calls ds) []
 tops_tell [] = tells_none refl
 tops_tell (d ∷ ds) = tells_both (decl_tells d.decl) (tells_skip refl (tops_tell ds))
 
 path_tells : (p : TextLiteral) → Tells (spell_text p ∷ []) (occ_at role.Import p.spelled p.span ∷ []) [] [] [] (p ∷ [])
 path_tells p = record { names = Done; calls = refl; imports = refl; written = Written (refl, refl) NoneLeft }
 
-named_import_tells : (n : ImportName) (p : TextLiteral) → Tells (spell_import_name n ++ spell_text p ∷ []) (occ_at role.Import p.spelled p.span ∷ []) (take_import_name declared n) (take_import_name blank n) (take_import_name called n) (p ∷ [])
+named_import_tells : (n : ImportName) (p : TextLiteral) → Tells (spell_import_name n ++ spell_text p ∷ []) (occ_at role.Import p.spelled p.span ∷ []) (take_import_name taking_names n) (take_import_name taking_blanks n) (take_import_name taking_calls n) (p ∷ [])
 named_import_tells import_name.Own p = path_tells p
 named_import_tells (import_name.Named x) p = tells_declared (path_tells p)
 named_import_tells (import_name.Dot s) p = tells_skip refl (path_tells p)
 
-imports_tell : (is : List ImportTree) → Tells (spell_imports is) (imports_occs is) (take_imports declared is) (take_imports blank is) (take_imports called is) (import_strings is)
+imports_tell : (is : List ImportTree) → Tells (spell_imports is) (imports_occs is) (take_imports taking_names is) (take_imports taking_blanks is) (take_imports taking_calls is) (import_strings is)
 imports_tell [] = tells_none refl
 imports_tell (i ∷ is) =
-    tells_both (tells_skip refl (specs_tell spell_import import_occs (λ s. take_import_name declared s.name) (λ s. take_import_name blank s.name) (λ s. take_import_name called s.name) (λ s. s.path ∷ []) (λ s. named_import_tells s.name s.path) i.specs)) (tells_skip refl (imports_tell is))
+    tells_both (tells_skip refl (specs_tell spell_import import_occs (λ s. take_import_name taking_names s.name) (λ s. take_import_name taking_blanks s.name) (λ s. take_import_name taking_calls s.name) (λ s. s.path ∷ []) (λ s. named_import_tells s.name s.path) i.specs)) (tells_skip refl (imports_tell is))
 
 file_tells : (f : FileTree) → Tells (spell_file f) (file_occs f) (declared_names f) (blank_targets f) (file_calls f) (import_strings f.imports ++ [])
 file_tells f = tells_skip refl (tells_declared (tells_skip refl (tells_both (imports_tell f.imports) (tops_tell f.decls))))

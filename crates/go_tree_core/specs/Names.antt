@@ -171,11 +171,11 @@ abbrev mutual
   item_names NoItems = []
   item_names (Item key t comma rest) = expr_names t ++ item_names rest
 
-abbrev pub declared : Taking Ident
-declared = record { of_name = one_name; of_type = type_names; of_signature = signature_names; of_expr = expr_names; of_target = expr_names }
+abbrev pub taking_names : Taking Ident
+taking_names = record { of_name = one_name; of_type = type_names; of_signature = signature_names; of_expr = expr_names; of_target = expr_names }
 
 abbrev pub declared_names : FileTree → List Ident
-declared_names f = take_file declared f
+declared_names f = take_file taking_names f
 
 -- the `_` that is, in parentheses or not, the whole of an expression left of `=`
 
@@ -187,11 +187,11 @@ blank_target _ = []
 abbrev pub nothing : {A B : Type 0} → B → List A
 nothing _ = []
 
-abbrev pub blank : Taking Ident
-blank = record { of_name = nothing; of_type = nothing; of_signature = nothing; of_expr = nothing; of_target = blank_target }
+abbrev pub taking_blanks : Taking Ident
+taking_blanks = record { of_name = nothing; of_type = nothing; of_signature = nothing; of_expr = nothing; of_target = blank_target }
 
 abbrev pub blank_targets : FileTree → List Ident
-blank_targets f = take_file blank f
+blank_targets f = take_file taking_blanks f
 
 -- the opening parentheses of calls
 
@@ -212,11 +212,11 @@ abbrev mutual
   item_calls NoItems = []
   item_calls (Item key t comma rest) = expr_calls t ++ item_calls rest
 
-abbrev pub called : Taking Span
-called = record { of_name = nothing; of_type = nothing; of_signature = nothing; of_expr = expr_calls; of_target = expr_calls }
+abbrev pub taking_calls : Taking Span
+taking_calls = record { of_name = nothing; of_type = nothing; of_signature = nothing; of_expr = expr_calls; of_target = expr_calls }
 
 abbrev pub file_calls : FileTree → List Span
-file_calls f = take_file called f
+file_calls f = take_file taking_calls f
 
 -- the strings of imports
 

@@ -84,33 +84,33 @@ named_occs context.BeforeDot x = occurrence role.Qualifier x ∷ []
 named_occs context.Target x = if is_blank x.name then [] else occurrence role.«Value» x ∷ []
 
 -- the context of what stands in parentheses: a name in them is no qualifier
-abbrev pub inside : Context → Context
-inside context.«Type» = context.«Type»
-inside context.«Value» = context.«Value»
-inside context.Callee = context.Callee
-inside context.BeforeDot = context.«Value»
-inside context.Target = context.Target
+abbrev pub inside_context : Context → Context
+inside_context context.«Type» = context.«Type»
+inside_context context.«Value» = context.«Value»
+inside_context context.Callee = context.Callee
+inside_context context.BeforeDot = context.«Value»
+inside_context context.Target = context.Target
 
 -- the context of what stands behind a star
-abbrev pub pointed : Context → Context
-pointed context.«Type» = context.«Type»
-pointed context.«Value» = context.«Value»
-pointed context.Callee = context.«Type»
-pointed context.BeforeDot = context.«Value»
-pointed context.Target = context.«Value»
+abbrev pub pointed_context : Context → Context
+pointed_context context.«Type» = context.«Type»
+pointed_context context.«Value» = context.«Value»
+pointed_context context.Callee = context.«Type»
+pointed_context context.BeforeDot = context.«Value»
+pointed_context context.Target = context.«Value»
 
 -- the context of what stands behind a unary operator
 abbrev pub under : Operator → Context → Context
-under operator.Star p = pointed p
+under operator.Star p = pointed_context p
 under _ p = context.«Value»
 
 -- how a selector as a whole is used
-abbrev pub whole : Context → Usage
-whole context.«Type» = usage.«Type»
-whole context.«Value» = usage.«Value»
-whole context.Callee = usage.Callee
-whole context.BeforeDot = usage.«Value»
-whole context.Target = usage.«Value»
+abbrev pub whole_usage : Context → Usage
+whole_usage context.«Type» = usage.«Type»
+whole_usage context.«Value» = usage.«Value»
+whole_usage context.Callee = usage.Callee
+whole_usage context.BeforeDot = usage.«Value»
+whole_usage context.Target = usage.«Value»
 
 abbrev pub key_occs : Option Key → List Occ
 key_occs None = []
@@ -121,10 +121,10 @@ abbrev mutual
   expr_occs p (Integer n span) = []
   expr_occs p (Text t) = []
   expr_occs p (Named x) = named_occs p x
-  expr_occs p (Paren first t last) = expr_occs (inside p) t
+  expr_occs p (Paren first t last) = expr_occs (inside_context p) t
   expr_occs p (Unary op span t) = expr_occs (under op p) t
   expr_occs p (Binary a op span b) = expr_occs context.«Value» a ++ expr_occs context.«Value» b
-  expr_occs p (Select t dot x) = expr_occs context.BeforeDot t ++ occurrence (role.Selector (whole p)) x ∷ []
+  expr_occs p (Select t dot x) = expr_occs context.BeforeDot t ++ occurrence (role.Selector (whole_usage p)) x ∷ []
   expr_occs p (Call t first items last) = expr_occs context.Callee t ++ (call_at first ∷ items_occs items)
   expr_occs p (Literal n first items last) = type_name_occs n ++ items_occs items
   expr_occs p (StructLiteral t first items last) = type_occs t ++ items_occs items

@@ -15,7 +15,7 @@ use go_tree_nodes::{
 
 // The context of what stands in parentheses.
 fn inside(context: Context) -> Context
-    ensures { result ≡ occurrences.inside context }
+    ensures { result ≡ occurrences.inside_context context }
 {
     match context {
         Context::BeforeDot => Context::Value,
@@ -42,7 +42,7 @@ fn under(operator: Operator, context: Context) -> Context
 
 // How a selector as a whole is used.
 fn whole(context: Context) -> Usage
-    ensures { result ≡ occurrences.whole context }
+    ensures { result ≡ occurrences.whole_usage context }
 {
     match context {
         Context::Type => Usage::Type,
@@ -105,7 +105,7 @@ pub(crate) fn visit_expr<V: Visitor>(visitor: &mut V, context: Context, expr: &E
 
 // Visits the occurrence of a key, where one stands.
 fn visit_key<V: Visitor>(visitor: &mut V, key: &Option<Box<Key>>)
-    ensures { V.Sees visitor.old (occurrences.key_occs (shapes.key_of key.now)) visitor.new }
+    ensures { V.Sees visitor.old (occurrences.key_occs (shapes.shape_key key.now)) visitor.new }
 {
     match key {
         None => {}

@@ -23,12 +23,12 @@ use Rattle.go_tree_nodes.specs.declared.stmts.Otherwise.TheVariants as otherwise
 use Rattle.go_tree_nodes.specs.declared.stmts.«Line» as declared_line
 use Rattle.go_tree_nodes.specs.Trees.{Call, Literal, StructLiteral, Item, Block, For, Branch, ElseBlock, Line}
 use Rattle.go_tree_nodes.specs.TypeShapes.{shape_type}
-use Rattle.go_tree_nodes.specs.Shapes.{shape, shape_call, shape_literal, shape_struct_literal, shape_items, items_of, key_of, shape_loop, shape_if, shape_for, shape_stmt, shape_branch, shape_else, shape_row, lines_of}
+use Rattle.go_tree_nodes.specs.Shapes.{shape, shape_call, shape_literal, shape_struct_literal, shape_items, items_of, shape_key, shape_loop, shape_if, shape_for, shape_stmt, shape_branch, shape_else, shape_row, lines_of}
 
 -- the items of a row are those of its list
 pub row_items : (n : _) (row : Row_of-Item n) → shape_items row ≡ items_of (items-the_row-Item n row)
 row_items n end_of-Item = refl
-row_items n (more_of-Item key e comma rest) = ap (Item (key_of key) (shape e) comma) (row_items _ rest)
+row_items n (more_of-Item key e comma rest) = ap (Item (shape_key key) (shape e) comma) (row_items _ rest)
 
 -- the tree of a call is that of the list of its arguments
 pub call_parts : (c : CallExpr) → shape_call c ≡ Call (shape (out-CallExpr c).callee) (out-CallExpr c).«open» (items_of (out-CallExpr c).args.items) (out-CallExpr c).close

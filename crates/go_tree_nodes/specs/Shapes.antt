@@ -52,9 +52,9 @@ use Rattle.go_tree_nodes.specs.TypeShapes.{shape_idents, shape_type, shape_signa
 -- expressions
 
 -- a key is in a box
-abbrev pub key_of : Option (Box Key) → Option Key
-key_of None = None
-key_of (Some k) = Some k.value
+abbrev pub shape_key : Option (Box Key) → Option Key
+shape_key None = None
+shape_key (Some k) = Some k.value
 
 abbrev mutual
   pub shape : Expr → ExprTree
@@ -80,11 +80,11 @@ abbrev mutual
 
   pub shape_items : {n : _} → Row_of-Item n → ItemTrees
   shape_items end_of-Item = NoItems
-  shape_items (more_of-Item key e comma rest) = Item (key_of key) (shape e) comma (shape_items rest)
+  shape_items (more_of-Item key e comma rest) = Item (shape_key key) (shape e) comma (shape_items rest)
 
 abbrev pub items_of : List declared_item.Item → ItemTrees
 items_of [] = NoItems
-items_of (i ∷ is) = Item (key_of i.key) (shape i.value) i.comma (items_of is)
+items_of (i ∷ is) = Item (shape_key i.key) (shape i.value) i.comma (items_of is)
 
 abbrev pub exprs_from : Expr → List NextExpr → Separated ExprTree
 exprs_from e [] = One (shape e)

@@ -1,5 +1,5 @@
 -- What a tree writes.
-use Rattle.std.specs.Prelude.{List, [], ◌∷◌, ◌++◌, Option, Some, None}
+use Rattle.std.specs.Prelude.{ℕ, List, [], ◌∷◌, ◌++◌, Option, Some, None}
 use Rattle.go_text_core.specs.declared.span.Span.{Span}
 use Rattle.go_token_core.specs.declared.kind.Keyword.{Keyword}
 use Rattle.go_token_core.specs.declared.kind.Keyword.TheVariants as keyword
@@ -15,7 +15,7 @@ use Rattle.go_tree_nodes.specs.declared.decls.ValueKind.TheVariants as kinds
 use Rattle.go_tree_nodes.specs.declared.files.ImportName.{ImportName}
 use Rattle.go_tree_nodes.specs.declared.files.ImportName.TheVariants as import_name
 use Rattle.go_tree_nodes.specs.declared.files.Receiver.{Receiver}
-use Rattle.go_tree_nodes.specs.Terminals.{Terminal, terminal, Spelled, Number, Quoted, Word, Mark}
+use Rattle.go_tree_nodes.specs.Terminals.{Terminal, terminal, Spelled, Number, Quoted, Word, Mark, InOrder}
 use Rattle.go_tree_nodes.specs.Trees.{Separated, One, Then, TypeTree, FieldTrees, MethodTrees, SignatureTree, ResultTree, ParamTrees, NamedType, Pointer, ParenType, Struct, Interface, NoFields, NamedFields, EmbeddedField, NoMethods, Method, Signed, NoResult, OneResult, Results, NoParams, Param, ExprTree, ItemTrees, Integer, Text, Named, Paren, Unary, Binary, Select, Call, Literal, StructLiteral, NoItems, Item, ValueSpecTree, Specs, Single, Group, ValueTree, TypeSpecTree, TypeDeclTree, SimpleTree, Alone, Step, Assign, Update, Define, IfTree, ForTree, Forever, While, Clauses, StmtTree, BranchTree, ElseTree, Lines, Empty, Declare, Simple, Return, Break, Continue, Block, If, For, Branch, NoElse, ElseBlock, ElseIf, NoLines, Line, FuncTree, DeclTree, Value, Types, Func, TopTree, ImportSpecTree, ImportTree, FileTree}
 
 abbrev pub mark : Operator → Span → Terminal
@@ -236,3 +236,7 @@ spell_imports (i ∷ is) = (word keyword.Import i.keyword ∷ spell_specs spell_
 
 abbrev pub spell_file : FileTree → List Terminal
 spell_file f = word keyword.Package f.clause ∷ (spell_ident f.name ∷ (mark operator.Semicolon f.semicolon ∷ (spell_imports f.imports ++ spell_tops f.decls)))
+
+-- the terminals that the tree of a file writes follow one another, as those of a text do
+abbrev pub IsPlaced : FileTree → Type 0
+IsPlaced f = (high : ℕ) × InOrder 0 (spell_file f) high

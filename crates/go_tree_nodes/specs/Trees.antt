@@ -1,5 +1,6 @@
 -- Trees without where they lie in memory.
 use Rattle.std.specs.Prelude.{ℕ, List, Option}
+use Rattle.std.specs.List.{flat_map}
 use Rattle.go_text_core.specs.declared.span.Span.{Span}
 use Rattle.go_token_core.specs.declared.kind.Operator.{Operator}
 use Rattle.go_tree_nodes.specs.declared.names.Ident.{Ident}
@@ -177,3 +178,8 @@ pub record FileTree : Type 0 where
   pub semicolon : Span
   pub imports : List ImportTree
   pub decls : List TopTree
+
+-- what each specification of a declaration gives, in order
+abbrev pub of_specs : {A B : Type 0} → (A → List B) → Specs A → List B
+of_specs f (Single x) = f x
+of_specs f (Group first ls last) = flat_map (λ l. f l.0) ls

@@ -1,10 +1,11 @@
-//! The nodes of the tree of a Go file, with what they write, the rules that they keep to, and their heights.
+//! The nodes of the tree of a Go file, with what they write, the rules that they keep to, their heights, and how strongly operators bind.
 #![tactic(auto)]
 
 mod decls;
 mod exprs;
 mod files;
 mod names;
+mod operators;
 mod stmts;
 mod types;
 
@@ -21,6 +22,7 @@ pub use files::{
     TopDecl,
 };
 pub use names::{Ident, Idents, NextIdent, TextLiteral};
+pub use operators::{LOWEST, UNARY, is_unary, rank};
 pub use stmts::{
     Assignment, Branch, Definition, ForHead, IfHead, InitPart, Line, Loop, Otherwise, Simple, Stmt,
     Update,

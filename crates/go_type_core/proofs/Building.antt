@@ -7,8 +7,8 @@ use Rattle.go_text_core.specs.declared.rule.Rule.TheVariants as rules
 use Rattle.go_term_core.specs.decl_core.declared.keys.DeclKey.{DeclKey}
 use Rattle.go_table_core.specs.settle_core.declared.kind.Kind.{Kind}
 use Rattle.go_table_core.specs.settle_core.Settled.{kind_of_term}
-use Rattle.go_table_core.specs.Entries.{Entry, Look}
-use Rattle.go_table_core.specs.Tables.{AreOf, Rise, IsKeyBefore}
+use Rattle.go_table_core.specs.Entries.{Entry, EntryLook}
+use Rattle.go_table_core.specs.Tables.{AreOf, KeysRise, IsKeyBefore}
 use Rattle.go_type_core.specs.declared.build.TypeFault.{TypeFault}
 use Rattle.go_type_core.specs.Built.{IsLooped, kept_over, IsEntry, AreEntries, looped_faults, IsBuilt}
 use Rattle.go_type_core.specs.mirrors.Numbers.{keys_of, number_of, IsTable}
@@ -69,13 +69,13 @@ faults_more i n (false ∷ ms) m e = faults_more (suc i) n ms m (omega (arith, e
 -- entries
 
 -- entries by their numbers
-are_entries : (written : List Entry) (far : Look) (kind : DeclKey → Kind) (ws es : List Entry) → length es ≡ length ws → ((i : ℕ) (w e : Entry) → slice_get ws i ≡ Some w → slice_get es i ≡ Some e → IsEntry written far kind w e) → AreEntries written far kind ws es
+are_entries : (written : List Entry) (far : EntryLook) (kind : DeclKey → Kind) (ws es : List Entry) → length es ≡ length ws → ((i : ℕ) (w e : Entry) → slice_get ws i ≡ Some w → slice_get es i ≡ Some e → IsEntry written far kind w e) → AreEntries written far kind ws es
 are_entries written far kind [] [] n h = tt
 are_entries written far kind [] (e ∷ es) n h = absurd (omega (arith, n))
 are_entries written far kind (w ∷ ws) [] n h = absurd (omega (arith, n))
 are_entries written far kind (w ∷ ws) (e ∷ es) n h = (h 0 w e refl refl, are_entries written far kind ws es (omega (arith, n)) (λ i v f at there. h (suc i) v f at there))
 
-module _ (written : List Entry) (far : Look) (looped nothing : List Bool) (next ends : List (Option ℕ)) (ks : List Kind)
+module _ (written : List Entry) (far : EntryLook) (looped nothing : List Bool) (next ends : List (Option ℕ)) (ks : List Kind)
     (r : IsRooted written far looped nothing next ends) (made : IsTable ks (length written) (kind_at far nothing written ends)) where
   abbrev the_kind : DeclKey → Kind
   the_kind = known_kind (keys_of written) ks far
@@ -123,7 +123,7 @@ own_kept path [] (e ∷ es) same own = (let n = same.0 in absurd (omega (arith, 
 own_kept path (w ∷ ws) [] same own = (let n = same.0 in absurd (omega (arith, n)))
 own_kept path (w ∷ ws) (e ∷ es) same own = (ap (λ k. k.path) (same.1 0 w e refl refl) ∙ own.0, own_kept path ws es (same_rest w e ws es same) own.1)
 
-pub rise_kept : (ws es : List Entry) → SameKeys ws es → Rise ws → Rise es
+pub rise_kept : (ws es : List Entry) → SameKeys ws es → KeysRise ws → KeysRise es
 rise_kept [] [] same rise = tt
 rise_kept [] (e ∷ es) same rise = (let n = same.0 in absurd (omega (arith, n)))
 rise_kept (w ∷ ws) [] same rise = (let n = same.0 in absurd (omega (arith, n)))
@@ -136,7 +136,7 @@ rise_kept (w ∷ v ∷ ws) (e ∷ f ∷ es) same rise =
     let here = subst (λ k. IsKeyBefore k v.key) (sym one) rise.0 in
     (subst (λ k. IsKeyBefore e.key k) (sym two) here, rise_kept (v ∷ ws) (f ∷ es) (same_rest w e (v ∷ ws) (f ∷ es) same) rise.1)
 
-pub same_keys : (written types : List Entry) (far : Look) (kind : DeclKey → Kind) (nothing : List Bool) (ends : List (Option ℕ)) → IsTable types (length written) (entry_at far kind nothing written ends) → SameKeys written types
+pub same_keys : (written types : List Entry) (far : EntryLook) (kind : DeclKey → Kind) (nothing : List Bool) (ends : List (Option ℕ)) → IsTable types (length written) (entry_at far kind nothing written ends) → SameKeys written types
 same_keys written types far kind nothing ends table = (
   table.as_many,
   λ i w e at there.

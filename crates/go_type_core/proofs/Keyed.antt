@@ -11,10 +11,10 @@ use denote.Enum.Bare.{sameb, same_true, true_same}
 use Rattle.go_term_core.specs.decl_core.contracts.places.DeclKind as decl_kind
 use Rattle.go_term_core.specs.decl_core.declared.keys.DeclKey.{DeclKey}
 use Rattle.go_term_core.specs.decl_core.declared.keys.DeclRef.{DeclRef}
-use Rattle.go_table_core.specs.Entries.{Entry, same_decl, same_key, find}
+use Rattle.go_table_core.specs.Entries.{Entry, same_decl, same_key, find_entry}
 use Rattle.go_table_core.specs.declared.entry.TypeEntry.{TypeEntry}
 use Rattle.go_table_core.specs.Shown.{entry_shown}
-use Rattle.go_table_core.specs.Tables.{AreOf, Rise}
+use Rattle.go_table_core.specs.Tables.{AreOf, KeysRise}
 use Rattle.go_type_core.specs.mirrors.Numbers.{keys_of, keys_in, number_of, is_ref_before, RefsRise, IsTable}
 
 -- equal keys
@@ -43,14 +43,14 @@ same_key_from a b e = subst (λ (x : DeclKey). same_key a x ≡ true) e (same_ke
 pub record At (es : List Entry) (k : DeclKey) (i : ℕ) (e : Entry) : Type 0 where
   pub numbered : number_of (keys_of es) k ≡ Some i
   pub stands : slice_get es i ≡ Some e
-  pub found : find es k ≡ Some e
+  pub found : find_entry es k ≡ Some e
   pub key : e.key ≡ k
 
 abbrev number_by : List Entry → DeclKey → Bool → Option ℕ
 number_by es k b = if b then Some 0 else option_map suc (number_of (keys_of es) k)
 
 abbrev found_by : Entry → List Entry → DeclKey → Bool → Option Entry
-found_by w es k b = if b then Some w else find es k
+found_by w es k b = if b then Some w else find_entry es k
 
 at_first : (w : Entry) (es : List Entry) (k : DeclKey) → same_key w.key k ≡ true → At (w ∷ es) k 0 w
 at_first w es k t = record {
@@ -60,7 +60,7 @@ at_first w es k t = record {
   key = same_key_true w.key k t;
 }
 
-pub found_first : (w : Entry) (es : List Entry) (k : DeclKey) → same_key w.key k ≡ true → find (w ∷ es) k ≡ Some w
+pub found_first : (w : Entry) (es : List Entry) (k : DeclKey) → same_key w.key k ≡ true → find_entry (w ∷ es) k ≡ Some w
 found_first w es k t = ap (found_by w es k) t
 
 at_later : (w : Entry) (es : List Entry) (k : DeclKey) (i : ℕ) (e : Entry) → same_key w.key k ≡ false → At es k i e → At (w ∷ es) k (suc i) e
@@ -71,7 +71,7 @@ at_later w es k i e t h = record {
   key = h.key;
 }
 
-found_step : (w : Entry) (es : List Entry) (k : DeclKey) (e : Entry) (b : Bool) → same_key w.key k ≡ b → (find es k ≡ Some e → (i : ℕ) × At es k i e) → find (w ∷ es) k ≡ Some e → (i : ℕ) × At (w ∷ es) k i e
+found_step : (w : Entry) (es : List Entry) (k : DeclKey) (e : Entry) (b : Bool) → same_key w.key k ≡ b → (find_entry es k ≡ Some e → (i : ℕ) × At es k i e) → find_entry (w ∷ es) k ≡ Some e → (i : ℕ) × At (w ∷ es) k i e
 found_step w es k e true t more h =
     let same : Some w ≡ Some e = sym (ap (found_by w es k) t) ∙ h in
     let we : w ≡ e = cc in
@@ -80,7 +80,7 @@ found_step w es k e false t more h =
     let rest = more (sym (ap (found_by w es k) t) ∙ h) in
     (suc rest.0, at_later w es k rest.0 e t rest.1)
 
-pub at_found : (es : List Entry) (k : DeclKey) (e : Entry) → find es k ≡ Some e → (i : ℕ) × At es k i e
+pub at_found : (es : List Entry) (k : DeclKey) (e : Entry) → find_entry es k ≡ Some e → (i : ℕ) × At es k i e
 at_found [] k e h = absurd (cc)
 at_found (w ∷ es) k e h = found_step w es k e (same_key w.key k) refl (at_found es k e) h
 
@@ -102,19 +102,19 @@ pub at_number : (es : List Entry) (k : DeclKey) (i : ℕ) → number_of (keys_of
 at_number [] k i h = absurd (cc)
 at_number (w ∷ es) k i h = number_step w es k i (same_key w.key k) refl (at_number es k) h
 
-not_found_by : (es : List Entry) (k : DeclKey) (o : Option Entry) → find es k ≡ o → number_of (keys_of es) k ≡ None → find es k ≡ None
+not_found_by : (es : List Entry) (k : DeclKey) (o : Option Entry) → find_entry es k ≡ o → number_of (keys_of es) k ≡ None → find_entry es k ≡ None
 not_found_by es k None f h = f
 not_found_by es k (Some e) f h = (let at = at_found es k e f in let n : Some at.0 ≡ None = sym at.1.numbered ∙ h in absurd (cc))
 
 -- what has no number is not found
-pub not_found : (es : List Entry) (k : DeclKey) → number_of (keys_of es) k ≡ None → find es k ≡ None
-not_found es k h = not_found_by es k (find es k) refl h
+pub not_found : (es : List Entry) (k : DeclKey) → number_of (keys_of es) k ≡ None → find_entry es k ≡ None
+not_found es k h = not_found_by es k (find_entry es k) refl h
 
-not_numbered_by : (es : List Entry) (k : DeclKey) (o : Option ℕ) → number_of (keys_of es) k ≡ o → find es k ≡ None → number_of (keys_of es) k ≡ None
+not_numbered_by : (es : List Entry) (k : DeclKey) (o : Option ℕ) → number_of (keys_of es) k ≡ o → find_entry es k ≡ None → number_of (keys_of es) k ≡ None
 not_numbered_by es k None n h = n
 not_numbered_by es k (Some i) n h = (let at = at_number es k i n in let f : Some at.0 ≡ None = sym at.1.found ∙ h in absurd (cc))
 
-pub not_numbered : (es : List Entry) (k : DeclKey) → find es k ≡ None → number_of (keys_of es) k ≡ None
+pub not_numbered : (es : List Entry) (k : DeclKey) → find_entry es k ≡ None → number_of (keys_of es) k ≡ None
 not_numbered es k h = not_numbered_by es k (number_of (keys_of es) k) refl h
 
 -- keys that differ
@@ -169,16 +169,16 @@ not_before_itself a b e h =
     elim (before_from a b h) [ inl f ↦ absurd (omega (arith, file, f)) | inr s ↦ (let lt = s.1 in absurd (omega (arith, number, lt))) ]
 
 -- the first of entries that rise stands before each of the others
-rise_first : (w : Entry) (es : List Entry) → Rise (w ∷ es) → (i : ℕ) (e : Entry) → slice_get es i ≡ Some e → is_ref_before w.key.decl e.key.decl ≡ true
+rise_first : (w : Entry) (es : List Entry) → KeysRise (w ∷ es) → (i : ℕ) (e : Entry) → slice_get es i ≡ Some e → is_ref_before w.key.decl e.key.decl ≡ true
 rise_first w [] rise i e h = absurd (cc)
 rise_first w (v ∷ es) rise zero e h = (let ve : v ≡ e = cc in subst (λ (x : Entry). is_ref_before w.key.decl x.key.decl ≡ true) ve rise.0)
 rise_first w (v ∷ es) rise (suc i) e h = ref_before_on w.key.decl v.key.decl e.key.decl rise.0 (rise_first v es rise.1 i e h)
 
-rise_rest : (w : Entry) (es : List Entry) → Rise (w ∷ es) → Rise es
+rise_rest : (w : Entry) (es : List Entry) → KeysRise (w ∷ es) → KeysRise es
 rise_rest w [] rise = tt
 rise_rest w (v ∷ es) rise = rise.1
 
-pub rise_apart : (es : List Entry) → Rise es → Apart es
+pub rise_apart : (es : List Entry) → KeysRise es → Apart es
 rise_apart [] rise = tt
 rise_apart (w ∷ es) rise = ((λ i e h same. not_before_itself w.key.decl e.key.decl (ap (λ k. k.decl) same) (rise_first w es rise i e h)), rise_apart es (rise_rest w es rise))
 
@@ -288,7 +288,7 @@ entry_at_ref [] j d at = absurd (cc)
 entry_at_ref (e ∷ es) zero d at = (entry_shown e, refl, (let q : e.key.decl ≡ d = cc in q))
 entry_at_ref (e ∷ es) (suc j) d at = entry_at_ref es j d at
 
-rise_at : (es : List TypeEntry) (i j : ℕ) (d : DeclRef) → Rise (map entry_shown es) → i < j → j < length (map (λ e. e.key.decl) es) → is_ref_before (get_or (map (λ e. e.key.decl) es) i d) (get_or (map (λ e. e.key.decl) es) j d) ≡ true
+rise_at : (es : List TypeEntry) (i j : ℕ) (d : DeclRef) → KeysRise (map entry_shown es) → i < j → j < length (map (λ e. e.key.decl) es) → is_ref_before (get_or (map (λ e. e.key.decl) es) i d) (get_or (map (λ e. e.key.decl) es) j d) ≡ true
 rise_at [] i j d rise lt within = absurd (omega (arith, within))
 rise_at (e ∷ es) i zero d rise lt within = absurd (omega (arith, lt))
 rise_at (e ∷ es) zero (suc j) d rise lt within =
@@ -297,7 +297,7 @@ rise_at (e ∷ es) zero (suc j) d rise lt within =
     subst (λ x. is_ref_before e.key.decl x ≡ true) at.2 (rise_first (entry_shown e) (map entry_shown es) rise j at.0 at.1)
 rise_at (e ∷ es) (suc i) (suc j) d rise lt within = rise_at es i j d (rise_rest (entry_shown e) (map entry_shown es) rise) (omega (arith, lt)) (omega (arith, within))
 
-pub refs_rise : (es : List TypeEntry) → Rise (map entry_shown es) → RefsRise (map (λ e. e.key.decl) es)
+pub refs_rise : (es : List TypeEntry) → KeysRise (map entry_shown es) → RefsRise (map (λ e. e.key.decl) es)
 refs_rise es rise i j d lt within = rise_at es i j d rise lt within
 
 -- what look-ups answer

@@ -6,9 +6,9 @@ use Rattle.go_table_core.specs.settle_core.declared.kind.Kind.{Kind}
 use Rattle.go_table_core.specs.settle_core.declared.kind.Kind.TheVariants as kinds
 use Rattle.go_table_core.specs.settle_core.Settled.{kind_of_term}
 use Rattle.go_term_core.specs.Terms.{Term, Defined}
-use Rattle.go_table_core.specs.Entries.{Entry, Look, find, term_in}
+use Rattle.go_table_core.specs.Entries.{Entry, EntryLook, find_entry, term_in}
 use Rattle.go_type_core.specs.declared.build.TypeFault.{TypeFault}
-use Rattle.go_type_core.specs.Built.{IsNothing, IsUnderlying, kept_over, IsEntry, AreEntries, looped_faults, IsBuilt}
+use Rattle.go_type_core.specs.Built.{IsNoTypeHere, IsUnderlying, kept_over, IsEntry, AreEntries, looped_faults, IsBuilt}
 use Rattle.go_type_core.specs.Laws.{OneSettled}
 use Rattle.go_type_core.proofs.Keyed.{at_found}
 use Rattle.go_type_core.proofs.Nothings.{far_term}
@@ -23,19 +23,19 @@ same_test false false h k = refl
 
 -- entries of one list
 
-entry_there : (written : List Entry) (far : Look) (kind : DeclKey → Kind) (ws es : List Entry) (i : ℕ) (w : Entry) → AreEntries written far kind ws es → slice_get ws i ≡ Some w → (e : Entry) × IsEntry written far kind w e
+entry_there : (written : List Entry) (far : EntryLook) (kind : DeclKey → Kind) (ws es : List Entry) (i : ℕ) (w : Entry) → AreEntries written far kind ws es → slice_get ws i ≡ Some w → (e : Entry) × IsEntry written far kind w e
 entry_there written far kind [] es i w h at = absurd (cc)
 entry_there written far kind (v ∷ ws) [] i w h at = absurd h
 entry_there written far kind (v ∷ ws) (e ∷ es) zero w h at = (let vw : v ≡ w = cc in (e, subst (λ x. IsEntry written far kind x e) vw h.0))
 entry_there written far kind (v ∷ ws) (e ∷ es) (suc i) w h at = entry_there written far kind ws es i w h.1 at
 
-underlying_one : (written : List Entry) (far : Look) (kind : DeclKey → Kind) (k : DeclKey) (u v : Term) → IsUnderlying written far kind k u → IsUnderlying written far kind k v → u ≡ v
+underlying_one : (written : List Entry) (far : EntryLook) (kind : DeclKey → Kind) (k : DeclKey) (u v : Term) → IsUnderlying written far kind k u → IsUnderlying written far kind k v → u ≡ v
 underlying_one written far kind k u v h g = elim h [
   | inl x ↦ elim g [ inl y ↦ x.1 ∙ sym y.1 | inr y ↦ absurd (y.0 x.0) ]
   | inr x ↦ elim g [ inl y ↦ absurd (x.0 y.0) | inr y ↦ under_one written far kind (Defined k) u v x.1.0 y.1.0 x.1.1 y.1.1 ]
 ]
 
-entry_one : (written : List Entry) (far : Look) (kind : DeclKey → Kind) (w e f : Entry) → IsEntry written far kind w e → IsEntry written far kind w f → e ≡ f
+entry_one : (written : List Entry) (far : EntryLook) (kind : DeclKey → Kind) (w e f : Entry) → IsEntry written far kind w e → IsEntry written far kind w f → e ≡ f
 entry_one written far kind w e f h g =
     let key : e.key ≡ f.key = h.key ∙ sym g.key in
     let name : e.name ≡ f.name = h.name ∙ sym g.name in
@@ -43,7 +43,7 @@ entry_one written far kind w e f h g =
     let methods : e.methods ≡ f.methods = h.methods ∙ (ap (λ t. kept_over (kind_of_term t) kind w.key.path t w.methods) term ∙ sym g.methods) in
     λ i. record { key = key i; name = name i; term = term i; methods = methods i }
 
-entries_one : (written : List Entry) (far : Look) (kind : DeclKey → Kind) (ws es fs : List Entry) → AreEntries written far kind ws es → AreEntries written far kind ws fs → es ≡ fs
+entries_one : (written : List Entry) (far : EntryLook) (kind : DeclKey → Kind) (ws es fs : List Entry) → AreEntries written far kind ws es → AreEntries written far kind ws fs → es ≡ fs
 entries_one written far kind [] [] [] h g = refl
 entries_one written far kind [] [] (f ∷ fs) h g = absurd g
 entries_one written far kind [] (e ∷ es) fs h g = absurd h
@@ -54,7 +54,7 @@ entries_one written far kind (w ∷ ws) (e ∷ es) (f ∷ fs) h g =
     let tail : es ≡ fs = entries_one written far kind ws es fs h.1 g.1 in
     λ i. head i ∷ tail i
 
-module _ (far : Look) (written one other : List Entry) (faults others : List TypeFault) (a : IsBuilt far written one faults) (b : IsBuilt far written other others) where
+module _ (far : EntryLook) (written one other : List Entry) (faults others : List TypeFault) (a : IsBuilt far written one faults) (b : IsBuilt far written other others) where
   looped_same : (k : DeclKey) → a.looped k ≡ b.looped k
   looped_same k = same_test (a.looped k) (b.looped k) (a.looped_are k) (b.looped_are k)
 
@@ -66,15 +66,15 @@ module _ (far : Look) (written one other : List Entry) (faults others : List Typ
   nothing_alike : (k : DeclKey) → (a.kind k ≡ kinds.Nothing) ↔ (b.kind k ≡ kinds.Nothing)
   nothing_alike k = ((λ h. (b.nothing_is k).1 ((a.nothing_is k).0 h)), (λ h. (a.nothing_is k).1 ((b.nothing_is k).0 h)))
 
-  both_nothing : (k : DeclKey) → IsNothing written far (Defined k) → a.kind k ≡ b.kind k
+  both_nothing : (k : DeclKey) → IsNoTypeHere written far (Defined k) → a.kind k ≡ b.kind k
   both_nothing k n = (a.nothing_is k).1 n ∙ sym ((b.nothing_is k).1 n)
 
-  far_kind : (k : DeclKey) (o : Option Entry) → find written k ≡ None → far k ≡ o → a.kind k ≡ b.kind k
+  far_kind : (k : DeclKey) (o : Option Entry) → find_entry written k ≡ None → far k ≡ o → a.kind k ≡ b.kind k
   far_kind k None gone h = both_nothing k ([], inr (k, refl, inr (gone, inl h)))
   far_kind k (Some e) gone h = elim (some_or_none e.term) [
     | inl none ↦ both_nothing k ([], inr (k, refl, inr (gone, inr (e, h, none))))
     | inr some ↦
-        let not : IsNothing written far (Defined k) → ⊥ = λ n. some (ap term_in (sym h) ∙ far_term far k (gone_nothing written far k gone n)) in
+        let not : IsNoTypeHere written far (Defined k) → ⊥ = λ n. some (ap term_in (sym h) ∙ far_term far k (gone_nothing written far k gone n)) in
         a.kinds_are k e.term (inr (not, ([], inr (k, e, refl, gone, h, refl)))) ∙ sym (b.kinds_are k e.term (inr (not, ([], inr (k, e, refl, gone, h, refl)))))
   ]
 
@@ -92,7 +92,7 @@ module _ (far : Look) (written one other : List Entry) (faults others : List Typ
   own_kind k e x y is h g =
       ap a.kind (sym is) ∙ (a.kinds_are e.key x.term h.term ∙ (under_kinds e.key x.term y.term h.term g.term ∙ (sym (b.kinds_are e.key y.term g.term) ∙ ap b.kind is)))
 
-  kind_cases : (k : DeclKey) (o : Option Entry) → find written k ≡ o → a.kind k ≡ b.kind k
+  kind_cases : (k : DeclKey) (o : Option Entry) → find_entry written k ≡ o → a.kind k ≡ b.kind k
   kind_cases k None f = far_kind k (far k) f refl
   kind_cases k (Some e) f =
       let at = at_found written k e f in
@@ -101,7 +101,7 @@ module _ (far : Look) (written one other : List Entry) (faults others : List Typ
       own_kind k e x.0 y.0 at.1.key x.1 y.1
 
   kind_same : a.kind ≡ b.kind
-  kind_same = λ i k. kind_cases k (find written k) refl i
+  kind_same = λ i k. kind_cases k (find_entry written k) refl i
 
   types_same : one ≡ other
   types_same = entries_one written far b.kind written one other (subst (λ kind. AreEntries written far kind written one) kind_same a.entries) b.entries

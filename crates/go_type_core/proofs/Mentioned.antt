@@ -6,17 +6,17 @@ use Rattle.go_text_core.specs.Text.{is_blank}
 use Rattle.go_term_core.specs.decl_core.declared.keys.DeclKey.{DeclKey}
 use Rattle.go_table_core.specs.settle_core.declared.kind.Kind.{Kind}
 use Rattle.go_table_core.specs.settle_core.declared.kind.Kind.TheVariants as kinds
-use Rattle.go_table_core.specs.settle_core.Settled.{kind_of_term, has_name, settled_sign}
+use Rattle.go_table_core.specs.settle_core.Settled.{kind_of_term, is_among_names, settled_sign}
 use Rattle.go_table_core.specs.settle_core.Mentions.{settled_mentions_written, sign_mentions}
 use Rattle.go_term_core.specs.Terms.{Term, Defined, term_keys, sign_keys}
-use Rattle.go_table_core.specs.Entries.{Entry, Member, Look, find, members_keys, entry_keys}
+use Rattle.go_table_core.specs.Entries.{Entry, Member, EntryLook, find_entry, members_keys, entry_keys}
 use Rattle.go_table_core.specs.Methods.{has_field_before}
-use Rattle.go_type_core.specs.Built.{IsUnderBy, IsUnderlying, settled_member, kept, kept_over, IsEntry, AreEntries}
+use Rattle.go_type_core.specs.Built.{IsUnderBy, IsUnderlying, settled_member, unrepeated_methods, kept_over, IsEntry, AreEntries}
 use Rattle.go_type_core.specs.Laws.{written_keys, FarMentions, BuiltMentionsWritten}
 use Rattle.go_type_core.proofs.Elsewhere.{none_there, one_there, first_in, later_in, found_in, keys_in, key_found}
 
 -- the declaration of a type
-entry_from : (written : List Entry) (far : Look) (kind : DeclKey → Kind) (ws es : List Entry) (e : Entry) → AreEntries written far kind ws es → Contains es e → (w : Entry) × Contains ws w × IsEntry written far kind w e
+entry_from : (written : List Entry) (far : EntryLook) (kind : DeclKey → Kind) (ws es : List Entry) (e : Entry) → AreEntries written far kind ws es → Contains es e → (w : Entry) × Contains ws w × IsEntry written far kind w e
 entry_from written far kind ws [] e h at = absurd (none_there e at)
 entry_from written far kind [] (x ∷ es) e h at = absurd h
 entry_from written far kind (w ∷ ws) (x ∷ es) e h at = elim (Contains-append_cases (x ∷ []) es e at) [
@@ -34,10 +34,10 @@ kept_by kind m without rest ms j false h k at = elim (Contains-append_cases (sig
   | inr there ↦ Contains-append_right (sign_keys m.sign) (members_keys ms) j (k there)
 ]
 
-kept_mention : (kind : DeclKey → Kind) (path : List ℕ) (u : Term) (seen : List (List ℕ)) (ms : List Member) (j : DeclKey) → Contains (members_keys (kept kind path u seen ms)) j → Contains (members_keys ms) j
+kept_mention : (kind : DeclKey → Kind) (path : List ℕ) (u : Term) (seen : List (List ℕ)) (ms : List Member) (j : DeclKey) → Contains (members_keys (unrepeated_methods kind path u seen ms)) j → Contains (members_keys ms) j
 kept_mention kind path u seen [] j at = at
 kept_mention kind path u seen (m ∷ ms) j at =
-    kept_by kind m (kept kind path u seen ms) (kept kind path u (m.name ∷ seen) ms) ms j (is_blank m.name || (has_name seen m.name || has_field_before path u m)) (kept_mention kind path u seen ms j) (kept_mention kind path u (m.name ∷ seen) ms j) at
+    kept_by kind m (unrepeated_methods kind path u seen ms) (unrepeated_methods kind path u (m.name ∷ seen) ms) ms j (is_blank m.name || (is_among_names seen m.name || has_field_before path u m)) (kept_mention kind path u seen ms j) (kept_mention kind path u (m.name ∷ seen) ms j) at
 
 kept_over_mention : (n : Kind) (kind : DeclKey → Kind) (path : List ℕ) (u : Term) (ms : List Member) (j : DeclKey) → Contains (members_keys (kept_over n kind path u ms)) j → Contains (members_keys ms) j
 kept_over_mention kinds.Nothing kind path u ms j at = kept_mention kind path u [] ms j at
@@ -47,7 +47,7 @@ kept_over_mention kinds.Other kind path u ms j at = kept_mention kind path u [] 
 
 -- underlying types
 
-module _ (far : Look) (written : List Entry) (kind : DeclKey → Kind) (j : DeclKey) where
+module _ (far : EntryLook) (written : List Entry) (kind : DeclKey → Kind) (j : DeclKey) where
   abbrev Told : Type 0
   Told = Contains (written_keys written) j ⊎ FarMentions far written j
 
@@ -65,18 +65,18 @@ module _ (far : Look) (written : List Entry) (kind : DeclKey → Kind) (j : Decl
   ]
   led t u (k ∷ ks) inside h at = (let w = h.1.0 in led w.term u ks (within w (found_in written k w h.1.1)) h.1.2 at)
 
-  name_led : (k : DeclKey) (v : Entry) (u : Term) (through : List DeclKey) → find written k ≡ Some v → IsUnderBy written far kind (Defined k) through u → Contains (term_keys u) j → Told
+  name_led : (k : DeclKey) (v : Entry) (u : Term) (through : List DeclKey) → find_entry written k ≡ Some v → IsUnderBy written far kind (Defined k) through u → Contains (term_keys u) j → Told
   name_led k v u [] f h at = elim h [
     | inl plain ↦ absurd plain.0
     | inr x ↦
         let both : Defined k ≡ Defined x.0 = x.2 in
         let kx : k ≡ x.0 = cc in
-        let clash : Some v ≡ None = sym f ∙ (ap (find written) kx ∙ x.3) in
+        let clash : Some v ≡ None = sym f ∙ (ap (find_entry written) kx ∙ x.3) in
         absurd (cc)
   ]
   name_led k v u (i ∷ is) f h at = (let w = h.1.0 in led w.term u is (within w (found_in written i w h.1.1)) h.1.2 at)
 
-  under_told : (k : DeclKey) (v : Entry) (u : Term) → find written k ≡ Some v → IsUnderlying written far kind k u → Contains (term_keys u) j → Told
+  under_told : (k : DeclKey) (v : Entry) (u : Term) → find_entry written k ≡ Some v → IsUnderlying written far kind k u → Contains (term_keys u) j → Told
   under_told k v u f h at = elim h [
     | inl none ↦ absurd (none_there j (subst (λ x. Contains (term_keys x) j) none.1 at))
     | inr some ↦ name_led k v u some.1.0 f some.1.1 at

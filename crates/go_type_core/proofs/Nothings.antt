@@ -4,10 +4,10 @@ use Rattle.std.specs.Prelude.{slice_get}
 use Rattle.std.proofs.lemmas.Option.{slice_get_within, slice_get_cases, slice_get-get_or}
 use Rattle.std.proofs.lemmas.Bool.{or_cases, or_left, or_right}
 use Rattle.go_term_core.specs.decl_core.declared.keys.DeclKey.{DeclKey}
-use Rattle.go_chain_core.specs.Chains.{Leads, EndsAt, AreEnds, AllInside}
+use Rattle.go_chain_core.specs.Chains.{ChainLeads, EndsAt, AreEnds, AllInside}
 use Rattle.go_term_core.specs.Terms.{Term, NoType, Predeclared, ErrorType, Defined, PointerTo, StructOf, InterfaceOf}
-use Rattle.go_table_core.specs.Entries.{Entry, Look, find, term_in}
-use Rattle.go_type_core.specs.Built.{base, NamesNothing, IsNothingBy, IsNothing, UsesAlong, IsLooped}
+use Rattle.go_table_core.specs.Entries.{Entry, EntryLook, find_entry, term_in}
+use Rattle.go_type_core.specs.Built.{base, NamesNothing, IsNothingBy, IsNoTypeHere, UsesAlong, IsLooped}
 use Rattle.go_type_core.specs.mirrors.Numbers.{keys_of, number_of, term_at, IsTable}
 use Rattle.go_type_core.specs.mirrors.Edges.{AreLooped}
 use Rattle.go_type_core.specs.mirrors.Chained.{named_number, next_unless, next_bare, is_no_type, is_lacking, is_bad_end, is_bad_at, nothing_at, AreNothing}
@@ -43,14 +43,14 @@ pub record IsStep (written : List Entry) (looped : List Bool) (f : Term → Term
   pub at : At written key j target
 
 -- two chains from one number end at one number
-pub leads_one : (next : List (Option ℕ)) (i e o : ℕ) (p q : List ℕ) → Leads next i p e → Leads next i q o → slice_get next e ≡ Some None → slice_get next o ≡ Some None → e ≡ o
+pub leads_one : (next : List (Option ℕ)) (i e o : ℕ) (p q : List ℕ) → ChainLeads next i p e → ChainLeads next i q o → slice_get next e ≡ Some None → slice_get next o ≡ Some None → e ≡ o
 leads_one next i e o [] [] h k he ho = sym h ∙ k
 leads_one next i e o [] (m ∷ q) h k he ho = (let a : Some (Some m) ≡ Some None = sym k.0 ∙ (ap (slice_get next) h ∙ he) in absurd (let b : Some m ≡ None = cc in (cc)))
 leads_one next i e o (n ∷ p) [] h k he ho = (let a : Some (Some n) ≡ Some None = sym h.0 ∙ (ap (slice_get next) k ∙ ho) in absurd (let b : Some n ≡ None = cc in (cc)))
 leads_one next i e o (n ∷ p) (m ∷ q) h k he ho =
     let a : Some (Some n) ≡ Some (Some m) = sym h.0 ∙ k.0 in
     let b : n ≡ m = cc in
-    leads_one next n e o p q h.1 (subst (λ x. Leads next x q o) (sym b) k.1) he ho
+    leads_one next n e o p q h.1 (subst (λ x. ChainLeads next x q o) (sym b) k.1) he ho
 
 pub ends_one : (next : List (Option ℕ)) (i e o : ℕ) → EndsAt next i e → EndsAt next i o → e ≡ o
 ends_one next i e o h k = leads_one next i e o h.0 k.0 h.1 k.1 h.2 k.2
@@ -123,21 +123,21 @@ no_type_is (StructOf path fs) h = absurd (cc)
 no_type_is (InterfaceOf path ms) h = absurd (cc)
 
 -- what another package has of a key is nothing
-abbrev pub FarNothing : Look → DeclKey → Type 0
+abbrev pub FarNothing : EntryLook → DeclKey → Type 0
 FarNothing far k = (far k ≡ None) ⊎ ((e : Entry) × (far k ≡ Some e) × (e.term ≡ NoType))
 
-far_cases : (far : Look) (k : DeclKey) (o : Option Entry) → far k ≡ o → term_in o ≡ NoType → FarNothing far k
+far_cases : (far : EntryLook) (k : DeclKey) (o : Option Entry) → far k ≡ o → term_in o ≡ NoType → FarNothing far k
 far_cases far k None e h = inl e
 far_cases far k (Some x) e h = inr (x, e, h)
 
-pub far_nothing : (far : Look) (k : DeclKey) → term_in (far k) ≡ NoType → FarNothing far k
+pub far_nothing : (far : EntryLook) (k : DeclKey) → term_in (far k) ≡ NoType → FarNothing far k
 far_nothing far k h = far_cases far k (far k) refl h
 
-pub far_term : (far : Look) (k : DeclKey) → FarNothing far k → term_in (far k) ≡ NoType
+pub far_term : (far : EntryLook) (k : DeclKey) → FarNothing far k → term_in (far k) ≡ NoType
 far_term far k h = elim h [ inl none ↦ ap term_in none | inr some ↦ ap term_in some.1 ∙ some.2 ]
 
 -- a type that is lacking at the end of a chain
-pub lacking_is : (far : Look) (t : Term) → is_lacking far t ≡ true → (t ≡ NoType) ⊎ ((k : DeclKey) × (t ≡ Defined k) × FarNothing far k)
+pub lacking_is : (far : EntryLook) (t : Term) → is_lacking far t ≡ true → (t ≡ NoType) ⊎ ((k : DeclKey) × (t ≡ Defined k) × FarNothing far k)
 lacking_is far NoType h = inl refl
 lacking_is far (Predeclared b) h = absurd (cc)
 lacking_is far ErrorType h = absurd (cc)
@@ -147,25 +147,25 @@ lacking_is far (StructOf path fs) h = absurd (cc)
 lacking_is far (InterfaceOf path ms) h = absurd (cc)
 
 -- what leads to nothing is seen by the type without stars alone
-pub nothing_by_base : (written : List Entry) (far : Look) (t u : Term) (through : List DeclKey) → base t ≡ base u → IsNothingBy written far t through → IsNothingBy written far u through
+pub nothing_by_base : (written : List Entry) (far : EntryLook) (t u : Term) (through : List DeclKey) → base t ≡ base u → IsNothingBy written far t through → IsNothingBy written far u through
 nothing_by_base written far t u [] e h = elim h [ inl n ↦ inl (sym e ∙ n) | inr k ↦ inr (k.0, sym e ∙ k.1, k.2) ]
 nothing_by_base written far t u (k ∷ ks) e h = (sym e ∙ h.0, h.1)
 
-pub looped_found : (written : List Entry) (k : DeclKey) → IsLooped written k → (e : Entry) × (find written k ≡ Some e)
+pub looped_found : (written : List Entry) (k : DeclKey) → IsLooped written k → (e : Entry) × (find_entry written k ≡ Some e)
 looped_found written k loop = first loop.0 loop.1
   where
-    first : (between : List DeclKey) → UsesAlong written k between k → (e : Entry) × (find written k ≡ Some e)
+    first : (between : List DeclKey) → UsesAlong written k between k → (e : Entry) × (find_entry written k ≡ Some e)
     first [] u = (u.0, u.1)
     first (m ∷ ms) u = (u.0.0, u.0.1)
 
-module _ (written : List Entry) (apart : Apart written) (far : Look) (looped : List Bool) (are : AreLooped written looped) (next : List (Option ℕ))
+module _ (written : List Entry) (apart : Apart written) (far : EntryLook) (looped : List Bool) (are : AreLooped written looped) (next : List (Option ℕ))
     (table : IsTable next (length written) (next_bare (keys_of written) looped written)) where
   -- from the end of a chain to what is nothing
 
-  bad_here : (i : ℕ) (w : Entry) (b : Bool) → slice_get written i ≡ Some w → get_or looped i false ≡ b → slice_get next i ≡ Some None → is_bad_end far looped written i ≡ true → IsNothing written far (Defined w.key)
+  bad_here : (i : ℕ) (w : Entry) (b : Bool) → slice_get written i ≡ Some w → get_or looped i false ≡ b → slice_get next i ≡ Some None → is_bad_end far looped written i ≡ true → IsNoTypeHere written far (Defined w.key)
   bad_here i w true at mark stop bad = ([], inr (w.key, refl, inl ((are i w at).0 mark)))
   bad_here i w false at mark stop bad =
-      let found : find written w.key ≡ Some w = (at_place written i w apart at).found in
+      let found : find_entry written w.key ≡ Some w = (at_place written i w apart at).found in
       let lack : is_lacking far (base (term_at written i)) ≡ true = elim (or_cases (get_or looped i false) (is_lacking far (base (term_at written i))) bad) [ inl loops ↦ absurd (let both : false ≡ true = sym mark ∙ loops in (cc)) | inr l ↦ l ] in
       let lack_w : is_lacking far (base w.term) ≡ true = ap (λ t. is_lacking far (base t)) (sym (term_there written i w at)) ∙ lack in
       let unnamed : named_number (keys_of written) (base w.term) ≡ None = unnamed_of written apart looped base next table i w at stop mark in
@@ -175,7 +175,7 @@ module _ (written : List Entry) (apart : Apart written) (far : Look) (looped : L
             (w.key ∷ [], (refl, (w, found, inr (k.0, k.1, inr (not_found written k.0 no_number, k.2))))))
       ]
 
-  pub nothing_back : (i e : ℕ) (w : Entry) (path : List ℕ) → slice_get written i ≡ Some w → Leads next i path e → slice_get next e ≡ Some None → is_bad_end far looped written e ≡ true → IsNothing written far (Defined w.key)
+  pub nothing_back : (i e : ℕ) (w : Entry) (path : List ℕ) → slice_get written i ≡ Some w → ChainLeads next i path e → slice_get next e ≡ Some None → is_bad_end far looped written e ≡ true → IsNoTypeHere written far (Defined w.key)
   nothing_back i e w [] at h stop bad = bad_here i w (get_or looped i false) at refl (ap (slice_get next) h ∙ stop) (ap (is_bad_end far looped written) h ∙ bad)
   nothing_back i e w (j ∷ path) at h stop bad =
       let s = step_of written apart looped base next table i j h.0 in
@@ -183,7 +183,7 @@ module _ (written : List Entry) (apart : Apart written) (far : Look) (looped : L
       let same : Some s.user ≡ Some w = sym s.stands ∙ at in
       let uw : s.user ≡ w = cc in
       let b : base (Defined s.target.key) ≡ base w.term = ap Defined s.at.key ∙ (sym s.names ∙ ap (λ (x : Entry). base x.term) uw) in
-      let found : find written w.key ≡ Some w = (at_place written i w apart at).found in
+      let found : find_entry written w.key ≡ Some w = (at_place written i w apart at).found in
       (w.key ∷ rest.0, (refl, (w, found, nothing_by_base written far (Defined s.target.key) w.term rest.0 b rest.1)))
 
   -- from what is nothing to the end of a chain
@@ -230,16 +230,16 @@ module _ (written : List Entry) (apart : Apart written) (far : Look) (looped : L
   ends_badly [] i w at h = ends_step i w [] (get_or looped i false) refl at (λ j v ks k e. absurd (cc)) h
   ends_badly (m ∷ ms) i w at h = ends_step i w (m ∷ ms) (get_or looped i false) refl at (λ j v ks k e at' h'. ends_badly ms j v at' (subst (IsNothingBy written far v.term) (let q : ks ≡ ms = cc in q) h')) h
 
-  pub nothing_ends : (i : ℕ) (w : Entry) → slice_get written i ≡ Some w → IsNothing written far (Defined w.key) → EndsBadly i
+  pub nothing_ends : (i : ℕ) (w : Entry) → slice_get written i ≡ Some w → IsNoTypeHere written far (Defined w.key) → EndsBadly i
   nothing_ends i w at h = by_through h.0 h.1
     where
-      found : find written w.key ≡ Some w
+      found : find_entry written w.key ≡ Some w
       found = (at_place written i w apart at).found
 
       names : (k : DeclKey) → w.key ≡ k → NamesNothing written far k → EndsBadly i
       names k e n = elim n [
         | inl loop ↦ ends_marked i w at ((are i w at).1 (subst (IsLooped written) (sym e) loop))
-        | inr gone ↦ absurd (let both : None ≡ Some w = sym gone.0 ∙ (ap (find written) (sym e) ∙ found) in (cc))
+        | inr gone ↦ absurd (let both : None ≡ Some w = sym gone.0 ∙ (ap (find_entry written) (sym e) ∙ found) in (cc))
       ]
 
       by_through : (through : List DeclKey) → IsNothingBy written far (Defined w.key) through → EndsBadly i
@@ -247,13 +247,13 @@ module _ (written : List Entry) (apart : Apart written) (far : Look) (looped : L
       by_through (k ∷ ks) n =
           let both = n.0 in
           let e : w.key ≡ k = cc in
-          let same : Some n.1.0 ≡ Some w = sym n.1.1 ∙ (ap (find written) (sym e) ∙ found) in
+          let same : Some n.1.0 ≡ Some w = sym n.1.1 ∙ (ap (find_entry written) (sym e) ∙ found) in
           let nw : n.1.0 ≡ w = cc in
           ends_badly ks i w at (subst (λ (x : Entry). IsNothingBy written far x.term ks) nw n.1.2)
 
   -- the marks
 
-  bad_back : (ends : List (Option ℕ)) (i : ℕ) (w : Entry) (o : Option ℕ) → AreEnds next ends → slice_get written i ≡ Some w → slice_get ends i ≡ Some o → is_bad_at far looped written o ≡ true → IsNothing written far (Defined w.key)
+  bad_back : (ends : List (Option ℕ)) (i : ℕ) (w : Entry) (o : Option ℕ) → AreEnds next ends → slice_get written i ≡ Some w → slice_get ends i ≡ Some o → is_bad_at far looped written o ≡ true → IsNoTypeHere written far (Defined w.key)
   bad_back ends i w None are_ends at h bad = absurd (cc)
   bad_back ends i w (Some e) are_ends at h bad = (let end = are_ends.ends_at i e h in nothing_back i e w end.0 at end.1 end.2 bad)
 

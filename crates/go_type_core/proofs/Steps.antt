@@ -11,17 +11,17 @@ use Rattle.std.proofs.lemmas.List.Elements.{All-head, All-tail}
 use Rattle.std.proofs.lemmas.Bool.{eq-eqb, and_from, not_from_false}
 use Rattle.go_term_core.specs.decl_core.declared.keys.DeclKey.{DeclKey}
 use Rattle.go_table_core.specs.settle_core.declared.kind.Kind.{Kind}
-use Rattle.go_table_core.specs.settle_core.Settled.{has_name, settled, pointer_to}
+use Rattle.go_table_core.specs.settle_core.Settled.{is_among_names, settled, pointer_to}
 use Rattle.go_text_core.specs.Text.{is_blank}
 use Rattle.go_term_core.specs.declared.term.TypeTerm.{TypeTerm}
 use Rattle.go_term_core.specs.Shapes.{shape}
 use Rattle.go_term_core.specs.Terms.{Term, NoType, Predeclared, ErrorType, Defined, PointerTo, StructOf, InterfaceOf}
 use Rattle.go_table_core.specs.declared.entry.DeclaredMethod.{DeclaredMethod}
 use Rattle.go_table_core.specs.declared.entry.TypeEntry.{TypeEntry}
-use Rattle.go_table_core.specs.Entries.{Entry, Look, Member, find, term_in, same_key, IsPlain}
+use Rattle.go_table_core.specs.Entries.{Entry, EntryLook, Member, find_entry, term_in, same_key, IsUnnamed}
 use Rattle.go_table_core.specs.Methods.{has_field_before}
 use Rattle.go_table_core.specs.Shown.{entry_shown, member_shown}
-use Rattle.go_type_core.specs.Built.{base, IsNothing, kept, settled_member}
+use Rattle.go_type_core.specs.Built.{base, IsNoTypeHere, unrepeated_methods, settled_member}
 use Rattle.go_type_core.specs.mirrors.Numbers.{term_at, IsTable}
 use Rattle.go_type_core.specs.mirrors.Chained.{named_number, next_unless, next_named, next_bare, root_term, root_at, term_unless, under_at}
 use Rattle.go_type_core.specs.mirrors.Making.{is_left_out, seen_after, terms_of_arcs, is_root_at, own_term_at, shared_at, shared_entry_at, entry_at, entry_of, no_entry}
@@ -55,7 +55,7 @@ named_step keys looped es next after n e marked named y lt is table numbered mar
 
 -- underlying types of roots
 
-pub own_step : (far : Look) (kind : DeclKey → Kind) (nothing : List Bool) (ends : List (Option ℕ)) (es : List TypeEntry) (us after : List (Arc TypeTerm Global)) (n : ℕ) (e : TypeEntry) (u : Arc TypeTerm Global) → n < length es → e ≡ get_or es n e → IsTable (terms_of_arcs us) n (own_term_at far kind nothing (map entry_shown es) ends) → shape (arc_value u) ≡ term_unless (not (is_root_at nothing ends n)) (root_term far kind (shape e.term)) → after ≡ us ++ u ∷ [] → IsTable (terms_of_arcs after) (n + 1) (own_term_at far kind nothing (map entry_shown es) ends)
+pub own_step : (far : EntryLook) (kind : DeclKey → Kind) (nothing : List Bool) (ends : List (Option ℕ)) (es : List TypeEntry) (us after : List (Arc TypeTerm Global)) (n : ℕ) (e : TypeEntry) (u : Arc TypeTerm Global) → n < length es → e ≡ get_or es n e → IsTable (terms_of_arcs us) n (own_term_at far kind nothing (map entry_shown es) ends) → shape (arc_value u) ≡ term_unless (not (is_root_at nothing ends n)) (root_term far kind (shape e.term)) → after ≡ us ++ u ∷ [] → IsTable (terms_of_arcs after) (n + 1) (own_term_at far kind nothing (map entry_shown es) ends)
 own_step far kind nothing ends es us after n e u lt is table made pushed =
     let more : terms_of_arcs after ≡ terms_of_arcs us ++ shape (arc_value u) ∷ [] = ap terms_of_arcs pushed ∙ map_push (λ x. shape (arc_value x)) us u in
     table_push (terms_of_arcs us) (terms_of_arcs after) n (own_term_at far kind nothing (map entry_shown es) ends) (shape (arc_value u)) table
@@ -74,7 +74,7 @@ shared_step kind nothing ends us es types after n e t d lt is table shared made 
     let read : get_or (map entry_shown es) n no_entry ≡ entry_shown e = get_or_from_slice_get (map entry_shown es) n (entry_shown e) no_entry (entry_read es n e lt is) in
     table_push types after n (shared_entry_at kind nothing (map entry_shown es) ends us) d table (made ∙ (ap (λ x. entry_of kind x (entry_shown e)) shared ∙ ap (entry_of kind (shared_at nothing ends us n)) (sym read))) pushed
 
-module _ (written : List Entry) (far : Look) (looped nothing : List Bool) (next ends : List (Option ℕ)) (kind : DeclKey → Kind) (r : IsRooted written far looped nothing next ends) where
+module _ (written : List Entry) (far : EntryLook) (looped nothing : List Bool) (next ends : List (Option ℕ)) (kind : DeclKey → Kind) (r : IsRooted written far looped nothing next ends) where
   -- the root of a root is itself
   root_of_root : (i : ℕ) (w : Entry) → slice_get written i ≡ Some w → root_at ends (root_at ends i) ≡ root_at ends i
   root_of_root i w at =
@@ -86,7 +86,7 @@ module _ (written : List Entry) (far : Look) (looped nothing : List Bool) (next 
   root_unmarked : (i : ℕ) (w v : Entry) (b : Bool) → slice_get written i ≡ Some w → slice_get written (root_at ends i) ≡ Some v → get_or nothing i false ≡ false → get_or nothing (root_at ends i) false ≡ b → b ≡ false
   root_unmarked i w v false at there mark is = refl
   root_unmarked i w v true at there mark is =
-      let some : IsNothing written far (Defined w.key) → ⊥ = λ n. (let yes = (r.nothing_is i w at).1 n in let both : false ≡ true = sym mark ∙ yes in absurd (cc)) in
+      let some : IsNoTypeHere written far (Defined w.key) → ⊥ = λ n. (let yes = (r.nothing_is i w at).1 n in let both : false ≡ true = sym mark ∙ yes in absurd (cc)) in
       absurd (some_at_root written far looped nothing next ends r i w v at there some ((r.nothing_is (root_at ends i) v there).0 is))
 
   is_root : (i : ℕ) (w : Entry) → slice_get written i ≡ Some w → get_or nothing i false ≡ false → is_root_at nothing ends (root_at ends i) ≡ true
@@ -116,7 +116,7 @@ module _ (written : List Entry) (far : Look) (looped nothing : List Bool) (next 
 
 -- plain types
 
-plain_pointer : (t : Term) → IsPlain (pointer_to t)
+plain_pointer : (t : Term) → IsUnnamed (pointer_to t)
 plain_pointer NoType = tt
 plain_pointer (Predeclared b) = tt
 plain_pointer ErrorType = tt
@@ -125,7 +125,7 @@ plain_pointer (PointerTo t) = tt
 plain_pointer (StructOf path fs) = tt
 plain_pointer (InterfaceOf path ms) = tt
 
-plain_root : (far : Look) (kind : DeclKey → Kind) (t : Term) → ((k : DeclKey) → IsPlain (term_in (far k))) → IsPlain (root_term far kind t)
+plain_root : (far : EntryLook) (kind : DeclKey → Kind) (t : Term) → ((k : DeclKey) → IsUnnamed (term_in (far k))) → IsUnnamed (root_term far kind t)
 plain_root far kind NoType plain = tt
 plain_root far kind (Predeclared b) plain = tt
 plain_root far kind ErrorType plain = tt
@@ -134,50 +134,50 @@ plain_root far kind (PointerTo t) plain = plain_pointer (settled kind t)
 plain_root far kind (StructOf path fs) plain = tt
 plain_root far kind (InterfaceOf path ms) plain = tt
 
-plain_unless : (b : Bool) (t : Term) → IsPlain t → IsPlain (term_unless b t)
+plain_unless : (b : Bool) (t : Term) → IsUnnamed t → IsUnnamed (term_unless b t)
 plain_unless true t plain = tt
 plain_unless false t plain = plain
 
-plain_step : (e : Entry) (es : List Entry) (k : DeclKey) (b : Bool) → IsPlain e.term → IsPlain (term_in (find es k)) → IsPlain (term_in (if b then Some e else find es k))
+plain_step : (e : Entry) (es : List Entry) (k : DeclKey) (b : Bool) → IsUnnamed e.term → IsUnnamed (term_in (find_entry es k)) → IsUnnamed (term_in (if b then Some e else find_entry es k))
 plain_step e es k true here rest = here
 plain_step e es k false here rest = rest
 
-pub plain_found : (es : List Entry) (k : DeclKey) → All (λ e. IsPlain e.term) es → IsPlain (term_in (find es k))
+pub plain_found : (es : List Entry) (k : DeclKey) → All (λ e. IsUnnamed e.term) es → IsUnnamed (term_in (find_entry es k))
 plain_found [] k plain = tt
-plain_found (e ∷ es) k plain = plain_step e es k (same_key e.key k) (All-head (λ x. IsPlain x.term) e es plain) (plain_found es k (All-tail (λ x. IsPlain x.term) e es plain))
+plain_found (e ∷ es) k plain = plain_step e es k (same_key e.key k) (All-head (λ x. IsUnnamed x.term) e es plain) (plain_found es k (All-tail (λ x. IsUnnamed x.term) e es plain))
 
-pub plain_types : (written types : List Entry) (far : Look) (kind : DeclKey → Kind) (nothing : List Bool) (ends : List (Option ℕ)) → IsTable types (length written) (entry_at far kind nothing written ends) → ((k : DeclKey) → IsPlain (term_in (far k))) → All (λ e. IsPlain e.term) types
+pub plain_types : (written types : List Entry) (far : EntryLook) (kind : DeclKey → Kind) (nothing : List Bool) (ends : List (Option ℕ)) → IsTable types (length written) (entry_at far kind nothing written ends) → ((k : DeclKey) → IsUnnamed (term_in (far k))) → All (λ e. IsUnnamed e.term) types
 plain_types written types far kind nothing ends table plain k d lt =
     let count = table.as_many in
     let read : get_or types k d ≡ entry_at far kind nothing written ends k = table_at types (length written) (entry_at far kind nothing written ends) d k table (omega (arith, lt, count)) in
-    subst (λ x. IsPlain x.term) (sym read) (plain_unless (get_or nothing k false) (root_term far kind (term_at written (root_at ends k))) (plain_root far kind (term_at written (root_at ends k)) plain))
+    subst (λ x. IsUnnamed x.term) (sym read) (plain_unless (get_or nothing k false) (root_term far kind (term_at written (root_at ends k))) (plain_root far kind (term_at written (root_at ends k)) plain))
 
 -- methods
 
-kept_alike : (kind : DeclKey → Kind) (path : List ℕ) (u : Term) (ms : List Member) (seen other : List (List ℕ)) → ((n : List ℕ) → has_name seen n ≡ has_name other n) → kept kind path u seen ms ≡ kept kind path u other ms
+kept_alike : (kind : DeclKey → Kind) (path : List ℕ) (u : Term) (ms : List Member) (seen other : List (List ℕ)) → ((n : List ℕ) → is_among_names seen n ≡ is_among_names other n) → unrepeated_methods kind path u seen ms ≡ unrepeated_methods kind path u other ms
 kept_alike kind path u [] seen other same = refl
 kept_alike kind path u (m ∷ ms) seen other same =
     let left : is_left_out path u seen m ≡ is_left_out path u other m = ap (λ b. is_blank m.name || (b || has_field_before path u m)) (same m.name) in
-    let out : kept kind path u seen ms ≡ kept kind path u other ms = kept_alike kind path u ms seen other same in
-    let kept_on : kept kind path u (m.name ∷ seen) ms ≡ kept kind path u (m.name ∷ other) ms = kept_alike kind path u ms (m.name ∷ seen) (m.name ∷ other) (λ n. ap (λ b. if bytes_eq m.name n then true else b) (same n)) in
-    ap (λ b. if b then kept kind path u seen ms else settled_member kind m ∷ kept kind path u (m.name ∷ seen) ms) left
-    ∙ (ap (λ l. if is_left_out path u other m then l else settled_member kind m ∷ kept kind path u (m.name ∷ seen) ms) out
-    ∙ ap (λ l. if is_left_out path u other m then kept kind path u other ms else settled_member kind m ∷ l) kept_on)
+    let out : unrepeated_methods kind path u seen ms ≡ unrepeated_methods kind path u other ms = kept_alike kind path u ms seen other same in
+    let kept_on : unrepeated_methods kind path u (m.name ∷ seen) ms ≡ unrepeated_methods kind path u (m.name ∷ other) ms = kept_alike kind path u ms (m.name ∷ seen) (m.name ∷ other) (λ n. ap (λ b. if bytes_eq m.name n then true else b) (same n)) in
+    ap (λ b. if b then unrepeated_methods kind path u seen ms else settled_member kind m ∷ unrepeated_methods kind path u (m.name ∷ seen) ms) left
+    ∙ (ap (λ l. if is_left_out path u other m then l else settled_member kind m ∷ unrepeated_methods kind path u (m.name ∷ seen) ms) out
+    ∙ ap (λ l. if is_left_out path u other m then unrepeated_methods kind path u other ms else settled_member kind m ∷ l) kept_on)
 
 -- one method on: it is kept, or left out
-pub kept_on : (kind : DeclKey → Kind) (path : List ℕ) (u : Term) (seen new : List (List ℕ)) (m : Member) (ms : List Member) (b left : Bool) → is_left_out path u seen m ≡ left → b ≡ not left → ((n : List ℕ) → has_name new n ≡ has_name (seen_after b m.name seen) n) → kept kind path u seen (m ∷ ms) ≡ (if b then settled_member kind m ∷ kept kind path u new ms else kept kind path u new ms)
+pub kept_on : (kind : DeclKey → Kind) (path : List ℕ) (u : Term) (seen new : List (List ℕ)) (m : Member) (ms : List Member) (b left : Bool) → is_left_out path u seen m ≡ left → b ≡ not left → ((n : List ℕ) → is_among_names new n ≡ is_among_names (seen_after b m.name seen) n) → unrepeated_methods kind path u seen (m ∷ ms) ≡ (if b then settled_member kind m ∷ unrepeated_methods kind path u new ms else unrepeated_methods kind path u new ms)
 kept_on kind path u seen new m ms true true is e same = absurd (cc)
 kept_on kind path u seen new m ms true false is e same =
-    ap (λ x. if x then kept kind path u seen ms else settled_member kind m ∷ kept kind path u (m.name ∷ seen) ms) is
+    ap (λ x. if x then unrepeated_methods kind path u seen ms else settled_member kind m ∷ unrepeated_methods kind path u (m.name ∷ seen) ms) is
     ∙ ap (λ l. settled_member kind m ∷ l) (kept_alike kind path u ms (m.name ∷ seen) new (λ n. sym (same n)))
 kept_on kind path u seen new m ms false true is e same =
-    ap (λ x. if x then kept kind path u seen ms else settled_member kind m ∷ kept kind path u (m.name ∷ seen) ms) is ∙ kept_alike kind path u ms seen new (λ n. sym (same n))
+    ap (λ x. if x then unrepeated_methods kind path u seen ms else settled_member kind m ∷ unrepeated_methods kind path u (m.name ∷ seen) ms) is ∙ kept_alike kind path u ms seen new (λ n. sym (same n))
 kept_on kind path u seen new m ms false false is e same = absurd (cc)
 
 -- methods that a loop takes
 
-pub methods_none : (kind : DeclKey → Kind) (path : List ℕ) (u : Term) (own : List DeclaredMethod) (seen : List (List ℕ)) (methods : List DeclaredMethod) → own ≡ [] → seen ≡ [] → map member_shown own ++ kept kind path u seen (map member_shown (drop 0 methods)) ≡ kept kind path u [] (map member_shown methods)
-methods_none kind path u own seen methods none fresh = ap (λ l. map member_shown l ++ kept kind path u seen (map member_shown methods)) none ∙ ap (λ s. kept kind path u s (map member_shown methods)) fresh
+pub methods_none : (kind : DeclKey → Kind) (path : List ℕ) (u : Term) (own : List DeclaredMethod) (seen : List (List ℕ)) (methods : List DeclaredMethod) → own ≡ [] → seen ≡ [] → map member_shown own ++ unrepeated_methods kind path u seen (map member_shown (drop 0 methods)) ≡ unrepeated_methods kind path u [] (map member_shown methods)
+methods_none kind path u own seen methods none fresh = ap (λ l. map member_shown l ++ unrepeated_methods kind path u seen (map member_shown methods)) none ∙ ap (λ s. unrepeated_methods kind path u s (map member_shown methods)) fresh
 
 -- the method at a number, and those behind it
 method_next : (methods : List DeclaredMethod) (n : ℕ) (m : DeclaredMethod) → n < length methods → m ≡ get_or methods n m → map member_shown (drop n methods) ≡ member_shown m ∷ map member_shown (drop (n + 1) methods)
@@ -185,25 +185,25 @@ method_next methods n m lt is = ap (map member_shown) (drop_more methods n m lt)
 
 module _ (kind : DeclKey → Kind) (path : List ℕ) (u : Term) (methods : List DeclaredMethod) (n : ℕ) (m : DeclaredMethod) (lt : n < length methods) (is : m ≡ get_or methods n m) (own : List DeclaredMethod) (seen new : List (List ℕ)) (b : Bool)
     (taken : b ≡ not (is_left_out path u seen (member_shown m)))
-    (names : (x : List ℕ) → has_name new x ≡ has_name (seen_after b m.name seen) x)
-    (before : map member_shown own ++ kept kind path u seen (map member_shown (drop n methods)) ≡ kept kind path u [] (map member_shown methods)) where
-  one_on : kept kind path u seen (map member_shown (drop n methods)) ≡ (if b then settled_member kind (member_shown m) ∷ kept kind path u new (map member_shown (drop (n + 1) methods)) else kept kind path u new (map member_shown (drop (n + 1) methods)))
-  one_on = ap (kept kind path u seen) (method_next methods n m lt is) ∙ kept_on kind path u seen new (member_shown m) (map member_shown (drop (n + 1) methods)) b (is_left_out path u seen (member_shown m)) refl taken names
+    (names : (x : List ℕ) → is_among_names new x ≡ is_among_names (seen_after b m.name seen) x)
+    (before : map member_shown own ++ unrepeated_methods kind path u seen (map member_shown (drop n methods)) ≡ unrepeated_methods kind path u [] (map member_shown methods)) where
+  one_on : unrepeated_methods kind path u seen (map member_shown (drop n methods)) ≡ (if b then settled_member kind (member_shown m) ∷ unrepeated_methods kind path u new (map member_shown (drop (n + 1) methods)) else unrepeated_methods kind path u new (map member_shown (drop (n + 1) methods)))
+  one_on = ap (unrepeated_methods kind path u seen) (method_next methods n m lt is) ∙ kept_on kind path u seen new (member_shown m) (map member_shown (drop (n + 1) methods)) b (is_left_out path u seen (member_shown m)) refl taken names
 
-  pub methods_kept : (after : List DeclaredMethod) (d : DeclaredMethod) → b ≡ true → member_shown d ≡ settled_member kind (member_shown m) → after ≡ own ++ d ∷ [] → map member_shown after ++ kept kind path u new (map member_shown (drop (n + 1) methods)) ≡ kept kind path u [] (map member_shown methods)
+  pub methods_kept : (after : List DeclaredMethod) (d : DeclaredMethod) → b ≡ true → member_shown d ≡ settled_member kind (member_shown m) → after ≡ own ++ d ∷ [] → map member_shown after ++ unrepeated_methods kind path u new (map member_shown (drop (n + 1) methods)) ≡ unrepeated_methods kind path u [] (map member_shown methods)
   methods_kept after d kept_it settles pushed =
-      let rest : List Member = kept kind path u new (map member_shown (drop (n + 1) methods)) in
-      let on : kept kind path u seen (map member_shown (drop n methods)) ≡ settled_member kind (member_shown m) ∷ rest = one_on ∙ ap (λ x. if x then settled_member kind (member_shown m) ∷ rest else rest) kept_it in
+      let rest : List Member = unrepeated_methods kind path u new (map member_shown (drop (n + 1) methods)) in
+      let on : unrepeated_methods kind path u seen (map member_shown (drop n methods)) ≡ settled_member kind (member_shown m) ∷ rest = one_on ∙ ap (λ x. if x then settled_member kind (member_shown m) ∷ rest else rest) kept_it in
       let shown : map member_shown after ≡ map member_shown own ++ settled_member kind (member_shown m) ∷ [] = ap (map member_shown) pushed ∙ (map_push member_shown own d ∙ ap (λ x. map member_shown own ++ x ∷ []) settles) in
       ap (λ l. l ++ rest) shown ∙ (append_assoc (map member_shown own) (settled_member kind (member_shown m) ∷ []) rest ∙ (ap (λ l. map member_shown own ++ l) (sym on) ∙ before))
 
-  pub methods_left : (after : List DeclaredMethod) → b ≡ false → after ≡ own → map member_shown after ++ kept kind path u new (map member_shown (drop (n + 1) methods)) ≡ kept kind path u [] (map member_shown methods)
+  pub methods_left : (after : List DeclaredMethod) → b ≡ false → after ≡ own → map member_shown after ++ unrepeated_methods kind path u new (map member_shown (drop (n + 1) methods)) ≡ unrepeated_methods kind path u [] (map member_shown methods)
   methods_left after left_it same =
-      let rest : List Member = kept kind path u new (map member_shown (drop (n + 1) methods)) in
-      let on : kept kind path u seen (map member_shown (drop n methods)) ≡ rest = one_on ∙ ap (λ x. if x then settled_member kind (member_shown m) ∷ rest else rest) left_it in
+      let rest : List Member = unrepeated_methods kind path u new (map member_shown (drop (n + 1) methods)) in
+      let on : unrepeated_methods kind path u seen (map member_shown (drop n methods)) ≡ rest = one_on ∙ ap (λ x. if x then settled_member kind (member_shown m) ∷ rest else rest) left_it in
       ap (λ l. map member_shown l ++ rest) same ∙ (ap (λ l. map member_shown own ++ l) (sym on) ∙ before)
 
-pub methods_all : (kind : DeclKey → Kind) (path : List ℕ) (u : Term) (methods : List DeclaredMethod) (n : ℕ) (own : List DeclaredMethod) (seen : List (List ℕ)) → length methods ≤ n → map member_shown own ++ kept kind path u seen (map member_shown (drop n methods)) ≡ kept kind path u [] (map member_shown methods) → map member_shown own ≡ kept kind path u [] (map member_shown methods)
+pub methods_all : (kind : DeclKey → Kind) (path : List ℕ) (u : Term) (methods : List DeclaredMethod) (n : ℕ) (own : List DeclaredMethod) (seen : List (List ℕ)) → length methods ≤ n → map member_shown own ++ unrepeated_methods kind path u seen (map member_shown (drop n methods)) ≡ unrepeated_methods kind path u [] (map member_shown methods) → map member_shown own ≡ unrepeated_methods kind path u [] (map member_shown methods)
 methods_all kind path u methods n own seen le h =
-    let none : kept kind path u seen (map member_shown (drop n methods)) ≡ [] = ap (λ l. kept kind path u seen (map member_shown l)) (drop_all n methods le) in
+    let none : unrepeated_methods kind path u seen (map member_shown (drop n methods)) ≡ [] = ap (λ l. unrepeated_methods kind path u seen (map member_shown l)) (drop_all n methods le) in
     sym (append-nil (map member_shown own)) ∙ (ap (λ l. map member_shown own ++ l) (sym none) ∙ h)

@@ -1,8 +1,8 @@
 //! The types of a package from what is written of them.
 ghost use Rattle.std.specs.Prelude.{◌≡◌, IfOk, length, map};
-ghost use Rattle.go_table_core.specs.Entries.{find};
+ghost use Rattle.go_table_core.specs.Entries.{find_entry};
 ghost use Rattle.go_table_core.specs.Shown.{entry_shown};
-ghost use Rattle.go_table_core.specs.Tables.{AreOf, Rise};
+ghost use Rattle.go_table_core.specs.Tables.{AreOf, KeysRise};
 ghost use Rattle.go_type_core.specs.Built.{IsBuilt};
 ghost use Rattle.go_type_core.specs.mirrors.Edges.{AreLooped};
 ghost use Rattle.go_type_core.specs.mirrors.Making.{IsMade, marked_faults};
@@ -50,9 +50,9 @@ fn made_types(
     imported: &TypeTable,
 ) -> Result<Vec<DefinedType>, AllocError>
     requires keys { keys.now ≡ keys_of (map entry_shown entries.now) }
-    requires rising { Rise (map entry_shown entries.now) }
+    requires rising { KeysRise (map entry_shown entries.now) }
     requires looped { AreLooped (map entry_shown entries.now) looped.now }
-    ensures { IfOk result (λ types. IsMade (length entries.now) (map entry_shown entries.now) (find imported.now) keys.now looped.now types.items) }
+    ensures { IfOk result (λ types. IsMade (length entries.now) (map entry_shown entries.now) (find_entry imported.now) keys.now looped.now types.items) }
 {
     let nothing = nothing_types(alloc, imported, keys, looped, entries)?;
     let ends = root_ends(alloc, keys, looped, entries)?;
@@ -74,9 +74,9 @@ pub fn build_types(
     imported: &TypeTable,
 ) -> Result<(PackageTypes, Vec<TypeFault>), AllocError>
     requires own { AreOf path (map entry_shown entries.now) }
-    requires rising { Rise (map entry_shown entries.now) }
+    requires rising { KeysRise (map entry_shown entries.now) }
     ensures path { IfOk result (λ r. r.0.path ≡ path) }
-    ensures types { IfOk result (λ r. IsBuilt (find imported.now) (map entry_shown entries.now) r.0.entries r.1.items) }
+    ensures types { IfOk result (λ r. IsBuilt (find_entry imported.now) (map entry_shown entries.now) r.0.entries r.1.items) }
 {
     // For what it tells of the table: underlying types are no names.
     let _plain = imported.len();

@@ -1,6 +1,6 @@
 //! Laws of the types of a package.
 ghost use Rattle.go_type_core.specs.Laws.{BuildingIsLocal, BuiltMentionsWritten, OneSettled, UnderlyingAsDefined};
-ghost use Rattle.go_type_core.specs.Sample.{WorkedTypes};
+ghost use Rattle.go_type_core.specs.Sample.{WorkedDeclaredTypes};
 
 /// A law, with nothing to run: what is written of a package has one list of types and one list of faults over the same types of other
 /// packages.
@@ -29,5 +29,5 @@ pub fn built_mentions_written()
 /// Samples worked by hand, with nothing to run: `type T struct { f T }` reaches itself and is no type, nor is a pointer to it; `type T
 /// struct { f *T }` and `type T *T` are types; `type T T` is none.
 pub fn worked_types()
-    ensures { WorkedTypes }
+    ensures { WorkedDeclaredTypes }
 {}

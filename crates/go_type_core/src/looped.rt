@@ -2,8 +2,8 @@
 ghost use Rattle.std.specs.Prelude.{◌≡◌, ◌↔◌, ◌<◌, ◌++◌, ◌∷◌, [], IfOk, IsTrue, length, map, OnOk, Some};
 ghost use Rattle.go_cycle_core.specs.Cycle.{InRange, IsRanking};
 ghost use Rattle.go_table_core.specs.Shown.{entry_shown};
-ghost use Rattle.go_table_core.specs.Tables.{Rise};
-ghost use Rattle.go_term_core.specs.Shapes.{fields_in, line_at, lines_of, shape};
+ghost use Rattle.go_table_core.specs.Tables.{KeysRise};
+ghost use Rattle.go_term_core.specs.Shapes.{fields_in, line_at, line_shapes, shape};
 ghost use Rattle.go_type_core.specs.Built.{direct_fields, direct_keys};
 ghost use Rattle.go_type_core.specs.mirrors.Edges.{all_uses, AreLooped, Falls, HasAlso, LineAdded, MarksTo, SameEdges, marks_if, uses_from};
 ghost use Rattle.go_type_core.specs.mirrors.Numbers.{keys_of};
@@ -60,7 +60,7 @@ fn push_fields(
     fields: &Vec<Field>,
     edges: &mut Vec<Edge>,
 ) -> Result<(), AllocError>
-    ensures { OnOk result (HasAlso edges.old.items (uses_from keys.now from (direct_fields (fields_in (lines_of lines.now.items) fields.now.items))) edges.new.items) }
+    ensures { OnOk result (HasAlso edges.old.items (uses_from keys.now from (direct_fields (fields_in (line_shapes lines.now.items) fields.now.items))) edges.new.items) }
 {
     let mut met = None;
     for field in fields {
@@ -90,7 +90,7 @@ fn push_line(
     met: Option<usize>,
     edges: &mut Vec<Edge>,
 ) -> Result<(), AllocError>
-    ensures { OnOk result (LineAdded (uses_from keys.now from (direct_keys (line_at (lines_of lines.now.items) number).term)) met number edges.old.items edges.new.items) }
+    ensures { OnOk result (LineAdded (uses_from keys.now from (direct_keys (line_at (line_shapes lines.now.items) number).term)) met number edges.old.items edges.new.items) }
 {
     if is_last(met, number) {
         return Ok(());
@@ -147,7 +147,7 @@ pub(crate) fn looped_types(
     entries: &[TypeEntry],
 ) -> Result<Vec<bool>, AllocError>
     requires keys { keys.now ≡ keys_of (map entry_shown entries.now) }
-    requires rising { Rise (map entry_shown entries.now) }
+    requires rising { KeysRise (map entry_shown entries.now) }
     ensures len { IfOk result (λ marks. length marks.items ≡ length entries.now) }
     ensures looped { IfOk result (λ marks. AreLooped (map entry_shown entries.now) marks.items) }
     ensures falls { IfOk result (λ marks. Falls (map entry_shown entries.now) marks.items) }

@@ -1,11 +1,11 @@
 //! The methods of a type that are its own.
 ghost use Rattle.std.specs.Prelude.{◌≡◌, [], ℕ, List, IfOk, map, not};
-ghost use Rattle.go_table_core.specs.settle_core.Settled.{has_name, kind_of_term};
+ghost use Rattle.go_table_core.specs.settle_core.Settled.{is_among_names, kind_of_term};
 ghost use Rattle.go_table_core.specs.Methods.{has_field_before};
 ghost use Rattle.go_table_core.specs.Shown.{member_shown};
 ghost use Rattle.go_term_core.specs.Shapes.{shape};
 ghost use Rattle.go_text_core.specs.Text.{is_blank};
-ghost use Rattle.go_type_core.specs.Built.{kept, kept_over, settled_member};
+ghost use Rattle.go_type_core.specs.Built.{unrepeated_methods, kept_over, settled_member};
 ghost use Rattle.go_type_core.specs.mirrors.Making.{is_left_out, seen_after};
 
 use go_path_core::ImportPath;
@@ -30,7 +30,7 @@ fn take_method<'a>(
     seen: &mut SeenNames<'a>,
 ) -> Result<bool, AllocError>
     ensures kept { IfOk result (λ is_kept. is_kept ≡ not (is_left_out path.now fields.now seen.old (member_shown method.now))) }
-    ensures seen { IfOk result (λ is_kept. (n : List ℕ) → has_name seen.new n ≡ has_name (seen_after is_kept method.now.name seen.old) n) }
+    ensures seen { IfOk result (λ is_kept. (n : List ℕ) → is_among_names seen.new n ≡ is_among_names (seen_after is_kept method.now.name seen.old) n) }
 {
     let name = method.name.as_str();
     if is_blank(name) || fields.comes_before(path, method) {
@@ -65,7 +65,7 @@ fn own_methods<K: Kinds>(
     fields: &FieldTable<'_>,
     methods: &[DeclaredMethod],
 ) -> Result<Vec<DeclaredMethod>, AllocError>
-    ensures { IfOk result (λ own. map member_shown own.items ≡ kept (K.kinds kinds.now) path.now fields.now [] (map member_shown methods.now)) }
+    ensures { IfOk result (λ own. map member_shown own.items ≡ unrepeated_methods (K.kinds kinds.now) path.now fields.now [] (map member_shown methods.now)) }
 {
     let mut seen = SeenNames::new(alloc);
     let mut own = Vec::new(alloc);

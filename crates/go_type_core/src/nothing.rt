@@ -1,8 +1,8 @@
 //! What is no type.
 ghost use Rattle.std.specs.Prelude.{◌≡◌, IfOk, length, map};
-ghost use Rattle.go_table_core.specs.Entries.{find};
+ghost use Rattle.go_table_core.specs.Entries.{find_entry};
 ghost use Rattle.go_table_core.specs.Shown.{entry_shown};
-ghost use Rattle.go_table_core.specs.Tables.{Rise};
+ghost use Rattle.go_table_core.specs.Tables.{KeysRise};
 ghost use Rattle.go_term_core.specs.Shapes.{shape};
 ghost use Rattle.go_type_core.specs.Built.{base};
 ghost use Rattle.go_type_core.specs.mirrors.Chained.{AreNothing, is_bad_end, is_lacking, is_no_type, named_number, next_bare, nothing_at};
@@ -63,7 +63,7 @@ fn is_no_type(term: &TypeTerm) -> bool
 
 // Whether it is no type, or the name of another package's that is none or is not known.
 fn is_lacking(imported: &TypeTable, term: &TypeTerm) -> bool
-    ensures { result ≡ is_lacking (find imported.now) (shape term.now) }
+    ensures { result ≡ is_lacking (find_entry imported.now) (shape term.now) }
 {
     match term {
         TypeTerm::NoType => true,
@@ -81,7 +81,7 @@ fn is_lacking(imported: &TypeTable, term: &TypeTerm) -> bool
 
 // Whether what a type comes to without its stars is lacking.
 fn lacks_at(imported: &TypeTable, entries: &[TypeEntry], number: usize) -> bool
-    ensures { result ≡ is_lacking (find imported.now) (base (term_at (map entry_shown entries.now) number)) }
+    ensures { result ≡ is_lacking (find_entry imported.now) (base (term_at (map entry_shown entries.now) number)) }
 {
     match entries.get(number) {
         Some(entry) => is_lacking(imported, base_of(&entry.term)),
@@ -91,7 +91,7 @@ fn lacks_at(imported: &TypeTable, entries: &[TypeEntry], number: usize) -> bool
 
 // Whether a chain that ends here leads to what is no type.
 fn is_bad_end(imported: &TypeTable, looped: &[bool], entries: &[TypeEntry], end: usize) -> bool
-    ensures { result ≡ is_bad_end (find imported.now) looped.now (map entry_shown entries.now) end }
+    ensures { result ≡ is_bad_end (find_entry imported.now) looped.now (map entry_shown entries.now) end }
 {
     is_marked(looped, end) || lacks_at(imported, entries, end)
 }
@@ -104,7 +104,7 @@ fn nothing_at(
     ends: &[Option<usize>],
     number: usize,
 ) -> bool
-    ensures { result ≡ nothing_at (find imported.now) looped.now (map entry_shown entries.now) ends.now number }
+    ensures { result ≡ nothing_at (find_entry imported.now) looped.now (map entry_shown entries.now) ends.now number }
 {
     match end_at(ends, number) {
         Some(end) => is_bad_end(imported, looped, entries, end),
@@ -137,7 +137,7 @@ fn mark_nothing(
     entries: &[TypeEntry],
     ends: &[Option<usize>],
 ) -> Result<Vec<bool>, AllocError>
-    ensures { IfOk result (λ marks. IsTable marks.items (length entries.now) (nothing_at (find imported.now) looped.now (map entry_shown entries.now) ends.now)) }
+    ensures { IfOk result (λ marks. IsTable marks.items (length entries.now) (nothing_at (find_entry imported.now) looped.now (map entry_shown entries.now) ends.now)) }
 {
     let mut marks = Vec::with_capacity(alloc, entries.len())?;
     for number in 0..entries.len() {
@@ -155,9 +155,9 @@ pub(crate) fn nothing_types(
     entries: &[TypeEntry],
 ) -> Result<Vec<bool>, AllocError>
     requires keys { keys.now ≡ keys_of (map entry_shown entries.now) }
-    requires rising { Rise (map entry_shown entries.now) }
+    requires rising { KeysRise (map entry_shown entries.now) }
     requires looped { AreLooped (map entry_shown entries.now) looped.now }
-    ensures { IfOk result (λ marks. AreNothing (map entry_shown entries.now) (find imported.now) marks.items) }
+    ensures { IfOk result (λ marks. AreNothing (map entry_shown entries.now) (find_entry imported.now) marks.items) }
 {
     let next = next_bare(alloc, keys, looped, entries)?;
     let ends = chain_ends(alloc, &next)?;

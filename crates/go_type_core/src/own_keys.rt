@@ -2,7 +2,7 @@
 ghost use Rattle.std.specs.Prelude.{◌≡◌, ◌↔◌, ◌≤◌, false, IfOk, IsTrue, length, map, slice_get, true};
 ghost use Rattle.std.specs.List.Sorted.{IsPartitionPoint};
 ghost use Rattle.go_table_core.specs.Shown.{entry_shown};
-ghost use Rattle.go_table_core.specs.Tables.{AreOf, Rise};
+ghost use Rattle.go_table_core.specs.Tables.{AreOf, KeysRise};
 ghost use Rattle.go_type_core.specs.mirrors.Numbers.{is_ref_before, keys_in, keys_of, number_of, RefsRise};
 
 use go_path_core::ImportPath;
@@ -101,7 +101,7 @@ impl OwnKeys {
         entries: &[TypeEntry],
     ) -> Result<OwnKeys, AllocError>
         requires own { AreOf path.now (map entry_shown entries.now) }
-        requires rising { Rise (map entry_shown entries.now) }
+        requires rising { KeysRise (map entry_shown entries.now) }
         ensures { IfOk result (λ keys. keys ≡ keys_of (map entry_shown entries.now)) }
     {
         let decls = decls_of(alloc, entries)?;

@@ -1,8 +1,8 @@
 //! Kinds, by the ends of chains of names.
 ghost use Rattle.std.specs.Prelude.{◌≡◌, IfOk, length, map, slice_index_or};
-ghost use Rattle.go_table_core.specs.Entries.{find};
+ghost use Rattle.go_table_core.specs.Entries.{find_entry};
 ghost use Rattle.go_table_core.specs.Shown.{entry_shown};
-ghost use Rattle.go_table_core.specs.Tables.{Rise};
+ghost use Rattle.go_table_core.specs.Tables.{KeysRise};
 ghost use Rattle.go_term_core.specs.Shapes.{shape};
 ghost use Rattle.go_type_core.specs.mirrors.Chained.{AreRootEnds, kind_at, next_named, root_kind};
 ghost use Rattle.go_type_core.specs.mirrors.Numbers.{IsTable, keys_of};
@@ -37,10 +37,10 @@ fn numbered_kind(kinds: &[Kind], number: usize) -> Kind
 }
 
 impl Kinds for KnownKinds<'_> {
-    ghost use Rattle.go_table_core.specs.Entries.{find};
+    ghost use Rattle.go_table_core.specs.Entries.{find_entry};
     ghost use Rattle.go_type_core.specs.mirrors.Chained.{known_kind};
 
-    ghost kinds = { λ k. known_kind k.keys.now k.kinds.now (find k.imported.now) };
+    ghost kinds = { λ k. known_kind k.keys.now k.kinds.now (find_entry k.imported.now) };
 
     /// The kind of the defined type of a declaration.
     fn kind(&self, key: &DeclKey) -> Kind {
@@ -76,7 +76,7 @@ pub(crate) fn root_ends(
     entries: &[TypeEntry],
 ) -> Result<Vec<Option<usize>>, AllocError>
     requires keys { keys.now ≡ keys_of (map entry_shown entries.now) }
-    requires rising { Rise (map entry_shown entries.now) }
+    requires rising { KeysRise (map entry_shown entries.now) }
     ensures { IfOk result (λ ends. AreRootEnds (map entry_shown entries.now) looped.now ends.items) }
 {
     let next = next_named(alloc, keys, looped, entries)?;
@@ -85,7 +85,7 @@ pub(crate) fn root_ends(
 
 // The kind of what is defined as another package's type, or by a type that is no name.
 fn root_kind(imported: &TypeTable, term: &TypeTerm) -> Kind
-    ensures { result ≡ root_kind (find imported.now) (shape term.now) }
+    ensures { result ≡ root_kind (find_entry imported.now) (shape term.now) }
 {
     match term {
         TypeTerm::NoType => Kind::Nothing,
@@ -106,7 +106,7 @@ fn kind_at(
     ends: &[Option<usize>],
     number: usize,
 ) -> Kind
-    ensures { result ≡ kind_at (find imported.now) nothing.now (map entry_shown entries.now) ends.now number }
+    ensures { result ≡ kind_at (find_entry imported.now) nothing.now (map entry_shown entries.now) ends.now number }
 {
     if is_marked(nothing, number) {
         return Kind::Nothing;
@@ -125,7 +125,7 @@ pub(crate) fn kinds_of(
     entries: &[TypeEntry],
     ends: &[Option<usize>],
 ) -> Result<Vec<Kind>, AllocError>
-    ensures { IfOk result (λ kinds. IsTable kinds.items (length entries.now) (kind_at (find imported.now) nothing.now (map entry_shown entries.now) ends.now)) }
+    ensures { IfOk result (λ kinds. IsTable kinds.items (length entries.now) (kind_at (find_entry imported.now) nothing.now (map entry_shown entries.now) ends.now)) }
 {
     let mut kinds = Vec::with_capacity(alloc, entries.len())?;
     for number in 0..entries.len() {

@@ -2,7 +2,7 @@
 ghost use Rattle.std.specs.Prelude.{◌≡◌, IfOk, length, map, not};
 ghost use Rattle.std.specs.Arc.{arc_value};
 ghost use Rattle.go_table_core.specs.settle_core.Settled.{settled};
-ghost use Rattle.go_table_core.specs.Entries.{find, term_in};
+ghost use Rattle.go_table_core.specs.Entries.{find_entry, term_in};
 ghost use Rattle.go_table_core.specs.Shown.{entry_shown};
 ghost use Rattle.go_term_core.specs.Shapes.{shape};
 ghost use Rattle.go_term_core.specs.Terms.{NoType};
@@ -32,7 +32,7 @@ struct Plan<'a> {
 
 // The underlying type of a type of another package, and none where there is none.
 fn far_term(alloc: Global, imported: &TypeTable, key: &DeclKey) -> Result<Arc<TypeTerm>, AllocError>
-    ensures { IfOk result (λ u. shape (arc_value u) ≡ term_in (find imported.now key.now)) }
+    ensures { IfOk result (λ u. shape (arc_value u) ≡ term_in (find_entry imported.now key.now)) }
 {
     match imported.locate(key) {
         Some(located) => located.defined.share_underlying(),
@@ -180,7 +180,7 @@ pub(crate) fn settled_types<'a>(
     ends: &'a [Option<usize>],
     entries: &[TypeEntry],
 ) -> Result<Vec<DefinedType>, AllocError>
-    ensures { IfOk result (λ types. AreShared (find imported.now) (known_kind keys.now kinds.now (find imported.now)) nothing.now ends.now (map entry_shown entries.now) types.items) }
+    ensures { IfOk result (λ types. AreShared (find_entry imported.now) (known_kind keys.now kinds.now (find_entry imported.now)) nothing.now ends.now (map entry_shown entries.now) types.items) }
 {
     let kinds = KnownKinds {
         keys,

@@ -4,7 +4,7 @@
 #![tactic(auto)]
 
 ghost use Rattle.std.specs.Prelude.{◌≡◌};
-ghost use Rattle.go_universe_core.specs.Universe.{spelling_of, kind_of, usable, found};
+ghost use Rattle.go_universe_core.specs.Universe.{spelling_of, kind_of, found};
 
 mod laws;
 
@@ -257,14 +257,6 @@ const KINDS: [PredeclaredKind; 44] = [
     PredeclaredKind::Type,
 ];
 
-// Whether the names may be used, in their order.
-const USABLE: [bool; 44] = [
-    true, false, true, false, false, false, false, false, false, false, false, false, false, true,
-    true, false, false, false, true, false, false, false, false, false, true, false, false, false,
-    false, true, true, true, true, false, false, false, true, true, false, false, false, false,
-    false, false,
-];
-
 impl Predeclared {
     /// How the name is spelled.
     #[tactic(auto, unfolding(crate::specs::Universe::spelling_of))]
@@ -280,14 +272,6 @@ impl Predeclared {
         ensures { result ≡ kind_of self }
     {
         KINDS[self as usize]
-    }
-
-    /// Whether the name is one of those that a source may use. The others are refused by N7.
-    #[tactic(auto, unfolding(crate::specs::Universe::usable))]
-    pub fn is_usable(self) -> bool
-        ensures { result ≡ usable self }
-    {
-        USABLE[self as usize]
     }
 }
 

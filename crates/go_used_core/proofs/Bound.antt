@@ -14,7 +14,7 @@ use Rattle.go_answer_core.specs.block_core.declared.binding.Target.{Target}
 use Rattle.go_answer_core.specs.block_core.declared.binding.Target.TheVariants as targets
 use Rattle.go_answer_core.specs.handle_core.Declarations.{Universe, OfError, Package, InFile}
 use Rattle.go_answer_core.specs.denote_core.declared.things.Outcome.TheVariants as outcomes
-use Rattle.go_answer_core.specs.face_core.Written.{same_place}
+use Rattle.go_answer_core.specs.face_core.Written.{same_decl_place}
 use Rattle.go_used_core.specs.Used.{TheOutcome, TheUse, has_next, is_declared, is_exported, is_qualifier, uses_binding}
 
 -- a qualifier of a package, with a selector behind it that has a declaration
@@ -32,7 +32,7 @@ pub record Dots (t : Target) (o : TheOutcome) : Type 0 where
   pub dot : t ≡ targets.Exported key
   pub decl : DeclRef
   pub outcome : o ≡ outcomes.Declared (InFile key.path (member.Declared decl))
-  pub same : same_place key.decl decl ≡ true
+  pub same : same_decl_place key.decl decl ≡ true
 
 is_left : (r : Role) → is_qualifier r ≡ true → r ≡ roles.Qualifier
 is_left roles.Qualifier h = refl
@@ -62,7 +62,7 @@ dotted : (t : Target) (path : List ℕ) (d : DeclRef) → is_exported t path d �
 dotted (targets.«Package» p) path d h = absurd (true≢false (sym h))
 dotted (targets.Refused rule) path d h = absurd (true≢false (sym h))
 dotted (targets.Exported k) path d h =
-    let parts = and_parts (same_place k.decl d) (bytes_eq k.path path) h in
+    let parts = and_parts (same_decl_place k.decl d) (bytes_eq k.path path) h in
     let same : k.path ≡ path = (bytes_eq-Decides k.path path).0 parts.1 in
     record { key = k; dot = refl; decl = d; outcome = ap (λ (p : List ℕ). let o : TheOutcome = outcomes.Declared (InFile p (member.Declared d)) in o) (sym same); same = parts.0 }
 
@@ -89,4 +89,4 @@ pub dots_used : (t : Target) (r : Role) (o : TheOutcome) (next : Option TheUse) 
 dots_used t r o next d =
     ap (λ x. uses_binding t r x next) d.outcome
     ∙ (ap (λ x. is_exported x d.key.path d.decl) d.dot
-    ∙ and_from (same_place d.key.decl d.decl) (bytes_eq d.key.path d.key.path) d.same ((bytes_eq-Decides d.key.path d.key.path).1 refl))
+    ∙ and_from (same_decl_place d.key.decl d.decl) (bytes_eq d.key.path d.key.path) d.same ((bytes_eq-Decides d.key.path d.key.path).1 refl))

@@ -5,7 +5,7 @@ use Rattle.go_answer_core.specs.tree_core.declared.occurrence.Occ.{Occ}
 use Rattle.go_answer_core.specs.block_core.declared.binding.Binding.{Binding}
 use Rattle.go_answer_core.specs.block_core.Blocks.{BlocksModel, file_binding}
 use Rattle.go_used_core.specs.Laws.{IsBoundBy, IsByDot, IsQualified}
-use Rattle.go_used_core.specs.Used.{TheUse, is_name, used_by, used_if, used_places, uses_binding}
+use Rattle.go_used_core.specs.Used.{TheUse, is_name_role, used_by, used_if, used_places, uses_binding}
 use Rattle.go_used_core.proofs.Bound.{Dots, Qualifies, dots_used, qualifies_used, used_is}
 use Rattle.go_used_core.proofs.Members.{In, in_either, in_left, in_right}
 
@@ -25,25 +25,25 @@ module _ (b : BlocksModel) (file : ℕ) (at : ℕ) where
   -- the first occurrence
 
   here : (o : Occ) (u : TheUse) (os : List Occ) (us : List TheUse) → In (used_by b file o u (slice_get us 0)) at → IsUsed (o ∷ os) (u ∷ us)
-  here o u os us h = by (is_name o.role) refl h
+  here o u os us h = by (is_name_role o.role) refl h
     where
       bound : (binding : Binding) → file_binding b file o.spelling ≡ Some binding → binding.at ≡ at → IsBoundBy b file (o ∷ os) (u ∷ us) at 0 o u binding
       bound binding e same = record { occurrence = refl; has = refl; bound = e; place = same }
 
-      uses : (binding : Binding) → is_name o.role ≡ true → file_binding b file o.spelling ≡ Some binding → binding.at ≡ at → Qualifies o.role u.outcome (slice_get us 0) ⊎ Dots binding.target u.outcome → IsUsed (o ∷ os) (u ∷ us)
+      uses : (binding : Binding) → is_name_role o.role ≡ true → file_binding b file o.spelling ≡ Some binding → binding.at ≡ at → Qualifies o.role u.outcome (slice_get us 0) ⊎ Dots binding.target u.outcome → IsUsed (o ∷ os) (u ∷ us)
       uses binding name e same (inl q) = inl (record { number = 0; o = o; u = u; binding = binding; there = bound binding e same; role = q.role; path = q.path; denotes = q.denotes; selector = q.selector; behind = q.behind; declared = q.declared })
       uses binding name e same (inr d) = inr (record { number = 0; o = o; u = u; binding = binding; there = bound binding e same; role = name; key = d.key; dot = d.dot; decl = d.decl; outcome = d.outcome; same = d.same })
 
-      test : (binding : Binding) → is_name o.role ≡ true → file_binding b file o.spelling ≡ Some binding → (t : Bool) → uses_binding binding.target o.role u.outcome (slice_get us 0) ≡ t → In (if t then binding.at ∷ [] else []) at → IsUsed (o ∷ os) (u ∷ us)
+      test : (binding : Binding) → is_name_role o.role ≡ true → file_binding b file o.spelling ≡ Some binding → (t : Bool) → uses_binding binding.target o.role u.outcome (slice_get us 0) ≡ t → In (if t then binding.at ∷ [] else []) at → IsUsed (o ∷ os) (u ∷ us)
       test binding name e true h (inl same) = uses binding name e same (used_is binding.target o.role u.outcome (slice_get us 0) h)
       test binding name e true h (inr none) = absurd none
       test binding name e false h k = absurd k
 
-      some : is_name o.role ≡ true → (x : Option Binding) → file_binding b file o.spelling ≡ x → In (used_if x o.role u.outcome (slice_get us 0)) at → IsUsed (o ∷ os) (u ∷ us)
+      some : is_name_role o.role ≡ true → (x : Option Binding) → file_binding b file o.spelling ≡ x → In (used_if x o.role u.outcome (slice_get us 0)) at → IsUsed (o ∷ os) (u ∷ us)
       some name None e k = absurd k
       some name (Some binding) e k = test binding name e (uses_binding binding.target o.role u.outcome (slice_get us 0)) refl k
 
-      by : (t : Bool) → is_name o.role ≡ t → In (if t then used_if (file_binding b file o.spelling) o.role u.outcome (slice_get us 0) else []) at → IsUsed (o ∷ os) (u ∷ us)
+      by : (t : Bool) → is_name_role o.role ≡ t → In (if t then used_if (file_binding b file o.spelling) o.role u.outcome (slice_get us 0) else []) at → IsUsed (o ∷ os) (u ∷ us)
       by true e k = some e (file_binding b file o.spelling) refl k
       by false e k = absurd k
 
@@ -56,7 +56,7 @@ module _ (b : BlocksModel) (file : ℕ) (at : ℕ) where
 
   -- an occurrence that uses the import
 
-  there : (o : Occ) (u : TheUse) (next : Option TheUse) (binding : Binding) → is_name o.role ≡ true → file_binding b file o.spelling ≡ Some binding → binding.at ≡ at → uses_binding binding.target o.role u.outcome next ≡ true → In (used_by b file o u next) at
+  there : (o : Occ) (u : TheUse) (next : Option TheUse) (binding : Binding) → is_name_role o.role ≡ true → file_binding b file o.spelling ≡ Some binding → binding.at ≡ at → uses_binding binding.target o.role u.outcome next ≡ true → In (used_by b file o u next) at
   there o u next binding name e same h =
       subst (λ (t : Bool). In (if t then used_if (file_binding b file o.spelling) o.role u.outcome next else []) at) (sym name)
       (subst (λ x. In (used_if x o.role u.outcome next) at) (sym e)
@@ -74,7 +74,7 @@ module _ (b : BlocksModel) (file : ℕ) (at : ℕ) where
   pub used_from : (os : List Occ) (us : List TheUse) → IsUsed os us → In (used_places b file os us) at
   used_from os us (inl q) =
       let next = slice_get us (suc q.number) in
-      let name : is_name q.o.role ≡ true = ap is_name q.role in
+      let name : is_name_role q.o.role ≡ true = ap is_name_role q.role in
       let how : Qualifies q.o.role q.u.outcome next = record { role = q.role; path = q.path; denotes = q.denotes; selector = q.selector; behind = q.behind; declared = q.declared } in
       at_number os us q.number q.o q.u q.there.occurrence q.there.has (there q.o q.u next q.binding name q.there.bound q.there.place (qualifies_used q.binding.target q.o.role q.u.outcome next how))
   used_from os us (inr d) =

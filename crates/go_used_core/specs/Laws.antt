@@ -13,9 +13,9 @@ use Rattle.go_answer_core.specs.handle_core.Declarations.{Package, InFile}
 use Rattle.go_answer_core.specs.denote_core.declared.things.Outcome.TheVariants as outcomes
 use Rattle.go_answer_core.specs.expr_core.declared.things.Fault.{Fault}
 use Rattle.go_answer_core.specs.report_core.Faults.{IsSaid}
-use Rattle.go_answer_core.specs.face_core.Written.{same_place}
+use Rattle.go_answer_core.specs.face_core.Written.{same_decl_place}
 use Rattle.go_used_core.specs.Reported.{IsReported}
-use Rattle.go_used_core.specs.Used.{TheUse, is_name, used_places}
+use Rattle.go_used_core.specs.Used.{TheUse, is_name_role, used_places}
 
 -- the name of an occurrence is bound in the file by the import at this place
 pub record IsBoundBy (b : BlocksModel) (file : ℕ) (os : List Occ) (us : List TheUse) (at number : ℕ) (o : Occ) (u : TheUse) (binding : Binding) : Type 0 where
@@ -45,12 +45,12 @@ pub record IsByDot (b : BlocksModel) (file : ℕ) (os : List Occ) (us : List The
   pub u : TheUse
   pub binding : Binding
   pub there : IsBoundBy b file os us at number o u binding
-  pub role : is_name o.role ≡ true
+  pub role : is_name_role o.role ≡ true
   pub key : DeclKey
   pub dot : binding.target ≡ targets.Exported key
   pub decl : DeclRef
   pub outcome : u.outcome ≡ outcomes.Declared (InFile key.path (member.Declared decl))
-  pub same : same_place key.decl decl ≡ true
+  pub same : same_decl_place key.decl decl ≡ true
 
 -- an import is used exactly where a selector of the file whose qualifier it binds has a declaration, or a name has one through its dot
 abbrev pub UsedImportsAreThese : Type 0

@@ -25,7 +25,7 @@ use Rattle.go_answer_core.specs.handle_core.Declarations.{Declaration, Universe,
 use Rattle.go_answer_core.specs.denote_core.declared.things.Outcome.{Outcome}
 use Rattle.go_answer_core.specs.denote_core.declared.things.Outcome.TheVariants as outcomes
 use Rattle.go_answer_core.specs.expr_core.declared.things.Use.{Use}
-use Rattle.go_answer_core.specs.face_core.Written.{same_place}
+use Rattle.go_answer_core.specs.face_core.Written.{same_decl_place}
 
 abbrev pub TheOutcome : Type 0
 TheOutcome = Outcome Declaration (List ℕ)
@@ -35,15 +35,15 @@ abbrev pub TheUse : Type 0
 TheUse = Use Declaration (List ℕ)
 
 -- a name that is looked up: of a type, an operand, what is called, or what stands left of a dot
-abbrev pub is_name : Role → Bool
-is_name roles.Import = false
-is_name roles.«Type» = true
-is_name roles.«Value» = true
-is_name roles.Callee = true
-is_name roles.Qualifier = true
-is_name (roles.Selector usage) = false
-is_name roles.Key = false
-is_name roles.Call = false
+abbrev pub is_name_role : Role → Bool
+is_name_role roles.Import = false
+is_name_role roles.«Type» = true
+is_name_role roles.«Value» = true
+is_name_role roles.Callee = true
+is_name_role roles.Qualifier = true
+is_name_role (roles.Selector usage) = false
+is_name_role roles.Key = false
+is_name_role roles.Call = false
 
 abbrev pub is_qualifier : Role → Bool
 is_qualifier roles.Qualifier = true
@@ -72,10 +72,10 @@ is_package_decl (Universe name) = false
 is_package_decl OfError = false
 is_package_decl (InFile path place) = false
 
-abbrev pub is_package : TheOutcome → Bool
-is_package (outcomes.Declared d) = is_package_decl d
-is_package (outcomes.Selected d path) = false
-is_package (outcomes.Refused rule) = false
+abbrev pub is_package_outcome : TheOutcome → Bool
+is_package_outcome (outcomes.Declared d) = is_package_decl d
+is_package_outcome (outcomes.Selected d path) = false
+is_package_outcome (outcomes.Refused rule) = false
 
 -- what an occurrence has is a declaration
 abbrev pub is_declared : TheOutcome → Bool
@@ -87,7 +87,7 @@ is_declared (outcomes.Refused rule) = false
 abbrev pub is_exported : Target → List ℕ → DeclRef → Bool
 is_exported (targets.«Package» p) path d = false
 is_exported (targets.Refused rule) path d = false
-is_exported (targets.Exported k) path d = same_place k.decl d && bytes_eq k.path path
+is_exported (targets.Exported k) path d = same_decl_place k.decl d && bytes_eq k.path path
 
 abbrev pub is_target_place : Target → List ℕ → MemberPlace → Bool
 is_target_place t path (member.Declared d) = is_exported t path d
@@ -100,10 +100,10 @@ is_target_decl t (Universe name) = false
 is_target_decl t OfError = false
 
 -- what an occurrence has is the declaration that a dot import binds
-abbrev pub is_target : Target → TheOutcome → Bool
-is_target t (outcomes.Declared d) = is_target_decl t d
-is_target t (outcomes.Selected d path) = false
-is_target t (outcomes.Refused rule) = false
+abbrev pub is_target_outcome : Target → TheOutcome → Bool
+is_target_outcome t (outcomes.Declared d) = is_target_decl t d
+is_target_outcome t (outcomes.Selected d path) = false
+is_target_outcome t (outcomes.Refused rule) = false
 
 -- the occurrence behind another has a declaration
 abbrev pub has_next : Option TheUse → Bool
@@ -113,7 +113,7 @@ has_next (Some u) = is_declared u.outcome
 -- whether a name uses the import that binds it so: by the package left of a dot, where the selector behind it has a declaration, or by a declaration
 -- that a dot import binds
 abbrev pub uses_binding : Target → Role → TheOutcome → Option TheUse → Bool
-uses_binding t r o next = if is_package o then is_qualifier r && has_next next else is_target t o
+uses_binding t r o next = if is_package_outcome o then is_qualifier r && has_next next else is_target_outcome t o
 
 abbrev pub used_if : Option Binding → Role → TheOutcome → Option TheUse → List ℕ
 used_if None r o next = []
@@ -121,7 +121,7 @@ used_if (Some b) r o next = if uses_binding b.target r o next then b.at ∷ [] e
 
 -- the place of the import that an occurrence of the file of a number uses, if it uses one
 abbrev pub used_by : BlocksModel → ℕ → Occ → TheUse → Option TheUse → List ℕ
-used_by b file o u next = if is_name o.role then used_if (file_binding b file o.spelling) o.role u.outcome next else []
+used_by b file o u next = if is_name_role o.role then used_if (file_binding b file o.spelling) o.role u.outcome next else []
 
 -- the places of the imports that occurrences use, where each has what stands at its place
 abbrev pub used_places : BlocksModel → ℕ → List Occ → List TheUse → List ℕ
@@ -151,9 +151,9 @@ abbrev pub refused_use : TheUse → TheUse
 refused_use u = record { offset = u.offset; role = u.role; outcome = unused_outcome u.outcome }
 
 -- what an occurrence has, where the imports at these places are used or need not be
-abbrev pub judged : List ℕ → TheUse → TheUse
-judged places u = if is_import u.role && not (list_any (λ place. nat_eq place u.offset) places) then refused_use u else u
+abbrev pub judged_import : List ℕ → TheUse → TheUse
+judged_import places u = if is_import u.role && not (list_any (λ place. nat_eq place u.offset) places) then refused_use u else u
 
 -- what the occurrences of the file of a number and a tree have, by what they have where each import may stand unused
 abbrev pub without_unused : BlocksModel → ℕ → FileTree → List TheUse → List TheUse
-without_unused b file f us = map (judged (blank_places f ++ used_places b file (file_occs f) us)) us
+without_unused b file f us = map (judged_import (blank_places f ++ used_places b file (file_occs f) us)) us

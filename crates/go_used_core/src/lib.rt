@@ -21,7 +21,7 @@ pub mod answer_core {
 /// What the crates above name of `go_block_core`.
 pub mod block_core {
     pub use go_answer_core::block_core::{
-        Blocks, Exports, Imported, NamedDecl, blocks, import_names, import_specs, one_blocks_alone,
+        Blocks, Imported, blocks, import_names, import_specs, one_blocks_alone,
     };
 }
 

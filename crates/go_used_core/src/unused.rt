@@ -3,7 +3,7 @@ ghost use Rattle.std.specs.Prelude.{◌≡◌, ◌++◌, IfErr, IfOk, OnOk, map}
 ghost use Rattle.std.specs.List.{flat_map};
 ghost use Rattle.go_tree_nodes.specs.Shapes.{file_of, import_of, shape_import_spec, shape_import_specs};
 ghost use Rattle.go_answer_core.specs.block_core.Naming.{specs_in, specs_of};
-ghost use Rattle.go_used_core.specs.Used.{blank_place, is_blank_name, judged, refused_use, without_unused};
+ghost use Rattle.go_used_core.specs.Used.{blank_place, is_blank_name, judged_import, refused_use, without_unused};
 
 use crate::used::{add_used_places, is_import};
 use go_answer_core::Answer;
@@ -75,7 +75,7 @@ fn refuse(answer: &mut Answer)
 
 // Refuses an import whose place is none of these.
 fn judge(places: &[usize], answer: &mut Answer)
-    ensures { answer.new ≡ judged places.now answer.old }
+    ensures { answer.new ≡ judged_import places.now answer.old }
 {
     if is_import(answer.role) && !places.contains(&answer.offset) {
         refuse(answer);
@@ -84,7 +84,7 @@ fn judge(places: &[usize], answer: &mut Answer)
 
 // Refuses the imports whose places are none of these.
 fn judge_all(places: &[usize], answers: &mut [Answer])
-    ensures { answers.new ≡ map (judged places.now) answers.old }
+    ensures { answers.new ≡ map (judged_import places.now) answers.old }
 {
     for answer in answers.iter_mut() {
         judge(places, answer);
@@ -94,7 +94,7 @@ fn judge_all(places: &[usize], answers: &mut [Answer])
 /// Refuses those imports of the file of a number that are not used and break no other rule, by I7. An import is used where a selector of the file
 /// whose qualifier it binds has a declaration, or a name has one through its dot; one with the name `_` need not be used. `blocks` are those of the
 /// file's package, and `answers` what the occurrences of the tree have. The names that such an import binds stay bound. Time is linear in
-/// the occurrences and, for a file of n imports, n in the used ones.
+/// the occurrences, and for each import in those that use one.
 ///
 /// The Go specification, "Import declarations".
 ///

@@ -3,7 +3,7 @@ ghost use Rattle.std.specs.Prelude.{◌≡◌, ◌++◌, IfOk, OnOk, None, Some,
 ghost use Rattle.std.specs.Option.{option_to_list};
 ghost use Rattle.go_answer_core.specs.block_core.Blocks.{file_binding};
 ghost use Rattle.go_answer_core.specs.handle_core.Declarations.{site_shown};
-ghost use Rattle.go_used_core.specs.Used.{has_next, is_declared, is_exported, is_import, is_name, is_package, is_package_decl, is_qualifier, is_target, is_target_decl, is_target_place, used_by, used_if, used_places, uses_binding};
+ghost use Rattle.go_used_core.specs.Used.{has_next, is_declared, is_exported, is_import, is_name_role, is_package_outcome, is_package_decl, is_qualifier, is_target_outcome, is_target_decl, is_target_place, used_by, used_if, used_places, uses_binding};
 ghost use Rattle.go_used_core.specs.mirrors.Steps.{some_used};
 
 use go_answer_core::Answer;
@@ -30,7 +30,7 @@ fn is_package_site(site: DeclSite<'_>) -> bool
 
 // Whether what an occurrence has is a package.
 fn is_package(answer: &Answer) -> bool
-    ensures { result ≡ is_package answer.now.outcome }
+    ensures { result ≡ is_package_outcome answer.now.outcome }
 {
     match &answer.outcome {
         Outcome::Declared(site) => is_package_site(site.decl().site()),
@@ -89,7 +89,7 @@ fn is_target_site(target: &Target, site: DeclSite<'_>) -> bool
 
 // Whether what an occurrence has is the declaration that a dot import binds.
 fn is_target(target: &Target, answer: &Answer) -> bool
-    ensures { result ≡ is_target target.now answer.now.outcome }
+    ensures { result ≡ is_target_outcome target.now answer.now.outcome }
 {
     match &answer.outcome {
         Outcome::Declared(site) => is_target_site(target, site.decl().site()),
@@ -110,7 +110,7 @@ fn has_next(next: Option<&Answer>) -> bool
 
 // Whether an occurrence of this role is a name that is looked up.
 fn is_name(role: Role) -> bool
-    ensures { result ≡ is_name role }
+    ensures { result ≡ is_name_role role }
 {
     match role {
         Role::Import => false,

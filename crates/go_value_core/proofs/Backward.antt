@@ -9,7 +9,7 @@ use Rattle.std.proofs.lemmas.List.Elements.{All-contains}
 use Rattle.go_needs_core.specs.cycle_core.declared.edge.Edge.{Edge}
 use Rattle.go_needs_core.specs.cycle_core.Cycle as cycle
 use Rattle.go_needs_core.specs.cycle_core.Cycle.{IsRanked, IsRanking, IsOnCycle, Reaches}
-use Rattle.go_needs_core.specs.Needs.{needed, Leads, AllInside}
+use Rattle.go_needs_core.specs.Needs.{needed, NeedsLead, NeedsAreInside}
 use Rattle.go_needs_core.specs.mirrors.Filling.{edges_from}
 use Rattle.go_needs_core.proofs.Edges.{edge, need_edge, path_of}
 use Rattle.go_needs_core.specs.cycle_core.Walks.{leads_back}
@@ -40,7 +40,7 @@ any_has f (x ∷ row) b (suc i) lt is h = ap (λ t. f x || t) (any_has f row b i
 
 -- a path is a list of edges
 
-edges_along : (rows : List (List ℕ)) (path : List ℕ) (a b : ℕ) → Leads rows a path b → (es : List Edge) × cycle.Leads (edges_from 0 rows) es a b
+edges_along : (rows : List (List ℕ)) (path : List ℕ) (a b : ℕ) → NeedsLead rows a path b → (es : List Edge) × cycle.Leads (edges_from 0 rows) es a b
 edges_along rows [] a b h = ([], h)
 edges_along rows (c ∷ path) a b h =
     let rest = edges_along rows path c b h.1 in

@@ -8,7 +8,7 @@ use Rattle.go_env_core.specs.Scenes.{SceneModel}
 use Rattle.go_env_core.specs.Looks.{TheLooks}
 use Rattle.go_needs_core.specs.Needs.{AreValues, known_in, EndsWithin}
 use Rattle.go_needs_core.proofs.Needed.{one_table, endless_never}
-use Rattle.go_value_core.specs.Laws.{AreFaces, PackageHasOneTable, NeedsDecide, ThroughItselfHasNone, NeededNamesDecide, FormsAlike, PlacedAlike, AllAlike, BodiesDoNotCount}
+use Rattle.go_value_core.specs.Laws.{AreFaces, PackageHasOneTable, NeedsDecide, ThroughItselfHasNone, NeededNamesDecide, FormsAlike, PlacedAlike, AllAlike, NamesAndBodiesDoNotCount}
 use Rattle.go_value_core.specs.Package.{PlacedOf, form_idents, idents_need, decl_needs, package_needs, form_face, top_looks, some_face, declared_face, IsThroughItself}
 use Rattle.go_value_core.proofs.Owning.{initial_alike}
 use Rattle.go_value_core.proofs.Seeing.{looks_at_needs}
@@ -72,5 +72,5 @@ some_same s known n (p ∷ ps) [] i h = elim h [ ]
 some_same s known n (p ∷ ps) (q ∷ qs) zero h = placed_same s known n p q h.0
 some_same s known n (p ∷ ps) (q ∷ qs) (suc i) h = some_same s known n ps qs i h.1
 
-pub bodies_do_not_count : BodiesDoNotCount
+pub bodies_do_not_count : NamesAndBodiesDoNotCount
 bodies_do_not_count = record { needs = all_needs; faces = λ s ds es known n h. some_same s known n ds es n h }

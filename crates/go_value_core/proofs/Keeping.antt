@@ -5,7 +5,7 @@ use Rattle.std.specs.declared.alloc.Global.{Global}
 use Rattle.std.proofs.lemmas.Bool.{both_ways}
 use Rattle.go_env_core.specs.Scenes.{SceneModel}
 use Rattle.go_value_core.specs.Around.{LeadsBack, AreLeadingBack}
-use Rattle.go_value_core.specs.Package.{PlacedOf, is_constant, some_constant, package_needs, IsThroughItself, AreThroughThemselves}
+use Rattle.go_value_core.specs.Package.{PlacedOf, declares_constant, some_constant, package_needs, IsThroughItself, AreThroughThemselves}
 use Rattle.go_value_core.specs.mirrors.Kept.{constant_flags}
 
 -- of constants

@@ -27,13 +27,13 @@ use Rattle.go_piece_core.specs.denote_core.declared.things.Argument.TheVariants 
 use Rattle.go_piece_core.specs.denote_core.Arguments.{argument_of, arguments_of}
 use Rattle.go_piece_core.specs.denote_core.Look.{Look}
 use Rattle.go_piece_core.specs.statement_core.Declarations.{given_type, declared_types}
-use Rattle.go_piece_core.specs.expr_core.Looks.{Looks, at}
+use Rattle.go_piece_core.specs.expr_core.Looks.{Looks, look_of_place}
 use Rattle.go_piece_core.specs.expr_core.Places.{start}
 use Rattle.go_piece_core.specs.expr_core.Denoting.{denoted}
 use Rattle.go_piece_core.specs.expr_core.Lists.{denoted_exprs}
-use Rattle.go_piece_core.specs.expr_core.Laws.{Agree, LooksAtNames, finding}
+use Rattle.go_piece_core.specs.expr_core.Laws.{AgreeOnIdents, LooksAtNames, finding}
 use Rattle.go_piece_core.specs.expr_core.Alike.{needed_names}
-use Rattle.go_value_core.specs.Initial.{count, some_type, values_given, variable, constant_value, constant_values, values_of, spec_values, initial, exprs, expr_in, expr_behind, expr_of, some_needed, initial_idents}
+use Rattle.go_value_core.specs.Initial.{spec_name_count, some_written_type, values_given, variable, constant_value, constant_values, values_of, initialiser_values, initial, exprs, expr_in, expr_behind, expr_of, some_needed, initial_idents}
 use Rattle.go_piece_core.specs.Specifications as pieces
 use Rattle.go_value_core.specs.mirrors.Own.{one_of, is_one, is_alone, given_by, own_argument, type_from, value_from}
 
@@ -104,7 +104,7 @@ module _ {T S D P : Type 0} (looks : Looks T S D P) where
   each_of (One e) = refl
   each_of (Then e c more) = ap (λ l. each e ∷ l) (each_of more)
 
-  several : (o : ℕ) (e : ExprTree) (c : Span) (more : Separated ExprTree) → arguments_of (at looks o) (denoted_exprs looks (Then e c more)) ≡ map each (exprs (Then e c more))
+  several : (o : ℕ) (e : ExprTree) (c : Span) (more : Separated ExprTree) → arguments_of (look_of_place looks o) (denoted_exprs looks (Then e c more)) ≡ map each (exprs (Then e c more))
   several o e c (One f) = refl
   several o e c (Then f c2 more) = ap (λ l. each e ∷ each f ∷ l) (each_of more)
 
@@ -177,29 +177,29 @@ module _ {T : Type 0} (rules : TypeRules T) where
 
 -- a name
 
-pub initial_is : {T S D P : Type 0} (looks : Looks T S D P) (kind : ValueKind) (v : ValueSpecTree) (i : ℕ) → i < count v
-    → initial looks kind v i ≡ value_from looks.types kind (some_type looks v.type_expr) (own_argument looks v i)
+pub initial_is : {T S D P : Type 0} (looks : Looks T S D P) (kind : ValueKind) (v : ValueSpecTree) (i : ℕ) → i < spec_name_count v
+    → initial looks kind v i ≡ value_from looks.types kind (some_written_type looks v.type_expr) (own_argument looks v i)
 initial_is looks kind v i lt =
-    value_at looks.types kind (some_type looks v.type_expr) (count v) i (values_given looks v.values) lt
-    ∙ ap (value_from looks.types kind (some_type looks v.type_expr)) (given_is looks (count v) i v.values)
+    value_at looks.types kind (some_written_type looks v.type_expr) (spec_name_count v) i (values_given looks v.values) lt
+    ∙ ap (value_from looks.types kind (some_written_type looks v.type_expr)) (given_is looks (spec_name_count v) i v.values)
 
-pub initial_past : {T S D P : Type 0} (looks : Looks T S D P) (kind : ValueKind) (v : ValueSpecTree) (i : ℕ) → count v ≤ i → initial looks kind v i ≡ None
+pub initial_past : {T S D P : Type 0} (looks : Looks T S D P) (kind : ValueKind) (v : ValueSpecTree) (i : ℕ) → spec_name_count v ≤ i → initial looks kind v i ≡ None
 initial_past looks kind v i h =
-    let l = values_of looks.types kind (some_type looks v.type_expr) (count v) (values_given looks v.values) in
-    let c : length l ≡ count v = values_counted looks.types kind (some_type looks v.type_expr) (count v) (values_given looks v.values) in
+    let l = values_of looks.types kind (some_written_type looks v.type_expr) (spec_name_count v) (values_given looks v.values) in
+    let c : length l ≡ spec_name_count v = values_counted looks.types kind (some_written_type looks v.type_expr) (spec_name_count v) (values_given looks v.values) in
     let past : length l ≤ i = omega (arith, h, c) in
     get_or_past l i None past
 
 -- what the names of a specification stand for, inside functions and outside
 
-pub specifications_alike : {T S D P : Type 0} (looks : Looks T S D P) (kind : ValueKind) (v : ValueSpecTree) → spec_values looks kind v ≡ pieces.spec_values looks kind v
+pub specifications_alike : {T S D P : Type 0} (looks : Looks T S D P) (kind : ValueKind) (v : ValueSpecTree) → initialiser_values looks kind v ≡ pieces.spec_values looks kind v
 specifications_alike looks kinds.Const v = refl
 specifications_alike looks kinds.Var v = refl
 
 -- it looks at the names that it needs
 
 module _ {T S D P : Type 0} (looks : Looks T S D P) (find : List ℕ → ℕ → Found T S D) where
-  alone_alike : (o : ℕ) (d : declared_denoted.Denoted T S D) → arguments_of (at looks o) (d ∷ []) ≡ arguments_of (at (finding find looks) o) (d ∷ [])
+  alone_alike : (o : ℕ) (d : declared_denoted.Denoted T S D) → arguments_of (look_of_place looks o) (d ∷ []) ≡ arguments_of (look_of_place (finding find looks) o) (d ∷ [])
   alone_alike o denotes.Refused = refl
   alone_alike o denotes.Typeless = refl
   alone_alike o (denotes.«Package» d) = refl
@@ -211,32 +211,32 @@ module _ {T S D P : Type 0} (looks : Looks T S D P) (find : List ℕ → ℕ →
   alone_alike o (denotes.Builtin d b) = refl
 
   module _ (law : LooksAtNames T looks.written) where
-    given_alike : (n i : ℕ) (alone : Bool) (o : Option ExprTree) → Agree looks.find find (some_needed o) → given_by looks n i alone o ≡ given_by (finding find looks) n i alone o
+    given_alike : (n i : ℕ) (alone : Bool) (o : Option ExprTree) → AgreeOnIdents looks.find find (some_needed o) → given_by looks n i alone o ≡ given_by (finding find looks) n i alone o
     given_alike n i alone None h = refl
     given_alike n i true (Some e) h =
         let same = needed_names T S D P looks find places.«Value» e law h in
-        ap (one_of n i) (ap (λ d. arguments_of (at looks (start e)) (d ∷ [])) same ∙ alone_alike (start e) (denoted (finding find looks) places.«Value» e))
+        ap (one_of n i) (ap (λ d. arguments_of (look_of_place looks (start e)) (d ∷ [])) same ∙ alone_alike (start e) (denoted (finding find looks) places.«Value» e))
     given_alike n i false (Some e) h = ap argument_of (needed_names T S D P looks find places.«Value» e law h)
 
-    within : (kind : ValueKind) (v : ValueSpecTree) (i : ℕ) → some_type looks v.type_expr ≡ some_type (finding find looks) v.type_expr → Agree looks.find find (initial_idents v i) → i < count v
+    within : (kind : ValueKind) (v : ValueSpecTree) (i : ℕ) → some_written_type looks v.type_expr ≡ some_written_type (finding find looks) v.type_expr → AgreeOnIdents looks.find find (initial_idents v i) → i < spec_name_count v
         → initial looks kind v i ≡ initial (finding find looks) kind v i
     within kind v i types h lt =
         initial_is looks kind v i lt
         ∙ (ap (λ w. value_from looks.types kind w (own_argument looks v i)) types
-        ∙ (ap (value_from looks.types kind (some_type (finding find looks) v.type_expr)) (given_alike (count v) i (is_alone v.values) (expr_of v i) h)
+        ∙ (ap (value_from looks.types kind (some_written_type (finding find looks) v.type_expr)) (given_alike (spec_name_count v) i (is_alone v.values) (expr_of v i) h)
         ∙ sym (initial_is (finding find looks) kind v i lt)))
 
-    pub initial_alike : (kind : ValueKind) (v : ValueSpecTree) (i : ℕ) → some_type looks v.type_expr ≡ some_type (finding find looks) v.type_expr → Agree looks.find find (initial_idents v i)
+    pub initial_alike : (kind : ValueKind) (v : ValueSpecTree) (i : ℕ) → some_written_type looks v.type_expr ≡ some_written_type (finding find looks) v.type_expr → AgreeOnIdents looks.find find (initial_idents v i)
         → initial looks kind v i ≡ initial (finding find looks) kind v i
-    initial_alike kind v i types h = elim (cases_lt i (count v)) [
+    initial_alike kind v i types h = elim (cases_lt i (spec_name_count v)) [
       | inl lt ↦ within kind v i types h lt
       | inr past ↦ initial_past looks kind v i past ∙ sym (initial_past (finding find looks) kind v i past)
     ]
 
 -- what the code answers
-pub initial_from : {T S D P E : Type 0} (looks : Looks T S D P) (kind : ValueKind) (v : ValueSpecTree) (i : ℕ) → i < count v → (w : Option (Option T)) (a : Argument T) (r : Result (Option (Operand T)) E)
-    → w ≡ some_type looks v.type_expr → a ≡ own_argument looks v i → IfOk r (λ o. o ≡ value_from looks.types kind w a) → IfOk r (λ o. o ≡ initial looks kind v i)
+pub initial_from : {T S D P E : Type 0} (looks : Looks T S D P) (kind : ValueKind) (v : ValueSpecTree) (i : ℕ) → i < spec_name_count v → (w : Option (Option T)) (a : Argument T) (r : Result (Option (Operand T)) E)
+    → w ≡ some_written_type looks v.type_expr → a ≡ own_argument looks v i → IfOk r (λ o. o ≡ value_from looks.types kind w a) → IfOk r (λ o. o ≡ initial looks kind v i)
 initial_from looks kind v i lt w a r of_w of_a h =
     subst (λ x. IfOk r (λ o. o ≡ x))
-    (ap (λ x. value_from looks.types kind x a) of_w ∙ (ap (value_from looks.types kind (some_type looks v.type_expr)) of_a ∙ sym (initial_is looks kind v i lt)))
+    (ap (λ x. value_from looks.types kind x a) of_w ∙ (ap (value_from looks.types kind (some_written_type looks v.type_expr)) of_a ∙ sym (initial_is looks kind v i lt)))
     h

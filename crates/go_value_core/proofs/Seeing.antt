@@ -20,20 +20,20 @@ use Rattle.go_env_core.specs.scope_core.Scopes.{Denoted}
 use Rattle.go_env_core.specs.scope_core.Laws.{denotes}
 use Rattle.go_env_core.specs.names_core.Scope.{some_meaning}
 use Rattle.go_term_core.specs.Terms.{Term}
-use Rattle.go_piece_core.specs.expr_core.Laws.{Agree, LooksAtNames}
+use Rattle.go_piece_core.specs.expr_core.Laws.{AgreeOnIdents, LooksAtNames}
 use Rattle.go_piece_core.specs.expr_core.Looks.{WrittenRules}
 use Rattle.go_env_core.specs.inline_core.Types.{InlineOf}
 use Rattle.go_env_core.specs.face_core.declared.face.Face.TheVariants as faces
 use Rattle.go_env_core.specs.face_core.Faces.{TheFace}
-use Rattle.go_env_core.specs.face_core.Written.{WrittenOf, position_of, same_place, written_at}
+use Rattle.go_env_core.specs.face_core.Written.{WrittenOf, position_of, same_decl_place, written_at}
 use Rattle.go_env_core.specs.declared.meaning.Meaning.{Meaning}
 use Rattle.go_env_core.specs.declared.meaning.Meaning.TheVariants as meanings
 use Rattle.go_env_core.specs.Scenes.{SceneModel}
 use Rattle.go_env_core.specs.Found.{found_of, found_face, face_at}
 use Rattle.go_env_core.specs.Looks.{TheLooks, looks_in, inline_rules}
-use Rattle.go_needs_core.specs.Needs.{LooksAtNeeds, AllInside, needed, known_in}
-use Rattle.go_value_core.specs.Initial.{initial, initial_idents, some_type}
-use Rattle.go_value_core.specs.Package.{PlacedOf, own_decl, listed, position_in, name_needs, idents_need, value_idents, form_idents, decl_needs, package_needs, top_look, first_values, top_looks, value_face, form_face, some_face, declared_face}
+use Rattle.go_needs_core.specs.Needs.{LooksAtNeeds, NeedsAreInside, needed, known_in}
+use Rattle.go_value_core.specs.Initial.{initial, initial_idents, some_written_type}
+use Rattle.go_value_core.specs.Package.{PlacedOf, own_decl, some_position, position_in, name_needs, idents_need, value_idents, form_idents, decl_needs, package_needs, top_look, first_values, top_looks, value_face, form_face, some_face, declared_face}
 use Rattle.go_value_core.proofs.Owning.{initial_alike}
 
 -- positions lie in the list
@@ -54,7 +54,7 @@ first_inside k n false o below h = later_inside k n o below h
 
 pub position_inside : (ws : List WrittenOf) (d : DeclRef) (n : ℕ) → position_of ws d ≡ Some n → n < length ws
 position_inside [] d n h = absurd (not_some n h)
-position_inside (w ∷ ws) d n h = first_inside (length ws) n (same_place w.decl d) (position_of ws d) (λ m e. position_inside ws d m e) h
+position_inside (w ∷ ws) d n h = first_inside (length ws) n (same_decl_place w.decl d) (position_of ws d) (λ m e. position_inside ws d m e) h
 
 one_inside : (x : ℕ) → Contains (x ∷ []) x
 one_inside x = (let pos : 0 < length (x ∷ []) = omega arith in (0, pos, refl))
@@ -71,7 +71,7 @@ SameAt row f g = (b : ℕ) → Contains row b → f b ≡ g b
 
 module _ (s : SceneModel) (file : ℕ) where
   -- what is needed lies in the list
-  listed_inside : (d : DeclRef) (o : Option ℕ) → position_of s.written d ≡ o → (b : ℕ) → Contains (listed o) b → b < length s.written
+  listed_inside : (d : DeclRef) (o : Option ℕ) → position_of s.written d ≡ o → (b : ℕ) → Contains (some_position o) b → b < length s.written
   listed_inside d None e b h = absurd (none_inside b h)
   listed_inside d (Some n) e b h = (let lt : n < length s.written = position_inside s.written d n e in let q : n ≡ b = only_one n b h in omega (arith, lt, q))
 
@@ -85,7 +85,7 @@ module _ (s : SceneModel) (file : ℕ) where
   -- what a name stands for, where the same is known of what it needs
 
   module _ (k l : List (Option TheFace)) where
-    position_alike : (o : Option ℕ) → SameAt (listed o) (known_in k) (known_in l) → face_at k o ≡ face_at l o
+    position_alike : (o : Option ℕ) → SameAt (some_position o) (known_in k) (known_in l) → face_at k o ≡ face_at l o
     position_alike None h = refl
     position_alike (Some n) h = h n (one_inside n)
 
@@ -104,7 +104,7 @@ module _ (s : SceneModel) (file : ℕ) where
       abbrev after : TheLooks
       after = looks_in s file l written (top_look s.blocks file)
 
-      pub idents_alike : (xs : List Ident) → SameAt (idents_need s file xs) (known_in k) (known_in l) → Agree before.find after.find xs
+      pub idents_alike : (xs : List Ident) → SameAt (idents_need s file xs) (known_in k) (known_in l) → AgreeOnIdents before.find after.find xs
       idents_alike [] h = tt
       idents_alike (x ∷ xs) h = (
         meaning_alike x.name (denotes (scopes_model s.blocks file []) x.name) (λ b has. h b (Contains-append_left (name_needs s file x.name) (idents_need s file xs) b has)),
@@ -117,7 +117,7 @@ inline_law : (s : SceneModel) (types : List (ℕ × InlineOf)) → LooksAtNames 
 inline_law s types = record { type_of = λ a b t h. refl; faults_of = λ a b t h. refl }
 
 written_alike : (s : SceneModel) (file : ℕ) (types : List (ℕ × InlineOf)) (k l : List (Option TheFace)) (t : Option TypeTree)
-    → some_type (before s file k l (inline_rules s types)) t ≡ some_type (after s file k l (inline_rules s types)) t
+    → some_written_type (before s file k l (inline_rules s types)) t ≡ some_written_type (after s file k l (inline_rules s types)) t
 written_alike s file types k l None = refl
 written_alike s file types k l (Some t) = refl
 
@@ -186,7 +186,7 @@ row_inside : (s : SceneModel) (p : PlacedOf) → All (λ b. b < length s.written
 row_inside s p =
     All-weaker (Contains (decl_needs s p)) (λ b. b < length s.written) (λ b has. needs_inside s p.file (form_idents p.decl.form) b has) (decl_needs s p) (All-contains_itself (decl_needs s p))
 
-pub all_inside : (s : SceneModel) (ds : List PlacedOf) → length s.written ≡ length ds → AllInside (package_needs s ds)
+pub all_inside : (s : SceneModel) (ds : List PlacedOf) → length s.written ≡ length ds → NeedsAreInside (package_needs s ds)
 all_inside s ds q =
     let n : length s.written ≡ length (package_needs s ds) = q ∙ sym (length-map ds (decl_needs s)) in
     subst (λ m. All (λ row. All (λ b. b < m) row) (package_needs s ds)) n

@@ -29,7 +29,7 @@ use Rattle.go_tree_nodes.specs.TypeShapes.{shape_type, shape_signature, shape_re
 use Rattle.go_tree_nodes.specs.Shapes.{shape, items_of}
 use Rattle.go_tree_nodes.proofs.TypeShapes.{shape_struct, shape_interface, listed_parts, signature_parts}
 use Rattle.go_tree_nodes.proofs.ShapeLemmas.{call_parts, literal_parts, struct_literal_parts}
-use Rattle.go_piece_core.specs.expr_core.Laws.{type_name_idents, type_idents, fields_idents, methods_idents, signature_idents, result_idents, params_idents}
+use Rattle.go_piece_core.specs.expr_core.Laws.{type_name_idents, type_idents, fields_idents, methods_idents, signature_type_idents, result_type_idents, params_idents}
 use Rattle.go_piece_core.specs.expr_core.Needed.{needed_idents, needed_by_args}
 use Rattle.go_value_core.specs.mirrors.Walked.{line_idents}
 
@@ -62,22 +62,22 @@ pub lines_more : (l : FieldLine) (ls : List FieldLine) → fields_idents (fields
 lines_more l ls = before l.fields l.tag l.semicolon (fields_of ls)
 
 abbrev method_idents : MethodLine → List Ident
-method_idents (MethodLine' x signature s) = signature_idents (shape_signature signature)
+method_idents (MethodLine' x signature s) = signature_type_idents (shape_signature signature)
 
 method_more : (m : MethodLine) (ms : List MethodLine) → methods_idents (methods_of (m ∷ ms)) ≡ method_idents m ++ methods_idents (methods_of ms)
 method_more (MethodLine' x signature s) ms = refl
 
-pub methods_more : (m : MethodLine) (ms : List MethodLine) → methods_idents (methods_of (m ∷ ms)) ≡ signature_idents (shape_signature (out-MethodLine m).signature) ++ methods_idents (methods_of ms)
+pub methods_more : (m : MethodLine) (ms : List MethodLine) → methods_idents (methods_of (m ∷ ms)) ≡ signature_type_idents (shape_signature (out-MethodLine m).signature) ++ methods_idents (methods_of ms)
 methods_more m ms = method_more m ms ∙ ap (λ l. l ++ methods_idents (methods_of ms)) (ap method_idents (is-MethodLine' m))
 
 pub params_more : (p : declared_param.Param) (ps : List declared_param.Param) → params_idents (params_of (p ∷ ps)) ≡ type_idents (shape_type p.type_expr) ++ params_idents (params_of ps)
 params_more p ps = refl
 
-pub signature_has : (s : Signature) → signature_idents (shape_signature s) ≡ params_idents (params_of (out-Params (out-Signature s).params).entries.items) ++ result_idents (shape_results (out-Signature s).results)
-signature_has s = ap signature_idents (signature_parts s)
+pub signature_has : (s : Signature) → signature_type_idents (shape_signature s) ≡ params_idents (params_of (out-Params (out-Signature s).params).entries.items) ++ result_type_idents (shape_results (out-Signature s).results)
+signature_has s = ap signature_type_idents (signature_parts s)
 
-pub listed_has : (r : declared_results.Results) (p : Params) → r ≡ results.Listed p → result_idents (shape_results r) ≡ params_idents (params_of (out-Params p).entries.items)
-listed_has r p is = ap (λ r. result_idents (shape_results r)) is ∙ ap result_idents (listed_parts p)
+pub listed_has : (r : declared_results.Results) (p : Params) → r ≡ results.Listed p → result_type_idents (shape_results r) ≡ params_idents (params_of (out-Params p).entries.items)
+listed_has r p is = ap (λ r. result_type_idents (shape_results r)) is ∙ ap result_type_idents (listed_parts p)
 
 -- expressions
 

@@ -3,10 +3,10 @@ use Rattle.std.proofs.Common.{◌≡◌, ℕ, ◌<◌, List, [], ◌∷◌, leng
 use Rattle.std.specs.Prelude.{Contains}
 use Rattle.go_universe_core.specs.Universe.{found, spelling_of}
 use Rattle.go_env_core.specs.scope_core.Scopes.{universe}
-use Rattle.go_needs_core.specs.Needs.{Leads}
+use Rattle.go_needs_core.specs.Needs.{NeedsLead}
 use Rattle.go_value_core.specs.Around.{LeadsBack}
 use Rattle.go_value_core.specs.Package.{package_needs, IsThroughItself}
-use Rattle.go_value_core.specs.Sample.{SampleIsRight, scene, sample}
+use Rattle.go_value_core.specs.Sample.{ValueSampleIsRight, value_sample_scene, value_sample}
 
 abbrev rows : List (List ℕ)
 rows = (1 ∷ (1 ∷ [])) ∷ ([] ∷ ((3 ∷ []) ∷ ((2 ∷ []) ∷ ((2 ∷ []) ∷ ((0 ∷ []) ∷ ((1 ∷ []) ∷ ([] ∷ ([] ∷ []))))))))
@@ -20,11 +20,11 @@ c_back = record { first = 3; around = 2 ∷ []; back = (one_inside 3, (one_insid
 d_back : LeadsBack rows 3
 d_back = record { first = 2; around = 3 ∷ []; back = (one_inside 2, (one_inside 3, refl)) }
 
-needs_is : package_needs scene sample ≡ rows
+needs_is : package_needs value_sample_scene value_sample ≡ rows
 unfolding found spelling_of universe
 needs_is = refl
 
-pub sample_is_right : SampleIsRight
+pub sample_is_right : ValueSampleIsRight
 unfolding found spelling_of universe
 sample_is_right = record {
   needs = refl;

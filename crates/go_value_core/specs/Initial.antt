@@ -15,15 +15,15 @@ use Rattle.go_piece_core.specs.denote_core.declared.things.Argument.{Argument}
 use Rattle.go_piece_core.specs.statement_core.Declarations.{declared_types}
 use Rattle.go_piece_core.specs.expr_core.Looks.{Looks}
 use Rattle.go_piece_core.specs.expr_core.Needed.{needed_idents}
-pub use Rattle.go_piece_core.specs.Types.{some_type}
+pub use Rattle.go_piece_core.specs.Types.{some_written_type}
 pub use Rattle.go_piece_core.specs.Values.{variable, list_start}
 pub use Rattle.go_piece_core.specs.Specifications.{constant_value, constant_values, values_given}
 
 -- a specification
 
 -- how many names
-abbrev pub count : ValueSpecTree → ℕ
-count v = length (idents v.names)
+abbrev pub spec_name_count : ValueSpecTree → ℕ
+spec_name_count v = length (idents v.names)
 
 -- what the names stand for
 
@@ -32,12 +32,12 @@ abbrev pub values_of : {T : Type 0} → TypeRules T → ValueKind → Option (Op
 values_of rules kinds.Const written n given = constant_values rules written n given
 values_of rules kinds.Var written n given = map variable (declared_types rules written n given)
 
-abbrev pub spec_values : {T S D P : Type 0} → Looks T S D P → ValueKind → ValueSpecTree → List (Option (Operand T))
-spec_values looks kind v = values_of looks.types kind (some_type looks v.type_expr) (count v) (values_given looks v.values)
+abbrev pub initialiser_values : {T S D P : Type 0} → Looks T S D P → ValueKind → ValueSpecTree → List (Option (Operand T))
+initialiser_values looks kind v = values_of looks.types kind (some_written_type looks v.type_expr) (spec_name_count v) (values_given looks v.values)
 
 -- the name of a number, from 0: none where it has no type
 abbrev pub initial : {T S D P : Type 0} → Looks T S D P → ValueKind → ValueSpecTree → ℕ → Option (Operand T)
-initial looks kind v i = slice_index_or (spec_values looks kind v) i None
+initial looks kind v i = slice_index_or (initialiser_values looks kind v) i None
 
 -- what a name needs
 
@@ -56,7 +56,7 @@ expr_behind n i None = None
 expr_behind n i (Some es) = expr_in n i es.1
 
 abbrev pub expr_of : ValueSpecTree → ℕ → Option ExprTree
-expr_of v i = expr_behind (count v) i v.values
+expr_of v i = expr_behind (spec_name_count v) i v.values
 
 abbrev pub some_needed : Option ExprTree → List Ident
 some_needed None = []

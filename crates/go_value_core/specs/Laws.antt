@@ -5,11 +5,11 @@ use Rattle.go_tree_nodes.specs.Trees.{ValueSpecTree}
 use Rattle.go_term_core.specs.decl_core.TopDecls.{FormTree, ValueForm, TypeForm, FuncForm}
 use Rattle.go_piece_core.specs.denote_core.declared.things.Found.{Found}
 use Rattle.go_piece_core.specs.expr_core.Looks.{Looks}
-use Rattle.go_piece_core.specs.expr_core.Laws.{Agree, LooksAtNames, finding}
+use Rattle.go_piece_core.specs.expr_core.Laws.{AgreeOnIdents, LooksAtNames, finding}
 use Rattle.go_env_core.specs.face_core.Faces.{TheFace}
 use Rattle.go_env_core.specs.Scenes.{SceneModel}
 use Rattle.go_needs_core.specs.Needs.{AreValues, known_in, needed}
-use Rattle.go_value_core.specs.Initial.{spec_values, initial, initial_idents, some_type}
+use Rattle.go_value_core.specs.Initial.{initialiser_values, initial, initial_idents, some_written_type}
 use Rattle.go_piece_core.specs.Specifications as pieces
 use Rattle.go_value_core.specs.Package.{PlacedOf, package_needs, declared_face, IsThroughItself}
 
@@ -33,12 +33,12 @@ ThroughItselfHasNone = (s : SceneModel) (ds : List PlacedOf) (t : List (Option T
 -- what a name of a specification stands for takes of the look-ups of names what they give for the identifiers that it needs, where they stand
 abbrev pub NeededNamesDecide : (T S D P : Type 0) → Type 0
 NeededNamesDecide T S D P = (looks : Looks T S D P) (find : List ℕ → ℕ → Found T S D) (kind : ValueKind) (v : ValueSpecTree) (i : ℕ)
-    → LooksAtNames T looks.written → some_type looks v.type_expr ≡ some_type (finding find looks) v.type_expr → Agree looks.find find (initial_idents v i)
+    → LooksAtNames T looks.written → some_written_type looks v.type_expr ≡ some_written_type (finding find looks) v.type_expr → AgreeOnIdents looks.find find (initial_idents v i)
     → initial looks kind v i ≡ initial (finding find looks) kind v i
 
 -- what the names of a specification stand for is what they stand for in a function
 abbrev pub SpecificationsAreAlike : (T S D P : Type 0) → Type 0
-SpecificationsAreAlike T S D P = (looks : Looks T S D P) (kind : ValueKind) (v : ValueSpecTree) → spec_values looks kind v ≡ pieces.spec_values looks kind v
+SpecificationsAreAlike T S D P = (looks : Looks T S D P) (kind : ValueKind) (v : ValueSpecTree) → initialiser_values looks kind v ≡ pieces.spec_values looks kind v
 
 -- two declarations are the same, but that the trees of types and functions may differ
 abbrev pub FormsAlike : FormTree → FormTree → Type 0
@@ -62,6 +62,6 @@ AllAlike (p ∷ ps) [] = ⊥
 AllAlike (p ∷ ps) (q ∷ qs) = PlacedAlike p q × AllAlike ps qs
 
 -- names, bodies of functions and trees of types do not count
-pub record BodiesDoNotCount : Type 0 where
+pub record NamesAndBodiesDoNotCount : Type 0 where
   pub needs : (s : SceneModel) (ds es : List PlacedOf) → AllAlike ds es → package_needs s ds ≡ package_needs s es
   pub faces : (s : SceneModel) (ds es : List PlacedOf) (known : ℕ → Option TheFace) (n : ℕ) → AllAlike ds es → declared_face s ds known n ≡ declared_face s es known n

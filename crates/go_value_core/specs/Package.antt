@@ -15,7 +15,7 @@ use Rattle.go_env_core.specs.scope_core.Models.{scopes_model}
 use Rattle.go_env_core.specs.scope_core.Scopes as scopes
 use Rattle.go_env_core.specs.scope_core.Scopes.{Denoted}
 use Rattle.go_env_core.specs.scope_core.Laws.{denotes}
-use Rattle.go_piece_core.specs.local_core.Binding.{Look}
+use Rattle.go_piece_core.specs.local_core.Binding.{NameLook}
 use Rattle.go_env_core.specs.names_core.Scope.{beyond_in}
 use Rattle.go_env_core.specs.entry_core.Outlines.{FileOutline}
 use Rattle.go_env_core.specs.inline_core.Types.{InlineOf}
@@ -58,13 +58,13 @@ abbrev pub own_decl : Option Denoted → Option DeclRef
 own_decl (Some (scopes.Package d)) = Some d
 own_decl _ = None
 
-abbrev pub listed : Option ℕ → List ℕ
-listed None = []
-listed (Some n) = n ∷ []
+abbrev pub some_position : Option ℕ → List ℕ
+some_position None = []
+some_position (Some n) = n ∷ []
 
 abbrev pub position_in : List WrittenOf → Option DeclRef → List ℕ
 position_in ws None = []
-position_in ws (Some d) = listed (position_of ws d)
+position_in ws (Some d) = some_position (position_of ws d)
 
 -- the position of what a name means at the top of a file, where that is a declaration of the package
 abbrev pub name_needs : SceneModel → ℕ → List ℕ → List ℕ
@@ -95,7 +95,7 @@ package_needs s ds = map (decl_needs s) ds
 -- values
 
 -- what names mean at the top of a file, wherever they stand there
-abbrev pub top_look : BlocksModel → ℕ → Look Meaning
+abbrev pub top_look : BlocksModel → ℕ → NameLook Meaning
 top_look b file name place = beyond_in meanings.Outside b file name
 
 -- the first values of a function of positions, as a list
@@ -134,15 +134,15 @@ declared_face s ds known n = some_face s known n (slice_get ds n)
 
 -- constants that are defined through themselves
 
-abbrev pub is_constant : FormTree → Bool
-is_constant (ValueForm kinds.Const v i) = true
-is_constant (ValueForm kinds.Var v i) = false
-is_constant (TypeForm t) = false
-is_constant (FuncForm f) = false
+abbrev pub declares_constant : FormTree → Bool
+declares_constant (ValueForm kinds.Const v i) = true
+declares_constant (ValueForm kinds.Var v i) = false
+declares_constant (TypeForm t) = false
+declares_constant (FuncForm f) = false
 
 abbrev pub some_constant : Option PlacedOf → Bool
 some_constant None = false
-some_constant (Some p) = is_constant p.decl.form
+some_constant (Some p) = declares_constant p.decl.form
 
 -- the declaration of a position is a constant whose needs lead back to it
 pub record IsThroughItself (s : SceneModel) (ds : List PlacedOf) (n : ℕ) : Type 0 where

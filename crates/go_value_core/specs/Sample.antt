@@ -8,10 +8,9 @@ use Rattle.go_tree_nodes.specs.declared.types.TypeName.TheVariants as type_names
 use Rattle.go_tree_nodes.specs.Trees.{Separated, One, Then, TypeTree, NamedType, ExprTree, Integer, Named, Binary, Literal, NoItems, Item, ValueSpecTree}
 use Rattle.go_term_core.specs.decl_core.declared.places.DeclKind.TheVariants as kinds
 use Rattle.go_term_core.specs.decl_core.declared.keys.DeclRef.{DeclRef}
-use Rattle.go_term_core.specs.decl_core.Sample.{at, named}
+use Rattle.go_term_core.specs.decl_core.Sample.{at, called}
 use Rattle.go_term_core.specs.decl_core.TopDecls.{FormTree, ValueForm, top_decl}
 use Rattle.go_env_core.specs.block_core.Blocks.{blocks_model}
-use Rattle.go_env_core.specs.entry_core.Entries.{decl_ref}
 use Rattle.go_piece_core.specs.constant_core.declared.values.Constant.TheVariants as constants
 use Rattle.go_term_core.specs.declared.term.Basic.TheVariants as basics
 use Rattle.go_term_core.specs.Terms.{Term, Predeclared}
@@ -22,40 +21,41 @@ use Rattle.go_env_core.specs.face_core.Faces.{TheFace, variable_face}
 use Rattle.go_env_core.specs.face_core.Written.{WrittenOf}
 use Rattle.go_env_core.specs.Scenes.{SceneModel}
 use Rattle.go_value_core.specs.Package.{PlacedOf, placed, package_needs, declared_face, IsThroughItself}
+use Rattle.go_env_core.specs.block_core.Declarations.{decl_ref}
 
-abbrev pub use_of : List ℕ → ℕ → ExprTree
-use_of name n = Named (named name n)
+abbrev pub name_expr : List ℕ → ℕ → ExprTree
+name_expr name n = Named (called name n)
 
 -- one name and its expression
-abbrev pub one : List ℕ → ExprTree → ValueSpecTree
-one name e = record { names = One (named name 1); type_expr = None; values = Some (at 2, One e) }
+abbrev pub one_value_spec : List ℕ → ExprTree → ValueSpecTree
+one_value_spec name e = record { names = One (called name 1); type_expr = None; values = Some (at 2, One e) }
 
 -- w, x = b, T{c}
-abbrev pub both : ValueSpecTree
-both = record {
-  names = Then (named (codes "w") 1) (at 2) (One (named (codes "x") 3));
+abbrev pub both_values : ValueSpecTree
+both_values = record {
+  names = Then (called (codes "w") 1) (at 2) (One (called (codes "x") 3));
   type_expr = None;
-  values = Some (at 4, Then (use_of (codes "b") 5) (at 6) (One (Literal (type_names.Plain (named (codes "T") 7)) (at 8) (Item None (use_of (codes "c") 9) None NoItems) (at 10))));
+  values = Some (at 4, Then (name_expr (codes "b") 5) (at 6) (One (Literal (type_names.Plain (called (codes "T") 7)) (at 8) (Item None (name_expr (codes "c") 9) None NoItems) (at 10))));
 }
 
 -- y string
 abbrev pub typed_spec : ValueSpecTree
-typed_spec = record { names = One (named (codes "y") 1); type_expr = Some (NamedType (type_names.Plain (named (codes "string") 2))); values = None }
+typed_spec = record { names = One (called (codes "y") 1); type_expr = Some (NamedType (type_names.Plain (called (codes "string") 2))); values = None }
 
-abbrev pub constant : List ℕ → ExprTree → ℕ → PlacedOf
-constant name e n = placed 0 [] (top_decl (named name 1) n (ValueForm value_kinds.Const (one name e) 0))
+abbrev pub constant_placed : List ℕ → ExprTree → ℕ → PlacedOf
+constant_placed name e n = placed 0 [] (top_decl (called name 1) n (ValueForm value_kinds.Const (one_value_spec name e) 0))
 
-abbrev pub sample : List PlacedOf
-sample =
-    constant (codes "a") (Binary (use_of (codes "b") 3) operators.Plus (at 4) (use_of (codes "b") 5)) 0
-    ∷ (constant (codes "b") (Integer 2 (at 3)) 1
-    ∷ (constant (codes "c") (use_of (codes "d") 3) 2
-    ∷ (constant (codes "d") (use_of (codes "c") 3) 3
-    ∷ (constant (codes "e") (use_of (codes "c") 3) 4
-    ∷ (placed 0 [] (top_decl (named (codes "v") 1) 5 (ValueForm value_kinds.Var (one (codes "v") (use_of (codes "a") 3)) 0))
-    ∷ (placed 0 [] (top_decl (named (codes "w") 1) 6 (ValueForm value_kinds.Var both 0))
-    ∷ (placed 0 [] (top_decl (named (codes "x") 1) 7 (ValueForm value_kinds.Var both 1))
-    ∷ (placed 0 [] (top_decl (named (codes "y") 1) 8 (ValueForm value_kinds.Var typed_spec 0)) ∷ []))))))))
+abbrev pub value_sample : List PlacedOf
+value_sample =
+    constant_placed (codes "a") (Binary (name_expr (codes "b") 3) operators.Plus (at 4) (name_expr (codes "b") 5)) 0
+    ∷ (constant_placed (codes "b") (Integer 2 (at 3)) 1
+    ∷ (constant_placed (codes "c") (name_expr (codes "d") 3) 2
+    ∷ (constant_placed (codes "d") (name_expr (codes "c") 3) 3
+    ∷ (constant_placed (codes "e") (name_expr (codes "c") 3) 4
+    ∷ (placed 0 [] (top_decl (called (codes "v") 1) 5 (ValueForm value_kinds.Var (one_value_spec (codes "v") (name_expr (codes "a") 3)) 0))
+    ∷ (placed 0 [] (top_decl (called (codes "w") 1) 6 (ValueForm value_kinds.Var both_values 0))
+    ∷ (placed 0 [] (top_decl (called (codes "x") 1) 7 (ValueForm value_kinds.Var both_values 1))
+    ∷ (placed 0 [] (top_decl (called (codes "y") 1) 8 (ValueForm value_kinds.Var typed_spec 0)) ∷ []))))))))
 
 abbrev pub const_at : ℕ → DeclRef
 const_at n = decl_ref 0 n kinds.Const
@@ -70,8 +70,8 @@ unwritten d = record { decl = d; face = None }
 abbrev pub y_face : TheFace
 y_face = variable_face (Some (Predeclared basics.Text))
 
-abbrev pub scene : SceneModel
-scene = record {
+abbrev pub value_sample_scene : SceneModel
+value_sample_scene = record {
   path = codes "p";
   blocks = blocks_model
       ((codes "a", const_at 0) ∷ ((codes "b", const_at 1) ∷ ((codes "c", const_at 2) ∷ ((codes "d", const_at 3) ∷ ((codes "e", const_at 4) ∷ ((codes "v", var_at 5) ∷ ((codes "w", var_at 6) ∷ ((codes "x", var_at 7) ∷ ((codes "y", var_at 8) ∷ [])))))))))
@@ -93,28 +93,28 @@ abbrev pub is_four : TheFace
 is_four = faces.«Value» (Some (number 4))
 
 -- nothing is known
-abbrev pub unknown : ℕ → Option TheFace
-unknown n = None
+abbrev pub known_of_none : ℕ → Option TheFace
+known_of_none n = None
 
 -- this is known of all
-abbrev pub known : TheFace → ℕ → Option TheFace
-known face n = Some face
+abbrev pub known_of_all : TheFace → ℕ → Option TheFace
+known_of_all face n = Some face
 
-pub record SampleIsRight : Type 0 where
+pub record ValueSampleIsRight : Type 0 where
   -- a needs b twice, c and d need one another, e needs c; of `w, x = b, T{c}` w needs b, and x nothing; y needs nothing
-  pub needs : package_needs scene sample ≡ (1 ∷ (1 ∷ [])) ∷ ([] ∷ ((3 ∷ []) ∷ ((2 ∷ []) ∷ ((2 ∷ []) ∷ ((0 ∷ []) ∷ ((1 ∷ []) ∷ ([] ∷ ([] ∷ []))))))))
+  pub needs : package_needs value_sample_scene value_sample ≡ (1 ∷ (1 ∷ [])) ∷ ([] ∷ ((3 ∷ []) ∷ ((2 ∷ []) ∷ ((2 ∷ []) ∷ ((0 ∷ []) ∷ ((1 ∷ []) ∷ ([] ∷ ([] ∷ []))))))))
   -- b is 2
-  pub b_is : declared_face scene sample unknown 1 ≡ is_two
+  pub b_is : declared_face value_sample_scene value_sample known_of_none 1 ≡ is_two
   -- where b is 2, a is 4, and w a variable of type int
-  pub a_is : declared_face scene sample (known is_two) 0 ≡ is_four
-  pub w_is : declared_face scene sample (known is_two) 6 ≡ variable_face (Some (Predeclared basics.Int))
+  pub a_is : declared_face value_sample_scene value_sample (known_of_all is_two) 0 ≡ is_four
+  pub w_is : declared_face value_sample_scene value_sample (known_of_all is_two) 6 ≡ variable_face (Some (Predeclared basics.Int))
   -- where a is 4, v is a variable of type int
-  pub v_is : declared_face scene sample (known is_four) 5 ≡ variable_face (Some (Predeclared basics.Int))
+  pub v_is : declared_face value_sample_scene value_sample (known_of_all is_four) 5 ≡ variable_face (Some (Predeclared basics.Int))
   -- where nothing is known of c, e has no type; x has none, since T is nothing
-  pub e_is : declared_face scene sample unknown 4 ≡ faces.«Value» None
-  pub x_is : declared_face scene sample (known is_two) 7 ≡ faces.«Value» None
+  pub e_is : declared_face value_sample_scene value_sample known_of_none 4 ≡ faces.«Value» None
+  pub x_is : declared_face value_sample_scene value_sample (known_of_all is_two) 7 ≡ faces.«Value» None
   -- y is as it is written
-  pub y_is : declared_face scene sample unknown 8 ≡ y_face
+  pub y_is : declared_face value_sample_scene value_sample known_of_none 8 ≡ y_face
   -- c and d are defined through themselves
-  pub c_through : IsThroughItself scene sample 2
-  pub d_through : IsThroughItself scene sample 3
+  pub c_through : IsThroughItself value_sample_scene value_sample 2
+  pub d_through : IsThroughItself value_sample_scene value_sample 3

@@ -1,6 +1,6 @@
 //! Which needs lead back to where they come from.
 ghost use Rattle.std.specs.Prelude.{◌≡◌, ◌<◌, ◌++◌, All, IfOk, OnOk, length};
-ghost use Rattle.go_needs_core.specs.Needs.{AllInside, rows_of};
+ghost use Rattle.go_needs_core.specs.Needs.{NeedsAreInside, rows_of};
 ghost use Rattle.go_needs_core.specs.mirrors.Filling.{edges_at, edges_from};
 ghost use Rattle.go_value_core.specs.Around.{AreLeadingBack};
 ghost use Rattle.go_value_core.specs.mirrors.Flags.{flags_from, has_own_rank};
@@ -46,7 +46,7 @@ fn has_own_rank(ranks: &[usize], node: usize, row: &[usize]) -> bool
 // For each node whether one of those that it needs has its rank.
 fn own_ranks(alloc: Global, ranks: &[usize], needs: &[Vec<usize>]) -> Result<Vec<bool>, AllocError>
     requires ranks { length ranks.now ≡ length needs.now }
-    requires inside { AllInside (rows_of needs.now) }
+    requires inside { NeedsAreInside (rows_of needs.now) }
     ensures { IfOk result (λ flags. flags.items ≡ flags_from ranks.now 0 (rows_of needs.now)) }
 {
     let mut flags = Vec::with_capacity(alloc, needs.len())?;
@@ -63,7 +63,7 @@ fn own_ranks(alloc: Global, ranks: &[usize], needs: &[Vec<usize>]) -> Result<Vec
 ///
 /// `AllocError` where memory is wanting.
 pub(crate) fn leading_back(alloc: Global, needs: &[Vec<usize>]) -> Result<Vec<bool>, AllocError>
-    requires { AllInside (rows_of needs.now) }
+    requires { NeedsAreInside (rows_of needs.now) }
     ensures { IfOk result (λ flags. AreLeadingBack (rows_of needs.now) flags.items) }
 {
     let edges = edges_of(alloc, needs)?;

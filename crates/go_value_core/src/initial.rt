@@ -85,7 +85,7 @@ fn some_type<E: Exprs>(
     alloc: Global,
     tree: &Option<TypeExpr>,
 ) -> Result<Option<Option<E::Type>>, AllocError>
-    ensures { IfOk result (λ t. t ≡ values.some_type (everywhere (E.types env.now) (E.names env.now) (E.literals env.now) (E.written env.now)) (shape_some_type tree.now)) }
+    ensures { IfOk result (λ t. t ≡ values.some_written_type (everywhere (E.types env.now) (E.names env.now) (E.literals env.now) (E.written env.now)) (shape_some_type tree.now)) }
 {
     match tree {
         None => Ok(None),

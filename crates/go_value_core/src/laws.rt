@@ -1,6 +1,6 @@
 //! Laws of the constants and variables of a package.
-ghost use Rattle.go_value_core.specs.Laws.{BodiesDoNotCount, NeededNamesDecide, NeedsDecide, PackageHasOneTable, SpecificationsAreAlike, ThroughItselfHasNone};
-ghost use Rattle.go_value_core.specs.Sample.{SampleIsRight};
+ghost use Rattle.go_value_core.specs.Laws.{NamesAndBodiesDoNotCount, NeededNamesDecide, NeedsDecide, PackageHasOneTable, SpecificationsAreAlike, ThroughItselfHasNone};
+ghost use Rattle.go_value_core.specs.Sample.{ValueSampleIsRight};
 
 /// A law, with nothing to run: there is one answer to what the declarations of a package are.
 pub fn package_has_one_table()
@@ -32,10 +32,10 @@ pub fn specifications_are_alike<T, S, D, P>()
 /// A law, with nothing to run: what functions and types are made of counts neither for what declarations need nor for what they are, beside
 /// what is written of them.
 pub fn bodies_do_not_count()
-    ensures { BodiesDoNotCount }
+    ensures { NamesAndBodiesDoNotCount }
 {}
 
 /// A law, with nothing to run: what a few constants and variables need and are, and which are defined through themselves.
 pub fn sample_values()
-    ensures { SampleIsRight }
+    ensures { ValueSampleIsRight }
 {}

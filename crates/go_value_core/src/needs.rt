@@ -87,7 +87,7 @@ fn own_decl(scopes: &Scopes<'_>, name: &str) -> Option<DeclRef>
 
 // The position of what a name means, where that is a declaration of the package.
 fn name_needs(scene: &Scene<'_>, scopes: &Scopes<'_>, name: &str) -> Option<usize>
-    ensures { package_values.listed result ≡ package_values.position_in (scene_shown scene.now).written (package_values.own_decl (denotes scopes.now name.now)) }
+    ensures { package_values.some_position result ≡ package_values.position_in (scene_shown scene.now).written (package_values.own_decl (denotes scopes.now name.now)) }
 {
     match own_decl(scopes, name) {
         None => None,
@@ -97,7 +97,7 @@ fn name_needs(scene: &Scene<'_>, scopes: &Scopes<'_>, name: &str) -> Option<usiz
 
 // Adds a position, if there is one.
 fn add_need(row: &mut Vec<usize>, need: Option<usize>) -> Result<(), AllocError>
-    ensures { OnOk result (row.new.items ≡ row.old.items ++ package_values.listed need) }
+    ensures { OnOk result (row.new.items ≡ row.old.items ++ package_values.some_position need) }
 {
     match need {
         None => Ok(()),

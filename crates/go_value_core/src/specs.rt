@@ -9,7 +9,7 @@ use go_tree_nodes::{Expr, Exprs, ValueSpec, Values};
 
 /// How many names.
 pub(crate) fn name_count(spec: &ValueSpec) -> usize
-    ensures { result ≡ initial.count (shape_value_spec spec.now) }
+    ensures { result ≡ initial.spec_name_count (shape_value_spec spec.now) }
 {
     spec.names.more.len() + 1
 }

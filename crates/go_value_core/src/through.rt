@@ -18,7 +18,7 @@ use std::alloc::{AllocError, Global};
 
 // Whether a declaration declares a constant.
 fn is_constant(form: DeclForm<'_>) -> bool
-    ensures { result ≡ package_values.is_constant (form_shown form.entry) }
+    ensures { result ≡ package_values.declares_constant (form_shown form.entry) }
 {
     match form {
         DeclForm::Value(ValueKind::Const, _, _) => true,

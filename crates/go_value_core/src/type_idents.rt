@@ -1,7 +1,7 @@
 //! The identifiers that are looked up in a type that is written out.
 ghost use Rattle.std.specs.Prelude.{◌≡◌, ◌++◌, [], ◌∷◌, map, OnOk};
 ghost use Rattle.go_tree_nodes.specs.TypeShapes.{shape_type, shape_signature, shape_results, fields_of, methods_of, params_of};
-ghost use Rattle.go_piece_core.specs.expr_core.Laws.{type_name_idents, type_idents, fields_idents, methods_idents, signature_idents, result_idents, params_idents};
+ghost use Rattle.go_piece_core.specs.expr_core.Laws.{type_name_idents, type_idents, fields_idents, methods_idents, signature_type_idents, result_type_idents, params_idents};
 ghost use Rattle.go_value_core.specs.mirrors.Walked.{line_idents};
 
 use go_tree_nodes::{
@@ -81,7 +81,7 @@ fn add_methods<'a>(
 // Those of a signature.
 #[cycle(types)]
 fn add_signature<'a>(signature: &'a Signature, found: &mut Vec<&'a Ident>) -> Result<(), AllocError>
-    ensures { OnOk result (map (λ x. x.now) found.new.items ≡ map (λ x. x.now) found.old.items ++ signature_idents (shape_signature signature.now)) }
+    ensures { OnOk result (map (λ x. x.now) found.new.items ≡ map (λ x. x.now) found.old.items ++ signature_type_idents (shape_signature signature.now)) }
 {
     add_params(&signature.params.entries, found)?;
     add_results(&signature.results, found)
@@ -90,7 +90,7 @@ fn add_signature<'a>(signature: &'a Signature, found: &mut Vec<&'a Ident>) -> Re
 // Those of results.
 #[cycle(types)]
 fn add_results<'a>(results: &'a Results, found: &mut Vec<&'a Ident>) -> Result<(), AllocError>
-    ensures { OnOk result (map (λ x. x.now) found.new.items ≡ map (λ x. x.now) found.old.items ++ result_idents (shape_results results.now)) }
+    ensures { OnOk result (map (λ x. x.now) found.new.items ≡ map (λ x. x.now) found.old.items ++ result_type_idents (shape_results results.now)) }
 {
     match results {
         Results::Nothing => Ok(()),

@@ -3,20 +3,20 @@ use Rattle.std.proofs.Common.{◌≡◌, ◌≢◌, ℕ, zero, suc, ◌+◌, inl
 use Rattle.std.specs.Prelude.{slice_get}
 use Rattle.std.specs.List.{flat_map}
 use Rattle.std.proofs.lemmas.List.Kept.{AllPairs-cons}
-use Rattle.go_locality_core.specs.graph_core.Workspaces.{PackageModel, IsWorkspace}
-use Rattle.go_locality_core.specs.graph_core.OneTarget.{same_number}
-use Rattle.go_locality_core.specs.block_core.Blocks.{exports_of}
-use Rattle.go_locality_core.specs.block_core.Exports.{ExportsModel}
-use Rattle.go_locality_core.specs.table_core.Entries.{Entry}
-use Rattle.go_locality_core.specs.table_core.Tables.{package_types}
-use Rattle.go_locality_core.specs.entry_core.Among.{Among}
-use Rattle.go_locality_core.specs.face_core.Packages.{PackageFacesModel}
+use Rattle.go_part_core.specs.graph_core.Workspaces.{PackageModel, IsWorkspace}
+use Rattle.go_part_core.specs.graph_core.OneTarget.{same_number}
+use Rattle.go_near_core.specs.block_core.Blocks.{exports_of}
+use Rattle.go_near_core.specs.block_core.Exports.{ExportsModel}
+use Rattle.go_near_core.specs.table_core.Entries.{Entry}
+use Rattle.go_near_core.specs.table_core.Tables.{package_types}
+use Rattle.go_near_core.specs.entry_core.Among.{Among}
+use Rattle.go_near_core.specs.face_core.Packages.{PackageFacesModel}
 use Rattle.go_part_core.specs.summary_core.Summaries.{SummaryModel, IsOfOne, path_of, summary_of}
-use Rattle.go_part_core.specs.summary_core.Views.{AreApart, exports_told, faces_told, types_told}
-use Rattle.go_locality_core.specs.ready_core.Packages.{PackageIn}
-use Rattle.go_locality_core.specs.package_core.Checked.{CheckedOf}
-use Rattle.go_locality_core.specs.entry_core.Showing.{shown_in}
-use Rattle.go_locality_core.specs.Known.{Gives}
+use Rattle.go_part_core.specs.summary_core.Views.{PathsAreApart, exports_told, faces_told, types_told}
+use Rattle.go_part_core.specs.ready_core.Packages.{PackageIn}
+use Rattle.go_part_core.specs.package_core.Checked.{CheckedOf}
+use Rattle.go_near_core.specs.entry_core.Showing.{shown_in}
+use Rattle.go_whole_core.specs.Known.{CheckGives}
 use Rattle.go_whole_core.proofs.Told.{AreWell, NoneIsOf}
 use Rattle.go_whole_core.specs.Whole.{WholeOf, beside, if_some}
 use Rattle.go_whole_core.proofs.Lists.{all_from_among, none_is_some}
@@ -78,7 +78,7 @@ sourced_rest ps k x xs h = λ i w at. (let e : k + suc i ≡ suc k + i = omega a
 pub one_place : (ps : List PackageModel) (i j : ℕ) (p q : PackageModel) → IsWorkspace ps → slice_get ps i ≡ Some p → slice_get ps j ≡ Some q → p.0 ≡ q.0 → i ≡ j
 one_place ps i j p q well a b same = (same_number ps p.0 i j p.1 q.1 well a (subst (λ (x : List ℕ). slice_get ps j ≡ Some (x, q.1)) (sym same) b)).0
 
-pub tell_apart : (ps : List PackageModel) (k : ℕ) (xs : List (Option WholeOf)) → IsWorkspace ps → AreSourced ps k xs → AreApart (tell xs)
+pub tell_apart : (ps : List PackageModel) (k : ℕ) (xs : List (Option WholeOf)) → IsWorkspace ps → AreSourced ps k xs → PathsAreApart (tell xs)
 tell_apart ps k [] well h = λ i j d lt below. absurd (omega (arith, below))
 tell_apart ps k (None ∷ xs) well h = tell_apart ps (suc k) xs well (sourced_rest ps k None xs h)
 tell_apart ps k (Some w ∷ xs) well h =
@@ -127,8 +127,8 @@ module _ (ps : List PackageModel) (ws : List (Option WholeOf)) (well : IsWorkspa
 
 -- what is known is the same by equal lists
 pub over : (p : PackageIn) (far types : List Entry) (es exports : List ExportsModel) (fs faces : List PackageFacesModel) (c : CheckedOf) → far ≡ types → es ≡ exports → fs ≡ faces
-    → Gives p (record { types = far; shows = shown_in es; faces = fs }) c → Gives p (record { types = types; shows = shown_in exports; faces = faces }) c
+    → CheckGives p (record { types = far; shows = shown_in es; faces = fs }) c → CheckGives p (record { types = types; shows = shown_in exports; faces = faces }) c
 over p far types es exports fs faces c a b d h =
-    subst (λ (x : List PackageFacesModel). Gives p (record { types = types; shows = shown_in exports; faces = x }) c) d
-    (subst (λ (x : List ExportsModel). Gives p (record { types = types; shows = shown_in x; faces = fs }) c) b
-    (subst (λ (x : List Entry). Gives p (record { types = x; shows = shown_in es; faces = fs }) c) a h))
+    subst (λ (x : List PackageFacesModel). CheckGives p (record { types = types; shows = shown_in exports; faces = x }) c) d
+    (subst (λ (x : List ExportsModel). CheckGives p (record { types = types; shows = shown_in x; faces = fs }) c) b
+    (subst (λ (x : List Entry). CheckGives p (record { types = x; shows = shown_in es; faces = fs }) c) a h))

@@ -6,20 +6,20 @@ use Rattle.std.proofs.lemmas.List.Elements.{All-from_recursion, recursion_from_A
 use Rattle.std.proofs.lemmas.Option.{slice_get_within, get_or_from_slice_get}
 use Rattle.go_tree_nodes.specs.Trees.{FileTree}
 use Rattle.go_part_core.specs.parse_core.declared.error.SynFault.{SynFault}
-use Rattle.go_locality_core.specs.graph_core.Packages.{trees_of, tree_shown}
-use Rattle.go_locality_core.specs.graph_core.Sources.{SourceModel, source, IsPlacedContent, IsPlacedSource}
-use Rattle.go_locality_core.specs.graph_core.Workspaces.{PackageModel, IsPackage, IsWorkspace}
-use Rattle.go_locality_core.specs.decl_core.Outer.{IsPlaced}
-use Rattle.go_locality_core.specs.decl_core.declared.keys.DeclKey.{DeclKey}
-use Rattle.go_locality_core.specs.table_core.Entries.{Entry, Look, find}
-use Rattle.go_locality_core.specs.settle_core.declared.kind.Kind.{Kind}
-use Rattle.go_locality_core.specs.table_core.Tables.{AreOf}
-use Rattle.go_locality_core.specs.type_core.Built.{AreEntries}
-use Rattle.go_locality_core.specs.entry_core.Entries.{package_meanings, package_methods}
-use Rattle.go_locality_core.specs.entry_core.Ordered.{entries_own}
-use Rattle.go_locality_core.specs.face_core.Packages.{PackageFacesModel}
-use Rattle.go_locality_core.specs.ready_core.Packages.{PackageIn, entries_in, outlines_in, trees_in}
-use Rattle.go_locality_core.specs.package_core.Checked.{CheckedOf, IsChecked}
+use Rattle.go_part_core.specs.graph_core.Packages.{trees_of, tree_shown}
+use Rattle.go_part_core.specs.graph_core.Sources.{SourceModel, source, IsPlacedContent, IsPlacedSource}
+use Rattle.go_part_core.specs.graph_core.Workspaces.{PackageModel, IsPackage, IsWorkspace}
+use Rattle.go_term_core.specs.decl_core.declared.keys.DeclKey.{DeclKey}
+use Rattle.go_near_core.specs.table_core.Entries.{Entry, EntryLook, find_entry}
+use Rattle.go_near_core.specs.settle_core.declared.kind.Kind.{Kind}
+use Rattle.go_near_core.specs.table_core.Tables.{AreOf}
+use Rattle.go_near_core.specs.type_core.Built.{AreEntries}
+use Rattle.go_near_core.specs.entry_core.Entries.{package_meanings, package_methods}
+use Rattle.go_near_core.specs.entry_core.Ordered.{entries_own}
+use Rattle.go_near_core.specs.face_core.Packages.{PackageFacesModel}
+use Rattle.go_part_core.specs.ready_core.Packages.{PackageIn, entries_in, outlines_in, trees_in}
+use Rattle.go_part_core.specs.package_core.Checked.{CheckedOf, IsChecked}
+use Rattle.go_tree_nodes.specs.Spelling.{IsPlaced}
 
 -- the trees of a package of a workspace are placed
 
@@ -39,7 +39,7 @@ trees_are_placed ps n p well at = All-from_recursion IsPlaced (trees_in p) (tree
 
 -- the types of a package are of its path
 
-own_built : (written : List Entry) (far : Look) (kind : DeclKey → Kind) (path : List ℕ) (ws es : List Entry) → AreOf path ws → AreEntries written far kind ws es → AreOf path es
+own_built : (written : List Entry) (far : EntryLook) (kind : DeclKey → Kind) (path : List ℕ) (ws es : List Entry) → AreOf path ws → AreEntries written far kind ws es → AreOf path es
 own_built written far kind path [] [] own h = tt
 own_built written far kind path [] (e ∷ es) own h = absurd h
 own_built written far kind path (w ∷ ws) [] own h = absurd h
@@ -48,7 +48,7 @@ own_built written far kind path (w ∷ ws) (e ∷ es) own h = (ap (λ (k : DeclK
 pub types_own : (p : PackageIn) (far : List Entry) (c : CheckedOf) → IsChecked p far c → AreOf p.path c.types
 types_own p far c h =
     let means = package_meanings p.shows p.path p.blocks in
-    own_built (entries_in p) (find far) h.types.built.kind p.path (entries_in p) c.types (entries_own means p.path (package_methods means p.path (outlines_in p)) (outlines_in p)) h.types.built.entries
+    own_built (entries_in p) (find_entry far) h.types.built.kind p.path (entries_in p) c.types (entries_own means p.path (package_methods means p.path (outlines_in p)) (outlines_in p)) h.types.built.entries
 
 -- what a package shows is of its path
 pub faces_own : (p : PackageIn) (far : List Entry) (c : CheckedOf) → IsChecked p far c → c.faces.path ≡ p.path

@@ -5,31 +5,31 @@ use Rattle.std.proofs.lemmas.List.{length-map, get_or_default}
 use Rattle.std.proofs.lemmas.List.Kept.{AllPairs-from_increasing}
 use Rattle.std.proofs.lemmas.Option.{slice_get_within, slice_get-get_or}
 use Rattle.go_tree_nodes.specs.Trees.{FileTree}
-use Rattle.go_locality_core.specs.cycle_core.declared.edge.Edge.{Edge}
-use Rattle.go_locality_core.specs.reach_core.Numbers.{Numbers}
-use Rattle.go_locality_core.specs.graph_core.declared.imports.ImportAt.{ImportAt}
-use Rattle.go_locality_core.specs.graph_core.declared.imports.ImportOutcome.{ImportOutcome}
-use Rattle.go_locality_core.specs.graph_core.declared.imports.ImportOutcome.TheVariants as outcomes
-use Rattle.go_locality_core.specs.graph_core.Imports.{IsImport, IsNoImport, IsOutcome, content_texts}
-use Rattle.go_locality_core.specs.graph_core.Packages.{AllHaveTrees, IsAssembled, trees_of}
-use Rattle.go_locality_core.specs.graph_core.Plans.{PlanModel, AreReached, IsAssembledAt, IsPlan, ReachesByImports, outcome_at}
-use Rattle.go_locality_core.specs.graph_core.Plans as plans
-use Rattle.go_locality_core.specs.graph_core.Sources.{SourceModel, source}
-use Rattle.go_locality_core.specs.graph_core.Workspaces.{PackageModel, IsWorkspace}
-use Rattle.go_locality_core.specs.graph_core.Assemblies.{as_many, has_tree_at, tree_at}
-use Rattle.go_locality_core.specs.graph_core.OutcomeLaws.{has_one_outcome}
-use Rattle.go_locality_core.specs.block_core.declared.imports.Imported.{Imported}
-use Rattle.go_locality_core.specs.block_core.Exports.{ExportsModel}
-use Rattle.go_locality_core.specs.block_core.Naming.{AreInPackage, file_specs, import_at}
-use Rattle.go_locality_core.specs.block_core.mirrors.Steps.{AreReady, HasExports, IsPlanned, IsReady, IsShownIn}
-use Rattle.go_locality_core.specs.block_core.Growing.{given_weaker, package_weaker}
-use Rattle.go_locality_core.specs.block_core.NamingLemmas.{text_of, same_texts}
+use Rattle.go_near_core.specs.cycle_core.declared.edge.Edge.{Edge}
+use Rattle.go_near_core.specs.reach_core.Numbers.{Numbers}
+use Rattle.go_part_core.specs.graph_core.declared.imports.ImportAt.{ImportAt}
+use Rattle.go_part_core.specs.graph_core.declared.imports.ImportOutcome.{ImportOutcome}
+use Rattle.go_part_core.specs.graph_core.declared.imports.ImportOutcome.TheVariants as outcomes
+use Rattle.go_part_core.specs.graph_core.Imports.{IsImport, IsNoImport, IsOutcome, content_texts}
+use Rattle.go_part_core.specs.graph_core.Packages.{AllHaveTrees, IsAssembled, trees_of}
+use Rattle.go_part_core.specs.graph_core.Plans.{PlanModel, AreReached, IsAssembledAt, IsPlan, ReachesByImports, outcome_at}
+use Rattle.go_part_core.specs.graph_core.Plans as plans
+use Rattle.go_part_core.specs.graph_core.Sources.{SourceModel, source}
+use Rattle.go_part_core.specs.graph_core.Workspaces.{PackageModel, IsWorkspace}
+use Rattle.go_part_core.specs.graph_core.Assemblies.{as_many, has_tree_at, tree_at}
+use Rattle.go_part_core.specs.graph_core.OutcomeLaws.{has_one_outcome}
+use Rattle.go_near_core.specs.block_core.declared.imports.Imported.{Imported}
+use Rattle.go_near_core.specs.block_core.Exports.{ExportsModel}
+use Rattle.go_near_core.specs.block_core.Naming.{AreInPackage, file_specs, import_at}
+use Rattle.go_near_core.specs.block_core.mirrors.Steps.{AreReady, HasExports, IsPlanned, IsReady, IsShownIn}
+use Rattle.go_near_core.specs.block_core.Growing.{given_weaker, package_weaker}
+use Rattle.go_near_core.specs.block_core.NamingLemmas.{text_of, same_texts}
 use Rattle.go_part_core.specs.summary_core.Summaries.{SummaryModel, path_of}
-use Rattle.go_part_core.specs.summary_core.Views.{AreApart}
-use Rattle.go_locality_core.specs.entry_core.Among.{among_to}
+use Rattle.go_part_core.specs.summary_core.Views.{PathsAreApart}
+use Rattle.go_near_core.specs.entry_core.Among.{among_to}
 use Rattle.go_part_core.specs.Inputs.{InputModel}
 use Rattle.go_part_core.specs.Parts.{PartModel}
-use Rattle.go_whole_core.specs.Inputs.{AreToldTo, ComesTo, HasReached, IsInputAt, IsPassing, Reaches, Shown, Tells}
+use Rattle.go_whole_core.specs.Inputs.{AreToldTo, ComesTo, HasReached, IsInputAt, IsPassingImport, ReachesPackage, Shown, Tells}
 use Rattle.go_whole_core.specs.mirrors.Steps.{AreReachedAt, AreToldBySet, exports_in}
 use Rattle.go_whole_core.proofs.Lists.{all_from_among, none_is_some, zip_apart, zip_of}
 use Rattle.go_whole_core.proofs.Beside.{one_place}
@@ -83,7 +83,7 @@ module _ (ps : List PackageModel) (plan : PlanModel) (planned : IsPlan ps plan) 
   has_exports : (at : ImportAt) (o : ImportOutcome) → at.«package» ≡ n → IsOutcome ps at o → HasExports (exports_in parts) o
   has_exports at (outcomes.Refused rule) e h = tt
   has_exports at (outcomes.«Package» m) e h =
-      let t = (has.told m (subst (λ k. Reaches ps k m) e (reaches_next ps at m h))).1 in
+      let t = (has.told m (subst (λ k. ReachesPackage ps k m) e (reaches_next ps at m h))).1 in
       (t.of_part.content.summary.exports, shown_to parts m t.of_part t.there)
 
   ready_from : (at : ImportAt) (q text : List ℕ) (o : Option ImportOutcome) → at.«package» ≡ n → IsImport ps at q text → outcome_at plan.outcomes at ≡ o → MatchOption o (IsNoImport ps at) (IsOutcome ps at) → IsReady plan.outcomes (exports_in parts) at
@@ -112,16 +112,16 @@ module _ (ps : List PackageModel) (plan : PlanModel) (planned : IsPlan ps plan) 
   of_plan well at m None e h is = absurd (h is.q is.text is.there)
   of_plan well at m (Some o) e h is = e ∙ ap Some (has_one_outcome ps at o (outcomes.«Package» m) well h is)
 
-  passes : (e : Edge) → plans.IsPassing plan e → IsPassing ps e
+  passes : (e : Edge) → plans.IsPassing plan e → IsPassingImport ps e
   passes e h = (h.0, h.1, subst (λ o. MatchOption o (IsNoImport ps h.0) (IsOutcome ps h.0)) h.2 (planned.outcomes h.0))
 
-  passes_back : IsWorkspace ps → (e : Edge) → IsPassing ps e → plans.IsPassing plan e
+  passes_back : IsWorkspace ps → (e : Edge) → IsPassingImport ps e → plans.IsPassing plan e
   passes_back well e h = (h.0, h.1, of_plan well h.0 e.to (outcome_at plan.outcomes h.0) refl (planned.outcomes h.0) h.2)
 
-  pub by_imports : (a b : ℕ) → ReachesByImports plan a b → Reaches ps a b
+  pub by_imports : (a b : ℕ) → ReachesByImports plan a b → ReachesPackage ps a b
   by_imports a b h = (h.0, (λ k d lt. passes _ (h.1 k d lt)), h.2)
 
-  pub to_imports : IsWorkspace ps → (a b : ℕ) → Reaches ps a b → ReachesByImports plan a b
+  pub to_imports : IsWorkspace ps → (a b : ℕ) → ReachesPackage ps a b → ReachesByImports plan a b
   to_imports well a b h = (h.0, (λ k d lt. passes_back well _ (h.1 k d lt)), h.2)
 
   -- the set of what it reaches is there, and has parts
@@ -142,7 +142,7 @@ module _ (ps : List PackageModel) (plan : PlanModel) (planned : IsPlan ps plan) 
 
   -- the summaries are of other packages, each once
 
-  pub told_apart : (ss : List SummaryModel) → IsWorkspace ps → AreToldTo ps parts n ss → AreApart ss
+  pub told_apart : (ss : List SummaryModel) → IsWorkspace ps → AreToldTo ps parts n ss → PathsAreApart ss
   told_apart ss well h =
       zip_apart (Tells parts) (λ m l. m < l) (λ s t. path_of s ≡ path_of t → ⊥) h.numbers ss
       (λ m l s t x y lt same. (let a = has.own m s x in let b = has.own l t y in
@@ -156,7 +156,7 @@ module _ (ps : List PackageModel) (plan : PlanModel) (planned : IsPlan ps plan) 
       (λ s at same. (let t = zip_of (Tells parts) h.numbers ss s h.told at in
       let own = has.own t.0 s t.2 in
       let number : n ≡ t.0 = one_place ps n t.0 p (path_of s, own.0) well numbered own.1 same in
-      reaches_others ps plan planned n (subst (λ k. Reaches ps n k) (sym number) ((h.reached t.0).0 (among_to h.numbers t.0 t.1)))))
+      reaches_others ps plan planned n (subst (λ k. ReachesPackage ps n k) (sym number) ((h.reached t.0).0 (among_to h.numbers t.0 t.1)))))
 
   pub input_made : (p : PackageModel) (imported : List (List Imported)) (ss : List SummaryModel) (i : InputModel) → slice_get ps n ≡ Some p → AreInPackage (ComesTo ps parts) n (trees_of p.1) imported → AreToldTo ps parts n ss
       → i.source ≡ p → i.imports ≡ imported → i.reached ≡ ss → IsInputAt ps parts n i

@@ -1,12 +1,20 @@
-pub mod Lists
-pub mod Told
-pub mod Order
 pub mod Beside
-pub mod Theirs
+mod Binding
+pub mod Checks
+mod Faults
+pub mod Inputting
+pub mod Lists
+pub mod Making
+mod Meanings
+mod Names
+pub mod Next
 pub mod OneWhole
+pub mod Order
+mod LedTo
 pub mod Parts
 pub mod PartsWhole
-pub mod Making
-pub mod Inputting
-pub mod Next
-pub mod Checks
+mod Seeing
+pub mod Theirs
+pub mod Told
+mod Types
+mod Values

@@ -4,8 +4,8 @@ use Rattle.std.specs.Prelude.{slice_get, AllPairs}
 use Rattle.std.specs.List.{AllZip}
 use Rattle.std.proofs.lemmas.List.Elements.{All-cons, All-nil}
 use Rattle.std.proofs.lemmas.List.Kept.{AllPairs-cons}
-use Rattle.go_locality_core.specs.graph_core.Lists.{AllNumbered}
-use Rattle.go_locality_core.specs.entry_core.Among.{Among, among_to}
+use Rattle.go_part_core.specs.graph_core.Lists.{AllNumbered}
+use Rattle.go_near_core.specs.entry_core.Among.{Among, among_to}
 
 pub numbered_from : {A B : Type 0} (R : ℕ → A → B → Type 0) (k : ℕ) (xs : List A) (ys : List B) → length ys ≡ length xs → ((i : ℕ) (x : A) (y : B) → slice_get xs i ≡ Some x → slice_get ys i ≡ Some y → R (k + i) x y) → AllNumbered R k xs ys
 numbered_from R k [] [] e h = tt

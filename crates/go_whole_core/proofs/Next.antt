@@ -2,22 +2,22 @@
 use Rattle.std.proofs.Common.{◌≡◌, ℕ, ◌+◌, ◌<◌, ◌≤◌, List, [], ◌∷◌, ◌++◌, length, take, Option, Some, None, refl, sym, ap, subst, ◌∙◌, arith}
 use Rattle.std.specs.Prelude.{slice_get, slice_set, Contains, replicate}
 use Rattle.std.proofs.lemmas.List.{take_all, length-take, get_or-take, get_or_default}
-use Rattle.go_locality_core.specs.graph_core.Sources.{SourceModel}
+use Rattle.go_part_core.specs.graph_core.Sources.{SourceModel}
 use Rattle.std.proofs.lemmas.Option.{slice_get_within}
-use Rattle.go_locality_core.specs.graph_core.Imports.{IsNumbered}
-use Rattle.go_locality_core.specs.graph_core.Packages.{IsAssembled}
-use Rattle.go_locality_core.specs.graph_core.Plans.{PlanModel, IsPlan, IsAssembledAt}
-use Rattle.go_locality_core.specs.graph_core.Workspaces.{PackageModel, IsWorkspace}
-use Rattle.go_locality_core.specs.block_core.Exports.{ExportsModel}
-use Rattle.go_locality_core.specs.table_core.Entries.{Entry}
-use Rattle.go_locality_core.specs.table_core.Tables.{AreOthers}
-use Rattle.go_locality_core.specs.entry_core.Showing.{shown_in, with_shown}
-use Rattle.go_locality_core.specs.face_core.Packages.{PackageFacesModel, with_faces}
+use Rattle.go_part_core.specs.graph_core.Imports.{IsNumbered}
+use Rattle.go_part_core.specs.graph_core.Packages.{IsAssembled}
+use Rattle.go_part_core.specs.graph_core.Plans.{PlanModel, IsPlan, IsAssembledAt}
+use Rattle.go_part_core.specs.graph_core.Workspaces.{PackageModel, IsWorkspace}
+use Rattle.go_near_core.specs.block_core.Exports.{ExportsModel}
+use Rattle.go_near_core.specs.table_core.Entries.{Entry}
+use Rattle.go_near_core.specs.table_core.Tables.{AreOthers}
+use Rattle.go_near_core.specs.entry_core.Showing.{shown_in, with_shown}
+use Rattle.go_near_core.specs.face_core.Packages.{PackageFacesModel, with_faces}
 use Rattle.go_part_core.specs.summary_core.Summaries.{SummaryModel, path_of}
-use Rattle.go_locality_core.specs.Laws.{CheckIsLocal, ImportsBindTheirs}
+use Rattle.go_whole_core.specs.LocalLaws.{CheckIsLocal, ImportsBindTheirs}
 use Rattle.go_part_core.specs.Inputs.{InputModel, path_in}
 use Rattle.go_part_core.specs.Parts.{ContentOf, IsMade, IsPart, PartModel, seen_with}
-use Rattle.go_whole_core.specs.Inputs.{AreParts, HasReached, IsInputAt, Reaches, Tells}
+use Rattle.go_whole_core.specs.Inputs.{AreParts, HasReached, IsInputAt, ReachesPackage, Tells}
 use Rattle.go_whole_core.specs.mirrors.Steps.{AreMade, IsNext, IsRight, SoFar}
 use Rattle.go_whole_core.proofs.Lists.{one_at}
 use Rattle.go_whole_core.proofs.Told.{NoneIsOf}
@@ -32,7 +32,7 @@ module _ (ps : List PackageModel) (plan : PlanModel) (well : IsWorkspace ps) (pl
   pub next_assembled : IsAssembledAt ps n
   next_assembled = (planned.each n).0 (next.place, next.within, get_or_default plan.order next.place n 0 next.within ∙ sym next.is)
 
-  before_it : (m : ℕ) → Reaches ps n m → Contains (take next.place plan.order) m
+  before_it : (m : ℕ) → ReachesPackage ps n m → Contains (take next.place plan.order) m
   before_it m r =
       let b = reached_before ps plan planned n m r in
       let at = place_of ps plan planned m b.0 in

@@ -2,25 +2,25 @@
 use Rattle.std.proofs.Common.{◌≡◌, ◌≢◌, ℕ, zero, suc, ◌+◌, ◌<◌, ◌≤◌, ◌⊎◌, inl, inr, List, [], ◌∷◌, length, map, take, Option, Some, None, refl, sym, ap, subst, ◌∙◌, arith}
 use Rattle.std.specs.Prelude.{slice_get, slice_index, Contains}
 use Rattle.std.proofs.lemmas.Bool.{cases_eq}
-use Rattle.go_locality_core.specs.graph_core.Lists.{AllNumbered}
-use Rattle.go_locality_core.specs.graph_core.Packages.{IsAssembled, Trees, trees_of}
-use Rattle.go_locality_core.specs.graph_core.Plans.{PlanModel, IsPlan, IsAssembledAt}
-use Rattle.go_locality_core.specs.graph_core.Workspaces.{PackageModel, IsWorkspace}
-use Rattle.go_locality_core.specs.graph_core.PlanLaws.{has_plan}
-use Rattle.go_locality_core.specs.graph_core.Zips.{numbered_at, numbered_back, numbered_length}
-use Rattle.go_locality_core.specs.block_core.declared.imports.Imported.{Imported}
-use Rattle.go_locality_core.specs.block_core.AllPackages.{AreAllBlocks, AreImported, IsEntry, IsImported, IsShown}
-use Rattle.go_locality_core.specs.block_core.Blocks.{BlocksModel, exports_of}
-use Rattle.go_locality_core.specs.block_core.Exports.{ExportsModel}
-use Rattle.go_locality_core.specs.block_core.OneBlocks.{one_blocks}
-use Rattle.go_locality_core.specs.entry_core.Showing.{shown_in}
-use Rattle.go_locality_core.specs.entry_core.Among.{Among, among_from, among_map, among_to, map_among}
+use Rattle.go_part_core.specs.graph_core.Lists.{AllNumbered}
+use Rattle.go_part_core.specs.graph_core.Packages.{IsAssembled, Trees, trees_of}
+use Rattle.go_part_core.specs.graph_core.Plans.{PlanModel, IsPlan, IsAssembledAt}
+use Rattle.go_part_core.specs.graph_core.Workspaces.{PackageModel, IsWorkspace}
+use Rattle.go_part_core.specs.graph_core.PlanLaws.{has_plan}
+use Rattle.go_part_core.specs.graph_core.Zips.{numbered_at, numbered_back, numbered_length}
+use Rattle.go_near_core.specs.block_core.declared.imports.Imported.{Imported}
+use Rattle.go_near_core.specs.block_core.AllPackages.{AreAllBlocks, AreImported, AreBlocksOrNone, IsImported, IsShown}
+use Rattle.go_near_core.specs.block_core.Blocks.{BlocksModel, exports_of}
+use Rattle.go_near_core.specs.block_core.Exports.{ExportsModel}
+use Rattle.go_near_core.specs.block_core.OneBlocks.{one_blocks}
+use Rattle.go_near_core.specs.entry_core.Showing.{shown_in}
+use Rattle.go_near_core.specs.entry_core.Among.{Among, among_from, among_map, among_to, map_among}
 use Rattle.go_part_core.specs.summary_core.Summaries.{SummaryModel, IsOfOne}
 use Rattle.go_part_core.specs.summary_core.Views.{exports_told, faces_told, types_told}
-use Rattle.go_locality_core.specs.ready_core.Packages.{PackageIn}
-use Rattle.go_locality_core.specs.package_core.Checked.{CheckedOf, IsChecked}
-use Rattle.go_locality_core.specs.Known.{Gives, KnownAlike}
-use Rattle.go_locality_core.specs.Laws.{CheckIsLocal, ImportsBindTheirs, StandsAmong}
+use Rattle.go_part_core.specs.ready_core.Packages.{PackageIn}
+use Rattle.go_part_core.specs.package_core.Checked.{CheckedOf, IsChecked}
+use Rattle.go_whole_core.specs.Known.{CheckGives, KnownAlike}
+use Rattle.go_whole_core.specs.LocalLaws.{CheckIsLocal, ImportsBindTheirs, StandsAmong}
 use Rattle.go_whole_core.specs.Whole.{AreWhole, IsWhole, IsWholeEntry, WholeOf, beside, blocks_in, exports_beside, faces_beside, package_among, types_beside, whole_with}
 use Rattle.go_whole_core.proofs.Lists.{none_is_some, one_at, same_list}
 use Rattle.go_whole_core.proofs.Told.{IsTold, IsToldOf, NoneIsOf, TellAlike, known_alike, known_by, stands, told_wider}
@@ -70,16 +70,16 @@ module _ (ps : List PackageModel) (ws : List (Option WholeOf)) (all : AreWhole p
       record { types = refl; faces = faces_own p (types_beside i ws) w.checked b.is.checked; own = types_own p (types_beside i ws) w.checked b.is.checked }
 
   -- its check, over what the others tell
-  pub gives_beside : (n : ℕ) (p : PackageModel) (imported : List (List Imported)) (b : BlocksModel) (q : PackageIn) (c : CheckedOf) → IsChecked (package_among ws n p imported b) (types_beside n ws) c → q ≡ package_among ws n p imported b → Gives q (known_by (tell (beside n ws))) c
+  pub gives_beside : (n : ℕ) (p : PackageModel) (imported : List (List Imported)) (b : BlocksModel) (q : PackageIn) (c : CheckedOf) → IsChecked (package_among ws n p imported b) (types_beside n ws) c → q ≡ package_among ws n p imported b → CheckGives q (known_by (tell (beside n ws))) c
   gives_beside n p imported b q c h same =
       over q (types_beside n ws) (types_told (tell (beside n ws))) (exports_beside n ws) (exports_told (tell (beside n ws))) (faces_beside n ws) (faces_told (tell (beside n ws))) c
       (types_are (beside n ws)) (exports_are (beside n ws)) (faces_are (beside n ws))
-      (subst (λ x. Gives x (record { types = types_beside n ws; shows = shown_in (exports_beside n ws); faces = faces_beside n ws }) c) (sym same) h)
+      (subst (λ x. CheckGives x (record { types = types_beside n ws; shows = shown_in (exports_beside n ws); faces = faces_beside n ws }) c) (sym same) h)
 
   -- blocks
 
   entries : (k : ℕ) (qs : List PackageModel) (xs : List (Option WholeOf)) → ((i : ℕ) (p : PackageModel) → slice_get qs i ≡ Some p → slice_get ps (k + i) ≡ Some p)
-      → AllNumbered (λ n p x. IsWholeEntry ps ws n p x) k qs xs → AllNumbered (λ n p b. IsEntry ps (blocks_in ws) n p b) k qs (blocks_in xs)
+      → AllNumbered (λ n p x. IsWholeEntry ps ws n p x) k qs xs → AllNumbered (λ n p b. AreBlocksOrNone ps (blocks_in ws) n p b) k qs (blocks_in xs)
   entries k [] [] at h = h
   entries k [] (x ∷ xs) at h = absurd h
   entries k (p ∷ qs) [] at h = absurd h
@@ -209,15 +209,15 @@ module _ (local : CheckIsLocal) (bind : ImportsBindTheirs) (ps : List PackageMod
     abbrev theirs : List SummaryModel
     theirs = tell (beside n vs)
 
-    gives_w : Gives seen (known_by mine) w.checked
+    gives_w : CheckGives seen (known_by mine) w.checked
     gives_w = gives_beside ps ws one n w.source back_w.is.imported w.blocks seen w.checked back_w.is.checked refl
 
-    gives_v : Gives seen (known_by theirs) v.checked
+    gives_v : CheckGives seen (known_by theirs) v.checked
     gives_v =
         over seen (types_beside n vs) (types_told theirs) (exports_beside n vs) (exports_told theirs) (faces_beside n vs) (faces_told theirs) v.checked
         (types_are (beside n vs)) (exports_are (beside n vs)) (faces_are (beside n vs))
-        (subst (λ b. Gives (package_among ws n w.source back_w.is.imported b) (record { types = types_beside n vs; shows = shown_in (exports_beside n vs); faces = faces_beside n vs }) v.checked) (sym (same_blocks n w v at_w at_v))
-        (subst (λ is. Gives (package_among ws n w.source is v.blocks) (record { types = types_beside n vs; shows = shown_in (exports_beside n vs); faces = faces_beside n vs }) v.checked) (sym same_imports) is_v.checked))
+        (subst (λ b. CheckGives (package_among ws n w.source back_w.is.imported b) (record { types = types_beside n vs; shows = shown_in (exports_beside n vs); faces = faces_beside n vs }) v.checked) (sym (same_blocks n w v at_w at_v))
+        (subst (λ is. CheckGives (package_among ws n w.source is v.blocks) (record { types = types_beside n vs; shows = shown_in (exports_beside n vs); faces = faces_beside n vs }) v.checked) (sym same_imports) is_v.checked))
 
     own : Contains paths w.source.0
     own = subst (Contains paths) (path_is ps n w.source back_w.numbered) (among_paths ps plan k k (omega arith) within)

@@ -3,21 +3,21 @@ use Rattle.std.proofs.Common.{◌≡◌, ◌≢◌, ℕ, ◌⊎◌, inl, inr, Li
 use Rattle.std.specs.Prelude.{slice_get, AllPairs, Contains}
 use Rattle.std.specs.List.{AllZip}
 use Rattle.std.proofs.lemmas.List.Kept.{AllPairs-from_increasing}
-use Rattle.go_locality_core.specs.graph_core.Packages.{trees_of}
-use Rattle.go_locality_core.specs.graph_core.Plans.{PlanModel, IsPlan}
-use Rattle.go_locality_core.specs.graph_core.Workspaces.{PackageModel, IsWorkspace}
-use Rattle.go_locality_core.specs.block_core.Blocks.{BlocksModel, AreBlocks}
-use Rattle.go_locality_core.specs.block_core.Naming.{package_named}
-use Rattle.go_locality_core.specs.block_core.Exports.{ExportsModel}
-use Rattle.go_locality_core.specs.entry_core.Showing.{shown_in}
-use Rattle.go_locality_core.specs.entry_core.Among.{Among, among_from, among_map, among_to, map_among}
+use Rattle.go_part_core.specs.graph_core.Packages.{trees_of}
+use Rattle.go_part_core.specs.graph_core.Plans.{PlanModel, IsPlan}
+use Rattle.go_part_core.specs.graph_core.Workspaces.{PackageModel, IsWorkspace}
+use Rattle.go_near_core.specs.block_core.Blocks.{BlocksModel, AreBlocks}
+use Rattle.go_near_core.specs.block_core.Naming.{package_named}
+use Rattle.go_near_core.specs.block_core.Exports.{ExportsModel}
+use Rattle.go_near_core.specs.entry_core.Showing.{shown_in}
+use Rattle.go_near_core.specs.entry_core.Among.{Among, among_from, among_map, among_to, map_among}
 use Rattle.go_part_core.specs.summary_core.Summaries.{SummaryModel, IsOfOne, path_of}
 use Rattle.go_part_core.specs.summary_core.Views.{exports_told, faces_told, types_told}
-use Rattle.go_locality_core.specs.Known.{KnownAlike}
-use Rattle.go_locality_core.specs.Laws.{CheckIsLocal, ImportsBindTheirs, StandsAmong}
+use Rattle.go_whole_core.specs.Known.{KnownAlike}
+use Rattle.go_whole_core.specs.LocalLaws.{CheckIsLocal, ImportsBindTheirs, StandsAmong}
 use Rattle.go_part_core.specs.Inputs.{InputModel, path_in}
 use Rattle.go_part_core.specs.Parts.{ContentOf, IsMade, IsPart, PartModel, SeenOf, package_seen, seen_by, seen_with}
-use Rattle.go_whole_core.specs.Inputs.{ComesTo, IsInputOf, Reaches, Shown, Tells}
+use Rattle.go_whole_core.specs.Inputs.{ComesTo, IsInputOf, ReachesPackage, Shown, Tells}
 use Rattle.go_whole_core.specs.mirrors.Steps.{AreRight}
 use Rattle.go_whole_core.proofs.Lists.{all_from_among, one_at, zip_apart, zip_of, zip_to}
 use Rattle.go_whole_core.proofs.Told.{AreWell, IsTold, IsToldOf, NoneIsOf, TellAlike, known_alike, known_by, stands, told_wider}
@@ -69,7 +69,7 @@ module _ (ps : List PackageModel) (parts : List (Option PartModel)) (well : IsWo
   -- the input of a package
 
   module _ (n : ℕ) (i : InputModel) (input : IsInputOf ps parts n i.source i) where
-    pub told_to : (m : ℕ) (s : SummaryModel) → Reaches ps n m → Tells parts m s → Among i.reached s
+    pub told_to : (m : ℕ) (s : SummaryModel) → ReachesPackage ps n m → Tells parts m s → Among i.reached s
     told_to m s r t =
         let among = among_from input.reached.numbers m ((input.reached.reached m).1 r) in
         let found = zip_to (Tells parts) input.reached.numbers i.reached m input.reached.told among in
@@ -77,7 +77,7 @@ module _ (ps : List PackageModel) (parts : List (Option PartModel)) (well : IsWo
 
     pub record IsToldBy (s : SummaryModel) : Type 0 where
       pub number : ℕ
-      pub reached : Reaches ps n number
+      pub reached : ReachesPackage ps n number
       pub tells : Tells parts number s
 
     pub told_by : (s : SummaryModel) → Among i.reached s → IsToldBy s
@@ -99,13 +99,13 @@ module _ (ps : List PackageModel) (parts : List (Option PartModel)) (well : IsWo
     imports_inside : (path : List ℕ) → Leads (ComesTo ps parts) n path → Contains (reach_paths i) path
     imports_inside path l =
         let p = passes (Shown parts) ps l.at l.come.outcome l.shown l.come.judged l.come.given in
-        let reached = subst (λ k. Reaches ps k p.to) l.from (reaches_next ps l.at p.to p.judged) in
+        let reached = subst (λ k. ReachesPackage ps k p.to) l.from (reaches_next ps l.at p.to p.judged) in
         let s = p.shows.summary in
         let there : path_of s ≡ path = sym (ap (λ (e : ExportsModel). e.path) p.shows.is) ∙ sym l.is in
         subst (Contains (reach_paths i)) there (in_paths s (told_to p.to s reached p.shows.told))
 
     module _ (bind : ImportsBindTheirs) (plan : PlanModel) (planned : IsPlan ps plan) (numbered : slice_get ps n ≡ Some i.source)
-        (inside : (m : ℕ) (part : PartModel) → Reaches ps n m → slice_get parts m ≡ Some (Some part) → StaysInside part) where
+        (inside : (m : ℕ) (part : PartModel) → ReachesPackage ps n m → slice_get parts m ≡ Some (Some part) → StaysInside part) where
       -- the summary of a package that it reaches mentions types of the packages that it reaches
       told_inside : (s : SummaryModel) → Among i.reached s → IsTold (Contains (reach_paths i)) s
       told_inside s h =
@@ -133,7 +133,7 @@ module _ (ps : List PackageModel) (parts : List (Option PartModel)) (well : IsWo
           all_from_among (λ s. path_in i ≡ path_of s → ⊥) i.reached
           (λ s h same. (let by = told_by s h in
           let number : n ≡ by.number = one_place ps n by.number i.source by.tells.of_part.input.source well numbered (right by.number by.tells.of_part by.tells.there).numbered (same ∙ path_told by.number s by.tells) in
-          reaches_others ps plan planned n (subst (λ k. Reaches ps n k) (sym number) by.reached)))
+          reaches_others ps plan planned n (subst (λ k. ReachesPackage ps n k) (sym number) by.reached)))
 
       -- over summaries with those of what it reaches, and none of its own, it stands among these
       pub stand_over : (b : BlocksModel) (seen : SeenOf) (ss : List SummaryModel) → AreBlocks (trees_of i.source.1) (package_named (trees_of i.source.1) i.imports) b → AreWell ss → NoneIsOf ss (path_in i) → ((s : SummaryModel) → Among i.reached s → Among ss s)
@@ -161,11 +161,11 @@ module _ (ps : List PackageModel) (parts : List (Option PartModel)) (well : IsWo
   -- each part stays inside
 
   module _ (local : CheckIsLocal) (bind : ImportsBindTheirs) (plan : PlanModel) (planned : IsPlan ps plan) where
-    inside_step : (n : ℕ) → ((m : ℕ) → Reaches ps n m → (part : PartModel) → slice_get parts m ≡ Some (Some part) → StaysInside part) → (part : PartModel) → slice_get parts n ≡ Some (Some part) → StaysInside part
+    inside_step : (n : ℕ) → ((m : ℕ) → ReachesPackage ps n m → (part : PartModel) → slice_get parts m ≡ Some (Some part) → StaysInside part) → (part : PartModel) → slice_get parts n ≡ Some (Some part) → StaysInside part
     inside_step n below part there =
         let r = right n part there in
         let i = part.input in
-        let below_all = λ (m : ℕ) (q : PartModel) (reached : Reaches ps n m) (at : slice_get parts m ≡ Some (Some q)). below m reached q at in
+        let below_all = λ (m : ℕ) (q : PartModel) (reached : ReachesPackage ps n m) (at : slice_get parts m ≡ Some (Some q)). below m reached q at in
         let stand = stand_over n i r.input bind plan planned r.numbered below_all part.content.blocks (seen_by i) i.reached r.made.blocks (well_reached n i r.input) (none_reached n i r.input bind plan planned r.numbered below_all) (λ s h. h) in
         let g = local.inside (reach_paths i) (package_seen i part.content.blocks (seen_by i)) (known_by i.reached) r.made.checked stand r.made.is_checked in
         subst (IsTold (Contains (reach_paths i))) (sym r.made.summary) (record { types = g.types; faces = g.faces })
@@ -180,7 +180,7 @@ module _ (ps : List PackageModel) (parts : List (Option PartModel)) (well : IsWo
     pub part_over : (n : ℕ) (i : InputModel) (ss : List SummaryModel) (c : ContentOf) → IsInputOf ps parts n i.source i → slice_get ps n ≡ Some i.source → AreWell ss → NoneIsOf ss (path_in i)
         → ((s : SummaryModel) → Among i.reached s → Among ss s) → IsMade i (seen_with (types_told ss) (shown_in (exports_told ss)) (faces_told ss)) c → IsPart i c
     part_over n i ss c input numbered all none has made =
-        let inside = λ (m : ℕ) (q : PartModel) (reached : Reaches ps n m) (at : slice_get parts m ≡ Some (Some q)). all_inside m q at in
+        let inside = λ (m : ℕ) (q : PartModel) (reached : ReachesPackage ps n m) (at : slice_get parts m ≡ Some (Some q)). all_inside m q at in
         let seen = seen_by i in
         let stand = stand_over n i input bind plan planned numbered inside c.blocks seen ss made.blocks all none has in
         let alike = alike_back n i input bind plan planned numbered inside ss all none has in

@@ -2,27 +2,27 @@
 use Rattle.std.proofs.Common.{◌≡◌, ◌≢◌, ℕ, suc, ◌+◌, List, [], ◌∷◌, Option, Some, None, refl, sym, ap, subst, ◌∙◌, arith}
 use Rattle.std.specs.Prelude.{slice_get, ⊤}
 use Rattle.std.specs.List.{AllZip}
-use Rattle.go_locality_core.specs.graph_core.declared.imports.ImportAt.{ImportAt}
-use Rattle.go_locality_core.specs.graph_core.Lists.{AllNumbered}
-use Rattle.go_locality_core.specs.graph_core.Packages.{IsAssembled, trees_of}
-use Rattle.go_locality_core.specs.graph_core.Plans.{PlanModel, IsPlan}
-use Rattle.go_locality_core.specs.graph_core.Workspaces.{PackageModel, IsWorkspace}
-use Rattle.go_locality_core.specs.graph_core.PlanLaws.{has_plan}
-use Rattle.go_locality_core.specs.graph_core.Zips.{numbered_back, numbered_length, zip_at, zip_back, zip_length}
-use Rattle.go_locality_core.specs.block_core.declared.imports.Imported.{Imported}
-use Rattle.go_locality_core.specs.block_core.AllPackages.{IsImported, IsShown}
-use Rattle.go_locality_core.specs.block_core.Exports.{ExportsModel}
-use Rattle.go_locality_core.specs.block_core.Growing.{given_weaker, package_weaker}
-use Rattle.go_locality_core.specs.entry_core.Among.{Among}
+use Rattle.go_part_core.specs.graph_core.declared.imports.ImportAt.{ImportAt}
+use Rattle.go_part_core.specs.graph_core.Lists.{AllNumbered}
+use Rattle.go_part_core.specs.graph_core.Packages.{IsAssembled, trees_of}
+use Rattle.go_part_core.specs.graph_core.Plans.{PlanModel, IsPlan}
+use Rattle.go_part_core.specs.graph_core.Workspaces.{PackageModel, IsWorkspace}
+use Rattle.go_part_core.specs.graph_core.PlanLaws.{has_plan}
+use Rattle.go_part_core.specs.graph_core.Zips.{numbered_back, numbered_length, zip_at, zip_back, zip_length}
+use Rattle.go_near_core.specs.block_core.declared.imports.Imported.{Imported}
+use Rattle.go_near_core.specs.block_core.AllPackages.{IsImported, IsShown}
+use Rattle.go_near_core.specs.block_core.Exports.{ExportsModel}
+use Rattle.go_near_core.specs.block_core.Growing.{given_weaker, package_weaker}
+use Rattle.go_near_core.specs.entry_core.Among.{Among}
 use Rattle.go_part_core.specs.summary_core.Summaries.{SummaryModel, IsOfOne}
 use Rattle.go_part_core.specs.summary_core.Views.{exports_told, faces_told, types_told}
-use Rattle.go_locality_core.specs.Known.{Gives}
-use Rattle.go_locality_core.specs.Laws.{CheckIsLocal, ImportsBindTheirs}
-use Rattle.go_locality_core.specs.ready_core.Packages.{trees_in}
+use Rattle.go_whole_core.specs.Known.{CheckGives}
+use Rattle.go_whole_core.specs.LocalLaws.{CheckIsLocal, ImportsBindTheirs}
+use Rattle.go_part_core.specs.ready_core.Packages.{trees_in}
 use Rattle.go_part_core.specs.Inputs.{InputModel}
 use Rattle.go_part_core.specs.Parts.{AreFilesMade, IsPart, PartModel, package_seen, seen_by}
 use Rattle.go_whole_core.specs.Whole.{AreWhole, IsWhole, IsWholeEntry, WholeOf, beside, blocks_in, exports_beside, faces_beside, types_beside, whole_with}
-use Rattle.go_whole_core.specs.Inputs.{AreParts, ComesTo, IsInputOf, IsPartOf, Reaches, Shown}
+use Rattle.go_whole_core.specs.Inputs.{AreParts, ComesTo, IsInputOf, IsPartOf, ReachesPackage, Shown}
 use Rattle.go_whole_core.specs.Entries.{IsPartEntry, summary_by}
 use Rattle.go_whole_core.proofs.Lists.{numbered_from, one_at, zip_weaker}
 use Rattle.go_whole_core.proofs.Told.{known_by}
@@ -145,18 +145,18 @@ module _ (local : CheckIsLocal) (bind : ImportsBindTheirs) (ps : List PackageMod
     abbrev i : InputModel
     i = part.input
 
-    inside : (m : ℕ) (q : PartModel) → Reaches ps n m → slice_get parts m ≡ Some (Some q) → StaysInside q
+    inside : (m : ℕ) (q : PartModel) → ReachesPackage ps n m → slice_get parts m ≡ Some (Some q) → StaysInside q
     inside m q reached at = all_inside ps parts well right local bind plan planned m q at
 
     has : (s : SummaryModel) → Among i.reached s → Among others s
     has s h =
         let by = told_by ps parts well right n i r.input s h in
         let v = whole_at by.number by.tells.of_part by.tells.there in
-        let ne : by.number ≢ n = (λ e. reaches_others ps plan planned n (subst (λ k. Reaches ps n k) e by.reached)) in
+        let ne : by.number ≢ n = (λ e. reaches_others ps plan planned n (subst (λ k. ReachesPackage ps n k) e by.reached)) in
         let same : told_of v.0 ≡ s = ap told_of v.2.1 ∙ (sym (tells_so by.tells.of_part v.2.0) ∙ sym by.tells.is) in
         subst (Among others) same (tell_to (beside n ws) by.number v.0 (some_beside n ws by.number v.0 ne v.1))
 
-    gives : Gives (package_seen i part.content.blocks (seen_by i)) (known_by others) made.checked
+    gives : CheckGives (package_seen i part.content.blocks (seen_by i)) (known_by others) made.checked
     gives =
         let none = none_beside ps ws well sourced ones n i.source r.numbered in
         let stand = stand_over ps parts well right n i r.input bind plan planned r.numbered inside part.content.blocks (seen_by i) i.reached made.blocks (well_reached ps parts well right n i r.input) (none_reached ps parts well right n i r.input bind plan planned r.numbered inside) (λ s h. h) in

@@ -1,19 +1,19 @@
 -- What the imports of a package come to, and what they lead to.
 use Rattle.std.proofs.Common.{◌≡◌, ℕ, suc, inl, inr, List, [], ◌∷◌, refl, sym, ap, subst, ◌∙◌}
-use Rattle.go_locality_core.specs.graph_core.declared.imports.ImportAt.{ImportAt}
-use Rattle.go_locality_core.specs.graph_core.declared.imports.ImportOutcome.{ImportOutcome}
-use Rattle.go_locality_core.specs.graph_core.declared.imports.ImportOutcome.TheVariants as outcomes
-use Rattle.go_locality_core.specs.graph_core.Imports.{IsOutcome}
-use Rattle.go_locality_core.specs.graph_core.Lists.{AllNumbered}
-use Rattle.go_locality_core.specs.graph_core.Packages.{Trees}
-use Rattle.go_locality_core.specs.graph_core.Workspaces.{PackageModel, IsWorkspace}
-use Rattle.go_locality_core.specs.graph_core.OutcomeLaws.{has_one_outcome}
-use Rattle.go_locality_core.specs.block_core.declared.imports.Imported.{Imported}
-use Rattle.go_locality_core.specs.block_core.declared.imports.Imported.TheVariants as given
-use Rattle.go_locality_core.specs.block_core.Exports.{ExportsModel}
-use Rattle.go_locality_core.specs.block_core.Naming.{IsGiven, AreInFile, AreInPackage, import_at, file_specs}
-use Rattle.go_locality_core.specs.entry_core.Among.{Among, among_from}
-use Rattle.go_locality_core.specs.Known.{IsImported}
+use Rattle.go_part_core.specs.graph_core.declared.imports.ImportAt.{ImportAt}
+use Rattle.go_part_core.specs.graph_core.declared.imports.ImportOutcome.{ImportOutcome}
+use Rattle.go_part_core.specs.graph_core.declared.imports.ImportOutcome.TheVariants as outcomes
+use Rattle.go_part_core.specs.graph_core.Imports.{IsOutcome}
+use Rattle.go_part_core.specs.graph_core.Lists.{AllNumbered}
+use Rattle.go_part_core.specs.graph_core.Packages.{Trees}
+use Rattle.go_part_core.specs.graph_core.Workspaces.{PackageModel, IsWorkspace}
+use Rattle.go_part_core.specs.graph_core.OutcomeLaws.{has_one_outcome}
+use Rattle.go_near_core.specs.block_core.declared.imports.Imported.{Imported}
+use Rattle.go_near_core.specs.block_core.declared.imports.Imported.TheVariants as given
+use Rattle.go_near_core.specs.block_core.Exports.{ExportsModel}
+use Rattle.go_near_core.specs.block_core.Naming.{IsGiven, AreInFile, AreInPackage, import_at, file_specs}
+use Rattle.go_near_core.specs.entry_core.Among.{Among, among_from}
+use Rattle.go_whole_core.specs.Known.{IsImportedPath}
 
 numbered_among : {A B : Type 0} (R : ℕ → A → B → Type 0) (k : ℕ) (xs : List A) (ys : List B) (y : B) → AllNumbered R k xs ys → Among ys y → (n : ℕ) × (x : A) × R n x y
 numbered_among R k [] [] y h a = absurd a
@@ -32,7 +32,7 @@ pub record Leads (P : ImportAt → Imported → Type 0) (number : ℕ) (path : L
   pub come : P at (given.«Package» shown)
   pub is : path ≡ shown.path
 
-pub imports_lead : (P : ImportAt → Imported → Type 0) (number : ℕ) (ts : Trees) (imported : List (List Imported)) (path : List ℕ) → AreInPackage P number ts imported → IsImported imported path → Leads P number path
+pub imports_lead : (P : ImportAt → Imported → Type 0) (number : ℕ) (ts : Trees) (imported : List (List Imported)) (path : List ℕ) → AreInPackage P number ts imported → IsImportedPath imported path → Leads P number path
 imports_lead P number ts imported path h i =
     let file = numbered_among (λ file t is. AreInFile P number file t.1 is) 0 ts imported i.of_file h (among_from imported i.of_file i.file) in
     let spec = numbered_among (λ n spec x. P (import_at number file.0 n) x) 0 (file_specs file.1.1) i.of_file (given.«Package» i.shown) file.2 (among_from i.of_file (given.«Package» i.shown) i.there) in

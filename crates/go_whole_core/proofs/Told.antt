@@ -1,25 +1,25 @@
 -- What is known by summaries, and what it mentions.
 use Rattle.std.proofs.Common.{◌≡◌, ℕ, ◌⊎◌, inl, inr, Bool, true, false, List, [], ◌∷◌, All, if◌then◌else◌, refl, sym, subst, ◌∙◌}
 use Rattle.std.specs.Prelude.{Some, None, Contains}
-use Rattle.go_locality_core.specs.decl_core.declared.keys.DeclKey.{DeclKey}
-use Rattle.go_locality_core.specs.decl_core.declared.keys.DeclRef.{DeclRef}
-use Rattle.go_locality_core.specs.graph_core.Packages.{Trees}
-use Rattle.go_locality_core.specs.block_core.Blocks.{AreBlocks}
-use Rattle.go_locality_core.specs.block_core.Naming.{package_named}
-use Rattle.go_locality_core.specs.table_core.Entries.{Entry, entry_keys, find, same_key}
-use Rattle.go_locality_core.specs.entry_core.Showing.{shown_in}
-use Rattle.go_locality_core.specs.entry_core.Among.{Among, among_to}
-use Rattle.go_locality_core.specs.face_core.Faces.{TheFace}
-use Rattle.go_locality_core.specs.face_core.Packages.{exported_in, face_by, face_in}
+use Rattle.go_term_core.specs.decl_core.declared.keys.DeclKey.{DeclKey}
+use Rattle.go_term_core.specs.decl_core.declared.keys.DeclRef.{DeclRef}
+use Rattle.go_part_core.specs.graph_core.Packages.{Trees}
+use Rattle.go_near_core.specs.block_core.Blocks.{AreBlocks}
+use Rattle.go_near_core.specs.block_core.Naming.{package_named}
+use Rattle.go_near_core.specs.table_core.Entries.{Entry, entry_keys, find_entry, same_key}
+use Rattle.go_near_core.specs.entry_core.Showing.{shown_in}
+use Rattle.go_near_core.specs.entry_core.Among.{Among, among_to}
+use Rattle.go_near_core.specs.face_core.Faces.{TheFace}
+use Rattle.go_near_core.specs.face_core.Packages.{exported_in, face_by, face_in}
 use Rattle.go_part_core.specs.summary_core.Summaries.{SummaryModel, IsOfOne, path_of}
-use Rattle.go_part_core.specs.summary_core.Views.{AreApart, exports_told, faces_told, types_told}
+use Rattle.go_part_core.specs.summary_core.Views.{PathsAreApart, exports_told, faces_told, types_told}
 use Rattle.go_part_core.specs.summary_core.Telling.{nothing_else, views_tell}
-use Rattle.go_locality_core.specs.ready_core.Packages.{PackageIn}
-use Rattle.go_locality_core.specs.block_core.declared.binding.Target.{Target}
-use Rattle.go_locality_core.specs.block_core.declared.binding.Target.TheVariants as targets
-use Rattle.go_locality_core.specs.Known.{Known, IsImported, IsTargetIn, KnownAlike, MentionsInside, face_keys}
-use Rattle.go_locality_core.specs.decl_core.Outer.{IsPlaced}
-use Rattle.go_locality_core.specs.Laws.{ImportsBindTheirs, StandsAmong}
+use Rattle.go_part_core.specs.ready_core.Packages.{PackageIn}
+use Rattle.go_near_core.specs.block_core.declared.binding.Target.{Target}
+use Rattle.go_near_core.specs.block_core.declared.binding.Target.TheVariants as targets
+use Rattle.go_whole_core.specs.Known.{Known, IsImportedPath, IsTargetIn, KnownAlike, MentionsInside, face_keys}
+use Rattle.go_whole_core.specs.LocalLaws.{ImportsBindTheirs, StandsAmong}
+use Rattle.go_tree_nodes.specs.Spelling.{IsPlaced}
 
 -- what summaries tell, as what is known of other packages
 abbrev pub known_by : List SummaryModel → Known
@@ -27,7 +27,7 @@ known_by ss = record { types = types_told ss; shows = shown_in (exports_told ss)
 
 -- summaries of different packages, all of each of one package
 pub record AreWell (ss : List SummaryModel) : Type 0 where
-  pub apart : AreApart ss
+  pub apart : PathsAreApart ss
   pub own : All IsOfOne ss
 
 -- none of these is of the package of the path
@@ -45,7 +45,7 @@ abbrev pub TellAlike : List SummaryModel → List SummaryModel → List ℕ → 
 TellAlike ss ts path = IsInBoth ss ts path ⊎ (NoneIsOf ss path × NoneIsOf ts path)
 
 module _ (ss ts : List SummaryModel) (one : AreWell ss) (other : AreWell ts) where
-  types_alike : (k : DeclKey) → TellAlike ss ts k.path → find (types_told ss) k ≡ find (types_told ts) k
+  types_alike : (k : DeclKey) → TellAlike ss ts k.path → find_entry (types_told ss) k ≡ find_entry (types_told ts) k
   types_alike k (inl b) = (views_tell ss b.summary one.apart one.own b.one).types k (sym b.is) ∙ sym ((views_tell ts b.summary other.apart other.own b.other).types k (sym b.is))
   types_alike k (inr n) = (nothing_else ss k.path one.own n.0).types k refl ∙ sym ((nothing_else ts k.path other.own n.1).types k refl)
 
@@ -96,16 +96,16 @@ pub record IsToldOf (Inside : List ℕ → Type 0) (ss : List SummaryModel) (pat
   pub is : path_of summary ≡ path
   pub inside : IsTold Inside summary
 
-find_among : (es : List Entry) (k : DeclKey) (e : Entry) → find es k ≡ Some e → Among es e
+find_among : (es : List Entry) (k : DeclKey) (e : Entry) → find_entry es k ≡ Some e → Among es e
 find_among [] k e h = absurd (let no : None ≡ Some e = h in cc)
 find_among (x ∷ es) k e h = by (same_key x.key k) (λ rest. find_among es k e rest) h
   where
-    by : (b : Bool) → (find es k ≡ Some e → Among es e) → (if b then Some x else find es k) ≡ Some e → (x ≡ e) ⊎ Among es e
+    by : (b : Bool) → (find_entry es k ≡ Some e → Among es e) → (if b then Some x else find_entry es k) ≡ Some e → (x ≡ e) ⊎ Among es e
     by true rest same = inl (let s : Some x ≡ Some e = same in let t : x ≡ e = cc in t)
     by false rest same = inr (rest same)
 
 module _ (Inside : List ℕ → Type 0) (ss : List SummaryModel) (well : AreWell ss) (of : (path : List ℕ) → Inside path → IsToldOf Inside ss path ⊎ NoneIsOf ss path) where
-  types_mention : (key : DeclKey) (e : Entry) (j : DeclKey) → IsToldOf Inside ss key.path ⊎ NoneIsOf ss key.path → find (types_told ss) key ≡ Some e → Contains (entry_keys e) j → Inside j.path
+  types_mention : (key : DeclKey) (e : Entry) (j : DeclKey) → IsToldOf Inside ss key.path ⊎ NoneIsOf ss key.path → find_entry (types_told ss) key ≡ Some e → Contains (entry_keys e) j → Inside j.path
   types_mention key e j (inl t) is at =
       t.inside.types e j (among_to t.summary.types.entries e (find_among t.summary.types.entries key e (sym ((views_tell ss t.summary well.apart well.own t.there).types key (sym t.is)) ∙ is))) at
   types_mention key e j (inr n) is at = absurd (let no : None ≡ Some e = sym ((nothing_else ss key.path well.own n).types key refl) ∙ is in cc)
@@ -132,11 +132,11 @@ target_wider Inside Wider f (targets.Exported k) h = f k.path h
 -- a package whose imports come to some packages stands among these, where the summaries of these mention types of theirs
 pub stands : ImportsBindTheirs → (paths : List (List ℕ)) (trees : Trees) (p : PackageIn) (ss : List SummaryModel)
     → All IsPlaced p.trees → Contains paths p.path → AreBlocks trees (package_named trees p.imports) p.blocks
-    → ((path : List ℕ) → IsImported p.imports path → Contains paths path) → AreWell ss
+    → ((path : List ℕ) → IsImportedPath p.imports path → Contains paths path) → AreWell ss
     → ((path : List ℕ) → Contains paths path → IsToldOf (Contains paths) ss path ⊎ NoneIsOf ss path) → StandsAmong paths p (known_by ss)
 stands bind paths trees p ss placed own blocks theirs well of = record {
   placed = placed;
   own = own;
-  binds = λ file name x is. target_wider (IsImported p.imports) (Contains paths) theirs x.target (bind trees p.imports p.blocks blocks file name x is);
+  binds = λ file name x is. target_wider (IsImportedPath p.imports) (Contains paths) theirs x.target (bind trees p.imports p.blocks blocks file name x is);
   mentions = mentions (Contains paths) ss well of;
 }

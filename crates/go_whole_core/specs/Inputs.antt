@@ -4,19 +4,19 @@
 use Rattle.std.specs.Prelude.{◌≡◌, ◌↔◌, ℕ, List, Option, Some, None, All, Contains, slice_get}
 use Rattle.std.specs.List.{AllZip}
 use Rattle.std.specs.List.Sorted.{IsStrictlyIncreasing}
-use Rattle.go_locality_core.specs.reach_core.Reach.{ReachesByEdges}
-use Rattle.go_locality_core.specs.cycle_core.declared.edge.Edge.{Edge}
-use Rattle.go_locality_core.specs.graph_core.declared.imports.ImportAt.{ImportAt}
-use Rattle.go_locality_core.specs.graph_core.declared.imports.ImportOutcome.{ImportOutcome}
-use Rattle.go_locality_core.specs.graph_core.declared.imports.ImportOutcome.TheVariants.{Package}
-use Rattle.go_locality_core.specs.graph_core.Imports.{IsNumbered, IsOutcome}
-use Rattle.go_locality_core.specs.graph_core.Lists.{AllNumbered}
-use Rattle.go_locality_core.specs.graph_core.Packages.{IsAssembled, trees_of}
-use Rattle.go_locality_core.specs.graph_core.Sources.{SourceModel}
-use Rattle.go_locality_core.specs.graph_core.Workspaces.{PackageModel}
-use Rattle.go_locality_core.specs.block_core.declared.imports.Imported.{Imported}
-use Rattle.go_locality_core.specs.block_core.Exports.{ExportsModel}
-use Rattle.go_locality_core.specs.block_core.Naming.{AreInPackage, IsGiven}
+use Rattle.go_near_core.specs.reach_core.Reach.{ReachesByEdges}
+use Rattle.go_near_core.specs.cycle_core.declared.edge.Edge.{Edge}
+use Rattle.go_part_core.specs.graph_core.declared.imports.ImportAt.{ImportAt}
+use Rattle.go_part_core.specs.graph_core.declared.imports.ImportOutcome.{ImportOutcome}
+use Rattle.go_part_core.specs.graph_core.declared.imports.ImportOutcome.TheVariants.{Package}
+use Rattle.go_part_core.specs.graph_core.Imports.{IsNumbered, IsOutcome}
+use Rattle.go_part_core.specs.graph_core.Lists.{AllNumbered}
+use Rattle.go_part_core.specs.graph_core.Packages.{IsAssembled, trees_of}
+use Rattle.go_part_core.specs.graph_core.Sources.{SourceModel}
+use Rattle.go_part_core.specs.graph_core.Workspaces.{PackageModel}
+use Rattle.go_near_core.specs.block_core.declared.imports.Imported.{Imported}
+use Rattle.go_near_core.specs.block_core.Exports.{ExportsModel}
+use Rattle.go_near_core.specs.block_core.Naming.{AreInPackage, IsGiven}
 use Rattle.go_part_core.specs.summary_core.Summaries.{SummaryModel, path_of}
 use Rattle.go_part_core.specs.Inputs.{InputModel}
 use Rattle.go_part_core.specs.Parts.{IsPart, PartModel}
@@ -40,18 +40,18 @@ pub record ComesTo (ps : List PackageModel) (parts : List (Option PartModel)) (a
   pub given : IsGiven (Shown parts) outcome i
 
 -- an import that passes leads from its package to the one that it comes to
-abbrev pub IsPassing : List PackageModel → Edge → Type 0
-IsPassing ps e = (at : ImportAt) × (at.«package» ≡ e.from) × IsOutcome ps at (Package e.to)
+abbrev pub IsPassingImport : List PackageModel → Edge → Type 0
+IsPassingImport ps e = (at : ImportAt) × (at.«package» ≡ e.from) × IsOutcome ps at (Package e.to)
 
 -- a list of imports that pass, at least one, leads from one package to another
-abbrev pub Reaches : List PackageModel → ℕ → ℕ → Type 0
-Reaches ps n m = (edges : List Edge) × All (IsPassing ps) edges × ReachesByEdges edges n m
+abbrev pub ReachesPackage : List PackageModel → ℕ → ℕ → Type 0
+ReachesPackage ps n m = (edges : List Edge) × All (IsPassingImport ps) edges × ReachesByEdges edges n m
 
 -- what the packages tell that the one of a number reaches, each once, in order of number
 pub record AreToldTo (ps : List PackageModel) (parts : List (Option PartModel)) (n : ℕ) (ss : List SummaryModel) : Type 0 where
   pub numbers : List ℕ
   pub rising : IsStrictlyIncreasing numbers
-  pub reached : (m : ℕ) → Contains numbers m ↔ Reaches ps n m
+  pub reached : (m : ℕ) → Contains numbers m ↔ ReachesPackage ps n m
   pub told : AllZip (Tells parts) numbers ss
 
 -- the input of the package of a number: the package, what its imports come to, and what the packages tell that it reaches
@@ -67,7 +67,7 @@ pub record IsInputAt (ps : List PackageModel) (parts : List (Option PartModel)) 
 
 -- each package that the one of a number reaches has a part, and what a part tells is of the package of its number
 pub record HasReached (ps : List PackageModel) (parts : List (Option PartModel)) (n : ℕ) : Type 0 where
-  pub told : (m : ℕ) → Reaches ps n m → (s : SummaryModel) × Tells parts m s
+  pub told : (m : ℕ) → ReachesPackage ps n m → (s : SummaryModel) × Tells parts m s
   pub own : (m : ℕ) (s : SummaryModel) → Tells parts m s → (files : List SourceModel) × IsNumbered ps (path_of s) m files
 
 -- a part for each assembled package and for no other, each made from its input

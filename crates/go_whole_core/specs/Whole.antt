@@ -4,19 +4,19 @@
 use Rattle.std.specs.Prelude.{◌≡◌, ℕ, zero, suc, List, [], ◌∷◌, Option, Some, None, map}
 use Rattle.std.specs.List.{flat_map}
 use Rattle.std.specs.Option.{option_map}
-use Rattle.go_locality_core.specs.graph_core.Lists.{AllNumbered}
-use Rattle.go_locality_core.specs.graph_core.Packages.{IsAssembled, trees_of}
-use Rattle.go_locality_core.specs.graph_core.Workspaces.{PackageModel}
-use Rattle.go_locality_core.specs.block_core.declared.imports.Imported.{Imported}
-use Rattle.go_locality_core.specs.block_core.AllPackages.{AreImported}
-use Rattle.go_locality_core.specs.block_core.Blocks.{BlocksModel, AreBlocks, exports_of}
-use Rattle.go_locality_core.specs.block_core.Exports.{ExportsModel}
-use Rattle.go_locality_core.specs.block_core.Naming.{package_named}
-use Rattle.go_locality_core.specs.table_core.Entries.{Entry}
-use Rattle.go_locality_core.specs.entry_core.Showing.{shown_in}
-use Rattle.go_locality_core.specs.face_core.Packages.{PackageFacesModel}
-use Rattle.go_locality_core.specs.ready_core.Packages.{PackageIn, trees_in}
-use Rattle.go_locality_core.specs.package_core.Checked.{CheckedOf, IsChecked}
+use Rattle.go_part_core.specs.graph_core.Lists.{AllNumbered}
+use Rattle.go_part_core.specs.graph_core.Packages.{IsAssembled, trees_of}
+use Rattle.go_part_core.specs.graph_core.Workspaces.{PackageModel}
+use Rattle.go_near_core.specs.block_core.declared.imports.Imported.{Imported}
+use Rattle.go_near_core.specs.block_core.AllPackages.{AreImported}
+use Rattle.go_near_core.specs.block_core.Blocks.{BlocksModel, AreBlocks, exports_of}
+use Rattle.go_near_core.specs.block_core.Exports.{ExportsModel}
+use Rattle.go_near_core.specs.block_core.Naming.{package_named}
+use Rattle.go_near_core.specs.table_core.Entries.{Entry}
+use Rattle.go_near_core.specs.entry_core.Showing.{shown_in}
+use Rattle.go_near_core.specs.face_core.Packages.{PackageFacesModel}
+use Rattle.go_part_core.specs.ready_core.Packages.{PackageIn, trees_in}
+use Rattle.go_part_core.specs.package_core.Checked.{CheckedOf, IsChecked}
 
 -- of an assembled package its path and files, its blocks, and what its check gives
 pub record WholeOf : Type 0 where

@@ -1,2 +1,2 @@
 -- What the crates above name of go_reach_core.
-pub use Rattle.go_locality_core.specs.reach_core.Numbers as Numbers
+pub use Rattle.go_near_core.specs.reach_core.Numbers as Numbers

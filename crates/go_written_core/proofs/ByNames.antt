@@ -9,7 +9,7 @@ use Rattle.go_tree_nodes.specs.Trees.{Separated, One, Then, TypeTree, NamedType,
 use Rattle.go_decl_core.specs.declared.keys.DeclKey.{DeclKey}
 use Rattle.go_decl_core.specs.declared.places.DeclKind.TheVariants as kinds
 use Rattle.go_term_core.specs.Terms.{Term, PointerTo, StructOf, InterfaceOf, Fields, AField, AMethod, SignOf, Terms, NoTerm, ATerm, term_keys, fields_keys, methods_keys, sign_keys, terms_keys}
-use Rattle.go_written_core.specs.Written.{Meaning, InFile, member_place, last_ident, starred, tag_of, named_fields, for_each, for_names, term_of, fields_of_tree, methods_of_tree, signature_of, results_of_tree, params_of_tree}
+use Rattle.go_written_core.specs.Written.{Meaning, InFile, member_place, last_ident, term_starred, tag_of, named_fields, for_each, for_names, term_of, fields_of_tree, methods_of_tree, signature_of, results_of_tree, params_of_tree}
 use Rattle.go_written_core.specs.Laws.{type_names_in, field_names_in, method_names_in, signature_names_in, result_names_in, param_names_in, NameMentions, WrittenByNames}
 
 none_there : {X : Type 0} (x : X) → Contains [] x → ⊥
@@ -43,7 +43,7 @@ module _ (mean other : Meaning) (f : InFile) where
     fields_alike (EmbeddedField star n tag semicolon fs) same =
         let head = same n (Contains-append_left (n ∷ []) (field_names_in fs) n (Contains-push [] n)) in
         let rest = fields_alike fs (behind (n ∷ []) (field_names_in fs) same) in
-        λ i. AField (last_ident n).name (member_place f kinds.Field (last_ident n).span.start) true (starred star (head i)) (tag_of tag) (rest i)
+        λ i. AField (last_ident n).name (member_place f kinds.Field (last_ident n).span.start) true (term_starred star (head i)) (tag_of tag) (rest i)
 
     methods_alike : (ms : MethodTrees) → Agree (method_names_in ms) → methods_of_tree mean f ms ≡ methods_of_tree other f ms
     methods_alike NoMethods same = refl
@@ -72,7 +72,7 @@ module _ (mean other : Meaning) (f : InFile) where
 
 -- what is mentioned
 
-starred_keys : (star : Option Span) (t : Term) → term_keys (starred star t) ≡ term_keys t
+starred_keys : (star : Option Span) (t : Term) → term_keys (term_starred star t) ≡ term_keys t
 starred_keys None t = refl
 starred_keys (Some s) t = refl
 
@@ -116,7 +116,7 @@ module _ (mean : Meaning) (f : InFile) (k : DeclKey) where
       | inl here ↦ here_of (type_names_in t) (field_names_in fs) (type_mentions t here)
       | inr there ↦ there_of (type_names_in t) (field_names_in fs) (fields_mention fs there)
     ]
-    fields_mention (EmbeddedField star n tag semicolon fs) at = elim (Contains-append_cases (term_keys (starred star (mean n))) (fields_keys (fields_of_tree mean f fs)) k at) [
+    fields_mention (EmbeddedField star n tag semicolon fs) at = elim (Contains-append_cases (term_keys (term_starred star (mean n))) (fields_keys (fields_of_tree mean f fs)) k at) [
       | inl here ↦ here_of (n ∷ []) (field_names_in fs) (n, Contains-push [] n, subst (λ ks. Contains ks k) (starred_keys star (mean n)) here)
       | inr there ↦ there_of (n ∷ []) (field_names_in fs) (fields_mention fs there)
     ]

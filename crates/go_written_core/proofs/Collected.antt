@@ -24,7 +24,7 @@ use Rattle.go_term_core.specs.declared.term.FieldLine as term_line
 use Rattle.go_term_core.specs.declared.term.Params.{Params}
 use Rattle.go_written_core.specs.declared.terms.Body.{Body}
 use Rattle.go_term_core.specs.Terms.{Term, Fields, NoField, AField, Methods, NoMethod, AMethod, Sign, Terms, NoTerm, ATerm}
-use Rattle.go_term_core.specs.Shapes.{Line, line_with, line_at, term_at, line_shape, fields_in, terms_in, shape, sign_of, methods_of, params_of}
+use Rattle.go_term_core.specs.Shapes.{Line, line_with, line_at, term_at, line_shape, fields_in, terms_in, shape, sign_of, method_shapes, param_shapes}
 use Rattle.go_written_core.specs.Written.{Meaning, InFile, member_place, named_fields, for_each, for_names, term_of, signature_of, fields_of_tree, methods_of_tree, results_of_tree, params_of_tree}
 use Rattle.go_written_core.specs.mirrors.Adding.{lines_of, method_lines_of, params_in, line_fields, then_fields, then_methods, then_terms, field_in, named_in, numbers_each, numbers_of, more_numbers, AreIn, AreBelow, AreWritten, AreParams, Adds, AddsLine, AddsParams}
 
@@ -52,17 +52,17 @@ terms_then_none (ATerm t ts) = ap (ATerm t) (terms_then_none ts)
 
 -- one more in the program's list
 
-pub methods_push : (ms : List Method) (m : Method) → methods_of (ms ++ m ∷ []) ≡ then_methods (methods_of ms) (AMethod m.name m.place (sign_of m.signature) NoMethod)
+pub methods_push : (ms : List Method) (m : Method) → method_shapes (ms ++ m ∷ []) ≡ then_methods (method_shapes ms) (AMethod m.name m.place (sign_of m.signature) NoMethod)
 methods_push [] m = refl
 methods_push (n ∷ ns) m = ap (AMethod n.name n.place (sign_of n.signature)) (methods_push ns m)
 
 -- what one more adds, by its parts
 
-pub method_added : (old new : List Method) (m : Method) (name : List ℕ) (place : MemberPlace) (g : Sign) → new ≡ old ++ m ∷ [] → m.name ≡ name → m.place ≡ place → sign_of m.signature ≡ g → methods_of new ≡ then_methods (methods_of old) (AMethod name place g NoMethod)
+pub method_added : (old new : List Method) (m : Method) (name : List ℕ) (place : MemberPlace) (g : Sign) → new ≡ old ++ m ∷ [] → m.name ≡ name → m.place ≡ place → sign_of m.signature ≡ g → method_shapes new ≡ then_methods (method_shapes old) (AMethod name place g NoMethod)
 method_added old new m name place g pushed named at signed =
-    ap methods_of pushed
+    ap method_shapes pushed
     ∙ methods_push old m
-    ∙ (λ i. then_methods (methods_of old) (AMethod (named i) (at i) (signed i) NoMethod))
+    ∙ (λ i. then_methods (method_shapes old) (AMethod (named i) (at i) (signed i) NoMethod))
 
 -- lines and terms that are pushed
 
@@ -304,16 +304,16 @@ module _ (mean : Meaning) (f : InFile) where
   method_lines_push [] (MethodLine' x g s) = refl
   method_lines_push (MethodLine' x g s ∷ ms) m = ap (AMethod x.name (member_place f kinds.Method x.span.start) (signature_of mean f (shape_signature g))) (method_lines_push ms m)
 
-  pub method_lines_step : (items : List MethodLine) (i : ℕ) (m : MethodLine) (middle new : List Method) (g : Sign) → i < length items → m ≡ get_or items i m → methods_of middle ≡ methods_of_tree mean f (method_lines_of (take i items)) → g ≡ signature_of mean f (shape_signature (out-MethodLine m).signature) → methods_of new ≡ then_methods (methods_of middle) (AMethod (out-MethodLine m).name.name (member_place f kinds.Method (out-MethodLine m).name.span.start) g NoMethod) → methods_of new ≡ methods_of_tree mean f (method_lines_of (take (i + 1) items))
+  pub method_lines_step : (items : List MethodLine) (i : ℕ) (m : MethodLine) (middle new : List Method) (g : Sign) → i < length items → m ≡ get_or items i m → method_shapes middle ≡ methods_of_tree mean f (method_lines_of (take i items)) → g ≡ signature_of mean f (shape_signature (out-MethodLine m).signature) → method_shapes new ≡ then_methods (method_shapes middle) (AMethod (out-MethodLine m).name.name (member_place f kinds.Method (out-MethodLine m).name.span.start) g NoMethod) → method_shapes new ≡ methods_of_tree mean f (method_lines_of (take (i + 1) items))
   method_lines_step items i m middle new g lt is before same now =
       now
-      ∙ ap (λ g. then_methods (methods_of middle) (AMethod (out-MethodLine m).name.name (member_place f kinds.Method (out-MethodLine m).name.span.start) g NoMethod)) same
-      ∙ ap (then_methods (methods_of middle)) (sym (method_has m))
+      ∙ ap (λ g. then_methods (method_shapes middle) (AMethod (out-MethodLine m).name.name (member_place f kinds.Method (out-MethodLine m).name.span.start) g NoMethod)) same
+      ∙ ap (then_methods (method_shapes middle)) (sym (method_has m))
       ∙ ap (λ ns. then_methods ns (line_method m)) before
       ∙ sym (method_lines_push (take i items) m)
       ∙ ap (λ ls. methods_of_tree mean f (method_lines_of ls)) (ap (λ k. take i items ++ k ∷ []) is ∙ sym (take_more items i m lt))
 
-  pub method_lines_whole : (items xs : List MethodLine) (i : ℕ) (new : List Method) → items ≡ xs → length items ≤ i → methods_of new ≡ methods_of_tree mean f (method_lines_of (take i items)) → methods_of new ≡ methods_of_tree mean f (method_lines_of xs)
+  pub method_lines_whole : (items xs : List MethodLine) (i : ℕ) (new : List Method) → items ≡ xs → length items ≤ i → method_shapes new ≡ methods_of_tree mean f (method_lines_of (take i items)) → method_shapes new ≡ methods_of_tree mean f (method_lines_of xs)
   method_lines_whole items xs i new is h seen = seen ∙ ap (λ ls. methods_of_tree mean f (method_lines_of ls)) (take_all i items h ∙ is)
 
   -- parameters
@@ -337,7 +337,7 @@ module _ (mean : Meaning) (f : InFile) where
       (ap (λ t. then_terms all (for_names t (shape_names p.names) NoTerm)) same ∙ sym (params_push (take i items) p) ∙ ap (λ ps. params_of_tree mean f (params_in ps)) (ap (λ q. take i items ++ q ∷ []) is ∙ sym (take_more items i p lt)))
       (adds all before)
 
-  pub params_whole : (items xs : List declared_param.Param) (i : ℕ) (new : Params) → items ≡ xs → length items ≤ i → AreParams (params_of_tree mean f (params_in (take i items))) new → params_of new ≡ params_of_tree mean f (params_in xs)
+  pub params_whole : (items xs : List declared_param.Param) (i : ℕ) (new : Params) → items ≡ xs → length items ≤ i → AreParams (params_of_tree mean f (params_in (take i items))) new → param_shapes new ≡ params_of_tree mean f (params_in xs)
   params_whole items xs i new is h seen = seen.0 ∙ ap (λ ps. params_of_tree mean f (params_in ps)) (take_all i items h ∙ is)
 
   pub listed_has : (r : declared_results.Results) (p : tree_params.Params) → r ≡ results.Listed p → results_of_tree mean f (shape_results r) ≡ params_of_tree mean f (params_in (tree_params.out-Params p).entries.items)

@@ -6,7 +6,7 @@ use Rattle.go_decl_core.specs.declared.places.DeclKind.{DeclKind}
 use Rattle.go_decl_core.specs.declared.places.Place.{Place}
 use Rattle.go_decl_core.specs.Table.{IsAt, IsNowhere, Rise}
 use Rattle.go_decl_core.proofs.Tables.{offset_at}
-use Rattle.go_written_core.specs.Written.{InFile, number_from, placed, member_place}
+use Rattle.go_written_core.specs.Written.{InFile, number_from, written_member_place, member_place}
 
 rise_behind : (p : Place) (ps : List Place) → Rise (p ∷ ps) → Rise ps
 rise_behind p ps rise i j d less lt = rise (suc i) (suc j) d (omega (arith, less)) (omega (arith, lt))
@@ -31,8 +31,8 @@ number_nowhere n (p ∷ ps) offset h =
     ap (λ b. if b then Some n else number_from (suc n) ps offset) (ne_eqb p.at offset (λ s. h zero (ap Some s)))
     ∙ number_nowhere (suc n) ps offset (λ k e. h (suc k) e)
 
-pub place_at : (f : InFile) (kind : DeclKind) (offset k : ℕ) → Rise f.places → IsAt f.places offset k → placed f kind offset (Some k) ≡ member_place f kind offset
-place_at f kind offset k rise h = ap (placed f kind offset) (sym (number_at 0 f.places offset k rise h ∙ ap Some (let e : 0 + k ≡ k = omega arith in e)))
+pub place_at : (f : InFile) (kind : DeclKind) (offset k : ℕ) → Rise f.places → IsAt f.places offset k → written_member_place f kind offset (Some k) ≡ member_place f kind offset
+place_at f kind offset k rise h = ap (written_member_place f kind offset) (sym (number_at 0 f.places offset k rise h ∙ ap Some (let e : 0 + k ≡ k = omega arith in e)))
 
-pub place_nowhere : (f : InFile) (kind : DeclKind) (offset : ℕ) → IsNowhere f.places offset → placed f kind offset None ≡ member_place f kind offset
-place_nowhere f kind offset h = ap (placed f kind offset) (sym (number_nowhere 0 f.places offset h))
+pub place_nowhere : (f : InFile) (kind : DeclKind) (offset : ℕ) → IsNowhere f.places offset → written_member_place f kind offset None ≡ member_place f kind offset
+place_nowhere f kind offset h = ap (written_member_place f kind offset) (sym (number_nowhere 0 f.places offset h))

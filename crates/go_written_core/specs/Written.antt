@@ -33,21 +33,21 @@ abbrev pub number_from : ℕ → List Place → ℕ → Option ℕ
 number_from n [] offset = None
 number_from n (p ∷ ps) offset = if nat_eq p.at offset then Some n else number_from (Rattle.std.specs.Prelude.ℕ.suc n) ps offset
 
-abbrev pub placed : InFile → DeclKind → ℕ → Option ℕ → MemberPlace
-placed f kind offset None = places.Local (record { file = f.file; offset = offset })
-placed f kind offset (Some n) = places.Declared (record { file = f.file; number = n; kind = kind })
+abbrev pub written_member_place : InFile → DeclKind → ℕ → Option ℕ → MemberPlace
+written_member_place f kind offset None = places.Local (record { file = f.file; offset = offset })
+written_member_place f kind offset (Some n) = places.Declared (record { file = f.file; number = n; kind = kind })
 
 -- where an identifier is declared: under its number in the file, or inside a body at its offset
 abbrev pub member_place : InFile → DeclKind → ℕ → MemberPlace
-member_place f kind offset = placed f kind offset (number_from 0 f.places offset)
+member_place f kind offset = written_member_place f kind offset (number_from 0 f.places offset)
 
 abbrev pub last_ident : TypeName → Ident
 last_ident (type_names.Plain x) = x
 last_ident (type_names.Qualified q dot x) = x
 
-abbrev pub starred : Option Span → Term → Term
-starred None t = t
-starred (Some s) t = PointerTo t
+abbrev pub term_starred : Option Span → Term → Term
+term_starred None t = t
+term_starred (Some s) t = PointerTo t
 
 abbrev pub tag_of : Option TextLiteral → List ℕ
 tag_of None = []
@@ -80,7 +80,7 @@ abbrev mutual
   fields_of_tree mean f NoFields = NoField
   fields_of_tree mean f (NamedFields xs t tag semicolon fs) = named_fields f (term_of mean f t) (tag_of tag) xs (fields_of_tree mean f fs)
   fields_of_tree mean f (EmbeddedField star n tag semicolon fs) =
-      AField (last_ident n).name (member_place f kinds.Field (last_ident n).span.start) true (starred star (mean n)) (tag_of tag) (fields_of_tree mean f fs)
+      AField (last_ident n).name (member_place f kinds.Field (last_ident n).span.start) true (term_starred star (mean n)) (tag_of tag) (fields_of_tree mean f fs)
 
   pub methods_of_tree : Meaning → InFile → MethodTrees → Methods
   methods_of_tree mean f NoMethods = NoMethod

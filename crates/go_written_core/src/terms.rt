@@ -1,10 +1,10 @@
 //! The terms of type expressions.
 ghost use Rattle.std.specs.Prelude.{◌≡◌, ◌++◌, ◌∷◌, [], IfOk, OnOk, true, false};
-ghost use Rattle.go_term_core.specs.Shapes.{line_with, shape, sign_of, methods_of, params_of};
+ghost use Rattle.go_term_core.specs.Shapes.{line_with, shape, sign_of, method_shapes, param_shapes};
 ghost use Rattle.go_term_core.specs.Terms.{NoField, AField, NoMethod, AMethod, NoTerm, ATerm};
 ghost use Rattle.go_tree_nodes.specs.TypeShapes.{shape_type, shape_idents, shape_names, shape_signature, shape_results};
 ghost use Rattle.go_written_core.specs.mirrors.Adding.{Adds, AddsLine, AddsParams, AreWritten, then_methods, line_fields, lines_of, method_lines_of, params_in, named_in, field_in, numbers_of, more_numbers};
-ghost use Rattle.go_written_core.specs.Written.{in_file, term_of, signature_of, member_place, named_fields, fields_of_tree, methods_of_tree, results_of_tree, params_of_tree, for_names, last_ident, starred, tag_of};
+ghost use Rattle.go_written_core.specs.Written.{in_file, term_of, signature_of, member_place, named_fields, fields_of_tree, methods_of_tree, results_of_tree, params_of_tree, for_names, last_ident, term_starred, tag_of};
 
 use crate::names::{TypeNames, WrittenIn};
 use go_decl_core::DeclKind;
@@ -140,7 +140,7 @@ fn add_embedded(
     term: TypeTerm,
     tag: &Option<TextLiteral>,
 ) -> Result<(), AllocError>
-    ensures { OnOk result (Adds body.old (AField (last_ident name.now).name (member_place (in_file at.now) DeclKind.Field (last_ident name.now).span.start) true (starred star.now (shape term)) (tag_of tag.now) NoField) body.new) }
+    ensures { OnOk result (Adds body.old (AField (last_ident name.now).name (member_place (in_file at.now) DeclKind.Field (last_ident name.now).span.start) true (term_starred star.now (shape term)) (tag_of tag.now) NoField) body.new) }
 {
     let term = starred_term(alloc, star, term)?;
     add_field(
@@ -191,7 +191,7 @@ fn add_line(
 
 // A type, or a pointer to it where it has a star.
 fn starred_term(alloc: Global, star: &Option<Span>, term: TypeTerm) -> Result<TypeTerm, AllocError>
-    ensures { IfOk result (λ t. shape t ≡ starred star.now (shape term)) }
+    ensures { IfOk result (λ t. shape t ≡ term_starred star.now (shape term)) }
 {
     match star {
         Some(_) => Ok(TypeTerm::Pointer(boxed(alloc, term)?)),
@@ -227,7 +227,7 @@ fn write_methods<N: TypeNames>(
     at: &WrittenIn<'_>,
     lines: &Vec<MethodLine>,
 ) -> Result<Vec<Method>, AllocError>
-    ensures { IfOk result (λ ms. methods_of ms.items ≡ methods_of_tree (N.meaning names.now) (in_file at.now) (method_lines_of lines.now.items)) }
+    ensures { IfOk result (λ ms. method_shapes ms.items ≡ methods_of_tree (N.meaning names.now) (in_file at.now) (method_lines_of lines.now.items)) }
 {
     let mut methods = Vec::new(alloc);
     for line in lines {
@@ -245,7 +245,7 @@ fn add_method(
     ident: &Ident,
     signature: Signature,
 ) -> Result<(), AllocError>
-    ensures { OnOk result (methods_of methods.new.items ≡ then_methods (methods_of methods.old.items) (AMethod ident.now.name (member_place (in_file at.now) DeclKind.Method ident.now.span.start) (sign_of signature) NoMethod)) }
+    ensures { OnOk result (method_shapes methods.new.items ≡ then_methods (method_shapes methods.old.items) (AMethod ident.now.name (member_place (in_file at.now) DeclKind.Method ident.now.span.start) (sign_of signature) NoMethod)) }
 {
     let name = ident.name.copy(alloc)?;
     let place = at.place(DeclKind::Method, ident.span.start as usize);
@@ -286,7 +286,7 @@ fn write_results<N: TypeNames>(
     at: &WrittenIn<'_>,
     results: &Results,
 ) -> Result<Params, AllocError>
-    ensures { IfOk result (λ ps. params_of ps ≡ results_of_tree (N.meaning names.now) (in_file at.now) (shape_results results.now)) }
+    ensures { IfOk result (λ ps. param_shapes ps ≡ results_of_tree (N.meaning names.now) (in_file at.now) (shape_results results.now)) }
 {
     match results {
         Results::Nothing => Ok(Params {
@@ -303,7 +303,7 @@ fn write_results<N: TypeNames>(
 
 // One type.
 fn one_result(alloc: Global, term: TypeTerm) -> Result<Params, AllocError>
-    ensures { IfOk result (λ ps. params_of ps ≡ ATerm (shape term) NoTerm) }
+    ensures { IfOk result (λ ps. param_shapes ps ≡ ATerm (shape term) NoTerm) }
 {
     let mut params = Params {
         lines: Vec::new(alloc),
@@ -322,7 +322,7 @@ fn write_params<N: TypeNames>(
     at: &WrittenIn<'_>,
     trees: &Vec<Param>,
 ) -> Result<Params, AllocError>
-    ensures { IfOk result (λ ps. params_of ps ≡ params_of_tree (N.meaning names.now) (in_file at.now) (params_in trees.now.items)) }
+    ensures { IfOk result (λ ps. param_shapes ps ≡ params_of_tree (N.meaning names.now) (in_file at.now) (params_in trees.now.items)) }
 {
     let mut params = Params {
         lines: Vec::new(alloc),

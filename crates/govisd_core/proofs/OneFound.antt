@@ -11,7 +11,7 @@ use Rattle.go_part_core.specs.graph_core.declared.imports.ImportOutcome.TheVaria
 use Rattle.go_part_core.specs.graph_core.ImportLaws.{HasOneOutcome}
 use Rattle.go_part_core.specs.graph_core.Lists.{AllNumbered}
 use Rattle.go_part_core.specs.graph_core.Packages.{trees_of}
-use Rattle.go_part_core.specs.graph_core.Sources.{IsPlaced, IsPlacedSource, IsRead}
+use Rattle.go_part_core.specs.graph_core.Sources.{IsPlacedSource, IsRead}
 use Rattle.go_part_core.specs.graph_core.Workspaces.{AreAllRead, IsPackage, IsWorkspace, PackageModel}
 use Rattle.go_part_core.specs.block_core.declared.imports.Imported.{Imported}
 use Rattle.go_part_core.specs.block_core.declared.imports.Imported.TheVariants as given
@@ -31,6 +31,7 @@ use Rattle.go_part_core.specs.Inputs.{InputModel, input_with}
 use Rattle.go_part_core.specs.Parts.{AreFilesMade, ContentOf, FileOf, IsFileMade, IsFileMadeIn, IsMade, IsPart, SeenOf, package_seen, seen_by}
 use Rattle.govisd_core.specs.Alone.{StandsInFile, ImportIsRefused, file_alone, package_alone, the_path, workspace_alone}
 use Rattle.govisd_core.specs.Reports.{IsFile}
+use Rattle.go_tree_nodes.specs.Spelling.{IsPlaced}
 
 abbrev made : List TheUse → List Fault → List TheLocal → List Fault → FileOf
 made uses faults locals report = record { answers = record { uses = uses; faults = faults; locals = locals }; report = report }

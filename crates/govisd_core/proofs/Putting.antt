@@ -26,7 +26,7 @@ use Rattle.go_part_core.specs.block_core.NamingLemmas.{same_texts}
 use Rattle.go_part_core.specs.ready_core.Packages.{trees_in}
 use Rattle.go_part_core.specs.summary_core.Summaries.{SummaryModel}
 use Rattle.go_part_core.specs.declared.files.PartFile.{PartFile}
-use Rattle.go_part_core.specs.Inputs.{AreReached, InputModel, input_with}
+use Rattle.go_part_core.specs.Inputs.{AreOfOthers, InputModel, input_with}
 use Rattle.go_part_core.specs.Parts.{ContentOf, FileOf, IsPart, file_shown}
 use Rattle.govisd_core.specs.Alone.{ImportIsRefused, package_alone, the_name, the_path, workspace_alone}
 use Rattle.govisd_core.specs.mirrors.Making.{AreRefusedAlone, AreRefusedIn, HasOneFile, HasText, IsAlone, IsGivenIn, IsInputIn, IsOwn}
@@ -155,8 +155,8 @@ pub one_each : (ps : List PackageModel) (p : PackageModel) (f : FileTree) (files
 one_each ps p f files own h =
     subst (λ ts. HaveOneEach ts files) (sym (own_trees ps p f own)) (subst (λ l. HaveOneEach ((own.file.name, f) ∷ []) l) (sym h.are) (as_many_imports ps f h.imports h.refused, tt))
 
-pub none_reached : (path : List ℕ) (reached : List SummaryModel) → reached ≡ [] → AreReached path reached
-none_reached path reached none = subst (AreReached path) (sym none) (record { apart = λ i j d lt l. absurd (omega (arith, l)); others = λ k d lt. absurd (omega (arith, lt)) })
+pub none_reached : (path : List ℕ) (reached : List SummaryModel) → reached ≡ [] → AreOfOthers path reached
+none_reached path reached none = subst (AreOfOthers path) (sym none) (record { apart = λ i j d lt l. absurd (omega (arith, l)); others = λ k d lt. absurd (omega (arith, lt)) })
 
 pub input_is : (ps : List PackageModel) (p : PackageModel) (f : FileTree) (files : List (List Imported)) (i : InputModel) → AreRefusedAlone ps f files → i ≡ input_with p files [] → IsInputIn ps p f i
 input_is ps p f files i h made = record { imports = h.imports; refused = h.refused; is = made ∙ ap (λ l. input_with p l []) h.are }

@@ -1,10 +1,10 @@
 //! A run of `govisd resolve`, from a reader to a writer.
 ghost use Rattle.std.specs.Prelude.{◌≡◌, false, take, string_bytes, IfOk, IfSome, Ok};
 ghost use Rattle.go_tree_nodes.specs.Shapes.{file_of};
-ghost use Rattle.govisd_lines.specs.decl_core.Outer.{IsPlaced};
 ghost use Rattle.govisd_core.specs.Inputs.{ReadsUpTo};
 ghost use Rattle.govisd_core.specs.Reports.{IsReport, IsEnd, IsText, ReadsAll, has_no_items, the_fault};
 ghost use Rattle.govisd_core.specs.mirrors.Making.{HasOneFile, IsAlone, IsTold};
+ghost use Rattle.go_tree_nodes.specs.Spelling.{IsPlaced};
 
 use crate::alone::{part_of, workspace_of};
 use crate::input::{InputFault, LIMIT, read_input};

@@ -8,11 +8,12 @@ const FIRST_MILLIS: u128 = 1_000;
 /// The milliseconds between two lines.
 const NEXT_MILLIS: u128 = 100;
 
-/// The packages whose check takes over a second, by estimate.
-const MANY_PACKAGES: usize = 50;
+/// The bytes of source that are parsed and checked in a second, by estimate.
+const BYTES_PER_SECOND: usize = 4_000_000;
 
-/// A line on standard error that says how far a check is, where that is a terminal and the check takes over a second. Each line stands in the
-/// place of the one before it.
+/// A line on standard error that says how far a check is, where that is a terminal. It is told as folders are read and packages are parsed, and
+/// before all packages are checked, from the moment a second has passed; and where the sources take over a second, by estimate, from when all
+/// folders are read, however soon that is. Each line stands in the place of the one before it.
 #[derive(Drop)]
 pub struct Progress<'a> {
     rt: &'a HostRuntime,
@@ -68,6 +69,14 @@ impl<'a> Progress<'a> {
         }
     }
 
+    /// All folders are read: so many, with so many bytes of source. Where these take over a second to parse and check, a line is due.
+    pub fn read_all(&mut self, folders: usize, bytes: usize) {
+        if bytes > BYTES_PER_SECOND {
+            self.next = 0;
+        }
+        self.read(folders);
+    }
+
     /// So many packages are parsed.
     pub fn parsed(&mut self, packages: usize) {
         if self.is_due() {
@@ -75,10 +84,9 @@ impl<'a> Progress<'a> {
         }
     }
 
-    /// So many packages are checked next.
+    /// So many packages are checked next. Where a line is shown already, it says so at once.
     pub fn check(&mut self, packages: usize) {
-        let is_long = self.began.is_some() && packages >= MANY_PACKAGES;
-        if self.is_due() || self.is_shown || is_long {
+        if self.is_due() || self.is_shown {
             self.show("checking", packages, "packages");
         }
     }

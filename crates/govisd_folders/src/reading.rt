@@ -32,6 +32,8 @@ pub struct FoundFolders {
     pub passed_files: usize,
     /// The number of folders that were passed over by their names, but for those that begin with a dot.
     pub passed_folders: usize,
+    /// The number of bytes of the texts.
+    bytes: usize,
 }
 
 /// What a name in a folder stands for.
@@ -144,22 +146,25 @@ fn text_at(rt: &HostRuntime, path: &str) -> io::Result<Result<String, Rule>> {
 /// Adds the text of a source file, or says why it is left out.
 fn add_file(
     checked: CheckedFolder<'_>,
-    notes: &mut String,
+    found: &mut FoundFolders,
     files: &mut BTreeMap<String, String>,
     name: String,
     own: &str,
     path: &str,
 ) -> Result<(), AllocError> {
     if files.len() >= MAX_FILES {
-        return note_rule(notes, own, Rule::E4);
+        return note_rule(&mut found.left_out, own, Rule::E4);
     }
     match text_at(checked.rt, path) {
-        Ok(Ok(text)) => match files.insert(name, text) {
-            Ok(_) => Ok(()),
-            Err(_) => Err(AllocError),
-        },
-        Ok(Err(rule)) => note_rule(notes, own, rule),
-        Err(error) => note_unread(checked.rt.alloc(), notes, own, &error),
+        Ok(Ok(text)) => {
+            found.bytes = found.bytes.saturating_add(text.len());
+            match files.insert(name, text) {
+                Ok(_) => Ok(()),
+                Err(_) => Err(AllocError),
+            }
+        }
+        Ok(Err(rule)) => note_rule(&mut found.left_out, own, rule),
+        Err(error) => note_unread(checked.rt.alloc(), &mut found.left_out, own, &error),
     }
 }
 
@@ -181,9 +186,7 @@ fn add_other(
             Ok(())
         }
         (FileKind::BadName, _) => note_rule(&mut found.left_out, own, Rule::E2),
-        (FileKind::Source, EntryKind::File) => {
-            add_file(checked, &mut found.left_out, files, name, own, path)
-        }
+        (FileKind::Source, EntryKind::File) => add_file(checked, found, files, name, own, path),
         (FileKind::Source, _) => note(&mut found.left_out, own, "no regular file"),
     }
 }
@@ -315,7 +318,9 @@ pub fn found_below(
         left_out: String::new(alloc),
         passed_files: 0,
         passed_folders: 0,
+        bytes: 0,
     };
     add_all(CheckedFolder { rt, root }, &mut found, progress)?;
+    progress.read_all(found.folders.len(), found.bytes);
     Ok(found)
 }

@@ -1,8 +1,8 @@
 //! The lines of a file.
 ghost use Rattle.std.specs.Prelude.{◌≡◌, ◌++◌, flat_map, IfOk, OnOk};
 ghost use Rattle.go_tree_nodes.specs.Shapes.{file_of};
-ghost use Rattle.go_term_core.specs.decl_core.Outer.{IsPlaced};
 ghost use Rattle.govisd_lines.specs.Lines.{answer_text, fault_line, file_lines, occurrence_line, occurrence_lines, role_text};
+ghost use Rattle.go_tree_nodes.specs.Spelling.{IsPlaced};
 
 use crate::bytes::{push, push_number};
 use crate::places::push_declaration;

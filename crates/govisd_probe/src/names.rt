@@ -1,7 +1,7 @@
 //! What the identifiers of functions denote, and the numbers of what files declare.
 ghost use Rattle.go_tree_nodes.specs.Shapes.{file_of, func_of};
-ghost use Rattle.go_decl_core.specs.Outer.{IsPlaced};
 ghost use Rattle.go_local_core.specs.Tables.{IsFuncPlaced};
+ghost use Rattle.go_tree_nodes.specs.Spelling.{IsPlaced};
 
 use crate::blocks::{Place, kind_word};
 use go_graph_core::PackageSource;

@@ -6,9 +6,8 @@ use Rattle.go_tree_nodes.specs.declared.files.File.{File}
 use Rattle.go_tree_nodes.specs.declared.files.Decl.TheVariants as decl
 use Rattle.go_tree_nodes.specs.Terminals.{InOrder}
 use Rattle.go_tree_nodes.specs.Shapes.{decl_of, top_of, file_of, func_of}
-use Rattle.go_tree_nodes.specs.Spelling.{spell_decl, spell_func, spell_tops, spell_imports}
+use Rattle.go_tree_nodes.specs.Spelling.{spell_decl, spell_func, spell_tops, spell_imports, IsPlaced}
 use Rattle.go_tree_nodes.proofs.InOrder.{in_order_split}
-use Rattle.go_decl_core.specs.Outer.{IsPlaced}
 
 -- what a declaration of a list writes follows one another, where what the list writes does
 top_placed : (tops : List TopDecl) (n : ℕ) (top : TopDecl) (low high : ℕ) → n < length tops → top ≡ get_or tops n top → InOrder low (spell_tops (map top_of tops)) high → (lo : ℕ) × ((hi : ℕ) × InOrder lo (spell_decl (decl_of top.decl)) hi)

@@ -6,7 +6,6 @@ use Rattle.std.specs.List.Sorted.{IsPermutation}
 use Rattle.std.proofs.lemmas.List.Elements.{All-cons, All-nil}
 use Rattle.std.proofs.lemmas.List.Sorted.{IsPermutation-reverse}
 use Rattle.std.proofs.lemmas.Option.{slice_get_within, slice_get-get_or, get_or_from_slice_get}
-use Rattle.go_term_core.specs.decl_core.Outer.{IsPlaced}
 use Rattle.go_snap_core.specs.part_core.Laws.{OnePart}
 use Rattle.govisd_show.specs.graph_core.Workspaces.{PackageModel, AreAllRead, IsWorkspace}
 use Rattle.govisd_show.specs.graph_core.Zips.{numbered_back}
@@ -17,6 +16,7 @@ use Rattle.go_snap_core.specs.whole_core.Inputs.{AreParts, IsPartOf}
 use Rattle.go_snap_core.specs.whole_core.Checks.{trees_are_placed}
 use Rattle.go_snap_core.specs.emit_core.Emitted.{if_there, somes}
 use Rattle.go_snap_core.specs.Snapshots.{ArePartsOf, IsPartAt}
+use Rattle.go_tree_nodes.specs.Spelling.{IsPlaced}
 
 -- the trees of its package are placed
 abbrev pub HasPlaced : PartModel → Type 0

@@ -9,7 +9,7 @@ use Rattle.go_decl_core.specs.declared.tops.TopDecl.{TopDecl}
 use Rattle.go_block_core.specs.declared.binding.BoundName.{BoundName}
 use Rattle.go_block_core.specs.declared.decls.NamedPlace.{NamedPlace}
 use Rattle.go_block_core.specs.Bindings.{Bound}
-use Rattle.go_block_core.specs.Declarations.{Declaration, decl_ref}
+use Rattle.go_block_core.specs.Declarations.{PackageDeclaration, decl_ref}
 
 -- the import that a reference shows
 abbrev pub spec_shown : Bor ImportSpec → ImportSpecTree
@@ -20,16 +20,16 @@ abbrev pub bound_shown : BoundName → Bound
 bound_shown b = record { name = b.name.now; binding = b.binding }
 
 -- a declaration with its name and place
-abbrev pub declaration_shown : NamedPlace → Declaration
+abbrev pub declaration_shown : NamedPlace → PackageDeclaration
 declaration_shown d = record { name = d.name.now; at = d.at; decl = d.decl; is_procedure = d.is_procedure }
 
 -- what is declared, if anything is
-abbrev pub declared_shown : Option NamedPlace → List Declaration
+abbrev pub declared_shown : Option NamedPlace → List PackageDeclaration
 declared_shown None = []
 declared_shown (Some d) = declaration_shown d ∷ []
 
 -- a declaration of the file of a number, of this kind
-abbrev pub named_place : ℕ → TopDecl → DeclKind → Bool → Declaration
+abbrev pub named_place : ℕ → TopDecl → DeclKind → Bool → PackageDeclaration
 named_place file top kind procedure = record { name = top.ident.now.name; at = top.ident.now.span.start; decl = decl_ref file top.number kind; is_procedure = procedure }
 
 -- the text that a reference shows, if there is one

@@ -3,7 +3,7 @@ use Rattle.std.proofs.Common.{◌≡◌, ℕ, Bool, List, [], ◌∷◌, Option,
 use Rattle.go_tree_nodes.specs.Trees.{TypeTree}
 use Rattle.go_term_core.specs.Terms.{Term, Sign}
 use Rattle.go_env_core.specs.handle_core.Declarations.{Declaration}
-use Rattle.go_piece_core.specs.local_core.Binding.{Look}
+use Rattle.go_piece_core.specs.local_core.Binding.{NameLook}
 use Rattle.go_piece_core.specs.local_core.Alike.{LookAtNames}
 use Rattle.go_piece_core.specs.expr_core.Locality.{SameType}
 use Rattle.go_piece_core.specs.Laws.{FindByNames, piece_types}
@@ -20,11 +20,11 @@ use Rattle.go_body_core.specs.Notes.{TheLocal, NoteOf, note}
 use Rattle.go_body_core.specs.Rules.{local_at, piece_locals, rules_by, rules_of}
 
 module _ (s : SceneModel) (file : ℕ) (known : List (Option TheFace)) (types : List (ℕ × InlineOf)) where
-  abbrev looks : Look Meaning → TheLooks
+  abbrev looks : NameLook Meaning → TheLooks
   looks look = looks_in s file known (inline_rules s types) look
 
   -- what stands for a written type depends on its place alone
-  type_same : (look other : Look Meaning) (t : TypeTree) → SameType Term Sign Declaration (List ℕ) (looks look) (looks other) t
+  type_same : (look other : NameLook Meaning) (t : TypeTree) → SameType Term Sign Declaration (List ℕ) (looks look) (looks other) t
   type_same look other t = record { type_of = refl; faults_of = refl }
 
   pub by_names : FindByNames Meaning Term Sign Declaration (List ℕ) looks
@@ -40,7 +40,7 @@ with_locals ls [] = []
 with_locals ls (n ∷ ns) = note n.uses n.faults ls ∷ with_locals ls ns
 
 -- rules by look-ups that find what names mean look at the names of a piece alone
-pub look_at_names : (looks : Look Meaning → TheLooks) (results : List (Option Term)) (has_names : Bool) → FindByNames Meaning Term Sign Declaration (List ℕ) looks → LookAtNames Meaning NoteOf (rules_by looks results has_names)
+pub look_at_names : (looks : NameLook Meaning → TheLooks) (results : List (Option Term)) (has_names : Bool) → FindByNames Meaning Term Sign Declaration (List ℕ) looks → LookAtNames Meaning NoteOf (rules_by looks results has_names)
 look_at_names looks results has_names law =
     let plain = pieces_look Meaning NoteOf Term Sign Declaration (List ℕ) looks results has_names (λ p us fs. note us fs [] ∷ []) (λ p vs. local_at p vs) law in
     record {

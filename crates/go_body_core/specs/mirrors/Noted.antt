@@ -5,7 +5,7 @@ use Rattle.go_piece_core.specs.operand_core.declared.types.Operand.{Operand}
 use Rattle.go_term_core.specs.Terms.{Term}
 use Rattle.go_piece_core.specs.Pieces.{piece_uses}
 use Rattle.go_env_core.specs.names_core.declared.look.OpenNames.{OpenNames}
-use Rattle.go_env_core.specs.names_core.Scope.{look_of}
+use Rattle.go_env_core.specs.names_core.Scope.{open_look}
 use Rattle.go_env_core.specs.declared.meaning.Meaning.{Meaning}
 use Rattle.go_env_core.specs.declared.meaning.Meaning.TheVariants as meanings
 use Rattle.go_env_core.specs.Scenes.{scene_shown}
@@ -18,7 +18,7 @@ use Rattle.go_body_core.specs.mirrors.PieceTrees.{piece_of, faults_of, values_of
 
 -- the look-ups of a place, by what is open there
 abbrev pub looks_at : Pieces → OpenNames Meaning → TheLooks
-looks_at a names = looks_in (scene_shown a.scene.now) a.file a.known.now (inline_rules (scene_shown a.scene.now) a.inline.now) (look_of meanings.Outside names)
+looks_at a names = looks_in (scene_shown a.scene.now) a.file a.known.now (inline_rules (scene_shown a.scene.now) a.inline.now) (open_look meanings.Outside names)
 
 -- what its names stand for
 abbrev pub values_at : Pieces → OpenNames Meaning → List Bool → PieceTree → List (Option (Operand Term))

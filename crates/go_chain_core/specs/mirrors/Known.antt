@@ -1,6 +1,6 @@
 -- What is known of chains while one is followed.
 use Rattle.std.specs.Prelude.{◌≡◌, ◌⊎◌, ℕ, Bool, true, false, List, Option, Some, None, Contains, length, slice_get, slice_index_or}
-use Rattle.go_chain_core.specs.Chains.{Leads, EndsAt}
+use Rattle.go_chain_core.specs.Chains.{ChainLeads, EndsAt}
 
 -- the chain from i has no end
 abbrev pub IsEndless : List (Option ℕ) → ℕ → Type 0
@@ -12,7 +12,7 @@ pub record IsOnWay (next : List (Option ℕ)) (way : List ℕ) (stop : ℕ) (i :
   pub follows : slice_get next i ≡ Some (Some follower)
   pub within : Contains way follower ⊎ (follower ≡ stop)
   pub path : List ℕ
-  pub leads : Leads next i path stop
+  pub leads : ChainLeads next i path stop
 
 -- ends are right; a number that bears a mark and has no end is on the way, or endless
 pub record Known (next : List (Option ℕ)) (marks : List Bool) (ends : List (Option ℕ)) (way : List ℕ) (stop : ℕ) : Type 0 where

@@ -4,7 +4,7 @@ use Rattle.go_tree_nodes.specs.Trees.{ExprTree, Call, ElseTree, NoElse, ElseBloc
 use Rattle.go_fragment_core.specs.instruction_core.declared.instruction.Instruction.{Instruction}
 use Rattle.go_code_core.specs.declared.stmts.Marks.{Marks}
 use Rattle.go_code_core.specs.Code.{Exits, branch_code, call_end, items_code, jump, lines_code, receiver_code}
-use Rattle.go_fragment_core.specs.Names.{Frame, called}
+use Rattle.go_fragment_core.specs.Names.{Frame, callee_meaning}
 
 -- how far it is from what is written next to where `break` and `continue` lead, where so many instructions are written and so many of them
 -- stand behind these places
@@ -29,5 +29,5 @@ else_code f x (ElseIf k b) = jumped (branch_code f x b)
 
 -- the code of a call that is no constant
 abbrev pub applied : Frame → ExprTree → List Instruction
-applied f (Call e first items last) = receiver_code f e ++ (items_code f items ++ call_end f (called f.looks e) (f.looks.reference first.start) items)
+applied f (Call e first items last) = receiver_code f e ++ (items_code f items ++ call_end f (callee_meaning f.looks e) (f.looks.reference first.start) items)
 applied f _ = []

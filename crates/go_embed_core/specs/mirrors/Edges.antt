@@ -6,7 +6,7 @@ use Rattle.go_term_core.specs.Terms.{Term, NoType, Predeclared, ErrorType, Defin
 use Rattle.go_term_core.specs.Shapes.{shape}
 use Rattle.go_type_core.specs.table_core.Entries.{Member, has_method}
 use Rattle.go_type_core.specs.table_core.Shown.{hides_some}
-use Rattle.go_embed_core.specs.Owners.{OwnerModel, Edge, edge}
+use Rattle.go_embed_core.specs.Owners.{OwnerModel, EmbeddedEdge, embedded_edge}
 
 -- an underlying type, or none
 abbrev pub under_shown : Option (Bor TypeTerm) → Term
@@ -42,10 +42,10 @@ pub record IsHiding (hides : Bool) (o : OwnerModel) (name : List ℕ) : Type 0 w
   pub left : hides ≡ false → (hidden_by o name o.underlying ≡ false) ⊎ (hides_some o.path o.methods o.underlying ≡ false)
 
 -- the edge of a field
-abbrev pub edge_if : Bool → ℕ → Term → Option Edge
-edge_if b i t = if b then Some (edge i t) else None
+abbrev pub edge_if : Bool → ℕ → Term → Option EmbeddedEdge
+edge_if b i t = if b then Some (embedded_edge i t) else None
 
 -- the edges at as many places, from one on
-abbrev pub edges_from : (ℕ → Option Edge) → ℕ → ℕ → List Edge
+abbrev pub edges_from : (ℕ → Option EmbeddedEdge) → ℕ → ℕ → List EmbeddedEdge
 edges_from f k zero = []
 edges_from f k (suc n) = option_to_list (f k) ++ edges_from f (suc k) n

@@ -8,27 +8,27 @@ use Rattle.go_term_core.specs.declared.term.Method.{Method}
 use Rattle.go_term_core.specs.Terms.{Term}
 use Rattle.go_term_core.specs.Shapes.{Line, line_at}
 use Rattle.go_type_core.specs.settle_core.declared.kind.Kind.{Kind}
-use Rattle.go_type_core.specs.settle_core.Settled.{can_be_embedded, has_name, repeats}
+use Rattle.go_type_core.specs.settle_core.Settled.{can_be_embedded, is_among_names, repeats_earlier}
 use Rattle.go_type_core.specs.table_core.declared.entry.DeclaredMethod.{DeclaredMethod}
 use Rattle.go_type_core.specs.table_core.Entries.{Member}
 use Rattle.go_type_core.specs.table_core.Methods.{has_field_before}
 use Rattle.go_type_core.specs.table_core.Shown.{member_shown}
 use Rattle.go_embed_core.specs.declared.faults.MemberFault.{MemberFault}
-use Rattle.go_embed_core.specs.Faults.{fault_if, is_left_out}
+use Rattle.go_embed_core.specs.Faults.{member_fault_if, is_left_out}
 
 -- two lists have the same names
 abbrev pub SameNames : List (List ℕ) → List (List ℕ) → Type 0
-SameNames a b = (name : List ℕ) → has_name a name ≡ has_name b name
+SameNames a b = (name : List ℕ) → is_among_names a name ≡ is_among_names b name
 
 -- names with that of a method, unless the method is left out
 abbrev pub names_with : List ℕ → Term → Member → List (List ℕ) → List (List ℕ)
 names_with path u m names = if is_left_out path u m then names else m.name ∷ names
 
 abbrev pub field_own : (DeclKey → Kind) → List Line → List (List ℕ) → Field → List MemberFault
-field_own kind ls seen f = fault_if (repeats seen f.name) f.place rules.B5 ++ fault_if ((line_at ls f.line).embedded && not (can_be_embedded kind (line_at ls f.line).term)) f.place rules.Y2
+field_own kind ls seen f = member_fault_if (repeats_earlier seen f.name) f.place rules.B5 ++ member_fault_if ((line_at ls f.line).embedded && not (can_be_embedded kind (line_at ls f.line).term)) f.place rules.Y2
 
 abbrev pub method_own : List (List ℕ) → Method → List MemberFault
-method_own seen m = fault_if (is_blank m.name || has_name seen m.name) m.place rules.B5
+method_own seen m = member_fault_if (is_blank m.name || is_among_names seen m.name) m.place rules.B5
 
 abbrev pub declared_own : List ℕ → Term → List (List ℕ) → DeclaredMethod → List MemberFault
-declared_own path u seen m = fault_if (not (is_blank m.name) && (has_name seen m.name || has_field_before path u (member_shown m))) m.place rules.B5
+declared_own path u seen m = member_fault_if (not (is_blank m.name) && (is_among_names seen m.name || has_field_before path u (member_shown m))) m.place rules.B5

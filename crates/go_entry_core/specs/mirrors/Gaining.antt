@@ -3,11 +3,11 @@ use Rattle.std.specs.Prelude.{◌≡◌, ◌++◌, ◌&&◌, ◌||◌, ℕ, Bool
 use Rattle.go_term_core.specs.decl_core.declared.keys.DeclRef.{DeclRef}
 use Rattle.go_term_core.specs.Terms.{Term}
 use Rattle.go_table_core.specs.Entries.{Entry}
-use Rattle.go_entry_core.specs.Entries.{Received, is_type_of, methods_of}
+use Rattle.go_entry_core.specs.Entries.{Received, is_type_of, methods_received}
 
 -- an entry with more methods: those of these that are of its key
 abbrev pub gaining : List Received → Entry → Entry
-gaining rs e = record { key = e.key; name = e.name; term = e.term; methods = e.methods ++ methods_of e.key rs }
+gaining rs e = record { key = e.key; name = e.name; term = e.term; methods = e.methods ++ methods_received e.key rs }
 
 abbrev pub all_gaining : List Received → List Entry → List Entry
 all_gaining rs es = map (gaining rs) es

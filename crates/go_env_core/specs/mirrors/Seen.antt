@@ -3,7 +3,7 @@ use Rattle.std.specs.Prelude.{ℕ, Bool, true, false, List, [], ◌∷◌, Optio
 use Rattle.std.specs.Borrow.{Bor}
 use Rattle.go_term_core.specs.declared.term.Field.{Field}
 use Rattle.go_term_core.specs.Terms.{NoType}
-use Rattle.go_term_core.specs.Shapes.{Line, fields_in, line_at, lines_of}
+use Rattle.go_term_core.specs.Shapes.{Line, fields_in, line_at, line_shapes}
 use Rattle.go_inline_core.specs.table_core.declared.entry.DefinedType.{DefinedType}
 use Rattle.go_inline_core.specs.table_core.Entries.{has_method}
 use Rattle.go_inline_core.specs.embed_core.Owners.{OwnerModel}
@@ -28,7 +28,7 @@ abbrev pub listed_field : SceneModel → List ℕ → List Line → Field → Th
 listed_field s home ls f = field_seen s home f.name f.place (line_at ls f.line).term
 
 abbrev pub seen_shown : SceneModel → SeenFields → List TheField
-seen_shown s x = fields_seen s (hider_shown x.hider) x.home.now (fields_in (lines_of x.lines.now) x.fields.now)
+seen_shown s x = fields_seen s (hider_shown x.hider) x.home.now (fields_in (line_shapes x.lines.now) x.fields.now)
 
 abbrev pub some_seen : SceneModel → Option SeenFields → List TheField
 some_seen s None = []

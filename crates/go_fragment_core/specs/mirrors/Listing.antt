@@ -1,7 +1,7 @@
 -- The slots of the names behind the first.
 use Rattle.std.specs.Prelude.{ℕ, List, [], ◌∷◌, ◌++◌, Option}
 use Rattle.go_tree_nodes.specs.declared.names.NextIdent.{NextIdent}
-use Rattle.go_fragment_core.specs.Names.{Looks}
+use Rattle.go_fragment_core.specs.Names.{CodeLooks}
 use Rattle.go_fragment_core.specs.Slots.{local_slot, new_slot, param_slot}
 
 abbrev pub param_names_more : List NextIdent → List (Option ℕ)
@@ -12,6 +12,6 @@ abbrev pub locals_more : List NextIdent → List (Option ℕ)
 locals_more [] = []
 locals_more (n ∷ ns) = local_slot n.ident ++ locals_more ns
 
-abbrev pub new_more : Looks → List NextIdent → List (Option ℕ)
+abbrev pub new_more : CodeLooks → List NextIdent → List (Option ℕ)
 new_more looks [] = []
 new_more looks (n ∷ ns) = new_slot looks n.ident ++ new_more looks ns

@@ -15,17 +15,17 @@ use Rattle.go_term_core.specs.Terms.{NoType, PointerTo, StructOf, InterfaceOf, A
 use Rattle.go_embed_core.specs.settle_core.declared.kind.Kind.{Kind}
 use Rattle.go_embed_core.specs.settle_core.Settled.{settled}
 use Rattle.go_embed_core.specs.Faults.{term_faults}
-use Rattle.go_entry_core.specs.written_core.Written.{InFile, Meaning, member_place, last_ident, starred, tag_of, named_fields, for_names, term_of, fields_of_tree, methods_of_tree, signature_of, results_of_tree, params_of_tree}
+use Rattle.go_entry_core.specs.written_core.Written.{InFile, Meaning, member_place, last_ident, term_starred, tag_of, named_fields, for_names, term_of, fields_of_tree, methods_of_tree, signature_of, results_of_tree, params_of_tree}
 use Rattle.go_names_core.specs.local_core.Steps.{Piece, Header, Spec, Act, Condition, Given, spell_piece}
-use Rattle.go_names_core.specs.local_core.Binding.{Look}
+use Rattle.go_names_core.specs.local_core.Binding.{NameLook}
 use Rattle.go_names_core.specs.local_core.Alike.{Alike, LookAtNames}
 use Rattle.go_inline_core.specs.declared.scoped.Scoped.{Scoped}
 use Rattle.go_inline_core.specs.Types.{InlineOf}
 use Rattle.go_inline_core.specs.Trees.{type_start, expr_types, items_types, exprs_types, some_exprs_types, params_types, result_types, signature_types, some_type, values_types, spec_types, simple_types, piece_types}
-use Rattle.go_inline_core.specs.Functions.{is_local, meaning_in, inlines_in, inline_rules}
-use Rattle.go_inline_core.specs.Inline.{fault_in, repeated_params, inline_with}
+use Rattle.go_inline_core.specs.Functions.{is_local, meaning_in, inlines_in, inline_note_rules}
+use Rattle.go_inline_core.specs.Inline.{located_fault, repeated_params, inline_with}
 
-module _ (kind : DeclKey → Kind) (f : InFile) (top : Meaning) (look other : Look Scoped) where
+module _ (kind : DeclKey → Kind) (f : InFile) (top : Meaning) (look other : NameLook Scoped) where
   abbrev mean : Meaning
   mean = meaning_in look top
 
@@ -61,8 +61,8 @@ module _ (kind : DeclKey → Kind) (f : InFile) (top : Meaning) (look other : Lo
         let b = alike_split (spell_type_name n) _ a in
         let c = (alike_split (spell_tag tag) _ b.1).1 in
         let d = (alike_split (spell_some operator.Semicolon s) _ c).1 in
-        ap (λ u. AField (last_ident n).name (member_place f kinds.Field (last_ident n).span.start) true (starred star u) (tag_of tag) (fields_of_tree mean f rest)) (name_means n b.0)
-        ∙ ap (AField (last_ident n).name (member_place f kinds.Field (last_ident n).span.start) true (starred star (one n)) (tag_of tag)) (fields_mean rest d)
+        ap (λ u. AField (last_ident n).name (member_place f kinds.Field (last_ident n).span.start) true (term_starred star u) (tag_of tag) (fields_of_tree mean f rest)) (name_means n b.0)
+        ∙ ap (AField (last_ident n).name (member_place f kinds.Field (last_ident n).span.start) true (term_starred star (one n)) (tag_of tag)) (fields_mean rest d)
 
     methods_mean : (ms : MethodTrees) → Alike look other (spell_methods ms) → methods_of_tree mean f ms ≡ methods_of_tree one f ms
     methods_mean NoMethods h = refl
@@ -91,10 +91,10 @@ module _ (kind : DeclKey → Kind) (f : InFile) (top : Meaning) (look other : Lo
         ap (λ u. for_names u xs (params_of_tree mean f rest)) (type_means t b.0) ∙ ap (for_names (term_of one f t) xs) (params_mean rest c)
 
 -- what types are is the same where the names among these terminals mean the same
-pub record Same (kind : DeclKey → Kind) (f : InFile) (top : Meaning) (look other : Look Scoped) (xs : List TypeTree) (ts : List Terminal) : Type 0 where
+pub record Same (kind : DeclKey → Kind) (f : InFile) (top : Meaning) (look other : NameLook Scoped) (xs : List TypeTree) (ts : List Terminal) : Type 0 where
   pub same : Alike look other ts → inlines_in kind f top look xs ≡ inlines_in kind f top other xs
 
-module _ (kind : DeclKey → Kind) (f : InFile) (top : Meaning) (look other : Look Scoped) where
+module _ (kind : DeclKey → Kind) (f : InFile) (top : Meaning) (look other : NameLook Scoped) where
   abbrev IsSame : List TypeTree → List Terminal → Type 0
   IsSame = Same kind f top look other
 
@@ -121,7 +121,7 @@ module _ (kind : DeclKey → Kind) (f : InFile) (top : Meaning) (look other : Lo
 
   type_same : (t : TypeTree) → IsSame (t ∷ []) (spell_type t)
   type_same t = record {
-    same = λ h. ap (λ u. (type_start t, record { term = settled kind u; faults = map (fault_in f.places) (term_faults kind u) ++ repeated_params t }) ∷ []) (type_means kind f top look other t h);
+    same = λ h. ap (λ u. (type_start t, record { term = settled kind u; faults = map (located_fault f.places) (term_faults kind u) ++ repeated_params t }) ∷ []) (type_means kind f top look other t h);
   }
 
   params_same : (ps : ParamTrees) → IsSame (params_types ps) (spell_params ps)
@@ -186,5 +186,5 @@ module _ (kind : DeclKey → Kind) (f : InFile) (top : Meaning) (look other : Lo
   piece_same (Condition t) = expr_same t
   piece_same (Given place es) = some_exprs_same es
 
-pub inlines_alike : (kind : DeclKey → Kind) (f : InFile) (top : Meaning) → LookAtNames Scoped (ℕ × InlineOf) (inline_rules kind f top)
+pub inlines_alike : (kind : DeclKey → Kind) (f : InFile) (top : Meaning) → LookAtNames Scoped (ℕ × InlineOf) (inline_note_rules kind f top)
 inlines_alike kind f top = record { notes = λ look other firsts p h. (piece_same kind f top look other p).same h; means = λ look other firsts p h. refl }

@@ -5,7 +5,7 @@ use Rattle.std.specs.Map.{lookup}
 use Rattle.std.specs.Str.{bytes_eq}
 use Rattle.go_literal_core.specs.declared.things.KeyMark.{KeyMark}
 use Rattle.go_literal_core.specs.Repeats.{has_name}
-use Rattle.go_literal_core.specs.Marks.{number_from}
+use Rattle.go_literal_core.specs.Marks.{name_number_from}
 
 -- the number that a map has at a name
 abbrev pub number_of : List (Bor (List ℕ) × ℕ) → List ℕ → Option ℕ
@@ -22,4 +22,4 @@ mark_by again entries name = record { is_repeated = has_name name again; field =
 
 -- the same, by the names of the fields
 abbrev pub searched_mark : List (List ℕ) → List (List ℕ) → List ℕ → KeyMark
-searched_mark again fields name = record { is_repeated = has_name name again; field = number_from 0 fields name }
+searched_mark again fields name = record { is_repeated = has_name name again; field = name_number_from 0 fields name }

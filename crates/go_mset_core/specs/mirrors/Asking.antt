@@ -8,7 +8,7 @@ use Rattle.go_term_core.specs.declared.term.MemberPlace.{MemberPlace}
 use Rattle.go_term_core.specs.Terms.{Term, PointerTo, Methods, Sign}
 use Rattle.go_term_core.specs.Identity.{IsMethod}
 use Rattle.go_term_core.specs.Shapes.{shape, sign_of}
-use Rattle.go_select_core.specs.table_core.Entries.{Look}
+use Rattle.go_select_core.specs.table_core.Entries.{EntryLook}
 use Rattle.go_mset_core.specs.declared.interface.Holder.{Holder}
 use Rattle.go_mset_core.specs.declared.interface.Holder.TheVariants as holders
 use Rattle.go_mset_core.specs.declared.wanted.Wanted.{Wanted}
@@ -33,12 +33,12 @@ IsBefore name None = ⊤
 IsBefore name (Some missing) = slice_cmp nat_cmp name missing ≡ Less
 
 -- what is missing of those before and of one more method
-abbrev pub IsNextMissing : Look → Term → List ℕ → Option (List ℕ) → List ℕ → Sign → Option (List ℕ) → Type 0
+abbrev pub IsNextMissing : EntryLook → Term → List ℕ → Option (List ℕ) → List ℕ → Sign → Option (List ℕ) → Type 0
 IsNextMissing look t path missing name g next =
     (((IsBefore name missing → ⊥) ⊎ HasMethod look t name path g) × (next ≡ missing)) ⊎ (IsBefore name missing × (HasMethod look t name path g → ⊥) × (next ≡ Some name))
 
 -- the least name of the methods that t has not
-abbrev pub IsLeastMissing : Look → Term → List ℕ → Methods → Option (List ℕ) → Type 0
+abbrev pub IsLeastMissing : EntryLook → Term → List ℕ → Methods → Option (List ℕ) → Type 0
 IsLeastMissing look t path ms None = (name : List ℕ) (place : MemberPlace) (g : Sign) → IsMethod ms name place g → HasMethod look t name path g
 IsLeastMissing look t path ms (Some missing) =
     ((place : MemberPlace) × (g : Sign) × IsMethod ms missing place g × (HasMethod look t missing path g → ⊥))

@@ -6,12 +6,12 @@ use Rattle.go_scope_core.specs.open_core.Blocks.{any_new, short_names, is_short_
 use Rattle.go_scope_core.specs.open_core.declared.short.ShortName.{ShortName}
 use Rattle.go_scope_core.specs.open_core.declared.short.ShortName.TheVariants.{New, Old, Blank, Repeated}
 use Rattle.go_walk_core.specs.local_core.declared.Fault.{Fault}
-use Rattle.go_walk_core.specs.local_core.Faults.{fault_at, none_new_fault, spellings}
+use Rattle.go_walk_core.specs.local_core.Faults.{ident_fault, none_new_fault, spellings}
 use Rattle.go_names_core.specs.declared.declaring.NewNames.{NewNames}
-use Rattle.go_walk_core.specs.local_core.Steps.{Manner, EachFirst, OneNew}
+use Rattle.go_walk_core.specs.local_core.Steps.{Newness, EachFirst, OneNew}
 
 -- names before `:=`, or others
-abbrev pub manner_of : Bool → Manner
+abbrev pub manner_of : Bool → Newness
 manner_of true = OneNew
 manner_of false = EachFirst
 
@@ -25,7 +25,7 @@ is_second is_short Repeated = true
 abbrev pub faults_of_second : Bool → List ShortName → List Ident → List Fault
 faults_of_second is_short [] xs = []
 faults_of_second is_short (s ∷ shorts) [] = []
-faults_of_second is_short (s ∷ shorts) (x ∷ xs) = (if is_second is_short s then fault_at x B1 ∷ [] else []) ++ faults_of_second is_short shorts xs
+faults_of_second is_short (s ∷ shorts) (x ∷ xs) = (if is_second is_short s then ident_fault x B1 ∷ [] else []) ++ faults_of_second is_short shorts xs
 
 abbrev pub found_faults : Bool → List ShortName → List Ident → List Fault
 found_faults true shorts xs = none_new_fault (any_new shorts) xs ++ faults_of_second true shorts xs

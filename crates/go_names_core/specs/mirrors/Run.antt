@@ -6,7 +6,7 @@ use Rattle.go_walk_core.specs.local_core.Steps.{Steps, Done, Check, Declare, Inn
 use Rattle.go_walk_core.specs.local_core.Law.{Rules}
 use Rattle.go_names_core.specs.declared.meaning.Outside.{Outside}
 use Rattle.go_names_core.specs.Body.{each_means}
-use Rattle.go_names_core.specs.Scenes.{Scene, scene, look_at, entered, news_at, locals_declared}
+use Rattle.go_names_core.specs.Scenes.{NameScene, name_scene, look_at, entered, news_at, locals_declared}
 
 -- what is noted by the rules, and the faults of names
 pub record Noted (N : Type 0) : Type 0 where
@@ -31,11 +31,11 @@ ran n ms = record { noted = n; locals = ms }
 abbrev pub before : {X N : Type 0} → Noted N → Ran X N → Ran X N
 before n r = ran (also n r.noted) r.locals
 
-abbrev pub run : {X N : Type 0} → Rules X N → (Outside → X) → Scene X → Steps → Ran X N
+abbrev pub run : {X N : Type 0} → Rules X N → (Outside → X) → NameScene X → Steps → Ran X N
 run rules outside s Done = ran (noted [] []) s.locals
 run rules outside s (Check p rest) = before (noted (rules.notes (look_at outside s) [] p) []) (run rules outside s rest)
 run rules outside s (Declare m from p xs rest) =
     before (noted (rules.notes (look_at outside s) (news_at s xs) p) (name_faults m (news_at s xs) xs))
     (run rules outside (locals_declared s xs (each_means (rules.means (look_at outside s) (news_at s xs) p) 0 xs)) rest)
 run rules outside s (Inner o c steps rest) =
-    before (run rules outside (entered s) steps).noted (run rules outside (scene s.scopes (run rules outside (entered s) steps).locals) rest)
+    before (run rules outside (entered s) steps).noted (run rules outside (name_scene s.scopes (run rules outside (entered s) steps).locals) rest)

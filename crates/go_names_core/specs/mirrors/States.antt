@@ -6,7 +6,7 @@ use Rattle.go_walk_core.specs.local_core.declared.Fault.{Fault}
 use Rattle.go_walk_core.specs.local_core.Steps.{Steps}
 use Rattle.go_walk_core.specs.local_core.Law.{Rules}
 use Rattle.go_names_core.specs.declared.meaning.Outside.{Outside}
-use Rattle.go_names_core.specs.Scenes.{Scene, scene, entered}
+use Rattle.go_names_core.specs.Scenes.{NameScene, name_scene, entered}
 use Rattle.go_names_core.specs.mirrors.Run.{Noted, noted, before, run}
 
 -- blocks of a function
@@ -15,15 +15,15 @@ Blocks = List (List (List ℕ × DeclId))
 
 pub record State (X N : Type 0) : Type 0 where
   pub rules : Rules X N
-  pub scene : Scene X
+  pub scene : NameScene X
   pub noted : Noted N
   pub lacks_memory : Bool
 
 abbrev pub state : {X N : Type 0} → Rules X N → ScopesModel → List X → List N → List Fault → Bool → State X N
-state rules s ms ns fs lacks = record { rules = rules; scene = scene s ms; noted = noted ns fs; lacks_memory = lacks }
+state rules s ms ns fs lacks = record { rules = rules; scene = name_scene s ms; noted = noted ns fs; lacks_memory = lacks }
 
 -- the same blocks outside functions
-abbrev pub SameAround : {X : Type 0} → Scene X → Scene X → Type 0
+abbrev pub SameAround : {X : Type 0} → NameScene X → NameScene X → Type 0
 SameAround s t = (t.scopes.blocks ≡ s.scopes.blocks) × (t.scopes.file ≡ s.scopes.file)
 
 -- these steps, before further ones, lead from the first state to the second

@@ -11,7 +11,7 @@ use Rattle.go_tree_nodes.specs.declared.exprs.NextExpr.{NextExpr}
 use Rattle.go_tree_nodes.specs.Terminals.{Terminal}
 use Rattle.go_tree_nodes.specs.Trees.{ExprTree, ItemTrees, Separated, Select, Call}
 use Rattle.go_tree_nodes.specs.Heights.{height, exprs_height}
-use Rattle.go_tree_nodes.specs.Shapes.{key_of, shape, exprs_from}
+use Rattle.go_tree_nodes.specs.Shapes.{shape_key, shape, exprs_from}
 use Rattle.go_parse_types.specs.declared.stop.Stop.{Stop}
 use Rattle.go_parse_types.specs.mirrors.Giving.{Gives}
 use Rattle.go_parse_types.specs.mirrors.Marks.{Grammar, ◌>>=◌, Reading, MarkAhead, need, mark_at, name_at}
@@ -25,7 +25,7 @@ next_of after.Pick s rest = Pick s rest
 next_of after.Apply s rest = Apply s rest
 
 abbrev pub item_of : declared_item.Item → ItemTree × Option Span
-item_of i = ((key_of i.key, shape i.value), i.comma)
+item_of i = ((shape_key i.key, shape i.value), i.comma)
 
 -- an opening brace in front
 abbrev pub opens_here : List Terminal → Bool

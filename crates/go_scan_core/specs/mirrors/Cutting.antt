@@ -10,13 +10,13 @@ use Rattle.go_token_core.specs.declared.token.Token.{Token}
 use Rattle.go_token_core.specs.declared.token.LexFault.{LexFault}
 use Rattle.go_token_core.specs.declared.token.Comment.{Comment}
 use Rattle.go_token_core.specs.Characters.{first_passes}
-use Rattle.go_scan_core.specs.Parts.{Break, Gap, Note, Part, Word, comments_in, holds_line_end, span_between, semicolon_after, width}
+use Rattle.go_scan_core.specs.Parts.{Break, Gap, Note, TextPart, Word, comments_in, holds_line_end, span_between, semicolon_after, width}
 use Rattle.go_scan_core.specs.mirrors.Reading.{piece_at}
 
 abbrev pub fault_of : Rule → ℕ → LexFault
 fault_of rule offset = record { rule = rule; offset = offset }
 
-abbrev pub part_of : Piece → Span → List ℕ → Part
+abbrev pub part_of : Piece → Span → List ℕ → TextPart
 part_of Space place w = Gap
 part_of LineEnd place w = Break
 part_of (Lexeme kind) place w = Word (record { kind = kind; span = place })
@@ -26,18 +26,18 @@ abbrev pub with_front : {X E : Type 0} → List X → Result (List X) E → Resu
 with_front xs (Ok ys) = Ok (xs ++ ys)
 with_front xs (Err e) = Err e
 
-abbrev pub cut_next : Result (Piece × ℕ) (Rule × ℕ) → ℕ → List ℕ → (ℕ → Result (List Part) LexFault) → Result (List Part) LexFault
+abbrev pub cut_next : Result (Piece × ℕ) (Rule × ℕ) → ℕ → List ℕ → (ℕ → Result (List TextPart) LexFault) → Result (List TextPart) LexFault
 cut_next (Err x) start cs rest = Err (record { rule = x.0; offset = start + width (take x.1 cs) })
 cut_next (Ok x) start cs rest = with_front (part_of x.0 (span_between start (start + width (take x.1 cs))) (take x.1 cs) ∷ []) (rest (x.1 - 1))
 
 -- the pieces of the text behind its first `skip` characters, where it begins at this byte
-unfoldable pub cut : List ℕ → ℕ → ℕ → Result (List Part) LexFault
+unfoldable pub cut : List ℕ → ℕ → ℕ → Result (List TextPart) LexFault
 cut [] skip start = Ok []
 cut (c ∷ cs) (suc skip) start = cut cs skip (start + len_utf8 c)
 cut (c ∷ cs) zero start = cut_next (piece_at (c ∷ cs)) start (c ∷ cs) (λ skip. cut cs skip (start + len_utf8 c))
 
 -- the tokens of the pieces, where `last` is the last token so far of this line
-unfoldable pub close : Option Token → List Part → List Token
+unfoldable pub close : Option Token → List TextPart → List Token
 close last [] = semicolon_after last
 close last (Gap ∷ ps) = close last ps
 close last (Break ∷ ps) = semicolon_after last ++ close None ps
@@ -45,14 +45,14 @@ close last (Word t ∷ ps) = t ∷ close (Some t) ps
 close last (Note c true ∷ ps) = semicolon_after last ++ close None ps
 close last (Note c false ∷ ps) = close last ps
 
-abbrev pub closed : Option Token → Result (List Part) LexFault → Result (List Token) LexFault
+abbrev pub closed : Option Token → Result (List TextPart) LexFault → Result (List Token) LexFault
 closed last (Ok ps) = Ok (close last ps)
 closed last (Err fault) = Err fault
 
-abbrev pub remarked : Result (List Part) LexFault → Result (List Comment) LexFault
+abbrev pub remarked : Result (List TextPart) LexFault → Result (List Comment) LexFault
 remarked (Ok ps) = Ok (comments_in ps)
 remarked (Err fault) = Err fault
 
 -- the pieces of a text, behind a byte order mark at its start
-unfoldable pub parts_of : List ℕ → Result (List Part) LexFault
+unfoldable pub parts_of : List ℕ → Result (List TextPart) LexFault
 parts_of text = if first_passes (λ c. c == 65279) (chars text) then cut (drop 1 (chars text)) 0 3 else cut (chars text) 0 0

@@ -6,16 +6,16 @@ use Rattle.std.specs.Str.{bytes_eq, chars}
 use Rattle.go_text_core.specs.Text.{exported, SameId, is_blank}
 use Rattle.go_text_core.specs.declared.name.Name.{Name}
 use Rattle.go_term_core.specs.Terms.{Term}
-use Rattle.go_embed_core.specs.table_core.Entries.{Look}
-use Rattle.go_embed_core.specs.declared.member.Member.{Member}
-use Rattle.go_embed_core.specs.Owners.{Found, AFieldOf, AMethodOf, AnInterfaces, TheErrorMethod}
-use Rattle.go_embed_core.specs.OwnersShown.{found_shown, name_shown, package_shown}
-use Rattle.go_select_core.specs.declared.level.Reached.{Reached}
+use Rattle.go_level_core.specs.table_core.Entries.{EntryLook}
+use Rattle.go_level_core.specs.embed_core.declared.member.Member.{Member}
+use Rattle.go_level_core.specs.embed_core.Owners.{Found, AFieldOf, AMethodOf, AnInterfaces, TheErrorMethod}
+use Rattle.go_level_core.specs.embed_core.OwnersShown.{found_shown, name_shown, member_package_shown}
+use Rattle.go_level_core.specs.declared.level.Reached.{Reached}
 use Rattle.go_select_core.specs.declared.names.Known.{Known}
 use Rattle.go_select_core.specs.declared.names.Known.TheVariants.{One, More}
-use Rattle.go_select_core.specs.declared.search.Selected.{Selected}
-use Rattle.go_select_core.specs.Paths.{IsSelected}
-use Rattle.go_select_core.specs.Selectors.{IsFieldFound, IsSelectedAs}
+use Rattle.go_level_core.specs.declared.search.Selected.{Selected}
+use Rattle.go_level_core.specs.Paths.{IsSelected}
+use Rattle.go_level_core.specs.Selectors.{IsFieldFound, IsSelectedAs}
 use Rattle.go_select_core.specs.Selections.{IsSelectedBefore}
 use Rattle.go_select_core.specs.mirrors.Names.{Identifier, Key, names_shown, known_of, key_cmp}
 
@@ -62,16 +62,16 @@ IsShown true f = ⊤
 IsShown false f = IsFieldFound f
 
 -- all that selectors denote in a type, with fields alone or with methods too
-pub record AreSelectionsIn (look : Look) (t : Term) (by_pointer with_methods : Bool) (found : List Selected) : Type 0 where
+pub record AreSelectionsIn (look : EntryLook) (t : Term) (by_pointer with_methods : Bool) (found : List Selected) : Type 0 where
   pub rising : AllPairs IsSelectedBefore found
-  pub seen : (s : Selected) → Contains found s → (name from : List ℕ) → SameId (name_shown s.member) (package_shown s.member) name from
+  pub seen : (s : Selected) → Contains found s → (name from : List ℕ) → SameId (name_shown s.member) (member_package_shown s.member) name from
       → (is_blank name ≡ false) × IsSelectedAs look t by_pointer name from s × IsShown with_methods (found_shown s.member)
   pub whole : (name from path : List ℕ) (pointer : Bool) (f : Found) → is_blank name ≡ false → IsSelected look t name from path pointer f → IsShown with_methods f
-      → (s : Selected) × Contains found s × SameId (name_shown s.member) (package_shown s.member) name from
+      → (s : Selected) × Contains found s × SameId (name_shown s.member) (member_package_shown s.member) name from
 
 -- whether an identifier that is written in a package may name what is selected
 abbrev pub is_seen : List ℕ → Selected → Bool
-is_seen from s = exported (chars (name_shown s.member)) || bytes_eq (package_shown s.member) from
+is_seen from s = exported (chars (name_shown s.member)) || bytes_eq (member_package_shown s.member) from
 
 abbrev pub named_if : Bool → Selected → List (Name × Selected)
 named_if true s = (name_shown s.member, s) ∷ []

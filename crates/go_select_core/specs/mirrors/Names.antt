@@ -8,17 +8,17 @@ use Rattle.std.specs.Map.{lookup}
 use Rattle.std.specs.Str.{bytes_eq, chars}
 use Rattle.go_text_core.specs.Text.{exported}
 use Rattle.go_term_core.specs.Terms.{Term}
-use Rattle.go_embed_core.specs.table_core.Entries.{Look}
-use Rattle.go_embed_core.specs.declared.member.Member.{Member}
-use Rattle.go_embed_core.specs.Owners.{Found}
-use Rattle.go_embed_core.specs.OwnersShown.{found_shown, name_shown, package_shown}
-use Rattle.go_select_core.specs.declared.level.Reached.{Reached}
+use Rattle.go_level_core.specs.table_core.Entries.{EntryLook}
+use Rattle.go_level_core.specs.embed_core.declared.member.Member.{Member}
+use Rattle.go_level_core.specs.embed_core.Owners.{Found}
+use Rattle.go_level_core.specs.embed_core.OwnersShown.{found_shown, name_shown, member_package_shown}
+use Rattle.go_level_core.specs.declared.level.Reached.{Reached}
 use Rattle.go_select_core.specs.declared.names.Known.{Known}
 use Rattle.go_select_core.specs.declared.names.Known.TheVariants.{One, More}
 use Rattle.go_select_core.specs.declared.names.Names as declared_names
-use Rattle.go_select_core.specs.Paths.{IsSelected}
-use Rattle.go_select_core.specs.mirrors.Ways.{At}
-use Rattle.go_select_core.specs.mirrors.Levels.{IsNone, IsOnly, IsClash}
+use Rattle.go_level_core.specs.Paths.{IsSelected}
+use Rattle.go_level_core.specs.mirrors.Ways.{At}
+use Rattle.go_level_core.specs.mirrors.Levels.{IsNone, IsOnly, IsClash}
 
 -- an identifier: a name, with the path of the package where it is written unless it is exported
 abbrev pub Identifier : Type 0
@@ -28,7 +28,7 @@ abbrev pub identifier_of : List ℕ → List ℕ → Identifier
 identifier_of name home = (name, if exported (chars name) then [] else home)
 
 abbrev pub identifier_in : Member → Identifier
-identifier_in m = identifier_of (name_shown m) (package_shown m)
+identifier_in m = identifier_of (name_shown m) (member_package_shown m)
 
 -- as the code keeps it
 abbrev pub Key : Type 0
@@ -67,17 +67,17 @@ pub record AreNoted (old : List (Identifier × Known)) (first place : ℕ) (many
   pub others : (id : Identifier) → (identifier_in m ≡ id → ⊥) → known_of new id ≡ known_of old id
 
 -- what the types from a place on say of a name
-abbrev pub IsSaid : Look → List ℕ → List ℕ → List Reached → ℕ → Option Known → Type 0
+abbrev pub IsSaid : EntryLook → List ℕ → List ℕ → List Reached → ℕ → Option Known → Type 0
 IsSaid look name from types first None = IsNone look name from types first
 IsSaid look name from types first (Some (One n m)) = IsOnly look name from types first n (found_shown m)
 IsSaid look name from types first (Some More) = IsClash look name from types first
 
 -- what is known of a name before them stays
-abbrev pub IsSaidOrKnown : Look → List ℕ → List ℕ → List Reached → ℕ → Option Known → Option Known → Type 0
+abbrev pub IsSaidOrKnown : EntryLook → List ℕ → List ℕ → List Reached → ℕ → Option Known → Option Known → Type 0
 IsSaidOrKnown look name from types first None new = IsSaid look name from types first new
 IsSaidOrKnown look name from types first (Some known) new = new ≡ Some known
 
-abbrev pub AreSaid : Look → List Reached → ℕ → List (Identifier × Known) → List (Identifier × Known) → Type 0
+abbrev pub AreSaid : EntryLook → List Reached → ℕ → List (Identifier × Known) → List (Identifier × Known) → Type 0
 AreSaid look types first old new = (name from : List ℕ) → IsSaidOrKnown look name from types first (known_of old (identifier_of name from)) (known_of new (identifier_of name from))
 
 -- members that are known alone are of types before a place
@@ -88,16 +88,16 @@ AreBefore first ns = (id : Identifier) (n : ℕ) (m : Member) → known_of ns id
 abbrev pub AreNamed : List (Identifier × Known) → Type 0
 AreNamed ns = (id : Identifier) (n : ℕ) (m : Member) → known_of ns id ≡ Some (One n m) → identifier_in m ≡ id
 
-abbrev pub NothingSelected : Look → Term → List ℕ → List ℕ → Type 0
+abbrev pub NothingSelected : EntryLook → Term → List ℕ → List ℕ → Type 0
 NothingSelected look t name from = (path : List ℕ) (pointer : Bool) (f : Found) → IsSelected look t name from path pointer f → ⊥
 
 -- what is known of a name tells what it denotes
-abbrev pub IsKnown : Look → Term → List ℕ → List ℕ → List (List ℕ) → List Reached → Option Known → Type 0
+abbrev pub IsKnown : EntryLook → Term → List ℕ → List ℕ → List (List ℕ) → List Reached → Option Known → Type 0
 IsKnown look t name from paths types None = NothingSelected look t name from
 IsKnown look t name from paths types (Some (One n m)) = (r : Reached) × At types n r × IsSelected look t name from (get_or paths n []) r.pointer (found_shown m)
 IsKnown look t name from paths types (Some More) = NothingSelected look t name from
 
-pub record AreKnown (look : Look) (t : Term) (paths : List (List ℕ)) (types : List Reached) (ns : List (Identifier × Known)) : Type 0 where
+pub record AreKnown (look : EntryLook) (t : Term) (paths : List (List ℕ)) (types : List Reached) (ns : List (Identifier × Known)) : Type 0 where
   pub sized : length paths ≡ length types
   pub named : AreNamed ns
   pub each : (name from : List ℕ) → IsKnown look t name from paths types (known_of ns (identifier_of name from))

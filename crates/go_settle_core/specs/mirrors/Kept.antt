@@ -7,7 +7,7 @@ use Rattle.go_term_core.specs.declared.term.Method.{Method}
 use Rattle.go_term_core.specs.Shapes.{Line, line_with, line_at, sign_of}
 use Rattle.go_term_core.specs.Terms.{Fields, AField, Methods, AMethod}
 use Rattle.go_settle_core.specs.declared.kind.Kind.{Kind}
-use Rattle.go_settle_core.specs.Settled.{can_be_embedded, has_name, settled, settled_sign}
+use Rattle.go_settle_core.specs.Settled.{can_be_embedded, is_among_names, settled, settled_sign}
 
 -- whether a struct type keeps a field of this name, by whether the name is new
 abbrev pub keeps_field : List ℕ → Bool → Bool
@@ -20,7 +20,7 @@ keeps_method name is_new = not (is_blank name) && is_new
 -- which of these names behind others are kept
 abbrev pub kept_names : (List ℕ → Bool → Bool) → List (List ℕ) → List (List ℕ) → List Bool
 kept_names keeps seen [] = []
-kept_names keeps seen (name ∷ names) = keeps name (not (has_name seen name)) ∷ kept_names keeps (name ∷ seen) names
+kept_names keeps seen (name ∷ names) = keeps name (not (is_among_names seen name)) ∷ kept_names keeps (name ∷ seen) names
 
 abbrev pub kept_fields : List Field → List Bool
 kept_fields fs = kept_names keeps_field [] (map (λ f. f.name) fs)

@@ -2,15 +2,15 @@
 use Rattle.std.specs.Prelude.{◌≡◌, ◌↔◌, ◌<◌, ℕ, suc, List, [], ◌∷◌, ◌++◌, map, Option, Some, None, Result, Ok, Err, AllPairs, Contains}
 use Rattle.go_text_core.specs.declared.rule.Rule.{Rule}
 use Rattle.go_tree_nodes.specs.Trees.{FileTree}
-use Rattle.go_whole_core.specs.parse_core.declared.error.SynFault.{SynFault}
-use Rattle.go_whole_core.specs.graph_core.declared.assembly.KFault.{KFault}
-use Rattle.go_whole_core.specs.graph_core.Packages.{IsAssembly}
-use Rattle.go_whole_core.specs.graph_core.Sources.{SourceModel}
-use Rattle.go_whole_core.specs.graph_core.Workspaces.{PackageModel}
+use Rattle.go_make_core.specs.parse_core.declared.error.SynFault.{SynFault}
+use Rattle.go_make_core.specs.graph_core.declared.assembly.KFault.{KFault}
+use Rattle.go_make_core.specs.graph_core.Packages.{IsAssembly}
+use Rattle.go_make_core.specs.graph_core.Sources.{SourceModel}
+use Rattle.go_make_core.specs.graph_core.Workspaces.{PackageModel}
 use Rattle.go_emit_core.specs.expr_core.declared.things.Fault.{Fault}
-use Rattle.go_whole_core.specs.part_core.Parts.{ContentOf, FileOf}
+use Rattle.go_make_core.specs.part_core.Parts.{ContentOf, FileOf}
 use Rattle.go_snap_core.specs.declared.fault.PlacedFault.{PlacedFault}
-use Rattle.go_snap_core.specs.Faults.{ComesBefore, IsFault}
+use Rattle.go_snap_core.specs.Faults.{IsPlacedBefore, IsWorkspaceFault}
 
 abbrev pub fault_with : ℕ → ℕ → ℕ → Rule → PlacedFault
 fault_with number file offset rule = record { «package» = number; file = file; offset = offset; rule = rule }
@@ -56,5 +56,5 @@ AreOfPackage number p (Some c) faults = faults ≡ part_faults number 0 c.files
 
 -- exactly the faults of the packages in front of a number, in order
 pub record AreFaultsTo (ps : List PackageModel) (cs : List (Option ContentOf)) (number : ℕ) (faults : List PlacedFault) : Type 0 where
-  pub ordered : AllPairs ComesBefore faults
-  pub same : (f : PlacedFault) → Contains faults f ↔ ((f.«package» < number) × IsFault ps cs f)
+  pub ordered : AllPairs IsPlacedBefore faults
+  pub same : (f : PlacedFault) → Contains faults f ↔ ((f.«package» < number) × IsWorkspaceFault ps cs f)

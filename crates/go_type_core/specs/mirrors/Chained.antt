@@ -6,8 +6,8 @@ use Rattle.go_table_core.specs.settle_core.declared.kind.Kind.{Kind}
 use Rattle.go_table_core.specs.settle_core.declared.kind.Kind.TheVariants as kinds
 use Rattle.go_table_core.specs.settle_core.Settled.{kind_of_term, settled}
 use Rattle.go_term_core.specs.Terms.{Term, NoType, Predeclared, ErrorType, Defined, PointerTo, StructOf, InterfaceOf}
-use Rattle.go_table_core.specs.Entries.{Entry, Look, term_in}
-use Rattle.go_type_core.specs.Built.{base, IsNothing}
+use Rattle.go_table_core.specs.Entries.{Entry, EntryLook, term_in}
+use Rattle.go_type_core.specs.Built.{base, IsNoTypeHere}
 use Rattle.go_type_core.specs.mirrors.Numbers.{keys_of, number_of, term_at, IsTable}
 
 -- the number of the type of the package that a type names
@@ -42,7 +42,7 @@ is_no_type (StructOf path fs) = false
 is_no_type (InterfaceOf path ms) = false
 
 -- no type, or the name of another package's type that is none or is not known
-abbrev pub is_lacking : Look → Term → Bool
+abbrev pub is_lacking : EntryLook → Term → Bool
 is_lacking far NoType = true
 is_lacking far (Predeclared b) = false
 is_lacking far ErrorType = false
@@ -52,22 +52,22 @@ is_lacking far (StructOf path fs) = false
 is_lacking far (InterfaceOf path ms) = false
 
 -- a chain that ends here leads to what is no type
-abbrev pub is_bad_end : Look → List Bool → List Entry → ℕ → Bool
+abbrev pub is_bad_end : EntryLook → List Bool → List Entry → ℕ → Bool
 is_bad_end far looped written e = slice_index_or looped e false || is_lacking far (base (term_at written e))
 
-abbrev pub is_bad_at : Look → List Bool → List Entry → Option ℕ → Bool
+abbrev pub is_bad_at : EntryLook → List Bool → List Entry → Option ℕ → Bool
 is_bad_at far looped written None = false
 is_bad_at far looped written (Some e) = is_bad_end far looped written e
 
 -- whether the type with a number is none, by the ends of chains through names and stars
-abbrev pub nothing_at : Look → List Bool → List Entry → List (Option ℕ) → ℕ → Bool
+abbrev pub nothing_at : EntryLook → List Bool → List Entry → List (Option ℕ) → ℕ → Bool
 nothing_at far looped written ends i = is_bad_at far looped written (slice_index_or ends i None)
 
-abbrev pub AreNothing : List Entry → Look → List Bool → Type 0
-AreNothing written far marks = (i : ℕ) (w : Entry) → slice_get written i ≡ Some w → (slice_index_or marks i false ≡ true) ↔ IsNothing written far (Defined w.key)
+abbrev pub AreNothing : List Entry → EntryLook → List Bool → Type 0
+AreNothing written far marks = (i : ℕ) (w : Entry) → slice_get written i ≡ Some w → (slice_index_or marks i false ≡ true) ↔ IsNoTypeHere written far (Defined w.key)
 
 -- the kind of what is defined as another package's type, or by a type that is no name
-abbrev pub root_kind : Look → Term → Kind
+abbrev pub root_kind : EntryLook → Term → Kind
 root_kind far NoType = kinds.Nothing
 root_kind far (Predeclared b) = kinds.Other
 root_kind far ErrorType = kinds.Interface
@@ -77,7 +77,7 @@ root_kind far (StructOf path fs) = kinds.Other
 root_kind far (InterfaceOf path ms) = kinds.Interface
 
 -- the underlying type of such
-abbrev pub root_term : Look → (DeclKey → Kind) → Term → Term
+abbrev pub root_term : EntryLook → (DeclKey → Kind) → Term → Term
 root_term far kind NoType = NoType
 root_term far kind (Predeclared b) = Predeclared b
 root_term far kind ErrorType = ErrorType
@@ -103,11 +103,11 @@ term_unless true t = NoType
 term_unless false t = t
 
 -- the kind of the type with a number
-abbrev pub kind_at : Look → List Bool → List Entry → List (Option ℕ) → ℕ → Kind
+abbrev pub kind_at : EntryLook → List Bool → List Entry → List (Option ℕ) → ℕ → Kind
 kind_at far nothing written ends i = kind_unless (slice_index_or nothing i false) (root_kind far (term_at written (root_at ends i)))
 
 -- the underlying type of the type with a number
-abbrev pub under_at : Look → (DeclKey → Kind) → List Bool → List Entry → List (Option ℕ) → ℕ → Term
+abbrev pub under_at : EntryLook → (DeclKey → Kind) → List Bool → List Entry → List (Option ℕ) → ℕ → Term
 under_at far kind nothing written ends i = term_unless (slice_index_or nothing i false) (root_term far kind (term_at written (root_at ends i)))
 
 -- the kind of a defined type: by its number, where it is of the package, and else by what another package has of it
@@ -115,7 +115,7 @@ abbrev pub kind_by : List Kind → Option ℕ → Option Entry → Kind
 kind_by ks None e = kind_of_term (term_in e)
 kind_by ks (Some i) e = slice_index_or ks i kinds.Nothing
 
-abbrev pub known_kind : List DeclKey → List Kind → Look → DeclKey → Kind
+abbrev pub known_kind : List DeclKey → List Kind → EntryLook → DeclKey → Kind
 known_kind keys ks far k = kind_by ks (number_of keys k) (far k)
 
 -- the ends of the chains of names

@@ -9,11 +9,11 @@ use Rattle.go_term_core.specs.decl_core.declared.keys.DeclKey.{DeclKey}
 use Rattle.go_term_core.specs.decl_core.declared.keys.DeclRef.{DeclRef}
 use Rattle.go_term_core.specs.decl_core.declared.places.DeclKind.TheVariants as decl_kinds
 use Rattle.go_table_core.specs.settle_core.declared.kind.Kind.{Kind}
-use Rattle.go_table_core.specs.settle_core.Settled.{kind_of_term, has_name}
+use Rattle.go_table_core.specs.settle_core.Settled.{kind_of_term, is_among_names}
 use Rattle.go_term_core.specs.declared.term.TypeTerm.{TypeTerm}
 use Rattle.go_term_core.specs.Shapes.{shape}
 use Rattle.go_term_core.specs.Terms.{Term, NoType}
-use Rattle.go_table_core.specs.Entries.{Entry, Look, Member, find}
+use Rattle.go_table_core.specs.Entries.{Entry, EntryLook, Member, find_entry}
 use Rattle.go_table_core.specs.Methods.{has_field_before}
 use Rattle.go_type_core.specs.Built.{kept_over}
 use Rattle.go_type_core.specs.mirrors.Numbers.{term_at, IsTable}
@@ -36,14 +36,14 @@ no_entry = record { key = record { path = []; decl = no_ref }; name = []; term =
 abbrev pub entry_of : (DeclKey → Kind) → Term → Entry → Entry
 entry_of kind u w = record { key = w.key; name = w.name; term = u; methods = kept_over (kind_of_term u) kind w.key.path u w.methods }
 
-abbrev pub entry_at : Look → (DeclKey → Kind) → List Bool → List Entry → List (Option ℕ) → ℕ → Entry
+abbrev pub entry_at : EntryLook → (DeclKey → Kind) → List Bool → List Entry → List (Option ℕ) → ℕ → Entry
 entry_at far kind nothing written ends i = entry_of kind (under_at far kind nothing written ends i) (slice_index_or written i no_entry)
 
 -- methods
 
 -- a method is left out: it is blank, stands behind a field, or repeats a name that was seen
 abbrev pub is_left_out : List ℕ → Term → List (List ℕ) → Member → Bool
-is_left_out path u seen m = is_blank m.name || (has_name seen m.name || has_field_before path u m)
+is_left_out path u seen m = is_blank m.name || (is_among_names seen m.name || has_field_before path u m)
 
 abbrev pub seen_after : Bool → List ℕ → List (List ℕ) → List (List ℕ)
 seen_after true name seen = name ∷ seen
@@ -58,7 +58,7 @@ terms_of_arcs us = map (λ u. shape (arc_value u)) us
 abbrev pub is_root_at : List Bool → List (Option ℕ) → ℕ → Bool
 is_root_at nothing ends i = not (slice_index_or nothing i false) && nat_eq (root_at ends i) i
 
-abbrev pub own_term_at : Look → (DeclKey → Kind) → List Bool → List Entry → List (Option ℕ) → ℕ → Term
+abbrev pub own_term_at : EntryLook → (DeclKey → Kind) → List Bool → List Entry → List (Option ℕ) → ℕ → Term
 own_term_at far kind nothing written ends i = term_unless (not (is_root_at nothing ends i)) (root_term far kind (term_at written i))
 
 -- the underlying type of the type with a number, from those of roots
@@ -70,19 +70,19 @@ shared_entry_at kind nothing written ends us i = entry_of kind (shared_at nothin
 
 -- what is planned
 
-abbrev pub plan_far : Plan → Look
-plan_far p = find p.kinds.imported.now
+abbrev pub plan_far : Plan → EntryLook
+plan_far p = find_entry p.kinds.imported.now
 
 abbrev pub plan_kind : Plan → DeclKey → Kind
-plan_kind p = known_kind p.kinds.keys.now p.kinds.kinds.now (find p.kinds.imported.now)
+plan_kind p = known_kind p.kinds.keys.now p.kinds.kinds.now (find_entry p.kinds.imported.now)
 
 -- types that share the underlying types of roots
-abbrev pub AreShared : Look → (DeclKey → Kind) → List Bool → List (Option ℕ) → List Entry → List Entry → Type 0
+abbrev pub AreShared : EntryLook → (DeclKey → Kind) → List Bool → List (Option ℕ) → List Entry → List Entry → Type 0
 AreShared far kind nothing ends written types =
     (us : List Term) × IsTable us (length written) (own_term_at far kind nothing written ends) × IsTable types (length written) (shared_entry_at kind nothing written ends us)
 
 -- the types of a package as they are made where it is known which reach themselves: what is none, ends of chains of names and kinds first
-pub record IsMade (count : ℕ) (written : List Entry) (far : Look) (keys : List DeclKey) (looped : List Bool) (types : List Entry) : Type 0 where
+pub record IsMade (count : ℕ) (written : List Entry) (far : EntryLook) (keys : List DeclKey) (looped : List Bool) (types : List Entry) : Type 0 where
   pub nothing : List Bool
   pub ends : List (Option ℕ)
   pub ks : List Kind

@@ -11,10 +11,10 @@ use Rattle.go_piece_core.specs.denote_core.declared.things.Argument.{Argument}
 use Rattle.go_piece_core.specs.denote_core.declared.things.Argument.TheVariants as arguments
 use Rattle.go_piece_core.specs.denote_core.Arguments.{argument_of, arguments_of}
 use Rattle.go_piece_core.specs.statement_core.Declarations.{given_type}
-use Rattle.go_piece_core.specs.expr_core.Looks.{Looks, at}
+use Rattle.go_piece_core.specs.expr_core.Looks.{Looks, look_of_place}
 use Rattle.go_piece_core.specs.expr_core.Places.{start}
 use Rattle.go_piece_core.specs.expr_core.Denoting.{denoted}
-use Rattle.go_value_core.specs.Initial.{count, some_type, variable, constant_value, expr_of}
+use Rattle.go_value_core.specs.Initial.{spec_name_count, some_written_type, variable, constant_value, expr_of}
 
 -- the i-th of n values: refused where there are not as many
 abbrev pub one_of : {T : Type 0} → ℕ → ℕ → List (Argument T) → Argument T
@@ -32,11 +32,11 @@ is_alone (Some es) = is_one es.1
 -- what an expression gives to the i-th of n names, where it stands alone or is its own
 abbrev pub given_by : {T S D P : Type 0} → Looks T S D P → ℕ → ℕ → Bool → Option ExprTree → Argument T
 given_by looks n i alone None = arguments.Refused
-given_by looks n i true (Some e) = one_of n i (arguments_of (at looks (start e)) (denoted looks places.«Value» e ∷ []))
+given_by looks n i true (Some e) = one_of n i (arguments_of (look_of_place looks (start e)) (denoted looks places.«Value» e ∷ []))
 given_by looks n i false (Some e) = argument_of (denoted looks places.«Value» e)
 
 abbrev pub own_argument : {T S D P : Type 0} → Looks T S D P → ValueSpecTree → ℕ → Argument T
-own_argument looks v i = given_by looks (count v) i (is_alone v.values) (expr_of v i)
+own_argument looks v i = given_by looks (spec_name_count v) i (is_alone v.values) (expr_of v i)
 
 -- the type of a variable, by the type that is written and its value
 abbrev pub type_from : {T : Type 0} → TypeRules T → Option (Option T) → Argument T → Option T

@@ -16,7 +16,7 @@ use Rattle.go_tree_nodes.specs.declared.types.Fields as declared_fields
 use Rattle.go_tree_nodes.specs.declared.names.TextLiteral.{TextLiteral}
 use Rattle.go_term_core.specs.Terms.{Fields, NoField, AField, Methods, NoMethod, AMethod, Terms, NoTerm, ATerm}
 use Rattle.go_written_core.specs.Written.{Meaning, InFile, member_place, fields_of_tree}
-use Rattle.go_term_core.specs.Shapes.{Line, line_shape, fields_in, shape, params_of}
+use Rattle.go_term_core.specs.Shapes.{Line, line_shape, fields_in, shape, param_shapes}
 
 abbrev pub lines_of : List FieldLine → FieldTrees
 lines_of ls = shapes.fields_of ls
@@ -80,7 +80,7 @@ abbrev pub AreWritten : Fields → Body → Type 0
 AreWritten fs body = (fields_in (map line_shape body.lines.items) body.fields.items ≡ fs) × AreIn (length (map line_shape body.lines.items)) body.fields.items
 
 abbrev pub AreParams : Terms → Params → Type 0
-AreParams ts ps = (params_of ps ≡ ts) × AreBelow (length (map shape ps.terms.items)) ps.lines.items
+AreParams ts ps = (param_shapes ps ≡ ts) × AreBelow (length (map shape ps.terms.items)) ps.lines.items
 
 -- what is added behind others
 abbrev pub Adds : Body → Fields → Body → Type 0

@@ -6,7 +6,7 @@ use Rattle.go_tree_nodes.specs.Shapes.{file_of}
 use Rattle.go_decl_core.specs.Shown.{decl_shown}
 use Rattle.go_decl_core.specs.declared.tops.TopDecl.{TopDecl}
 use Rattle.go_block_core.specs.Declarations.{top_declared, file_declared}
-use Rattle.go_block_core.specs.Faults.{decl_faults}
+use Rattle.go_block_core.specs.Faults.{block_decl_faults}
 use Rattle.go_block_core.specs.Holding.{declared_block}
 use Rattle.go_block_core.specs.Tables.{table_of}
 use Rattle.go_block_core.proofs.BlockLemmas.{block_step, block_faults_step}
@@ -33,5 +33,5 @@ returns c =
     let all = ap (flat_map f) (take_all c.loop-top.top-index c.deref-top-items.result.now c.loop-top-test.false ∙ c.deref-top-items.ensures.value) ∙ (sym (flat_map-map (top_declared c.args.file) decl_shown c.in_ok-outline.outline.decls.items) ∙ ap (flat_map (top_declared c.args.file)) c.in_ok-outline.ensures.decls) in
     record {
       table = c.loop-top.invariant.0 ∙ ap (declared_block (table_of c.args.table.now)) all;
-      faults = c.loop-top.invariant.1 ∙ ap (λ ds. c.args.faults.now.items ++ decl_faults c.args.is_main (table_of c.args.table.now) ds) all;
+      faults = c.loop-top.invariant.1 ∙ ap (λ ds. c.args.faults.now.items ++ block_decl_faults c.args.is_main (table_of c.args.table.now) ds) all;
     }

@@ -2,7 +2,7 @@ use Rattle.std.proofs.Common.{◌≡◌, ◌++◌, [], ◌∷◌, sym, ap, ◌�
 use Rattle.std.proofs.lemmas.Result.{on_ok_weaker}
 use Rattle.go_decl_core.specs.Shown.{decl_shown}
 use Rattle.go_block_core.specs.Declarations.{top_declared}
-use Rattle.go_block_core.specs.Faults.{decl_faults}
+use Rattle.go_block_core.specs.Faults.{block_decl_faults}
 use Rattle.go_block_core.specs.Holding.{declared_block}
 use Rattle.go_block_core.specs.Tables.{table_of}
 use Rattle.go_block_core.specs.mirrors.Shown.{declaration_shown, declared_shown}
@@ -27,5 +27,5 @@ returns-in-None c =
     let none : [] ≡ top_declared c.args.file (decl_shown c.args.top.now) = sym (ap declared_shown c.in-None.is) ∙ c.declaration.ensures in
     record {
       table = ap (declared_block b) none;
-      faults = no_pieces c.args.faults.now.items ∙ ap (λ ds. c.args.faults.now.items ++ decl_faults c.args.is_main b ds) none;
+      faults = no_pieces c.args.faults.now.items ∙ ap (λ ds. c.args.faults.now.items ++ block_decl_faults c.args.is_main b ds) none;
     }

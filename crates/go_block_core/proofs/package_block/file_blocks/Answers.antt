@@ -2,7 +2,7 @@ use Rattle.std.proofs.Common.{◌≡◌, ◌++◌, length, map, take, ap, ◌∙
 use Rattle.std.proofs.lemmas.List.{take_all}
 use Rattle.go_block_core.specs.Tables.{table_of}
 use Rattle.go_block_core.specs.Holding.{file_blocks, imports_in}
-use Rattle.go_block_core.specs.Faults.{file_faults}
+use Rattle.go_block_core.specs.Faults.{block_file_faults}
 use Rattle.go_block_core.proofs.BlockLemmas.{faults_step, same_count, tables_step, file_faults_step}
 use Rattle.go_block_core.proofs.Pieces.{no_pieces}
 use Rattle.go_block_core.proofs.package_block.file_blocks.Goals as goal
@@ -27,5 +27,5 @@ returns c =
     let all = ap (map imports_in) (take_all c.loop-imports.imports-index c.deref-imports-items.result.now c.loop-imports-test.false ∙ c.deref-imports-items.ensures.value) in
     record {
       tables = c.loop-imports.invariant.0 ∙ ap file_blocks all;
-      faults = c.loop-imports.invariant.1 ∙ ap (λ files. c.args.faults.now.items ++ file_faults (table_of c.args.names.now) 0 files) all;
+      faults = c.loop-imports.invariant.1 ∙ ap (λ files. c.args.faults.now.items ++ block_file_faults (table_of c.args.names.now) 0 files) all;
     }

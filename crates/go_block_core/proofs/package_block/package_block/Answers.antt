@@ -4,7 +4,7 @@ use Rattle.go_tree_nodes.specs.Shapes.{file_of}
 use Rattle.go_graph_core.specs.Packages.{trees_of}
 use Rattle.go_graph_core.proofs.Assemblies.{as_many}
 use Rattle.go_block_core.specs.Declarations.{file_declared, files_declared}
-use Rattle.go_block_core.specs.Faults.{decl_faults}
+use Rattle.go_block_core.specs.Faults.{block_decl_faults}
 use Rattle.go_block_core.specs.Holding.{declared_block}
 use Rattle.go_block_core.proofs.BlockLemmas.{block_step, block_faults_step, main_of_name}
 use Rattle.go_block_core.proofs.DeclLemmas.{next_file}
@@ -37,6 +37,6 @@ returns c =
     let of_main = c.eq-is_main.ensures ∙ main_of_name ts c.name.result.now c.name.ensures in
     record {
       table = c.loop-file.invariant.0 ∙ ap (declared_block []) all;
-      faults = c.loop-file.invariant.1 ∙ (ap (λ ds. c.args.faults.now.items ++ decl_faults c.eq-is_main.result [] ds) all ∙ ap (λ main. c.args.faults.now.items ++ decl_faults main [] (files_declared 0 ts)) of_main);
+      faults = c.loop-file.invariant.1 ∙ (ap (λ ds. c.args.faults.now.items ++ block_decl_faults c.eq-is_main.result [] ds) all ∙ ap (λ main. c.args.faults.now.items ++ block_decl_faults main [] (files_declared 0 ts)) of_main);
       placed = placed_trees p.1 files.assembled.trees files.well.contents;
     }

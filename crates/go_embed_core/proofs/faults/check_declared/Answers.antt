@@ -4,7 +4,7 @@ use Rattle.go_text_core.specs.Text.{is_blank}
 use Rattle.go_text_core.specs.declared.rule.Rule.TheVariants as rules
 use Rattle.go_type_core.specs.table_core.Methods.{has_field_before}
 use Rattle.go_type_core.specs.table_core.Shown.{member_shown}
-use Rattle.go_embed_core.specs.Faults.{fault_if}
+use Rattle.go_embed_core.specs.Faults.{member_fault_if}
 use Rattle.go_embed_core.proofs.faults.check_declared.Goals as goal
 
 pub returns-clause-names : goal.returns-clause-names
@@ -14,6 +14,6 @@ pub returns-clause-faults : goal.returns-clause-faults
 returns-clause-faults c =
     let m = c.args.method.now in
     on_ok_weaker c.note_if.result
-    (λ e. e ∙ ap (λ b. c.args.faults.now.items ++ fault_if b m.place rules.B5)
+    (λ e. e ∙ ap (λ b. c.args.faults.now.items ++ member_fault_if b m.place rules.B5)
     (c.is_repeated.ensures ∙ ap (λ b. not (is_blank m.name) && b) (c.is_preceded-is_late.ensures ∙ ap (λ b. b || has_field_before c.args.path.now c.args.fields.now (member_shown m)) c.in_ok-is_met.ensures.before)))
     c.note_if.ensures

@@ -1,7 +1,7 @@
 use Rattle.std.proofs.Common.{not, ap, ◌∙◌}
 use Rattle.std.proofs.Math.Bool.{not-not}
-use Rattle.go_type_core.specs.settle_core.Settled.{has_name}
+use Rattle.go_type_core.specs.settle_core.Settled.{is_among_names}
 use Rattle.go_embed_core.proofs.faults.meet.Goals as goal
 
 pub returns-clause-before : goal.returns-clause-before
-returns-clause-before c = ap not c.in_ok-is_new.ensures.added ∙ (not-not (has_name c.args.passed.now c.as_str.result.now) ∙ ap (has_name c.args.passed.now) c.as_str.ensures)
+returns-clause-before c = ap not c.in_ok-is_new.ensures.added ∙ (not-not (is_among_names c.args.passed.now c.as_str.result.now) ∙ ap (is_among_names c.args.passed.now) c.as_str.ensures)

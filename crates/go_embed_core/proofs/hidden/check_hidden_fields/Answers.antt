@@ -1,6 +1,6 @@
 use Rattle.std.proofs.Common.{map, sym, ap, ◌∙◌}
 use Rattle.std.proofs.lemmas.Result.{IfOk-weaker}
-use Rattle.go_term_core.specs.Shapes.{shape, fields_in, lines_of}
+use Rattle.go_term_core.specs.Shapes.{shape, fields_in, line_shapes}
 use Rattle.go_term_core.proofs.TermShapes.{shape_struct}
 use Rattle.go_type_core.specs.table_core.Shown.{member_shown}
 use Rattle.go_embed_core.specs.Faults.{own_names, named_faults}
@@ -13,6 +13,6 @@ returns-then-is_home c =
     let path = c.args.path.now in
     let ms = map member_shown c.args.methods.now in
     IfOk-weaker c.hidden_fields.result _ _
-    (λ v e. e (lines_of w.field-2.items) ∙ (ap (λ l. named_faults (own_names path (shape c.args.underlying.now) ms) (fields_in (lines_of w.field-2.items) l)) c.deref.ensures.value
-    ∙ hidden_struct (lines_of w.field-2.items) path w.home w.fields.items (shape c.args.underlying.now) ms (ap shape w.is ∙ shape_struct w.home w.fields w.field-2) (sym c.is_home.ensures ∙ c.if-is_home.true)))
+    (λ v e. e (line_shapes w.field-2.items) ∙ (ap (λ l. named_faults (own_names path (shape c.args.underlying.now) ms) (fields_in (line_shapes w.field-2.items) l)) c.deref.ensures.value
+    ∙ hidden_struct (line_shapes w.field-2.items) path w.home w.fields.items (shape c.args.underlying.now) ms (ap shape w.is ∙ shape_struct w.home w.fields w.field-2) (sym c.is_home.ensures ∙ c.if-is_home.true)))
     c.hidden_fields.ensures

@@ -1,7 +1,7 @@
 use Rattle.std.proofs.Common.{ap, sym, ◌∙◌}
 use Rattle.std.specs.List.{list_any}
 use Rattle.std.specs.Str.{bytes_eq}
-use Rattle.go_term_core.specs.Shapes.{lines_of, shape}
+use Rattle.go_term_core.specs.Shapes.{line_shapes, shape}
 use Rattle.go_term_core.proofs.TermShapes.{shape_struct, shape_interface}
 use Rattle.go_embed_core.specs.Owners.{term_found, is_spelled_in}
 use Rattle.go_embed_core.specs.mirrors.Tallies.{nobody}
@@ -11,7 +11,7 @@ use Rattle.go_embed_core.proofs.member.is_spelled.Goals as goal
 pub returns-in-Struct : goal.returns-in-Struct
 returns-in-Struct c =
     let w = c.in-Struct in
-    c.is_field_spelled.ensures ∙ (ap (list_any (λ f. bytes_eq f.name c.args.name.now)) c.deref.ensures.value ∙ (fields_spelled (lines_of w.field-2.items) w.field-0 c.args.name.now w.fields.items ∙ ap (λ t. is_spelled_in (term_found nobody t) c.args.name.now) (sym (ap shape w.is ∙ shape_struct w.field-0 w.fields w.field-2))))
+    c.is_field_spelled.ensures ∙ (ap (list_any (λ f. bytes_eq f.name c.args.name.now)) c.deref.ensures.value ∙ (fields_spelled (line_shapes w.field-2.items) w.field-0 c.args.name.now w.fields.items ∙ ap (λ t. is_spelled_in (term_found nobody t) c.args.name.now) (sym (ap shape w.is ∙ shape_struct w.field-0 w.fields w.field-2))))
 
 pub returns-in-Interface : goal.returns-in-Interface
 returns-in-Interface c =

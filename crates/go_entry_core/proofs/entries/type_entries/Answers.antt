@@ -1,7 +1,7 @@
 use Rattle.std.proofs.Common.{[], map, take, refl, sym, ap, ◌∙◌, subst}
 use Rattle.go_term_core.specs.decl_core.Shown.{decl_shown}
 use Rattle.go_table_core.specs.Shown.{entry_shown}
-use Rattle.go_table_core.specs.Tables.{AreOf, Rise}
+use Rattle.go_table_core.specs.Tables.{AreOf, KeysRise}
 use Rattle.go_entry_core.specs.Entries.{entries_with, file_at, file_methods, package_meanings, package_methods}
 use Rattle.go_entry_core.specs.Outlines.{outline_shown}
 use Rattle.go_entry_core.specs.mirrors.Gaining.{all_gaining}
@@ -52,4 +52,4 @@ returns-clause-rising g c =
     let means = package_meanings (g.P.ImportedNames.shows c.args.imported.now) path c.args.blocks.now in
     let os = c.args.outlines.now in
     let all = entries_done means path os c.loop-file.file (entries_with means path [] (map outline_shown os)) (map entry_shown c.loop-file.entries.items) c.loop-file-test.false refl c.loop-file.invariant in
-    subst Rise (sym all) (entries_rise means path (package_methods means path (map outline_shown os)) (map outline_shown os) c.requires)
+    subst KeysRise (sym all) (entries_rise means path (package_methods means path (map outline_shown os)) (map outline_shown os) c.requires)

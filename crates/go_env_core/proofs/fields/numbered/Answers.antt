@@ -1,4 +1,4 @@
-use Rattle.go_term_core.specs.Shapes.{lines_of}
+use Rattle.go_term_core.specs.Shapes.{line_shapes}
 use Rattle.std.proofs.Common.{ap, sym, ◌∙◌}
 use Rattle.go_env_core.specs.Fields.{fields_seen}
 use Rattle.go_term_core.specs.Shapes.{fields_in}
@@ -10,5 +10,5 @@ use Rattle.go_env_core.proofs.fields.numbered.Goals as goal
 pub returns-in-None : goal.returns-in-None
 returns-in-None c s =
     let x = c.args.seen.now in
-    listed_numbered s x.home.now (lines_of x.lines.now) x.fields.now c.args.at c.item.result c.item.ensures
-    ∙ ap (λ h. slice_get (fields_seen s (hider_shown h) x.home.now (fields_in (lines_of x.lines.now) x.fields.now)) c.args.at) (sym c.in-None.is)
+    listed_numbered s x.home.now (line_shapes x.lines.now) x.fields.now c.args.at c.item.result c.item.ensures
+    ∙ ap (λ h. slice_get (fields_seen s (hider_shown h) x.home.now (fields_in (line_shapes x.lines.now) x.fields.now)) c.args.at) (sym c.in-None.is)

@@ -1,7 +1,7 @@
 use Rattle.std.proofs.Common.{rules, ◌≡◌, ◌++◌, [], ◌∷◌, ◌<◌, length, get_or, refl, ap, subst, ◌∙◌}
 use Rattle.std.proofs.lemmas.List.{map-append}
 use Rattle.go_tree_nodes.specs.declared.exprs.«Item» as declared_item
-use Rattle.go_tree_nodes.specs.Shapes.{shape, items_of, key_of}
+use Rattle.go_tree_nodes.specs.Shapes.{shape, items_of, shape_key}
 use Rattle.go_literal_core.specs.denote_core.declared.things.Place.TheVariants as places
 use Rattle.go_expr_core.specs.Places.{start}
 use Rattle.go_expr_core.specs.Looks.{everywhere}
@@ -55,7 +55,7 @@ check_each-loop-at-preserved g t c =
 pub check_element-returns-clause-faults : goal.check_element-returns-clause-faults
 check_element-returns-clause-faults g t c =
     let looks = everywhere (g.E.TypeLooks.types c.args.env.now) (g.E.Names.names c.args.env.now) (g.E.Literals.literals c.args.env.now) (g.E.Exprs.written c.args.env.now) in
-    element_noted c.note_misfit.result looks c.args.t.now c.args.mode c.args.mixed c.args.number c.args.mark (key_of c.args.key.now) (shape c.args.value.now) c.item_start.result c.element_target-wanted.result c.in_ok-by_key.by_key c.in_ok-denoted.denoted _ _ _
+    element_noted c.note_misfit.result looks c.args.t.now c.args.mode c.args.mixed c.args.number c.args.mark (shape_key c.args.key.now) (shape c.args.value.now) c.item_start.result c.element_target-wanted.result c.in_ok-by_key.by_key c.in_ok-denoted.denoted _ _ _
     c.in_ok-denoted.ensures.faults c.item_start.ensures c.in_ok-by_key.ensures.target c.element_target-wanted.ensures c.in_ok-denoted.ensures.denoted (c.note_misfit.ensures (start (shape c.args.value.now)))
 
 pub check_elements-returns-clause-faults : goal.check_elements-returns-clause-faults

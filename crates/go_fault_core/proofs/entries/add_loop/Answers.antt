@@ -6,19 +6,19 @@ use Rattle.std.proofs.lemmas.Result.{on_ok_weaker}
 use Rattle.go_embed_core.specs.table_core.Shown.{entry_shown}
 use Rattle.go_embed_core.specs.type_core.Steps.{entry_read}
 use Rattle.go_entry_core.specs.Outlines.{outline_shown}
-use Rattle.go_fault_core.specs.TypeFaults.{loop_fault}
+use Rattle.go_fault_core.specs.TypeFaults.{type_loop_fault}
 use Rattle.go_fault_core.proofs.entries.add_loop.Goals as goal
 
 pub returns-in-None : goal.returns-in-None
 returns-in-None c =
     let past = slice_get_past c.args.entries.now c.args.fault.entry c.in-None.ensures.lookup.3 in
     sym (append-nil c.args.faults.now.items)
-    ∙ ap (λ o. c.args.faults.now.items ++ loop_fault (map outline_shown c.args.outlines.now) c.args.fault o) (sym (slice_get-map entry_shown c.args.entries.now c.args.fault.entry ∙ ap (option_map entry_shown) past))
+    ∙ ap (λ o. c.args.faults.now.items ++ type_loop_fault (map outline_shown c.args.outlines.now) c.args.fault o) (sym (slice_get-map entry_shown c.args.entries.now c.args.fault.entry ∙ ap (option_map entry_shown) past))
 
 pub returns-in-Some : goal.returns-in-Some
 returns-in-Some c =
     let w = c.in-Some in
     let read = entry_read c.args.entries.now c.args.fault.entry w.entry.now w.ensures.lookup.3.0 w.ensures.lookup.1 in
     on_ok_weaker c.add_fault.result
-    (λ e. e ∙ ap (λ o. c.args.faults.now.items ++ loop_fault (map outline_shown c.args.outlines.now) c.args.fault o) (sym read))
+    (λ e. e ∙ ap (λ o. c.args.faults.now.items ++ type_loop_fault (map outline_shown c.args.outlines.now) c.args.fault o) (sym read))
     c.add_fault.ensures

@@ -3,8 +3,8 @@ use Rattle.std.specs.Prelude.{slice_get}
 use Rattle.std.specs.List.{flat_map}
 use Rattle.go_embed_core.specs.table_core.Shown.{entry_shown}
 use Rattle.go_entry_core.specs.Outlines.{outline_shown}
-use Rattle.go_fault_core.specs.TypeFaults.{loop_fault}
+use Rattle.go_fault_core.specs.TypeFaults.{type_loop_fault}
 use Rattle.go_fault_core.proofs.entries.add_loops.Given as goal
 
 abbrev pub invariant-loop-fault : goal.invariant-loop-fault
-invariant-loop-fault l = l.faults.items ≡ l.fn.faults.items ++ flat_map (λ f. loop_fault (map outline_shown l.outlines) f (slice_get (map entry_shown l.entries) f.entry)) (map (λ f. f) (take l.fault-index l.loops))
+invariant-loop-fault l = l.faults.items ≡ l.fn.faults.items ++ flat_map (λ f. type_loop_fault (map outline_shown l.outlines) f (slice_get (map entry_shown l.entries) f.entry)) (map (λ f. f) (take l.fault-index l.loops))

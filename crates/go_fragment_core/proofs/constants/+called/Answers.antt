@@ -1,13 +1,13 @@
 use Rattle.std.proofs.Common.{sym, ap}
-use Rattle.go_fragment_core.specs.Names.{called}
+use Rattle.go_fragment_core.specs.Names.{callee_meaning}
 use Rattle.go_fragment_core.proofs.Forms.{call_form, literal_form, struct_form}
 use Rattle.go_fragment_core.proofs.constants.+called.Goals as goal
 
 pub returns-in-Call : goal.returns-in-Call
-returns-in-Call g t c = sym (ap (called (g.N.CodeNames.looks c.args.names.now)) (call_form c.args.callee.now c.in-Call.field-0 c.in-Call.is))
+returns-in-Call g t c = sym (ap (callee_meaning (g.N.CodeNames.looks c.args.names.now)) (call_form c.args.callee.now c.in-Call.field-0 c.in-Call.is))
 
 pub returns-in-Literal : goal.returns-in-Literal
-returns-in-Literal g t c = sym (ap (called (g.N.CodeNames.looks c.args.names.now)) (literal_form c.args.callee.now c.in-Literal.field-0 c.in-Literal.is))
+returns-in-Literal g t c = sym (ap (callee_meaning (g.N.CodeNames.looks c.args.names.now)) (literal_form c.args.callee.now c.in-Literal.field-0 c.in-Literal.is))
 
 pub returns-in-StructLiteral : goal.returns-in-StructLiteral
-returns-in-StructLiteral g t c = sym (ap (called (g.N.CodeNames.looks c.args.names.now)) (struct_form c.args.callee.now c.in-StructLiteral.field-0 c.in-StructLiteral.is))
+returns-in-StructLiteral g t c = sym (ap (callee_meaning (g.N.CodeNames.looks c.args.names.now)) (struct_form c.args.callee.now c.in-StructLiteral.field-0 c.in-StructLiteral.is))

@@ -2,7 +2,7 @@ use Rattle.std.proofs.Common.{sym, ap, ◌∙◌}
 use Rattle.go_tree_nodes.specs.Shapes.{shape, items_of}
 use Rattle.go_tree_nodes.specs.declared.exprs.CallExpr.{out-CallExpr}
 use Rattle.go_fragment_core.specs.Constants.{converted, folded, folded_one}
-use Rattle.go_fragment_core.specs.Names.{called}
+use Rattle.go_fragment_core.specs.Names.{callee_meaning}
 use Rattle.go_fragment_core.proofs.Forms.{call_form, literal_form, struct_form}
 use Rattle.go_fragment_core.proofs.Loops.{several}
 use Rattle.go_fragment_core.proofs.constants.+folding.Goals as goal
@@ -12,9 +12,9 @@ folded-returns-in_ok-value-in-Call g t c =
     let looks = g.N.CodeNames.looks c.args.frame.now.names.now in
     c.convert.ensures
     ∙ (ap (λ m. converted m c.in_ok-value-in-Call.value) c.called.ensures
-    ∙ (ap (λ v. converted (called looks (shape (out-CallExpr c.deref-in-Call-2.result.now).callee)) v) c.in_ok-value-in-Call.ensures
-    ∙ (ap (λ x. converted (called looks (shape (out-CallExpr x).callee)) (folded_one looks (items_of (out-CallExpr c.deref-in-Call.result.now).args.items))) c.deref-in-Call-2.ensures
-    ∙ (ap (λ x. converted (called looks (shape (out-CallExpr c.in-Call.call.value).callee)) (folded_one looks (items_of (out-CallExpr x).args.items))) c.deref-in-Call.ensures
+    ∙ (ap (λ v. converted (callee_meaning looks (shape (out-CallExpr c.deref-in-Call-2.result.now).callee)) v) c.in_ok-value-in-Call.ensures
+    ∙ (ap (λ x. converted (callee_meaning looks (shape (out-CallExpr x).callee)) (folded_one looks (items_of (out-CallExpr c.deref-in-Call.result.now).args.items))) c.deref-in-Call-2.ensures
+    ∙ (ap (λ x. converted (callee_meaning looks (shape (out-CallExpr c.in-Call.call.value).callee)) (folded_one looks (items_of (out-CallExpr x).args.items))) c.deref-in-Call.ensures
     ∙ sym (ap (folded looks) (call_form c.args.expr.now c.in-Call.call c.in-Call.is))))))
 
 pub folded-returns-in-Literal : goal.folded-returns-in-Literal

@@ -1,13 +1,13 @@
 use Rattle.std.proofs.Common.{sym, ap}
-use Rattle.go_fragment_core.specs.Names.{frame_of, target_of}
+use Rattle.go_fragment_core.specs.Names.{frame_of, slot_assigned}
 use Rattle.go_fragment_core.proofs.Forms.{call_form, literal_form, struct_form}
 use Rattle.go_fragment_core.proofs.targets.+target_of.Goals as goal
 
 pub returns-in-Call : goal.returns-in-Call
-returns-in-Call g t c = sym (ap (target_of (frame_of (g.N.CodeNames.looks c.args.frame.now.names.now) c.args.frame.now.slots.now)) (call_form c.args.expr.now c.in-Call.field-0 c.in-Call.is))
+returns-in-Call g t c = sym (ap (slot_assigned (frame_of (g.N.CodeNames.looks c.args.frame.now.names.now) c.args.frame.now.slots.now)) (call_form c.args.expr.now c.in-Call.field-0 c.in-Call.is))
 
 pub returns-in-Literal : goal.returns-in-Literal
-returns-in-Literal g t c = sym (ap (target_of (frame_of (g.N.CodeNames.looks c.args.frame.now.names.now) c.args.frame.now.slots.now)) (literal_form c.args.expr.now c.in-Literal.field-0 c.in-Literal.is))
+returns-in-Literal g t c = sym (ap (slot_assigned (frame_of (g.N.CodeNames.looks c.args.frame.now.names.now) c.args.frame.now.slots.now)) (literal_form c.args.expr.now c.in-Literal.field-0 c.in-Literal.is))
 
 pub returns-in-StructLiteral : goal.returns-in-StructLiteral
-returns-in-StructLiteral g t c = sym (ap (target_of (frame_of (g.N.CodeNames.looks c.args.frame.now.names.now) c.args.frame.now.slots.now)) (struct_form c.args.expr.now c.in-StructLiteral.field-0 c.in-StructLiteral.is))
+returns-in-StructLiteral g t c = sym (ap (slot_assigned (frame_of (g.N.CodeNames.looks c.args.frame.now.names.now) c.args.frame.now.slots.now)) (struct_form c.args.expr.now c.in-StructLiteral.field-0 c.in-StructLiteral.is))

@@ -3,14 +3,14 @@ use Rattle.std.proofs.lemmas.Result.{IfOk-weaker}
 use Rattle.go_term_core.specs.decl_core.Shown.{decl_shown}
 use Rattle.go_inline_core.specs.Trees.{outline_types}
 use Rattle.go_inline_core.specs.Inline.{inlines}
-use Rattle.go_inline_core.specs.Functions.{kinds_in, file_in, top_in}
+use Rattle.go_inline_core.specs.Functions.{kinds_in_ground, file_in, top_in}
 use Rattle.go_inline_core.specs.mirrors.Gathering.{kept}
 use Rattle.go_inline_core.proofs.Found.{listed_alike, listed_placed}
 use Rattle.go_inline_core.proofs.function.initialiser_types.Goals as goal
 
 pub returns-clause-listed : goal.returns-clause-listed
 returns-clause-listed g c =
-    let kind = kinds_in c.args.ground.now in
+    let kind = kinds_in_ground c.args.ground.now in
     let file = file_in c.args.ground.now in
     let top = top_in g.P.ImportedNames.shows c.args.ground.now in
     let ds = map decl_shown c.args.decls.now in
@@ -18,7 +18,7 @@ returns-clause-listed g c =
 
 pub returns-clause-placed : goal.returns-clause-placed
 returns-clause-placed g c =
-    let kind = kinds_in c.args.ground.now in
+    let kind = kinds_in_ground c.args.ground.now in
     let file = file_in c.args.ground.now in
     let top = top_in g.P.ImportedNames.shows c.args.ground.now in
     let ds = map decl_shown c.args.decls.now in

@@ -1,6 +1,6 @@
 use Rattle.std.proofs.Common.{◌≡◌, map, length, ap, sym, ◌∙◌, subst}
 use Rattle.std.specs.Prelude.{IfOk}
-use Rattle.go_value_core.specs.needs_core.Needs.{AllInside, AreValues, rows_of}
+use Rattle.go_value_core.specs.needs_core.Needs.{NeedsAreInside, AreValues, rows_of}
 use Rattle.go_value_core.specs.face_core.Faces.{TheFace}
 use Rattle.go_value_core.specs.env_core.Scenes.{scene_shown}
 use Rattle.go_value_core.specs.entry_core.Outlines.{outline_shown}
@@ -12,7 +12,7 @@ pub values_of-requires-clause-inside : goal.values_of-requires-clause-inside
 values_of-requires-clause-inside c =
     let s = scene_shown c.args.scene.now in
     let ds = map placed_shown c.in_ok-decls.decls.items in
-    subst AllInside (sym (ap rows_of c.deref-3.ensures.value ∙ (c.in_ok-needs.ensures ∙ ap (λ l. package_needs s (map placed_shown l)) c.deref.ensures.value)))
+    subst NeedsAreInside (sym (ap rows_of c.deref-3.ensures.value ∙ (c.in_ok-needs.ensures ∙ ap (λ l. package_needs s (map placed_shown l)) c.deref.ensures.value)))
     (all_inside s ds (c.requires.written ∙ sym (ap length c.in_ok-decls.ensures)))
 
 pub values_of-requires-clause-rows : goal.values_of-requires-clause-rows

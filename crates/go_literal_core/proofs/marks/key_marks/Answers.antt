@@ -1,7 +1,7 @@
 use Rattle.std.proofs.Common.{◌≡◌, ℕ, List, map, ap, subst, ◌∙◌}
 use Rattle.std.specs.Prelude.{IfOk}
 use Rattle.go_literal_core.specs.Repeats.{repeats}
-use Rattle.go_literal_core.specs.Marks.{number_from, type_fields, made_mark}
+use Rattle.go_literal_core.specs.Marks.{name_number_from, type_fields, made_mark}
 use Rattle.go_literal_core.specs.declared.things.KeyMark.{KeyMark}
 use Rattle.go_literal_core.specs.mirrors.Numbers.{number_of, mark_by, searched_mark}
 use Rattle.go_literal_core.proofs.marks.key_marks.Goals as goal
@@ -12,7 +12,7 @@ returns-then-names-lt-TABLE_FROM g c =
     let fields = type_fields (g.E.Literals.literals c.args.env.now) c.args.t.now in
     let again = map (λ n. n.now) c.in_ok-again.again.keys in
     let found = map (λ n. n.now) c.in_ok-fields.fields.items in
-    let same : searched_mark again found ≡ (λ n. made_mark fields (repeats n names) n) = λ i n. record { is_repeated = c.in_ok-again.ensures n i; field = number_from 0 (c.in_ok-fields.ensures i) n } in
+    let same : searched_mark again found ≡ (λ n. made_mark fields (repeats n names) n) = λ i n. record { is_repeated = c.in_ok-again.ensures n i; field = name_number_from 0 (c.in_ok-fields.ensures i) n } in
     subst (λ (f : List ℕ → KeyMark). IfOk c.search_each.result (λ all. all.items ≡ map f names)) same c.search_each.ensures
 
 pub returns : goal.returns
@@ -21,6 +21,6 @@ returns g c =
     let fields = type_fields (g.E.Literals.literals c.args.env.now) c.args.t.now in
     let again = map (λ n. n.now) c.in_ok-again.again.keys in
     let entries = c.in_ok-numbers.numbers.entries in
-    let numbered : (n : List ℕ) → number_of entries n ≡ number_from 0 (map (λ f. f.name) fields) n = λ n. c.in_ok-numbers.ensures n ∙ ap (λ l. number_from 0 l n) c.in_ok-fields.ensures in
+    let numbered : (n : List ℕ) → number_of entries n ≡ name_number_from 0 (map (λ f. f.name) fields) n = λ n. c.in_ok-numbers.ensures n ∙ ap (λ l. name_number_from 0 l n) c.in_ok-fields.ensures in
     let same : mark_by again entries ≡ (λ n. made_mark fields (repeats n names) n) = λ i n. record { is_repeated = c.in_ok-again.ensures n i; field = numbered n i } in
     subst (λ (f : List ℕ → KeyMark). IfOk c.mark_each.result (λ all. all.items ≡ map f names)) same c.mark_each.ensures

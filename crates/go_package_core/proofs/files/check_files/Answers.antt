@@ -9,8 +9,8 @@ use Rattle.go_term_core.specs.decl_core.Shown.{decl_shown}
 use Rattle.go_answer_core.specs.entry_core.Outlines.{outline_shown}
 use Rattle.go_answer_core.specs.face_core.Laws.{package_decls}
 use Rattle.go_known_core.specs.env_core.Scenes.{scene_shown}
-use Rattle.go_ready_core.specs.Inlines.{AreFunctionTypes, types_stand}
-use Rattle.go_ready_core.specs.Packages.{outlines_in, package_in}
+use Rattle.go_ready_core.specs.Inlines.{AreOutlinedTypes, types_stand}
+use Rattle.go_ready_core.specs.Packages.{outlines_in, package_in_shown}
 use Rattle.go_package_core.specs.Checked.{IsFileChecked, answers_shown}
 use Rattle.go_package_core.proofs.Numbered.{zip_length}
 use Rattle.go_package_core.proofs.Stages.{initial_many}
@@ -19,7 +19,7 @@ use Rattle.go_package_core.proofs.files.check_files.Goals as goal
 
 pub loop-file-init : goal.loop-file-init
 loop-file-init g c =
-    let p = package_in g.P.ImportedNames.shows c.args.at.now in
+    let p = package_in_shown g.P.ImportedNames.shows c.args.at.now in
     let d = c.args.declared.now in
     record {
       files = subst (λ l. AllZip (IsFileChecked p c.args.scene.now.types.now d.known.items c.args.type_faults.now d.looped.items) [] (map answers_shown l)) (sym c.new-files.ensures.items) tt;
@@ -28,7 +28,7 @@ loop-file-init g c =
 
 pub index-requires : goal.index-requires
 index-requires g c =
-    let p = package_in g.P.ImportedNames.shows c.args.at.now in
+    let p = package_in_shown g.P.ImportedNames.shows c.args.at.now in
     let lt = c.loop-file-test.true in
     let many = initial_many p c.args.scene.now.types.now c.args.ready.now.initial.items (map outline_shown c.args.outlines.now) c.requires.ready.initial c.requires.outlines in
     let outlines = length-map c.args.outlines.now outline_shown in
@@ -37,11 +37,11 @@ index-requires g c =
 
 pub index-requires-in-loop-file : goal.index-requires-in-loop-file
 index-requires-in-loop-file g c =
-    let p = package_in g.P.ImportedNames.shows c.args.at.now in
+    let p = package_in_shown g.P.ImportedNames.shows c.args.at.now in
     let types = c.args.scene.now.types.now in
     let lt = c.loop-file-test.true in
     let fs = c.args.ready.now.functions.items in
-    let zip = zip_length (λ o of_file. AreFunctionTypes (types_stand p types o) o.1 of_file) (enumerate_from 0 (outlines_in p)) (map (λ of_file. of_file.items) fs) c.requires.ready.functions in
+    let zip = zip_length (λ o of_file. AreOutlinedTypes (types_stand p types o) o.1 of_file) (enumerate_from 0 (outlines_in p)) (map (λ of_file. of_file.items) fs) c.requires.ready.functions in
     let shown = length-map fs (λ of_file. of_file.items) in
     let numbered = length-enumerate_from 0 (outlines_in p) in
     let outlines = sym (ap length c.requires.outlines) ∙ length-map c.args.outlines.now outline_shown in
@@ -50,7 +50,7 @@ index-requires-in-loop-file g c =
 
 pub tree-requires : goal.tree-requires
 tree-requires g c =
-    let p = package_in g.P.ImportedNames.shows c.args.at.now in
+    let p = package_in_shown g.P.ImportedNames.shows c.args.at.now in
     let lt = c.loop-file-test.true in
     let sources = c.args.at.now.package.now.1 in
     let many = as_many_trees p c.args.outlines.now c.requires.outlines in
@@ -60,7 +60,7 @@ tree-requires g c =
 
 pub file_answers-requires-clause-initial : goal.file_answers-requires-clause-initial
 file_answers-requires-clause-initial g c =
-    let p = package_in g.P.ImportedNames.shows c.args.at.now in
+    let p = package_in_shown g.P.ImportedNames.shows c.args.at.now in
     let types = c.args.scene.now.types.now in
     let n = c.loop-file.file in
     let outline = c.index-outlines-file.result in
@@ -77,7 +77,7 @@ file_answers-requires-clause-initial g c =
 
 pub file_answers-requires-clause-functions : goal.file_answers-requires-clause-functions
 file_answers-requires-clause-functions g c =
-    let p = package_in g.P.ImportedNames.shows c.args.at.now in
+    let p = package_in_shown g.P.ImportedNames.shows c.args.at.now in
     let types = c.args.scene.now.types.now in
     let n = c.loop-file.file in
     let outline = c.index-outlines-file.result in
@@ -90,7 +90,7 @@ file_answers-requires-clause-functions g c =
 
 pub overflow_add-first : goal.overflow_add-first
 overflow_add-first g c =
-    let p = package_in g.P.ImportedNames.shows c.args.at.now in
+    let p = package_in_shown g.P.ImportedNames.shows c.args.at.now in
     let n = c.loop-file.file in
     let outline = c.index-outlines-file.result in
     let count = c.len-first.ensures in
@@ -107,7 +107,7 @@ overflow_add-first g c =
 
 pub loop-file-preserved : goal.loop-file-preserved
 loop-file-preserved g c =
-    let p = package_in g.P.ImportedNames.shows c.args.at.now in
+    let p = package_in_shown g.P.ImportedNames.shows c.args.at.now in
     let types = c.args.scene.now.types.now in
     let d = c.args.declared.now in
     let n = c.loop-file.file in
@@ -134,7 +134,7 @@ loop-file-preserved g c =
 
 pub returns : goal.returns
 returns g c =
-    let p = package_in g.P.ImportedNames.shows c.args.at.now in
+    let p = package_in_shown g.P.ImportedNames.shows c.args.at.now in
     let d = c.args.declared.now in
     let past = c.loop-file-test.false in
     let many = as_many_trees p c.args.outlines.now c.requires.outlines in

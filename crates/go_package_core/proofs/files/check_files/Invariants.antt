@@ -2,13 +2,13 @@ use Rattle.std.proofs.Common.{◌≡◌, map, length, take}
 use Rattle.std.specs.List.{AllZip, enumerate_from}
 use Rattle.go_answer_core.specs.entry_core.Outlines.{outline_shown}
 use Rattle.go_answer_core.specs.face_core.Laws.{package_decls}
-use Rattle.go_ready_core.specs.Packages.{package_in}
+use Rattle.go_ready_core.specs.Packages.{package_in_shown}
 use Rattle.go_package_core.specs.Checked.{IsFileChecked, answers_shown}
 use Rattle.go_package_core.proofs.files.check_files.Given as goal
 
 abbrev pub invariant-loop-file : goal.invariant-loop-file
 invariant-loop-file g l =
-    let p = package_in g.P.ImportedNames.shows l.at in
+    let p = package_in_shown g.P.ImportedNames.shows l.at in
     record {
       files : AllZip (IsFileChecked p l.scene.types.now l.declared.known.items l.type_faults l.declared.looped.items) (enumerate_from 0 (take l.file p.trees)) (map answers_shown l.files.items);
       first : l.first ≡ length (package_decls (map outline_shown (take l.file l.outlines)));

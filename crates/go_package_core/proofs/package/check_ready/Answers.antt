@@ -7,7 +7,7 @@ use Rattle.go_known_core.specs.value_core.Laws.{AreFaces}
 use Rattle.go_known_core.specs.value_core.Package.{AreThroughThemselves}
 use Rattle.go_answer_core.specs.Shown.{package_shown}
 use Rattle.std.specs.List.{AllZip, enumerate_from}
-use Rattle.go_ready_core.specs.Packages.{package_in}
+use Rattle.go_ready_core.specs.Packages.{package_in_shown}
 use Rattle.go_ready_core.proofs.Tables.{looped_written, values_written}
 use Rattle.go_package_core.specs.Checked.{IsFileChecked, answers_shown}
 use Rattle.go_package_core.proofs.Stages.{as_made, checked_is, initial_many, scene_is, written_many}
@@ -15,17 +15,17 @@ use Rattle.go_package_core.proofs.package.check_ready.Goals as goal
 
 pub declare-requires-clause-files : goal.declare-requires-clause-files
 declare-requires-clause-files g c =
-    let p = package_in g.P.ImportedNames.shows c.args.at.now in
+    let p = package_in_shown g.P.ImportedNames.shows c.args.at.now in
     initial_many p c.args.types.now c.deref.result.now (map outline_shown c.args.outlines.now) (c.deref.ensures.value ∙ c.requires.ready.initial) c.requires.outlines ∙ length-map c.args.outlines.now outline_shown
 
 pub declare-requires-clause-written : goal.declare-requires-clause-written
 declare-requires-clause-written g c =
-    let p = package_in g.P.ImportedNames.shows c.args.at.now in
+    let p = package_in_shown g.P.ImportedNames.shows c.args.at.now in
     written_many p c.args.types.now c.scene_of-scene.result.written.now c.deref.result.now (map outline_shown c.args.outlines.now) (ap (λ s. s.written) c.scene_of-scene.ensures ∙ c.requires.ready.written) c.requires.outlines
 
 pub check_files-requires-clause-looped : goal.check_files-requires-clause-looped
 check_files-requires-clause-looped g c =
-    let p = package_in g.P.ImportedNames.shows c.args.at.now in
+    let p = package_in_shown g.P.ImportedNames.shows c.args.at.now in
     let types = c.args.types.now in
     let flags = c.in_ok-declared.declared.looped.items in
     let s = scene_shown c.scene_of-scene.result in
@@ -35,7 +35,7 @@ check_files-requires-clause-looped g c =
 
 pub returns-clause-checked : goal.returns-clause-checked
 returns-clause-checked g c far table of_types =
-    let p = package_in g.P.ImportedNames.shows c.args.at.now in
+    let p = package_in_shown g.P.ImportedNames.shows c.args.at.now in
     let types = c.args.types.now in
     let d = c.in_ok-declared.declared in
     let s = scene_shown c.scene_of-scene.result in

@@ -7,7 +7,7 @@ use Rattle.go_package_core.specs.entry_core.Showing.{shown_in}
 use Rattle.go_used_core.specs.face_core.declared.face.Face.{Face}
 use Rattle.go_used_core.specs.face_core.Faces.{face_shown}
 use Rattle.go_package_core.specs.Checked.{checked_shown}
-use Rattle.go_part_core.specs.Parts.{content_shown, seen_with}
+use Rattle.go_part_core.specs.Parts.{part_content_shown, seen_with}
 use Rattle.go_part_core.proofs.Checks.{files_many, of_path}
 use Rattle.go_part_core.proofs.Made.{made_is}
 use Rattle.go_part_core.proofs.content.compile_over.Goals as goal
@@ -22,5 +22,5 @@ pub returns-clause-made : goal.returns-clause-made
 returns-clause-made c =
     let seen = c.args.seen.now in
     let declared = ap (λ (d : Vec (Option (Face TypeTerm Signature)) Global). map (option_map face_shown) d.items) c.in_ok-content.ensures.declared in
-    made_is c.args.input.now (seen_with seen.types (shown_in seen.shown) seen.faces) c.in_ok-blocks.blocks (checked_shown c.in_ok-checked.checked) c.in_ok-checked.checked.types (content_shown c.in_ok-content.content)
+    made_is c.args.input.now (seen_with seen.types (shown_in seen.shown) seen.faces) c.in_ok-blocks.blocks (checked_shown c.in_ok-checked.checked) c.in_ok-checked.checked.types (part_content_shown c.in_ok-content.content)
     c.in_ok-blocks.ensures c.in_ok-checked.ensures.checked c.in_ok-checked.ensures.path refl c.in_ok-content.ensures.blocks declared c.in_ok-content.ensures.files c.in_ok-content.ensures.summary

@@ -1,15 +1,15 @@
 use Rattle.std.proofs.Common.{◌≡◌, ap, sym, subst, ◌∙◌}
 use Rattle.go_package_core.specs.table_core.Tables.{AreOthers}
-use Rattle.go_told_core.specs.summary_core.Views.{AreApart, exports_told, faces_told, types_told}
+use Rattle.go_told_core.specs.summary_core.Views.{PathsAreApart, exports_told, faces_told, types_told}
 use Rattle.go_part_core.specs.Inputs.{InputModel, path_in}
-use Rattle.go_part_core.specs.Parts.{ContentOf, IsPart, PartModel, content_shown}
+use Rattle.go_part_core.specs.Parts.{ContentOf, IsPart, PartModel, part_content_shown}
 use Rattle.go_part_core.proofs.Seen.{others_told, part_is}
 use Rattle.go_part_core.proofs.part.compile_part.Goals as goal
 
 pub view_of-requires : goal.view_of-requires
 view_of-requires c =
     let told : c.deref.result.now ≡ c.args.input.now.reached = c.deref.ensures.value ∙ (c.in_ok-summaries.ensures ∙ c.reached.ensures.value) in
-    subst AreApart (sym told) c.reached.ensures.well.reached.apart
+    subst PathsAreApart (sym told) c.reached.ensures.well.reached.apart
 
 pub compile_over-requires : goal.compile_over-requires
 compile_over-requires c =
@@ -20,8 +20,8 @@ pub new-requires : goal.new-requires
 new-requires c =
     let seen = c.in_ok-seen.seen in
     let told : c.deref.result.now ≡ c.args.input.now.reached = c.deref.ensures.value ∙ (c.in_ok-summaries.ensures ∙ c.reached.ensures.value) in
-    subst (λ (i : InputModel). IsPart i (content_shown c.in_ok-content.content)) (sym c.in_ok-shared.ensures)
-    (part_is c.args.input.now seen.types seen.shown seen.faces (content_shown c.in_ok-content.content) (c.in_ok-seen.ensures.types ∙ ap types_told told) (c.in_ok-seen.ensures.shown ∙ ap exports_told told) (c.in_ok-seen.ensures.faces ∙ ap faces_told told) c.in_ok-content.ensures.made)
+    subst (λ (i : InputModel). IsPart i (part_content_shown c.in_ok-content.content)) (sym c.in_ok-shared.ensures)
+    (part_is c.args.input.now seen.types seen.shown seen.faces (part_content_shown c.in_ok-content.content) (c.in_ok-seen.ensures.types ∙ ap types_told told) (c.in_ok-seen.ensures.shown ∙ ap exports_told told) (c.in_ok-seen.ensures.faces ∙ ap faces_told told) c.in_ok-content.ensures.made)
 
 pub returns-clause-input : goal.returns-clause-input
 returns-clause-input c = ap (λ (p : PartModel). p.input) c.in_ok-part.ensures ∙ c.in_ok-shared.ensures
@@ -31,4 +31,4 @@ returns-clause-made c =
     let seen = c.in_ok-seen.seen in
     let told : c.deref.result.now ≡ c.args.input.now.reached = c.deref.ensures.value ∙ (c.in_ok-summaries.ensures ∙ c.reached.ensures.value) in
     subst (λ (x : ContentOf). IsPart c.args.input.now x) (sym (ap (λ (p : PartModel). p.content) c.in_ok-part.ensures))
-    (part_is c.args.input.now seen.types seen.shown seen.faces (content_shown c.in_ok-content.content) (c.in_ok-seen.ensures.types ∙ ap types_told told) (c.in_ok-seen.ensures.shown ∙ ap exports_told told) (c.in_ok-seen.ensures.faces ∙ ap faces_told told) c.in_ok-content.ensures.made)
+    (part_is c.args.input.now seen.types seen.shown seen.faces (part_content_shown c.in_ok-content.content) (c.in_ok-seen.ensures.types ∙ ap types_told told) (c.in_ok-seen.ensures.shown ∙ ap exports_told told) (c.in_ok-seen.ensures.faces ∙ ap faces_told told) c.in_ok-content.ensures.made)

@@ -1,5 +1,5 @@
 use Rattle.std.proofs.Common.{◌<◌, subst}
-use Rattle.go_package_core.specs.graph_core.ViewsProofs.{told_apart}
+use Rattle.go_package_core.specs.graph_core.ToldApart.{told_apart}
 use Rattle.go_used_core.specs.block_core.Naming.{imported_in}
 use Rattle.go_part_core.proofs.same.same_imports.Goals as goal
 

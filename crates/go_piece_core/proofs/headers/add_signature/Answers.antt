@@ -4,7 +4,7 @@ use Rattle.go_tree_nodes.specs.declared.types.Params.{out-Params}
 use Rattle.go_tree_nodes.specs.TypeShapes.{shape_signature, shape_results, params_of}
 use Rattle.go_expr_core.specs.Looks.{everywhere}
 use Rattle.go_expr_core.proofs.Steps.{ok_both}
-use Rattle.go_piece_core.specs.Headers.{entry_types, result_types, signature_types, params_faults, result_faults, signature_faults}
+use Rattle.go_piece_core.specs.Headers.{entry_types, types_of_result, types_of_signature, params_faults, result_faults, signature_faults}
 use Rattle.go_piece_core.proofs.Heads.{all_types, all_faults}
 use Rattle.go_piece_core.proofs.headers.add_signature.Goals as goal
 
@@ -13,7 +13,7 @@ returns-clause-types g c =
     let looks = everywhere (g.E.TypeLooks.types c.args.env.now) (g.E.Names.names c.args.env.now) (g.E.Literals.literals c.args.env.now) (g.E.Exprs.written c.args.env.now) in
     let s = c.args.signature.now in
     ok_both c.add_results.result c.args.types.now.items c.add_params.new.types.items c.add_results.new.types.items
-    (entry_types looks false (params_of (out-Params (out-Signature s).params).entries.items)) (result_types looks false (shape_results (out-Signature s).results)) (signature_types looks (shape_signature s)) c.in_ok-add_params.ensures.types (all_types looks s) c.add_results.ensures.types
+    (entry_types looks false (params_of (out-Params (out-Signature s).params).entries.items)) (types_of_result looks false (shape_results (out-Signature s).results)) (types_of_signature looks (shape_signature s)) c.in_ok-add_params.ensures.types (all_types looks s) c.add_results.ensures.types
 
 pub returns-clause-faults : goal.returns-clause-faults
 returns-clause-faults g c =

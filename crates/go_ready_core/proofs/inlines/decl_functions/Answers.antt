@@ -12,7 +12,7 @@ use Rattle.go_ready_core.proofs.inlines.decl_functions.Goals as goal
 pub loop-decl-init : goal.loop-decl-init
 loop-decl-init g c =
     let ground = c.args.ground.now in
-    subst (λ l. AllZip (functions.AreInlines (functions.kinds_in ground) (functions.file_in ground) (functions.top_in g.P.ImportedNames.shows ground) (functions.beyond ground)) [] l) (sym c.new-written.ensures.items) tt
+    subst (λ l. AllZip (functions.AreInlines (functions.kinds_in_ground ground) (functions.file_in ground) (functions.top_in g.P.ImportedNames.shows ground) (functions.scoped_beyond ground)) [] l) (sym c.new-written.ensures.items) tt
 
 pub add_function-requires : goal.add_function-requires
 add_function-requires g c =
@@ -21,11 +21,11 @@ add_function-requires g c =
 pub loop-decl-preserved : goal.loop-decl-preserved
 loop-decl-preserved g c =
     let ground = c.args.ground.now in
-    funcs_step (functions.AreInlines (functions.kinds_in ground) (functions.file_in ground) (functions.top_in g.P.ImportedNames.shows ground) (functions.beyond ground)) c.args.decls.now c.loop-decl.decl-index c.decl-item.result
+    funcs_step (functions.AreInlines (functions.kinds_in_ground ground) (functions.file_in ground) (functions.top_in g.P.ImportedNames.shows ground) (functions.scoped_beyond ground)) c.args.decls.now c.loop-decl.decl-index c.decl-item.result
     c.loop-decl.written.items c.add_function.new.written.items c.loop-decl-test.true c.decl-item.is c.in_ok-add_function.ensures c.loop-decl.invariant
 
 pub returns : goal.returns
 returns g c =
     let ground = c.args.ground.now in
-    funcs_end (functions.AreInlines (functions.kinds_in ground) (functions.file_in ground) (functions.top_in g.P.ImportedNames.shows ground) (functions.beyond ground)) c.args.decls.now c.loop-decl.decl-index c.loop-decl.written.items
+    funcs_end (functions.AreInlines (functions.kinds_in_ground ground) (functions.file_in ground) (functions.top_in g.P.ImportedNames.shows ground) (functions.scoped_beyond ground)) c.args.decls.now c.loop-decl.decl-index c.loop-decl.written.items
     c.loop-decl-test.false c.loop-decl.invariant

@@ -7,4 +7,4 @@ use Rattle.go_ready_core.proofs.inlines.decl_functions.Given as goal
 
 abbrev pub invariant-loop-decl : goal.invariant-loop-decl
 invariant-loop-decl g l =
-    AllZip (functions.AreInlines (functions.kinds_in l.ground) (functions.file_in l.ground) (functions.top_in g.P.ImportedNames.shows l.ground) (functions.beyond l.ground)) (outline_funcs (map decl_shown (take l.decl-index l.decls))) l.written.items
+    AllZip (functions.AreInlines (functions.kinds_in_ground l.ground) (functions.file_in l.ground) (functions.top_in g.P.ImportedNames.shows l.ground) (functions.scoped_beyond l.ground)) (outline_funcs (map decl_shown (take l.decl-index l.decls))) l.written.items

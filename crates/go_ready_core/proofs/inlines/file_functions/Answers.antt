@@ -5,7 +5,7 @@ use Rattle.go_term_core.specs.decl_core.Shown.{decl_shown}
 use Rattle.go_func_core.specs.local_core.Tables.{IsFuncPlaced}
 use Rattle.go_fault_core.specs.entry_core.Outlines.{outline_shown}
 use Rattle.go_ready_core.specs.Inlines.{outline_funcs}
-use Rattle.go_ready_core.specs.Packages.{package_in}
+use Rattle.go_ready_core.specs.Packages.{package_in_shown}
 use Rattle.go_ready_core.proofs.Placing.{outline_placed}
 use Rattle.go_ready_core.proofs.Made.{MadeOf}
 use Rattle.go_ready_core.proofs.inlines.file_functions.Goals as goal
@@ -16,7 +16,7 @@ decl_functions-requires g c =
 
 pub returns : goal.returns
 returns g c =
-    let p = package_in g.P.ImportedNames.shows c.args.at.now in
+    let p = package_in_shown g.P.ImportedNames.shows c.args.at.now in
     let Made = MadeOf p.shows p.blocks c.args.types.now c.args.file c.args.outline.now.places in
     subst (λ ds. IfOk c.decl_functions.result (λ w. AllZip (Made p.path) (outline_funcs (map decl_shown ds)) w.items)) c.deref.ensures.value
     (subst (λ path. IfOk c.decl_functions.result (λ w. AllZip (Made path) (outline_funcs (map decl_shown c.deref.result.now)) w.items)) c.path.ensures c.decl_functions.ensures)

@@ -4,17 +4,17 @@ use Rattle.go_term_core.specs.decl_core.Shown.{decl_shown}
 use Rattle.go_fault_core.specs.entry_core.Meanings.{file_meaning}
 use Rattle.go_term_core.specs.decl_core.declared.keys.DeclKey.{DeclKey}
 use Rattle.go_fault_core.specs.settle_core.Settled.{kind_of_term}
-use Rattle.go_fault_core.specs.table_core.Entries.{find, term_in}
+use Rattle.go_fault_core.specs.table_core.Entries.{find_entry, term_in}
 use Rattle.go_func_core.specs.inline_core.Inline.{inlines}
 use Rattle.go_func_core.specs.inline_core.Trees.{file_types, outline_types}
 use Rattle.go_func_core.specs.inline_core.Outlines.{outline_all}
-use Rattle.go_ready_core.specs.Packages.{package_in}
+use Rattle.go_ready_core.specs.Packages.{package_in_shown}
 use Rattle.go_ready_core.proofs.inlines.file_initial.Goals as goal
 
 pub returns : goal.returns
 returns g c =
-    let p = package_in g.P.ImportedNames.shows c.args.at.now in
-    let kind = λ (k : DeclKey). kind_of_term (term_in (find c.args.types.now k)) in
+    let p = package_in_shown g.P.ImportedNames.shows c.args.at.now in
+    let kind = λ (k : DeclKey). kind_of_term (term_in (find_entry c.args.types.now k)) in
     let f = c.requires.file in
     let decls = ap (λ o. o.decls) c.requires.is in
     IfOk-weaker c.initialiser_types.result _ _

@@ -1,10 +1,10 @@
 use Rattle.std.proofs.Common.{map, take}
 use Rattle.std.specs.List.{AllZip, enumerate_from}
 use Rattle.go_fault_core.specs.entry_core.Outlines.{outline_shown}
-use Rattle.go_ready_core.specs.Inlines.{AreFunctionTypes, types_stand}
-use Rattle.go_ready_core.specs.Packages.{package_in}
+use Rattle.go_ready_core.specs.Inlines.{AreOutlinedTypes, types_stand}
+use Rattle.go_ready_core.specs.Packages.{package_in_shown}
 use Rattle.go_ready_core.proofs.inlines.package_functions.Given as goal
 
 abbrev pub invariant-loop-file : goal.invariant-loop-file
 invariant-loop-file g l =
-    AllZip (λ o of_file. AreFunctionTypes (types_stand (package_in g.P.ImportedNames.shows l.at) l.types o) o.1 of_file) (enumerate_from 0 (map outline_shown (take l.file l.outlines))) (map (λ of_file. of_file.items) l.written.items)
+    AllZip (λ o of_file. AreOutlinedTypes (types_stand (package_in_shown g.P.ImportedNames.shows l.at) l.types o) o.1 of_file) (enumerate_from 0 (map outline_shown (take l.file l.outlines))) (map (λ of_file. of_file.items) l.written.items)

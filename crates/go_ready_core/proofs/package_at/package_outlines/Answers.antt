@@ -5,7 +5,6 @@ use Rattle.std.proofs.lemmas.Result.{IfOk-weaker}
 use Rattle.std.proofs.lemmas.List.Elements.{All-from_recursion, recursion_from_All}
 use Rattle.go_fault_core.specs.graph_core.Packages.{trees_of, tree_shown}
 use Rattle.go_fault_core.specs.graph_core.Sources.{IsPlacedSource}
-use Rattle.go_term_core.specs.decl_core.Outer.{IsPlaced}
 use Rattle.go_fault_core.specs.entry_core.Outlines.{outline_of}
 use Rattle.go_ready_core.specs.Inlines.{IsPlacedOutline}
 use Rattle.go_ready_core.specs.Packages.{trees_in}
@@ -13,6 +12,7 @@ use Rattle.go_ready_core.proofs.Lists.{map_map}
 use Rattle.go_ready_core.proofs.Placing.{outlines_placed}
 use Rattle.go_ready_core.proofs.Made.{trees_placed}
 use Rattle.go_ready_core.proofs.package_at.package_outlines.Goals as goal
+use Rattle.go_tree_nodes.specs.Spelling.{IsPlaced}
 
 pub returns-clause-outlines : goal.returns-clause-outlines
 returns-clause-outlines g c =

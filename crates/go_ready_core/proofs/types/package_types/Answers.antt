@@ -1,18 +1,18 @@
 use Rattle.std.proofs.Common.{map, ap, ◌++◌, ◌∙◌}
 use Rattle.go_fault_core.specs.table_core.Shown.{entry_shown}
 use Rattle.go_fault_core.specs.entry_core.Outlines.{outline_shown}
-use Rattle.go_ready_core.specs.Packages.{package_in}
+use Rattle.go_ready_core.specs.Packages.{package_in_shown}
 use Rattle.go_ready_core.proofs.Made.{all_outlines, types_are}
 use Rattle.go_ready_core.proofs.types.package_types.Goals as goal
 
 pub type_entries-requires : goal.type_entries-requires
 type_entries-requires g c =
-    let p = package_in g.P.ImportedNames.shows c.args.at.now in
+    let p = package_in_shown g.P.ImportedNames.shows c.args.at.now in
     all_outlines (map outline_shown c.args.outlines.now) p.trees c.requires.outlines
 
 pub returns-clause-types : goal.returns-clause-types
 returns-clause-types g c =
-    let p = package_in g.P.ImportedNames.shows c.args.at.now in
+    let p = package_in_shown g.P.ImportedNames.shows c.args.at.now in
     types_are p c.args.types.now c.in_ok-own.own.entries c.add.new.self c.path-path.result.now (map outline_shown c.args.outlines.now) (map entry_shown c.in_ok-entries.entries.items) (map entry_shown c.deref.result.now)
     (map entry_shown c.deref-2.result.now) c.in_ok-own.loops.items c.deref-3.result.now c.in_ok-faults.faults.items c.path-path.ensures c.requires.outlines c.in_ok-entries.ensures.entries
     (ap (map entry_shown) c.deref.ensures.value) c.in_ok-own.ensures.types

@@ -1,7 +1,7 @@
 use Rattle.std.proofs.Common.{[], ◌∷◌, length, map, false, ap, sym, ◌∙◌}
 use Rattle.std.proofs.lemmas.List.{get_or_default}
 use Rattle.go_term_core.specs.Terms.{StructOf, InterfaceOf, NoMethod}
-use Rattle.go_term_core.specs.Shapes.{shape, lines_of, fields_in, terms_in, methods_of}
+use Rattle.go_term_core.specs.Shapes.{shape, line_shapes, fields_in, terms_in, method_shapes}
 use Rattle.go_term_core.proofs.TermShapes.{shape_struct, shape_interface}
 use Rattle.go_settle_core.specs.Settled.{settled, settled_methods}
 use Rattle.go_settle_core.specs.mirrors.Kept.{settled_line, put_method, make_method}
@@ -21,7 +21,7 @@ settle-returns-in-Ok-both g t c =
     let lines = of_made _ _ _ c.in-Ok-both.ensures.1 c.settle_lines.ensures in
     shape_struct made.0.0 made.0.1 made.1
     ∙ ((λ i. StructOf (path i) (fields_in (lines i) (fields i)))
-    ∙ (ap (StructOf w.path) (fields_masked kind (lines_of w.lines.items) w.fields.items [])
+    ∙ (ap (StructOf w.path) (fields_masked kind (line_shapes w.lines.items) w.fields.items [])
     ∙ sym (ap (λ t. settled kind (shape t)) w.is ∙ ap (settled kind) (shape_struct w.path w.fields w.lines))))
 
 pub settle-returns-in-Ok-both-2 : goal.settle-returns-in-Ok-both-2
@@ -31,7 +31,7 @@ settle-returns-in-Ok-both-2 g t c =
     let made = c.in-Ok-both-2.made in
     shape_interface made.0 made.1
     ∙ ap (λ l. InterfaceOf made.0 l) (of_made _ _ _ c.in-Ok-both-2.ensures.1 c.settle_methods-methods.ensures)
-    ∙ ap (λ p. InterfaceOf p (settled_methods kind [] (methods_of w.methods.items))) (of_made _ _ _ c.in-Ok-both-2.ensures.0 c.share-in-Interface.ensures)
+    ∙ ap (λ p. InterfaceOf p (settled_methods kind [] (method_shapes w.methods.items))) (of_made _ _ _ c.in-Ok-both-2.ensures.0 c.share-in-Interface.ensures)
     ∙ sym (ap (λ t. settled kind (shape t)) w.is ∙ ap (settled kind) (shape_interface w.path w.methods))
 
 pub settle_methods-loop-i-init : goal.settle_methods-loop-i-init
@@ -57,7 +57,7 @@ settle_methods-returns g t c =
     let kind = g.K.Kinds.kinds c.args.kinds.now in
     sym (methods_onto (make_method kind) c.loop-i.settled.items)
     ∙ (all_kept put_method (make_method kind) NoMethod c.loop-i.settled.items c.in-Ok.made.items c.deref-method-items.result.now c.loop-i.i _ c.loop-i-test.false c.loop-i.invariant
-    ∙ ap (λ l. settled_methods kind [] (methods_of l)) c.deref-method-items.ensures.value)
+    ∙ ap (λ l. settled_methods kind [] (method_shapes l)) c.deref-method-items.ensures.value)
 
 pub settle_lines-loop-line-init : goal.settle_lines-loop-line-init
 settle_lines-loop-line-init g t c = lines_start (g.K.Kinds.kinds c.args.kinds.now) c.new-settled.result.items c.deref-line-items.result.now c.new-settled.ensures.items
@@ -71,7 +71,7 @@ settle_lines-returns g t c =
     let kind = g.K.Kinds.kinds c.args.kinds.now in
     sym (lines_onto (make_line kind) c.loop-line.settled.items)
     ∙ (all_made put_line (make_line kind) [] c.loop-line.settled.items c.deref-line-items.result.now c.loop-line.line-index _ c.loop-line-test.false c.loop-line.invariant
-    ∙ ap (λ l. map (settled_line kind) (lines_of l)) c.deref-line-items.ensures.value)
+    ∙ ap (λ l. map (settled_line kind) (line_shapes l)) c.deref-line-items.ensures.value)
 
 pub settle_terms-loop-term-init : goal.settle_terms-loop-term-init
 settle_terms-loop-term-init g t c = terms_start (g.K.Kinds.kinds c.args.kinds.now) c.new-settled.result.items c.deref-term-items.result.now c.new-settled.ensures.items

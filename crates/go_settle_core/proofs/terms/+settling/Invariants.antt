@@ -1,6 +1,6 @@
 use Rattle.std.proofs.Common.{◌≡◌, [], drop, map}
 use Rattle.go_term_core.specs.Terms.{NoMethod}
-use Rattle.go_term_core.specs.Shapes.{shape, lines_of, methods_of}
+use Rattle.go_term_core.specs.Shapes.{shape, line_shapes, method_shapes}
 use Rattle.go_settle_core.specs.Settled.{settled, settled_methods}
 use Rattle.go_settle_core.specs.mirrors.Kept.{settled_line, put_method, make_method}
 use Rattle.go_settle_core.proofs.Loops.{onto, masked, made}
@@ -10,12 +10,12 @@ use Rattle.go_settle_core.proofs.terms.+settling.Given as goal
 abbrev pub invariant-settle_lines-loop-line : goal.invariant-settle_lines-loop-line
 invariant-settle_lines-loop-line g l =
     let kind = g.K.Kinds.kinds l.kinds in
-    onto put_line (make_line kind) [] l.settled.items (made put_line (make_line kind) [] (drop l.line-index l.line-items)) ≡ map (settled_line kind) (lines_of l.line-items)
+    onto put_line (make_line kind) [] l.settled.items (made put_line (make_line kind) [] (drop l.line-index l.line-items)) ≡ map (settled_line kind) (line_shapes l.line-items)
 
 abbrev pub invariant-settle_methods-loop-i : goal.invariant-settle_methods-loop-i
 invariant-settle_methods-loop-i g l =
     let make = make_method (g.K.Kinds.kinds l.kinds) in
-    onto put_method make NoMethod l.settled.items (masked put_method make NoMethod (drop l.i l.kept.items) (drop l.i l.method-items)) ≡ settled_methods (g.K.Kinds.kinds l.kinds) [] (methods_of l.method-items)
+    onto put_method make NoMethod l.settled.items (masked put_method make NoMethod (drop l.i l.kept.items) (drop l.i l.method-items)) ≡ settled_methods (g.K.Kinds.kinds l.kinds) [] (method_shapes l.method-items)
 
 abbrev pub invariant-settle_terms-loop-term : goal.invariant-settle_terms-loop-term
 invariant-settle_terms-loop-term g l =

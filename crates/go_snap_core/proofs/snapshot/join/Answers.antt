@@ -2,7 +2,7 @@ use Rattle.std.proofs.Common.{◌≤◌, length, refl, sym, subst, ◌∙◌, ar
 use Rattle.std.specs.Prelude.{vec_capacity}
 use Rattle.std.specs.List.Sorted.{IsPermutation}
 use Rattle.std.proofs.lemmas.List.Sorted.{length_permutation}
-use Rattle.go_whole_core.specs.Inputs.{AreParts}
+use Rattle.go_make_core.specs.whole_core.Inputs.{AreParts}
 use Rattle.go_emit_core.specs.Emitted.{somes}
 use Rattle.go_snap_core.specs.Faults.{AreFaults}
 use Rattle.go_snap_core.specs.Snapshots.{contents_of}

@@ -1,8 +1,8 @@
 use Rattle.std.proofs.Common.{◌≡◌, ◌≤◌, List, Option, length}
 use Rattle.std.specs.Prelude.{vec_capacity}
 use Rattle.std.specs.List.Sorted.{IsPermutation}
-use Rattle.go_whole_core.specs.part_core.Parts.{PartModel}
-use Rattle.go_whole_core.specs.Inputs.{AreParts}
+use Rattle.go_make_core.specs.part_core.Parts.{PartModel}
+use Rattle.go_make_core.specs.whole_core.Inputs.{AreParts}
 use Rattle.go_emit_core.specs.Emitted.{somes}
 use Rattle.go_snap_core.proofs.Putting.{IsPut}
 use Rattle.go_snap_core.proofs.snapshot.put_parts.Given as goal

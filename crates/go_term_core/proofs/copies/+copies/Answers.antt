@@ -1,6 +1,6 @@
 use Rattle.std.proofs.Common.{ap, sym, ◌∙◌}
 use Rattle.go_term_core.specs.Terms.{StructOf, InterfaceOf, AMethod, NoMethod}
-use Rattle.go_term_core.specs.Shapes.{shape, line_with, line_shape, terms_in, fields_in, methods_of}
+use Rattle.go_term_core.specs.Shapes.{shape, line_with, line_shape, terms_in, fields_in, method_shapes}
 use Rattle.go_term_core.proofs.TermShapes.{shape_struct, shape_interface}
 use Rattle.go_term_core.proofs.Copied.{one_copied, all_copied, of_made, method_term, same_methods}
 use Rattle.go_term_core.proofs.copies.+copies.Goals as goal
@@ -50,7 +50,7 @@ copy-returns-in-Ok-both-2 t c =
     let made = c.in-Ok-both-2.copy in
     shape_interface made.0 made.1
     ∙ ap (λ l. InterfaceOf made.0 l) (of_made _ _ _ c.in-Ok-both-2.ensures.1 c.copy_methods.ensures)
-    ∙ ap (λ p. InterfaceOf p (methods_of w.methods.items)) (of_made _ _ _ c.in-Ok-both-2.ensures.0 c.share-in-Interface.ensures)
+    ∙ ap (λ p. InterfaceOf p (method_shapes w.methods.items)) (of_made _ _ _ c.in-Ok-both-2.ensures.0 c.share-in-Interface.ensures)
     ∙ sym (ap shape w.is ∙ shape_interface w.path w.methods)
 
 pub copy_params-returns : goal.copy_params-returns

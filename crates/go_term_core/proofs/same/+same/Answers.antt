@@ -1,5 +1,5 @@
 use Rattle.std.proofs.Common.{◌≡◌, [], map, false, true, refl, inl, inr, ap, sym, ◌∙◌}
-use Rattle.go_term_core.specs.Shapes.{shape, line_shape, line_with, lines_of, sign_of}
+use Rattle.go_term_core.specs.Shapes.{shape, line_shape, line_with, line_shapes, sign_of}
 use Rattle.go_term_core.specs.Terms.{NoType}
 use Rattle.go_term_core.specs.mirrors.Alike.{IsMet}
 use Rattle.go_term_core.proofs.TermShapes.{shape_struct, shape_interface}
@@ -74,7 +74,7 @@ has_alike-returns t c =
 pub same_fields-returns-then-len : goal.same_fields-returns-then-len
 same_fields-returns-then-len t c =
     let a = c.args in
-    fails (λ h. let e = as_many_fields a.tags a.p.now a.q.now (lines_of a.ls.now.items) (lines_of a.ks.now.items) a.fs.now.items a.gs.now.items h in c.if-len.true (c.len.ensures ∙ (a.fs.now.ok.0 ∙ e ∙ sym a.gs.now.ok.0) ∙ sym c.len-2.ensures))
+    fails (λ h. let e = as_many_fields a.tags a.p.now a.q.now (line_shapes a.ls.now.items) (line_shapes a.ks.now.items) a.fs.now.items a.gs.now.items h in c.if-len.true (c.len.ensures ∙ (a.fs.now.ok.0 ∙ e ∙ sym a.gs.now.ok.0) ∙ sym c.len-2.ensures))
 
 pub same_terms-returns-then-len : goal.same_terms-returns-then-len
 same_terms-returns-then-len t c =
@@ -85,7 +85,7 @@ pub same_fields-returns : goal.same_fields-returns
 same_fields-returns t c =
     let a = c.args in
     let many = sym a.fs.now.ok.0 ∙ (sym c.len.ensures ∙ c.if-len.false ∙ c.len-2.ensures) ∙ a.gs.now.ok.0 in
-    both_end (AreSameFields a.tags a.p.now a.q.now (lines_of a.ls.now.items) (lines_of a.ks.now.items)) tt _ a.fs.now.items a.gs.now.items _ c.deref-f-items.ensures.value many c.loop-i-test.false c.loop-i.invariant.0
+    both_end (AreSameFields a.tags a.p.now a.q.now (line_shapes a.ls.now.items) (line_shapes a.ks.now.items)) tt _ a.fs.now.items a.gs.now.items _ c.deref-f-items.ensures.value many c.loop-i-test.false c.loop-i.invariant.0
 
 pub same_terms-returns : goal.same_terms-returns
 same_terms-returns t c =

@@ -4,8 +4,9 @@ use Rattle.std.proofs.lemmas.Result.{on_ok_weaker}
 use Rattle.go_tree_nodes.specs.Shapes.{shape_value_line, shape_value_specs}
 use Rattle.go_piece_core.specs.expr_core.Looks.{everywhere}
 use Rattle.go_piece_core.specs.Specifications.{spec_uses}
-use Rattle.go_top_core.specs.Tops.{of_specs, top_spec_faults}
+use Rattle.go_top_core.specs.Tops.{top_spec_faults}
 use Rattle.go_top_core.proofs.values.check_value_decl.Goals as goal
+use Rattle.go_tree_nodes.specs.Trees.{of_specs}
 
 pub returns-in-Group-clause-uses : goal.returns-in-Group-clause-uses
 returns-in-Group-clause-uses g c =

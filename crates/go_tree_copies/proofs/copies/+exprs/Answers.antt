@@ -4,7 +4,7 @@ use Rattle.go_tree_nodes.specs.declared.exprs.LiteralExpr.{out-LiteralExpr}
 use Rattle.go_tree_nodes.specs.declared.exprs.StructLiteralExpr.{out-StructLiteralExpr}
 use Rattle.go_tree_nodes.specs.Trees.{Text, Named, Paren, Unary, Call, Literal, StructLiteral, NoItems, Item}
 use Rattle.go_tree_nodes.specs.TypeShapes.{shape_type}
-use Rattle.go_tree_nodes.specs.Shapes.{key_of, shape, shape_call, shape_literal, shape_struct_literal, items_of}
+use Rattle.go_tree_nodes.specs.Shapes.{shape_key, shape, shape_call, shape_literal, shape_struct_literal, items_of}
 use Rattle.go_tree_copies.proofs.SameTrees.{one_copied, all_copied, item_tree, same_items, of_made, of_boxed}
 use Rattle.go_tree_nodes.proofs.ShapeLemmas.{shape_called, call_parts, shape_literal_made, literal_parts, shape_struct_literal_made, struct_literal_parts}
 use Rattle.go_tree_copies.proofs.copies.+exprs.Goals as goal
@@ -14,7 +14,7 @@ copy_items-loop-item-preserved t c =
     let x = c.item-item.result in
     let key = of_made _ _ _ c.in-Ok.ensures.0 c.copy_key.ensures in
     let value = of_made _ _ _ c.in-Ok.ensures.1 c.copy_expr.ensures in
-    let same = ap (λ k. Item k (shape c.in-Ok.copy.1) x.comma NoItems) key ∙ ap (λ e. Item (key_of x.key) e x.comma NoItems) value in
+    let same = ap (λ k. Item k (shape c.in-Ok.copy.1) x.comma NoItems) key ∙ ap (λ e. Item (shape_key x.key) e x.comma NoItems) value in
     one_copied item_tree _ _ _ _ _ _ c.loop-item-test.true c.item-item.is c.in-Ok-add.ensures same c.loop-item.invariant
 
 pub copy_items-returns : goal.copy_items-returns

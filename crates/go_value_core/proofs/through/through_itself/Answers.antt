@@ -1,6 +1,6 @@
 use Rattle.std.proofs.Common.{◌≡◌, map, length, ap, sym, ◌∙◌, subst}
 use Rattle.std.proofs.lemmas.List.{length-map}
-use Rattle.go_needs_core.specs.Needs.{AllInside, rows_of}
+use Rattle.go_needs_core.specs.Needs.{NeedsAreInside, rows_of}
 use Rattle.go_env_core.specs.Scenes.{scene_shown}
 use Rattle.go_env_core.specs.entry_core.Outlines.{outline_shown}
 use Rattle.go_value_core.specs.Package.{placed_decls, placed_shown, package_needs}
@@ -14,7 +14,7 @@ pub leading_back-requires : goal.leading_back-requires
 leading_back-requires c =
     let s = scene_shown c.args.scene.now in
     let ds = map placed_shown c.in_ok-decls.decls.items in
-    subst AllInside (sym (ap rows_of c.deref-2.ensures.value ∙ (c.in_ok-needs.ensures ∙ ap (λ l. package_needs s (map placed_shown l)) c.deref.ensures.value)))
+    subst NeedsAreInside (sym (ap rows_of c.deref-2.ensures.value ∙ (c.in_ok-needs.ensures ∙ ap (λ l. package_needs s (map placed_shown l)) c.deref.ensures.value)))
     (all_inside s ds (c.requires.written ∙ sym (ap length c.in_ok-decls.ensures)))
 
 pub returns : goal.returns

@@ -6,7 +6,7 @@ use Rattle.go_tree_nodes.specs.declared.types.FieldLine.{FieldLine}
 use Rattle.go_tree_nodes.specs.declared.types.«Param» as declared_param
 use Rattle.go_tree_nodes.specs.declared.types.Params.{out-Params}
 use Rattle.go_tree_nodes.proofs.TypeShapes.{shape_struct, shape_interface}
-use Rattle.go_piece_core.specs.expr_core.Laws.{type_idents, fields_idents, methods_idents, signature_idents, params_idents, result_idents}
+use Rattle.go_piece_core.specs.expr_core.Laws.{type_idents, fields_idents, methods_idents, signature_type_idents, params_idents, result_type_idents}
 use Rattle.go_value_core.specs.mirrors.Walked.{line_idents}
 use Rattle.go_value_core.proofs.Walking.{step, adds, both, lines_more, methods_more, params_more, signature_has, listed_has}
 use Rattle.go_value_core.proofs.type_idents.+types.Goals as goal
@@ -16,7 +16,7 @@ add_results-returns-in-Listed t c = adds c.add_params.result _ _ _ _ (sym (liste
 
 pub add_signature-returns : goal.add_signature-returns
 add_signature-returns t c =
-    both c.add_results.result _ _ _ (params_idents (params_of (out-Params (out-Signature c.args.signature.now).params).entries.items)) (result_idents (shape_results (out-Signature c.args.signature.now).results)) (signature_idents (shape_signature c.args.signature.now))
+    both c.add_results.result _ _ _ (params_idents (params_of (out-Params (out-Signature c.args.signature.now).params).entries.items)) (result_type_idents (shape_results (out-Signature c.args.signature.now).results)) (signature_type_idents (shape_signature c.args.signature.now))
     c.in_ok-add_params.ensures (sym (signature_has c.args.signature.now)) c.add_results.ensures
 
 pub add_type-returns-in-Struct : goal.add_type-returns-in-Struct

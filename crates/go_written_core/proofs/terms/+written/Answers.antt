@@ -7,7 +7,7 @@ use Rattle.go_decl_core.specs.declared.places.DeclKind.TheVariants as kinds
 use Rattle.go_term_core.specs.Shapes.{shape, sign_of}
 use Rattle.go_term_core.specs.declared.term.Params.{roll-Params}
 use Rattle.go_term_core.proofs.TermShapes.{shape_struct, shape_interface}
-use Rattle.go_written_core.specs.Written.{in_file, member_place, named_fields, last_ident, starred, tag_of, term_of, signature_of, fields_of_tree, methods_of_tree}
+use Rattle.go_written_core.specs.Written.{in_file, member_place, named_fields, last_ident, term_starred, tag_of, term_of, signature_of, fields_of_tree, methods_of_tree}
 use Rattle.go_written_core.specs.mirrors.Adding.{Adds, line_fields, lines_of, method_lines_of}
 use Rattle.go_written_core.proofs.Collected.{body_start, lines_step, lines_whole, method_lines_step, params_start, params_step, params_whole, listed_has}
 use Rattle.go_written_core.proofs.terms.+written.Goals as goal
@@ -92,6 +92,6 @@ write_line-returns-in_ok-term-in-Embedded g t c =
     let w = c.in-Embedded in
     on_ok_weaker c.add_embedded.result
     (λ adds. subst (λ (fs : Fields). Adds c.args.body.now fs c.add_embedded.new.body)
-    (ap (λ s. AField (last_ident w.name).name (member_place f kinds.Field (last_ident w.name).span.start) true (starred w.star s) (tag_of c.args.tag.now) NoField) c.in_ok-term-in-Embedded.ensures ∙ sym (ap (λ l. line_fields mean f l c.args.tag.now) w.is))
+    (ap (λ s. AField (last_ident w.name).name (member_place f kinds.Field (last_ident w.name).span.start) true (term_starred w.star s) (tag_of c.args.tag.now) NoField) c.in_ok-term-in-Embedded.ensures ∙ sym (ap (λ l. line_fields mean f l c.args.tag.now) w.is))
     adds)
     c.add_embedded.ensures

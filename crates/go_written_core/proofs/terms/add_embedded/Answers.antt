@@ -1,7 +1,7 @@
 use Rattle.std.proofs.Common.{◌++◌, ◌∷◌, [], map, true, ap, ◌∙◌}
 use Rattle.std.proofs.lemmas.Result.{on_ok_weaker}
 use Rattle.go_term_core.specs.Shapes.{line_shape, line_with, shape}
-use Rattle.go_written_core.specs.Written.{in_file, last_ident, starred, tag_of}
+use Rattle.go_written_core.specs.Written.{in_file, last_ident, term_starred, tag_of}
 use Rattle.go_written_core.specs.mirrors.Adding.{field_in}
 use Rattle.go_written_core.proofs.Collected.{embedded_added}
 use Rattle.go_written_core.proofs.terms.add_embedded.Goals as goal
@@ -11,7 +11,7 @@ returns c =
     let a = c.args in
     let f = in_file a.at.now in
     on_ok_weaker c.add_line.result
-    (λ lines. embedded_added f (starred a.star.now (shape a.term)) (tag_of a.tag.now) (last_ident a.name.now) c.len.result a.body.now (record { fields = c.add_field.new.fields; lines = c.add_line.new.lines }) (c.len.ensures ∙ a.body.now.lines.ok.0)
+    (λ lines. embedded_added f (term_starred a.star.now (shape a.term)) (tag_of a.tag.now) (last_ident a.name.now) c.len.result a.body.now (record { fields = c.add_field.new.fields; lines = c.add_line.new.lines }) (c.len.ensures ∙ a.body.now.lines.ok.0)
     (c.in_ok-add_field.ensures ∙ ap (λ x. a.body.now.fields.items ++ field_in f c.len.result x ∷ []) c.last_ident.ensures)
     (lines ∙ ap (λ t. map line_shape a.body.now.lines.items ++ line_with true t (tag_of a.tag.now) ∷ []) c.in_ok-term.ensures))
     c.add_line.ensures

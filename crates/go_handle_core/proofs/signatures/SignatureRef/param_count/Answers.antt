@@ -1,12 +1,12 @@
 use Rattle.std.proofs.Common.{sym, ap, ◌∙◌}
 use Rattle.std.specs.Prelude.{length}
-use Rattle.go_term_core.specs.Shapes.{params_of as shown}
-use Rattle.go_decide_core.specs.table_core.Entries.{find}
-use Rattle.go_decide_core.specs.Rules.{params_of}
+use Rattle.go_term_core.specs.Shapes.{param_shapes as shown}
+use Rattle.go_decide_core.specs.table_core.Entries.{find_entry}
+use Rattle.go_decide_core.specs.Rules.{param_types_of}
 use Rattle.go_handle_core.proofs.Listed.{typed_length}
 use Rattle.go_handle_core.proofs.signatures.SignatureRef.param_count.Goals as goal
 
 pub returns : goal.returns
 returns c =
-    let look = find c.args.table.now in
-    c.param_count.ensures ∙ (sym (typed_length look (shown c.self.inside.signature.now.params)) ∙ ap (λ s. length (params_of look s)) c.self.view_is)
+    let look = find_entry c.args.table.now in
+    c.param_count.ensures ∙ (sym (typed_length look (shown c.self.inside.signature.now.params)) ∙ ap (λ s. length (param_types_of look s)) c.self.view_is)

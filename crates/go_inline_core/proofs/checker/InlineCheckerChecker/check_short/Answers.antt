@@ -1,6 +1,6 @@
 use Rattle.go_tree_nodes.specs.TypeShapes.{shape_idents}
 use Rattle.go_names_core.specs.local_core.Outline.{idents}
-use Rattle.go_names_core.specs.Scope.{look_of}
+use Rattle.go_names_core.specs.Scope.{open_look}
 use Rattle.go_entry_core.specs.written_core.Written.{in_file}
 use Rattle.go_inline_core.specs.Functions.{inlines_in, scoped_outside}
 use Rattle.go_inline_core.proofs.LocalLemmas.{means_by}
@@ -10,7 +10,7 @@ use Rattle.go_inline_core.proofs.checker.InlineCheckerChecker.check_short.Goals 
 pub returns-clause-notes : goal.returns-clause-notes
 returns-clause-notes g c =
     let self = c.args.self.now in
-    let noted = inlines_in (g.K.Kinds.kinds self.kinds.now) (in_file self.at.now) (g.N.TypeNames.meaning self.top.now) (look_of scoped_outside c.args.names.now) in
+    let noted = inlines_in (g.K.Kinds.kinds self.kinds.now) (in_file self.at.now) (g.N.TypeNames.meaning self.top.now) (open_look scoped_outside c.args.names.now) in
     when_ok c.locals.result (noted_list c.new-list.result c.list_exprs.new.list _ noted _ _ c.new-list.ensures.trees c.list_exprs.ensures c.in_ok-note.ensures.memory c.in_ok-note.ensures.notes)
 
 pub returns-clause-means : goal.returns-clause-means

@@ -1,6 +1,6 @@
 use Rattle.std.proofs.Common.{◌≡◌, ◌+◌, Some, sym, ap, ◌∙◌, subst, arith}
 use Rattle.go_term_core.specs.Shapes.{shape}
-use Rattle.go_table_core.specs.Entries.{find}
+use Rattle.go_table_core.specs.Entries.{find_entry}
 use Rattle.go_table_core.specs.Tables.{ArePackageTypes, IsPlaceOf}
 use Rattle.go_table_core.specs.mirrors.Holding.{packages_of, package_at}
 use Rattle.go_table_core.proofs.Adding.{in_map}
@@ -9,14 +9,14 @@ use Rattle.go_table_core.proofs.table.TypeTable.locate.Goals as goal
 
 pub returns-then-self-eq0-clause-entry : goal.returns-then-self-eq0-clause-entry
 returns-then-self-eq0-clause-entry c =
-    sym (ap (λ es. find es c.args.key.now) (sym c.self.view_is)
+    sym (ap (λ es. find_entry es c.args.key.now) (sym c.self.view_is)
     ∙ find_empty c.self.inside.len (packages_of c.self.inside.packages) (shape c.self.inside.nothing) c.args.key.now c.self.invariant c.if-self-eq0.true)
 
 pub returns-in_err-numbered-clause-entry : goal.returns-in_err-numbered-clause-entry
 returns-in_err-numbered-clause-entry c =
     let at = in_map c.as_str.result.now c.self.inside.packages ∙ ap (package_at (packages_of c.self.inside.packages)) c.as_str.ensures.text in
     rw c.from_residual.ensures
-    (sym (ap (λ es. find es c.args.key.now) (sym c.self.view_is)
+    (sym (ap (λ es. find_entry es c.args.key.now) (sym c.self.view_is)
     ∙ find_nowhere c.self.inside.len (packages_of c.self.inside.packages) (shape c.self.inside.nothing) c.args.key.now c.self.invariant (sym (c.in_err-numbered.ensures.value ∙ at))))
 
 pub locate_in-requires : goal.locate_in-requires
@@ -31,9 +31,9 @@ returns-in_err-found-clause-entry c =
     let at = in_map c.as_str.result.now c.self.inside.packages ∙ ap (package_at (packages_of c.self.inside.packages)) c.as_str.ensures.text in
     let there : package_at (packages_of c.self.inside.packages) c.args.key.now.path ≡ Some c.in_ok-numbered.numbered.now = sym (c.in_ok-numbered.ensures.value ∙ at) in
     rw c.from_residual-in_err-found.ensures
-    (sym (ap (λ es. find es c.args.key.now) (sym c.self.view_is)
+    (sym (ap (λ es. find_entry es c.args.key.now) (sym c.self.view_is)
     ∙ (find_there c.self.inside.len (packages_of c.self.inside.packages) (shape c.self.inside.nothing) c.args.key.now c.in_ok-numbered.numbered.now c.self.invariant there
-    ∙ (ap (λ es. find es c.args.key.now) (sym c.types.ensures.value) ∙ sym c.in_err-found.ensures.entry))))
+    ∙ (ap (λ es. find_entry es c.args.key.now) (sym c.types.ensures.value) ∙ sym c.in_err-found.ensures.entry))))
 
 pub overflow_add-result : goal.overflow_add-result
 overflow_add-result c =
@@ -48,9 +48,9 @@ returns-clause-entry c =
     let at = in_map c.as_str.result.now c.self.inside.packages ∙ ap (package_at (packages_of c.self.inside.packages)) c.as_str.ensures.text in
     let there : package_at (packages_of c.self.inside.packages) c.args.key.now.path ≡ Some c.in_ok-numbered.numbered.now = sym (c.in_ok-numbered.ensures.value ∙ at) in
     c.in_ok-found.ensures.entry
-    ∙ (ap (λ es. find es c.args.key.now) c.types.ensures.value
+    ∙ (ap (λ es. find_entry es c.args.key.now) c.types.ensures.value
     ∙ (sym (find_there c.self.inside.len (packages_of c.self.inside.packages) (shape c.self.inside.nothing) c.args.key.now c.in_ok-numbered.numbered.now c.self.invariant there)
-    ∙ ap (λ es. find es c.args.key.now) c.self.view_is))
+    ∙ ap (λ es. find_entry es c.args.key.now) c.self.view_is))
 
 pub returns-clause-number : goal.returns-clause-number
 returns-clause-number c =

@@ -1,3 +1,0 @@
-pub mod Calling
-pub mod Laws
-pub mod Standing

@@ -1,0 +1,4 @@
+pub mod Equal
+pub mod Listed
+pub mod Records
+pub mod SameLists

@@ -1,4 +1,0 @@
-pub mod Making
-pub mod Refusing
-pub mod Standing
-pub mod Telling

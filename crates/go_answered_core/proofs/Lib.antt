@@ -1,5 +1,0 @@
-mod Answering
-pub mod Given
-pub mod Grammar
-mod Lists
-mod Standing

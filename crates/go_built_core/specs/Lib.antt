@@ -1,4 +1,0 @@
-pub mod Laws
-pub mod Reached
-pub mod TreeLaws
-pub mod Trees

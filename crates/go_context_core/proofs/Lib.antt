@@ -1,9 +1,0 @@
-mod Bodies
-mod Checked
-mod Entries
-mod InFiles
-mod Initials
-mod Lengths
-mod Listed
-mod Outer
-mod Places

@@ -1,2 +1,0 @@
--- What the crates above name of go_env_core.
-pub use Rattle.go_respell_core.specs.env_core.declared as declared

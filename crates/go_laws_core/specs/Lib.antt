@@ -1,0 +1,11 @@
+pub mod AnswerLaws
+pub mod Calling
+pub mod Calls
+pub mod CodeLaws
+pub mod ConstantLaws
+pub mod FileLaws
+pub mod ObjectLaws
+pub mod Reached
+pub mod Standing
+pub mod TreeLaws
+pub mod Trees

@@ -1,0 +1,40 @@
+//! What a selector denotes: the field or method at the shallowest depth, searched by one level of embedded fields after another.
+//!
+//! The Go specification, "Selectors", "Struct types".
+#![tactic(auto)]
+
+mod level;
+mod numbers;
+mod operand;
+mod path;
+mod search;
+mod trails;
+
+pub use level::{Levels, Reached, expand};
+pub use numbers::Numbers;
+pub use operand::{Operand, behind};
+pub use path::EmbedPath;
+pub use search::{Selected, is_field, select, select_behind_pointer};
+pub use trails::Trails;
+
+/// What the crates above name of `go_embed_core`.
+pub mod embed_core {
+    pub use go_embed_core::{Member, Owner};
+}
+
+/// What the crates above name of `go_settle_core`.
+pub mod settle_core {
+    pub use go_embed_core::settle_core::{Kind, kind_of, settle, settle_signature};
+}
+
+/// What the crates above name of `go_table_core`.
+pub mod table_core {
+    pub use go_embed_core::table_core::{DeclaredMethod, DefinedType, PackageTypes, TypeTable};
+}
+
+/// What the crates above name of `go_type_core`.
+pub mod type_core {
+    pub use go_embed_core::type_core::{
+        Basic, Method, Signature, TypeTable, TypeTerm, has_same_signature,
+    };
+}

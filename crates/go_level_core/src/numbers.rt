@@ -1,0 +1,48 @@
+//! Which types of a table were met, and where.
+ghost use Rattle.std.specs.Prelude.{◌≡◌, ◌++◌, ◌∷◌, [], None, nat_eq, OnOk};
+ghost use Rattle.std.specs.Map.{lookup};
+
+use indexmap::IndexMap;
+use std::alloc::{AllocError, Global};
+use std::marker::Model;
+
+/// Types by their numbers in a table, each with its place among those that are reached. Contracts see the list of the pairs.
+#[derive(Drop)]
+pub struct Numbers {
+    places: IndexMap<usize, usize>,
+}
+
+impl Model for Numbers {
+    ghost use Rattle.std.specs.Prelude.{List, ℕ};
+
+    ghost Value = { List (ℕ × ℕ) };
+
+    ghost view = { λ m. m.places.entries };
+}
+
+impl Numbers {
+    /// No types.
+    pub(crate) fn new(alloc: Global) -> Numbers
+        ensures { result ≡ [] }
+    {
+        Numbers {
+            places: IndexMap::new(alloc),
+        }
+    }
+
+    /// The place of a type, where it was met.
+    pub(crate) fn place(&self, number: usize) -> Option<usize>
+        ensures { result ≡ lookup (nat_eq number) self.now }
+    {
+        self.places.get(&number).copied()
+    }
+
+    /// Notes the place of a type.
+    pub(crate) fn add(&mut self, number: usize, place: usize) -> Result<(), AllocError>
+        requires { lookup (nat_eq number) self.old ≡ None }
+        ensures { OnOk result (self.new ≡ self.old ++ (number, place) ∷ []) }
+    {
+        self.places.insert(number, place)?;
+        Ok(())
+    }
+}

@@ -1,0 +1,69 @@
+//! Paths that share what they have in common.
+ghost use Rattle.std.specs.Prelude.{◌≡◌, ◌<◌, ◌++◌, ◌∷◌, [], length, get_or, IfOk, OnOk};
+
+use crate::path::EmbedPath;
+use smallvec::SmallVec;
+use std::alloc::{AllocError, Global};
+use std::marker::Model;
+
+// A path that is one field longer than another.
+#[derive(Clone, Copy)]
+struct Link {
+    // The number of the other path.
+    before: usize,
+    step: usize,
+}
+
+/// Paths by numbers, each but the first one field longer than an earlier one. Contracts see the list of the paths, of which the first is
+/// empty.
+#[derive(Drop)]
+pub struct Trails {
+    links: Vec<Link>,
+}
+
+impl Model for Trails {
+    ghost use Rattle.std.specs.Prelude.{List, ℕ};
+    ghost use Rattle.go_level_core.specs.mirrors.Trails.{paths_of, Climbs};
+
+    ghost Value = { List (List ℕ) };
+
+    ghost view = { λ t. paths_of t.links.items };
+
+    ghost invariant = { λ t. Climbs t.links.items };
+}
+
+impl Trails {
+    /// The empty path alone.
+    pub(crate) fn new(alloc: Global) -> Trails
+        ensures { result ≡ [] ∷ [] }
+    {
+        Trails {
+            links: Vec::new(alloc),
+        }
+    }
+
+    /// Adds a path that is one field longer than an earlier one.
+    pub(crate) fn add(&mut self, before: usize, step: usize) -> Result<(), AllocError>
+        requires { before < length self.old }
+        ensures { OnOk result (self.new ≡ self.old ++ (get_or self.old before [] ++ step ∷ []) ∷ []) }
+    {
+        self.links.push(Link { before, step })?;
+        Ok(())
+    }
+
+    /// The path of a number.
+    pub fn path(&self, alloc: Global, number: usize) -> Result<EmbedPath, AllocError>
+        requires { number < length self.now }
+        ensures { IfOk result (λ path. path ≡ get_or self.now number []) }
+    {
+        let mut steps = SmallVec::new(alloc);
+        let mut at = number;
+        'links: while at > 0 {
+            let link = self.links[at - 1];
+            steps.push(link.step)?;
+            at = link.before;
+        }
+        steps.as_mut_slice().reverse();
+        Ok(EmbedPath { steps })
+    }
+}

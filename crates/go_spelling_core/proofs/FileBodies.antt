@@ -1,0 +1,251 @@
+-- A package in which one identifier of the body of a function is spelled anew.
+use Rattle.std.proofs.Common.{◌≡◌, ◌⊎◌, ℕ, zero, suc, ◌+◌, inl, inr, List, [], ◌∷◌, ◌++◌, map, length, slice_get, refl, sym, ap, subst, ◌∙◌}
+use Rattle.std.specs.Prelude.{⊤, Option, Some}
+use Rattle.std.specs.List.{flat_map, enumerate_from}
+use Rattle.go_tree_nodes.specs.declared.names.Ident.{Ident}
+use Rattle.go_tree_nodes.specs.Trees.{FuncTree, Lines, TopTree, FileTree}
+use Rattle.go_term_core.specs.decl_core.declared.places.Place.{Place}
+use Rattle.go_term_core.specs.decl_core.Outer.{decl_outers, tops_outers, places_of, place_of}
+use Rattle.go_term_core.specs.decl_core.TopDecls.{TopDeclTree, FormTree, FuncForm, kind_of_form, decl_decls, tops_decls}
+use Rattle.go_package_core.specs.block_core.Blocks.{BlocksModel}
+use Rattle.go_package_core.specs.table_core.Entries.{Entry}
+use Rattle.go_term_core.specs.Terms.{Term, Sign}
+use Rattle.go_package_core.specs.entry_core.Meanings.{Shows, file_meaning}
+use Rattle.go_package_core.specs.written_core.Written.{InFile}
+use Rattle.go_package_core.specs.entry_core.Outlines.{FileOutline, outline_of}
+use Rattle.go_package_core.specs.handle_core.Declarations.{Declaration}
+use Rattle.go_package_core.specs.face_core.Faces.{TheFace}
+use Rattle.go_package_core.specs.face_core.Laws.{FileDecl, file_decl, written_there}
+use Rattle.go_package_core.specs.face_core.Written.{WrittenOf, form_as_written, package_written}
+use Rattle.go_package_core.specs.face_core.Places.{positions_are_exact}
+use Rattle.go_package_core.specs.env_core.Scenes.{SceneModel}
+use Rattle.go_package_core.specs.needs_core.Needs.{AreValues, known_in}
+use Rattle.go_package_core.specs.needs_core.Needed.{one_table}
+use Rattle.go_package_core.specs.func_core.Stands.{FileStand, looks_where}
+use Rattle.go_package_core.specs.func_core.Functions.{checked_func}
+use Rattle.go_package_core.specs.ready_core.Packages.{PackageIn, outlines_in, scene_in, stand_in}
+use Rattle.go_package_core.specs.ready_core.Values.{decls_in, AreDeclared}
+use Rattle.go_spelling_core.specs.Contexts.{ContextStays}
+use Rattle.go_spelling_core.specs.Package.{FileForm, all_needs, form_needs, face_of, face_at_position, AreFacesOf}
+use Rattle.go_spelling_core.specs.Trees.{RespellsLines, RespellsSteps, InFuncBody, with_body}
+use Rattle.go_package_core.specs.local_core.Outline.{func_steps}
+use Rattle.go_package_core.specs.file_core.Files.{tops_uses}
+use Rattle.go_spelling_core.specs.Spots.{tops_spots}
+use Rattle.go_spelling_core.proofs.Looking.{looks_at_needs}
+use Rattle.go_spelling_core.specs.Files.{WritesBody, InFunc, BehindTop, with_decls, with_trees}
+use Rattle.go_spelling_core.specs.Functions.{func_spots, names_before}
+use Rattle.go_spelling_core.specs.Packages.{PackageBodiesStay}
+use Rattle.go_spelling_core.proofs.Checked.{checked_stay}
+use Rattle.go_spelling_core.proofs.InFiles.{in_bodies}
+use Rattle.go_spelling_core.proofs.Initials.{stand_for, rules_for, form_in, all_fixed, faces_of}
+use Rattle.go_package_core.specs.block_core.Declarations.{decl_ref}
+
+-- one declaration of both: the same, or the function
+abbrev pub IsOther : FuncTree → Lines → TopDeclTree → TopDeclTree → Type 0
+IsOther f body d e = (d ≡ e) ⊎ ((d.number ≡ e.number) × (d.form ≡ FuncForm f) × (e.form ≡ FuncForm (with_body f body)) × (d.ident ≡ e.ident))
+
+abbrev DeclsOther : FuncTree → Lines → List TopDeclTree → List TopDeclTree → Type 0
+DeclsOther f body [] [] = ⊤
+DeclsOther f body [] (e ∷ es) = ⊥
+DeclsOther f body (d ∷ ds) [] = ⊥
+DeclsOther f body (d ∷ ds) (e ∷ es) = IsOther f body d e × DeclsOther f body ds es
+
+pub record IsPlacedOther (f : FuncTree) (body : Lines) (d e : FileDecl) : Type 0 where
+  pub files : d.file ≡ e.file
+  pub places : d.outline.places ≡ e.outline.places
+  pub decls : IsOther f body d.decl e.decl
+
+abbrev pub AllOther : FuncTree → Lines → List FileDecl → List FileDecl → Type 0
+AllOther f body [] [] = ⊤
+AllOther f body [] (e ∷ es) = ⊥
+AllOther f body (d ∷ ds) [] = ⊥
+AllOther f body (d ∷ ds) (e ∷ es) = IsPlacedOther f body d e × AllOther f body ds es
+
+module _ (f : FuncTree) (body : Lines) where
+  -- in a file
+
+  decls_same : (ds : List TopDeclTree) → DeclsOther f body ds ds
+  decls_same [] = tt
+  decls_same (d ∷ ds) = (inl refl, decls_same ds)
+
+  decls_behind : (ds fs gs : List TopDeclTree) → DeclsOther f body fs gs → DeclsOther f body (ds ++ fs) (ds ++ gs)
+  decls_behind [] fs gs k = k
+  decls_behind (d ∷ ds) fs gs k = (inl refl, decls_behind ds fs gs k)
+
+  tops_other : (n : ℕ) (ds es : List TopTree) → WritesBody f body ds es → DeclsOther f body (tops_decls n ds) (tops_decls n es)
+  tops_other n ds es (InFunc {semicolon = s} {more = more}) = (inr (refl, refl, refl, refl), decls_same _)
+  tops_other n ds es (BehindTop {d = d} {more = more} {rest = rest} r) =
+      let next = n + length (decl_outers d.decl) in
+      decls_behind (decl_decls n d.decl) (tops_decls next more) (tops_decls next rest) (tops_other next more rest r)
+
+  outers_same : (ds es : List TopTree) → WritesBody f body ds es → tops_outers ds ≡ tops_outers es
+  outers_same ds es (InFunc {more = more}) = refl
+  outers_same ds es (BehindTop {d = d} {more = more} {rest = rest} r) = ap (λ l. decl_outers d.decl ++ l) (outers_same more rest r)
+
+  -- in a package
+
+  all_same : (ds : List FileDecl) → AllOther f body ds ds
+  all_same [] = tt
+  all_same (d ∷ ds) = (record { files = refl; places = refl; decls = inl refl }, all_same ds)
+
+  all_both : (ds es fs gs : List FileDecl) → AllOther f body ds es → AllOther f body fs gs → AllOther f body (ds ++ fs) (es ++ gs)
+  all_both [] [] fs gs h k = k
+  all_both [] (e ∷ es) fs gs h k = elim h [ ]
+  all_both (d ∷ ds) [] fs gs h k = elim h [ ]
+  all_both (d ∷ ds) (e ∷ es) fs gs h k = (h.0, all_both ds es fs gs h.1 k)
+
+  in_file : (k : ℕ) (o p : FileOutline) → o.places ≡ p.places → (ds es : List TopDeclTree) → DeclsOther f body ds es → AllOther f body (map (file_decl k o) ds) (map (file_decl k p) es)
+  in_file k o p q [] [] h = tt
+  in_file k o p q [] (e ∷ es) h = elim h [ ]
+  in_file k o p q (d ∷ ds) [] h = elim h [ ]
+  in_file k o p q (d ∷ ds) (e ∷ es) h = (record { files = refl; places = q; decls = h.0 }, in_file k o p q ds es h.1)
+
+  abbrev of_files : ℕ → List FileOutline → List FileDecl
+  of_files k os = flat_map (λ p. map (file_decl p.0 p.1) p.1.decls) (enumerate_from k os)
+
+  pub files_other : (k : ℕ) (front back : List FileTree) (g : FileTree) (ds : List TopTree) → WritesBody f body g.decls ds
+      → AllOther f body (of_files k (map outline_of (front ++ g ∷ back))) (of_files k (map outline_of (front ++ with_decls g ds ∷ back)))
+  files_other k [] back g ds r =
+      let rest = of_files (k + 1) (map outline_of back) in
+      all_both (map (file_decl k (outline_of g)) (tops_decls 0 g.decls)) (map (file_decl k (outline_of (with_decls g ds))) (tops_decls 0 ds)) rest rest
+      (in_file k (outline_of g) (outline_of (with_decls g ds)) (ap (map place_of) (outers_same g.decls ds r)) (tops_decls 0 g.decls) (tops_decls 0 ds) (tops_other 0 g.decls ds r))
+      (all_same rest)
+  files_other k (h ∷ hs) back g ds r =
+      let first = map (file_decl k (outline_of h)) (tops_decls 0 h.decls) in
+      all_both first first (of_files (k + 1) (map outline_of (hs ++ g ∷ back))) (of_files (k + 1) (map outline_of (hs ++ with_decls g ds ∷ back))) (all_same first) (files_other (k + 1) hs back g ds r)
+
+  -- what is written of a declaration, what it needs and what it is
+
+  module _ (shows : Shows) (path : List ℕ) (blocks : BlocksModel) (types : List Entry) where
+    abbrev at_place : ℕ → List Place → ℕ → FormTree → WrittenOf
+    at_place file places number tree =
+        let o : InFile = record { path = path; file = file; places = places } in
+        record { decl = decl_ref file number (kind_of_form tree); face = form_as_written (file_meaning shows path blocks file) o types number tree }
+
+    one_written : (d e : FileDecl) → IsPlacedOther f body d e → IsOther f body d.decl e.decl → written_there shows path blocks types d ≡ written_there shows path blocks types e
+    one_written d e h (inl same) =
+        ap (λ k. at_place k d.outline.places d.decl.number d.decl.form) h.files
+        ∙ (ap (λ ps. at_place e.file ps d.decl.number d.decl.form) h.places
+        ∙ ap (λ (x : TopDeclTree). at_place e.file e.outline.places x.number x.form) same)
+    one_written d e h (inr other) =
+        ap (λ k. at_place k d.outline.places d.decl.number d.decl.form) h.files
+        ∙ (ap (λ ps. at_place e.file ps d.decl.number d.decl.form) h.places
+        ∙ (ap (λ m. at_place e.file e.outline.places m d.decl.form) other.0
+        ∙ (ap (at_place e.file e.outline.places e.decl.number) other.1
+        ∙ ap (at_place e.file e.outline.places e.decl.number) (sym other.2))))
+
+    all_written : (ds es : List FileDecl) → AllOther f body ds es → map (written_there shows path blocks types) ds ≡ map (written_there shows path blocks types) es
+    all_written [] [] h = refl
+    all_written [] (e ∷ es) h = elim h [ ]
+    all_written (d ∷ ds) [] h = elim h [ ]
+    all_written (d ∷ ds) (e ∷ es) h =
+        ap (λ x. x ∷ map (written_there shows path blocks types) ds) (one_written d e h.0 h.0.decls) ∙ ap (λ l. written_there shows path blocks types e ∷ l) (all_written ds es h.1)
+
+  module _ (s : SceneModel) (shows : Shows) (path : List ℕ) (blocks : BlocksModel) where
+    abbrev form : FileDecl → FileForm
+    form d = form_in s shows path blocks d
+
+    -- by its file, the places of that and its form
+    abbrev made : ℕ → List Place → FormTree → FileForm
+    made file places tree = record { file = file; written = rules_for s shows path blocks file places; form = tree }
+
+    one_same : {A : Type 0} (of : FileForm → A) → ((file : ℕ) (places : List Place) → of (made file places (FuncForm f)) ≡ of (made file places (FuncForm (with_body f body))))
+        → (d e : FileDecl) → IsPlacedOther f body d e → IsOther f body d.decl e.decl → of (form d) ≡ of (form e)
+    one_same of bodies d e h (inl same) =
+        ap (λ k. of (made k d.outline.places d.decl.form)) h.files ∙ (ap (λ ps. of (made e.file ps d.decl.form)) h.places ∙ ap (λ (x : TopDeclTree). of (made e.file e.outline.places x.form)) same)
+    one_same of bodies d e h (inr other) =
+        ap (λ k. of (made k d.outline.places d.decl.form)) h.files
+        ∙ (ap (λ ps. of (made e.file ps d.decl.form)) h.places
+        ∙ (ap (λ tree. of (made e.file e.outline.places tree)) other.1 ∙ (bodies e.file e.outline.places ∙ ap (λ tree. of (made e.file e.outline.places tree)) (sym other.2))))
+
+    rows_same : (ds es : List FileDecl) → AllOther f body ds es → all_needs s (map form ds) ≡ all_needs s (map form es)
+    rows_same [] [] h = refl
+    rows_same [] (e ∷ es) h = elim h [ ]
+    rows_same (d ∷ ds) [] h = elim h [ ]
+    rows_same (d ∷ ds) (e ∷ es) h =
+        ap (λ row. row ∷ all_needs s (map form ds)) (one_same (form_needs s) (λ file places. refl) d e h.0 h.0.decls) ∙ ap (λ l. form_needs s (form e) ∷ l) (rows_same ds es h.1)
+
+    faces_same : (known : ℕ → Option TheFace) (n : ℕ) (ds es : List FileDecl) → AllOther f body ds es → (i : ℕ) → face_of s known n (slice_get (map form ds) i) ≡ face_of s known n (slice_get (map form es) i)
+    faces_same known n [] [] h i = refl
+    faces_same known n [] (e ∷ es) h i = elim h [ ]
+    faces_same known n (d ∷ ds) [] h i = elim h [ ]
+    faces_same known n (d ∷ ds) (e ∷ es) h zero = one_same (λ x. face_of s known n (Some x)) (λ file places. refl) d e h.0 h.0.decls
+    faces_same known n (d ∷ ds) (e ∷ es) h (suc i) = faces_same known n ds es h.1 i
+
+    known_same : (ds es : List FileDecl) (t u : List (Option TheFace)) → AllOther f body ds es → AreFacesOf s (map form ds) t → AreFacesOf s (map form es) u → t ≡ u
+    known_same ds es t u h at au =
+        let back : AreValues TheFace (all_needs s (map form ds)) (face_at_position s (map form es)) u = subst (λ rows. AreValues TheFace rows (face_at_position s (map form es)) u) (sym (rows_same ds es h)) au in
+        one_table TheFace (all_needs s (map form ds)) (face_at_position s (map form ds)) t u (looks_at_needs s (map form ds) (all_fixed s shows path blocks ds)) at
+        (record { as_many = back.as_many; ends = back.ends; values = λ a v k. back.values a v k ∙ sym (faces_same (known_in u) a ds es h a); endless = back.endless })
+
+-- what is to be shown of both packages
+abbrev InFileStays : (x : Ident) (name : List ℕ) (f : FuncTree) (body : Lines) (types : List Entry) (n : ℕ) (t u : List (Option TheFace)) (g : FileTree) (ds : List TopTree) (p q : PackageIn) → Type 0
+InFileStays x name f body types n t u g ds p q =
+    (c : RespellsSteps x name (func_steps f) (func_steps (with_body f body)))
+    × ContextStays Term Sign Declaration (List ℕ) (looks_where (stand_in q types u n (outline_of (with_decls g ds))) (names_before (stand_in q types u n (outline_of (with_decls g ds))) x name f (with_body f body) c)) x name
+    (tops_spots (stand_in p types t n (outline_of g)) g.decls) (tops_uses (stand_in q types u n (outline_of (with_decls g ds))) ds)
+
+module _ (x : Ident) (name : List ℕ) (f : FuncTree) (body : Lines) (r : RespellsLines x name f.body body) (n : ℕ) (p : PackageIn) (types : List Entry) (t u : List (Option TheFace)) (front back : List FileTree) (g : FileTree) (ds : List TopTree)
+    (writes : WritesBody f body g.decls ds) where
+  abbrev old : PackageIn
+  old = with_trees p (front ++ g ∷ back)
+
+  abbrev new : PackageIn
+  new = with_trees p (front ++ with_decls g ds ∷ back)
+
+  others : AllOther f body (decls_in old) (decls_in new)
+  others = files_other f body 0 front back g ds writes
+
+  written_same : package_written p.shows p.path p.blocks types (outlines_in new) ≡ package_written p.shows p.path p.blocks types (outlines_in old)
+  written_same =
+      positions_are_exact.listed p.shows p.path p.blocks types (outlines_in new)
+      ∙ (sym (all_written f body p.shows p.path p.blocks types (decls_in old) (decls_in new) others) ∙ sym (positions_are_exact.listed p.shows p.path p.blocks types (outlines_in old)))
+
+  abbrev scene_with : List WrittenOf → SceneModel
+  scene_with ws = record { path = p.path; blocks = p.blocks; types = types; others = p.others; written = ws }
+
+  scene_same : scene_in new types ≡ scene_in old types
+  scene_same = ap scene_with written_same
+
+  places_same : places_of g ≡ places_of (with_decls g ds)
+  places_same = ap (map place_of) (outers_same f body g.decls ds writes)
+
+  module _ (at : AreDeclared old types t) (au : AreDeclared new types u) where
+    pub tables_same : t ≡ u
+    tables_same =
+        let s = scene_in old types in
+        known_same f body s p.shows p.path p.blocks (decls_in old) (decls_in new) t u others (faces_of old types t at)
+        (subst (λ k. AreFacesOf k (map (form_in k p.shows p.path p.blocks) (decls_in new)) u) scene_same (faces_of new types u au))
+
+    abbrev before : FileStand
+    before = stand_in old types t n (outline_of g)
+
+    abbrev after : FileStand
+    after = stand_in new types u n (outline_of (with_decls g ds))
+
+    stands_same : after ≡ before
+    stands_same =
+        ap (λ s. stand_for s p.shows p.path p.blocks u n (places_of (with_decls g ds))) scene_same
+        ∙ (ap (λ known. stand_for (scene_in old types) p.shows p.path p.blocks known n (places_of (with_decls g ds))) (sym tables_same)
+        ∙ ap (stand_for (scene_in old types) p.shows p.path p.blocks t n) (sym places_same))
+
+    -- among all that the file has
+    file_stays : InFileStays x name f body types n t u g ds old new
+    file_stays =
+        let c = checked_stay after x name f (with_body f body) (InFuncBody r) in
+        let looks = looks_where after (names_before after x name f (with_body f body) c.respells) in
+        let here : ContextStays Term Sign Declaration (List ℕ) looks x name (func_spots before f) (checked_func after (with_body f body)).uses =
+        subst (λ st. ContextStays Term Sign Declaration (List ℕ) looks x name (func_spots st f) (checked_func after (with_body f body)).uses) stands_same c.stays in
+        (c.respells, in_bodies before after looks x name f body here g.decls ds writes)
+
+pub bodies_stay : PackageBodiesStay
+bodies_stay x name f body n p q types t u r h at au =
+    let olds : List FileTree = h.front ++ h.file ∷ h.back in
+    let news : List FileTree = h.front ++ with_decls h.file h.decls ∷ h.back in
+    let old_is : p ≡ with_trees p olds = ap (with_trees p) h.before in
+    let at' : AreDeclared (with_trees p olds) types t = subst (λ k. AreDeclared k types t) old_is at in
+    let au' : AreDeclared (with_trees p news) types u = subst (λ k. AreDeclared k types u) h.after au in
+    let there : InFileStays x name f body types n t u h.file h.decls (with_trees p olds) (with_trees p news) = file_stays x name f body r n p types t u h.front h.back h.file h.decls h.writes at' au' in
+    let moved : InFileStays x name f body types n t u h.file h.decls p q =
+    subst (λ k. InFileStays x name f body types n t u h.file h.decls p k) (sym h.after) (subst (λ k. InFileStays x name f body types n t u h.file h.decls k (with_trees p news)) (sym old_is) there) in
+    record { known = tables_same x name f body r n p types t u h.front h.back h.file h.decls h.writes at' au'; respells = moved.0; stays = moved.1 }

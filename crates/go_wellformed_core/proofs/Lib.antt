@@ -1,8 +1,0 @@
-pub mod Among
-pub mod Called
-pub mod Declaring
-pub mod Functions
-pub mod Placed
-pub mod Referring
-pub mod Snapshots
-pub mod Sound

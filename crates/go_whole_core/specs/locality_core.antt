@@ -1,3 +1,0 @@
--- What the crates above name of go_locality_core.
-pub use Rattle.go_locality_core.specs.Known as Known
-pub use Rattle.go_locality_core.specs.Laws as Laws
