@@ -2,20 +2,22 @@
 """Finds imports of definitions and lemmas that lead nowhere, by text alone and in seconds: python3 bench/imports.py [ROOT] [CRATE ..]
 
 Of each `use Rattle.CRATE.MODULE` in crates/ it asks that the module is there, or is passed on from where it is, and that what stands between its
-braces is named in it; of each written answer that its goals are those of its own folder; and of each crate that no lemma file has the name of a
+braces is named in it, beside its comments and what it imports for itself; of what stands in definitions and lemmas behind another name of a module the same; of each written answer that its goals are those of its own folder; and of each crate that no lemma file has the name of a
 module of its code but for the case of its letters. It proves nothing, and knows nothing of what the toolchain makes (`specs.declared`, goals)."""
 import os
 import re
 import sys
 
 USE = re.compile(r"use Rattle\.(go\w+)\.([\w.]+?)(?:\.(\{[^}]*\}))?(?: as \w+)?(?=[;\n}]|$)")
+AS = re.compile(r"(?m)^(?:ghost )?use Rattle\.(go\w+)\.([\w.]+) as (\w+);?$")
+OWN = re.compile(r"(?m)^use [^\n]*$|^ *--[^\n]*$")
 GOALS = re.compile(r"(Rattle\.[^\s{}]*?)\.(?:Goals|Given)\b")
 MADE = ("declared", "contracts")
 
 
 class Sources:
     def __init__(self, root):
-        self.crates, self.texts = os.path.join(root, "crates"), {}
+        self.crates, self.texts, self.shown = os.path.join(root, "crates"), {}, {}
 
     def text(self, path):
         if path not in self.texts:
@@ -43,7 +45,11 @@ class Sources:
         return None
 
     def names(self, file, name):
-        return not file or re.search(rf"(?m)(^|[\s{{,.]){re.escape(name)}(\s|[,}}:]|$)", self.text(file)) is not None
+        if not file:
+            return True
+        if file not in self.shown:
+            self.shown[file] = OWN.sub("", self.text(file))
+        return re.search(rf"(?m)(^|[\s{{,.]){re.escape(name)}(\s|[,}}:]|$)", self.shown[file]) is not None
 
     def lost(self, crate, path, braces):
         """What an import names that is not there."""
@@ -66,6 +72,11 @@ def faults_of(sources, crate):
             for crate_named, module, braces in USE.findall(GOALS.sub("", sources.text(path))):
                 for it in sources.lost(crate_named, module, braces):
                     yield f"{os.path.relpath(path, sources.crates)}: {crate_named} has no {it}"
+            for crate_named, module, alias in AS.findall(sources.text(path)) if name.endswith(".antt") else []:
+                file = sources.module(crate_named, module.split("."))
+                for it in sorted(set(re.findall(rf"(?<![\w.]){alias}\.([A-Za-z_]\w*)", OWN.sub("", sources.text(path))))):
+                    if file and not sources.names(file, it):
+                        yield f"{os.path.relpath(path, sources.crates)}: {crate_named}.{module} has no {it}"
             own = "Rattle." + ".".join(os.path.relpath(at, sources.crates).split(os.sep))
             for it in GOALS.findall(sources.text(path)):
                 if it != own:

@@ -5,8 +5,9 @@ use Rattle.go_term_core.specs.declared.term.Field.{Field}
 use Rattle.go_term_core.specs.declared.term.Method.{Method}
 use Rattle.go_term_core.specs.Terms.{Term, NoType}
 use Rattle.go_term_core.specs.Shapes.{Line, line_with, line_at, term_at, fields_in, terms_in, method_shapes}
-use Rattle.go_alike_core.specs.declared.terms.Pair.{Pair}
-use Rattle.go_alike_core.specs.mirrors.Same.{IsMet, IsNoLine, IsSameHead, IsSameLine, IsSameMethod, SameTerm, SameFields, SameMethods, SameTerms}
+use Rattle.go_term_core.specs.declared.same.LinePair.{LinePair}
+use Rattle.go_term_core.specs.Meeting.{IsMet}
+use Rattle.go_alike_core.specs.mirrors.Same.{IsNoLine, IsSameHead, IsSameLine, IsSameMethod, SameTerm, SameFields, SameMethods, SameTerms}
 
 -- a test that failed, of what does not hold
 pub fails : {W : Type 0} → (W → ⊥) → IsTrue false ↔ W
@@ -56,20 +57,20 @@ both_end P nil items xs ys i are many h so_far =
     (λ _. so_far.0 (subst (λ l. P l (drop i ys)) (sym (drop_all i xs below)) (subst (λ l. P [] l) (sym (drop_all i ys (subst (λ n. n ≤ i) many below))) nil)), λ _. refl)
 
 -- the lines that met last are the same
-abbrev pub KnowsLines : List Line → List Line → Option Pair → Type 0
+abbrev pub KnowsLines : List Line → List Line → Option LinePair → Type 0
 KnowsLines ls ks None = Unit {0}
 KnowsLines ls ks (Some m) = IsSameLine (line_at ls m.one) (line_at ks m.other)
 
 -- the terms that met last are the same
-abbrev pub KnowsTerms : List Term → List Term → Option Pair → Type 0
+abbrev pub KnowsTerms : List Term → List Term → Option LinePair → Type 0
 KnowsTerms ts us None = Unit {0}
 KnowsTerms ts us (Some m) = SameTerm (term_at ts m.one) (term_at us m.other)
 
-pub lines_known : (ls ks : List Line) (met : Option Pair) (m : Pair) → KnowsLines ls ks met → IsMet met m ⊎ IsSameLine (line_at ls m.one) (line_at ks m.other) → IsSameLine (line_at ls m.one) (line_at ks m.other)
+pub lines_known : (ls ks : List Line) (met : Option LinePair) (m : LinePair) → KnowsLines ls ks met → IsMet met m ⊎ IsSameLine (line_at ls m.one) (line_at ks m.other) → IsSameLine (line_at ls m.one) (line_at ks m.other)
 lines_known ls ks met m knows (inl e) = subst (KnowsLines ls ks) e knows
 lines_known ls ks met m knows (inr h) = h
 
-pub terms_known : (ts us : List Term) (met : Option Pair) (m : Pair) → KnowsTerms ts us met → IsMet met m ⊎ SameTerm (term_at ts m.one) (term_at us m.other) → SameTerm (term_at ts m.one) (term_at us m.other)
+pub terms_known : (ts us : List Term) (met : Option LinePair) (m : LinePair) → KnowsTerms ts us met → IsMet met m ⊎ SameTerm (term_at ts m.one) (term_at us m.other) → SameTerm (term_at ts m.one) (term_at us m.other)
 terms_known ts us met m knows (inl e) = subst (KnowsTerms ts us) e knows
 terms_known ts us met m knows (inr h) = h
 

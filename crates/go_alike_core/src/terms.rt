@@ -4,10 +4,12 @@
 //! of a package is the same only where all of it is.
 ghost use Rattle.std.specs.Prelude.{◌≡◌, ◌↔◌, ◌⊎◌, IsTrue, map};
 ghost use Rattle.go_term_core.specs.Shapes.{shape, sign_of, fields_in, line_at, line_shape, line_shapes, method_shapes, param_shapes, term_at, terms_in};
-ghost use Rattle.go_term_core.specs.Terms.{NoType};
-ghost use Rattle.go_alike_core.specs.mirrors.Same.{IsMet, IsNoLine, IsSameHead, IsSameLine, IsSameMethod, SameFields, SameMethods, SameSign, SameTerm, SameTerms};
+ghost use Rattle.go_term_core.specs.Meeting.{IsMet};
+ghost use Rattle.go_alike_core.specs.mirrors.Same.{IsNoLine, IsSameHead, IsSameLine, IsSameMethod, SameFields, SameMethods, SameSign, SameTerm, SameTerms};
 
-use go_term_core::{Field, FieldLine, Method, Params, Signature, Tag, TypeTerm};
+use go_term_core::{
+    Field, FieldLine, LinePair, Method, Params, Signature, Tag, TypeTerm, is_met, is_no_type,
+};
 
 /// Whether two types are the same. It takes no memory.
 pub(crate) fn same_term(a: &TypeTerm, b: &TypeTerm) -> bool
@@ -44,23 +46,6 @@ fn is_same_term(a: &TypeTerm, b: &TypeTerm) -> bool
     }
 }
 
-/// The numbers of two lines that meet, or of two terms: of the one type and of the other.
-#[derive(Clone, Copy)]
-struct Pair {
-    one: usize,
-    other: usize,
-}
-
-/// Whether these two met last.
-fn is_met(met: Option<Pair>, pair: Pair) -> bool
-    ensures { IsTrue result ↔ IsMet met pair }
-{
-    match met {
-        Some(met) => met.one == pair.one && met.other == pair.other,
-        None => false,
-    }
-}
-
 /// Whether two struct types have the same fields in order. Two lines are compared where they meet first, and not once for each name.
 #[cycle(same)]
 fn same_fields(fs: &Vec<Field>, ls: &Vec<FieldLine>, gs: &Vec<Field>, ks: &Vec<FieldLine>) -> bool
@@ -72,7 +57,7 @@ fn same_fields(fs: &Vec<Field>, ls: &Vec<FieldLine>, gs: &Vec<Field>, ks: &Vec<F
     let mut met = None;
     for (i, f) in fs.iter().enumerate() {
         let g = &gs[i];
-        let pair = Pair {
+        let pair = LinePair {
             one: f.line,
             other: g.line,
         };
@@ -93,7 +78,12 @@ fn is_same_head(f: &Field, g: &Field) -> bool
 
 /// Whether two lines met last, or are the same.
 #[cycle(same)]
-fn are_lines_same(ls: &Vec<FieldLine>, ks: &Vec<FieldLine>, met: Option<Pair>, pair: Pair) -> bool
+fn are_lines_same(
+    ls: &Vec<FieldLine>,
+    ks: &Vec<FieldLine>,
+    met: Option<LinePair>,
+    pair: LinePair,
+) -> bool
     ensures { IsTrue result ↔ (IsMet met pair ⊎ IsSameLine (line_at (line_shapes ls.now.items) pair.one) (line_at (line_shapes ks.now.items) pair.other)) }
 {
     if is_met(met, pair) {
@@ -120,21 +110,6 @@ fn is_no_line(l: &FieldLine) -> bool
     ensures { IsTrue result ↔ IsNoLine (line_shape l.now) }
 {
     !l.embedded && l.tag.is_same(&Tag::none()) && is_no_type(&l.term)
-}
-
-/// Whether a term is no type.
-fn is_no_type(term: &TypeTerm) -> bool
-    ensures { IsTrue result ↔ (shape term.now ≡ NoType) }
-{
-    match term {
-        TypeTerm::NoType => true,
-        TypeTerm::Basic(_) => false,
-        TypeTerm::Error => false,
-        TypeTerm::Defined(_) => false,
-        TypeTerm::Pointer(_) => false,
-        TypeTerm::Struct(_, _, _) => false,
-        TypeTerm::Interface(_, _) => false,
-    }
 }
 
 /// Whether two interface types have the same methods in order.
@@ -189,7 +164,7 @@ fn same_terms(ts: &Vec<TypeTerm>, ns: &Vec<usize>, us: &Vec<TypeTerm>, ms: &Vec<
     }
     let mut met = None;
     for (i, n) in ns.iter().enumerate() {
-        let pair = Pair {
+        let pair = LinePair {
             one: *n,
             other: ms[i],
         };
@@ -203,7 +178,12 @@ fn same_terms(ts: &Vec<TypeTerm>, ns: &Vec<usize>, us: &Vec<TypeTerm>, ms: &Vec<
 
 /// Whether two terms met last, or are the same.
 #[cycle(same)]
-fn are_terms_same(ts: &Vec<TypeTerm>, us: &Vec<TypeTerm>, met: Option<Pair>, pair: Pair) -> bool
+fn are_terms_same(
+    ts: &Vec<TypeTerm>,
+    us: &Vec<TypeTerm>,
+    met: Option<LinePair>,
+    pair: LinePair,
+) -> bool
     ensures { IsTrue result ↔ (IsMet met pair ⊎ SameTerm (term_at (map shape ts.now.items) pair.one) (term_at (map shape us.now.items) pair.other)) }
 {
     if is_met(met, pair) {

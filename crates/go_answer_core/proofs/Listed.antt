@@ -13,7 +13,7 @@ use Rattle.go_term_core.specs.decl_core.declared.keys.DeclRef.{DeclRef}
 use Rattle.go_report_core.proofs.Members.{In, in_at, contained_in, in_contained}
 use Rattle.go_face_core.specs.Faces.{TheFace}
 use Rattle.go_face_core.specs.Written.{same_decl_place}
-use Rattle.go_face_core.specs.mirrors.Ordering.{place_cmp}
+use Rattle.go_term_core.specs.decl_core.Order.{place_cmp}
 use Rattle.go_face_core.proofs.Placed.{place_total, same_equal, equal_same}
 use Rattle.go_answer_core.specs.Shown.{is_decl_listed, shown_among, shown_if}
 

@@ -8,7 +8,7 @@ use Rattle.go_term_core.specs.decl_core.declared.keys.DeclRef.{DeclRef}
 use Rattle.go_face_core.specs.Faces.{TheFace}
 use Rattle.go_face_core.specs.Packages.{DeclaredOf, decls_declared}
 use Rattle.go_face_core.specs.Written.{DeclsRise, IsDeclBefore}
-use Rattle.go_face_core.specs.mirrors.Ordering.{place_cmp}
+use Rattle.go_term_core.specs.decl_core.Order.{place_cmp}
 use Rattle.go_face_core.proofs.Placed.{place_total, before_less}
 use Rattle.go_answer_core.specs.Shown.{is_decl_listed, shown_among, shown_if}
 

@@ -3,9 +3,9 @@ use Rattle.std.specs.Prelude.{◌≡◌, ℕ, true, false, List, [], ◌∷◌, 
 use Rattle.go_text_core.specs.declared.rule.Rule.TheVariants.{B5, B1, Y7}
 use Rattle.go_tree_nodes.specs.declared.decls.ValueKind.TheVariants as value_kinds
 use Rattle.go_tree_nodes.specs.Trees.{One, Integer}
+use Rattle.go_tree_nodes.specs.Samples.{at, called}
 use Rattle.go_term_core.specs.decl_core.declared.keys.DeclRef.{DeclRef}
 use Rattle.go_term_core.specs.decl_core.declared.places.DeclKind.TheVariants as kinds
-use Rattle.go_term_core.specs.decl_core.Sample.{at, called}
 use Rattle.go_term_core.specs.decl_core.TopDecls.{TopDeclTree, ValueForm, top_decl}
 use Rattle.go_fault_core.specs.block_core.Blocks.{BlocksModel, blocks_model}
 use Rattle.go_fault_core.specs.block_core.Faults.{block_fault}

@@ -5,8 +5,8 @@ ghost use Rattle.std.specs.Option.{option_map};
 ghost use Rattle.go_face_core.specs.Faces.{face_shown};
 ghost use Rattle.go_face_core.specs.Held.{declared_shown};
 ghost use Rattle.go_face_core.specs.Written.{DeclsRise, decls_of};
-ghost use Rattle.go_face_core.specs.mirrors.Ordering.{place_cmp};
 ghost use Rattle.go_fault_core.specs.block_core.Exports.{name_and_decl};
+ghost use Rattle.go_term_core.specs.decl_core.Order.{place_cmp};
 ghost use Rattle.go_answer_core.specs.Shown.{exported_decls, is_decl_listed, package_shown, shown_among, shown_if};
 ghost use Rattle.go_answer_core.specs.mirrors.Steps.{shown_at};
 
@@ -14,11 +14,10 @@ use go_face_core::handle_core::{SignatureRef, TypeRef};
 use go_face_core::{DeclaredFace, Face, PackageFaces, WrittenFaces, hold};
 use go_fault_core::block_core::{Blocks, NamedDecl};
 use go_path_core::ImportPath;
-use go_term_core::decl_core::DeclRef;
+use go_term_core::decl_core::{DeclRef, place_order};
 use go_term_core::{Signature, TypeTerm};
 use go_text_core::{add, is_exported};
 use std::alloc::{AllocError, Global};
-use std::cmp::Ordering;
 
 // What a declaration is, lent: none where nothing is known of it.
 type Known<'p> = Option<Face<TypeRef<'p>, SignatureRef<'p>>>;
@@ -52,15 +51,6 @@ pub fn held_faces(
         add(&mut held, hold_known(alloc, face)?)?;
     }
     Ok(held)
-}
-
-// The order of declarations of a package: by file, then by number there.
-fn place_order(one: DeclRef, other: DeclRef) -> Ordering
-    ensures { result ≡ place_cmp one other }
-{
-    one.file
-        .cmp(&other.file)
-        .then(one.number.cmp(&other.number))
 }
 
 // The declarations that a block has under exported names, in the order of the block.

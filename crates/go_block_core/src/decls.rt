@@ -1,13 +1,12 @@
 //! The declarations of the package block.
 ghost use Rattle.std.specs.Prelude.{◌≡◌};
-ghost use Rattle.go_decl_core.specs.Outer.{kind_of_value};
 ghost use Rattle.go_decl_core.specs.Shown.{decl_shown};
 ghost use Rattle.go_tree_nodes.specs.TypeShapes.{shape_results, shape_signature};
 ghost use Rattle.go_block_core.specs.Declarations.{top_declared, without_results, is_procedure};
 ghost use Rattle.go_block_core.specs.mirrors.Shown.{declaration_shown, declared_shown, named_place};
 
-use go_decl_core::{DeclForm, DeclKind, DeclRef, TopDecl};
-use go_tree_nodes::{Results, Signature, ValueKind};
+use go_decl_core::{DeclForm, DeclKind, DeclRef, TopDecl, kind_of_value};
+use go_tree_nodes::{Results, Signature};
 
 /// A declaration of a package block with its name and the offset in bytes of its identifier, and whether it is a
 /// function without parameters and results.
@@ -17,16 +16,6 @@ pub(crate) struct NamedPlace<'a> {
     pub(crate) at: usize,
     pub(crate) decl: DeclRef,
     pub(crate) is_procedure: bool,
-}
-
-/// What a declaration of values declares.
-fn kind_of(kind: ValueKind) -> DeclKind
-    ensures { result ≡ kind_of_value kind }
-{
-    match kind {
-        ValueKind::Const => DeclKind::Const,
-        ValueKind::Var => DeclKind::Var,
-    }
 }
 
 /// Whether a signature has no results.
@@ -73,7 +62,7 @@ pub(crate) fn declaration<'a>(file: usize, top: &TopDecl<'a>) -> Option<NamedPla
     ensures { declared_shown result ≡ top_declared file (decl_shown top.now) }
 {
     match top.form {
-        DeclForm::Value(kind, _, _) => Some(named_place(file, top, kind_of(kind), false)),
+        DeclForm::Value(kind, _, _) => Some(named_place(file, top, kind_of_value(kind), false)),
         DeclForm::Type(_) => Some(named_place(file, top, DeclKind::Type, false)),
         DeclForm::Func(func) => {
             if func.receiver.is_some() {

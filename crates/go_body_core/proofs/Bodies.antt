@@ -14,7 +14,7 @@ use Rattle.go_piece_core.specs.Headers.{returned_types, returned_names}
 use Rattle.go_env_core.specs.face_core.Faces.{TheFace}
 use Rattle.go_env_core.specs.declared.meaning.Meaning.{Meaning}
 use Rattle.go_env_core.specs.Scenes.{SceneModel}
-use Rattle.go_env_core.specs.Looks.{fault_of}
+use Rattle.go_env_core.specs.Looks.{local_fault_of}
 use Rattle.go_body_core.specs.declared.body.CheckedBody.{CheckedBody}
 use Rattle.go_body_core.specs.Notes.{TheUse, TheLocal, NoteOf, all_uses, noted_faults, all_locals}
 use Rattle.go_body_core.specs.Rules.{body_rules, func_body_rules, outside_looks, outside_in}
@@ -26,8 +26,8 @@ body_by : (f : FuncTree) (o : Out Meaning NoteOf) (notes : List NoteOf) (names :
 body_by f o notes names us fs ls n m h = (
   h.0 ∙ ap all_uses n,
   h.1
-      ∙ (ap (λ ns. noted_faults ns ++ (map fault_of (names ++ lines_loop_faults false f.body) ++ end_faults (all_uses ns) f)) n
-      ∙ ap (λ xs. noted_faults o.notes ++ (map fault_of (xs ++ lines_loop_faults false f.body) ++ end_faults (all_uses o.notes) f)) m),
+      ∙ (ap (λ ns. noted_faults ns ++ (map local_fault_of (names ++ lines_loop_faults false f.body) ++ end_faults (all_uses ns) f)) n
+      ∙ ap (λ xs. noted_faults o.notes ++ (map local_fault_of (xs ++ lines_loop_faults false f.body) ++ end_faults (all_uses o.notes) f)) m),
   h.2 ∙ ap all_locals n,
 )
 

@@ -13,7 +13,8 @@ use Rattle.go_env_core.specs.scope_core.Models.{scopes_model}
 use Rattle.go_env_core.specs.inline_core.Types.{InlineOf}
 use Rattle.go_piece_core.specs.expr_core.declared.things.Fault.{Fault}
 use Rattle.go_piece_core.specs.Headers.{returned_types}
-use Rattle.go_piece_core.specs.Pieces.{piece_uses, piece_faults, piece_values, piece_names}
+use Rattle.go_piece_core.specs.Pieces.{piece_uses, piece_faults, piece_values}
+use Rattle.go_piece_core.specs.local_core.Pieces.{piece_declares}
 use Rattle.go_env_core.specs.face_core.Faces.{TheFace}
 use Rattle.go_env_core.specs.declared.scene.Scene.{Scene}
 use Rattle.go_env_core.specs.declared.here.Here.{Here}
@@ -74,12 +75,12 @@ module _ (a : Pieces) (names : OpenNames Meaning) (firsts : List Bool) (p : Piec
   abbrev place_looks : TheLooks
   place_looks = looks_at a names
 
-  pub by_rules : idents ≡ piece_names p
+  pub by_rules : idents ≡ piece_declares p
       → new ≡ old ++ note (piece_uses place_looks p) (piece_faults place_looks a.results.now a.has_names firsts p) (declared_among firsts (locals_of idents (piece_values place_looks firsts p))) ∷ []
       → new ≡ old ++ (rules_of a).notes (open_look meanings.Outside names) firsts p
   by_rules same added =
       let declared : declared_among firsts (locals_of idents (piece_values place_looks firsts p)) ≡ piece_locals firsts p (local_at p (piece_values place_looks firsts p)) =
-      ap (λ is. declared_among firsts (locals_of is (piece_values place_looks firsts p))) same ∙ ap (declared_among firsts) (locals_meant (piece_names p) (piece_values place_looks firsts p)) in
+      ap (λ is. declared_among firsts (locals_of is (piece_values place_looks firsts p))) same ∙ ap (declared_among firsts) (locals_meant (piece_declares p) (piece_values place_looks firsts p)) in
       added ∙ (λ n. old ++ note (piece_uses place_looks p) (piece_faults place_looks a.results.now a.has_names firsts p) (declared n) ∷ [])
 
 pub on_ok : {A E P : Type 0} (r : Result A E) → P → OnOk r P

@@ -7,13 +7,13 @@ use Rattle.go_piece_core.specs.operand_core.declared.types.Operand.{Operand}
 use Rattle.go_term_core.specs.Terms.{Term}
 use Rattle.go_tree_nodes.specs.declared.names.Ident.{Ident}
 use Rattle.go_piece_core.specs.local_core.Steps.{Piece}
+use Rattle.go_piece_core.specs.local_core.Pieces.{ident_place, piece_declares}
 use Rattle.go_piece_core.specs.local_core.Binding.{NameLook}
 use Rattle.go_piece_core.specs.local_core.Law.{Rules}
 use Rattle.go_env_core.specs.names_core.Scope.{beyond_in}
 use Rattle.go_env_core.specs.names_core.Body.{each_means}
-use Rattle.go_env_core.specs.names_core.Uses.{ident_place}
 use Rattle.go_piece_core.specs.expr_core.Looks.{WrittenRules}
-use Rattle.go_piece_core.specs.Pieces.{piece_uses, piece_faults, piece_values, piece_names}
+use Rattle.go_piece_core.specs.Pieces.{piece_uses, piece_faults, piece_values}
 use Rattle.go_piece_core.specs.Headers.{returned_types, returned_names}
 use Rattle.go_env_core.specs.face_core.Faces.{TheFace}
 use Rattle.go_env_core.specs.declared.meaning.Meaning.{Meaning}
@@ -53,11 +53,11 @@ declared_among (first ∷ firsts) (m ∷ ms) = local_if first m ++ declared_amon
 
 -- what the n-th name means that a piece declares, where its names stand for these values: a local, by the offset of its identifier
 abbrev pub local_at : Piece → List (Option (Operand Term)) → ℕ → Meaning
-local_at p vs n = meanings.Local (ident_place (piece_names p) n) (value_at vs n)
+local_at p vs n = meanings.Local (ident_place (piece_declares p) n) (value_at vs n)
 
 -- the locals that a piece declares, by which of its names are the first of their block, and what the n-th means
 abbrev pub piece_locals : List Bool → Piece → (ℕ → Meaning) → List TheLocal
-piece_locals firsts p means = declared_among firsts (each_means means 0 (piece_names p))
+piece_locals firsts p means = declared_among firsts (each_means means 0 (piece_declares p))
 
 -- by look-ups that are made of what names mean, the types of the function's results, and whether these have names: of a piece its uses, its faults
 -- and the locals that it declares are noted, and a name that it declares is a local, by the offset of its identifier, which stands for its value

@@ -13,8 +13,6 @@ pub use Rattle.go_env_core.specs.block_core.Laws as Laws
 pub use Rattle.go_env_core.specs.block_core.Naming as Naming
 pub use Rattle.go_env_core.specs.block_core.NamingLemmas as NamingLemmas
 pub use Rattle.go_env_core.specs.block_core.OneBlocks as OneBlocks
-pub use Rattle.go_env_core.specs.block_core.Pieces as Pieces
-pub use Rattle.go_env_core.specs.block_core.SpecLemmas as SpecLemmas
 pub use Rattle.go_env_core.specs.block_core.Tables as Tables
 pub use Rattle.go_env_core.specs.block_core.declared as declared
 pub use Rattle.go_env_core.specs.block_core.mirrors as mirrors

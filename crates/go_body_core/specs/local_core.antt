@@ -4,6 +4,7 @@ pub use Rattle.go_piece_core.specs.local_core.Binding as Binding
 pub use Rattle.go_piece_core.specs.local_core.Law as Law
 pub use Rattle.go_piece_core.specs.local_core.Outline as Outline
 pub use Rattle.go_piece_core.specs.local_core.Parts as Parts
+pub use Rattle.go_piece_core.specs.local_core.Pieces as Pieces
 pub use Rattle.go_piece_core.specs.local_core.Placed as Placed
 pub use Rattle.go_piece_core.specs.local_core.Steps as Steps
 pub use Rattle.go_piece_core.specs.local_core.TablesProofs as TablesProofs

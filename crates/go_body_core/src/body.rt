@@ -1,5 +1,5 @@
 //! The check of one function.
-ghost use Rattle.std.specs.Prelude.{◌≡◌, [], IfOk};
+ghost use Rattle.std.specs.Prelude.{◌≡◌, IfOk};
 ghost use Rattle.go_tree_nodes.specs.Shapes.{func_of};
 ghost use Rattle.go_tree_nodes.specs.TypeShapes.{shape_signature};
 ghost use Rattle.go_piece_core.specs.local_core.Tables.{IsFuncPlaced};
@@ -16,9 +16,9 @@ use crate::pieces::Pieces;
 use go_env_core::face_core::Face;
 use go_env_core::handle_core::{SignatureRef, TypeRef};
 use go_env_core::inline_core::InlineTypes;
-use go_env_core::names_core::{OpenNames, check_function};
+use go_env_core::names_core::check_function;
 use go_env_core::scope_core::Scopes;
-use go_env_core::{Meaning, Scene};
+use go_env_core::{Scene, outer_names};
 use go_piece_core::expr_core::Fault;
 use go_piece_core::has_named_results;
 use go_piece_core::local_core::Fault as LocalFault;
@@ -37,14 +37,6 @@ pub struct CheckedBody<'p> {
     /// The locals that it declares, in order of their identifiers' places: one for each that is not blank and is the first of its name in its
     /// block. A name that a short declaration uses again has none there.
     pub locals: Vec<Local<'p>>,
-}
-
-// The names outside all functions, by the blocks of a file.
-fn outer_names<'s, 'p: 's>(scene: &Scene<'p>, scopes: &'s Scopes<'s>) -> OpenNames<'s, Meaning<'p>>
-    ensures scopes { result.scopes.now ≡ scopes.now }
-    ensures locals { result.locals.now ≡ [] }
-{
-    OpenNames::at_top(scopes)
 }
 
 // The types of a function's results, as they are written in its header.

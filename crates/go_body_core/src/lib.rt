@@ -29,7 +29,7 @@ pub mod entry_core {
 
 /// What the crates above name of `go_env_core`.
 pub mod env_core {
-    pub use go_env_core::{Meaning, Scene, stand};
+    pub use go_env_core::{Meaning, Scene, outer_names, stand};
 }
 
 /// What the crates above name of `go_face_core`.

@@ -1,6 +1,6 @@
 //! What is noted of the pieces of a function.
 ghost use Rattle.std.specs.Prelude.{◌≡◌, [], ◌∷◌, ◌++◌, IfOk, OnOk, map};
-ghost use Rattle.go_env_core.specs.Looks.{fault_of};
+ghost use Rattle.go_env_core.specs.Looks.{local_fault_of};
 ghost use Rattle.go_body_core.specs.Notes.{note, all_uses, noted_faults, all_locals};
 ghost use Rattle.go_body_core.specs.Rules.{declared_among, locals_of};
 
@@ -118,7 +118,7 @@ pub(crate) fn add_local_faults(
     all: &mut Vec<Fault>,
     faults: &[LocalFault],
 ) -> Result<(), AllocError>
-    ensures { OnOk result (all.new.items ≡ all.old.items ++ map fault_of faults.now) }
+    ensures { OnOk result (all.new.items ≡ all.old.items ++ map local_fault_of faults.now) }
 {
     for fault in faults {
         add(

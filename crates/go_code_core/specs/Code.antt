@@ -7,6 +7,7 @@ use Rattle.go_tree_nodes.specs.declared.names.Ident.{Ident}
 use Rattle.go_tree_nodes.specs.declared.decls.ValueKind.{ValueKind}
 use Rattle.go_tree_nodes.specs.declared.decls.ValueKind.TheVariants as value_kinds
 use Rattle.go_tree_nodes.specs.Trees.{Separated, One, Then, ExprTree, ItemTrees, Integer, Text, Named, Paren, Unary, Binary, Select, Call, Literal, StructLiteral, NoItems, Item, ValueSpecTree, Specs, Single, Group, SimpleTree, Alone, Step, Assign, Update, Define, ForTree, Forever, While, Clauses, StmtTree, Empty, Declare, Simple, Return, Break, Continue, Block, If, For, BranchTree, Branch, NoElse, ElseBlock, ElseIf, Lines, NoLines, Line, FuncTree}
+use Rattle.go_tree_nodes.specs.Counts.{item_count}
 use Rattle.go_fragment_core.specs.instruction_core.declared.letters.Word.{Word}
 use Rattle.go_fragment_core.specs.instruction_core.declared.instruction.Distance.TheVariants as distances
 use Rattle.go_fragment_core.specs.instruction_core.declared.instruction.Instruction.{Instruction}
@@ -20,7 +21,7 @@ use Rattle.go_fragment_core.specs.declared.names.Meaning.TheVariants as meanings
 use Rattle.go_fragment_core.specs.declared.targets.Target.{Target}
 use Rattle.go_fragment_core.specs.declared.targets.Target.TheVariants as targets
 use Rattle.go_fragment_core.specs.Constants.{folded}
-use Rattle.go_fragment_core.specs.Fragment.{expr_gives, means_method, item_count}
+use Rattle.go_fragment_core.specs.Fragment.{expr_gives, means_method}
 use Rattle.go_fragment_core.specs.Inside.{in_fragment}
 use Rattle.go_fragment_core.specs.Names.{CodeLooks, Frame, frame_of, slot_of, callee_meaning, slot_assigned, declared_slot}
 use Rattle.go_fragment_core.specs.Operators.{unary_instruction, binary_instruction, step_operator, update_operator, some_instruction}

@@ -5,14 +5,14 @@ use Rattle.go_term_core.specs.declared.term.Basic.TheVariants as basics
 use Rattle.go_term_core.specs.Terms.{Term, NoType, Predeclared, ErrorType, Defined, PointerTo, StructOf, InterfaceOf, Fields}
 use Rattle.go_term_core.specs.Identity.{Identical}
 use Rattle.go_mset_core.specs.table_core.Entries.{EntryLook, find_entry, underlying_in, IsUnnamed}
-use Rattle.go_mset_core.specs.table_core.Assign.{Assigned, AValue, ANil, AnInteger, AText, ABoolean, IsNamed, IsInterface, IsPointer, IsValueAssignable, identical, alike, implements_it, IsFitting}
+use Rattle.go_mset_core.specs.table_core.Assign.{Assigned, AValue, ANil, AnInteger, AText, ABoolean, IsNamed, IsInterface, IsPointer, IsValueAssignable, identical, alike, implements_it, IsFitting, is_named}
 use Rattle.go_denote_core.specs.operand_core.declared.types.TypeForm.TheVariants as forms
 use Rattle.go_decide_core.specs.Rules.{form_under}
 use Rattle.go_mset_core.specs.Implementing.{Implements}
 use Rattle.go_decide_core.specs.Identity.{identical_of}
 use Rattle.go_decide_core.specs.Conversion.{is_type_term}
 use Rattle.go_decide_core.specs.Implementing.{implements_of}
-use Rattle.go_decide_core.specs.Assigning.{assigned_type, is_named, is_interface, is_pointer, is_predeclared, value_fits, untyped_fits, is_fitting}
+use Rattle.go_decide_core.specs.Assigning.{assigned_type, is_interface, is_pointer, is_predeclared, value_fits, untyped_fits, is_fitting}
 use Rattle.go_decide_core.specs.Laws.{AssignabilityIsDecided, RulesAreDecided}
 use Rattle.go_decide_core.proofs.Tests.{both_decide, some_decide, never, decides_not, decides_basic}
 use Rattle.go_decide_core.proofs.Alike.{decides_by}

@@ -4,9 +4,9 @@ use Rattle.go_text_core.specs.declared.rule.Rule.{Rule}
 use Rattle.go_text_core.specs.declared.rule.Rule.TheVariants.{M0}
 use Rattle.go_term_core.specs.decl_core.declared.keys.DeclKey.{DeclKey}
 use Rattle.go_term_core.specs.declared.term.Basic.TheVariants as basics
-use Rattle.go_term_core.specs.Terms.{Term, NoType, Predeclared, PointerTo, term_keys}
+use Rattle.go_term_core.specs.Terms.{Term, NoType, Predeclared, PointerTo, is_no_type, term_keys}
 use Rattle.go_mset_core.specs.table_core.Entries.{Entry, EntryLook, find_entry, underlying_in}
-use Rattle.go_mset_core.specs.table_core.Assign.{Assigned, AValue, ANil, AnInteger, AText, ABoolean}
+use Rattle.go_mset_core.specs.table_core.Assign.{Assigned, AValue, ANil, AnInteger, AText, ABoolean, is_named}
 use Rattle.go_mset_core.specs.table_core.Laws.{LeadsTo, AgreeFrom, AssignedAgrees}
 use Rattle.go_mset_core.specs.table_core.Meanings.{underlying_local}
 use Rattle.go_mset_core.specs.level_core.Selectors.{IsRule}
@@ -15,10 +15,10 @@ use Rattle.go_mset_core.specs.select_core.Local.{agree_back, denoted_there, loca
 use Rattle.go_mset_core.specs.select_core.Meanings.{one_answer}
 use Rattle.go_mset_core.proofs.Locality.{local as implementation_local}
 use Rattle.go_decide_core.specs.Identity.{identical_of, identical_but_for_tags_of}
-use Rattle.go_decide_core.specs.Conversion.{is_no_type, is_type_term, are_alike, pointers_alike, convertible_of}
+use Rattle.go_decide_core.specs.Conversion.{is_type_term, are_alike, pointers_alike, convertible_of}
 use Rattle.go_decide_core.specs.Selecting.{Choice, selected_of}
 use Rattle.go_decide_core.specs.Implementing.{implements_of}
-use Rattle.go_decide_core.specs.Assigning.{assigned_type, is_named, is_interface, is_pointer, is_predeclared, is_fitting, assignable_of}
+use Rattle.go_decide_core.specs.Assigning.{assigned_type, is_interface, is_pointer, is_predeclared, is_fitting, assignable_of}
 use Rattle.go_decide_core.specs.Laws.{DecisionsAreLocal}
 use Rattle.go_decide_core.proofs.Choosing.{IsOutcome, outcome, denoted_is, never_rule}
 use Rattle.go_decide_core.proofs.Implementing.{implementation_decided}

@@ -4,7 +4,7 @@ use Rattle.go_term_core.specs.declared.term.Basic.{Basic}
 use Rattle.go_term_core.specs.declared.term.Basic.TheVariants as basics
 use Rattle.go_term_core.specs.Terms.{Term, NoType, Predeclared, ErrorType, Defined, PointerTo, StructOf, InterfaceOf}
 use Rattle.go_mset_core.specs.table_core.Entries.{Entry, EntryLook, find_entry, underlying_in}
-use Rattle.go_mset_core.specs.table_core.Assign.{Assigned, AValue, ANil, AnInteger, AText, ABoolean}
+use Rattle.go_mset_core.specs.table_core.Assign.{Assigned, AValue, ANil, AnInteger, AText, ABoolean, is_named}
 use Rattle.go_denote_core.specs.operand_core.Values.{is_basic}
 use Rattle.go_decide_core.specs.Identity.{identical_of}
 use Rattle.go_decide_core.specs.Conversion.{is_type_term}
@@ -17,16 +17,6 @@ assigned_type ANil = NoType
 assigned_type AnInteger = Predeclared basics.Int
 assigned_type AText = Predeclared basics.Text
 assigned_type ABoolean = Predeclared basics.Bool
-
--- a type whose name is declared or predeclared
-abbrev pub is_named : Term → Bool
-is_named NoType = false
-is_named (Predeclared b) = true
-is_named ErrorType = true
-is_named (Defined k) = true
-is_named (PointerTo t) = false
-is_named (StructOf path fs) = false
-is_named (InterfaceOf path ms) = false
 
 abbrev pub is_interface : Term → Bool
 is_interface NoType = false

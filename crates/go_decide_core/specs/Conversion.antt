@@ -1,6 +1,6 @@
 -- Which types values are convertible to, beside what is assignable: the Go specification, "Conversions".
-use Rattle.std.specs.Prelude.{◌≡◌, Bool, true, false, not, ◌&&◌, ◌||◌}
-use Rattle.go_term_core.specs.Terms.{Term, NoType, Predeclared, ErrorType, Defined, PointerTo, StructOf, InterfaceOf}
+use Rattle.std.specs.Prelude.{◌≡◌, Bool, false, not, ◌&&◌, ◌||◌}
+use Rattle.go_term_core.specs.Terms.{Term, PointerTo, is_no_type}
 use Rattle.go_term_core.specs.Identity.{IdenticalButForTags}
 use Rattle.go_mset_core.specs.table_core.Entries.{EntryLook, underlying_in}
 use Rattle.go_mset_core.specs.table_core.Assign.{IsType}
@@ -18,15 +18,6 @@ pub data IsTermConvertible (look : EntryLook) (s t : Term) : Type 0 where
   pointers : (a b : Term) → s ≡ PointerTo a → t ≡ PointerTo b → AreAlike look a b → IsTermConvertible look s t
 
 -- the same as tests
-
-abbrev pub is_no_type : Term → Bool
-is_no_type NoType = true
-is_no_type (Predeclared b) = false
-is_no_type ErrorType = false
-is_no_type (Defined k) = false
-is_no_type (PointerTo t) = false
-is_no_type (StructOf path fs) = false
-is_no_type (InterfaceOf path ms) = false
 
 abbrev pub is_type_term : EntryLook → Term → Bool
 is_type_term look t = not (is_no_type (underlying_in look t))

@@ -11,7 +11,7 @@ use Rattle.go_tree_nodes.specs.declared.files.Receiver.{Receiver}
 use Rattle.go_tree_nodes.specs.Trees.{Separated, One, Then, TypeTree, FieldTrees, MethodTrees, SignatureTree, ResultTree, ParamTrees, NamedType, Pointer, ParenType, Struct, Interface, NoFields, NamedFields, EmbeddedField, NoMethods, Method, Signed, NoResult, OneResult, Results, NoParams, Param, ExprTree, ItemTrees, Integer, Text, Named, Paren, Unary, Binary, Select, Call, Literal, StructLiteral, NoItems, Item, ValueSpecTree, Specs, Single, Group, TypeSpecTree, FuncTree, DeclTree, Value, Types, Func, TopTree, of_specs}
 use Rattle.go_decl_core.specs.declared.places.DeclKind.{DeclKind}
 use Rattle.go_decl_core.specs.declared.places.DeclKind.TheVariants as kinds
-use Rattle.go_decl_core.specs.Outer.{Outer, Manner, Embedded, outer, last_of, idents_outers, names_outers, type_outers, fields_outers, methods_outers, signature_outers, result_outers, params_outers, expr_outers, items_outers, exprs_outers, some_type_outers, values_outers, kind_of_value, kind_of_func, value_spec_outers, type_spec_outers, receiver_name_outers, receiver_outers, func_outers, decl_outers, tops_outers}
+use Rattle.go_decl_core.specs.Outer.{Outer, Manner, Embedded, outer, last_ident, idents_outers, names_outers, type_outers, fields_outers, methods_outers, signature_outers, result_outers, params_outers, expr_outers, items_outers, exprs_outers, some_type_outers, values_outers, kind_of_value, kind_of_func, value_spec_outers, type_spec_outers, receiver_name_outers, receiver_outers, func_outers, decl_outers, tops_outers}
 use Rattle.go_decl_core.specs.TopDecls.{TopDeclTree, numbered, named_decls, value_spec_decls, type_spec_decls, specs_decls, decl_decls, tops_decls}
 use Rattle.go_decl_core.specs.Bodies.{decl_without_bodies, top_without_bodies, bare_idents, bare_names, bare_type_name, bare_type, bare_fields, bare_methods, bare_signature, bare_result, bare_params, bare_expr, bare_items, bare_exprs, bare_some_type, bare_values, bare_value_spec, bare_type_spec, bare_line, bare_specs, bare_receiver_name, bare_receiver, bare_func, bare_decl}
 use Rattle.go_decl_core.specs.Laws.{known, name_and_kind, name_and_number, BodiesDoNotCount}
@@ -70,7 +70,7 @@ names_same : (xs : Option (Separated Ident)) → Same (names_outers xs) (names_o
 names_same None = same_none
 names_same (Some xs) = idents_same _ _ xs
 
-last_same : (k : DeclKind) (m : Manner) (n : TypeName) → name_and_kind (outer k m (last_of n)) ≡ name_and_kind (outer k m (last_of (bare_type_name n)))
+last_same : (k : DeclKind) (m : Manner) (n : TypeName) → name_and_kind (outer k m (last_ident n)) ≡ name_and_kind (outer k m (last_ident (bare_type_name n)))
 last_same k m (type_name.Plain x) = refl
 last_same k m (type_name.Qualified p dot x) = refl
 

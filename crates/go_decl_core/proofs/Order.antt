@@ -15,7 +15,7 @@ use Rattle.go_tree_nodes.specs.Spelling.{spell_ident, spell_idents, spell_names,
 use Rattle.go_tree_nodes.proofs.InOrder.{in_order_split, in_order_ends}
 use Rattle.go_decl_core.specs.declared.places.DeclKind.{DeclKind}
 use Rattle.go_decl_core.specs.declared.places.Place.{Place}
-use Rattle.go_decl_core.specs.Outer.{Outer, Manner, outer, last_of, idents_outers, names_outers, type_outers, fields_outers, methods_outers, signature_outers, result_outers, params_outers, expr_outers, items_outers, exprs_outers, some_type_outers, values_outers, value_spec_outers, type_spec_outers, receiver_name_outers, receiver_outers, func_outers, decl_outers, tops_outers, outer_names, place_of, places_of}
+use Rattle.go_decl_core.specs.Outer.{Outer, Manner, outer, last_ident, idents_outers, names_outers, type_outers, fields_outers, methods_outers, signature_outers, result_outers, params_outers, expr_outers, items_outers, exprs_outers, some_type_outers, values_outers, value_spec_outers, type_spec_outers, receiver_name_outers, receiver_outers, func_outers, decl_outers, tops_outers, outer_names, place_of, places_of}
 use Rattle.go_decl_core.specs.Table.{Rise}
 
 -- identifiers that stand one behind another, between two offsets
@@ -66,7 +66,7 @@ names_give None = gives_none
 names_give (Some xs) = idents_give _ _ xs
 
 -- the last identifier of a type's name
-last_gives : (k : DeclKind) (m : Manner) (n : TypeName) → Gives (spell_type_name n) (outer k m (last_of n) ∷ [])
+last_gives : (k : DeclKind) (m : Manner) (n : TypeName) → Gives (spell_type_name n) (outer k m (last_ident n) ∷ [])
 last_gives k m (type_name.Plain x) = gives_name gives_none
 last_gives k m (type_name.Qualified p dot x) = gives_skip (gives_skip (gives_name gives_none))
 

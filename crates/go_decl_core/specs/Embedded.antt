@@ -3,7 +3,7 @@ use Rattle.std.specs.Prelude.{List, [], ◌∷◌, ◌++◌}
 use Rattle.go_tree_nodes.specs.declared.names.Ident.{Ident}
 use Rattle.go_tree_nodes.specs.Trees.{TypeTree, FieldTrees, MethodTrees, SignatureTree, ResultTree, ParamTrees, NamedType, Pointer, ParenType, Struct, Interface, NoFields, NamedFields, EmbeddedField, NoMethods, Method, Signed, NoResult, OneResult, Results, NoParams, Param, ExprTree, ItemTrees, Integer, Text, Named, Paren, Unary, Binary, Select, Call, Literal, StructLiteral, NoItems, Item}
 use Rattle.go_tree_core.specs.Names.{Taking, nothing}
-use Rattle.go_decl_core.specs.Outer.{last_of}
+use Rattle.go_decl_core.specs.Outer.{last_ident}
 
 abbrev mutual
   pub type_embedded : TypeTree → List Ident
@@ -16,7 +16,7 @@ abbrev mutual
   pub fields_embedded : FieldTrees → List Ident
   fields_embedded NoFields = []
   fields_embedded (NamedFields xs t tag s rest) = type_embedded t ++ fields_embedded rest
-  fields_embedded (EmbeddedField star n tag s rest) = last_of n ∷ fields_embedded rest
+  fields_embedded (EmbeddedField star n tag s rest) = last_ident n ∷ fields_embedded rest
 
   pub methods_embedded : MethodTrees → List Ident
   methods_embedded NoMethods = []

@@ -1,6 +1,7 @@
 pub mod Bodies
 pub mod Embedded
 pub mod Laws
+pub mod Order
 pub mod Outer
 pub mod Sample
 pub mod Shown

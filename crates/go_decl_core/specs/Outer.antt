@@ -36,9 +36,9 @@ idents_outers k m (Then x comma xs) = outer k m x ∷ idents_outers k m xs
 -- types
 
 -- the name of an embedded field: the last identifier of its type's name
-abbrev pub last_of : TypeName → Ident
-last_of (type_name.Plain x) = x
-last_of (type_name.Qualified package_name dot x) = x
+abbrev pub last_ident : TypeName → Ident
+last_ident (type_name.Plain x) = x
+last_ident (type_name.Qualified package_name dot x) = x
 
 -- the names of a parameter list's entry, where it has any
 abbrev pub names_outers : Option (Separated Ident) → List Outer
@@ -56,7 +56,7 @@ abbrev mutual
   pub fields_outers : FieldTrees → List Outer
   fields_outers NoFields = []
   fields_outers (NamedFields xs t tag s rest) = idents_outers kinds.Field Part xs ++ (type_outers t ++ fields_outers rest)
-  fields_outers (EmbeddedField star n tag s rest) = outer kinds.Field Embedded (last_of n) ∷ fields_outers rest
+  fields_outers (EmbeddedField star n tag s rest) = outer kinds.Field Embedded (last_ident n) ∷ fields_outers rest
 
   pub methods_outers : MethodTrees → List Outer
   methods_outers NoMethods = []

@@ -4,6 +4,7 @@ use Rattle.go_text_core.specs.declared.span.Span.{Span}
 use Rattle.go_tree_nodes.specs.declared.names.Ident.{Ident}
 use Rattle.go_tree_nodes.specs.declared.types.TypeName.TheVariants as type_name
 use Rattle.go_tree_nodes.specs.declared.decls.ValueKind.TheVariants as value_kinds
+use Rattle.go_tree_nodes.specs.Samples.{at, called, int_at}
 use Rattle.go_tree_nodes.specs.Trees as tree
 use Rattle.go_tree_nodes.specs.Trees.{One, Then, TypeTree, NamedType, Struct, Interface, NoFields, NamedFields, EmbeddedField, NoMethods, Method, ParamTrees, NoParams, Param, SignatureTree, Signed, NoResult, Integer, Named, Binary, Single, Define, Lines, NoLines, Line, FuncTree, Types, Func, TopTree, FileTree}
 use Rattle.go_decl_core.specs.declared.places.DeclKind.{DeclKind}
@@ -13,16 +14,6 @@ use Rattle.go_decl_core.specs.Outer.{places_of}
 use Rattle.go_decl_core.specs.TopDecls.{FormTree, ValueForm, TypeForm, FuncForm, top_decls}
 use Rattle.go_decl_core.specs.Bodies.{outside}
 use Rattle.go_decl_core.specs.Laws.{name_and_number}
-
--- a terminal of one byte
-abbrev pub at : ℕ → Span
-at n = record { start = n; end = suc n }
-
-abbrev pub called : List ℕ → ℕ → Ident
-called name n = record { name = name; span = at n }
-
-abbrev pub int_at : ℕ → TypeTree
-int_at n = NamedType (type_name.Plain (called (codes "int") n))
 
 -- one parameter of type int, with the parentheses round it
 abbrev pub one_param : List ℕ → ℕ → SignatureTree

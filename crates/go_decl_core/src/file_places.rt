@@ -12,7 +12,7 @@ ghost use Rattle.go_tree_nodes.specs.Spelling.{IsPlaced};
 use crate::expr_places::list_rest;
 use crate::lister::Lister;
 use crate::places::{DeclKind, Places};
-use crate::tops::{DeclForm, Outline, TopDecl};
+use crate::tops::{DeclForm, Outline, TopDecl, kind_of_func, kind_of_value};
 use crate::type_places::{list_signature, list_type};
 use go_tree_nodes::{
     Decl, File, FuncDecl, Ident, Receiver, TypeDecl, TypeSpec, TypeSpecs, ValueDecl, ValueKind,
@@ -39,16 +39,6 @@ fn add<'a>(outliner: &mut Outliner<'a>, kind: DeclKind, ident: &'a Ident, form: 
     outliner.lister.add(kind, ident);
     if outliner.lister.outcome.is_ok() && outliner.decls.push(decl).is_err() {
         outliner.lister.outcome = Err(AllocError);
-    }
-}
-
-// What a declaration of values declares.
-fn kind_of_value(kind: ValueKind) -> DeclKind
-    ensures { result ≡ kind_of_value kind }
-{
-    match kind {
-        ValueKind::Const => DeclKind::Const,
-        ValueKind::Var => DeclKind::Var,
     }
 }
 
@@ -117,16 +107,6 @@ fn list_receiver(lister: &mut Lister, receiver: &Option<Receiver>)
         if let Some(name) = &receiver.name {
             lister.add(DeclKind::Param, name);
         }
-    }
-}
-
-// What a function declares: a method where it has a receiver.
-fn kind_of_func(receiver: &Option<Receiver>) -> DeclKind
-    ensures { result ≡ kind_of_func receiver.now }
-{
-    match receiver {
-        None => DeclKind::Func,
-        Some(_) => DeclKind::Method,
     }
 }
 

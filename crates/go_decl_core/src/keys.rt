@@ -1,9 +1,11 @@
 //! How a declaration is known in its package and in a workspace.
 ghost use Rattle.std.specs.Prelude.{◌≡◌, ◌↔◌, IfOk, IsTrue};
+ghost use Rattle.go_decl_core.specs.Order.{place_cmp};
 
 use crate::places::DeclKind;
 use go_path_core::ImportPath;
 use std::alloc::AllocError;
+use std::cmp::Ordering;
 
 /// A declaration of a package.
 #[derive(Clone, Copy, Debug, PartialEq, Eq)]
@@ -13,6 +15,15 @@ pub struct DeclRef {
     /// Its number among the identifiers that the file declares outside function bodies, from 0.
     pub number: usize,
     pub kind: DeclKind,
+}
+
+/// The order in which declarations of a package stand: by file, then by number there. What they declare does not count.
+pub fn place_order(one: DeclRef, other: DeclRef) -> Ordering
+    ensures { result ≡ place_cmp one other }
+{
+    one.file
+        .cmp(&other.file)
+        .then(one.number.cmp(&other.number))
 }
 
 /// A declaration of a workspace.

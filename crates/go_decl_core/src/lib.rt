@@ -14,10 +14,11 @@ mod tops;
 mod type_places;
 
 pub use file_places::outline;
-pub use keys::{DeclKey, DeclRef};
+pub use keys::{DeclKey, DeclRef, place_order};
 pub use laws::{
     bodies_do_not_count, numbers_are_places, one_key_a_place, places_are_declared,
     places_are_one_to_one, sample_is_right,
 };
 pub use places::{DeclKind, Place, Places};
-pub use tops::{DeclForm, Outline, TopDecl};
+pub use tops::{DeclForm, Outline, TopDecl, kind_of_value};
+pub use type_places::last_ident;

@@ -1,7 +1,7 @@
 //! The identifiers that types declare.
 ghost use Rattle.std.specs.Prelude.{◌≡◌};
 ghost use Rattle.go_tree_nodes.specs.TypeShapes.{shape_type, shape_signature, shape_results, fields_of, methods_of, params_of};
-ghost use Rattle.go_decl_core.specs.Outer.{last_of, type_outers, fields_outers, methods_outers, signature_outers, result_outers, params_outers};
+ghost use Rattle.go_decl_core.specs.Outer.{last_ident, type_outers, fields_outers, methods_outers, signature_outers, result_outers, params_outers};
 ghost use Rattle.go_decl_core.specs.mirrors.Outers.{field_outers};
 ghost use Rattle.go_decl_core.specs.mirrors.Listing.{Adds};
 
@@ -11,9 +11,11 @@ use go_tree_nodes::{
     FieldLine, Fields, Ident, MethodLine, Param, Results, Signature, TypeExpr, TypeName,
 };
 
-/// The last identifier of the name of a type.
-fn last_of(name: &TypeName) -> &Ident
-    ensures { result.now ≡ last_of name.now }
+/// The last identifier of the name of a type: of a qualified one the identifier behind the dot.
+///
+/// The Go specification, "Struct types": it acts as the field name of an embedded field.
+pub fn last_ident(name: &TypeName) -> &Ident
+    ensures { result.now ≡ last_ident name.now }
 {
     match name {
         TypeName::Plain(ident) => ident,
@@ -45,7 +47,7 @@ fn list_fields(lister: &mut Lister, fields: &Fields)
             lister.add_idents(DeclKind::Field, names);
             list_type(lister, type_expr);
         }
-        Fields::Embedded(_, name) => lister.add(DeclKind::Field, last_of(name)),
+        Fields::Embedded(_, name) => lister.add(DeclKind::Field, last_ident(name)),
     }
 }
 

@@ -8,6 +8,7 @@ use Rattle.go_operand_core.specs.declared.types.Operand.{Operand}
 use Rattle.go_operand_core.specs.Values.{default_type}
 use Rattle.go_operand_core.specs.Conversions.{convert, length_of}
 use Rattle.std.specs.List.{list_all}
+use Rattle.go_denote_core.specs.Arguments.{fits_type}
 use Rattle.go_denote_core.specs.declared.things.Place.{Place}
 use Rattle.go_denote_core.specs.declared.things.Place.TheVariants as places
 use Rattle.go_denote_core.specs.declared.things.Usage.{Usage}
@@ -30,7 +31,7 @@ use Rattle.go_denote_core.specs.declared.things.Argument.TheVariants as argument
 use Rattle.go_denote_core.specs.Look.{Look}
 use Rattle.go_denote_core.specs.Answers.{declared, refused, of_value, value_of_type, package_answer, type_answer, func_answer, value_answer, found_answer}
 use Rattle.go_denote_core.specs.Selectors.{usage_place, exported_answer, field_answer, method_answer, member_answer, value_selector, selector_answer}
-use Rattle.go_denote_core.specs.Calls.{of_results, fits_type, all_fit, func_call, of_conversion, convert_argument, conversion, of_length, length_argument, is_printable, builtin_call, judged_call, of_builtin, free_call}
+use Rattle.go_denote_core.specs.Calls.{of_results, all_fit, func_call, of_conversion, convert_argument, conversion, of_length, length_argument, is_printable, builtin_call, judged_call, of_builtin, free_call}
 use Rattle.go_denote_core.specs.Laws.{is_nothing, Agree, RefusedDenotesNothing}
 
 one_of : {T S D P : Type 0} (b : Bool) (x y : Answer T S D P) → Agree x → Agree y → Agree (if b then x else y)
@@ -166,7 +167,7 @@ builtin_agrees look d builtins.Len [] = refl
 builtin_agrees look d builtins.Len (argument ∷ []) = length_agrees look d argument
 builtin_agrees look d builtins.Len (first ∷ second ∷ more) = refl
 builtin_agrees look d builtins.Panic [] = refl
-builtin_agrees look d builtins.Panic (argument ∷ []) = one_of (fits_type look look.types.any argument) (declared d denotes.Nothing) (refused C3) refl refl
+builtin_agrees look d builtins.Panic (argument ∷ []) = one_of (fits_type look.types look.types.any argument) (declared d denotes.Nothing) (refused C3) refl refl
 builtin_agrees look d builtins.Panic (first ∷ second ∷ more) = refl
 builtin_agrees look d builtins.Print given = one_of (list_all (is_printable look) given) (declared d denotes.Nothing) (refused C3) refl refl
 

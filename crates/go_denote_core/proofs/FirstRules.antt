@@ -13,6 +13,7 @@ use Rattle.go_operand_core.specs.Values.{is_over, form_basic, basic_under, defau
 use Rattle.go_operand_core.specs.Assign.{assignable_to}
 use Rattle.go_operand_core.specs.Operators.{value}
 use Rattle.go_operand_core.specs.Conversions.{makes_text, kept, length_constant, fits as is_convertible}
+use Rattle.go_denote_core.specs.Arguments.{fits_type}
 use Rattle.go_denote_core.specs.declared.things.Place.{Place}
 use Rattle.go_denote_core.specs.declared.things.Place.TheVariants as places
 use Rattle.go_denote_core.specs.declared.things.Usage.{Usage}
@@ -33,7 +34,7 @@ use Rattle.go_denote_core.specs.declared.things.Argument.TheVariants as argument
 use Rattle.go_denote_core.specs.Look.{Look}
 use Rattle.go_denote_core.specs.Answers.{declared, refused, found_answer}
 use Rattle.go_denote_core.specs.Selectors.{exported_answer, member_answer, value_selector}
-use Rattle.go_denote_core.specs.Calls.{of_results, fits_type, fits_parameter, all_fit, func_call, of_conversion, convert_argument, of_length, length_argument, is_printable, print_call, judged_call, free_call}
+use Rattle.go_denote_core.specs.Calls.{of_results, fits_parameter, all_fit, func_call, of_conversion, convert_argument, of_length, length_argument, is_printable, print_call, judged_call, free_call}
 use Rattle.go_denote_core.specs.Rules.{breaks, HasFirst, IsDeclared, IsMember, name_table, declaration_in, package_table, declaration_exported, value_table, suits, suits_builtin, has_misfit, has_bad_conversion, makes_string, call_rules, declaration_called}
 use Rattle.go_denote_core.specs.Laws.{FirstRuleOfName, FirstRuleOfSelector, FirstRuleOfCall}
 
@@ -213,7 +214,7 @@ length_of_one look d (arguments.«Value» operand) =
     measured look d (value (value_types.Typed look.types.int) (length_constant operand.constant)) (is_over basics.Text (basic_under look.types operand.value_type))
 
 panic_of_one : {T S D P : Type 0} (look : Look T S D P) (d : D) (argument : Argument T)
-    → HasFirst {P = P} (call_rules look (denotes.Builtin d builtins.Panic) false (argument ∷ [])) (IsDeclared (Some d)) (if fits_type look look.types.any argument then declared {T = T} {S = S} d denotes.Nothing else refused C3).outcome
+    → HasFirst {P = P} (call_rules look (denotes.Builtin d builtins.Panic) false (argument ∷ [])) (IsDeclared (Some d)) (if fits_type look.types look.types.any argument then declared {T = T} {S = S} d denotes.Nothing else refused C3).outcome
 panic_of_one look d arguments.Refused = refl
 panic_of_one look d arguments.Void = refl
 panic_of_one look d (arguments.«Value» operand) = suited look d denotes.Nothing (assignable_to look.types operand look.types.any)

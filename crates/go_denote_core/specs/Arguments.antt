@@ -3,7 +3,11 @@
 -- docs/RULES.md, "Names, selectors and calls in expressions". The Go specification, "Calls": as a special case a call f(g(..)) passes
 -- the results of g to the parameters of f in order.
 use Rattle.std.specs.Prelude.{Bool, true, false, ◌&&◌, List, [], ◌∷◌, map, Option, Some, None}
+use Rattle.go_text_core.specs.declared.rule.Rule.{Rule}
+use Rattle.go_text_core.specs.declared.rule.Rule.TheVariants.{Y3}
 use Rattle.go_operand_core.specs.declared.types.ValueType.TheVariants as value_types
+use Rattle.go_operand_core.specs.TypeRules.{TypeRules}
+use Rattle.go_operand_core.specs.Assign.{assignable_to}
 use Rattle.go_denote_core.specs.declared.things.Denoted.{Denoted}
 use Rattle.go_denote_core.specs.declared.things.Denoted.TheVariants as denotes
 use Rattle.go_denote_core.specs.declared.things.Argument.{Argument}
@@ -56,6 +60,24 @@ is_refused (denotes.Several s) = false
 is_refused denotes.Nothing = false
 is_refused (denotes.Func d s) = false
 is_refused (denotes.Builtin d b) = false
+
+-- where a type is wanted; a refused argument breaks no rule
+abbrev pub fits_type : {T : Type 0} → TypeRules T → T → Argument T → Bool
+fits_type rules t arguments.Refused = true
+fits_type rules t arguments.Void = false
+fits_type rules t (arguments.«Value» operand) = assignable_to rules operand t
+
+-- what is not one value where one is wanted
+abbrev pub single_rule : {T S D : Type 0} → Denoted T S D → Option Rule
+single_rule (denotes.Several s) = Some Y3
+single_rule denotes.Nothing = Some Y3
+single_rule (denotes.«Value» operand) = None
+single_rule denotes.Refused = None
+single_rule denotes.Typeless = None
+single_rule (denotes.«Package» d) = None
+single_rule (denotes.«Type» d t) = None
+single_rule (denotes.Func d s) = None
+single_rule (denotes.Builtin d b) = None
 
 -- the only member is a call, and refused: nobody knows how many values it would have had
 abbrev pub is_free : {T S D : Type 0} → Bool → List (Denoted T S D) → Bool

@@ -8,8 +8,8 @@ use Rattle.go_text_core.specs.declared.rule.Rule.{Rule}
 use Rattle.go_text_core.specs.declared.rule.Rule.TheVariants.{C1, C2, C3, C4}
 use Rattle.go_operand_core.specs.declared.types.Operand.{Operand}
 use Rattle.go_operand_core.specs.Values.{basic_under}
-use Rattle.go_operand_core.specs.Assign.{assignable_to}
 use Rattle.go_operand_core.specs.Conversions.{convert, length_of}
+use Rattle.go_denote_core.specs.Arguments.{fits_type}
 use Rattle.go_denote_core.specs.declared.things.Builtin.{Builtin}
 use Rattle.go_denote_core.specs.declared.things.Builtin.TheVariants as builtins
 use Rattle.go_denote_core.specs.declared.things.Denoted.{Denoted}
@@ -28,16 +28,10 @@ of_results s (t ∷ u ∷ more) = denotes.Several s
 
 -- functions and methods
 
--- a refused argument breaks no rule
-abbrev pub fits_type : {T S D P : Type 0} → Look T S D P → T → Argument T → Bool
-fits_type look t arguments.Refused = true
-fits_type look t arguments.Void = false
-fits_type look t (arguments.«Value» operand) = assignable_to look.types operand t
-
 -- a parameter without a type takes each argument
 abbrev pub fits_parameter : {T S D P : Type 0} → Look T S D P → Argument T → Option T → Bool
 fits_parameter look argument None = true
-fits_parameter look argument (Some t) = fits_type look t argument
+fits_parameter look argument (Some t) = fits_type look.types t argument
 
 abbrev pub all_fit : {T S D P : Type 0} → Look T S D P → List (Argument T) → List (Option T) → Bool
 all_fit look [] params = true
@@ -87,7 +81,7 @@ length_call look d (first ∷ second ∷ more) = refused C2
 
 abbrev pub panic_call : {T S D P : Type 0} → Look T S D P → D → List (Argument T) → Answer T S D P
 panic_call look d [] = refused C2
-panic_call look d (argument ∷ []) = if fits_type look look.types.any argument then declared d denotes.Nothing else refused C3
+panic_call look d (argument ∷ []) = if fits_type look.types look.types.any argument then declared d denotes.Nothing else refused C3
 panic_call look d (first ∷ second ∷ more) = refused C2
 
 -- over bool, int or string

@@ -5,7 +5,8 @@ ghost use Rattle.go_denote_core.specs.Arguments as given;
 
 use crate::looks::Names;
 use crate::things::{Argument, Denoted};
-use go_operand_core::{Operand, ValueType};
+use go_operand_core::{Operand, TypeLooks, ValueType, assignable_to};
+use go_text_core::Rule;
 use std::alloc::{AllocError, Global};
 
 // A result of a call.
@@ -126,6 +127,49 @@ pub fn is_refused<T: Drop, S: Drop, D: Drop>(member: &Denoted<T, S, D>) -> bool
     ensures { result ≡ given.is_refused member.now }
 {
     matches!(member, Denoted::Refused | Denoted::Typeless)
+}
+
+/// Whether an argument breaks no rule where a type is wanted: its value is assignable to the type, or it is refused. A call without results
+/// is no value, and fits no type.
+///
+/// The Go specification, "Calls", "Assignability".
+///
+/// # Errors
+///
+/// `AllocError` where memory is wanting.
+pub fn fits_type<E: TypeLooks>(
+    env: &E,
+    alloc: Global,
+    t: &E::Type,
+    argument: &Argument<E::Type>,
+) -> Result<bool, AllocError>
+    ensures { IfOk result (λ fits. fits ≡ given.fits_type (E.types env.now) t.now argument.now) }
+{
+    match argument {
+        Argument::Refused => Ok(true),
+        Argument::Void => Ok(false),
+        Argument::Value(operand) => assignable_to(env, alloc, operand, t),
+    }
+}
+
+/// The rule that an expression breaks where a single value is wanted, if it breaks one: Y3, for a call with several results or none.
+/// One that is refused breaks no rule.
+///
+/// A single value is wanted of an operand, and of a member of a list of several. The Go specification, "Operators", "Assignment
+/// statements": each expression must be single-valued.
+pub fn single_rule<T: Drop, S: Drop, D: Drop>(denoted: &Denoted<T, S, D>) -> Option<Rule>
+    ensures { result ≡ given.single_rule denoted.now }
+{
+    match denoted {
+        Denoted::Nothing | Denoted::Several(_) => Some(Rule::Y3),
+        Denoted::Value(_)
+        | Denoted::Refused
+        | Denoted::Typeless
+        | Denoted::Package(_)
+        | Denoted::Type(_, _)
+        | Denoted::Func(_, _)
+        | Denoted::Builtin(_, _) => None,
+    }
 }
 
 /// Whether nothing is known of the arguments of a call: its list is one call, in parentheses or not, and this is refused.

@@ -4,7 +4,8 @@ ghost use Rattle.go_denote_core.specs.Look.{look_of};
 ghost use Rattle.go_denote_core.specs.Calls as calls;
 
 use crate::answers::{declared, refused, value_of_type};
-use crate::conversions::{builtin_call, conversion, fits_type, of_type};
+use crate::arguments::fits_type;
+use crate::conversions::{builtin_call, conversion, of_type};
 use crate::looks::Names;
 use crate::things::{Answer, Argument, Builtin, Denoted};
 use go_text_core::Rule;

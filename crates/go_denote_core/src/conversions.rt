@@ -7,9 +7,10 @@ ghost use Rattle.go_denote_core.specs.Calls as calls;
 ghost use Rattle.go_denote_core.specs.mirrors.Lone.{only as the_only};
 
 use crate::answers::{declared, refused, value_of_type};
+use crate::arguments::fits_type;
 use crate::looks::Names;
 use crate::things::{Answer, Argument, Builtin, Denoted};
-use go_operand_core::{Operand, assignable_to, basic_under, convert, length_of};
+use go_operand_core::{Operand, basic_under, convert, length_of};
 use go_text_core::Rule;
 use std::alloc::{AllocError, Global};
 
@@ -19,22 +20,6 @@ fn only<T: Drop>(mut arguments: Vec<Argument<T>>) -> Option<Argument<T>>
 {
     let last = arguments.pop();
     if arguments.is_empty() { last } else { None }
-}
-
-/// Whether an argument breaks no rule where a type is wanted.
-pub(crate) fn fits_type<E: Names>(
-    env: &E,
-    alloc: Global,
-    t: &E::Type,
-    argument: &Argument<E::Type>,
-) -> Result<bool, AllocError>
-    ensures { IfOk result (λ fits. fits ≡ calls.fits_type (look_of (E.types env.now) (E.names env.now)) t.now argument.now) }
-{
-    match argument {
-        Argument::Refused => Ok(true),
-        Argument::Void => Ok(false),
-        Argument::Value(operand) => assignable_to(env, alloc, operand, t),
-    }
 }
 
 // What comes of a conversion that is judged.

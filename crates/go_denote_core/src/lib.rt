@@ -16,7 +16,7 @@ mod selectors;
 mod things;
 
 pub use answers::name_answer;
-pub use arguments::{argument_of, arguments_of, is_free, is_refused};
+pub use arguments::{argument_of, arguments_of, fits_type, is_free, is_refused, single_rule};
 pub use calls::call_answer;
 pub use laws::{
     calls_are_local, first_rule_of_call, first_rule_of_name, first_rule_of_selector,

@@ -14,9 +14,9 @@ use Rattle.go_type_core.specs.table_core.Entries.{same_id, has_method}
 use Rattle.go_type_core.specs.table_core.Shown.{member_shown}
 use Rattle.go_embed_core.specs.declared.member.Hits.{Hits}
 use Rattle.go_embed_core.specs.declared.member.Hits.TheVariants as hits
-use Rattle.go_embed_core.specs.Owners.{OwnerModel, Found, Named, fields_found, methods_found, declared_found, term_found, members_of, is_spelled_in}
+use Rattle.go_embed_core.specs.Owners.{OwnerModel, Found, Named, fields_found, methods_found, declared_found, term_found, members_of, is_spelled_in, nobody}
 use Rattle.go_embed_core.specs.OwnersShown.{AreHits}
-use Rattle.go_embed_core.specs.mirrors.Tallies.{Tally, NoHit, OneHit, ManyHits, together, hits_shown, hit_if, tallies, tally_of, method_tally, field_tally, interface_tally, nobody}
+use Rattle.go_embed_core.specs.mirrors.Tallies.{Tally, NoHit, OneHit, ManyHits, together, hits_shown, hit_if, tallies, tally_of, method_tally, field_tally, interface_tally}
 use Rattle.go_embed_core.proofs.Ids.{same_id_is, same_id_from}
 
 -- 1. Tallies of lists.

@@ -5,9 +5,9 @@ use Rattle.std.proofs.lemmas.Bool.{true≢false, or_cases, or_parts, false_from_
 use Rattle.go_term_core.specs.Terms.{Term, NoType, Predeclared, ErrorType, Defined, PointerTo, StructOf, InterfaceOf, Fields, NoField, AField}
 use Rattle.go_type_core.specs.table_core.Entries.{Member, same_id, has_method}
 use Rattle.go_type_core.specs.table_core.Shown.{hides_field, hides_some}
-use Rattle.go_embed_core.specs.Owners.{OwnerModel, AFieldOf, Named, fields_found, declared_found, term_found, is_spelled_in, has_spelled}
+use Rattle.go_embed_core.specs.Owners.{OwnerModel, AFieldOf, Named, fields_found, declared_found, term_found, is_spelled_in, has_spelled, nobody}
 use Rattle.go_embed_core.specs.mirrors.Edges.{hidden_in, hidden_by, IsHiding}
-use Rattle.go_embed_core.specs.mirrors.Tallies.{NoHit, together, hit_if, tallies, tally_of, nobody}
+use Rattle.go_embed_core.specs.mirrors.Tallies.{NoHit, together, hit_if, tallies, tally_of}
 use Rattle.go_embed_core.proofs.Ids.{same_id_is}
 
 -- counting

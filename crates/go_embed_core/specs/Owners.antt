@@ -14,6 +14,10 @@ pub record OwnerModel : Type 0 where
   pub methods : List Member
   pub underlying : Term
 
+-- an owner without methods, so one that keeps no field from a type
+abbrev pub nobody : OwnerModel
+nobody = record { path = []; methods = []; underlying = NoType }
+
 abbrev pub path_of_term : Term → List ℕ
 path_of_term (Defined k) = k.path
 path_of_term _ = []

@@ -17,7 +17,7 @@ pub use laws::{
     each_fault_once, embedding_is_a_step, faults_are_local, hidden_is_told, owner_is_local,
     repeated_is_told, starred_interface_is_told,
 };
-pub use member::{Hits, Member};
+pub use member::{Hits, Member, has_method};
 pub use owner::{Embedded, Owner, embeds};
 
 /// What the crates above name of `go_settle_core`.
@@ -30,7 +30,7 @@ pub mod settle_core {
 /// What the crates above name of `go_table_core`.
 pub mod table_core {
     pub use go_type_core::table_core::{
-        DeclaredMethod, DefinedType, PackageTypes, StructField, TypeEntry, TypeTable,
+        DeclaredMethod, DefinedType, PackageTypes, StructField, TypeEntry, TypeTable, is_named_type,
     };
 }
 

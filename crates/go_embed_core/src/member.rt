@@ -7,9 +7,9 @@ ghost use Rattle.go_term_core.specs.Terms.{ErrorType};
 ghost use Rattle.go_term_core.specs.Shapes.{line_shapes, shape};
 ghost use Rattle.go_type_core.specs.table_core.Entries.{same_id, has_method};
 ghost use Rattle.go_type_core.specs.table_core.Shown.{member_shown};
-ghost use Rattle.go_embed_core.specs.Owners.{term_found, is_spelled_in};
+ghost use Rattle.go_embed_core.specs.Owners.{term_found, is_spelled_in, nobody};
 ghost use Rattle.go_embed_core.specs.OwnersShown.{name_shown, member_package_shown};
-ghost use Rattle.go_embed_core.specs.mirrors.Tallies.{together, hits_shown, tallies, tally_of, method_tally, field_tally, interface_tally, nobody};
+ghost use Rattle.go_embed_core.specs.mirrors.Tallies.{together, hits_shown, tallies, tally_of, method_tally, field_tally, interface_tally};
 
 use go_path_core::ImportPath;
 use go_term_core::FieldLine;
@@ -95,8 +95,9 @@ pub(crate) fn is_same_id(a: &str, a_path: &ImportPath, b: &str, b_path: &ImportP
     go_text_core::same_id(a, a_path.as_str(), b, b_path.as_str())
 }
 
-// Whether a method of a type has the identifier.
-pub(crate) fn has_method(
+/// Whether a method of a type has an identifier: `path` is that of the package of the type, and `from` that of the package where the
+/// identifier is written. It takes no memory. The Go specification, "Uniqueness of identifiers".
+pub fn has_method(
     path: &ImportPath,
     methods: &[DeclaredMethod],
     name: &str,

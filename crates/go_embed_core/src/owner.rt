@@ -4,10 +4,10 @@ ghost use Rattle.go_term_core.specs.Terms.{Defined, NoField, StructOf};
 ghost use Rattle.go_term_core.specs.Shapes.{shape, fields_in, line_at, line_shapes};
 ghost use Rattle.go_type_core.specs.table_core.Entries.{find_entry};
 ghost use Rattle.go_type_core.specs.table_core.Shown.{line_shown, member_shown};
-ghost use Rattle.go_embed_core.specs.Owners.{AFieldOf, owner_in, embeds_at, embedded_in, owner_field_count, has_spelled, declared_found, fields_found, term_found, members_of, is_spelled_in, embedded_edge};
+ghost use Rattle.go_embed_core.specs.Owners.{AFieldOf, owner_in, embeds_at, embedded_in, owner_field_count, has_spelled, declared_found, fields_found, term_found, members_of, is_spelled_in, embedded_edge, nobody};
 ghost use Rattle.go_embed_core.specs.OwnersShown.{owner_shown, source_shown, entry_owner, embedded_shown, named_shown, AreHits};
 ghost use Rattle.go_embed_core.specs.mirrors.Edges.{under_shown, struct_fields, hidden_in, IsHiding, edge_if};
-ghost use Rattle.go_embed_core.specs.mirrors.Tallies.{hits_shown, tallies, tally_of, nobody};
+ghost use Rattle.go_embed_core.specs.mirrors.Tallies.{hits_shown, tallies, tally_of};
 
 use crate::member::{
     Hits, Member, has_method, is_method_spelled, is_spelled, method_hits, term_hits,

@@ -15,7 +15,7 @@ pub use laws::{
     bodies_are_between_braces, calls_name_their_own, imports_pass, objects_are_of_faultless,
     objects_are_of_their_parts, one_object, sample_is_emitted,
 };
-pub use object::{emit, emit_all};
+pub use object::{close_object, close_objects, emit, emit_all};
 
 /// What the crates above name of `go_answer_core`.
 pub mod answer_core {

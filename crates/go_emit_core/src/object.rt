@@ -1,13 +1,13 @@
 //! The object of a package, and the objects of many.
-ghost use Rattle.std.specs.Prelude.{◌≡◌, ◌++◌, IfOk, OnOk, map};
+ghost use Rattle.std.specs.Prelude.{◌≡◌, ◌++◌, [], IfOk, OnOk, map};
 ghost use Rattle.std.specs.List.{flat_map};
 ghost use Rattle.std.specs.Option.{option_map};
 ghost use Rattle.go_meaning_core.specs.entry_core.Outlines.{outline_of, outline_shown};
-ghost use Rattle.go_meaning_core.specs.summary_core.Views.{PathsAreApart};
+ghost use Rattle.go_meaning_core.specs.summary_core.Views.{PathsAreApart, faces_told, types_told};
 ghost use Rattle.go_meaning_core.specs.graph_core.Packages.{trees_of};
 ghost use Rattle.go_object_core.specs.Objects.{function_shown, object_shown};
 ghost use Rattle.go_meaning_core.specs.part_core.Parts.{file_shown};
-ghost use Rattle.go_emit_core.specs.Emitted.{AreOfDifferentPackages, are_clean, object_of, objects_of, somes, told_by, told_to, whole_object};
+ghost use Rattle.go_emit_core.specs.Emitted.{AreOfDifferentPackages, are_clean, code_scene_over, object_of, objects_of, somes, told_by, told_to, whole_object};
 ghost use Rattle.go_emit_core.specs.mirrors.Listing.{outlines_functions};
 ghost use Rattle.go_meaning_core.specs.mirrors.Naming.{scene_shown, scene_with};
 ghost use Rattle.go_emit_core.specs.mirrors.Naming.{objects_with};
@@ -17,8 +17,8 @@ use crate::imports::passing_of;
 use crate::tables::tables_of;
 use go_meaning_core::answer_core::Site;
 use go_meaning_core::entry_core::outlines;
-use go_meaning_core::part_core::{Part, PartFile};
-use go_meaning_core::summary_core::Summary;
+use go_meaning_core::part_core::{Part, PartFile, close_told, close_view};
+use go_meaning_core::summary_core::{Summary, View, view_of};
 use go_meaning_core::{PackageNames, Tables, names_of, shorter};
 use go_object_core::{FunctionCode, Object};
 use go_term_core::decl_core::Outline;
@@ -81,16 +81,62 @@ fn whole_object(alloc: Global, tables: &Tables<'_>, part: &Part) -> Result<Objec
     })
 }
 
-// What the packages tell that the package of a part reaches, and what it tells itself.
-fn told_to(alloc: Global, part: &Part) -> Result<Vec<Summary>, AllocError>
-    ensures told { IfOk result (λ told. told.items ≡ told_to part.now.input part.now.content) }
-    ensures apart { IfOk result (λ told. PathsAreApart told.items) }
+// Adds what the package of a part tells itself to what the packages tell that it reaches.
+fn tell_own(told: &mut Vec<Summary>, part: &Part) -> Result<(), AllocError>
+    requires { told.old.items ≡ part.now.input.reached }
+    ensures told { OnOk result (told.new.items ≡ told_to part.now.input part.now.content) }
+    ensures apart { OnOk result (PathsAreApart told.new.items) }
 {
     // Each path is there once, since a package does not reach itself.
     let _content = part.content();
+    let _reached = part.input().reached();
+    add(told, part.summary().share()?)?;
+    Ok(())
+}
+
+// The object of the package of a part, whatever is reported of it, by what the packages tell that it reaches and what it tells itself, and by what is
+// seen of these.
+fn object_seen(
+    alloc: Global,
+    part: &Part,
+    told: &[Summary],
+    seen: &View,
+) -> Result<Object<Site>, AllocError>
+    requires told { told.now ≡ told_to part.now.input part.now.content }
+    requires types { seen.now.types ≡ types_told told.now }
+    requires faces { seen.now.faces ≡ faces_told told.now }
+    ensures { IfOk result (λ object. object_shown object ≡ whole_object (code_scene_over (told_to part.now.input part.now.content) part.now.input part.now.content) part.now.input part.now.content) }
+{
+    let tables = tables_of(alloc, told, seen)?;
+    let object = whole_object(alloc, &tables, part)?;
+    Ok(object)
+}
+
+// The object of the package of a part, whatever is reported of it. To what the packages tell that it reaches, what it tells itself is added.
+fn object_told(
+    alloc: Global,
+    part: &Part,
+    told: &mut Vec<Summary>,
+) -> Result<Object<Site>, AllocError>
+    requires { told.old.items ≡ part.now.input.reached }
+    ensures { IfOk result (λ object. object_shown object ≡ whole_object (code_scene_over (told_to part.now.input part.now.content) part.now.input part.now.content) part.now.input part.now.content) }
+{
+    tell_own(told, part)?;
+    let all = told.as_slice();
+    let seen = view_of(alloc, all)?;
+    let object = object_seen(alloc, part, all, &seen);
+    close_view(seen);
+    object
+}
+
+// The object of the package of a part, whatever is reported of it, over what the packages tell that it reaches and what it tells itself.
+fn own_object(alloc: Global, part: &Part) -> Result<Object<Site>, AllocError>
+    ensures { IfOk result (λ object. object_shown object ≡ whole_object (code_scene_over (told_to part.now.input part.now.content) part.now.input part.now.content) part.now.input part.now.content) }
+{
     let mut told = part.input().reached().list(alloc)?;
-    add(&mut told, part.summary().share()?)?;
-    Ok(told)
+    let object = object_told(alloc, part, &mut told);
+    close_told(told);
+    object
 }
 
 /// The object of the package of a part: none where anything is reported of a file of it. Its functions stand in order of file name and offset. Each
@@ -107,26 +153,24 @@ pub fn emit(alloc: Global, part: &Part) -> Result<Option<Object<Site>>, AllocErr
     ensures { IfOk result (λ object. option_map object_shown object ≡ object_of part.now.input part.now.content) }
 {
     if are_clean(&part.content().files) {
-        let told = told_to(alloc, part)?;
-        let tables = tables_of(alloc, &told)?;
-        let object = whole_object(alloc, &tables, part)?;
+        let object = own_object(alloc, part)?;
         Ok(Some(object))
     } else {
         Ok(None)
     }
 }
 
-// What these parts tell, in their order.
-fn told_by(alloc: Global, parts: &[Option<Part>]) -> Result<Vec<Summary>, AllocError>
-    ensures { IfOk result (λ told. told.items ≡ told_by (somes parts.now)) }
+// Adds what these parts tell, in their order, to nothing.
+fn tell_parts(told: &mut Vec<Summary>, parts: &[Option<Part>]) -> Result<(), AllocError>
+    requires { told.old.items ≡ [] }
+    ensures { OnOk result (told.new.items ≡ told_by (somes parts.now)) }
 {
-    let mut told = Vec::new(alloc);
     for part in parts {
         if let Some(part) = part {
-            add(&mut told, part.summary().share()?)?;
+            add(told, part.summary().share()?)?;
         }
     }
-    Ok(told)
+    Ok(())
 }
 
 // Adds the object of the package of a part, where nothing is reported of a file of it.
@@ -162,6 +206,41 @@ fn objects_in(
     Ok(objects)
 }
 
+// The objects of the packages of parts, over what all of these parts tell, by what is seen of that.
+fn objects_seen(
+    alloc: Global,
+    parts: &[Option<Part>],
+    told: &[Summary],
+    seen: &View,
+) -> Result<Vec<Object<Site>>, AllocError>
+    requires told { told.now ≡ told_by (somes parts.now) }
+    requires types { seen.now.types ≡ types_told told.now }
+    requires faces { seen.now.faces ≡ faces_told told.now }
+    ensures { IfOk result (λ objects. map object_shown objects.items ≡ objects_of (somes parts.now)) }
+{
+    let tables = tables_of(alloc, told, seen)?;
+    let objects = objects_in(alloc, &tables, parts)?;
+    Ok(objects)
+}
+
+// The objects of the packages of parts, over what all of these parts tell. What they tell is added to nothing.
+fn objects_told(
+    alloc: Global,
+    parts: &[Option<Part>],
+    told: &mut Vec<Summary>,
+) -> Result<Vec<Object<Site>>, AllocError>
+    requires apart { AreOfDifferentPackages (somes parts.now) }
+    requires nothing { told.old.items ≡ [] }
+    ensures { IfOk result (λ objects. map object_shown objects.items ≡ objects_of (somes parts.now)) }
+{
+    tell_parts(told, parts)?;
+    let all = told.as_slice();
+    let seen = view_of(alloc, all)?;
+    let objects = objects_seen(alloc, parts, all, &seen);
+    close_view(seen);
+    objects
+}
+
 /// The objects of packages by their parts, as of a whole workspace, in the order of the parts: of each part that is there, and of which nothing is
 /// reported. Each is made over what all of these parts tell. The tables of that are made once, so that the time is linear in the packages together, but
 /// for a logarithm.
@@ -175,8 +254,15 @@ pub fn emit_all(alloc: Global, parts: &[Option<Part>]) -> Result<Vec<Object<Site
     requires { AreOfDifferentPackages (somes parts.now) }
     ensures { IfOk result (λ objects. map object_shown objects.items ≡ objects_of (somes parts.now)) }
 {
-    let told = told_by(alloc, parts)?;
-    let tables = tables_of(alloc, &told)?;
-    let objects = objects_in(alloc, &tables, parts)?;
-    Ok(objects)
+    let mut told = Vec::new(alloc);
+    let objects = objects_told(alloc, parts, &mut told);
+    close_told(told);
+    objects
 }
+
+/// Ends an object, as its drop does, and promises nothing: no answer may rest on it. A crate that ends its objects by this call proves no drops of
+/// functions of its own.
+pub fn close_object(_object: Object<Site>) {}
+
+/// Ends objects, as their drops do. It promises nothing either.
+pub fn close_objects(_objects: Vec<Object<Site>>) {}

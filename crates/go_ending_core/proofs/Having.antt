@@ -8,7 +8,7 @@ use Rattle.go_body_core.specs.local_core.Law.{Out}
 use Rattle.go_body_core.specs.walk_core.Ends.{are_terminating, lines_loop_faults}
 use Rattle.go_body_core.specs.expr_core.declared.things.Fault.{Fault}
 use Rattle.go_body_core.specs.Ends.{returns_some, panics_at, calls_one, end_faults}
-use Rattle.go_body_core.specs.env_core.Looks.{fault_of}
+use Rattle.go_body_core.specs.env_core.Looks.{local_fault_of}
 use Rattle.go_body_core.specs.env_core.declared.meaning.Meaning.{Meaning}
 use Rattle.go_body_core.specs.Notes.{TheUse, NoteOf, all_uses, noted_faults}
 use Rattle.go_ending_core.specs.Functions.{LacksReturn, lack_at, IsFaultOf, OfAPiece, OfAName, OfAJump, OfItsEnd}
@@ -41,18 +41,18 @@ lack_has : (us : List TheUse) (f : FuncTree) → LacksReturn us f → Contains (
 lack_has us f l = subst (λ fs. Contains fs (lack_at f.close_brace)) (sym (are_lacked.fault us f l)) (0, omega arith, refl)
 
 module _ (f : FuncTree) (o : Out Meaning NoteOf) where
-  middle : (x : Fault) (y : LocalFault) → x ≡ fault_of y → Contains (o.faults ++ lines_loop_faults false f.body) y → Contains (noted_faults o.notes ++ (map fault_of (o.faults ++ lines_loop_faults false f.body) ++ end_faults (all_uses o.notes) f)) x
+  middle : (x : Fault) (y : LocalFault) → x ≡ local_fault_of y → Contains (o.faults ++ lines_loop_faults false f.body) y → Contains (noted_faults o.notes ++ (map local_fault_of (o.faults ++ lines_loop_faults false f.body) ++ end_faults (all_uses o.notes) f)) x
   middle x y is h =
-      Contains-append_right (noted_faults o.notes) (map fault_of (o.faults ++ lines_loop_faults false f.body) ++ end_faults (all_uses o.notes) f) x
-      (Contains-append_left (map fault_of (o.faults ++ lines_loop_faults false f.body)) (end_faults (all_uses o.notes) f) x
-      (subst (λ g. Contains (map fault_of (o.faults ++ lines_loop_faults false f.body)) g) (sym is) (map_in fault_of (o.faults ++ lines_loop_faults false f.body) y h)))
+      Contains-append_right (noted_faults o.notes) (map local_fault_of (o.faults ++ lines_loop_faults false f.body) ++ end_faults (all_uses o.notes) f) x
+      (Contains-append_left (map local_fault_of (o.faults ++ lines_loop_faults false f.body)) (end_faults (all_uses o.notes) f) x
+      (subst (λ g. Contains (map local_fault_of (o.faults ++ lines_loop_faults false f.body)) g) (sym is) (map_in local_fault_of (o.faults ++ lines_loop_faults false f.body) y h)))
 
-  found : (x : Fault) → Contains (noted_faults o.notes ++ (map fault_of (o.faults ++ lines_loop_faults false f.body) ++ end_faults (all_uses o.notes) f)) x → IsFaultOf f o x
+  found : (x : Fault) → Contains (noted_faults o.notes ++ (map local_fault_of (o.faults ++ lines_loop_faults false f.body) ++ end_faults (all_uses o.notes) f)) x → IsFaultOf f o x
   found x h =
-      elim (Contains-append_cases (noted_faults o.notes) (map fault_of (o.faults ++ lines_loop_faults false f.body) ++ end_faults (all_uses o.notes) f) x h) [
+      elim (Contains-append_cases (noted_faults o.notes) (map local_fault_of (o.faults ++ lines_loop_faults false f.body) ++ end_faults (all_uses o.notes) f) x h) [
         | inl p ↦ OfAPiece p
-        | inr q ↦ elim (Contains-append_cases (map fault_of (o.faults ++ lines_loop_faults false f.body)) (end_faults (all_uses o.notes) f) x q) [
-          | inl m ↦ (let r = in_map fault_of (o.faults ++ lines_loop_faults false f.body) x m in
+        | inr q ↦ elim (Contains-append_cases (map local_fault_of (o.faults ++ lines_loop_faults false f.body)) (end_faults (all_uses o.notes) f) x q) [
+          | inl m ↦ (let r = in_map local_fault_of (o.faults ++ lines_loop_faults false f.body) x m in
               elim (Contains-append_cases o.faults (lines_loop_faults false f.body) r.0 r.1) [
                 | inl n ↦ OfAName n r.2
                 | inr j ↦ OfAJump ((are_faults.each f.body r.0).0 j) r.2
@@ -61,13 +61,13 @@ module _ (f : FuncTree) (o : Out Meaning NoteOf) where
         ]
       ]
 
-  has : (x : Fault) → IsFaultOf f o x → Contains (noted_faults o.notes ++ (map fault_of (o.faults ++ lines_loop_faults false f.body) ++ end_faults (all_uses o.notes) f)) x
-  has x (OfAPiece p) = Contains-append_left (noted_faults o.notes) (map fault_of (o.faults ++ lines_loop_faults false f.body) ++ end_faults (all_uses o.notes) f) x p
+  has : (x : Fault) → IsFaultOf f o x → Contains (noted_faults o.notes ++ (map local_fault_of (o.faults ++ lines_loop_faults false f.body) ++ end_faults (all_uses o.notes) f)) x
+  has x (OfAPiece p) = Contains-append_left (noted_faults o.notes) (map local_fault_of (o.faults ++ lines_loop_faults false f.body) ++ end_faults (all_uses o.notes) f) x p
   has x (OfAName {x = y} n is) = middle x y is (Contains-append_left o.faults (lines_loop_faults false f.body) y n)
   has x (OfAJump {x = y} j is) = middle x y is (Contains-append_right o.faults (lines_loop_faults false f.body) y ((are_faults.each f.body y).1 j))
   has x (OfItsEnd l is) =
-      Contains-append_right (noted_faults o.notes) (map fault_of (o.faults ++ lines_loop_faults false f.body) ++ end_faults (all_uses o.notes) f) x
-      (Contains-append_right (map fault_of (o.faults ++ lines_loop_faults false f.body)) (end_faults (all_uses o.notes) f) x
+      Contains-append_right (noted_faults o.notes) (map local_fault_of (o.faults ++ lines_loop_faults false f.body) ++ end_faults (all_uses o.notes) f) x
+      (Contains-append_right (map local_fault_of (o.faults ++ lines_loop_faults false f.body)) (end_faults (all_uses o.notes) f) x
       (subst (λ g. Contains (end_faults (all_uses o.notes) f) g) (sym is) (lack_has (all_uses o.notes) f l)))
 
 pub are_theirs : FunctionsHaveTheirFaults

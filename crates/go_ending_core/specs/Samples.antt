@@ -3,11 +3,9 @@
 --
 -- docs/RULES.md, "Bodies of functions". The Go specification, "Terminating statements", "Break statements", "Continue statements".
 use Rattle.std.specs.Prelude.{◌≡◌, ℕ, suc, false, List, [], ◌∷◌, Some, None, codes}
-use Rattle.go_text_core.specs.declared.span.Span.{Span}
 use Rattle.go_universe_core.specs.declared.Predeclared.TheVariants as predeclared
-use Rattle.go_tree_nodes.specs.declared.names.Ident.{Ident}
-use Rattle.go_tree_nodes.specs.declared.types.TypeName.TheVariants as type_name
-use Rattle.go_tree_nodes.specs.Trees.{One, TypeTree, NamedType, Signed, ResultTree, NoResult, OneResult, Results, NoParams, Param, ExprTree, Integer, Named, Paren, Call, ItemTrees, NoItems, Item, Alone, Forever, While, Clauses, StmtTree, ElseTree, Lines, Empty, Simple, Return, Break, Continue, Block, If, For, Branch, NoElse, ElseBlock, ElseIf, NoLines, Line, FuncTree}
+use Rattle.go_tree_nodes.specs.Trees.{One, Signed, ResultTree, NoResult, OneResult, Results, NoParams, Param, ExprTree, Integer, Named, Paren, Call, ItemTrees, NoItems, Item, Alone, Forever, While, Clauses, StmtTree, ElseTree, Lines, Empty, Simple, Return, Break, Continue, Block, If, For, Branch, NoElse, ElseBlock, ElseIf, NoLines, Line, FuncTree}
+use Rattle.go_tree_nodes.specs.Samples.{at, called, int_at}
 use Rattle.go_term_core.specs.decl_core.declared.places.DeclKind.TheVariants as decl_kind
 use Rattle.go_term_core.specs.declared.term.MemberPlace.TheVariants as places
 use Rattle.go_body_core.specs.tree_core.declared.occurrence.Role.TheVariants as roles
@@ -19,15 +17,6 @@ use Rattle.go_body_core.specs.Notes.{TheUse}
 use Rattle.go_ending_core.specs.Standing.{stray_at}
 use Rattle.go_ending_core.specs.Functions.{lack_at}
 use Rattle.go_body_core.specs.walk_core.Ends.{lines_loop_faults}
-
-abbrev at : ℕ → Span
-at n = record { start = n; end = suc n }
-
-abbrev called : List ℕ → ℕ → Ident
-called name n = record { name = name; span = at n }
-
-abbrev int_at : ℕ → TypeTree
-int_at n = NamedType (type_name.Plain (called (codes "int") n))
 
 -- func f() RESULT { BODY }, with the places of its braces
 abbrev pub func_f : ResultTree → ℕ → Lines → ℕ → FuncTree

@@ -11,10 +11,10 @@ use Rattle.go_term_core.specs.Terms.{Term, NoType, Predeclared, ErrorType, Defin
 use Rattle.go_term_core.specs.Shapes.{Line, fields_in}
 use Rattle.go_inline_core.specs.table_core.Entries.{has_method}
 use Rattle.go_inline_core.specs.table_core.Shown.{hides_field, hides_some}
-use Rattle.go_inline_core.specs.embed_core.Owners.{OwnerModel}
+use Rattle.go_inline_core.specs.embed_core.Owners.{OwnerModel, nobody}
 use Rattle.go_env_core.specs.Scenes.{SceneModel}
 use Rattle.go_env_core.specs.Fields.{TheField, field_seen, fields_seen, term_seen}
-use Rattle.go_env_core.specs.mirrors.Seen.{nobody, is_kept, listed_field, name_unless}
+use Rattle.go_env_core.specs.mirrors.Seen.{is_kept, listed_field, name_unless}
 
 -- where no method of a type has the identifier of a field, all fields are seen
 

@@ -12,7 +12,7 @@ use Rattle.go_inline_core.specs.local_core.Binding.{NameLook}
 use Rattle.go_expr_core.specs.literal_core.Look.{LiteralRules}
 use Rattle.go_expr_core.specs.declared.things.Fault.{Fault}
 use Rattle.go_expr_core.specs.Looks.{Looks, WrittenRules, everywhere}
-use Rattle.go_expr_core.specs.Places.{type_start}
+use Rattle.go_tree_nodes.specs.Starts.{type_start}
 use Rattle.go_inline_core.specs.Types.{InlineOf, inline_at}
 use Rattle.go_face_core.specs.Faces.{TheFace}
 use Rattle.go_inline_core.specs.names_core.Scope.{open_look}
@@ -31,12 +31,12 @@ abbrev pub inline_type : List Entry → Option InlineOf → Option Term
 inline_type es None = None
 inline_type es (Some i) = typed (find_entry es) i.term
 
-abbrev pub fault_of : LocalFault → Fault
-fault_of f = record { offset = f.offset; rule = f.rule }
+abbrev pub local_fault_of : LocalFault → Fault
+local_fault_of f = record { offset = f.offset; rule = f.rule }
 
 abbrev pub inline_faults : Option InlineOf → List Fault
 inline_faults None = []
-inline_faults (Some i) = map fault_of i.faults
+inline_faults (Some i) = map local_fault_of i.faults
 
 abbrev pub inline_rules : SceneModel → List (ℕ × InlineOf) → WrittenRules Term
 inline_rules s types = record { type_of = λ named t. inline_type s.types (inline_at types (type_start t)); faults_of = λ named t. inline_faults (inline_at types (type_start t)) }

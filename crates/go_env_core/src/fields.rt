@@ -2,8 +2,7 @@
 ghost use Rattle.std.specs.Prelude.{◌≡◌, ◌<◌, ◌++◌, IfOk, List, OnOk, Some, length, map, not, option_map, slice_get};
 ghost use Rattle.std.specs.List.{count_by};
 ghost use Rattle.go_term_core.specs.Shapes.{Line, fields_in, line_shapes, shape};
-ghost use Rattle.go_inline_core.specs.table_core.Entries.{find_entry, has_method, same_id};
-ghost use Rattle.go_inline_core.specs.table_core.Shown.{member_shown};
+ghost use Rattle.go_inline_core.specs.table_core.Entries.{find_entry};
 ghost use Rattle.go_inline_core.specs.embed_core.Owners.{owner_in};
 ghost use Rattle.go_inline_core.specs.embed_core.OwnersShown.{entry_owner};
 ghost use Rattle.go_env_core.specs.Scenes.{SceneModel, scene_shown};
@@ -13,7 +12,8 @@ ghost use Rattle.go_env_core.specs.mirrors.Seen.{hider_shown, is_kept, listed_fi
 use crate::scene::Scene;
 use go_expr_core::literal_core::LiteralField;
 use go_face_core::handle_core::{Decl, DeclSite, TypeRef, typed};
-use go_inline_core::table_core::{DeclaredMethod, DefinedType, StructField, TypeTable};
+use go_inline_core::embed_core::has_method;
+use go_inline_core::table_core::{DefinedType, StructField, TypeTable};
 use go_path_core::ImportPath;
 use go_term_core::{Field, FieldLine, TypeTerm};
 use go_text_core::is_exported;
@@ -28,25 +28,6 @@ pub(crate) struct SeenFields<'p> {
     lines: &'p [FieldLine],
     /// The defined type that has them, where one of its methods may keep a field from it.
     hider: Option<&'p DefinedType>,
-}
-
-// Whether two identifiers are the same, each with the package where it is written.
-fn is_same_id(a: &str, a_path: &ImportPath, b: &str, b_path: &ImportPath) -> bool
-    ensures { result ≡ same_id a.now a_path.now b.now b_path.now }
-{
-    go_text_core::same_id(a, a_path.as_str(), b, b_path.as_str())
-}
-
-// Whether a method of a type of a package has the identifier that is written in another.
-fn has_method(path: &ImportPath, methods: &[DeclaredMethod], name: &str, from: &ImportPath) -> bool
-    ensures { result ≡ has_method path.now (map member_shown methods.now) name.now from.now }
-{
-    for method in methods {
-        if is_same_id(method.name.as_str(), path, name, from) {
-            return true;
-        }
-    }
-    false
 }
 
 // Whether a field of a struct type is kept from the type that has its fields.

@@ -18,7 +18,7 @@ pub use laws::{
     fields_are_members, names_are_local, names_stand_for_declarations, parts_are_looks,
     universe_is_this,
 };
-pub use meaning::Meaning;
+pub use meaning::{Meaning, outer_names};
 pub use scene::Scene;
 
 /// What the crates above name of `go_block_core`.

@@ -1,10 +1,12 @@
 //! What names mean inside a function.
-ghost use Rattle.std.specs.Prelude.{◌≡◌, IfOk};
+ghost use Rattle.std.specs.Prelude.{◌≡◌, [], IfOk};
 
 use crate::copies::value_again;
+use crate::scene::Scene;
 use go_expr_core::operand_core::Operand;
 use go_face_core::handle_core::TypeRef;
-use go_inline_core::names_core::{Meant, Outside};
+use go_inline_core::names_core::{Meant, OpenNames, Outside};
+use go_inline_core::scope_core::Scopes;
 use std::alloc::AllocError;
 
 /// What a name means at a place.
@@ -31,4 +33,16 @@ impl<'p> Meant for Meaning<'p> {
             Meaning::Local(at, value) => Ok(Meaning::Local(*at, value_again(value)?)),
         }
     }
+}
+
+/// The names outside all functions, by the blocks of a file: no local is among them. The scene is looked at for how long what it lends
+/// lives, and for nothing else. The Go specification, "Declarations and scope".
+pub fn outer_names<'s, 'p: 's>(
+    scene: &Scene<'p>,
+    scopes: &'s Scopes<'s>,
+) -> OpenNames<'s, Meaning<'p>>
+    ensures scopes { result.scopes.now ≡ scopes.now }
+    ensures locals { result.locals.now ≡ [] }
+{
+    OpenNames::at_top(scopes)
 }

@@ -9,6 +9,8 @@ use Rattle.go_tree_nodes.specs.declared.exprs.Key.{Key}
 use Rattle.go_tree_nodes.specs.declared.types.TypeName.{TypeName}
 use Rattle.go_tree_nodes.specs.declared.types.TypeName.TheVariants as type_names
 use Rattle.go_tree_nodes.specs.Trees.{TypeTree, FieldTrees, MethodTrees, SignatureTree, ResultTree, ParamTrees, NamedType, Pointer, ParenType, Struct, Interface, NoFields, NamedFields, EmbeddedField, NoMethods, Method, Signed, NoResult, OneResult, Results, NoParams, Param, ExprTree, ItemTrees, Integer, Text, Named, Paren, Unary, Binary, Select, Call, Literal, StructLiteral, NoItems, Item}
+use Rattle.go_tree_nodes.specs.WrittenTypes.{expr_types, items_types}
+use Rattle.go_tree_nodes.specs.Counts.{item_count}
 use Rattle.go_tree_core.specs.declared.occurrence.Role.TheVariants as roles
 use Rattle.go_literal_core.specs.operand_core.declared.types.ValueType.{ValueType}
 use Rattle.go_literal_core.specs.operand_core.TypeRules.{TypeRules}
@@ -28,7 +30,7 @@ use Rattle.go_literal_core.specs.denote_core.declared.things.Denoted.TheVariants
 use Rattle.go_literal_core.specs.denote_core.declared.things.Answer.{Answer}
 use Rattle.go_literal_core.specs.denote_core.Answers.{refused, found_answer}
 use Rattle.go_literal_core.specs.denote_core.Selectors.{dot_of, selector_answer}
-use Rattle.go_literal_core.specs.denote_core.Arguments.{arguments_of, is_free}
+use Rattle.go_literal_core.specs.denote_core.Arguments.{arguments_of, is_free, single_rule}
 use Rattle.go_literal_core.specs.denote_core.Calls.{call_answer}
 use Rattle.go_literal_core.specs.denote_core.Laws.{ValueAlike, GivenAlike, EachAlike, ArgumentAlike, ArgumentsAlike, CallsAlike}
 use Rattle.go_literal_core.specs.denote_core.Locality.{calls_local}
@@ -43,16 +45,17 @@ use Rattle.go_literal_core.specs.Literals.{is_struct, literal_type, literal_deno
 use Rattle.go_literal_core.specs.Keys.{refused_key, found_key, key_answer}
 use Rattle.go_expr_core.specs.declared.things.Fault.{Fault}
 use Rattle.go_expr_core.specs.Looks.{WrittenRules, Looks, look_of_place, literals_at}
-use Rattle.go_expr_core.specs.Places.{inside, under_place, left_place, whole, is_name, is_literal, is_lone_call, is_several, start, item_start, type_name_start, type_start, place_role, role_usage}
+use Rattle.go_expr_core.specs.Places.{inside, under_place, left_place, whole, is_name, is_literal, is_lone_call, is_several, start, item_start, place_role, role_usage}
+use Rattle.go_tree_nodes.specs.Starts.{type_name_start, type_start}
 use Rattle.go_expr_core.specs.Operators.{unary_of, binary_of}
 use Rattle.go_expr_core.specs.Denoting.{ident_answer, type_name_answer, named_type, written_type, denoted, denoted_items, select_answer, called_answer}
-use Rattle.go_expr_core.specs.Elements.{key_names, all_keys, item_count, keys_of, is_mixed, key_target_by, is_again, element_type, element_rule, whole_mode}
+use Rattle.go_expr_core.specs.Elements.{key_names, all_keys, keys_of, is_mixed, key_target_by, is_again, element_type, element_rule, whole_mode}
 use Rattle.go_expr_core.specs.Uses.{made_use, uses, spots, type_name_spots, type_name_uses, type_spots, fields_spots, methods_spots, signature_spots, result_spots, params_spots, key_spots, key_uses, args_spots, args_uses, items_spots, items_uses}
 use Rattle.go_expr_core.specs.TypeUses.{type_uses, fields_uses, methods_uses, signature_uses, result_uses, params_uses}
-use Rattle.go_expr_core.specs.Faults.{fault_at, single_rule, listed_rule, faults, args_faults, items_faults, operand_faults, literal_faults}
+use Rattle.go_expr_core.specs.Faults.{fault_at, listed_rule, faults, args_faults, items_faults, operand_faults, literal_faults}
 use Rattle.go_expr_core.specs.Laws.{type_name_idents, type_idents, fields_idents, methods_idents, signature_type_idents, result_type_idents, params_idents, expr_idents, items_idents, AgreeOnIdents, type_names_of, field_names_of, method_names_of, signature_names_of, result_names_of, param_names_of, SameTypes, LooksAtNames, finding, Same, ExpressionsAreLocal}
 use Rattle.go_expr_core.specs.Needed.{needed_idents, needed_by_args, DenotedByNeededNames}
-use Rattle.go_expr_core.specs.Locality.{struct_types, struct_types_in, needed_types, needed_types_in, SameType, SameWritten, seeing, ExpressionsAreSeenAlike}
+use Rattle.go_expr_core.specs.Locality.{needed_types, needed_types_in, SameType, SameWritten, seeing, ExpressionsAreSeenAlike}
 
 -- what is asked of types is the same
 
@@ -314,36 +317,36 @@ module _ {T S D P : Type 0} (looks : Looks T S D P) (find : List ℕ → ℕ →
   beside xs ys ts us h k = (agree_both _ _ xs ys h.0 k.0, made_both ts us h.1 k.1)
 
   mutual
-    expr_needs : (e : ExprTree) → Both (expr_idents e) (struct_types e) → Both (needed_idents e) (needed_types e)
+    expr_needs : (e : ExprTree) → Both (expr_idents e) (expr_types e) → Both (needed_idents e) (needed_types e)
     expr_needs (Integer n span) h = h
     expr_needs (Text t) h = h
     expr_needs (Named x) h = h
     expr_needs (Paren first e last) h = expr_needs e h
     expr_needs (Unary op span e) h = expr_needs e h
     expr_needs (Binary a op span b) h =
-        beside (needed_idents a) (needed_idents b) (needed_types a) (needed_types b) (expr_needs a (left (expr_idents a) (expr_idents b) (struct_types a) (struct_types b) h)) (expr_needs b (right (expr_idents a) (expr_idents b) (struct_types a) (struct_types b) h))
+        beside (needed_idents a) (needed_idents b) (needed_types a) (needed_types b) (expr_needs a (left (expr_idents a) (expr_idents b) (expr_types a) (expr_types b) h)) (expr_needs b (right (expr_idents a) (expr_idents b) (expr_types a) (expr_types b) h))
     expr_needs (Select e dot x) h = expr_needs e h
     expr_needs (Call e first items last) h =
         beside (needed_idents e) (needed_by_args items) (needed_types e) (needed_types_in items)
-        (expr_needs e (left (expr_idents e) (items_idents items) (struct_types e) (struct_types_in items) h))
-        (args_need items (right (expr_idents e) (items_idents items) (struct_types e) (struct_types_in items) h))
+        (expr_needs e (left (expr_idents e) (items_idents items) (expr_types e) (items_types items) h))
+        (args_need items (right (expr_idents e) (items_idents items) (expr_types e) (items_types items) h))
     expr_needs (Literal n first items last) h = (agree_left _ _ (type_name_idents n) (items_idents items) h.0, tt)
     expr_needs (StructLiteral t first items last) h = (agree_left _ _ (type_idents t) (items_idents items) h.0, (h.1.0, tt))
 
-    args_need : (items : ItemTrees) → Both (items_idents items) (struct_types_in items) → Both (needed_by_args items) (needed_types_in items)
+    args_need : (items : ItemTrees) → Both (items_idents items) (items_types items) → Both (needed_by_args items) (needed_types_in items)
     args_need NoItems h = h
     args_need (Item key e comma rest) h =
         beside (needed_idents e) (needed_by_args rest) (needed_types e) (needed_types_in rest)
-        (expr_needs e (left (expr_idents e) (items_idents rest) (struct_types e) (struct_types_in rest) h))
-        (args_need rest (right (expr_idents e) (items_idents rest) (struct_types e) (struct_types_in rest) h))
+        (expr_needs e (left (expr_idents e) (items_idents rest) (expr_types e) (items_types rest) h))
+        (args_need rest (right (expr_idents e) (items_idents rest) (expr_types e) (items_types rest) h))
 
-  denoted_same : (p : Place) (e : ExprTree) → Both (expr_idents e) (struct_types e) → denoted looks p e ≡ denoted other p e
+  denoted_same : (p : Place) (e : ExprTree) → Both (expr_idents e) (expr_types e) → denoted looks p e ≡ denoted other p e
   denoted_same p e h = denoted_needed p e (expr_needs e h)
 
-  denoted_all : (items : ItemTrees) → Both (items_idents items) (struct_types_in items) → denoted_items looks items ≡ denoted_items other items
+  denoted_all : (items : ItemTrees) → Both (items_idents items) (items_types items) → denoted_items looks items ≡ denoted_items other items
   denoted_all items h = args_needed items (args_need items h)
 
-  select_same : (p : Place) (e : ExprTree) (x : Ident) → Both (expr_idents e) (struct_types e) → select_answer looks p e x ≡ select_answer other p e x
+  select_same : (p : Place) (e : ExprTree) (x : Ident) → Both (expr_idents e) (expr_types e) → select_answer looks p e x ≡ select_answer other p e x
   select_same p e x h =
       selector_same x.span.start (whole p) (dot_of (is_name e) (denoted looks (left_place p e) e)) x.name
       ∙ ap (λ d. selector_answer (look_of_place other x.span.start) (whole p) (dot_of (is_name e) d) x.name) (denoted_same (left_place p e) e h)
@@ -353,41 +356,41 @@ module _ {T S D P : Type 0} (looks : Looks T S D P) (find : List ℕ → ℕ →
   key_used t m others (Some k) = ap (λ (a : KeyAnswer T D P). made_use k.name.span.start roles.Key a.outcome ∷ []) (key_same k.name.span.start t m (is_again (Some k) others) k.name.name)
 
   mutual
-    used_same : (p : Place) (e : ExprTree) → Both (expr_idents e) (struct_types e) → uses looks p e ≡ uses other p e
+    used_same : (p : Place) (e : ExprTree) → Both (expr_idents e) (expr_types e) → uses looks p e ≡ uses other p e
     used_same p (Integer n span) h = refl
     used_same p (Text t) h = refl
     used_same p (Named x) h = ap (λ (a : Answer T S D P). made_use x.span.start (place_role p) a.outcome ∷ []) (name_same p x h.0.0)
     used_same p (Paren first e last) h = used_same (inside p) e h
     used_same p (Unary op span e) h = used_same (under_place op p) e h
     used_same p (Binary a op span b) h =
-        mapped _ _ (spots looks places.«Value» a) (spots looks places.«Value» b) (spots other places.«Value» a) (spots other places.«Value» b) (used_same places.«Value» a (left (expr_idents a) (expr_idents b) (struct_types a) (struct_types b) h)) (used_same places.«Value» b (right (expr_idents a) (expr_idents b) (struct_types a) (struct_types b) h))
+        mapped _ _ (spots looks places.«Value» a) (spots looks places.«Value» b) (spots other places.«Value» a) (spots other places.«Value» b) (used_same places.«Value» a (left (expr_idents a) (expr_idents b) (expr_types a) (expr_types b) h)) (used_same places.«Value» b (right (expr_idents a) (expr_idents b) (expr_types a) (expr_types b) h))
     used_same p (Select e dot x) h =
         mapped _ _ (spots looks (left_place p e) e) _ (spots other (left_place p e) e) _ (used_same (left_place p e) e h)
         (ap (λ (a : Answer T S D P). made_use x.span.start (roles.Selector (role_usage (whole p))) a.outcome ∷ []) (select_same p e x h))
     used_same p (Call e first items last) h =
-        mapped _ _ (spots looks places.Callee e) _ (spots other places.Callee e) _ (used_same places.Callee e (left (expr_idents e) (items_idents items) (struct_types e) (struct_types_in items) h))
-        (ap (λ (a : Answer T S D P). made_use first.start roles.Call a.outcome ∷ args_uses looks items) (call_same first.start _ _ (is_lone_call items) _ _ (denoted_same places.Callee e (left (expr_idents e) (items_idents items) (struct_types e) (struct_types_in items) h)) (denoted_all items (right (expr_idents e) (items_idents items) (struct_types e) (struct_types_in items) h)))
-        ∙ ap (λ l. made_use first.start roles.Call (called_answer other e first items).outcome ∷ l) (args_used items (right (expr_idents e) (items_idents items) (struct_types e) (struct_types_in items) h)))
+        mapped _ _ (spots looks places.Callee e) _ (spots other places.Callee e) _ (used_same places.Callee e (left (expr_idents e) (items_idents items) (expr_types e) (items_types items) h))
+        (ap (λ (a : Answer T S D P). made_use first.start roles.Call a.outcome ∷ args_uses looks items) (call_same first.start _ _ (is_lone_call items) _ _ (denoted_same places.Callee e (left (expr_idents e) (items_idents items) (expr_types e) (items_types items) h)) (denoted_all items (right (expr_idents e) (items_idents items) (expr_types e) (items_types items) h)))
+        ∙ ap (λ l. made_use first.start roles.Call (called_answer other e first items).outcome ∷ l) (args_used items (right (expr_idents e) (items_idents items) (expr_types e) (items_types items) h)))
     used_same p (Literal n first items last) h =
         mapped _ _ (type_name_spots looks n) (items_spots looks (named_type looks n) (is_mixed (keys_of items)) [] items) (type_name_spots other n) (items_spots other (named_type other n) (is_mixed (keys_of items)) [] items)
         (name_uses n (agree_left _ _ (type_name_idents n) (items_idents items) h.0))
-        (items_used (named_type looks n) (is_mixed (keys_of items)) [] items (right (type_name_idents n) (items_idents items) [] (struct_types_in items) h) ∙ ap (λ t. items_uses other t (is_mixed (keys_of items)) [] items) (named_same n (agree_left _ _ (type_name_idents n) (items_idents items) h.0)))
+        (items_used (named_type looks n) (is_mixed (keys_of items)) [] items (right (type_name_idents n) (items_idents items) [] (items_types items) h) ∙ ap (λ t. items_uses other t (is_mixed (keys_of items)) [] items) (named_same n (agree_left _ _ (type_name_idents n) (items_idents items) h.0)))
     used_same p (StructLiteral t first items last) h =
         mapped _ _ (type_spots looks t) (items_spots looks (written_type looks t) (is_mixed (keys_of items)) [] items) (type_spots other t) (items_spots other (written_type other t) (is_mixed (keys_of items)) [] items)
         (type_used t (agree_left _ _ (type_idents t) (items_idents items) h.0))
-        (items_used (written_type looks t) (is_mixed (keys_of items)) [] items (right (type_idents t) (items_idents items) (t ∷ []) (struct_types_in items) h) ∙ ap (λ s. items_uses other s (is_mixed (keys_of items)) [] items) h.1.0.type_of)
+        (items_used (written_type looks t) (is_mixed (keys_of items)) [] items (right (type_idents t) (items_idents items) (t ∷ []) (items_types items) h) ∙ ap (λ s. items_uses other s (is_mixed (keys_of items)) [] items) h.1.0.type_of)
 
-    args_used : (items : ItemTrees) → Both (items_idents items) (struct_types_in items) → args_uses looks items ≡ args_uses other items
+    args_used : (items : ItemTrees) → Both (items_idents items) (items_types items) → args_uses looks items ≡ args_uses other items
     args_used NoItems h = refl
     args_used (Item key e comma rest) h =
-        mapped _ _ (spots looks places.«Value» e) (args_spots looks rest) (spots other places.«Value» e) (args_spots other rest) (used_same places.«Value» e (left (expr_idents e) (items_idents rest) (struct_types e) (struct_types_in rest) h)) (args_used rest (right (expr_idents e) (items_idents rest) (struct_types e) (struct_types_in rest) h))
+        mapped _ _ (spots looks places.«Value» e) (args_spots looks rest) (spots other places.«Value» e) (args_spots other rest) (used_same places.«Value» e (left (expr_idents e) (items_idents rest) (expr_types e) (items_types rest) h)) (args_used rest (right (expr_idents e) (items_idents rest) (expr_types e) (items_types rest) h))
 
-    items_used : (t : Option T) (m : Bool) (before : List (List ℕ)) (items : ItemTrees) → Both (items_idents items) (struct_types_in items) → items_uses looks t m before items ≡ items_uses other t m before items
+    items_used : (t : Option T) (m : Bool) (before : List (List ℕ)) (items : ItemTrees) → Both (items_idents items) (items_types items) → items_uses looks t m before items ≡ items_uses other t m before items
     items_used t m before NoItems h = refl
     items_used t m before (Item key e comma rest) h =
         mapped _ _ (key_spots t m (before ++ all_keys rest) key) _ (key_spots t m (before ++ all_keys rest) key) _ (key_used t m (before ++ all_keys rest) key)
         (mapped _ _ (spots looks places.«Value» e) (items_spots looks t m (before ++ key_names key) rest) (spots other places.«Value» e) (items_spots other t m (before ++ key_names key) rest)
-        (used_same places.«Value» e (left (expr_idents e) (items_idents rest) (struct_types e) (struct_types_in rest) h)) (items_used t m (before ++ key_names key) rest (right (expr_idents e) (items_idents rest) (struct_types e) (struct_types_in rest) h)))
+        (used_same places.«Value» e (left (expr_idents e) (items_idents rest) (expr_types e) (items_types rest) h)) (items_used t m (before ++ key_names key) rest (right (expr_idents e) (items_idents rest) (expr_types e) (items_types rest) h)))
 
   -- faults
 
@@ -398,11 +401,11 @@ module _ {T S D P : Type 0} (looks : Looks T S D P) (find : List ℕ → ℕ →
       pieces _ _ _ _ (ap (fault_at offset) (rule_same offset t (keys_of items) (item_count items)))
       (h ∙ ap (λ m. items_faults other t m (is_mixed (keys_of items)) 0 [] items) (mode_same offset t (keys_of items) (item_count items)))
 
-  operand_with : (p : Place) (e : ExprTree) → Both (expr_idents e) (struct_types e) → faults looks p e ≡ faults other p e → operand_faults looks p e ≡ operand_faults other p e
+  operand_with : (p : Place) (e : ExprTree) → Both (expr_idents e) (expr_types e) → faults looks p e ≡ faults other p e → operand_faults looks p e ≡ operand_faults other p e
   operand_with p e h same = pieces _ _ _ _ same (ap (λ d. fault_at (start e) (single_rule d)) (denoted_same p e h))
 
   mutual
-    faults_same : (p : Place) (e : ExprTree) → Both (expr_idents e) (struct_types e) → faults looks p e ≡ faults other p e
+    faults_same : (p : Place) (e : ExprTree) → Both (expr_idents e) (expr_types e) → faults looks p e ≡ faults other p e
     faults_same p (Integer n span) h = refl
     faults_same p (Text t) h = refl
     faults_same p (Named x) h = refl
@@ -410,31 +413,31 @@ module _ {T S D P : Type 0} (looks : Looks T S D P) (find : List ℕ → ℕ →
     faults_same p (Unary op span e) h =
         pieces _ _ _ _ (operand_with (under_place op p) e h (faults_same (under_place op p) e h)) (ap (λ d. fault_at span.start (unary_of looks.types op (is_literal e) d).fault) (denoted_same (under_place op p) e h))
     faults_same p (Binary a op span b) h =
-        pieces _ _ _ _ (operand_with places.«Value» a (left (expr_idents a) (expr_idents b) (struct_types a) (struct_types b) h) (faults_same places.«Value» a (left (expr_idents a) (expr_idents b) (struct_types a) (struct_types b) h)))
-        (pieces _ _ _ _ (operand_with places.«Value» b (right (expr_idents a) (expr_idents b) (struct_types a) (struct_types b) h) (faults_same places.«Value» b (right (expr_idents a) (expr_idents b) (struct_types a) (struct_types b) h)))
-        (ap (λ d. fault_at (start a) (binary_of looks.types op d (denoted looks places.«Value» b)).fault) (denoted_same places.«Value» a (left (expr_idents a) (expr_idents b) (struct_types a) (struct_types b) h))
-        ∙ ap (λ d. fault_at (start a) (binary_of looks.types op (denoted other places.«Value» a) d).fault) (denoted_same places.«Value» b (right (expr_idents a) (expr_idents b) (struct_types a) (struct_types b) h))))
+        pieces _ _ _ _ (operand_with places.«Value» a (left (expr_idents a) (expr_idents b) (expr_types a) (expr_types b) h) (faults_same places.«Value» a (left (expr_idents a) (expr_idents b) (expr_types a) (expr_types b) h)))
+        (pieces _ _ _ _ (operand_with places.«Value» b (right (expr_idents a) (expr_idents b) (expr_types a) (expr_types b) h) (faults_same places.«Value» b (right (expr_idents a) (expr_idents b) (expr_types a) (expr_types b) h)))
+        (ap (λ d. fault_at (start a) (binary_of looks.types op d (denoted looks places.«Value» b)).fault) (denoted_same places.«Value» a (left (expr_idents a) (expr_idents b) (expr_types a) (expr_types b) h))
+        ∙ ap (λ d. fault_at (start a) (binary_of looks.types op (denoted other places.«Value» a) d).fault) (denoted_same places.«Value» b (right (expr_idents a) (expr_idents b) (expr_types a) (expr_types b) h))))
     faults_same p (Select e dot x) h = faults_same (left_place p e) e h
     faults_same p (Call e first items last) h =
-        pieces _ _ _ _ (faults_same places.Callee e (left (expr_idents e) (items_idents items) (struct_types e) (struct_types_in items) h)) (args_same (is_several items) items (right (expr_idents e) (items_idents items) (struct_types e) (struct_types_in items) h))
+        pieces _ _ _ _ (faults_same places.Callee e (left (expr_idents e) (items_idents items) (expr_types e) (items_types items) h)) (args_same (is_several items) items (right (expr_idents e) (items_idents items) (expr_types e) (items_types items) h))
     faults_same p (Literal n first items last) h =
-        literal_noted (type_name_start n) (named_type looks n) items [] [] (items_same (named_type looks n) _ _ 0 [] items (right (type_name_idents n) (items_idents items) [] (struct_types_in items) h))
+        literal_noted (type_name_start n) (named_type looks n) items [] [] (items_same (named_type looks n) _ _ 0 [] items (right (type_name_idents n) (items_idents items) [] (items_types items) h))
         ∙ ap (λ t. literal_faults other (type_name_start n) t items) (named_same n (agree_left _ _ (type_name_idents n) (items_idents items) h.0))
     faults_same p (StructLiteral t first items last) h =
         pieces _ _ _ _ h.1.0.faults_of
-        (literal_noted (type_start t) (written_type looks t) items [] [] (items_same (written_type looks t) _ _ 0 [] items (right (type_idents t) (items_idents items) (t ∷ []) (struct_types_in items) h))
+        (literal_noted (type_start t) (written_type looks t) items [] [] (items_same (written_type looks t) _ _ 0 [] items (right (type_idents t) (items_idents items) (t ∷ []) (items_types items) h))
         ∙ ap (λ s. literal_faults other (type_start t) s items) h.1.0.type_of)
 
-    args_same : (b : Bool) (items : ItemTrees) → Both (items_idents items) (struct_types_in items) → args_faults looks b items ≡ args_faults other b items
+    args_same : (b : Bool) (items : ItemTrees) → Both (items_idents items) (items_types items) → args_faults looks b items ≡ args_faults other b items
     args_same b NoItems h = refl
     args_same b (Item key e comma rest) h =
-        pieces _ _ _ _ (pieces _ _ _ _ (faults_same places.«Value» e (left (expr_idents e) (items_idents rest) (struct_types e) (struct_types_in rest) h)) (ap (λ d. fault_at (start e) (listed_rule b d)) (denoted_same places.«Value» e (left (expr_idents e) (items_idents rest) (struct_types e) (struct_types_in rest) h))))
-        (args_same b rest (right (expr_idents e) (items_idents rest) (struct_types e) (struct_types_in rest) h))
+        pieces _ _ _ _ (pieces _ _ _ _ (faults_same places.«Value» e (left (expr_idents e) (items_idents rest) (expr_types e) (items_types rest) h)) (ap (λ d. fault_at (start e) (listed_rule b d)) (denoted_same places.«Value» e (left (expr_idents e) (items_idents rest) (expr_types e) (items_types rest) h))))
+        (args_same b rest (right (expr_idents e) (items_idents rest) (expr_types e) (items_types rest) h))
 
-    items_same : (t : Option T) (mode : Mode) (m : Bool) (n : ℕ) (before : List (List ℕ)) (items : ItemTrees) → Both (items_idents items) (struct_types_in items) → items_faults looks t mode m n before items ≡ items_faults other t mode m n before items
+    items_same : (t : Option T) (mode : Mode) (m : Bool) (n : ℕ) (before : List (List ℕ)) (items : ItemTrees) → Both (items_idents items) (items_types items) → items_faults looks t mode m n before items ≡ items_faults other t mode m n before items
     items_same t mode m n before NoItems h = refl
     items_same t mode m n before (Item key e comma rest) h =
-        let here = left (expr_idents e) (items_idents rest) (struct_types e) (struct_types_in rest) h in
+        let here = left (expr_idents e) (items_idents rest) (expr_types e) (items_types rest) h in
         let wanted = element_type looks (start e) t mode m n (before ++ all_keys rest) key in
         pieces _ _ _ _
         (pieces _ _ _ _ (operand_with places.«Value» e here (faults_same places.«Value» e here))
@@ -443,9 +446,9 @@ module _ {T S D P : Type 0} (looks : Looks T S D P) (find : List ℕ → ℕ →
         ∙ ap (λ w. element_rule other (start e) w (denoted other places.«Value» e))
         (target_same (start e) t mode n (key_target_by looks t m (is_again key (before ++ all_keys rest)) key)
         ∙ ap (element_target (literals_at other (start e)) t mode n) (key_target_same t m (is_again key (before ++ all_keys rest)) key))))))
-        (items_same t mode m (suc n) (before ++ key_names key) rest (right (expr_idents e) (items_idents rest) (struct_types e) (struct_types_in rest) h))
+        (items_same t mode m (suc n) (before ++ key_names key) rest (right (expr_idents e) (items_idents rest) (expr_types e) (items_types rest) h))
 
-  pub all_same : (p : Place) (e : ExprTree) → Both (expr_idents e) (struct_types e) → Same T S D P looks other p e
+  pub all_same : (p : Place) (e : ExprTree) → Both (expr_idents e) (expr_types e) → Same T S D P looks other p e
   all_same p e h = record { denoted = denoted_same p e h; uses = used_same p e h; faults = faults_same p e h }
 
 -- what looks at the names in a struct type alone makes the same of it
@@ -501,22 +504,22 @@ module _ {T S D P : Type 0} (looks : Looks T S D P) (find : List ℕ → ℕ →
   made ts us h k = made_both looks find looks.written ts us h k
 
   mutual
-    written_alike : (e : ExprTree) → Finds (expr_idents e) → SameWritten looks found (struct_types e)
+    written_alike : (e : ExprTree) → Finds (expr_idents e) → SameWritten looks found (expr_types e)
     written_alike (Integer n span) h = tt
     written_alike (Text t) h = tt
     written_alike (Named x) h = tt
     written_alike (Paren first e last) h = written_alike e h
     written_alike (Unary op span e) h = written_alike e h
-    written_alike (Binary a op span b) h = made (struct_types a) (struct_types b) (written_alike a (agree_left _ _ (expr_idents a) (expr_idents b) h)) (written_alike b (agree_right _ _ (expr_idents a) (expr_idents b) h))
+    written_alike (Binary a op span b) h = made (expr_types a) (expr_types b) (written_alike a (agree_left _ _ (expr_idents a) (expr_idents b) h)) (written_alike b (agree_right _ _ (expr_idents a) (expr_idents b) h))
     written_alike (Select e dot x) h = written_alike e h
     written_alike (Call e first items last) h =
-        made (struct_types e) (struct_types_in items) (written_alike e (agree_left _ _ (expr_idents e) (items_idents items) h)) (items_alike items (agree_right _ _ (expr_idents e) (items_idents items) h))
+        made (expr_types e) (items_types items) (written_alike e (agree_left _ _ (expr_idents e) (items_idents items) h)) (items_alike items (agree_right _ _ (expr_idents e) (items_idents items) h))
     written_alike (Literal n first items last) h = items_alike items (agree_right _ _ (type_name_idents n) (items_idents items) h)
     written_alike (StructLiteral t first items last) h = (type_made t (agree_left _ _ (type_idents t) (items_idents items) h), items_alike items (agree_right _ _ (type_idents t) (items_idents items) h))
 
-    items_alike : (items : ItemTrees) → Finds (items_idents items) → SameWritten looks found (struct_types_in items)
+    items_alike : (items : ItemTrees) → Finds (items_idents items) → SameWritten looks found (items_types items)
     items_alike NoItems h = tt
-    items_alike (Item key e comma rest) h = made (struct_types e) (struct_types_in rest) (written_alike e (agree_left _ _ (expr_idents e) (items_idents rest) h)) (items_alike rest (agree_right _ _ (expr_idents e) (items_idents rest) h))
+    items_alike (Item key e comma rest) h = made (expr_types e) (items_types rest) (written_alike e (agree_left _ _ (expr_idents e) (items_idents rest) h)) (items_alike rest (agree_right _ _ (expr_idents e) (items_idents rest) h))
 
   mutual
     needed_alike : (e : ExprTree) → Finds (needed_idents e) → SameWritten looks found (needed_types e)

@@ -21,7 +21,8 @@ use Rattle.go_literal_core.specs.denote_core.Calls.{call_answer}
 use Rattle.go_literal_core.specs.Literals.{literal_denotes}
 use Rattle.go_expr_core.specs.declared.things.Use.{Use}
 use Rattle.go_expr_core.specs.Looks.{Looks, look_of_place}
-use Rattle.go_expr_core.specs.Places.{is_lone_call, is_several, type_name_start, type_start}
+use Rattle.go_tree_nodes.specs.Starts.{type_name_start, type_start}
+use Rattle.go_expr_core.specs.Places.{is_lone_call, is_several}
 use Rattle.go_expr_core.specs.Denoting.{named_type, written_type, denoted, denoted_items, answer_by, called_answer}
 use Rattle.go_expr_core.specs.Elements.{keys_of, is_mixed}
 use Rattle.go_expr_core.specs.TypeUses.{type_uses}

@@ -7,13 +7,14 @@ use Rattle.go_tree_nodes.specs.declared.exprs.Key.{Key}
 use Rattle.go_tree_nodes.specs.declared.types.TypeName.{TypeName}
 use Rattle.go_tree_nodes.specs.declared.types.TypeName.TheVariants as type_names
 use Rattle.go_tree_nodes.specs.Trees.{TypeTree, FieldTrees, MethodTrees, SignatureTree, ResultTree, ParamTrees, NamedType, Pointer, ParenType, Struct, Interface, NoFields, NamedFields, EmbeddedField, NoMethods, Method, Signed, NoResult, OneResult, Results, NoParams, Param, ExprTree, ItemTrees, Integer, Text, Named, Paren, Unary, Binary, Select, Call, Literal, StructLiteral, NoItems, Item}
+use Rattle.go_tree_nodes.specs.Counts.{item_count}
 use Rattle.go_literal_core.specs.denote_core.declared.things.Place.{Place}
 use Rattle.go_literal_core.specs.denote_core.declared.things.Place.TheVariants as places
 use Rattle.go_literal_core.specs.Literals.{keys_among}
 use Rattle.go_expr_core.specs.Looks.{Looks}
 use Rattle.go_expr_core.specs.Places.{inside, under_place, left_place}
 use Rattle.go_expr_core.specs.Denoting.{named_type, written_type}
-use Rattle.go_expr_core.specs.Elements.{key_names, all_keys, item_count, keys_of, is_mixed}
+use Rattle.go_expr_core.specs.Elements.{key_names, all_keys, keys_of, is_mixed}
 use Rattle.go_expr_core.specs.Uses.{Context, Spot, Identifier, CallAt, use_of, type_name_spots, type_spots, fields_spots, methods_spots, signature_spots, result_spots, params_spots, key_spots, spots, args_spots, items_spots}
 use Rattle.go_expr_core.specs.Respelling.{respelled, RespellsName, InPlain, InQualifier, BehindDot, RespellsType, InNamedType, InPointer, InParenType, InStruct, InInterface, RespellsFields, InFieldType, InLaterFields, InEmbedded, BehindEmbedded, RespellsMethods, InMethod, InLaterMethods, RespellsSignature, InParams, InResult, RespellsResult, InOneResult, InResults, RespellsParams, InParam, InLaterParams, Respells, InName, InParen, InUnary, InLeft, InRight, InOperand, InSelector, InCallee, InArguments, InLiteralType, InElements, InStructType, InStructElements, RespellsArgs, InArgument, InLaterArguments, RespellsItems, InKey, InElement, InLaterElements, NameDecides, StandsAmongSpots, OwnNameDecides}
 

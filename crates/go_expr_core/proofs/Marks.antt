@@ -9,11 +9,12 @@ use Rattle.go_tree_nodes.specs.declared.exprs.Key.{Key}
 use Rattle.go_tree_nodes.specs.declared.exprs.«Item» as declared_item
 use Rattle.go_tree_nodes.specs.Trees.{ExprTree, ItemTrees, NoItems, Item}
 use Rattle.go_tree_nodes.specs.Shapes.{shape, items_of, shape_key}
+use Rattle.go_tree_nodes.specs.Counts.{item_count}
 use Rattle.go_literal_core.specs.declared.things.KeyMark.{KeyMark}
 use Rattle.go_literal_core.specs.Look.{FieldOf}
 use Rattle.go_literal_core.specs.Marks.{made_mark, key_marks}
 use Rattle.go_literal_core.specs.Repeats.{has_name, repeats}
-use Rattle.go_expr_core.specs.Elements.{key_names, all_keys, item_count}
+use Rattle.go_expr_core.specs.Elements.{key_names, all_keys}
 use Rattle.go_expr_core.specs.mirrors.Marked.{unmarked, mark_of, marks_of, spread}
 
 bytes_same : (n : List ℕ) → bytes_eq n n ≡ true

@@ -25,6 +25,7 @@ use Rattle.go_expr_core.specs.Looks.{Looks, look_of_place, literals_at}
 use Rattle.go_expr_core.specs.Places.{role_usage, is_several, is_lone_call}
 use Rattle.go_expr_core.specs.Uses.{made_use, behind_use}
 use Rattle.go_tree_nodes.specs.Trees.{ExprTree}
+use Rattle.go_tree_nodes.specs.Counts.{item_count}
 use Rattle.go_text_core.specs.declared.rule.Rule.{Rule}
 use Rattle.go_literal_core.specs.denote_core.declared.things.Place.TheVariants as places
 use Rattle.go_literal_core.specs.declared.things.Keys.{Keys}
@@ -33,7 +34,7 @@ use Rattle.go_literal_core.specs.Literals.{literal_rule, literal_mode, element_t
 use Rattle.go_expr_core.specs.declared.things.Fault.{Fault}
 use Rattle.go_expr_core.specs.Places.{start, item_start}
 use Rattle.go_expr_core.specs.Denoting.{denoted}
-use Rattle.go_expr_core.specs.Elements.{all_keys, item_count, keys_of, is_mixed, element_rule, whole_rule, whole_mode}
+use Rattle.go_expr_core.specs.Elements.{all_keys, keys_of, is_mixed, element_rule, whole_rule, whole_mode}
 use Rattle.go_expr_core.specs.Faults.{fault_at, operand_faults, items_faults, literal_faults}
 use Rattle.go_expr_core.specs.mirrors.Turns.{key_uses_marked, key_target_marked, turn_faults}
 use Rattle.std.proofs.Common.{map}

@@ -1,11 +1,12 @@
 -- The elements of a composite literal, with their keys.
 --
 -- docs/RULES.md, "Composite literals". The Go specification, "Composite literals".
-use Rattle.std.specs.Prelude.{ℕ, suc, Bool, true, false, List, [], ◌∷◌, length, Option, Some, None}
+use Rattle.std.specs.Prelude.{ℕ, Bool, true, false, List, [], ◌∷◌, length, Option, Some, None}
 use Rattle.go_text_core.specs.declared.rule.Rule.{Rule}
 use Rattle.go_text_core.specs.declared.rule.Rule.TheVariants.{Y4}
 use Rattle.go_tree_nodes.specs.declared.exprs.Key.{Key}
 use Rattle.go_tree_nodes.specs.Trees.{ItemTrees, NoItems, Item}
+use Rattle.go_tree_nodes.specs.Counts.{item_count}
 use Rattle.go_literal_core.specs.denote_core.declared.things.Denoted.{Denoted}
 use Rattle.go_literal_core.specs.declared.things.Keys.{Keys}
 use Rattle.go_literal_core.specs.declared.things.Keys.TheVariants as keys
@@ -24,10 +25,6 @@ abbrev pub all_keys : ItemTrees → List (List ℕ)
 all_keys NoItems = []
 all_keys (Item None e comma rest) = all_keys rest
 all_keys (Item (Some k) e comma rest) = k.name.name ∷ all_keys rest
-
-abbrev pub item_count : ItemTrees → ℕ
-item_count NoItems = 0
-item_count (Item key e comma rest) = suc (item_count rest)
 
 -- which elements have keys
 abbrev pub keys_of : ItemTrees → Keys

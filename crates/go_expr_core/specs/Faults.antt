@@ -4,17 +4,17 @@
 use Rattle.std.specs.Prelude.{ℕ, suc, Bool, true, false, List, [], ◌∷◌, ◌++◌, Option, Some, None}
 use Rattle.go_text_core.specs.declared.span.Span.{Span}
 use Rattle.go_text_core.specs.declared.rule.Rule.{Rule}
-use Rattle.go_text_core.specs.declared.rule.Rule.TheVariants.{Y3}
 use Rattle.go_token_core.specs.declared.kind.Operator.{Operator}
 use Rattle.go_tree_nodes.specs.Trees.{ExprTree, ItemTrees, Integer, Text, Named, Paren, Unary, Binary, Select, Call, Literal, StructLiteral, NoItems, Item}
+use Rattle.go_tree_nodes.specs.Starts.{type_name_start, type_start}
 use Rattle.go_literal_core.specs.denote_core.declared.things.Place.{Place}
 use Rattle.go_literal_core.specs.denote_core.declared.things.Place.TheVariants as places
 use Rattle.go_literal_core.specs.denote_core.declared.things.Denoted.{Denoted}
-use Rattle.go_literal_core.specs.denote_core.declared.things.Denoted.TheVariants as denotes
+use Rattle.go_literal_core.specs.denote_core.Arguments.{single_rule}
 use Rattle.go_literal_core.specs.declared.things.Mode.{Mode}
 use Rattle.go_expr_core.specs.declared.things.Fault.{Fault}
 use Rattle.go_expr_core.specs.Looks.{Looks}
-use Rattle.go_expr_core.specs.Places.{inside, under_place, left_place, is_literal, is_several, start, item_start, type_name_start, type_start}
+use Rattle.go_expr_core.specs.Places.{inside, under_place, left_place, is_literal, is_several, start, item_start}
 use Rattle.go_expr_core.specs.Operators.{unary_of, binary_of}
 use Rattle.go_expr_core.specs.Denoting.{named_type, written_type, denoted, unary_judged, binary_judged}
 use Rattle.go_expr_core.specs.Elements.{key_names, all_keys, keys_of, is_mixed, element_type, element_rule, whole_rule, whole_mode}
@@ -22,18 +22,6 @@ use Rattle.go_expr_core.specs.Elements.{key_names, all_keys, keys_of, is_mixed, 
 abbrev pub fault_at : ℕ → Option Rule → List Fault
 fault_at offset None = []
 fault_at offset (Some rule) = record { offset = offset; rule = rule } ∷ []
-
--- what is not one value where one is wanted
-abbrev pub single_rule : {T S D : Type 0} → Denoted T S D → Option Rule
-single_rule (denotes.Several s) = Some Y3
-single_rule denotes.Nothing = Some Y3
-single_rule denotes.Refused = None
-single_rule denotes.Typeless = None
-single_rule (denotes.«Package» d) = None
-single_rule (denotes.«Type» d t) = None
-single_rule (denotes.«Value» operand) = None
-single_rule (denotes.Func d s) = None
-single_rule (denotes.Builtin d b) = None
 
 -- a member of a list of several is one value
 abbrev pub listed_rule : {T S D : Type 0} → Bool → Denoted T S D → Option Rule

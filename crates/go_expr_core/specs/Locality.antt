@@ -3,6 +3,7 @@
 -- docs/RULES.md, "Expressions: roles, order, faults of parts". The Go specification, "Struct types", "Composite literals".
 use Rattle.std.specs.Prelude.{◌≡◌, ℕ, ⊤, List, [], ◌∷◌, ◌++◌}
 use Rattle.go_tree_nodes.specs.Trees.{TypeTree, ExprTree, ItemTrees, Integer, Text, Named, Paren, Unary, Binary, Select, Call, Literal, StructLiteral, NoItems, Item}
+use Rattle.go_tree_nodes.specs.WrittenTypes.{expr_types}
 use Rattle.go_literal_core.specs.denote_core.declared.things.Place.{Place}
 use Rattle.go_literal_core.specs.denote_core.declared.things.Found.{Found}
 use Rattle.go_expr_core.specs.Looks.{Looks, WrittenRules}
@@ -11,26 +12,7 @@ use Rattle.go_expr_core.specs.Laws.{expr_idents, AgreeOnIdents, Same}
 use Rattle.go_expr_core.specs.Needed.{needed_idents}
 
 abbrev mutual
-  -- the struct types that stand before the literals in an expression, in order of their places
-  pub struct_types : ExprTree → List TypeTree
-  struct_types (Integer n span) = []
-  struct_types (Text t) = []
-  struct_types (Named x) = []
-  struct_types (Paren first e last) = struct_types e
-  struct_types (Unary op span e) = struct_types e
-  struct_types (Binary a op span b) = struct_types a ++ struct_types b
-  struct_types (Select e dot x) = struct_types e
-  struct_types (Call e first items last) = struct_types e ++ struct_types_in items
-  struct_types (Literal n first items last) = struct_types_in items
-  struct_types (StructLiteral t first items last) = t ∷ struct_types_in items
-
-  -- those in arguments or elements
-  pub struct_types_in : ItemTrees → List TypeTree
-  struct_types_in NoItems = []
-  struct_types_in (Item key e comma rest) = struct_types e ++ struct_types_in rest
-
-abbrev mutual
-  -- those of them that what an expression denotes needs: none in the elements of a literal
+  -- the struct types before literals that what an expression denotes needs: none in the elements of a literal
   pub needed_types : ExprTree → List TypeTree
   needed_types (Integer n span) = []
   needed_types (Text t) = []
@@ -65,7 +47,7 @@ seeing find written looks = record { find = find; exported = looks.exported; sel
 pub record ExpressionsAreSeenAlike (T S D P : Type 0) : Type 0 where
   -- look-ups that agree on each name of an expression, where it stands, and on each struct type before a literal in it, make the same of it
   pub whole : (looks : Looks T S D P) (find : List ℕ → ℕ → Found T S D) (written : WrittenRules T) (p : Place) (e : ExprTree)
-      → AgreeOnIdents looks.find find (expr_idents e) → SameWritten looks (seeing find written looks) (struct_types e) → Same T S D P looks (seeing find written looks) p e
+      → AgreeOnIdents looks.find find (expr_idents e) → SameWritten looks (seeing find written looks) (expr_types e) → Same T S D P looks (seeing find written looks) p e
   -- and it denotes the same where they agree on those outside the elements of literals
   pub needed : (looks : Looks T S D P) (find : List ℕ → ℕ → Found T S D) (written : WrittenRules T) (p : Place) (e : ExprTree)
       → AgreeOnIdents looks.find find (needed_idents e) → SameWritten looks (seeing find written looks) (needed_types e) → denoted looks p e ≡ denoted (seeing find written looks) p e

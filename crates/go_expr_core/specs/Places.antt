@@ -5,10 +5,9 @@
 use Rattle.std.specs.Prelude.{ℕ, Bool, true, false, Option, Some, None}
 use Rattle.go_token_core.specs.declared.kind.Operator.{Operator}
 use Rattle.go_token_core.specs.declared.kind.Operator.TheVariants as operators
-use Rattle.go_tree_nodes.specs.declared.types.TypeName.{TypeName}
-use Rattle.go_tree_nodes.specs.declared.types.TypeName.TheVariants as type_names
 use Rattle.go_tree_nodes.specs.declared.exprs.Key.{Key}
-use Rattle.go_tree_nodes.specs.Trees.{TypeTree, NamedType, Pointer, ParenType, Struct, Interface, ExprTree, ItemTrees, Integer, Text, Named, Paren, Unary, Binary, Select, Call, Literal, StructLiteral, NoItems, Item}
+use Rattle.go_tree_nodes.specs.Starts.{type_name_start, type_start}
+use Rattle.go_tree_nodes.specs.Trees.{ExprTree, ItemTrees, Integer, Text, Named, Paren, Unary, Binary, Select, Call, Literal, StructLiteral, NoItems, Item}
 use Rattle.go_tree_core.specs.declared.occurrence.Role.{Role}
 use Rattle.go_tree_core.specs.declared.occurrence.Role.TheVariants as roles
 use Rattle.go_tree_core.specs.declared.occurrence.Usage as tree_usage
@@ -104,17 +103,6 @@ role_usage usages.«Value» = tree_usages.«Value»
 role_usage usages.Callee = tree_usages.Callee
 
 -- where things begin
-
-abbrev pub type_name_start : TypeName → ℕ
-type_name_start (type_names.Plain x) = x.span.start
-type_name_start (type_names.Qualified p dot x) = p.span.start
-
-abbrev pub type_start : TypeTree → ℕ
-type_start (NamedType n) = type_name_start n
-type_start (Pointer star t) = star.start
-type_start (ParenType first t last) = first.start
-type_start (Struct k first ls last) = k.start
-type_start (Interface k first ms last) = k.start
 
 -- the first byte of an expression
 abbrev pub start : ExprTree → ℕ

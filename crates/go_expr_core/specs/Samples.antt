@@ -3,15 +3,14 @@
 -- h() E, two() (int, int), k(int, int) int; a variable x of type int; the predeclared int and nil. Declarations are numbers.
 use Rattle.std.specs.Prelude.{◌≡◌, ℕ, ◌+◌, Bool, true, false, List, [], ◌∷◌, Option, Some, None, codes, if◌then◌else◌}
 use Rattle.std.specs.Str.{bytes_eq}
-use Rattle.go_text_core.specs.declared.span.Span.{Span}
 use Rattle.go_text_core.specs.declared.rule.Rule.{Rule}
 use Rattle.go_text_core.specs.declared.rule.Rule.TheVariants.{N1, N6, S1, S5, C1, C2, X1, F2, F3, F4, F5, F6, F7, Y3, Y4, Y7}
 use Rattle.go_token_core.specs.declared.kind.Operator.TheVariants as operators
 use Rattle.go_term_core.specs.declared.term.Basic.TheVariants as basics
-use Rattle.go_tree_nodes.specs.declared.names.Ident.{Ident}
 use Rattle.go_tree_nodes.specs.declared.exprs.Key.{Key}
 use Rattle.go_tree_nodes.specs.declared.types.TypeName.TheVariants as type_names
-use Rattle.go_tree_nodes.specs.Trees.{One, NamedType, Struct, NoFields, NamedFields, ExprTree, ItemTrees, Integer, Named, Paren, Unary, Binary, Select, Call, Literal, StructLiteral, NoItems, Item}
+use Rattle.go_tree_nodes.specs.Trees.{One, NamedType, Struct, NoFields, NamedFields, ExprTree, ItemTrees, Integer, Paren, Unary, Binary, Select, Call, Literal, StructLiteral, NoItems, Item}
+use Rattle.go_tree_nodes.specs.Samples.{at, called, name_at}
 use Rattle.go_tree_core.specs.declared.occurrence.Role.{Role}
 use Rattle.go_tree_core.specs.declared.occurrence.Role.TheVariants as roles
 use Rattle.go_tree_core.specs.declared.occurrence.Usage.TheVariants as tree_usages
@@ -138,26 +137,17 @@ looks = record {
   written = record { type_of = λ meaning t. Some TypeA; faults_of = λ meaning t. [] };
 }
 
-abbrev pub span : ℕ → Span
-span n = record { start = n; end = n + 1 }
-
-abbrev pub ident : List ℕ → ℕ → Ident
-ident name n = record { name = name; span = span n }
-
-abbrev pub name_at : List ℕ → ℕ → ExprTree
-name_at x n = Named (ident x n)
-
 abbrev pub integer_expr_at : ℕ → ℕ → ExprTree
-integer_expr_at k n = Integer k (span n)
+integer_expr_at k n = Integer k (at n)
 
 abbrev pub call : ExprTree → ℕ → ItemTrees → ExprTree
-call e n items = Call e (span n) items (span (n + 9))
+call e n items = Call e (at n) items (at (n + 9))
 
 abbrev pub one_item : ExprTree → ItemTrees
 one_item e = Item None e None NoItems
 
 abbrev pub sample_literal_key : List ℕ → ℕ → Option Key
-sample_literal_key x n = Some (record { name = ident x n; colon = span (n + 1) })
+sample_literal_key x n = Some (record { name = called x n; colon = at (n + 1) })
 
 abbrev pub declared_at : ℕ → Role → ℕ → Use ℕ ℕ
 declared_at n r d = made_use n r (outcomes.Declared d)
@@ -170,17 +160,17 @@ sample_fault n r = record { offset = n; rule = r }
 
 -- p.T{..}, at 0
 abbrev pub imported : ItemTrees → ExprTree
-imported items = Literal (type_names.Qualified (ident (codes "p") 0) (span 1) (ident (codes "T") 2)) (span 3) items (span 90)
+imported items = Literal (type_names.Qualified (called (codes "p") 0) (at 1) (called (codes "T") 2)) (at 3) items (at 90)
 
 abbrev pub imported_uses : List (Use ℕ ℕ) → List (Use ℕ ℕ)
 imported_uses more = declared_at 0 roles.Qualifier 7 ∷ (declared_at 2 (roles.Selector tree_usages.«Type») 701 ∷ more)
 
 pub record SampleExpressions : Type 0 where
   -- g().m(), where m needs a pointer: S5 at m, C1 at its call
-  pub no_pointer : uses looks places.«Value» (call (Select (call (name_at (codes "g") 0) 1 NoItems) (span 3) (ident (codes "m") 4)) 5 NoItems)
+  pub no_pointer : uses looks places.«Value» (call (Select (call (name_at (codes "g") 0) 1 NoItems) (at 3) (called (codes "m") 4)) 5 NoItems)
       ≡ declared_at 0 roles.Callee 111 ∷ (declared_at 1 roles.Call 111 ∷ (refused_at 4 (roles.Selector tree_usages.Callee) S5 ∷ (refused_at 5 roles.Call C1 ∷ [])))
   -- h().m(), with a pointer on the way
-  pub pointer_on_the_way : uses looks places.«Value» (call (Select (call (name_at (codes "h") 0) 1 NoItems) (span 3) (ident (codes "m") 4)) 5 NoItems)
+  pub pointer_on_the_way : uses looks places.«Value» (call (Select (call (name_at (codes "h") 0) 1 NoItems) (at 3) (called (codes "m") 4)) 5 NoItems)
       ≡ declared_at 0 roles.Callee 112 ∷ (declared_at 1 roles.Call 112 ∷ (made_use 4 (roles.Selector tree_usages.Callee) (outcomes.Selected 120 1) ∷ (declared_at 5 roles.Call 120 ∷ [])))
   -- p.T{A: 1} has no fault
   pub by_key : uses looks places.«Value» (imported (Item (sample_literal_key (codes "A") 4) (integer_expr_at 1 6) None NoItems)) ≡ imported_uses (declared_at 4 roles.Key 705 ∷ [])
@@ -194,16 +184,16 @@ pub record SampleExpressions : Type 0 where
   pub repeated_keys : uses looks places.«Value» (imported (Item (sample_literal_key (codes "A") 4) (integer_expr_at 1 6) None (Item (sample_literal_key (codes "A") 8) (integer_expr_at 2 10) None NoItems)))
       ≡ imported_uses (refused_at 4 roles.Key F4 ∷ (refused_at 8 roles.Key F4 ∷ []))
   -- E{F: 1}, a promoted field
-  pub promoted_key : uses looks places.«Value» (Literal (type_names.Plain (ident (codes "E") 0)) (span 1) (Item (sample_literal_key (codes "F") 2) (integer_expr_at 1 4) None NoItems) (span 6))
+  pub promoted_key : uses looks places.«Value» (Literal (type_names.Plain (called (codes "E") 0)) (at 1) (Item (sample_literal_key (codes "F") 2) (integer_expr_at 1 4) None NoItems) (at 6))
       ≡ declared_at 0 roles.«Type» 103 ∷ (refused_at 2 roles.Key F3 ∷ [])
   -- A{A: 1, 2}: F5 at the key, and at A
-  pub mixed_uses : uses looks places.«Value» (Literal (type_names.Plain (ident (codes "A") 0)) (span 1) (Item (sample_literal_key (codes "A") 2) (integer_expr_at 1 4) None (one_item (integer_expr_at 2 6))) (span 8))
+  pub mixed_uses : uses looks places.«Value» (Literal (type_names.Plain (called (codes "A") 0)) (at 1) (Item (sample_literal_key (codes "A") 2) (integer_expr_at 1 4) None (one_item (integer_expr_at 2 6))) (at 8))
       ≡ declared_at 0 roles.«Type» 104 ∷ (refused_at 2 roles.Key F5 ∷ [])
-  pub mixed_faults : faults looks places.«Value» (Literal (type_names.Plain (ident (codes "A") 0)) (span 1) (Item (sample_literal_key (codes "A") 2) (integer_expr_at 1 4) None (one_item (integer_expr_at 2 6))) (span 8)) ≡ sample_fault 0 F5 ∷ []
+  pub mixed_faults : faults looks places.«Value» (Literal (type_names.Plain (called (codes "A") 0)) (at 1) (Item (sample_literal_key (codes "A") 2) (integer_expr_at 1 4) None (one_item (integer_expr_at 2 6))) (at 8)) ≡ sample_fault 0 F5 ∷ []
   -- A{A: nil}: Y4 at the key
-  pub misfit : faults looks places.«Value» (Literal (type_names.Plain (ident (codes "A") 0)) (span 1) (Item (sample_literal_key (codes "A") 2) (name_at (codes "nil") 4) None NoItems) (span 8)) ≡ sample_fault 2 Y4 ∷ []
+  pub misfit : faults looks places.«Value» (Literal (type_names.Plain (called (codes "A") 0)) (at 1) (Item (sample_literal_key (codes "A") 2) (name_at (codes "nil") 4) None NoItems) (at 8)) ≡ sample_fault 2 Y4 ∷ []
   -- struct { n int }{A: 1}: the names of the type are occurrences
-  pub written_type : uses looks places.«Value» (StructLiteral (Struct (span 0) (span 1) (NamedFields (One (ident (codes "n") 2)) (NamedType (type_names.Plain (ident (codes "int") 3))) None None NoFields) (span 4)) (span 5) (Item (sample_literal_key (codes "A") 6) (integer_expr_at 1 8) None NoItems) (span 9))
+  pub written_type : uses looks places.«Value» (StructLiteral (Struct (at 0) (at 1) (NamedFields (One (called (codes "n") 2)) (NamedType (type_names.Plain (called (codes "int") 3))) None None NoFields) (at 4)) (at 5) (Item (sample_literal_key (codes "A") 6) (integer_expr_at 1 8) None NoItems) (at 9))
       ≡ declared_at 3 roles.«Type» 1 ∷ (declared_at 6 roles.Key 121 ∷ [])
   -- f alone, and f()()
   pub no_call : uses looks places.«Value» (name_at (codes "f") 3) ≡ refused_at 3 roles.«Value» X1 ∷ []
@@ -221,18 +211,18 @@ pub record SampleExpressions : Type 0 where
   pub refused_name : uses looks places.«Value» (call (name_at (codes "k") 0) 1 (one_item (name_at (codes "nope") 2)))
       ≡ declared_at 0 roles.Callee 114 ∷ (refused_at 1 roles.Call C2 ∷ (refused_at 2 roles.«Value» N1 ∷ []))
   -- two() + 1, at two()
-  pub no_single_value : faults looks places.«Value» (Binary (call (name_at (codes "two") 0) 3 NoItems) operators.Plus (span 6) (integer_expr_at 1 8)) ≡ sample_fault 0 Y3 ∷ []
+  pub no_single_value : faults looks places.«Value» (Binary (call (name_at (codes "two") 0) 3 NoItems) operators.Plus (at 6) (integer_expr_at 1 8)) ≡ sample_fault 0 Y3 ∷ []
   -- 9223372036854775807 + 1, int(9223372036854775807) + 1, x / 0
-  pub untyped_range : faults looks places.«Value» (Binary (integer_expr_at 9223372036854775807 0) operators.Plus (span 20) (integer_expr_at 1 22)) ≡ sample_fault 0 X1 ∷ []
-  pub typed_range : faults looks places.«Value» (Binary (call (name_at (codes "int") 0) 3 (one_item (integer_expr_at 9223372036854775807 4))) operators.Plus (span 25) (integer_expr_at 1 27)) ≡ sample_fault 0 Y7 ∷ []
-  pub divided : faults looks places.«Value» (Binary (name_at (codes "x") 0) operators.Slash (span 2) (integer_expr_at 0 4)) ≡ sample_fault 0 Y7 ∷ []
+  pub untyped_range : faults looks places.«Value» (Binary (integer_expr_at 9223372036854775807 0) operators.Plus (at 20) (integer_expr_at 1 22)) ≡ sample_fault 0 X1 ∷ []
+  pub typed_range : faults looks places.«Value» (Binary (call (name_at (codes "int") 0) 3 (one_item (integer_expr_at 9223372036854775807 4))) operators.Plus (at 25) (integer_expr_at 1 27)) ≡ sample_fault 0 Y7 ∷ []
+  pub divided : faults looks places.«Value» (Binary (name_at (codes "x") 0) operators.Slash (at 2) (integer_expr_at 0 4)) ≡ sample_fault 0 Y7 ∷ []
   -- x & x & x: X1 of each of the two operators, at one place
-  pub bits_of_bits : faults looks places.«Value» (Binary (Binary (name_at (codes "x") 0) operators.And (span 2) (name_at (codes "x") 4)) operators.And (span 6) (name_at (codes "x") 8)) ≡ sample_fault 0 X1 ∷ (sample_fault 0 X1 ∷ [])
+  pub bits_of_bits : faults looks places.«Value» (Binary (Binary (name_at (codes "x") 0) operators.And (at 2) (name_at (codes "x") 4)) operators.And (at 6) (name_at (codes "x") 8)) ≡ sample_fault 0 X1 ∷ (sample_fault 0 X1 ∷ [])
   -- (*int)(nil) is a pointer
-  pub to_pointer : denoted looks places.«Value» (call (Paren (span 0) (Unary operators.Star (span 1) (name_at (codes "int") 2)) (span 5)) 6 (one_item (name_at (codes "nil") 7)))
+  pub to_pointer : denoted looks places.«Value» (call (Paren (at 0) (Unary operators.Star (at 1) (name_at (codes "int") 2)) (at 5)) 6 (one_item (name_at (codes "nil") 7)))
       ≡ denotes.«Value» (record { value_type = value_types.Typed (Ptr IntT); constant = None; addressable = false })
   -- (*x)(1): x is no type, and the call calls none
-  pub no_type : uses looks places.«Value» (call (Paren (span 0) (Unary operators.Star (span 1) (name_at (codes "x") 2)) (span 3)) 4 (one_item (integer_expr_at 1 5))) ≡ refused_at 2 roles.«Type» N6 ∷ (refused_at 4 roles.Call C1 ∷ [])
+  pub no_type : uses looks places.«Value» (call (Paren (at 0) (Unary operators.Star (at 1) (name_at (codes "x") 2)) (at 3)) 4 (one_item (integer_expr_at 1 5))) ≡ refused_at 2 roles.«Type» N6 ∷ (refused_at 4 roles.Call C1 ∷ [])
   -- &x, and &1 at the operator
-  pub address : denoted looks places.«Value» (Unary operators.And (span 0) (name_at (codes "x") 1)) ≡ denotes.«Value» (record { value_type = value_types.Typed (Ptr IntT); constant = None; addressable = false })
-  pub no_address : faults looks places.«Value» (Unary operators.And (span 0) (integer_expr_at 1 1)) ≡ sample_fault 0 Y3 ∷ []
+  pub address : denoted looks places.«Value» (Unary operators.And (at 0) (name_at (codes "x") 1)) ≡ denotes.«Value» (record { value_type = value_types.Typed (Ptr IntT); constant = None; addressable = false })
+  pub no_address : faults looks places.«Value» (Unary operators.And (at 0) (integer_expr_at 1 1)) ≡ sample_fault 0 Y3 ∷ []

@@ -2,12 +2,13 @@
 ghost use Rattle.std.specs.Prelude.{◌≡◌, ◌<◌, ◌++◌, [], ◌∷◌, length, slice_set, IfOk, OnOk};
 ghost use Rattle.go_tree_core.specs.declared.occurrence.Role.TheVariants as roles;
 ghost use Rattle.go_literal_core.specs.denote_core.declared.things.Outcome.TheVariants as outcomes;
+ghost use Rattle.go_literal_core.specs.denote_core.Arguments.{single_rule};
 ghost use Rattle.go_text_core.specs.declared.rule.Rule.TheVariants as rules;
 ghost use Rattle.go_expr_core.specs.Uses as all_uses;
 ghost use Rattle.go_expr_core.specs.Faults as all_faults;
 
 use crate::things::{Fault, Judged, Notes, Use};
-use go_literal_core::denote_core::{Answer, Denoted, Outcome};
+use go_literal_core::denote_core::{Answer, Denoted, Outcome, single_rule};
 use go_text_core::{Rule, Span};
 use go_tree_core::Role;
 use std::alloc::AllocError;
@@ -77,30 +78,13 @@ pub(crate) fn note_judged<T: Drop, S: Drop, D: Drop>(
     Ok(judged.denoted)
 }
 
-// The rule of what is not one value where one is wanted.
-fn single_rule<T: Drop, S: Drop, D: Drop>(denoted: &Denoted<T, S, D>) -> Option<Rule>
-    ensures { result ≡ all_faults.single_rule denoted.now }
-{
-    match denoted {
-        Denoted::Several(_) => Some(Rule::Y3),
-        Denoted::Nothing => Some(Rule::Y3),
-        Denoted::Refused
-        | Denoted::Typeless
-        | Denoted::Package(_)
-        | Denoted::Type(_, _)
-        | Denoted::Value(_)
-        | Denoted::Func(_, _)
-        | Denoted::Builtin(_, _) => None,
-    }
-}
-
 /// Notes an operand that is not one value.
 pub(crate) fn note_single<T: Drop, S: Drop, D: Drop>(
     faults: &mut Vec<Fault>,
     offset: usize,
     denoted: &Denoted<T, S, D>,
 ) -> Result<(), AllocError>
-    ensures { OnOk result (faults.new.items ≡ faults.old.items ++ all_faults.fault_at offset (all_faults.single_rule denoted.now)) }
+    ensures { OnOk result (faults.new.items ≡ faults.old.items ++ all_faults.fault_at offset (single_rule denoted.now)) }
 {
     note_fault(faults, offset, single_rule(denoted))
 }

@@ -1,14 +1,13 @@
 //! Where the parts of an expression stand.
 ghost use Rattle.std.specs.Prelude.{◌≡◌};
 ghost use Rattle.go_tree_nodes.specs.Shapes.{shape, shape_key};
-ghost use Rattle.go_tree_nodes.specs.TypeShapes.{shape_type};
 ghost use Rattle.go_tree_core.specs.declared.occurrence.Role.TheVariants as roles;
 ghost use Rattle.go_expr_core.specs.Places as places;
 
 use go_literal_core::denote_core::{Place, Usage};
 use go_token_core::Operator;
 use go_tree_core::Role;
-use go_tree_nodes::{Expr, Key, TypeExpr, TypeName};
+use go_tree_nodes::{Expr, Key, type_name_start, type_start};
 
 /// The place of what stands in parentheses: a name in them is no qualifier.
 pub(crate) fn inside(place: Place) -> Place
@@ -147,29 +146,6 @@ pub(crate) fn selector_role(usage: Usage) -> Role
         Usage::Type => Role::Selector(go_tree_core::Usage::Type),
         Usage::Value => Role::Selector(go_tree_core::Usage::Value),
         Usage::Callee => Role::Selector(go_tree_core::Usage::Callee),
-    }
-}
-
-/// The first byte of the name of a type, in bytes from the file's start.
-pub fn type_name_start(name: &TypeName) -> usize
-    ensures { result ≡ places.type_name_start name.now }
-{
-    match name {
-        TypeName::Plain(ident) => ident.span.start as usize,
-        TypeName::Qualified(ident, _, _) => ident.span.start as usize,
-    }
-}
-
-/// The first byte of a type as it is written, in bytes from the file's start.
-pub fn type_start(t: &TypeExpr) -> usize
-    ensures { result ≡ places.type_start (shape_type t.now) }
-{
-    match t {
-        TypeExpr::Name(name) => type_name_start(name),
-        TypeExpr::Pointer(star, _) => star.start as usize,
-        TypeExpr::Paren(first, _, _) => first.start as usize,
-        TypeExpr::Struct(keyword, _, _, _) => keyword.start as usize,
-        TypeExpr::Interface(keyword, _, _, _) => keyword.start as usize,
     }
 }
 

@@ -4,6 +4,7 @@ ghost use Rattle.go_tree_core.specs.declared.occurrence.Role.TheVariants as role
 ghost use Rattle.go_literal_core.specs.denote_core.declared.things.Place.TheVariants as stands;
 ghost use Rattle.go_literal_core.specs.Literals.{literal_denotes as type_denotes};
 ghost use Rattle.go_tree_nodes.specs.Shapes.{shape, items_of, shape_key};
+ghost use Rattle.go_tree_nodes.specs.Starts as starts;
 ghost use Rattle.go_tree_nodes.specs.TypeShapes.{shape_type};
 ghost use Rattle.go_literal_core.specs.Marks.{type_fields};
 ghost use Rattle.go_literal_core.specs.denote_core.Arguments as arguments;
@@ -27,8 +28,7 @@ use crate::names::{check_ident, check_selector, check_type_name};
 use crate::notes::{close_call, note_fault, note_judged, note_member, note_single, open_call};
 use crate::operators::{binary_of, unary_of};
 use crate::places::{
-    inside, is_literal, is_name, item_start, left_place, start, type_name_start, type_start,
-    under_place, whole,
+    inside, is_literal, is_name, item_start, left_place, start, under_place, whole,
 };
 use crate::things::{Fault, Notes, Use};
 use crate::types::check_type;
@@ -38,7 +38,9 @@ use go_literal_core::operand_core::{Operand, ValueType};
 use go_literal_core::{KeyMark, Mode, element_target, literal_denotes, literal_mode, literal_rule};
 use go_text_core::Span;
 use go_token_core::Operator;
-use go_tree_nodes::{Expr, Ident, Item, Key, TextLiteral, TypeExpr, TypeName};
+use go_tree_nodes::{
+    Expr, Ident, Item, Key, TextLiteral, TypeExpr, TypeName, type_name_start, type_start,
+};
 use std::alloc::{AllocError, Global};
 
 fn untyped<T: Drop, S: Drop, D: Drop>(
@@ -198,7 +200,7 @@ fn check_literal<E: Exprs>(
 ) -> Result<Denoted<E::Type, E::Signature, E::Decl>, AllocError>
     ensures denoted { IfOk result (λ d. d ≡ type_denotes (denoting.named_type (everywhere (E.types env.now) (E.names env.now) (E.literals env.now) (E.written env.now)) name.now)) }
     ensures uses { OnOk result (notes.new.uses.items ≡ notes.old.uses.items ++ (all_uses.type_name_uses (everywhere (E.types env.now) (E.names env.now) (E.literals env.now) (E.written env.now)) name.now ++ all_uses.elements_uses (everywhere (E.types env.now) (E.names env.now) (E.literals env.now) (E.written env.now)) (denoting.named_type (everywhere (E.types env.now) (E.names env.now) (E.literals env.now) (E.written env.now)) name.now) (items_of items.now.items))) }
-    ensures faults { OnOk result (notes.new.faults.items ≡ notes.old.faults.items ++ all_faults.literal_faults (everywhere (E.types env.now) (E.names env.now) (E.literals env.now) (E.written env.now)) (places.type_name_start name.now) (denoting.named_type (everywhere (E.types env.now) (E.names env.now) (E.literals env.now) (E.written env.now)) name.now) (items_of items.now.items)) }
+    ensures faults { OnOk result (notes.new.faults.items ≡ notes.old.faults.items ++ all_faults.literal_faults (everywhere (E.types env.now) (E.names env.now) (E.literals env.now) (E.written env.now)) (starts.type_name_start name.now) (denoting.named_type (everywhere (E.types env.now) (E.names env.now) (E.literals env.now) (E.written env.now)) name.now) (items_of items.now.items)) }
 {
     let t = check_type_name(env, alloc, name, &mut notes.uses)?;
     check_elements(env, alloc, type_name_start(name), t, items, notes)
@@ -215,7 +217,7 @@ fn check_struct_literal<E: Exprs>(
 ) -> Result<Denoted<E::Type, E::Signature, E::Decl>, AllocError>
     ensures denoted { IfOk result (λ d. d ≡ type_denotes (denoting.written_type (everywhere (E.types env.now) (E.names env.now) (E.literals env.now) (E.written env.now)) (shape_type tree.now))) }
     ensures uses { OnOk result (notes.new.uses.items ≡ notes.old.uses.items ++ (type_uses.type_uses (everywhere (E.types env.now) (E.names env.now) (E.literals env.now) (E.written env.now)) (shape_type tree.now) ++ all_uses.elements_uses (everywhere (E.types env.now) (E.names env.now) (E.literals env.now) (E.written env.now)) (denoting.written_type (everywhere (E.types env.now) (E.names env.now) (E.literals env.now) (E.written env.now)) (shape_type tree.now)) (items_of items.now.items))) }
-    ensures faults { OnOk result (notes.new.faults.items ≡ notes.old.faults.items ++ ((E.written env.now).faults_of (denoting.named_type (everywhere (E.types env.now) (E.names env.now) (E.literals env.now) (E.written env.now))) (shape_type tree.now) ++ all_faults.literal_faults (everywhere (E.types env.now) (E.names env.now) (E.literals env.now) (E.written env.now)) (places.type_start (shape_type tree.now)) (denoting.written_type (everywhere (E.types env.now) (E.names env.now) (E.literals env.now) (E.written env.now)) (shape_type tree.now)) (items_of items.now.items))) }
+    ensures faults { OnOk result (notes.new.faults.items ≡ notes.old.faults.items ++ ((E.written env.now).faults_of (denoting.named_type (everywhere (E.types env.now) (E.names env.now) (E.literals env.now) (E.written env.now))) (shape_type tree.now) ++ all_faults.literal_faults (everywhere (E.types env.now) (E.names env.now) (E.literals env.now) (E.written env.now)) (starts.type_start (shape_type tree.now)) (denoting.written_type (everywhere (E.types env.now) (E.names env.now) (E.literals env.now) (E.written env.now)) (shape_type tree.now)) (items_of items.now.items))) }
 {
     check_type(env, alloc, tree, &mut notes.uses)?;
     env.add_type_faults(alloc, tree, &mut notes.faults)?;

@@ -15,7 +15,7 @@ use Rattle.go_face_core.specs.Faces.{face_shown}
 use Rattle.go_face_core.specs.Held.{declared_shown, written_shown}
 use Rattle.go_face_core.specs.Packages.{decls_declared, face_among}
 use Rattle.go_face_core.specs.Written.{DeclsRise, decls_of, position_of, same_decl_place}
-use Rattle.go_face_core.specs.mirrors.Ordering.{place_cmp}
+use Rattle.go_term_core.specs.decl_core.Order.{place_cmp}
 use Rattle.go_face_core.proofs.Placed.{place_total, same_equal, equal_same, before_less, not_less_back, less_apart}
 
 module _ {A : Type 0} (key : A → DeclRef) where

@@ -2,11 +2,12 @@
 use Rattle.std.specs.Prelude.{◌≡◌, ℕ, true, List, [], ◌∷◌, Option, Some, None, codes}
 use Rattle.go_tree_nodes.specs.declared.decls.ValueKind.TheVariants as value_kinds
 use Rattle.go_tree_nodes.specs.declared.types.TypeName.TheVariants as type_names
-use Rattle.go_tree_nodes.specs.Trees.{One, Then, TypeTree, NamedType, Pointer, Integer, Param, NoParams, Signed, NoResult, NoLines, Types, Func, Value, Single, TopTree}
+use Rattle.go_tree_nodes.specs.Trees.{One, Then, Pointer, Integer, Param, NoParams, Signed, NoResult, NoLines, Types, Func, Value, Single, TopTree}
+use Rattle.go_tree_nodes.specs.Samples.{type_at, at, int_at, called}
 use Rattle.go_term_core.specs.decl_core.declared.keys.DeclKey.{DeclKey}
 use Rattle.go_term_core.specs.decl_core.declared.places.DeclKind.{DeclKind}
 use Rattle.go_term_core.specs.decl_core.declared.places.DeclKind.TheVariants as kinds
-use Rattle.go_term_core.specs.decl_core.Sample.{at, int_at, called, one_param, top}
+use Rattle.go_term_core.specs.decl_core.Sample.{one_param, top}
 use Rattle.go_entry_core.specs.block_core.Blocks.{BlocksModel, blocks_model}
 use Rattle.go_term_core.specs.declared.term.Basic.TheVariants as basics
 use Rattle.go_term_core.specs.Terms.{Term, Predeclared, Defined, PointerTo, SignOf, NoTerm, ATerm}
@@ -19,9 +20,6 @@ use Rattle.go_face_core.specs.declared.face.Face.TheVariants as faces
 use Rattle.go_face_core.specs.Faces.{TheFace}
 use Rattle.go_face_core.specs.Written.{WrittenOf, package_written, position_of}
 use Rattle.go_entry_core.specs.block_core.Declarations.{decl_ref}
-
-abbrev pub type_at : List ℕ → ℕ → TypeTree
-type_at name n = NamedType (type_names.Plain (called name n))
 
 -- type T int
 abbrev pub face_number_type : TopTree

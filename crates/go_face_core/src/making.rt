@@ -3,9 +3,8 @@ ghost use Rattle.std.specs.Prelude.{◌≡◌, ◌++◌, ◌∷◌, [], All, IfO
 ghost use Rattle.go_tree_nodes.specs.Shapes.{func_of, shape_value_spec};
 ghost use Rattle.go_tree_nodes.specs.declared.decls.ValueKind.TheVariants as value_kinds;
 ghost use Rattle.go_tree_nodes.specs.TypeShapes.{shape_signature};
-ghost use Rattle.go_term_core.specs.decl_core.Outer.{kind_of_func, kind_of_value};
 ghost use Rattle.go_term_core.specs.decl_core.Shown.{decl_shown, form_shown};
-ghost use Rattle.go_term_core.specs.decl_core.TopDecls.{kind_of_form, FuncForm, TypeForm, ValueForm};
+ghost use Rattle.go_term_core.specs.decl_core.TopDecls.{FuncForm, TypeForm, ValueForm};
 ghost use Rattle.go_entry_core.specs.written_core.Written.{in_file};
 ghost use Rattle.go_entry_core.specs.Entries.{package_meanings};
 ghost use Rattle.go_entry_core.specs.Outlines.{IsOutline, outline_shown};
@@ -22,7 +21,7 @@ use go_path_core::ImportPath;
 use go_term_core::TypeTerm;
 use go_term_core::decl_core::{DeclForm, DeclKey, DeclKind, DeclRef, Outline, TopDecl};
 use go_text_core::add;
-use go_tree_nodes::{FuncDecl, ValueKind, ValueSpec};
+use go_tree_nodes::{ValueKind, ValueSpec};
 use std::alloc::{AllocError, Global};
 
 // What a constant or a variable is, by its specification.
@@ -86,37 +85,6 @@ fn form_of<N: TypeNames>(
     }
 }
 
-// Which of constant and variable it is.
-fn kind_of_value(kind: ValueKind) -> DeclKind
-    ensures { result ≡ kind_of_value kind }
-{
-    match kind {
-        ValueKind::Const => DeclKind::Const,
-        ValueKind::Var => DeclKind::Var,
-    }
-}
-
-// A function is a method where it has a receiver.
-fn kind_of_func(func: &FuncDecl) -> DeclKind
-    ensures { result ≡ kind_of_func (func_of func.now).receiver }
-{
-    match func.receiver {
-        Some(_) => DeclKind::Method,
-        None => DeclKind::Func,
-    }
-}
-
-// The kind of a declaration.
-fn kind_of(form: &DeclForm<'_>) -> DeclKind
-    ensures { result ≡ kind_of_form (form_shown form.now) }
-{
-    match form {
-        DeclForm::Value(kind, _, _) => kind_of_value(*kind),
-        DeclForm::Type(_) => DeclKind::Type,
-        DeclForm::Func(func) => kind_of_func(func),
-    }
-}
-
 // A declaration, with what it is.
 fn write_decl<N: TypeNames>(
     alloc: Global,
@@ -131,7 +99,7 @@ fn write_decl<N: TypeNames>(
     let decl = DeclRef {
         file: at.file,
         number: decl.number,
-        kind: kind_of(&decl.form),
+        kind: decl.form.kind(),
     };
     Ok(WrittenDecl { decl, form })
 }

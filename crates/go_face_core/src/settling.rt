@@ -6,7 +6,6 @@ ghost use Rattle.go_term_core.specs.Shapes.{shape, sign_of};
 ghost use Rattle.go_handle_core.specs.table_core.Entries.{find_entry};
 ghost use Rattle.go_handle_core.specs.settle_core.Settled.{settled_sign};
 ghost use Rattle.go_entry_core.specs.written_core.Written.{in_file, signature_of};
-ghost use Rattle.go_handle_core.specs.decide_core.Conversion.{is_no_type};
 ghost use Rattle.go_handle_core.specs.decide_core.Rules.{typed};
 ghost use Rattle.go_face_core.specs.Written.{type_written};
 ghost use Rattle.go_handle_core.specs.table_core.Entries.{kinds_in};
@@ -14,30 +13,15 @@ ghost use Rattle.go_handle_core.specs.table_core.Entries.{kinds_in};
 use go_entry_core::written_core::{TypeNames, WrittenIn, write_signature, write_type};
 use go_handle_core::settle_core::{settle, settle_signature};
 use go_handle_core::table_core::TypeTable;
-use go_term_core::{Signature, TypeTerm, close};
+use go_term_core::{Signature, TypeTerm, close, is_no_type};
 use go_tree_nodes::TypeExpr;
 use std::alloc::{AllocError, Global};
-
-// Whether it is no type.
-fn is_nothing(term: &TypeTerm) -> bool
-    ensures { result ≡ is_no_type (shape term.now) }
-{
-    match term {
-        TypeTerm::NoType => true,
-        TypeTerm::Basic(_)
-        | TypeTerm::Error
-        | TypeTerm::Defined(_)
-        | TypeTerm::Pointer(_)
-        | TypeTerm::Struct(_, _, _)
-        | TypeTerm::Interface(_, _) => false,
-    }
-}
 
 /// A type, where it is one in a table.
 pub(crate) fn typed(types: &TypeTable, term: TypeTerm) -> Option<TypeTerm>
     ensures { option_map shape result ≡ typed (find_entry types.now) (shape term) }
 {
-    if is_nothing(types.underlying(&term)) {
+    if is_no_type(types.underlying(&term)) {
         close(term);
         return None;
     }

@@ -10,10 +10,10 @@ ghost use Rattle.go_face_core.specs.Written.{DeclsRise};
 
 use crate::face::Face;
 use crate::lending::lend;
-use crate::written::place_order;
 use go_entry_core::block_core::{Blocks, DeclRef, NamedDecl};
 use go_handle_core::{SignatureRef, TypeRef};
 use go_path_core::ImportPath;
+use go_term_core::decl_core::place_order;
 use go_term_core::{Signature, TypeTerm};
 use go_text_core::is_exported;
 use indexmap::IndexMap;
@@ -95,7 +95,7 @@ fn as_seen(name: &str, decl: DeclRef) -> Option<DeclRef>
 }
 
 // What a table of names has at a name.
-fn name_at(names: &IndexMap<String, Option<DeclRef>>, name: &str) -> Option<Option<DeclRef>>
+fn name_in_table(names: &IndexMap<String, Option<DeclRef>>, name: &str) -> Option<Option<DeclRef>>
     ensures { result ≡ in_block (table_of names.now) name.now }
 {
     names.get(name).copied()
@@ -110,7 +110,7 @@ fn add_name(
 ) -> Result<(), AllocError>
     ensures { OnOk result (table_of names.new ≡ with_first (table_of names.old) name.now (as_seen name.now decl)) }
 {
-    if name_at(names, name).is_some() {
+    if name_in_table(names, name).is_some() {
         return Ok(());
     }
     let key = String::from_str(alloc, name)?;
@@ -263,7 +263,7 @@ impl PackageFaces {
     pub fn shown(&self, name: &str) -> Result<ShownFace<'_>, AllocError>
         ensures { IfOk result (λ s. s ≡ shown_by self.now name.now) }
     {
-        match name_at(&self.content.names, name) {
+        match name_in_table(&self.content.names, name) {
             Some(Some(decl)) => Ok(ShownFace::Shown(decl, self.face(decl)?)),
             Some(None) => Ok(ShownFace::Hidden),
             None => Ok(ShownFace::Absent),

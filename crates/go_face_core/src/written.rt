@@ -3,14 +3,12 @@ ghost use Rattle.std.specs.Prelude.{◌≡◌, length, map, slice_get};
 ghost use Rattle.std.specs.Option.{option_map};
 ghost use Rattle.go_face_core.specs.Held.{form_held, written_shown};
 ghost use Rattle.go_face_core.specs.Written.{DeclsRise, decls_of, position_of, written_at};
-ghost use Rattle.go_face_core.specs.mirrors.Ordering.{place_cmp};
 
 use crate::face::Face;
 use crate::lending::{lend_type, variable};
 use go_handle_core::{SignatureRef, TypeRef};
-use go_term_core::decl_core::DeclRef;
+use go_term_core::decl_core::{DeclRef, place_order};
 use go_term_core::{Signature, TypeTerm};
-use std::cmp::Ordering;
 use std::marker::Model;
 
 /// What a declaration is as it is written.
@@ -55,15 +53,6 @@ impl Model for WrittenFaces {
     ghost view = { λ w. map written_shown w.decls.items };
 
     ghost invariant = { λ w. DeclsRise (decls_of (map written_shown w.decls.items)) };
-}
-
-/// The order of declarations of a package: by file, then by number there.
-pub(crate) fn place_order(one: DeclRef, other: DeclRef) -> Ordering
-    ensures { result ≡ place_cmp one other }
-{
-    one.file
-        .cmp(&other.file)
-        .then(one.number.cmp(&other.number))
 }
 
 // The place of a declaration in a list.

@@ -5,7 +5,7 @@ use Rattle.go_tree_nodes.specs.Trees.{ImportSpecTree}
 use Rattle.go_func_core.specs.block_core.declared.imports.Imported.{Imported}
 use Rattle.go_func_core.specs.body_core.Notes.{TheUse}
 use Rattle.go_file_core.specs.Imports.{import_use, imports_uses}
-use Rattle.go_file_core.specs.mirrors.Shown.{spec_shown}
+use Rattle.go_func_core.specs.block_core.mirrors.Shown.{spec_shown}
 
 -- one import further
 pub import_step : (specs more : List (Bor ImportSpec)) (given rest : List Imported) (s : Bor ImportSpec) (i : Imported) (old new all : List TheUse)

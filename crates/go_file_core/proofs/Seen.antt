@@ -8,6 +8,7 @@ use Rattle.go_tree_nodes.specs.declared.names.Ident.{Ident}
 use Rattle.go_tree_nodes.specs.declared.decls.ValueKind.{ValueKind}
 use Rattle.go_tree_nodes.specs.declared.decls.ValueKind.TheVariants as kinds
 use Rattle.go_tree_nodes.specs.Trees.{Separated, One, Then, TypeTree, ExprTree, ValueSpecTree, TypeSpecTree, Specs, Single, Group, ValueTree, TypeDeclTree, of_specs}
+use Rattle.go_tree_nodes.specs.WrittenTypes.{expr_types, exprs_types, values_types, some_type, spec_types, specs_types}
 use Rattle.go_term_core.specs.Terms.{Term, Sign}
 use Rattle.go_func_core.specs.handle_core.Declarations.{Declaration}
 use Rattle.go_top_core.specs.local_core.Steps.{Spec, Condition}
@@ -16,11 +17,11 @@ use Rattle.go_top_core.specs.expr_core.Places.{start}
 use Rattle.go_top_core.specs.expr_core.Faults.{fault_at}
 use Rattle.go_top_core.specs.expr_core.Denoting.{named_type}
 use Rattle.go_top_core.specs.expr_core.Laws.{AgreeOnIdents, expr_idents}
-use Rattle.go_top_core.specs.expr_core.Locality.{struct_types, SameWritten}
+use Rattle.go_top_core.specs.expr_core.Locality.{SameWritten}
 use Rattle.go_top_core.specs.expr_core.Alike.{expressions_seen}
 use Rattle.go_top_core.specs.inline_core.Types.{InlineOf}
-use Rattle.go_top_core.specs.inline_core.Trees.{expr_types, exprs_types, values_types, some_type, spec_types, specs_types}
-use Rattle.go_top_core.specs.piece_core.Laws.{SamePiece, piece_types, piece_idents}
+use Rattle.go_top_core.specs.piece_core.Laws.{SamePiece, piece_idents}
+use Rattle.go_top_core.specs.local_core.Pieces.{piece_types}
 use Rattle.go_top_core.specs.piece_core.Specifications.{spec_uses}
 use Rattle.go_top_core.specs.piece_core.Local.{pieces_local}
 use Rattle.go_func_core.specs.env_core.Looks.{TheLooks, inline_rules}
@@ -28,7 +29,6 @@ use Rattle.go_top_core.specs.Initial.{initial_rule, expr_initial_faults, list_in
 use Rattle.go_top_core.specs.Tops.{top_spec_faults, value_decl_uses, value_decl_faults, type_spec_uses, type_decl_uses}
 use Rattle.go_func_core.specs.body_core.Rules.{outside_looks}
 use Rattle.go_func_core.specs.Stands.{FileStand, outer_looks}
-use Rattle.go_func_core.proofs.Listed.{piece_listed}
 use Rattle.go_file_core.specs.mirrors.Steps.{AreSeen}
 use Rattle.go_file_core.proofs.Typed.{both, type_used}
 
@@ -62,7 +62,7 @@ module _ (st : FileStand) (types : List (ℕ × InlineOf)) where
   spec_same : (k : ValueKind) (v : ValueSpecTree) → Seen (spec_types v) → SamePiece Term Sign Declaration (List ℕ) by_table by_names (Spec k v)
   spec_same k v h =
       pieces_local Term Sign Declaration (List ℕ) by_table by_names.find by_names.written (Spec k v) (agree (piece_idents (Spec k v)))
-      (made (piece_types (Spec k v)) (subst Seen (piece_listed (Spec k v)) h))
+      (made (piece_types (Spec k v)) h)
 
   -- initialisers
 
@@ -70,7 +70,7 @@ module _ (st : FileStand) (types : List (ℕ × InlineOf)) where
   expr_same e h =
       ap (λ d. fault_at (start e) (initial_rule d))
       ((expressions_seen Term Sign Declaration (List ℕ)).whole by_table by_names.find by_names.written places.«Value» e (agree (expr_idents e))
-      (made (struct_types e) (subst Seen (piece_listed (Condition e)) h))).denoted
+      (made (expr_types e) h)).denoted
 
   list_same : (es : Separated ExprTree) → Seen (exprs_types es) → list_initial_faults by_table es ≡ list_initial_faults by_names es
   list_same (One e) h = expr_same e h

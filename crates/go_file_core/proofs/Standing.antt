@@ -4,12 +4,13 @@ use Rattle.std.specs.Prelude.{if◌then◌else◌}
 use Rattle.std.specs.Result.{OnOk, is_ok}
 use Rattle.std.proofs.lemmas.Result.{on_ok_weaker}
 use Rattle.go_tree_nodes.specs.Trees.{FuncTree, ValueTree, TypeDeclTree}
+use Rattle.go_tree_nodes.specs.WrittenTypes.{specs_types}
+use Rattle.go_tree_nodes.specs.Shapes.{shape_type_decl, shape_value}
 use Rattle.go_func_core.specs.scope_core.Models.{scopes_model}
 use Rattle.go_func_core.specs.entry_core.Meanings.{Shows}
 use Rattle.go_func_core.specs.names_core.declared.look.OpenNames.{OpenNames}
 use Rattle.go_top_core.specs.local_core.Tables.{IsFuncPlaced}
 use Rattle.go_top_core.specs.inline_core.Types.{InlineOf}
-use Rattle.go_top_core.specs.inline_core.Trees.{specs_types}
 use Rattle.go_top_core.specs.expr_core.declared.things.Fault.{Fault}
 use Rattle.go_func_core.specs.env_core.declared.here.Here.{Here}
 use Rattle.go_func_core.specs.env_core.declared.meaning.Meaning.{Meaning}
@@ -24,7 +25,10 @@ use Rattle.go_func_core.specs.Functions.{checked_func}
 use Rattle.go_func_core.specs.Laws.{AreFuncTypes}
 use Rattle.go_func_core.proofs.Bodies.{bodies_are_as_written}
 use Rattle.go_file_core.specs.declared.file_at.FileAt.{FileAt}
+use Rattle.go_file_core.specs.declared.spec_decl.SpecDecl.{SpecDecl}
+use Rattle.go_file_core.specs.declared.spec_decl.SpecDecl.TheVariants as decls
 use Rattle.go_file_core.specs.Stands.{stand_of}
+use Rattle.go_file_core.specs.mirrors.SpecDecls.{AreSpecsSeen, spec_decl_faults, spec_decl_uses}
 use Rattle.go_file_core.specs.mirrors.Steps.{AreSeen}
 use Rattle.go_file_core.proofs.Seen.{by_table, decl_used, decl_broken, types_used}
 
@@ -37,16 +41,26 @@ module _ {P : Type 0} (shows : P → Shows) (at : FileAt P) (h : Here) (names : 
   looks_same : here_looks h ≡ by_table st at.initial.now
   looks_same = top_standing h at.scene.now at.file at.initial.now at.known.now names scene file inline known open_names scopes locals
 
-  pub values_used : {E : Type 0} (r : Result (Unit {0}) E) (v : ValueTree) (old new : List TheUse) → AreSeen st at.initial.now (specs_types v.specs)
+  values_used : {E : Type 0} (r : Result (Unit {0}) E) (v : ValueTree) (old new : List TheUse) → AreSeen st at.initial.now (specs_types v.specs)
       → OnOk r (new ≡ old ++ value_decl_uses (here_looks h) v) → OnOk r (new ≡ old ++ value_decl_uses (outer_looks st) v)
   values_used r v old new seen = on_ok_weaker r (λ e. e ∙ ap (λ l. old ++ l) (ap (λ l. value_decl_uses l v) looks_same ∙ decl_used st at.initial.now v seen))
 
-  pub values_broken : {E : Type 0} (r : Result (Unit {0}) E) (v : ValueTree) (old new : List Fault) → AreSeen st at.initial.now (specs_types v.specs)
+  values_broken : {E : Type 0} (r : Result (Unit {0}) E) (v : ValueTree) (old new : List Fault) → AreSeen st at.initial.now (specs_types v.specs)
       → OnOk r (new ≡ old ++ value_decl_faults (here_looks h) v) → OnOk r (new ≡ old ++ value_decl_faults (outer_looks st) v)
   values_broken r v old new seen = on_ok_weaker r (λ e. e ∙ ap (λ l. old ++ l) (ap (λ l. value_decl_faults l v) looks_same ∙ decl_broken st at.initial.now v seen))
 
-  pub types_noted : {E : Type 0} (r : Result (Unit {0}) E) (t : TypeDeclTree) (old new : List TheUse) → OnOk r (new ≡ old ++ type_decl_uses (here_looks h) t) → OnOk r (new ≡ old ++ type_decl_uses (outer_looks st) t)
+  types_noted : {E : Type 0} (r : Result (Unit {0}) E) (t : TypeDeclTree) (old new : List TheUse) → OnOk r (new ≡ old ++ type_decl_uses (here_looks h) t) → OnOk r (new ≡ old ++ type_decl_uses (outer_looks st) t)
   types_noted r t old new = on_ok_weaker r (λ e. e ∙ ap (λ l. old ++ l) (ap (λ l. type_decl_uses l t) looks_same ∙ types_used st at.initial.now t))
+
+  pub specs_used : {E : Type 0} (r : Result (Unit {0}) E) (d : SpecDecl) (old new : List TheUse) → AreSpecsSeen st at.initial.now d
+      → OnOk r (new ≡ old ++ spec_decl_uses (here_looks h) d) → OnOk r (new ≡ old ++ spec_decl_uses (outer_looks st) d)
+  specs_used r (decls.Values v) old new seen given = values_used r (shape_value v.now) old new seen given
+  specs_used r (decls.Types t) old new seen given = types_noted r (shape_type_decl t.now) old new given
+
+  pub specs_broken : {E : Type 0} (r : Result (Unit {0}) E) (d : SpecDecl) (old new : List Fault) → AreSpecsSeen st at.initial.now d
+      → OnOk r (new ≡ old ++ spec_decl_faults (here_looks h) d) → OnOk r (new ≡ old ++ spec_decl_faults (outer_looks st) d)
+  specs_broken r (decls.Values v) old new seen given = values_broken r (shape_value v.now) old new seen given
+  specs_broken r (decls.Types t) old new seen given = given
 
 -- what is added where that succeeds
 same_added : {A E : Type 0} (r : Result (Unit {0}) E) (old new xs ys : List A) → xs ≡ ys → new ≡ (if is_ok r then old ++ xs else old) → OnOk r (new ≡ old ++ ys)

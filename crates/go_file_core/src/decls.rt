@@ -1,8 +1,9 @@
 //! What the declarations of a file have and break.
 ghost use Rattle.std.specs.Prelude.{◌≡◌, ◌++◌, [], IfOk, OnOk, map};
 ghost use Rattle.go_tree_nodes.specs.Shapes.{decl_of, func_of, shape_type_decl, shape_value, top_of};
+ghost use Rattle.go_tree_nodes.specs.WrittenTypes.{specs_types};
 ghost use Rattle.go_top_core.specs.local_core.Tables.{IsFuncPlaced};
-ghost use Rattle.go_top_core.specs.inline_core.Trees.{decl_types, specs_types};
+ghost use Rattle.go_top_core.specs.inline_core.Trees.{decl_types};
 ghost use Rattle.go_func_core.specs.scope_core.Models.{scopes_model};
 ghost use Rattle.go_func_core.specs.env_core.Scenes.{scene_shown};
 ghost use Rattle.go_top_core.specs.Tops as tops;
@@ -11,26 +12,37 @@ ghost use Rattle.go_func_core.specs.Functions.{checked_func};
 ghost use Rattle.go_func_core.specs.Laws.{AreFuncTypes};
 ghost use Rattle.go_file_core.specs.Files.{decl_uses, decl_faults, decl_locals, tops_uses, tops_faults, tops_locals};
 ghost use Rattle.go_file_core.specs.Stands.{stand_of};
+ghost use Rattle.go_file_core.specs.mirrors.SpecDecls.{AreSpecsSeen, spec_decl_faults, spec_decl_uses};
 ghost use Rattle.go_file_core.specs.mirrors.Steps.{AreMade, AreSeen, HasNext, behind};
 
 use crate::file_at::FileAt;
 use crate::notes::FileNotes;
+use crate::spec_decl::{SpecDecl, check_spec_decl};
 use go_func_core::body_core::{Local, check_body};
 use go_func_core::entry_core::ImportedNames;
-use go_func_core::env_core::{Meaning, Scene, stand};
+use go_func_core::env_core::{Meaning, outer_names, stand};
 use go_func_core::names_core::OpenNames;
 use go_func_core::scope_core::Scopes;
 use go_top_core::inline_core::InlineTypes;
-use go_top_core::{check_type_decl, check_value_decl};
 use go_tree_nodes::{Decl, FuncDecl, TopDecl, TypeDecl, ValueDecl};
 use std::alloc::{AllocError, Global};
 
-// The names outside all functions, by the blocks of a file.
-fn outer_names<'s, 'p: 's>(scene: &Scene<'p>, scopes: &'s Scopes<'s>) -> OpenNames<'s, Meaning<'p>>
-    ensures scopes { result.scopes.now ≡ scopes.now }
-    ensures locals { result.locals.now ≡ [] }
+// Notes what a declaration has and breaks that consists of specifications, by the names as they are at the top of the file.
+fn check_at_top<'p, P: ImportedNames>(
+    alloc: Global,
+    at: &FileAt<'_, 'p, P>,
+    names: &OpenNames<Meaning<'p>>,
+    decl: &SpecDecl<'_>,
+    notes: &mut FileNotes<'p>,
+) -> Result<(), AllocError>
+    requires scopes { names.now.scopes.now ≡ scopes_model (scene_shown at.now.scene.now).blocks at.now.file [] }
+    requires locals { names.now.locals.now ≡ [] }
+    requires types { AreSpecsSeen (stand_of P.shows at.now) at.now.initial.now decl.now }
+    ensures uses { OnOk result (notes.new.uses.items ≡ notes.old.uses.items ++ spec_decl_uses (outer_looks (stand_of P.shows at.now)) decl.now) }
+    ensures faults { OnOk result (notes.new.faults.items ≡ notes.old.faults.items ++ spec_decl_faults (outer_looks (stand_of P.shows at.now)) decl.now) }
 {
-    OpenNames::at_top(scopes)
+    let here = stand(at.scene, at.file, at.initial, at.known, names);
+    check_spec_decl(&here, alloc, decl, notes)
 }
 
 // Notes what a declaration of constants or variables has and breaks.
@@ -47,8 +59,8 @@ fn check_values<'p, P: ImportedNames>(
     ensures uses { OnOk result (notes.new.uses.items ≡ notes.old.uses.items ++ tops.value_decl_uses (outer_looks (stand_of P.shows at.now)) (shape_value decl.now)) }
     ensures faults { OnOk result (notes.new.faults.items ≡ notes.old.faults.items ++ tops.value_decl_faults (outer_looks (stand_of P.shows at.now)) (shape_value decl.now)) }
 {
-    let here = stand(at.scene, at.file, at.initial, at.known, names);
-    check_value_decl(&here, alloc, decl, notes)
+    let values = SpecDecl::Values(decl);
+    check_at_top(alloc, at, names, &values, notes)
 }
 
 // Notes what a declaration of types has and breaks.
@@ -64,8 +76,8 @@ fn check_types<'p, P: ImportedNames>(
     ensures uses { OnOk result (notes.new.uses.items ≡ notes.old.uses.items ++ tops.type_decl_uses (outer_looks (stand_of P.shows at.now)) (shape_type_decl decl.now)) }
     ensures faults { OnOk result (notes.new.faults.items ≡ notes.old.faults.items ++ tops.type_decl_faults (shape_type_decl decl.now)) }
 {
-    let top = stand(at.scene, at.file, at.initial, at.known, names);
-    check_type_decl(&top, alloc, decl, notes)
+    let types = SpecDecl::Types(decl);
+    check_at_top(alloc, at, names, &types, notes)
 }
 
 // Notes what a function has and breaks, with the types that are written in it, and adds the locals that it declares.

@@ -10,6 +10,7 @@ mod file_at;
 mod imports;
 mod laws;
 mod notes;
+mod spec_decl;
 mod whole;
 
 pub use bodies::check_bodies;

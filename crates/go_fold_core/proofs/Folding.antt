@@ -6,6 +6,7 @@ use Rattle.go_text_core.specs.declared.span.Span.{Span}
 use Rattle.go_fragment_core.specs.constant_core.declared.values.Constant.TheVariants as values
 use Rattle.go_fragment_core.specs.constant_core.Values.{natural}
 use Rattle.go_tree_nodes.specs.Trees.{ExprTree, ItemTrees, Integer, Text, Named, Paren, Unary, Binary, Select, Call, Literal, StructLiteral, NoItems, Item}
+use Rattle.go_tree_nodes.specs.Counts.{item_count}
 use Rattle.go_expr_core.specs.operand_core.declared.types.ValueType.TheVariants as value_types
 use Rattle.go_expr_core.specs.operand_core.Operators.{value}
 use Rattle.go_expr_core.specs.denote_core.declared.things.Place.{Place}
@@ -32,7 +33,7 @@ use Rattle.go_fragment_core.specs.declared.names.Meaning.{Meaning}
 use Rattle.go_fragment_core.specs.declared.names.Meaning.TheVariants as meanings
 use Rattle.go_fragment_core.specs.Names as code_names
 use Rattle.go_fragment_core.specs.Names.{Frame, frame_of, callee_meaning, word_of}
-use Rattle.go_fragment_core.specs.Fragment.{over, unary_word, binary_word, is_one, expr_gives, all_ones, receiver_fits, call_gives, item_count}
+use Rattle.go_fragment_core.specs.Fragment.{over, unary_word, binary_word, is_one, expr_gives, all_ones, receiver_fits, call_gives}
 use Rattle.go_fragment_core.specs.Constants.{held, some_held, folded, folded_one}
 use Rattle.go_fold_core.specs.Reading.{basic_of, IsMethodMeant, IsFieldMeant, IsSelectionMeant, IsMemberMeant, AreNamesRead, AreRead}
 use Rattle.go_fold_core.specs.Laws.{is_text, IsNoText, constant_in, IsMeant, ConstantsAreFolded, IsFolded, ExpressionsAreFolded}

@@ -23,10 +23,11 @@ use Rattle.go_tree_nodes.specs.Shapes.{shape, items_of, shape_stmt, shape_else, 
 use Rattle.go_fragment_core.specs.declared.names.Gives.{Gives}
 use Rattle.go_fragment_core.specs.declared.names.Gives.TheVariants as gives
 use Rattle.go_fragment_core.specs.declared.names.Meaning.{Meaning}
-use Rattle.go_fragment_core.specs.Fragment.{all_ones, call_gives, expr_gives, item_count, receiver_fits}
+use Rattle.go_fragment_core.specs.Fragment.{all_ones, call_gives, expr_gives, receiver_fits}
 use Rattle.go_fragment_core.specs.Inside.{head_inside, lines_inside, params_inside, results_inside, signature_inside, stmt_inside}
 use Rattle.go_fragment_core.specs.Names.{Frame, CodeLooks, callee_meaning}
 use Rattle.go_tree_nodes.proofs.ShapeLemmas.{call_parts, literal_parts, struct_literal_parts, shape_block, loop_parts, shape_else_block}
+use Rattle.go_tree_nodes.specs.Counts.{item_count}
 
 abbrev pub call_tree : CallExpr → ExprTree
 call_tree c = Call (shape (out-CallExpr c).callee) (out-CallExpr c).«open» (items_of (out-CallExpr c).args.items) (out-CallExpr c).close

@@ -8,8 +8,8 @@ use Rattle.go_tree_nodes.specs.declared.names.Idents.{Idents}
 use Rattle.go_tree_nodes.specs.declared.types.«Param» as declared_param
 use Rattle.go_tree_nodes.specs.Trees.{TypeTree, Param}
 use Rattle.go_tree_nodes.specs.TypeShapes.{params_of, shape_names, shape_type}
+use Rattle.go_tree_nodes.specs.Counts.{item_count}
 use Rattle.go_fragment_core.specs.Constants.{folded_one}
-use Rattle.go_fragment_core.specs.Fragment.{item_count}
 use Rattle.go_fragment_core.specs.Inside.{listed_result_inside}
 use Rattle.go_fragment_core.specs.Names.{CodeLooks}
 

@@ -1,10 +1,11 @@
 -- Of which functions code is made: those that work on values over `int` and `bool` alone.
-use Rattle.std.specs.Prelude.{ℕ, suc, Bool, true, false, ◌&&◌, ◌||◌, not, nat_eq, List, Option, Some, None, is_some, if◌then◌else◌}
+use Rattle.std.specs.Prelude.{ℕ, Bool, true, false, ◌&&◌, ◌||◌, not, nat_eq, List, Option, Some, None, is_some, if◌then◌else◌}
 use Rattle.go_token_core.specs.declared.kind.Operator.{Operator}
 use Rattle.go_token_core.specs.declared.kind.Operator.TheVariants as operators
 use Rattle.go_tree_nodes.specs.declared.types.TypeName.{TypeName}
 use Rattle.go_tree_nodes.specs.declared.types.TypeName.TheVariants as type_names
 use Rattle.go_tree_nodes.specs.Trees.{TypeTree, NamedType, Pointer, ParenType, Struct, Interface, ExprTree, ItemTrees, Integer, Text, Named, Paren, Unary, Binary, Select, Call, Literal, StructLiteral, NoItems, Item}
+use Rattle.go_tree_nodes.specs.Counts.{item_count}
 use Rattle.go_instruction_core.specs.declared.letters.Word.{Word}
 use Rattle.go_instruction_core.specs.declared.letters.Word.TheVariants as words
 use Rattle.go_fragment_core.specs.declared.names.Gives.{Gives}
@@ -100,10 +101,6 @@ call_gives meanings.Other n = gives.Other
 abbrev pub means_method : Meaning → Bool
 means_method (meanings.Method g) = true
 means_method _ = false
-
-abbrev pub item_count : ItemTrees → ℕ
-item_count NoItems = 0
-item_count (Item key e comma rest) = suc (item_count rest)
 
 abbrev mutual
   -- what an expression gives, where each expression in it gives one value over `int` or `bool`: else `Other`

@@ -2,7 +2,8 @@
 ghost use Rattle.std.specs.Prelude.{◌≡◌};
 ghost use Rattle.go_tree_nodes.specs.Shapes.{shape, items_of, shape_some_type};
 ghost use Rattle.go_tree_nodes.specs.TypeShapes.{shape_type};
-ghost use Rattle.go_fragment_core.specs.Fragment.{all_ones, binary_word, call_gives, expr_gives, means_method, is_one, is_other, item_count, meaning_gives, over, receiver_fits, selected_gives, some_type_inside, type_name_word, type_of_meaning, type_word, unary_word};
+ghost use Rattle.go_tree_nodes.specs.Counts.{item_count};
+ghost use Rattle.go_fragment_core.specs.Fragment.{all_ones, binary_word, call_gives, expr_gives, means_method, is_one, is_other, meaning_gives, over, receiver_fits, selected_gives, some_type_inside, type_name_word, type_of_meaning, type_word, unary_word};
 ghost use Rattle.go_fragment_core.specs.Names.{frame_of, word_of};
 
 use crate::constants::called;

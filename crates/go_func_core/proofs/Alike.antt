@@ -13,12 +13,12 @@ use Rattle.go_body_core.specs.written_core.Written.{InFile}
 use Rattle.go_body_core.specs.handle_core.Declarations.{Declaration}
 use Rattle.go_body_core.specs.local_core.Steps.{Piece, spell_piece}
 use Rattle.go_body_core.specs.local_core.Binding.{NameLook}
+use Rattle.go_body_core.specs.local_core.Pieces.{piece_types}
 use Rattle.go_body_core.specs.local_core.Alike.{Alike, AlikeAt, LookAtNames}
 use Rattle.go_body_core.specs.expr_core.Locality.{SameWritten}
 use Rattle.go_body_core.specs.inline_core.declared.scoped.Scoped.{Scoped}
 use Rattle.go_body_core.specs.inline_core.declared.scoped.Scoped.TheVariants as scoped
 use Rattle.go_body_core.specs.inline_core.Types.{InlineOf}
-use Rattle.go_body_core.specs.inline_core.Trees as inline
 use Rattle.go_body_core.specs.inline_core.Inline.{inline_of, inlines}
 use Rattle.go_body_core.specs.inline_core.Functions.{looked_up_ident, is_local, meaning_in}
 use Rattle.go_body_core.specs.inline_core.mirrors.Alike.{inlines_alike}
@@ -33,7 +33,6 @@ use Rattle.go_body_core.specs.mirrors.Names.{look_at_names}
 use Rattle.go_func_core.specs.Types.{is_local_meaning, named_where}
 use Rattle.go_func_core.specs.Stands.{FileStand, kinds_in_scene, looks_where, outer_looks}
 use Rattle.go_func_core.specs.Functions.{func_rules}
-use Rattle.go_func_core.proofs.Listed.{piece_listed}
 
 -- a name that is a local, as one that is known for a local alone
 
@@ -83,9 +82,9 @@ module _ (kind : DeclKey → Kind) (f : InFile) where
   each_same mean one (t ∷ ts) h = (ap (first_or (inline_of kind f mean t)) h, each_same mean one ts (ap behind h))
 
   -- the types of a piece are the same where the names that it writes mean the same
-  pub types_same : (top : types.Meaning) (look other : NameLook Meaning) (p : Piece) → Alike look other (spell_piece p) → AreSame (named_where look top) (named_where other top) (inline.piece_types p)
+  pub types_same : (top : types.Meaning) (look other : NameLook Meaning) (p : Piece) → Alike look other (spell_piece p) → AreSame (named_where look top) (named_where other top) (piece_types p)
   types_same top look other p h =
-      let ts = inline.piece_types p in
+      let ts = piece_types p in
       each_same (named_where look top) (named_where other top) ts
       (ap (λ mean. inlines kind f mean ts) (sym (means_same look top))
       ∙ ((inlines_alike kind f top).notes (scoped_look look) (scoped_look other) [] p (alike_scoped look other (spell_piece p) h)
@@ -104,7 +103,7 @@ module _ (st : FileStand) where
     rest = λ look other. refl;
     find = λ look other name offset h. ap (found_of st.scene st.file.file st.known name) h;
     written = λ look other p h.
-        subst (λ ts. SameWritten (looks_where st look) (looks_where st other) ts) (piece_listed p) (made_same look other (inline.piece_types p) (types_same (kinds_in_scene st.scene) st.file st.top look other p h));
+        made_same look other (piece_types p) (types_same (kinds_in_scene st.scene) st.file st.top look other p h);
   }
 
   pub rules_look_at_names : (f : FuncTree) → LookAtNames Meaning NoteOf (func_rules st f)

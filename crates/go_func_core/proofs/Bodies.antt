@@ -4,11 +4,13 @@ use Rattle.std.proofs.lemmas.List.Elements.{Contains-append_left, Contains-appen
 use Rattle.go_text_core.proofs.Each.{Each}
 use Rattle.go_tree_nodes.specs.declared.names.Ident.{Ident}
 use Rattle.go_tree_nodes.specs.Trees.{TypeTree, FuncTree}
+use Rattle.go_tree_nodes.specs.WrittenTypes.{signature_types}
 use Rattle.go_term_core.specs.Terms.{Term, Sign}
 use Rattle.go_body_core.specs.handle_core.Declarations.{Declaration}
 use Rattle.go_body_core.specs.denote_core.declared.things.Found.{Found}
 use Rattle.go_body_core.specs.local_core.Steps.{Piece, Header, Steps, Done, Check, Declare, Inner}
 use Rattle.go_body_core.specs.local_core.Outline.{func_steps, func_opens}
+use Rattle.go_body_core.specs.local_core.Pieces.{piece_types}
 use Rattle.go_body_core.specs.local_core.Binding.{Local, NameLook, bound, is_first}
 use Rattle.go_body_core.specs.local_core.Law.{Rules}
 use Rattle.go_body_core.specs.local_core.Tables.{IsFuncPlaced, walked, out_by_intervals}
@@ -36,7 +38,6 @@ use Rattle.go_func_core.specs.Functions.{own_rules, func_rules, walked_func, fun
 use Rattle.go_func_core.specs.Laws.{AreFuncTypes, BodiesAreAsWritten, FunctionsHaveOneTable}
 use Rattle.go_func_core.proofs.Alike.{types_same, rules_look_at_names}
 use Rattle.go_func_core.proofs.Regions.{header_unseen}
-use Rattle.go_func_core.proofs.Listed.{piece_listed}
 use Rattle.go_func_core.proofs.Returned.{each_left, each_right, each_both, IsOne, returned_same}
 use Rattle.go_func_core.proofs.Seen.{HasAt, here_named, has_at}
 
@@ -75,10 +76,10 @@ module _ (st : FileStand) (types : List (ℕ × InlineOf)) (all : List (Local Me
   made [] h = tt
   made (t ∷ ts) h = (record { type_of = ap (inline_type st.scene.types) (sym h.0); faults_of = ap inline_faults (sym h.0) }, made ts h.1)
 
-  piece_same : (p : Piece) → Each Has (inline.piece_types p) → SamePiece Term Sign Declaration (List ℕ) written listed p
+  piece_same : (p : Piece) → Each Has (piece_types p) → SamePiece Term Sign Declaration (List ℕ) written listed p
   piece_same p h =
       pieces_local Term Sign Declaration (List ℕ) written written.find (inline_rules st.scene types) p (agree_self written.find (piece_idents p))
-      (subst (λ ts. SameWritten written listed ts) (piece_listed p) (made (inline.piece_types p) h))
+      (made (piece_types p) h)
 
   module _ (results : List (Option Term)) (has_names : Bool) where
     abbrev own : Rules Meaning NoteOf
@@ -96,12 +97,12 @@ module _ (st : FileStand) (types : List (ℕ × InlineOf)) (all : List (Local Me
     steps_same : (opens : ℕ) (steps : Steps) → Each Has (steps_types steps) → NoteAlike own theirs (outer_meanings st) all opens steps
     steps_same opens Done h = tt
     steps_same opens (Check p rest) h =
-        let same = piece_same p (each_left Has (inline.piece_types p) (steps_types rest) h) in
-        (noted [] p same, steps_same opens rest (each_right Has (inline.piece_types p) (steps_types rest) h))
+        let same = piece_same p (each_left Has (piece_types p) (steps_types rest) h) in
+        (noted [] p same, steps_same opens rest (each_right Has (piece_types p) (steps_types rest) h))
     steps_same opens (Declare m from p xs rest) h =
-        let same = piece_same p (each_left Has (inline.piece_types p) (steps_types rest) h) in
+        let same = piece_same p (each_left Has (piece_types p) (steps_types rest) h) in
         let firsts = map (is_first all opens) xs in
-        (noted firsts p same, meant firsts p same, steps_same opens rest (each_right Has (inline.piece_types p) (steps_types rest) h))
+        (noted firsts p same, meant firsts p same, steps_same opens rest (each_right Has (piece_types p) (steps_types rest) h))
     steps_same opens (Inner o c steps rest) h =
         (steps_same o steps (each_left Has (steps_types steps) (steps_types rest) h), steps_same opens rest (each_right Has (steps_types steps) (steps_types rest) h))
 
@@ -118,8 +119,8 @@ module _ (st : FileStand) (types : List (ℕ × InlineOf)) (f : FuncTree) (place
       let kind = kinds_in_scene st.scene in
       returned_same (outer_looks st) top f.signature
       (each_both (HasAt st types mean) (λ t. inline_of kind st.file mean t ≡ inline_of kind st.file one t) (IsOne (outer_looks st) top)
-      (λ t h k. ap (λ i. inline_type st.scene.types (Some i)) (sym k) ∙ ap (inline_type st.scene.types) (sym h)) (inline.signature_types f.signature)
-      (each_left (HasAt st types mean) (inline.signature_types f.signature) (inline.lines_types f.body) each_at)
+      (λ t h k. ap (λ i. inline_type st.scene.types (Some i)) (sym k) ∙ ap (inline_type st.scene.types) (sym h)) (signature_types f.signature)
+      (each_left (HasAt st types mean) (signature_types f.signature) (inline.lines_types f.body) each_at)
       (types_same kind st.file st.top (bound (outer_meanings st) all) (outer_look st) (Header f.receiver f.signature) (header_unseen (func_rules st f) (outer_meanings st) all f placed table)))
 
   alike : NoteAlike (func_rules st f) (body.func_body_rules st.scene st.file.file st.known (inline_rules st.scene types) f) (outer_meanings st) all (func_opens f) (func_steps f)

@@ -12,7 +12,7 @@ use Rattle.go_body_core.specs.local_core.Binding.{Local, NameLook, bound, is_fir
 use Rattle.go_body_core.specs.local_core.Law.{Rules, locals_of_names, declared_from, law_out}
 use Rattle.go_body_core.specs.local_core.Tables.{out_by_intervals, IsTable}
 use Rattle.go_body_core.specs.names_core.Body.{each_means}
-use Rattle.go_body_core.specs.piece_core.Pieces.{piece_names}
+use Rattle.go_body_core.specs.local_core.Pieces.{piece_declares}
 use Rattle.go_body_core.specs.env_core.declared.meaning.Meaning.{Meaning}
 use Rattle.go_body_core.specs.Notes.{TheLocal, NoteOf, all_locals}
 use Rattle.go_body_core.specs.Rules.{local_if, declared_among, piece_locals}

@@ -3,7 +3,6 @@ pub mod Bodies
 pub mod Declared
 pub mod Denoted
 pub mod Examples
-pub mod Listed
 pub mod Locals
 pub mod Named
 pub mod Occurring

@@ -2,8 +2,8 @@
 use Rattle.std.proofs.Common.{◌≡◌, true, List, [], ◌∷◌, ◌++◌, refl, ap, ◌∙◌}
 use Rattle.go_text_core.proofs.Each.{Each}
 use Rattle.go_tree_nodes.specs.Trees.{TypeTree, SignatureTree, ResultTree, ParamTrees, Signed, NoResult, OneResult, Results, NoParams, Param}
+use Rattle.go_tree_nodes.specs.WrittenTypes.{params_types, result_types, signature_types}
 use Rattle.go_body_core.specs.expr_core.Denoting.{written_type}
-use Rattle.go_body_core.specs.inline_core.Trees as inline
 use Rattle.go_body_core.specs.piece_core.Headers.{of_entry, entry_types, types_of_result, returned_types}
 use Rattle.go_body_core.specs.env_core.Looks.{TheLooks}
 
@@ -24,15 +24,15 @@ module _ (looks other : TheLooks) where
   abbrev pub IsOne : TypeTree → Type 0
   IsOne t = written_type looks t ≡ written_type other t
 
-  entries_same : (ps : ParamTrees) → Each IsOne (inline.params_types ps) → entry_types looks true ps ≡ entry_types other true ps
+  entries_same : (ps : ParamTrees) → Each IsOne (params_types ps) → entry_types looks true ps ≡ entry_types other true ps
   entries_same NoParams h = refl
   entries_same (Param xs t comma rest) h =
       ap (λ u. of_entry true xs u ++ entry_types looks true rest) h.0 ∙ ap (λ l. of_entry true xs (written_type other t) ++ l) (entries_same rest h.1)
 
-  results_same : (r : ResultTree) → Each IsOne (inline.result_types r) → types_of_result looks true r ≡ types_of_result other true r
+  results_same : (r : ResultTree) → Each IsOne (result_types r) → types_of_result looks true r ≡ types_of_result other true r
   results_same NoResult h = refl
   results_same (OneResult t) h = ap (λ u. u ∷ []) h.0
   results_same (Results first params last) h = entries_same params h
 
-  pub returned_same : (s : SignatureTree) → Each IsOne (inline.signature_types s) → returned_types looks s ≡ returned_types other s
-  returned_same (Signed first params last result) h = results_same result (each_right IsOne (inline.params_types params) (inline.result_types result) h)
+  pub returned_same : (s : SignatureTree) → Each IsOne (signature_types s) → returned_types looks s ≡ returned_types other s
+  returned_same (Signed first params last result) h = results_same result (each_right IsOne (params_types params) (result_types result) h)

@@ -8,14 +8,13 @@ use Rattle.go_tree_nodes.specs.declared.names.Ident.{Ident}
 use Rattle.go_tree_nodes.specs.Trees.{FuncTree}
 use Rattle.go_tree_nodes.proofs.InOrder.{in_order_ends, AreInTurn}
 use Rattle.go_body_core.specs.local_core.Steps.{Piece, Steps, Done, Check, Declare, Inner, spell_piece}
+use Rattle.go_body_core.specs.local_core.Pieces.{ident_place, piece_declares}
 use Rattle.go_body_core.specs.local_core.Outline.{func_steps, func_opens, func_closes}
 use Rattle.go_body_core.specs.local_core.Binding.{Local, NameLook, bound, is_first, is_second}
 use Rattle.go_body_core.specs.local_core.Law.{Rules, locals_of_names, declared_from, law_out}
 use Rattle.go_body_core.specs.local_core.Tables.{IsFuncPlaced, IsTable}
 use Rattle.go_body_core.specs.local_core.Placed.{Placed, placed_ends, func_placed}
 use Rattle.go_body_core.specs.local_core.Parts.{names_parts, law_parts}
-use Rattle.go_body_core.specs.names_core.Uses.{ident_place}
-use Rattle.go_body_core.specs.piece_core.Pieces.{piece_names}
 use Rattle.go_body_core.specs.env_core.declared.meaning.Meaning.{Meaning}
 use Rattle.go_body_core.specs.env_core.declared.meaning.Meaning.TheVariants as meanings
 use Rattle.go_body_core.specs.Notes.{TheValue, TheLocal}
@@ -66,7 +65,7 @@ names_own o c from values (x ∷ xs) =
 
 -- rules by which each name that a piece declares is a local at its place
 abbrev pub MeanOwn : {N : Type 0} → Rules Meaning N → Type 0
-MeanOwn rules = (look : NameLook Meaning) (firsts : List Bool) (p : Piece) → (values : ℕ → TheValue) × (rules.means look firsts p ≡ (λ n. meanings.Local (ident_place (piece_names p) n) (values n)))
+MeanOwn rules = (look : NameLook Meaning) (firsts : List Bool) (p : Piece) → (values : ℕ → TheValue) × (rules.means look firsts p ≡ (λ n. meanings.Local (ident_place (piece_declares p) n) (values n)))
 
 module _ {N : Type 0} (rules : Rules Meaning N) (own : MeanOwn rules) (beyond : List ℕ → Option Meaning) (all : List (Local Meaning)) where
   rising : (ss : Steps) (o c lo hi : ℕ) → o < lo → Placed lo hi ss → Rising (law_out rules beyond all o c ss).declares

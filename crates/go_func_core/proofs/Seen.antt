@@ -2,14 +2,14 @@
 use Rattle.std.proofs.Common.{◌≡◌, ℕ, List, Some, Contains, refl, sym, ap, ◌∙◌}
 use Rattle.std.specs.Prelude.{if◌then◌else◌}
 use Rattle.go_tree_nodes.specs.declared.types.TypeName.{TypeName}
+use Rattle.go_tree_nodes.specs.Starts.{type_start}
 use Rattle.go_tree_nodes.specs.Trees.{TypeTree, FuncTree}
 use Rattle.go_term_core.specs.Terms.{NoType}
 use Rattle.go_body_core.specs.written_core.Written as types
 use Rattle.go_body_core.specs.local_core.Binding.{Local, NameLook, bound}
 use Rattle.go_body_core.specs.local_core.Tables.{IsFuncPlaced}
-use Rattle.go_body_core.specs.expr_core.Places as places
 use Rattle.go_body_core.specs.inline_core.Types.{InlineOf, inline_at}
-use Rattle.go_body_core.specs.inline_core.Trees.{type_start, func_types}
+use Rattle.go_body_core.specs.inline_core.Trees.{func_types}
 use Rattle.go_body_core.specs.inline_core.Inline.{inline_of, inlines}
 use Rattle.go_body_core.specs.inline_core.Functions.{looked_up_ident}
 use Rattle.go_body_core.specs.inline_core.Hiding.{meaning_beside}
@@ -23,11 +23,10 @@ use Rattle.go_func_core.specs.Stands.{FileStand, kinds_in_scene, types_where, ou
 use Rattle.go_func_core.specs.Functions.{func_rules, AreFuncDeclarations}
 use Rattle.go_func_core.specs.Laws.{AreFuncTypes, MakeSame, TypesAreSeenAlike}
 use Rattle.go_func_core.proofs.Regions.{hidden, none_outside}
-use Rattle.go_func_core.proofs.Listed.{starts_alike}
 
 -- a table has at the first byte of a type what it is by these names
 abbrev pub HasAt : FileStand → List (ℕ × InlineOf) → types.Meaning → TypeTree → Type 0
-HasAt st types mean t = inline_at types (places.type_start t) ≡ Some (inline_of (kinds_in_scene st.scene) st.file mean t)
+HasAt st types mean t = inline_at types (type_start t) ≡ Some (inline_of (kinds_in_scene st.scene) st.file mean t)
 
 abbrev pub here_named : FileStand → List (Local Meaning) → types.Meaning
 here_named st all = named_where (bound (outer_meanings st) all) st.top
@@ -46,8 +45,7 @@ module _ (st : FileStand) (types : List (ℕ × InlineOf)) (f : FuncTree) (place
 
   pub has_at : (t : TypeTree) → Contains (func_types f) t → HasAt st types (here_named st all) t
   has_at t there =
-      ap (inline_at types) (starts_alike t)
-      ∙ (ap (λ l. inline_at l (type_start t)) told ∙ types_are_found.in_function f placed (kinds_in_scene st.scene) st.file (here_named st all) t there)
+      ap (λ l. inline_at l (type_start t)) told ∙ types_are_found.in_function f placed (kinds_in_scene st.scene) st.file (here_named st all) t there
 
 outside : (st : FileStand) (n : TypeName) → named_where (outer_look st) st.top n ≡ st.top n
 outside st n = ap (λ b. if b then NoType else st.top n) (none_outside st.scene.blocks st.file.file (looked_up_ident n).name)
@@ -60,9 +58,8 @@ types_are_seen_alike = record {
   in_function = λ st types f placed are all table t there. same_at st types (bound (outer_meanings st) all) t (has_at st types f placed are all table t there);
   in_file = λ st types f placed are t there.
       same_at st types (outer_look st) t
-      (ap (inline_at types) (starts_alike t)
-      ∙ (ap (λ l. inline_at l (type_start t)) are
+      (ap (λ l. inline_at l (type_start t)) are
       ∙ (types_are_found.in_file f placed (kinds_in_scene st.scene) st.file st.top t there
-      ∙ ap (λ mean. Some (inline_of (kinds_in_scene st.scene) st.file mean t)) (λ j n. sym (outside st n) j))));
+      ∙ ap (λ mean. Some (inline_of (kinds_in_scene st.scene) st.file mean t)) (λ j n. sym (outside st n) j)));
   outside = outside;
 }

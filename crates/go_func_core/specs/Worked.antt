@@ -2,16 +2,15 @@
 -- the function stands at n.
 --
 -- docs/RULES.md, "Types inside functions", "Bodies of functions". The Go specification, "Declarations and scope".
-use Rattle.std.specs.Prelude.{◌≡◌, ℕ, suc, false, List, [], ◌∷◌, map, Some, None, codes}
+use Rattle.std.specs.Prelude.{◌≡◌, ℕ, false, List, [], ◌∷◌, map, Some, None, codes}
 use Rattle.std.specs.List.{flat_map}
-use Rattle.go_text_core.specs.declared.span.Span.{Span}
 use Rattle.go_text_core.specs.declared.rule.Rule.TheVariants.{N6}
 use Rattle.go_universe_core.specs.declared.Predeclared.TheVariants as predeclared
 use Rattle.go_tree_nodes.specs.declared.names.Ident.{Ident}
-use Rattle.go_tree_nodes.specs.declared.types.TypeName.TheVariants as type_name
 use Rattle.go_tree_nodes.specs.declared.decls.ValueKind.TheVariants as kinds
 use Rattle.go_tree_nodes.specs.Trees as tree
-use Rattle.go_tree_nodes.specs.Trees.{One, TypeTree, NamedType, Struct, NoFields, NamedFields, Signed, OneResult, NoParams, Param, Named, ValueSpecTree, Single, Lines, Return, NoLines, Line, FuncTree}
+use Rattle.go_tree_nodes.specs.Trees.{One, TypeTree, Struct, NoFields, NamedFields, Signed, OneResult, NoParams, Param, Named, ValueSpecTree, Single, Lines, Return, NoLines, Line, FuncTree}
+use Rattle.go_tree_nodes.specs.Samples.{at, called, type_at}
 use Rattle.go_body_core.specs.tree_core.declared.occurrence.Role.{Role}
 use Rattle.go_body_core.specs.tree_core.declared.occurrence.Role.TheVariants as roles
 use Rattle.go_term_core.specs.decl_core.declared.places.DeclKind.TheVariants as decl_kind
@@ -34,15 +33,6 @@ use Rattle.go_body_core.specs.Notes.{TheUse}
 use Rattle.go_body_core.specs.Rules.{local_meant}
 use Rattle.go_func_core.specs.Stands.{FileStand}
 use Rattle.go_func_core.specs.Functions.{walked_func, checked_func, func_by}
-
-abbrev at : ℕ → Span
-at n = record { start = n; end = suc n }
-
-abbrev called : List ℕ → ℕ → Ident
-called name n = record { name = name; span = at n }
-
-abbrev type_at : List ℕ → ℕ → TypeTree
-type_at name n = NamedType (type_name.Plain (called name n))
 
 -- the package p declares, in its only file, `type T int`
 abbrev type_decl : DeclRef

@@ -2,9 +2,9 @@
 ghost use Rattle.std.specs.Prelude.{◌≡◌, ◌&&◌, not, true, false, MatchOption, IfOk};
 ghost use Rattle.go_term_core.specs.Shapes.{shape};
 ghost use Rattle.go_decide_core.specs.table_core.Entries.{find_entry, underlying_in};
-ghost use Rattle.go_decide_core.specs.table_core.Assign.{AValue};
+ghost use Rattle.go_decide_core.specs.table_core.Assign.{AValue, is_named};
 ghost use Rattle.go_decide_core.specs.Identity.{identical_of};
-ghost use Rattle.go_decide_core.specs.Assigning.{is_named, is_interface, value_fits, assignable_of};
+ghost use Rattle.go_decide_core.specs.Assigning.{is_interface, value_fits, assignable_of};
 ghost use Rattle.go_decide_core.specs.Implementing.{implements_of};
 
 use crate::conversion::is_type;
@@ -12,28 +12,15 @@ use crate::identity::is_identical;
 use crate::implementing::is_implementing;
 use crate::types::TypeRef;
 use go_decide_core::settle_core::{Kind, kind_of};
-use go_decide_core::table_core::TypeTable;
+use go_decide_core::table_core::{TypeTable, is_named_type};
 use go_term_core::TypeTerm;
 use std::alloc::{AllocError, Global};
-
-// Whether a type as it stands is a name, declared or predeclared.
-fn is_name(term: &TypeTerm) -> bool
-    ensures { result ≡ is_named (shape term.now) }
-{
-    match term {
-        TypeTerm::Basic(_) | TypeTerm::Error | TypeTerm::Defined(_) => true,
-        TypeTerm::NoType
-        | TypeTerm::Pointer(_)
-        | TypeTerm::Struct(_, _, _)
-        | TypeTerm::Interface(_, _) => false,
-    }
-}
 
 // Whether a type is a name, declared or predeclared.
 fn is_named(t: &TypeRef<'_>) -> bool
     ensures { result ≡ is_named t.now }
 {
-    t.stars == 0 && is_name(t.term)
+    t.stars == 0 && is_named_type(t.term)
 }
 
 // An interface type, be it named or not; none where a type is another.

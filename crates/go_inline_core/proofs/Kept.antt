@@ -8,7 +8,7 @@ use Rattle.go_term_core.specs.decl_core.declared.keys.DeclKey.{DeclKey}
 use Rattle.go_embed_core.specs.settle_core.declared.kind.Kind.{Kind}
 use Rattle.go_entry_core.specs.written_core.Written.{InFile, Meaning}
 use Rattle.go_inline_core.specs.Types.{InlineOf, inline_at}
-use Rattle.go_inline_core.specs.Trees.{type_start}
+use Rattle.go_tree_nodes.specs.Starts.{type_start}
 use Rattle.go_inline_core.specs.Inline.{inline_of, inline_with, inlines, AreFoundAlike}
 use Rattle.go_inline_core.specs.mirrors.Gathering.{with_first, kept}
 use Rattle.go_inline_core.proofs.Spread.{AreSpread}

@@ -8,8 +8,10 @@ use Rattle.go_tree_nodes.specs.Terminals.{Terminal}
 use Rattle.go_tree_nodes.specs.Trees as tree
 use Rattle.go_tree_nodes.specs.Trees.{Separated, One, Then, TypeTree, NamedType, Pointer, ParenType, Struct, Interface, SignatureTree, ResultTree, ParamTrees, Signed, NoResult, OneResult, Results, NoParams, Param, ExprTree, ItemTrees, Integer, Text, Named, Paren, Unary, Binary, Select, Call, Literal, StructLiteral, NoItems, Item, ValueSpecTree, Specs, Single, Group, SimpleTree, Alone, Step, Assign, Update, Define, IfTree, ForTree, Forever, While, Clauses, StmtTree, BranchTree, ElseTree, Lines, Empty, Simple, Return, Break, Continue, Block, If, For, Branch, NoElse, ElseBlock, ElseIf, NoLines, Line, FuncTree, DeclTree, Value, Types, Func, TopTree, FileTree}
 use Rattle.go_tree_nodes.specs.Spelling.{spell_idents, spell_some, spell_type_name, spell_names, spell_type, spell_result, spell_params, spell_signature, spell_key, spell, spell_items, spell_exprs, spell_some_type, spell_values, spell_value_spec, spell_specs_of, spell_specs, spell_simple, spell_some_simple, spell_some_expr, spell_some_exprs, spell_init, spell_if, spell_for, spell_stmt, spell_branch, spell_else, spell_lines, spell_receiver, spell_func, spell_decl, spell_tops, spell_imports, spell_file}
+use Rattle.go_tree_nodes.specs.WrittenTypes.{expr_types, items_types, exprs_types, some_expr_types, some_exprs_types, params_types, result_types, signature_types, some_type, values_types, spec_types, specs_types, simple_types}
 use Rattle.go_names_core.specs.block_core.Rising.{Gives, Rises, gives_none, gives_skip, gives_one, gives_both, gives_first, gives_second}
-use Rattle.go_inline_core.specs.Trees.{type_start, expr_types, items_types, exprs_types, some_expr_types, some_exprs_types, params_types, result_types, signature_types, some_type, values_types, spec_types, specs_types, simple_types, some_simple_types, init_types, if_types, for_types, stmt_types, branch_types, else_types, lines_types, func_types, decl_types, file_types}
+use Rattle.go_tree_nodes.specs.Starts.{type_start}
+use Rattle.go_inline_core.specs.Trees.{some_simple_types, init_types, if_types, for_types, stmt_types, branch_types, else_types, lines_types, func_types, decl_types, file_types}
 
 -- nothing is asked of a type but its place
 abbrev pub Any : TypeTree → Type 0

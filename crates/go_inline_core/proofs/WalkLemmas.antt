@@ -19,7 +19,7 @@ use Rattle.go_tree_nodes.specs.TypeShapes.{shape_type, shape_signature, shape_re
 use Rattle.go_tree_nodes.specs.Shapes.{shape, items_of, exprs_from}
 use Rattle.go_tree_nodes.proofs.TypeShapes.{listed_parts, signature_parts}
 use Rattle.go_tree_nodes.proofs.ShapeLemmas.{call_parts, literal_parts, struct_literal_parts}
-use Rattle.go_inline_core.specs.Trees.{expr_types, items_types, exprs_types, params_types, result_types, signature_types}
+use Rattle.go_tree_nodes.specs.WrittenTypes.{expr_types, items_types, exprs_types, params_types, result_types, signature_types}
 
 abbrev pub param_type : declared_param.Param → List TypeTree
 param_type p = shape_type p.type_expr ∷ []

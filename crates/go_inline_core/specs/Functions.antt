@@ -22,7 +22,8 @@ use Rattle.go_inline_core.specs.declared.ground.Ground.{Ground}
 use Rattle.go_inline_core.specs.declared.scoped.Scoped.{Scoped}
 use Rattle.go_inline_core.specs.declared.scoped.Scoped.TheVariants as scoped
 use Rattle.go_inline_core.specs.Types.{InlineOf}
-use Rattle.go_inline_core.specs.Trees.{piece_types, func_types}
+use Rattle.go_inline_core.specs.Trees.{func_types}
+use Rattle.go_names_core.specs.local_core.Pieces.{piece_types}
 use Rattle.go_inline_core.specs.Inline.{inlines}
 
 -- names

@@ -18,7 +18,7 @@ use Rattle.go_names_core.specs.local_core.declared.Fault.{Fault}
 use Rattle.go_names_core.specs.local_core.Faults.{ident_fault}
 use Rattle.go_names_core.specs.local_core.Outline.{signature_idents}
 use Rattle.go_inline_core.specs.Types.{InlineOf, inline_at}
-use Rattle.go_inline_core.specs.Trees.{type_start}
+use Rattle.go_tree_nodes.specs.Starts.{type_start}
 
 -- faults
 

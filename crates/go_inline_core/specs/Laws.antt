@@ -8,7 +8,8 @@ use Rattle.go_embed_core.specs.settle_core.declared.kind.Kind.{Kind}
 use Rattle.go_entry_core.specs.written_core.Written.{InFile, Meaning, member_place}
 use Rattle.go_names_core.specs.local_core.Tables.{IsFuncPlaced}
 use Rattle.go_inline_core.specs.Types.{inline_at}
-use Rattle.go_inline_core.specs.Trees.{type_start, func_types, file_types, outline_types}
+use Rattle.go_tree_nodes.specs.Starts.{type_start}
+use Rattle.go_inline_core.specs.Trees.{func_types, file_types, outline_types}
 use Rattle.go_inline_core.specs.Inline.{inline_of, inlines, member_offset}
 use Rattle.go_tree_nodes.specs.Spelling.{IsPlaced}
 

@@ -6,7 +6,6 @@ ghost use Rattle.go_names_core.specs.Scope.{open_look};
 ghost use Rattle.go_entry_core.specs.written_core.Written.{in_file};
 ghost use Rattle.go_inline_core.specs.Functions.{inlines_in, scoped_outside};
 
-use crate::idents::{header_idents, listed_idents};
 use crate::listing::{
     TypeList, list_expr, list_exprs, list_signature, list_simple, list_some_exprs, list_spec,
 };
@@ -15,7 +14,7 @@ use crate::scoped::{Scoped, ScopedNames};
 use crate::types::Note;
 use go_embed_core::settle_core::Kinds;
 use go_entry_core::written_core::{TypeNames, WrittenIn};
-use go_names_core::{Checker, OpenNames};
+use go_names_core::{Checker, OpenNames, header_idents, listed_idents};
 use go_text_core::Span;
 use go_tree_nodes::{Definition, Expr, Exprs, FuncDecl, Ident, Simple, ValueKind, ValueSpec};
 use std::alloc::{AllocError, Global};

@@ -7,7 +7,6 @@
 mod checker;
 mod function;
 mod ground;
-mod idents;
 mod laws;
 mod listing;
 mod making;
@@ -18,7 +17,6 @@ mod types;
 pub use function::{function_types, initialiser_types};
 pub use ground::Ground;
 pub use laws::{any_table_tells, types_are_found};
-pub use making::type_start;
 pub use repeated::repeated_params;
 pub use scoped::Scoped;
 pub use types::{InlineType, InlineTypes};
@@ -30,7 +28,7 @@ pub mod block_core {
 
 /// What the crates above name of `go_embed_core`.
 pub mod embed_core {
-    pub use go_embed_core::Hits;
+    pub use go_embed_core::{Hits, has_method};
 }
 
 /// What the crates above name of `go_entry_core`.

@@ -3,7 +3,7 @@
 ghost use Rattle.std.specs.Prelude.{◌≡◌, ◌∷◌, [], false};
 ghost use Rattle.go_tree_nodes.specs.Shapes as shapes;
 ghost use Rattle.go_tree_nodes.specs.TypeShapes as type_shapes;
-ghost use Rattle.go_inline_core.specs.Trees as written;
+ghost use Rattle.go_tree_nodes.specs.WrittenTypes as written;
 ghost use Rattle.go_inline_core.specs.mirrors.Listing.{Lists};
 
 use go_tree_nodes::{

@@ -6,7 +6,6 @@ ghost use Rattle.go_embed_core.specs.settle_core.Settled.{settled};
 ghost use Rattle.go_embed_core.specs.Faults.{term_faults};
 ghost use Rattle.go_entry_core.specs.written_core.Written.{in_file};
 ghost use Rattle.go_inline_core.specs.Types.{inline_shown};
-ghost use Rattle.go_inline_core.specs.Trees.{name_start, type_start};
 ghost use Rattle.go_inline_core.specs.Inline as inline;
 
 use crate::listing::TypeList;
@@ -19,31 +18,8 @@ use go_names_core::local_core::Fault;
 use go_term_core::decl_core::Places;
 use go_term_core::{MemberPlace, TypeTerm};
 use go_text_core::add;
-use go_tree_nodes::{TypeExpr, TypeName};
+use go_tree_nodes::{TypeExpr, type_start};
 use std::alloc::{AllocError, Global};
-
-// Where the name of a type begins.
-fn name_start(name: &TypeName) -> usize
-    ensures { result ≡ name_start name.now }
-{
-    match name {
-        TypeName::Plain(ident) => ident.span.start as usize,
-        TypeName::Qualified(qualifier, _, _) => qualifier.span.start as usize,
-    }
-}
-
-/// The offset in bytes of a type's first byte, from the file's start.
-pub fn type_start(tree: &TypeExpr) -> usize
-    ensures { result ≡ type_start (shape_type tree.now) }
-{
-    match tree {
-        TypeExpr::Name(name) => name_start(name),
-        TypeExpr::Pointer(star, _) => star.start as usize,
-        TypeExpr::Paren(first, _, _) => first.start as usize,
-        TypeExpr::Struct(keyword, _, _, _) => keyword.start as usize,
-        TypeExpr::Interface(keyword, _, _, _) => keyword.start as usize,
-    }
-}
 
 // The offset in bytes of a member's identifier.
 fn offset_of(places: &Places, place: MemberPlace) -> usize

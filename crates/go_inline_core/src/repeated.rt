@@ -10,9 +10,9 @@ ghost use Rattle.go_inline_core.specs.Inline as inline;
 ghost use Rattle.go_inline_core.specs.mirrors.Listing.{Breaks};
 ghost use Rattle.go_inline_core.specs.mirrors.Names.{SameNames, names_of, field_repeated};
 
-use crate::idents::signature_idents;
 use go_embed_core::settle_core::SeenNames;
 use go_names_core::local_core::Fault;
+use go_names_core::signature_idents;
 use go_text_core::{Rule, add};
 use go_tree_nodes::{FieldLine, Fields, Ident, MethodLine, Param, Results, Signature, TypeExpr};
 use std::alloc::{AllocError, Global};

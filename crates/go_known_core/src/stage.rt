@@ -12,7 +12,7 @@ ghost use Rattle.go_value_core.specs.Package as package_values;
 
 use go_term_core::decl_core::DeclForm;
 use go_tree_nodes::{ValueKind, ValueSpec};
-use go_value_core::env_core::{Meaning, Scene, stand};
+use go_value_core::env_core::{Meaning, Scene, outer_names, stand};
 use go_value_core::face_core::Face;
 use go_value_core::handle_core::{SignatureRef, TypeRef};
 use go_value_core::names_core::OpenNames;
@@ -37,14 +37,6 @@ fn written_face<'p>(scene: &Scene<'p>, at: usize) -> Face<TypeRef<'p>, Signature
         None => Face::Value(None),
         Some(face) => face,
     }
-}
-
-// The names outside all functions, by the blocks of a file.
-fn outer_names<'s, 'p: 's>(scene: &Scene<'p>, scopes: &'s Scopes<'s>) -> OpenNames<'s, Meaning<'p>>
-    ensures scopes { result.scopes.now ≡ scopes.now }
-    ensures locals { result.locals.now ≡ [] }
-{
-    OpenNames::at_top(scopes)
 }
 
 // What the name of a number of a specification stands for, where names mean what they mean at the top of its file.

@@ -42,7 +42,7 @@ use Rattle.go_laws_core.specs.ConstantLaws.{ConstantsAreOfTheCheck, ImportsAreOt
 use Rattle.go_laws_core.specs.Standing.{looks_among, piece_exprs, pieces_of, stand_in_part}
 use Rattle.go_laws_core.proofs.ConstantCalling.{folded_same, meant_calm}
 use Rattle.go_laws_core.proofs.Clean.{IsCleanFile, is_clean_file}
-use Rattle.go_laws_core.proofs.ConstantLists.{Has, Rising, contained, found_at, has, has_right}
+use Rattle.go_laws_core.proofs.ConstantLists.{HasItem, Rising, contained, found_at, has, has_right}
 use Rattle.go_laws_core.proofs.Names.{are_read, names_read}
 use Rattle.go_laws_core.proofs.Pieces.{expr_breaks, expr_has, file_has, file_none}
 use Rattle.go_laws_core.proofs.Within.{file_rises}
@@ -75,7 +75,7 @@ module _ (fine : ObjectsAreOfFaultless) (one : FunctionsHaveOneTable) (of_locals
         placed : IsFuncPlaced g
         placed = funcs t in_order g func
 
-        g_there : Has (file_funcs t) g
+        g_there : HasItem (file_funcs t) g
         g_there = has (file_funcs t) g func
 
         pub names : AreNamesRead Term Sign Declaration (List ℕ) (looks_among (stand_in_part i c n t) all) (outcome_meaning (code_scene_over (told_to i c) i c) n (locals_meant (types_told (told_to i c)) f.answers.locals))
@@ -85,10 +85,10 @@ module _ (fine : ObjectsAreOfFaultless) (one : FunctionsHaveOneTable) (of_locals
         read = are_read binds of_locals i c well others part n t f file locals_rise g g_there placed all right
 
         module _ (p : Piece) (piece : Contains (pieces_of g) p) (e : ExprTree) (expr : Contains (piece_exprs p) e) where
-          in_file : (u : TheUse) → Contains (uses (looks_among (stand_in_part i c n t) all) places.«Value» e) u → Has f.answers.uses u
+          in_file : (u : TheUse) → Contains (uses (looks_among (stand_in_part i c n t) all) places.«Value» e) u → HasItem f.answers.uses u
           in_file u h =
               let here = expr_has one (stand_in_part i c n t) g placed all right p e u (has (pieces_of g) p piece) (has (piece_exprs p) e expr) (has (uses (looks_among (stand_in_part i c n t) all) places.«Value» e) u h) in
-              subst (λ us. Has us u) (sym file.uses)
+              subst (λ us. HasItem us u) (sym file.uses)
               (has_right (imports_uses (file_specs t) (imports_at (package_seen i c.blocks (seen_by i)) n)) (tops_uses (stand_in_part i c n t) t.decls) u (file_has (decl_uses (stand_in_part i c n t)) t g g_there u here))
 
           pub are_meant : AreMeant (code_names_of i c n f g) (outcome_meaning (code_scene_over (told_to i c) i c) n (locals_meant (types_told (told_to i c)) f.answers.locals)) (uses (looks_among (stand_in_part i c n t) all) places.«Value» e)

@@ -14,7 +14,7 @@ use Rattle.go_snap_core.specs.graph_core.Sources.{SourceModel}
 use Rattle.go_snap_core.specs.graph_core.Workspaces.{PackageModel, IsPackage, IsWorkspace}
 use Rattle.go_snap_core.specs.graph_core.Zips.{numbered_at}
 use Rattle.go_snap_core.specs.ready_core.Packages.{trees_in}
-use Rattle.go_snap_core.specs.used_core.Used.{TheUse}
+use Rattle.go_snap_core.specs.used_core.Used.{FileUse}
 use Rattle.go_snap_core.specs.part_core.Parts.{FileOf, IsFileMadeIn, PartModel}
 use Rattle.go_snap_core.specs.whole_core.Inputs.{AreParts, IsPartOf}
 use Rattle.go_snap_core.specs.whole_core.Lists.{one_at}
@@ -30,7 +30,7 @@ tree_among : (path : List ℕ) (files : List SourceModel) (m : ℕ) (s : SourceM
 tree_among path files m s t assembled at content =
     slice_get-map tree_shown (trees_of files) m ∙ ap (option_map tree_shown) (tree_at files m s t assembled.trees at content)
 
-own_place : (u : TheUse) (o : Occ) → use_place u ≡ occurrence_place o → IsUseOfOccurrence u o
+own_place : (u : FileUse) (o : Occ) → use_place u ≡ occurrence_place o → IsUseOfOccurrence u o
 own_place u o same = record { offset = ap (λ p. p.0) same; role = ap (λ p. p.1) same }
 
 -- an assembled package has a part
@@ -46,7 +46,7 @@ module _ (of_part : PartHasOccurrences) (ps : List PackageModel) (parts : List (
       part_there ps parts number p entry.0 assembled entry.1 (subst (λ m. IsPartOf ps parts m p entry.0) e entry.2)
 
   -- an occurrence has an answer, which is its own
-  answered : (o : Occ) → IsOccurrenceAt ps path name n o → (u : TheUse) × IsAnswerAt ps parts path name n u × IsUseOfOccurrence u o
+  answered : (o : Occ) → IsOccurrenceAt ps path name n o → (u : FileUse) × IsAnswerAt ps parts path name n u × IsUseOfOccurrence u o
   answered o h =
       let found = part_of h.number (path, h.files) h.numbered h.assembled in
       let part = found.0 in
@@ -73,7 +73,7 @@ module _ (of_part : PartHasOccurrences) (ps : List PackageModel) (parts : List (
       )
 
   -- what is answered is an occurrence's
-  occurs : (u : TheUse) → IsAnswerAt ps parts path name n u → (o : Occ) × IsOccurrenceAt ps path name n o
+  occurs : (u : FileUse) → IsAnswerAt ps parts path name n u → (o : Occ) × IsOccurrenceAt ps path name n o
   occurs u h =
       let number = h.in_workspace.number in
       let part = h.of_part in
@@ -103,7 +103,7 @@ module _ (of_part : PartHasOccurrences) (ps : List PackageModel) (parts : List (
       )
 
   -- there is one answer
-  one_answer : (u v : TheUse) → IsAnswerAt ps parts path name n u → IsAnswerAt ps parts path name n v → u ≡ v
+  one_answer : (u v : FileUse) → IsAnswerAt ps parts path name n u → IsAnswerAt ps parts path name n v → u ≡ v
   one_answer u v h k =
       let part : h.of_part ≡ k.of_part = one_part_at ps well parts path h.of_part k.of_part h.in_workspace k.in_workspace in
       let number = k.in_workspace.number in

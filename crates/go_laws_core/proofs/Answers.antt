@@ -39,8 +39,8 @@ use Rattle.go_snap_core.specs.denote_core.declared.things.Argument.TheVariants a
 use Rattle.go_snap_core.specs.denote_core.declared.things.Answer.{Answer}
 use Rattle.go_snap_core.specs.denote_core.Answers.{of_value, value_of_type, package_answer, type_answer, func_answer, value_answer, found_answer}
 use Rattle.go_snap_core.specs.denote_core.Selectors.{usage_place, exported_answer, dot_of, field_answer, method_answer, member_answer, value_selector, selector_answer}
-use Rattle.go_snap_core.specs.denote_core.Arguments.{arguments_of, is_free}
-use Rattle.go_snap_core.specs.denote_core.Calls.{of_results, all_fit, fits_type, func_call, of_conversion, convert_argument, conversion, of_length, length_argument, is_printable, builtin_call, judged_call, of_builtin, free_call, call_answer}
+use Rattle.go_snap_core.specs.denote_core.Arguments.{arguments_of, fits_type, is_free}
+use Rattle.go_snap_core.specs.denote_core.Calls.{of_results, all_fit, func_call, of_conversion, convert_argument, conversion, of_length, length_argument, is_printable, builtin_call, judged_call, of_builtin, free_call, call_answer}
 use Rattle.go_snap_core.specs.literal_core.declared.things.KeyAnswer.{KeyAnswer}
 use Rattle.go_snap_core.specs.literal_core.declared.things.LiteralField.{LiteralField}
 use Rattle.go_snap_core.specs.literal_core.declared.things.NamedField.{NamedField}
@@ -328,7 +328,7 @@ module _ (Inside : List ℕ → Type 0) where
       builtin_in o d builtins.Len (a ∷ []) h = length_in o d a h
       builtin_in o d builtins.Len (a ∷ (b ∷ more)) h = (tt, tt)
       builtin_in o d builtins.Panic [] h = (tt, tt)
-      builtin_in o d builtins.Panic (a ∷ []) h = either IsAnswerIn (fits_type (look_of_place looks o) looks.types.any a) _ _ (h, tt) (tt, tt)
+      builtin_in o d builtins.Panic (a ∷ []) h = either IsAnswerIn (fits_type looks.types looks.types.any a) _ _ (h, tt) (tt, tt)
       builtin_in o d builtins.Panic (a ∷ (b ∷ more)) h = (tt, tt)
       builtin_in o d builtins.Print given h = either IsAnswerIn (list_all (is_printable (look_of_place looks o)) given) _ _ (h, tt) (tt, tt)
 

@@ -11,6 +11,7 @@ use Rattle.go_tree_nodes.specs.declared.decls.ValueKind.{ValueKind}
 use Rattle.go_tree_nodes.specs.declared.decls.ValueKind.TheVariants as value_kinds
 use Rattle.go_tree_nodes.specs.declared.exprs.Key.{Key}
 use Rattle.go_tree_nodes.specs.Trees.{TypeTree, Separated, One, Then, ExprTree, ItemTrees, Integer, Text, Named, Paren, Unary, Binary, Select, Call, Literal, StructLiteral, NoItems, Item, ValueSpecTree, Specs, Single, Group, SimpleTree, Alone, Step, Assign, Update, Define, ForTree, Forever, While, Clauses, StmtTree, Empty, Declare, Simple, Return, Break, Continue, Block, If, For, BranchTree, Branch, NoElse, ElseBlock, ElseIf, Lines, NoLines, Line, FuncTree}
+use Rattle.go_tree_nodes.specs.Counts.{item_count}
 use Rattle.go_snap_core.specs.tree_core.declared.occurrence.Context.{Context}
 use Rattle.go_snap_core.specs.tree_core.declared.occurrence.Context.TheVariants as contexts
 use Rattle.go_snap_core.specs.tree_core.declared.occurrence.Occ.{Occ}
@@ -28,7 +29,7 @@ use Rattle.go_fold_core.specs.fragment_core.declared.names.Meaning.TheVariants a
 use Rattle.go_fold_core.specs.fragment_core.declared.targets.Target.{Target}
 use Rattle.go_fold_core.specs.fragment_core.declared.targets.Target.TheVariants as targets
 use Rattle.go_fold_core.specs.fragment_core.Constants.{folded}
-use Rattle.go_fold_core.specs.fragment_core.Fragment.{expr_gives, means_method, item_count}
+use Rattle.go_fold_core.specs.fragment_core.Fragment.{expr_gives, means_method}
 use Rattle.go_fold_core.specs.fragment_core.Inside.{in_fragment}
 use Rattle.go_fold_core.specs.fragment_core.Names.{Frame, CodeLooks, slot_of, callee_meaning, slot_assigned, declared_slot}
 use Rattle.go_fold_core.specs.fragment_core.Operators.{some_instruction, binary_instruction, step_operator, unary_instruction, update_operator}

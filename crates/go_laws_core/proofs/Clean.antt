@@ -20,7 +20,7 @@ use Rattle.go_snap_core.specs.part_core.Parts.{ContentOf, FileOf, IsFileMadeIn, 
 use Rattle.go_snap_core.specs.emit_core.Emitted.{are_clean, code_scene_over, told_to, whole_object}
 use Rattle.go_snap_core.specs.emit_core.Laws.{HasNoFault, ObjectsAreOfFaultless}
 use Rattle.go_laws_core.specs.Standing.{stand_in_part}
-use Rattle.go_laws_core.proofs.ConstantLists.{Has, contained, has, has_get, has_of_all, left_empty}
+use Rattle.go_laws_core.proofs.ConstantLists.{HasItem, contained, has, has_get, has_of_all, left_empty}
 use Rattle.go_laws_core.proofs.Told.{seen, table, types_are}
 
 -- lists
@@ -61,23 +61,23 @@ judged_same places u = by (is_import u.role && not (list_any (λ place. nat_eq p
     by true h = absurd (let lie : true ≡ false = sym h ∙ unused_false u.outcome in cc)
     by false h = refl
 
-all_judged : (places : List ℕ) (us : List TheUse) → ((u : TheUse) → Has (map (judged_import places) us) u → is_declared u.outcome ≡ true) → map (judged_import places) us ≡ us
+all_judged : (places : List ℕ) (us : List TheUse) → ((u : TheUse) → HasItem (map (judged_import places) us) u → is_declared u.outcome ≡ true) → map (judged_import places) us ≡ us
 all_judged places [] h = refl
 all_judged places (u ∷ us) h = ap₂ ◌∷◌ (judged_same places u (h (judged_import places u) (inl refl))) (all_judged places us (λ v k. h v (inr k)))
 
-none_said : (us : List TheUse) (f : Fault) → ((u : TheUse) → Has us u → is_declared u.outcome ≡ true) → IsSaid us f → ⊥
+none_said : (us : List TheUse) (f : Fault) → ((u : TheUse) → HasItem us u → is_declared u.outcome ≡ true) → IsSaid us f → ⊥
 none_said [] f h s = s
 none_said (u ∷ us) f h (inl s) = (let lie : false ≡ true = sym (ap is_declared s.1) ∙ h u (inl refl) in absurd cc)
 none_said (u ∷ us) f h (inr s) = none_said us f (λ v k. h v (inr k)) s
 
-nothing_in : {A : Type 0} (xs : List A) → ((x : A) → Has xs x → ⊥) → xs ≡ []
+nothing_in : {A : Type 0} (xs : List A) → ((x : A) → HasItem xs x → ⊥) → xs ≡ []
 nothing_in [] h = refl
 nothing_in (x ∷ xs) h = absurd (h x (inl refl))
 
 -- where nothing settles and all occurrences have declarations, there are no faults
-none_settled : (us : List TheUse) (fs settled : List Fault) → ((u : TheUse) → Has us u → is_declared u.outcome ≡ true) → IsSettled Declaration (List ℕ) us fs settled → settled ≡ [] → fs ≡ []
+none_settled : (us : List TheUse) (fs settled : List Fault) → ((u : TheUse) → HasItem us u → is_declared u.outcome ≡ true) → IsSettled Declaration (List ℕ) us fs settled → settled ≡ [] → fs ≡ []
 none_settled us fs settled h s e =
-    nothing_in fs (λ f k. (let there = s.kept f (contained fs f k) (none_said us f h) in let here : Has settled f = has settled f there in let lie : Has [] f = subst (λ l. Has l f) e here in lie))
+    nothing_in fs (λ f k. (let there = s.kept f (contained fs f k) (none_said us f h) in let here : HasItem settled f = has settled f there in let lie : HasItem [] f = subst (λ l. HasItem l f) e here in lie))
 
 -- files
 
@@ -85,7 +85,7 @@ pub record IsCleanFile (i : InputModel) (c : ContentOf) (n : ℕ) (t : FileTree)
   pub uses : f.answers.uses ≡ file_uses (stand_in_part i c n t) (imports_at (package_seen i c.blocks (seen_by i)) n) t
   pub faults : file_faults (stand_in_part i c n t) t ≡ []
   pub locals : f.answers.locals ≡ file_locals (stand_in_part i c n t) t
-  pub declared : (u : TheUse) → Has f.answers.uses u → is_declared u.outcome ≡ true
+  pub declared : (u : TheUse) → HasItem f.answers.uses u → is_declared u.outcome ≡ true
 
 module _ (law : ObjectsAreOfFaultless) (i : InputModel) (c : ContentOf) (well : IsInput i) (part : IsPart i c) (clean : are_clean c.files ≡ true) where
   faultless : All HasNoFault c.files
@@ -95,7 +95,7 @@ module _ (law : ObjectsAreOfFaultless) (i : InputModel) (c : ContentOf) (well : 
     fine : HasNoFault f
     fine = has_of_all HasNoFault c.files f faultless (has_get c.files n f there)
 
-    each_declared : (u : TheUse) → Has f.answers.uses u → is_declared u.outcome ≡ true
+    each_declared : (u : TheUse) → HasItem f.answers.uses u → is_declared u.outcome ≡ true
     each_declared u h = has_of_all (λ (v : TheUse). is_declared v.outcome ≡ true) f.answers.uses u fine.declared h
 
     made : IsFileMadeIn c.blocks part.checked.files n t f
@@ -114,7 +114,7 @@ module _ (law : ObjectsAreOfFaultless) (i : InputModel) (c : ContentOf) (well : 
         (subst (λ es. IsFileChecked (seen i c well part) es part.checked.declared part.is_checked.type_faults part.is_checked.looped (n, t) made.checked) (sym (types_are i c well part)) checked)
 
     uses_same : f.answers.uses ≡ made.checked.uses
-    uses_same = made.made_of.uses ∙ all_judged _ made.checked.uses (λ u h. each_declared u (subst (λ us. Has us u) (sym made.made_of.uses) h))
+    uses_same = made.made_of.uses ∙ all_judged _ made.checked.uses (λ u h. each_declared u (subst (λ us. HasItem us u) (sym made.made_of.uses) h))
 
     checked_faults : made.checked.faults ≡ []
     checked_faults = none_settled f.answers.uses made.checked.faults f.answers.faults each_declared made.made_of.settled fine.unfaulted
@@ -122,7 +122,7 @@ module _ (law : ObjectsAreOfFaultless) (i : InputModel) (c : ContentOf) (well : 
     pub is_clean_file : IsCleanFile i c n t f
     is_clean_file = record {
       uses = uses_same ∙ here.uses;
-      faults = left_empty _ _ (none_settled made.checked.uses _ made.checked.faults (λ u h. each_declared u (subst (λ us. Has us u) (sym uses_same) h)) here.settled checked_faults);
+      faults = left_empty _ _ (none_settled made.checked.uses _ made.checked.faults (λ u h. each_declared u (subst (λ us. HasItem us u) (sym uses_same) h)) here.settled checked_faults);
       locals = made.made_of.locals ∙ here.locals;
       declared = each_declared;
     }

@@ -10,12 +10,12 @@ use Rattle.go_fold_core.specs.fragment_core.declared.names.Meaning.TheVariants a
 use Rattle.go_snap_core.specs.meaning_core.Words.{sign_gives}
 use Rattle.go_snap_core.specs.meaning_core.Scenes.{method_at, method_spotted, methods_spotted}
 use Rattle.go_snap_core.specs.lookup_core.Places.{DeclSpotModel, Spotted, spotted_meaning, same_spot, decl_spot}
-use Rattle.go_laws_core.proofs.ConstantLists.{Has, from_flat}
+use Rattle.go_laws_core.proofs.ConstantLists.{HasItem, from_flat}
 
 -- what is found at a place stands in the list
 record IsFoundAt (xs : Spotted) (s : DeclSpotModel) (m : Meaning) : Type 0 where
   pub item : DeclSpotModel × Meaning
-  pub there : Has xs item
+  pub there : HasItem xs item
   pub at : same_spot s item.0 ≡ true
   pub is : item.1 ≡ m
 
@@ -32,14 +32,14 @@ pub record IsMethodAt (es ds : List Entry) (s : DeclSpotModel) (m : Meaning) : T
   pub entry : Entry
   pub member : Member
   pub decl : DeclRef
-  pub there : Has ds entry
-  pub here : Has entry.methods member
+  pub there : HasItem ds entry
+  pub here : HasItem entry.methods member
   pub place : member.place ≡ places.Declared decl
   pub at : same_spot s (decl_spot entry.key.path decl) ≡ true
   pub is : m ≡ meanings.Method (sign_gives es member.sign)
 
 module _ (es ds : List Entry) (s : DeclSpotModel) (m : Meaning) (x : DeclSpotModel × Meaning) (at : same_spot s x.0 ≡ true) (is : x.1 ≡ m) where
-  by_place : (e : Entry) (k : Member) (p : MemberPlace) → k.place ≡ p → Has ds e → Has e.methods k → Has (method_at es e.key.path k p) x → IsMethodAt es ds s m
+  by_place : (e : Entry) (k : Member) (p : MemberPlace) → k.place ≡ p → HasItem ds e → HasItem e.methods k → HasItem (method_at es e.key.path k p) x → IsMethodAt es ds s m
   by_place e k (places.Declared d) same there here (inl q) = record {
     entry = e;
     member = k;

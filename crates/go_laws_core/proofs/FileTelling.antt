@@ -17,7 +17,7 @@ use Rattle.go_snap_core.specs.graph_core.Workspaces.{PackageModel}
 use Rattle.go_snap_core.specs.block_core.declared.imports.Imported.{Imported}
 use Rattle.go_snap_core.specs.block_core.Naming.{AreInFile}
 use Rattle.go_snap_core.specs.block_core.Growing.{package_weaker}
-use Rattle.go_snap_core.specs.used_core.Used.{TheUse}
+use Rattle.go_snap_core.specs.used_core.Used.{FileUse}
 use Rattle.go_snap_core.specs.summary_core.Summaries.{SummaryModel}
 use Rattle.go_snap_core.specs.part_core.Inputs.{InputModel, input_with}
 use Rattle.go_snap_core.specs.part_core.Parts.{FileOf, IsFileMadeIn, IsPart, PartModel}
@@ -28,7 +28,7 @@ use Rattle.go_snap_core.specs.mirrors.Reports.{part_faults}
 use Rattle.go_snap_core.proofs.OneFaults.{one_faults}
 use Rattle.govisd_core.specs.Alone.{StandsInFile, ImportIsRefused, file_alone, package_alone, the_name, the_path, workspace_alone}
 use Rattle.govisd_core.specs.Reports.{Input, TooLong, NoText, BadToken, NoTree, TooHigh, NoName, AFile, IsFile, IsInputOfBytes, OneInput}
-use Rattle.go_laws_core.specs.FileLaws.{Has, HasFound, HasNoPart, IsFileOf, SnapshotsHaveWhatIsTold, fault_at, without_tree}
+use Rattle.go_laws_core.specs.FileLaws.{HasWhatIsTold, HasFound, HasNoPart, IsFileOf, SnapshotsHaveWhatIsTold, rule_fault, without_tree}
 use Rattle.go_laws_core.proofs.Refusing.{faults_of_part, is_assembled, name_wanted, one_entry, one_report, tree_wanted}
 use Rattle.go_laws_core.proofs.FileStanding.{comes_refused, only_zero, told_none}
 
@@ -70,7 +70,7 @@ module _ (one : OneInput) where
   one_found bytes f x y file named h k = (let same : AFile f x ≡ AFile f y = one bytes (AFile f x) (AFile f y) (file, named, h) (file, named, k) in ap (found_in x) same)
 
   module _ (bytes : List ℕ) (f : FileTree) (part : PartModel) (parts : List (Option PartModel)) (found : FileOf) (parts_are : parts ≡ Some part ∷ []) (own : part.input.source ≡ package_alone (file_alone bytes f)) (files : part.content.files ≡ found ∷ []) where
-    answer_to : (n : ℕ) (u : TheUse) → IsAnswerAt (workspace_alone (file_alone bytes f)) parts the_path the_name n u → slice_get found.answers.uses n ≡ Some u
+    answer_to : (n : ℕ) (u : FileUse) → IsAnswerAt (workspace_alone (file_alone bytes f)) parts the_path the_name n u → slice_get found.answers.uses n ≡ Some u
     answer_to n u a =
         let first : a.in_workspace.number ≡ 0 = only_zero (package_alone (file_alone bytes f)) (the_path, a.in_workspace.files) a.in_workspace.number a.in_workspace.numbered in
         let there : Some (Some part) ≡ Some (Some a.of_part) = sym (ap (λ l. slice_get l 0) parts_are) ∙ subst (λ m. slice_get parts m ≡ Some (Some a.of_part)) first a.in_workspace.there in
@@ -80,7 +80,7 @@ module _ (one : OneInput) where
         let item : found ≡ a.file = same_Some found a.file (subst (λ m. slice_get (found ∷ []) m ≡ Some a.file) at here) in
         ap (λ (x : FileOf). slice_get x.answers.uses n) item ∙ a.answer
 
-    to_answer : (n : ℕ) (u : TheUse) → slice_get found.answers.uses n ≡ Some u → IsAnswerAt (workspace_alone (file_alone bytes f)) parts the_path the_name n u
+    to_answer : (n : ℕ) (u : FileUse) → slice_get found.answers.uses n ≡ Some u → IsAnswerAt (workspace_alone (file_alone bytes f)) parts the_path the_name n u
     to_answer n u e = record {
       of_part = part;
       in_workspace = record { number = 0; files = file_alone bytes f ∷ []; numbered = refl; there = ap (λ l. slice_get l 0) parts_are };
@@ -123,7 +123,7 @@ module _ (one : OneInput) where
     no_fault bytes f e file (inr t) = elim t.why [ inl p ↦ p.1 f file.parse.found | inr q ↦ q.1 f file.parse.found file.parse.low ]
 
     told : (bytes : List ℕ) (c : Result FileTree SynFault) (input : Input) (parts : List (Option PartModel)) (faults : List PlacedFault)
-        → IsInputOfBytes bytes input → IsContent bytes c → IsSnapshot (workspace_alone (source the_name bytes c)) parts faults → Has (source the_name bytes c) parts faults input
+        → IsInputOfBytes bytes input → IsContent bytes c → IsSnapshot (workspace_alone (source the_name bytes c)) parts faults → HasWhatIsTold (source the_name bytes c) parts faults input
     told bytes c TooLong parts faults i r h = tt
     told bytes c NoText parts faults i r h = tt
     told bytes (Ok g) (BadToken fault) parts faults i r h = absurd (not_both bytes r.found.tokens fault r.found.scanned i.1)
@@ -143,7 +143,7 @@ module _ (one : OneInput) where
     ]
     told bytes (Ok g) (NoName f) parts faults i r h =
         let same : g ≡ f = tree bytes g f r.found i.0.parse.found in
-        subst (λ (x : FileTree). HasNoPart parts faults (fault_at x.name.span.start K3 ∷ [])) same (name_wanted bytes g parts faults r (subst (λ (x : FileTree). x.name.name ≡ blank) (sym same) i.1) h)
+        subst (λ (x : FileTree). HasNoPart parts faults (rule_fault x.name.span.start K3 ∷ [])) same (name_wanted bytes g parts faults r (subst (λ (x : FileTree). x.name.name ≡ blank) (sym same) i.1) h)
     told bytes (Err e) (NoName f) parts faults i r h = absurd (no_fault bytes f e i.0 r.0)
     told bytes (Ok g) (AFile f found) parts faults i r h =
         let same : f ≡ g = tree bytes f g i.0.parse.found r.found in
@@ -158,4 +158,4 @@ module _ (one : OneInput) where
     snapshots_have bytes input s parts faults i file h =
         let same = source_is s bytes file in
         let read : IsContent bytes s.content = subst (λ t. IsContent t s.content) file.text file.read in
-        subst (λ (x : SourceModel). Has x parts faults input) (sym same) (told bytes s.content input parts faults i read (subst (λ (x : SourceModel). IsSnapshot (workspace_alone x) parts faults) same h))
+        subst (λ (x : SourceModel). HasWhatIsTold x parts faults input) (sym same) (told bytes s.content input parts faults i read (subst (λ (x : SourceModel). IsSnapshot (workspace_alone x) parts faults) same h))

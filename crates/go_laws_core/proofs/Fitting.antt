@@ -24,10 +24,10 @@ use Rattle.go_snap_core.specs.whole_core.PartsWhole.{all_right}
 use Rattle.go_snap_core.specs.whole_core.Theirs.{imports_lead, passes}
 use Rattle.go_snap_core.specs.emit_core.Imports.{all_passing, imported_paths}
 use Rattle.go_laws_core.specs.ConstantLaws.{ImportsAreOthers, PartsAreFit}
-use Rattle.go_laws_core.proofs.ConstantLists.{Has, contained, from_flat, has, has_of_all}
+use Rattle.go_laws_core.proofs.ConstantLists.{HasItem, contained, from_flat, has, has_of_all}
 
 -- an import that comes to a package, among all that do
-passed : (of_file : List Imported) (e : Imported) (path : List ℕ) → Has of_file e → Has (imported_paths e) path → (shown : ExportsModel) × Contains of_file (imported.«Package» shown) × (path ≡ shown.path)
+passed : (of_file : List Imported) (e : Imported) (path : List ℕ) → HasItem of_file e → HasItem (imported_paths e) path → (shown : ExportsModel) × Contains of_file (imported.«Package» shown) × (path ≡ shown.path)
 passed of_file (imported.«Package» shown) path there (inl e) = (shown, contained of_file (imported.«Package» shown) there, sym e)
 passed of_file (imported.«Package» shown) path there (inr h) = absurd h
 passed of_file (imported.Refused rule) path there h = absurd h

@@ -35,7 +35,8 @@ use Rattle.go_snap_core.specs.env_core.declared.meaning.Meaning.TheVariants as m
 use Rattle.go_snap_core.specs.env_core.Found.{found_exported, found_of, found_outside}
 use Rattle.go_snap_core.specs.env_core.Fields.{fields_seen, owner_seen, term_seen}
 use Rattle.go_snap_core.specs.piece_core.Headers.{returned_names, returned_types}
-use Rattle.go_snap_core.specs.piece_core.Pieces.{piece_names, piece_values}
+use Rattle.go_snap_core.specs.piece_core.Pieces.{piece_values}
+use Rattle.go_snap_core.specs.local_core.Pieces.{piece_declares}
 use Rattle.go_snap_core.specs.piece_core.Specifications.{spec_uses}
 use Rattle.go_snap_core.specs.expr_core.TypeUses.{type_uses}
 use Rattle.go_snap_core.specs.body_core.Notes.{NoteOf, TheLocal, all_locals, all_uses}
@@ -255,8 +256,8 @@ module _ (Inside : List ℕ → Type 0) where
       notes = λ look firsts p sees. (
         (
           piece_in Inside Near Rest (looks_where st look) (closed look sees) (kept look sees) p,
-          among_in firsts (each_means (local_at p (piece_values (looks_where st look) firsts p)) 0 (piece_names p))
-              (each_meant (local_at p (piece_values (looks_where st look) firsts p)) (λ n. value_in (piece_values (looks_where st look) firsts p) n (values_in look sees firsts p)) 0 (piece_names p)),
+          among_in firsts (each_means (local_at p (piece_values (looks_where st look) firsts p)) 0 (piece_declares p))
+              (each_meant (local_at p (piece_values (looks_where st look) firsts p)) (λ n. value_in (piece_values (looks_where st look) firsts p) n (values_in look sees firsts p)) 0 (piece_declares p)),
         ),
         tt,
       );

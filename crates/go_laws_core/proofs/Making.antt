@@ -21,7 +21,7 @@ use Rattle.go_snap_core.specs.Snapshots.{IsSnapshot, contents_of}
 use Rattle.go_snap_core.specs.mirrors.Reports.{part_faults}
 use Rattle.govisd_core.specs.Alone.{StandsInFile, ImportIsRefused, file_alone, package_alone, the_name, workspace_alone}
 use Rattle.govisd_core.specs.Reports.{Input, TooLong, NoText, BadToken, NoTree, TooHigh, NoName, AFile, IsFile, IsInputOfBytes, is_input_clean, has_no_items}
-use Rattle.go_laws_core.specs.FileLaws.{CleanIsFaultless, Has, IsFileOf, SnapshotsHaveWhatIsTold, TextsHaveSnapshots, fault_at, in_file, without_tree}
+use Rattle.go_laws_core.specs.FileLaws.{CleanIsFaultless, HasWhatIsTold, IsFileOf, SnapshotsHaveWhatIsTold, TextsHaveSnapshots, rule_fault, in_lone_file, without_tree}
 use Rattle.go_laws_core.proofs.Refusing.{faults_of_part, is_assembled, name_none, tree_none}
 use Rattle.go_laws_core.proofs.FileStanding.{is_workspace, none_told, refused_comes}
 
@@ -39,7 +39,7 @@ module _ (whole : PartsAreWhole) where
       (parts, (faults, record { made = all; whole = w.0; is_whole = w.1; parts_are = w.2; faults_are = are }))
 
   tree_made : (bytes : List ℕ) (e : SynFault) → IsContent bytes (Err e) → HasSnapshot (source the_name bytes (Err e))
-  tree_made bytes e read = (let t = tree_none bytes e read in made bytes (Err e) (None ∷ []) (map in_file (without_tree e.offset e.rule)) read t.0 t.1)
+  tree_made bytes e read = (let t = tree_none bytes e read in made bytes (Err e) (None ∷ []) (map in_lone_file (without_tree e.offset e.rule)) read t.0 t.1)
 
   -- the part of the package, by what is found in its file
   found_made : (bytes : List ℕ) (f : FileTree) (found : FileOf) → IsFile bytes f → f.name.name ≢ blank → StandsInFile bytes f found → HasSnapshot (file_alone bytes f)
@@ -76,26 +76,26 @@ module _ (whole : PartsAreWhole) where
       (source the_name bytes (Err e), of_file bytes (Err e) read, tree_made bytes e read)
   texts_have bytes (NoName f) text i =
       let t = name_none bytes f i.0.parse i.1 in
-      (source the_name bytes (Ok f), of_file bytes (Ok f) i.0.parse, made bytes (Ok f) (None ∷ []) (map in_file (fault_at f.name.span.start K3 ∷ [])) i.0.parse t.0 t.1)
+      (source the_name bytes (Ok f), of_file bytes (Ok f) i.0.parse, made bytes (Ok f) (None ∷ []) (map in_lone_file (rule_fault f.name.span.start K3 ∷ [])) i.0.parse t.0 t.1)
   texts_have bytes (AFile f found) text i = (source the_name bytes (Ok f), of_file bytes (Ok f) i.0.parse, found_made bytes f found i.0 i.1 i.2)
 
 -- clean reports
 
-nothing_there : (x : Fault) (xs : List Fault) (faults : List PlacedFault) → faults ≡ map in_file (x ∷ xs) → (false ≡ true) ↔ (faults ≡ [])
-nothing_there x xs faults is = ((λ e. absurd (true≢false (sym e))), (λ e. absurd (let no : map in_file (x ∷ xs) ≡ [] = sym is ∙ e in cc)))
+nothing_there : (x : Fault) (xs : List Fault) (faults : List PlacedFault) → faults ≡ map in_lone_file (x ∷ xs) → (false ≡ true) ↔ (faults ≡ [])
+nothing_there x xs faults is = ((λ e. absurd (true≢false (sym e))), (λ e. absurd (let no : map in_lone_file (x ∷ xs) ≡ [] = sym is ∙ e in cc)))
 
-empty_there : (xs : List Fault) (faults : List PlacedFault) → faults ≡ map in_file xs → (has_no_items xs ≡ true) ↔ (faults ≡ [])
+empty_there : (xs : List Fault) (faults : List PlacedFault) → faults ≡ map in_lone_file xs → (has_no_items xs ≡ true) ↔ (faults ≡ [])
 empty_there [] faults is = ((λ e. is), (λ e. refl))
 empty_there (x ∷ xs) faults is = nothing_there x xs faults is
 
 pub clean_is_faultless : SnapshotsHaveWhatIsTold → CleanIsFaultless
 clean_is_faultless have bytes input s parts faults text i file h = by input i (have bytes input s parts faults i file h)
   where
-    by : (x : Input) → IsInputOfBytes bytes x → Has s parts faults x → (is_input_clean x ≡ true) ↔ (faults ≡ [])
+    by : (x : Input) → IsInputOfBytes bytes x → HasWhatIsTold s parts faults x → (is_input_clean x ≡ true) ↔ (faults ≡ [])
     by TooLong j k = absurd (let many = text.size in omega (arith, many, j))
     by NoText j k = absurd (j.1 text.utf8)
-    by (BadToken fault) j k = nothing_there (fault_at 0 K4) (fault_at fault.offset fault.rule ∷ []) faults k.faults_are
-    by (NoTree offset) j k = nothing_there (fault_at 0 K4) (fault_at k.0 P1 ∷ []) faults k.2.faults_are
-    by (TooHigh offset) j k = nothing_there (fault_at 0 K4) (fault_at k.0 P2 ∷ []) faults k.2.faults_are
-    by (NoName f) j k = nothing_there (fault_at f.name.span.start K3) [] faults k.faults_are
+    by (BadToken fault) j k = nothing_there (rule_fault 0 K4) (rule_fault fault.offset fault.rule ∷ []) faults k.faults_are
+    by (NoTree offset) j k = nothing_there (rule_fault 0 K4) (rule_fault k.0 P1 ∷ []) faults k.2.faults_are
+    by (TooHigh offset) j k = nothing_there (rule_fault 0 K4) (rule_fault k.0 P2 ∷ []) faults k.2.faults_are
+    by (NoName f) j k = nothing_there (rule_fault f.name.span.start K3) [] faults k.faults_are
     by (AFile f found) j k = empty_there found.report faults k.faults_are

@@ -58,7 +58,7 @@ use Rattle.go_laws_core.specs.ConstantLaws.{ImportsAreOthers}
 use Rattle.go_laws_core.specs.Standing.{looks_among, stand_in_part}
 use Rattle.go_laws_core.proofs.ConstantCalling.{exported_calm, found_calm, selected_calm}
 use Rattle.go_laws_core.proofs.Clean.{IsCleanFile}
-use Rattle.go_laws_core.proofs.ConstantLists.{Has, Rising, contained, found_at, has, has_flat}
+use Rattle.go_laws_core.proofs.ConstantLists.{HasItem, Rising, contained, found_at, has, has_flat}
 use Rattle.go_laws_core.proofs.ConstantMethods.{method_found}
 use Rattle.go_laws_core.proofs.Own.{same_text}
 use Rattle.go_laws_core.proofs.Pieces.{file_has}
@@ -67,7 +67,7 @@ use Rattle.go_laws_core.proofs.Told.{decl_other, decl_own, none_own}
 
 module _ (binds : ImportsBindTheirs) (of_locals : LocalsAreDeclarations) (i : InputModel) (c : ContentOf) (well : IsInput i) (others : ImportsAreOthers i) (part : IsPart i c) where
   module _ (n : ℕ) (t : FileTree) (f : FileOf) (clean : IsCleanFile i c n t f) (rises : Rising (λ (l : TheLocal). l.offset) (λ (l : TheLocal). local_meaning (types_told (told_to i c)) l.offset l.value) f.answers.locals) where
-    module _ (g : FuncTree) (there : Has (file_funcs t) g) (placed : IsFuncPlaced g) (all : List (Local NameMeaning)) (right : AreFuncDeclarations (stand_in_part i c n t) g all) where
+    module _ (g : FuncTree) (there : HasItem (file_funcs t) g) (placed : IsFuncPlaced g) (all : List (Local NameMeaning)) (right : AreFuncDeclarations (stand_in_part i c n t) g all) where
       abbrev es : List Entry
       es = types_told (told_to i c)
 
@@ -107,7 +107,7 @@ module _ (binds : ImportsBindTheirs) (of_locals : LocalsAreDeclarations) (i : In
 
       imported_apart : (q : List ℕ) → IsImportedPath i.imports q → q ≡ own → ⊥
       imported_apart q h e =
-          others (contained (all_passing i.imports) own (subst (Has (all_passing i.imports)) e
+          others (contained (all_passing i.imports) own (subst (HasItem (all_passing i.imports)) e
           (has_flat (λ is. flat_map imported_paths is) i.imports h.of_file q (has i.imports h.of_file h.file)
           (has_flat imported_paths h.of_file (imported.«Package» h.shown) q (has h.of_file (imported.«Package» h.shown) h.there) (inl (sym h.is))))))
 
@@ -130,17 +130,17 @@ module _ (binds : ImportsBindTheirs) (of_locals : LocalsAreDeclarations) (i : In
 
       -- locals
 
-      local_is : (at : ℕ) (value : TheValue) → Has f.answers.locals (record { offset = at; value = value }) → mean (outcomes.Declared (InFile own (places.Local (record { file = n; offset = at })))) ≡ local_meaning es at value
+      local_is : (at : ℕ) (value : TheValue) → HasItem f.answers.locals (record { offset = at; value = value }) → mean (outcomes.Declared (InFile own (places.Local (record { file = n; offset = at })))) ≡ local_meaning es at value
       local_is at value h =
           let locals = locals_meant es f.answers.locals in
           ap (λ (b : Bool). if b && nat_eq n n then meaning_or_other (lookup (nat_eq at) locals) else meanings.Other) (same_text own own refl)
           ∙ (ap (λ (b : Bool). if b then meaning_or_other (lookup (nat_eq at) locals) else meanings.Other) (eq-eqb n n refl)
           ∙ ap meaning_or_other (found_at (λ (l : TheLocal). l.offset) (λ (l : TheLocal). local_meaning es l.offset l.value) f.answers.locals (record { offset = at; value = value }) rises h))
 
-      local_there : (name : List ℕ) (place at : ℕ) (value : TheValue) → bound (outer_meanings st) all name place ≡ Some (means.Local at value) → Has f.answers.locals (record { offset = at; value = value })
+      local_there : (name : List ℕ) (place at : ℕ) (value : TheValue) → bound (outer_meanings st) all name place ≡ Some (means.Local at value) → HasItem f.answers.locals (record { offset = at; value = value })
       local_there name place at value e =
           let l : TheLocal = record { offset = at; value = value } in
-          subst (λ (ls : List TheLocal). Has ls l) (sym clean.locals)
+          subst (λ (ls : List TheLocal). HasItem ls l) (sym clean.locals)
           (file_has (decl_locals st) t g there l (has (checked_func st g).locals l (of_locals.denoted st g placed all right name place at value e)))
 
       found_read : (name : List ℕ) (place : ℕ) (m : Option NameMeaning) → bound (outer_meanings st) all name place ≡ m → IsFoundMeant looks mean (found_of st.scene n c.declared name m)

@@ -30,7 +30,7 @@ use Rattle.go_snap_core.specs.func_core.Stands.{FileStand, outer_looks, outer_me
 use Rattle.go_snap_core.specs.file_core.Stands.{decl_funcs, file_funcs}
 use Rattle.go_snap_core.specs.value_core.Initial.{exprs}
 use Rattle.go_laws_core.specs.Standing.{looks_among, piece_exprs, pieces_in, pieces_of, target_listed, targets_listed, values_listed}
-use Rattle.go_laws_core.proofs.ConstantLists.{Has, InOne, from_flat, has_either, has_flat, has_left, has_right, left_empty, none_in, right_empty}
+use Rattle.go_laws_core.proofs.ConstantLists.{HasItem, InOne, from_flat, has_either, has_flat, has_left, has_right, left_empty, none_in, right_empty}
 
 module _ (looks : TheLooks) where
   abbrev Uses : ExprTree → List TheUse
@@ -41,13 +41,13 @@ module _ (looks : TheLooks) where
 
   -- lists
 
-  listed_uses : (es : Separated ExprTree) (e : ExprTree) (u : TheUse) → Has (exprs es) e → Has (Uses e) u → Has (exprs_uses looks es) u
-  listed_uses (One x) e u (inl s) k = subst (λ y. Has (Uses y) u) (sym s) k
+  listed_uses : (es : Separated ExprTree) (e : ExprTree) (u : TheUse) → HasItem (exprs es) e → HasItem (Uses e) u → HasItem (exprs_uses looks es) u
+  listed_uses (One x) e u (inl s) k = subst (λ y. HasItem (Uses y) u) (sym s) k
   listed_uses (One x) e u (inr h) k = absurd h
-  listed_uses (Then x comma more) e u (inl s) k = has_left (Uses x) (exprs_uses looks more) u (subst (λ y. Has (Uses y) u) (sym s) k)
+  listed_uses (Then x comma more) e u (inl s) k = has_left (Uses x) (exprs_uses looks more) u (subst (λ y. HasItem (Uses y) u) (sym s) k)
   listed_uses (Then x comma more) e u (inr h) k = has_right (Uses x) (exprs_uses looks more) u (listed_uses more e u h k)
 
-  listed_faults : (b : Bool) (es : Separated ExprTree) (e : ExprTree) → Has (exprs es) e → exprs_faults looks b es ≡ [] → Breaks e ≡ []
+  listed_faults : (b : Bool) (es : Separated ExprTree) (e : ExprTree) → HasItem (exprs es) e → exprs_faults looks b es ≡ [] → Breaks e ≡ []
   listed_faults b (One x) e (inl s) k = subst (λ y. Breaks y ≡ []) s (left_empty (Breaks x) _ k)
   listed_faults b (One x) e (inr h) k = absurd h
   listed_faults b (Then x comma more) e (inl s) k = subst (λ y. Breaks y ≡ []) s (left_empty (Breaks x) _ (left_empty _ (exprs_faults looks b more) k))
@@ -55,24 +55,24 @@ module _ (looks : TheLooks) where
 
   -- what stands left of `=`
 
-  target_has : (b : Bool) (x e : ExprTree) (u : TheUse) → Has (if b then [] else x ∷ []) e → Has (Uses e) u → Has (if b then [] else Uses x) u
+  target_has : (b : Bool) (x e : ExprTree) (u : TheUse) → HasItem (if b then [] else x ∷ []) e → HasItem (Uses e) u → HasItem (if b then [] else Uses x) u
   target_has true x e u h k = absurd h
-  target_has false x e u (inl s) k = subst (λ y. Has (Uses y) u) (sym s) k
+  target_has false x e u (inl s) k = subst (λ y. HasItem (Uses y) u) (sym s) k
   target_has false x e u (inr h) k = absurd h
 
-  target_breaks : (b : Bool) (x e : ExprTree) (fs : List Fault) → Has (if b then [] else x ∷ []) e → (if b then [] else Breaks x ++ fs) ≡ [] → Breaks e ≡ []
+  target_breaks : (b : Bool) (x e : ExprTree) (fs : List Fault) → HasItem (if b then [] else x ∷ []) e → (if b then [] else Breaks x ++ fs) ≡ [] → Breaks e ≡ []
   target_breaks true x e fs h k = absurd h
   target_breaks false x e fs (inl s) k = subst (λ y. Breaks y ≡ []) s (left_empty (Breaks x) fs k)
   target_breaks false x e fs (inr h) k = absurd h
 
-  targets_has : (ts : Separated ExprTree) (e : ExprTree) (u : TheUse) → Has (targets_listed ts) e → Has (Uses e) u → Has (targets_uses looks ts) u
+  targets_has : (ts : Separated ExprTree) (e : ExprTree) (u : TheUse) → HasItem (targets_listed ts) e → HasItem (Uses e) u → HasItem (targets_uses looks ts) u
   targets_has (One x) e u h k = target_has (is_blank_target x) x e u h k
   targets_has (Then x comma more) e u h k = elim (has_either (target_listed x) (targets_listed more) e h) [
     | inl here ↦ has_left (target_uses looks x) (targets_uses looks more) u (target_has (is_blank_target x) x e u here k)
     | inr later ↦ has_right (target_uses looks x) (targets_uses looks more) u (targets_has more e u later k)
   ]
 
-  targets_break : (b : Bool) (ts : Separated ExprTree) (e : ExprTree) → Has (targets_listed ts) e → targets_faults looks b ts ≡ [] → Breaks e ≡ []
+  targets_break : (b : Bool) (ts : Separated ExprTree) (e : ExprTree) → HasItem (targets_listed ts) e → targets_faults looks b ts ≡ [] → Breaks e ≡ []
   targets_break b (One x) e h k = target_breaks (is_blank_target x) x e _ h k
   targets_break b (Then x comma more) e h k = elim (has_either (target_listed x) (targets_listed more) e h) [
     | inl here ↦ target_breaks (is_blank_target x) x e _ here (left_empty (target_faults looks b x) (targets_faults looks b more) k)
@@ -81,23 +81,23 @@ module _ (looks : TheLooks) where
 
   -- pieces
 
-  one_has : (x e : ExprTree) (u : TheUse) → Has (x ∷ []) e → Has (Uses e) u → Has (Uses x) u
-  one_has x e u (inl s) k = subst (λ y. Has (Uses y) u) (sym s) k
+  one_has : (x e : ExprTree) (u : TheUse) → HasItem (x ∷ []) e → HasItem (Uses e) u → HasItem (Uses x) u
+  one_has x e u (inl s) k = subst (λ y. HasItem (Uses y) u) (sym s) k
   one_has x e u (inr h) k = absurd h
 
-  one_breaks : (x e : ExprTree) → Has (x ∷ []) e → Breaks x ≡ [] → Breaks e ≡ []
+  one_breaks : (x e : ExprTree) → HasItem (x ∷ []) e → Breaks x ≡ [] → Breaks e ≡ []
   one_breaks x e (inl s) k = subst (λ y. Breaks y ≡ []) s k
   one_breaks x e (inr h) k = absurd h
 
-  values_has : (v : Option (Span × Separated ExprTree)) (e : ExprTree) (u : TheUse) → Has (values_listed v) e → Has (Uses e) u → Has (values_uses looks v) u
+  values_has : (v : Option (Span × Separated ExprTree)) (e : ExprTree) (u : TheUse) → HasItem (values_listed v) e → HasItem (Uses e) u → HasItem (values_uses looks v) u
   values_has None e u h k = absurd h
   values_has (Some v) e u h k = listed_uses v.1 e u h k
 
-  values_break : (v : Option (Span × Separated ExprTree)) (e : ExprTree) → Has (values_listed v) e → values_faults looks v ≡ [] → Breaks e ≡ []
+  values_break : (v : Option (Span × Separated ExprTree)) (e : ExprTree) → HasItem (values_listed v) e → values_faults looks v ≡ [] → Breaks e ≡ []
   values_break None e h k = absurd h
   values_break (Some v) e h k = listed_faults (is_list v.1) v.1 e h k
 
-  pub piece_has : (p : Piece) (e : ExprTree) (u : TheUse) → Has (piece_exprs p) e → Has (Uses e) u → Has (piece_uses looks p) u
+  pub piece_has : (p : Piece) (e : ExprTree) (u : TheUse) → HasItem (piece_exprs p) e → HasItem (Uses e) u → HasItem (piece_uses looks p) u
   piece_has (Header r s) e u h k = absurd h
   piece_has (Spec kind v) e u h k = has_right _ (values_uses looks v.values) u (values_has v.values e u h k)
   piece_has (Act (Alone x)) e u h k = one_has x e u h k
@@ -106,14 +106,14 @@ module _ (looks : TheLooks) where
     | inl here ↦ has_left (targets_uses looks ts) (exprs_uses looks es) u (targets_has ts e u here k)
     | inr later ↦ has_right (targets_uses looks ts) (exprs_uses looks es) u (listed_uses es e u later k)
   ]
-  piece_has (Act (Update x op span v)) e u (inl s) k = has_left (Uses x) (Uses v) u (subst (λ y. Has (Uses y) u) (sym s) k)
+  piece_has (Act (Update x op span v)) e u (inl s) k = has_left (Uses x) (Uses v) u (subst (λ y. HasItem (Uses y) u) (sym s) k)
   piece_has (Act (Update x op span v)) e u (inr h) k = has_right (Uses x) (Uses v) u (one_has v e u h k)
   piece_has (Act (Define xs span es)) e u h k = listed_uses es e u h k
   piece_has (Condition x) e u h k = one_has x e u h k
   piece_has (Given place None) e u h k = absurd h
   piece_has (Given place (Some es)) e u h k = listed_uses es e u h k
 
-  pub piece_breaks : (results : List (Option Term)) (has_names : Bool) (firsts : List Bool) (p : Piece) (e : ExprTree) → Has (piece_exprs p) e → piece_faults looks results has_names firsts p ≡ [] → Breaks e ≡ []
+  pub piece_breaks : (results : List (Option Term)) (has_names : Bool) (firsts : List Bool) (p : Piece) (e : ExprTree) → HasItem (piece_exprs p) e → piece_faults looks results has_names firsts p ≡ [] → Breaks e ≡ []
   piece_breaks results has_names firsts (Header r s) e h k = absurd h
   piece_breaks results has_names firsts (Spec kind v) e h k = values_break v.values e h (left_empty (values_faults looks v.values) _ (right_empty _ _ k))
   piece_breaks results has_names firsts (Act (Alone x)) e h k = one_breaks x e h (left_empty (Breaks x) _ k)
@@ -133,7 +133,7 @@ module _ (looks : TheLooks) where
 
 pub record IsNoted {X N : Type 0} (rules : Rules X N) (beyond : List ℕ → Option X) (all : List (Local X)) (notes : List N) (p : Piece) : Type 0 where
   pub firsts : List Bool
-  pub there : (x : N) → Has (rules.notes (bound beyond all) firsts p) x → Has notes x
+  pub there : (x : N) → HasItem (rules.notes (bound beyond all) firsts p) x → HasItem notes x
 
 module _ {X N : Type 0} (rules : Rules X N) (beyond : List ℕ → Option X) (all : List (Local X)) where
   abbrev Notes : ℕ → ℕ → Steps → List N
@@ -146,9 +146,9 @@ module _ {X N : Type 0} (rules : Rules X N) (beyond : List ℕ → Option X) (al
   right_noted ns ms p h = record { firsts = h.firsts; there = λ x k. has_right ns ms x (h.there x k) }
 
   first_noted : (firsts : List Bool) (q p : Piece) (ms : List N) → q ≡ p → IsNoted rules beyond all (rules.notes (bound beyond all) firsts q ++ ms) p
-  first_noted firsts q p ms s = record { firsts = firsts; there = λ x k. has_left (rules.notes (bound beyond all) firsts q) ms x (subst (λ r. Has (rules.notes (bound beyond all) firsts r) x) (sym s) k) }
+  first_noted firsts q p ms s = record { firsts = firsts; there = λ x k. has_left (rules.notes (bound beyond all) firsts q) ms x (subst (λ r. HasItem (rules.notes (bound beyond all) firsts r) x) (sym s) k) }
 
-  pub noted : (steps : Steps) (o c : ℕ) (p : Piece) → Has (pieces_in steps) p → IsNoted rules beyond all (Notes o c steps) p
+  pub noted : (steps : Steps) (o c : ℕ) (p : Piece) → HasItem (pieces_in steps) p → IsNoted rules beyond all (Notes o c steps) p
   noted Done o c p h = absurd h
   noted (Check q rest) o c p (inl s) = first_noted [] q p (Notes o c rest) s
   noted (Check q rest) o c p (inr h) = right_noted (rules.notes (bound beyond all) [] q) (Notes o c rest) p (noted rest o c p h)
@@ -168,15 +168,15 @@ module _ (one : FunctionsHaveOneTable) (st : FileStand) (g : FuncTree) (placed :
   abbrev noted_of : List NoteOf
   noted_of = (out_by_intervals (func_rules st g) (outer_meanings st) g all).notes
 
-  piece_noted : (p : Piece) → Has (pieces_of g) p → IsNoted (func_rules st g) (outer_meanings st) all noted_of p
+  piece_noted : (p : Piece) → HasItem (pieces_of g) p → IsNoted (func_rules st g) (outer_meanings st) all noted_of p
   piece_noted p h = noted (func_rules st g) (outer_meanings st) all (func_steps g) (func_opens g) (func_closes g) p h
 
-  pub expr_has : (p : Piece) (e : ExprTree) (u : TheUse) → Has (pieces_of g) p → Has (piece_exprs p) e → Has (uses (looks_among st all) places.«Value» e) u → Has (checked_func st g).uses u
+  pub expr_has : (p : Piece) (e : ExprTree) (u : TheUse) → HasItem (pieces_of g) p → HasItem (piece_exprs p) e → HasItem (uses (looks_among st all) places.«Value» e) u → HasItem (checked_func st g).uses u
   expr_has p e u h k there =
       let n = piece_noted p h in
-      subst (λ (b : BodyOf). Has b.uses u) same_body (has_flat (λ (x : NoteOf). x.uses) noted_of _ u (n.there _ (inl refl)) (piece_has (looks_among st all) p e u k there))
+      subst (λ (b : BodyOf). HasItem b.uses u) same_body (has_flat (λ (x : NoteOf). x.uses) noted_of _ u (n.there _ (inl refl)) (piece_has (looks_among st all) p e u k there))
 
-  pub expr_breaks : (p : Piece) (e : ExprTree) → Has (pieces_of g) p → Has (piece_exprs p) e → (checked_func st g).faults ≡ [] → faults (looks_among st all) places.«Value» e ≡ []
+  pub expr_breaks : (p : Piece) (e : ExprTree) → HasItem (pieces_of g) p → HasItem (piece_exprs p) e → (checked_func st g).faults ≡ [] → faults (looks_among st all) places.«Value» e ≡ []
   expr_breaks p e h k none =
       let n = piece_noted p h in
       let whole : noted_faults noted_of ++ _ ≡ [] = ap (λ (b : BodyOf). b.faults) same_body ∙ none in
@@ -184,18 +184,18 @@ module _ (one : FunctionsHaveOneTable) (st : FileStand) (g : FuncTree) (placed :
 
 -- files
 
-decl_is : (d : DeclTree) (g : FuncTree) → Has (decl_funcs d) g → d ≡ Func g
+decl_is : (d : DeclTree) (g : FuncTree) → HasItem (decl_funcs d) g → d ≡ Func g
 decl_is (Value v) g h = absurd h
 decl_is (Types t) g h = absurd h
 decl_is (Func f) g (inl s) = ap Func s
 decl_is (Func f) g (inr h) = absurd h
 
-module _ {A : Type 0} (of : DeclTree → List A) (t : FileTree) (g : FuncTree) (there : Has (file_funcs t) g) where
+module _ {A : Type 0} (of : DeclTree → List A) (t : FileTree) (g : FuncTree) (there : HasItem (file_funcs t) g) where
   abbrev top : InOne (λ (d : TopTree). decl_funcs d.decl) t.decls g
   top = from_flat (λ (d : TopTree). decl_funcs d.decl) t.decls g there
 
-  pub file_has : (x : A) → Has (of (Func g)) x → Has (flat_map (λ (d : TopTree). of d.decl) t.decls) x
-  file_has x h = has_flat (λ (d : TopTree). of d.decl) t.decls top.item x top.there (subst (λ d. Has (of d) x) (sym (decl_is top.item.decl g top.here)) h)
+  pub file_has : (x : A) → HasItem (of (Func g)) x → HasItem (flat_map (λ (d : TopTree). of d.decl) t.decls) x
+  file_has x h = has_flat (λ (d : TopTree). of d.decl) t.decls top.item x top.there (subst (λ d. HasItem (of d) x) (sym (decl_is top.item.decl g top.here)) h)
 
   pub file_none : flat_map (λ (d : TopTree). of d.decl) t.decls ≡ [] → of (Func g) ≡ []
   file_none e = subst (λ d. of d ≡ []) (decl_is top.item.decl g top.here) (none_in (λ (d : TopTree). of d.decl) t.decls top.item e top.there)

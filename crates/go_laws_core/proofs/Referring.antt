@@ -29,7 +29,6 @@ use Rattle.go_fold_core.specs.instruction_core.declared.instruction.Instruction.
 use Rattle.go_fold_core.specs.instruction_core.declared.instruction.Instruction.TheVariants as instructions
 use Rattle.go_fold_core.specs.fragment_core.declared.names.Meaning.{Meaning}
 use Rattle.go_fold_core.specs.fragment_core.declared.names.Meaning.TheVariants as meanings
-use Rattle.go_fold_core.specs.fragment_core.Fragment.{item_count}
 use Rattle.go_fold_core.specs.fragment_core.Names.{CodeLooks, callee_meaning}
 use Rattle.go_snap_core.specs.code_core.Laws.{CodeIsWhole, JumpsStayInside, OutsideIsAlone}
 use Rattle.go_snap_core.specs.object_core.Objects.{FunctionOf}
@@ -45,6 +44,7 @@ use Rattle.go_laws_core.proofs.CodeFunctions.{object_all}
 use Rattle.go_laws_core.proofs.Placed.{calls_between}
 use Rattle.go_laws_core.proofs.Sound.{well_formed}
 use Rattle.go_tree_nodes.specs.Spelling.{IsPlaced}
+use Rattle.go_tree_nodes.specs.Counts.{item_count}
 
 all_at : {A : Type 0} (P : A → Type 0) (xs : List A) (n : ℕ) (x : A) → All P xs → slice_get xs n ≡ Some x → P x
 all_at P xs n x h at = subst P (get_or_from_slice_get xs n x x at) (h n x (slice_get_within xs n x at))

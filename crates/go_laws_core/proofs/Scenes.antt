@@ -9,9 +9,9 @@ use Rattle.go_term_core.specs.decl_core.declared.keys.DeclRef.{DeclRef}
 use Rattle.go_term_core.specs.decl_core.TopDecls.{TopDeclTree, top_decls}
 use Rattle.go_term_core.specs.declared.term.MemberPlace.{MemberPlace}
 use Rattle.go_term_core.specs.declared.term.MemberPlace.TheVariants as places
-use Rattle.go_term_core.specs.Terms.{Term, NoType, Predeclared, ErrorType, Defined, PointerTo, StructOf, InterfaceOf, Sign, SignOf, Terms, NoTerm, ATerm}
+use Rattle.go_term_core.specs.Terms.{Term, NoType, Predeclared, ErrorType, Defined, PointerTo, StructOf, InterfaceOf, Sign, SignOf, Terms, NoTerm, ATerm, is_no_type}
 use Rattle.go_snap_core.specs.table_core.Entries.{Entry, Member, find_entry, term_in, underlying_in}
-use Rattle.go_snap_core.specs.decide_core.Conversion.{is_no_type, is_type_term}
+use Rattle.go_snap_core.specs.decide_core.Conversion.{is_type_term}
 use Rattle.go_snap_core.specs.decide_core.Rules.{all_typed, form_under}
 use Rattle.go_snap_core.specs.operand_core.declared.types.Operand.{Operand}
 use Rattle.go_snap_core.specs.operand_core.declared.types.ValueType.{ValueType}

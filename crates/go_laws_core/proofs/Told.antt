@@ -19,12 +19,12 @@ use Rattle.go_snap_core.specs.emit_core.Emitted.{code_scene_over, told_to}
 use Rattle.go_snap_core.specs.meaning_core.Meanings.{some_face_meaning}
 use Rattle.go_snap_core.specs.meaning_core.Scenes.{CodeScene, decl_meaning, own_or, own_spotted, package_decl_refs}
 use Rattle.go_snap_core.specs.lookup_core.Places.{spotted_meaning, decl_spot}
-use Rattle.go_laws_core.proofs.ConstantLists.{Has, has_of_all}
+use Rattle.go_laws_core.proofs.ConstantLists.{HasItem, has_of_all}
 use Rattle.go_laws_core.proofs.Own.{elsewhere, other_text, own_means, same_text, written_decls}
 
 -- what packages show, with one more behind them
 
-none_here : (ss : List SummaryModel) (path : List ℕ) → ((s : SummaryModel) → Has ss s → path ≡ s.faces.path → ⊥) → package_in (faces_told ss) path ≡ None
+none_here : (ss : List SummaryModel) (path : List ℕ) → ((s : SummaryModel) → HasItem ss s → path ≡ s.faces.path → ⊥) → package_in (faces_told ss) path ≡ None
 none_here [] path h = refl
 none_here (s ∷ ss) path h =
     ap (λ (b : Bool). if b then Some s.faces else package_in (faces_told ss) path) (other_text path s.faces.path (h s (inl refl))) ∙ none_here ss path (λ t k. h t (inr k))
@@ -75,7 +75,7 @@ module _ (i : InputModel) (c : ContentOf) (well : IsInput i) (part : IsPart i c)
       ∙ (ap (λ ds. package_shown (path_in i) c.blocks ds part.checked.declared) (decls_are (types_told i.reached ++ part.checked.types)) ∙ ap (λ ks. package_shown (path_in i) c.blocks own_decls ks) (sym part.declared)))
 
   -- no package that is reached has the path of the package itself
-  reached_elsewhere : (s : SummaryModel) → Has i.reached s → path_in i ≡ s.faces.path → ⊥
+  reached_elsewhere : (s : SummaryModel) → HasItem i.reached s → path_in i ≡ s.faces.path → ⊥
   reached_elsewhere s h e =
       has_of_all (λ (x : SummaryModel). path_in i ≡ path_of x → ⊥) i.reached s well.reached.others h (e ∙ (has_of_all IsOfOne i.reached s well.own h).faces)
 

@@ -11,13 +11,13 @@ use Rattle.go_snap_core.specs.local_core.Binding.{Local, bound, is_first}
 use Rattle.go_snap_core.specs.local_core.Law.{law_out}
 use Rattle.go_snap_core.specs.local_core.Outline.{func_closes, func_opens, func_steps}
 use Rattle.go_snap_core.specs.local_core.Steps.{Steps, Done, Check, Declare, Inner, spell_piece}
+use Rattle.go_snap_core.specs.local_core.Pieces.{ident_place, piece_declares}
 use Rattle.go_snap_core.specs.local_core.Tables.{IsFuncPlaced}
 use Rattle.go_snap_core.specs.local_core.Placed.{Placed, func_placed}
 use Rattle.go_term_core.specs.Terms.{Term}
 use Rattle.go_snap_core.specs.names_core.Body.{each_means}
-use Rattle.go_snap_core.specs.names_core.Uses.{ident_place}
 use Rattle.go_snap_core.specs.piece_core.Headers.{returned_names, returned_types}
-use Rattle.go_snap_core.specs.piece_core.Pieces.{piece_names, piece_values}
+use Rattle.go_snap_core.specs.piece_core.Pieces.{piece_values}
 use Rattle.go_snap_core.specs.env_core.declared.meaning.Meaning.{Meaning}
 use Rattle.go_snap_core.specs.env_core.declared.meaning.Meaning.TheVariants as meanings
 use Rattle.go_snap_core.specs.body_core.Body.{BodyOf}
@@ -28,7 +28,7 @@ use Rattle.go_snap_core.specs.func_core.Laws.{FunctionsHaveOneTable}
 use Rattle.go_snap_core.specs.func_core.Stands.{FileStand, looks_where, outer_looks, outer_meanings}
 use Rattle.go_snap_core.specs.func_core.Named.{AreNamed, steps_are_named}
 use Rattle.go_snap_core.specs.file_core.Files.{decl_locals, file_locals, tops_locals}
-use Rattle.go_laws_core.proofs.ConstantLists.{Has, Rising}
+use Rattle.go_laws_core.proofs.ConstantLists.{HasItem, Rising}
 
 -- locals that stand one behind another between two places
 abbrev pub Within : ℕ → List TheLocal → ℕ → Type 0
@@ -47,7 +47,7 @@ join : (ls ms : List TheLocal) (lo mid hi : ℕ) → Within lo ls mid → Within
 join [] ms lo mid hi h k = lower ms lo mid hi h k
 join (l ∷ ls) ms lo mid hi h k = (h.0, join ls ms (l.offset + 1) mid hi h.1 k)
 
-behind : (ls : List TheLocal) (lo hi : ℕ) (m : TheLocal) → Within lo ls hi → Has ls m → lo ≤ m.offset
+behind : (ls : List TheLocal) (lo hi : ℕ) (m : TheLocal) → Within lo ls hi → HasItem ls m → lo ≤ m.offset
 behind [] lo hi m h k = absurd k
 behind (l ∷ ls) lo hi m h (inl e) = (let up = h.0 in let at : l.offset ≡ m.offset = ap (λ (x : TheLocal). x.offset) e in omega (arith, up, at))
 behind (l ∷ ls) lo hi m h (inr k) = (let up = h.0 in let far = behind ls (l.offset + 1) hi m h.1 k in omega (arith, up, far))
@@ -87,8 +87,8 @@ module _ (st : FileStand) (results : List (Option Term)) (has_names : Bool) (bey
       let firsts : List Bool = map (is_first all o) xs in
       let look = bound beyond all in
       let values : ℕ → TheValue = value_at (piece_values (looks_where st look) firsts p) in
-      let own : List TheLocal = declared_among firsts (each_means (λ n. meanings.Local (ident_place (piece_names p) n) (values n)) 0 (piece_names p)) in
-      let here : Within lo own from = among firsts (piece_names p) values lo from (subst (λ ys. AreInTurn lo ys from) named.0 h.1) in
+      let own : List TheLocal = declared_among firsts (each_means (λ n. meanings.Local (ident_place (piece_declares p) n) (values n)) 0 (piece_declares p)) in
+      let here : Within lo own from = among firsts (piece_declares p) values lo from (subst (λ ys. AreInTurn lo ys from) named.0 h.1) in
       join own (all_locals (notes_of o c rest)) lo from hi here (steps_within rest o c from hi h.2 named.1)
   steps_within (Inner o' c' steps rest) o c lo hi h named =
       let up = h.0 in

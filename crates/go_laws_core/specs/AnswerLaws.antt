@@ -11,7 +11,7 @@ use Rattle.go_snap_core.specs.graph_core.Packages.{IsAssembled}
 use Rattle.go_snap_core.specs.graph_core.Sources.{SourceModel}
 use Rattle.go_snap_core.specs.graph_core.Workspaces.{PackageModel, IsWorkspace}
 use Rattle.go_snap_core.specs.ready_core.Packages.{trees_in}
-use Rattle.go_snap_core.specs.used_core.Used.{TheUse}
+use Rattle.go_snap_core.specs.used_core.Used.{FileUse}
 use Rattle.go_snap_core.specs.part_core.Parts.{FileOf, PartModel}
 use Rattle.go_snap_core.specs.declared.fault.PlacedFault.{PlacedFault}
 use Rattle.go_snap_core.specs.Snapshots.{IsAnswerAt, IsSnapshot}
@@ -39,20 +39,20 @@ pub record IsOccurrenceAt (ps : List PackageModel) (path name : List ℕ) (n : �
   pub there : slice_get (file_occs tree) n ≡ Some o
 
 -- what answers stands where the occurrence stands, and has its role
-pub record IsUseOfOccurrence (u : TheUse) (o : Occ) : Type 0 where
+pub record IsUseOfOccurrence (u : FileUse) (o : Occ) : Type 0 where
   pub offset : u.offset ≡ o.span.start
   pub role : u.role ≡ o.role
 
 -- what a snapshot has for a path, the name of a file and a number
 pub record AnswersOccurrences (ps : List PackageModel) (parts : List (Option PartModel)) (path name : List ℕ) (n : ℕ) : Type 0 where
   -- there is an answer where there is such an occurrence
-  pub each : (o : Occ) → IsOccurrenceAt ps path name n o → (u : TheUse) × IsAnswerAt ps parts path name n u
+  pub each : (o : Occ) → IsOccurrenceAt ps path name n o → (u : FileUse) × IsAnswerAt ps parts path name n u
   -- and nowhere else
-  pub only : (u : TheUse) → IsAnswerAt ps parts path name n u → (o : Occ) × IsOccurrenceAt ps path name n o
+  pub only : (u : FileUse) → IsAnswerAt ps parts path name n u → (o : Occ) × IsOccurrenceAt ps path name n o
   -- the answer is the occurrence's
-  pub own : (o : Occ) (u : TheUse) → IsOccurrenceAt ps path name n o → IsAnswerAt ps parts path name n u → IsUseOfOccurrence u o
+  pub own : (o : Occ) (u : FileUse) → IsOccurrenceAt ps path name n o → IsAnswerAt ps parts path name n u → IsUseOfOccurrence u o
   -- and there is no other
-  pub one : (u v : TheUse) → IsAnswerAt ps parts path name n u → IsAnswerAt ps parts path name n v → u ≡ v
+  pub one : (u v : FileUse) → IsAnswerAt ps parts path name n u → IsAnswerAt ps parts path name n v → u ≡ v
 
 -- the occurrences of the files of assembled packages have each one answer, and nothing else has one
 abbrev pub OutcomesAreOfOccurrences : Type 0

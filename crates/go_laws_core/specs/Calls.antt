@@ -4,10 +4,10 @@
 use Rattle.std.specs.Prelude.{◌≡◌, ℕ, suc, List, [], ◌∷◌, ◌++◌}
 use Rattle.go_text_core.specs.declared.span.Span.{Span}
 use Rattle.go_tree_nodes.specs.Trees.{ExprTree, ItemTrees, Integer, Text, Named, Paren, Unary, Binary, Select, Call, Literal, StructLiteral, NoItems, Item, FuncTree}
+use Rattle.go_tree_nodes.specs.Counts.{item_count}
 use Rattle.go_snap_core.specs.tree_core.Names.{Taking, nothing, take_lines}
 use Rattle.go_fold_core.specs.fragment_core.declared.names.Meaning.{Meaning}
 use Rattle.go_fold_core.specs.fragment_core.declared.names.Meaning.TheVariants as meanings
-use Rattle.go_fold_core.specs.fragment_core.Fragment.{item_count}
 use Rattle.go_fold_core.specs.fragment_core.Names.{CodeLooks, callee_meaning}
 
 -- a call: what is called, the opening parenthesis, and the arguments
@@ -50,6 +50,6 @@ HasWords (meanings.Method g) items words = words ≡ suc items
 HasWords _ items words = ⊥
 
 -- code that calls what stands there: by the reference of the place, a function or a method, with so many words
-pub record IsCallOf (looks : CodeLooks) (c : CallSite) (reference words : ℕ) : Type 0 where
+pub record IsCallOfSite (looks : CodeLooks) (c : CallSite) (reference words : ℕ) : Type 0 where
   pub place : reference ≡ looks.reference c.first.start
   pub handed : HasWords (callee_meaning looks c.callee) (item_count c.items) words

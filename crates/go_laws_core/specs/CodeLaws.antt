@@ -17,7 +17,6 @@ use Rattle.go_snap_core.specs.part_core.Parts.{ContentOf, FileOf, IsPart, PartMo
 use Rattle.go_fold_core.specs.instruction_core.declared.instruction.Distance.TheVariants as distances
 use Rattle.go_fold_core.specs.instruction_core.declared.instruction.Instruction.{Instruction}
 use Rattle.go_fold_core.specs.instruction_core.declared.instruction.Instruction.TheVariants as instructions
-use Rattle.go_fold_core.specs.fragment_core.Fragment.{item_count}
 use Rattle.go_fold_core.specs.fragment_core.Names.{CodeLooks}
 use Rattle.go_snap_core.specs.code_core.Code.{code_of}
 use Rattle.go_snap_core.specs.object_core.Objects.{FunctionOf, ObjectOf}
@@ -25,14 +24,15 @@ use Rattle.go_snap_core.specs.emit_core.Emitted.{object_over, objects_of, somes,
 use Rattle.go_snap_core.specs.emit_core.Laws.{declaration_of, is_between}
 use Rattle.go_snap_core.specs.declared.fault.PlacedFault.{PlacedFault}
 use Rattle.go_snap_core.specs.Snapshots.{IsSnapshot}
-use Rattle.go_laws_core.specs.Calls.{CallSite, IsCallOf, body_calls}
+use Rattle.go_laws_core.specs.Calls.{CallSite, IsCallOfSite, body_calls}
 use Rattle.go_tree_nodes.specs.Spelling.{IsPlaced}
+use Rattle.go_tree_nodes.specs.Counts.{item_count}
 
 -- code of any function
 
 -- a call of these, which is one of these occurrences, is called by this reference and with so many words
 abbrev pub IsOfCall : CodeLooks → List Occ → List CallSite → ℕ → ℕ → Type 0
-IsOfCall looks os calls reference words = (c : CallSite) × Contains os (call_at c.first) × Contains calls c × IsCallOf looks c reference words
+IsOfCall looks os calls reference words = (c : CallSite) × Contains os (call_at c.first) × Contains calls c × IsCallOfSite looks c reference words
 
 -- what code calls is what a call of the function's body calls, which is an occurrence of the body
 abbrev pub CallsAreOfTheBody : Type 0

@@ -6,7 +6,7 @@ use Rattle.go_text_core.specs.declared.rule.Rule.{Rule}
 use Rattle.go_text_core.specs.declared.rule.Rule.TheVariants.{K3, K4, P1, P2}
 use Rattle.go_snap_core.specs.graph_core.Sources.{SourceModel, IsRead}
 use Rattle.go_snap_core.specs.expr_core.declared.things.Fault.{Fault}
-use Rattle.go_snap_core.specs.used_core.Used.{TheUse}
+use Rattle.go_snap_core.specs.used_core.Used.{FileUse}
 use Rattle.go_snap_core.specs.part_core.Parts.{FileOf, PartModel}
 use Rattle.go_snap_core.specs.declared.fault.PlacedFault.{PlacedFault}
 use Rattle.go_snap_core.specs.Snapshots.{IsAnswerAt, IsSnapshot}
@@ -20,11 +20,11 @@ pub record IsFileOf (bytes : List ℕ) (s : SourceModel) : Type 0 where
   pub read : IsRead s
 
 -- a fault of the one file of the one package
-abbrev pub in_file : Fault → PlacedFault
-in_file f = record { «package» = 0; file = 0; offset = f.offset; rule = f.rule }
+abbrev pub in_lone_file : Fault → PlacedFault
+in_lone_file f = record { «package» = 0; file = 0; offset = f.offset; rule = f.rule }
 
-abbrev pub fault_at : ℕ → Rule → Fault
-fault_at offset rule = record { offset = offset; rule = rule }
+abbrev pub rule_fault : ℕ → Rule → Fault
+rule_fault offset rule = record { offset = offset; rule = rule }
 
 -- the one package has a part: what stands in its one file is what was found there. The faults are those that are reported of the file, in their order.
 -- An occurrence of the file is answered by what was found for its number, and by nothing else
@@ -32,34 +32,34 @@ pub record HasFound (s : SourceModel) (parts : List (Option PartModel)) (faults 
   pub part : PartModel
   pub parts_are : parts ≡ Some part ∷ []
   pub files_are : part.content.files ≡ found ∷ []
-  pub faults_are : faults ≡ map in_file found.report
-  pub answers : (n : ℕ) (u : TheUse) → IsAnswerAt (workspace_alone s) parts the_path the_name n u ↔ (slice_get found.answers.uses n ≡ Some u)
+  pub faults_are : faults ≡ map in_lone_file found.report
+  pub answers : (n : ℕ) (u : FileUse) → IsAnswerAt (workspace_alone s) parts the_path the_name n u ↔ (slice_get found.answers.uses n ≡ Some u)
 
 -- the one package has no part, and these are the faults, in order
 pub record HasNoPart (parts : List (Option PartModel)) (faults : List PlacedFault) (why : List Fault) : Type 0 where
   pub none : parts ≡ None ∷ []
-  pub faults_are : faults ≡ map in_file why
+  pub faults_are : faults ≡ map in_lone_file why
 
 -- a file without a tree: K4 of its package, and its own fault
 abbrev pub without_tree : ℕ → Rule → List Fault
-without_tree offset rule = fault_at 0 K4 ∷ (fault_at offset rule ∷ [])
+without_tree offset rule = rule_fault 0 K4 ∷ (rule_fault offset rule ∷ [])
 
 -- what a snapshot has of a file, by what `resolve` takes its text for. Where it has P1 or P2 there is one in the text; which place `resolve` tells is
 -- not said here. Nothing is asked of bytes that are too many or no text, of which `resolve` reads no file
-abbrev pub Has : SourceModel → List (Option PartModel) → List PlacedFault → Input → Type 0
-Has s parts faults TooLong = Unit {0}
-Has s parts faults NoText = Unit {0}
-Has s parts faults (BadToken fault) = HasNoPart parts faults (without_tree fault.offset fault.rule)
-Has s parts faults (NoTree offset) = (at : ℕ) × (at ≤ length s.text) × HasNoPart parts faults (without_tree at P1)
-Has s parts faults (TooHigh offset) = (at : ℕ) × (at ≤ length s.text) × HasNoPart parts faults (without_tree at P2)
-Has s parts faults (NoName f) = HasNoPart parts faults (fault_at f.name.span.start K3 ∷ [])
-Has s parts faults (AFile f found) = HasFound s parts faults found
+abbrev pub HasWhatIsTold : SourceModel → List (Option PartModel) → List PlacedFault → Input → Type 0
+HasWhatIsTold s parts faults TooLong = Unit {0}
+HasWhatIsTold s parts faults NoText = Unit {0}
+HasWhatIsTold s parts faults (BadToken fault) = HasNoPart parts faults (without_tree fault.offset fault.rule)
+HasWhatIsTold s parts faults (NoTree offset) = (at : ℕ) × (at ≤ length s.text) × HasNoPart parts faults (without_tree at P1)
+HasWhatIsTold s parts faults (TooHigh offset) = (at : ℕ) × (at ≤ length s.text) × HasNoPart parts faults (without_tree at P2)
+HasWhatIsTold s parts faults (NoName f) = HasNoPart parts faults (rule_fault f.name.span.start K3 ∷ [])
+HasWhatIsTold s parts faults (AFile f found) = HasFound s parts faults found
 
 -- what `resolve` takes a text for is what each snapshot has of the workspace whose one file it is
 abbrev pub SnapshotsHaveWhatIsTold : Type 0
 SnapshotsHaveWhatIsTold =
     (bytes : List ℕ) (input : Input) (s : SourceModel) (parts : List (Option PartModel)) (faults : List PlacedFault)
-    → IsInputOfBytes bytes input → IsFileOf bytes s → IsSnapshot (workspace_alone s) parts faults → Has s parts faults input
+    → IsInputOfBytes bytes input → IsFileOf bytes s → IsSnapshot (workspace_alone s) parts faults → HasWhatIsTold s parts faults input
 
 -- so `resolve` ends with a clean report of a text exactly where such a snapshot has no fault
 abbrev pub CleanIsFaultless : Type 0

@@ -29,7 +29,9 @@ pub mod settle_core {
 
 /// What the crates above name of `go_table_core`.
 pub mod table_core {
-    pub use go_embed_core::table_core::{DeclaredMethod, DefinedType, PackageTypes, TypeTable};
+    pub use go_embed_core::table_core::{
+        DeclaredMethod, DefinedType, PackageTypes, TypeTable, is_named_type,
+    };
 }
 
 /// What the crates above name of `go_type_core`.

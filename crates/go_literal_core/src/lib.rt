@@ -36,7 +36,7 @@ pub mod constant_core {
 pub mod denote_core {
     pub use go_denote_core::{
         Answer, Builtin, Denoted, Dot, Exported, Found, Names, Outcome, Place, Selection, Usage,
-        arguments_of, call_answer, dot_of, is_free, name_answer, selector_answer,
+        arguments_of, call_answer, dot_of, is_free, name_answer, selector_answer, single_rule,
     };
 }
 

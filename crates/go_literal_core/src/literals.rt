@@ -164,7 +164,7 @@ pub fn literal_mode<E: Literals>(env: &E, t: &Option<E::Type>, keys: Keys, count
 }
 
 // The type of the field of a number, where there is such a field and it has a type.
-fn type_at<E: Literals>(env: &E, t: &E::Type, at: usize) -> Option<E::Type>
+fn field_type_at<E: Literals>(env: &E, t: &E::Type, at: usize) -> Option<E::Type>
     ensures { result ≡ literals.field_type_at ((E.literals env.now).fields t.now) at }
 {
     if at < env.field_count(t) {
@@ -192,7 +192,7 @@ pub fn element_target<E: Literals>(
             None => None,
             Some(t) => {
                 if is_struct(env, t) {
-                    type_at(env, t, at)
+                    field_type_at(env, t, at)
                 } else {
                     None
                 }

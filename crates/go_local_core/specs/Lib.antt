@@ -4,6 +4,7 @@ pub mod Denoted
 pub mod Faults
 pub mod Law
 pub mod Outline
+pub mod Pieces
 pub mod Short
 pub mod Steps
 pub mod Tables

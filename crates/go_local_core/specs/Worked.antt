@@ -5,24 +5,22 @@ use Rattle.go_text_core.specs.declared.rule.Rule.TheVariants.{B1, B4}
 use Rattle.go_token_core.specs.declared.kind.Operator.TheVariants as operator
 use Rattle.go_tree_nodes.specs.declared.names.Ident.{Ident}
 use Rattle.go_tree_nodes.specs.declared.decls.ValueKind.TheVariants as kinds
+use Rattle.go_tree_nodes.specs.Samples.{at, called}
 use Rattle.go_tree_nodes.specs.Terminals.{Terminal, TerminalKind, Spelled, Number, Quoted, Word, Mark, Stray}
 use Rattle.go_tree_nodes.specs.Trees as tree
 use Rattle.go_tree_nodes.specs.Trees.{Separated, One, Then, Signed, NoParams, NoResult, ExprTree, Integer, Named, Binary, SimpleTree, Alone, Step, Assign, Update, Define, Clauses, Lines, Simple, Return, Block, If, For, Branch, NoElse, ElseIf, NoLines, Line, FuncTree, Group, ValueSpecTree}
 use Rattle.go_local_core.specs.declared.Fault.{Fault}
-use Rattle.go_local_core.specs.Steps.{Piece, Header, Spec, Act, Condition, Given, spell_piece}
-use Rattle.go_local_core.specs.Outline.{idents, header_idents}
+use Rattle.go_local_core.specs.Steps.{spell_piece}
+use Rattle.go_local_core.specs.Pieces.{piece_declares, ident_place}
 use Rattle.go_local_core.specs.Binding.{NameLook}
 use Rattle.go_local_core.specs.Law.{Rules}
 use Rattle.go_local_core.specs.Tables.{walked, out_by_intervals}
 
 abbrev pub x_at : ℕ → Ident
-x_at n = record { name = codes "x"; span = record { start = n; end = suc n } }
+x_at = called (codes "x")
 
 abbrev pub y_at : ℕ → Ident
-y_at n = record { name = codes "y"; span = record { start = n; end = suc n } }
-
-abbrev pub at : ℕ → Span
-at n = record { start = n; end = suc n }
+y_at = called (codes "y")
 
 -- the rules note what each name means where it stands, which is the offset of its declaration
 abbrev pub seen_at : NameLook ℕ → TerminalKind → Span → List (ℕ × Option ℕ)
@@ -37,27 +35,8 @@ abbrev pub seen : NameLook ℕ → List Terminal → List (ℕ × Option ℕ)
 seen look [] = []
 seen look (t ∷ ts) = seen_at look t.kind t.span ++ seen look ts
 
-abbrev pub simple_names : SimpleTree → List Ident
-simple_names (Alone t) = []
-simple_names (Step t op p) = []
-simple_names (Assign ts p es) = []
-simple_names (Update t op p e) = []
-simple_names (Define xs p es) = idents xs
-
-abbrev pub names : Piece → List Ident
-names (Header r g) = header_idents r g
-names (Spec k v) = idents v.names
-names (Act a) = simple_names a
-names (Condition t) = []
-names (Given p es) = []
-
-abbrev pub ident_place : List Ident → ℕ → ℕ
-ident_place [] n = 0
-ident_place (x ∷ xs) zero = x.span.start
-ident_place (x ∷ xs) (suc n) = ident_place xs n
-
 abbrev pub places : Rules ℕ (ℕ × Option ℕ)
-places = record { notes = λ look firsts p. seen look (spell_piece p); means = λ look firsts p n. ident_place (names p) n }
+places = record { notes = λ look firsts p. seen look (spell_piece p); means = λ look firsts p n. ident_place (piece_declares p) n }
 
 abbrev pub none : List ℕ → Option ℕ
 none n = None

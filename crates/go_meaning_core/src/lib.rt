@@ -61,7 +61,9 @@ pub mod package_core {
 
 /// What the crates above name of `go_part_core`.
 pub mod part_core {
-    pub use go_part_core::{Part, PartFile, one_part, part_has_occurrences};
+    pub use go_part_core::{
+        Part, PartFile, close_told, close_view, one_part, part_has_occurrences,
+    };
 }
 
 /// What the crates above name of `go_select_core`.
@@ -71,7 +73,7 @@ pub mod select_core {
 
 /// What the crates above name of `go_summary_core`.
 pub mod summary_core {
-    pub use go_part_core::summary_core::{Summary, view_of};
+    pub use go_part_core::summary_core::{Summary, View, view_of};
 }
 
 /// What the crates above name of `go_tree_core`.

@@ -48,8 +48,8 @@ fn decl_meaning(
     match package_names.own.meaning(path, decl) {
         Some(meaning) => Ok(meaning),
         None => {
-            let face = face_at(&package_names.tables.faces, path, decl)?;
-            Ok(some_meaning(&package_names.tables.types, &face))
+            let face = face_at(package_names.tables.faces, path, decl)?;
+            Ok(some_meaning(package_names.tables.types, &face))
         }
     }
 }
@@ -194,10 +194,10 @@ pub fn file_names(
     answers: &[Answer],
     locals: &[HeldLocal],
 ) -> Result<FileCodeNames, AllocError>
-    ensures locals { IfOk result (λ f. f.locals ≡ locals_meant package_names.now.tables.now.types (map local_shown locals.now)) }
-    ensures uses { IfOk result (λ f. f.uses ≡ uses_meant (scene_shown package_names.now) file (locals_meant package_names.now.tables.now.types (map local_shown locals.now)) answers.now) }
+    ensures locals { IfOk result (λ f. f.locals ≡ locals_meant package_names.now.tables.now.types.now (map local_shown locals.now)) }
+    ensures uses { IfOk result (λ f. f.uses ≡ uses_meant (scene_shown package_names.now) file (locals_meant package_names.now.tables.now.types.now (map local_shown locals.now)) answers.now) }
 {
-    let local_items = local_items(alloc, &package_names.tables.types, locals)?;
+    let local_items = local_items(alloc, package_names.tables.types, locals)?;
     let local_table = OffsetTable::new(alloc, local_items)?;
     let use_items = use_items(alloc, package_names, file, &local_table, answers)?;
     let uses = OffsetTable::new(alloc, use_items)?;

@@ -1,8 +1,7 @@
 //! What the names of a package are looked up in.
 ghost use Rattle.std.specs.Prelude.{◌≡◌, ◌≤◌, ◌⊎◌, ◌++◌, IfOk, OnOk, map};
 ghost use Rattle.std.specs.Option.{option_map};
-ghost use Rattle.go_term_core.specs.decl_core.Shown.{decl_shown, form_shown};
-ghost use Rattle.go_term_core.specs.decl_core.TopDecls.{kind_of_form};
+ghost use Rattle.go_term_core.specs.decl_core.Shown.{decl_shown};
 ghost use Rattle.go_part_core.specs.entry_core.Outlines.{outline_of, outline_shown};
 ghost use Rattle.go_part_core.specs.graph_core.Packages.{trees_of};
 ghost use Rattle.go_part_core.specs.face_core.Faces.{face_shown};
@@ -20,10 +19,9 @@ use go_part_core::Part;
 use go_part_core::face_core::{Face, lend};
 use go_part_core::table_core::TypeTable;
 use go_path_core::ImportPath;
-use go_term_core::decl_core::{DeclForm, DeclKind, DeclRef, Outline, TopDecl};
+use go_term_core::decl_core::{DeclRef, Outline, TopDecl};
 use go_term_core::{Signature, TypeTerm};
 use go_text_core::add;
-use go_tree_nodes::ValueKind;
 use std::alloc::{AllocError, Global};
 
 /// What the names of a package are looked up in.
@@ -46,21 +44,6 @@ pub fn shorter(one: usize, other: usize) -> usize
     if one < other { one } else { other }
 }
 
-// What is declared.
-fn kind_of(form: &DeclForm<'_>) -> DeclKind
-    ensures { result ≡ kind_of_form (form_shown form.now) }
-{
-    match form {
-        DeclForm::Value(ValueKind::Const, _, _) => DeclKind::Const,
-        DeclForm::Value(ValueKind::Var, _, _) => DeclKind::Var,
-        DeclForm::Type(_) => DeclKind::Type,
-        DeclForm::Func(func) => match &func.receiver {
-            Some(_) => DeclKind::Method,
-            None => DeclKind::Func,
-        },
-    }
-}
-
 /// A declaration outside functions in the file of a number.
 pub fn decl_at(file: usize, decl: &TopDecl<'_>) -> DeclRef
     ensures { result ≡ decl_at file (decl_shown decl.now) }
@@ -68,7 +51,7 @@ pub fn decl_at(file: usize, decl: &TopDecl<'_>) -> DeclRef
     DeclRef {
         file,
         number: decl.number,
-        kind: kind_of(&decl.form),
+        kind: decl.form.kind(),
     }
 }
 
@@ -144,7 +127,7 @@ fn package_names<'a>(
     ensures { IfOk result (λ names. scene_shown names ≡ scene_in tables.now path.now (outlines_decls 0 (map outline_shown outlines.now)) (map (option_map face_shown) declared.now)) }
 {
     let decls = decls_of(alloc, outlines)?;
-    let items = own_items(alloc, &tables.types, path, &decls, declared)?;
+    let items = own_items(alloc, tables.types, path, &decls, declared)?;
     let own = DeclTable::new(alloc, items)?;
     Ok(PackageNames { path, own, tables })
 }

@@ -17,15 +17,15 @@ use go_term_core::MemberPlace;
 use go_text_core::add;
 use std::alloc::{AllocError, Global};
 
-/// What the names of packages are looked up in, by what some packages tell. It is made once for all of them.
+/// What the names of packages are looked up in, by what some packages tell. It is made once for all of them. Types and faces are lent.
 #[derive(Drop)]
 pub struct Tables<'a> {
     /// The types that the packages declare.
-    pub types: TypeTable,
+    pub types: &'a TypeTable,
     /// The methods of these types.
     pub methods: DeclTable<'a>,
     /// What the packages show.
-    pub faces: FaceTable,
+    pub faces: &'a FaceTable,
 }
 
 // Adds a method of a type of the package of a path.

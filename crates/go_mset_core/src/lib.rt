@@ -30,5 +30,7 @@ pub mod settle_core {
 
 /// What the crates above name of `go_table_core`.
 pub mod table_core {
-    pub use go_select_core::table_core::{DeclaredMethod, DefinedType, PackageTypes, TypeTable};
+    pub use go_select_core::table_core::{
+        DeclaredMethod, DefinedType, PackageTypes, TypeTable, is_named_type,
+    };
 }

@@ -1,5 +1,5 @@
 -- The names that a piece of a function uses, and what each denotes where it stands.
-use Rattle.std.specs.Prelude.{ℕ, suc, zero, List, [], ◌∷◌, ◌++◌, Option, Some, None, map, if◌then◌else◌}
+use Rattle.std.specs.Prelude.{List, [], ◌∷◌, ◌++◌, Option, Some, None, map, if◌then◌else◌}
 use Rattle.go_text_core.specs.declared.span.Span.{Span}
 use Rattle.go_tree_nodes.specs.declared.names.Ident.{Ident}
 use Rattle.go_tree_nodes.specs.declared.types.TypeName.{TypeName}
@@ -11,6 +11,7 @@ use Rattle.go_tree_nodes.specs.TypeShapes.{shape_type}
 use Rattle.go_tree_nodes.specs.Trees.{Separated, One, Then, TypeTree, FieldTrees, MethodTrees, SignatureTree, ResultTree, ParamTrees, NamedType, Pointer, ParenType, Struct, Interface, NoFields, NamedFields, EmbeddedField, NoMethods, Method, Signed, NoResult, OneResult, Results, NoParams, Param, ExprTree, ItemTrees, Integer, Text, Named, Paren, Unary, Binary, Select, Call, Literal, StructLiteral, NoItems, Item, ValueSpecTree, SimpleTree, Alone, Step, Assign, Update, Define}
 use Rattle.go_walk_core.specs.Ends.{is_blank_target}
 use Rattle.go_walk_core.specs.local_core.Steps.{Piece, Header, Spec, Act, Condition, Given}
+use Rattle.go_walk_core.specs.local_core.Pieces.{piece_declares, ident_place}
 use Rattle.go_walk_core.specs.local_core.Outline.{idents, header_idents}
 use Rattle.go_walk_core.specs.local_core.Binding.{NameLook}
 use Rattle.go_walk_core.specs.local_core.Law.{Rules}
@@ -125,28 +126,6 @@ piece_used_idents (Spec k v) = value_spec_used_idents v
 piece_used_idents (Act s) = simple_used_idents s
 piece_used_idents (Condition t) = expr_used_idents t
 piece_used_idents (Given place es) = some_exprs_used_idents es
-
--- the names that a piece declares
-
-abbrev pub simple_declares : SimpleTree → List Ident
-simple_declares (Alone t) = []
-simple_declares (Step t op s) = []
-simple_declares (Assign ts s es) = []
-simple_declares (Update t op s e) = []
-simple_declares (Define xs s es) = idents xs
-
-abbrev pub piece_declares : Piece → List Ident
-piece_declares (Header r s) = header_idents r s
-piece_declares (Spec k v) = idents v.names
-piece_declares (Act s) = simple_declares s
-piece_declares (Condition t) = []
-piece_declares (Given place es) = []
-
--- the place of the n-th of some names
-abbrev pub ident_place : List Ident → ℕ → ℕ
-ident_place [] n = 0
-ident_place (x ∷ xs) zero = x.span.start
-ident_place (x ∷ xs) (suc n) = ident_place xs n
 
 -- what a name denotes where it stands
 abbrev pub name_use : NameLook Denoted → Ident → NameUse

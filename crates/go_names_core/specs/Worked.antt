@@ -1,6 +1,5 @@
 -- A function with what each name in it denotes, worked out by hand. The n-th token of the function stands at n.
-use Rattle.std.specs.Prelude.{◌≡◌, ℕ, suc, List, [], ◌∷◌, Option, Some, None, codes}
-use Rattle.go_text_core.specs.declared.span.Span.{Span}
+use Rattle.std.specs.Prelude.{◌≡◌, ℕ, List, [], ◌∷◌, Option, Some, None, codes}
 use Rattle.go_text_core.specs.declared.rule.Rule.TheVariants.{B4, I1}
 use Rattle.go_token_core.specs.declared.kind.Operator.TheVariants as operator
 use Rattle.go_universe_core.specs.declared.Predeclared.TheVariants as predeclared
@@ -8,7 +7,8 @@ use Rattle.go_tree_nodes.specs.declared.names.Ident.{Ident}
 use Rattle.go_tree_nodes.specs.declared.types.TypeName.TheVariants as type_name
 use Rattle.go_tree_nodes.specs.declared.decls.ValueKind.TheVariants as kinds
 use Rattle.go_tree_nodes.specs.Trees as tree
-use Rattle.go_tree_nodes.specs.Trees.{Separated, One, Then, NamedType, Signed, NoResult, NoParams, Param, ExprTree, Named, Binary, Select, Call, Literal, NoItems, Item, ValueSpecTree, Group, Assign, Define, Lines, Simple, Return, If, Branch, NoElse, ElseIf, NoLines, Line, FuncTree}
+use Rattle.go_tree_nodes.specs.Trees.{Separated, One, Then, NamedType, Signed, NoResult, NoParams, Param, ExprTree, Binary, Select, Call, Literal, NoItems, Item, ValueSpecTree, Group, Assign, Define, Lines, Simple, Return, If, Branch, NoElse, ElseIf, NoLines, Line, FuncTree}
+use Rattle.go_tree_nodes.specs.Samples.{at, called, name_at}
 use Rattle.go_scope_core.specs.decl_core.declared.places.DeclKind.TheVariants as decl_kind
 use Rattle.go_scope_core.specs.decl_core.declared.keys.DeclRef.{DeclRef}
 use Rattle.go_scope_core.specs.block_core.declared.binding.Target.TheVariants as target
@@ -21,15 +21,6 @@ use Rattle.go_names_core.specs.declared.names.Denoted.TheVariants as denoted
 use Rattle.go_names_core.specs.declared.names.NameUse.{NameUse}
 use Rattle.go_names_core.specs.Scope.{beyond_in}
 use Rattle.go_names_core.specs.Uses.{name_use_rules, denoted_outside}
-
-abbrev pub at : ℕ → Span
-at n = record { start = n; end = suc n }
-
-abbrev pub called : List ℕ → ℕ → Ident
-called name n = record { name = name; span = at n }
-
-abbrev pub name_at : List ℕ → ℕ → ExprTree
-name_at name n = Named (called name n)
 
 -- the package declares f, g, len and the type T, and its file imports p
 abbrev pub decl : ℕ → decl_kind.the_data → DeclRef

@@ -1,11 +1,11 @@
-//! The identifiers that a piece declares.
+//! The identifiers that a piece or a signature declares.
 
 ghost use Rattle.std.specs.Prelude.{◌≡◌, ◌++◌, IfOk, OnOk, map};
 ghost use Rattle.go_tree_nodes.specs.TypeShapes.{shape_idents, shape_names, shape_results, shape_signature, params_of};
 ghost use Rattle.go_walk_core.specs.local_core.Outline.{idents, some_idents, param_idents, result_idents, signature_idents, receiver_idents};
 ghost use Rattle.go_names_core.specs.Body.{func_idents};
 
-use go_tree_nodes::{FuncDecl, Ident, Idents, Param, Receiver, Results};
+use go_tree_nodes::{FuncDecl, Ident, Idents, Param, Receiver, Results, Signature};
 use std::alloc::{AllocError, Global};
 
 /// Adds identifiers with commas between them.
@@ -66,6 +66,25 @@ pub fn listed_idents<'a>(alloc: Global, names: &'a Idents) -> Result<Vec<&'a Ide
 {
     let mut list = Vec::new(alloc);
     add_idents(&mut list, names)?;
+    Ok(list)
+}
+
+/// The identifiers that the parameters and the results of a signature declare, as a list, in order of their places.
+///
+/// The Go specification, "Function types".
+///
+/// # Errors
+///
+/// [`AllocError`] where memory runs out.
+pub fn signature_idents<'a>(
+    alloc: Global,
+    signature: &'a Signature,
+) -> Result<Vec<&'a Ident>, AllocError>
+    ensures { IfOk result (λ list. map (λ i. i.now) list.items ≡ signature_idents (shape_signature signature.now)) }
+{
+    let mut list = Vec::new(alloc);
+    add_params(&mut list, &signature.params.entries)?;
+    add_results(&mut list, &signature.results)?;
     Ok(list)
 }
 

@@ -17,7 +17,7 @@ mod walker;
 
 pub use checker::Checker;
 pub use function::{Checked, check_function};
-pub use idents::{header_idents, listed_idents};
+pub use idents::{header_idents, listed_idents, signature_idents};
 pub use laws::{open_names_are_bound, uses_are_occurrences, worked_names};
 pub use look::OpenNames;
 pub use meaning::{Meant, Outside};

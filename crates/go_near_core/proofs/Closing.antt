@@ -44,8 +44,8 @@ use Rattle.go_file_core.specs.denote_core.declared.things.Denoted.TheVariants as
 use Rattle.go_file_core.specs.denote_core.declared.things.Answer.{Answer}
 use Rattle.go_file_core.specs.denote_core.Answers.{of_value, value_of_type, package_answer, type_answer, func_answer, value_answer, found_answer, name_answer}
 use Rattle.go_file_core.specs.denote_core.Selectors.{usage_place, exported_answer, dot_of, field_answer, method_answer, member_answer, value_selector, selector_answer}
-use Rattle.go_file_core.specs.denote_core.Arguments.{argument_of_result, argument_of, arguments_alone, arguments_of}
-use Rattle.go_file_core.specs.denote_core.Calls.{of_results, all_fit, func_call, of_conversion, convert_argument, conversion, of_length, length_argument, fits_type, is_printable, builtin_call, judged_call, of_builtin, free_call, call_answer}
+use Rattle.go_file_core.specs.denote_core.Arguments.{argument_of_result, argument_of, arguments_alone, arguments_of, fits_type}
+use Rattle.go_file_core.specs.denote_core.Calls.{of_results, all_fit, func_call, of_conversion, convert_argument, conversion, of_length, length_argument, is_printable, builtin_call, judged_call, of_builtin, free_call, call_answer}
 use Rattle.go_file_core.specs.expr_core.Looks.{Looks, look_of_place}
 use Rattle.go_near_core.specs.Near.{NearRest, IfAny, IfFine, NearForm, NearValue, NearOperand, NearArgument, NearDot, NearFound, NearExported, NearSelection, NearDenoted}
 use Rattle.go_near_core.specs.Looks.{AreRulesClosed, AreClosed}
@@ -362,7 +362,7 @@ module _ {T S D P : Type 0} (Near : T → Type 0) (Rest : NearRest S D) (looks :
   builtin_near o d builtins.Len (a ∷ []) = length_argument_near o d a
   builtin_near o d builtins.Len (a ∷ b ∷ more) = tt
   builtin_near o d builtins.Panic [] = tt
-  builtin_near o d builtins.Panic (a ∷ []) = either Answers (fits_type (look_of_place looks o) looks.types.any a) _ _ tt tt
+  builtin_near o d builtins.Panic (a ∷ []) = either Answers (fits_type looks.types looks.types.any a) _ _ tt tt
   builtin_near o d builtins.Panic (a ∷ b ∷ more) = tt
   builtin_near o d builtins.Print given = either Answers (list_all (is_printable (look_of_place looks o)) given) _ _ tt tt
 

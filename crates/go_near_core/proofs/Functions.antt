@@ -16,13 +16,13 @@ use Rattle.go_file_core.specs.written_core.Written.{InFile, term_of}
 use Rattle.go_file_core.specs.written_core.ByNames.{written_by_names}
 use Rattle.go_file_core.specs.local_core.Binding.{NameLook}
 use Rattle.go_file_core.specs.local_core.Steps.{Piece}
+use Rattle.go_file_core.specs.local_core.Pieces.{ident_place, piece_declares}
 use Rattle.go_file_core.specs.local_core.Outline.{func_steps, func_opens, func_closes}
 use Rattle.go_file_core.specs.local_core.mirrors.Walk.{walk_out}
 use Rattle.go_file_core.specs.operand_core.declared.types.Operand.{Operand}
 use Rattle.go_file_core.specs.denote_core.declared.things.Found.TheVariants as founds
 use Rattle.go_file_core.specs.face_core.Faces.{TheFace}
 use Rattle.go_file_core.specs.handle_core.Declarations.{InFile as DeclaredIn}
-use Rattle.go_file_core.specs.names_core.Uses.{ident_place}
 use Rattle.go_file_core.specs.names_core.Scope.{some_meaning}
 use Rattle.go_file_core.specs.scope_core.Scopes as scopes
 use Rattle.go_file_core.specs.scope_core.Scopes.{Denoted}
@@ -36,7 +36,7 @@ use Rattle.go_file_core.specs.env_core.Scenes.{SceneModel}
 use Rattle.go_file_core.specs.env_core.Found.{found_of}
 use Rattle.go_file_core.specs.env_core.Looks.{inline_type, inline_faults}
 use Rattle.go_file_core.specs.piece_core.Headers.{returned_types, returned_names}
-use Rattle.go_file_core.specs.piece_core.Pieces.{piece_values, piece_names}
+use Rattle.go_file_core.specs.piece_core.Pieces.{piece_values}
 use Rattle.go_file_core.specs.body_core.Body.{body_of}
 use Rattle.go_file_core.specs.body_core.Notes.{note}
 use Rattle.go_file_core.specs.body_core.Rules.{value_at, local_at, piece_locals}
@@ -160,7 +160,7 @@ module _ (near : Nearby) (file : InFile) (s t : SceneModel) (known others : List
     own_alike = record {
       notes = λ look firsts p sees.
           (λ j. note ((piece look look refl sees p).uses j) ((piece look look refl sees p).faults results has_names firsts inside j) (piece_locals firsts p (local_at p ((piece look look refl sees p).values firsts j))) ∷ []);
-      means = λ look firsts p sees. (λ j n. meanings.Local (ident_place (piece_names p) n) (value_at ((piece look look refl sees p).values firsts j) n));
+      means = λ look firsts p sees. (λ j n. meanings.Local (ident_place (piece_declares p) n) (value_at ((piece look look refl sees p).values firsts j) n));
       are_near = λ look firsts p n sees. value_near (piece_values (looks_where one look) firsts p) n ((piece look look refl sees p).near firsts);
     }
 

@@ -3,7 +3,7 @@ use Rattle.std.proofs.Common.{◌≡◌, ℕ, Bool, List, [], ◌∷◌, refl, s
 use Rattle.std.specs.Prelude.{Some, None, Result, Ok, Err, ⊤, if◌then◌else◌, not}
 use Rattle.std.proofs.lemmas.List.Elements.{Contains-append_left, Contains-append_right}
 use Rattle.go_term_core.specs.decl_core.declared.keys.DeclKey.{DeclKey}
-use Rattle.go_term_core.specs.Terms.{Term, NoType, Predeclared, ErrorType, Defined, PointerTo, StructOf, InterfaceOf, Sign, SignOf, Terms, NoTerm, ATerm, term_keys, terms_keys}
+use Rattle.go_term_core.specs.Terms.{Term, NoType, Predeclared, ErrorType, Defined, PointerTo, StructOf, InterfaceOf, Sign, SignOf, Terms, NoTerm, ATerm, is_no_type, term_keys, terms_keys}
 use Rattle.go_file_core.specs.table_core.Entries.{Entry, find_entry, underlying_in, entry_keys}
 use Rattle.go_file_core.specs.table_core.Assign.{AValue}
 use Rattle.go_file_core.specs.table_core.Laws.{LeadsTo, IsReached, AgreeFrom}
@@ -13,7 +13,7 @@ use Rattle.go_file_core.specs.level_core.Selectors.{Searched, Refused, In, Field
 use Rattle.go_file_core.specs.select_core.Laws.{found_keys}
 use Rattle.go_file_core.specs.select_core.Local.{ReachesWhat, reach_searched, leads_covered, named_covered}
 use Rattle.go_text_core.specs.declared.rule.Rule.{Rule}
-use Rattle.go_file_core.specs.decide_core.Conversion.{is_no_type, is_type_term}
+use Rattle.go_file_core.specs.decide_core.Conversion.{is_type_term}
 use Rattle.go_file_core.specs.decide_core.Selecting.{Choice, selected_of}
 use Rattle.go_file_core.specs.decide_core.Rules.{form_under, term_rules, typed, all_typed, param_types_of, results_of, member_selection}
 use Rattle.go_file_core.specs.decide_core.Localities.{decisions_local}

@@ -10,8 +10,7 @@ use Rattle.go_cycle_core.specs.declared.edge.Edge.{Edge}
 use Rattle.go_cycle_core.specs.Cycle as cycle
 use Rattle.go_cycle_core.specs.Cycle.{InRange, Reaches, IsOnCycle}
 use Rattle.go_cycle_core.proofs.Walks.{leads_back}
-use Rattle.go_needs_core.specs.Needs.{NeedsAreInside, needed, NeedsLead, IsEndless}
-use Rattle.go_needs_core.specs.mirrors.Filling.{edges_at, edges_from}
+use Rattle.go_needs_core.specs.Needs.{NeedsAreInside, needed, NeedsLead, IsEndless, edges_at, edges_from}
 
 abbrev pub edge : ℕ → ℕ → Edge
 edge a b = record { from = a; to = b }

@@ -9,8 +9,8 @@ use Rattle.std.proofs.lemmas.List.FromFn.{length-range_with_len}
 use Rattle.std.proofs.lemmas.List.Elements.{All-contains}
 use Rattle.std.proofs.lemmas.List.Sorted.{Contains-permutation, length_permutation}
 use Rattle.go_cycle_core.specs.Cycle.{IsRanked, IsRanking, IsAfter}
-use Rattle.go_needs_core.specs.Needs.{NeedsAreInside, needed, EndsWithin, IsEndless, known_in, LooksAtNeeds, AreValues}
-use Rattle.go_needs_core.specs.mirrors.Filling.{edges_from, IsMissing, IsThere, IsStep, IsFilled}
+use Rattle.go_needs_core.specs.Needs.{NeedsAreInside, needed, EndsWithin, IsEndless, known_in, LooksAtNeeds, AreValues, edges_from}
+use Rattle.go_needs_core.specs.mirrors.Filling.{IsMissing, IsThere, IsStep, IsFilled}
 use Rattle.go_needs_core.proofs.Needed.{within_more}
 use Rattle.go_needs_core.proofs.Edges.{edge, need_edge, needed_inside, cycle_back, back_before, in_all}
 

@@ -1,6 +1,7 @@
 -- What needs one another, and values of what does not lead back to itself. Nodes are numbers; each has a row of those that it needs.
-use Rattle.std.specs.Prelude.{◌≡◌, ◌<◌, ℕ, zero, suc, List, [], ◌∷◌, Option, Some, None, Vec, All, Contains, length, slice_index_or}
+use Rattle.std.specs.Prelude.{◌≡◌, ◌<◌, ℕ, zero, suc, List, [], ◌∷◌, ◌++◌, map, Option, Some, None, Vec, All, Contains, length, slice_index_or}
 use Rattle.std.specs.declared.alloc.Global.{Global}
+use Rattle.go_cycle_core.specs.declared.edge.Edge.{Edge}
 
 abbrev pub rows_of : List (Vec ℕ Global) → List (List ℕ)
 rows_of [] = []
@@ -9,6 +10,15 @@ rows_of (row ∷ rows) = row.items ∷ rows_of rows
 -- the nodes that a node needs, none past the end
 abbrev pub needed : List (List ℕ) → ℕ → List ℕ
 needed rows a = slice_index_or rows a []
+
+-- an edge from a node to each one of a row
+abbrev pub edges_at : ℕ → List ℕ → List Edge
+edges_at a row = map (λ b. record { from = a; to = b }) row
+
+-- an edge for each node from a number on, and each one that it needs
+abbrev pub edges_from : ℕ → List (List ℕ) → List Edge
+edges_from a [] = []
+edges_from a (row ∷ rows) = edges_at a row ++ edges_from (suc a) rows
 
 -- each node needs nodes of the list
 abbrev pub NeedsAreInside : List (List ℕ) → Type 0

@@ -11,9 +11,9 @@ mod table;
 
 pub use laws::{endless_never_ends, one_table};
 pub use needing::Needing;
-pub use table::values_of;
+pub use table::{edges_of, values_of};
 
 /// What the crates above name of `go_cycle_core`.
 pub mod cycle_core {
-    pub use go_cycle_core::{Edge, rank_and_order};
+    pub use go_cycle_core::rank_and_order;
 }

@@ -1,7 +1,7 @@
 //! The table of values.
 ghost use Rattle.std.specs.Prelude.{◌≡◌, ◌<◌, ◌++◌, ℕ, All, Contains, IfOk, OnOk, MatchOption, None, Some, length, slice_set};
-ghost use Rattle.go_needs_core.specs.Needs.{NeedsAreInside, AreValues, known_in, needed, rows_of};
-ghost use Rattle.go_needs_core.specs.mirrors.Filling.{edges_at, edges_from, IsMissing, IsStep, IsThere};
+ghost use Rattle.go_needs_core.specs.Needs.{NeedsAreInside, AreValues, known_in, needed, rows_of, edges_at, edges_from};
+ghost use Rattle.go_needs_core.specs.mirrors.Filling.{IsMissing, IsStep, IsThere};
 
 use crate::needing::Needing;
 use go_cycle_core::{Edge, rank_and_order};
@@ -17,8 +17,13 @@ fn add_edges(edges: &mut Vec<Edge>, from: usize, row: &[usize]) -> Result<(), Al
     Ok(())
 }
 
-// An edge for each node and each one that it needs.
-fn edges_of(alloc: Global, needs: &[Vec<usize>]) -> Result<Vec<Edge>, AllocError>
+/// An edge for each node and each one that it needs, by their places in the rows: node after node, each in the order of its row. It takes
+/// time that is linear in the rows.
+///
+/// # Errors
+///
+/// `AllocError` where memory is wanting.
+pub fn edges_of(alloc: Global, needs: &[Vec<usize>]) -> Result<Vec<Edge>, AllocError>
     ensures { IfOk result (λ edges. edges.items ≡ edges_from 0 (rows_of needs.now)) }
 {
     let mut edges = Vec::new(alloc);

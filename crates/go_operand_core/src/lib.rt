@@ -26,4 +26,4 @@ pub use operators::{binary, refused_binary};
 pub use prefixes::{refused_unary, unary};
 pub use types::{Operand, TypeForm, TypeLooks, ValueType};
 pub use updates::{increment, update};
-pub use values::{basic_under, default_type};
+pub use values::{basic_under, default_type, form_basic};

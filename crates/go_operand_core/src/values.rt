@@ -24,7 +24,10 @@ pub(crate) fn is_over(basic: Basic, under: Option<Basic>) -> bool
     }
 }
 
-pub(crate) fn form_basic<T: Drop>(form: TypeForm<T>) -> Option<Basic>
+/// Which of bool, int and string a type is over, by the form of what lies under it; none where that is another type, or no type.
+///
+/// The Go specification, "Underlying types".
+pub fn form_basic<T: Drop>(form: TypeForm<T>) -> Option<Basic>
     ensures { result ≡ values.form_basic form }
 {
     match form {

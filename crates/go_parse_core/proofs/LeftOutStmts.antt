@@ -8,7 +8,8 @@ use Rattle.go_tree_nodes.specs.Trees.{ExprTree, SimpleTree, Alone, Step, Assign,
 use Rattle.go_tree_nodes.specs.Spelling.{mark, word, spell_idents, spell_some, spell_simple, spell_some_simple, spell_some_expr, spell_init, spell_if, spell_for, spell_stmt, spell_branch, spell_else, spell_lines}
 use Rattle.go_tree_nodes.specs.Rules.{IsKept, IsPost, IsLastLine, MayEnd, Wf_simple, Wf_some_simple, Wf_some_expr, Wf_init, Wf_if, Wf_for, Wf_stmt, Wf_branch, Wf_else, Wf_lines}
 use Rattle.go_tree_nodes.specs.Heights.{simple_height, some_simple_height, some_expr_height, init_height, if_height, for_height, stmt_height, branch_height, else_height, lines_height}
-use Rattle.go_parse_core.specs.LeftOut.{Sign, Loose, sure, Closes, signs_some, signs_expr, signs_exprs, signs_simple, signs_init, signs_if, signs_for, is_empty, signs_end, signs_stmt, signs_branch, signs_else, signs_lines, Fills_some, Fills_expr, Fills_simple, Fills_init, Fills_if, Fills_for, Fills_stmt, Fills_branch, Fills_else, Fills_lines}
+use Rattle.go_parse_core.specs.LeftOut.{Sign, Loose, sure, Closes, signs_some, signs_expr, signs_exprs, signs_simple, signs_init, signs_if, signs_for, signs_end, signs_stmt, signs_branch, signs_else, signs_lines, Fills_some, Fills_expr, Fills_simple, Fills_init, Fills_if, Fills_for, Fills_stmt, Fills_branch, Fills_else, Fills_lines}
+use Rattle.go_tree_nodes.specs.Counts.{is_empty}
 use Rattle.go_parse_core.proofs.LeftOutParts.{Any, NoClose, Opens, opens_along, opens_not, Splits, nothing, sure_then, one_then, before, both, maps, Kept, loose, kept_then, weaken, Joins, join_nothing, join_before, join_both, join_sure, join_one, join_kept, filled, filled_fills, filled_kept, filled_full, join_loose, Good, Filled, AnyLike, higher, both_high, kept_like, in_braces, join_braces}
 use Rattle.go_parse_core.proofs.LeftOutTypes.{idents_open}
 use Rattle.go_parse_core.proofs.LeftOutExprs.{expr_opens, exprs_open, expr_split, exprs_split, some_exprs_split, expr_fill, exprs_fill, some_exprs_fill}

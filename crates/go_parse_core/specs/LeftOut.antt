@@ -9,6 +9,7 @@ use Rattle.go_scan_core.specs.Tokens.{IsAnswer}
 use Rattle.go_tree_nodes.specs.Terminals.{TerminalKind, Terminal, Number, Mark, terminal, terminals}
 use Rattle.go_tree_nodes.specs.Trees.{Separated, One, Then, TypeTree, FieldTrees, MethodTrees, SignatureTree, ResultTree, ParamTrees, NamedType, Pointer, ParenType, Struct, Interface, NoFields, NamedFields, EmbeddedField, NoMethods, Method, Signed, NoResult, OneResult, Results, NoParams, Param, ExprTree, ItemTrees, Integer, Text, Named, Paren, Unary, Binary, Select, Call, Literal, StructLiteral, NoItems, Item, ValueSpecTree, Specs, Single, Group, ValueTree, TypeSpecTree, TypeDeclTree, SimpleTree, Alone, Step, Assign, Update, Define, IfTree, ForTree, Forever, While, Clauses, StmtTree, BranchTree, ElseTree, Lines, Empty, Declare, Simple, Return, Break, Continue, Block, If, For, Branch, NoElse, ElseBlock, ElseIf, NoLines, Line, FuncTree, DeclTree, Value, Types, Func, TopTree, ImportSpecTree, ImportTree, FileTree}
 use Rattle.go_tree_nodes.specs.Spelling.{mark, word, spell_ident, spell_text, spell_idents, spell_some, spell_type_name, spell_tag, spell_names, spell_key, keyword_of, spell_receiver, spell_import}
+use Rattle.go_tree_nodes.specs.Counts.{is_empty}
 use Rattle.go_tree_nodes.specs.Rules.{Wf_file}
 use Rattle.go_tree_nodes.specs.Heights.{file_height}
 use Rattle.go_parse_core.specs.Correct.{HasTree}
@@ -154,10 +155,6 @@ abbrev pub signs_for : ForTree → List Sign
 signs_for Forever = []
 signs_for (While t) = signs_expr t
 signs_for (Clauses init a test b post) = signs_some signs_simple init ++ (Loose (mark operator.Semicolon a) ∷ (signs_some signs_expr test ++ (Loose (mark operator.Semicolon b) ∷ signs_some signs_simple post)))
-
-abbrev pub is_empty : StmtTree → Bool
-is_empty Empty = true
-is_empty _ = false
 
 -- the semicolon behind a statement. An empty statement writes nothing but its semicolon, and keeps it: with that left
 -- out, `{}` would be a block of no statement, and one of an empty statement

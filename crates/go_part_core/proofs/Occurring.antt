@@ -11,7 +11,7 @@ use Rattle.go_used_core.specs.block_core.declared.imports.Imported.{Imported}
 use Rattle.go_used_core.specs.block_core.Blocks.{BlocksModel}
 use Rattle.go_used_core.specs.block_core.Naming.{HaveOneEach, file_specs}
 use Rattle.go_used_core.specs.expr_core.Laws.{use_place, occurrence_place}
-use Rattle.go_used_core.specs.Used.{TheUse, blank_places, is_import, judged_import, refused_use, used_places, without_unused}
+use Rattle.go_used_core.specs.Used.{FileUse, blank_places, is_import, judged_import, refused_use, used_places, without_unused}
 use Rattle.go_package_core.specs.ready_core.Packages.{trees_in}
 use Rattle.go_package_core.proofs.Meanings.{has_occurrences}
 use Rattle.go_part_core.specs.Inputs.{InputModel, IsInput}
@@ -19,14 +19,14 @@ use Rattle.go_part_core.specs.Laws.{PartHasOccurrences}
 use Rattle.go_part_core.specs.Parts.{ContentOf, FileOf, IsFileMadeIn, IsPart, package_seen, seen_by}
 
 -- what is refused for not being used stands where it stood
-judged_stays : (places : List ℕ) (u : TheUse) → use_place (judged_import places u) ≡ use_place u
+judged_stays : (places : List ℕ) (u : FileUse) → use_place (judged_import places u) ≡ use_place u
 judged_stays places u = by (is_import u.role && not (list_any (λ place. nat_eq place u.offset) places))
   where
     by : (b : Bool) → use_place (if b then refused_use u else u) ≡ use_place u
     by true = refl
     by false = refl
 
-all_stay : (places : List ℕ) (us : List TheUse) → map use_place (map (judged_import places) us) ≡ map use_place us
+all_stay : (places : List ℕ) (us : List FileUse) → map use_place (map (judged_import places) us) ≡ map use_place us
 all_stay places [] = refl
 all_stay places (u ∷ us) = ap (λ p. p ∷ map use_place (map (judged_import places) us)) (judged_stays places u) ∙ ap (λ l. use_place u ∷ l) (all_stay places us)
 
@@ -37,7 +37,7 @@ imports_there (t ∷ ts) [] n f h e = absurd h
 imports_there (t ∷ ts) (is ∷ files) zero f h e = (let same : tree_shown t ≡ f = cc in subst (λ g. length (file_specs g) ≡ length is) same h.0)
 imports_there (t ∷ ts) (is ∷ files) (suc n) f h e = imports_there ts files n f h.1 e
 
-file_stays : (b : BlocksModel) (n : ℕ) (f : FileTree) (us new : List TheUse) → new ≡ without_unused b n f us → map use_place new ≡ map use_place us
+file_stays : (b : BlocksModel) (n : ℕ) (f : FileTree) (us new : List FileUse) → new ≡ without_unused b n f us → map use_place new ≡ map use_place us
 file_stays b n f us new is = ap (map use_place) is ∙ all_stay (blank_places f ++ used_places b n (file_occs f) us) us
 
 -- one file

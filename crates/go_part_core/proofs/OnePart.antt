@@ -12,7 +12,7 @@ use Rattle.go_used_core.specs.expr_core.declared.things.Fault.{Fault}
 use Rattle.go_used_core.specs.report_core.Faults.{ComesBefore, IsSettled}
 use Rattle.go_used_core.specs.report_core.Settled.{settled_are_one}
 use Rattle.go_used_core.specs.Reported.{IsReported}
-use Rattle.go_used_core.specs.Used.{TheUse}
+use Rattle.go_used_core.specs.Used.{FileUse}
 use Rattle.go_package_core.specs.ready_core.Packages.{trees_in}
 use Rattle.go_package_core.specs.Checked.{AnswersOf, CheckedOf, IsChecked}
 use Rattle.go_package_core.proofs.Meanings.{one_check}
@@ -24,7 +24,7 @@ settles_to_itself : (fs : List Fault) → AllPairs ComesBefore fs → IsSettled 
 settles_to_itself fs ordered = record { ordered = ordered; kept = λ f h new. h; found = λ f h. h; unsaid = λ f h s. absurd s }
 
 -- what is reported beside the same is one
-one_report : (us : List TheUse) (fs report again : List Fault) → IsReported us fs report → IsReported us fs again → report ≡ again
+one_report : (us : List FileUse) (fs report again : List Fault) → IsReported us fs report → IsReported us fs again → report ≡ again
 one_report us fs report again h k =
     settled_are_one Declaration (List ℕ) [] [] report again report again
     (λ f. ((λ x. x), (λ x. x)))

@@ -1,10 +1,17 @@
 //! The ends of what holds trees and types, so that crates above prove no drops of them. They promise nothing: no answer may rest on them.
 use crate::part::Part;
+use go_package_core::table_core::TypeTable;
 use go_told_core::SummaryList;
-use go_told_core::summary_core::View;
+use go_told_core::summary_core::{Summary, View};
 
 /// Ends parts, as their drops do.
 pub fn close_parts(_parts: Vec<Part>) {}
+
+/// Ends what packages tell, as their drops do.
+pub fn close_told(_told: Vec<Summary>) {}
+
+/// Ends a table of types, as its drop does.
+pub fn close_types(_types: TypeTable) {}
 
 /// Ends what is seen of packages, as its drop does.
 pub fn close_view(_seen: View) {}

@@ -14,7 +14,7 @@ mod parts;
 mod same;
 
 pub use content::{PackageContent, compile_over};
-pub use ending::{close_parts, close_summaries, close_view};
+pub use ending::{close_parts, close_summaries, close_told, close_types, close_view};
 pub use files::PartFile;
 pub use input::PartInput;
 pub use laws::{one_part, part_has_occurrences};

@@ -10,15 +10,17 @@ use Rattle.go_tree_nodes.specs.declared.decls.ValueKind.{ValueKind}
 use Rattle.go_tree_nodes.specs.declared.decls.ValueKind.TheVariants as kinds
 use Rattle.go_tree_nodes.specs.declared.files.Receiver.{Receiver}
 use Rattle.go_tree_nodes.specs.Trees.{Separated, One, Then, TypeTree, ExprTree, Integer, Text, Named, Paren, Unary, Binary, Select, Call, Literal, StructLiteral, NoItems, SignatureTree, ResultTree, ParamTrees, Signed, NoResult, OneResult, Results, NoParams, Param, SimpleTree, Alone, Step, Assign, Update, Define}
+use Rattle.go_tree_nodes.specs.WrittenTypes.{params_types, result_types, signature_types, some_type, values_types, simple_types, exprs_types, expr_types, items_types}
 use Rattle.go_open_core.specs.Blocks.{is_listed, list_name}
 use Rattle.go_walk_core.specs.Ends.{is_blank_target}
 use Rattle.go_walk_core.specs.local_core.Steps.{Piece, Header, Spec, Act, Condition, Given}
 use Rattle.go_walk_core.specs.local_core.Outline as outline
+use Rattle.go_walk_core.specs.local_core.Pieces.{piece_types}
 use Rattle.go_statement_core.specs.denote_core.declared.things.Place.TheVariants as places
 use Rattle.go_statement_core.specs.denote_core.declared.things.Denoted.{Denoted}
 use Rattle.go_statement_core.specs.denote_core.declared.things.Denoted.TheVariants as denotes
 use Rattle.go_statement_core.specs.denote_core.declared.things.Found.{Found}
-use Rattle.go_statement_core.specs.denote_core.Arguments.{argument_of, arguments_of, is_free}
+use Rattle.go_statement_core.specs.denote_core.Arguments.{argument_of, arguments_of, is_free, single_rule}
 use Rattle.go_expr_core.specs.literal_core.Literals.{literal_type}
 use Rattle.go_statement_core.specs.declared.targets.Target.TheVariants as targets_are
 use Rattle.go_statement_core.specs.Targets.{target_of}
@@ -33,11 +35,11 @@ use Rattle.go_expr_core.specs.Places.{start}
 use Rattle.go_expr_core.specs.Denoting.{denoted, named_type, written_type}
 use Rattle.go_expr_core.specs.Uses.{uses, type_name_uses, params_spots, result_spots, type_spots, use_of}
 use Rattle.go_expr_core.specs.TypeUses.{type_uses, signature_uses, result_uses, params_uses}
-use Rattle.go_expr_core.specs.Faults.{fault_at, single_rule, listed_rule, operand_faults, member_faults}
+use Rattle.go_expr_core.specs.Faults.{fault_at, listed_rule, operand_faults, member_faults}
 use Rattle.go_expr_core.specs.Lists.{is_list, denoted_exprs, exprs_uses, exprs_faults}
 use Rattle.go_expr_core.specs.Laws as expressions
 use Rattle.go_expr_core.specs.Laws.{AgreeOnIdents, Same}
-use Rattle.go_expr_core.specs.Locality.{struct_types, struct_types_in, SameType, SameWritten, seeing}
+use Rattle.go_expr_core.specs.Locality.{SameType, SameWritten, seeing}
 use Rattle.go_expr_core.proofs.Alike.{expressions_seen}
 use Rattle.std.proofs.lemmas.List.{map-append}
 use Rattle.std.proofs.Common.{append-nil}
@@ -93,7 +95,7 @@ module _ {T S D P : Type 0} (looks : Looks T S D P) (find : List ℕ → ℕ →
   abbrev SameExpr : ExprTree → Type 0
   SameExpr e = Same T S D P looks other places.«Value» e
 
-  expr_same : (e : ExprTree) → Both (expressions.expr_idents e) (struct_types e) → SameExpr e
+  expr_same : (e : ExprTree) → Both (expressions.expr_idents e) (expr_types e) → SameExpr e
   expr_same e h = (expressions_seen T S D P).whole looks find written places.«Value» e h.0 h.1
 
   -- types
@@ -118,54 +120,54 @@ module _ {T S D P : Type 0} (looks : Looks T S D P) (find : List ℕ → ℕ →
       ∙ (((expressions_seen T S D P).whole looks find written places.«Value» (StructLiteral t nowhere NoItems nowhere) (with_nothing (expressions.type_idents t) h) k).uses
       ∙ ap (map (use_of other)) (append-nil (type_spots other t)))
 
-  params_used : (ps : ParamTrees) → Finds (expressions.params_idents ps) → Makes (laws.params_types ps) → params_uses looks ps ≡ params_uses other ps
+  params_used : (ps : ParamTrees) → Finds (expressions.params_idents ps) → Makes (params_types ps) → params_uses looks ps ≡ params_uses other ps
   params_used NoParams h k = refl
   params_used (Param xs t comma rest) h k =
       map-append (use_of looks) (type_spots looks t) (params_spots looks rest)
       ∙ (pieces (type_uses looks t) (params_uses looks rest) (type_uses other t) (params_uses other rest) (type_used t (agree_left looks.find find (expressions.type_idents t) (expressions.params_idents rest) h) (k.0, tt)) (params_used rest (agree_right looks.find find (expressions.type_idents t) (expressions.params_idents rest) h) k.1)
       ∙ sym (map-append (use_of other) (type_spots other t) (params_spots other rest)))
 
-  result_used : (r : ResultTree) → Finds (expressions.result_type_idents r) → Makes (laws.result_types r) → result_uses looks r ≡ result_uses other r
+  result_used : (r : ResultTree) → Finds (expressions.result_type_idents r) → Makes (result_types r) → result_uses looks r ≡ result_uses other r
   result_used NoResult h k = refl
   result_used (OneResult t) h k = type_used t h k
   result_used (Results first params last) h k = params_used params h k
 
-  signature_used : (s : SignatureTree) → Finds (expressions.signature_type_idents s) → Makes (laws.signature_types s) → signature_uses looks s ≡ signature_uses other s
+  signature_used : (s : SignatureTree) → Finds (expressions.signature_type_idents s) → Makes (signature_types s) → signature_uses looks s ≡ signature_uses other s
   signature_used (Signed first params last result) h k =
       map-append (use_of looks) (params_spots looks params) (result_spots looks result)
       ∙ (pieces (params_uses looks params) (result_uses looks result) (params_uses other params) (result_uses other result)
-      (params_used params (agree_left looks.find find (expressions.params_idents params) (expressions.result_type_idents result) h) (makes_left (laws.params_types params) (laws.result_types result) k))
-      (result_used result (agree_right looks.find find (expressions.params_idents params) (expressions.result_type_idents result) h) (makes_right (laws.params_types params) (laws.result_types result) k))
+      (params_used params (agree_left looks.find find (expressions.params_idents params) (expressions.result_type_idents result) h) (makes_left (params_types params) (result_types result) k))
+      (result_used result (agree_right looks.find find (expressions.params_idents params) (expressions.result_type_idents result) h) (makes_right (params_types params) (result_types result) k))
       ∙ sym (map-append (use_of other) (params_spots other params) (result_spots other result)))
 
-  params_noted : (ps : ParamTrees) → Makes (laws.params_types ps) → params_faults looks ps ≡ params_faults other ps
+  params_noted : (ps : ParamTrees) → Makes (params_types ps) → params_faults looks ps ≡ params_faults other ps
   params_noted NoParams k = refl
   params_noted (Param xs t comma rest) k = pieces (type_faults looks t) (params_faults looks rest) (type_faults other t) (params_faults other rest) k.0.faults_of (params_noted rest k.1)
 
-  result_noted : (r : ResultTree) → Makes (laws.result_types r) → result_faults looks r ≡ result_faults other r
+  result_noted : (r : ResultTree) → Makes (result_types r) → result_faults looks r ≡ result_faults other r
   result_noted NoResult k = refl
   result_noted (OneResult t) k = k.0.faults_of
   result_noted (Results first params last) k = params_noted params k
 
-  signature_noted : (s : SignatureTree) → Makes (laws.signature_types s) → signature_faults looks s ≡ signature_faults other s
+  signature_noted : (s : SignatureTree) → Makes (signature_types s) → signature_faults looks s ≡ signature_faults other s
   signature_noted (Signed first params last result) k =
       pieces (params_faults looks params) (result_faults looks result) (params_faults other params) (result_faults other result)
-      (params_noted params (makes_left (laws.params_types params) (laws.result_types result) k)) (result_noted result (makes_right (laws.params_types params) (laws.result_types result) k))
+      (params_noted params (makes_left (params_types params) (result_types result) k)) (result_noted result (makes_right (params_types params) (result_types result) k))
 
-  entries_same : (ps : ParamTrees) → Makes (laws.params_types ps) → entry_types looks false ps ≡ entry_types other false ps
+  entries_same : (ps : ParamTrees) → Makes (params_types ps) → entry_types looks false ps ≡ entry_types other false ps
   entries_same NoParams k = refl
   entries_same (Param xs t comma rest) k =
       pieces (of_entry false xs (written_type looks t)) (entry_types looks false rest) (of_entry false xs (written_type other t)) (entry_types other false rest) (ap (of_entry false xs) k.0.type_of) (entries_same rest k.1)
 
-  results_same : (r : ResultTree) → Makes (laws.result_types r) → types_of_result looks false r ≡ types_of_result other false r
+  results_same : (r : ResultTree) → Makes (result_types r) → types_of_result looks false r ≡ types_of_result other false r
   results_same NoResult k = refl
   results_same (OneResult t) k = refl
   results_same (Results first params last) k = entries_same params k
 
-  signature_same : (s : SignatureTree) → Makes (laws.signature_types s) → types_of_signature looks s ≡ types_of_signature other s
+  signature_same : (s : SignatureTree) → Makes (signature_types s) → types_of_signature looks s ≡ types_of_signature other s
   signature_same (Signed first params last result) k =
       pieces (entry_types looks false params) (types_of_result looks false result) (entry_types other false params) (types_of_result other false result)
-      (entries_same params (makes_left (laws.params_types params) (laws.result_types result) k)) (results_same result (makes_right (laws.params_types params) (laws.result_types result) k))
+      (entries_same params (makes_left (params_types params) (result_types result) k)) (results_same result (makes_right (params_types params) (result_types result) k))
 
   receiver_used : (r : Option Receiver) → Finds (laws.receiver_type_idents r) → receiver_uses looks r ≡ receiver_uses other r
   receiver_used None h = refl
@@ -188,11 +190,11 @@ module _ {T S D P : Type 0} (looks : Looks T S D P) (find : List ℕ → ℕ →
   operand_same : (e : ExprTree) → SameExpr e → operand_faults looks places.«Value» e ≡ operand_faults other places.«Value» e
   operand_same e s = pieces _ _ _ _ s.faults (ap (λ d. fault_at (start e) (single_rule d)) s.denoted)
 
-  list_same : (es : Separated ExprTree) → Both (laws.list_idents es) (laws.list_types es) → SameList es
+  list_same : (es : Separated ExprTree) → Both (laws.list_idents es) (exprs_types es) → SameList es
   list_same (One e) h = let s = expr_same e h in record { denoted = ap (λ d. d ∷ []) s.denoted; uses = s.uses; faults = λ b. member_same b e s }
   list_same (Then e comma more) h =
-      let s = expr_same e (left (expressions.expr_idents e) (laws.list_idents more) (struct_types e) (laws.list_types more) h) in
-      let rest = list_same more (right (expressions.expr_idents e) (laws.list_idents more) (struct_types e) (laws.list_types more) h) in
+      let s = expr_same e (left (expressions.expr_idents e) (laws.list_idents more) (expr_types e) (exprs_types more) h) in
+      let rest = list_same more (right (expressions.expr_idents e) (laws.list_idents more) (expr_types e) (exprs_types more) h) in
       record {
         denoted = ap (λ d. d ∷ denoted_exprs looks more) s.denoted ∙ ap (λ l. denoted other places.«Value» e ∷ l) rest.denoted;
         uses = pieces _ _ _ _ s.uses rest.uses;
@@ -220,7 +222,7 @@ module _ {T S D P : Type 0} (looks : Looks T S D P) (find : List ℕ → ℕ →
 
   -- left sides
 
-  target_same : (b : Bool) (e : ExprTree) → Finds (laws.target_idents e) → Makes (struct_types e)
+  target_same : (b : Bool) (e : ExprTree) → Finds (laws.target_idents e) → Makes (expr_types e)
       → (target looks b e ≡ target other b e) × (target_uses looks e ≡ target_uses other e) × (target_faults looks b e ≡ target_faults other b e)
   target_same b e h k = by (is_blank_target e) h
     where
@@ -231,13 +233,13 @@ module _ {T S D P : Type 0} (looks : Looks T S D P) (find : List ℕ → ℕ →
       by true h = (refl, refl, refl)
       by false h = let s = expr_same e (h, k) in (ap (λ d. target_of d (not b)) s.denoted, s.uses, member_same b e s)
 
-  targets_same : (b : Bool) (es : Separated ExprTree) → Both (laws.targets_idents es) (laws.list_types es)
+  targets_same : (b : Bool) (es : Separated ExprTree) → Both (laws.targets_idents es) (exprs_types es)
       → (targets looks b es ≡ targets other b es) × (targets_uses looks es ≡ targets_uses other es) × (targets_faults looks b es ≡ targets_faults other b es)
   targets_same b (One e) h = let s = target_same b e h.0 h.1 in (ap (λ t. t ∷ []) s.0, s.1, s.2)
   targets_same b (Then e comma more) h =
-      let here = left (laws.target_idents e) (laws.targets_idents more) (struct_types e) (laws.list_types more) h in
+      let here = left (laws.target_idents e) (laws.targets_idents more) (expr_types e) (exprs_types more) h in
       let s = target_same b e here.0 here.1 in
-      let rest = targets_same b more (right (laws.target_idents e) (laws.targets_idents more) (struct_types e) (laws.list_types more) h) in
+      let rest = targets_same b more (right (laws.target_idents e) (laws.targets_idents more) (expr_types e) (exprs_types more) h) in
       (ap (λ t. t ∷ targets looks b more) s.0 ∙ ap (λ l. target other b e ∷ l) rest.0, pieces _ _ _ _ s.1 rest.1, pieces _ _ _ _ s.2 rest.2)
 
   old_same : (x : Ident) → Finds (x ∷ []) → old_target looks x ≡ old_target other x
@@ -251,17 +253,17 @@ module _ {T S D P : Type 0} (looks : Looks T S D P) (find : List ℕ → ℕ →
 
   -- specifications
 
-  some_type_same : (t : Option TypeTree) → Both (laws.some_type_idents t) (laws.some_type t)
+  some_type_same : (t : Option TypeTree) → Both (laws.some_type_idents t) (some_type t)
       → (some_written_type looks t ≡ some_written_type other t) × (some_type_uses looks t ≡ some_type_uses other t) × (some_type_faults looks t ≡ some_type_faults other t)
   some_type_same None h = (refl, refl, refl)
   some_type_same (Some t) h = (ap (λ t. Some t) h.1.0.type_of, type_used t h.0 h.1, h.1.0.faults_of)
 
-  values_same : (v : Option (Span × Separated ExprTree)) → Both (laws.values_idents v) (laws.values_types v)
+  values_same : (v : Option (Span × Separated ExprTree)) → Both (laws.values_idents v) (values_types v)
       → (values_given looks v ≡ values_given other v) × (values_uses looks v ≡ values_uses other v) × (values_faults looks v ≡ values_faults other v)
   values_same None h = (refl, refl, refl)
   values_same (Some v) h = let s = list_same v.1 h in (given_same v.1 s, s.uses, s.faults (is_list v.1))
 
-  own_same : (kind : ValueKind) (xs : Separated Ident) (w w' : Option (Option T)) (v : Option (Span × Separated ExprTree)) → w ≡ w' → Both (laws.values_idents v) (laws.values_types v)
+  own_same : (kind : ValueKind) (xs : Separated Ident) (w w' : Option (Option T)) (v : Option (Span × Separated ExprTree)) → w ≡ w' → Both (laws.values_idents v) (values_types v)
       → own_faults looks kind xs w v ≡ own_faults other kind xs w' v
   own_same kinds.Const xs w w' None e h = refl
   own_same kinds.Const xs w w' (Some v) e h =
@@ -282,10 +284,10 @@ module _ {T S D P : Type 0} (looks : Looks T S D P) (find : List ℕ → ℕ →
 
   -- statements
 
-  callee_same : (e : ExprTree) → Both (expressions.expr_idents e) (struct_types e) → callee_of looks e ≡ callee_of other e
+  callee_same : (e : ExprTree) → Both (expressions.expr_idents e) (expr_types e) → callee_of looks e ≡ callee_of other e
   callee_same (Call e first items last) h =
       ap (λ d. Some d) ((expressions_seen T S D P).whole looks find written places.Callee e (agree_left looks.find find (expressions.expr_idents e) (expressions.items_idents items) h.0)
-      (makes_left (struct_types e) (struct_types_in items) h.1)).denoted
+      (makes_left (expr_types e) (items_types items) h.1)).denoted
   callee_same (Paren first e last) h = callee_same e h
   callee_same (Integer n span) h = refl
   callee_same (Text t) h = refl
@@ -296,7 +298,7 @@ module _ {T S D P : Type 0} (looks : Looks T S D P) (find : List ℕ → ℕ →
   callee_same (Literal n first items last) h = refl
   callee_same (StructLiteral t first items last) h = refl
 
-  simple_same : (s : SimpleTree) → Both (laws.simple_idents s) (laws.simple_types s)
+  simple_same : (s : SimpleTree) → Both (laws.simple_idents s) (simple_types s)
       → (simple_uses looks s ≡ simple_uses other s) × ((firsts : List Bool) → simple_faults looks firsts s ≡ simple_faults other firsts s) × ((firsts : List Bool) → simple_values looks firsts s ≡ simple_values other firsts s)
   simple_same (Alone e) h =
       let s = expr_same e h in
@@ -305,8 +307,8 @@ module _ {T S D P : Type 0} (looks : Looks T S D P) (find : List ℕ → ℕ →
       let s = expr_same e h in
       (s.uses, λ firsts. pieces _ _ _ _ (operand_same e s) (ap (λ d. fault_at (start e) (increment_rule looks.types (argument_of d))) s.denoted), λ firsts. refl)
   simple_same (Assign ts span es) h =
-      let ls = targets_same (is_list ts) ts (left (laws.targets_idents ts) (laws.list_idents es) (laws.list_types ts) (laws.list_types es) h) in
-      let s = list_same es (right (laws.targets_idents ts) (laws.list_idents es) (laws.list_types ts) (laws.list_types es) h) in (
+      let ls = targets_same (is_list ts) ts (left (laws.targets_idents ts) (laws.list_idents es) (exprs_types ts) (exprs_types es) h) in
+      let s = list_same es (right (laws.targets_idents ts) (laws.list_idents es) (exprs_types ts) (exprs_types es) h) in (
         pieces _ _ _ _ ls.1 s.uses,
         λ firsts. pieces _ _ _ _ ls.2 (pieces _ _ _ _ (s.faults (is_list es)) (ap (fault_at (list_start ts))
             (ap (λ l. assignment_rule looks.types l (is_unknown looks es) (given looks es)) ls.0
@@ -315,8 +317,8 @@ module _ {T S D P : Type 0} (looks : Looks T S D P) (find : List ℕ → ℕ →
         λ firsts. refl,
       )
   simple_same (Update e op span v) h =
-      let s = expr_same e (left (expressions.expr_idents e) (expressions.expr_idents v) (struct_types e) (struct_types v) h) in
-      let r = expr_same v (right (expressions.expr_idents e) (expressions.expr_idents v) (struct_types e) (struct_types v) h) in (
+      let s = expr_same e (left (expressions.expr_idents e) (expressions.expr_idents v) (expr_types e) (expr_types v) h) in
+      let r = expr_same v (right (expressions.expr_idents e) (expressions.expr_idents v) (expr_types e) (expr_types v) h) in (
         pieces _ _ _ _ s.uses r.uses,
         λ firsts. pieces _ _ _ _ (operand_same e s) (pieces _ _ _ _ (operand_same v r) (ap (fault_at (start e))
             (ap (λ d. update_rule looks.types op (argument_of d) (operand_argument looks v)) s.denoted ∙ ap (λ d. update_rule looks.types op (operand_argument other e) (argument_of d)) r.denoted))),
@@ -335,7 +337,7 @@ module _ {T S D P : Type 0} (looks : Looks T S D P) (find : List ℕ → ℕ →
             (ap (λ l. short_types looks.types l (given looks es)) (ts firsts) ∙ ap (short_types looks.types (short_targets other firsts [] (outline.idents xs))) (given_same es s)),
       )
 
-  piece_same : (p : Piece) → Both (laws.piece_idents p) (laws.piece_types p) → SamePiece T S D P looks other p
+  piece_same : (p : Piece) → Both (laws.piece_idents p) (piece_types p) → SamePiece T S D P looks other p
   piece_same (Header r s) h =
       let of_receiver = agree_left looks.find find (laws.receiver_type_idents r) (expressions.signature_type_idents s) h.0 in
       record {
@@ -344,8 +346,8 @@ module _ {T S D P : Type 0} (looks : Looks T S D P) (find : List ℕ → ℕ →
         values = λ firsts. ap (map variable) (pieces _ _ _ _ (receiver_same r of_receiver) (signature_same s h.1));
       }
   piece_same (Spec kind v) h =
-      let t = some_type_same v.type_expr (left (laws.some_type_idents v.type_expr) (laws.values_idents v.values) (laws.some_type v.type_expr) (laws.values_types v.values) h) in
-      let in_list = right (laws.some_type_idents v.type_expr) (laws.values_idents v.values) (laws.some_type v.type_expr) (laws.values_types v.values) h in
+      let t = some_type_same v.type_expr (left (laws.some_type_idents v.type_expr) (laws.values_idents v.values) (some_type v.type_expr) (values_types v.values) h) in
+      let in_list = right (laws.some_type_idents v.type_expr) (laws.values_idents v.values) (some_type v.type_expr) (values_types v.values) h in
       let s = values_same v.values in_list in
       record {
         uses = pieces _ _ _ _ t.1 s.1;

@@ -33,7 +33,7 @@ use Rattle.go_piece_core.specs.Specifications.{values_uses}
 use Rattle.go_piece_core.specs.Headers.{receiver_uses}
 use Rattle.go_piece_core.specs.Statements.{simple_uses}
 use Rattle.go_piece_core.specs.Pieces.{piece_uses}
-use Rattle.go_piece_core.specs.Laws.{piece_occs, IsWellFormed, steps_occs, PiecesHaveOccurrences}
+use Rattle.go_piece_core.specs.Laws.{piece_occs, IsWellFormedPiece, steps_occs, PiecesHaveOccurrences}
 
 -- pieces
 
@@ -121,7 +121,7 @@ module _ {T S D P : Type 0} (looks : Looks T S D P) where
       both (uses looks places.«Value» e) (uses looks places.«Value» v) (expr_occs contexts.«Value» e) (expr_occs contexts.«Value» v) (value_occurs header e wf.1) (value_occurs header v wf.2)
   simple_occurs header (Define xs span es) wf = list_occurs header es wf
 
-  piece_occurs : (header : Bool) (p : Piece) → IsWellFormed header p → Occur (piece_uses looks p) (piece_occs p)
+  piece_occurs : (header : Bool) (p : Piece) → IsWellFormedPiece header p → Occur (piece_uses looks p) (piece_occs p)
   piece_occurs header (Header r s) wf = both (receiver_uses looks r) (signature_uses looks s) (receiver_occs r) (signature_occs s) (receiver_occurs r) (signature_occurs s (record { name = []; span = record { start = 0; end = 0 } }))
   piece_occurs header (Spec kind v) wf =
       both (some_type_uses looks v.type_expr) (values_uses looks v.values) (some_type_occs v.type_expr) (values_occs v.values) (some_type_occurs v.type_expr) (values_occur v.values wf)
@@ -130,7 +130,7 @@ module _ {T S D P : Type 0} (looks : Looks T S D P) where
   piece_occurs header (Given place None) wf = none
   piece_occurs header (Given place (Some es)) wf = list_occurs false es wf
 
-  placed : (header : Bool) (p : Piece) → IsWellFormed header p → map use_place (piece_uses looks p) ≡ map occurrence_place (piece_occs p)
+  placed : (header : Bool) (p : Piece) → IsWellFormedPiece header p → map use_place (piece_uses looks p) ≡ map occurrence_place (piece_occs p)
   placed header p wf = (piece_occurs header p wf).is
 
 -- functions

@@ -2,12 +2,13 @@
 --
 -- docs/RULES.md, "Occurrences", "Expressions: roles, order, faults of parts", "Assignments, declarations, returns, statements". The Go
 -- specification, "Declarations and scope".
-use Rattle.std.specs.Prelude.{◌≡◌, ℕ, ⊤, Bool, List, [], ◌∷◌, ◌++◌, length, map, Option, Some, None, if◌then◌else◌}
+use Rattle.std.specs.Prelude.{◌≡◌, ℕ, ⊤, Bool, List, [], ◌++◌, length, map, Option, Some, None, if◌then◌else◌}
 use Rattle.go_text_core.specs.declared.span.Span.{Span}
 use Rattle.go_tree_nodes.specs.declared.names.Ident.{Ident}
 use Rattle.go_tree_nodes.specs.declared.files.Receiver.{Receiver}
-use Rattle.go_tree_nodes.specs.Trees.{Separated, One, Then, TypeTree, ExprTree, SignatureTree, ResultTree, ParamTrees, Signed, NoResult, OneResult, Results, NoParams, Param, SimpleTree, Alone, Step, Assign, Update, Define, FuncTree}
+use Rattle.go_tree_nodes.specs.Trees.{Separated, One, Then, TypeTree, ExprTree, SimpleTree, Alone, Step, Assign, Update, Define, FuncTree}
 use Rattle.go_tree_nodes.specs.Rules.{Wf, Wf_values, Wf_simple, Wf_some_exprs}
+use Rattle.go_tree_nodes.specs.WrittenTypes.{expr_types, some_exprs_types, signature_types, spec_types, simple_types}
 use Rattle.go_expr_core.specs.tree_core.declared.occurrence.Context.TheVariants as contexts
 use Rattle.go_expr_core.specs.tree_core.declared.occurrence.Occ.{Occ}
 use Rattle.go_expr_core.specs.tree_core.Occurrences.{receiver_occs, signature_occs, value_spec_occs, simple_occs, expr_occs, some_exprs_occs, func_occs}
@@ -24,8 +25,9 @@ use Rattle.go_expr_core.specs.declared.things.Use.{Use}
 use Rattle.go_expr_core.specs.declared.things.Fault.{Fault}
 use Rattle.go_expr_core.specs.Looks.{Looks, WrittenRules}
 use Rattle.go_expr_core.specs.Laws as expressions
-use Rattle.go_expr_core.specs.Locality.{struct_types, SameWritten, seeing}
-use Rattle.go_piece_core.specs.Pieces.{piece_uses, piece_faults, piece_values, piece_names}
+use Rattle.go_expr_core.specs.Locality.{SameWritten, seeing}
+use Rattle.go_piece_core.specs.Pieces.{piece_uses, piece_faults, piece_values}
+use Rattle.go_walk_core.specs.local_core.Pieces.{piece_declares, piece_types}
 
 -- each occurrence has exactly one outcome, and no other place has one
 
@@ -38,12 +40,12 @@ piece_occs (Condition e) = expr_occs contexts.«Value» e
 piece_occs (Given place es) = some_exprs_occs es
 
 -- its expressions respect the grammar, in a header or not
-abbrev pub IsWellFormed : Bool → Piece → Type 0
-IsWellFormed header (Header r s) = ⊤
-IsWellFormed header (Spec kind v) = Wf_values v.values
-IsWellFormed header (Act s) = Wf_simple header s
-IsWellFormed header (Condition e) = Wf header e
-IsWellFormed header (Given place es) = Wf_some_exprs es
+abbrev pub IsWellFormedPiece : Bool → Piece → Type 0
+IsWellFormedPiece header (Header r s) = ⊤
+IsWellFormedPiece header (Spec kind v) = Wf_values v.values
+IsWellFormedPiece header (Act s) = Wf_simple header s
+IsWellFormedPiece header (Condition e) = Wf header e
+IsWellFormedPiece header (Given place es) = Wf_some_exprs es
 
 -- the occurrences of steps
 abbrev pub steps_occs : Steps → List Occ
@@ -54,14 +56,14 @@ steps_occs (Inner o c steps rest) = steps_occs steps ++ steps_occs rest
 
 pub record PiecesHaveOccurrences (T S D P : Type 0) : Type 0 where
   -- what is noted of a piece stands where its occurrences stand, with their roles and in their order
-  pub pieces : (looks : Looks T S D P) (header : Bool) (p : Piece) → IsWellFormed header p → map expressions.use_place (piece_uses looks p) ≡ map expressions.occurrence_place (piece_occs p)
+  pub pieces : (looks : Looks T S D P) (header : Bool) (p : Piece) → IsWellFormedPiece header p → map expressions.use_place (piece_uses looks p) ≡ map expressions.occurrence_place (piece_occs p)
   -- the occurrences of a function are those of its pieces
   pub functions : (f : FuncTree) → func_occs f ≡ steps_occs (func_steps f)
 
 -- each name that is declared stands for one thing
 
 abbrev pub NamesHaveValues : (T S D P : Type 0) → Type 0
-NamesHaveValues T S D P = (looks : Looks T S D P) (firsts : List Bool) (p : Piece) → length (piece_values looks firsts p) ≡ length (piece_names p)
+NamesHaveValues T S D P = (looks : Looks T S D P) (firsts : List Bool) (p : Piece) → length (piece_values looks firsts p) ≡ length (piece_declares p)
 
 -- a piece looks at the names in it alone, each where it stands
 
@@ -107,50 +109,6 @@ piece_idents (Spec kind v) = some_type_idents v.type_expr ++ values_idents v.val
 piece_idents (Act s) = simple_idents s
 piece_idents (Condition e) = expressions.expr_idents e
 piece_idents (Given place es) = returned_idents es
-
--- the types that a piece writes: those of its declarations, and struct types before literals
-
-abbrev pub list_types : Separated ExprTree → List TypeTree
-list_types (One e) = struct_types e
-list_types (Then e comma more) = struct_types e ++ list_types more
-
-abbrev pub params_types : ParamTrees → List TypeTree
-params_types NoParams = []
-params_types (Param xs t comma rest) = t ∷ params_types rest
-
-abbrev pub result_types : ResultTree → List TypeTree
-result_types NoResult = []
-result_types (OneResult t) = t ∷ []
-result_types (Results first params last) = params_types params
-
-abbrev pub signature_types : SignatureTree → List TypeTree
-signature_types (Signed first params last result) = params_types params ++ result_types result
-
-abbrev pub some_type : Option TypeTree → List TypeTree
-some_type None = []
-some_type (Some t) = t ∷ []
-
-abbrev pub values_types : Option (Span × Separated ExprTree) → List TypeTree
-values_types None = []
-values_types (Some v) = list_types v.1
-
-abbrev pub returned_type_trees : Option (Separated ExprTree) → List TypeTree
-returned_type_trees None = []
-returned_type_trees (Some es) = list_types es
-
-abbrev pub simple_types : SimpleTree → List TypeTree
-simple_types (Alone e) = struct_types e
-simple_types (Step e op span) = struct_types e
-simple_types (Assign ts span es) = list_types ts ++ list_types es
-simple_types (Update e op span v) = struct_types e ++ struct_types v
-simple_types (Define xs span es) = list_types es
-
-abbrev pub piece_types : Piece → List TypeTree
-piece_types (Header r s) = signature_types s
-piece_types (Spec kind v) = some_type v.type_expr ++ values_types v.values
-piece_types (Act s) = simple_types s
-piece_types (Condition e) = struct_types e
-piece_types (Given place es) = returned_type_trees es
 
 -- the same is noted, and the names stand for the same
 pub record SamePiece (T S D P : Type 0) (looks other : Looks T S D P) (p : Piece) : Type 0 where

@@ -6,6 +6,7 @@ use Rattle.std.specs.Prelude.{Bool, List, [], map, Option}
 use Rattle.go_tree_nodes.specs.declared.names.Ident.{Ident}
 use Rattle.go_tree_nodes.specs.Trees.{SimpleTree, Alone, Step, Assign, Update, Define}
 use Rattle.go_walk_core.specs.local_core.Steps.{Piece, Header, Spec, Act, Condition, Given}
+use Rattle.go_walk_core.specs.local_core.Pieces.{simple_declares}
 use Rattle.go_walk_core.specs.local_core.Outline.{idents, header_idents}
 use Rattle.go_statement_core.specs.operand_core.declared.types.Operand.{Operand}
 use Rattle.go_statement_core.specs.denote_core.declared.things.Place.TheVariants as places
@@ -50,19 +51,3 @@ piece_values looks firsts (Spec kind v) = spec_values looks kind v
 piece_values looks firsts (Act s) = simple_values looks firsts s
 piece_values looks firsts (Condition e) = []
 piece_values looks firsts (Given place es) = []
-
--- the names that it declares
-
-abbrev pub simple_names : SimpleTree → List Ident
-simple_names (Alone e) = []
-simple_names (Step e op span) = []
-simple_names (Assign ts span es) = []
-simple_names (Update e op span v) = []
-simple_names (Define xs span es) = idents xs
-
-abbrev pub piece_names : Piece → List Ident
-piece_names (Header r s) = header_idents r s
-piece_names (Spec kind v) = idents v.names
-piece_names (Act s) = simple_names s
-piece_names (Condition e) = []
-piece_names (Given place es) = []

@@ -11,6 +11,7 @@ use Rattle.go_tree_nodes.specs.declared.types.TypeName.TheVariants as type_names
 use Rattle.go_tree_nodes.specs.declared.decls.ValueKind.{ValueKind}
 use Rattle.go_tree_nodes.specs.declared.decls.ValueKind.TheVariants as kinds
 use Rattle.go_tree_nodes.specs.Trees.{Separated, One, Then, TypeTree, NamedType, Pointer, ParenType, Struct, Interface, NoFields, ExprTree, Paren, Binary, NoItems, SignatureTree, ResultTree, Signed, OneResult, Results, NoParams, Param, Alone, Step, Assign, Update, Define}
+use Rattle.go_tree_nodes.specs.Samples.{type_at, at, called, name_at}
 use Rattle.go_expr_core.specs.tree_core.declared.occurrence.Role.TheVariants as roles
 use Rattle.go_walk_core.specs.local_core.Steps.{Piece, Header, Spec, Act, Condition, Given}
 use Rattle.go_statement_core.specs.constant_core.declared.values.Constant.{Constant}
@@ -25,7 +26,7 @@ use Rattle.go_expr_core.specs.declared.things.Fault.{Fault}
 use Rattle.go_expr_core.specs.Looks.{Looks}
 use Rattle.go_expr_core.specs.Locality.{seeing}
 use Rattle.go_expr_core.specs.Samples as samples
-use Rattle.go_expr_core.specs.Samples.{Ty, Sig, IntT, StringT, TypeA, Ptr, pick, span, ident, name_at, integer_expr_at, call, one_item, declared_at, refused_at, sample_fault}
+use Rattle.go_expr_core.specs.Samples.{Ty, Sig, IntT, StringT, TypeA, Ptr, pick, integer_expr_at, call, one_item, declared_at, refused_at, sample_fault}
 use Rattle.go_piece_core.specs.Pieces.{piece_uses, piece_faults, piece_values}
 use Rattle.go_piece_core.specs.Headers.{returned_types, returned_names}
 use Rattle.go_statement_core.specs.operand_core.Variables.{operand}
@@ -89,20 +90,20 @@ abbrev pub two : ℕ → ExprTree
 two n = calls (codes "two") n
 
 abbrev pub pair : {A : Type 0} → A → A → Separated A
-pair a b = Then a (span 1) (One b)
+pair a b = Then a (at 1) (One b)
 
 -- assignments at 0, with the right side from 20 on
 abbrev pub assign : Separated ExprTree → Separated ExprTree → Piece
-assign ts es = Act (Assign ts (span 15) es)
+assign ts es = Act (Assign ts (at 15) es)
 
 abbrev pub update_piece : ExprTree → Operator → ExprTree → Piece
-update_piece e op v = Act (Update e op (span 15) v)
+update_piece e op v = Act (Update e op (at 15) v)
 
 abbrev pub define : Separated Ident → Separated ExprTree → Piece
-define xs es = Act (Define xs (span 15) es)
+define xs es = Act (Define xs (at 15) es)
 
 abbrev pub y : ℕ → Ident
-y n = ident (codes "y") n
+y n = called (codes "y") n
 
 -- faults of a piece in a function without results
 abbrev pub sample_breaks : Piece → List Fault
@@ -126,8 +127,8 @@ pub record WorkedAssignments : Type 0 where
   pub constant_left : sample_breaks (assign (One (name_at (codes "c") 3)) (One (integer_expr_at 1 20))) ≡ sample_fault 3 Y4 ∷ []
   -- _ = x and (_) = x: `_` is no occurrence
   pub blank_left : piece_uses looks_here (assign (One (blank_at 3)) (One (x_expr 20))) ≡ declared_at 20 roles.«Value» 115 ∷ []
-  pub blank_inside : piece_uses looks_here (assign (One (Paren (span 3) (blank_at 4) (span 5))) (One (x_expr 20))) ≡ declared_at 20 roles.«Value» 115 ∷ []
-  pub blank_nil : sample_breaks (assign (One (Paren (span 3) (blank_at 4) (span 5))) (One (nil_at 20))) ≡ sample_fault 3 Y4 ∷ []
+  pub blank_inside : piece_uses looks_here (assign (One (Paren (at 3) (blank_at 4) (at 5))) (One (x_expr 20))) ≡ declared_at 20 roles.«Value» 115 ∷ []
+  pub blank_nil : sample_breaks (assign (One (Paren (at 3) (blank_at 4) (at 5))) (One (nil_at 20))) ≡ sample_fault 3 Y4 ∷ []
   -- x = _
   pub blank_right : piece_uses looks_here (assign (One (x_expr 3)) (One (blank_at 20))) ≡ declared_at 3 roles.«Value» 115 ∷ (refused_at 20 roles.«Value» N8 ∷ [])
   -- x, x = two(), x, s = two(), x = two(), x = f()
@@ -136,7 +137,7 @@ pub record WorkedAssignments : Type 0 where
   pub too_many : sample_breaks (assign (One (x_expr 3)) (One (two 20))) ≡ sample_fault 3 Y4 ∷ []
   pub no_value : sample_breaks (assign (One (x_expr 3)) (One (calls (codes "f") 20))) ≡ sample_fault 3 Y4 ∷ []
   -- x, x = (nope()), x, x = nope
-  pub unknown_count : sample_breaks (assign (pair (x_expr 3) (x_expr 5)) (One (Paren (span 20) (calls (codes "nope") 21) (span 30)))) ≡ []
+  pub unknown_count : sample_breaks (assign (pair (x_expr 3) (x_expr 5)) (One (Paren (at 20) (calls (codes "nope") 21) (at 30)))) ≡ []
   pub known_count : sample_breaks (assign (pair (x_expr 3) (x_expr 5)) (One (nope 20))) ≡ sample_fault 3 Y4 ∷ []
   -- x, x = two(), 1: Y3 at the member, and no more
   pub member : sample_breaks (assign (pair (x_expr 3) (x_expr 5)) (pair (two 20) (integer_expr_at 1 30))) ≡ sample_fault 20 Y3 ∷ []
@@ -153,36 +154,36 @@ pub record WorkedAssignments : Type 0 where
   -- x /= 0
   pub division : sample_breaks (update_piece (x_expr 3) operators.SlashAssign (integer_expr_at 0 20)) ≡ sample_fault 3 Y7 ∷ []
   -- x++, s++, two()++
-  pub step : sample_breaks (Act (Step (x_expr 3) operators.Increment (span 9))) ≡ []
-  pub step_text : sample_breaks (Act (Step (s 3) operators.Increment (span 9))) ≡ sample_fault 3 Y3 ∷ []
-  pub step_call : sample_breaks (Act (Step (two 3) operators.Increment (span 9))) ≡ sample_fault 3 Y3 ∷ []
+  pub step : sample_breaks (Act (Step (x_expr 3) operators.Increment (at 9))) ≡ []
+  pub step_text : sample_breaks (Act (Step (s 3) operators.Increment (at 9))) ≡ sample_fault 3 Y3 ∷ []
+  pub step_call : sample_breaks (Act (Step (two 3) operators.Increment (at 9))) ≡ sample_fault 3 Y3 ∷ []
 
 pub record WorkedStatementPieces : Type 0 where
   -- f(), (two()), x, int(x), (int)(x), len(s), nope, nope()
   pub call : sample_breaks (Act (Alone (calls (codes "f") 3))) ≡ []
-  pub results_unused : sample_breaks (Act (Alone (Paren (span 3) (two 4) (span 20)))) ≡ []
+  pub results_unused : sample_breaks (Act (Alone (Paren (at 3) (two 4) (at 20)))) ≡ []
   pub no_call : sample_breaks (Act (Alone (x_expr 3))) ≡ sample_fault 3 Y8 ∷ []
   pub conversion : sample_breaks (Act (Alone (samples.call (name_at (codes "int") 3) 7 (one_item (x_expr 8))))) ≡ sample_fault 3 Y8 ∷ []
-  pub inside : sample_breaks (Act (Alone (Paren (span 2) (samples.call (Paren (span 3) (name_at (codes "int") 4) (span 7)) 8 (one_item (x_expr 9))) (span 20)))) ≡ sample_fault 2 Y8 ∷ []
+  pub inside : sample_breaks (Act (Alone (Paren (at 2) (samples.call (Paren (at 3) (name_at (codes "int") 4) (at 7)) 8 (one_item (x_expr 9))) (at 20)))) ≡ sample_fault 2 Y8 ∷ []
   pub length : sample_breaks (Act (Alone (samples.call (name_at (codes "len") 3) 7 (one_item (s 8))))) ≡ sample_fault 3 Y8 ∷ []
   pub refused : sample_breaks (Act (Alone (nope 3))) ≡ []
   pub refused_call : sample_breaks (Act (Alone (calls (codes "nope") 3))) ≡ []
   -- if x == 1, if x, if true, if two(), if nope
-  pub compared : sample_breaks (Condition (Binary (x_expr 3) operators.Equal (span 5) (integer_expr_at 1 8))) ≡ []
+  pub compared : sample_breaks (Condition (Binary (x_expr 3) operators.Equal (at 5) (integer_expr_at 1 8))) ≡ []
   pub integer : sample_breaks (Condition (x_expr 3)) ≡ sample_fault 3 Y3 ∷ []
   pub truth : sample_breaks (Condition (name_at (codes "true") 3)) ≡ []
-  pub several : sample_breaks (Condition (Paren (span 3) (two 4) (span 20))) ≡ sample_fault 3 Y3 ∷ []
+  pub several : sample_breaks (Condition (Paren (at 3) (two 4) (at 20))) ≡ sample_fault 3 Y3 ∷ []
   pub no_condition : sample_breaks (Condition (nope 3)) ≡ []
   -- return, with a result and without, with a name of it and without; return x and return s; return two()
-  pub nothing : sample_breaks (Given (span 3) None) ≡ []
-  pub missing : piece_faults looks_here (Some IntT ∷ []) false [] (Given (span 3) None) ≡ sample_fault 3 Y4 ∷ []
-  pub named : piece_faults looks_here (Some IntT ∷ []) true [] (Given (span 3) None) ≡ []
-  pub returned : piece_faults looks_here (Some IntT ∷ []) true [] (Given (span 3) (Some (One (x_expr 10)))) ≡ []
-  pub other_type : piece_faults looks_here (Some IntT ∷ []) true [] (Given (span 3) (Some (One (s 10)))) ≡ sample_fault 3 Y4 ∷ []
-  pub unwanted : sample_breaks (Given (span 3) (Some (One (x_expr 10)))) ≡ sample_fault 3 Y4 ∷ []
-  pub both_returned : piece_faults looks_here (Some IntT ∷ (Some IntT ∷ [])) false [] (Given (span 3) (Some (One (two 10)))) ≡ []
-  pub no_result : sample_breaks (Given (span 3) (Some (One (calls (codes "f") 10)))) ≡ sample_fault 3 Y4 ∷ []
-  pub returned_uses : piece_uses looks_here (Given (span 3) (Some (pair (x_expr 10) (nope 12)))) ≡ declared_at 10 roles.«Value» 115 ∷ (refused_at 12 roles.«Value» N1 ∷ [])
+  pub nothing : sample_breaks (Given (at 3) None) ≡ []
+  pub missing : piece_faults looks_here (Some IntT ∷ []) false [] (Given (at 3) None) ≡ sample_fault 3 Y4 ∷ []
+  pub named : piece_faults looks_here (Some IntT ∷ []) true [] (Given (at 3) None) ≡ []
+  pub returned : piece_faults looks_here (Some IntT ∷ []) true [] (Given (at 3) (Some (One (x_expr 10)))) ≡ []
+  pub other_type : piece_faults looks_here (Some IntT ∷ []) true [] (Given (at 3) (Some (One (s 10)))) ≡ sample_fault 3 Y4 ∷ []
+  pub unwanted : sample_breaks (Given (at 3) (Some (One (x_expr 10)))) ≡ sample_fault 3 Y4 ∷ []
+  pub both_returned : piece_faults looks_here (Some IntT ∷ (Some IntT ∷ [])) false [] (Given (at 3) (Some (One (two 10)))) ≡ []
+  pub no_result : sample_breaks (Given (at 3) (Some (One (calls (codes "f") 10)))) ≡ sample_fault 3 Y4 ∷ []
+  pub returned_uses : piece_uses looks_here (Given (at 3) (Some (pair (x_expr 10) (nope 12)))) ≡ declared_at 10 roles.«Value» 115 ∷ (refused_at 12 roles.«Value» N1 ∷ [])
 
 pub record WorkedShorts : Type 0 where
   -- y := s, y := nil
@@ -191,46 +192,43 @@ pub record WorkedShorts : Type 0 where
   pub new_nil : stand_for (true ∷ []) (define (One (y 3)) (One (nil_at 20))) ≡ None ∷ []
   pub new_nil_faults : short_breaks (true ∷ []) (define (One (y 3)) (One (nil_at 20))) ≡ sample_fault 3 Y4 ∷ []
   -- y, x := s, 1 and y, x := 1, s, where x is in the block: it keeps its type
-  pub old : stand_for (true ∷ (false ∷ [])) (define (pair (y 3) (ident (codes "x") 5)) (pair (s 20) (integer_expr_at 1 22))) ≡ some_variable StringT ∷ (some_variable IntT ∷ [])
-  pub old_faults : short_breaks (true ∷ (false ∷ [])) (define (pair (y 3) (ident (codes "x") 5)) (pair (s 20) (integer_expr_at 1 22))) ≡ []
-  pub old_misfit : stand_for (true ∷ (false ∷ [])) (define (pair (y 3) (ident (codes "x") 5)) (pair (integer_expr_at 1 20) (s 22))) ≡ some_variable IntT ∷ (some_variable IntT ∷ [])
-  pub old_misfit_faults : short_breaks (true ∷ (false ∷ [])) (define (pair (y 3) (ident (codes "x") 5)) (pair (integer_expr_at 1 20) (s 22))) ≡ sample_fault 3 Y4 ∷ []
+  pub old : stand_for (true ∷ (false ∷ [])) (define (pair (y 3) (called (codes "x") 5)) (pair (s 20) (integer_expr_at 1 22))) ≡ some_variable StringT ∷ (some_variable IntT ∷ [])
+  pub old_faults : short_breaks (true ∷ (false ∷ [])) (define (pair (y 3) (called (codes "x") 5)) (pair (s 20) (integer_expr_at 1 22))) ≡ []
+  pub old_misfit : stand_for (true ∷ (false ∷ [])) (define (pair (y 3) (called (codes "x") 5)) (pair (integer_expr_at 1 20) (s 22))) ≡ some_variable IntT ∷ (some_variable IntT ∷ [])
+  pub old_misfit_faults : short_breaks (true ∷ (false ∷ [])) (define (pair (y 3) (called (codes "x") 5)) (pair (integer_expr_at 1 20) (s 22))) ≡ sample_fault 3 Y4 ∷ []
   -- y, c := s, 1, where c is a constant of the block
-  pub old_constant : short_breaks (true ∷ (false ∷ [])) (define (pair (y 3) (ident (codes "c") 5)) (pair (s 20) (integer_expr_at 1 22))) ≡ sample_fault 3 Y4 ∷ []
+  pub old_constant : short_breaks (true ∷ (false ∷ [])) (define (pair (y 3) (called (codes "c") 5)) (pair (s 20) (integer_expr_at 1 22))) ≡ sample_fault 3 Y4 ∷ []
   -- y, y := 1, s: the second is judged as a new one; x, x := 1, s, where x is in the block
   pub repeated : stand_for (true ∷ (false ∷ [])) (define (pair (y 3) (y 5)) (pair (integer_expr_at 1 20) (s 22))) ≡ some_variable IntT ∷ (some_variable StringT ∷ [])
   pub repeated_faults : short_breaks (true ∷ (false ∷ [])) (define (pair (y 3) (y 5)) (pair (integer_expr_at 1 20) (s 22))) ≡ []
-  pub old_repeated : short_breaks (false ∷ (false ∷ [])) (define (pair (ident (codes "x") 3) (ident (codes "x") 5)) (pair (integer_expr_at 1 20) (s 22))) ≡ []
+  pub old_repeated : short_breaks (false ∷ (false ∷ [])) (define (pair (called (codes "x") 3) (called (codes "x") 5)) (pair (integer_expr_at 1 20) (s 22))) ≡ []
   -- _, y := nil, 1; y, _ := two()
-  pub blank_new : short_breaks (false ∷ (true ∷ [])) (define (pair (ident (codes "_") 3) (y 5)) (pair (nil_at 20) (integer_expr_at 1 22))) ≡ sample_fault 3 Y4 ∷ []
-  pub spread : stand_for (true ∷ (false ∷ [])) (define (pair (y 3) (ident (codes "_") 5)) (One (two 20))) ≡ some_variable IntT ∷ (None ∷ [])
+  pub blank_new : short_breaks (false ∷ (true ∷ [])) (define (pair (called (codes "_") 3) (y 5)) (pair (nil_at 20) (integer_expr_at 1 22))) ≡ sample_fault 3 Y4 ∷ []
+  pub spread : stand_for (true ∷ (false ∷ [])) (define (pair (y 3) (called (codes "_") 5)) (One (two 20))) ≡ some_variable IntT ∷ (None ∷ [])
   -- y, x := 1: no type for the new one
-  pub too_few : stand_for (true ∷ (false ∷ [])) (define (pair (y 3) (ident (codes "x") 5)) (One (integer_expr_at 1 20))) ≡ None ∷ (some_variable IntT ∷ [])
-  pub too_few_faults : short_breaks (true ∷ (false ∷ [])) (define (pair (y 3) (ident (codes "x") 5)) (One (integer_expr_at 1 20))) ≡ sample_fault 3 Y4 ∷ []
+  pub too_few : stand_for (true ∷ (false ∷ [])) (define (pair (y 3) (called (codes "x") 5)) (One (integer_expr_at 1 20))) ≡ None ∷ (some_variable IntT ∷ [])
+  pub too_few_faults : short_breaks (true ∷ (false ∷ [])) (define (pair (y 3) (called (codes "x") 5)) (One (integer_expr_at 1 20))) ≡ sample_fault 3 Y4 ∷ []
 
 -- specifications: of y, or of y and z, with a type at 10 and values from 20 on
 
 abbrev pub spec_piece : ValueKind → Separated Ident → Option TypeTree → Option (Separated ExprTree) → Piece
 spec_piece kind xs t None = Spec kind (record { names = xs; type_expr = t; values = None })
-spec_piece kind xs t (Some es) = Spec kind (record { names = xs; type_expr = t; values = Some (span 15, es) })
+spec_piece kind xs t (Some es) = Spec kind (record { names = xs; type_expr = t; values = Some (at 15, es) })
 
 abbrev pub var : Option TypeTree → Option (Separated ExprTree) → Piece
 var t es = spec_piece kinds.Var (One (y 3)) t es
 
 abbrev pub vars : Option TypeTree → Option (Separated ExprTree) → Piece
-vars t es = spec_piece kinds.Var (pair (y 3) (ident (codes "z") 5)) t es
+vars t es = spec_piece kinds.Var (pair (y 3) (called (codes "z") 5)) t es
 
 abbrev pub const : Option TypeTree → Separated ExprTree → Piece
 const t es = spec_piece kinds.Const (One (y 3)) t (Some es)
 
 abbrev pub consts : Option TypeTree → Separated ExprTree → Piece
-consts t es = spec_piece kinds.Const (pair (y 3) (ident (codes "z") 5)) t (Some es)
-
-abbrev pub type_at : List ℕ → ℕ → TypeTree
-type_at name n = NamedType (type_names.Plain (ident name n))
+consts t es = spec_piece kinds.Const (pair (y 3) (called (codes "z") 5)) t (Some es)
 
 abbrev pub structure : TypeTree
-structure = Struct (span 10) (span 11) NoFields (span 12)
+structure = Struct (at 10) (at 11) NoFields (at 12)
 
 -- an untyped constant of value 1, and a string of a value that is not known
 abbrev pub one_untyped : Option (Operand Ty)
@@ -284,14 +282,14 @@ pub record WorkedSpecifications : Type 0 where
 
 -- func (r *A) m(a, b int, _ struct{..}) (n string)
 abbrev pub results_with_names : ResultTree
-results_with_names = Results (span 50) (Param (Some (One (ident (codes "n") 51))) (type_at (codes "string") 53) None NoParams) (span 60)
+results_with_names = Results (at 50) (Param (Some (One (called (codes "n") 51))) (type_at (codes "string") 53) None NoParams) (at 60)
 
 abbrev pub signature : SignatureTree
-signature = Signed (span 20)
-    (Param (Some (pair (ident (codes "a") 21) (ident (codes "b") 24))) (type_at (codes "int") 26) (Some (span 30)) (Param (Some (One (ident (codes "_") 32))) structure None NoParams)) (span 40) results_with_names
+signature = Signed (at 20)
+    (Param (Some (pair (called (codes "a") 21) (called (codes "b") 24))) (type_at (codes "int") 26) (Some (at 30)) (Param (Some (One (called (codes "_") 32))) structure None NoParams)) (at 40) results_with_names
 
 abbrev pub piece_sample_method : Piece
-piece_sample_method = Header (Some (record { open_paren = span 0; name = Some (ident (codes "r") 1); star = Some (span 3); base = type_names.Plain (ident (codes "A") 4); comma = None; close_paren = span 5 })) signature
+piece_sample_method = Header (Some (record { open_paren = at 0; name = Some (called (codes "r") 1); star = Some (at 3); base = type_names.Plain (called (codes "A") 4); comma = None; close_paren = at 5 })) signature
 
 pub record WorkedHeaders : Type 0 where
   pub uses : piece_uses looks_here piece_sample_method ≡ declared_at 4 roles.«Type» 104 ∷ (declared_at 26 roles.«Type» 1 ∷ (declared_at 53 roles.«Type» 2 ∷ []))
@@ -300,9 +298,9 @@ pub record WorkedHeaders : Type 0 where
   pub results : returned_types looks_here signature ≡ Some StringT ∷ []
   pub names : returned_names signature ≡ true
   -- func(int) string, and func() with a result of no type
-  pub unnamed : stand_for [] (Header None (Signed (span 0) (Param None (type_at (codes "int") 1) None NoParams) (span 5) (OneResult (type_at (codes "string") 6)))) ≡ []
-  pub unnamed_results : returned_types looks_here (Signed (span 0) NoParams (span 5) (Results (span 6) (Param None (type_at (codes "int") 7) (Some (span 9)) (Param None (type_at (codes "nope") 11) None NoParams)) (span 15))) ≡ Some IntT ∷ (None ∷ [])
-  pub no_names : returned_names (Signed (span 0) NoParams (span 5) (Results (span 6) (Param None (type_at (codes "int") 7) None NoParams) (span 15))) ≡ false
+  pub unnamed : stand_for [] (Header None (Signed (at 0) (Param None (type_at (codes "int") 1) None NoParams) (at 5) (OneResult (type_at (codes "string") 6)))) ≡ []
+  pub unnamed_results : returned_types looks_here (Signed (at 0) NoParams (at 5) (Results (at 6) (Param None (type_at (codes "int") 7) (Some (at 9)) (Param None (type_at (codes "nope") 11) None NoParams)) (at 15))) ≡ Some IntT ∷ (None ∷ [])
+  pub no_names : returned_names (Signed (at 0) NoParams (at 5) (Results (at 6) (Param None (type_at (codes "int") 7) None NoParams) (at 15))) ≡ false
 
 pub record WorkedPieces : Type 0 where
   pub assignments : WorkedAssignments

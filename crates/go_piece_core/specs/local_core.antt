@@ -5,6 +5,7 @@ pub use Rattle.go_walk_core.specs.local_core.Faults as Faults
 pub use Rattle.go_walk_core.specs.local_core.Law as Law
 pub use Rattle.go_walk_core.specs.local_core.Outline as Outline
 pub use Rattle.go_walk_core.specs.local_core.Parts as Parts
+pub use Rattle.go_walk_core.specs.local_core.Pieces as Pieces
 pub use Rattle.go_walk_core.specs.local_core.Placed as Placed
 pub use Rattle.go_walk_core.specs.local_core.Steps as Steps
 pub use Rattle.go_walk_core.specs.local_core.TablesProofs as TablesProofs

@@ -6,10 +6,11 @@ ghost use Rattle.go_expr_core.specs.Looks.{everywhere};
 ghost use Rattle.go_piece_core.specs.Values as values;
 ghost use Rattle.go_piece_core.specs.Headers as headers;
 
-use crate::types::{make_type, type_again, variables};
+use crate::types::{make_type, variables};
 use crate::variables::count_names;
 use go_expr_core::{Exprs, Fault, Notes, check_signature, check_type_name};
 use go_statement_core::operand_core::{Operand, TypeLooks};
+use go_statement_core::some_type_again;
 use go_text_core::Span;
 use go_tree_nodes::{Idents, Param, Receiver, Results, Signature};
 use std::alloc::{AllocError, Global};
@@ -68,7 +69,7 @@ fn add_again<E: TypeLooks>(
     ensures { OnOk result (types.new.items ≡ types.old.items ++ replicate count t.now) }
 {
     for _ in 0..count {
-        types.push(type_again(env, t))?;
+        types.push(some_type_again(env, t))?;
     }
     Ok(())
 }

@@ -26,6 +26,7 @@ pub use pieces::{check_simple, check_spec};
 pub use returns::check_returned;
 pub use shorts::check_short;
 pub use statements::check_condition;
+pub use types::variable;
 
 /// What the crates above name of `go_denote_core`.
 pub mod denote_core {
@@ -46,7 +47,7 @@ pub mod local_core {
 
 /// What the crates above name of `go_operand_core`.
 pub mod operand_core {
-    pub use go_statement_core::operand_core::{Operand, ValueType};
+    pub use go_statement_core::operand_core::Operand;
 }
 
 /// What the crates above name of `go_statement_core`.

@@ -8,7 +8,7 @@ ghost use Rattle.go_piece_core.specs.Values as values;
 ghost use Rattle.go_piece_core.specs.Types as types;
 
 use go_expr_core::{Exprs, Fault, Notes, check_type};
-use go_statement_core::operand_core::{Operand, TypeLooks, ValueType};
+use go_statement_core::operand_core::{Operand, ValueType};
 use go_tree_nodes::TypeExpr;
 use std::alloc::{AllocError, Global};
 
@@ -47,17 +47,9 @@ pub(crate) fn check_some_type<E: Exprs>(
     }
 }
 
-/// A type once more.
-pub(crate) fn type_again<E: TypeLooks>(env: &E, t: &Option<E::Type>) -> Option<E::Type>
-    ensures { result ≡ t.now }
-{
-    match t {
-        None => None,
-        Some(t) => Some(env.again(t)),
-    }
-}
-
-fn variable<T: Drop>(t: Option<T>) -> Option<Operand<T>>
+/// What a variable stands for, by its type: an addressable operand that is no constant, or none where it has no type. The Go specification,
+/// "Address operators", "Variables".
+pub fn variable<T: Drop>(t: Option<T>) -> Option<Operand<T>>
     ensures { result ≡ values.variable t }
 {
     match t {

@@ -1,42 +1,20 @@
 -- What a name of a specification stands for takes of the rules of types what they make of those that the specification writes.
-use Rattle.std.proofs.Common.{◌≡◌, ℕ, List, [], ◌∷◌, ◌++◌, refl, ap, subst, ◌∙◌}
+use Rattle.std.proofs.Common.{◌≡◌, ℕ, List, [], ◌∷◌, ◌++◌, refl, ap, ◌∙◌}
 use Rattle.std.specs.Prelude.{Option, Some, None, slice_index_or}
 use Rattle.go_text_core.specs.declared.span.Span.{Span}
 use Rattle.go_tree_nodes.specs.declared.names.Ident.{Ident}
 use Rattle.go_tree_nodes.specs.declared.decls.ValueKind.{ValueKind}
-use Rattle.go_tree_nodes.specs.Trees.{Separated, One, Then, TypeTree, ExprTree, ItemTrees, Integer, Text, Named, Paren, Unary, Binary, Select, Call, Literal, StructLiteral, NoItems, Item, ValueSpecTree}
+use Rattle.go_tree_nodes.specs.Trees.{Separated, One, Then, TypeTree, ExprTree, ValueSpecTree}
+use Rattle.go_tree_nodes.specs.WrittenTypes.{expr_types, exprs_types, values_types, spec_types, some_type}
 use Rattle.go_func_core.specs.denote_core.declared.things.Place.TheVariants as places
 use Rattle.go_func_core.specs.denote_core.Arguments.{arguments_of}
 use Rattle.go_func_core.specs.expr_core.Looks.{Looks, WrittenRules, look_of_place}
 use Rattle.go_func_core.specs.expr_core.Denoting.{denoted}
 use Rattle.go_func_core.specs.expr_core.Lists.{denoted_exprs}
 use Rattle.go_func_core.specs.expr_core.Laws.{AgreeOnIdents, expr_idents}
-use Rattle.go_func_core.specs.expr_core.Locality.{struct_types, struct_types_in, SameWritten, seeing}
+use Rattle.go_func_core.specs.expr_core.Locality.{SameWritten, seeing}
 use Rattle.go_func_core.specs.expr_core.Alike.{expressions_seen}
-use Rattle.go_func_core.specs.inline_core.Trees as trees
-use Rattle.go_func_core.specs.inline_core.Trees.{expr_types, items_types, exprs_types, values_types, spec_types}
 use Rattle.go_value_core.specs.Initial.{spec_name_count, initial, list_start, some_written_type, values_given, values_of}
-
-pieces : (a b c d : List TypeTree) → a ≡ c → b ≡ d → a ++ b ≡ c ++ d
-pieces a b c d e f = ap (λ l. l ++ b) e ∙ ap (λ l. c ++ l) f
-
--- the struct types before literals
-mutual
-  pub struct_types_are : (e : ExprTree) → expr_types e ≡ struct_types e
-  struct_types_are (Integer n span) = refl
-  struct_types_are (Text t) = refl
-  struct_types_are (Named x) = refl
-  struct_types_are (Paren first e last) = struct_types_are e
-  struct_types_are (Unary op span e) = struct_types_are e
-  struct_types_are (Binary a op span b) = pieces (expr_types a) (expr_types b) (struct_types a) (struct_types b) (struct_types_are a) (struct_types_are b)
-  struct_types_are (Select e dot x) = struct_types_are e
-  struct_types_are (Call e first items last) = pieces (expr_types e) (items_types items) (struct_types e) (struct_types_in items) (struct_types_are e) (item_types_are items)
-  struct_types_are (Literal n first items last) = item_types_are items
-  struct_types_are (StructLiteral t first items last) = ap (λ l. t ∷ l) (item_types_are items)
-
-  item_types_are : (is : ItemTrees) → items_types is ≡ struct_types_in is
-  item_types_are NoItems = refl
-  item_types_are (Item key e comma rest) = pieces (expr_types e) (items_types rest) (struct_types e) (struct_types_in rest) (struct_types_are e) (item_types_are rest)
 
 module _ {T S D P : Type 0} (looks : Looks T S D P) (written : WrittenRules T) where
   abbrev other : Looks T S D P
@@ -58,7 +36,7 @@ module _ {T S D P : Type 0} (looks : Looks T S D P) (written : WrittenRules T) w
   agrees (x ∷ xs) = (refl, agrees xs)
 
   expr_same : (e : ExprTree) → Makes (expr_types e) → denoted looks places.«Value» e ≡ denoted other places.«Value» e
-  expr_same e h = ((expressions_seen T S D P).whole looks looks.find written places.«Value» e (agrees (expr_idents e)) (subst Makes (struct_types_are e) h)).denoted
+  expr_same e h = ((expressions_seen T S D P).whole looks looks.find written places.«Value» e (agrees (expr_idents e)) h).denoted
 
   exprs_same : (es : Separated ExprTree) → Makes (exprs_types es) → denoted_exprs looks es ≡ denoted_exprs other es
   exprs_same (One e) h = ap (λ d. d ∷ []) (expr_same e h)
@@ -70,11 +48,11 @@ module _ {T S D P : Type 0} (looks : Looks T S D P) (written : WrittenRules T) w
   values_same None h = refl
   values_same (Some v) h = ap (arguments_of (look_of_place looks (list_start v.1))) (exprs_same v.1 h)
 
-  type_same : (t : Option TypeTree) → Makes (trees.some_type t) → some_written_type looks t ≡ some_written_type other t
+  type_same : (t : Option TypeTree) → Makes (some_type t) → some_written_type looks t ≡ some_written_type other t
   type_same None h = refl
   type_same (Some t) h = ap Some h.0.type_of
 
   pub initial_seen : (k : ValueKind) (v : ValueSpecTree) (i : ℕ) → Makes (spec_types v) → initial looks k v i ≡ initial other k v i
   initial_seen k v i h =
-      ap (λ w. slice_index_or (values_of looks.types k w (spec_name_count v) (values_given looks v.values)) i None) (type_same v.type_expr (makes_left (trees.some_type v.type_expr) (values_types v.values) h))
-      ∙ ap (λ g. slice_index_or (values_of looks.types k (some_written_type other v.type_expr) (spec_name_count v) g) i None) (values_same v.values (makes_right (trees.some_type v.type_expr) (values_types v.values) h))
+      ap (λ w. slice_index_or (values_of looks.types k w (spec_name_count v) (values_given looks v.values)) i None) (type_same v.type_expr (makes_left (some_type v.type_expr) (values_types v.values) h))
+      ∙ ap (λ g. slice_index_or (values_of looks.types k (some_written_type other v.type_expr) (spec_name_count v) g) i None) (values_same v.values (makes_right (some_type v.type_expr) (values_types v.values) h))

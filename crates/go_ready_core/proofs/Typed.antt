@@ -3,10 +3,10 @@ use Rattle.std.proofs.Common.{◌≡◌, ℕ, false, inl, inr, List, [], ◌∷�
 use Rattle.std.specs.Prelude.{Option, Some, None, ⊤, if◌then◌else◌}
 use Rattle.std.specs.List.{AllByRecursion, flat_map}
 use Rattle.go_tree_nodes.specs.declared.types.TypeName.{TypeName}
-use Rattle.go_tree_nodes.specs.declared.types.TypeName.TheVariants as type_names
 use Rattle.go_tree_nodes.specs.declared.decls.ValueKind.{ValueKind}
 use Rattle.go_tree_nodes.specs.declared.decls.ValueKind.TheVariants as kinds
-use Rattle.go_tree_nodes.specs.Trees.{TypeTree, NamedType, Pointer, ParenType, Struct, Interface, ValueSpecTree, Specs, Single, Group, DeclTree, Value, Types, Func, TopTree, FileTree}
+use Rattle.go_tree_nodes.specs.Starts.{type_start}
+use Rattle.go_tree_nodes.specs.Trees.{TypeTree, ValueSpecTree, Specs, Single, Group, DeclTree, Value, Types, Func, TopTree, FileTree}
 use Rattle.go_text_core.specs.declared.span.Span.{Span}
 use Rattle.go_term_core.specs.decl_core.TopDecls.{TopDeclTree, FormTree, ValueForm, TypeForm, FuncForm, top_decls}
 use Rattle.go_func_core.specs.scope_core.Models.{scopes_model}
@@ -17,12 +17,10 @@ use Rattle.go_func_core.specs.names_core.Scope.{some_meaning}
 use Rattle.go_term_core.specs.Terms.{Term, Sign, NoType}
 use Rattle.go_func_core.specs.handle_core.Declarations.{Declaration}
 use Rattle.go_func_core.specs.expr_core.Looks.{WrittenRules}
-use Rattle.go_func_core.specs.expr_core.Places as places
 use Rattle.go_func_core.specs.expr_core.Locality.{SameType, SameWritten}
 use Rattle.go_fault_core.specs.entry_core.Among.{Among, among_to}
 use Rattle.go_func_core.specs.inline_core.Types.{InlineOf, inline_at}
-use Rattle.go_func_core.specs.inline_core.Trees as trees
-use Rattle.go_func_core.specs.inline_core.Trees.{spec_types, specs_types, decl_types, file_types}
+use Rattle.go_func_core.specs.inline_core.Trees.{decl_types, file_types}
 use Rattle.go_func_core.specs.inline_core.Inline.{inline_of, inlines}
 use Rattle.go_func_core.specs.inline_core.Functions.{looked_up_ident}
 use Rattle.go_func_core.specs.inline_core.Found.{types_are_found}
@@ -36,6 +34,7 @@ use Rattle.go_func_core.specs.Stands.{FileStand, kinds_in_scene, types_where, ou
 use Rattle.go_ready_core.proofs.Forms.{DeclHolds, Forms, SpecsHold, file_holds, specs_all}
 use Rattle.go_ready_core.proofs.Initials.{initial_seen, makes_left, makes_right}
 use Rattle.go_tree_nodes.specs.Spelling.{IsPlaced}
+use Rattle.go_tree_nodes.specs.WrittenTypes.{spec_types, specs_types}
 
 -- outside functions a name of a type means what it means at the top of the file
 
@@ -52,19 +51,6 @@ outside_is st n = ap (λ b. if b then NoType else st.top n) (never_inside (denot
 outside_all : (st : FileStand) → named_where (outer_look st) st.top ≡ st.top
 outside_all st = λ i n. outside_is st n i
 
--- the first byte of a type
-
-name_starts : (n : TypeName) → places.type_name_start n ≡ trees.name_start n
-name_starts (type_names.Plain x) = refl
-name_starts (type_names.Qualified q dot x) = refl
-
-starts : (t : TypeTree) → places.type_start t ≡ trees.type_start t
-starts (NamedType n) = name_starts n
-starts (Pointer star t) = refl
-starts (ParenType first t last) = refl
-starts (Struct k first ls last) = refl
-starts (Interface k first ms last) = refl
-
 module _ (st : FileStand) (f : FileTree) (placed : IsPlaced f) where
   abbrev held : List (ℕ × InlineOf)
   held = inlines (kinds_in_scene st.scene) st.file st.top (file_types f)
@@ -76,11 +62,10 @@ module _ (st : FileStand) (f : FileTree) (placed : IsPlaced f) where
   abbrev own_rules : WrittenRules Term
   own_rules = types_where st (outer_look st)
 
-  there : (t : TypeTree) → Among (file_types f) t → inline_at held (places.type_start t) ≡ Some (inline_of (kinds_in_scene st.scene) st.file (named_where (outer_look st) st.top) t)
+  there : (t : TypeTree) → Among (file_types f) t → inline_at held (type_start t) ≡ Some (inline_of (kinds_in_scene st.scene) st.file (named_where (outer_look st) st.top) t)
   there t has =
-      ap (inline_at held) (starts t)
-      ∙ (types_are_found.in_file f placed (kinds_in_scene st.scene) st.file st.top t (among_to (file_types f) t has)
-      ∙ ap (λ m. Some (inline_of (kinds_in_scene st.scene) st.file m t)) (sym (outside_all st)))
+      types_are_found.in_file f placed (kinds_in_scene st.scene) st.file st.top t (among_to (file_types f) t has)
+      ∙ ap (λ m. Some (inline_of (kinds_in_scene st.scene) st.file m t)) (sym (outside_all st))
 
   one_same : (t : TypeTree) → Among (file_types f) t → SameType Term Sign Declaration (List ℕ) made_looks (outer_looks st) t
   one_same t has = record { type_of = ap (inline_type st.scene.types) (there t has); faults_of = ap inline_faults (there t has) }

@@ -17,7 +17,6 @@ pub use Rattle.go_block_core.proofs.NamingLemmas as NamingLemmas
 pub use Rattle.go_block_core.proofs.OneBlocks as OneBlocks
 pub use Rattle.go_block_core.proofs.Pieces as Pieces
 pub use Rattle.go_block_core.proofs.Rising as Rising
-pub use Rattle.go_block_core.proofs.SpecLemmas as SpecLemmas
 pub use Rattle.go_block_core.specs.Tables as Tables
 pub use Rattle.go_block_core.specs.contracts as contracts
 pub use Rattle.go_block_core.specs.declared as declared

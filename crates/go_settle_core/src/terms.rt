@@ -1,6 +1,6 @@
 //! Settling terms.
-ghost use Rattle.std.specs.Prelude.{◌≡◌, [], IfOk, IsTrue, ◌↔◌, map};
-ghost use Rattle.go_term_core.specs.Terms.{NoType, NoMethod};
+ghost use Rattle.std.specs.Prelude.{◌≡◌, [], IfOk, map};
+ghost use Rattle.go_term_core.specs.Terms.{NoMethod};
 ghost use Rattle.go_term_core.specs.Shapes.{shape, sign_of, line_shape, line_shapes, method_shapes, param_shapes};
 ghost use Rattle.go_settle_core.specs.Settled.{defined_unless, pointer_to, settled, settled_methods, settled_sign, settled_terms};
 ghost use Rattle.go_settle_core.specs.mirrors.Kept.{make_method, put_method, settled_line};
@@ -9,7 +9,9 @@ use crate::embed::can_embed;
 use crate::kept::{kept_methods, settle_fields};
 use crate::kind::{Kind, Kinds};
 use go_decl_core::DeclKey;
-use go_term_core::{FieldLine, Method, Params, Signature, TypeTerm};
+use go_term_core::{
+    FieldLine, Method, Params, Signature, TypeTerm, both, copy_numbers, is_no_type,
+};
 use go_text_core::{add, boxed};
 use std::alloc::{AllocError, Global};
 
@@ -24,16 +26,6 @@ macro_rules! made {
     };
 }
 
-// Two results at once. Where there was no memory for one, the other is dropped.
-fn both<A: Drop, B: Drop>(
-    first: Result<A, AllocError>,
-    second: Result<B, AllocError>,
-) -> Result<(A, B), AllocError>
-    ensures { IfOk result (λ x. (first ≡ Ok x.0) × (second ≡ Ok x.1)) }
-{
-    Ok((first?, second?))
-}
-
 // The defined type of a declaration, unless it is no type.
 fn settle_key(key: &DeclKey, kind: Kind) -> Result<TypeTerm, AllocError>
     ensures { IfOk result (λ t. shape t ≡ defined_unless kind key.now) }
@@ -41,21 +33,6 @@ fn settle_key(key: &DeclKey, kind: Kind) -> Result<TypeTerm, AllocError>
     match kind {
         Kind::Nothing => Ok(TypeTerm::NoType),
         Kind::Pointer | Kind::Interface | Kind::Other => Ok(TypeTerm::Defined(key.share()?)),
-    }
-}
-
-// Whether a term is no type.
-fn is_no_type(term: &TypeTerm) -> bool
-    ensures { IsTrue result ↔ (shape term.now ≡ NoType) }
-{
-    match term {
-        TypeTerm::NoType => true,
-        TypeTerm::Basic(_) => false,
-        TypeTerm::Error => false,
-        TypeTerm::Defined(_) => false,
-        TypeTerm::Pointer(_) => false,
-        TypeTerm::Struct(_, _, _) => false,
-        TypeTerm::Interface(_, _) => false,
     }
 }
 
@@ -185,13 +162,6 @@ pub fn settle_signature<K: Kinds>(
     let params = settle_params(alloc, kinds, &signature.params);
     let (params, results) = made!(both(params, settle_params(alloc, kinds, &signature.results)));
     Ok(Signature { params, results })
-}
-
-// The same numbers.
-fn copy_numbers(alloc: Global, numbers: &Vec<usize>) -> Result<Vec<usize>, AllocError>
-    ensures { IfOk result (λ ns. ns.items ≡ numbers.now.items) }
-{
-    Ok(numbers.as_slice().to_vec(alloc)?)
 }
 
 // The settled types of parameters or of results.

@@ -9,7 +9,7 @@ use Rattle.std.specs.Result.{result_ok}
 use Rattle.std.proofs.lemmas.Option.{none-some, slice_get-map, slice_get_within, slice_get_past, slice_get_read, slice_get-get_or, get_or_from_slice_get}
 use Rattle.go_make_core.specs.graph_core.Sources.{SourceModel}
 use Rattle.go_make_core.specs.graph_core.Workspaces.{PackageModel, IsWorkspace, by_bytes, names_of_files}
-use Rattle.go_emit_core.specs.used_core.Used.{TheUse}
+use Rattle.go_emit_core.specs.used_core.Used.{FileUse}
 use Rattle.go_make_core.specs.part_core.Parts.{FileOf, PartModel}
 use Rattle.go_make_core.specs.whole_core.Lists.{one_at}
 use Rattle.go_snap_core.specs.Snapshots.{IsAnswerAt, IsPartAt}
@@ -47,7 +47,7 @@ looked_up xs i (Some x) N S is none some = some x.now (slice_get_read xs (length
 module _ (ps : List PackageModel) (well : IsWorkspace ps) (parts : List (Option PartModel)) (path : List ℕ) where
   module _ (p : PartModel) (there : IsPartAt ps parts path p) (name : List ℕ) where
     -- what an answer says of the part
-    record IsIn (n : ℕ) (u : TheUse) : Type 0 where
+    record IsIn (n : ℕ) (u : FileUse) : Type 0 where
       pub number : ℕ
       pub source : SourceModel
       pub in_package : slice_get p.input.source.1 number ≡ Some source
@@ -56,7 +56,7 @@ module _ (ps : List PackageModel) (well : IsWorkspace ps) (parts : List (Option 
       pub made : slice_get p.content.files number ≡ Some file
       pub answer : slice_get file.answers.uses n ≡ Some u
 
-    in_part : (n : ℕ) (u : TheUse) → IsAnswerAt ps parts path name n u → IsIn n u
+    in_part : (n : ℕ) (u : FileUse) → IsAnswerAt ps parts path name n u → IsIn n u
     in_part n u h =
         let same : h.of_part ≡ p = one_part_at ps well parts path h.of_part p h.in_workspace there in
         record {
@@ -69,29 +69,29 @@ module _ (ps : List PackageModel) (well : IsWorkspace ps) (parts : List (Option 
           answer = h.answer;
         }
 
-    pub no_file : All (λ f. f.name ≡ name → ⊥) p.input.source.1 → (n : ℕ) (u : TheUse) → IsAnswerAt ps parts path name n u → ⊥
+    pub no_file : All (λ f. f.name ≡ name → ⊥) p.input.source.1 → (n : ℕ) (u : FileUse) → IsAnswerAt ps parts path name n u → ⊥
     no_file none n u h =
         let i = in_part n u h in
         let at : get_or p.input.source.1 i.number i.source ≡ i.source = get_or_from_slice_get p.input.source.1 i.number i.source i.source i.in_package in
         none i.number i.source (slice_get_within p.input.source.1 i.number i.source i.in_package) (ap (λ (s : SourceModel). s.name) at ∙ i.named)
 
     module _ (order : IsStrictlySortedBy by_bytes (names_of_files p.input.source.1)) (k : ℕ) (f : SourceModel) (at : slice_get p.input.source.1 k ≡ Some f) (named : f.name ≡ name) where
-      same_number : (n : ℕ) (u : TheUse) (h : IsIn n u) → h.number ≡ k
+      same_number : (n : ℕ) (u : FileUse) (h : IsIn n u) → h.number ≡ k
       same_number n u h = one_key (λ (s : SourceModel). s.name) p.input.source.1 h.number k h.source f order h.in_package at (h.named ∙ sym named)
 
-      pub no_made : slice_get p.content.files k ≡ None → (n : ℕ) (u : TheUse) → IsAnswerAt ps parts path name n u → ⊥
+      pub no_made : slice_get p.content.files k ≡ None → (n : ℕ) (u : FileUse) → IsAnswerAt ps parts path name n u → ⊥
       no_made none n u h =
           let i = in_part n u h in
           nothing_at p.content.files k i.file none (subst (λ m. slice_get p.content.files m ≡ Some i.file) (same_number n u i) i.made)
 
       module _ (m : FileOf) (made : slice_get p.content.files k ≡ Some m) (n : ℕ) where
-        pub no_answer : slice_get m.answers.uses n ≡ None → (u : TheUse) → IsAnswerAt ps parts path name n u → ⊥
+        pub no_answer : slice_get m.answers.uses n ≡ None → (u : FileUse) → IsAnswerAt ps parts path name n u → ⊥
         no_answer none u h =
             let i = in_part n u h in
             let same : i.file ≡ m = one_at p.content.files k i.file m (subst (λ l. slice_get p.content.files l ≡ Some i.file) (same_number n u i) i.made) made in
             nothing_at m.answers.uses n u none (subst (λ (g : FileOf). slice_get g.answers.uses n ≡ Some u) same i.answer)
 
-        pub is_answer : (u : TheUse) → slice_get m.answers.uses n ≡ Some u → IsAnswerAt ps parts path name n u
+        pub is_answer : (u : FileUse) → slice_get m.answers.uses n ≡ Some u → IsAnswerAt ps parts path name n u
         is_answer u h = record { of_part = p; in_workspace = there; number = k; source = f; in_package = at; named = named; file = m; made = made; answer = h }
 
 -- what a search says of one workspace and its parts it says of equal ones
@@ -103,8 +103,8 @@ part_searched ps qs parts xs path q r a b e h =
     (subst (λ (l : List PackageModel). MatchOption r ((p : PartModel) → IsPartAt l xs q p → ⊥) (λ p. IsPartAt l xs q p.now)) a h))
 
 -- what an occurrence has, or that it is none
-abbrev pub IsTold : List PackageModel → List (Option PartModel) → List ℕ → List ℕ → ℕ → Option (Bor TheUse) → Type 0
-IsTold ps parts path name n r = MatchOption r ((u : TheUse) → IsAnswerAt ps parts path name n u → ⊥) (λ answer. IsAnswerAt ps parts path name n answer.now)
+abbrev pub IsTold : List PackageModel → List (Option PartModel) → List ℕ → List ℕ → ℕ → Option (Bor FileUse) → Type 0
+IsTold ps parts path name n r = MatchOption r ((u : FileUse) → IsAnswerAt ps parts path name n u → ⊥) (λ answer. IsAnswerAt ps parts path name n answer.now)
 
-pub none_told : (ps : List PackageModel) (parts : List (Option PartModel)) (path name : List ℕ) (n : ℕ) (r : Option (Bor TheUse)) → r ≡ None → ((u : TheUse) → IsAnswerAt ps parts path name n u → ⊥) → IsTold ps parts path name n r
+pub none_told : (ps : List PackageModel) (parts : List (Option PartModel)) (path name : List ℕ) (n : ℕ) (r : Option (Bor FileUse)) → r ≡ None → ((u : FileUse) → IsAnswerAt ps parts path name n u → ⊥) → IsTold ps parts path name n r
 none_told ps parts path name n r is none = subst (IsTold ps parts path name n) (sym is) none

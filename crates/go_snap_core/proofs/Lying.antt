@@ -15,7 +15,7 @@ use Rattle.go_make_core.specs.graph_core.Workspaces.{PackageModel, IsPackage, Is
 use Rattle.go_make_core.specs.graph_core.Zips.{numbered_at, numbered_back}
 use Rattle.go_emit_core.specs.ready_core.Packages.{trees_in}
 use Rattle.go_emit_core.specs.report_core.Faults.{IsSaid}
-use Rattle.go_emit_core.specs.used_core.Used.{TheUse}
+use Rattle.go_emit_core.specs.used_core.Used.{FileUse}
 use Rattle.go_make_core.specs.part_core.Parts.{ContentOf, FileOf, IsFileMadeIn, PartModel}
 use Rattle.go_make_core.specs.whole_core.Inputs.{AreParts, IsPartOf}
 use Rattle.go_make_core.specs.whole_core.Lists.{all_from_among, none_is_some}
@@ -30,7 +30,7 @@ use Rattle.go_snap_core.proofs.OneFaults.{never_both}
 use Rattle.go_make_core.proofs.Searching.{some_item}
 
 -- an occurrence of a list says what it says alone
-said_at : (uses : List TheUse) (n : ℕ) (u : TheUse) (f : Fault) → slice_get uses n ≡ Some u → IsSaid (u ∷ []) f → IsSaid uses f
+said_at : (uses : List FileUse) (n : ℕ) (u : FileUse) (f : Fault) → slice_get uses n ≡ Some u → IsSaid (u ∷ []) f → IsSaid uses f
 said_at [] n u f e s = absurd (none_is_some e)
 said_at (v ∷ us) zero u f e s = (let same : v ≡ u = (let o : Some v ≡ Some u = e in cc) in subst (λ w. IsSaid (w ∷ us) f) (sym same) (widened s))
   where
@@ -83,7 +83,7 @@ module _ (ps : List PackageModel) (parts : List (Option PartModel)) (all : ArePa
   fault_lies f (inr u) = unassembled_lies f u
 
   -- what an occurrence is refused by is reported of its file
-  refused_is_fault : (path name : List ℕ) (n : ℕ) (u : TheUse) (at : IsAnswerAt ps parts path name n u) (f : PlacedFault) → f.«package» ≡ at.in_workspace.number → f.file ≡ at.number → IsSaid (u ∷ []) (here f) → IsWorkspaceFault ps (contents_of parts) f
+  refused_is_fault : (path name : List ℕ) (n : ℕ) (u : FileUse) (at : IsAnswerAt ps parts path name n u) (f : PlacedFault) → f.«package» ≡ at.in_workspace.number → f.file ≡ at.number → IsSaid (u ∷ []) (here f) → IsWorkspaceFault ps (contents_of parts) f
   refused_is_fault path name n u at f of_package of_file said =
       let part = at.of_part in
       let there = at.in_workspace.there in

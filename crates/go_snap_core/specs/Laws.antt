@@ -5,7 +5,7 @@ use Rattle.go_emit_core.specs.expr_core.declared.things.Fault.{Fault}
 use Rattle.go_make_core.specs.graph_core.Workspaces.{PackageModel, IsWorkspace}
 use Rattle.go_make_core.specs.part_core.Parts.{PartModel}
 use Rattle.go_emit_core.specs.report_core.Faults.{IsSaid}
-use Rattle.go_emit_core.specs.used_core.Used.{TheUse}
+use Rattle.go_emit_core.specs.used_core.Used.{FileUse}
 use Rattle.go_snap_core.specs.declared.fault.PlacedFault.{PlacedFault}
 use Rattle.go_snap_core.specs.Faults.{LiesIn, here}
 use Rattle.go_snap_core.specs.Snapshots.{IsAnswerAt, IsSnapshot}
@@ -31,19 +31,19 @@ abbrev pub FaultsDiffer : Type 0
 FaultsDiffer = (ps : List PackageModel) (parts : List (Option PartModel)) (faults : List PlacedFault) → IsSnapshot ps parts faults → AllPairs (λ f g. f ≢ g) faults
 
 -- an occurrence is refused by a rule, at its place
-abbrev pub IsUseRefused : TheUse → Fault → Type 0
+abbrev pub IsUseRefused : FileUse → Fault → Type 0
 IsUseRefused u f = IsSaid (u ∷ []) f
 
 -- the rule that an occurrence of a file is refused by is a fault of this file
 abbrev pub RefusalsAreFaults : Type 0
 RefusalsAreFaults =
-    (ps : List PackageModel) (parts : List (Option PartModel)) (faults : List PlacedFault) → IsSnapshot ps parts faults → (path name : List ℕ) (n : ℕ) (u : TheUse) (at : IsAnswerAt ps parts path name n u) (f : PlacedFault)
+    (ps : List PackageModel) (parts : List (Option PartModel)) (faults : List PlacedFault) → IsSnapshot ps parts faults → (path name : List ℕ) (n : ℕ) (u : FileUse) (at : IsAnswerAt ps parts path name n u) (f : PlacedFault)
     → f.«package» ≡ at.in_workspace.number → f.file ≡ at.number → IsUseRefused u (here f) → Contains faults f
 
 -- in a workspace without a fault each package has a part, and no occurrence is refused: each has a declaration
 pub record IsFaultless (ps : List PackageModel) (parts : List (Option PartModel)) : Type 0 where
   pub made : (n : ℕ) (p : PackageModel) → slice_get ps n ≡ Some p → (part : PartModel) × (slice_get parts n ≡ Some (Some part))
-  pub declared : (path name : List ℕ) (n : ℕ) (u : TheUse) → IsAnswerAt ps parts path name n u → (f : Fault) → ¬ IsUseRefused u f
+  pub declared : (path name : List ℕ) (n : ℕ) (u : FileUse) → IsAnswerAt ps parts path name n u → (f : Fault) → ¬ IsUseRefused u f
 
 abbrev pub NoFaultNoRefusal : Type 0
 NoFaultNoRefusal = (ps : List PackageModel) (parts : List (Option PartModel)) → IsWorkspace ps → IsSnapshot ps parts [] → IsFaultless ps parts

@@ -9,7 +9,7 @@ use Rattle.go_emit_core.specs.Emitted.{somes}
 use Rattle.go_make_core.specs.graph_core.Sources.{SourceModel}
 use Rattle.go_make_core.specs.graph_core.Workspaces.{PackageModel}
 use Rattle.go_emit_core.specs.ready_core.Packages.{trees_in}
-use Rattle.go_emit_core.specs.used_core.Used.{TheUse}
+use Rattle.go_emit_core.specs.used_core.Used.{FileUse}
 use Rattle.go_make_core.specs.part_core.Parts.{AreFilesMade, ContentOf, FileOf, PartModel}
 use Rattle.go_snap_core.specs.declared.fault.PlacedFault.{PlacedFault}
 use Rattle.go_snap_core.specs.Faults.{AreFaults}
@@ -48,7 +48,7 @@ snapshot_with sources parts faults = record { sources = sources; parts = parts; 
 -- look-ups
 
 -- the occurrence of a number in the file of a name in the package of a path has this
-pub record IsAnswerAt (ps : List PackageModel) (parts : List (Option PartModel)) (path name : List ℕ) (n : ℕ) (u : TheUse) : Type 0 where
+pub record IsAnswerAt (ps : List PackageModel) (parts : List (Option PartModel)) (path name : List ℕ) (n : ℕ) (u : FileUse) : Type 0 where
   pub of_part : PartModel
   pub in_workspace : IsPartAt ps parts path of_part
   pub number : ℕ

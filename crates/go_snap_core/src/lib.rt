@@ -41,7 +41,8 @@ pub mod embed_core {
 /// What the crates above name of `go_emit_core`.
 pub mod emit_core {
     pub use go_emit_core::{
-        bodies_are_between_braces, calls_name_their_own, emit, objects_are_of_faultless, one_object,
+        bodies_are_between_braces, calls_name_their_own, close_object, close_objects, emit,
+        objects_are_of_faultless, one_object,
     };
 }
 
@@ -88,7 +89,7 @@ pub mod package_core {
 /// What the crates above name of `go_part_core`.
 pub mod part_core {
     pub use go_make_core::part_core::{
-        Part, PartInput, close_parts, compile_part, one_part, part_has_occurrences,
+        Part, PartInput, close_parts, close_types, compile_part, one_part, part_has_occurrences,
     };
 }
 

@@ -4,7 +4,7 @@ ghost use Rattle.std.specs.List.Sorted.{IsPermutation, IsStrictlySortedBy};
 ghost use Rattle.go_make_core.specs.graph_core.Imports.{IsNumbered};
 ghost use Rattle.go_make_core.specs.graph_core.Sources.{SourceModel};
 ghost use Rattle.go_make_core.specs.graph_core.Workspaces.{IsWorkspace, by_bytes, names_of_files};
-ghost use Rattle.go_emit_core.specs.used_core.Used.{TheUse};
+ghost use Rattle.go_emit_core.specs.used_core.Used.{FileUse};
 ghost use Rattle.go_make_core.specs.part_core.Parts.{PartModel};
 ghost use Rattle.go_make_core.specs.whole_core.Inputs.{AreParts};
 ghost use Rattle.go_emit_core.specs.object_core.Objects.{object_shown};
@@ -116,7 +116,7 @@ impl Snapshot {
     ///
     /// The Go specification, "Declarations and scope", "Qualified identifiers", "Selectors".
     pub fn outcome(&self, path: &ImportPath, file: &str, occurrence: OccId) -> Option<&Answer>
-        ensures { MatchOption result ((u : TheUse) → ¬ IsAnswerAt self.now.sources self.now.parts path.now file.now occurrence.0 u) (λ answer. IsAnswerAt self.now.sources self.now.parts path.now file.now occurrence.0 answer.now) }
+        ensures { MatchOption result ((u : FileUse) → ¬ IsAnswerAt self.now.sources self.now.parts path.now file.now occurrence.0 u) (λ answer. IsAnswerAt self.now.sources self.now.parts path.now file.now occurrence.0 answer.now) }
     {
         let part = self.find(path)?;
         let number = file_of(part.input().package().files(), file)?;

@@ -9,7 +9,7 @@ use Rattle.go_tree_nodes.specs.declared.decls.ValueKind.{ValueKind}
 use Rattle.go_tree_nodes.specs.declared.types.TypeName.{TypeName}
 use Rattle.go_tree_nodes.specs.Trees.{Separated, TypeTree, FieldTrees, MethodTrees, SignatureTree, ResultTree, ParamTrees, ExprTree, ItemTrees, ValueSpecTree, Specs, TopTree, of_specs}
 use Rattle.go_term_core.specs.decl_core.declared.places.DeclKind.TheVariants as kinds
-use Rattle.go_term_core.specs.decl_core.Outer.{Outer, Whole, Part, Embedded, outer, idents_outers, last_of, names_outers, type_outers, fields_outers, methods_outers, signature_outers, result_outers, params_outers, expr_outers, items_outers, exprs_outers, some_type_outers, kind_of_value, value_spec_outers, decl_outers, tops_outers, place_of}
+use Rattle.go_term_core.specs.decl_core.Outer.{Outer, Whole, Part, Embedded, outer, idents_outers, last_ident, names_outers, type_outers, fields_outers, methods_outers, signature_outers, result_outers, params_outers, expr_outers, items_outers, exprs_outers, some_type_outers, kind_of_value, value_spec_outers, decl_outers, tops_outers, place_of}
 use Rattle.go_package_core.specs.expr_core.Respelling.{RespellsName, InPlain, InQualifier, BehindDot, RespellsType, InNamedType, InPointer, InParenType, InStruct, InInterface, RespellsFields, InFieldType, InLaterFields, InEmbedded, BehindEmbedded, RespellsMethods, InMethod, InLaterMethods, RespellsSignature, InParams, InResult, RespellsResult, InOneResult, InResults, RespellsParams, InParam, InLaterParams, Respells, InName, InParen, InUnary, InLeft, InRight, InOperand, InSelector, InCallee, InArguments, InLiteralType, InElements, InStructType, InStructElements, RespellsArgs, InArgument, InLaterArguments, RespellsItems, InKey, InElement, InLaterElements}
 use Rattle.go_spelling_core.specs.Trees.{RespellsExprs, InOnly, InFirst, InLater, RespellsValues, InValues}
 use Rattle.go_spelling_core.specs.Files.{WritesInGroup, AtFirst, AtLater, WritesInSpecs, InTheOnly, InTheGroup, WritesInTops, InTop, InLaterTops}
@@ -32,7 +32,7 @@ pub same_long : (xs ys : List Outer) → Same xs ys → length xs ≡ length ys
 same_long xs ys h = sym (length-map xs place_of) ∙ (ap length h ∙ length-map ys place_of)
 
 module _ (x : Ident) (name : List ℕ) where
-  last_same : (n m : TypeName) → RespellsName x name n m → place_of (outer kinds.Field Embedded (last_of n)) ≡ place_of (outer kinds.Field Embedded (last_of m))
+  last_same : (n m : TypeName) → RespellsName x name n m → place_of (outer kinds.Field Embedded (last_ident n)) ≡ place_of (outer kinds.Field Embedded (last_ident m))
   last_same n m InPlain = refl
   last_same n m InQualifier = refl
   last_same n m BehindDot = refl
@@ -51,7 +51,7 @@ module _ (x : Ident) (name : List ℕ) where
     fields_same ls ms (InLaterFields {xs = xs} {t = t} {rest = rest} {more = more} r) =
         in_second (idents_outers kinds.Field Part xs) (type_outers t ++ fields_outers rest) (type_outers t ++ fields_outers more) (in_second (type_outers t) (fields_outers rest) (fields_outers more) (fields_same rest more r))
     fields_same ls ms (InEmbedded {n = n} {m = m} {rest = rest} r) = ap (λ p. p ∷ map place_of (fields_outers rest)) (last_same n m r)
-    fields_same ls ms (BehindEmbedded {n = n} {rest = rest} {more = more} r) = ap (λ l. place_of (outer kinds.Field Embedded (last_of n)) ∷ l) (fields_same rest more r)
+    fields_same ls ms (BehindEmbedded {n = n} {rest = rest} {more = more} r) = ap (λ l. place_of (outer kinds.Field Embedded (last_ident n)) ∷ l) (fields_same rest more r)
 
     methods_same : (ls ms : MethodTrees) → RespellsMethods x name ls ms → Same (methods_outers ls) (methods_outers ms)
     methods_same ls ms (InMethod {y = y} {a = a} {b = b} {rest = rest} r) =

@@ -19,7 +19,8 @@ use Rattle.go_denote_core.specs.declared.things.Denoted.TheVariants as denotes
 use Rattle.go_denote_core.specs.Laws.{ValueAlike}
 use Rattle.go_statement_core.specs.declared.targets.Target.{Target}
 use Rattle.go_statement_core.specs.declared.targets.Target.TheVariants as targets
-use Rattle.go_statement_core.specs.Assignments.{fits_type, takes_argument, is_left_side, all_pairs, assignment_rule}
+use Rattle.go_denote_core.specs.Arguments.{fits_type}
+use Rattle.go_statement_core.specs.Assignments.{takes_argument, is_left_side, all_pairs, assignment_rule}
 use Rattle.go_statement_core.specs.Declarations.{given_type, declared_types, declared_target, variables_rule, type_after, paired_types, short_types}
 use Rattle.go_statement_core.specs.Constants.{answer, operand_constant, own_value, answer_of_value, of_type, constant_answer}
 use Rattle.go_statement_core.specs.Returns.{returned, return_rule}

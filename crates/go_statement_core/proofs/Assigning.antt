@@ -12,12 +12,11 @@ use Rattle.go_denote_core.specs.declared.things.Denoted.{Denoted}
 use Rattle.go_denote_core.specs.declared.things.Denoted.TheVariants as denotes
 use Rattle.go_denote_core.specs.declared.things.Argument.{Argument}
 use Rattle.go_denote_core.specs.declared.things.Argument.TheVariants as arguments
-use Rattle.go_denote_core.specs.Arguments.{is_refused}
+use Rattle.go_denote_core.specs.Arguments.{is_refused, single_rule}
 use Rattle.go_statement_core.specs.declared.targets.Target.{Target}
 use Rattle.go_statement_core.specs.declared.targets.Target.TheVariants as targets
 use Rattle.go_statement_core.specs.Targets.{target_of_value, target_of}
 use Rattle.go_statement_core.specs.Assignments.{has_type, takes_argument, is_left_side, all_pairs, assignment_rule}
-use Rattle.go_statement_core.specs.Statements.{single_rule}
 use Rattle.go_statement_core.specs.Relations.{Takes, to_operand, to_blank, to_new, to_typeless, of_refused, IsAssigned}
 use Rattle.go_statement_core.specs.Laws.{AssignmentsStand, TargetsAreAddressable}
 use Rattle.go_statement_core.proofs.Pairing.{all_each, each_all, counted, corresponds, corresponded}

@@ -8,7 +8,8 @@ use Rattle.go_operand_core.specs.TypeRules.{TypeRules}
 use Rattle.go_operand_core.proofs.Relating.{assigned, assigns}
 use Rattle.go_denote_core.specs.declared.things.Argument.{Argument}
 use Rattle.go_denote_core.specs.declared.things.Argument.TheVariants as arguments
-use Rattle.go_statement_core.specs.Assignments.{fits_type, all_pairs}
+use Rattle.go_denote_core.specs.Arguments.{fits_type}
+use Rattle.go_statement_core.specs.Assignments.{all_pairs}
 use Rattle.go_statement_core.specs.Returns.{returned, return_rule}
 use Rattle.go_statement_core.specs.Relations.{IsReturned, to_result, to_typeless, of_refused, Returns, not_known, empty_with_names, of_values}
 use Rattle.go_statement_core.specs.Laws.{ReturnsStand}

@@ -16,8 +16,8 @@ use Rattle.go_denote_core.specs.declared.things.Denoted.{Denoted}
 use Rattle.go_denote_core.specs.declared.things.Denoted.TheVariants as denotes
 use Rattle.go_denote_core.specs.declared.things.Argument.{Argument}
 use Rattle.go_denote_core.specs.declared.things.Argument.TheVariants as arguments
-use Rattle.go_denote_core.specs.Arguments.{is_refused}
-use Rattle.go_statement_core.specs.Statements.{is_statement, called_rule, condition_rule, single_rule}
+use Rattle.go_denote_core.specs.Arguments.{is_refused, single_rule}
+use Rattle.go_statement_core.specs.Statements.{is_statement, called_rule, condition_rule}
 use Rattle.go_statement_core.specs.Updates.{bits_rule, update_rule}
 use Rattle.go_statement_core.specs.Laws.{MayStand, IsCallOf, CallsStand, ConditionsAreBoolean, IsBitAssignment, IsSumAssignment, UpdatesStand}
 

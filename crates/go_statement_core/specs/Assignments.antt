@@ -8,9 +8,9 @@ use Rattle.go_text_core.specs.declared.rule.Rule.TheVariants.{Y4}
 use Rattle.go_operand_core.specs.declared.types.ValueType.{ValueType}
 use Rattle.go_operand_core.specs.declared.types.ValueType.TheVariants as value_types
 use Rattle.go_operand_core.specs.TypeRules.{TypeRules}
-use Rattle.go_operand_core.specs.Assign.{assignable_to}
 use Rattle.go_denote_core.specs.declared.things.Argument.{Argument}
 use Rattle.go_denote_core.specs.declared.things.Argument.TheVariants as arguments
+use Rattle.go_denote_core.specs.Arguments.{fits_type}
 use Rattle.go_statement_core.specs.declared.targets.Target.{Target}
 use Rattle.go_statement_core.specs.declared.targets.Target.TheVariants as targets
 
@@ -26,12 +26,6 @@ abbrev pub gives_type : {T : Type 0} → Argument T → Bool
 gives_type arguments.Refused = true
 gives_type arguments.Void = false
 gives_type (arguments.«Value» operand) = has_type operand.value_type
-
--- what is refused breaks no rule
-abbrev pub fits_type : {T : Type 0} → TypeRules T → T → Argument T → Bool
-fits_type rules t arguments.Refused = true
-fits_type rules t arguments.Void = false
-fits_type rules t (arguments.«Value» operand) = assignable_to rules operand t
 
 -- a target takes what it is given
 abbrev pub takes_argument : {T : Type 0} → TypeRules T → Target T → Argument T → Bool

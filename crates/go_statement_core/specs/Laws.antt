@@ -19,7 +19,7 @@ use Rattle.go_denote_core.specs.declared.things.Denoted.{Denoted}
 use Rattle.go_denote_core.specs.declared.things.Denoted.TheVariants as denotes
 use Rattle.go_denote_core.specs.declared.things.Argument.{Argument}
 use Rattle.go_denote_core.specs.declared.things.Argument.TheVariants as arguments
-use Rattle.go_denote_core.specs.Arguments.{is_refused}
+use Rattle.go_denote_core.specs.Arguments.{is_refused, single_rule}
 use Rattle.go_statement_core.specs.declared.targets.Target.{Target}
 use Rattle.go_statement_core.specs.declared.targets.Target.TheVariants as targets
 use Rattle.go_statement_core.specs.Targets.{target_of}
@@ -27,7 +27,7 @@ use Rattle.go_statement_core.specs.Assignments.{assignment_rule}
 use Rattle.go_statement_core.specs.Declarations.{declared_types, declared_target, variables_rule, short_types}
 use Rattle.go_statement_core.specs.Constants.{answer, constants_rule, constant_answer}
 use Rattle.go_statement_core.specs.Returns.{return_rule}
-use Rattle.go_statement_core.specs.Statements.{statement_rule, condition_rule, single_rule}
+use Rattle.go_statement_core.specs.Statements.{statement_rule, condition_rule}
 use Rattle.go_statement_core.specs.Updates.{update_rule, increment_rule}
 use Rattle.go_statement_core.specs.Relations.{IsAssigned, Returns, IsConstant, IsDeclaredAs, IsNoConstant, IsOfOtherType}
 

@@ -6,7 +6,8 @@ use Rattle.go_text_core.specs.declared.rule.Rule.{Rule}
 use Rattle.go_text_core.specs.declared.rule.Rule.TheVariants.{Y4}
 use Rattle.go_operand_core.specs.TypeRules.{TypeRules}
 use Rattle.go_denote_core.specs.declared.things.Argument.{Argument}
-use Rattle.go_statement_core.specs.Assignments.{fits_type, all_pairs, unless}
+use Rattle.go_denote_core.specs.Arguments.{fits_type}
+use Rattle.go_statement_core.specs.Assignments.{all_pairs, unless}
 
 -- a result without a type takes each value
 abbrev pub returned : {T : Type 0} → TypeRules T → Option T → Argument T → Bool

@@ -1,4 +1,4 @@
--- Which expressions may stand for statements, for conditions and for single values.
+-- Which expressions may stand for statements and for conditions.
 --
 -- docs/RULES.md, "Assignments, declarations, returns, statements". The Go specification, "Expression statements", "If statements", "For
 -- statements".
@@ -48,14 +48,3 @@ condition_rule rules (denotes.«Package» d) = None
 condition_rule rules (denotes.«Type» d t) = None
 condition_rule rules (denotes.Func d s) = None
 condition_rule rules (denotes.Builtin d b) = None
-
-abbrev pub single_rule : {T S D : Type 0} → Denoted T S D → Option Rule
-single_rule (denotes.Several s) = Some Y3
-single_rule denotes.Nothing = Some Y3
-single_rule (denotes.«Value» operand) = None
-single_rule denotes.Refused = None
-single_rule denotes.Typeless = None
-single_rule (denotes.«Package» d) = None
-single_rule (denotes.«Type» d t) = None
-single_rule (denotes.Func d s) = None
-single_rule (denotes.Builtin d b) = None

@@ -4,8 +4,8 @@ ghost use Rattle.std.specs.List.{list_all};
 ghost use Rattle.go_statement_core.specs.Assignments as assignments;
 
 use crate::targets::Target;
-use go_denote_core::Argument;
-use go_operand_core::{TypeLooks, ValueType, assignable_to};
+use go_denote_core::{Argument, fits_type};
+use go_operand_core::{TypeLooks, ValueType};
 use go_text_core::Rule;
 use std::alloc::{AllocError, Global};
 
@@ -28,21 +28,6 @@ fn gives_type<T: Drop>(argument: &Argument<T>) -> bool
         Argument::Refused => true,
         Argument::Void => false,
         Argument::Value(operand) => has_type(&operand.value_type),
-    }
-}
-
-pub(crate) fn fits_type<E: TypeLooks>(
-    env: &E,
-    alloc: Global,
-    t: &E::Type,
-    argument: &Argument<E::Type>,
-) -> Result<bool, AllocError>
-    ensures { IfOk result (λ b. b ≡ assignments.fits_type (E.types env.now) t.now argument.now) }
-{
-    match argument {
-        Argument::Refused => Ok(true),
-        Argument::Void => Ok(false),
-        Argument::Value(operand) => assignable_to(env, alloc, operand, t),
     }
 }
 

@@ -1,13 +1,11 @@
 //! Declarations of constants.
 ghost use Rattle.std.specs.Prelude.{◌≡◌, IfOk};
 ghost use Rattle.std.specs.List.{list_all};
-ghost use Rattle.go_operand_core.specs.Values as values;
 ghost use Rattle.go_statement_core.specs.Constants as constants;
 
 use go_constant_core::Constant;
 use go_denote_core::Argument;
-use go_operand_core::{Operand, TypeForm, TypeLooks, ValueType, assignable_to, basic_under};
-use go_term_core::Basic;
+use go_operand_core::{Operand, TypeLooks, ValueType, assignable_to, basic_under, form_basic};
 use go_text_core::Rule;
 use std::alloc::{AllocError, Global};
 
@@ -201,15 +199,6 @@ fn of_basic_type<E: TypeLooks>(
         Argument::Refused => Ok(answer(unknown(env, t), None)),
         Argument::Void => Ok(answer(unknown(env, t), Some(Rule::Y7))),
         Argument::Value(operand) => typed_value(env, alloc, t, operand),
-    }
-}
-
-fn form_basic<T: Drop>(form: TypeForm<T>) -> Option<Basic>
-    ensures { result ≡ values.form_basic form }
-{
-    match form {
-        TypeForm::Basic(basic) => Some(basic),
-        TypeForm::Nothing | TypeForm::Pointer(_) | TypeForm::Struct | TypeForm::Interface => None,
     }
 }
 

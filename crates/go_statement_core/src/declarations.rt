@@ -13,7 +13,8 @@ use go_operand_core::{TypeLooks, ValueType};
 use go_text_core::Rule;
 use std::alloc::{AllocError, Global};
 
-fn again<E: TypeLooks>(env: &E, t: &Option<E::Type>) -> Option<E::Type>
+/// A type once more, or none where there is none.
+pub fn some_type_again<E: TypeLooks>(env: &E, t: &Option<E::Type>) -> Option<E::Type>
     ensures { result ≡ t.now }
 {
     match t {
@@ -67,7 +68,7 @@ fn repeated<E: TypeLooks>(
 {
     let mut all = Vec::with_capacity(alloc, count)?;
     for _ in 0..count {
-        all.push(again(env, t))?;
+        all.push(some_type_again(env, t))?;
     }
     Ok(all)
 }

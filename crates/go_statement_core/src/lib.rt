@@ -19,14 +19,14 @@ mod updates;
 
 pub use assignments::assignment_rule;
 pub use constants::{ConstantAnswer, constant_answer, constants_rule};
-pub use declarations::{declared_types, short_types, variables_rule};
+pub use declarations::{declared_types, short_types, some_type_again, variables_rule};
 pub use laws::{
     assignments_stand, calls_stand, conditions_are_boolean, constants_are_declared, returns_stand,
     short_declarations, statements_are_local, targets_are_addressable, updates_stand,
     variables_are_declared, worked_statements,
 };
 pub use returns::return_rule;
-pub use statements::{condition_rule, single_rule, statement_rule};
+pub use statements::{condition_rule, statement_rule};
 pub use targets::{Target, target_of};
 pub use updates::{increment_rule, update_rule};
 

@@ -1,4 +1,4 @@
-//! Expression statements, conditions, and expressions that stand for single values.
+//! Expression statements and conditions.
 ghost use Rattle.std.specs.Prelude.{◌≡◌};
 ghost use Rattle.go_statement_core.specs.Statements as statements;
 
@@ -75,26 +75,6 @@ pub fn condition_rule<E: TypeLooks, S: Drop, D: Drop>(
         Denoted::Value(operand) => value_condition(env, operand),
         Denoted::Several(_) | Denoted::Nothing => Some(Rule::Y3),
         Denoted::Refused
-        | Denoted::Typeless
-        | Denoted::Package(_)
-        | Denoted::Type(_, _)
-        | Denoted::Func(_, _)
-        | Denoted::Builtin(_, _) => None,
-    }
-}
-
-/// The rule that an expression breaks where a single value is wanted, if it breaks one: Y3, for a call with several results or none.
-/// One that is refused breaks no rule.
-///
-/// A single value is wanted of an operand, and of a member of a list of several. The Go specification, "Operators", "Assignment
-/// statements": each expression must be single-valued.
-pub fn single_rule<T: Drop, S: Drop, D: Drop>(denoted: &Denoted<T, S, D>) -> Option<Rule>
-    ensures { result ≡ statements.single_rule denoted.now }
-{
-    match denoted {
-        Denoted::Nothing | Denoted::Several(_) => Some(Rule::Y3),
-        Denoted::Value(_)
-        | Denoted::Refused
         | Denoted::Typeless
         | Denoted::Package(_)
         | Denoted::Type(_, _)

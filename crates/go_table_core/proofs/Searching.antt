@@ -18,10 +18,10 @@ use Rattle.go_decl_core.specs.declared.keys.DeclKey.{DeclKey}
 use Rattle.go_decl_core.specs.declared.keys.DeclRef.{DeclRef}
 use Rattle.go_table_core.specs.Entries.{Entry, same_decl, same_key, find_entry}
 use Rattle.go_table_core.specs.Tables.{AreOf, KeysRise, ArePackageTypes, IsPlaceOf}
-use Rattle.go_table_core.specs.mirrors.Holding.{decl_cmp}
+use Rattle.go_decl_core.specs.Order.{place_cmp}
 use Rattle.go_table_core.proofs.Finding.{same_bytes, bytes_same}
 
-decl_total : IsTotalOrder decl_cmp
+decl_total : IsTotalOrder place_cmp
 decl_total = then_total (on_total (λ d. d.file) nat_cmp_total) (on_total (λ d. d.number) nat_cmp_total)
 
 -- the test of two keys, as an answer of the comparison
@@ -31,28 +31,28 @@ less_is a b h = ap (λ t. cond t Less (cond (nat_eq a b) Equal Greater)) h
 equal_is : (a b : ℕ) → nat_lt a b ≡ false → nat_eq a b ≡ true → nat_cmp a b ≡ Equal
 equal_is a b h e = ap (λ t. cond t Less (cond (nat_eq a b) Equal Greater)) h ∙ ap (λ t. cond t Equal Greater) e
 
-before_is_less : (a b : DeclRef) → nat_lt a.file b.file || (nat_eq a.file b.file && nat_lt a.number b.number) ≡ true → decl_cmp a b ≡ Less
+before_is_less : (a b : DeclRef) → nat_lt a.file b.file || (nat_eq a.file b.file && nat_lt a.number b.number) ≡ true → place_cmp a b ≡ Less
 before_is_less a b h = by (nat_lt a.file b.file) (nat_eq a.file b.file) refl refl h
   where
-    by : (s t : Bool) → nat_lt a.file b.file ≡ s → nat_eq a.file b.file ≡ t → s || (t && nat_lt a.number b.number) ≡ true → decl_cmp a b ≡ Less
+    by : (s t : Bool) → nat_lt a.file b.file ≡ s → nat_eq a.file b.file ≡ t → s || (t && nat_lt a.number b.number) ≡ true → place_cmp a b ≡ Less
     by true t e d k = ap (λ o. ordering_then o (nat_cmp a.number b.number)) (less_is a.file b.file e)
     by false true e d k = ap (λ o. ordering_then o (nat_cmp a.number b.number)) (equal_is a.file b.file e d) ∙ less_is a.number b.number k
     by false false e d k = absurd (true≢false (sym k))
 
-not_less_back : (a b : DeclRef) → decl_cmp a b ≡ Less → is_lt (decl_cmp b a) ≡ false
+not_less_back : (a b : DeclRef) → place_cmp a b ≡ Less → is_lt (place_cmp b a) ≡ false
 not_less_back a b h = ap is_lt (decl_total.antisymm b a ∙ ap ordering_reverse h)
 
-rise_sorted : (es : List Entry) → KeysRise es → (k : ℕ) (d : Entry) → 0 ≤ k → k + 1 < length es → is_lt (decl_cmp (get_or es (k + 1) d).key.decl (get_or es k d).key.decl) ≡ false
+rise_sorted : (es : List Entry) → KeysRise es → (k : ℕ) (d : Entry) → 0 ≤ k → k + 1 < length es → is_lt (place_cmp (get_or es (k + 1) d).key.decl (get_or es k d).key.decl) ≡ false
 rise_sorted [] rise k d low lt = absurd (omega arith)
 rise_sorted (e ∷ []) rise k d low lt = absurd (omega arith)
 rise_sorted (e ∷ f ∷ es) rise zero d low lt = not_less_back e.key.decl f.key.decl (before_is_less e.key.decl f.key.decl rise.0)
 rise_sorted (e ∷ f ∷ es) rise (suc k) d low lt =
     let lt' : k + 1 < length (f ∷ es) = omega arith in
     let next : suc k + 1 ≡ suc (k + 1) = omega arith in
-    subst (λ (m : ℕ). is_lt (decl_cmp (get_or (e ∷ f ∷ es) m d).key.decl (get_or (f ∷ es) k d).key.decl) ≡ false) (sym next) (rise_sorted (f ∷ es) rise.1 k d (omega arith) lt')
+    subst (λ (m : ℕ). is_lt (place_cmp (get_or (e ∷ f ∷ es) m d).key.decl (get_or (f ∷ es) k d).key.decl) ≡ false) (sym next) (rise_sorted (f ∷ es) rise.1 k d (omega arith) lt')
 
 -- equal by the comparison: of one file and one number
-equal_parts : (a b : DeclRef) → decl_cmp a b ≡ Equal → (a.file ≡ b.file) × (a.number ≡ b.number)
+equal_parts : (a b : DeclRef) → place_cmp a b ≡ Equal → (a.file ≡ b.file) × (a.number ≡ b.number)
 equal_parts a b h = by (nat_cmp a.file b.file) (nat_cmp a.number b.number) refl refl h
   where
     by : (o r : Ordering) → nat_cmp a.file b.file ≡ o → nat_cmp a.number b.number ≡ r → ordering_then o r ≡ Equal → (a.file ≡ b.file) × (a.number ≡ b.number)
@@ -62,8 +62,8 @@ equal_parts a b h = by (nat_cmp a.file b.file) (nat_cmp a.number b.number) refl 
     by Equal Greater e d k = absurd (let no : Greater ≡ Equal = k in cc)
     by Greater r e d k = absurd (let no : Greater ≡ Equal = k in cc)
 
-same_compares : (a b : DeclRef) → a ≡ b → decl_cmp a b ≡ Equal
-same_compares a b same = subst (λ (d : DeclRef). decl_cmp a d ≡ Equal) same (tied_itself decl_total a)
+same_compares : (a b : DeclRef) → a ≡ b → place_cmp a b ≡ Equal
+same_compares a b same = subst (λ (d : DeclRef). place_cmp a d ≡ Equal) same (tied_itself decl_total a)
 
 -- the order along a list whose keys rise
 
@@ -71,20 +71,20 @@ rise_tail : (e : Entry) (es : List Entry) → KeysRise (e ∷ es) → KeysRise e
 rise_tail e [] rise = tt
 rise_tail e (f ∷ es) rise = rise.1
 
-head_before : (e : Entry) (es : List Entry) → KeysRise (e ∷ es) → (j : ℕ) (f : Entry) → slice_get es j ≡ Some f → decl_cmp e.key.decl f.key.decl ≡ Less
+head_before : (e : Entry) (es : List Entry) → KeysRise (e ∷ es) → (j : ℕ) (f : Entry) → slice_get es j ≡ Some f → place_cmp e.key.decl f.key.decl ≡ Less
 head_before e [] rise j f h = absurd (let no : None ≡ Some f = h in cc)
 head_before e (g ∷ es) rise zero f h =
     let same : g ≡ f = cc in
-    subst (λ (x : Entry). decl_cmp e.key.decl x.key.decl ≡ Less) same (before_is_less e.key.decl g.key.decl rise.0)
+    subst (λ (x : Entry). place_cmp e.key.decl x.key.decl ≡ Less) same (before_is_less e.key.decl g.key.decl rise.0)
 head_before e (g ∷ es) rise (suc j) f h =
     decl_total.trans e.key.decl g.key.decl f.key.decl (before_is_less e.key.decl g.key.decl rise.0) (head_before g es rise.1 j f h)
 
-far_before : (es : List Entry) → KeysRise es → (i j : ℕ) (e f : Entry) → slice_get es i ≡ Some e → slice_get es j ≡ Some f → i < j → decl_cmp e.key.decl f.key.decl ≡ Less
+far_before : (es : List Entry) → KeysRise es → (i j : ℕ) (e f : Entry) → slice_get es i ≡ Some e → slice_get es j ≡ Some f → i < j → place_cmp e.key.decl f.key.decl ≡ Less
 far_before [] rise i j e f h k lt = absurd (let no : None ≡ Some e = h in cc)
 far_before (x ∷ es) rise zero zero e f h k lt = absurd (omega arith)
 far_before (x ∷ es) rise zero (suc j) e f h k lt =
     let same : x ≡ e = cc in
-    subst (λ (y : Entry). decl_cmp y.key.decl f.key.decl ≡ Less) same (head_before x es rise j f k)
+    subst (λ (y : Entry). place_cmp y.key.decl f.key.decl ≡ Less) same (head_before x es rise j f k)
 far_before (x ∷ es) rise (suc i) zero e f h k lt = absurd (omega arith)
 far_before (x ∷ es) rise (suc i) (suc j) e f h k lt = (let lt' : i < j = omega arith in far_before es (rise_tail x es rise) i j e f h k lt')
 
@@ -137,7 +137,7 @@ find_at (x ∷ es) k (suc i) e rise h key = by (same_key x.key k) refl (find_at 
     by : (b : Bool) → same_key x.key k ≡ b → find_entry es k ≡ Some e → (if b then Some x else find_entry es k) ≡ Some e
     by true same rest =
         let decls : x.key.decl ≡ e.key.decl = ap (λ y. y.decl) (same_key-is x.key k same ∙ sym key) in
-        let less : decl_cmp x.key.decl e.key.decl ≡ Less = head_before x es rise i e h in
+        let less : place_cmp x.key.decl e.key.decl ≡ Less = head_before x es rise i e h in
         absurd (let no : Equal ≡ Less = sym (same_compares x.key.decl e.key.decl decls) ∙ less in cc)
     by false same rest = rest
 
@@ -154,11 +154,11 @@ find_none (x ∷ es) k none = by (same_key x.key k) refl (find_none es k (λ i e
 there : (es : List Entry) (i : ℕ) (e : Entry) → slice_get es i ≡ Some e → (i < length es) × ((d : Entry) → get_or es i d ≡ e)
 there es i e h = (slice_get_within es i e h, λ d. get_or_from_slice_get es i e d h)
 
-pub answer_none : (es : List Entry) (k : DeclKey) (n : ℕ) → ArePackageTypes k.path es → IsBinarySearchResult (λ e. decl_cmp e.key.decl k.decl) es (Err n) → find_entry es k ≡ None
+pub answer_none : (es : List Entry) (k : DeclKey) (n : ℕ) → ArePackageTypes k.path es → IsBinarySearchResult (λ e. place_cmp e.key.decl k.decl) es (Err n) → find_entry es k ≡ None
 answer_none es k n well parted = find_none es k (λ i e h key.
     let split = parted (searchable_from_sorted decl_total (λ e. e.key.decl) es k.decl (rise_sorted es well.rising)) in
     let at = there es i e h in
-    let equal : decl_cmp (get_or es i e).key.decl k.decl ≡ Equal = same_compares (get_or es i e).key.decl k.decl (ap (λ y. y.key.decl) (at.1 e) ∙ ap (λ y. y.decl) key) in
+    let equal : place_cmp (get_or es i e).key.decl k.decl ≡ Equal = same_compares (get_or es i e).key.decl k.decl (ap (λ y. y.key.decl) (at.1 e) ∙ ap (λ y. y.decl) key) in
     elim (cases_lt i n) [
       | inl before ↦ (let no : Less ≡ Equal = sym (split.0 i e (omega arith) before) ∙ equal in cc)
       | inr behind ↦ (let no : Greater ≡ Equal = sym (split.1 i e behind at.0) ∙ equal in cc)
@@ -179,23 +179,23 @@ answer_some es k n e well lt is decl =
     (sym found, (e, at, found, key))
 
 -- it is another of the same place
-pub answer_other : (es : List Entry) (k : DeclKey) (n : ℕ) (e : Entry) → ArePackageTypes k.path es → n < length es → e ≡ get_or es n e → decl_cmp (get_or es n e).key.decl k.decl ≡ Equal → (e.key.decl ≡ k.decl → ⊥) → find_entry es k ≡ None
+pub answer_other : (es : List Entry) (k : DeclKey) (n : ℕ) (e : Entry) → ArePackageTypes k.path es → n < length es → e ≡ get_or es n e → place_cmp (get_or es n e).key.decl k.decl ≡ Equal → (e.key.decl ≡ k.decl → ⊥) → find_entry es k ≡ None
 answer_other es k n e well lt is equal other =
     let at : slice_get es n ≡ Some e = slice_get_read es (length es) n e refl lt is in
-    let tied : decl_cmp e.key.decl k.decl ≡ Equal = ap (λ y. decl_cmp y.key.decl k.decl) is ∙ equal in
+    let tied : place_cmp e.key.decl k.decl ≡ Equal = ap (λ y. place_cmp y.key.decl k.decl) is ∙ equal in
     find_none es k (λ i f h key.
     let decl : f.key.decl ≡ k.decl = ap (λ y. y.decl) key in
-    let level : decl_cmp e.key.decl f.key.decl ≡ Equal = ap (decl_cmp e.key.decl) decl ∙ tied in
+    let level : place_cmp e.key.decl f.key.decl ≡ Equal = ap (place_cmp e.key.decl) decl ∙ tied in
     elim (cases_lt i n) [
       | inl before ↦ (
-          let less : decl_cmp f.key.decl e.key.decl ≡ Less = far_before es well.rising i n f e h at before in
-          let back : decl_cmp f.key.decl e.key.decl ≡ Equal = decl_total.antisymm f.key.decl e.key.decl ∙ ap ordering_reverse level in
+          let less : place_cmp f.key.decl e.key.decl ≡ Less = far_before es well.rising i n f e h at before in
+          let back : place_cmp f.key.decl e.key.decl ≡ Equal = decl_total.antisymm f.key.decl e.key.decl ∙ ap ordering_reverse level in
           let no : Less ≡ Equal = sym less ∙ back in
           cc
           )
       | inr behind ↦ elim (cases_lt n i) [
         | inl after ↦ (
-            let less : decl_cmp e.key.decl f.key.decl ≡ Less = far_before es well.rising n i e f at h after in
+            let less : place_cmp e.key.decl f.key.decl ≡ Less = far_before es well.rising n i e f at h after in
             let no : Less ≡ Equal = sym less ∙ level in
             cc
             )

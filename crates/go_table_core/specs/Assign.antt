@@ -1,7 +1,7 @@
 -- Which values are assignable to variables of a type: the Go specification, "Assignability".
-use Rattle.std.specs.Prelude.{◌≡◌, ◌⊎◌, ⊤}
+use Rattle.std.specs.Prelude.{◌≡◌, ◌⊎◌, ⊤, Bool, true, false}
 use Rattle.go_term_core.specs.declared.term.Basic.TheVariants as basics
-use Rattle.go_term_core.specs.Terms.{Term, NoType, Predeclared, ErrorType, Defined, PointerTo, InterfaceOf}
+use Rattle.go_term_core.specs.Terms.{Term, NoType, Predeclared, ErrorType, Defined, PointerTo, StructOf, InterfaceOf}
 use Rattle.go_term_core.specs.Identity.{Identical}
 use Rattle.go_table_core.specs.Entries.{EntryLook, underlying_in}
 
@@ -19,6 +19,16 @@ IsNamed (Predeclared b) = ⊤
 IsNamed ErrorType = ⊤
 IsNamed (Defined k) = ⊤
 IsNamed _ = ⊥
+
+-- the same as a test
+abbrev pub is_named : Term → Bool
+is_named NoType = false
+is_named (Predeclared b) = true
+is_named ErrorType = true
+is_named (Defined k) = true
+is_named (PointerTo t) = false
+is_named (StructOf path fs) = false
+is_named (InterfaceOf path ms) = false
 
 abbrev pub IsInterface : Term → Type 0
 IsInterface ErrorType = ⊤

@@ -4,7 +4,7 @@ ghost use Rattle.go_table_core.specs.Entries.{find_entry};
 ghost use Rattle.go_term_core.specs.declared.term.Basic.TheVariants as basics;
 ghost use Rattle.go_term_core.specs.Shapes.{shape};
 ghost use Rattle.go_term_core.specs.Terms.{NoType, Predeclared};
-ghost use Rattle.go_table_core.specs.Assign.{AValue, IsNamed, IsInterface, IsPointer, IsFitting, IsTermAssignable};
+ghost use Rattle.go_table_core.specs.Assign.{AValue, IsNamed, is_named, IsInterface, IsPointer, IsFitting, IsTermAssignable};
 ghost use Rattle.go_table_core.specs.Shown.{assigned_shown};
 
 use crate::table::TypeTable;
@@ -25,9 +25,11 @@ pub enum Operand<'a> {
     Boolean,
 }
 
-/// Whether a type is a name, declared or predeclared.
-fn is_named(term: &TypeTerm) -> bool
-    ensures { IsTrue result ↔ IsNamed (shape term.now) }
+/// Whether a type as it is written is a name, declared or predeclared. `any` is no such name but an interface type. The Go specification,
+/// "Types".
+pub fn is_named_type(term: &TypeTerm) -> bool
+    ensures named { IsTrue result ↔ IsNamed (shape term.now) }
+    ensures decided { result ≡ is_named (shape term.now) }
 {
     match term {
         TypeTerm::Basic(_) | TypeTerm::Error | TypeTerm::Defined(_) => true,
@@ -70,7 +72,7 @@ fn is_implemented(term: &TypeTerm, implements: bool) -> bool
 fn are_named(one: &TypeTerm, other: &TypeTerm) -> bool
     ensures { IsTrue result ↔ (IsNamed (shape one.now) × IsNamed (shape other.now)) }
 {
-    is_named(one) && is_named(other)
+    is_named_type(one) && is_named_type(other)
 }
 
 /// Whether an underlying type is a predeclared one, or an interface type that is implemented.

@@ -11,7 +11,7 @@ mod kinds;
 mod laws;
 mod table;
 
-pub use assign::{Operand, assignable};
+pub use assign::{Operand, assignable, is_named_type};
 pub use entry::{DeclaredMethod, DefinedType, TypeEntry};
 pub use fields::{FieldTable, StructField, StructFields, term_fields};
 pub use laws::{

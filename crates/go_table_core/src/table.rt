@@ -3,15 +3,13 @@ ghost use Rattle.std.specs.Prelude.{◌≡◌, ◌↔◌, ◌++◌, [], length, 
 ghost use Rattle.go_table_core.specs.Entries.{find_entry, underlying_in, IsUnnamed};
 ghost use Rattle.go_term_core.specs.Shapes.{shape};
 ghost use Rattle.go_table_core.specs.Tables.{package_types, AreOf, KeysRise, ArePackageTypes, IsPlaceOf, AreOthers};
-ghost use Rattle.go_table_core.specs.mirrors.Holding.{decl_cmp};
 
 use crate::entry::DefinedType;
-use go_decl_core::{DeclKey, DeclRef};
+use go_decl_core::{DeclKey, place_order};
 use go_path_core::ImportPath;
 use go_term_core::TypeTerm;
 use indexmap::IndexMap;
 use std::alloc::{AllocError, Global};
-use std::cmp::Ordering;
 use std::marker::Model;
 use std::sync::Arc;
 
@@ -131,15 +129,6 @@ impl PackageTypes {
     {
         self.content.entries.as_slice()
     }
-}
-
-/// The order of declarations of a package: by file, then by number there.
-fn place_order(one: DeclRef, other: DeclRef) -> Ordering
-    ensures { result ≡ decl_cmp one other }
-{
-    one.file
-        .cmp(&other.file)
-        .then(one.number.cmp(&other.number))
 }
 
 /// The type of a key among the types of the key's package, with its place there.

@@ -9,11 +9,12 @@ use Rattle.go_term_core.specs.declared.term.MemberPlace.{MemberPlace}
 use Rattle.go_term_core.specs.declared.term.Field.{Field}
 use Rattle.go_term_core.specs.declared.term.TypeTerm.{TypeTerm}
 use Rattle.go_term_core.specs.declared.term.Method.{Method}
-use Rattle.go_term_core.specs.declared.same.Pair.{Pair}
+use Rattle.go_term_core.specs.declared.same.LinePair.{LinePair}
 use Rattle.go_term_core.specs.Terms.{Term, NoType, Sign, term_list}
 use Rattle.go_term_core.specs.Shapes.{shape, shape_found, Line, line_with, line_at, term_at, fields_in, terms_in, sign_of, method_shapes}
 use Rattle.go_term_core.specs.Identity.{TagsAgree, IdenticalBy, SameFieldsBy, HasAllBy, SameSignBy, SameTermsBy, IsMethod, method_count}
-use Rattle.go_term_core.specs.mirrors.Alike.{HasAlike, IsMet, IsNoLine, SameLine}
+use Rattle.go_term_core.specs.Meeting.{IsMet}
+use Rattle.go_term_core.specs.mirrors.Alike.{HasAlike, IsNoLine, SameLine}
 
 -- a test that failed, of what does not hold
 pub fails : {W : Type 0} → (W → ⊥) → IsTrue false ↔ W
@@ -114,20 +115,20 @@ both_end P nil items xs ys i are many h so_far =
     (λ _. so_far.0 (subst (λ l. P l (drop i ys)) (sym (drop_all i xs below)) (subst (λ l. P [] l) (sym (drop_all i ys (subst (λ n. n ≤ i) many below))) nil)), λ _. refl)
 
 -- the lines that met last are the same
-abbrev pub KnowsLines : Bool → List Line → List Line → Option Pair → Type 0
+abbrev pub KnowsLines : Bool → List Line → List Line → Option LinePair → Type 0
 KnowsLines tags ls ks None = Unit {0}
 KnowsLines tags ls ks (Some m) = SameLine tags (line_at ls m.one) (line_at ks m.other)
 
 -- the terms that met last are identical
-abbrev pub KnowsTerms : Bool → List Term → List Term → Option Pair → Type 0
+abbrev pub KnowsTerms : Bool → List Term → List Term → Option LinePair → Type 0
 KnowsTerms tags ts us None = Unit {0}
 KnowsTerms tags ts us (Some m) = IdenticalBy tags (term_at ts m.one) (term_at us m.other)
 
-pub lines_known : (tags : Bool) (ls ks : List Line) (met : Option Pair) (m : Pair) → KnowsLines tags ls ks met → IsMet met m ⊎ SameLine tags (line_at ls m.one) (line_at ks m.other) → SameLine tags (line_at ls m.one) (line_at ks m.other)
+pub lines_known : (tags : Bool) (ls ks : List Line) (met : Option LinePair) (m : LinePair) → KnowsLines tags ls ks met → IsMet met m ⊎ SameLine tags (line_at ls m.one) (line_at ks m.other) → SameLine tags (line_at ls m.one) (line_at ks m.other)
 lines_known tags ls ks met m knows (inl e) = subst (KnowsLines tags ls ks) e knows
 lines_known tags ls ks met m knows (inr h) = h
 
-pub terms_known : (tags : Bool) (ts us : List Term) (met : Option Pair) (m : Pair) → KnowsTerms tags ts us met → IsMet met m ⊎ IdenticalBy tags (term_at ts m.one) (term_at us m.other) → IdenticalBy tags (term_at ts m.one) (term_at us m.other)
+pub terms_known : (tags : Bool) (ts us : List Term) (met : Option LinePair) (m : LinePair) → KnowsTerms tags ts us met → IsMet met m ⊎ IdenticalBy tags (term_at ts m.one) (term_at us m.other) → IdenticalBy tags (term_at ts m.one) (term_at us m.other)
 terms_known tags ts us met m knows (inl e) = subst (KnowsTerms tags ts us) e knows
 terms_known tags ts us met m knows (inr h) = h
 

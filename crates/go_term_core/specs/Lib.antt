@@ -2,6 +2,7 @@ pub mod Tags
 pub mod Terms
 pub mod Shapes
 pub mod Identity
+pub mod Meeting
 pub mod Laws
 pub mod Forms
 pub mod mirrors

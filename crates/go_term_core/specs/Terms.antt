@@ -1,5 +1,5 @@
 -- Types as terms. A defined type is its declaration's key, and is never unfolded.
-use Rattle.std.specs.Prelude.{ℕ, Bool, List, [], ◌∷◌, ◌++◌}
+use Rattle.std.specs.Prelude.{ℕ, Bool, true, false, List, [], ◌∷◌, ◌++◌}
 use Rattle.go_decl_core.specs.declared.keys.DeclKey.{DeclKey}
 use Rattle.go_term_core.specs.declared.term.Basic.{Basic}
 use Rattle.go_term_core.specs.declared.term.MemberPlace.{MemberPlace}
@@ -32,6 +32,16 @@ mutual
   pub data Terms : Type 0 where
     NoTerm : Terms
     ATerm : Term → Terms → Terms
+
+-- whether a term is no type
+abbrev pub is_no_type : Term → Bool
+is_no_type NoType = true
+is_no_type (Predeclared b) = false
+is_no_type ErrorType = false
+is_no_type (Defined k) = false
+is_no_type (PointerTo t) = false
+is_no_type (StructOf path fs) = false
+is_no_type (InterfaceOf path ms) = false
 
 -- the defined types that a type mentions
 abbrev mutual

@@ -17,8 +17,12 @@ macro_rules! copied {
     };
 }
 
-/// Two copies. Where there was no memory for one, the other is dropped.
-fn both<A: Drop, B: Drop>(
+/// Two results at once. Where there was no memory for one, the other is dropped.
+///
+/// # Errors
+///
+/// `AllocError` where one of them is.
+pub fn both<A: Drop, B: Drop>(
     first: Result<A, AllocError>,
     second: Result<B, AllocError>,
 ) -> Result<(A, B), AllocError>
@@ -137,8 +141,12 @@ pub fn copy_signature(alloc: Global, signature: &Signature) -> Result<Signature,
     Ok(Signature { params, results })
 }
 
-/// The same numbers.
-fn copy_numbers(alloc: Global, numbers: &Vec<usize>) -> Result<Vec<usize>, AllocError>
+/// A second list of the same numbers.
+///
+/// # Errors
+///
+/// `AllocError` where memory is wanting.
+pub fn copy_numbers(alloc: Global, numbers: &Vec<usize>) -> Result<Vec<usize>, AllocError>
     ensures { IfOk result (λ ns. ns.items ≡ numbers.now.items) }
 {
     Ok(numbers.as_slice().to_vec(alloc)?)

@@ -12,12 +12,14 @@ mod same;
 mod tag;
 mod term;
 
-pub use copies::{close, copy, copy_signature};
+pub use copies::{both, close, copy, copy_numbers, copy_signature};
 pub use laws::{
     defined_by_key, identity_by_form, identity_is_equivalence, order_does_not_count,
     tags_are_compared, tags_do_not_count,
 };
-pub use same::{has_same_signature, identical, identical_but_for_tags};
+pub use same::{
+    LinePair, has_same_signature, identical, identical_but_for_tags, is_met, is_no_type,
+};
 pub use tag::Tag;
 pub use term::{
     Basic, Field, FieldLine, LocalPlace, MemberPlace, Method, Params, Signature, TypeTerm,
@@ -26,6 +28,6 @@ pub use term::{
 /// What the crates above name of `go_decl_core`.
 pub mod decl_core {
     pub use go_decl_core::{
-        DeclForm, DeclKey, DeclKind, DeclRef, Outline, Places, TopDecl, outline,
+        DeclForm, DeclKey, DeclKind, DeclRef, Outline, Places, TopDecl, outline, place_order,
     };
 }

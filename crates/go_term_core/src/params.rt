@@ -13,7 +13,7 @@ fn count(params: &Params) -> usize
 }
 
 /// The type of a number.
-fn type_at(params: &Params, at: usize) -> Option<&TypeTerm>
+fn numbered_type(params: &Params, at: usize) -> Option<&TypeTerm>
     requires { at < length (term_list (param_shapes params.now)) }
     ensures { slice_get (term_list (param_shapes params.now)) at ≡ Some (shape_found result) }
 {
@@ -36,7 +36,7 @@ impl Signature {
         requires { at < length (sign_params (sign_of self.now)) }
         ensures { slice_get (sign_params (sign_of self.now)) at ≡ Some (shape_found result) }
     {
-        type_at(&self.params, at)
+        numbered_type(&self.params, at)
     }
 
     /// How many results it has. It takes constant time.
@@ -51,6 +51,6 @@ impl Signature {
         requires { at < length (sign_results (sign_of self.now)) }
         ensures { slice_get (sign_results (sign_of self.now)) at ≡ Some (shape_found result) }
     {
-        type_at(&self.results, at)
+        numbered_type(&self.results, at)
     }
 }

@@ -2,9 +2,10 @@
 ghost use Rattle.std.specs.Prelude.{◌≡◌, ◌↔◌, ◌⊎◌, IsTrue, map};
 ghost use Rattle.go_text_core.specs.Text.{SameId};
 ghost use Rattle.go_term_core.specs.Shapes.{shape, sign_of, fields_in, line_at, line_shape, line_shapes, method_shapes, param_shapes, term_at, terms_in};
-ghost use Rattle.go_term_core.specs.Terms.{NoType};
+ghost use Rattle.go_term_core.specs.Terms.{NoType, is_no_type};
 ghost use Rattle.go_term_core.specs.Identity.{Identical, IdenticalButForTags, SameSign, TagsAgree, IdenticalBy, SameFieldsBy, HasAllBy, SameSignBy, SameTermsBy, method_count};
-ghost use Rattle.go_term_core.specs.mirrors.Alike.{HasAlike, IsMet, IsNoLine, SameLine};
+ghost use Rattle.go_term_core.specs.Meeting.{IsMet};
+ghost use Rattle.go_term_core.specs.mirrors.Alike.{HasAlike, IsNoLine, SameLine};
 
 use crate::tag::Tag;
 use crate::term::{Field, FieldLine, Method, Params, Signature, TypeTerm};
@@ -74,13 +75,13 @@ fn is_same_tag(tags: bool, a: &Tag, b: &Tag) -> bool
 
 /// The numbers of two lines that meet, or of two terms: of the one type and of the other.
 #[derive(Clone, Copy)]
-struct Pair {
-    one: usize,
-    other: usize,
+pub struct LinePair {
+    pub one: usize,
+    pub other: usize,
 }
 
-/// Whether these two met last.
-fn is_met(met: Option<Pair>, pair: Pair) -> bool
+/// Whether these two are those that met last: a walk over two lists at once need not compare them again. It takes no memory.
+pub fn is_met(met: Option<LinePair>, pair: LinePair) -> bool
     ensures { IsTrue result ↔ IsMet met pair }
 {
     match met {
@@ -108,7 +109,7 @@ fn same_fields(
     let mut met = None;
     for (i, f) in fs.iter().enumerate() {
         let g = &gs[i];
-        let pair = Pair {
+        let pair = LinePair {
             one: f.line,
             other: g.line,
         };
@@ -133,8 +134,8 @@ fn are_lines_same(
     tags: bool,
     ls: &Vec<FieldLine>,
     ks: &Vec<FieldLine>,
-    met: Option<Pair>,
-    pair: Pair,
+    met: Option<LinePair>,
+    pair: LinePair,
 ) -> bool
     ensures { IsTrue result ↔ (IsMet met pair ⊎ SameLine tags (line_at (line_shapes ls.now.items) pair.one) (line_at (line_shapes ks.now.items) pair.other)) }
 {
@@ -166,9 +167,10 @@ fn is_no_line(tags: bool, l: &FieldLine) -> bool
     !l.embedded && is_same_tag(tags, &l.tag, &Tag::none()) && is_no_type(&l.term)
 }
 
-/// Whether a term is no type.
-fn is_no_type(term: &TypeTerm) -> bool
-    ensures { IsTrue result ↔ (shape term.now ≡ NoType) }
+/// Whether a term is no type, as the type of what is not there. It takes no memory.
+pub fn is_no_type(term: &TypeTerm) -> bool
+    ensures nothing { IsTrue result ↔ (shape term.now ≡ NoType) }
+    ensures test { result ≡ is_no_type (shape term.now) }
 {
     match term {
         TypeTerm::NoType => true,
@@ -252,7 +254,7 @@ fn same_terms(
     }
     let mut met = None;
     for (i, n) in ns.iter().enumerate() {
-        let pair = Pair {
+        let pair = LinePair {
             one: *n,
             other: ms[i],
         };
@@ -270,8 +272,8 @@ fn are_terms_same(
     tags: bool,
     ts: &Vec<TypeTerm>,
     us: &Vec<TypeTerm>,
-    met: Option<Pair>,
-    pair: Pair,
+    met: Option<LinePair>,
+    pair: LinePair,
 ) -> bool
     ensures { IsTrue result ↔ (IsMet met pair ⊎ IdenticalBy tags (term_at (map shape ts.now.items) pair.one) (term_at (map shape us.now.items) pair.other)) }
 {

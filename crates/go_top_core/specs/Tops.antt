@@ -28,11 +28,11 @@ value_decl_faults looks d = of_specs (top_spec_faults looks d.kind) d.specs
 
 -- types: what is amiss in their fields and methods is said for the package as a whole; here the parameters of interface methods
 
-abbrev pub fault_of : local.Fault → Fault
-fault_of f = record { offset = f.offset; rule = f.rule }
+abbrev pub repeated_fault_of : local.Fault → Fault
+repeated_fault_of f = record { offset = f.offset; rule = f.rule }
 
 abbrev pub type_spec_faults : TypeSpecTree → List Fault
-type_spec_faults t = map fault_of (repeated_params t.type_expr)
+type_spec_faults t = map repeated_fault_of (repeated_params t.type_expr)
 
 abbrev pub type_spec_uses : {T S D P : Type 0} → Looks T S D P → TypeSpecTree → List (Use D P)
 type_spec_uses looks t = type_uses looks t.type_expr

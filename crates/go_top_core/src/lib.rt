@@ -22,7 +22,7 @@ pub mod embed_core {
 
 /// What the crates above name of `go_expr_core`.
 pub mod expr_core {
-    pub use go_piece_core::expr_core::{Fault, Notes, Use};
+    pub use go_piece_core::expr_core::{Exprs, Fault, Notes, Use};
 }
 
 /// What the crates above name of `go_inline_core`.

@@ -15,7 +15,7 @@ fn add_faults(
     faults: &mut Vec<Fault>,
     found: &[go_piece_core::local_core::Fault],
 ) -> Result<(), AllocError>
-    ensures { OnOk result (faults.new.items ≡ faults.old.items ++ map tops.fault_of found.now) }
+    ensures { OnOk result (faults.new.items ≡ faults.old.items ++ map tops.repeated_fault_of found.now) }
 {
     for fault in found {
         let offset = fault.offset;

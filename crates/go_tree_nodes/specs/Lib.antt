@@ -1,8 +1,12 @@
+pub mod Counts
 pub mod Heights
 pub mod Rules
+pub mod Samples
 pub mod Shapes
 pub mod Spelling
+pub mod Starts
 pub mod Terminals
 pub mod Trees
 pub mod TypeShapes
+pub mod WrittenTypes
 pub mod codes

@@ -6,6 +6,7 @@ mod exprs;
 mod files;
 mod names;
 mod operators;
+mod starts;
 mod stmts;
 mod types;
 
@@ -23,6 +24,7 @@ pub use files::{
 };
 pub use names::{Ident, Idents, NextIdent, TextLiteral};
 pub use operators::{LOWEST, UNARY, is_unary, rank};
+pub use starts::{type_name_start, type_start};
 pub use stmts::{
     Assignment, Branch, Definition, ForHead, IfHead, InitPart, Line, Loop, Otherwise, Simple, Stmt,
     Update,

@@ -5,12 +5,12 @@ use Rattle.std.proofs.lemmas.Option.{slice_get_within, slice_get_cases, slice_ge
 use Rattle.std.proofs.lemmas.Bool.{or_cases, or_left, or_right}
 use Rattle.go_term_core.specs.decl_core.declared.keys.DeclKey.{DeclKey}
 use Rattle.go_chain_core.specs.Chains.{ChainLeads, EndsAt, AreEnds, AllInside}
-use Rattle.go_term_core.specs.Terms.{Term, NoType, Predeclared, ErrorType, Defined, PointerTo, StructOf, InterfaceOf}
+use Rattle.go_term_core.specs.Terms.{Term, NoType, Predeclared, ErrorType, Defined, PointerTo, StructOf, InterfaceOf, is_no_type}
 use Rattle.go_table_core.specs.Entries.{Entry, EntryLook, find_entry, term_in}
 use Rattle.go_type_core.specs.Built.{base, NamesNothing, IsNothingBy, IsNoTypeHere, UsesAlong, IsLooped}
 use Rattle.go_type_core.specs.mirrors.Numbers.{keys_of, number_of, term_at, IsTable}
 use Rattle.go_type_core.specs.mirrors.Edges.{AreLooped}
-use Rattle.go_type_core.specs.mirrors.Chained.{named_number, next_unless, next_bare, is_no_type, is_lacking, is_bad_end, is_bad_at, nothing_at, AreNothing}
+use Rattle.go_type_core.specs.mirrors.Chained.{named_number, next_unless, next_bare, is_lacking, is_bad_end, is_bad_at, nothing_at, AreNothing}
 use Rattle.go_type_core.proofs.Keyed.{At, at_found, at_number, at_place, not_found, not_numbered, Apart, table_at}
 use Rattle.go_type_core.proofs.Looping.{number_below}
 

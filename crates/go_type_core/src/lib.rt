@@ -38,6 +38,6 @@ pub mod settle_core {
 pub mod table_core {
     pub use go_table_core::{
         DeclaredMethod, DefinedType, FieldTable, PackageTypes, StructField, StructFields,
-        TypeEntry, TypeTable,
+        TypeEntry, TypeTable, is_named_type,
     };
 }

@@ -5,7 +5,7 @@ ghost use Rattle.go_table_core.specs.Shown.{entry_shown};
 ghost use Rattle.go_table_core.specs.Tables.{KeysRise};
 ghost use Rattle.go_term_core.specs.Shapes.{shape};
 ghost use Rattle.go_type_core.specs.Built.{base};
-ghost use Rattle.go_type_core.specs.mirrors.Chained.{AreNothing, is_bad_end, is_lacking, is_no_type, named_number, next_bare, nothing_at};
+ghost use Rattle.go_type_core.specs.mirrors.Chained.{AreNothing, is_bad_end, is_lacking, named_number, next_bare, nothing_at};
 ghost use Rattle.go_type_core.specs.mirrors.Edges.{AreLooped};
 ghost use Rattle.go_type_core.specs.mirrors.Numbers.{IsTable, keys_of, term_at};
 
@@ -13,7 +13,7 @@ use crate::marks::{end_at, is_marked, next_unless};
 use crate::own_keys::OwnKeys;
 use go_chain_core::chain_ends;
 use go_table_core::{TypeEntry, TypeTable};
-use go_term_core::TypeTerm;
+use go_term_core::{TypeTerm, is_no_type};
 use std::alloc::{AllocError, Global};
 
 // A type with all its stars taken off.
@@ -43,21 +43,6 @@ pub(crate) fn named_number(keys: &OwnKeys, term: &TypeTerm) -> Option<usize>
         | TypeTerm::Pointer(_)
         | TypeTerm::Struct(_, _, _)
         | TypeTerm::Interface(_, _) => None,
-    }
-}
-
-// Whether it is no type.
-fn is_no_type(term: &TypeTerm) -> bool
-    ensures { result ≡ is_no_type (shape term.now) }
-{
-    match term {
-        TypeTerm::NoType => true,
-        TypeTerm::Basic(_)
-        | TypeTerm::Error
-        | TypeTerm::Defined(_)
-        | TypeTerm::Pointer(_)
-        | TypeTerm::Struct(_, _, _)
-        | TypeTerm::Interface(_, _) => false,
     }
 }
 

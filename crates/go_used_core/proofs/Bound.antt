@@ -15,14 +15,14 @@ use Rattle.go_answer_core.specs.block_core.declared.binding.Target.TheVariants a
 use Rattle.go_answer_core.specs.handle_core.Declarations.{Universe, OfError, Package, InFile}
 use Rattle.go_answer_core.specs.denote_core.declared.things.Outcome.TheVariants as outcomes
 use Rattle.go_answer_core.specs.face_core.Written.{same_decl_place}
-use Rattle.go_used_core.specs.Used.{TheOutcome, TheUse, has_next, is_declared, is_exported, is_qualifier, uses_binding}
+use Rattle.go_used_core.specs.Used.{TheOutcome, FileUse, has_next, is_declared, is_exported, is_qualifier, uses_binding}
 
 -- a qualifier of a package, with a selector behind it that has a declaration
-pub record Qualifies (r : Role) (o : TheOutcome) (next : Option TheUse) : Type 0 where
+pub record Qualifies (r : Role) (o : TheOutcome) (next : Option FileUse) : Type 0 where
   pub role : r ≡ roles.Qualifier
   pub path : List ℕ
   pub denotes : o ≡ outcomes.Declared (Package path)
-  pub selector : TheUse
+  pub selector : FileUse
   pub behind : next ≡ Some selector
   pub declared : (rule : Rule) → selector.outcome ≡ outcomes.Refused rule → ⊥
 
@@ -52,7 +52,7 @@ has_declared (outcomes.Declared d) h = refl
 has_declared (outcomes.Selected d path) h = refl
 has_declared (outcomes.Refused rule) h = absurd (h rule refl)
 
-qualified : (r : Role) (path : List ℕ) (next : Option TheUse) → (is_qualifier r && has_next next) ≡ true → Qualifies r (outcomes.Declared (Package path)) next
+qualified : (r : Role) (path : List ℕ) (next : Option FileUse) → (is_qualifier r && has_next next) ≡ true → Qualifies r (outcomes.Declared (Package path)) next
 qualified r path None h = absurd (true≢false (sym (and_parts (is_qualifier r) false h).1))
 qualified r path (Some s) h =
     let parts = and_parts (is_qualifier r) (is_declared s.outcome) h in
@@ -66,11 +66,11 @@ dotted (targets.Exported k) path d h =
     let same : k.path ≡ path = (bytes_eq-Decides k.path path).0 parts.1 in
     record { key = k; dot = refl; decl = d; outcome = ap (λ (p : List ℕ). let o : TheOutcome = outcomes.Declared (InFile p (member.Declared d)) in o) (sym same); same = parts.0 }
 
-placed : (t : Target) (path : List ℕ) (place : MemberPlace) (r : Role) (next : Option TheUse) → uses_binding t r (outcomes.Declared (InFile path place)) next ≡ true → Dots t (outcomes.Declared (InFile path place))
+placed : (t : Target) (path : List ℕ) (place : MemberPlace) (r : Role) (next : Option FileUse) → uses_binding t r (outcomes.Declared (InFile path place)) next ≡ true → Dots t (outcomes.Declared (InFile path place))
 placed t path (member.Declared d) r next h = dotted t path d h
 placed t path (member.Local l) r next h = absurd (true≢false (sym h))
 
-pub used_is : (t : Target) (r : Role) (o : TheOutcome) (next : Option TheUse) → uses_binding t r o next ≡ true → Qualifies r o next ⊎ Dots t o
+pub used_is : (t : Target) (r : Role) (o : TheOutcome) (next : Option FileUse) → uses_binding t r o next ≡ true → Qualifies r o next ⊎ Dots t o
 used_is t r (outcomes.Declared (Package path)) next h = inl (qualified r path next h)
 used_is t r (outcomes.Declared (InFile path place)) next h = inr (placed t path place r next h)
 used_is t r (outcomes.Declared (Universe name)) next h = absurd (true≢false (sym h))
@@ -78,14 +78,14 @@ used_is t r (outcomes.Declared OfError) next h = absurd (true≢false (sym h))
 used_is t r (outcomes.Selected d path) next h = absurd (true≢false (sym h))
 used_is t r (outcomes.Refused rule) next h = absurd (true≢false (sym h))
 
-pub qualifies_used : (t : Target) (r : Role) (o : TheOutcome) (next : Option TheUse) → Qualifies r o next → uses_binding t r o next ≡ true
+pub qualifies_used : (t : Target) (r : Role) (o : TheOutcome) (next : Option FileUse) → Qualifies r o next → uses_binding t r o next ≡ true
 qualifies_used t r o next q =
     let there : has_next (Some q.selector) ≡ true = has_declared q.selector.outcome q.declared in
     ap (λ x. uses_binding t x o next) q.role
     ∙ (ap (λ x. uses_binding t roles.Qualifier x next) q.denotes
     ∙ (ap has_next q.behind ∙ there))
 
-pub dots_used : (t : Target) (r : Role) (o : TheOutcome) (next : Option TheUse) → Dots t o → uses_binding t r o next ≡ true
+pub dots_used : (t : Target) (r : Role) (o : TheOutcome) (next : Option FileUse) → Dots t o → uses_binding t r o next ≡ true
 dots_used t r o next d =
     ap (λ x. uses_binding t r x next) d.outcome
     ∙ (ap (λ x. is_exported x d.key.path d.decl) d.dot

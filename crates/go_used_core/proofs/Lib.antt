@@ -1,5 +1,6 @@
 mod Bound
 mod Members
+mod Places
 mod Said
 mod Steps
 mod Using

@@ -9,33 +9,33 @@ use Rattle.go_answer_core.specs.denote_core.declared.things.Outcome.TheVariants 
 use Rattle.go_answer_core.specs.handle_core.Declarations.{Declaration}
 use Rattle.go_used_core.specs.Laws.{ReportsAreOne}
 use Rattle.go_used_core.specs.Reported.{IsReported}
-use Rattle.go_used_core.specs.Used.{TheOutcome, TheUse}
+use Rattle.go_used_core.specs.Used.{TheOutcome, FileUse}
 use Rattle.go_used_core.specs.mirrors.Steps.{said, said_at}
 use Rattle.go_used_core.proofs.Members.{In, contained_in, in_contained, in_either, in_left, in_right}
 
 fault_is : (f g : Fault) → f.offset ≡ g.offset → f.rule ≡ g.rule → f ≡ g
 fault_is f g offset rule = ap (λ (n : ℕ). let h : Fault = record { offset = n; rule = f.rule } in h) offset ∙ ap (λ r. let h : Fault = record { offset = g.offset; rule = r } in h) rule
 
-refused_in : (u : TheUse) (us : List TheUse) (f : Fault) (r : Rule) → u.outcome ≡ outcomes.Refused r → In (said_at u.offset (outcomes.Refused r)) f → IsSaid (u ∷ us) f
+refused_in : (u : FileUse) (us : List FileUse) (f : Fault) (r : Rule) → u.outcome ≡ outcomes.Refused r → In (said_at u.offset (outcomes.Refused r)) f → IsSaid (u ∷ us) f
 refused_in u us f r e (inl same) = inl (ap (λ (g : Fault). g.offset) same, e ∙ ap (λ (g : Fault). let o : TheOutcome = outcomes.Refused g.rule in o) same)
 refused_in u us f r e (inr none) = absurd none
 
-first_said : (u : TheUse) (us : List TheUse) (f : Fault) (o : TheOutcome) → u.outcome ≡ o → In (said_at u.offset o) f → IsSaid (u ∷ us) f
+first_said : (u : FileUse) (us : List FileUse) (f : Fault) (o : TheOutcome) → u.outcome ≡ o → In (said_at u.offset o) f → IsSaid (u ∷ us) f
 first_said u us f (outcomes.Refused r) e h = refused_in u us f r e h
 first_said u us f (outcomes.Declared d) e h = absurd h
 first_said u us f (outcomes.Selected d path) e h = absurd h
 
-said_in : (us : List TheUse) (f : Fault) → In (said us) f → IsSaid us f
+said_in : (us : List FileUse) (f : Fault) → In (said us) f → IsSaid us f
 said_in [] f h = absurd h
 said_in (u ∷ us) f h = ⊎_elim (first_said u us f u.outcome refl) (λ k. inr (said_in us f k)) (in_either (said_at u.offset u.outcome) (said us) f h)
 
-in_said : (us : List TheUse) (f : Fault) → IsSaid us f → In (said us) f
+in_said : (us : List FileUse) (f : Fault) → IsSaid us f → In (said us) f
 in_said [] f h = absurd h
 in_said (u ∷ us) f (inl h) = in_left (said_at u.offset u.outcome) (said us) f (subst (λ x. In (said_at u.offset x) f) (sym h.1) (inl (fault_is (record { offset = u.offset; rule = f.rule }) f h.0 refl)))
 in_said (u ∷ us) f (inr h) = in_right (said_at u.offset u.outcome) (said us) f (in_said us f h)
 
 -- what is reported, by what all of it settles to beside no occurrence
-pub reported : (uses none : List TheUse) (faults all report : List Fault) → none ≡ [] → all ≡ faults ++ said uses
+pub reported : (uses none : List FileUse) (faults all report : List Fault) → none ≡ [] → all ≡ faults ++ said uses
     → AllPairs ComesBefore report → ((f : Fault) → Contains all f → ¬ IsSaid none f → Contains report f) → ((f : Fault) → Contains report f → Contains all f) → IsReported uses faults report
 reported uses none faults all report nothing is ordered kept found = record {
   ordered = ordered;

@@ -10,7 +10,7 @@ use Rattle.go_tree_nodes.specs.Trees.{ImportSpecTree}
 use Rattle.go_answer_core.specs.tree_core.declared.occurrence.Occ.{Occ}
 use Rattle.go_answer_core.specs.block_core.Blocks.{BlocksModel}
 use Rattle.go_answer_core.specs.block_core.Naming.{specs_in, specs_of}
-use Rattle.go_used_core.specs.Used.{TheUse, blank_place, used_by, used_places}
+use Rattle.go_used_core.specs.Used.{FileUse, blank_place, used_by, used_places}
 use Rattle.go_used_core.specs.mirrors.Steps.{some_used}
 
 -- the imports with the name `_`
@@ -42,7 +42,7 @@ module _ (b : BlocksModel) (file : ℕ) where
   none_used [] = refl
   none_used (o ∷ os) = refl
 
-  split : (os : List Occ) (us : List TheUse) (n : ℕ) (o : Occ) → slice_get os n ≡ Some o
+  split : (os : List Occ) (us : List FileUse) (n : ℕ) (o : Occ) → slice_get os n ≡ Some o
       → used_places b file (drop n os) (drop n us) ≡ some_used b file o (slice_get us n) (slice_get us (suc n)) ++ used_places b file (drop (suc n) os) (drop (suc n) us)
   split [] us n o at = cc
   split (x ∷ os) [] zero o at = sym (none_used os)
@@ -50,10 +50,10 @@ module _ (b : BlocksModel) (file : ℕ) where
   split (x ∷ os) [] (suc n) o at = none_used (drop n os) ∙ sym (none_used (drop (suc n) os))
   split (x ∷ os) (u ∷ us) (suc n) o at = split os us n o at
 
-  pub some_both : (o : Occ) (x y p q : Option TheUse) (now new : List ℕ) → new ≡ now ++ some_used b file o x y → x ≡ p → y ≡ q → new ≡ now ++ some_used b file o p q
+  pub some_both : (o : Occ) (x y p q : Option FileUse) (now new : List ℕ) → new ≡ now ++ some_used b file o x y → x ≡ p → y ≡ q → new ≡ now ++ some_used b file o p q
   some_both o x y p q now new e h k = e ∙ (ap (λ z. now ++ some_used b file o z y) h ∙ ap (λ z. now ++ some_used b file o p z) k)
 
-  pub used_step : (os : List Occ) (us : List TheUse) (n : ℕ) (o : Occ) (now new all : List ℕ) → n < length os → o ≡ get_or os n o
+  pub used_step : (os : List Occ) (us : List FileUse) (n : ℕ) (o : Occ) (now new all : List ℕ) → n < length os → o ≡ get_or os n o
       → new ≡ now ++ some_used b file o (slice_get us n) (slice_get us (n + 1))
       → now ++ used_places b file (drop n os) (drop n us) ≡ all
       → new ++ used_places b file (drop (n + 1) os) (drop (n + 1) us) ≡ all

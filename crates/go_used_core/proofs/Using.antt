@@ -5,26 +5,26 @@ use Rattle.go_answer_core.specs.tree_core.declared.occurrence.Occ.{Occ}
 use Rattle.go_answer_core.specs.block_core.declared.binding.Binding.{Binding}
 use Rattle.go_answer_core.specs.block_core.Blocks.{BlocksModel, file_binding}
 use Rattle.go_used_core.specs.Laws.{IsBoundBy, IsByDot, IsQualified}
-use Rattle.go_used_core.specs.Used.{TheUse, is_name_role, used_by, used_if, used_places, uses_binding}
+use Rattle.go_used_core.specs.Used.{FileUse, is_name_role, used_by, used_if, used_places, uses_binding}
 use Rattle.go_used_core.proofs.Bound.{Dots, Qualifies, dots_used, qualifies_used, used_is}
 use Rattle.go_used_core.proofs.Members.{In, in_either, in_left, in_right}
 
 module _ (b : BlocksModel) (file : ℕ) (at : ℕ) where
-  abbrev IsUsed : List Occ → List TheUse → Type 0
+  abbrev IsUsed : List Occ → List FileUse → Type 0
   IsUsed os us = IsQualified b file os us at ⊎ IsByDot b file os us at
 
   -- one occurrence more in front
 
-  bound_behind : (o x : Occ) (u v : TheUse) (os : List Occ) (us : List TheUse) (n : ℕ) (binding : Binding) → IsBoundBy b file os us at n x v binding → IsBoundBy b file (o ∷ os) (u ∷ us) at (suc n) x v binding
+  bound_behind : (o x : Occ) (u v : FileUse) (os : List Occ) (us : List FileUse) (n : ℕ) (binding : Binding) → IsBoundBy b file os us at n x v binding → IsBoundBy b file (o ∷ os) (u ∷ us) at (suc n) x v binding
   bound_behind o x u v os us n binding h = record { occurrence = h.occurrence; has = h.has; bound = h.bound; place = h.place }
 
-  behind : (o : Occ) (u : TheUse) (os : List Occ) (us : List TheUse) → IsUsed os us → IsUsed (o ∷ os) (u ∷ us)
+  behind : (o : Occ) (u : FileUse) (os : List Occ) (us : List FileUse) → IsUsed os us → IsUsed (o ∷ os) (u ∷ us)
   behind o u os us (inl q) = inl (record { number = suc q.number; o = q.o; u = q.u; binding = q.binding; there = bound_behind o q.o u q.u os us q.number q.binding q.there; role = q.role; path = q.path; denotes = q.denotes; selector = q.selector; behind = q.behind; declared = q.declared })
   behind o u os us (inr d) = inr (record { number = suc d.number; o = d.o; u = d.u; binding = d.binding; there = bound_behind o d.o u d.u os us d.number d.binding d.there; role = d.role; key = d.key; dot = d.dot; decl = d.decl; outcome = d.outcome; same = d.same })
 
   -- the first occurrence
 
-  here : (o : Occ) (u : TheUse) (os : List Occ) (us : List TheUse) → In (used_by b file o u (slice_get us 0)) at → IsUsed (o ∷ os) (u ∷ us)
+  here : (o : Occ) (u : FileUse) (os : List Occ) (us : List FileUse) → In (used_by b file o u (slice_get us 0)) at → IsUsed (o ∷ os) (u ∷ us)
   here o u os us h = by (is_name_role o.role) refl h
     where
       bound : (binding : Binding) → file_binding b file o.spelling ≡ Some binding → binding.at ≡ at → IsBoundBy b file (o ∷ os) (u ∷ us) at 0 o u binding
@@ -47,7 +47,7 @@ module _ (b : BlocksModel) (file : ℕ) (at : ℕ) where
       by true e k = some e (file_binding b file o.spelling) refl k
       by false e k = absurd k
 
-  pub used_to : (os : List Occ) (us : List TheUse) → In (used_places b file os us) at → IsUsed os us
+  pub used_to : (os : List Occ) (us : List FileUse) → In (used_places b file os us) at → IsUsed os us
   used_to [] us h = absurd h
   used_to (o ∷ os) [] h = absurd h
   used_to (o ∷ os) (u ∷ us) h =
@@ -56,13 +56,13 @@ module _ (b : BlocksModel) (file : ℕ) (at : ℕ) where
 
   -- an occurrence that uses the import
 
-  there : (o : Occ) (u : TheUse) (next : Option TheUse) (binding : Binding) → is_name_role o.role ≡ true → file_binding b file o.spelling ≡ Some binding → binding.at ≡ at → uses_binding binding.target o.role u.outcome next ≡ true → In (used_by b file o u next) at
+  there : (o : Occ) (u : FileUse) (next : Option FileUse) (binding : Binding) → is_name_role o.role ≡ true → file_binding b file o.spelling ≡ Some binding → binding.at ≡ at → uses_binding binding.target o.role u.outcome next ≡ true → In (used_by b file o u next) at
   there o u next binding name e same h =
       subst (λ (t : Bool). In (if t then used_if (file_binding b file o.spelling) o.role u.outcome next else []) at) (sym name)
       (subst (λ x. In (used_if x o.role u.outcome next) at) (sym e)
       (subst (λ (t : Bool). In (if t then binding.at ∷ [] else []) at) (sym h) (inl same)))
 
-  at_number : (os : List Occ) (us : List TheUse) (n : ℕ) (o : Occ) (u : TheUse) → slice_get os n ≡ Some o → slice_get us n ≡ Some u → In (used_by b file o u (slice_get us (suc n))) at → In (used_places b file os us) at
+  at_number : (os : List Occ) (us : List FileUse) (n : ℕ) (o : Occ) (u : FileUse) → slice_get os n ≡ Some o → slice_get us n ≡ Some u → In (used_by b file o u (slice_get us (suc n))) at → In (used_places b file os us) at
   at_number [] us n o u e f h = cc
   at_number (x ∷ os) [] n o u e f h = cc
   at_number (x ∷ os) (v ∷ us) zero o u e f h =
@@ -71,7 +71,7 @@ module _ (b : BlocksModel) (file : ℕ) (at : ℕ) where
       in_left (used_by b file x v (slice_get us 0)) (used_places b file os us) at (subst (λ z. In (used_by b file z v (slice_get us 0)) at) (sym occ) (subst (λ z. In (used_by b file o z (slice_get us 0)) at) (sym held) h))
   at_number (x ∷ os) (v ∷ us) (suc n) o u e f h = in_right (used_by b file x v (slice_get us 0)) (used_places b file os us) at (at_number os us n o u e f h)
 
-  pub used_from : (os : List Occ) (us : List TheUse) → IsUsed os us → In (used_places b file os us) at
+  pub used_from : (os : List Occ) (us : List FileUse) → IsUsed os us → In (used_places b file os us) at
   used_from os us (inl q) =
       let next = slice_get us (suc q.number) in
       let name : is_name_role q.o.role ≡ true = ap is_name_role q.role in

@@ -4,9 +4,9 @@
 use Rattle.std.specs.Prelude.{◌↔◌, ◌⊎◌, List, AllPairs, Contains}
 use Rattle.go_answer_core.specs.expr_core.declared.things.Fault.{Fault}
 use Rattle.go_answer_core.specs.report_core.Faults.{ComesBefore, IsSaid}
-use Rattle.go_used_core.specs.Used.{TheUse}
+use Rattle.go_used_core.specs.Used.{FileUse}
 
 -- the rules that its occurrences break, and the faults beside: in order, each once
-pub record IsReported (uses : List TheUse) (faults report : List Fault) : Type 0 where
+pub record IsReported (uses : List FileUse) (faults report : List Fault) : Type 0 where
   pub ordered : AllPairs ComesBefore report
   pub same : (f : Fault) → Contains report f ↔ (IsSaid uses f ⊎ Contains faults f)

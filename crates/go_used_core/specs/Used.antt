@@ -31,8 +31,8 @@ abbrev pub TheOutcome : Type 0
 TheOutcome = Outcome Declaration (List ℕ)
 
 -- what an occurrence has
-abbrev pub TheUse : Type 0
-TheUse = Use Declaration (List ℕ)
+abbrev pub FileUse : Type 0
+FileUse = Use Declaration (List ℕ)
 
 -- a name that is looked up: of a type, an operand, what is called, or what stands left of a dot
 abbrev pub is_name_role : Role → Bool
@@ -106,25 +106,25 @@ is_target_outcome t (outcomes.Selected d path) = false
 is_target_outcome t (outcomes.Refused rule) = false
 
 -- the occurrence behind another has a declaration
-abbrev pub has_next : Option TheUse → Bool
+abbrev pub has_next : Option FileUse → Bool
 has_next None = false
 has_next (Some u) = is_declared u.outcome
 
 -- whether a name uses the import that binds it so: by the package left of a dot, where the selector behind it has a declaration, or by a declaration
 -- that a dot import binds
-abbrev pub uses_binding : Target → Role → TheOutcome → Option TheUse → Bool
+abbrev pub uses_binding : Target → Role → TheOutcome → Option FileUse → Bool
 uses_binding t r o next = if is_package_outcome o then is_qualifier r && has_next next else is_target_outcome t o
 
-abbrev pub used_if : Option Binding → Role → TheOutcome → Option TheUse → List ℕ
+abbrev pub used_if : Option Binding → Role → TheOutcome → Option FileUse → List ℕ
 used_if None r o next = []
 used_if (Some b) r o next = if uses_binding b.target r o next then b.at ∷ [] else []
 
 -- the place of the import that an occurrence of the file of a number uses, if it uses one
-abbrev pub used_by : BlocksModel → ℕ → Occ → TheUse → Option TheUse → List ℕ
+abbrev pub used_by : BlocksModel → ℕ → Occ → FileUse → Option FileUse → List ℕ
 used_by b file o u next = if is_name_role o.role then used_if (file_binding b file o.spelling) o.role u.outcome next else []
 
 -- the places of the imports that occurrences use, where each has what stands at its place
-abbrev pub used_places : BlocksModel → ℕ → List Occ → List TheUse → List ℕ
+abbrev pub used_places : BlocksModel → ℕ → List Occ → List FileUse → List ℕ
 used_places b file [] us = []
 used_places b file (o ∷ os) [] = []
 used_places b file (o ∷ os) (u ∷ us) = used_by b file o u (slice_get us 0) ++ used_places b file os us
@@ -147,13 +147,13 @@ unused_outcome (outcomes.Declared d) = outcomes.Refused I7
 unused_outcome (outcomes.Selected d path) = outcomes.Refused I7
 unused_outcome (outcomes.Refused rule) = outcomes.Refused rule
 
-abbrev pub refused_use : TheUse → TheUse
+abbrev pub refused_use : FileUse → FileUse
 refused_use u = record { offset = u.offset; role = u.role; outcome = unused_outcome u.outcome }
 
 -- what an occurrence has, where the imports at these places are used or need not be
-abbrev pub judged_import : List ℕ → TheUse → TheUse
+abbrev pub judged_import : List ℕ → FileUse → FileUse
 judged_import places u = if is_import u.role && not (list_any (λ place. nat_eq place u.offset) places) then refused_use u else u
 
 -- what the occurrences of the file of a number and a tree have, by what they have where each import may stand unused
-abbrev pub without_unused : BlocksModel → ℕ → FileTree → List TheUse → List TheUse
+abbrev pub without_unused : BlocksModel → ℕ → FileTree → List FileUse → List FileUse
 without_unused b file f us = map (judged_import (blank_places f ++ used_places b file (file_occs f) us)) us

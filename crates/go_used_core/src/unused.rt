@@ -1,9 +1,11 @@
 //! Imports that are not used.
-ghost use Rattle.std.specs.Prelude.{◌≡◌, ◌++◌, IfErr, IfOk, OnOk, map};
-ghost use Rattle.std.specs.List.{flat_map};
+ghost use Rattle.std.specs.Prelude.{◌≡◌, ◌++◌, ◌||◌, ℕ, IfErr, IfOk, OnOk, map, nat_eq};
+ghost use Rattle.std.specs.List.{flat_map, list_any};
+ghost use Rattle.indexmap.specs.IndexSet.{contains};
 ghost use Rattle.go_tree_nodes.specs.Shapes.{file_of, import_of, shape_import_spec, shape_import_specs};
 ghost use Rattle.go_answer_core.specs.block_core.Naming.{specs_in, specs_of};
 ghost use Rattle.go_used_core.specs.Used.{blank_place, is_blank_name, judged_import, refused_use, without_unused};
+ghost use Rattle.go_used_core.specs.mirrors.Steps.{judged_by};
 
 use crate::used::{add_used_places, is_import};
 use go_answer_core::Answer;
@@ -12,6 +14,7 @@ use go_answer_core::denote_core::Outcome;
 use go_answer_core::tree_core::occurrences;
 use go_text_core::Rule;
 use go_tree_nodes::{File, ImportDecl, ImportName, ImportSpec, ImportSpecs};
+use indexmap::IndexSet;
 use std::alloc::{AllocError, Global};
 
 // Whether an import is written with the name `_`.
@@ -73,9 +76,30 @@ fn refuse(answer: &mut Answer)
     answer.outcome = Outcome::Refused(Rule::I7);
 }
 
+// Adds a place to others.
+fn add_place(places: &mut IndexSet<usize>, place: usize) -> Result<(), AllocError>
+    ensures { OnOk result ((at : ℕ) → contains nat_eq places.new at ≡ (contains nat_eq places.old at || nat_eq at place)) }
+{
+    match places.insert(place) {
+        Ok(_) => Ok(()),
+        Err(_) => Err(AllocError),
+    }
+}
+
+// These places, each once.
+fn place_set(alloc: Global, places: &[usize]) -> Result<IndexSet<usize>, AllocError>
+    ensures { IfOk result (λ set. (at : ℕ) → contains nat_eq set at ≡ list_any (nat_eq at) places.now) }
+{
+    let mut set = IndexSet::new(alloc);
+    for place in places {
+        add_place(&mut set, *place)?;
+    }
+    Ok(set)
+}
+
 // Refuses an import whose place is none of these.
-fn judge(places: &[usize], answer: &mut Answer)
-    ensures { answer.new ≡ judged_import places.now answer.old }
+fn judge(places: &IndexSet<usize>, answer: &mut Answer)
+    ensures { answer.new ≡ judged_by (contains nat_eq places.now) answer.old }
 {
     if is_import(answer.role) && !places.contains(&answer.offset) {
         refuse(answer);
@@ -83,18 +107,21 @@ fn judge(places: &[usize], answer: &mut Answer)
 }
 
 // Refuses the imports whose places are none of these.
-fn judge_all(places: &[usize], answers: &mut [Answer])
-    ensures { answers.new ≡ map (judged_import places.now) answers.old }
+fn judge_all(alloc: Global, places: &[usize], answers: &mut [Answer]) -> Result<(), AllocError>
+    ensures value { OnOk result (answers.new ≡ map (judged_import places.now) answers.old) }
+    ensures kept { IfErr result (λ _. answers.new ≡ answers.old) }
 {
+    let set = place_set(alloc, places)?;
     for answer in answers.iter_mut() {
-        judge(places, answer);
+        judge(&set, answer);
     }
+    Ok(())
 }
 
 /// Refuses those imports of the file of a number that are not used and break no other rule, by I7. An import is used where a selector of the file
 /// whose qualifier it binds has a declaration, or a name has one through its dot; one with the name `_` need not be used. `blocks` are those of the
 /// file's package, and `answers` what the occurrences of the tree have. The names that such an import binds stay bound. Time is linear in
-/// the occurrences, and for each import in those that use one.
+/// the occurrences.
 ///
 /// The Go specification, "Import declarations".
 ///
@@ -114,6 +141,5 @@ pub fn refuse_unused(
     let mut places = blank_places(alloc, &tree.imports)?;
     let occs = occurrences(alloc, tree)?;
     add_used_places(&mut places, blocks, file, &occs, answers)?;
-    judge_all(&places, answers);
-    Ok(())
+    judge_all(alloc, &places, answers)
 }

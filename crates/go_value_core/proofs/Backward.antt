@@ -9,8 +9,7 @@ use Rattle.std.proofs.lemmas.List.Elements.{All-contains}
 use Rattle.go_needs_core.specs.cycle_core.declared.edge.Edge.{Edge}
 use Rattle.go_needs_core.specs.cycle_core.Cycle as cycle
 use Rattle.go_needs_core.specs.cycle_core.Cycle.{IsRanked, IsRanking, IsOnCycle, Reaches}
-use Rattle.go_needs_core.specs.Needs.{needed, NeedsLead, NeedsAreInside}
-use Rattle.go_needs_core.specs.mirrors.Filling.{edges_from}
+use Rattle.go_needs_core.specs.Needs.{needed, NeedsLead, NeedsAreInside, edges_from}
 use Rattle.go_needs_core.proofs.Edges.{edge, need_edge, path_of}
 use Rattle.go_needs_core.specs.cycle_core.Walks.{leads_back}
 use Rattle.go_value_core.specs.Around.{LeadsBack, AreLeadingBack}

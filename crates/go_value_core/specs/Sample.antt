@@ -5,10 +5,10 @@ use Rattle.go_token_core.specs.declared.kind.Operator.TheVariants as operators
 use Rattle.go_tree_nodes.specs.declared.decls.ValueKind.{ValueKind}
 use Rattle.go_tree_nodes.specs.declared.decls.ValueKind.TheVariants as value_kinds
 use Rattle.go_tree_nodes.specs.declared.types.TypeName.TheVariants as type_names
-use Rattle.go_tree_nodes.specs.Trees.{Separated, One, Then, TypeTree, NamedType, ExprTree, Integer, Named, Binary, Literal, NoItems, Item, ValueSpecTree}
+use Rattle.go_tree_nodes.specs.Trees.{Separated, One, Then, TypeTree, NamedType, ExprTree, Integer, Binary, Literal, NoItems, Item, ValueSpecTree}
+use Rattle.go_tree_nodes.specs.Samples.{at, called, name_at}
 use Rattle.go_term_core.specs.decl_core.declared.places.DeclKind.TheVariants as kinds
 use Rattle.go_term_core.specs.decl_core.declared.keys.DeclRef.{DeclRef}
-use Rattle.go_term_core.specs.decl_core.Sample.{at, called}
 use Rattle.go_term_core.specs.decl_core.TopDecls.{FormTree, ValueForm, top_decl}
 use Rattle.go_env_core.specs.block_core.Blocks.{blocks_model}
 use Rattle.go_piece_core.specs.constant_core.declared.values.Constant.TheVariants as constants
@@ -23,9 +23,6 @@ use Rattle.go_env_core.specs.Scenes.{SceneModel}
 use Rattle.go_value_core.specs.Package.{PlacedOf, placed, package_needs, declared_face, IsThroughItself}
 use Rattle.go_env_core.specs.block_core.Declarations.{decl_ref}
 
-abbrev pub name_expr : List ℕ → ℕ → ExprTree
-name_expr name n = Named (called name n)
-
 -- one name and its expression
 abbrev pub one_value_spec : List ℕ → ExprTree → ValueSpecTree
 one_value_spec name e = record { names = One (called name 1); type_expr = None; values = Some (at 2, One e) }
@@ -35,7 +32,7 @@ abbrev pub both_values : ValueSpecTree
 both_values = record {
   names = Then (called (codes "w") 1) (at 2) (One (called (codes "x") 3));
   type_expr = None;
-  values = Some (at 4, Then (name_expr (codes "b") 5) (at 6) (One (Literal (type_names.Plain (called (codes "T") 7)) (at 8) (Item None (name_expr (codes "c") 9) None NoItems) (at 10))));
+  values = Some (at 4, Then (name_at (codes "b") 5) (at 6) (One (Literal (type_names.Plain (called (codes "T") 7)) (at 8) (Item None (name_at (codes "c") 9) None NoItems) (at 10))));
 }
 
 -- y string
@@ -47,12 +44,12 @@ constant_placed name e n = placed 0 [] (top_decl (called name 1) n (ValueForm va
 
 abbrev pub value_sample : List PlacedOf
 value_sample =
-    constant_placed (codes "a") (Binary (name_expr (codes "b") 3) operators.Plus (at 4) (name_expr (codes "b") 5)) 0
+    constant_placed (codes "a") (Binary (name_at (codes "b") 3) operators.Plus (at 4) (name_at (codes "b") 5)) 0
     ∷ (constant_placed (codes "b") (Integer 2 (at 3)) 1
-    ∷ (constant_placed (codes "c") (name_expr (codes "d") 3) 2
-    ∷ (constant_placed (codes "d") (name_expr (codes "c") 3) 3
-    ∷ (constant_placed (codes "e") (name_expr (codes "c") 3) 4
-    ∷ (placed 0 [] (top_decl (called (codes "v") 1) 5 (ValueForm value_kinds.Var (one_value_spec (codes "v") (name_expr (codes "a") 3)) 0))
+    ∷ (constant_placed (codes "c") (name_at (codes "d") 3) 2
+    ∷ (constant_placed (codes "d") (name_at (codes "c") 3) 3
+    ∷ (constant_placed (codes "e") (name_at (codes "c") 3) 4
+    ∷ (placed 0 [] (top_decl (called (codes "v") 1) 5 (ValueForm value_kinds.Var (one_value_spec (codes "v") (name_at (codes "a") 3)) 0))
     ∷ (placed 0 [] (top_decl (called (codes "w") 1) 6 (ValueForm value_kinds.Var both_values 0))
     ∷ (placed 0 [] (top_decl (called (codes "x") 1) 7 (ValueForm value_kinds.Var both_values 1))
     ∷ (placed 0 [] (top_decl (called (codes "y") 1) 8 (ValueForm value_kinds.Var typed_spec 0)) ∷ []))))))))

@@ -1,33 +1,12 @@
 //! Which needs lead back to where they come from.
-ghost use Rattle.std.specs.Prelude.{◌≡◌, ◌<◌, ◌++◌, All, IfOk, OnOk, length};
+ghost use Rattle.std.specs.Prelude.{◌≡◌, ◌<◌, All, IfOk, length};
 ghost use Rattle.go_needs_core.specs.Needs.{NeedsAreInside, rows_of};
-ghost use Rattle.go_needs_core.specs.mirrors.Filling.{edges_at, edges_from};
 ghost use Rattle.go_value_core.specs.Around.{AreLeadingBack};
 ghost use Rattle.go_value_core.specs.mirrors.Flags.{flags_from, has_own_rank};
 
-use go_needs_core::cycle_core::{Edge, rank_and_order};
+use go_needs_core::cycle_core::rank_and_order;
+use go_needs_core::edges_of;
 use std::alloc::{AllocError, Global};
-
-// Adds an edge from a node to each one that it needs.
-fn add_edges(edges: &mut Vec<Edge>, from: usize, row: &[usize]) -> Result<(), AllocError>
-    ensures { OnOk result (edges.new.items ≡ edges.old.items ++ edges_at from row.now) }
-{
-    for to in row {
-        edges.push(Edge { from, to: *to })?;
-    }
-    Ok(())
-}
-
-// An edge for each node and each one that it needs.
-fn edges_of(alloc: Global, needs: &[Vec<usize>]) -> Result<Vec<Edge>, AllocError>
-    ensures { IfOk result (λ edges. edges.items ≡ edges_from 0 (rows_of needs.now)) }
-{
-    let mut edges = Vec::new(alloc);
-    for (from, row) in needs.iter().enumerate() {
-        add_edges(&mut edges, from, row)?;
-    }
-    Ok(edges)
-}
 
 // Whether one of the needed nodes has the rank of the node that needs it.
 fn has_own_rank(ranks: &[usize], node: usize, row: &[usize]) -> bool

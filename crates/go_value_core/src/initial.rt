@@ -10,8 +10,9 @@ ghost use Rattle.go_value_core.specs.mirrors.Own as own;
 use crate::specs::{expr_of, is_alone, name_count};
 use go_piece_core::denote_core::{Argument, Denoted, Place, argument_of, arguments_of};
 use go_piece_core::expr_core::{Exprs, Notes, check_expr};
-use go_piece_core::operand_core::{Operand, ValueType};
+use go_piece_core::operand_core::Operand;
 use go_piece_core::statement_core::{constant_answer, declared_types};
+use go_piece_core::variable;
 use go_tree_nodes::{Expr, TypeExpr, ValueKind, ValueSpec};
 use std::alloc::{AllocError, Global};
 
@@ -90,20 +91,6 @@ fn some_type<E: Exprs>(
     match tree {
         None => Ok(None),
         Some(tree) => Ok(Some(env.written(alloc, tree)?)),
-    }
-}
-
-// A variable, by its type.
-fn variable<T: Drop>(t: Option<T>) -> Option<Operand<T>>
-    ensures { result ≡ values.variable t }
-{
-    match t {
-        None => None,
-        Some(t) => Some(Operand {
-            value_type: ValueType::Typed(t),
-            constant: None,
-            addressable: true,
-        }),
     }
 }
 

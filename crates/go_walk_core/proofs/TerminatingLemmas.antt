@@ -8,7 +8,8 @@ use Rattle.go_tree_nodes.specs.Trees as tree
 use Rattle.go_tree_nodes.specs.Trees.{ExprTree, StmtTree, Lines, Empty, Simple, Return, Break, Continue, Block, If, For, NoLines, Line}
 use Rattle.go_tree_nodes.specs.Shapes.{shape_stmt, shape_branch, shape_else, lines_of}
 use Rattle.go_tree_nodes.proofs.ShapeLemmas.{branch_parts}
-use Rattle.go_walk_core.specs.Ends.{is_empty, are_empty, is_terminating, is_branch_terminating, is_else_terminating, are_terminating}
+use Rattle.go_tree_nodes.specs.Counts.{is_empty}
+use Rattle.go_walk_core.specs.Ends.{are_empty, is_terminating, is_branch_terminating, is_else_terminating, are_terminating}
 
 -- what is known so far, and then the lines that are left
 abbrev pub ends_with : (ExprTree → Bool) → Bool → Lines → Bool

@@ -2,7 +2,8 @@
 ghost use Rattle.std.specs.Prelude.{◌≡◌, Bool};
 ghost use Rattle.go_tree_nodes.specs.Trees.{ExprTree};
 ghost use Rattle.go_tree_nodes.specs.Shapes.{shape, shape_simple, shape_for, shape_stmt, shape_loop, shape_branch, shape_else, lines_of};
-ghost use Rattle.go_walk_core.specs.Ends.{is_blank_target, has_no_condition, is_empty, is_panic, is_terminating, is_branch_terminating, is_else_terminating, are_terminating};
+ghost use Rattle.go_tree_nodes.specs.Counts.{is_empty};
+ghost use Rattle.go_walk_core.specs.Ends.{is_blank_target, has_no_condition, is_panic, is_terminating, is_branch_terminating, is_else_terminating, are_terminating};
 
 use crate::ends::lines_have_break;
 use go_tree_nodes::{Branch, Expr, ForHead, Line, Loop, Otherwise, Simple, Stmt};

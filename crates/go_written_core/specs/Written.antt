@@ -10,6 +10,7 @@ use Rattle.go_tree_nodes.specs.Trees.{Separated, One, Then, TypeTree, NamedType,
 use Rattle.go_decl_core.specs.declared.places.DeclKind.{DeclKind}
 use Rattle.go_decl_core.specs.declared.places.DeclKind.TheVariants as kinds
 use Rattle.go_decl_core.specs.declared.places.Place.{Place}
+use Rattle.go_decl_core.specs.Outer.{last_ident}
 use Rattle.go_term_core.specs.declared.term.MemberPlace.{MemberPlace}
 use Rattle.go_term_core.specs.declared.term.MemberPlace.TheVariants as places
 use Rattle.go_term_core.specs.Terms.{Term, PointerTo, StructOf, InterfaceOf, Fields, NoField, AField, Methods, NoMethod, AMethod, Sign, SignOf, Terms, NoTerm, ATerm}
@@ -40,10 +41,6 @@ written_member_place f kind offset (Some n) = places.Declared (record { file = f
 -- where an identifier is declared: under its number in the file, or inside a body at its offset
 abbrev pub member_place : InFile → DeclKind → ℕ → MemberPlace
 member_place f kind offset = written_member_place f kind offset (number_from 0 f.places offset)
-
-abbrev pub last_ident : TypeName → Ident
-last_ident (type_names.Plain x) = x
-last_ident (type_names.Qualified q dot x) = x
 
 abbrev pub term_starred : Option Span → Term → Term
 term_starred None t = t

@@ -1,13 +1,14 @@
 //! The terms of type expressions.
 ghost use Rattle.std.specs.Prelude.{◌≡◌, ◌++◌, ◌∷◌, [], IfOk, OnOk, true, false};
+ghost use Rattle.go_decl_core.specs.Outer.{last_ident};
 ghost use Rattle.go_term_core.specs.Shapes.{line_with, shape, sign_of, method_shapes, param_shapes};
 ghost use Rattle.go_term_core.specs.Terms.{NoField, AField, NoMethod, AMethod, NoTerm, ATerm};
 ghost use Rattle.go_tree_nodes.specs.TypeShapes.{shape_type, shape_idents, shape_names, shape_signature, shape_results};
 ghost use Rattle.go_written_core.specs.mirrors.Adding.{Adds, AddsLine, AddsParams, AreWritten, then_methods, line_fields, lines_of, method_lines_of, params_in, named_in, field_in, numbers_of, more_numbers};
-ghost use Rattle.go_written_core.specs.Written.{in_file, term_of, signature_of, member_place, named_fields, fields_of_tree, methods_of_tree, results_of_tree, params_of_tree, for_names, last_ident, term_starred, tag_of};
+ghost use Rattle.go_written_core.specs.Written.{in_file, term_of, signature_of, member_place, named_fields, fields_of_tree, methods_of_tree, results_of_tree, params_of_tree, for_names, term_starred, tag_of};
 
 use crate::names::{TypeNames, WrittenIn};
-use go_decl_core::DeclKind;
+use go_decl_core::{DeclKind, last_ident};
 use go_term_core::{Field, FieldLine, Method, Params, Signature, Tag, TypeTerm};
 use go_text_core::{Span, add, boxed};
 use go_tree_nodes::{
@@ -196,16 +197,6 @@ fn starred_term(alloc: Global, star: &Option<Span>, term: TypeTerm) -> Result<Ty
     match star {
         Some(_) => Ok(TypeTerm::Pointer(boxed(alloc, term)?)),
         None => Ok(term),
-    }
-}
-
-// The last identifier of a type's name.
-fn last_ident(name: &TypeName) -> &Ident
-    ensures { result.now ≡ last_ident name.now }
-{
-    match name {
-        TypeName::Plain(ident) => ident,
-        TypeName::Qualified(_, _, ident) => ident,
     }
 }
 

@@ -5,13 +5,18 @@ use std::alloc::Global;
 
 /// Adds the answer of a kind to a text.
 fn add_text_answer(out: &mut Lines, alloc: Global, kind: &str, text: &str) {
-    let is_known = words::add_answer(out, alloc, kind, text)
-        || tokens::add_answer(out, alloc, kind, text)
-        || trees::add_answer(out, alloc, kind, text)
-        || shapes::add_answer(out, alloc, kind, text)
-        || workspaces::add_answer(out, alloc, kind, text);
-    if !is_known {
-        out.line("no such kind");
+    match kind {
+        "tokens" => tokens::add_tokens(out, alloc, text),
+        "comments" => tokens::add_comments_of(out, alloc, text),
+        "prefixes" => trees::add_prefixes(out, alloc, text),
+        "parse" | "uses" | "places" | "copies" | "decl" | "stmt" | "expr" | "typed" => {
+            trees::add_answer(out, alloc, kind, text);
+        }
+        "chain" | "ring" | "complete" => shapes::add_answer(out, alloc, kind, text),
+        "sources" | "replaced" | "copied" | "packages" | "plan" | "scope" | "names" | "keys" => {
+            workspaces::add_answer(out, alloc, kind, text);
+        }
+        _ => words::add_answer(out, alloc, kind, text),
     }
 }
 

@@ -6,12 +6,11 @@ use go_tree_nodes::File;
 use govisd_show::{Lines, Named};
 use std::alloc::Global;
 
-/// A package with its number and its blocks, among all packages.
+/// A package with its blocks, among all packages.
 #[derive(Clone, Copy)]
 pub struct Place<'a> {
     pub packages: &'a [Named],
     pub package: &'a Named,
-    pub number: usize,
     pub blocks: &'a Blocks,
 }
 
@@ -25,7 +24,6 @@ pub fn place_of<'a>(
         (Some(package), Some(Some(blocks))) => Some(Place {
             packages,
             package,
-            number,
             blocks,
         }),
         _ => None,
@@ -113,32 +111,32 @@ pub fn add_target(out: &mut Lines, packages: &[Named], target: &Target) {
     }
 }
 
-/// Adds the names that hold in the block of a file: of each the place of its import, and what it denotes.
-fn add_file_block(out: &mut Lines, alloc: Global, place: Place<'_>, file: usize) {
-    let Ok(names) = place.blocks.file_names(alloc, file) else {
-        return out.cut();
-    };
-    for name in &names {
-        if let Some(binding) = place.blocks.file(file, name) {
-            out.pieces(&["bound ", name, " "]);
-            place.package.add_place(out, file, binding.at);
-            out.add(" ");
-            add_target(out, place.packages, &binding.target);
-        }
-    }
-}
-
-/// Adds the blocks of a package, and the faults in them: the names of the package block, each with its kind and its place, and the blocks of the files.
+/// Adds the blocks of a package, and the faults in them: the names of the package block, each with its kind and its place; the names that hold in the
+/// blocks of the files, of each the place of its import, and what it denotes; and the faults.
 pub fn add_blocks(out: &mut Lines, alloc: Global, place: Place<'_>) {
-    let Ok(names) = place.blocks.names(alloc) else {
-        return out.cut();
-    };
-    for named in &names {
-        out.pieces(&["name ", named.name.as_str(), " "]);
-        add_decl(out, place.package, named.decl);
+    match place.blocks.names(alloc) {
+        Ok(names) => {
+            for named in &names {
+                out.pieces(&["name ", named.name.as_str(), " "]);
+                add_decl(out, place.package, named.decl);
+            }
+        }
+        Err(_) => out.cut(),
     }
     for file in 0..place.package.files.len() {
-        add_file_block(out, alloc, place, file);
+        match place.blocks.file_names(alloc, file) {
+            Ok(names) => {
+                for name in &names {
+                    if let Some(binding) = place.blocks.file(file, name) {
+                        out.pieces(&["bound ", name, " "]);
+                        place.package.add_place(out, file, binding.at);
+                        out.add(" ");
+                        add_target(out, place.packages, &binding.target);
+                    }
+                }
+            }
+            Err(_) => out.cut(),
+        }
     }
     for fault in place.blocks.faults() {
         out.add("fault ");

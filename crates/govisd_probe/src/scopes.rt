@@ -112,6 +112,25 @@ fn add_block(out: &mut Lines, alloc: Global, scopes: &mut Scopes<'_>, words: &st
     }
 }
 
+/// Adds what the names in the blocks inside denote there, and in the blocks outside.
+fn add_both(
+    out: &mut Lines,
+    alloc: Global,
+    place: Place<'_>,
+    inside: &Scopes<'_>,
+    outside: &Scopes<'_>,
+) {
+    match inside.names(alloc) {
+        Ok(names) => {
+            for name in &names {
+                add_found(out, place, inside, name);
+                add_found(out, place, outside, name);
+            }
+        }
+        Err(_) => out.cut(),
+    }
+}
+
 /// Opens a block and another inside it, declares what the words before and behind `{` say, and adds what the names
 /// denote in a copy of the blocks and when the inner one is left.
 fn add_inner(
@@ -134,13 +153,8 @@ fn add_inner(
         return out.cut();
     };
     scopes.leave();
-    let Ok(names) = inside.names(alloc) else {
-        return out.cut();
-    };
-    for name in &names {
-        add_found(out, place, &inside, name);
-        add_found(out, place, scopes, name);
-    }
+    add_both(out, alloc, place, &inside, scopes);
+    drop(inside);
 }
 
 /// Adds the names that denote something in a file.
@@ -155,35 +169,26 @@ fn add_names(out: &mut Lines, alloc: Global, scopes: &Scopes<'_>) {
     out.line("");
 }
 
-/// Adds the answer to what is asked of a file: what a name denotes there, or without a name the names that denote
-/// something there, or behind `{` what they denote in blocks of a function.
-fn add_asked(
-    out: &mut Lines,
-    alloc: Global,
-    place: Place<'_>,
-    scopes: &mut Scopes<'_>,
-    asked: &str,
-) {
-    if asked.is_empty() {
-        return add_names(out, alloc, scopes);
-    }
-    match asked.strip_prefix('{') {
-        Some(words) => add_inner(out, alloc, place, scopes, words),
-        None => add_found(out, place, scopes, asked),
-    }
-}
-
-/// Adds the answer to what is asked of a file of a package.
+/// Adds the answer to what is asked of a file of a package: what a name denotes there, or without a name the names that denote something there, or
+/// behind `{` what they denote in blocks of a function.
 fn add_in_package(out: &mut Lines, alloc: Global, place: Place<'_>, file: &str, asked: &str) {
     let mut number = 0usize;
     for named in &place.package.files {
         if named.name.as_str() == file {
-            let mut scopes = Scopes::begin(alloc, place.blocks, number);
-            return add_asked(out, alloc, place, &mut scopes, asked);
+            break;
         }
         number = number.saturating_add(1);
     }
-    out.line("no file");
+    if number == place.package.files.len() {
+        return out.line("no file");
+    }
+    let mut scopes = Scopes::begin(alloc, place.blocks, number);
+    match asked.strip_prefix('{') {
+        Some(words) => add_inner(out, alloc, place, &mut scopes, words),
+        None if asked.is_empty() => add_names(out, alloc, &scopes),
+        None => add_found(out, place, &scopes, asked),
+    }
+    drop(scopes);
 }
 
 /// Adds the answer to a query: a file of a package, written as its path and its name, and behind a blank what is

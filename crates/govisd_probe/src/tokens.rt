@@ -12,33 +12,29 @@ fn add_error(out: &mut Lines, error: ScanError) {
     }
 }
 
-/// Adds a keyword or an operator.
-fn add_spelling(out: &mut Lines, spelling: &[char]) {
+/// Adds what a token is, and its value where it is a literal; of a keyword and an operator the spelling.
+fn add_token(out: &mut Lines, alloc: Global, kind: TokenKind, spelled: &str) {
+    let spelling = match kind {
+        TokenKind::Identifier => return out.line("identifier"),
+        TokenKind::Integer => {
+            out.add("integer ");
+            out.show(integer_value(spelled).unwrap_or(0));
+            return out.line("");
+        }
+        TokenKind::String => {
+            out.add("string ");
+            return match string_value(alloc, spelled) {
+                Ok(value) => out.quote(value.as_slice()),
+                Err(_) => out.cut(),
+            };
+        }
+        TokenKind::Keyword(keyword) => keyword.spelling(),
+        TokenKind::Operator(operator) => operator.spelling(),
+    };
     for c in spelling {
         out.push(*c);
     }
     out.line("");
-}
-
-/// Adds what a token is, and its value where it is a literal.
-fn add_token(out: &mut Lines, alloc: Global, kind: TokenKind, spelled: &str) {
-    match kind {
-        TokenKind::Identifier => out.line("identifier"),
-        TokenKind::Integer => {
-            out.add("integer ");
-            out.show(integer_value(spelled).unwrap_or(0));
-            out.line("");
-        }
-        TokenKind::String => {
-            out.add("string ");
-            match string_value(alloc, spelled) {
-                Ok(value) => out.quote(value.as_slice()),
-                Err(_) => out.cut(),
-            }
-        }
-        TokenKind::Keyword(keyword) => add_spelling(out, keyword.spelling()),
-        TokenKind::Operator(operator) => add_spelling(out, operator.spelling()),
-    }
 }
 
 /// Adds comments, each with its start and its end.
@@ -53,7 +49,7 @@ pub fn add_comments(out: &mut Lines, comments: &[Comment]) {
 }
 
 /// Adds the tokens of a text, each with its start and its end, and then its comments.
-fn add_tokens(out: &mut Lines, alloc: Global, text: &str) {
+pub fn add_tokens(out: &mut Lines, alloc: Global, text: &str) {
     match scan(alloc, text) {
         Ok(tokens) => {
             for token in &tokens {
@@ -67,19 +63,9 @@ fn add_tokens(out: &mut Lines, alloc: Global, text: &str) {
 }
 
 /// Adds the comments of a text.
-fn add_comments_of(out: &mut Lines, alloc: Global, text: &str) {
+pub fn add_comments_of(out: &mut Lines, alloc: Global, text: &str) {
     match comments(alloc, text) {
         Ok(comments) => add_comments(out, comments.as_slice()),
         Err(error) => add_error(out, error),
     }
-}
-
-/// Adds the answer of a kind to a text, and tells whether the kind is one of these.
-pub fn add_answer(out: &mut Lines, alloc: Global, kind: &str, text: &str) -> bool {
-    match kind {
-        "tokens" => add_tokens(out, alloc, text),
-        "comments" => add_comments_of(out, alloc, text),
-        _ => return false,
-    }
-    true
 }

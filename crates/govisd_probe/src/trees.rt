@@ -1,10 +1,10 @@
 //! What is answered of trees.
 use crate::tokens::add_comments;
 use go_parse_core::{ParseError, Parsed, parse, tree_of};
-use go_tree_core::{Occ, Role, Usage, at, close, copy, occurrences};
+use go_tree_core::{Role, Usage, at, close, copy, occurrences};
 use go_tree_nodes::{Decl, File};
 use govisd_show::Lines;
-use std::alloc::{AllocError, Global};
+use std::alloc::Global;
 
 /// The name of a role, with the use of a selector.
 fn role_word(role: Role) -> &'static str {
@@ -22,12 +22,17 @@ fn role_word(role: Role) -> &'static str {
     }
 }
 
-/// Adds occurrences: of each its start, its end, its role and its spelling.
-fn add_uses(out: &mut Lines, occs: &[Occ]) {
-    for occ in occs {
-        out.span(occ.span);
-        out.add(role_word(occ.role));
-        out.quote(occ.spelling.as_str().as_bytes());
+/// Adds the occurrences of a file: of each its start, its end, its role and its spelling.
+fn add_uses(out: &mut Lines, alloc: Global, tree: &File) {
+    match occurrences(alloc, tree) {
+        Ok(occs) => {
+            for occ in &occs {
+                out.span(occ.span);
+                out.add(role_word(occ.role));
+                out.quote(occ.spelling.as_str().as_bytes());
+            }
+        }
+        Err(_) => out.cut(),
     }
 }
 
@@ -76,21 +81,8 @@ fn add_copies(out: &mut Lines, alloc: Global, parsed: &Parsed) {
     copied.close();
 }
 
-/// Adds what is asked of a parsed text.
-fn add_of_parsed(out: &mut Lines, alloc: Global, kind: &str, parsed: &Parsed) {
-    match kind {
-        "uses" => match occurrences(alloc, parsed.tree()) {
-            Ok(occs) => add_uses(out, occs.as_slice()),
-            Err(_) => out.cut(),
-        },
-        "places" => add_places(out, parsed),
-        "copies" => add_copies(out, alloc, parsed),
-        _ => out.line("tree"),
-    }
-}
-
 /// Adds how many of a text's beginnings have a tree, nothing and the whole text among them.
-fn add_prefixes(out: &mut Lines, alloc: Global, text: &str) {
+pub fn add_prefixes(out: &mut Lines, alloc: Global, text: &str) {
     let mut count = 0usize;
     for end in 0..=text.len() {
         // Inside a character there is no prefix.
@@ -108,39 +100,31 @@ fn add_prefixes(out: &mut Lines, alloc: Global, text: &str) {
     out.count("", count, "\n");
 }
 
-/// The file that a text between two pieces makes.
-fn framed(alloc: Global, before: &str, text: &str, behind: &str) -> Result<String, AllocError> {
+/// Adds the answer of a kind to a text, or to a file in which it is a declaration, a statement, an expression or a type.
+pub fn add_answer(out: &mut Lines, alloc: Global, kind: &str, text: &str) {
+    let (before, behind) = match kind {
+        "decl" => ("package a\n", "\n"),
+        "stmt" => ("package a\nfunc f() { ", " }\n"),
+        "expr" => ("package a\nvar x = ", "\n"),
+        "typed" => ("package a\nvar x ", "\n"),
+        _ => ("", ""),
+    };
     let mut file = Lines::new(alloc);
     file.pieces(&[before, text, behind]);
-    file.finish()
-}
-
-/// Adds the answer of a kind to a text, or to a file in which it is a declaration, a statement, an expression or a type, and tells whether the
-/// kind is one of these.
-pub fn add_answer(out: &mut Lines, alloc: Global, kind: &str, text: &str) -> bool {
-    let file = match kind {
-        "parse" | "uses" | "places" | "copies" => framed(alloc, "", text, ""),
-        "decl" => framed(alloc, "package a\n", text, "\n"),
-        "stmt" => framed(alloc, "package a\nfunc f() { ", text, " }\n"),
-        "expr" => framed(alloc, "package a\nvar x = ", text, "\n"),
-        "typed" => framed(alloc, "package a\nvar x ", text, "\n"),
-        "prefixes" => {
-            add_prefixes(out, alloc, text);
-            return true;
-        }
-        _ => return false,
-    };
-    let Ok(file) = file else {
-        out.cut();
-        return true;
+    let Ok(file) = file.finish() else {
+        return out.cut();
     };
     match parse(alloc, file) {
         Ok(parsed) => {
-            add_of_parsed(out, alloc, kind, &parsed);
+            match kind {
+                "uses" => add_uses(out, alloc, parsed.tree()),
+                "places" => add_places(out, &parsed),
+                "copies" => add_copies(out, alloc, &parsed),
+                _ => out.line("tree"),
+            }
             parsed.close();
         }
         Err(ParseError::Memory) => out.cut(),
         Err(ParseError::Fault(fault)) => out.fault(fault.rule, fault.offset),
     }
-    true
 }

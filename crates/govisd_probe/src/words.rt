@@ -87,52 +87,48 @@ fn add_rules(out: &mut Lines, text: &str) {
     }
 }
 
-/// The word for whether one of the two modules round a blank lies inside the other, or `ok` where a lone one is asked for; O2 where one is no
-/// module.
-fn of_modules(alloc: Global, text: &str, is_lone: bool) -> Result<&'static str, Rule> {
-    if is_lone {
-        let _module = Module::read(alloc, text)?;
-        return Ok("ok");
-    }
+/// Adds whether one of the two modules round a blank lies inside the other; O2 where one is no module.
+fn add_overlaps(out: &mut Lines, alloc: Global, text: &str) {
     let (one, other) = pair(text);
-    let one = Module::read(alloc, one)?;
-    let other = Module::read(alloc, other)?;
-    Ok(yes_or_no(overlaps(&one, &other)))
-}
-
-/// The word for whether the path before a blank may import the one behind it, or `ok` where a lone one is asked for; I1 where one is no path.
-fn of_paths(alloc: Global, text: &str, is_lone: bool) -> Result<&'static str, Rule> {
-    if is_lone {
-        let _path = ImportPath::read(alloc, text)?;
-        return Ok("ok");
-    }
-    let (from, path) = pair(text);
-    let from = ImportPath::read(alloc, from)?;
-    let path = ImportPath::read(alloc, path)?;
-    Ok(yes_or_no(may_import(&from, &path)))
-}
-
-/// Adds a word, or the rule that is broken.
-fn add_judged(out: &mut Lines, judged: Result<&'static str, Rule>) {
-    match judged {
-        Ok(word) => out.line(word),
+    match Module::read(alloc, one) {
+        Ok(one) => match Module::read(alloc, other) {
+            Ok(other) => out.line(yes_or_no(overlaps(&one, &other))),
+            Err(rule) => out.refuse(rule),
+        },
         Err(rule) => out.refuse(rule),
     }
 }
 
-/// Adds the answer of a kind to a text, and tells whether the kind is one of these.
-pub fn add_answer(out: &mut Lines, alloc: Global, kind: &str, text: &str) -> bool {
+/// Adds whether the path before a blank may import the one behind it; I1 where one is no path.
+fn add_may_import(out: &mut Lines, alloc: Global, text: &str) {
+    let (from, path) = pair(text);
+    match ImportPath::read(alloc, from) {
+        Ok(from) => match ImportPath::read(alloc, path) {
+            Ok(path) => out.line(yes_or_no(may_import(&from, &path))),
+            Err(rule) => out.refuse(rule),
+        },
+        Err(rule) => out.refuse(rule),
+    }
+}
+
+/// Adds the answer of a kind to a text, or that there is no such kind.
+pub fn add_answer(out: &mut Lines, alloc: Global, kind: &str, text: &str) {
     match kind {
         "letters" => add_letters(out, text),
         "name" => add_name(out, alloc, text),
         "same" => out.line(yes_or_no(are_same(text))),
         "piece" => out.line(piece(text)),
         "rules" => add_rules(out, text),
-        "path" => add_judged(out, of_paths(alloc, text, true)),
-        "module" => add_judged(out, of_modules(alloc, text, true)),
-        "overlaps" => add_judged(out, of_modules(alloc, text, false)),
-        "may_import" => add_judged(out, of_paths(alloc, text, false)),
-        _ => return false,
+        "path" => match ImportPath::read(alloc, text) {
+            Ok(_) => out.line("ok"),
+            Err(rule) => out.refuse(rule),
+        },
+        "module" => match Module::read(alloc, text) {
+            Ok(_) => out.line("ok"),
+            Err(rule) => out.refuse(rule),
+        },
+        "overlaps" => add_overlaps(out, alloc, text),
+        "may_import" => add_may_import(out, alloc, text),
+        _ => out.line("no such kind"),
     }
-    true
 }

@@ -60,22 +60,26 @@ fn add_planned(
     let Ok(blocks) = workspace_blocks(alloc, workspace, plan) else {
         return out.cut();
     };
-    match kind {
-        "scope" => return add_scope(out, alloc, packages, blocks.as_slice(), text),
-        "packages" => add_packages(out, alloc, workspace, packages, plan),
-        _ => {}
-    }
-    let mut number = 0usize;
-    for source in workspace.packages() {
-        if let Some(place) = place_of(packages, blocks.as_slice(), number) {
-            match kind {
-                "names" => add_names(out, alloc, place, source),
-                "keys" => add_keys(out, place.package, source),
-                _ => add_blocks(out, alloc, place),
-            }
+    let all = blocks.as_slice();
+    if kind == "scope" {
+        add_scope(out, alloc, packages, all, text);
+    } else {
+        if kind == "packages" {
+            add_packages(out, alloc, workspace, packages, plan);
         }
-        number = number.saturating_add(1);
+        let mut number = 0usize;
+        for source in workspace.packages() {
+            if let Some(place) = place_of(packages, all, number) {
+                match kind {
+                    "names" => add_names(out, alloc, place, source),
+                    "keys" => add_keys(out, place.package, source),
+                    _ => add_blocks(out, alloc, place),
+                }
+            }
+            number = number.saturating_add(1);
+        }
     }
+    drop(blocks);
 }
 
 /// Adds what is asked of the imports of a workspace, or of what stands on them.
@@ -98,17 +102,6 @@ fn add_of_plan(out: &mut Lines, alloc: Global, kind: &str, workspace: &Workspace
                 text,
             );
             close_names(packages);
-        }
-        Err(_) => out.cut(),
-    }
-}
-
-/// Adds the files of a copy of a workspace.
-fn add_copy(out: &mut Lines, alloc: Global, workspace: &Workspace) {
-    match workspace.copy(alloc) {
-        Ok(copied) => {
-            add_files(out, &copied);
-            copied.close();
         }
         Err(_) => out.cut(),
     }
@@ -151,23 +144,23 @@ fn put_archive_of(
     }
 }
 
-/// Adds what is asked of the workspace of an archive, and tells whether the kind is one of these.
-pub fn add_answer(out: &mut Lines, alloc: Global, kind: &str, text: &str) -> bool {
+/// Adds what is asked of the workspace of an archive.
+pub fn add_answer(out: &mut Lines, alloc: Global, kind: &str, text: &str) {
     let mut workspace = Workspace::empty(alloc);
-    let filled = put_archive_of(&mut workspace, alloc, kind, text);
-    let mut is_known = true;
-    match filled {
-        Err(rule) => out.refuse(rule),
+    match put_archive_of(&mut workspace, alloc, kind, text) {
         Ok(()) => match kind {
             "sources" => add_counts(out, &workspace),
             "replaced" => add_files(out, &workspace),
-            "copied" => add_copy(out, alloc, &workspace),
-            "packages" | "plan" | "scope" | "names" | "keys" => {
-                add_of_plan(out, alloc, kind, &workspace, text)
-            }
-            _ => is_known = false,
+            "copied" => match workspace.copy(alloc) {
+                Ok(copied) => {
+                    add_files(out, &copied);
+                    copied.close();
+                }
+                Err(_) => out.cut(),
+            },
+            _ => add_of_plan(out, alloc, kind, &workspace, text),
         },
+        Err(rule) => out.refuse(rule),
     }
     workspace.close();
-    is_known
 }

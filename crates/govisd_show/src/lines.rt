@@ -110,6 +110,16 @@ impl Lines {
         self.add("\"\n");
     }
 
+    /// Adds a word, and behind it whether two texts are the `same`, or the one `another` than the other.
+    pub fn compare(&mut self, word: &str, one: Lines, other: Lines) {
+        if one.is_cut || other.is_cut {
+            self.is_cut = true;
+        }
+        let is_same = one.text.as_str() == other.text.as_str();
+        self.add(word);
+        self.line(if is_same { " same" } else { " another" });
+    }
+
     /// The text, unless a piece of it is missing.
     pub fn finish(self) -> Result<String, AllocError> {
         if self.is_cut {

@@ -22,14 +22,6 @@ pub struct Named {
 }
 
 impl Named {
-    /// The name of the file of a number, and nothing where there is none.
-    pub fn file(&self, number: usize) -> &str {
-        match self.files.get(number) {
-            Some(file) => file.name.as_str(),
-            None => "",
-        }
-    }
-
     /// The identifiers that the file of a number declares outside bodies, and none where it has no tree.
     pub fn places(&self, number: usize) -> &[Place] {
         match self.files.get(number) {
@@ -51,9 +43,13 @@ impl Named {
         }
     }
 
-    /// Adds a place: the path of the package, the name of the file of a number, and an offset in bytes.
+    /// Adds a place: the path of the package, the name of the file of a number, nothing where there is none, and an offset in bytes.
     pub fn add_place(&self, out: &mut Lines, file: usize, offset: usize) {
-        out.pieces(&[self.path.as_str(), "/", self.file(file)]);
+        let name = match self.files.get(file) {
+            Some(file) => file.name.as_str(),
+            None => "",
+        };
+        out.pieces(&[self.path.as_str(), "/", name]);
         out.count(":", offset, "");
     }
 

@@ -4,8 +4,9 @@ use go_snap_core::embed_core::Hits;
 use go_snap_core::select_core::{Member, Owner, Selected};
 use go_snap_core::table_core::TypeTable;
 use go_term_core::TypeTerm;
-use go_text_core::Rule;
-use std::alloc::{AllocError, Global};
+use go_text_core::{Rule, add};
+use govisd_show::Lines;
+use std::alloc::Global;
 
 /// How many types a table may have of which all paths are listed.
 const MOST_TYPES: usize = 7;
@@ -23,6 +24,8 @@ struct Listing {
     is_method: bool,
     /// Whether a member is spelled so.
     is_spelled: bool,
+    /// Whether memory was wanting: then the rest says nothing.
+    is_cut: bool,
 }
 
 /// Which rule a selector breaks by its operand alone, or the type in which it is searched, with whether the operand's type is a defined
@@ -42,15 +45,17 @@ fn searched<'a>(table: &'a TypeTable, term: &'a TypeTerm) -> Result<(&'a TypeTer
 }
 
 /// Notes members that the followed path leads to.
-fn note(listing: &mut Listing, count: usize, is_method: bool) -> Result<(), AllocError> {
+fn note(listing: &mut Listing, count: usize, is_method: bool) {
     if listing.count == 0 || listing.path.len() < listing.best.len() {
-        listing.best = listing.path.clone()?;
+        match listing.path.clone() {
+            Ok(best) => listing.best = best,
+            Err(_) => listing.is_cut = true,
+        }
         listing.count = count;
         listing.is_method = is_method;
     } else if listing.path.len() == listing.best.len() {
         listing.count = listing.count.saturating_add(count);
     }
-    Ok(())
 }
 
 /// Follows the paths from a type on, of so many fields more at most.
@@ -61,86 +66,86 @@ fn follow(
     term: &TypeTerm,
     name: &str,
     from: &ImportPath,
-) -> Result<(), AllocError> {
+) {
     let owner = Owner::of(table, term);
     listing.is_spelled = listing.is_spelled || owner.has_spelled(name);
     match owner.hits(name, from) {
         Hits::Nothing => {}
-        Hits::One(member) => note(listing, 1, !matches!(member, Member::Field(_, _)))?,
-        Hits::More => note(listing, 2, false)?,
+        Hits::One(member) => note(listing, 1, !matches!(member, Member::Field(_, _))),
+        Hits::More => note(listing, 2, false),
     }
     if left == 0 {
-        return Ok(());
+        return;
     }
     for place in 0..owner.field_count() {
         if let Some(field) = owner.embedded(place) {
-            listing.path.push(place)?;
-            follow(left - 1, listing, table, field.target, name, from)?;
-            let _ = listing.path.pop();
+            match add(&mut listing.path, place) {
+                Ok(()) => {
+                    follow(left - 1, listing, table, field.target, name, from);
+                    let _ = listing.path.pop();
+                }
+                Err(_) => listing.is_cut = true,
+            }
         }
     }
-    Ok(())
 }
 
-/// Which rule a selector breaks, or the path to what it denotes.
+/// Which rule a selector breaks; where it breaks none, the path to what it denotes is the best of the listing.
 fn list_paths(
-    alloc: Global,
+    listing: &mut Listing,
     table: &TypeTable,
     term: &TypeTerm,
     name: &str,
     from: &ImportPath,
-) -> Result<Result<Vec<usize>, Rule>, AllocError> {
+) -> Option<Rule> {
     if name == "_" {
-        return Ok(Err(Rule::S8));
+        return Some(Rule::S8);
     }
     let (start, is_named) = match searched(table, term) {
         Ok(found) => found,
-        Err(rule) => return Ok(Err(rule)),
+        Err(rule) => return Some(rule),
     };
-    let mut listing = Listing {
-        path: Vec::new(alloc),
-        best: Vec::new(alloc),
-        count: 0,
-        is_method: false,
-        is_spelled: false,
-    };
-    follow(
-        table.len().saturating_add(1).min(MOST_TYPES + 1),
-        &mut listing,
-        table,
-        start,
-        name,
-        from,
-    )?;
-    Ok(match listing.count {
-        0 if listing.is_spelled => Err(Rule::S3),
-        0 => Err(Rule::S1),
-        1 if is_named && listing.is_method => Err(Rule::S7),
-        1 => Ok(listing.best),
-        _ => Err(Rule::S2),
-    })
+    let most = table.len().saturating_add(1).min(MOST_TYPES + 1);
+    follow(most, listing, table, start, name, from);
+    match listing.count {
+        0 if listing.is_spelled => Some(Rule::S3),
+        0 => Some(Rule::S1),
+        1 if is_named && listing.is_method => Some(Rule::S7),
+        1 => None,
+        _ => Some(Rule::S2),
+    }
 }
 
-/// Whether a listing of all paths finds another answer than this. A table of more than seven types is passed over.
-///
-/// # Errors
-///
-/// `AllocError` where memory is wanting.
-pub fn differs(
+/// Adds a line where a listing of all paths finds another answer than this. A table of more than seven types is passed over.
+pub fn add_other_answer(
+    out: &mut Lines,
     alloc: Global,
     table: &TypeTable,
     term: &TypeTerm,
     name: &str,
     from: &ImportPath,
     answer: &Result<Selected<'_>, Rule>,
-) -> Result<bool, AllocError> {
+) {
     if table.len() > MOST_TYPES {
-        return Ok(false);
+        return;
     }
-    let listed = list_paths(alloc, table, term, name, from)?;
-    Ok(match (&listed, answer) {
-        (Ok(path), Ok(selected)) => path.as_slice() != selected.path.steps(),
-        (Err(rule), Err(given)) => rule != given,
+    let mut listing = Listing {
+        path: Vec::new(alloc),
+        best: Vec::new(alloc),
+        count: 0,
+        is_method: false,
+        is_spelled: false,
+        is_cut: false,
+    };
+    let broken = list_paths(&mut listing, table, term, name, from);
+    let differs = match (broken, answer) {
+        (None, Ok(selected)) => listing.best.as_slice() != selected.path.steps(),
+        (Some(rule), Err(given)) => rule != *given,
         _ => true,
-    })
+    };
+    if listing.is_cut {
+        out.cut();
+    } else if differs {
+        out.line("  a listing of all paths finds another answer");
+    }
 }

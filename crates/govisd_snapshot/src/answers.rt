@@ -1,11 +1,10 @@
 //! How faults and what occurrences have are written.
-use crate::shot::Shot;
 use go_path_core::ImportPath;
-use go_snap_core::Snapshot;
 use go_snap_core::answer_core::{Answer, Site};
 use go_snap_core::denote_core::Outcome;
 use go_snap_core::handle_core::DeclSite;
 use go_snap_core::tree_core::{OccId, Role};
+use go_snap_core::{PlacedFault, Snapshot};
 use go_term_core::MemberPlace;
 use govisd_show::{Lines, Named, identifier_at};
 
@@ -23,8 +22,8 @@ pub fn add_place(out: &mut Lines, named: &[Named], path: &ImportPath, place: Mem
 
 /// Adds a declaration.
 pub fn add_site(out: &mut Lines, named: &[Named], site: &Site) {
-    let decl = site.decl();
-    match decl.site() {
+    let place = site.decl().site();
+    match place {
         DeclSite::Universe(name) => out.pieces(&["universe.", name.spelling()]),
         DeclSite::ErrorMethod => out.add("universe.error.Error"),
         DeclSite::Package(path) => out.pieces(&["package ", path.as_str()]),
@@ -57,22 +56,18 @@ fn role_word(role: Role) -> &'static str {
     }
 }
 
-/// The string that a text begins with, up to the next quote of this kind.
-fn first_string(text: &str, quote: char) -> &str {
-    match text.get(1..).unwrap_or("").split_once(quote) {
-        Some((inside, _)) => text.get(..inside.len().saturating_add(2)).unwrap_or(text),
-        None => text,
-    }
-}
-
-/// What stands at an offset of a text: a string, a parenthesis, or an identifier.
+/// What stands at an offset of a text: a string up to the next quote of its kind, a parenthesis, or an identifier.
 pub fn spelling_at(text: &str, offset: usize) -> &str {
     let rest = text.get(offset..).unwrap_or("");
-    match rest.as_bytes() {
-        [b'"', ..] => first_string(rest, '"'),
-        [b'`', ..] => first_string(rest, '`'),
-        [b'(', ..] => "(",
-        _ => identifier_at(rest, 0),
+    let quote = match rest.as_bytes() {
+        [b'"', ..] => '"',
+        [b'`', ..] => '`',
+        [b'(', ..] => return "(",
+        _ => return identifier_at(rest, 0),
+    };
+    match rest.get(1..).unwrap_or("").split_once(quote) {
+        Some((inside, _)) => rest.get(..inside.len().saturating_add(2)).unwrap_or(rest),
+        None => rest,
     }
 }
 
@@ -99,7 +94,7 @@ pub fn add_answer(out: &mut Lines, named: &[Named], text: &str, answer: &Answer)
 }
 
 /// The text of the file of a name in the package of a path, and nothing where there is none.
-pub fn text_of<'a>(snapshot: &'a Snapshot, path: &ImportPath, name: &str) -> &'a str {
+fn text_of<'a>(snapshot: &'a Snapshot, path: &ImportPath, name: &str) -> &'a str {
     for source in snapshot.sources().packages() {
         if source.path().as_str() == path.as_str() {
             for file in source.files() {
@@ -112,29 +107,34 @@ pub fn text_of<'a>(snapshot: &'a Snapshot, path: &ImportPath, name: &str) -> &'a
     ""
 }
 
-/// Adds what the occurrences of a file of the package of a path have, by their numbers, up to the first number that none has. The text is that of
-/// the file.
+/// Adds what the occurrences of the file of a name in the package of a path have, by their numbers, up to the first number that none has.
 pub fn add_outcomes(
     out: &mut Lines,
     snapshot: &Snapshot,
     named: &[Named],
     path: &ImportPath,
-    file: &str,
-    text: &str,
+    name: &str,
 ) {
+    let text = text_of(snapshot, path, name);
     for number in 0..usize::MAX {
         out.count("", number, " ");
-        match snapshot.outcome(path, file, OccId(number)) {
+        match snapshot.outcome(path, name, OccId(number)) {
             Some(answer) => add_answer(out, named, text, answer),
             None => return out.line("none"),
         }
     }
 }
 
-/// Adds the faults of a snapshot, or those of the package of a path alone, each behind a piece.
-pub fn add_faults(out: &mut Lines, shot: &Shot, before: &str, path: Option<&str>) {
-    for fault in shot.snapshot.faults() {
-        if let Some(package) = shot.named.get(fault.package) {
+/// Adds faults of a snapshot, or those of the package of a path alone, each behind a piece.
+pub fn add_faults(
+    out: &mut Lines,
+    named: &[Named],
+    faults: &[PlacedFault],
+    before: &str,
+    path: Option<&str>,
+) {
+    for fault in faults {
+        if let Some(package) = named.get(fault.package) {
             if path.is_none() || path == Some(package.path.as_str()) {
                 out.add(before);
                 package.add_place(out, fault.file, fault.offset);

@@ -1,7 +1,6 @@
 //! What stands in the files of packages.
 use crate::answers::{add_answer, add_place, spelling_at};
 use crate::shot::Shot;
-use go_snap_core::Snapshot;
 use go_snap_core::answer_core::HeldLocal;
 use go_snap_core::constant_core::Constant;
 use go_snap_core::denote_core::Outcome;
@@ -44,33 +43,38 @@ fn add_constants(
 
 /// Adds a type: a defined type by the place of its declaration, and of a type that is written out its kind.
 fn add_type(out: &mut Lines, named: &[Named], term: &TypeTerm) {
-    match term {
-        TypeTerm::NoType => out.add("none"),
-        TypeTerm::Basic(Basic::Bool) => out.add("bool"),
-        TypeTerm::Basic(Basic::Int) => out.add("int"),
-        TypeTerm::Basic(Basic::Text) => out.add("string"),
-        TypeTerm::Error => out.add("error"),
+    let word = match term {
+        TypeTerm::NoType => "none",
+        TypeTerm::Basic(Basic::Bool) => "bool",
+        TypeTerm::Basic(Basic::Int) => "int",
+        TypeTerm::Basic(Basic::Text) => "string",
+        TypeTerm::Error => "error",
         TypeTerm::Defined(key) => {
-            add_place(out, named, &key.path, MemberPlace::Declared(key.decl));
+            return add_place(out, named, &key.path, MemberPlace::Declared(key.decl));
         }
         TypeTerm::Pointer(target) => {
             out.add("*");
-            add_type(out, named, target);
+            return add_type(out, named, target);
         }
-        TypeTerm::Struct(_, _, _) => out.add("struct"),
-        TypeTerm::Interface(_, _) => out.add("interface"),
-    }
+        TypeTerm::Struct(_, _, _) => "struct",
+        TypeTerm::Interface(_, _) => "interface",
+    };
+    out.add(word);
 }
 
 /// Adds what a local stands for, and ends the line.
 fn add_operand(out: &mut Lines, named: &[Named], operand: &Operand<TypeTerm>) {
-    match &operand.value_type {
-        ValueType::Typed(term) => add_type(out, named, term),
-        ValueType::UntypedInt => out.add("untyped int"),
-        ValueType::UntypedText => out.add("untyped string"),
-        ValueType::UntypedBool => out.add("untyped bool"),
-        ValueType::Nil => out.add("untyped nil"),
-    }
+    let word = match &operand.value_type {
+        ValueType::Typed(term) => {
+            add_type(out, named, term);
+            ""
+        }
+        ValueType::UntypedInt => "untyped int",
+        ValueType::UntypedText => "untyped string",
+        ValueType::UntypedBool => "untyped bool",
+        ValueType::Nil => "untyped nil",
+    };
+    out.add(word);
     match &operand.constant {
         Some(constant) => {
             out.add(" = ");
@@ -129,15 +133,13 @@ fn add_part(out: &mut Lines, kind: &str, named: &[Named], package: &Named, part:
 
 /// Adds the packages of a workspace, in order of path, and what stands in their files; of a package that does not assemble the faults of those files
 /// that have no tree.
-pub fn add_packages(out: &mut Lines, kind: &str, shot: &Shot) {
-    let (sources, parts) = (shot.snapshot.sources().packages(), shot.snapshot.parts());
-    for number in 0..sources.len() {
-        let Some(source) = sources.get(number) else {
-            return;
-        };
+pub fn add_packages(out: &mut Lines, kind: &str, shot: &Shot<'_>) {
+    let parts = shot.snapshot.parts();
+    let mut number = 0usize;
+    for source in shot.snapshot.sources().packages() {
         add_package(out, source);
         if let (Some(Some(part)), Some(package)) = (parts.get(number), shot.named.get(number)) {
-            add_part(out, kind, &shot.named, package, part);
+            add_part(out, kind, shot.named, package, part);
         } else {
             for file in source.files() {
                 if let Err(fault) = file.tree() {
@@ -146,29 +148,23 @@ pub fn add_packages(out: &mut Lines, kind: &str, shot: &Shot) {
                 }
             }
         }
+        number = number.saturating_add(1);
     }
-}
-
-/// How many occurrences of a file break a rule.
-fn count_refused(file: &FileAnswers) -> usize {
-    let mut refused = 0usize;
-    for answer in &file.answers {
-        if matches!(answer.outcome, Outcome::Refused(_)) {
-            refused = refused.saturating_add(1);
-        }
-    }
-    refused
 }
 
 /// Adds how many packages were checked, and what they have.
-pub fn add_sums(out: &mut Lines, snapshot: &Snapshot) {
+pub fn add_sums(out: &mut Lines, parts: &[Option<Part>]) {
     let (mut packages, mut occurrences, mut refused, mut faults) = (0usize, 0usize, 0usize, 0usize);
-    for part in snapshot.parts() {
+    for part in parts {
         if let Some(part) = part {
             packages = packages.saturating_add(1);
             for file in &part.content().files {
                 occurrences = occurrences.saturating_add(file.answers.answers.len());
-                refused = refused.saturating_add(count_refused(&file.answers));
+                for answer in &file.answers.answers {
+                    if matches!(answer.outcome, Outcome::Refused(_)) {
+                        refused = refused.saturating_add(1);
+                    }
+                }
                 faults = faults.saturating_add(file.answers.faults.len());
             }
         }

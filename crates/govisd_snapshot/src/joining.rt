@@ -90,57 +90,35 @@ fn joined(alloc: Global, snapshot: &Snapshot) -> Result<Snapshot, AllocError> {
     }
 }
 
-/// All that a snapshot has: its sources, its faults, and what each occurrence has. The names are those of its packages.
-fn written(alloc: Global, snapshot: &Snapshot, named: &[Named]) -> Result<String, AllocError> {
-    let mut out = Lines::new(alloc);
-    add_files(&mut out, snapshot.sources());
-    for fault in snapshot.faults() {
-        if let Some(package) = named.get(fault.package) {
-            package.add_place(&mut out, fault.file, fault.offset);
-            out.refuse(fault.rule);
-        }
-    }
+/// Adds all that a snapshot has: its sources, its faults, and what each occurrence has. The names are those of its packages.
+fn add_all(out: &mut Lines, named: &[Named], snapshot: &Snapshot) {
+    add_files(out, snapshot.sources());
+    add_faults(out, named, snapshot.faults(), "", None);
     for source in snapshot.sources().packages() {
         for file in source.files() {
-            add_outcomes(
-                &mut out,
-                snapshot,
-                named,
-                source.path(),
-                file.name(),
-                file.text(),
-            );
+            add_outcomes(out, snapshot, named, source.path(), file.name());
         }
     }
-    out.finish()
 }
 
-/// Whether two snapshots have the same sources, faults and outcomes. The names are those of the packages of the first.
-pub fn has_same(
-    alloc: Global,
-    one: &Snapshot,
-    other: &Snapshot,
-    named: &[Named],
-) -> Result<bool, AllocError> {
-    let text = written(alloc, other, named)?;
-    Ok(text.as_str() == written(alloc, one, named)?.as_str())
-}
-
-/// Whether a join of its parts has all that a snapshot has.
-fn is_joined_same(alloc: Global, shot: &Shot) -> Result<bool, AllocError> {
-    let other = joined(alloc, &shot.snapshot)?;
-    let is_same = has_same(alloc, &shot.snapshot, &other, &shot.named);
-    other.close();
-    is_same
+/// Adds a word, and whether another snapshot has the same sources, faults and outcomes.
+pub fn add_same(out: &mut Lines, alloc: Global, word: &str, shot: &Shot<'_>, other: &Snapshot) {
+    let mut first = Lines::new(alloc);
+    add_all(&mut first, shot.named, shot.snapshot);
+    let mut second = Lines::new(alloc);
+    add_all(&mut second, shot.named, other);
+    out.compare(word, first, second);
 }
 
 /// Adds what a workspace has, its faults, and whether a join of its parts has the same.
-pub fn add_snapshot(out: &mut Lines, alloc: Global, shot: &Shot) {
+pub fn add_snapshot(out: &mut Lines, alloc: Global, shot: &Shot<'_>) {
     add_counts(out, shot.snapshot.sources());
-    add_faults(out, shot, "fault ", None);
-    match is_joined_same(alloc, shot) {
-        Ok(true) => out.line("joined same"),
-        Ok(false) => out.line("joined another"),
+    add_faults(out, shot.named, shot.snapshot.faults(), "fault ", None);
+    match joined(alloc, shot.snapshot) {
+        Ok(other) => {
+            add_same(out, alloc, "joined", shot, &other);
+            other.close();
+        }
         Err(AllocError) => out.cut(),
     }
 }

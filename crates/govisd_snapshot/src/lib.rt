@@ -66,36 +66,49 @@ mod shot;
 mod type_questions;
 mod types;
 
-use govisd_show::Lines;
-use shot::{Shot, shot_of};
-use std::alloc::Global;
-use types::types_of;
+use go_snap_core::part_core::close_types;
+use go_snap_core::table_core::TypeTable;
+use govisd_show::{Lines, close_names, name_packages};
+use shot::{Shot, snapshot_of};
+use std::alloc::{AllocError, Global};
+use types::{Typed, add_types};
 
 /// Adds what is asked of the types of a workspace. The text is that of its archive.
-fn add_types(out: &mut Lines, alloc: Global, kind: &str, text: &str, shot: &Shot) {
-    let Ok(typed) = types_of(alloc, shot) else {
-        return out.cut();
+fn add_of_types(out: &mut Lines, alloc: Global, kind: &str, text: &str, shot: &Shot<'_>) {
+    let mut table = TypeTable::new(alloc);
+    let mut packages = Vec::new(alloc);
+    for part in shot.snapshot.parts() {
+        if let Some(part) = part {
+            if add_types(&mut table, &mut packages, part.summary().types()).is_err() {
+                out.cut();
+            }
+        }
+    }
+    let typed = Typed {
+        named: shot.named,
+        faults: shot.snapshot.faults(),
+        table: &table,
+        packages: packages.as_slice(),
     };
     match kind {
         "ask" => type_questions::add_questions(out, alloc, &typed, text),
-        "select" => all_types::add_selectors(out, alloc, &typed),
-        "selectable" => all_types::add_of_types(out, alloc, &typed, None),
-        "first" => all_types::add_count(out, alloc, &typed, 1),
-        _ => all_types::add_count(out, alloc, &typed, 10),
+        _ => all_types::add_answer(out, alloc, kind, &typed),
     }
+    drop(typed);
+    close_types(table);
 }
 
 /// Adds what is answered of a snapshot. The texts are those of its archive and of the one before it.
-fn add_answer(out: &mut Lines, alloc: Global, kind: &str, text: &str, last: &str, shot: &Shot) {
+fn add_answer(out: &mut Lines, alloc: Global, kind: &str, text: &str, last: &str, shot: &Shot<'_>) {
     match kind {
         "whole" => {
             joining::add_snapshot(out, alloc, shot);
             questions::add_questions(out, alloc, text, last, shot);
         }
         "answers" | "refusals" | "locals" => files::add_packages(out, kind, shot),
-        "counts" => files::add_sums(out, &shot.snapshot),
-        "faults" => answers::add_faults(out, shot, "", None),
-        _ => add_types(out, alloc, kind, text, shot),
+        "counts" => files::add_sums(out, shot.snapshot.parts()),
+        "faults" => answers::add_faults(out, shot.named, shot.snapshot.faults(), "", None),
+        _ => add_of_types(out, alloc, kind, text, shot),
     }
 }
 
@@ -116,10 +129,21 @@ pub fn add_of_file(
         "ask" | "select" | "selectable" | "faults" | "first" | "first10" => {}
         _ => return false,
     }
-    match shot_of(alloc, text) {
-        Ok(shot) => {
-            add_answer(out, alloc, kind, text, last, &shot);
-            shot.close();
+    match snapshot_of(alloc, text) {
+        Ok(snapshot) => {
+            match name_packages(alloc, snapshot.sources()) {
+                Ok(packages) => {
+                    let shot = Shot {
+                        snapshot: &snapshot,
+                        named: packages.as_slice(),
+                    };
+                    add_answer(out, alloc, kind, text, last, &shot);
+                    drop(shot);
+                    close_names(packages);
+                }
+                Err(AllocError) => out.cut(),
+            }
+            snapshot.close();
         }
         Err(rule) => out.refuse(rule),
     }

@@ -1,45 +1,64 @@
 //! What is asked of a snapshot, in lines before the first file of an archive.
 use crate::again::add_again;
-use crate::answers::{add_outcomes, text_of};
+use crate::answers::add_outcomes;
 use crate::comparing::add_comparison;
-use crate::listings::{add_listing, add_objects, add_refs};
-use crate::shot::Shot;
+use crate::listings::{add_emitted, add_objects};
+use crate::shot::{Shot, snapshot_of};
 use go_path_core::ImportPath;
 use govisd_show::{Lines, member_place};
 use std::alloc::Global;
 
-/// Adds a line, and the answer behind it where it asks something.
-fn add_line(out: &mut Lines, alloc: Global, last: &str, shot: &Shot, line: &str) {
-    out.line(line);
-    if line == "objects" {
-        return add_objects(out, alloc, shot);
+/// Adds what the package of a path has of the snapshot of the archive before, or without a path what comes of a snapshot that is made over that one,
+/// where there is one.
+fn add_over(
+    out: &mut Lines,
+    alloc: Global,
+    last: &str,
+    shot: &Shot<'_>,
+    path: Option<&ImportPath>,
+) {
+    if last.is_empty() {
+        return;
     }
-    if line == "again" {
-        return add_again(out, alloc, last, shot);
+    match snapshot_of(alloc, last) {
+        Ok(earlier) => {
+            match path {
+                Some(path) => add_comparison(out, shot.snapshot, &earlier, path),
+                None => add_again(out, alloc, shot, &earlier),
+            }
+            earlier.close();
+        }
+        Err(rule) => out.refuse(rule),
     }
+}
+
+/// Adds the answer to a line that asks something of a package, and nothing behind any other line.
+fn add_of_package(out: &mut Lines, alloc: Global, last: &str, shot: &Shot<'_>, line: &str) {
     let (kind, rest) = line.split_once(' ').unwrap_or((line, ""));
     let (path, file) = rest.split_once(' ').unwrap_or((rest, ""));
     let Ok(path) = ImportPath::read(alloc, path) else {
         return;
     };
     match kind {
-        "outcomes" => {
-            let text = text_of(&shot.snapshot, &path, file);
-            add_outcomes(out, &shot.snapshot, &shot.named, &path, file, text);
-        }
-        "listing" => add_listing(out, alloc, shot, &path),
-        "refs" => add_refs(out, alloc, shot, &path),
-        "compare" => add_comparison(out, alloc, last, shot, &path),
+        "outcomes" => add_outcomes(out, shot.snapshot, shot.named, &path, file),
+        "listing" => add_emitted(out, alloc, shot, &path, true),
+        "refs" => add_emitted(out, alloc, shot, &path, false),
+        "compare" => add_over(out, alloc, last, shot, Some(&path)),
         _ => {}
     }
 }
 
 /// Adds the lines before the first file of an archive, each with the answer behind it where it asks something.
-pub fn add_questions(out: &mut Lines, alloc: Global, text: &str, last: &str, shot: &Shot) {
+pub fn add_questions(out: &mut Lines, alloc: Global, text: &str, last: &str, shot: &Shot<'_>) {
     for line in text.lines() {
         if member_place(line).is_some() {
             return;
         }
-        add_line(out, alloc, last, shot, line);
+        out.line(line);
+        match line {
+            "objects" => add_objects(out, alloc, shot),
+            "again" => add_over(out, alloc, last, shot, None),
+            line => add_of_package(out, alloc, last, shot, line),
+        }
     }
 }

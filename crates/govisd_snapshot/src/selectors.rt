@@ -1,5 +1,5 @@
 //! Selectors, as lines.
-use crate::all_paths::differs;
+use crate::all_paths::add_other_answer;
 use crate::answers::{add_place, add_steps};
 use crate::types::Typed;
 use go_path_core::ImportPath;
@@ -21,21 +21,14 @@ pub fn starred(alloc: Global, defined: &DefinedType, stars: usize) -> Result<Typ
 
 /// Adds a member: what it is, and where it is declared.
 pub fn add_member(out: &mut Lines, named: &[Named], member: Member<'_>) {
-    match member {
-        Member::Field(path, field) => {
-            out.add("field ");
-            add_place(out, named, path, field.field.place);
-        }
-        Member::Method(path, method) => {
-            out.add("method ");
-            add_place(out, named, path, method.place);
-        }
-        Member::InterfaceMethod(path, method) => {
-            out.add("method ");
-            add_place(out, named, path, method.place);
-        }
-        Member::ErrorMethod => out.add("method universe.error.Error"),
-    }
+    let (word, path, place) = match member {
+        Member::Field(path, field) => ("field ", path, field.field.place),
+        Member::Method(path, method) => ("method ", path, method.place),
+        Member::InterfaceMethod(path, method) => ("method ", path, method.place),
+        Member::ErrorMethod => return out.add("method universe.error.Error"),
+    };
+    out.add(word);
+    add_place(out, named, path, place);
 }
 
 /// Adds what a selector of a name denotes behind an operand of a type, where it is written in the package of a path: the member, the path to it, and
@@ -48,10 +41,10 @@ pub fn add_selector(
     name: &str,
     from: &ImportPath,
 ) {
-    let answer = select(alloc, &typed.table, term, name, from);
+    let answer = select(alloc, typed.table, term, name, from);
     match &answer {
         Ok(selected) => {
-            add_member(out, &typed.shot.named, selected.member);
+            add_member(out, typed.named, selected.member);
             out.add(" ");
             add_steps(out, selected.path.steps());
             out.line(if selected.through_pointer {
@@ -62,11 +55,7 @@ pub fn add_selector(
         }
         Err(rule) => out.refuse(*rule),
     }
-    match differs(alloc, &typed.table, term, name, from, &answer) {
-        Ok(true) => out.line("  a listing of all paths finds another answer"),
-        Ok(false) => {}
-        Err(_) => out.cut(),
-    }
+    add_other_answer(out, alloc, typed.table, term, name, from, &answer);
 }
 
 /// Adds the names that a selector may have behind an operand of a type, where it is written in the package of a path: in order of bytes, each
@@ -78,7 +67,7 @@ pub fn add_selectable<'x>(
     term: &'x TypeTerm,
     from: &ImportPath,
 ) {
-    match selectable(alloc, &typed.table, term, from) {
+    match selectable(alloc, typed.table, term, from) {
         Ok(names) => {
             for (name, selected) in &names {
                 out.add(" ");

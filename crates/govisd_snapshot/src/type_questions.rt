@@ -2,11 +2,10 @@
 use crate::answers::add_faults;
 use crate::method_sets::{add_implements, add_method_set};
 use crate::selectors::{add_selectable, add_selector, starred};
-use crate::types::{Typed, find_package, find_type};
-use go_path_core::ImportPath;
+use crate::types::{Typed, find_package};
 use go_term_core::{TypeTerm, close};
 use govisd_show::{Lines, member_place};
-use std::alloc::Global;
+use std::alloc::{AllocError, Global};
 
 /// The type that an operand writes, as `*ex.com/p.T`: a defined type behind stars. Where there is none, it adds why.
 fn type_of(out: &mut Lines, alloc: Global, typed: &Typed<'_>, operand: &str) -> Option<TypeTerm> {
@@ -17,78 +16,51 @@ fn type_of(out: &mut Lines, alloc: Global, typed: &Typed<'_>, operand: &str) -> 
         out.line(" no package");
         return None;
     };
-    let Some(defined) = find_type(package, type_name) else {
-        out.line(" no type");
-        return None;
-    };
-    match starred(alloc, defined, stars) {
-        Ok(term) => Some(term),
-        Err(_) => {
-            out.cut();
-            None
+    for defined in package.types() {
+        if defined.name().as_str() == type_name {
+            return match starred(alloc, defined, stars) {
+                Ok(term) => Some(term),
+                Err(AllocError) => {
+                    out.cut();
+                    None
+                }
+            };
         }
     }
+    out.line(" no type");
+    None
 }
 
-/// Adds the answer to what is asked of an operand in a package: what a selector of a name denotes, or without a name which names there are.
-fn add_of_operand(
-    out: &mut Lines,
-    alloc: Global,
-    typed: &Typed<'_>,
-    from: &ImportPath,
-    operand: &str,
-    name: Option<&str>,
-) {
+/// Adds what is asked of an operand, with what stands behind it: its method set, whether it has a type that implements another's, or in a package what a
+/// selector of a name denotes, and without a name which names there are.
+fn add_of_operand(out: &mut Lines, alloc: Global, typed: &Typed<'_>, asked: &str, operands: &str) {
+    let (operand, behind) = operands.split_once(' ').unwrap_or((operands, ""));
     let Some(term) = type_of(out, alloc, typed, operand) else {
         return;
     };
-    match name {
-        Some(name) => {
-            out.add(" ");
-            add_selector(out, alloc, typed, &term, name, from);
+    match asked {
+        "methods" => {
+            out.line("");
+            add_method_set(out, alloc, typed, &term);
         }
-        None => add_selectable(out, alloc, typed, &term, from),
+        "implements" => {
+            if let Some(interface) = type_of(out, alloc, typed, behind) {
+                add_implements(out, alloc, typed, &term, &interface);
+                close(interface);
+            }
+        }
+        path => {
+            if let Some(package) = find_package(typed, path) {
+                if behind.is_empty() {
+                    add_selectable(out, alloc, typed, &term, package.path());
+                } else {
+                    out.add(" ");
+                    add_selector(out, alloc, typed, &term, behind, package.path());
+                }
+            }
+        }
     }
     close(term);
-}
-
-/// Adds the methods of an operand's type.
-fn add_methods(out: &mut Lines, alloc: Global, typed: &Typed<'_>, operand: &str) {
-    let Some(term) = type_of(out, alloc, typed, operand) else {
-        return;
-    };
-    out.line("");
-    add_method_set(out, alloc, typed, &term);
-    close(term);
-}
-
-/// Adds whether the first of two operands has a type that implements the second one's.
-fn add_of_two(out: &mut Lines, alloc: Global, typed: &Typed<'_>, operands: &str) {
-    let (operand, interface) = operands.split_once(' ').unwrap_or((operands, ""));
-    let Some(term) = type_of(out, alloc, typed, operand) else {
-        return;
-    };
-    if let Some(asked) = type_of(out, alloc, typed, interface) {
-        add_implements(out, alloc, typed, &term, &asked);
-        close(asked);
-    }
-    close(term);
-}
-
-/// Adds the answer to what is asked in the package of a path: its faults, or what is behind an operand.
-fn add_in_package(out: &mut Lines, alloc: Global, typed: &Typed<'_>, path: &str, rest: &str) {
-    let Some(package) = find_package(typed, path) else {
-        return out.line(" no package");
-    };
-    if rest.is_empty() {
-        out.line("");
-        return add_faults(out, typed.shot, "", Some(path));
-    }
-    let (operand, name) = match rest.split_once(' ') {
-        Some((operand, name)) => (operand, Some(name)),
-        None => (rest, None),
-    };
-    add_of_operand(out, alloc, typed, package.path(), operand, name);
 }
 
 /// Adds a question, and behind a colon the answer: `PATH` asks for the faults of an assembled package, `PATH OPERAND` for the names that a selector may
@@ -96,11 +68,15 @@ fn add_in_package(out: &mut Lines, alloc: Global, typed: &Typed<'_>, path: &str,
 /// whether a type implements another.
 fn add_question(out: &mut Lines, alloc: Global, typed: &Typed<'_>, question: &str) {
     out.pieces(&[question, ":"]);
-    let (first, rest) = question.split_once(' ').unwrap_or((question, ""));
-    match first {
-        "methods" => add_methods(out, alloc, typed, rest),
-        "implements" => add_of_two(out, alloc, typed, rest),
-        path => add_in_package(out, alloc, typed, path, rest),
+    let (asked, rest) = question.split_once(' ').unwrap_or((question, ""));
+    let is_of_types = asked == "methods" || asked == "implements";
+    if !is_of_types && find_package(typed, asked).is_none() {
+        out.line(" no package");
+    } else if !is_of_types && rest.is_empty() {
+        out.line("");
+        add_faults(out, typed.named, typed.faults, "", Some(asked));
+    } else {
+        add_of_operand(out, alloc, typed, asked, rest);
     }
 }
 

@@ -1,22 +1,24 @@
 //! The types of the packages of a snapshot.
-use crate::shot::Shot;
-use go_snap_core::table_core::{DefinedType, PackageTypes, TypeTable};
+use go_snap_core::PlacedFault;
+use go_snap_core::table_core::{PackageTypes, TypeTable};
 use go_text_core::add;
-use std::alloc::{AllocError, Global};
+use govisd_show::Named;
+use std::alloc::AllocError;
 
-/// The types of a workspace.
+/// The types of a workspace, with the names of its packages and its faults.
 #[derive(Drop)]
 pub struct Typed<'a> {
-    pub shot: &'a Shot,
+    pub named: &'a [Named],
+    pub faults: &'a [PlacedFault],
     /// The types of all packages.
-    pub table: TypeTable,
+    pub table: &'a TypeTable,
     /// The types of each assembled package, in order of path.
-    pub packages: Vec<&'a PackageTypes>,
+    pub packages: &'a [&'a PackageTypes],
 }
 
 /// The types of the assembled package of a path.
 pub fn find_package<'a>(typed: &Typed<'a>, path: &str) -> Option<&'a PackageTypes> {
-    for package in &typed.packages {
+    for package in typed.packages {
         if package.path().as_str() == path {
             return Some(package);
         }
@@ -24,18 +26,12 @@ pub fn find_package<'a>(typed: &Typed<'a>, path: &str) -> Option<&'a PackageType
     None
 }
 
-/// The type of a name among the types of a package.
-pub fn find_type<'a>(package: &'a PackageTypes, name: &str) -> Option<&'a DefinedType> {
-    for defined in package.types() {
-        if defined.name().as_str() == name {
-            return Some(defined);
-        }
-    }
-    None
-}
-
 /// Adds the types of a package.
-fn add_types<'a>(
+///
+/// # Errors
+///
+/// `AllocError` where memory is wanting.
+pub fn add_types<'a>(
     table: &mut TypeTable,
     packages: &mut Vec<&'a PackageTypes>,
     types: &'a PackageTypes,
@@ -44,24 +40,4 @@ fn add_types<'a>(
         table.add(types.share()?)?;
     }
     add(packages, types)
-}
-
-/// The types of the packages of a snapshot.
-///
-/// # Errors
-///
-/// `AllocError` where memory is wanting.
-pub fn types_of<'a>(alloc: Global, shot: &'a Shot) -> Result<Typed<'a>, AllocError> {
-    let mut table = TypeTable::new(alloc);
-    let mut packages = Vec::new(alloc);
-    for part in shot.snapshot.parts() {
-        if let Some(part) = part {
-            add_types(&mut table, &mut packages, part.summary().types())?;
-        }
-    }
-    Ok(Typed {
-        shot,
-        table,
-        packages,
-    })
 }

@@ -1,10 +1,9 @@
 -- Types that are the same, form by form.
-use Rattle.std.specs.Prelude.{◌≡◌, false, [], Option, Some, ⊤}
+use Rattle.std.specs.Prelude.{◌≡◌, false, [], ⊤}
 use Rattle.go_term_core.specs.declared.term.Field.{Field}
 use Rattle.go_term_core.specs.declared.term.Method.{Method}
 use Rattle.go_term_core.specs.Terms.{Term, NoType, Predeclared, ErrorType, Defined, PointerTo, StructOf, InterfaceOf, Fields, NoField, AField, Methods, NoMethod, AMethod, Sign, SignOf, Terms, NoTerm, ATerm}
 use Rattle.go_term_core.specs.Shapes.{Line, sign_of}
-use Rattle.go_alike_core.specs.declared.terms.Pair.{Pair}
 
 abbrev mutual
   pub SameTerm : Term → Term → Type 0
@@ -35,10 +34,6 @@ abbrev mutual
   SameTerms NoTerm NoTerm = ⊤
   SameTerms (ATerm t ts) (ATerm u us) = SameTerm t u × SameTerms ts us
   SameTerms _ _ = ⊥
-
--- these two met last
-abbrev pub IsMet : Option Pair → Pair → Type 0
-IsMet met pair = met ≡ Some pair
 
 -- lines whose fields are of the same type, embedded alike, with the same tag
 abbrev pub IsSameLine : Line → Line → Type 0

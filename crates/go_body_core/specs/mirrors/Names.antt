@@ -6,7 +6,8 @@ use Rattle.go_env_core.specs.handle_core.Declarations.{Declaration}
 use Rattle.go_piece_core.specs.local_core.Binding.{NameLook}
 use Rattle.go_piece_core.specs.local_core.Alike.{LookAtNames}
 use Rattle.go_piece_core.specs.expr_core.Locality.{SameType}
-use Rattle.go_piece_core.specs.Laws.{FindByNames, piece_types}
+use Rattle.go_piece_core.specs.Laws.{FindByNames}
+use Rattle.go_piece_core.specs.local_core.Pieces.{piece_types}
 use Rattle.go_piece_core.proofs.Shown.{pieces_look}
 use Rattle.go_piece_core.proofs.Local.{all_made}
 use Rattle.go_env_core.specs.face_core.Faces.{TheFace}

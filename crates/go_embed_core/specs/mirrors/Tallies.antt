@@ -2,13 +2,12 @@
 use Rattle.std.specs.Prelude.{ℕ, Bool, List, [], ◌∷◌, if◌then◌else◌}
 use Rattle.go_term_core.specs.declared.term.Field.{Field}
 use Rattle.go_term_core.specs.declared.term.Method.{Method}
-use Rattle.go_term_core.specs.Terms.{NoType}
 use Rattle.go_term_core.specs.Shapes.{Line, line_at, sign_of}
 use Rattle.go_type_core.specs.table_core.declared.entry.DeclaredMethod.{DeclaredMethod}
 use Rattle.go_type_core.specs.table_core.Entries.{same_id}
 use Rattle.go_embed_core.specs.declared.member.Hits.{Hits}
 use Rattle.go_embed_core.specs.declared.member.Hits.TheVariants as hits
-use Rattle.go_embed_core.specs.Owners.{OwnerModel, Found, AFieldOf, AMethodOf, AnInterfaces, Named}
+use Rattle.go_embed_core.specs.Owners.{Found, AFieldOf, AMethodOf, AnInterfaces, Named}
 use Rattle.go_embed_core.specs.OwnersShown.{found_shown}
 
 -- none, one, or more
@@ -48,7 +47,3 @@ field_tally ls path name from f = hit_if (same_id f.name path name from) (AField
 
 abbrev pub interface_tally : List ℕ → List ℕ → List ℕ → Method → Tally
 interface_tally path name from m = hit_if (same_id m.name path name from) (AnInterfaces path m.place (sign_of m.signature))
-
--- an owner without methods
-abbrev pub nobody : OwnerModel
-nobody = record { path = []; methods = []; underlying = NoType }

@@ -2,20 +2,16 @@
 use Rattle.std.specs.Prelude.{ℕ, Bool, true, false, List, [], ◌∷◌, Option, Some, None}
 use Rattle.std.specs.Borrow.{Bor}
 use Rattle.go_term_core.specs.declared.term.Field.{Field}
-use Rattle.go_term_core.specs.Terms.{NoType}
 use Rattle.go_term_core.specs.Shapes.{Line, fields_in, line_at, line_shapes}
 use Rattle.go_inline_core.specs.table_core.declared.entry.DefinedType.{DefinedType}
 use Rattle.go_inline_core.specs.table_core.Entries.{has_method}
-use Rattle.go_inline_core.specs.embed_core.Owners.{OwnerModel}
+use Rattle.go_inline_core.specs.embed_core.Owners.{OwnerModel, nobody}
 use Rattle.go_inline_core.specs.embed_core.OwnersShown.{entry_owner}
 use Rattle.go_env_core.specs.declared.fields.SeenFields.{SeenFields}
 use Rattle.go_env_core.specs.Scenes.{SceneModel}
 use Rattle.go_env_core.specs.Fields.{TheField, field_seen, fields_seen}
 
 -- the type that has fields, where one of its methods may keep one from it; none keeps any
-abbrev pub nobody : OwnerModel
-nobody = record { path = []; methods = []; underlying = NoType }
-
 abbrev pub hider_shown : Option (Bor DefinedType) → OwnerModel
 hider_shown None = nobody
 hider_shown (Some d) = entry_owner d.now

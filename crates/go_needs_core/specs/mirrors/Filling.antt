@@ -1,15 +1,6 @@
 -- How a table of values is filled.
-use Rattle.std.specs.Prelude.{◌≡◌, ◌<◌, ◌⊎◌, ℕ, suc, List, [], ◌∷◌, ◌++◌, map, Option, Some, None, Contains, All, length, slice_index, slice_set}
-use Rattle.go_cycle_core.specs.declared.edge.Edge.{Edge}
+use Rattle.std.specs.Prelude.{◌≡◌, ◌<◌, ◌⊎◌, ℕ, List, Option, Some, None, Contains, All, length, slice_index, slice_set}
 use Rattle.go_needs_core.specs.Needs.{needed, IsEndless, EndsWithin, known_in}
-
-abbrev pub edges_at : ℕ → List ℕ → List Edge
-edges_at a row = map (λ b. record { from = a; to = b }) row
-
--- an edge for each node from a number on, and each one that it needs
-abbrev pub edges_from : ℕ → List (List ℕ) → List Edge
-edges_from a [] = []
-edges_from a (row ∷ rows) = edges_at a row ++ edges_from (suc a) rows
 
 -- a needed node has no value, or lies on a cycle with the node that needs it
 abbrev pub IsMissing : {V : Type 0} → List ℕ → List (Option V) → ℕ → ℕ → Type 0

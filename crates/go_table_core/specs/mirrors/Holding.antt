@@ -2,11 +2,8 @@
 use Rattle.std.specs.Prelude.{◌≡◌, ◌<◌, ◌+◌, ℕ, ⊤, List, [], ◌∷◌, ◌++◌, map, length, Option, None, string_bytes}
 use Rattle.std.specs.Str.{bytes_eq}
 use Rattle.std.specs.Map.{lookup}
-use Rattle.std.specs.Ordering.{nat_cmp, ordering_then}
-use Rattle.std.specs.declared.cmp.Ordering.{Ordering}
 use Rattle.std.specs.declared.string.String.{String}
 use Rattle.indexmap.specs.IndexMap.{IndexMap}
-use Rattle.go_decl_core.specs.declared.keys.DeclRef.{DeclRef}
 use Rattle.go_term_core.specs.Terms.{Term, NoType}
 use Rattle.go_table_core.specs.declared.table.Numbered.{Numbered}
 use Rattle.go_table_core.specs.Entries.{Entry}
@@ -41,10 +38,6 @@ pub record IsTable (len : ℕ) (ps : List (List ℕ × Numbered)) (nothing : Ter
   pub kept : AreKept 0 ps
   pub none : nothing ≡ NoType
   pub counted : len ≡ length (all_entries ps)
-
--- declarations by file, then by number there
-abbrev pub decl_cmp : DeclRef → DeclRef → Ordering
-decl_cmp a b = ordering_then (nat_cmp a.file b.file) (nat_cmp a.number b.number)
 
 abbrev pub numbered : ℕ → PackageTypesModel → Numbered
 numbered first types = record { first = first; types = types }

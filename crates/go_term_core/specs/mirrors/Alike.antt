@@ -1,8 +1,7 @@
 -- A method of an interface type that is the same as a method of another.
-use Rattle.std.specs.Prelude.{◌≡◌, ℕ, Bool, false, List, [], Option, Some}
+use Rattle.std.specs.Prelude.{◌≡◌, ℕ, Bool, false, List, []}
 use Rattle.go_text_core.specs.Text.{SameId}
 use Rattle.go_term_core.specs.declared.term.MemberPlace.{MemberPlace}
-use Rattle.go_term_core.specs.declared.same.Pair.{Pair}
 use Rattle.go_term_core.specs.Terms.{NoType, Methods, Sign}
 use Rattle.go_term_core.specs.Shapes.{Line}
 use Rattle.go_term_core.specs.Identity.{IdenticalBy, TagsAgree, IsMethod, SameSignBy}
@@ -10,10 +9,6 @@ use Rattle.go_term_core.specs.Identity.{IdenticalBy, TagsAgree, IsMethod, SameSi
 -- one of these methods is the same identifier, with the same signature
 abbrev pub HasAlike : Bool → List ℕ → List ℕ → Sign → List ℕ → Methods → Type 0
 HasAlike tags p name g q ns = (name' : List ℕ) × (place' : MemberPlace) × (g' : Sign) × IsMethod ns name' place' g' × SameId name p name' q × SameSignBy tags g g'
-
--- these two met last
-abbrev pub IsMet : Option Pair → Pair → Type 0
-IsMet met pair = met ≡ Some pair
 
 -- lines whose fields are of identical types, embedded alike, with the same tag
 abbrev pub SameLine : Bool → Line → Line → Type 0

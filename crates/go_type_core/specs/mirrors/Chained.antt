@@ -5,7 +5,7 @@ use Rattle.go_chain_core.specs.Chains.{AreEnds}
 use Rattle.go_table_core.specs.settle_core.declared.kind.Kind.{Kind}
 use Rattle.go_table_core.specs.settle_core.declared.kind.Kind.TheVariants as kinds
 use Rattle.go_table_core.specs.settle_core.Settled.{kind_of_term, settled}
-use Rattle.go_term_core.specs.Terms.{Term, NoType, Predeclared, ErrorType, Defined, PointerTo, StructOf, InterfaceOf}
+use Rattle.go_term_core.specs.Terms.{Term, NoType, Predeclared, ErrorType, Defined, PointerTo, StructOf, InterfaceOf, is_no_type}
 use Rattle.go_table_core.specs.Entries.{Entry, EntryLook, term_in}
 use Rattle.go_type_core.specs.Built.{base, IsNoTypeHere}
 use Rattle.go_type_core.specs.mirrors.Numbers.{keys_of, number_of, term_at, IsTable}
@@ -31,15 +31,6 @@ next_named keys looped written i = next_unless (slice_index_or looped i false) (
 -- the same through stars too
 abbrev pub next_bare : List DeclKey → List Bool → List Entry → ℕ → Option ℕ
 next_bare keys looped written i = next_unless (slice_index_or looped i false) (named_number keys (base (term_at written i)))
-
-abbrev pub is_no_type : Term → Bool
-is_no_type NoType = true
-is_no_type (Predeclared b) = false
-is_no_type ErrorType = false
-is_no_type (Defined k) = false
-is_no_type (PointerTo t) = false
-is_no_type (StructOf path fs) = false
-is_no_type (InterfaceOf path ms) = false
 
 -- no type, or the name of another package's type that is none or is not known
 abbrev pub is_lacking : EntryLook → Term → Bool

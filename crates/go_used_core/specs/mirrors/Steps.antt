@@ -1,15 +1,19 @@
 -- Steps of the loops.
-use Rattle.std.specs.Prelude.{ℕ, List, [], ◌∷◌, ◌++◌, Option, Some, None}
+use Rattle.std.specs.Prelude.{ℕ, Bool, ◌&&◌, not, if◌then◌else◌, List, [], ◌∷◌, ◌++◌, Option, Some, None}
 use Rattle.go_answer_core.specs.tree_core.declared.occurrence.Occ.{Occ}
 use Rattle.go_answer_core.specs.block_core.Blocks.{BlocksModel}
 use Rattle.go_answer_core.specs.denote_core.declared.things.Outcome.TheVariants as outcomes
 use Rattle.go_answer_core.specs.expr_core.declared.things.Fault.{Fault}
-use Rattle.go_used_core.specs.Used.{TheOutcome, TheUse, used_by}
+use Rattle.go_used_core.specs.Used.{TheOutcome, FileUse, is_import, refused_use, used_by}
 
 -- the place of the import that an occurrence uses, if it has something
-abbrev pub some_used : BlocksModel → ℕ → Occ → Option TheUse → Option TheUse → List ℕ
+abbrev pub some_used : BlocksModel → ℕ → Occ → Option FileUse → Option FileUse → List ℕ
 some_used b file o None next = []
 some_used b file o (Some u) next = used_by b file o u next
+
+-- what an occurrence has, where the imports at the places of a test are used or need not be
+abbrev pub judged_by : (ℕ → Bool) → FileUse → FileUse
+judged_by stands u = if is_import u.role && not (stands u.offset) then refused_use u else u
 
 -- the fault that an outcome at an offset says
 abbrev pub said_at : ℕ → TheOutcome → List Fault
@@ -18,6 +22,6 @@ said_at offset (outcomes.Declared d) = []
 said_at offset (outcomes.Selected d path) = []
 
 -- the faults that occurrences say
-abbrev pub said : List TheUse → List Fault
+abbrev pub said : List FileUse → List Fault
 said [] = []
 said (u ∷ us) = said_at u.offset u.outcome ++ said us

@@ -3,7 +3,7 @@ use Rattle.go_term_core.specs.Shapes.{shape, line_shape, line_with, line_shapes}
 use Rattle.go_term_core.specs.Terms.{NoType}
 use Rattle.go_term_core.proofs.TermShapes.{shape_struct, shape_interface}
 use Rattle.go_term_core.proofs.SameLists.{found, missing}
-use Rattle.go_alike_core.specs.mirrors.Same.{IsMet}
+use Rattle.go_term_core.specs.Meeting.{IsMet}
 use Rattle.go_alike_core.proofs.SameLists.{fails, lines_at, no_line_left, no_line_right, unless_met, as_many_fields, as_many_methods, as_many_terms, same_at, with_path}
 use Rattle.go_alike_core.proofs.terms.+same.Goals as goal
 

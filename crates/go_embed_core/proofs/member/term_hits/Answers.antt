@@ -1,8 +1,8 @@
 use Rattle.std.proofs.Common.{ap, sym, ◌∙◌}
 use Rattle.go_term_core.specs.Shapes.{line_shapes, shape}
 use Rattle.go_term_core.proofs.TermShapes.{shape_struct, shape_interface}
-use Rattle.go_embed_core.specs.Owners.{term_found}
-use Rattle.go_embed_core.specs.mirrors.Tallies.{tallies, tally_of, field_tally, interface_tally, nobody}
+use Rattle.go_embed_core.specs.Owners.{term_found, nobody}
+use Rattle.go_embed_core.specs.mirrors.Tallies.{tallies, tally_of, field_tally, interface_tally}
 use Rattle.go_embed_core.proofs.Counting.{fields_named, interface_named}
 use Rattle.go_embed_core.proofs.member.term_hits.Goals as goal
 

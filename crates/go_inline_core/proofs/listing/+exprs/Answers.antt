@@ -4,7 +4,7 @@ use Rattle.go_tree_nodes.specs.declared.exprs.LiteralExpr.{out-LiteralExpr}
 use Rattle.go_tree_nodes.specs.declared.exprs.StructLiteralExpr.{out-StructLiteralExpr}
 use Rattle.go_tree_nodes.specs.TypeShapes.{shape_type}
 use Rattle.go_tree_nodes.specs.Shapes.{shape, items_of}
-use Rattle.go_inline_core.specs.Trees.{expr_types, items_types}
+use Rattle.go_tree_nodes.specs.WrittenTypes.{expr_types, items_types}
 use Rattle.go_inline_core.proofs.ListLemmas.{adds_same, adds_at, adds_both, adds_step, adds_whole}
 use Rattle.go_inline_core.proofs.WalkLemmas.{item_types, items_types_list, call_has, literal_has, struct_literal_has}
 use Rattle.go_inline_core.proofs.listing.+exprs.Goals as goal

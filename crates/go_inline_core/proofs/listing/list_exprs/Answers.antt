@@ -1,5 +1,5 @@
 use Rattle.go_tree_nodes.specs.Shapes.{shape}
-use Rattle.go_inline_core.specs.Trees.{expr_types}
+use Rattle.go_tree_nodes.specs.WrittenTypes.{expr_types}
 use Rattle.go_inline_core.proofs.ListLemmas.{adds_step, adds_whole}
 use Rattle.go_inline_core.proofs.WalkLemmas.{next_types, exprs_types_list}
 use Rattle.go_inline_core.proofs.listing.list_exprs.Goals as goal

@@ -1,5 +1,5 @@
 use Rattle.std.proofs.Common.{◌≡◌, ◌++◌, drop}
-use Rattle.go_needs_core.specs.mirrors.Filling.{edges_at}
+use Rattle.go_needs_core.specs.Needs.{edges_at}
 use Rattle.go_needs_core.proofs.table.add_edges.Given as goal
 
 abbrev pub invariant-loop-to : goal.invariant-loop-to

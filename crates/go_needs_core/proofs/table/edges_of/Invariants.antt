@@ -1,6 +1,5 @@
 use Rattle.std.proofs.Common.{◌≡◌, ◌++◌, drop}
-use Rattle.go_needs_core.specs.Needs.{rows_of}
-use Rattle.go_needs_core.specs.mirrors.Filling.{edges_from}
+use Rattle.go_needs_core.specs.Needs.{rows_of, edges_from}
 use Rattle.go_needs_core.proofs.table.edges_of.Given as goal
 
 abbrev pub invariant-loop-from : goal.invariant-loop-from

@@ -3,8 +3,8 @@ use Rattle.std.specs.List.{range_with_len}
 use Rattle.std.specs.List.Sorted.{IsPermutation}
 use Rattle.go_cycle_core.specs.declared.edge.Edge.{Edge}
 use Rattle.go_cycle_core.specs.Cycle.{InRange, IsRanking, IsAfter}
-use Rattle.go_needs_core.specs.Needs.{rows_of, needed, LooksAtNeeds}
-use Rattle.go_needs_core.specs.mirrors.Filling.{edges_from, IsFilled, IsStep}
+use Rattle.go_needs_core.specs.Needs.{rows_of, needed, LooksAtNeeds, edges_from}
+use Rattle.go_needs_core.specs.mirrors.Filling.{IsFilled, IsStep}
 use Rattle.go_needs_core.proofs.Reading.{rows_count}
 use Rattle.go_needs_core.proofs.Edges.{edges_inside, row_inside, order_inside}
 use Rattle.go_needs_core.proofs.Filled.{filled_none, filled_more, all_filled}

@@ -1,7 +1,7 @@
 use Rattle.std.proofs.Common.{◌≡◌, [], map, false, true, refl, inl, inr, ap, sym, ◌∙◌}
 use Rattle.go_term_core.specs.Shapes.{shape, line_shape, line_with, line_shapes, sign_of}
 use Rattle.go_term_core.specs.Terms.{NoType}
-use Rattle.go_term_core.specs.mirrors.Alike.{IsMet}
+use Rattle.go_term_core.specs.Meeting.{IsMet}
 use Rattle.go_term_core.proofs.TermShapes.{shape_struct, shape_interface}
 use Rattle.go_term_core.proofs.SameLists.{fails, alike_passed, alike_nowhere, both_end, AreSameFields, AreSameTerms, found, missing, alike_at, lines_at, terms_at, no_lines, no_terms, no_line_left, no_line_right, nothing_left, nothing_right, unless_met, as_many_fields, as_many_terms, methods_counted, alike_found, alike_in, alike_where, all_step, all_missing, all_end, same_at}
 use Rattle.go_term_core.proofs.same.+same.Goals as goal
@@ -127,13 +127,13 @@ pub are_terms_same-returns-in-Some-None : goal.are_terms_same-returns-in-Some-No
 are_terms_same-returns-in-Some-None t c =
     let a = c.args in
     let w = c.in-Some-None in
-    unless_met (IsMet a.met a.pair) _ _ _ c.if-is_met.ensures c.is_no_type.ensures (terms_at a.tags _ _ _ _ _ (found shape NoType c.deref.result.now a.ts.now.items a.pair.one w.t c.deref.ensures.value w.ensures.lookup) (missing shape NoType c.deref-2.result.now a.us.now.items a.pair.other c.deref-2.ensures.value w.ensures'.lookup) (nothing_right a.tags (shape w.t.now)))
+    unless_met (IsMet a.met a.pair) _ _ _ c.if-is_met.ensures c.is_no_type.ensures.nothing (terms_at a.tags _ _ _ _ _ (found shape NoType c.deref.result.now a.ts.now.items a.pair.one w.t c.deref.ensures.value w.ensures.lookup) (missing shape NoType c.deref-2.result.now a.us.now.items a.pair.other c.deref-2.ensures.value w.ensures'.lookup) (nothing_right a.tags (shape w.t.now)))
 
 pub are_terms_same-returns-in-None-Some : goal.are_terms_same-returns-in-None-Some
 are_terms_same-returns-in-None-Some t c =
     let a = c.args in
     let w = c.in-None-Some in
-    unless_met (IsMet a.met a.pair) _ _ _ c.if-is_met.ensures c.is_no_type-in-None-Some.ensures (terms_at a.tags _ _ _ _ _ (missing shape NoType c.deref.result.now a.ts.now.items a.pair.one c.deref.ensures.value w.ensures.lookup) (found shape NoType c.deref-2.result.now a.us.now.items a.pair.other w.u c.deref-2.ensures.value w.ensures'.lookup) (nothing_left a.tags (shape w.u.now)))
+    unless_met (IsMet a.met a.pair) _ _ _ c.if-is_met.ensures c.is_no_type-in-None-Some.ensures.nothing (terms_at a.tags _ _ _ _ _ (missing shape NoType c.deref.result.now a.ts.now.items a.pair.one c.deref.ensures.value w.ensures.lookup) (found shape NoType c.deref-2.result.now a.us.now.items a.pair.other w.u c.deref-2.ensures.value w.ensures'.lookup) (nothing_left a.tags (shape w.u.now)))
 
 pub are_terms_same-returns-in-None-None : goal.are_terms_same-returns-in-None-None
 are_terms_same-returns-in-None-None t c =

@@ -1,8 +1,7 @@
 use Rattle.std.proofs.Common.{◌≡◌, ◌<◌, ℕ, List, ◌∙◌, sym, ap, length, get_or, subst, arith, All}
 use Rattle.go_needs_core.specs.cycle_core.declared.edge.Edge.{Edge}
 use Rattle.go_needs_core.specs.cycle_core.Cycle.{InRange, IsRanking}
-use Rattle.go_needs_core.specs.Needs.{rows_of, needed}
-use Rattle.go_needs_core.specs.mirrors.Filling.{edges_from}
+use Rattle.go_needs_core.specs.Needs.{rows_of, needed, edges_from}
 use Rattle.go_needs_core.proofs.Reading.{rows_count, row_read}
 use Rattle.go_needs_core.proofs.Edges.{edges_inside, row_inside}
 use Rattle.go_value_core.proofs.Backward.{flagged_from}

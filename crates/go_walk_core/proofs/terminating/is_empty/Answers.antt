@@ -1,5 +1,5 @@
 use Rattle.std.proofs.Common.{sym, ap}
-use Rattle.go_walk_core.specs.Ends.{is_empty}
+use Rattle.go_tree_nodes.specs.Counts.{is_empty}
 use Rattle.go_walk_core.proofs.EndLemmas.{loop_is}
 use Rattle.go_walk_core.proofs.terminating.is_empty.Goals as goal
 

@@ -7,7 +7,8 @@ use Rattle.go_decl_core.specs.declared.places.DeclKind.TheVariants as kinds
 use Rattle.go_term_core.specs.Shapes.{shape, sign_of}
 use Rattle.go_term_core.specs.declared.term.Params.{roll-Params}
 use Rattle.go_term_core.proofs.TermShapes.{shape_struct, shape_interface}
-use Rattle.go_written_core.specs.Written.{in_file, member_place, named_fields, last_ident, term_starred, tag_of, term_of, signature_of, fields_of_tree, methods_of_tree}
+use Rattle.go_written_core.specs.Written.{in_file, member_place, named_fields, term_starred, tag_of, term_of, signature_of, fields_of_tree, methods_of_tree}
+use Rattle.go_decl_core.specs.Outer.{last_ident}
 use Rattle.go_written_core.specs.mirrors.Adding.{Adds, line_fields, lines_of, method_lines_of}
 use Rattle.go_written_core.proofs.Collected.{body_start, lines_step, lines_whole, method_lines_step, params_start, params_step, params_whole, listed_has}
 use Rattle.go_written_core.proofs.terms.+written.Goals as goal

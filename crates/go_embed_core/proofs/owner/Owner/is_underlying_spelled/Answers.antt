@@ -1,6 +1,5 @@
 use Rattle.std.proofs.Common.{ap, ◌∙◌}
-use Rattle.go_embed_core.specs.Owners.{term_found, is_spelled_in}
-use Rattle.go_embed_core.specs.mirrors.Tallies.{nobody}
+use Rattle.go_embed_core.specs.Owners.{term_found, is_spelled_in, nobody}
 use Rattle.go_embed_core.proofs.owner.Owner.is_underlying_spelled.Goals as goal
 
 pub returns-in-Some : goal.returns-in-Some

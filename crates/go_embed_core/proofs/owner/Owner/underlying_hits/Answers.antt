@@ -1,6 +1,6 @@
 use Rattle.std.proofs.Common.{ap, ◌∙◌}
-use Rattle.go_embed_core.specs.Owners.{term_found}
-use Rattle.go_embed_core.specs.mirrors.Tallies.{tallies, tally_of, nobody}
+use Rattle.go_embed_core.specs.Owners.{term_found, nobody}
+use Rattle.go_embed_core.specs.mirrors.Tallies.{tallies, tally_of}
 use Rattle.go_embed_core.proofs.owner.Owner.underlying_hits.Goals as goal
 
 pub returns-in-Some : goal.returns-in-Some

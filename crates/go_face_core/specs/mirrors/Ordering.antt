@@ -1,8 +1,0 @@
--- The order in which declarations are kept.
-use Rattle.std.specs.Ordering.{nat_cmp, ordering_then}
-use Rattle.std.specs.declared.cmp.Ordering.{Ordering}
-use Rattle.go_term_core.specs.decl_core.declared.keys.DeclRef.{DeclRef}
-
--- declarations by file, then by number there
-abbrev pub place_cmp : DeclRef → DeclRef → Ordering
-place_cmp a b = ordering_then (nat_cmp a.file b.file) (nat_cmp a.number b.number)
