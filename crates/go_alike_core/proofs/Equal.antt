@@ -1,10 +1,10 @@
--- Types that are the same form by form are one, and the other way round.
+-- Types that are equal form by form are one, and the other way round.
 use Rattle.std.proofs.Common.{◌≡◌, ◌↔◌, IsTrue, refl, ap, subst, Bool}
 use Rattle.go_term_core.specs.Terms.{Term, NoType, Predeclared, ErrorType, Defined, PointerTo, StructOf, InterfaceOf, Fields, NoField, AField, Methods, NoMethod, AMethod, Sign, SignOf, Terms, NoTerm, ATerm}
-use Rattle.go_alike_core.specs.mirrors.Same.{SameTerm, SameFields, SameMethods, SameSign, SameTerms}
+use Rattle.go_alike_core.specs.mirrors.Equality.{EqualTerm, EqualFields, EqualMethods, EqualSign, EqualTerms}
 
 mutual
-  pub one_term : (t u : Term) → SameTerm t u → t ≡ u
+  pub one_term : (t u : Term) → EqualTerm t u → t ≡ u
   one_term NoType NoType h = refl
   one_term NoType (Predeclared c) h = absurd h
   one_term NoType ErrorType h = absurd h
@@ -55,7 +55,7 @@ mutual
   one_term (InterfaceOf p ms) (StructOf q gs) h = absurd h
   one_term (InterfaceOf p ms) (InterfaceOf q ns) h = (let rest = one_methods ms ns h.1 in λ i. InterfaceOf (h.0 i) (rest i))
 
-  pub one_fields : (fs gs : Fields) → SameFields fs gs → fs ≡ gs
+  pub one_fields : (fs gs : Fields) → EqualFields fs gs → fs ≡ gs
   one_fields NoField NoField h = refl
   one_fields NoField (AField name place embedded t tag gs) h = absurd h
   one_fields (AField name place embedded t tag fs) NoField h = absurd h
@@ -64,7 +64,7 @@ mutual
       let rest = one_fields fs gs h.5 in
       λ i. AField (h.0 i) (h.1 i) (h.2 i) (type i) (h.4 i) (rest i))
 
-  pub one_methods : (ms ns : Methods) → SameMethods ms ns → ms ≡ ns
+  pub one_methods : (ms ns : Methods) → EqualMethods ms ns → ms ≡ ns
   one_methods NoMethod NoMethod h = refl
   one_methods NoMethod (AMethod name place g ns) h = absurd h
   one_methods (AMethod name place g ms) NoMethod h = absurd h
@@ -73,13 +73,13 @@ mutual
       let rest = one_methods ms ns h.3 in
       λ i. AMethod (h.0 i) (h.1 i) (sign i) (rest i))
 
-  pub one_sign : (g k : Sign) → SameSign g k → g ≡ k
+  pub one_sign : (g k : Sign) → EqualSign g k → g ≡ k
   one_sign (SignOf ps rs) (SignOf qs us) h = (
       let params = one_terms ps qs h.0 in
       let results = one_terms rs us h.1 in
       λ i. SignOf (params i) (results i))
 
-  pub one_terms : (ts us : Terms) → SameTerms ts us → ts ≡ us
+  pub one_terms : (ts us : Terms) → EqualTerms ts us → ts ≡ us
   one_terms NoTerm NoTerm h = refl
   one_terms NoTerm (ATerm u us) h = absurd h
   one_terms (ATerm t ts) NoTerm h = absurd h
@@ -89,7 +89,7 @@ mutual
       λ i. ATerm (first i) (rest i))
 
 mutual
-  pub own_term : (t : Term) → SameTerm t t
+  pub own_term : (t : Term) → EqualTerm t t
   own_term NoType = tt
   own_term (Predeclared b) = refl
   own_term ErrorType = tt
@@ -98,24 +98,24 @@ mutual
   own_term (StructOf p fs) = (refl, own_fields fs)
   own_term (InterfaceOf p ms) = (refl, own_methods ms)
 
-  pub own_fields : (fs : Fields) → SameFields fs fs
+  pub own_fields : (fs : Fields) → EqualFields fs fs
   own_fields NoField = tt
   own_fields (AField name place embedded t tag fs) = (refl, refl, refl, own_term t, refl, own_fields fs)
 
-  pub own_methods : (ms : Methods) → SameMethods ms ms
+  pub own_methods : (ms : Methods) → EqualMethods ms ms
   own_methods NoMethod = tt
   own_methods (AMethod name place g ms) = (refl, refl, own_sign g, own_methods ms)
 
-  pub own_sign : (g : Sign) → SameSign g g
+  pub own_sign : (g : Sign) → EqualSign g g
   own_sign (SignOf ps rs) = (own_terms ps, own_terms rs)
 
-  pub own_terms : (ts : Terms) → SameTerms ts ts
+  pub own_terms : (ts : Terms) → EqualTerms ts ts
   own_terms NoTerm = tt
   own_terms (ATerm t ts) = (own_term t, own_terms ts)
 
 -- an answer about the one is one about the other
-pub term_answered : (t u : Term) (r : Bool) → (IsTrue r ↔ SameTerm t u) → IsTrue r ↔ (t ≡ u)
-term_answered t u r h = (λ is. one_term t u (h.0 is), λ e. h.1 (subst (λ (x : Term). SameTerm t x) e (own_term t)))
+pub term_answered : (t u : Term) (r : Bool) → (IsTrue r ↔ EqualTerm t u) → IsTrue r ↔ (t ≡ u)
+term_answered t u r h = (λ is. one_term t u (h.0 is), λ e. h.1 (subst (λ (x : Term). EqualTerm t x) e (own_term t)))
 
-pub sign_answered : (g k : Sign) (r : Bool) → (IsTrue r ↔ SameSign g k) → IsTrue r ↔ (g ≡ k)
-sign_answered g k r h = (λ is. one_sign g k (h.0 is), λ e. h.1 (subst (λ (x : Sign). SameSign g x) e (own_sign g)))
+pub sign_answered : (g k : Sign) (r : Bool) → (IsTrue r ↔ EqualSign g k) → IsTrue r ↔ (g ≡ k)
+sign_answered g k r h = (λ is. one_sign g k (h.0 is), λ e. h.1 (subst (λ (x : Sign). EqualSign g x) e (own_sign g)))

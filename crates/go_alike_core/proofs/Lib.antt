@@ -1,4 +1,4 @@
 pub mod Equal
+pub mod EqualLists
 pub mod Listed
 pub mod Records
-pub mod SameLists

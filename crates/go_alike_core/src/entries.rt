@@ -2,7 +2,7 @@
 ghost use Rattle.std.specs.Prelude.{◌≡◌, ◌↔◌, IsTrue, map};
 ghost use Rattle.go_face_core.specs.table_core.Shown.{member_shown};
 
-use crate::terms::{same_signature, same_term};
+use crate::terms::{equal_signature, equal_term};
 use go_face_core::table_core::{DeclaredMethod, DefinedType, PackageTypes};
 
 /// Whether two methods have the same name, the same place, the same receiver and the same signature.
@@ -12,7 +12,7 @@ fn is_same_member(one: &DeclaredMethod, other: &DeclaredMethod) -> bool
     one.name.as_str() == other.name.as_str()
         && one.place == other.place
         && one.pointer == other.pointer
-        && same_signature(&one.signature, &other.signature)
+        && equal_signature(&one.signature, &other.signature)
 }
 
 /// Whether two lists have the same methods in order.
@@ -36,7 +36,7 @@ fn is_same_entry(one: &DefinedType, other: &DefinedType) -> bool
 {
     one.key().is_same(other.key())
         && one.name().as_str() == other.name().as_str()
-        && same_term(one.underlying(), other.underlying())
+        && equal_term(one.underlying(), other.underlying())
         && same_members(one.methods(), other.methods())
 }
 

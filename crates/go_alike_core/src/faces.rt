@@ -4,7 +4,7 @@ ghost use Rattle.go_term_core.specs.Shapes.{shape};
 ghost use Rattle.go_face_core.specs.Faces.{face_shown, operand_shown, value_type_shown};
 ghost use Rattle.go_face_core.specs.Held.{declared_shown};
 
-use crate::terms::{same_signature, same_term};
+use crate::terms::{equal_signature, equal_term};
 use go_face_core::constant_core::Constant;
 use go_face_core::operand_core::{Operand, ValueType};
 use go_face_core::{DeclaredFace, Face, PackageFaces};
@@ -39,7 +39,7 @@ fn is_same_value_type(one: &ValueType<TypeTerm>, other: &ValueType<TypeTerm>) ->
     ensures { IsTrue result ↔ (value_type_shown one.now ≡ value_type_shown other.now) }
 {
     match (one, other) {
-        (ValueType::Typed(one), ValueType::Typed(other)) => same_term(one, other),
+        (ValueType::Typed(one), ValueType::Typed(other)) => equal_term(one, other),
         (ValueType::UntypedInt, ValueType::UntypedInt) => true,
         (ValueType::UntypedText, ValueType::UntypedText) => true,
         (ValueType::UntypedBool, ValueType::UntypedBool) => true,
@@ -73,7 +73,7 @@ fn is_same_term_if(one: &Option<TypeTerm>, other: &Option<TypeTerm>) -> bool
     ensures { IsTrue result ↔ (option_map shape one.now ≡ option_map shape other.now) }
 {
     match (one, other) {
-        (Some(one), Some(other)) => same_term(one, other),
+        (Some(one), Some(other)) => equal_term(one, other),
         (None, None) => true,
         (Some(_), None) | (None, Some(_)) => false,
     }
@@ -85,7 +85,7 @@ fn is_same_face(one: &Face<TypeTerm, Signature>, other: &Face<TypeTerm, Signatur
 {
     match (one, other) {
         (Face::Type(one), Face::Type(other)) => is_same_term_if(one, other),
-        (Face::Func(one), Face::Func(other)) => same_signature(one, other),
+        (Face::Func(one), Face::Func(other)) => equal_signature(one, other),
         (Face::Value(one), Face::Value(other)) => is_same_operand_if(one, other),
         _ => false,
     }

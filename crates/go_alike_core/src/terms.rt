@@ -5,51 +5,51 @@
 ghost use Rattle.std.specs.Prelude.{◌≡◌, ◌↔◌, ◌⊎◌, IsTrue, map};
 ghost use Rattle.go_term_core.specs.Shapes.{shape, sign_of, fields_in, line_at, line_shape, line_shapes, method_shapes, param_shapes, term_at, terms_in};
 ghost use Rattle.go_term_core.specs.Meeting.{IsMet};
-ghost use Rattle.go_alike_core.specs.mirrors.Same.{IsNoLine, IsSameHead, IsSameLine, IsSameMethod, SameFields, SameMethods, SameSign, SameTerm, SameTerms};
+ghost use Rattle.go_alike_core.specs.mirrors.Equality.{IsEqualToNoLine, IsEqualHead, IsEqualLine, IsEqualMethod, EqualFields, EqualMethods, EqualSign, EqualTerm, EqualTerms};
 
 use go_term_core::{
     Field, FieldLine, LinePair, Method, Params, Signature, Tag, TypeTerm, is_met, is_no_type,
 };
 
-/// Whether two types are the same. It takes no memory.
-pub(crate) fn same_term(a: &TypeTerm, b: &TypeTerm) -> bool
+/// Whether two types are equal. It takes no memory.
+pub(crate) fn equal_term(a: &TypeTerm, b: &TypeTerm) -> bool
     ensures { IsTrue result ↔ (shape a.now ≡ shape b.now) }
 {
-    is_same_term(a, b)
+    is_equal_term(a, b)
 }
 
-/// Whether two signatures are the same. It takes no memory.
-pub(crate) fn same_signature(a: &Signature, b: &Signature) -> bool
+/// Whether two signatures are equal. It takes no memory.
+pub(crate) fn equal_signature(a: &Signature, b: &Signature) -> bool
     ensures { IsTrue result ↔ (sign_of a.now ≡ sign_of b.now) }
 {
-    is_same_signature(a, b)
+    is_equal_signature(a, b)
 }
 
-/// Whether two types are the same.
-#[cycle(same)]
-fn is_same_term(a: &TypeTerm, b: &TypeTerm) -> bool
-    ensures { IsTrue result ↔ SameTerm (shape a.now) (shape b.now) }
+/// Whether two types are equal.
+#[cycle(equal)]
+fn is_equal_term(a: &TypeTerm, b: &TypeTerm) -> bool
+    ensures { IsTrue result ↔ EqualTerm (shape a.now) (shape b.now) }
 {
     match (a, b) {
         (TypeTerm::NoType, TypeTerm::NoType) => true,
         (TypeTerm::Basic(a), TypeTerm::Basic(b)) => *a == *b,
         (TypeTerm::Error, TypeTerm::Error) => true,
         (TypeTerm::Defined(a), TypeTerm::Defined(b)) => a.is_same(b),
-        (TypeTerm::Pointer(a), TypeTerm::Pointer(b)) => is_same_term(a, b),
+        (TypeTerm::Pointer(a), TypeTerm::Pointer(b)) => is_equal_term(a, b),
         (TypeTerm::Struct(p, fs, ls), TypeTerm::Struct(q, gs, ks)) => {
-            p.is_same(q) && same_fields(fs, ls, gs, ks)
+            p.is_same(q) && equal_fields(fs, ls, gs, ks)
         }
         (TypeTerm::Interface(p, ms), TypeTerm::Interface(q, ns)) => {
-            p.is_same(q) && same_methods(ms, ns)
+            p.is_same(q) && equal_methods(ms, ns)
         }
         _ => false,
     }
 }
 
-/// Whether two struct types have the same fields in order. Two lines are compared where they meet first, and not once for each name.
-#[cycle(same)]
-fn same_fields(fs: &Vec<Field>, ls: &Vec<FieldLine>, gs: &Vec<Field>, ks: &Vec<FieldLine>) -> bool
-    ensures { IsTrue result ↔ SameFields (fields_in (line_shapes ls.now.items) fs.now.items) (fields_in (line_shapes ks.now.items) gs.now.items) }
+/// Whether two struct types have equal fields in order. Two lines are compared where they meet first, and not once for each name.
+#[cycle(equal)]
+fn equal_fields(fs: &Vec<Field>, ls: &Vec<FieldLine>, gs: &Vec<Field>, ks: &Vec<FieldLine>) -> bool
+    ensures { IsTrue result ↔ EqualFields (fields_in (line_shapes ls.now.items) fs.now.items) (fields_in (line_shapes ks.now.items) gs.now.items) }
 {
     if fs.len() != gs.len() {
         return false;
@@ -61,7 +61,7 @@ fn same_fields(fs: &Vec<Field>, ls: &Vec<FieldLine>, gs: &Vec<Field>, ks: &Vec<F
             one: f.line,
             other: g.line,
         };
-        if !is_same_head(f, g) || !are_lines_same(ls, ks, met, pair) {
+        if !is_equal_head(f, g) || !are_lines_equal(ls, ks, met, pair) {
             return false;
         }
         met = Some(pair);
@@ -70,94 +70,94 @@ fn same_fields(fs: &Vec<Field>, ls: &Vec<FieldLine>, gs: &Vec<Field>, ks: &Vec<F
 }
 
 /// Whether two fields have the same name and the same place.
-fn is_same_head(f: &Field, g: &Field) -> bool
-    ensures { IsTrue result ↔ IsSameHead f.now g.now }
+fn is_equal_head(f: &Field, g: &Field) -> bool
+    ensures { IsTrue result ↔ IsEqualHead f.now g.now }
 {
     f.name.as_str() == g.name.as_str() && f.place == g.place
 }
 
-/// Whether two lines met last, or are the same.
-#[cycle(same)]
-fn are_lines_same(
+/// Whether two lines met last, or are equal.
+#[cycle(equal)]
+fn are_lines_equal(
     ls: &Vec<FieldLine>,
     ks: &Vec<FieldLine>,
     met: Option<LinePair>,
     pair: LinePair,
 ) -> bool
-    ensures { IsTrue result ↔ (IsMet met pair ⊎ IsSameLine (line_at (line_shapes ls.now.items) pair.one) (line_at (line_shapes ks.now.items) pair.other)) }
+    ensures { IsTrue result ↔ (IsMet met pair ⊎ IsEqualLine (line_at (line_shapes ls.now.items) pair.one) (line_at (line_shapes ks.now.items) pair.other)) }
 {
     if is_met(met, pair) {
         return true;
     }
     match (ls.get(pair.one), ks.get(pair.other)) {
-        (Some(l), Some(k)) => is_same_line(l, k),
-        (Some(l), None) => is_no_line(l),
-        (None, Some(k)) => is_no_line(k),
+        (Some(l), Some(k)) => is_equal_line(l, k),
+        (Some(l), None) => is_equal_to_no_line(l),
+        (None, Some(k)) => is_equal_to_no_line(k),
         (None, None) => true,
     }
 }
 
-/// Whether two lines are the same.
-#[cycle(same)]
-fn is_same_line(l: &FieldLine, k: &FieldLine) -> bool
-    ensures { IsTrue result ↔ IsSameLine (line_shape l.now) (line_shape k.now) }
+/// Whether two lines are equal.
+#[cycle(equal)]
+fn is_equal_line(l: &FieldLine, k: &FieldLine) -> bool
+    ensures { IsTrue result ↔ IsEqualLine (line_shape l.now) (line_shape k.now) }
 {
-    l.embedded == k.embedded && l.tag.is_same(&k.tag) && is_same_term(&l.term, &k.term)
+    l.embedded == k.embedded && l.tag.is_same(&k.tag) && is_equal_term(&l.term, &k.term)
 }
 
 /// Whether a line is as one that is not there.
-fn is_no_line(l: &FieldLine) -> bool
-    ensures { IsTrue result ↔ IsNoLine (line_shape l.now) }
+fn is_equal_to_no_line(l: &FieldLine) -> bool
+    ensures { IsTrue result ↔ IsEqualToNoLine (line_shape l.now) }
 {
     !l.embedded && l.tag.is_same(&Tag::none()) && is_no_type(&l.term)
 }
 
-/// Whether two interface types have the same methods in order.
-#[cycle(same)]
-fn same_methods(ms: &Vec<Method>, ns: &Vec<Method>) -> bool
-    ensures { IsTrue result ↔ SameMethods (method_shapes ms.now.items) (method_shapes ns.now.items) }
+/// Whether two interface types have equal methods in order.
+#[cycle(equal)]
+fn equal_methods(ms: &Vec<Method>, ns: &Vec<Method>) -> bool
+    ensures { IsTrue result ↔ EqualMethods (method_shapes ms.now.items) (method_shapes ns.now.items) }
 {
     if ms.len() != ns.len() {
         return false;
     }
     for (i, m) in ms.iter().enumerate() {
-        if !is_same_method(m, &ns[i]) {
+        if !is_equal_method(m, &ns[i]) {
             return false;
         }
     }
     true
 }
 
-/// Whether two methods have the same name, the same place and the same signature.
-#[cycle(same)]
-fn is_same_method(m: &Method, n: &Method) -> bool
-    ensures { IsTrue result ↔ IsSameMethod m.now n.now }
+/// Whether two methods have the same name, the same place and equal signatures.
+#[cycle(equal)]
+fn is_equal_method(m: &Method, n: &Method) -> bool
+    ensures { IsTrue result ↔ IsEqualMethod m.now n.now }
 {
     m.name.as_str() == n.name.as_str()
         && m.place == n.place
-        && is_same_signature(&m.signature, &n.signature)
+        && is_equal_signature(&m.signature, &n.signature)
 }
 
-/// Whether two signatures have the same parameters and results.
-#[cycle(same)]
-fn is_same_signature(a: &Signature, b: &Signature) -> bool
-    ensures { IsTrue result ↔ SameSign (sign_of a.now) (sign_of b.now) }
+/// Whether two signatures have equal parameters and results.
+#[cycle(equal)]
+fn is_equal_signature(a: &Signature, b: &Signature) -> bool
+    ensures { IsTrue result ↔ EqualSign (sign_of a.now) (sign_of b.now) }
 {
-    same_params(&a.params, &b.params) && same_params(&a.results, &b.results)
+    equal_params(&a.params, &b.params) && equal_params(&a.results, &b.results)
 }
 
-/// Whether two lists have the same types. Two terms are compared where they meet first.
-#[cycle(same)]
-fn same_params(ps: &Params, qs: &Params) -> bool
-    ensures { IsTrue result ↔ SameTerms (param_shapes ps.now) (param_shapes qs.now) }
+/// Whether two lists have equal types. Two terms are compared where they meet first.
+#[cycle(equal)]
+fn equal_params(ps: &Params, qs: &Params) -> bool
+    ensures { IsTrue result ↔ EqualTerms (param_shapes ps.now) (param_shapes qs.now) }
 {
-    same_terms(&ps.terms, &ps.lines, &qs.terms, &qs.lines)
+    equal_terms(&ps.terms, &ps.lines, &qs.terms, &qs.lines)
 }
 
-/// Whether two lists of numbers are of the same types.
-#[cycle(same)]
-fn same_terms(ts: &Vec<TypeTerm>, ns: &Vec<usize>, us: &Vec<TypeTerm>, ms: &Vec<usize>) -> bool
-    ensures { IsTrue result ↔ SameTerms (terms_in (map shape ts.now.items) ns.now.items) (terms_in (map shape us.now.items) ms.now.items) }
+/// Whether two lists of numbers are of equal types.
+#[cycle(equal)]
+fn equal_terms(ts: &Vec<TypeTerm>, ns: &Vec<usize>, us: &Vec<TypeTerm>, ms: &Vec<usize>) -> bool
+    ensures { IsTrue result ↔ EqualTerms (terms_in (map shape ts.now.items) ns.now.items) (terms_in (map shape us.now.items) ms.now.items) }
 {
     if ns.len() != ms.len() {
         return false;
@@ -168,7 +168,7 @@ fn same_terms(ts: &Vec<TypeTerm>, ns: &Vec<usize>, us: &Vec<TypeTerm>, ms: &Vec<
             one: *n,
             other: ms[i],
         };
-        if !are_terms_same(ts, us, met, pair) {
+        if !are_terms_equal(ts, us, met, pair) {
             return false;
         }
         met = Some(pair);
@@ -176,21 +176,21 @@ fn same_terms(ts: &Vec<TypeTerm>, ns: &Vec<usize>, us: &Vec<TypeTerm>, ms: &Vec<
     true
 }
 
-/// Whether two terms met last, or are the same.
-#[cycle(same)]
-fn are_terms_same(
+/// Whether two terms met last, or are equal.
+#[cycle(equal)]
+fn are_terms_equal(
     ts: &Vec<TypeTerm>,
     us: &Vec<TypeTerm>,
     met: Option<LinePair>,
     pair: LinePair,
 ) -> bool
-    ensures { IsTrue result ↔ (IsMet met pair ⊎ SameTerm (term_at (map shape ts.now.items) pair.one) (term_at (map shape us.now.items) pair.other)) }
+    ensures { IsTrue result ↔ (IsMet met pair ⊎ EqualTerm (term_at (map shape ts.now.items) pair.one) (term_at (map shape us.now.items) pair.other)) }
 {
     if is_met(met, pair) {
         return true;
     }
     match (ts.get(pair.one), us.get(pair.other)) {
-        (Some(t), Some(u)) => is_same_term(t, u),
+        (Some(t), Some(u)) => is_equal_term(t, u),
         (Some(t), None) => is_no_type(t),
         (None, Some(u)) => is_no_type(u),
         (None, None) => true,

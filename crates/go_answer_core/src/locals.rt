@@ -13,12 +13,20 @@ use std::alloc::{AllocError, Global};
 /// declared identifier.
 ///
 /// The Go specification, "Declarations and scope", "Function declarations", "Short variable declarations".
-#[derive(Drop)]
 pub struct HeldLocal {
     /// The first byte of the identifier, in bytes from the file's start.
     pub offset: usize,
     /// What it stands for: a variable of a type, or a constant with its value. None where it has no type.
     pub value: Option<Operand<TypeTerm>>,
+}
+
+impl Drop for HeldLocal {
+    fn drop(self) {
+        let HeldLocal {
+            offset: _,
+            value: _,
+        } = self;
+    }
 }
 
 /// A local at an offset in bytes from the file's start, which stands for a value, held. The text of a constant is shared.

@@ -25,9 +25,14 @@ enum Held {
 
 /// A declaration, held: it lends nothing of the package that it was found in, and shares the path. Contracts see where it is, as of
 /// `go_handle_core`'s `Decl`.
-#[derive(Drop)]
 pub struct Site {
     held: Held,
+}
+
+impl Drop for Site {
+    fn drop(self) {
+        let Site { held: _ } = self;
+    }
 }
 
 impl Model for Site {

@@ -6,7 +6,7 @@ use Rattle.std.specs.Global.{Global}
 use Rattle.std.specs.declared.string.String.{String}
 use Rattle.indexmap.specs.IndexMap.{IndexMap}
 use Rattle.go_block_core.specs.Exports.{clause_name}
-use Rattle.go_block_core.specs.Tables.{table_of}
+use Rattle.go_block_core.specs.Tables.{block_of}
 use Rattle.go_tree_nodes.specs.Trees.{FileTree}
 use Rattle.go_graph_core.specs.Packages.{Trees, IsPackageName}
 use Rattle.go_decl_core.specs.declared.keys.DeclRef.{DeclRef}
@@ -90,14 +90,14 @@ pub files_step : (files : List (Vec NamedImport Global)) (i : ℕ) (d : Vec Name
 files_step files i d lt is = map_more imports_in files i d lt ∙ ap (λ x. map imports_in (take i files) ++ imports_in x ∷ []) (sym is)
 
 module _ {Y S : Type 0} where
-  pub same_count : (ts : List (IndexMap (String Y) Binding S)) (fs : List (List NamedImport)) → map table_of ts ≡ file_blocks fs → length ts ≡ length fs
-  same_count ts fs e = sym (length-map ts table_of) ∙ (ap length e ∙ length-map fs file_block)
+  pub same_count : (ts : List (IndexMap (String Y) Binding S)) (fs : List (List NamedImport)) → map block_of ts ≡ file_blocks fs → length ts ≡ length fs
+  same_count ts fs e = sym (length-map ts block_of) ∙ (ap length e ∙ length-map fs file_block)
 
-  pub tables_step : (old new : List (IndexMap (String Y) Binding S)) (t : IndexMap (String Y) Binding S) (files : List (Vec NamedImport Global)) (i : ℕ) (d : Vec NamedImport Global) → i < length files → d ≡ get_or files i d → map table_of old ≡ file_blocks (map imports_in (take i files)) → table_of t ≡ file_block d.items → new ≡ old ++ t ∷ [] → map table_of new ≡ file_blocks (map imports_in (take (i + 1) files))
+  pub tables_step : (old new : List (IndexMap (String Y) Binding S)) (t : IndexMap (String Y) Binding S) (files : List (Vec NamedImport Global)) (i : ℕ) (d : Vec NamedImport Global) → i < length files → d ≡ get_or files i d → map block_of old ≡ file_blocks (map imports_in (take i files)) → block_of t ≡ file_block d.items → new ≡ old ++ t ∷ [] → map block_of new ≡ file_blocks (map imports_in (take (i + 1) files))
   tables_step old new t files i d lt is before table e =
-      ap (map table_of) e
-      ∙ (map-append table_of old (t ∷ [])
-      ∙ (ap (λ l. l ++ table_of t ∷ []) before
+      ap (map block_of) e
+      ∙ (map-append block_of old (t ∷ [])
+      ∙ (ap (λ l. l ++ block_of t ∷ []) before
       ∙ (ap (λ b. file_blocks (map imports_in (take i files)) ++ b ∷ []) table
       ∙ (sym (map-append file_block (map imports_in (take i files)) (d.items ∷ []))
       ∙ ap file_blocks (sym (files_step files i d lt is))))))

@@ -11,7 +11,7 @@ use Rattle.go_block_core.specs.Bindings.{Bound, file_bound}
 use Rattle.go_block_core.specs.Declarations.{PackageDeclaration, is_bindable, has_fixed_form, package_declared, is_main_package}
 use Rattle.go_block_core.specs.Faults.{block_fault, fault_if, decl_faults_at, block_decl_faults, bound_faults_at, bound_faults, block_file_faults}
 use Rattle.go_block_core.specs.Holding.{with_declared, declared_block, with_bound, bound_block, package_block}
-use Rattle.go_block_core.specs.Laws.{Declares, Names, IsSecondDecl, IsMalformed, IsSecondBinding, IsHidden, FaultsAreThese}
+use Rattle.go_block_core.specs.Laws.{Declares, IsOfName, IsSecondDecl, IsMalformed, IsSecondBinding, IsHidden, FaultsAreThese}
 use Rattle.go_block_core.specs.Tables.{has}
 use Rattle.go_block_core.proofs.FaultLemmas.{both}
 use Rattle.go_block_core.proofs.HoldingLaws.{some_any, any_some, declares, declares_yes, declares_back, in_declared, names, names_yes, names_back, in_bound}
@@ -142,11 +142,11 @@ module _ (block : List (List ℕ × DeclRef)) where
       Contains-append_right (bound_faults block first [] (file_bound g)) (block_file_faults block (first + 1) files) f
       (file_put (first + 1) files number imports f at (subst (λ n. Contains (bound_faults block n [] (file_bound imports)) f) e h))
 
-any_bound : (ns : List Bound) (q : List ℕ) → has (bound_block [] ns) q ≡ true → Any (Names q) ns
-any_bound ns q h = some_any (names q) (λ n. n.binding) (Names q) (names_yes q) (names_back q) ns (sym (ap is_some (in_bound [] ns q)) ∙ h)
+any_bound : (ns : List Bound) (q : List ℕ) → has (bound_block [] ns) q ≡ true → Any (IsOfName q) ns
+any_bound ns q h = some_any (names q) (λ n. n.binding) (IsOfName q) (names_yes q) (names_back q) ns (sym (ap is_some (in_bound [] ns q)) ∙ h)
 
-has_bound : (ns : List Bound) (q : List ℕ) → Any (Names q) ns → has (bound_block [] ns) q ≡ true
-has_bound ns q h = ap is_some (in_bound [] ns q) ∙ any_some (names q) (λ n. n.binding) (Names q) (names_yes q) (names_back q) ns h
+has_bound : (ns : List Bound) (q : List ℕ) → Any (IsOfName q) ns → has (bound_block [] ns) q ≡ true
+has_bound ns q h = ap is_some (in_bound [] ns q) ∙ any_some (names q) (λ n. n.binding) (IsOfName q) (names_yes q) (names_back q) ns h
 
 bound_meaning : (ds : List PackageDeclaration) (files : List (List NamedImport)) (f : BlockFault) → Contains (block_file_faults (declared_block [] ds) 0 files) f → IsSecondBinding files f ⊎ IsHidden ds files f
 bound_meaning ds files f h =

@@ -13,7 +13,7 @@ use Rattle.go_block_core.specs.Blocks.{in_some}
 use Rattle.go_block_core.specs.Declarations.{PackageDeclaration, is_bindable, package_declared}
 use Rattle.go_block_core.specs.Bindings.{Bound, file_bound}
 use Rattle.go_block_core.specs.Holding.{with_declared, declared_block, with_bound, bound_block}
-use Rattle.go_block_core.specs.Laws.{IsFirstOf, Declares, Names, PackageHolds, FileHolds, NeverHidden, FileAnswers}
+use Rattle.go_block_core.specs.Laws.{IsFirstOf, Declares, IsOfName, PackageHolds, FileHolds, NeverHidden, FileAnswers}
 use Rattle.go_block_core.specs.Tables.{in_block, has, with_first}
 use Rattle.go_block_core.proofs.FaultLemmas.{both}
 
@@ -152,10 +152,10 @@ package_holds trees name d =
 abbrev pub names : List ℕ → Bound → Bool
 names q b = bytes_eq q b.name
 
-pub names_yes : (q : List ℕ) (b : Bound) → names q b ≡ true → Names q b
+pub names_yes : (q : List ℕ) (b : Bound) → names q b ≡ true → IsOfName q b
 names_yes q b h = (bytes_eq-Decides q b.name).0 h
 
-pub names_back : (q : List ℕ) (b : Bound) → Names q b → names q b ≡ true
+pub names_back : (q : List ℕ) (b : Bound) → IsOfName q b → names q b ≡ true
 names_back q b h = (bytes_eq-Decides q b.name).1 h
 
 pub in_bound : (b : List (List ℕ × Binding)) (ns : List Bound) (q : List ℕ) → in_block (bound_block b ns) q ≡ or_else (in_block b q) (first_by (names q) (λ n. n.binding) ns)
@@ -168,8 +168,8 @@ in_bound b (n ∷ ns) q =
 pub file_holds : FileHolds
 file_holds imports name b =
     let is = in_bound [] (file_bound imports) name in (
-      λ h. found (names name) (λ x. x.binding) (Names name) (names_yes name) (names_back name) (file_bound imports) b (sym is ∙ h),
-      λ r. is ∙ from_first (names name) (λ x. x.binding) (Names name) (names_yes name) (names_back name) (file_bound imports) b r,
+      λ h. found (names name) (λ x. x.binding) (IsOfName name) (names_yes name) (names_back name) (file_bound imports) b (sym is ∙ h),
+      λ r. is ∙ from_first (names name) (λ x. x.binding) (IsOfName name) (names_yes name) (names_back name) (file_bound imports) b r,
     )
 
 pub never_hidden : NeverHidden

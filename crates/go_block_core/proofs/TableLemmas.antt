@@ -13,7 +13,7 @@ use Rattle.indexmap.proofs.CallerLemmas.{insert_entry-new}
 use Rattle.go_text_core.specs.Text.{exported}
 use Rattle.go_decl_core.specs.declared.keys.DeclRef.{DeclRef}
 use Rattle.go_block_core.specs.Exports.{exported_names}
-use Rattle.go_block_core.specs.Tables.{table_of, in_block, has, with_first, names_in, without}
+use Rattle.go_block_core.specs.Tables.{block_of, in_block, has, with_first, names_in, without}
 use Rattle.go_block_core.specs.declared.binding.Binding.{Binding}
 use Rattle.go_block_core.specs.Blocks.{BlocksModel, in_some, file_has, file_binding, if_block, held_in}
 
@@ -23,24 +23,24 @@ module _ {X : Type 0} where
   lookup_bytes name (e ∷ es) = ap (λ o. cond (bytes_eq name (string_bytes e.0)) (Some e.1) o) (lookup_bytes name es)
 
   -- what a table has at a name is what its block has
-  pub in_table : {Y S : Type 0} (name : List ℕ) (table : IndexMap (String Y) X S) → get_by (λ k. bytes_eq name (string_bytes k)) table ≡ in_block (table_of table) name
+  pub in_table : {Y S : Type 0} (name : List ℕ) (table : IndexMap (String Y) X S) → get_by (λ k. bytes_eq name (string_bytes k)) table ≡ in_block (block_of table) name
   in_table name table = lookup_bytes name table.entries
 
   pub none_from_test : (o : Option X) → is_some o ≡ false → o ≡ None
   none_from_test None h = refl
   none_from_test (Some d) h = absurd (true≢false h)
 
-  pub table_of-empty : {Y S : Type 0} (table : IndexMap (String Y) X S) → table.entries ≡ [] → table_of table ≡ []
-  table_of-empty table none = ap (map (λ e. (string_bytes e.0, e.1))) none
+  pub block_of-empty : {Y S : Type 0} (table : IndexMap (String Y) X S) → table.entries ≡ [] → block_of table ≡ []
+  block_of-empty table none = ap (map (λ e. (string_bytes e.0, e.1))) none
 
   -- a new name goes last
-  pub table_of-insert : {Y S : Type 0} (old new : IndexMap (String Y) X S) (key : String Y) (name : List ℕ) (x : X) → string_bytes key ≡ name → has (table_of old) name ≡ false → new.entries ≡ insert_entry string_eq old.entries key x → table_of new ≡ with_first (table_of old) name x
-  table_of-insert old new key name x is_name absent e =
+  pub block_of-insert : {Y S : Type 0} (old new : IndexMap (String Y) X S) (key : String Y) (name : List ℕ) (x : X) → string_bytes key ≡ name → has (block_of old) name ≡ false → new.entries ≡ insert_entry string_eq old.entries key x → block_of new ≡ with_first (block_of old) name x
+  block_of-insert old new key name x is_name absent e =
       let gone : get string_eq old key ≡ None = ap (λ n. get_by (λ k. bytes_eq n (string_bytes k)) old) is_name ∙ (in_table name old ∙ none_from_test _ absent) in
       ap (map (λ e. (string_bytes e.0, e.1))) (e ∙ insert_entry-new string_eq old key x gone)
       ∙ (map-append (λ e. (string_bytes e.0, e.1)) old.entries ((key, x) ∷ [])
-      ∙ (ap (λ n. table_of old ++ (n, x) ∷ []) is_name
-      ∙ sym (ap (λ b. cond b (table_of old) (table_of old ++ (name, x) ∷ [])) absent)))
+      ∙ (ap (λ n. block_of old ++ (n, x) ∷ []) is_name
+      ∙ sym (ap (λ b. cond b (block_of old) (block_of old ++ (name, x) ∷ [])) absent)))
 
 -- the names of a table, one after another
 

@@ -30,8 +30,8 @@ abbrev pub Declares : List ℕ → PackageDeclaration → Type 0
 Declares name d = (is_bindable d.name ≡ true) × (name ≡ d.name)
 
 -- a binding is of this name
-abbrev pub Names : List ℕ → Bound → Type 0
-Names name b = name ≡ b.name
+abbrev pub IsOfName : List ℕ → Bound → Type 0
+IsOfName name b = name ≡ b.name
 
 -- the package block has at a name the first declaration that binds it
 abbrev pub PackageHolds : Type 0
@@ -39,7 +39,7 @@ PackageHolds = (trees : Trees) (name : List ℕ) (d : DeclRef) → (in_block (pa
 
 -- a file's block has at a name the first binding of it
 abbrev pub FileHolds : Type 0
-FileHolds = (imports : List NamedImport) (name : List ℕ) (b : Binding) → (in_block (file_block imports) name ≡ Some b) ↔ IsFirstOf (Names name) (λ x. x.binding) (file_bound imports) b
+FileHolds = (imports : List NamedImport) (name : List ℕ) (b : Binding) → (in_block (file_block imports) name ≡ Some b) ↔ IsFirstOf (IsOfName name) (λ x. x.binding) (file_bound imports) b
 
 -- the block of a file has this binding at a name
 pub record HasBinding (files : List (List (List ℕ × Binding))) (file : ℕ) (name : List ℕ) (x : Binding) : Type 0 where
@@ -82,7 +82,7 @@ pub record IsSecondBinding (files : List (List NamedImport)) (f : BlockFault) : 
   pub bound : Bound
   pub after : List Bound
   pub split : file_bound imports ≡ before ++ bound ∷ after
-  pub earlier : Any (Names bound.name) before
+  pub earlier : Any (IsOfName bound.name) before
   pub fault : f ≡ block_fault number bound.binding.at B1
 
 -- B2: a binding of a name that the package block has

@@ -1,14 +1,8 @@
 -- A block: its names with what they are bound to, in the order in which they were bound.
-use Rattle.std.specs.Prelude.{ℕ, Bool, not, List, [], ◌∷◌, ◌++◌, map, is_some, string_bytes, if◌then◌else◌}
+use Rattle.std.specs.Prelude.{ℕ, Bool, not, List, [], ◌∷◌, ◌++◌, is_some, if◌then◌else◌}
 use Rattle.std.specs.List.{filter}
-use Rattle.std.specs.declared.string.String.{String}
-use Rattle.indexmap.specs.IndexMap.{IndexMap}
--- what a block has at a name, and its names in order
-pub use Rattle.go_open_core.specs.Blocks.{in_block, names_in}
-
--- the names of a table as a block
-abbrev pub table_of : {Y S X : Type 0} → IndexMap (String Y) X S → List (List ℕ × X)
-table_of table = map (λ e. (string_bytes e.0, e.1)) table.entries
+-- the names of a table as a block, what a block has at a name, and its names in order
+pub use Rattle.go_open_core.specs.Blocks.{block_of, in_block, names_in}
 
 -- whether a block has a name
 abbrev pub has : {X : Type 0} → List (List ℕ × X) → List ℕ → Bool

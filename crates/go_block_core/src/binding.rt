@@ -13,7 +13,6 @@ use go_text_core::{Name, Rule};
 use std::alloc::{AllocError, Global};
 
 /// What a name of a file block denotes.
-#[derive(Drop)]
 pub enum Target {
     /// The package of this path.
     Package(ImportPath),
@@ -23,12 +22,27 @@ pub enum Target {
     Exported(DeclKey),
 }
 
+impl Drop for Target {
+    fn drop(self) {
+        match self {
+            Target::Package(_) => {}
+            Target::Refused(_) => {}
+            Target::Exported(_) => {}
+        }
+    }
+}
+
 /// A binding of a file block.
-#[derive(Drop)]
 pub struct Binding {
     /// The offset in bytes of the string of the import that makes it.
     pub at: usize,
     pub target: Target,
+}
+
+impl Drop for Binding {
+    fn drop(self) {
+        let Binding { at: _, target: _ } = self;
+    }
 }
 
 /// A name with its binding.

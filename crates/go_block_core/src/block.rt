@@ -15,23 +15,32 @@ use std::alloc::{AllocError, Global};
 use std::marker::Model;
 
 /// The package block and the file blocks of a package, and the faults in them. Contracts see it as these three.
-#[derive(Drop)]
 pub struct Blocks {
     pub(crate) package: IndexMap<String, DeclRef>,
     pub(crate) files: Vec<IndexMap<String, Binding>>,
     pub(crate) faults: Vec<BlockFault>,
 }
 
+impl Drop for Blocks {
+    fn drop(self) {
+        let Blocks {
+            package: _,
+            files: _,
+            faults: _,
+        } = self;
+    }
+}
+
 impl Model for Blocks {
     ghost use Rattle.std.specs.Prelude.{map};
-    ghost use Rattle.go_block_core.specs.Tables.{table_of};
+    ghost use Rattle.go_block_core.specs.Tables.{block_of};
     ghost use Rattle.go_block_core.specs.Blocks.{BlocksModel, coded_blocks, blocks_model};
 
     ghost Value = { BlocksModel };
 
     ghost coded = { coded_blocks };
 
-    ghost view = { λ b. blocks_model (table_of b.package) (map table_of b.files.items) b.faults.items };
+    ghost view = { λ b. blocks_model (block_of b.package) (map block_of b.files.items) b.faults.items };
 }
 
 impl Blocks {

@@ -13,10 +13,15 @@ use std::marker::Model;
 use std::sync::Arc;
 
 /// A name of a package block, and its declaration.
-#[derive(Drop)]
 pub struct NamedDecl {
     pub name: Name,
     pub decl: DeclRef,
+}
+
+impl Drop for NamedDecl {
+    fn drop(self) {
+        let NamedDecl { name: _, decl: _ } = self;
+    }
 }
 
 /// What a package shows.
@@ -29,9 +34,14 @@ struct ExportsContent {
 
 /// What a package shows to those that import it: its path, the name in its clauses, and the exported names of its
 /// package block with their declarations. A handle over one shared pointer; contracts see the three.
-#[derive(Drop)]
 pub struct Exports {
     content: Arc<ExportsContent>,
+}
+
+impl Drop for Exports {
+    fn drop(self) {
+        let Exports { content: _ } = self;
+    }
 }
 
 impl Model for Exports {

@@ -7,12 +7,20 @@ use go_text_core::{Name, Rule};
 use std::alloc::AllocError;
 
 /// What an import comes to, as the package that has it sees it.
-#[derive(Drop)]
 pub enum Imported {
     /// A package that shows this.
     Package(Exports),
     /// None, by this rule.
     Refused(Rule),
+}
+
+impl Drop for Imported {
+    fn drop(self) {
+        match self {
+            Imported::Package(_) => {}
+            Imported::Refused(_) => {}
+        }
+    }
 }
 
 impl Imported {

@@ -6,7 +6,7 @@ ghost use Rattle.go_tree_nodes.specs.Shapes.{file_of};
 ghost use Rattle.go_graph_core.specs.Packages.{trees_of};
 ghost use Rattle.go_decl_core.specs.Shown.{decl_shown};
 ghost use Rattle.go_block_core.specs.Exports.{name_and_decl, exported_names};
-ghost use Rattle.go_block_core.specs.Tables.{table_of};
+ghost use Rattle.go_block_core.specs.Tables.{block_of};
 ghost use Rattle.go_block_core.specs.Declarations.{is_bindable, has_fixed_form, top_declared, file_declared, is_main_package, package_declared};
 ghost use Rattle.go_block_core.specs.Faults.{decl_faults_at, block_decl_faults, bound_faults_at, bound_faults, block_file_faults};
 ghost use Rattle.go_block_core.specs.Holding.{is_second_declaration, with_declared, declared_block, package_block, with_bound, bound_block, file_block, file_blocks, imports_in};
@@ -50,8 +50,8 @@ fn declare(
     alloc: Global,
     declared: &NamedPlace<'_>,
 ) -> Result<bool, AllocError>
-    ensures second { IfOk result (λ second. second ≡ is_second_declaration (table_of table.old) (declaration_shown declared.now)) }
-    ensures table { OnOk result (table_of table.new ≡ with_declared (table_of table.old) (declaration_shown declared.now)) }
+    ensures second { IfOk result (λ second. second ≡ is_second_declaration (block_of table.old) (declaration_shown declared.now)) }
+    ensures table { OnOk result (block_of table.new ≡ with_declared (block_of table.old) (declaration_shown declared.now)) }
 {
     let name = declared.name;
     if is_bindable(name) {
@@ -68,8 +68,8 @@ fn add_declared(
     declared: &NamedPlace<'_>,
     faults: &mut Vec<BlockFault>,
 ) -> Result<(), AllocError>
-    ensures table { OnOk result (table_of table.new ≡ with_declared (table_of table.old) (declaration_shown declared.now)) }
-    ensures faults { OnOk result (faults.new.items ≡ faults.old.items ++ decl_faults_at is_main (table_of table.old) (declaration_shown declared.now)) }
+    ensures table { OnOk result (block_of table.new ≡ with_declared (block_of table.old) (declaration_shown declared.now)) }
+    ensures faults { OnOk result (faults.new.items ≡ faults.old.items ++ decl_faults_at is_main (block_of table.old) (declaration_shown declared.now)) }
 {
     let file = declared.decl.file;
     let at = declared.at;
@@ -88,8 +88,8 @@ fn add_top(
     top: &TopDecl<'_>,
     faults: &mut Vec<BlockFault>,
 ) -> Result<(), AllocError>
-    ensures table { OnOk result (table_of table.new ≡ declared_block (table_of table.old) (top_declared file (decl_shown top.now))) }
-    ensures faults { OnOk result (faults.new.items ≡ faults.old.items ++ block_decl_faults is_main (table_of table.old) (top_declared file (decl_shown top.now))) }
+    ensures table { OnOk result (block_of table.new ≡ declared_block (block_of table.old) (top_declared file (decl_shown top.now))) }
+    ensures faults { OnOk result (faults.new.items ≡ faults.old.items ++ block_decl_faults is_main (block_of table.old) (top_declared file (decl_shown top.now))) }
 {
     match declaration(file, top) {
         Some(declared) => add_declared(table, alloc, is_main, &declared, faults),
@@ -107,8 +107,8 @@ fn add_file(
     faults: &mut Vec<BlockFault>,
 ) -> Result<(), AllocError>
     requires { IsPlaced (file_of tree.now) }
-    ensures table { OnOk result (table_of table.new ≡ declared_block (table_of table.old) (file_declared file (file_of tree.now))) }
-    ensures faults { OnOk result (faults.new.items ≡ faults.old.items ++ block_decl_faults is_main (table_of table.old) (file_declared file (file_of tree.now))) }
+    ensures table { OnOk result (block_of table.new ≡ declared_block (block_of table.old) (file_declared file (file_of tree.now))) }
+    ensures faults { OnOk result (faults.new.items ≡ faults.old.items ++ block_decl_faults is_main (block_of table.old) (file_declared file (file_of tree.now))) }
 {
     let outline = outline(alloc, tree)?;
     for top in &outline.decls {
@@ -123,7 +123,7 @@ pub(crate) fn package_block(
     package: &Package,
     faults: &mut Vec<BlockFault>,
 ) -> Result<IndexMap<String, DeclRef>, AllocError>
-    ensures table { IfOk result (λ table. table_of table ≡ package_block (trees_of «package».now.1)) }
+    ensures table { IfOk result (λ table. block_of table ≡ package_block (trees_of «package».now.1)) }
     ensures faults { OnOk result (faults.new.items ≡ faults.old.items ++ block_decl_faults (is_main_package (trees_of «package».now.1)) [] (package_declared (trees_of «package».now.1))) }
     // The tokens of each tree follow one another in its text.
     ensures placed { OnOk result (ArePlaced (trees_of «package».now.1)) }
@@ -151,8 +151,8 @@ fn add_bound(
     bound: BoundName<'_>,
     faults: &mut Vec<BlockFault>,
 ) -> Result<(), AllocError>
-    ensures table { OnOk result (table_of table.new ≡ with_bound (table_of table.old) (bound_shown bound.entry)) }
-    ensures faults { OnOk result (faults.new.items ≡ faults.old.items ++ bound_faults_at (table_of names.now) file (table_of table.old) (bound_shown bound.entry)) }
+    ensures table { OnOk result (block_of table.new ≡ with_bound (block_of table.old) (bound_shown bound.entry)) }
+    ensures faults { OnOk result (faults.new.items ≡ faults.old.items ++ bound_faults_at (block_of names.now) file (block_of table.old) (bound_shown bound.entry)) }
 {
     let BoundName { name, binding } = bound;
     let at = binding.at;
@@ -171,8 +171,8 @@ fn file_block(
     imports: &Vec<NamedImport>,
     faults: &mut Vec<BlockFault>,
 ) -> Result<IndexMap<String, Binding>, AllocError>
-    ensures table { IfOk result (λ table. table_of table ≡ file_block imports.now.items) }
-    ensures faults { OnOk result (faults.new.items ≡ faults.old.items ++ bound_faults (table_of names.now) file [] (file_bound imports.now.items)) }
+    ensures table { IfOk result (λ table. block_of table ≡ file_block imports.now.items) }
+    ensures faults { OnOk result (faults.new.items ≡ faults.old.items ++ bound_faults (block_of names.now) file [] (file_bound imports.now.items)) }
 {
     let all = bindings(alloc, imports)?;
     let mut table = IndexMap::new(alloc);
@@ -193,8 +193,8 @@ pub(crate) fn file_blocks(
     files: &Vec<Vec<NamedImport>>,
     faults: &mut Vec<BlockFault>,
 ) -> Result<Vec<IndexMap<String, Binding>>, AllocError>
-    ensures tables { IfOk result (λ tables. map table_of tables.items ≡ file_blocks (map imports_in files.now.items)) }
-    ensures faults { OnOk result (faults.new.items ≡ faults.old.items ++ block_file_faults (table_of names.now) 0 (map imports_in files.now.items)) }
+    ensures tables { IfOk result (λ tables. map block_of tables.items ≡ file_blocks (map imports_in files.now.items)) }
+    ensures faults { OnOk result (faults.new.items ≡ faults.old.items ++ block_file_faults (block_of names.now) 0 (map imports_in files.now.items)) }
 {
     let mut tables = Vec::new(alloc);
     for imports in files {
@@ -225,7 +225,7 @@ pub(crate) fn names_of(
     alloc: Global,
     table: &IndexMap<String, DeclRef>,
 ) -> Result<Vec<NamedDecl>, AllocError>
-    ensures { IfOk result (λ names. map name_and_decl names.items ≡ table_of table.now) }
+    ensures { IfOk result (λ names. map name_and_decl names.items ≡ block_of table.now) }
 {
     let mut names = Vec::new(alloc);
     for (name, decl) in table {
@@ -239,7 +239,7 @@ pub(crate) fn exported_of(
     alloc: Global,
     table: &IndexMap<String, DeclRef>,
 ) -> Result<Vec<NamedDecl>, AllocError>
-    ensures { IfOk result (λ names. map name_and_decl names.items ≡ exported_names (table_of table.now)) }
+    ensures { IfOk result (λ names. map name_and_decl names.items ≡ exported_names (block_of table.now)) }
 {
     let mut names = Vec::new(alloc);
     for (name, decl) in table {

@@ -1,6 +1,6 @@
 //! Tables of names.
 ghost use Rattle.std.specs.Prelude.{◌≡◌, OnOk, IfOk, map, option_copied};
-ghost use Rattle.go_block_core.specs.Tables.{table_of, in_block, has, with_first, names_in, without};
+ghost use Rattle.go_block_core.specs.Tables.{block_of, in_block, has, with_first, names_in, without};
 
 use go_parse_types::add;
 use indexmap::IndexMap;
@@ -8,14 +8,14 @@ use std::alloc::{AllocError, Global};
 
 /// What a table has at a name.
 pub(crate) fn find<'a, V>(table: &'a IndexMap<String, V>, name: &str) -> Option<&'a V>
-    ensures { option_copied result ≡ in_block (table_of table.now) name.now }
+    ensures { option_copied result ≡ in_block (block_of table.now) name.now }
 {
     table.get(name)
 }
 
 /// Whether a table has a name.
 pub(crate) fn has<V>(table: &IndexMap<String, V>, name: &str) -> bool
-    ensures { result ≡ has (table_of table.now) name.now }
+    ensures { result ≡ has (block_of table.now) name.now }
 {
     find(table, name).is_some()
 }
@@ -27,8 +27,8 @@ pub(crate) fn bind_first<V: Drop>(
     name: &str,
     value: V,
 ) -> Result<bool, AllocError>
-    ensures had { IfOk result (λ had. had ≡ has (table_of table.old) name.now) }
-    ensures table { OnOk result (table_of table.new ≡ with_first (table_of table.old) name.now value) }
+    ensures had { IfOk result (λ had. had ≡ has (block_of table.old) name.now) }
+    ensures table { OnOk result (block_of table.new ≡ with_first (block_of table.old) name.now value) }
 {
     if has(table, name) {
         return Ok(true);
@@ -43,7 +43,7 @@ pub(crate) fn names_in<'a, V>(
     alloc: Global,
     table: &'a IndexMap<String, V>,
 ) -> Result<Vec<&'a str>, AllocError>
-    ensures { IfOk result (λ names. map (λ n. n.now) names.items ≡ names_in (table_of table.now)) }
+    ensures { IfOk result (λ names. map (λ n. n.now) names.items ≡ names_in (block_of table.now)) }
 {
     let mut names = Vec::with_capacity(alloc, table.len())?;
     for (name, _) in table {
@@ -58,7 +58,7 @@ pub(crate) fn names_without<'a, V, W>(
     table: &'a IndexMap<String, V>,
     other: &IndexMap<String, W>,
 ) -> Result<Vec<&'a str>, AllocError>
-    ensures { IfOk result (λ names. map (λ n. n.now) names.items ≡ names_in (without (table_of other.now) (table_of table.now))) }
+    ensures { IfOk result (λ names. map (λ n. n.now) names.items ≡ names_in (without (block_of other.now) (block_of table.now))) }
 {
     let mut names = Vec::new(alloc);
     for (name, _) in table {

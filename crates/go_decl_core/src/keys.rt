@@ -27,11 +27,16 @@ pub fn place_order(one: DeclRef, other: DeclRef) -> Ordering
 }
 
 /// A declaration of a workspace.
-#[derive(Drop)]
 pub struct DeclKey {
     /// The path of its package.
     pub path: ImportPath,
     pub decl: DeclRef,
+}
+
+impl Drop for DeclKey {
+    fn drop(self) {
+        let DeclKey { path: _, decl: _ } = self;
+    }
 }
 
 impl DeclKey {

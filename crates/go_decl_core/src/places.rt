@@ -29,9 +29,14 @@ pub struct Place {
 
 /// The identifiers that a file declares outside function bodies, in order of offset. An identifier's number is its place in
 /// this list, from 0. Contracts see the list.
-#[derive(Drop)]
 pub struct Places {
     pub(crate) places: Vec<Place>,
+}
+
+impl Drop for Places {
+    fn drop(self) {
+        let Places { places: _ } = self;
+    }
 }
 
 impl Model for Places {

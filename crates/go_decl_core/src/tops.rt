@@ -64,9 +64,17 @@ pub struct TopDecl<'a> {
 }
 
 /// What a file declares outside function bodies.
-#[derive(Drop)]
 pub struct Outline<'a> {
     pub places: Places,
     /// The declarations outside functions, in order of offset.
     pub decls: Vec<TopDecl<'a>>,
+}
+
+impl Drop for Outline<'_> {
+    fn drop(self) {
+        let Outline {
+            places: _,
+            decls: _,
+        } = self;
+    }
 }

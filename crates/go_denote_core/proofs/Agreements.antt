@@ -9,8 +9,8 @@ use Rattle.go_operand_core.specs.Values.{default_type}
 use Rattle.go_operand_core.specs.Conversions.{convert, length_of}
 use Rattle.std.specs.List.{list_all}
 use Rattle.go_denote_core.specs.Arguments.{fits_type}
-use Rattle.go_denote_core.specs.declared.things.Place.{Place}
-use Rattle.go_denote_core.specs.declared.things.Place.TheVariants as places
+use Rattle.go_denote_core.specs.declared.things.Stand.{Stand}
+use Rattle.go_denote_core.specs.declared.things.Stand.TheVariants as stands
 use Rattle.go_denote_core.specs.declared.things.Usage.{Usage}
 use Rattle.go_denote_core.specs.declared.things.Usage.TheVariants as usages
 use Rattle.go_denote_core.specs.declared.things.Builtin.{Builtin}
@@ -48,35 +48,35 @@ typed_something look is_addressable (Some t) = refl
 
 -- names
 
-package_agrees : {T S D P : Type 0} (look : Look T S D P) (place : Place) (d : D) → Agree {T = T} {S = S} {P = P} (package_answer place d)
-package_agrees look places.«Type» d = refl
-package_agrees look places.TypeDot d = refl
-package_agrees look places.«Value» d = refl
-package_agrees look places.Callee d = refl
-package_agrees look places.BeforeDot d = refl
+package_agrees : {T S D P : Type 0} (look : Look T S D P) (place : Stand) (d : D) → Agree {T = T} {S = S} {P = P} (package_answer place d)
+package_agrees look stands.«Type» d = refl
+package_agrees look stands.TypeDot d = refl
+package_agrees look stands.«Value» d = refl
+package_agrees look stands.Callee d = refl
+package_agrees look stands.BeforeDot d = refl
 
-type_agrees : {T S D P : Type 0} (look : Look T S D P) (place : Place) (d : D) (t : Option T) → Agree {S = S} {P = P} (type_answer place d t)
-type_agrees look places.«Type» d t = refl
-type_agrees look places.TypeDot d t = refl
-type_agrees look places.«Value» d t = refl
-type_agrees look places.Callee d t = refl
-type_agrees look places.BeforeDot d t = refl
+type_agrees : {T S D P : Type 0} (look : Look T S D P) (place : Stand) (d : D) (t : Option T) → Agree {S = S} {P = P} (type_answer place d t)
+type_agrees look stands.«Type» d t = refl
+type_agrees look stands.TypeDot d t = refl
+type_agrees look stands.«Value» d t = refl
+type_agrees look stands.Callee d t = refl
+type_agrees look stands.BeforeDot d t = refl
 
-func_agrees : {T S D P : Type 0} (look : Look T S D P) (place : Place) (d : D) (func : Denoted T S D) → is_nothing func ≡ false → Agree {P = P} (func_answer place d func)
-func_agrees look places.«Type» d func something = refl
-func_agrees look places.TypeDot d func something = refl
-func_agrees look places.«Value» d func something = refl
-func_agrees look places.Callee d func something = something
-func_agrees look places.BeforeDot d func something = refl
+func_agrees : {T S D P : Type 0} (look : Look T S D P) (place : Stand) (d : D) (func : Denoted T S D) → is_nothing func ≡ false → Agree {P = P} (func_answer place d func)
+func_agrees look stands.«Type» d func something = refl
+func_agrees look stands.TypeDot d func something = refl
+func_agrees look stands.«Value» d func something = refl
+func_agrees look stands.Callee d func something = something
+func_agrees look stands.BeforeDot d func something = refl
 
-value_agrees : {T S D P : Type 0} (look : Look T S D P) (place : Place) (d : D) (value : Option (Operand T)) → Agree {S = S} {P = P} (value_answer place d value)
-value_agrees look places.«Type» d value = refl
-value_agrees look places.TypeDot d value = refl
-value_agrees look places.«Value» d value = value_something look value
-value_agrees look places.Callee d value = refl
-value_agrees look places.BeforeDot d value = value_something look value
+value_agrees : {T S D P : Type 0} (look : Look T S D P) (place : Stand) (d : D) (value : Option (Operand T)) → Agree {S = S} {P = P} (value_answer place d value)
+value_agrees look stands.«Type» d value = refl
+value_agrees look stands.TypeDot d value = refl
+value_agrees look stands.«Value» d value = value_something look value
+value_agrees look stands.Callee d value = refl
+value_agrees look stands.BeforeDot d value = value_something look value
 
-found_agrees : {T S D P : Type 0} (look : Look T S D P) (place : Place) (found : Found T S D) → Agree {P = P} (found_answer place found)
+found_agrees : {T S D P : Type 0} (look : Look T S D P) (place : Stand) (found : Found T S D) → Agree {P = P} (found_answer place found)
 found_agrees look place founds.Missing = refl
 found_agrees look place founds.BadImport = refl
 found_agrees look place founds.Outside = refl

@@ -14,8 +14,8 @@ use Rattle.go_operand_core.specs.Assign.{assignable_to}
 use Rattle.go_operand_core.specs.Operators.{value}
 use Rattle.go_operand_core.specs.Conversions.{makes_text, kept, length_constant, fits as is_convertible}
 use Rattle.go_denote_core.specs.Arguments.{fits_type}
-use Rattle.go_denote_core.specs.declared.things.Place.{Place}
-use Rattle.go_denote_core.specs.declared.things.Place.TheVariants as places
+use Rattle.go_denote_core.specs.declared.things.Stand.{Stand}
+use Rattle.go_denote_core.specs.declared.things.Stand.TheVariants as stands
 use Rattle.go_denote_core.specs.declared.things.Usage.{Usage}
 use Rattle.go_denote_core.specs.declared.things.Usage.TheVariants as usages
 use Rattle.go_denote_core.specs.declared.things.Builtin.TheVariants as builtins
@@ -40,36 +40,36 @@ use Rattle.go_denote_core.specs.Laws.{FirstRuleOfName, FirstRuleOfSelector, Firs
 
 -- names
 
-named : {T S D P : Type 0} (look : Look T S D P) (blank : Bool) (found : Found T S D) (place : Place) → HasFirst {P = P} (name_table blank found place) (IsDeclared (declaration_in found)) (if blank then refused N8 else found_answer place found).outcome
+named : {T S D P : Type 0} (look : Look T S D P) (blank : Bool) (found : Found T S D) (place : Stand) → HasFirst {P = P} (name_table blank found place) (IsDeclared (declaration_in found)) (if blank then refused N8 else found_answer place found).outcome
 named look true found place = refl
 named look false founds.Missing place = refl
 named look false founds.BadImport place = refl
 named look false founds.Outside place = refl
-named look false (founds.«Package» d) places.«Type» = refl
-named look false (founds.«Package» d) places.TypeDot = refl
-named look false (founds.«Package» d) places.«Value» = refl
-named look false (founds.«Package» d) places.Callee = refl
-named look false (founds.«Package» d) places.BeforeDot = refl
-named look false (founds.«Type» d t) places.«Type» = refl
-named look false (founds.«Type» d t) places.TypeDot = refl
-named look false (founds.«Type» d t) places.«Value» = refl
-named look false (founds.«Type» d t) places.Callee = refl
-named look false (founds.«Type» d t) places.BeforeDot = refl
-named look false (founds.Func d s) places.«Type» = refl
-named look false (founds.Func d s) places.TypeDot = refl
-named look false (founds.Func d s) places.«Value» = refl
-named look false (founds.Func d s) places.Callee = refl
-named look false (founds.Func d s) places.BeforeDot = refl
-named look false (founds.Builtin d b) places.«Type» = refl
-named look false (founds.Builtin d b) places.TypeDot = refl
-named look false (founds.Builtin d b) places.«Value» = refl
-named look false (founds.Builtin d b) places.Callee = refl
-named look false (founds.Builtin d b) places.BeforeDot = refl
-named look false (founds.«Value» d value) places.«Type» = refl
-named look false (founds.«Value» d value) places.TypeDot = refl
-named look false (founds.«Value» d value) places.«Value» = refl
-named look false (founds.«Value» d value) places.Callee = refl
-named look false (founds.«Value» d value) places.BeforeDot = refl
+named look false (founds.«Package» d) stands.«Type» = refl
+named look false (founds.«Package» d) stands.TypeDot = refl
+named look false (founds.«Package» d) stands.«Value» = refl
+named look false (founds.«Package» d) stands.Callee = refl
+named look false (founds.«Package» d) stands.BeforeDot = refl
+named look false (founds.«Type» d t) stands.«Type» = refl
+named look false (founds.«Type» d t) stands.TypeDot = refl
+named look false (founds.«Type» d t) stands.«Value» = refl
+named look false (founds.«Type» d t) stands.Callee = refl
+named look false (founds.«Type» d t) stands.BeforeDot = refl
+named look false (founds.Func d s) stands.«Type» = refl
+named look false (founds.Func d s) stands.TypeDot = refl
+named look false (founds.Func d s) stands.«Value» = refl
+named look false (founds.Func d s) stands.Callee = refl
+named look false (founds.Func d s) stands.BeforeDot = refl
+named look false (founds.Builtin d b) stands.«Type» = refl
+named look false (founds.Builtin d b) stands.TypeDot = refl
+named look false (founds.Builtin d b) stands.«Value» = refl
+named look false (founds.Builtin d b) stands.Callee = refl
+named look false (founds.Builtin d b) stands.BeforeDot = refl
+named look false (founds.«Value» d value) stands.«Type» = refl
+named look false (founds.«Value» d value) stands.TypeDot = refl
+named look false (founds.«Value» d value) stands.«Value» = refl
+named look false (founds.«Value» d value) stands.Callee = refl
+named look false (founds.«Value» d value) stands.BeforeDot = refl
 
 pub first_of_name : {T S D P : Type 0} → FirstRuleOfName T S D P
 first_of_name look place name = named look (is_blank name) (look.names.find name) place

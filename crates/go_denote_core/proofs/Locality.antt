@@ -4,7 +4,7 @@ use Rattle.std.specs.Prelude.{Option, Some, None, Result, Ok, Err, MatchOption, 
 use Rattle.std.specs.List.{list_all}
 use Rattle.go_text_core.specs.Text.{is_blank}
 use Rattle.go_text_core.specs.declared.rule.Rule.TheVariants.{N8, S4, S8, C2, C3, C4, X1}
-use Rattle.go_denote_core.specs.declared.things.Place.{Place}
+use Rattle.go_denote_core.specs.declared.things.Stand.{Stand}
 use Rattle.go_denote_core.specs.declared.things.Usage.{Usage}
 use Rattle.go_denote_core.specs.declared.things.Builtin.TheVariants as builtins
 use Rattle.go_denote_core.specs.declared.things.Denoted.{Denoted}
@@ -34,7 +34,7 @@ use Rattle.go_denote_core.specs.Laws.{SaysAlike, ValueAlike, GivenAlike, EachAli
 
 -- names
 
-name_alike : {T S D P : Type 0} (look other : Look T S D P) (place : Place) (name name' : List ℕ) → is_blank name ≡ is_blank name' → look.names.find name ≡ other.names.find name' → name_answer look place name ≡ name_answer other place name'
+name_alike : {T S D P : Type 0} (look other : Look T S D P) (place : Stand) (name name' : List ℕ) → is_blank name ≡ is_blank name' → look.names.find name ≡ other.names.find name' → name_answer look place name ≡ name_answer other place name'
 name_alike look other place name name' blank found =
     ap (λ b. if b then refused N8 else found_answer place (look.names.find name)) blank ∙ ap (λ f. if is_blank name' then refused N8 else found_answer place f) found
 

@@ -1,6 +1,6 @@
 -- What an identifier has in its context, which is known without its spelling.
 use Rattle.std.specs.Prelude.{ℕ, List}
-use Rattle.go_denote_core.specs.declared.things.Place.{Place}
+use Rattle.go_denote_core.specs.declared.things.Stand.{Stand}
 use Rattle.go_denote_core.specs.declared.things.Usage.{Usage}
 use Rattle.go_denote_core.specs.declared.things.Dot.{Dot}
 use Rattle.go_denote_core.specs.declared.things.Outcome.{Outcome}
@@ -10,7 +10,7 @@ use Rattle.go_denote_core.specs.Selectors.{selector_answer}
 
 pub data NameContext (T D : Type 0) : Type 0 where
   -- a name alone, where it stands
-  NameAt : Place → NameContext T D
+  NameAt : Stand → NameContext T D
   -- a selector, by how the whole is used and what stands left of its dot
   SelectorBehind : Usage → Dot T D → NameContext T D
 

@@ -4,7 +4,7 @@ use Rattle.go_text_core.specs.Text.{is_blank}
 use Rattle.go_operand_core.specs.declared.types.ValueType.{ValueType}
 use Rattle.go_operand_core.specs.TypeRules.{TypeRules}
 use Rattle.go_operand_core.specs.Values.{default_type}
-use Rattle.go_denote_core.specs.declared.things.Place.{Place}
+use Rattle.go_denote_core.specs.declared.things.Stand.{Stand}
 use Rattle.go_denote_core.specs.declared.things.Usage.{Usage}
 use Rattle.go_denote_core.specs.declared.things.Builtin.TheVariants as builtins
 use Rattle.go_denote_core.specs.declared.things.Outcome.{Outcome}
@@ -25,7 +25,7 @@ use Rattle.go_denote_core.specs.Rules.{HasFirst, IsDeclared, IsChosen, name_rule
 
 -- a name has the first rule that it breaks, and its declaration where it breaks none
 abbrev pub FirstRuleOfName : (T S D P : Type 0) → Type 0
-FirstRuleOfName T S D P = (look : Look T S D P) (place : Place) (name : List ℕ)
+FirstRuleOfName T S D P = (look : Look T S D P) (place : Stand) (name : List ℕ)
     → HasFirst (name_rules look place name) (IsDeclared (declaration_in (look.names.find name))) (name_answer look place name).outcome
 
 -- a selector has the first rule that it breaks, and where it breaks none the declaration in the package, or the member
@@ -53,7 +53,7 @@ abbrev pub Agree : {T S D P : Type 0} → Answer T S D P → Type 0
 Agree answer = is_nothing answer.denoted ≡ is_rule answer.outcome
 
 pub record RefusedDenotesNothing (T S D P : Type 0) : Type 0 where
-  pub names : (look : Look T S D P) (place : Place) (name : List ℕ) → Agree (name_answer look place name)
+  pub names : (look : Look T S D P) (place : Stand) (name : List ℕ) → Agree (name_answer look place name)
   pub selectors : (look : Look T S D P) (usage : Usage) (dot : Dot T D) (name : List ℕ) → Agree (selector_answer look usage dot name)
   pub calls : (look : Look T S D P) (callee : Denoted T S D) (is_free : Bool) (given : List (Argument T)) → Agree (call_answer look callee is_free given)
 
@@ -73,8 +73,8 @@ SaysAlike look other (dots.«Value» operand) name name' =
     MembersAlike look other (default_type look.types operand.value_type) (default_type other.types operand.value_type) name name'
 
 pub record OwnNameDecidesName (T S D P : Type 0) : Type 0 where
-  pub by_rule : (look : Look T S D P) (place : Place) (name : List ℕ) → (name_answer look place name).outcome ≡ name_outcome look (NameAt place) name
-  pub own_name : (look : Look T S D P) (place : Place) (name name' : List ℕ)
+  pub by_rule : (look : Look T S D P) (place : Stand) (name : List ℕ) → (name_answer look place name).outcome ≡ name_outcome look (NameAt place) name
+  pub own_name : (look : Look T S D P) (place : Stand) (name name' : List ℕ)
       → is_blank name ≡ is_blank name' → look.names.find name ≡ look.names.find name' → name_outcome look (NameAt place) name ≡ name_outcome look (NameAt place) name'
 
 pub record OwnNameDecidesSelector (T S D P : Type 0) : Type 0 where
@@ -86,7 +86,7 @@ pub record OwnNameDecidesSelector (T S D P : Type 0) : Type 0 where
 -- answers are the same under look-ups that agree on what is asked
 
 abbrev pub NamesAreLocal : (T S D P : Type 0) → Type 0
-NamesAreLocal T S D P = (look other : Look T S D P) (place : Place) (name : List ℕ)
+NamesAreLocal T S D P = (look other : Look T S D P) (place : Stand) (name : List ℕ)
     → look.names.find name ≡ other.names.find name → name_answer look place name ≡ name_answer other place name
 
 abbrev pub SelectorsAreLocal : (T S D P : Type 0) → Type 0

@@ -12,8 +12,8 @@ use Rattle.go_operand_core.specs.declared.types.Operand.{Operand}
 use Rattle.go_operand_core.specs.Values.{is_over, basic_under, default_type}
 use Rattle.go_operand_core.specs.Assign.{assignable_to}
 use Rattle.go_operand_core.specs.Conversions.{makes_text, fits as is_convertible}
-use Rattle.go_denote_core.specs.declared.things.Place.{Place}
-use Rattle.go_denote_core.specs.declared.things.Place.TheVariants as places
+use Rattle.go_denote_core.specs.declared.things.Stand.{Stand}
+use Rattle.go_denote_core.specs.declared.things.Stand.TheVariants as stands
 use Rattle.go_denote_core.specs.declared.things.Usage.{Usage}
 use Rattle.go_denote_core.specs.declared.things.Usage.TheVariants as usages
 use Rattle.go_denote_core.specs.declared.things.Builtin.{Builtin}
@@ -80,28 +80,28 @@ is_func (founds.Func d s) = true
 is_func (founds.Builtin d b) = true
 is_func _ = false
 
-abbrev pub wants_type : Place → Bool
-wants_type places.«Type» = true
+abbrev pub wants_type : Stand → Bool
+wants_type stands.«Type» = true
 wants_type _ = false
 
-abbrev pub wants_package : Place → Bool
-wants_package places.TypeDot = true
+abbrev pub wants_package : Stand → Bool
+wants_package stands.TypeDot = true
 wants_package _ = false
 
-abbrev pub is_before_dot : Place → Bool
-is_before_dot places.BeforeDot = true
-is_before_dot places.TypeDot = true
+abbrev pub is_before_dot : Stand → Bool
+is_before_dot stands.BeforeDot = true
+is_before_dot stands.TypeDot = true
 is_before_dot _ = false
 
-abbrev pub is_operand : Place → Bool
-is_operand places.«Value» = true
+abbrev pub is_operand : Stand → Bool
+is_operand stands.«Value» = true
 is_operand _ = false
 
-abbrev pub is_called : Place → Bool
-is_called places.Callee = true
+abbrev pub is_called : Stand → Bool
+is_called stands.Callee = true
 is_called _ = false
 
-abbrev pub name_table : {T S D : Type 0} → Bool → Found T S D → Place → List (Option Rule)
+abbrev pub name_table : {T S D : Type 0} → Bool → Found T S D → Stand → List (Option Rule)
 name_table blank found place =
     -- it is `_`
     breaks N8 blank
@@ -123,7 +123,7 @@ name_table blank found place =
     ∷ breaks X1 (is_func found && not (is_called place))
     ∷ []
 
-abbrev pub name_rules : {T S D P : Type 0} → Look T S D P → Place → List ℕ → List (Option Rule)
+abbrev pub name_rules : {T S D P : Type 0} → Look T S D P → Stand → List ℕ → List (Option Rule)
 name_rules look place name = name_table (is_blank name) (look.names.find name) place
 
 abbrev pub declaration_in : {T S D : Type 0} → Found T S D → Option D

@@ -6,8 +6,8 @@ use Rattle.std.specs.Prelude.{ℕ, Bool, not, ◌||◌, List, Option, Some, None
 use Rattle.go_text_core.specs.Text.{is_blank}
 use Rattle.go_text_core.specs.declared.rule.Rule.TheVariants.{N2, N3, S4, S5, S6, S8, C1, X1}
 use Rattle.go_operand_core.specs.Values.{default_type}
-use Rattle.go_denote_core.specs.declared.things.Place.{Place}
-use Rattle.go_denote_core.specs.declared.things.Place.TheVariants as places
+use Rattle.go_denote_core.specs.declared.things.Stand.{Stand}
+use Rattle.go_denote_core.specs.declared.things.Stand.TheVariants as stands
 use Rattle.go_denote_core.specs.declared.things.Usage.{Usage}
 use Rattle.go_denote_core.specs.declared.things.Usage.TheVariants as usages
 use Rattle.go_denote_core.specs.declared.things.Outcome.TheVariants as outcomes
@@ -24,10 +24,10 @@ use Rattle.go_denote_core.specs.Look.{Look}
 use Rattle.go_denote_core.specs.Answers.{refused, value_of_type, type_answer, func_answer, value_answer}
 
 -- a selector after a package is judged as a name where the whole stands
-abbrev pub usage_place : Usage → Place
-usage_place usages.«Type» = places.«Type»
-usage_place usages.«Value» = places.«Value»
-usage_place usages.Callee = places.Callee
+abbrev pub usage_place : Usage → Stand
+usage_place usages.«Type» = stands.«Type»
+usage_place usages.«Value» = stands.«Value»
+usage_place usages.Callee = stands.Callee
 
 abbrev pub exported_answer : {T S D P : Type 0} → Usage → Exported T S D → Answer T S D P
 exported_answer usage exporteds.Absent = refused N3

@@ -4,7 +4,7 @@ ghost use Rattle.go_denote_core.specs.Look.{look_of};
 ghost use Rattle.go_denote_core.specs.Answers as answers;
 
 use crate::looks::Names;
-use crate::things::{Answer, Denoted, Found, Outcome, Place};
+use crate::things::{Answer, Denoted, Found, Outcome, Stand};
 use go_operand_core::{Operand, ValueType};
 use go_text_core::Rule;
 use std::alloc::{AllocError, Global};
@@ -52,46 +52,46 @@ pub(crate) fn value_of_type<T: Drop, S: Drop, D: Drop>(
 // A package where one may stand.
 fn package_answer<E: Names>(
     env: &E,
-    place: Place,
+    place: Stand,
     decl: E::Decl,
 ) -> Answer<E::Type, E::Signature, E::Decl, E::Path>
     ensures { result ≡ answers.package_answer place decl }
 {
     match place {
-        Place::BeforeDot | Place::TypeDot => {
+        Stand::BeforeDot | Stand::TypeDot => {
             declared(env.again_decl(&decl), Denoted::Package(decl))
         }
-        Place::Type | Place::Value | Place::Callee => refused(Rule::N4),
+        Stand::Type | Stand::Value | Stand::Callee => refused(Rule::N4),
     }
 }
 
 /// A type where one may stand.
 pub(crate) fn type_answer<E: Names>(
     env: &E,
-    place: Place,
+    place: Stand,
     decl: E::Decl,
     t: Option<E::Type>,
 ) -> Answer<E::Type, E::Signature, E::Decl, E::Path>
     ensures { result ≡ answers.type_answer place decl t }
 {
     match place {
-        Place::Type | Place::Callee => declared(env.again_decl(&decl), Denoted::Type(decl, t)),
-        Place::TypeDot | Place::Value | Place::BeforeDot => refused(Rule::N5),
+        Stand::Type | Stand::Callee => declared(env.again_decl(&decl), Denoted::Type(decl, t)),
+        Stand::TypeDot | Stand::Value | Stand::BeforeDot => refused(Rule::N5),
     }
 }
 
 /// A function where one may stand.
 pub(crate) fn func_answer<T: Drop, S: Drop, D: Drop, P: Drop>(
-    place: Place,
+    place: Stand,
     decl: D,
     func: Denoted<T, S, D>,
 ) -> Answer<T, S, D, P>
     ensures { result ≡ answers.func_answer place decl func }
 {
     match place {
-        Place::Type | Place::TypeDot => refused(Rule::N6),
-        Place::Callee => declared(decl, func),
-        Place::Value | Place::BeforeDot => refused(Rule::X1),
+        Stand::Type | Stand::TypeDot => refused(Rule::N6),
+        Stand::Callee => declared(decl, func),
+        Stand::Value | Stand::BeforeDot => refused(Rule::X1),
     }
 }
 
@@ -107,22 +107,22 @@ fn of_value<T: Drop, S: Drop, D: Drop>(value: Option<Operand<T>>) -> Denoted<T, 
 
 /// A constant, a variable or `nil` where one may stand.
 pub(crate) fn value_answer<T: Drop, S: Drop, D: Drop, P: Drop>(
-    place: Place,
+    place: Stand,
     decl: D,
     value: Option<Operand<T>>,
 ) -> Answer<T, S, D, P>
     ensures { result ≡ answers.value_answer place decl value }
 {
     match place {
-        Place::Type | Place::TypeDot => refused(Rule::N6),
-        Place::Callee => refused(Rule::C1),
-        Place::Value | Place::BeforeDot => declared(decl, of_value(value)),
+        Stand::Type | Stand::TypeDot => refused(Rule::N6),
+        Stand::Callee => refused(Rule::C1),
+        Stand::Value | Stand::BeforeDot => declared(decl, of_value(value)),
     }
 }
 
 fn found_answer<E: Names>(
     env: &E,
-    place: Place,
+    place: Stand,
     found: Found<E::Type, E::Signature, E::Decl>,
 ) -> Answer<E::Type, E::Signature, E::Decl, E::Path>
     ensures { result ≡ answers.found_answer place found }
@@ -154,7 +154,7 @@ fn found_answer<E: Names>(
 pub fn name_answer<E: Names>(
     env: &E,
     alloc: Global,
-    place: Place,
+    place: Stand,
     name: &str,
 ) -> Result<Answer<E::Type, E::Signature, E::Decl, E::Path>, AllocError>
     ensures { IfOk result (λ answer. answer ≡ answers.name_answer (look_of (E.types env.now) (E.names env.now)) place name.now) }

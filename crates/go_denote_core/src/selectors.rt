@@ -6,7 +6,7 @@ ghost use Rattle.go_operand_core.specs.Values.{default_type};
 
 use crate::answers::{func_answer, refused, type_answer, value_answer, value_of_type};
 use crate::looks::Names;
-use crate::things::{Answer, Denoted, Dot, Exported, Outcome, Place, Selection, Usage};
+use crate::things::{Answer, Denoted, Dot, Exported, Outcome, Selection, Stand, Usage};
 use go_operand_core::{Operand, ValueType};
 use go_text_core::Rule;
 use std::alloc::{AllocError, Global};
@@ -28,13 +28,13 @@ pub fn dot_of<T: Drop, S: Drop, D: Drop>(is_name: bool, denoted: Denoted<T, S, D
     }
 }
 
-fn place_of(usage: Usage) -> Place
+fn place_of(usage: Usage) -> Stand
     ensures { result ≡ selectors.usage_place usage }
 {
     match usage {
-        Usage::Type => Place::Type,
-        Usage::Value => Place::Value,
-        Usage::Callee => Place::Callee,
+        Usage::Type => Stand::Type,
+        Usage::Value => Stand::Value,
+        Usage::Callee => Stand::Callee,
     }
 }
 

@@ -6,7 +6,7 @@ use go_text_core::Rule;
 
 /// Where a name stands.
 #[derive(Clone, Copy)]
-pub enum Place {
+pub enum Stand {
     /// Where a type is wanted.
     Type,
     /// Left of the dot of a type's name, where a package is wanted.

@@ -7,11 +7,12 @@ use Rattle.go_term_core.specs.declared.term.Field.{Field}
 use Rattle.go_term_core.specs.Terms.{Term, NoType, Predeclared, ErrorType, Defined, PointerTo, StructOf, InterfaceOf, Fields, NoField, AField}
 use Rattle.go_term_core.specs.Shapes.{Line, line_at, fields_in}
 use Rattle.go_type_core.specs.table_core.Entries.{has_method}
+use Rattle.go_type_core.specs.table_core.Methods.{term_fields}
 use Rattle.go_type_core.specs.table_core.Shown.{hides_field, hides_some}
 use Rattle.go_embed_core.specs.declared.owner.Embedded.{Embedded}
 use Rattle.go_embed_core.specs.Owners.{OwnerModel, EmbeddedEdge, embedded_edge, embedded_edges, term_embedded, embedded_in, edge_at, embeds_at, term_field_count, owner_field_count}
 use Rattle.go_embed_core.specs.OwnersShown.{embedded_shown}
-use Rattle.go_embed_core.specs.mirrors.Edges.{struct_fields, hidden_by, IsHiding, edge_if, edges_from}
+use Rattle.go_embed_core.specs.mirrors.Edges.{hidden_by, IsHiding, edge_if, edges_from}
 use Rattle.go_embed_core.proofs.Rows.{count_list}
 use Rattle.go_term_core.specs.Forms.{field_count}
 
@@ -66,7 +67,7 @@ module _ (ls : List Line) where
       hides_here o path fs i f (omega arith) is (or_parts (has_method o.path o.methods g.name path) (hides_field o.path o.methods path (fields_in ls fs)) h).1
 
   -- the edges of an owner's underlying type by its fields
-  under_past : (o : OwnerModel) (u : Term) (fs : List Field) (n : ℕ) → fields_in ls fs ≡ struct_fields u → length fs ≤ n → edge_at (term_embedded o u) n ≡ None
+  under_past : (o : OwnerModel) (u : Term) (fs : List Field) (n : ℕ) → fields_in ls fs ≡ term_fields u → length fs ≤ n → edge_at (term_embedded o u) n ≡ None
   under_past o NoType fs n e le = refl
   under_past o (Predeclared b) fs n e le = refl
   under_past o ErrorType fs n e le = refl
@@ -90,7 +91,7 @@ module _ (ls : List Line) where
   shown_edge : (o : OwnerModel) (path : List ℕ) (n : ℕ) (f : Field) → has_method o.path o.methods f.name path ≡ false → edge_if ((line_at ls f.line).embedded && not (has_method o.path o.methods f.name path)) n (line_at ls f.line).term ≡ edge_if (line_at ls f.line).embedded n (line_at ls f.line).term
   shown_edge o path n f h = ap (λ b. edge_if ((line_at ls f.line).embedded && not b) n (line_at ls f.line).term) h ∙ ap (λ b. edge_if b n (line_at ls f.line).term) (and_yes (line_at ls f.line).embedded)
 
-  under_hidden : (o : OwnerModel) (u : Term) (fs : List Field) (n : ℕ) (f : Field) → fields_in ls fs ≡ struct_fields u → n < length fs → f ≡ get_or fs n f → hidden_by o f.name u ≡ true → edge_at (term_embedded o u) n ≡ None
+  under_hidden : (o : OwnerModel) (u : Term) (fs : List Field) (n : ℕ) (f : Field) → fields_in ls fs ≡ term_fields u → n < length fs → f ≡ get_or fs n f → hidden_by o f.name u ≡ true → edge_at (term_embedded o u) n ≡ None
   under_hidden o NoType fs n f e lt is h = refl
   under_hidden o (Predeclared b) fs n f e lt is h = refl
   under_hidden o ErrorType fs n f e lt is h = refl
@@ -100,7 +101,7 @@ module _ (ls : List Line) where
       place_is o path 0 gs n n (omega arith) ∙ (ap (λ hs. at_place o path n hs n) (sym e) ∙ (in_fields o path n fs n f lt is ∙ hidden_edge o path n f h))
   under_hidden o (InterfaceOf path ms) fs n f e lt is h = refl
 
-  under_shown : (o : OwnerModel) (u : Term) (fs : List Field) (n : ℕ) (f : Field) → fields_in ls fs ≡ struct_fields u → n < length fs → f ≡ get_or fs n f
+  under_shown : (o : OwnerModel) (u : Term) (fs : List Field) (n : ℕ) (f : Field) → fields_in ls fs ≡ term_fields u → n < length fs → f ≡ get_or fs n f
       → (hidden_by o f.name u ≡ false) ⊎ (hides_some o.path o.methods u ≡ false) → edge_at (term_embedded o u) n ≡ edge_if (line_at ls f.line).embedded n (line_at ls f.line).term
   under_shown o NoType fs n f e lt is h = absurd (no_place fs n e lt)
   under_shown o (Predeclared b) fs n f e lt is h = absurd (no_place fs n e lt)
@@ -114,19 +115,19 @@ module _ (ls : List Line) where
   under_shown o (InterfaceOf path ms) fs n f e lt is h = absurd (no_place fs n e lt)
 
   -- no field has the number
-  pub embeds_past : (o : OwnerModel) (fs : List Field) (n : ℕ) → fields_in ls fs ≡ struct_fields o.underlying → length fs ≤ n → embeds_at o n ≡ None
+  pub embeds_past : (o : OwnerModel) (fs : List Field) (n : ℕ) → fields_in ls fs ≡ term_fields o.underlying → length fs ≤ n → embeds_at o n ≡ None
   embeds_past o fs n e le = under_past o o.underlying fs n e le
 
   -- the field of that number is kept from the owner
-  pub embeds_hidden : (o : OwnerModel) (fs : List Field) (n : ℕ) (f : Field) (b : Bool) → fields_in ls fs ≡ struct_fields o.underlying → n < length fs → f ≡ get_or fs n f → IsHiding b o f.name → b ≡ true → embeds_at o n ≡ None
+  pub embeds_hidden : (o : OwnerModel) (fs : List Field) (n : ℕ) (f : Field) (b : Bool) → fields_in ls fs ≡ term_fields o.underlying → n < length fs → f ≡ get_or fs n f → IsHiding b o f.name → b ≡ true → embeds_at o n ≡ None
   embeds_hidden o fs n f b e lt is h on = under_hidden o o.underlying fs n f e lt is (h.kept on)
 
   -- it is the owner's
-  pub embeds_shown : (o : OwnerModel) (fs : List Field) (n : ℕ) (f : Field) (b : Bool) → fields_in ls fs ≡ struct_fields o.underlying → n < length fs → f ≡ get_or fs n f → IsHiding b o f.name → b ≡ false
+  pub embeds_shown : (o : OwnerModel) (fs : List Field) (n : ℕ) (f : Field) (b : Bool) → fields_in ls fs ≡ term_fields o.underlying → n < length fs → f ≡ get_or fs n f → IsHiding b o f.name → b ≡ false
       → embeds_at o n ≡ edge_if (line_at ls f.line).embedded n (line_at ls f.line).term
   embeds_shown o fs n f b e lt is h off = under_shown o o.underlying fs n f e lt is (h.left off)
 
-  count_under : (u : Term) → field_count (struct_fields u) ≡ term_field_count u
+  count_under : (u : Term) → field_count (term_fields u) ≡ term_field_count u
   count_under NoType = refl
   count_under (Predeclared b) = refl
   count_under ErrorType = refl
@@ -135,7 +136,7 @@ module _ (ls : List Line) where
   count_under (StructOf path fs) = refl
   count_under (InterfaceOf path ms) = refl
 
-  pub count_owner : (o : OwnerModel) (fs : List Field) → fields_in ls fs ≡ struct_fields o.underlying → length fs ≡ owner_field_count o
+  pub count_owner : (o : OwnerModel) (fs : List Field) → fields_in ls fs ≡ term_fields o.underlying → length fs ≡ owner_field_count o
   count_owner o fs e = sym (count_list ls fs) ∙ (ap field_count e ∙ count_under o.underlying)
 
 -- 3. All edges.

@@ -12,7 +12,7 @@ ghost use Rattle.go_type_core.specs.settle_core.Settled.{can_be_pointed};
 use go_path_core::ImportPath;
 use go_term_core::FieldLine;
 use go_text_core::{Name, Rule, add};
-use go_type_core::settle_core::SeenNames;
+use go_type_core::settle_core::{SeenNames, is_blank};
 use go_type_core::table_core::FieldTable;
 use go_type_core::{
     DeclaredMethod, Field, Kind, Kinds, MemberPlace, Method, Signature, TypeTerm, can_embed,
@@ -25,13 +25,6 @@ pub struct MemberFault {
     pub place: MemberPlace,
     /// B5 where its name is repeated, or blank where it may not be; Y2 where a field's type may not be embedded.
     pub rule: Rule,
-}
-
-// Whether a name is the blank identifier.
-pub(crate) fn is_blank(name: &str) -> bool
-    ensures { result ≡ is_blank name.now }
-{
-    name == "_"
 }
 
 // Notes a fault, where there is one.

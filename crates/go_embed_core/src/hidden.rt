@@ -8,9 +8,10 @@ ghost use Rattle.go_type_core.specs.table_core.Shown.{member_shown};
 ghost use Rattle.go_embed_core.specs.Faults.{is_left_out, own_names, named_faults, hidden_faults};
 ghost use Rattle.go_embed_core.specs.mirrors.Passing.{SameNames, names_with};
 
-use crate::faults::{MemberFault, is_blank, note_if};
+use crate::faults::{MemberFault, note_if};
 use go_path_core::ImportPath;
 use go_text_core::Rule;
+use go_type_core::settle_core::is_blank;
 use go_type_core::table_core::FieldTable;
 use go_type_core::{DeclaredMethod, Field, TypeTerm};
 use indexmap::IndexSet;

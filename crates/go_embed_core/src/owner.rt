@@ -1,12 +1,13 @@
 //! A type whose members are asked for.
 ghost use Rattle.std.specs.Prelude.{◌≡◌, ◌++◌, ◌∷◌, [], IfOk, OnOk, map, option_map, option_to_list};
 ghost use Rattle.go_term_core.specs.Terms.{Defined, NoField, StructOf};
-ghost use Rattle.go_term_core.specs.Shapes.{shape, fields_in, line_at, line_shapes};
+ghost use Rattle.go_term_core.specs.Shapes.{shape, shape_found, fields_in, line_at, line_shapes};
 ghost use Rattle.go_type_core.specs.table_core.Entries.{find_entry};
+ghost use Rattle.go_type_core.specs.table_core.Methods.{term_fields};
 ghost use Rattle.go_type_core.specs.table_core.Shown.{line_shown, member_shown};
 ghost use Rattle.go_embed_core.specs.Owners.{AFieldOf, owner_in, embeds_at, embedded_in, owner_field_count, has_spelled, declared_found, fields_found, term_found, members_of, is_spelled_in, embedded_edge, nobody};
 ghost use Rattle.go_embed_core.specs.OwnersShown.{owner_shown, source_shown, entry_owner, embedded_shown, named_shown, AreHits};
-ghost use Rattle.go_embed_core.specs.mirrors.Edges.{under_shown, struct_fields, hidden_in, IsHiding, edge_if};
+ghost use Rattle.go_embed_core.specs.mirrors.Edges.{hidden_in, IsHiding, edge_if};
 ghost use Rattle.go_embed_core.specs.mirrors.Tallies.{hits_shown, tallies, tally_of};
 
 use crate::member::{
@@ -76,7 +77,7 @@ fn source_of<'a>(table: &'a TypeTable, term: &'a TypeTerm) -> Source<'a>
 
 // The fields of a struct type, and none of any other type.
 fn struct_fields<'a>(term: &'a TypeTerm) -> StructFields<'a>
-    ensures { fields_in (line_shapes result.lines.now) result.fields.now ≡ struct_fields (shape term.now) }
+    ensures { fields_in (line_shapes result.lines.now) result.fields.now ≡ term_fields (shape term.now) }
 {
     match term {
         TypeTerm::Struct(_, fields, lines) => StructFields {
@@ -272,7 +273,7 @@ impl<'a> Owner<'a> {
 
     // Its underlying type, or none where the table has not the type.
     fn underlying(&self) -> Option<&'a TypeTerm>
-        ensures { under_shown result ≡ (owner_shown self.now).underlying }
+        ensures { shape_found result ≡ (owner_shown self.now).underlying }
     {
         match self.source {
             Source::Entry(defined) => Some(defined.underlying()),
@@ -283,7 +284,7 @@ impl<'a> Owner<'a> {
 
     // The fields of its struct type, or none where it is none.
     fn fields(&self) -> StructFields<'a>
-        ensures { fields_in (line_shapes result.lines.now) result.fields.now ≡ struct_fields (owner_shown self.now).underlying }
+        ensures { fields_in (line_shapes result.lines.now) result.fields.now ≡ term_fields (owner_shown self.now).underlying }
     {
         match self.underlying() {
             Some(term) => struct_fields(term),

@@ -10,7 +10,7 @@ ghost use Rattle.go_object_core.specs.Objects.{function_shown};
 ghost use Rattle.go_emit_core.specs.Emitted.{uses_before, body_first, body_uses, outcome_declarations, declarations_in, form_function, function_of, functions_of};
 ghost use Rattle.go_meaning_core.specs.Looking.{looks_of};
 ghost use Rattle.go_meaning_core.specs.Scenes.{decl_at};
-ghost use Rattle.go_meaning_core.specs.mirrors.Naming.{scene_shown};
+ghost use Rattle.go_meaning_core.specs.mirrors.Naming.{code_scene_shown};
 ghost use Rattle.go_meaning_core.specs.lookup_core.mirrors.Naming.{file_looks};
 
 use go_code_core::function_code;
@@ -203,7 +203,7 @@ pub(crate) fn add_file(
     answers: &[Answer],
     locals: &[HeldLocal],
 ) -> Result<(), AllocError>
-    ensures { OnOk result (map function_shown functions.new.items ≡ map function_shown functions.old.items ++ functions_of package_names.now.path.now number answers.now (looks_of (scene_shown package_names.now) number answers.now (map local_shown locals.now)) (map decl_shown tops.now)) }
+    ensures { OnOk result (map function_shown functions.new.items ≡ map function_shown functions.old.items ++ functions_of package_names.now.path.now number answers.now (looks_of (code_scene_shown package_names.now) number answers.now (map local_shown locals.now)) (map decl_shown tops.now)) }
 {
     let names = file_names(alloc, package_names, number, answers, locals)?;
     let file = EmittedFile {

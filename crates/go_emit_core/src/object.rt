@@ -9,7 +9,7 @@ ghost use Rattle.go_object_core.specs.Objects.{function_shown, object_shown};
 ghost use Rattle.go_meaning_core.specs.part_core.Parts.{file_shown};
 ghost use Rattle.go_emit_core.specs.Emitted.{AreOfDifferentPackages, are_clean, code_scene_over, object_of, objects_of, somes, told_by, told_to, whole_object};
 ghost use Rattle.go_emit_core.specs.mirrors.Listing.{outlines_functions};
-ghost use Rattle.go_meaning_core.specs.mirrors.Naming.{scene_shown, scene_with};
+ghost use Rattle.go_meaning_core.specs.mirrors.Naming.{code_scene_shown, scene_with};
 ghost use Rattle.go_emit_core.specs.mirrors.Naming.{objects_with};
 
 use crate::functions::add_file;
@@ -44,7 +44,7 @@ fn functions_of(
     outlines: &[Outline<'_>],
     files: &[PartFile],
 ) -> Result<Vec<FunctionCode<Site>>, AllocError>
-    ensures { IfOk result (λ functions. map function_shown functions.items ≡ outlines_functions (scene_shown names.now) 0 (map outline_shown outlines.now) (map file_shown files.now)) }
+    ensures { IfOk result (λ functions. map function_shown functions.items ≡ outlines_functions (code_scene_shown names.now) 0 (map outline_shown outlines.now) (map file_shown files.now)) }
 {
     let mut functions = Vec::new(alloc);
     for number in 0..shorter(outlines.len(), files.len()) {
@@ -90,8 +90,7 @@ fn tell_own(told: &mut Vec<Summary>, part: &Part) -> Result<(), AllocError>
     // Each path is there once, since a package does not reach itself.
     let _content = part.content();
     let _reached = part.input().reached();
-    add(told, part.summary().share()?)?;
-    Ok(())
+    part.tell(told)
 }
 
 // The object of the package of a part, whatever is reported of it, by what the packages tell that it reaches and what it tells itself, and by what is
@@ -167,7 +166,7 @@ fn tell_parts(told: &mut Vec<Summary>, parts: &[Option<Part>]) -> Result<(), All
 {
     for part in parts {
         if let Some(part) = part {
-            add(told, part.summary().share()?)?;
+            part.tell(told)?;
         }
     }
     Ok(())

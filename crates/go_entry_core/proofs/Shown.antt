@@ -11,7 +11,7 @@ use Rattle.go_text_core.specs.Text.{exported}
 use Rattle.go_term_core.specs.decl_core.declared.keys.DeclRef.{DeclRef}
 use Rattle.go_scope_core.specs.block_core.Blocks.{exports_of}
 use Rattle.go_scope_core.specs.block_core.Exports.{ExportsModel, exported_names}
-use Rattle.go_scope_core.specs.block_core.Tables.{in_block, table_of}
+use Rattle.go_scope_core.specs.block_core.Tables.{in_block, block_of}
 use Rattle.go_scope_core.specs.block_core_lemmas.TableLemmas.{in_table}
 use Rattle.go_entry_core.specs.Showing.{names_shown, shown_in, with_shown, ShowsItsBlock, KeepsOthers}
 use Rattle.go_entry_core.specs.mirrors.Indexing.{AreKeyed, shown_of}
@@ -63,15 +63,15 @@ inserted {Y} (x ∷ es) key e is keyed = by (bytes_eq (string_bytes key) (string
     by true t rest = here x es key e is keyed.0 keyed.1 t
     by false t rest = behind x es key e is keyed.0 keyed.1 t rest
 
-pub table_more : {Y S : Type 0} (old new : IndexMap (String Y) ExportsModel S) (key : String Y) (e : ExportsModel) → string_bytes key ≡ e.path → AreKeyed (table_of old) → new.entries ≡ insert_entry string_eq old.entries key e
-    → (shown_of (table_of new) ≡ with_shown (shown_of (table_of old)) e) × AreKeyed (table_of new)
+pub table_more : {Y S : Type 0} (old new : IndexMap (String Y) ExportsModel S) (key : String Y) (e : ExportsModel) → string_bytes key ≡ e.path → AreKeyed (block_of old) → new.entries ≡ insert_entry string_eq old.entries key e
+    → (shown_of (block_of new) ≡ with_shown (shown_of (block_of old)) e) × AreKeyed (block_of new)
 table_more old new key e is keyed made =
     let r = inserted old.entries key e is keyed in (
       ap (λ l. shown_of (as_block l)) made ∙ r.0,
       subst (λ l. AreKeyed (as_block l)) (sym made) r.1,
     )
 
-pub table_same : {Y S : Type 0} (old new : IndexMap (String Y) ExportsModel S) → AreKeyed (table_of old) → new.entries ≡ old.entries → (shown_of (table_of new) ≡ shown_of (table_of old)) × AreKeyed (table_of new)
+pub table_same : {Y S : Type 0} (old new : IndexMap (String Y) ExportsModel S) → AreKeyed (block_of old) → new.entries ≡ old.entries → (shown_of (block_of new) ≡ shown_of (block_of old)) × AreKeyed (block_of new)
 table_same old new keyed same = (
   ap (λ l. shown_of (as_block l)) same,
   subst (λ l. AreKeyed (as_block l)) (sym same) keyed,
@@ -93,15 +93,15 @@ names_at (p ∷ ps) path keyed =
     by true h = refl
     by false h = h
 
-pub shown_there : {Y S : Type 0} (table : IndexMap (String Y) ExportsModel S) (path name : List ℕ) (e : ExportsModel) → AreKeyed (table_of table) → get_by (λ k. bytes_eq path (string_bytes k)) table ≡ Some e → exported (chars name) ≡ true
-    → in_block e.names name ≡ shown_in (shown_of (table_of table)) path name
+pub shown_there : {Y S : Type 0} (table : IndexMap (String Y) ExportsModel S) (path name : List ℕ) (e : ExportsModel) → AreKeyed (block_of table) → get_by (λ k. bytes_eq path (string_bytes k)) table ≡ Some e → exported (chars name) ≡ true
+    → in_block e.names name ≡ shown_in (shown_of (block_of table)) path name
 shown_there table path name e keyed at visible =
-    let names : names_shown (shown_of (table_of table)) path ≡ e.names = names_at (table_of table) path keyed ∙ ap names_or (sym (in_table path table) ∙ at) in
-    sym (ap (λ b. if b then in_block (names_shown (shown_of (table_of table)) path) name else None) visible ∙ ap (λ (ns : List (List ℕ × DeclRef)). in_block ns name) names)
+    let names : names_shown (shown_of (block_of table)) path ≡ e.names = names_at (block_of table) path keyed ∙ ap names_or (sym (in_table path table) ∙ at) in
+    sym (ap (λ b. if b then in_block (names_shown (shown_of (block_of table)) path) name else None) visible ∙ ap (λ (ns : List (List ℕ × DeclRef)). in_block ns name) names)
 
-pub shown_nowhere : {Y S : Type 0} (table : IndexMap (String Y) ExportsModel S) (path name : List ℕ) → AreKeyed (table_of table) → get_by (λ k. bytes_eq path (string_bytes k)) table ≡ None → None ≡ shown_in (shown_of (table_of table)) path name
+pub shown_nowhere : {Y S : Type 0} (table : IndexMap (String Y) ExportsModel S) (path name : List ℕ) → AreKeyed (block_of table) → get_by (λ k. bytes_eq path (string_bytes k)) table ≡ None → None ≡ shown_in (shown_of (block_of table)) path name
 shown_nowhere table path name keyed at =
-    let names : names_shown (shown_of (table_of table)) path ≡ [] = names_at (table_of table) path keyed ∙ ap names_or (sym (in_table path table) ∙ at) in
+    let names : names_shown (shown_of (block_of table)) path ≡ [] = names_at (block_of table) path keyed ∙ ap names_or (sym (in_table path table) ∙ at) in
     sym (ap (λ (ns : List (List ℕ × DeclRef)). if exported (chars name) then in_block ns name else None) names ∙ neither (exported (chars name)))
   where
     neither : (b : Bool) → ◌≡◌ {A = Option DeclRef} (if b then None else None) None

@@ -38,25 +38,30 @@ impl Model for Indexed {
 
 /// What packages show, by their paths. For each package it holds one handle of what the package shows, and copies no name. Contracts see what
 /// the packages show, in the order in which their paths were added first.
-#[derive(Drop)]
 pub struct ShownPackages {
     packages: IndexMap<String, Indexed>,
+}
+
+impl Drop for ShownPackages {
+    fn drop(self) {
+        let ShownPackages { packages: _ } = self;
+    }
 }
 
 impl Model for ShownPackages {
     ghost use Rattle.std.specs.Prelude.{List};
     ghost use Rattle.std.specs.Coded.{coded_list};
     ghost use Rattle.go_scope_core.specs.block_core.Exports.{ExportsModel, coded_exports};
-    ghost use Rattle.go_scope_core.specs.block_core.Tables.{table_of};
+    ghost use Rattle.go_scope_core.specs.block_core.Tables.{block_of};
     ghost use Rattle.go_entry_core.specs.mirrors.Indexing.{shown_of, AreKeyed};
 
     ghost Value = { List ExportsModel };
 
     ghost coded = { coded_list coded_exports };
 
-    ghost view = { λ s. shown_of (table_of s.packages) };
+    ghost view = { λ s. shown_of (block_of s.packages) };
 
-    ghost invariant = { λ s. AreKeyed (table_of s.packages) };
+    ghost invariant = { λ s. AreKeyed (block_of s.packages) };
 }
 
 // The spelling of the name at a place, and nothing past the end.

@@ -8,7 +8,7 @@ use Rattle.std.proofs.lemmas.Slice.Eq.{bytes_eq-Decides}
 use Rattle.go_text_core.specs.Rules.{rule_number}
 use Rattle.go_text_core.specs.declared.rule.Rule.{Rule}
 use Rattle.go_explain_core.specs.Examples.{example_of}
-use Rattle.go_explain_core.specs.Laws.{ends_a_line, lies_in_a_line}
+use Rattle.go_explain_core.specs.Laws.{ends_a_line, lies_in_a_line, needs_no_escape}
 use Rattle.go_explain_core.specs.Meanings.{rule_meaning}
 use Rattle.go_explain_core.specs.Mendings.{mending_of}
 use Rattle.go_explain_core.specs.Naming.{all_rules, rule_of_number, near}
@@ -105,6 +105,12 @@ texts_apart r s e = some_same r s (sym (texts_name r) ∙ ap (λ t. rule_of_numb
 
 pub meanings_lie_in_lines : (r : Rule) → lies_in_a_line (rule_meaning r) ≡ true
 meanings_lie_in_lines = everywhere (λ r. lies_in_a_line (rule_meaning r)) refl
+
+pub meanings_need_no_escape : (r : Rule) → needs_no_escape (rule_meaning r) ≡ true
+meanings_need_no_escape = everywhere (λ r. needs_no_escape (rule_meaning r)) refl
+
+pub numbers_need_no_escape : (r : Rule) → needs_no_escape (rule_number r) ≡ true
+numbers_need_no_escape = everywhere (λ r. needs_no_escape (rule_number r)) refl
 
 pub examples_end_lines : (r : Rule) → ends_a_line (example_of r) ≡ true
 examples_end_lines = everywhere (λ r. ends_a_line (example_of r)) refl

@@ -1,5 +1,5 @@
 -- Laws of the names of rules, and of what is written of them.
-use Rattle.std.specs.Prelude.{◌≡◌, ◌≢◌, ◌==◌, ℕ, Bool, true, false, not, List, [], ◌∷◌, Some, None, take, filter}
+use Rattle.std.specs.Prelude.{◌≡◌, ◌≢◌, ◌==◌, ◌||◌, ℕ, Bool, true, false, not, nat_lt, List, [], ◌∷◌, Some, None, take, filter}
 use Rattle.std.specs.List.{list_all, last_or}
 use Rattle.std.specs.Option.{option_map_or}
 use Rattle.std.specs.Str.{bytes_eq}
@@ -51,9 +51,20 @@ lies_in_a_line text = list_all (λ b. not (b == 10)) text
 abbrev pub ends_a_line : List ℕ → Bool
 ends_a_line text = option_map_or (λ b. b == 10) (last_or None text) false
 
+-- no byte needs an escape in a string of JSON: none is a quotation mark or a backslash, and none stands below the space
+abbrev pub needs_no_escape : List ℕ → Bool
+needs_no_escape text = list_all (λ b. not ((b == 34) || ((b == 92) || nat_lt b 32))) text
+
 -- what a rule means lies in a line
 abbrev pub MeaningsLieInLines : Type 0
 MeaningsLieInLines = (r : Rule) → lies_in_a_line (rule_meaning r) ≡ true
+
+-- it needs no escape, and neither does the rule's number
+abbrev pub MeaningsNeedNoEscape : Type 0
+MeaningsNeedNoEscape = (r : Rule) → needs_no_escape (rule_meaning r) ≡ true
+
+abbrev pub NumbersNeedNoEscape : Type 0
+NumbersNeedNoEscape = (r : Rule) → needs_no_escape (rule_number r) ≡ true
 
 -- an example is lines, and so is the example mended
 abbrev pub ExamplesEndLines : Type 0

@@ -1,7 +1,7 @@
 //! Laws of the names of rules and of what is written of them, with nothing to run.
 ghost use Rattle.go_text_core.specs.Rules.{rule_number};
 ghost use Rattle.go_explain_core.specs.Examples.{example_of};
-ghost use Rattle.go_explain_core.specs.Laws.{ExamplesEndLines, IsNearItself, LinesName, MeaningsLieInLines, MendingsDiffer, MendingsEndLines, NamesEach, NamesNoOther, NamesNone, StandsOnce, TellApart, TextsName};
+ghost use Rattle.go_explain_core.specs.Laws.{ExamplesEndLines, IsNearItself, LinesName, MeaningsLieInLines, MeaningsNeedNoEscape, MendingsDiffer, MendingsEndLines, NamesEach, NamesNoOther, NamesNone, NumbersNeedNoEscape, StandsOnce, TellApart, TextsName};
 ghost use Rattle.go_explain_core.specs.Meanings.{rule_meaning};
 ghost use Rattle.go_explain_core.specs.Telling.{explained_text};
 
@@ -29,9 +29,12 @@ pub fn rules_are_told_apart()
     ensures text { TellApart explained_text }
 {}
 
-/// What a rule means lies in one line. An example is whole lines, and so is the example mended, which is another text.
+/// What a rule means lies in one line, and neither that nor the rule's number needs an escape in a string of JSON. An example is whole lines, and so
+/// is the example mended, which is another text.
 pub fn texts_are_lines()
     ensures meaning { MeaningsLieInLines }
+    ensures escape { MeaningsNeedNoEscape }
+    ensures number { NumbersNeedNoEscape }
     ensures example { ExamplesEndLines }
     ensures mending { MendingsEndLines }
     ensures other { MendingsDiffer }

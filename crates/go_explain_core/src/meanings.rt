@@ -74,10 +74,10 @@ const MEANINGS: [&str; 84] = [
     "the module overlaps another that is taken", // O3
     "too many sessions or modules are open", // O4
     "no session of this number is open", // O5
-    "this is not an import path, or lies outside the module", // E1
+    "this gives no import path (1 to 16 elements of letters, digits and - . _ ~, with no dot at their ends), or lies outside the module", // E1
     "this is not a name of a source file", // E2
     "the text is longer than 1,048,576 bytes", // E3
-    "too many files in one package", // E4
+    "more than 256 files in one package", // E4
     "too many packages in one module", // E5
     "the service has taken as many events as it remembers", // H1
     "the service has been stopped", // H2

@@ -15,8 +15,8 @@ use Rattle.go_tree_core.specs.declared.occurrence.Role.TheVariants as roles
 use Rattle.go_literal_core.specs.operand_core.declared.types.ValueType.{ValueType}
 use Rattle.go_literal_core.specs.operand_core.TypeRules.{TypeRules}
 use Rattle.go_literal_core.specs.operand_core.Values.{default_type}
-use Rattle.go_literal_core.specs.denote_core.declared.things.Place.{Place}
-use Rattle.go_literal_core.specs.denote_core.declared.things.Place.TheVariants as places
+use Rattle.go_literal_core.specs.denote_core.declared.things.Stand.{Stand}
+use Rattle.go_literal_core.specs.denote_core.declared.things.Stand.TheVariants as stands
 use Rattle.go_literal_core.specs.denote_core.declared.things.Usage.{Usage}
 use Rattle.go_literal_core.specs.denote_core.declared.things.Usage.TheVariants as usages
 use Rattle.go_literal_core.specs.denote_core.declared.things.Builtin.TheVariants as builtins
@@ -117,7 +117,7 @@ module _ {T S D P : Type 0} (looks : Looks T S D P) (find : List ℕ → ℕ →
   abbrev Agrees : List Ident → Type 0
   Agrees xs = AgreeOnIdents looks.find find xs
 
-  name_same : (p : Place) (x : Ident) → looks.find x.name x.span.start ≡ find x.name x.span.start → ident_answer looks p x ≡ ident_answer other p x
+  name_same : (p : Stand) (x : Ident) → looks.find x.name x.span.start ≡ find x.name x.span.start → ident_answer looks p x ≡ ident_answer other p x
   name_same p x h = ap (λ f. if is_blank x.name then refused N8 else found_answer p f) h
 
   selector_same : (o : ℕ) (u : Usage) (dot : Dot T D) (name : List ℕ) → selector_answer (look_of_place looks o) u dot name ≡ selector_answer (look_of_place other o) u dot name
@@ -206,10 +206,10 @@ module _ {T S D P : Type 0} (looks : Looks T S D P) (find : List ℕ → ℕ →
   -- names of types
 
   type_name_same : (n : TypeName) → Agrees (type_name_idents n) → type_name_answer looks n ≡ type_name_answer other n
-  type_name_same (type_names.Plain x) h = name_same places.«Type» x h.0
+  type_name_same (type_names.Plain x) h = name_same stands.«Type» x h.0
   type_name_same (type_names.Qualified p dot x) h =
-      selector_same x.span.start usages.«Type» (dot_of true (ident_answer looks places.TypeDot p).denoted) x.name
-      ∙ ap (λ (a : Answer T S D P). selector_answer (look_of_place other x.span.start) usages.«Type» (dot_of true a.denoted) x.name) (name_same places.TypeDot p h.0)
+      selector_same x.span.start usages.«Type» (dot_of true (ident_answer looks stands.TypeDot p).denoted) x.name
+      ∙ ap (λ (a : Answer T S D P). selector_answer (look_of_place other x.span.start) usages.«Type» (dot_of true a.denoted) x.name) (name_same stands.TypeDot p h.0)
 
   named_same : (n : TypeName) → Agrees (type_name_idents n) → named_type looks n ≡ named_type other n
   named_same n h = ap (λ (a : Answer T S D P). literal_type a.denoted) (type_name_same n h)
@@ -217,10 +217,10 @@ module _ {T S D P : Type 0} (looks : Looks T S D P) (find : List ℕ → ℕ →
   -- uses in types
 
   name_uses : (n : TypeName) → Agrees (type_name_idents n) → type_name_uses looks n ≡ type_name_uses other n
-  name_uses (type_names.Plain x) h = ap (λ (a : Answer T S D P). made_use x.span.start roles.«Type» a.outcome ∷ []) (name_same places.«Type» x h.0)
+  name_uses (type_names.Plain x) h = ap (λ (a : Answer T S D P). made_use x.span.start roles.«Type» a.outcome ∷ []) (name_same stands.«Type» x h.0)
   name_uses (type_names.Qualified p dot x) h =
-      ap (λ (a : Answer T S D P). made_use p.span.start roles.Qualifier a.outcome ∷ (made_use x.span.start (roles.Selector (role_usage usages.«Type»)) (type_name_answer looks (type_names.Qualified p dot x)).outcome ∷ [])) (name_same places.TypeDot p h.0)
-      ∙ ap (λ (a : Answer T S D P). made_use p.span.start roles.Qualifier (ident_answer other places.TypeDot p).outcome ∷ (made_use x.span.start (roles.Selector (role_usage usages.«Type»)) a.outcome ∷ [])) (type_name_same (type_names.Qualified p dot x) h)
+      ap (λ (a : Answer T S D P). made_use p.span.start roles.Qualifier a.outcome ∷ (made_use x.span.start (roles.Selector (role_usage usages.«Type»)) (type_name_answer looks (type_names.Qualified p dot x)).outcome ∷ [])) (name_same stands.TypeDot p h.0)
+      ∙ ap (λ (a : Answer T S D P). made_use p.span.start roles.Qualifier (ident_answer other stands.TypeDot p).outcome ∷ (made_use x.span.start (roles.Selector (role_usage usages.«Type»)) a.outcome ∷ [])) (type_name_same (type_names.Qualified p dot x) h)
 
   mutual
     type_used : (t : TypeTree) → Agrees (type_idents t) → type_uses looks t ≡ type_uses other t
@@ -281,22 +281,22 @@ module _ {T S D P : Type 0} (looks : Looks T S D P) (find : List ℕ → ℕ →
   -- what an expression denotes, by what it needs
 
   mutual
-    denoted_needed : (p : Place) (e : ExprTree) → Both (needed_idents e) (needed_types e) → denoted looks p e ≡ denoted other p e
+    denoted_needed : (p : Stand) (e : ExprTree) → Both (needed_idents e) (needed_types e) → denoted looks p e ≡ denoted other p e
     denoted_needed p (Integer n span) h = refl
     denoted_needed p (Text t) h = refl
     denoted_needed p (Named x) h = ap (λ (a : Answer T S D P). a.denoted) (name_same p x h.0.0)
     denoted_needed p (Paren first e last) h = denoted_needed (inside p) e h
     denoted_needed p (Unary op span e) h = ap (λ d. (unary_of looks.types op (is_literal e) d).denoted) (denoted_needed (under_place op p) e h)
     denoted_needed p (Binary a op span b) h =
-        ap (λ d. (binary_of looks.types op d (denoted looks places.«Value» b)).denoted) (denoted_needed places.«Value» a (left (needed_idents a) (needed_idents b) (needed_types a) (needed_types b) h))
-        ∙ ap (λ d. (binary_of looks.types op (denoted other places.«Value» a) d).denoted) (denoted_needed places.«Value» b (right (needed_idents a) (needed_idents b) (needed_types a) (needed_types b) h))
+        ap (λ d. (binary_of looks.types op d (denoted looks stands.«Value» b)).denoted) (denoted_needed stands.«Value» a (left (needed_idents a) (needed_idents b) (needed_types a) (needed_types b) h))
+        ∙ ap (λ d. (binary_of looks.types op (denoted other stands.«Value» a) d).denoted) (denoted_needed stands.«Value» b (right (needed_idents a) (needed_idents b) (needed_types a) (needed_types b) h))
     denoted_needed p (Select e dot x) h =
         ap (λ (a : Answer T S D P). a.denoted) (selector_same x.span.start (whole p) (dot_of (is_name e) (denoted looks (left_place p e) e)) x.name
         ∙ ap (λ d. selector_answer (look_of_place other x.span.start) (whole p) (dot_of (is_name e) d) x.name) (denoted_needed (left_place p e) e h))
     denoted_needed p (Call e first items last) h =
         ap (λ (a : Answer T S D P). a.denoted)
         (call_same first.start _ _ (is_lone_call items) _ _
-        (denoted_needed places.Callee e (left (needed_idents e) (needed_by_args items) (needed_types e) (needed_types_in items) h))
+        (denoted_needed stands.Callee e (left (needed_idents e) (needed_by_args items) (needed_types e) (needed_types_in items) h))
         (args_needed items (right (needed_idents e) (needed_by_args items) (needed_types e) (needed_types_in items) h)))
     denoted_needed p (Literal n first items last) h = ap literal_denotes (named_same n h.0)
     denoted_needed p (StructLiteral t first items last) h = ap literal_denotes h.1.0.type_of
@@ -304,8 +304,8 @@ module _ {T S D P : Type 0} (looks : Looks T S D P) (find : List ℕ → ℕ →
     args_needed : (items : ItemTrees) → Both (needed_by_args items) (needed_types_in items) → denoted_items looks items ≡ denoted_items other items
     args_needed NoItems h = refl
     args_needed (Item key e comma rest) h =
-        ap (λ d. d ∷ denoted_items looks rest) (denoted_needed places.«Value» e (left (needed_idents e) (needed_by_args rest) (needed_types e) (needed_types_in rest) h))
-        ∙ ap (λ l. denoted other places.«Value» e ∷ l) (args_needed rest (right (needed_idents e) (needed_by_args rest) (needed_types e) (needed_types_in rest) h))
+        ap (λ d. d ∷ denoted_items looks rest) (denoted_needed stands.«Value» e (left (needed_idents e) (needed_by_args rest) (needed_types e) (needed_types_in rest) h))
+        ∙ ap (λ l. denoted other stands.«Value» e ∷ l) (args_needed rest (right (needed_idents e) (needed_by_args rest) (needed_types e) (needed_types_in rest) h))
 
   -- what is needed is written
 
@@ -340,13 +340,13 @@ module _ {T S D P : Type 0} (looks : Looks T S D P) (find : List ℕ → ℕ →
         (expr_needs e (left (expr_idents e) (items_idents rest) (expr_types e) (items_types rest) h))
         (args_need rest (right (expr_idents e) (items_idents rest) (expr_types e) (items_types rest) h))
 
-  denoted_same : (p : Place) (e : ExprTree) → Both (expr_idents e) (expr_types e) → denoted looks p e ≡ denoted other p e
+  denoted_same : (p : Stand) (e : ExprTree) → Both (expr_idents e) (expr_types e) → denoted looks p e ≡ denoted other p e
   denoted_same p e h = denoted_needed p e (expr_needs e h)
 
   denoted_all : (items : ItemTrees) → Both (items_idents items) (items_types items) → denoted_items looks items ≡ denoted_items other items
   denoted_all items h = args_needed items (args_need items h)
 
-  select_same : (p : Place) (e : ExprTree) (x : Ident) → Both (expr_idents e) (expr_types e) → select_answer looks p e x ≡ select_answer other p e x
+  select_same : (p : Stand) (e : ExprTree) (x : Ident) → Both (expr_idents e) (expr_types e) → select_answer looks p e x ≡ select_answer other p e x
   select_same p e x h =
       selector_same x.span.start (whole p) (dot_of (is_name e) (denoted looks (left_place p e) e)) x.name
       ∙ ap (λ d. selector_answer (look_of_place other x.span.start) (whole p) (dot_of (is_name e) d) x.name) (denoted_same (left_place p e) e h)
@@ -356,20 +356,20 @@ module _ {T S D P : Type 0} (looks : Looks T S D P) (find : List ℕ → ℕ →
   key_used t m others (Some k) = ap (λ (a : KeyAnswer T D P). made_use k.name.span.start roles.Key a.outcome ∷ []) (key_same k.name.span.start t m (is_again (Some k) others) k.name.name)
 
   mutual
-    used_same : (p : Place) (e : ExprTree) → Both (expr_idents e) (expr_types e) → uses looks p e ≡ uses other p e
+    used_same : (p : Stand) (e : ExprTree) → Both (expr_idents e) (expr_types e) → uses looks p e ≡ uses other p e
     used_same p (Integer n span) h = refl
     used_same p (Text t) h = refl
     used_same p (Named x) h = ap (λ (a : Answer T S D P). made_use x.span.start (place_role p) a.outcome ∷ []) (name_same p x h.0.0)
     used_same p (Paren first e last) h = used_same (inside p) e h
     used_same p (Unary op span e) h = used_same (under_place op p) e h
     used_same p (Binary a op span b) h =
-        mapped _ _ (spots looks places.«Value» a) (spots looks places.«Value» b) (spots other places.«Value» a) (spots other places.«Value» b) (used_same places.«Value» a (left (expr_idents a) (expr_idents b) (expr_types a) (expr_types b) h)) (used_same places.«Value» b (right (expr_idents a) (expr_idents b) (expr_types a) (expr_types b) h))
+        mapped _ _ (spots looks stands.«Value» a) (spots looks stands.«Value» b) (spots other stands.«Value» a) (spots other stands.«Value» b) (used_same stands.«Value» a (left (expr_idents a) (expr_idents b) (expr_types a) (expr_types b) h)) (used_same stands.«Value» b (right (expr_idents a) (expr_idents b) (expr_types a) (expr_types b) h))
     used_same p (Select e dot x) h =
         mapped _ _ (spots looks (left_place p e) e) _ (spots other (left_place p e) e) _ (used_same (left_place p e) e h)
         (ap (λ (a : Answer T S D P). made_use x.span.start (roles.Selector (role_usage (whole p))) a.outcome ∷ []) (select_same p e x h))
     used_same p (Call e first items last) h =
-        mapped _ _ (spots looks places.Callee e) _ (spots other places.Callee e) _ (used_same places.Callee e (left (expr_idents e) (items_idents items) (expr_types e) (items_types items) h))
-        (ap (λ (a : Answer T S D P). made_use first.start roles.Call a.outcome ∷ args_uses looks items) (call_same first.start _ _ (is_lone_call items) _ _ (denoted_same places.Callee e (left (expr_idents e) (items_idents items) (expr_types e) (items_types items) h)) (denoted_all items (right (expr_idents e) (items_idents items) (expr_types e) (items_types items) h)))
+        mapped _ _ (spots looks stands.Callee e) _ (spots other stands.Callee e) _ (used_same stands.Callee e (left (expr_idents e) (items_idents items) (expr_types e) (items_types items) h))
+        (ap (λ (a : Answer T S D P). made_use first.start roles.Call a.outcome ∷ args_uses looks items) (call_same first.start _ _ (is_lone_call items) _ _ (denoted_same stands.Callee e (left (expr_idents e) (items_idents items) (expr_types e) (items_types items) h)) (denoted_all items (right (expr_idents e) (items_idents items) (expr_types e) (items_types items) h)))
         ∙ ap (λ l. made_use first.start roles.Call (called_answer other e first items).outcome ∷ l) (args_used items (right (expr_idents e) (items_idents items) (expr_types e) (items_types items) h)))
     used_same p (Literal n first items last) h =
         mapped _ _ (type_name_spots looks n) (items_spots looks (named_type looks n) (is_mixed (keys_of items)) [] items) (type_name_spots other n) (items_spots other (named_type other n) (is_mixed (keys_of items)) [] items)
@@ -383,14 +383,14 @@ module _ {T S D P : Type 0} (looks : Looks T S D P) (find : List ℕ → ℕ →
     args_used : (items : ItemTrees) → Both (items_idents items) (items_types items) → args_uses looks items ≡ args_uses other items
     args_used NoItems h = refl
     args_used (Item key e comma rest) h =
-        mapped _ _ (spots looks places.«Value» e) (args_spots looks rest) (spots other places.«Value» e) (args_spots other rest) (used_same places.«Value» e (left (expr_idents e) (items_idents rest) (expr_types e) (items_types rest) h)) (args_used rest (right (expr_idents e) (items_idents rest) (expr_types e) (items_types rest) h))
+        mapped _ _ (spots looks stands.«Value» e) (args_spots looks rest) (spots other stands.«Value» e) (args_spots other rest) (used_same stands.«Value» e (left (expr_idents e) (items_idents rest) (expr_types e) (items_types rest) h)) (args_used rest (right (expr_idents e) (items_idents rest) (expr_types e) (items_types rest) h))
 
     items_used : (t : Option T) (m : Bool) (before : List (List ℕ)) (items : ItemTrees) → Both (items_idents items) (items_types items) → items_uses looks t m before items ≡ items_uses other t m before items
     items_used t m before NoItems h = refl
     items_used t m before (Item key e comma rest) h =
         mapped _ _ (key_spots t m (before ++ all_keys rest) key) _ (key_spots t m (before ++ all_keys rest) key) _ (key_used t m (before ++ all_keys rest) key)
-        (mapped _ _ (spots looks places.«Value» e) (items_spots looks t m (before ++ key_names key) rest) (spots other places.«Value» e) (items_spots other t m (before ++ key_names key) rest)
-        (used_same places.«Value» e (left (expr_idents e) (items_idents rest) (expr_types e) (items_types rest) h)) (items_used t m (before ++ key_names key) rest (right (expr_idents e) (items_idents rest) (expr_types e) (items_types rest) h)))
+        (mapped _ _ (spots looks stands.«Value» e) (items_spots looks t m (before ++ key_names key) rest) (spots other stands.«Value» e) (items_spots other t m (before ++ key_names key) rest)
+        (used_same stands.«Value» e (left (expr_idents e) (items_idents rest) (expr_types e) (items_types rest) h)) (items_used t m (before ++ key_names key) rest (right (expr_idents e) (items_idents rest) (expr_types e) (items_types rest) h)))
 
   -- faults
 
@@ -401,11 +401,11 @@ module _ {T S D P : Type 0} (looks : Looks T S D P) (find : List ℕ → ℕ →
       pieces _ _ _ _ (ap (fault_at offset) (rule_same offset t (keys_of items) (item_count items)))
       (h ∙ ap (λ m. items_faults other t m (is_mixed (keys_of items)) 0 [] items) (mode_same offset t (keys_of items) (item_count items)))
 
-  operand_with : (p : Place) (e : ExprTree) → Both (expr_idents e) (expr_types e) → faults looks p e ≡ faults other p e → operand_faults looks p e ≡ operand_faults other p e
+  operand_with : (p : Stand) (e : ExprTree) → Both (expr_idents e) (expr_types e) → faults looks p e ≡ faults other p e → operand_faults looks p e ≡ operand_faults other p e
   operand_with p e h same = pieces _ _ _ _ same (ap (λ d. fault_at (start e) (single_rule d)) (denoted_same p e h))
 
   mutual
-    faults_same : (p : Place) (e : ExprTree) → Both (expr_idents e) (expr_types e) → faults looks p e ≡ faults other p e
+    faults_same : (p : Stand) (e : ExprTree) → Both (expr_idents e) (expr_types e) → faults looks p e ≡ faults other p e
     faults_same p (Integer n span) h = refl
     faults_same p (Text t) h = refl
     faults_same p (Named x) h = refl
@@ -413,13 +413,13 @@ module _ {T S D P : Type 0} (looks : Looks T S D P) (find : List ℕ → ℕ →
     faults_same p (Unary op span e) h =
         pieces _ _ _ _ (operand_with (under_place op p) e h (faults_same (under_place op p) e h)) (ap (λ d. fault_at span.start (unary_of looks.types op (is_literal e) d).fault) (denoted_same (under_place op p) e h))
     faults_same p (Binary a op span b) h =
-        pieces _ _ _ _ (operand_with places.«Value» a (left (expr_idents a) (expr_idents b) (expr_types a) (expr_types b) h) (faults_same places.«Value» a (left (expr_idents a) (expr_idents b) (expr_types a) (expr_types b) h)))
-        (pieces _ _ _ _ (operand_with places.«Value» b (right (expr_idents a) (expr_idents b) (expr_types a) (expr_types b) h) (faults_same places.«Value» b (right (expr_idents a) (expr_idents b) (expr_types a) (expr_types b) h)))
-        (ap (λ d. fault_at (start a) (binary_of looks.types op d (denoted looks places.«Value» b)).fault) (denoted_same places.«Value» a (left (expr_idents a) (expr_idents b) (expr_types a) (expr_types b) h))
-        ∙ ap (λ d. fault_at (start a) (binary_of looks.types op (denoted other places.«Value» a) d).fault) (denoted_same places.«Value» b (right (expr_idents a) (expr_idents b) (expr_types a) (expr_types b) h))))
+        pieces _ _ _ _ (operand_with stands.«Value» a (left (expr_idents a) (expr_idents b) (expr_types a) (expr_types b) h) (faults_same stands.«Value» a (left (expr_idents a) (expr_idents b) (expr_types a) (expr_types b) h)))
+        (pieces _ _ _ _ (operand_with stands.«Value» b (right (expr_idents a) (expr_idents b) (expr_types a) (expr_types b) h) (faults_same stands.«Value» b (right (expr_idents a) (expr_idents b) (expr_types a) (expr_types b) h)))
+        (ap (λ d. fault_at (start a) (binary_of looks.types op d (denoted looks stands.«Value» b)).fault) (denoted_same stands.«Value» a (left (expr_idents a) (expr_idents b) (expr_types a) (expr_types b) h))
+        ∙ ap (λ d. fault_at (start a) (binary_of looks.types op (denoted other stands.«Value» a) d).fault) (denoted_same stands.«Value» b (right (expr_idents a) (expr_idents b) (expr_types a) (expr_types b) h))))
     faults_same p (Select e dot x) h = faults_same (left_place p e) e h
     faults_same p (Call e first items last) h =
-        pieces _ _ _ _ (faults_same places.Callee e (left (expr_idents e) (items_idents items) (expr_types e) (items_types items) h)) (args_same (is_several items) items (right (expr_idents e) (items_idents items) (expr_types e) (items_types items) h))
+        pieces _ _ _ _ (faults_same stands.Callee e (left (expr_idents e) (items_idents items) (expr_types e) (items_types items) h)) (args_same (is_several items) items (right (expr_idents e) (items_idents items) (expr_types e) (items_types items) h))
     faults_same p (Literal n first items last) h =
         literal_noted (type_name_start n) (named_type looks n) items [] [] (items_same (named_type looks n) _ _ 0 [] items (right (type_name_idents n) (items_idents items) [] (items_types items) h))
         ∙ ap (λ t. literal_faults other (type_name_start n) t items) (named_same n (agree_left _ _ (type_name_idents n) (items_idents items) h.0))
@@ -431,7 +431,7 @@ module _ {T S D P : Type 0} (looks : Looks T S D P) (find : List ℕ → ℕ →
     args_same : (b : Bool) (items : ItemTrees) → Both (items_idents items) (items_types items) → args_faults looks b items ≡ args_faults other b items
     args_same b NoItems h = refl
     args_same b (Item key e comma rest) h =
-        pieces _ _ _ _ (pieces _ _ _ _ (faults_same places.«Value» e (left (expr_idents e) (items_idents rest) (expr_types e) (items_types rest) h)) (ap (λ d. fault_at (start e) (listed_rule b d)) (denoted_same places.«Value» e (left (expr_idents e) (items_idents rest) (expr_types e) (items_types rest) h))))
+        pieces _ _ _ _ (pieces _ _ _ _ (faults_same stands.«Value» e (left (expr_idents e) (items_idents rest) (expr_types e) (items_types rest) h)) (ap (λ d. fault_at (start e) (listed_rule b d)) (denoted_same stands.«Value» e (left (expr_idents e) (items_idents rest) (expr_types e) (items_types rest) h))))
         (args_same b rest (right (expr_idents e) (items_idents rest) (expr_types e) (items_types rest) h))
 
     items_same : (t : Option T) (mode : Mode) (m : Bool) (n : ℕ) (before : List (List ℕ)) (items : ItemTrees) → Both (items_idents items) (items_types items) → items_faults looks t mode m n before items ≡ items_faults other t mode m n before items
@@ -440,15 +440,15 @@ module _ {T S D P : Type 0} (looks : Looks T S D P) (find : List ℕ → ℕ →
         let here = left (expr_idents e) (items_idents rest) (expr_types e) (items_types rest) h in
         let wanted = element_type looks (start e) t mode m n (before ++ all_keys rest) key in
         pieces _ _ _ _
-        (pieces _ _ _ _ (operand_with places.«Value» e here (faults_same places.«Value» e here))
-        (ap (fault_at (item_start key e)) (misfit_same (start e) wanted (denoted looks places.«Value» e)
-        ∙ (ap (λ d. element_rule other (start e) wanted d) (denoted_same places.«Value» e here)
-        ∙ ap (λ w. element_rule other (start e) w (denoted other places.«Value» e))
+        (pieces _ _ _ _ (operand_with stands.«Value» e here (faults_same stands.«Value» e here))
+        (ap (fault_at (item_start key e)) (misfit_same (start e) wanted (denoted looks stands.«Value» e)
+        ∙ (ap (λ d. element_rule other (start e) wanted d) (denoted_same stands.«Value» e here)
+        ∙ ap (λ w. element_rule other (start e) w (denoted other stands.«Value» e))
         (target_same (start e) t mode n (key_target_by looks t m (is_again key (before ++ all_keys rest)) key)
         ∙ ap (element_target (literals_at other (start e)) t mode n) (key_target_same t m (is_again key (before ++ all_keys rest)) key))))))
         (items_same t mode m (suc n) (before ++ key_names key) rest (right (expr_idents e) (items_idents rest) (expr_types e) (items_types rest) h))
 
-  pub all_same : (p : Place) (e : ExprTree) → Both (expr_idents e) (expr_types e) → Same T S D P looks other p e
+  pub all_same : (p : Stand) (e : ExprTree) → Both (expr_idents e) (expr_types e) → Same T S D P looks other p e
   all_same p e h = record { denoted = denoted_same p e h; uses = used_same p e h; faults = faults_same p e h }
 
 -- what looks at the names in a struct type alone makes the same of it

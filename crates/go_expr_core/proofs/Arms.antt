@@ -12,8 +12,8 @@ use Rattle.go_tree_nodes.specs.Trees.{ItemTrees}
 use Rattle.go_tree_nodes.specs.TypeShapes.{shape_type}
 use Rattle.go_tree_nodes.specs.Shapes.{shape, items_of}
 use Rattle.go_tree_core.specs.declared.occurrence.Role.TheVariants as roles
-use Rattle.go_literal_core.specs.denote_core.declared.things.Place.{Place}
-use Rattle.go_literal_core.specs.denote_core.declared.things.Place.TheVariants as places
+use Rattle.go_literal_core.specs.denote_core.declared.things.Stand.{Stand}
+use Rattle.go_literal_core.specs.denote_core.declared.things.Stand.TheVariants as stands
 use Rattle.go_literal_core.specs.denote_core.declared.things.Denoted as declared_denoted
 use Rattle.go_literal_core.specs.denote_core.declared.things.Answer.{Answer}
 use Rattle.go_literal_core.specs.denote_core.Arguments.{arguments_of, is_free}
@@ -35,30 +35,30 @@ use Rattle.go_expr_core.proofs.Turning.{placed, call_used}
 
 -- what is called and handed over, as the definition has it
 called : {T S D P : Type 0} (looks : Looks T S D P) (c : Box CallExpr) (c1 c2 c3 : CallExpr) (f : declared_denoted.Denoted T S D)
-    → c1 ≡ c.value → c2 ≡ c.value → c3 ≡ c.value → f ≡ denoted looks places.Callee (shape (out-CallExpr c1).callee)
+    → c1 ≡ c.value → c2 ≡ c.value → c3 ≡ c.value → f ≡ denoted looks stands.Callee (shape (out-CallExpr c1).callee)
     → answer_by looks f (out-CallExpr c2).«open» (items_of (out-CallExpr c3).args.items)
     ≡ called_answer looks (shape (out-CallExpr c.value).callee) (out-CallExpr c.value).«open» (items_of (out-CallExpr c.value).args.items)
 called looks c c1 c2 c3 f d1 d2 d3 ef =
     ap (λ x. answer_by looks x (out-CallExpr c2).«open» (items_of (out-CallExpr c3).args.items)) ef
     ∙ three (λ x y z. called_answer looks (shape (out-CallExpr x).callee) (out-CallExpr y).«open» (items_of (out-CallExpr z).args.items)) c1 c2 c3 c.value d1 d2 d3
 
-module _ {T S D P : Type 0} (looks : Looks T S D P) (p : Place) (e : Expr) (c : Box CallExpr) (is : e ≡ expr.Call c) (c1 c2 c3 : CallExpr) (d1 : c1 ≡ c.value) (d2 : c2 ≡ c.value) (d3 : c3 ≡ c.value) where
-  module _ (f : declared_denoted.Denoted T S D) (ef : f ≡ denoted looks places.Callee (shape (out-CallExpr c1).callee)) where
+module _ {T S D P : Type 0} (looks : Looks T S D P) (p : Stand) (e : Expr) (c : Box CallExpr) (is : e ≡ expr.Call c) (c1 c2 c3 : CallExpr) (d1 : c1 ≡ c.value) (d2 : c2 ≡ c.value) (d3 : c3 ≡ c.value) where
+  module _ (f : declared_denoted.Denoted T S D) (ef : f ≡ denoted looks stands.Callee (shape (out-CallExpr c1).callee)) where
     pub call_denoted : (answer_by looks f (out-CallExpr c2).«open» (items_of (out-CallExpr c3).args.items)).denoted ≡ denoted looks p (shape e)
     call_denoted = ap (λ (a : Answer T S D P). a.denoted) (called looks c c1 c2 c3 f d1 d2 d3 ef) ∙ sym (ap (denoted looks p) (call_form e c is))
 
-    pub call_has_uses : uses looks places.Callee (shape (out-CallExpr c1).callee)
+    pub call_has_uses : uses looks stands.Callee (shape (out-CallExpr c1).callee)
         ++ made_use (out-CallExpr c2).«open».start roles.Call (answer_by looks f (out-CallExpr c2).«open» (items_of (out-CallExpr c3).args.items)).outcome ∷ args_uses looks (items_of (out-CallExpr c3).args.items)
         ≡ uses looks p (shape e)
     call_has_uses =
-        ap (λ (a : Answer T S D P). uses looks places.Callee (shape (out-CallExpr c1).callee) ++ made_use (out-CallExpr c2).«open».start roles.Call a.outcome ∷ args_uses looks (items_of (out-CallExpr c3).args.items)) (called looks c c1 c2 c3 f d1 d2 d3 ef)
-        ∙ (three (λ x y z. uses looks places.Callee (shape (out-CallExpr x).callee) ++ made_use (out-CallExpr y).«open».start roles.Call (called_answer looks (shape (out-CallExpr c.value).callee) (out-CallExpr c.value).«open» (items_of (out-CallExpr c.value).args.items)).outcome ∷ args_uses looks (items_of (out-CallExpr z).args.items)) c1 c2 c3 c.value d1 d2 d3
+        ap (λ (a : Answer T S D P). uses looks stands.Callee (shape (out-CallExpr c1).callee) ++ made_use (out-CallExpr c2).«open».start roles.Call a.outcome ∷ args_uses looks (items_of (out-CallExpr c3).args.items)) (called looks c c1 c2 c3 f d1 d2 d3 ef)
+        ∙ (three (λ x y z. uses looks stands.Callee (shape (out-CallExpr x).callee) ++ made_use (out-CallExpr y).«open».start roles.Call (called_answer looks (shape (out-CallExpr c.value).callee) (out-CallExpr c.value).«open» (items_of (out-CallExpr c.value).args.items)).outcome ∷ args_uses looks (items_of (out-CallExpr z).args.items)) c1 c2 c3 c.value d1 d2 d3
         ∙ (sym (call_used looks p (shape (out-CallExpr c.value).callee) (out-CallExpr c.value).«open» (items_of (out-CallExpr c.value).args.items) (out-CallExpr c.value).close)
         ∙ sym (ap (uses looks p) (call_form e c is))))
 
-  pub call_has_faults : faults looks places.Callee (shape (out-CallExpr c1).callee) ++ args_faults looks (is_several (items_of (out-CallExpr c3).args.items)) (items_of (out-CallExpr c3).args.items) ≡ faults looks p (shape e)
+  pub call_has_faults : faults looks stands.Callee (shape (out-CallExpr c1).callee) ++ args_faults looks (is_several (items_of (out-CallExpr c3).args.items)) (items_of (out-CallExpr c3).args.items) ≡ faults looks p (shape e)
   call_has_faults =
-      two (λ x z. faults looks places.Callee (shape (out-CallExpr x).callee) ++ args_faults looks (is_several (items_of (out-CallExpr z).args.items)) (items_of (out-CallExpr z).args.items)) c1 c3 c.value d1 d3
+      two (λ x z. faults looks stands.Callee (shape (out-CallExpr x).callee) ++ args_faults looks (is_several (items_of (out-CallExpr z).args.items)) (items_of (out-CallExpr z).args.items)) c1 c3 c.value d1 d3
       ∙ sym (ap (faults looks p) (call_form e c is))
 
 -- what a call has, by whether its only argument is a call and what its arguments denote
@@ -81,7 +81,7 @@ module _ {T S D P : Type 0} (looks : Looks T S D P) (f : declared_denoted.Denote
 
 -- literals of named types
 
-module _ {T S D P : Type 0} (looks : Looks T S D P) (p : Place) (e : Expr) (l : Box LiteralExpr) (is : e ≡ expr.Literal l) (l1 l2 : LiteralExpr) (d1 : l1 ≡ l.value) (d2 : l2 ≡ l.value) where
+module _ {T S D P : Type 0} (looks : Looks T S D P) (p : Stand) (e : Expr) (l : Box LiteralExpr) (is : e ≡ expr.Literal l) (l1 l2 : LiteralExpr) (d1 : l1 ≡ l.value) (d2 : l2 ≡ l.value) where
   pub literal_denoted : literal_denotes {S = S} {D = D} (named_type looks (out-LiteralExpr l1).type_name) ≡ denoted looks p (shape e)
   literal_denoted = ap (λ x. literal_denotes {S = S} {D = D} (named_type looks (out-LiteralExpr x).type_name)) d1 ∙ sym (ap (denoted looks p) (literal_form e l is))
 
@@ -100,7 +100,7 @@ module _ {T S D P : Type 0} (looks : Looks T S D P) (p : Place) (e : Expr) (l : 
 
 -- literals of struct types that are written out: elements are taken first, then the type
 
-module _ {T S D P : Type 0} (looks : Looks T S D P) (p : Place) (e : Expr) (l : Box StructLiteralExpr) (is : e ≡ expr.StructLiteral l) (l1 l2 : StructLiteralExpr) (d1 : l1 ≡ l.value) (d2 : l2 ≡ l.value) where
+module _ {T S D P : Type 0} (looks : Looks T S D P) (p : Stand) (e : Expr) (l : Box StructLiteralExpr) (is : e ≡ expr.StructLiteral l) (l1 l2 : StructLiteralExpr) (d1 : l1 ≡ l.value) (d2 : l2 ≡ l.value) where
   pub struct_denoted : literal_denotes {S = S} {D = D} (written_type looks (shape_type (out-StructLiteralExpr l2).type_expr)) ≡ denoted looks p (shape e)
   struct_denoted = ap (λ x. literal_denotes {S = S} {D = D} (written_type looks (shape_type (out-StructLiteralExpr x).type_expr))) d2 ∙ sym (ap (denoted looks p) (struct_form e l is))
 

@@ -8,8 +8,8 @@ use Rattle.go_tree_nodes.specs.declared.types.TypeName.{TypeName}
 use Rattle.go_tree_nodes.specs.declared.types.TypeName.TheVariants as type_names
 use Rattle.go_tree_nodes.specs.Trees.{TypeTree, FieldTrees, MethodTrees, SignatureTree, ResultTree, ParamTrees, NamedType, Pointer, ParenType, Struct, Interface, NoFields, NamedFields, EmbeddedField, NoMethods, Method, Signed, NoResult, OneResult, Results, NoParams, Param, ExprTree, ItemTrees, Integer, Text, Named, Paren, Unary, Binary, Select, Call, Literal, StructLiteral, NoItems, Item}
 use Rattle.go_tree_nodes.specs.Counts.{item_count}
-use Rattle.go_literal_core.specs.denote_core.declared.things.Place.{Place}
-use Rattle.go_literal_core.specs.denote_core.declared.things.Place.TheVariants as places
+use Rattle.go_literal_core.specs.denote_core.declared.things.Stand.{Stand}
+use Rattle.go_literal_core.specs.denote_core.declared.things.Stand.TheVariants as stands
 use Rattle.go_literal_core.specs.Literals.{keys_among}
 use Rattle.go_expr_core.specs.Looks.{Looks}
 use Rattle.go_expr_core.specs.Places.{inside, under_place, left_place}
@@ -116,7 +116,7 @@ module _ {T S D P : Type 0} (looks : Looks T S D P) (x : Ident) (name : List ℕ
     params_stay ps qs (InParam r) = in_left x name _ _ _ _ (type_stays _ _ r)
     params_stay ps qs (InLaterParams r) = in_right x name _ _ _ _ refl (params_stay _ _ r)
 
-  left_same : (p : Place) (e f : ExprTree) → Respells x name e f → left_place p f ≡ left_place p e
+  left_same : (p : Stand) (e f : ExprTree) → Respells x name e f → left_place p f ≡ left_place p e
   left_same p e f InName = refl
   left_same p e f (InParen r) = refl
   left_same p e f (InUnary r) = refl
@@ -164,16 +164,16 @@ module _ {T S D P : Type 0} (looks : Looks T S D P) (x : Ident) (name : List ℕ
       subst With (mixed_same xs ys r) kept
 
   mutual
-    stays : (p : Place) (e f : ExprTree) → Respells x name e f → Stays (spots looks p e) (spots looks p f)
+    stays : (p : Stand) (e f : ExprTree) → Respells x name e f → Stays (spots looks p e) (spots looks p f)
     stays p e f InName = here x name _ [] []
     stays p e f (InParen r) = stays (inside p) _ _ r
     stays p e f (InUnary {op = op} r) = stays (under_place op p) _ _ r
-    stays p e f (InLeft r) = in_left x name _ _ _ _ (stays places.«Value» _ _ r)
-    stays p e f (InRight r) = in_right x name _ _ _ _ refl (stays places.«Value» _ _ r)
+    stays p e f (InLeft r) = in_left x name _ _ _ _ (stays stands.«Value» _ _ r)
+    stays p e f (InRight r) = in_right x name _ _ _ _ refl (stays stands.«Value» _ _ r)
     stays p e f (InOperand {e = a} {f = b} r) =
-        in_left x name _ _ _ _ (let At : Place → Type 0 = λ q. Stays (spots looks (left_place p a) a) (spots looks q b) in subst At (sym (left_same p a b r)) (stays (left_place p a) a b r))
+        in_left x name _ _ _ _ (let At : Stand → Type 0 = λ q. Stays (spots looks (left_place p a) a) (spots looks q b) in subst At (sym (left_same p a b r)) (stays (left_place p a) a b r))
     stays p e f (InSelector {e = a}) = in_right x name _ _ _ _ refl (here x name _ [] [])
-    stays p e f (InCallee r) = in_left x name _ _ _ _ (stays places.Callee _ _ r)
+    stays p e f (InCallee r) = in_left x name _ _ _ _ (stays stands.Callee _ _ r)
     stays p e f (InArguments {items = xs} {others = ys} r) = in_right x name _ _ _ _ refl (in_right x name (_ ∷ []) (_ ∷ []) _ _ refl (args_stay xs ys r))
     stays p e f (InLiteralType r) = in_left x name _ _ _ _ (name_stays _ _ r)
     stays p e f (InElements {items = xs} {others = ys} {n = n} r) = in_right x name _ _ _ _ refl (with_keys (named_type looks n) xs ys r (items_stay (named_type looks n) (is_mixed (keys_of xs)) [] xs ys r))
@@ -181,12 +181,12 @@ module _ {T S D P : Type 0} (looks : Looks T S D P) (x : Ident) (name : List ℕ
     stays p e f (InStructElements {items = xs} {others = ys} {t = t} r) = in_right x name _ _ _ _ refl (with_keys (written_type looks t) xs ys r (items_stay (written_type looks t) (is_mixed (keys_of xs)) [] xs ys r))
 
     args_stay : (xs ys : ItemTrees) → RespellsArgs x name xs ys → Stays (args_spots looks xs) (args_spots looks ys)
-    args_stay xs ys (InArgument r) = in_left x name _ _ _ _ (stays places.«Value» _ _ r)
+    args_stay xs ys (InArgument r) = in_left x name _ _ _ _ (stays stands.«Value» _ _ r)
     args_stay xs ys (InLaterArguments r) = in_right x name _ _ _ _ refl (args_stay _ _ r)
 
     items_stay : (t : Option T) (m : Bool) (before : List (List ℕ)) (xs ys : ItemTrees) → RespellsItems x name xs ys → Stays (items_spots looks t m before xs) (items_spots looks t m before ys)
     items_stay t m before xs ys InKey = here x name _ _ _
-    items_stay t m before xs ys (InElement {key} r) = in_right x name _ _ _ _ refl (in_left x name _ _ _ _ (stays places.«Value» _ _ r))
+    items_stay t m before xs ys (InElement {key} r) = in_right x name _ _ _ _ refl (in_left x name _ _ _ _ (stays stands.«Value» _ _ r))
     items_stay t m before xs ys (InLaterElements {key} {e} {comma} {rest} {more} r) =
         in_right x name _ _ _ _ (key_len t m (before ++ all_keys rest) (before ++ all_keys more) key) (in_right x name _ _ _ _ refl (items_stay t m (before ++ key_names key) rest more r))
 
@@ -256,7 +256,7 @@ module _ {T S D P : Type 0} (looks : Looks T S D P) (x : Ident) (name : List ℕ
         (λ k. let r = each_params rest k in (Param xs t comma r.0, InLaterParams r.1))
 
   mutual
-    each_expr : (p : Place) (e : ExprTree) → StandsAmongSpots x (spots looks p e) → (f : ExprTree) × Respells x name e f
+    each_expr : (p : Stand) (e : ExprTree) → StandsAmongSpots x (spots looks p e) → (f : ExprTree) × Respells x name e f
     each_expr p (Integer n span) h = absurd h
     each_expr p (Text t) h = absurd h
     each_expr p (Named y) h =
@@ -264,16 +264,16 @@ module _ {T S D P : Type 0} (looks : Looks T S D P) (x : Ident) (name : List ℕ
     each_expr p (Paren first e last) h = let r = each_expr (inside p) e h in (Paren first r.0 last, InParen r.1)
     each_expr p (Unary op span e) h = let r = each_expr (under_place op p) e h in (Unary op span r.0, InUnary r.1)
     each_expr p (Binary a op span b) h =
-        either (apart x (spots looks places.«Value» a) (spots looks places.«Value» b) h)
-        (λ k. let r = each_expr places.«Value» a k in (Binary r.0 op span b, InLeft r.1))
-        (λ k. let r = each_expr places.«Value» b k in (Binary a op span r.0, InRight r.1))
+        either (apart x (spots looks stands.«Value» a) (spots looks stands.«Value» b) h)
+        (λ k. let r = each_expr stands.«Value» a k in (Binary r.0 op span b, InLeft r.1))
+        (λ k. let r = each_expr stands.«Value» b k in (Binary a op span r.0, InRight r.1))
     each_expr p (Select e dot y) h =
         either (apart x (spots looks (left_place p e) e) _ h)
         (λ k. let r = each_expr (left_place p e) e k in (Select r.0 dot y, InOperand r.1))
         (λ k. either k (λ q. let With : Ident → Type 0 = λ z. (f : ExprTree) × Respells x name (Select e dot z) f in subst With (sym q) (Select e dot (respelled name x), InSelector)) absurd)
     each_expr p (Call e first items last) h =
-        either (apart x (spots looks places.Callee e) _ h)
-        (λ k. let r = each_expr places.Callee e k in (Call r.0 first items last, InCallee r.1))
+        either (apart x (spots looks stands.Callee e) _ h)
+        (λ k. let r = each_expr stands.Callee e k in (Call r.0 first items last, InCallee r.1))
         (λ k. let r = each_args items k in (Call e first r.0 last, InArguments r.1))
     each_expr p (Literal n first items last) h =
         either (apart x (type_name_spots looks n) _ h)
@@ -287,25 +287,25 @@ module _ {T S D P : Type 0} (looks : Looks T S D P) (x : Ident) (name : List ℕ
     each_args : (items : ItemTrees) → StandsAmongSpots x (args_spots looks items) → (others : ItemTrees) × RespellsArgs x name items others
     each_args NoItems h = absurd h
     each_args (Item key e comma rest) h =
-        either (apart x (spots looks places.«Value» e) (args_spots looks rest) h)
-        (λ k. let r = each_expr places.«Value» e k in (Item key r.0 comma rest, InArgument r.1))
+        either (apart x (spots looks stands.«Value» e) (args_spots looks rest) h)
+        (λ k. let r = each_expr stands.«Value» e k in (Item key r.0 comma rest, InArgument r.1))
         (λ k. let r = each_args rest k in (Item key e comma r.0, InLaterArguments r.1))
 
     each_items : (t : Option T) (m : Bool) (before : List (List ℕ)) (items : ItemTrees) → StandsAmongSpots x (items_spots looks t m before items) → (others : ItemTrees) × RespellsItems x name items others
     each_items t m before NoItems h = absurd h
     each_items t m before (Item None e comma rest) h =
-        either (apart x (spots looks places.«Value» e) (items_spots looks t m (before ++ []) rest) h)
-        (λ k. let r = each_expr places.«Value» e k in (Item None r.0 comma rest, InElement r.1))
+        either (apart x (spots looks stands.«Value» e) (items_spots looks t m (before ++ []) rest) h)
+        (λ k. let r = each_expr stands.«Value» e k in (Item None r.0 comma rest, InElement r.1))
         (λ k. let r = each_items t m (before ++ []) rest k in (Item None e comma r.0, InLaterElements r.1))
     each_items t m before (Item (Some key) e comma rest) h =
         either h
         (λ q. let With : Ident → Type 0 = λ y. (others : ItemTrees) × RespellsItems x name (Item (Some (record { name = y; colon = key.colon })) e comma rest) others in
         subst With (sym q) (Item (Some (record { name = respelled name x; colon = key.colon })) e comma rest, InKey))
-        (λ g. either (apart x (spots looks places.«Value» e) (items_spots looks t m (before ++ key.name.name ∷ []) rest) g)
-        (λ k. let r = each_expr places.«Value» e k in (Item (Some key) r.0 comma rest, InElement r.1))
+        (λ g. either (apart x (spots looks stands.«Value» e) (items_spots looks t m (before ++ key.name.name ∷ []) rest) g)
+        (λ k. let r = each_expr stands.«Value» e k in (Item (Some key) r.0 comma rest, InElement r.1))
         (λ k. let r = each_items t m (before ++ key.name.name ∷ []) rest k in (Item (Some key) e comma r.0, InLaterElements r.1)))
 
-decides : {T S D P : Type 0} (looks : Looks T S D P) (p : Place) (x : Ident) (name : List ℕ) (e f : ExprTree) → Respells x name e f → NameDecides T S D P looks p x name e f
+decides : {T S D P : Type 0} (looks : Looks T S D P) (p : Stand) (x : Ident) (name : List ℕ) (e f : ExprTree) → Respells x name e f → NameDecides T S D P looks p x name e f
 decides looks p x name e f r =
     let s = stays looks x name p e f r in
     let made = use_of looks in

@@ -15,8 +15,8 @@ use Rattle.go_tree_core.specs.declared.occurrence.Role.TheVariants as roles
 use Rattle.go_tree_core.specs.declared.occurrence.Context.TheVariants as contexts
 use Rattle.go_tree_core.specs.declared.occurrence.Occ.{Occ}
 use Rattle.go_tree_core.specs.Occurrences as occ
-use Rattle.go_literal_core.specs.denote_core.declared.things.Place.{Place}
-use Rattle.go_literal_core.specs.denote_core.declared.things.Place.TheVariants as places
+use Rattle.go_literal_core.specs.denote_core.declared.things.Stand.{Stand}
+use Rattle.go_literal_core.specs.denote_core.declared.things.Stand.TheVariants as stands
 use Rattle.go_expr_core.specs.Looks.{Looks}
 use Rattle.go_expr_core.specs.Places.{inside, under_place, left_place, whole, place_role, role_usage}
 use Rattle.go_expr_core.specs.Uses.{Spot, Identifier, CallAt, role_of, use_of, type_name_spots, type_spots, fields_spots, methods_spots, signature_spots, result_spots, params_spots, key_spots, spots, args_spots, items_spots}
@@ -73,48 +73,48 @@ mutual
 
 -- expressions
 
-name_occurs : (p : Place) (x : Ident) → (x.span.start, place_role p) ∷ [] ≡ map occurrence_place (occ.named_occs (context_of p) x)
-name_occurs places.«Type» x = refl
-name_occurs places.TypeDot x = refl
-name_occurs places.«Value» x = refl
-name_occurs places.Callee x = refl
-name_occurs places.BeforeDot x = refl
+name_occurs : (p : Stand) (x : Ident) → (x.span.start, place_role p) ∷ [] ≡ map occurrence_place (occ.named_occs (context_of p) x)
+name_occurs stands.«Type» x = refl
+name_occurs stands.TypeDot x = refl
+name_occurs stands.«Value» x = refl
+name_occurs stands.Callee x = refl
+name_occurs stands.BeforeDot x = refl
 
-inside_same : (p : Place) → context_of (inside p) ≡ occ.inside_context (context_of p)
-inside_same places.«Type» = refl
-inside_same places.TypeDot = refl
-inside_same places.«Value» = refl
-inside_same places.Callee = refl
-inside_same places.BeforeDot = refl
+inside_same : (p : Stand) → context_of (inside p) ≡ occ.inside_context (context_of p)
+inside_same stands.«Type» = refl
+inside_same stands.TypeDot = refl
+inside_same stands.«Value» = refl
+inside_same stands.Callee = refl
+inside_same stands.BeforeDot = refl
 
-under_same : (op : Operator) (p : Place) → context_of (under_place op p) ≡ occ.under op (context_of p)
-under_same operators.Star places.«Type» = refl
-under_same operators.Star places.TypeDot = refl
-under_same operators.Star places.«Value» = refl
-under_same operators.Star places.Callee = refl
-under_same operators.Star places.BeforeDot = refl
+under_same : (op : Operator) (p : Stand) → context_of (under_place op p) ≡ occ.under op (context_of p)
+under_same operators.Star stands.«Type» = refl
+under_same operators.Star stands.TypeDot = refl
+under_same operators.Star stands.«Value» = refl
+under_same operators.Star stands.Callee = refl
+under_same operators.Star stands.BeforeDot = refl
 under_same _ p = refl
 
-whole_same : (p : Place) → role_usage (whole p) ≡ occ.whole_usage (context_of p)
-whole_same places.«Type» = refl
-whole_same places.TypeDot = refl
-whole_same places.«Value» = refl
-whole_same places.Callee = refl
-whole_same places.BeforeDot = refl
+whole_same : (p : Stand) → role_usage (whole p) ≡ occ.whole_usage (context_of p)
+whole_same stands.«Type» = refl
+whole_same stands.TypeDot = refl
+whole_same stands.«Value» = refl
+whole_same stands.Callee = refl
+whole_same stands.BeforeDot = refl
 
 under_value : (op : Operator) → occ.under op contexts.«Value» ≡ occ.under op contexts.BeforeDot
 under_value operators.Star = refl
 under_value _ = refl
 
-left_name : (p : Place) (x : Ident) → occ.named_occs (context_of (left_place p (Named x))) x ≡ occ.named_occs contexts.BeforeDot x
-left_name places.«Type» x = refl
-left_name places.TypeDot x = refl
-left_name places.«Value» x = refl
-left_name places.Callee x = refl
-left_name places.BeforeDot x = refl
+left_name : (p : Stand) (x : Ident) → occ.named_occs (context_of (left_place p (Named x))) x ≡ occ.named_occs contexts.BeforeDot x
+left_name stands.«Type» x = refl
+left_name stands.TypeDot x = refl
+left_name stands.«Value» x = refl
+left_name stands.Callee x = refl
+left_name stands.BeforeDot x = refl
 
 -- left of a dot
-left_same : (p : Place) (e : ExprTree) → occ.expr_occs (context_of (left_place p e)) e ≡ occ.expr_occs contexts.BeforeDot e
+left_same : (p : Stand) (e : ExprTree) → occ.expr_occs (context_of (left_place p e)) e ≡ occ.expr_occs contexts.BeforeDot e
 left_same p (Integer n span) = refl
 left_same p (Text t) = refl
 left_same p (Named x) = left_name p x
@@ -131,29 +131,29 @@ key_occurs D P t m others None = refl
 key_occurs D P t m others (Some k) = refl
 
 mutual
-  occurs : {T S D P : Type 0} (looks : Looks T S D P) (p : Place) (header : Bool) (e : ExprTree) → Wf header e → map spot_place (spots looks p e) ≡ map occurrence_place (occ.expr_occs (context_of p) e)
+  occurs : {T S D P : Type 0} (looks : Looks T S D P) (p : Stand) (header : Bool) (e : ExprTree) → Wf header e → map spot_place (spots looks p e) ≡ map occurrence_place (occ.expr_occs (context_of p) e)
   occurs looks p header (Integer n span) w = refl
   occurs looks p header (Text t) w = refl
   occurs looks p header (Named x) w = name_occurs p x
   occurs looks p header (Paren first e last) w = occurs looks (inside p) false e w ∙ ap (λ c. map occurrence_place (occ.expr_occs c e)) (inside_same p)
   occurs looks p header (Unary op span e) w = occurs looks (under_place op p) header e w.1 ∙ ap (λ c. map occurrence_place (occ.expr_occs c e)) (under_same op p)
-  occurs looks p header (Binary a op span b) w = joined _ _ _ _ (occurs looks places.«Value» header a w.1) (occurs looks places.«Value» header b w.3)
+  occurs looks p header (Binary a op span b) w = joined _ _ _ _ (occurs looks stands.«Value» header a w.1) (occurs looks stands.«Value» header b w.3)
   occurs looks p header (Select e dot x) w =
       joined _ _ _ _ (occurs looks (left_place p e) header e w.0 ∙ ap (map occurrence_place) (left_same p e)) (ap (λ u. (x.span.start, roles.Selector u) ∷ []) (whole_same p))
   occurs looks p header (Call e first items last) w =
-      joined _ _ _ _ (occurs looks places.Callee header e w.0) (ap (λ l. (first.start, roles.Call) ∷ l) (args_occur looks items w.2))
+      joined _ _ _ _ (occurs looks stands.Callee header e w.0) (ap (λ l. (first.start, roles.Call) ∷ l) (args_occur looks items w.2))
   occurs looks p header (Literal n first items last) w = joined _ _ _ _ (named_occurs looks n) (items_occur looks _ _ [] items w.1)
   occurs looks p header (StructLiteral t first items last) w = joined _ _ _ _ (type_occurs looks t) (items_occur looks _ _ [] items w.2)
 
   args_occur : {T S D P : Type 0} (looks : Looks T S D P) (items : ItemTrees) → Wf_items false items → map spot_place (args_spots looks items) ≡ map occurrence_place (occ.items_occs items)
   args_occur looks NoItems w = refl
-  args_occur looks (Item None e comma rest) w = joined _ _ _ _ (occurs looks places.«Value» false e w.1) (args_occur looks rest w.3)
+  args_occur looks (Item None e comma rest) w = joined _ _ _ _ (occurs looks stands.«Value» false e w.1) (args_occur looks rest w.3)
   args_occur looks (Item (Some k) e comma rest) w = absurd w.0
 
   items_occur : {T S D P : Type 0} (looks : Looks T S D P) (t : Option T) (m : Bool) (before : List (List ℕ)) (items : ItemTrees) → Wf_items true items → map spot_place (items_spots looks t m before items) ≡ map occurrence_place (occ.items_occs items)
   items_occur looks t m before NoItems w = refl
   items_occur {T} {S} {D} {P} looks t m before (Item key e comma rest) w =
-      joined _ _ _ _ (key_occurs D P t m _ key) (joined _ _ _ _ (occurs looks places.«Value» false e w.1) (items_occur looks t m _ rest w.3))
+      joined _ _ _ _ (key_occurs D P t m _ key) (joined _ _ _ _ (occurs looks stands.«Value» false e w.1) (items_occur looks t m _ rest w.3))
 
 pub uses_occur : (T S D P : Type 0) → UsesAreOccurrences T S D P
 uses_occur T S D P = record {

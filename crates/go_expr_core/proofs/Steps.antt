@@ -27,7 +27,7 @@ use Rattle.go_expr_core.specs.Uses.{made_use, behind_use}
 use Rattle.go_tree_nodes.specs.Trees.{ExprTree}
 use Rattle.go_tree_nodes.specs.Counts.{item_count}
 use Rattle.go_text_core.specs.declared.rule.Rule.{Rule}
-use Rattle.go_literal_core.specs.denote_core.declared.things.Place.TheVariants as places
+use Rattle.go_literal_core.specs.denote_core.declared.things.Stand.TheVariants as stands
 use Rattle.go_literal_core.specs.declared.things.Keys.{Keys}
 use Rattle.go_literal_core.specs.declared.things.Mode.{Mode}
 use Rattle.go_literal_core.specs.Literals.{literal_rule, literal_mode, element_target, keys_among}
@@ -94,12 +94,12 @@ keys_marked f names xs n m a b e =
 
 pub element_noted : {T S D P X E : Type 0} (r : Result X E) (looks : Looks T S D P) (t : Option T) (mode : Mode) (m : Bool) (number : ℕ) (mark : KeyMark) (key : Option Key) (e : ExprTree)
     (offset : ℕ) (wanted by_key : Option T) (d : Denoted T S D) (f0 f1 f2 : List Fault)
-    → f1 ≡ f0 ++ operand_faults looks places.«Value» e → offset ≡ item_start key e → by_key ≡ key_target_marked looks t m mark key
-    → wanted ≡ element_target (literals_at looks (start e)) t mode number by_key → d ≡ denoted looks places.«Value» e
+    → f1 ≡ f0 ++ operand_faults looks stands.«Value» e → offset ≡ item_start key e → by_key ≡ key_target_marked looks t m mark key
+    → wanted ≡ element_target (literals_at looks (start e)) t mode number by_key → d ≡ denoted looks stands.«Value» e
     → OnOk r (f2 ≡ f1 ++ fault_at offset (element_rule looks (start e) wanted d)) → OnOk r (f2 ≡ f0 ++ turn_faults looks t mode m number mark key e)
 element_noted r looks t mode m number mark key e offset wanted by_key d f0 f1 f2 a at_key of_key want has h =
     ok_both r f0 f1 f2 _ _ _ a
-    (ap (λ l. operand_faults looks places.«Value» e ++ l)
+    (ap (λ l. operand_faults looks stands.«Value» e ++ l)
     (ap (λ n. fault_at n (element_rule looks (start e) wanted d)) at_key
     ∙ (ap (λ w. fault_at (item_start key e) (element_rule looks (start e) w d)) (want ∙ ap (element_target (literals_at looks (start e)) t mode number) of_key)
     ∙ ap (λ x. fault_at (item_start key e) (element_rule looks (start e) (element_target (literals_at looks (start e)) t mode number (key_target_marked looks t m mark key)) x)) has)))

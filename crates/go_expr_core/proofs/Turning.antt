@@ -9,8 +9,8 @@ use Rattle.go_tree_nodes.specs.declared.exprs.«Item» as declared_item
 use Rattle.go_tree_nodes.specs.Trees.{ExprTree, ItemTrees, Call}
 use Rattle.go_tree_nodes.specs.Shapes.{shape, items_of, shape_key}
 use Rattle.go_tree_core.specs.declared.occurrence.Role.TheVariants as roles
-use Rattle.go_literal_core.specs.denote_core.declared.things.Place.{Place}
-use Rattle.go_literal_core.specs.denote_core.declared.things.Place.TheVariants as places
+use Rattle.go_literal_core.specs.denote_core.declared.things.Stand.{Stand}
+use Rattle.go_literal_core.specs.denote_core.declared.things.Stand.TheVariants as stands
 use Rattle.go_literal_core.specs.declared.things.Mode.{Mode}
 use Rattle.go_expr_core.specs.declared.things.Use.{Use}
 use Rattle.go_expr_core.specs.declared.things.Fault.{Fault}
@@ -51,7 +51,7 @@ turn_used {T} {S} {D} {P} looks t m mark xs i x h is right u0 u1 e =
     let ks = all_keys (items_of (take i xs)) in
     let rest = items_of (drop (i + 1) xs) in
     let key = key_spots {T = T} {D = D} {P = P} t m (ks ++ all_keys rest) (shape_key x.key) in
-    let mid = spots looks places.«Value» (shape x.value) in
+    let mid = spots looks stands.«Value» (shape x.value) in
     let more = items_spots looks t m (ks ++ key_names (shape_key x.key)) rest in
     let here = map (use_of looks) key in
     let there = map (use_of looks) mid in
@@ -73,7 +73,7 @@ turn_noted {T} looks mode t m mark xs i x h is right f0 f1 e =
     let rest = items_of (drop (i + 1) xs) in
     let others = ks ++ all_keys rest in
     let value = shape x.value in
-    let found : Option T → List Fault = λ w. operand_faults looks places.«Value» value ++ fault_at (item_start (shape_key x.key) value) (element_rule looks (start value) (element_target (literals_at looks (start value)) t mode i w) (denoted looks places.«Value» value)) in
+    let found : Option T → List Fault = λ w. operand_faults looks stands.«Value» value ++ fault_at (item_start (shape_key x.key) value) (element_rule looks (start value) (element_target (literals_at looks (start value)) t mode i w) (denoted looks stands.«Value» value)) in
     let one = found (key_target_by looks t m (is_again (shape_key x.key) others) (shape_key x.key)) in
     let more = items_faults looks t mode m (suc i) (ks ++ key_names (shape_key x.key)) rest in
     ap (λ l. f1 ++ items_faults looks t mode m (i + 1) l rest) (sym (keys_more xs i x h is))
@@ -88,5 +88,5 @@ placed xs0 xs1 xs2 xs3 n y z head ys a b c d =
     ap (λ l. set l n z) (c ∙ (ap (λ l. l ++ ys) b ∙ append_assoc xs1 (y ∷ []) ys))
     ∙ (ap (λ k. set (xs1 ++ y ∷ ys) k z) d ∙ (set-append_seam xs1 y ys z ∙ (ap (λ l. l ++ z ∷ ys) a ∙ append_assoc xs0 head (z ∷ ys))))
 
-pub call_used : {T S D P : Type 0} (looks : Looks T S D P) (p : Place) (e : ExprTree) (first : Span) (items : ItemTrees) (last : Span) → uses looks p (Call e first items last) ≡ call_uses looks e first items
-call_used looks p e first items last = map-append (use_of looks) (spots looks places.Callee e) _
+pub call_used : {T S D P : Type 0} (looks : Looks T S D P) (p : Stand) (e : ExprTree) (first : Span) (items : ItemTrees) (last : Span) → uses looks p (Call e first items last) ≡ call_uses looks e first items
+call_used looks p e first items last = map-append (use_of looks) (spots looks stands.Callee e) _

@@ -7,8 +7,8 @@ use Rattle.go_text_core.specs.declared.rule.Rule.{Rule}
 use Rattle.go_token_core.specs.declared.kind.Operator.{Operator}
 use Rattle.go_tree_nodes.specs.Trees.{ExprTree, ItemTrees, Integer, Text, Named, Paren, Unary, Binary, Select, Call, Literal, StructLiteral, NoItems, Item}
 use Rattle.go_tree_nodes.specs.Starts.{type_name_start, type_start}
-use Rattle.go_literal_core.specs.denote_core.declared.things.Place.{Place}
-use Rattle.go_literal_core.specs.denote_core.declared.things.Place.TheVariants as places
+use Rattle.go_literal_core.specs.denote_core.declared.things.Stand.{Stand}
+use Rattle.go_literal_core.specs.denote_core.declared.things.Stand.TheVariants as stands
 use Rattle.go_literal_core.specs.denote_core.declared.things.Denoted.{Denoted}
 use Rattle.go_literal_core.specs.denote_core.Arguments.{single_rule}
 use Rattle.go_literal_core.specs.declared.things.Mode.{Mode}
@@ -29,7 +29,7 @@ listed_rule true d = single_rule d
 listed_rule false d = None
 
 abbrev mutual
-  pub faults : {T S D P : Type 0} → Looks T S D P → Place → ExprTree → List Fault
+  pub faults : {T S D P : Type 0} → Looks T S D P → Stand → ExprTree → List Fault
   faults looks p (Integer n span) = []
   faults looks p (Text t) = []
   faults looks p (Named x) = []
@@ -38,11 +38,11 @@ abbrev mutual
       (faults looks (under_place op p) e ++ fault_at (start e) (single_rule (denoted looks (under_place op p) e)))
       ++ fault_at span.start (unary_of looks.types op (is_literal e) (denoted looks (under_place op p) e)).fault
   faults looks p (Binary a op span b) =
-      (faults looks places.«Value» a ++ fault_at (start a) (single_rule (denoted looks places.«Value» a)))
-      ++ ((faults looks places.«Value» b ++ fault_at (start b) (single_rule (denoted looks places.«Value» b)))
-      ++ fault_at (start a) (binary_of looks.types op (denoted looks places.«Value» a) (denoted looks places.«Value» b)).fault)
+      (faults looks stands.«Value» a ++ fault_at (start a) (single_rule (denoted looks stands.«Value» a)))
+      ++ ((faults looks stands.«Value» b ++ fault_at (start b) (single_rule (denoted looks stands.«Value» b)))
+      ++ fault_at (start a) (binary_of looks.types op (denoted looks stands.«Value» a) (denoted looks stands.«Value» b)).fault)
   faults looks p (Select e dot x) = faults looks (left_place p e) e
-  faults looks p (Call e first items last) = faults looks places.Callee e ++ args_faults looks (is_several items) items
+  faults looks p (Call e first items last) = faults looks stands.Callee e ++ args_faults looks (is_several items) items
   faults looks p (Literal n first items last) =
       fault_at (type_name_start n) (whole_rule looks (type_name_start n) (named_type looks n) items)
       ++ items_faults looks (named_type looks n) (whole_mode looks (type_name_start n) (named_type looks n) items) (is_mixed (keys_of items)) 0 [] items
@@ -55,32 +55,32 @@ abbrev mutual
   pub args_faults : {T S D P : Type 0} → Looks T S D P → Bool → ItemTrees → List Fault
   args_faults looks listed NoItems = []
   args_faults looks listed (Item key e comma rest) =
-      (faults looks places.«Value» e ++ fault_at (start e) (listed_rule listed (denoted looks places.«Value» e))) ++ args_faults looks listed rest
+      (faults looks stands.«Value» e ++ fault_at (start e) (listed_rule listed (denoted looks stands.«Value» e))) ++ args_faults looks listed rest
 
   -- elements of a literal of a type, behind so many others with these keys
   pub items_faults : {T S D P : Type 0} → Looks T S D P → Option T → Mode → Bool → ℕ → List (List ℕ) → ItemTrees → List Fault
   items_faults looks t mode mixed number before NoItems = []
   items_faults looks t mode mixed number before (Item key e comma rest) =
-      ((faults looks places.«Value» e ++ fault_at (start e) (single_rule (denoted looks places.«Value» e)))
-      ++ fault_at (item_start key e) (element_rule looks (start e) (element_type looks (start e) t mode mixed number (before ++ all_keys rest) key) (denoted looks places.«Value» e)))
+      ((faults looks stands.«Value» e ++ fault_at (start e) (single_rule (denoted looks stands.«Value» e)))
+      ++ fault_at (item_start key e) (element_rule looks (start e) (element_type looks (start e) t mode mixed number (before ++ all_keys rest) key) (denoted looks stands.«Value» e)))
       ++ items_faults looks t mode mixed (suc number) (before ++ key_names key) rest
 
 -- each form
 
-abbrev pub operand_faults : {T S D P : Type 0} → Looks T S D P → Place → ExprTree → List Fault
+abbrev pub operand_faults : {T S D P : Type 0} → Looks T S D P → Stand → ExprTree → List Fault
 operand_faults looks p e = faults looks p e ++ fault_at (start e) (single_rule (denoted looks p e))
 
-abbrev pub unary_faults : {T S D P : Type 0} → Looks T S D P → Place → Operator → Span → ExprTree → List Fault
+abbrev pub unary_faults : {T S D P : Type 0} → Looks T S D P → Stand → Operator → Span → ExprTree → List Fault
 unary_faults looks p op span e = operand_faults looks (under_place op p) e ++ fault_at span.start (unary_judged looks p op e).fault
 
 abbrev pub binary_faults : {T S D P : Type 0} → Looks T S D P → Operator → ExprTree → ExprTree → List Fault
-binary_faults looks op a b = operand_faults looks places.«Value» a ++ (operand_faults looks places.«Value» b ++ fault_at (start a) (binary_judged looks op a b).fault)
+binary_faults looks op a b = operand_faults looks stands.«Value» a ++ (operand_faults looks stands.«Value» b ++ fault_at (start a) (binary_judged looks op a b).fault)
 
 abbrev pub member_faults : {T S D P : Type 0} → Looks T S D P → Bool → ExprTree → List Fault
-member_faults looks listed e = faults looks places.«Value» e ++ fault_at (start e) (listed_rule listed (denoted looks places.«Value» e))
+member_faults looks listed e = faults looks stands.«Value» e ++ fault_at (start e) (listed_rule listed (denoted looks stands.«Value» e))
 
 abbrev pub call_faults : {T S D P : Type 0} → Looks T S D P → ExprTree → ItemTrees → List Fault
-call_faults looks e items = faults looks places.Callee e ++ args_faults looks (is_several items) items
+call_faults looks e items = faults looks stands.Callee e ++ args_faults looks (is_several items) items
 
 abbrev pub literal_faults : {T S D P : Type 0} → Looks T S D P → ℕ → Option T → ItemTrees → List Fault
 literal_faults looks offset t items =

@@ -10,8 +10,8 @@ use Rattle.go_tree_core.specs.declared.occurrence.Context as tree_context
 use Rattle.go_tree_core.specs.declared.occurrence.Context.TheVariants as contexts
 use Rattle.go_tree_core.specs.declared.occurrence.Occ.{Occ}
 use Rattle.go_tree_core.specs.Occurrences.{expr_occs, type_occs}
-use Rattle.go_literal_core.specs.denote_core.declared.things.Place.{Place}
-use Rattle.go_literal_core.specs.denote_core.declared.things.Place.TheVariants as places
+use Rattle.go_literal_core.specs.denote_core.declared.things.Stand.{Stand}
+use Rattle.go_literal_core.specs.denote_core.declared.things.Stand.TheVariants as stands
 use Rattle.go_literal_core.specs.denote_core.declared.things.Found.{Found}
 use Rattle.go_expr_core.specs.declared.things.Use.{Use}
 use Rattle.go_expr_core.specs.Looks.{WrittenRules, Looks}
@@ -23,12 +23,12 @@ use Rattle.go_expr_core.specs.Faults.{faults}
 -- each occurrence has exactly one outcome, and no other place has one
 
 -- where an expression stands, as occurrences say it
-abbrev pub context_of : Place → tree_context.Context
-context_of places.«Type» = contexts.«Type»
-context_of places.TypeDot = contexts.BeforeDot
-context_of places.«Value» = contexts.«Value»
-context_of places.Callee = contexts.Callee
-context_of places.BeforeDot = contexts.BeforeDot
+abbrev pub context_of : Stand → tree_context.Context
+context_of stands.«Type» = contexts.«Type»
+context_of stands.TypeDot = contexts.BeforeDot
+context_of stands.«Value» = contexts.«Value»
+context_of stands.Callee = contexts.Callee
+context_of stands.BeforeDot = contexts.BeforeDot
 
 abbrev pub use_place : {D P : Type 0} → Use D P → ℕ × Role
 use_place u = (u.offset, u.role)
@@ -38,7 +38,7 @@ occurrence_place o = (o.span.start, o.role)
 
 pub record UsesAreOccurrences (T S D P : Type 0) : Type 0 where
   -- of an expression of the grammar
-  pub expressions : (looks : Looks T S D P) (p : Place) (header : Bool) (e : ExprTree) → Wf header e → map use_place (uses looks p e) ≡ map occurrence_place (expr_occs (context_of p) e)
+  pub expressions : (looks : Looks T S D P) (p : Stand) (header : Bool) (e : ExprTree) → Wf header e → map use_place (uses looks p e) ≡ map occurrence_place (expr_occs (context_of p) e)
   pub types : (looks : Looks T S D P) (t : TypeTree) → map use_place (type_uses looks t) ≡ map occurrence_place (type_occs t)
 
 -- names are looked up where they stand, and nothing else is looked up by a name
@@ -143,12 +143,12 @@ pub record LooksAtNames (T : Type 0) (written : WrittenRules T) : Type 0 where
 abbrev pub finding : {T S D P : Type 0} → (List ℕ → ℕ → Found T S D) → Looks T S D P → Looks T S D P
 finding find looks = record { find = find; exported = looks.exported; select = looks.select; params = looks.params; results = looks.results; types = looks.types; literals = looks.literals; written = looks.written }
 
-pub record Same (T S D P : Type 0) (looks other : Looks T S D P) (p : Place) (e : ExprTree) : Type 0 where
+pub record Same (T S D P : Type 0) (looks other : Looks T S D P) (p : Stand) (e : ExprTree) : Type 0 where
   pub denoted : denoted looks p e ≡ denoted other p e
   pub uses : uses looks p e ≡ uses other p e
   pub faults : faults looks p e ≡ faults other p e
 
 -- look-ups that agree on each name of an expression, where it stands, make the same of it
 abbrev pub ExpressionsAreLocal : (T S D P : Type 0) → Type 0
-ExpressionsAreLocal T S D P = (looks : Looks T S D P) (find : List ℕ → ℕ → Found T S D) (p : Place) (e : ExprTree)
+ExpressionsAreLocal T S D P = (looks : Looks T S D P) (find : List ℕ → ℕ → Found T S D) (p : Stand) (e : ExprTree)
     → LooksAtNames T looks.written → AgreeOnIdents looks.find find (expr_idents e) → Same T S D P looks (finding find looks) p e

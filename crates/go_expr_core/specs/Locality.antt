@@ -4,7 +4,7 @@
 use Rattle.std.specs.Prelude.{◌≡◌, ℕ, ⊤, List, [], ◌∷◌, ◌++◌}
 use Rattle.go_tree_nodes.specs.Trees.{TypeTree, ExprTree, ItemTrees, Integer, Text, Named, Paren, Unary, Binary, Select, Call, Literal, StructLiteral, NoItems, Item}
 use Rattle.go_tree_nodes.specs.WrittenTypes.{expr_types}
-use Rattle.go_literal_core.specs.denote_core.declared.things.Place.{Place}
+use Rattle.go_literal_core.specs.denote_core.declared.things.Stand.{Stand}
 use Rattle.go_literal_core.specs.denote_core.declared.things.Found.{Found}
 use Rattle.go_expr_core.specs.Looks.{Looks, WrittenRules}
 use Rattle.go_expr_core.specs.Denoting.{named_type, written_type, denoted}
@@ -46,8 +46,8 @@ seeing find written looks = record { find = find; exported = looks.exported; sel
 
 pub record ExpressionsAreSeenAlike (T S D P : Type 0) : Type 0 where
   -- look-ups that agree on each name of an expression, where it stands, and on each struct type before a literal in it, make the same of it
-  pub whole : (looks : Looks T S D P) (find : List ℕ → ℕ → Found T S D) (written : WrittenRules T) (p : Place) (e : ExprTree)
+  pub whole : (looks : Looks T S D P) (find : List ℕ → ℕ → Found T S D) (written : WrittenRules T) (p : Stand) (e : ExprTree)
       → AgreeOnIdents looks.find find (expr_idents e) → SameWritten looks (seeing find written looks) (expr_types e) → Same T S D P looks (seeing find written looks) p e
   -- and it denotes the same where they agree on those outside the elements of literals
-  pub needed : (looks : Looks T S D P) (find : List ℕ → ℕ → Found T S D) (written : WrittenRules T) (p : Place) (e : ExprTree)
+  pub needed : (looks : Looks T S D P) (find : List ℕ → ℕ → Found T S D) (written : WrittenRules T) (p : Stand) (e : ExprTree)
       → AgreeOnIdents looks.find find (needed_idents e) → SameWritten looks (seeing find written looks) (needed_types e) → denoted looks p e ≡ denoted (seeing find written looks) p e

@@ -4,7 +4,7 @@
 use Rattle.std.specs.Prelude.{◌≡◌, ℕ, List, [], ◌∷◌, ◌++◌}
 use Rattle.go_tree_nodes.specs.declared.names.Ident.{Ident}
 use Rattle.go_tree_nodes.specs.Trees.{ExprTree, ItemTrees, Integer, Text, Named, Paren, Unary, Binary, Select, Call, Literal, StructLiteral, NoItems, Item}
-use Rattle.go_literal_core.specs.denote_core.declared.things.Place.{Place}
+use Rattle.go_literal_core.specs.denote_core.declared.things.Stand.{Stand}
 use Rattle.go_literal_core.specs.denote_core.declared.things.Found.{Found}
 use Rattle.go_expr_core.specs.Looks.{Looks}
 use Rattle.go_expr_core.specs.Denoting.{denoted}
@@ -31,5 +31,5 @@ abbrev mutual
 
 -- an expression denotes the same by look-ups that agree on each of these identifiers, where it stands
 abbrev pub DenotedByNeededNames : (T S D P : Type 0) → Type 0
-DenotedByNeededNames T S D P = (looks : Looks T S D P) (find : List ℕ → ℕ → Found T S D) (p : Place) (e : ExprTree)
+DenotedByNeededNames T S D P = (looks : Looks T S D P) (find : List ℕ → ℕ → Found T S D) (p : Stand) (e : ExprTree)
     → LooksAtNames T looks.written → AgreeOnIdents looks.find find (needed_idents e) → denoted looks p e ≡ denoted (finding find looks) p e

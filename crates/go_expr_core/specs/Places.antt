@@ -12,52 +12,52 @@ use Rattle.go_tree_core.specs.declared.occurrence.Role.{Role}
 use Rattle.go_tree_core.specs.declared.occurrence.Role.TheVariants as roles
 use Rattle.go_tree_core.specs.declared.occurrence.Usage as tree_usage
 use Rattle.go_tree_core.specs.declared.occurrence.Usage.TheVariants as tree_usages
-use Rattle.go_literal_core.specs.denote_core.declared.things.Place.{Place}
-use Rattle.go_literal_core.specs.denote_core.declared.things.Place.TheVariants as places
+use Rattle.go_literal_core.specs.denote_core.declared.things.Stand.{Stand}
+use Rattle.go_literal_core.specs.denote_core.declared.things.Stand.TheVariants as stands
 use Rattle.go_literal_core.specs.denote_core.declared.things.Usage.{Usage}
 use Rattle.go_literal_core.specs.denote_core.declared.things.Usage.TheVariants as usages
 
 -- the place of what stands in parentheses: a name in them is no qualifier
-abbrev pub inside : Place → Place
-inside places.«Type» = places.«Type»
-inside places.TypeDot = places.«Value»
-inside places.«Value» = places.«Value»
-inside places.Callee = places.Callee
-inside places.BeforeDot = places.«Value»
+abbrev pub inside : Stand → Stand
+inside stands.«Type» = stands.«Type»
+inside stands.TypeDot = stands.«Value»
+inside stands.«Value» = stands.«Value»
+inside stands.Callee = stands.Callee
+inside stands.BeforeDot = stands.«Value»
 
 -- the place of what stands behind a star: where a type or what is called is wanted, a type
-abbrev pub starred_place : Place → Place
-starred_place places.«Type» = places.«Type»
-starred_place places.TypeDot = places.«Value»
-starred_place places.«Value» = places.«Value»
-starred_place places.Callee = places.«Type»
-starred_place places.BeforeDot = places.«Value»
+abbrev pub starred_place : Stand → Stand
+starred_place stands.«Type» = stands.«Type»
+starred_place stands.TypeDot = stands.«Value»
+starred_place stands.«Value» = stands.«Value»
+starred_place stands.Callee = stands.«Type»
+starred_place stands.BeforeDot = stands.«Value»
 
 -- the place of what stands behind a unary operator
-abbrev pub under_place : Operator → Place → Place
+abbrev pub under_place : Operator → Stand → Stand
 under_place operators.Star p = starred_place p
-under_place _ p = places.«Value»
+under_place _ p = stands.«Value»
 
 -- the place of a name left of a dot: before the dot of a type a name is a package
-abbrev pub before_place : Place → Place
-before_place places.«Type» = places.TypeDot
-before_place places.TypeDot = places.BeforeDot
-before_place places.«Value» = places.BeforeDot
-before_place places.Callee = places.BeforeDot
-before_place places.BeforeDot = places.BeforeDot
+abbrev pub before_place : Stand → Stand
+before_place stands.«Type» = stands.TypeDot
+before_place stands.TypeDot = stands.BeforeDot
+before_place stands.«Value» = stands.BeforeDot
+before_place stands.Callee = stands.BeforeDot
+before_place stands.BeforeDot = stands.BeforeDot
 
 -- the place left of a dot: a name alone may be a package there, anything else is an operand
-abbrev pub left_place : Place → ExprTree → Place
+abbrev pub left_place : Stand → ExprTree → Stand
 left_place p (Named x) = before_place p
-left_place p _ = places.«Value»
+left_place p _ = stands.«Value»
 
 -- how a selector as a whole is used
-abbrev pub whole : Place → Usage
-whole places.«Type» = usages.«Type»
-whole places.TypeDot = usages.«Value»
-whole places.«Value» = usages.«Value»
-whole places.Callee = usages.Callee
-whole places.BeforeDot = usages.«Value»
+abbrev pub whole : Stand → Usage
+whole stands.«Type» = usages.«Type»
+whole stands.TypeDot = usages.«Value»
+whole stands.«Value» = usages.«Value»
+whole stands.Callee = usages.Callee
+whole stands.BeforeDot = usages.«Value»
 
 abbrev pub is_name : ExprTree → Bool
 is_name (Named x) = true
@@ -90,12 +90,12 @@ is_several (Item key e comma (Item key2 e2 comma2 rest)) = true
 
 -- roles
 
-abbrev pub place_role : Place → Role
-place_role places.«Type» = roles.«Type»
-place_role places.TypeDot = roles.Qualifier
-place_role places.«Value» = roles.«Value»
-place_role places.Callee = roles.Callee
-place_role places.BeforeDot = roles.Qualifier
+abbrev pub place_role : Stand → Role
+place_role stands.«Type» = roles.«Type»
+place_role stands.TypeDot = roles.Qualifier
+place_role stands.«Value» = roles.«Value»
+place_role stands.Callee = roles.Callee
+place_role stands.BeforeDot = roles.Qualifier
 
 abbrev pub role_usage : Usage → tree_usage.Usage
 role_usage usages.«Type» = tree_usages.«Type»

@@ -8,7 +8,7 @@ use Rattle.go_tree_nodes.specs.declared.exprs.Key.{Key}
 use Rattle.go_tree_nodes.specs.declared.types.TypeName.{TypeName}
 use Rattle.go_tree_nodes.specs.declared.types.TypeName.TheVariants as type_names
 use Rattle.go_tree_nodes.specs.Trees.{Separated, TypeTree, FieldTrees, MethodTrees, SignatureTree, ResultTree, ParamTrees, NamedType, Pointer, ParenType, Struct, Interface, NamedFields, EmbeddedField, Method, Signed, OneResult, Results, Param, ExprTree, ItemTrees, Named, Paren, Unary, Binary, Select, Call, Literal, StructLiteral, Item}
-use Rattle.go_literal_core.specs.denote_core.declared.things.Place.{Place}
+use Rattle.go_literal_core.specs.denote_core.declared.things.Stand.{Stand}
 use Rattle.go_expr_core.specs.Looks.{Looks}
 use Rattle.go_expr_core.specs.Uses.{Context, Spot, Identifier, CallAt, rule, role_of, made_use, spots, uses}
 
@@ -86,7 +86,7 @@ mutual
     InLaterElements : {key : Option Key} {e : ExprTree} {comma : Option Span} {rest more : ItemTrees} → RespellsItems x name rest more → RespellsItems x name (Item key e comma rest) (Item key e comma more)
 
 -- The identifier stands in a context, as the tree was, and under its new spelling it has what this context's rule gives for that.
-pub record NameDecides (T S D P : Type 0) (looks : Looks T S D P) (p : Place) (x : Ident) (name : List ℕ) (e f : ExprTree) : Type 0 where
+pub record NameDecides (T S D P : Type 0) (looks : Looks T S D P) (p : Stand) (x : Ident) (name : List ℕ) (e f : ExprTree) : Type 0 where
   pub number : ℕ
   pub context : Context T D
   pub stands : slice_get (spots looks p e) number ≡ Some (Identifier context x)
@@ -99,6 +99,6 @@ StandsAmongSpots x (Identifier c y ∷ more) = (y ≡ x) ⊎ StandsAmongSpots x 
 StandsAmongSpots x (CallAt s o ∷ more) = StandsAmongSpots x more
 
 pub record OwnNameDecides (T S D P : Type 0) : Type 0 where
-  pub decides : (looks : Looks T S D P) (p : Place) (x : Ident) (name : List ℕ) (e f : ExprTree) → Respells x name e f → NameDecides T S D P looks p x name e f
+  pub decides : (looks : Looks T S D P) (p : Stand) (x : Ident) (name : List ℕ) (e f : ExprTree) → Respells x name e f → NameDecides T S D P looks p x name e f
   -- each identifier that has an outcome can be respelled
-  pub each : (looks : Looks T S D P) (p : Place) (x : Ident) (name : List ℕ) (e : ExprTree) → StandsAmongSpots x (spots looks p e) → (f : ExprTree) × Respells x name e f
+  pub each : (looks : Looks T S D P) (p : Stand) (x : Ident) (name : List ℕ) (e : ExprTree) → StandsAmongSpots x (spots looks p e) → (f : ExprTree) × Respells x name e f

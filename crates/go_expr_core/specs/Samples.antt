@@ -17,7 +17,7 @@ use Rattle.go_tree_core.specs.declared.occurrence.Usage.TheVariants as tree_usag
 use Rattle.go_literal_core.specs.operand_core.declared.types.TypeForm.{TypeForm}
 use Rattle.go_literal_core.specs.operand_core.declared.types.TypeForm.TheVariants as forms
 use Rattle.go_literal_core.specs.operand_core.declared.types.ValueType.TheVariants as value_types
-use Rattle.go_literal_core.specs.denote_core.declared.things.Place.TheVariants as places
+use Rattle.go_literal_core.specs.denote_core.declared.things.Stand.TheVariants as stands
 use Rattle.go_literal_core.specs.denote_core.declared.things.Outcome.TheVariants as outcomes
 use Rattle.go_literal_core.specs.denote_core.declared.things.Denoted.TheVariants as denotes
 use Rattle.go_literal_core.specs.denote_core.declared.things.Found.{Found}
@@ -167,62 +167,62 @@ imported_uses more = declared_at 0 roles.Qualifier 7 ∷ (declared_at 2 (roles.S
 
 pub record SampleExpressions : Type 0 where
   -- g().m(), where m needs a pointer: S5 at m, C1 at its call
-  pub no_pointer : uses looks places.«Value» (call (Select (call (name_at (codes "g") 0) 1 NoItems) (at 3) (called (codes "m") 4)) 5 NoItems)
+  pub no_pointer : uses looks stands.«Value» (call (Select (call (name_at (codes "g") 0) 1 NoItems) (at 3) (called (codes "m") 4)) 5 NoItems)
       ≡ declared_at 0 roles.Callee 111 ∷ (declared_at 1 roles.Call 111 ∷ (refused_at 4 (roles.Selector tree_usages.Callee) S5 ∷ (refused_at 5 roles.Call C1 ∷ [])))
   -- h().m(), with a pointer on the way
-  pub pointer_on_the_way : uses looks places.«Value» (call (Select (call (name_at (codes "h") 0) 1 NoItems) (at 3) (called (codes "m") 4)) 5 NoItems)
+  pub pointer_on_the_way : uses looks stands.«Value» (call (Select (call (name_at (codes "h") 0) 1 NoItems) (at 3) (called (codes "m") 4)) 5 NoItems)
       ≡ declared_at 0 roles.Callee 112 ∷ (declared_at 1 roles.Call 112 ∷ (made_use 4 (roles.Selector tree_usages.Callee) (outcomes.Selected 120 1) ∷ (declared_at 5 roles.Call 120 ∷ [])))
   -- p.T{A: 1} has no fault
-  pub by_key : uses looks places.«Value» (imported (Item (sample_literal_key (codes "A") 4) (integer_expr_at 1 6) None NoItems)) ≡ imported_uses (declared_at 4 roles.Key 705 ∷ [])
-  pub by_key_faults : faults looks places.«Value» (imported (Item (sample_literal_key (codes "A") 4) (integer_expr_at 1 6) None NoItems)) ≡ []
+  pub by_key : uses looks stands.«Value» (imported (Item (sample_literal_key (codes "A") 4) (integer_expr_at 1 6) None NoItems)) ≡ imported_uses (declared_at 4 roles.Key 705 ∷ [])
+  pub by_key_faults : faults looks stands.«Value» (imported (Item (sample_literal_key (codes "A") 4) (integer_expr_at 1 6) None NoItems)) ≡ []
   -- p.T{1, 2} and p.T{1}
-  pub in_order : faults looks places.«Value» (imported (Item None (integer_expr_at 1 4) None (one_item (integer_expr_at 2 6)))) ≡ sample_fault 0 F7 ∷ []
-  pub too_few : faults looks places.«Value» (imported (one_item (integer_expr_at 1 4))) ≡ sample_fault 0 F6 ∷ []
+  pub in_order : faults looks stands.«Value» (imported (Item None (integer_expr_at 1 4) None (one_item (integer_expr_at 2 6)))) ≡ sample_fault 0 F7 ∷ []
+  pub too_few : faults looks stands.«Value» (imported (one_item (integer_expr_at 1 4))) ≡ sample_fault 0 F6 ∷ []
   -- p.T{b: 1}
-  pub hidden_key : uses looks places.«Value» (imported (Item (sample_literal_key (codes "b") 4) (integer_expr_at 1 6) None NoItems)) ≡ imported_uses (refused_at 4 roles.Key F2 ∷ [])
+  pub hidden_key : uses looks stands.«Value» (imported (Item (sample_literal_key (codes "b") 4) (integer_expr_at 1 6) None NoItems)) ≡ imported_uses (refused_at 4 roles.Key F2 ∷ [])
   -- p.T{A: 1, A: 2}: F4 at both keys
-  pub repeated_keys : uses looks places.«Value» (imported (Item (sample_literal_key (codes "A") 4) (integer_expr_at 1 6) None (Item (sample_literal_key (codes "A") 8) (integer_expr_at 2 10) None NoItems)))
+  pub repeated_keys : uses looks stands.«Value» (imported (Item (sample_literal_key (codes "A") 4) (integer_expr_at 1 6) None (Item (sample_literal_key (codes "A") 8) (integer_expr_at 2 10) None NoItems)))
       ≡ imported_uses (refused_at 4 roles.Key F4 ∷ (refused_at 8 roles.Key F4 ∷ []))
   -- E{F: 1}, a promoted field
-  pub promoted_key : uses looks places.«Value» (Literal (type_names.Plain (called (codes "E") 0)) (at 1) (Item (sample_literal_key (codes "F") 2) (integer_expr_at 1 4) None NoItems) (at 6))
+  pub promoted_key : uses looks stands.«Value» (Literal (type_names.Plain (called (codes "E") 0)) (at 1) (Item (sample_literal_key (codes "F") 2) (integer_expr_at 1 4) None NoItems) (at 6))
       ≡ declared_at 0 roles.«Type» 103 ∷ (refused_at 2 roles.Key F3 ∷ [])
   -- A{A: 1, 2}: F5 at the key, and at A
-  pub mixed_uses : uses looks places.«Value» (Literal (type_names.Plain (called (codes "A") 0)) (at 1) (Item (sample_literal_key (codes "A") 2) (integer_expr_at 1 4) None (one_item (integer_expr_at 2 6))) (at 8))
+  pub mixed_uses : uses looks stands.«Value» (Literal (type_names.Plain (called (codes "A") 0)) (at 1) (Item (sample_literal_key (codes "A") 2) (integer_expr_at 1 4) None (one_item (integer_expr_at 2 6))) (at 8))
       ≡ declared_at 0 roles.«Type» 104 ∷ (refused_at 2 roles.Key F5 ∷ [])
-  pub mixed_faults : faults looks places.«Value» (Literal (type_names.Plain (called (codes "A") 0)) (at 1) (Item (sample_literal_key (codes "A") 2) (integer_expr_at 1 4) None (one_item (integer_expr_at 2 6))) (at 8)) ≡ sample_fault 0 F5 ∷ []
+  pub mixed_faults : faults looks stands.«Value» (Literal (type_names.Plain (called (codes "A") 0)) (at 1) (Item (sample_literal_key (codes "A") 2) (integer_expr_at 1 4) None (one_item (integer_expr_at 2 6))) (at 8)) ≡ sample_fault 0 F5 ∷ []
   -- A{A: nil}: Y4 at the key
-  pub misfit : faults looks places.«Value» (Literal (type_names.Plain (called (codes "A") 0)) (at 1) (Item (sample_literal_key (codes "A") 2) (name_at (codes "nil") 4) None NoItems) (at 8)) ≡ sample_fault 2 Y4 ∷ []
+  pub misfit : faults looks stands.«Value» (Literal (type_names.Plain (called (codes "A") 0)) (at 1) (Item (sample_literal_key (codes "A") 2) (name_at (codes "nil") 4) None NoItems) (at 8)) ≡ sample_fault 2 Y4 ∷ []
   -- struct { n int }{A: 1}: the names of the type are occurrences
-  pub written_type : uses looks places.«Value» (StructLiteral (Struct (at 0) (at 1) (NamedFields (One (called (codes "n") 2)) (NamedType (type_names.Plain (called (codes "int") 3))) None None NoFields) (at 4)) (at 5) (Item (sample_literal_key (codes "A") 6) (integer_expr_at 1 8) None NoItems) (at 9))
+  pub written_type : uses looks stands.«Value» (StructLiteral (Struct (at 0) (at 1) (NamedFields (One (called (codes "n") 2)) (NamedType (type_names.Plain (called (codes "int") 3))) None None NoFields) (at 4)) (at 5) (Item (sample_literal_key (codes "A") 6) (integer_expr_at 1 8) None NoItems) (at 9))
       ≡ declared_at 3 roles.«Type» 1 ∷ (declared_at 6 roles.Key 121 ∷ [])
   -- f alone, and f()()
-  pub no_call : uses looks places.«Value» (name_at (codes "f") 3) ≡ refused_at 3 roles.«Value» X1 ∷ []
-  pub called_twice : uses looks places.«Value» (call (call (name_at (codes "f") 0) 1 NoItems) 3 NoItems)
+  pub no_call : uses looks stands.«Value» (name_at (codes "f") 3) ≡ refused_at 3 roles.«Value» X1 ∷ []
+  pub called_twice : uses looks stands.«Value» (call (call (name_at (codes "f") 0) 1 NoItems) 3 NoItems)
       ≡ declared_at 0 roles.Callee 110 ∷ (declared_at 1 roles.Call 110 ∷ (refused_at 3 roles.Call C1 ∷ []))
   -- k(two()): two results stand for two arguments
-  pub spread : uses looks places.«Value» (call (name_at (codes "k") 0) 1 (one_item (call (name_at (codes "two") 2) 5 NoItems)))
+  pub spread : uses looks stands.«Value» (call (name_at (codes "k") 0) 1 (one_item (call (name_at (codes "two") 2) 5 NoItems)))
       ≡ declared_at 0 roles.Callee 114 ∷ (declared_at 1 roles.Call 114 ∷ (declared_at 2 roles.Callee 113 ∷ (declared_at 5 roles.Call 113 ∷ [])))
-  pub spread_faults : faults looks places.«Value» (call (name_at (codes "k") 0) 1 (one_item (call (name_at (codes "two") 2) 5 NoItems))) ≡ []
+  pub spread_faults : faults looks stands.«Value» (call (name_at (codes "k") 0) 1 (one_item (call (name_at (codes "two") 2) 5 NoItems))) ≡ []
   -- k(two(), 1): two() is no single value
-  pub member : faults looks places.«Value» (call (name_at (codes "k") 0) 1 (Item None (call (name_at (codes "two") 2) 5 NoItems) None (one_item (integer_expr_at 1 9)))) ≡ sample_fault 2 Y3 ∷ []
+  pub member : faults looks stands.«Value» (call (name_at (codes "k") 0) 1 (Item None (call (name_at (codes "two") 2) 5 NoItems) None (one_item (integer_expr_at 1 9)))) ≡ sample_fault 2 Y3 ∷ []
   -- k(nope()) and k(nope): a refused call alone does not count, a refused name does
-  pub refused_call : uses looks places.«Value» (call (name_at (codes "k") 0) 1 (one_item (call (name_at (codes "nope") 2) 6 NoItems)))
+  pub refused_call : uses looks stands.«Value» (call (name_at (codes "k") 0) 1 (one_item (call (name_at (codes "nope") 2) 6 NoItems)))
       ≡ declared_at 0 roles.Callee 114 ∷ (declared_at 1 roles.Call 114 ∷ (refused_at 2 roles.Callee N1 ∷ (refused_at 6 roles.Call C1 ∷ [])))
-  pub refused_name : uses looks places.«Value» (call (name_at (codes "k") 0) 1 (one_item (name_at (codes "nope") 2)))
+  pub refused_name : uses looks stands.«Value» (call (name_at (codes "k") 0) 1 (one_item (name_at (codes "nope") 2)))
       ≡ declared_at 0 roles.Callee 114 ∷ (refused_at 1 roles.Call C2 ∷ (refused_at 2 roles.«Value» N1 ∷ []))
   -- two() + 1, at two()
-  pub no_single_value : faults looks places.«Value» (Binary (call (name_at (codes "two") 0) 3 NoItems) operators.Plus (at 6) (integer_expr_at 1 8)) ≡ sample_fault 0 Y3 ∷ []
+  pub no_single_value : faults looks stands.«Value» (Binary (call (name_at (codes "two") 0) 3 NoItems) operators.Plus (at 6) (integer_expr_at 1 8)) ≡ sample_fault 0 Y3 ∷ []
   -- 9223372036854775807 + 1, int(9223372036854775807) + 1, x / 0
-  pub untyped_range : faults looks places.«Value» (Binary (integer_expr_at 9223372036854775807 0) operators.Plus (at 20) (integer_expr_at 1 22)) ≡ sample_fault 0 X1 ∷ []
-  pub typed_range : faults looks places.«Value» (Binary (call (name_at (codes "int") 0) 3 (one_item (integer_expr_at 9223372036854775807 4))) operators.Plus (at 25) (integer_expr_at 1 27)) ≡ sample_fault 0 Y7 ∷ []
-  pub divided : faults looks places.«Value» (Binary (name_at (codes "x") 0) operators.Slash (at 2) (integer_expr_at 0 4)) ≡ sample_fault 0 Y7 ∷ []
+  pub untyped_range : faults looks stands.«Value» (Binary (integer_expr_at 9223372036854775807 0) operators.Plus (at 20) (integer_expr_at 1 22)) ≡ sample_fault 0 X1 ∷ []
+  pub typed_range : faults looks stands.«Value» (Binary (call (name_at (codes "int") 0) 3 (one_item (integer_expr_at 9223372036854775807 4))) operators.Plus (at 25) (integer_expr_at 1 27)) ≡ sample_fault 0 Y7 ∷ []
+  pub divided : faults looks stands.«Value» (Binary (name_at (codes "x") 0) operators.Slash (at 2) (integer_expr_at 0 4)) ≡ sample_fault 0 Y7 ∷ []
   -- x & x & x: X1 of each of the two operators, at one place
-  pub bits_of_bits : faults looks places.«Value» (Binary (Binary (name_at (codes "x") 0) operators.And (at 2) (name_at (codes "x") 4)) operators.And (at 6) (name_at (codes "x") 8)) ≡ sample_fault 0 X1 ∷ (sample_fault 0 X1 ∷ [])
+  pub bits_of_bits : faults looks stands.«Value» (Binary (Binary (name_at (codes "x") 0) operators.And (at 2) (name_at (codes "x") 4)) operators.And (at 6) (name_at (codes "x") 8)) ≡ sample_fault 0 X1 ∷ (sample_fault 0 X1 ∷ [])
   -- (*int)(nil) is a pointer
-  pub to_pointer : denoted looks places.«Value» (call (Paren (at 0) (Unary operators.Star (at 1) (name_at (codes "int") 2)) (at 5)) 6 (one_item (name_at (codes "nil") 7)))
+  pub to_pointer : denoted looks stands.«Value» (call (Paren (at 0) (Unary operators.Star (at 1) (name_at (codes "int") 2)) (at 5)) 6 (one_item (name_at (codes "nil") 7)))
       ≡ denotes.«Value» (record { value_type = value_types.Typed (Ptr IntT); constant = None; addressable = false })
   -- (*x)(1): x is no type, and the call calls none
-  pub no_type : uses looks places.«Value» (call (Paren (at 0) (Unary operators.Star (at 1) (name_at (codes "x") 2)) (at 3)) 4 (one_item (integer_expr_at 1 5))) ≡ refused_at 2 roles.«Type» N6 ∷ (refused_at 4 roles.Call C1 ∷ [])
+  pub no_type : uses looks stands.«Value» (call (Paren (at 0) (Unary operators.Star (at 1) (name_at (codes "x") 2)) (at 3)) 4 (one_item (integer_expr_at 1 5))) ≡ refused_at 2 roles.«Type» N6 ∷ (refused_at 4 roles.Call C1 ∷ [])
   -- &x, and &1 at the operator
-  pub address : denoted looks places.«Value» (Unary operators.And (at 0) (name_at (codes "x") 1)) ≡ denotes.«Value» (record { value_type = value_types.Typed (Ptr IntT); constant = None; addressable = false })
-  pub no_address : faults looks places.«Value» (Unary operators.And (at 0) (integer_expr_at 1 1)) ≡ sample_fault 0 Y3 ∷ []
+  pub address : denoted looks stands.«Value» (Unary operators.And (at 0) (name_at (codes "x") 1)) ≡ denotes.«Value» (record { value_type = value_types.Typed (Ptr IntT); constant = None; addressable = false })
+  pub no_address : faults looks stands.«Value» (Unary operators.And (at 0) (integer_expr_at 1 1)) ≡ sample_fault 0 Y3 ∷ []

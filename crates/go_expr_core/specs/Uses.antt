@@ -11,8 +11,8 @@ use Rattle.go_tree_nodes.specs.declared.exprs.Key.{Key}
 use Rattle.go_tree_nodes.specs.Trees.{TypeTree, FieldTrees, MethodTrees, SignatureTree, ResultTree, ParamTrees, NamedType, Pointer, ParenType, Struct, Interface, NoFields, NamedFields, EmbeddedField, NoMethods, Method, Signed, NoResult, OneResult, Results, NoParams, Param, ExprTree, ItemTrees, Integer, Text, Named, Paren, Unary, Binary, Select, Call, Literal, StructLiteral, NoItems, Item}
 use Rattle.go_tree_core.specs.declared.occurrence.Role.{Role}
 use Rattle.go_tree_core.specs.declared.occurrence.Role.TheVariants as roles
-use Rattle.go_literal_core.specs.denote_core.declared.things.Place.{Place}
-use Rattle.go_literal_core.specs.denote_core.declared.things.Place.TheVariants as places
+use Rattle.go_literal_core.specs.denote_core.declared.things.Stand.{Stand}
+use Rattle.go_literal_core.specs.denote_core.declared.things.Stand.TheVariants as stands
 use Rattle.go_literal_core.specs.denote_core.declared.things.Usage.{Usage}
 use Rattle.go_literal_core.specs.denote_core.declared.things.Usage.TheVariants as usages
 use Rattle.go_literal_core.specs.denote_core.declared.things.Dot.{Dot}
@@ -31,7 +31,7 @@ use Rattle.go_expr_core.specs.Elements.{key_names, all_keys, keys_of, is_mixed, 
 -- what the outcome of an identifier depends on, beside its spelling
 pub data Context (T D : Type 0) : Type 0 where
   -- a name alone, where it stands
-  NameAt : Place → Context T D
+  NameAt : Stand → Context T D
   -- a selector, by how the whole is used and what stands left of its dot
   SelectorBehind : Usage → Dot T D → Context T D
   -- a key, by its literal and the other keys
@@ -63,9 +63,9 @@ use_of looks (CallAt s o) = made_use s.start roles.Call o
 -- types
 
 abbrev pub type_name_spots : {T S D P : Type 0} → Looks T S D P → TypeName → List (Spot T D P)
-type_name_spots looks (type_names.Plain x) = Identifier (NameAt places.«Type») x ∷ []
+type_name_spots looks (type_names.Plain x) = Identifier (NameAt stands.«Type») x ∷ []
 type_name_spots looks (type_names.Qualified p dot x) =
-    Identifier (NameAt places.TypeDot) p ∷ (Identifier (SelectorBehind usages.«Type» (dot_of true (ident_answer looks places.TypeDot p).denoted)) x ∷ [])
+    Identifier (NameAt stands.TypeDot) p ∷ (Identifier (SelectorBehind usages.«Type» (dot_of true (ident_answer looks stands.TypeDot p).denoted)) x ∷ [])
 
 abbrev mutual
   pub type_spots : {T S D P : Type 0} → Looks T S D P → TypeTree → List (Spot T D P)
@@ -103,17 +103,17 @@ key_spots t mixed others None = []
 key_spots t mixed others (Some k) = Identifier (KeyAmong (key_context t mixed others)) k.name ∷ []
 
 abbrev mutual
-  pub spots : {T S D P : Type 0} → Looks T S D P → Place → ExprTree → List (Spot T D P)
+  pub spots : {T S D P : Type 0} → Looks T S D P → Stand → ExprTree → List (Spot T D P)
   spots looks p (Integer n span) = []
   spots looks p (Text t) = []
   spots looks p (Named x) = Identifier (NameAt p) x ∷ []
   spots looks p (Paren first e last) = spots looks (inside p) e
   spots looks p (Unary op span e) = spots looks (under_place op p) e
-  spots looks p (Binary a op span b) = spots looks places.«Value» a ++ spots looks places.«Value» b
+  spots looks p (Binary a op span b) = spots looks stands.«Value» a ++ spots looks stands.«Value» b
   spots looks p (Select e dot x) = spots looks (left_place p e) e ++ (Identifier (SelectorBehind (whole p) (dot_of (is_name e) (denoted looks (left_place p e) e))) x ∷ [])
   spots looks p (Call e first items last) =
-      spots looks places.Callee e
-      ++ (CallAt first (call_answer (look_of_place looks first.start) (denoted looks places.Callee e) (is_free (is_lone_call items) (denoted_items looks items)) (arguments_of (look_of_place looks first.start) (denoted_items looks items))).outcome
+      spots looks stands.Callee e
+      ++ (CallAt first (call_answer (look_of_place looks first.start) (denoted looks stands.Callee e) (is_free (is_lone_call items) (denoted_items looks items)) (arguments_of (look_of_place looks first.start) (denoted_items looks items))).outcome
       ∷ args_spots looks items)
   spots looks p (Literal n first items last) = type_name_spots looks n ++ items_spots looks (named_type looks n) (is_mixed (keys_of items)) [] items
   spots looks p (StructLiteral t first items last) = type_spots looks t ++ items_spots looks (written_type looks t) (is_mixed (keys_of items)) [] items
@@ -121,20 +121,20 @@ abbrev mutual
   -- arguments, which have no keys
   pub args_spots : {T S D P : Type 0} → Looks T S D P → ItemTrees → List (Spot T D P)
   args_spots looks NoItems = []
-  args_spots looks (Item key e comma rest) = spots looks places.«Value» e ++ args_spots looks rest
+  args_spots looks (Item key e comma rest) = spots looks stands.«Value» e ++ args_spots looks rest
 
   -- elements behind others with these keys
   pub items_spots : {T S D P : Type 0} → Looks T S D P → Option T → Bool → List (List ℕ) → ItemTrees → List (Spot T D P)
   items_spots looks t mixed before NoItems = []
   items_spots looks t mixed before (Item key e comma rest) =
-      key_spots t mixed (before ++ all_keys rest) key ++ (spots looks places.«Value» e ++ items_spots looks t mixed (before ++ key_names key) rest)
+      key_spots t mixed (before ++ all_keys rest) key ++ (spots looks stands.«Value» e ++ items_spots looks t mixed (before ++ key_names key) rest)
 
 -- what identifiers and calls have
 
-abbrev pub uses : {T S D P : Type 0} → Looks T S D P → Place → ExprTree → List (Use D P)
+abbrev pub uses : {T S D P : Type 0} → Looks T S D P → Stand → ExprTree → List (Use D P)
 uses looks p e = map (use_of looks) (spots looks p e)
 
-abbrev pub ident_use : {T S D P : Type 0} → Looks T S D P → Place → Ident → Use D P
+abbrev pub ident_use : {T S D P : Type 0} → Looks T S D P → Stand → Ident → Use D P
 ident_use looks p x = use_of looks (Identifier (NameAt p) x)
 
 abbrev pub behind_use : {T S D P : Type 0} → Looks T S D P → Usage → Dot T D → Ident → Use D P
@@ -143,14 +143,14 @@ behind_use looks u dot x = use_of looks (Identifier (SelectorBehind u dot) x)
 abbrev pub type_name_uses : {T S D P : Type 0} → Looks T S D P → TypeName → List (Use D P)
 type_name_uses looks n = map (use_of looks) (type_name_spots looks n)
 
-abbrev pub select_uses : {T S D P : Type 0} → Looks T S D P → Place → ExprTree → Ident → List (Use D P)
+abbrev pub select_uses : {T S D P : Type 0} → Looks T S D P → Stand → ExprTree → Ident → List (Use D P)
 select_uses looks p e x = uses looks (left_place p e) e ++ (use_of looks (Identifier (SelectorBehind (whole p) (dot_of (is_name e) (denoted looks (left_place p e) e))) x) ∷ [])
 
 abbrev pub args_uses : {T S D P : Type 0} → Looks T S D P → ItemTrees → List (Use D P)
 args_uses looks items = map (use_of looks) (args_spots looks items)
 
 abbrev pub call_uses : {T S D P : Type 0} → Looks T S D P → ExprTree → Span → ItemTrees → List (Use D P)
-call_uses looks e first items = uses looks places.Callee e ++ made_use first.start roles.Call (called_answer looks e first items).outcome ∷ args_uses looks items
+call_uses looks e first items = uses looks stands.Callee e ++ made_use first.start roles.Call (called_answer looks e first items).outcome ∷ args_uses looks items
 
 abbrev pub key_uses : {T S D P : Type 0} → Looks T S D P → Option T → Bool → List (List ℕ) → Option Key → List (Use D P)
 key_uses {T} {S} {D} {P} looks t mixed others key = map (use_of looks) (key_spots {T = T} {D = D} {P = P} t mixed others key)

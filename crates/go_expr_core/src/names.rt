@@ -9,7 +9,7 @@ use crate::notes::note_answer;
 use crate::places::{place_role, selector_role};
 use crate::things::Use;
 use go_literal_core::denote_core::{
-    Denoted, Dot, Place, Usage, dot_of, name_answer, selector_answer,
+    Denoted, Dot, Stand, Usage, dot_of, name_answer, selector_answer,
 };
 use go_literal_core::literal_type;
 use go_tree_nodes::{Ident, TypeName};
@@ -19,7 +19,7 @@ use std::alloc::{AllocError, Global};
 pub(crate) fn check_ident<E: Exprs>(
     env: &E,
     alloc: Global,
-    place: Place,
+    place: Stand,
     ident: &Ident,
     uses: &mut Vec<Use<E::Decl, E::Path>>,
 ) -> Result<Denoted<E::Type, E::Signature, E::Decl>, AllocError>
@@ -70,11 +70,11 @@ pub fn check_type_name<E: Exprs>(
 {
     match name {
         TypeName::Plain(ident) => {
-            let denoted = check_ident(env, alloc, Place::Type, ident, uses)?;
+            let denoted = check_ident(env, alloc, Stand::Type, ident, uses)?;
             Ok(literal_type(denoted))
         }
         TypeName::Qualified(package, _, ident) => {
-            let left = check_ident(env, alloc, Place::TypeDot, package, uses)?;
+            let left = check_ident(env, alloc, Stand::TypeDot, package, uses)?;
             let dot = dot_of(true, left);
             let denoted = check_selector(env, alloc, Usage::Type, &dot, ident, uses)?;
             Ok(literal_type(denoted))

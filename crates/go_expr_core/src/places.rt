@@ -4,42 +4,42 @@ ghost use Rattle.go_tree_nodes.specs.Shapes.{shape, shape_key};
 ghost use Rattle.go_tree_core.specs.declared.occurrence.Role.TheVariants as roles;
 ghost use Rattle.go_expr_core.specs.Places as places;
 
-use go_literal_core::denote_core::{Place, Usage};
+use go_literal_core::denote_core::{Stand, Usage};
 use go_token_core::Operator;
 use go_tree_core::Role;
 use go_tree_nodes::{Expr, Key, type_name_start, type_start};
 
 /// The place of what stands in parentheses: a name in them is no qualifier.
-pub(crate) fn inside(place: Place) -> Place
+pub(crate) fn inside(place: Stand) -> Stand
     ensures { result ≡ places.inside place }
 {
     match place {
-        Place::Type => Place::Type,
-        Place::TypeDot | Place::Value | Place::BeforeDot => Place::Value,
-        Place::Callee => Place::Callee,
+        Stand::Type => Stand::Type,
+        Stand::TypeDot | Stand::Value | Stand::BeforeDot => Stand::Value,
+        Stand::Callee => Stand::Callee,
     }
 }
 
 /// The place of what stands behind a unary operator.
-pub(crate) fn under_place(operator: Operator, place: Place) -> Place
+pub(crate) fn under_place(operator: Operator, place: Stand) -> Stand
     ensures { result ≡ places.under_place operator place }
 {
     if matches!(operator, Operator::Star) {
         match place {
-            Place::Type | Place::Callee => Place::Type,
-            Place::TypeDot | Place::Value | Place::BeforeDot => Place::Value,
+            Stand::Type | Stand::Callee => Stand::Type,
+            Stand::TypeDot | Stand::Value | Stand::BeforeDot => Stand::Value,
         }
     } else {
-        Place::Value
+        Stand::Value
     }
 }
 
-fn before_place(place: Place) -> Place
+fn before_place(place: Stand) -> Stand
     ensures { result ≡ places.before_place place }
 {
     match place {
-        Place::Type => Place::TypeDot,
-        Place::TypeDot | Place::Value | Place::Callee | Place::BeforeDot => Place::BeforeDot,
+        Stand::Type => Stand::TypeDot,
+        Stand::TypeDot | Stand::Value | Stand::Callee | Stand::BeforeDot => Stand::BeforeDot,
     }
 }
 
@@ -62,7 +62,7 @@ pub(crate) fn is_name(expr: &Expr) -> bool
 }
 
 /// The place left of a dot.
-pub(crate) fn left_place(place: Place, expr: &Expr) -> Place
+pub(crate) fn left_place(place: Stand, expr: &Expr) -> Stand
     ensures { result ≡ places.left_place place (shape expr.now) }
 {
     match expr {
@@ -72,21 +72,21 @@ pub(crate) fn left_place(place: Place, expr: &Expr) -> Place
         | Expr::Paren(_, _, _)
         | Expr::Unary(_, _, _)
         | Expr::Binary(_)
-        | Expr::Select(_) => Place::Value,
-        Expr::Call(_) => Place::Value,
-        Expr::Literal(_) => Place::Value,
-        Expr::StructLiteral(_) => Place::Value,
+        | Expr::Select(_) => Stand::Value,
+        Expr::Call(_) => Stand::Value,
+        Expr::Literal(_) => Stand::Value,
+        Expr::StructLiteral(_) => Stand::Value,
     }
 }
 
 /// How a selector as a whole is used.
-pub(crate) fn whole(place: Place) -> Usage
+pub(crate) fn whole(place: Stand) -> Usage
     ensures { result ≡ places.whole place }
 {
     match place {
-        Place::Type => Usage::Type,
-        Place::Callee => Usage::Callee,
-        Place::TypeDot | Place::Value | Place::BeforeDot => Usage::Value,
+        Stand::Type => Usage::Type,
+        Stand::Callee => Usage::Callee,
+        Stand::TypeDot | Stand::Value | Stand::BeforeDot => Usage::Value,
     }
 }
 
@@ -127,14 +127,14 @@ pub fn is_call(expr: &Expr) -> bool
 }
 
 /// The role of a name at a place.
-pub(crate) fn place_role(place: Place) -> Role
+pub(crate) fn place_role(place: Stand) -> Role
     ensures { result ≡ places.place_role place }
 {
     match place {
-        Place::Type => Role::Type,
-        Place::TypeDot | Place::BeforeDot => Role::Qualifier,
-        Place::Value => Role::Value,
-        Place::Callee => Role::Callee,
+        Stand::Type => Role::Type,
+        Stand::TypeDot | Stand::BeforeDot => Role::Qualifier,
+        Stand::Value => Role::Value,
+        Stand::Callee => Role::Callee,
     }
 }
 

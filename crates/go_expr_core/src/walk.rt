@@ -1,7 +1,7 @@
 //! The walk over an expression.
 ghost use Rattle.std.specs.Prelude.{◌≡◌, ◌<◌, ◌++◌, [], ◌∷◌, length, slice_set, IfOk, OnOk};
 ghost use Rattle.go_tree_core.specs.declared.occurrence.Role.TheVariants as roles;
-ghost use Rattle.go_literal_core.specs.denote_core.declared.things.Place.TheVariants as stands;
+ghost use Rattle.go_literal_core.specs.denote_core.declared.things.Stand.TheVariants as stands;
 ghost use Rattle.go_literal_core.specs.Literals.{literal_denotes as type_denotes};
 ghost use Rattle.go_tree_nodes.specs.Shapes.{shape, items_of, shape_key};
 ghost use Rattle.go_tree_nodes.specs.Starts as starts;
@@ -33,7 +33,7 @@ use crate::places::{
 use crate::things::{Fault, Notes, Use};
 use crate::types::check_type;
 use go_literal_core::constant_core::{Constant, ConstantText, natural};
-use go_literal_core::denote_core::{Denoted, Place, dot_of};
+use go_literal_core::denote_core::{Denoted, Stand, dot_of};
 use go_literal_core::operand_core::{Operand, ValueType};
 use go_literal_core::{KeyMark, Mode, element_target, literal_denotes, literal_mode, literal_rule};
 use go_text_core::Span;
@@ -114,7 +114,7 @@ fn finish_call<E: Exprs>(
 pub fn check_expr<E: Exprs>(
     env: &E,
     alloc: Global,
-    place: Place,
+    place: Stand,
     expr: &Expr,
     notes: &mut Notes<E::Decl, E::Path>,
 ) -> Result<Denoted<E::Type, E::Signature, E::Decl>, AllocError>
@@ -131,8 +131,8 @@ pub fn check_expr<E: Exprs>(
             check_unary(env, alloc, place, *operator, *span, inner, notes)
         }
         Expr::Binary(binary) => {
-            let a = check_operand(env, alloc, Place::Value, &binary.left, notes)?;
-            let b = check_operand(env, alloc, Place::Value, &binary.right, notes)?;
+            let a = check_operand(env, alloc, Stand::Value, &binary.left, notes)?;
+            let b = check_operand(env, alloc, Stand::Value, &binary.right, notes)?;
             let offset = start(&binary.left);
             finish_binary(env, alloc, &mut notes.faults, binary.operator, offset, a, b)
         }
@@ -140,7 +140,7 @@ pub fn check_expr<E: Exprs>(
             check_select(env, alloc, place, &select.operand, &select.name, notes)
         }
         Expr::Call(call) => {
-            let callee = check_expr(env, alloc, Place::Callee, &call.callee, notes)?;
+            let callee = check_expr(env, alloc, Stand::Callee, &call.callee, notes)?;
             check_called(env, alloc, &callee, call.open, &call.args, notes)
         }
         Expr::Literal(literal) => {
@@ -235,7 +235,7 @@ fn check_struct_literal<E: Exprs>(
 pub fn check_operand<E: Exprs>(
     env: &E,
     alloc: Global,
-    place: Place,
+    place: Stand,
     expr: &Expr,
     notes: &mut Notes<E::Decl, E::Path>,
 ) -> Result<Denoted<E::Type, E::Signature, E::Decl>, AllocError>
@@ -252,7 +252,7 @@ pub fn check_operand<E: Exprs>(
 fn check_unary<E: Exprs>(
     env: &E,
     alloc: Global,
-    place: Place,
+    place: Stand,
     operator: Operator,
     span: Span,
     inner: &Expr,
@@ -271,7 +271,7 @@ fn check_unary<E: Exprs>(
 fn check_select<E: Exprs>(
     env: &E,
     alloc: Global,
-    place: Place,
+    place: Stand,
     operand: &Expr,
     ident: &Ident,
     notes: &mut Notes<E::Decl, E::Path>,
@@ -319,7 +319,7 @@ pub(crate) fn check_member<E: Exprs>(
     ensures uses { OnOk result (notes.new.uses.items ≡ notes.old.uses.items ++ all_uses.uses (everywhere (E.types env.now) (E.names env.now) (E.literals env.now) (E.written env.now)) stands.«Value» (shape expr.now)) }
     ensures faults { OnOk result (notes.new.faults.items ≡ notes.old.faults.items ++ all_faults.member_faults (everywhere (E.types env.now) (E.names env.now) (E.literals env.now) (E.written env.now)) several (shape expr.now)) }
 {
-    let denoted = check_expr(env, alloc, Place::Value, expr, notes)?;
+    let denoted = check_expr(env, alloc, Stand::Value, expr, notes)?;
     note_member(&mut notes.faults, start(expr), several, &denoted)?;
     Ok(denoted)
 }
@@ -406,7 +406,7 @@ fn check_element<E: Exprs>(
     ensures faults { OnOk result (notes.new.faults.items ≡ notes.old.faults.items ++ turns.turn_faults (everywhere (E.types env.now) (E.names env.now) (E.literals env.now) (E.written env.now)) t.now mode mixed number mark (shape_key key.now) (shape value.now)) }
 {
     let by_key = check_key(env, alloc, t, mixed, mark, key, &mut notes.uses)?;
-    let denoted = check_operand(env, alloc, Place::Value, value, notes)?;
+    let denoted = check_operand(env, alloc, Stand::Value, value, notes)?;
     let wanted = element_target(env, t, mode, number, by_key);
     note_misfit(
         env,

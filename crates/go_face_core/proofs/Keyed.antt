@@ -6,7 +6,7 @@ use Rattle.std.specs.String.{string_eq}
 use Rattle.std.specs.declared.string.String.{String}
 use Rattle.std.proofs.lemmas.Slice.Eq.{bytes_eq-Decides}
 use Rattle.indexmap.specs.IndexMap.{IndexMap, get_by, insert_entry}
-use Rattle.go_entry_core.specs.block_core.Tables.{in_block, table_of}
+use Rattle.go_entry_core.specs.block_core.Tables.{in_block, block_of}
 use Rattle.go_entry_core.specs.block_core_lemmas.TableLemmas.{in_table}
 use Rattle.go_face_core.specs.Packages.{PackageFacesModel, package_in, with_faces}
 use Rattle.go_face_core.specs.mirrors.Tables.{AreKeyed, packages_of}
@@ -48,8 +48,8 @@ inserted {Y} (x ∷ es) key e is keyed = by (bytes_eq (string_bytes key) (string
     by true t rest = here x es key e is keyed.0 keyed.1 t
     by false t rest = behind x es key e is keyed.0 keyed.1 t rest
 
-pub table_more : {Y S : Type 0} (old new : IndexMap (String Y) PackageFacesModel S) (key : String Y) (e : PackageFacesModel) → string_bytes key ≡ e.path → AreKeyed (table_of old) → new.entries ≡ insert_entry string_eq old.entries key e
-    → (packages_of (table_of new) ≡ with_faces (packages_of (table_of old)) e) × AreKeyed (table_of new)
+pub table_more : {Y S : Type 0} (old new : IndexMap (String Y) PackageFacesModel S) (key : String Y) (e : PackageFacesModel) → string_bytes key ≡ e.path → AreKeyed (block_of old) → new.entries ≡ insert_entry string_eq old.entries key e
+    → (packages_of (block_of new) ≡ with_faces (packages_of (block_of old)) e) × AreKeyed (block_of new)
 table_more old new key e is keyed made =
     let r = inserted old.entries key e is keyed in (
       ap (λ l. packages_of (as_block l)) made ∙ r.0,
@@ -63,5 +63,5 @@ package_at (p ∷ ps) path keyed =
     ap (λ (o : Option PackageFacesModel). cond (bytes_eq path p.0) (Some p.1) o) (package_at ps path keyed.1)
     ∙ ap (λ (k : List ℕ). cond (bytes_eq path k) (Some p.1) (package_in (packages_of ps) path)) keyed.0
 
-pub table_at : {Y S : Type 0} (table : IndexMap (String Y) PackageFacesModel S) (path : List ℕ) → AreKeyed (table_of table) → get_by (λ k. bytes_eq path (string_bytes k)) table ≡ package_in (packages_of (table_of table)) path
-table_at table path keyed = in_table path table ∙ package_at (table_of table) path keyed
+pub table_at : {Y S : Type 0} (table : IndexMap (String Y) PackageFacesModel S) (path : List ℕ) → AreKeyed (block_of table) → get_by (λ k. bytes_eq path (string_bytes k)) table ≡ package_in (packages_of (block_of table)) path
+table_at table path keyed = in_table path table ∙ package_at (block_of table) path keyed

@@ -2,7 +2,7 @@
 ghost use Rattle.std.specs.Prelude.{◌≡◌, ◌↔◌, IfOk, IsTrue, OnOk, map, slice_get};
 ghost use Rattle.std.specs.Option.{option_map};
 ghost use Rattle.go_entry_core.specs.block_core.Exports.{name_and_decl};
-ghost use Rattle.go_entry_core.specs.block_core.Tables.{has, in_block, table_of, with_first};
+ghost use Rattle.go_entry_core.specs.block_core.Tables.{has, in_block, block_of, with_first};
 ghost use Rattle.go_face_core.specs.Faces.{face_shown};
 ghost use Rattle.go_face_core.specs.Held.{declared_shown};
 ghost use Rattle.go_face_core.specs.Packages.{as_seen, decls_declared, face_among, face_by, names_seen, package_faces, seen_after, shown_by};
@@ -35,10 +35,15 @@ pub enum ShownFace<'a> {
 }
 
 /// A declaration of a package, and what it is.
-#[derive(Drop)]
 pub struct DeclaredFace {
     pub decl: DeclRef,
     pub face: Face<TypeTerm, Signature>,
+}
+
+impl Drop for DeclaredFace {
+    fn drop(self) {
+        let DeclaredFace { decl: _, face: _ } = self;
+    }
 }
 
 /// What is shared of what a package shows.
@@ -53,15 +58,20 @@ struct FacesContent {
 
 /// What a package shows to those that import it, shared by all that hold it: its path, the names of its package block, and the faces of
 /// declarations. Contracts see these.
-#[derive(Drop)]
 pub struct PackageFaces {
     content: Arc<FacesContent>,
+}
+
+impl Drop for PackageFaces {
+    fn drop(self) {
+        let PackageFaces { content: _ } = self;
+    }
 }
 
 impl Model for PackageFaces {
     ghost use Rattle.std.specs.Prelude.{map};
     ghost use Rattle.std.specs.Arc.{arc_value};
-    ghost use Rattle.go_entry_core.specs.block_core.Tables.{table_of};
+    ghost use Rattle.go_entry_core.specs.block_core.Tables.{block_of};
     ghost use Rattle.go_face_core.specs.Held.{declared_shown};
     ghost use Rattle.go_face_core.specs.Packages.{PackageFacesModel, decls_declared, package_faces};
     ghost use Rattle.go_face_core.specs.Written.{DeclsRise};
@@ -71,7 +81,7 @@ impl Model for PackageFaces {
 
     ghost coded = { coded_package_faces };
 
-    ghost view = { λ p. package_faces (arc_value p.content).path (table_of (arc_value p.content).names) (map declared_shown (arc_value p.content).faces.items) };
+    ghost view = { λ p. package_faces (arc_value p.content).path (block_of (arc_value p.content).names) (map declared_shown (arc_value p.content).faces.items) };
 
     ghost invariant = { λ p. DeclsRise (decls_declared (map declared_shown (arc_value p.content).faces.items)) };
 }
@@ -96,7 +106,7 @@ fn as_seen(name: &str, decl: DeclRef) -> Option<DeclRef>
 
 // What a table of names has at a name.
 fn name_in_table(names: &IndexMap<String, Option<DeclRef>>, name: &str) -> Option<Option<DeclRef>>
-    ensures { result ≡ in_block (table_of names.now) name.now }
+    ensures { result ≡ in_block (block_of names.now) name.now }
 {
     names.get(name).copied()
 }
@@ -108,7 +118,7 @@ fn add_name(
     name: &str,
     decl: DeclRef,
 ) -> Result<(), AllocError>
-    ensures { OnOk result (table_of names.new ≡ with_first (table_of names.old) name.now (as_seen name.now decl)) }
+    ensures { OnOk result (block_of names.new ≡ with_first (block_of names.old) name.now (as_seen name.now decl)) }
 {
     if name_in_table(names, name).is_some() {
         return Ok(());
@@ -123,7 +133,7 @@ fn names_seen(
     alloc: Global,
     block: &[NamedDecl],
 ) -> Result<IndexMap<String, Option<DeclRef>>, AllocError>
-    ensures { IfOk result (λ names. table_of names ≡ names_seen (map name_and_decl block.now)) }
+    ensures { IfOk result (λ names. block_of names ≡ names_seen (map name_and_decl block.now)) }
 {
     let mut names = IndexMap::new(alloc);
     for named in block {
@@ -137,7 +147,7 @@ fn name_in(
     names: &IndexMap<String, Option<DeclRef>>,
     place: usize,
 ) -> Option<(&str, Option<DeclRef>)>
-    ensures { option_map (λ e. (e.0.now, e.1)) result ≡ slice_get (table_of names.now) place }
+    ensures { option_map (λ e. (e.0.now, e.1)) result ≡ slice_get (block_of names.now) place }
 {
     match names.get_index(place) {
         Some((name, decl)) => Some((name.as_str(), *decl)),
@@ -151,7 +161,7 @@ fn is_same_at(
     others: &IndexMap<String, Option<DeclRef>>,
     place: usize,
 ) -> bool
-    ensures { IsTrue result ↔ (slice_get (table_of names.now) place ≡ slice_get (table_of others.now) place) }
+    ensures { IsTrue result ↔ (slice_get (block_of names.now) place ≡ slice_get (block_of others.now) place) }
 {
     match (name_in(names, place), name_in(others, place)) {
         (Some((name, decl)), Some((other, declared))) => name == other && decl == declared,
@@ -165,7 +175,7 @@ fn are_same_names(
     names: &IndexMap<String, Option<DeclRef>>,
     others: &IndexMap<String, Option<DeclRef>>,
 ) -> bool
-    ensures { IsTrue result ↔ (table_of names.now ≡ table_of others.now) }
+    ensures { IsTrue result ↔ (block_of names.now ≡ block_of others.now) }
 {
     if names.len() != others.len() {
         return false;

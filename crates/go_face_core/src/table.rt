@@ -10,15 +10,20 @@ use std::marker::Model;
 
 /// What packages show to those that import them, by their paths. It holds one handle for each package, and copies no name and no face.
 /// Contracts see what the packages show, in the order in which their paths were added first.
-#[derive(Drop)]
 pub struct FaceTable {
     packages: IndexMap<String, PackageFaces>,
+}
+
+impl Drop for FaceTable {
+    fn drop(self) {
+        let FaceTable { packages: _ } = self;
+    }
 }
 
 impl Model for FaceTable {
     ghost use Rattle.std.specs.Prelude.{List};
     ghost use Rattle.std.specs.Coded.{coded_list};
-    ghost use Rattle.go_entry_core.specs.block_core.Tables.{table_of};
+    ghost use Rattle.go_entry_core.specs.block_core.Tables.{block_of};
     ghost use Rattle.go_face_core.specs.Packages.{PackageFacesModel};
     ghost use Rattle.go_face_core.specs.codes.FaceCodes.{coded_package_faces};
     ghost use Rattle.go_face_core.specs.mirrors.Tables.{AreKeyed, packages_of};
@@ -27,9 +32,9 @@ impl Model for FaceTable {
 
     ghost coded = { coded_list coded_package_faces };
 
-    ghost view = { λ t. packages_of (table_of t.packages) };
+    ghost view = { λ t. packages_of (block_of t.packages) };
 
-    ghost invariant = { λ t. AreKeyed (table_of t.packages) };
+    ghost invariant = { λ t. AreKeyed (block_of t.packages) };
 }
 
 impl FaceTable {

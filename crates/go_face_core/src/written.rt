@@ -34,9 +34,14 @@ pub(crate) struct WrittenDecl {
 /// The declarations of a package outside functions, in order of file and number: each with its place in this list, from 0, which others
 /// count by, and with what it is as it is written. That is none for a constant, and for a variable without a written type, which are what
 /// their initialisers make them. Contracts see the list.
-#[derive(Drop)]
 pub struct WrittenFaces {
     pub(crate) decls: Vec<WrittenDecl>,
+}
+
+impl Drop for WrittenFaces {
+    fn drop(self) {
+        let WrittenFaces { decls: _ } = self;
+    }
 }
 
 impl Model for WrittenFaces {

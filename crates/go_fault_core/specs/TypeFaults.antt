@@ -7,7 +7,7 @@ use Rattle.std.specs.List.{flat_map, enumerate_from}
 use Rattle.go_text_core.specs.declared.rule.Rule.TheVariants.{B6}
 use Rattle.go_tree_nodes.specs.declared.files.Receiver.{Receiver}
 use Rattle.go_tree_nodes.specs.declared.types.TypeName.{TypeName}
-use Rattle.go_tree_nodes.specs.declared.types.TypeName.TheVariants as type_names
+use Rattle.go_tree_nodes.specs.Starts.{type_name_start}
 use Rattle.go_tree_nodes.specs.Trees.{FuncTree}
 use Rattle.go_term_core.specs.decl_core.TopDecls.{TopDeclTree, FormTree, ValueForm, TypeForm, FuncForm}
 use Rattle.go_term_core.specs.declared.term.MemberPlace.TheVariants as places
@@ -54,13 +54,8 @@ loops_faults os es fs = flat_map (λ f. type_loop_fault os f (slice_get es f.ent
 
 -- receivers
 
--- where the name of a receiver's base begins
-abbrev pub base_start : TypeName → ℕ
-base_start (type_names.Plain x) = x.span.start
-base_start (type_names.Qualified p dot x) = p.span.start
-
 abbrev pub base_fault : List Entry → Meaning → List ℕ → ℕ → TypeName → List PackageFault
-base_fault es mean path file base = if can_be_base (kinds_in es) path (mean base) then [] else fault_in file (base_start base) B6 ∷ []
+base_fault es mean path file base = if can_be_base (kinds_in es) path (mean base) then [] else fault_in file (type_name_start base) B6 ∷ []
 
 abbrev pub received_fault : List Entry → Meaning → List ℕ → ℕ → Option Receiver → List PackageFault
 received_fault es mean path file None = []

@@ -2,9 +2,10 @@
 ghost use Rattle.std.specs.Prelude.{◌≡◌, ◌++◌, OnOk, map};
 ghost use Rattle.go_term_core.specs.decl_core.Shown.{decl_shown};
 ghost use Rattle.go_tree_nodes.specs.Shapes.{func_of};
+ghost use Rattle.go_tree_nodes.specs.Starts.{type_name_start};
 ghost use Rattle.go_entry_core.specs.Entries.{package_meanings};
 ghost use Rattle.go_entry_core.specs.Outlines.{outline_shown};
-ghost use Rattle.go_fault_core.specs.TypeFaults.{base_fault, base_start, file_receivers, form_fault, received_fault, receivers_faults};
+ghost use Rattle.go_fault_core.specs.TypeFaults.{base_fault, file_receivers, form_fault, received_fault, receivers_faults};
 
 use crate::places::PackageFault;
 use go_embed_core::check_base;
@@ -20,7 +21,7 @@ use std::alloc::{AllocError, Global};
 
 // Where the name of a receiver's base begins.
 fn base_start(base: &TypeName) -> usize
-    ensures { result ≡ base_start base.now }
+    ensures { result ≡ type_name_start base.now }
 {
     match base {
         TypeName::Plain(ident) => ident.span.start as usize,

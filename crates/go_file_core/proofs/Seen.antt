@@ -12,7 +12,7 @@ use Rattle.go_tree_nodes.specs.WrittenTypes.{expr_types, exprs_types, values_typ
 use Rattle.go_term_core.specs.Terms.{Term, Sign}
 use Rattle.go_func_core.specs.handle_core.Declarations.{Declaration}
 use Rattle.go_top_core.specs.local_core.Steps.{Spec, Condition}
-use Rattle.go_top_core.specs.denote_core.declared.things.Place.TheVariants as places
+use Rattle.go_top_core.specs.denote_core.declared.things.Stand.TheVariants as stands
 use Rattle.go_top_core.specs.expr_core.Places.{start}
 use Rattle.go_top_core.specs.expr_core.Faults.{fault_at}
 use Rattle.go_top_core.specs.expr_core.Denoting.{named_type}
@@ -69,7 +69,7 @@ module _ (st : FileStand) (types : List (ℕ × InlineOf)) where
   expr_same : (e : ExprTree) → Seen (expr_types e) → expr_initial_faults by_table e ≡ expr_initial_faults by_names e
   expr_same e h =
       ap (λ d. fault_at (start e) (initial_rule d))
-      ((expressions_seen Term Sign Declaration (List ℕ)).whole by_table by_names.find by_names.written places.«Value» e (agree (expr_idents e))
+      ((expressions_seen Term Sign Declaration (List ℕ)).whole by_table by_names.find by_names.written stands.«Value» e (agree (expr_idents e))
       (made (expr_types e) h)).denoted
 
   list_same : (es : Separated ExprTree) → Seen (exprs_types es) → list_initial_faults by_table es ≡ list_initial_faults by_names es

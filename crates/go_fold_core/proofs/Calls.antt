@@ -16,7 +16,7 @@ use Rattle.go_expr_core.specs.operand_core.TypeRules.{TypeRules}
 use Rattle.go_expr_core.specs.operand_core.Values.{form_basic, basic_under, default_type}
 use Rattle.go_expr_core.specs.operand_core.Operators.{value}
 use Rattle.go_expr_core.specs.operand_core.Conversions.{kept, makes_text, fits}
-use Rattle.go_expr_core.specs.denote_core.declared.things.Place.TheVariants as places
+use Rattle.go_expr_core.specs.denote_core.declared.things.Stand.TheVariants as stands
 use Rattle.go_expr_core.specs.denote_core.declared.things.Usage.TheVariants as usages
 use Rattle.go_expr_core.specs.denote_core.declared.things.Outcome.{Outcome}
 use Rattle.go_expr_core.specs.denote_core.declared.things.Outcome.TheVariants as outcomes
@@ -81,7 +81,7 @@ other_callee looks Certain (denotes.Several s) = tt
 other_callee looks Certain denotes.Nothing = tt
 
 module _ {T S D P : Type 0} (looks : Looks T S D P) (mean : Outcome D P → Meaning) (Certain : Type 0) (m : Meaning) where
-  found_callee : (f : Found T S D) → IsFoundMeant looks mean f → m ≡ mean (found_answer {P = P} places.Callee f).outcome → IsCalleeMeant looks Certain (found_answer {P = P} places.Callee f).denoted m
+  found_callee : (f : Found T S D) → IsFoundMeant looks mean f → m ≡ mean (found_answer {P = P} stands.Callee f).outcome → IsCalleeMeant looks Certain (found_answer {P = P} stands.Callee f).denoted m
   found_callee founds.Missing h same = tt
   found_callee founds.BadImport h same = tt
   found_callee founds.Outside h same = tt
@@ -110,10 +110,10 @@ module _ {T S D P : Type 0} (looks : Looks T S D P) (mean : Outcome D P → Mean
   member_callee addressable (selections.Method d path s needs_pointer by_pointer) h sure same = method_callee d path s (not needs_pointer || (by_pointer || addressable)) h sure same
 
   module _ (read : AreNamesRead T S D P looks mean) (sure : Certain → AreRead T S D P looks mean) (x : List ℕ) (n : ℕ) where
-    pub name_callee : m ≡ mean (name_answer (look_of_place looks n) places.Callee x).outcome → IsCalleeMeant looks Certain (name_answer (look_of_place looks n) places.Callee x).denoted m
+    pub name_callee : m ≡ mean (name_answer (look_of_place looks n) stands.Callee x).outcome → IsCalleeMeant looks Certain (name_answer (look_of_place looks n) stands.Callee x).denoted m
     name_callee = by (is_blank x)
       where
-        by : (b : Bool) → m ≡ mean (if b then refused N8 else found_answer {P = P} places.Callee (looks.find x n)).outcome → IsCalleeMeant looks Certain (if b then refused N8 else found_answer {P = P} places.Callee (looks.find x n)).denoted m
+        by : (b : Bool) → m ≡ mean (if b then refused N8 else found_answer {P = P} stands.Callee (looks.find x n)).outcome → IsCalleeMeant looks Certain (if b then refused N8 else found_answer {P = P} stands.Callee (looks.find x n)).denoted m
         by true same = tt
         by false same = found_callee (looks.find x n) (read.names x n) same
 

@@ -9,8 +9,8 @@ use Rattle.go_tree_nodes.specs.Trees.{ExprTree, ItemTrees, Integer, Text, Named,
 use Rattle.go_tree_nodes.specs.Counts.{item_count}
 use Rattle.go_expr_core.specs.operand_core.declared.types.ValueType.TheVariants as value_types
 use Rattle.go_expr_core.specs.operand_core.Operators.{value}
-use Rattle.go_expr_core.specs.denote_core.declared.things.Place.{Place}
-use Rattle.go_expr_core.specs.denote_core.declared.things.Place.TheVariants as places
+use Rattle.go_expr_core.specs.denote_core.declared.things.Stand.{Stand}
+use Rattle.go_expr_core.specs.denote_core.declared.things.Stand.TheVariants as stands
 use Rattle.go_expr_core.specs.denote_core.declared.things.Outcome.{Outcome}
 use Rattle.go_expr_core.specs.denote_core.declared.things.Outcome.TheVariants as outcomes
 use Rattle.go_expr_core.specs.denote_core.declared.things.Selection.{Selection}
@@ -78,44 +78,44 @@ one_only n h = (let same : suc (suc n) ≡ 1 = eqb-true (suc (suc n)) 1 h in ome
 
 module _ {T S D P : Type 0} (looks : Looks T S D P) (code : code_names.CodeLooks) (mean : Outcome D P → Meaning) (slots : List (Option ℕ)) (read : AreNamesRead T S D P looks mean)
     (Certain Known : Type 0) (sure : Certain → AreRead T S D P looks mean) (certain : Known → Certain) (typed : Known → AreTyped T S D P looks mean) (keep : Known → KeepBasics looks.types) where
-  abbrev Fine : Place → ExprTree → Type 0
+  abbrev Fine : Stand → ExprTree → Type 0
   Fine p e = IsFine T S D P looks code mean p e
 
   abbrev frame : Frame
   frame = frame_of code slots
 
-  abbrev Folds : Word → Place → ExprTree → Type 0
+  abbrev Folds : Word → Stand → ExprTree → Type 0
   Folds w p e = IsJudged T S D looks.types Certain Known w (denoted looks p e) (folded code e)
 
   -- what is called
 
-  callee_meant : (e : ExprTree) → Fine places.Callee e → IsCalleeMeant looks Certain (denoted looks places.Callee e) (callee_meaning code e)
+  callee_meant : (e : ExprTree) → Fine stands.Callee e → IsCalleeMeant looks Certain (denoted looks stands.Callee e) (callee_meaning code e)
   callee_meant (Named x) h = name_callee looks mean Certain (code.meaning x.span.start) read sure x.name x.span.start h.meant.0.meaning
   callee_meant (Select e dot x) h =
-      selector_callee looks mean Certain (code.meaning x.span.start) read sure x.name x.span.start (dot_of (is_name e) (denoted looks (left_place places.Callee e) e))
-      (each_right (λ s. IsMeant D P code mean (use_of looks s)) (spots looks (left_place places.Callee e) e) _ h.meant).0.meaning
+      selector_callee looks mean Certain (code.meaning x.span.start) read sure x.name x.span.start (dot_of (is_name e) (denoted looks (left_place stands.Callee e) e))
+      (each_right (λ s. IsMeant D P code mean (use_of looks s)) (spots looks (left_place stands.Callee e) e) _ h.meant).0.meaning
   callee_meant (Paren first e last) h = callee_meant e (record { meant = h.meant; sound = h.sound })
-  callee_meant (Integer n span) h = other_callee looks Certain (denoted looks places.Callee (Integer n span))
-  callee_meant (Text t) h = other_callee looks Certain (denoted looks places.Callee (Text t))
-  callee_meant (Unary op span e) h = other_callee looks Certain (denoted looks places.Callee (Unary op span e))
-  callee_meant (Binary a op span b) h = other_callee looks Certain (denoted looks places.Callee (Binary a op span b))
-  callee_meant (Call e first items last) h = other_callee looks Certain (denoted looks places.Callee (Call e first items last))
-  callee_meant (Literal n first items last) h = other_callee looks Certain (denoted looks places.Callee (Literal n first items last))
-  callee_meant (StructLiteral t first items last) h = other_callee looks Certain (denoted looks places.Callee (StructLiteral t first items last))
+  callee_meant (Integer n span) h = other_callee looks Certain (denoted looks stands.Callee (Integer n span))
+  callee_meant (Text t) h = other_callee looks Certain (denoted looks stands.Callee (Text t))
+  callee_meant (Unary op span e) h = other_callee looks Certain (denoted looks stands.Callee (Unary op span e))
+  callee_meant (Binary a op span b) h = other_callee looks Certain (denoted looks stands.Callee (Binary a op span b))
+  callee_meant (Call e first items last) h = other_callee looks Certain (denoted looks stands.Callee (Call e first items last))
+  callee_meant (Literal n first items last) h = other_callee looks Certain (denoted looks stands.Callee (Literal n first items last))
+  callee_meant (StructLiteral t first items last) h = other_callee looks Certain (denoted looks stands.Callee (StructLiteral t first items last))
 
   -- a call, by its one argument where it has one
 
-  call_folds : (p : Place) (e : ExprTree) (first : Span) (items : ItemTrees) (last : Span) (w : Word) → Fine p (Call e first items last) → call_gives (callee_meaning code e) (item_count items) ≡ gives.One w
+  call_folds : (p : Stand) (e : ExprTree) (first : Span) (items : ItemTrees) (last : Span) (w : Word) → Fine p (Call e first items last) → call_gives (callee_meaning code e) (item_count items) ≡ gives.One w
       → (nat_eq (item_count items) 1 ≡ true → IsOneArgument T S D looks.types Certain Known (denoted_items looks items) (folded_one code items)) → Folds w p (Call e first items last)
   call_folds p e first items last w h one argument =
-      call_judged looks Certain Known certain keep first.start (is_lone_call items) (denoted_items looks items) (folded_one code items) (item_count items) argument w (denoted looks places.Callee e) (callee_meaning code e)
+      call_judged looks Certain Known certain keep first.start (is_lone_call items) (denoted_items looks items) (folded_one code items) (item_count items) argument w (denoted looks stands.Callee e) (callee_meaning code e)
       (callee_meant e (fine_callee looks code mean p e first items last h)) one
-      (each_right (λ s. IsMeant D P code mean (use_of looks s)) (spots looks places.Callee e) _ h.meant).0.declared
+      (each_right (λ s. IsMeant D P code mean (use_of looks s)) (spots looks stands.Callee e) _ h.meant).0.declared
 
   -- all forms
 
   mutual
-    folds : (p : Place) (e : ExprTree) (w : Word) → Fine p e → expr_gives frame e ≡ gives.One w → Folds w p e
+    folds : (p : Stand) (e : ExprTree) (w : Word) → Fine p e → expr_gives frame e ≡ gives.One w → Folds w p e
     folds p (Integer n span) w h one =
         operand_judged S D looks.types Certain Known w (value value_types.UntypedInt (Some (natural n))) (held (natural n)) refl (natural_no_text n)
         (λ known. ap (λ u. Some (basic_of u)) (one_same words.Int w one)) (λ known k is. natural_word n k is ∙ one_same words.Int w one)
@@ -132,9 +132,9 @@ module _ {T S D P : Type 0} (looks : Looks T S D P) (code : code_names.CodeLooks
         let both : (is_one (expr_gives frame a) ≡ true) × (is_one (expr_gives frame b) ≡ true) = both_true (is_one (expr_gives frame a)) (is_one (expr_gives frame b)) by.0 in
         let left : (v : Word) × (expr_gives frame a ≡ gives.One v) = one_word (expr_gives frame a) both.0 in
         let right : (v : Word) × (expr_gives frame b ≡ gives.One v) = one_word (expr_gives frame b) both.1 in
-        let j : Folds left.0 places.«Value» a = folds places.«Value» a left.0 (fine_first looks code mean p a op span b h) left.1 in
-        let k : Folds right.0 places.«Value» b = folds places.«Value» b right.0 (fine_second looks code mean p a op span b h) right.1 in
-        binary_of_judged S D looks.types Certain Known w op by.1 (folded code a) (folded code b) left.0 right.0 (denoted looks places.«Value» a) (denoted looks places.«Value» b) j k
+        let j : Folds left.0 stands.«Value» a = folds stands.«Value» a left.0 (fine_first looks code mean p a op span b h) left.1 in
+        let k : Folds right.0 stands.«Value» b = folds stands.«Value» b right.0 (fine_second looks code mean p a op span b h) right.1 in
+        binary_of_judged S D looks.types Certain Known w op by.1 (folded code a) (folded code b) left.0 right.0 (denoted looks stands.«Value» a) (denoted looks stands.«Value» b) j k
         (no_fault _ _ (none_right _ _ (none_right _ _ h.sound)))
     folds p (Select e dot x) w h one =
         let u : IsMeant D P code mean _ = (each_right (λ s. IsMeant D P code mean (use_of looks s)) (spots looks (left_place p e) e) _ h.meant).0 in
@@ -153,7 +153,7 @@ module _ {T S D P : Type 0} (looks : Looks T S D P) (code : code_names.CodeLooks
     one_folds (Item key e comma NoItems) h ones n =
         let is : is_one (expr_gives frame e) ≡ true = (both_true (is_one (expr_gives frame e)) true ones).0 in
         let inner : (v : Word) × (expr_gives frame e ≡ gives.One v) = one_word (expr_gives frame e) is in
-        record { argument = denoted looks places.«Value» e; alone = refl; word = inner.0; judged = folds places.«Value» e inner.0 h.0 inner.1 }
+        record { argument = denoted looks stands.«Value» e; alone = refl; word = inner.0; judged = folds stands.«Value» e inner.0 h.0 inner.1 }
     one_folds (Item key e comma (Item key' e' comma' rest)) h ones n = absurd (one_only (item_count rest) n)
 
 -- what is asked of methods comes beside what is asked of all names
@@ -180,7 +180,7 @@ constants_folded T S D P looks code mean slots p e read meant sound q x there w 
     folds looks code mean slots read ⊥ ⊥ (λ known. absurd known) (λ known. known) (λ known. absurd known) (λ known. absurd known) q x w (fine_inside looks code mean p e (fine looks code mean p e meant sound) q x there) one in
     record { value = j.value; no_text = j.no_text }
 
-operand_folded : {T S D P : Type 0} (looks : Looks T S D P) (code : code_names.CodeLooks) (q : Place) (x : ExprTree) (o : Operand T) → denoted looks q x ≡ denotes.«Value» o → folded code x ≡ some_held (constant_in (denoted looks q x))
+operand_folded : {T S D P : Type 0} (looks : Looks T S D P) (code : code_names.CodeLooks) (q : Stand) (x : ExprTree) (o : Operand T) → denoted looks q x ≡ denotes.«Value» o → folded code x ≡ some_held (constant_in (denoted looks q x))
     → IsNoText (constant_in (denoted looks q x)) → IsFolded T S D P looks code q x
 operand_folded looks code q x o is value text = record { operand = o; denotes = is; value = value ∙ ap (λ d. some_held (constant_in d)) is; no_text = subst (λ d. IsNoText (constant_in d)) is text }
 

@@ -9,8 +9,8 @@ use Rattle.go_token_core.specs.declared.kind.Operator.{Operator}
 use Rattle.go_tree_nodes.specs.declared.names.Ident.{Ident}
 use Rattle.go_tree_nodes.specs.Trees.{ExprTree, ItemTrees, Integer, Text, Named, Paren, Unary, Binary, Select, Call, Literal, StructLiteral, NoItems, Item}
 use Rattle.go_expr_core.specs.literal_core.declared.things.Mode.{Mode}
-use Rattle.go_expr_core.specs.denote_core.declared.things.Place.{Place}
-use Rattle.go_expr_core.specs.denote_core.declared.things.Place.TheVariants as places
+use Rattle.go_expr_core.specs.denote_core.declared.things.Stand.{Stand}
+use Rattle.go_expr_core.specs.denote_core.declared.things.Stand.TheVariants as stands
 use Rattle.go_expr_core.specs.denote_core.declared.things.Outcome.{Outcome}
 use Rattle.go_expr_core.specs.Looks.{Looks}
 use Rattle.go_expr_core.specs.Places.{inside, under_place, left_place, is_several}
@@ -59,18 +59,18 @@ abbrev pub IsMeantAt : (T S D P : Type 0) → Looks T S D P → code_names.CodeL
 IsMeantAt T S D P looks code mean s = IsMeant D P code mean (use_of looks s)
 
 -- so does each of an expression, and it has no fault
-pub record IsFine (T S D P : Type 0) (looks : Looks T S D P) (code : code_names.CodeLooks) (mean : Outcome D P → Meaning) (p : Place) (e : ExprTree) : Type 0 where
+pub record IsFine (T S D P : Type 0) (looks : Looks T S D P) (code : code_names.CodeLooks) (mean : Outcome D P → Meaning) (p : Stand) (e : ExprTree) : Type 0 where
   pub meant : AllByRecursion (IsMeantAt T S D P looks code mean) (spots looks p e)
   pub sound : faults looks p e ≡ []
 
 module _ {T S D P : Type 0} (looks : Looks T S D P) (code : code_names.CodeLooks) (mean : Outcome D P → Meaning) where
-  abbrev Fine : Place → ExprTree → Type 0
+  abbrev Fine : Stand → ExprTree → Type 0
   Fine p e = IsFine T S D P looks code mean p e
 
   abbrev Meant : Spot T D P → Type 0
   Meant s = IsMeantAt T S D P looks code mean s
 
-  pub fine : (p : Place) (e : ExprTree) → AreMeant code mean (uses looks p e) → faults looks p e ≡ [] → Fine p e
+  pub fine : (p : Stand) (e : ExprTree) → AreMeant code mean (uses looks p e) → faults looks p e ≡ [] → Fine p e
   fine p e meant sound = record {
     meant = each_mapped (IsMeant D P code mean) (use_of looks) (spots looks p e) (recursion_from_All (IsMeant D P code mean) (uses looks p e) (All-weaker (Contains (uses looks p e)) (IsMeant D P code mean) meant (uses looks p e) (All-contains_itself (uses looks p e))));
     sound = sound;
@@ -79,59 +79,59 @@ module _ {T S D P : Type 0} (looks : Looks T S D P) (code : code_names.CodeLooks
   -- each expression of a list
   abbrev pub ItemsAreFine : ItemTrees → Type 0
   ItemsAreFine NoItems = ⊤
-  ItemsAreFine (Item key e comma rest) = Fine places.«Value» e × ItemsAreFine rest
+  ItemsAreFine (Item key e comma rest) = Fine stands.«Value» e × ItemsAreFine rest
 
   pub fine_args : (listed : Bool) (items : ItemTrees) → AllByRecursion Meant (args_spots looks items) → args_faults looks listed items ≡ [] → ItemsAreFine items
   fine_args listed NoItems h sound = tt
   fine_args listed (Item key e comma rest) h sound = (
-    record { meant = each_left Meant (spots looks places.«Value» e) (args_spots looks rest) h; sound = none_left _ _ (none_left _ _ sound) },
-    fine_args listed rest (each_right Meant (spots looks places.«Value» e) (args_spots looks rest) h) (none_right _ _ sound),
+    record { meant = each_left Meant (spots looks stands.«Value» e) (args_spots looks rest) h; sound = none_left _ _ (none_left _ _ sound) },
+    fine_args listed rest (each_right Meant (spots looks stands.«Value» e) (args_spots looks rest) h) (none_right _ _ sound),
   )
 
   fine_elements : (t : Option T) (mode : Mode) (mixed other : Bool) (n : ℕ) (before others : List (List ℕ)) (items : ItemTrees)
       → AllByRecursion Meant (items_spots looks t mixed before items) → items_faults looks t mode other n others items ≡ [] → ItemsAreFine items
   fine_elements t mode mixed other n before others NoItems h sound = tt
   fine_elements t mode mixed other n before others (Item key e comma rest) h sound =
-      let inner : AllByRecursion Meant (spots looks places.«Value» e ++ items_spots looks t mixed (before ++ key_names key) rest) =
-      each_right Meant (key_spots {T = T} {D = D} {P = P} t mixed (before ++ all_keys rest) key) (spots looks places.«Value» e ++ items_spots looks t mixed (before ++ key_names key) rest) h in (
-        record { meant = each_left Meant (spots looks places.«Value» e) (items_spots looks t mixed (before ++ key_names key) rest) inner; sound = none_left _ _ (none_left _ _ (none_left _ _ sound)) },
-        fine_elements t mode mixed other (suc n) (before ++ key_names key) (others ++ key_names key) rest (each_right Meant (spots looks places.«Value» e) (items_spots looks t mixed (before ++ key_names key) rest) inner) (none_right _ _ sound),
+      let inner : AllByRecursion Meant (spots looks stands.«Value» e ++ items_spots looks t mixed (before ++ key_names key) rest) =
+      each_right Meant (key_spots {T = T} {D = D} {P = P} t mixed (before ++ all_keys rest) key) (spots looks stands.«Value» e ++ items_spots looks t mixed (before ++ key_names key) rest) h in (
+        record { meant = each_left Meant (spots looks stands.«Value» e) (items_spots looks t mixed (before ++ key_names key) rest) inner; sound = none_left _ _ (none_left _ _ (none_left _ _ sound)) },
+        fine_elements t mode mixed other (suc n) (before ++ key_names key) (others ++ key_names key) rest (each_right Meant (spots looks stands.«Value» e) (items_spots looks t mixed (before ++ key_names key) rest) inner) (none_right _ _ sound),
       )
 
   -- the expressions in an expression
 
-  pub fine_operand : (p : Place) (op : Operator) (span : Span) (e : ExprTree) → Fine p (Unary op span e) → Fine (under_place op p) e
+  pub fine_operand : (p : Stand) (op : Operator) (span : Span) (e : ExprTree) → Fine p (Unary op span e) → Fine (under_place op p) e
   fine_operand p op span e h = record { meant = h.meant; sound = none_left _ _ (none_left _ _ h.sound) }
 
-  pub fine_first : (p : Place) (a : ExprTree) (op : Operator) (span : Span) (b : ExprTree) → Fine p (Binary a op span b) → Fine places.«Value» a
-  fine_first p a op span b h = record { meant = each_left Meant (spots looks places.«Value» a) (spots looks places.«Value» b) h.meant; sound = none_left _ _ (none_left _ _ h.sound) }
+  pub fine_first : (p : Stand) (a : ExprTree) (op : Operator) (span : Span) (b : ExprTree) → Fine p (Binary a op span b) → Fine stands.«Value» a
+  fine_first p a op span b h = record { meant = each_left Meant (spots looks stands.«Value» a) (spots looks stands.«Value» b) h.meant; sound = none_left _ _ (none_left _ _ h.sound) }
 
-  pub fine_second : (p : Place) (a : ExprTree) (op : Operator) (span : Span) (b : ExprTree) → Fine p (Binary a op span b) → Fine places.«Value» b
-  fine_second p a op span b h = record { meant = each_right Meant (spots looks places.«Value» a) (spots looks places.«Value» b) h.meant; sound = none_left _ _ (none_left _ _ (none_right _ _ h.sound)) }
+  pub fine_second : (p : Stand) (a : ExprTree) (op : Operator) (span : Span) (b : ExprTree) → Fine p (Binary a op span b) → Fine stands.«Value» b
+  fine_second p a op span b h = record { meant = each_right Meant (spots looks stands.«Value» a) (spots looks stands.«Value» b) h.meant; sound = none_left _ _ (none_left _ _ (none_right _ _ h.sound)) }
 
-  pub fine_left : (p : Place) (e : ExprTree) (dot : Span) (x : Ident) → Fine p (Select e dot x) → Fine (left_place p e) e
+  pub fine_left : (p : Stand) (e : ExprTree) (dot : Span) (x : Ident) → Fine p (Select e dot x) → Fine (left_place p e) e
   fine_left p e dot x h = record { meant = each_left Meant (spots looks (left_place p e) e) _ h.meant; sound = h.sound }
 
-  pub fine_callee : (p : Place) (e : ExprTree) (first : Span) (items : ItemTrees) (last : Span) → Fine p (Call e first items last) → Fine places.Callee e
-  fine_callee p e first items last h = record { meant = each_left Meant (spots looks places.Callee e) _ h.meant; sound = none_left _ _ h.sound }
+  pub fine_callee : (p : Stand) (e : ExprTree) (first : Span) (items : ItemTrees) (last : Span) → Fine p (Call e first items last) → Fine stands.Callee e
+  fine_callee p e first items last h = record { meant = each_left Meant (spots looks stands.Callee e) _ h.meant; sound = none_left _ _ h.sound }
 
-  pub fine_arguments : (p : Place) (e : ExprTree) (first : Span) (items : ItemTrees) (last : Span) → Fine p (Call e first items last) → ItemsAreFine items
-  fine_arguments p e first items last h = fine_args (is_several items) items (each_right Meant (spots looks places.Callee e) _ h.meant).1 (none_right (faults looks places.Callee e) _ h.sound)
+  pub fine_arguments : (p : Stand) (e : ExprTree) (first : Span) (items : ItemTrees) (last : Span) → Fine p (Call e first items last) → ItemsAreFine items
+  fine_arguments p e first items last h = fine_args (is_several items) items (each_right Meant (spots looks stands.Callee e) _ h.meant).1 (none_right (faults looks stands.Callee e) _ h.sound)
 
-  abbrev FinePart : Place × ExprTree → Type 0
+  abbrev FinePart : Stand × ExprTree → Type 0
   FinePart part = Fine part.0 part.1
 
   mutual
-    fine_parts : (p : Place) (e : ExprTree) → Fine p e → AllByRecursion FinePart (parts p e)
+    fine_parts : (p : Stand) (e : ExprTree) → Fine p e → AllByRecursion FinePart (parts p e)
     fine_parts p (Integer n span) h = (h, tt)
     fine_parts p (Text t) h = (h, tt)
     fine_parts p (Named x) h = (h, tt)
     fine_parts p (Paren first e last) h = (h, fine_parts (inside p) e (record { meant = h.meant; sound = h.sound }))
     fine_parts p (Unary op span e) h = (h, fine_parts (under_place op p) e (fine_operand p op span e h))
-    fine_parts p (Binary a op span b) h = (h, each_both FinePart (parts places.«Value» a) (parts places.«Value» b) (fine_parts places.«Value» a (fine_first p a op span b h)) (fine_parts places.«Value» b (fine_second p a op span b h)))
+    fine_parts p (Binary a op span b) h = (h, each_both FinePart (parts stands.«Value» a) (parts stands.«Value» b) (fine_parts stands.«Value» a (fine_first p a op span b h)) (fine_parts stands.«Value» b (fine_second p a op span b h)))
     fine_parts p (Select e dot x) h = (h, fine_parts (left_place p e) e (fine_left p e dot x h))
     fine_parts p (Call e first items last) h =
-        (h, each_both FinePart (parts places.Callee e) (item_parts items) (fine_parts places.Callee e (fine_callee p e first items last h)) (fine_item_parts items (fine_arguments p e first items last h)))
+        (h, each_both FinePart (parts stands.Callee e) (item_parts items) (fine_parts stands.Callee e (fine_callee p e first items last h)) (fine_item_parts items (fine_arguments p e first items last h)))
     fine_parts p (Literal n first items last) h =
         (h, fine_item_parts items (fine_elements _ _ _ _ 0 [] [] items (each_right Meant (type_name_spots looks n) _ h.meant) (none_right _ _ h.sound)))
     fine_parts p (StructLiteral t first items last) h =
@@ -139,7 +139,7 @@ module _ {T S D P : Type 0} (looks : Looks T S D P) (code : code_names.CodeLooks
 
     fine_item_parts : (items : ItemTrees) → ItemsAreFine items → AllByRecursion FinePart (item_parts items)
     fine_item_parts NoItems h = tt
-    fine_item_parts (Item key e comma rest) h = each_both FinePart (parts places.«Value» e) (item_parts rest) (fine_parts places.«Value» e h.0) (fine_item_parts rest h.1)
+    fine_item_parts (Item key e comma rest) h = each_both FinePart (parts stands.«Value» e) (item_parts rest) (fine_parts stands.«Value» e h.0) (fine_item_parts rest h.1)
 
-  pub fine_inside : (p : Place) (e : ExprTree) → Fine p e → (q : Place) (x : ExprTree) → Contains (parts p e) (q, x) → Fine q x
+  pub fine_inside : (p : Stand) (e : ExprTree) → Fine p e → (q : Stand) (x : ExprTree) → Contains (parts p e) (q, x) → Fine q x
   fine_inside p e h q x there = All-contains FinePart (parts p e) (q, x) (All-from_recursion FinePart (parts p e) (fine_parts p e h)) there

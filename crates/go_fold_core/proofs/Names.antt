@@ -9,8 +9,8 @@ use Rattle.go_expr_core.specs.operand_core.declared.types.Operand.{Operand}
 use Rattle.go_expr_core.specs.operand_core.TypeRules.{TypeRules}
 use Rattle.go_expr_core.specs.operand_core.declared.types.ValueType.{ValueType}
 use Rattle.go_expr_core.specs.operand_core.Values.{basic_under, default_type}
-use Rattle.go_expr_core.specs.denote_core.declared.things.Place.{Place}
-use Rattle.go_expr_core.specs.denote_core.declared.things.Place.TheVariants as places
+use Rattle.go_expr_core.specs.denote_core.declared.things.Stand.{Stand}
+use Rattle.go_expr_core.specs.denote_core.declared.things.Stand.TheVariants as stands
 use Rattle.go_expr_core.specs.denote_core.declared.things.Usage.{Usage}
 use Rattle.go_expr_core.specs.denote_core.declared.things.Usage.TheVariants as usages
 use Rattle.go_expr_core.specs.denote_core.declared.things.Outcome.{Outcome}
@@ -128,33 +128,33 @@ record Declares (T S D P : Type 0) (answer : Answer T S D P) (d : D) (denoted : 
   denotes : answer.denoted ≡ denoted
 
 module _ {T S D P : Type 0} where
-  package_declares : (p : Place) (d : D) → HasDeclaration (package_answer {T = T} {S = S} {D = D} {P = P} p d).outcome → Declares T S D P (package_answer p d) d (denotes.«Package» d)
-  package_declares places.BeforeDot d h = record { outcome = refl; denotes = refl }
-  package_declares places.TypeDot d h = record { outcome = refl; denotes = refl }
-  package_declares places.«Type» d h = absurd h
-  package_declares places.«Value» d h = absurd h
-  package_declares places.Callee d h = absurd h
+  package_declares : (p : Stand) (d : D) → HasDeclaration (package_answer {T = T} {S = S} {D = D} {P = P} p d).outcome → Declares T S D P (package_answer p d) d (denotes.«Package» d)
+  package_declares stands.BeforeDot d h = record { outcome = refl; denotes = refl }
+  package_declares stands.TypeDot d h = record { outcome = refl; denotes = refl }
+  package_declares stands.«Type» d h = absurd h
+  package_declares stands.«Value» d h = absurd h
+  package_declares stands.Callee d h = absurd h
 
-  type_declares : (p : Place) (d : D) (t : Option T) → HasDeclaration (type_answer {T = T} {S = S} {D = D} {P = P} p d t).outcome → Declares T S D P (type_answer p d t) d (denotes.«Type» d t)
-  type_declares places.«Type» d t h = record { outcome = refl; denotes = refl }
-  type_declares places.Callee d t h = record { outcome = refl; denotes = refl }
-  type_declares places.TypeDot d t h = absurd h
-  type_declares places.«Value» d t h = absurd h
-  type_declares places.BeforeDot d t h = absurd h
+  type_declares : (p : Stand) (d : D) (t : Option T) → HasDeclaration (type_answer {T = T} {S = S} {D = D} {P = P} p d t).outcome → Declares T S D P (type_answer p d t) d (denotes.«Type» d t)
+  type_declares stands.«Type» d t h = record { outcome = refl; denotes = refl }
+  type_declares stands.Callee d t h = record { outcome = refl; denotes = refl }
+  type_declares stands.TypeDot d t h = absurd h
+  type_declares stands.«Value» d t h = absurd h
+  type_declares stands.BeforeDot d t h = absurd h
 
-  func_declares : (p : Place) (d : D) (func : Denoted T S D) → HasDeclaration (func_answer {T = T} {S = S} {D = D} {P = P} p d func).outcome → Declares T S D P (func_answer p d func) d func
-  func_declares places.Callee d func h = record { outcome = refl; denotes = refl }
-  func_declares places.«Type» d func h = absurd h
-  func_declares places.TypeDot d func h = absurd h
-  func_declares places.«Value» d func h = absurd h
-  func_declares places.BeforeDot d func h = absurd h
+  func_declares : (p : Stand) (d : D) (func : Denoted T S D) → HasDeclaration (func_answer {T = T} {S = S} {D = D} {P = P} p d func).outcome → Declares T S D P (func_answer p d func) d func
+  func_declares stands.Callee d func h = record { outcome = refl; denotes = refl }
+  func_declares stands.«Type» d func h = absurd h
+  func_declares stands.TypeDot d func h = absurd h
+  func_declares stands.«Value» d func h = absurd h
+  func_declares stands.BeforeDot d func h = absurd h
 
-  value_declares : (p : Place) (d : D) (v : Option (Operand T)) → HasDeclaration (value_answer {T = T} {S = S} {D = D} {P = P} p d v).outcome → Declares T S D P (value_answer p d v) d (of_value v)
-  value_declares places.«Value» d v h = record { outcome = refl; denotes = refl }
-  value_declares places.BeforeDot d v h = record { outcome = refl; denotes = refl }
-  value_declares places.«Type» d v h = absurd h
-  value_declares places.TypeDot d v h = absurd h
-  value_declares places.Callee d v h = absurd h
+  value_declares : (p : Stand) (d : D) (v : Option (Operand T)) → HasDeclaration (value_answer {T = T} {S = S} {D = D} {P = P} p d v).outcome → Declares T S D P (value_answer p d v) d (of_value v)
+  value_declares stands.«Value» d v h = record { outcome = refl; denotes = refl }
+  value_declares stands.BeforeDot d v h = record { outcome = refl; denotes = refl }
+  value_declares stands.«Type» d v h = absurd h
+  value_declares stands.TypeDot d v h = absurd h
+  value_declares stands.Callee d v h = absurd h
 
 -- a name or a selector that gives a word: it is the operand that it stands for
 
@@ -172,7 +172,7 @@ module _ {T S D P : Type 0} (looks : Looks T S D P) (mean : Outcome D P → Mean
       subst (λ x. IsJudged T S D looks.types Certain Known w x (folded_name m)) (sym is.denotes)
       (value_judged S D looks.types Certain Known slots m w one v (subst (IsValueMeant v) (came is same) h) (λ known. subst (IsValueTyped looks.types v) (came is same) (typed known)))
 
-  found_judged : (p : Place) (f : Found T S D) → IsFoundMeant looks mean f → (Known → IsFoundTyped looks mean f) → HasDeclaration (found_answer {P = P} p f).outcome → m ≡ mean (found_answer {P = P} p f).outcome
+  found_judged : (p : Stand) (f : Found T S D) → IsFoundMeant looks mean f → (Known → IsFoundTyped looks mean f) → HasDeclaration (found_answer {P = P} p f).outcome → m ≡ mean (found_answer {P = P} p f).outcome
       → IsJudged T S D looks.types Certain Known w (found_answer {P = P} p f).denoted (folded_name m)
   found_judged p founds.Missing h typed is same = absurd is
   found_judged p founds.BadImport h typed is same = absurd is
@@ -214,7 +214,7 @@ module _ {T S D P : Type 0} (looks : Looks T S D P) (mean : Outcome D P → Mean
 
   module _ (read : AreNamesRead T S D P looks mean) (typed : Known → AreTyped T S D P looks mean) (x : List ℕ) (n : ℕ) where
     -- a name where it stands
-    pub name_judged : (p : Place) → HasDeclaration (name_answer (look_of_place looks n) p x).outcome → m ≡ mean (name_answer (look_of_place looks n) p x).outcome → IsJudged T S D looks.types Certain Known w (name_answer (look_of_place looks n) p x).denoted (folded_name m)
+    pub name_judged : (p : Stand) → HasDeclaration (name_answer (look_of_place looks n) p x).outcome → m ≡ mean (name_answer (look_of_place looks n) p x).outcome → IsJudged T S D looks.types Certain Known w (name_answer (look_of_place looks n) p x).denoted (folded_name m)
     name_judged p = by (is_blank x)
       where
         by : (b : Bool) → HasDeclaration (if b then refused N8 else found_answer {P = P} p (looks.find x n)).outcome → m ≡ mean (if b then refused N8 else found_answer {P = P} p (looks.find x n)).outcome

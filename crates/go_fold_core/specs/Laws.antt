@@ -7,7 +7,7 @@ use Rattle.go_fragment_core.specs.constant_core.declared.values.Constant.{Consta
 use Rattle.go_fragment_core.specs.constant_core.declared.values.Constant.TheVariants as values
 use Rattle.go_tree_nodes.specs.Trees.{ExprTree}
 use Rattle.go_expr_core.specs.operand_core.declared.types.Operand.{Operand}
-use Rattle.go_expr_core.specs.denote_core.declared.things.Place.{Place}
+use Rattle.go_expr_core.specs.denote_core.declared.things.Stand.{Stand}
 use Rattle.go_expr_core.specs.denote_core.declared.things.Outcome.{Outcome}
 use Rattle.go_expr_core.specs.denote_core.declared.things.Outcome.TheVariants as outcomes
 use Rattle.go_expr_core.specs.denote_core.declared.things.Denoted.{Denoted}
@@ -66,20 +66,20 @@ constant_in (denotes.Func d s) = None
 constant_in (denotes.Builtin d b) = None
 
 -- code takes an expression for a constant where it is one over `int` or `bool` to the check, and then with its value
-pub record IsConstantFolded (T S D P : Type 0) (looks : Looks T S D P) (code : code_names.CodeLooks) (p : Place) (e : ExprTree) : Type 0 where
+pub record IsConstantFolded (T S D P : Type 0) (looks : Looks T S D P) (code : code_names.CodeLooks) (p : Stand) (e : ExprTree) : Type 0 where
   pub value : folded code e ≡ some_held (constant_in (denoted looks p e))
   pub no_text : IsNoText (constant_in (denoted looks p e))
 
 -- An expression in which each occurrence denotes a declaration, which code takes for what it is, and whose operators and literals break no rule. Each
 -- expression in it of which code is made is constant in code exactly where it is to the check, with the same value.
 abbrev pub ConstantsAreFolded : (T S D P : Type 0) → Type 0
-ConstantsAreFolded T S D P = (looks : Looks T S D P) (code : code_names.CodeLooks) (mean : Outcome D P → Meaning) (slots : List (Option ℕ)) (p : Place) (e : ExprTree)
+ConstantsAreFolded T S D P = (looks : Looks T S D P) (code : code_names.CodeLooks) (mean : Outcome D P → Meaning) (slots : List (Option ℕ)) (p : Stand) (e : ExprTree)
     → AreNamesRead T S D P looks mean → AreMeant code mean (uses looks p e) → faults looks p e ≡ []
-    → (q : Place) (x : ExprTree) → Contains (parts p e) (q, x) → (w : Word) → expr_gives (frame_of code slots) x ≡ gives.One w
+    → (q : Stand) (x : ExprTree) → Contains (parts p e) (q, x) → (w : Word) → expr_gives (frame_of code slots) x ≡ gives.One w
     → IsConstantFolded T S D P looks code q x
 
 -- the check makes an operand of an expression; code takes it for a constant where the operand is one over `int` or `bool`, and then with its value
-pub record IsFolded (T S D P : Type 0) (looks : Looks T S D P) (code : code_names.CodeLooks) (p : Place) (e : ExprTree) : Type 0 where
+pub record IsFolded (T S D P : Type 0) (looks : Looks T S D P) (code : code_names.CodeLooks) (p : Stand) (e : ExprTree) : Type 0 where
   pub operand : Operand T
   pub denotes : denoted looks p e ≡ denotes.«Value» operand
   pub value : folded code e ≡ some_held operand.constant
@@ -87,7 +87,7 @@ pub record IsFolded (T S D P : Type 0) (looks : Looks T S D P) (code : code_name
 
 -- where calls of methods give what their signatures give, each such expression is an operand to the check
 abbrev pub ExpressionsAreFolded : (T S D P : Type 0) → Type 0
-ExpressionsAreFolded T S D P = (looks : Looks T S D P) (code : code_names.CodeLooks) (mean : Outcome D P → Meaning) (slots : List (Option ℕ)) (p : Place) (e : ExprTree)
+ExpressionsAreFolded T S D P = (looks : Looks T S D P) (code : code_names.CodeLooks) (mean : Outcome D P → Meaning) (slots : List (Option ℕ)) (p : Stand) (e : ExprTree)
     → AreRead T S D P looks mean → AreMeant code mean (uses looks p e) → faults looks p e ≡ []
-    → (q : Place) (x : ExprTree) → Contains (parts p e) (q, x) → (w : Word) → expr_gives (frame_of code slots) x ≡ gives.One w
+    → (q : Stand) (x : ExprTree) → Contains (parts p e) (q, x) → (w : Word) → expr_gives (frame_of code slots) x ≡ gives.One w
     → IsFolded T S D P looks code q x

@@ -8,37 +8,37 @@ use Rattle.go_tree_nodes.specs.declared.names.TextLiteral.{TextLiteral}
 use Rattle.go_tree_nodes.specs.declared.exprs.Key.{Key}
 use Rattle.go_tree_nodes.specs.declared.types.TypeName.{TypeName}
 use Rattle.go_tree_nodes.specs.Trees.{TypeTree, Integer, Text, Named, Paren, Unary, Binary, Select, Call, Literal, StructLiteral, NoItems, Item}
-use Rattle.go_expr_core.specs.denote_core.declared.things.Place.TheVariants as places
+use Rattle.go_expr_core.specs.denote_core.declared.things.Stand.TheVariants as stands
 use Rattle.go_fold_core.specs.Parts.{parts}
 
 pub record SampleParts : Type 0 where
   -- -(a) + 1
-  pub sums : (s : Span) (a : Ident) → parts places.«Value» (Binary (Unary operators.Minus s (Paren s (Named a) s)) operators.Plus s (Integer 1 s)) ≡
-      (places.«Value», Binary (Unary operators.Minus s (Paren s (Named a) s)) operators.Plus s (Integer 1 s))
-      ∷ (places.«Value», Unary operators.Minus s (Paren s (Named a) s))
-      ∷ (places.«Value», Paren s (Named a) s)
-      ∷ (places.«Value», Named a)
-      ∷ (places.«Value», Integer 1 s) ∷ []
+  pub sums : (s : Span) (a : Ident) → parts stands.«Value» (Binary (Unary operators.Minus s (Paren s (Named a) s)) operators.Plus s (Integer 1 s)) ≡
+      (stands.«Value», Binary (Unary operators.Minus s (Paren s (Named a) s)) operators.Plus s (Integer 1 s))
+      ∷ (stands.«Value», Unary operators.Minus s (Paren s (Named a) s))
+      ∷ (stands.«Value», Paren s (Named a) s)
+      ∷ (stands.«Value», Named a)
+      ∷ (stands.«Value», Integer 1 s) ∷ []
   -- a.f("", b)
-  pub calls : (s : Span) (a f b : Ident) (t : TextLiteral) → parts places.«Value» (Call (Select (Named a) s f) s (Item None (Text t) (Some s) (Item None (Named b) None NoItems)) s) ≡
-      (places.«Value», Call (Select (Named a) s f) s (Item None (Text t) (Some s) (Item None (Named b) None NoItems)) s)
-      ∷ (places.Callee, Select (Named a) s f)
-      ∷ (places.BeforeDot, Named a)
-      ∷ (places.«Value», Text t)
-      ∷ (places.«Value», Named b) ∷ []
+  pub calls : (s : Span) (a f b : Ident) (t : TextLiteral) → parts stands.«Value» (Call (Select (Named a) s f) s (Item None (Text t) (Some s) (Item None (Named b) None NoItems)) s) ≡
+      (stands.«Value», Call (Select (Named a) s f) s (Item None (Text t) (Some s) (Item None (Named b) None NoItems)) s)
+      ∷ (stands.Callee, Select (Named a) s f)
+      ∷ (stands.BeforeDot, Named a)
+      ∷ (stands.«Value», Text t)
+      ∷ (stands.«Value», Named b) ∷ []
   -- (*t)(f().x): behind the star of what is called stands a type, and what stands left of a dot and is no name is an operand
-  pub conversions : (s : Span) (t f x : Ident) → parts places.«Value» (Call (Paren s (Unary operators.Star s (Named t)) s) s (Item None (Select (Call (Named f) s NoItems s) s x) None NoItems) s) ≡
-      (places.«Value», Call (Paren s (Unary operators.Star s (Named t)) s) s (Item None (Select (Call (Named f) s NoItems s) s x) None NoItems) s)
-      ∷ (places.Callee, Paren s (Unary operators.Star s (Named t)) s)
-      ∷ (places.Callee, Unary operators.Star s (Named t))
-      ∷ (places.«Type», Named t)
-      ∷ (places.«Value», Select (Call (Named f) s NoItems s) s x)
-      ∷ (places.«Value», Call (Named f) s NoItems s)
-      ∷ (places.Callee, Named f) ∷ []
+  pub conversions : (s : Span) (t f x : Ident) → parts stands.«Value» (Call (Paren s (Unary operators.Star s (Named t)) s) s (Item None (Select (Call (Named f) s NoItems s) s x) None NoItems) s) ≡
+      (stands.«Value», Call (Paren s (Unary operators.Star s (Named t)) s) s (Item None (Select (Call (Named f) s NoItems s) s x) None NoItems) s)
+      ∷ (stands.Callee, Paren s (Unary operators.Star s (Named t)) s)
+      ∷ (stands.Callee, Unary operators.Star s (Named t))
+      ∷ (stands.«Type», Named t)
+      ∷ (stands.«Value», Select (Call (Named f) s NoItems s) s x)
+      ∷ (stands.«Value», Call (Named f) s NoItems s)
+      ∷ (stands.Callee, Named f) ∷ []
   -- t{k: a} and struct{ .. }{b, c}: elements, and neither types nor keys
-  pub literals : (s : Span) (t : TypeName) (k : Key) (a : Ident) → parts places.«Value» (Literal t s (Item (Some k) (Named a) None NoItems) s) ≡
-      (places.«Value», Literal t s (Item (Some k) (Named a) None NoItems) s) ∷ (places.«Value», Named a) ∷ []
-  pub written : (s : Span) (t : TypeTree) (b c : Ident) → parts places.«Value» (StructLiteral t s (Item None (Named b) (Some s) (Item None (Named c) None NoItems)) s) ≡
-      (places.«Value», StructLiteral t s (Item None (Named b) (Some s) (Item None (Named c) None NoItems)) s)
-      ∷ (places.«Value», Named b)
-      ∷ (places.«Value», Named c) ∷ []
+  pub literals : (s : Span) (t : TypeName) (k : Key) (a : Ident) → parts stands.«Value» (Literal t s (Item (Some k) (Named a) None NoItems) s) ≡
+      (stands.«Value», Literal t s (Item (Some k) (Named a) None NoItems) s) ∷ (stands.«Value», Named a) ∷ []
+  pub written : (s : Span) (t : TypeTree) (b c : Ident) → parts stands.«Value» (StructLiteral t s (Item None (Named b) (Some s) (Item None (Named c) None NoItems)) s) ≡
+      (stands.«Value», StructLiteral t s (Item None (Named b) (Some s) (Item None (Named c) None NoItems)) s)
+      ∷ (stands.«Value», Named b)
+      ∷ (stands.«Value», Named c) ∷ []

@@ -9,7 +9,7 @@ use Rattle.go_expr_core.specs.operand_core.declared.types.ValueType.{ValueType}
 use Rattle.go_expr_core.specs.operand_core.declared.types.Operand.{Operand}
 use Rattle.go_expr_core.specs.operand_core.TypeRules.{TypeRules}
 use Rattle.go_expr_core.specs.operand_core.Values.{form_basic, basic_under}
-use Rattle.go_expr_core.specs.denote_core.declared.things.Place.{Place}
+use Rattle.go_expr_core.specs.denote_core.declared.things.Stand.{Stand}
 use Rattle.go_expr_core.specs.denote_core.declared.things.Outcome.{Outcome}
 use Rattle.go_expr_core.specs.denote_core.declared.things.Outcome.TheVariants as outcomes
 use Rattle.go_expr_core.specs.denote_core.declared.things.Denoted.TheVariants as denotes
@@ -77,7 +77,7 @@ pub record KeepBasics {T : Type 0} (rules : TypeRules T) : Type 0 where
   pub convertible : (s t : T) (b c : Basic) → rules.convertible s t ≡ true → form_basic (rules.form s) ≡ Some b → form_basic (rules.form t) ≡ Some c → b ≡ c
 
 -- the check makes an operand of an expression, of a type over this; and so is the constant that code takes it for
-pub record IsTyped (T S D P : Type 0) (looks : Looks T S D P) (code : code_names.CodeLooks) (p : Place) (e : ExprTree) (w : Word) : Type 0 where
+pub record IsTyped (T S D P : Type 0) (looks : Looks T S D P) (code : code_names.CodeLooks) (p : Stand) (e : ExprTree) (w : Word) : Type 0 where
   pub operand : Operand T
   pub denotes : denoted looks p e ≡ denotes.«Value» operand
   pub over : basic_under looks.types operand.value_type ≡ Some (basic_of w)
@@ -85,7 +85,7 @@ pub record IsTyped (T S D P : Type 0) (looks : Looks T S D P) (code : code_names
 
 -- the same of an expression whose names are over what their types are over
 abbrev pub ExpressionsAreTyped : (T S D P : Type 0) → Type 0
-ExpressionsAreTyped T S D P = (looks : Looks T S D P) (code : code_names.CodeLooks) (mean : Outcome D P → Meaning) (slots : List (Option ℕ)) (p : Place) (e : ExprTree)
+ExpressionsAreTyped T S D P = (looks : Looks T S D P) (code : code_names.CodeLooks) (mean : Outcome D P → Meaning) (slots : List (Option ℕ)) (p : Stand) (e : ExprTree)
     → AreRead T S D P looks mean → AreTyped T S D P looks mean → KeepBasics looks.types → AreMeant code mean (uses looks p e) → faults looks p e ≡ []
-    → (q : Place) (x : ExprTree) → Contains (parts p e) (q, x) → (w : Word) → expr_gives (frame_of code slots) x ≡ gives.One w
+    → (q : Stand) (x : ExprTree) → Contains (parts p e) (q, x) → (w : Word) → expr_gives (frame_of code slots) x ≡ gives.One w
     → IsTyped T S D P looks code q x w

@@ -29,9 +29,14 @@ pub struct KFault {
 
 /// A package: files with trees, and one name in all their package clauses. It is a handle, as its source is. Contracts see it as
 /// its source, the path and the files in order of name.
-#[derive(Drop)]
 pub struct Package {
     source: PackageSource,
+}
+
+impl Drop for Package {
+    fn drop(self) {
+        let Package { source: _ } = self;
+    }
 }
 
 impl Model for Package {

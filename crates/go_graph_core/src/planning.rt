@@ -125,10 +125,18 @@ fn assembled(
 
 /// The import plan of a workspace. Contracts see it as the outcomes of the imports, by package, file and import,
 /// and the order.
-#[derive(Drop)]
 pub struct Plan {
     outcomes: Vec<Vec<Vec<ImportOutcome>>>,
     order: Vec<usize>,
+}
+
+impl Drop for Plan {
+    fn drop(self) {
+        let Plan {
+            outcomes: _,
+            order: _,
+        } = self;
+    }
 }
 
 impl Model for Plan {

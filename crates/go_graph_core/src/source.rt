@@ -21,9 +21,14 @@ struct FileContent {
 
 /// A file of a package: its name, its text, and a tree or why there is none. It is a handle: what is shared has one content.
 /// Contracts see it as these three.
-#[derive(Drop)]
 pub struct SourceFile {
     content: Arc<FileContent>,
+}
+
+impl Drop for SourceFile {
+    fn drop(self) {
+        let SourceFile { content: _ } = self;
+    }
 }
 
 impl Model for SourceFile {

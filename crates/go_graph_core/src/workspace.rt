@@ -24,9 +24,14 @@ struct PackageContent {
 
 /// A package of a workspace: its path and its files, at least one, in order of name. It is a handle: what is shared has one
 /// content. Contracts see it as these two.
-#[derive(Drop)]
 pub struct PackageSource {
     content: Arc<PackageContent>,
+}
+
+impl Drop for PackageSource {
+    fn drop(self) {
+        let PackageSource { content: _ } = self;
+    }
 }
 
 impl Model for PackageSource {
@@ -128,9 +133,14 @@ fn are_same_files(files: &[SourceFile], others: &[SourceFile]) -> bool
 }
 
 /// Packages in byte order of path. Contracts see them as the list of their paths and files.
-#[derive(Drop)]
 pub struct Workspace {
     packages: Vec<PackageSource>,
+}
+
+impl Drop for Workspace {
+    fn drop(self) {
+        let Workspace { packages: _ } = self;
+    }
 }
 
 impl Model for Workspace {

@@ -24,9 +24,14 @@ pub enum DeclSite<'a> {
 }
 
 /// A declaration. Contracts see where it is.
-#[derive(Drop)]
 pub struct Decl<'a> {
     site: DeclSite<'a>,
+}
+
+impl Drop for Decl<'_> {
+    fn drop(self) {
+        let Decl { site: _ } = self;
+    }
 }
 
 impl<'a> Model for Decl<'a> {

@@ -13,7 +13,6 @@ use std::alloc::{AllocError, Global};
 use std::marker::Model;
 
 /// The package of a place, with the predeclared types as they stand there, to be lent. Contracts see its path.
-#[derive(Drop)]
 pub struct Home {
     path: ImportPath,
     int: TypeTerm,
@@ -22,6 +21,20 @@ pub struct Home {
     any: TypeTerm,
     error: TypeTerm,
     error_signature: Signature,
+}
+
+impl Drop for Home {
+    fn drop(self) {
+        let Home {
+            path: _,
+            int: _,
+            text: _,
+            boolean: _,
+            any: _,
+            error: _,
+            error_signature: _,
+        } = self;
+    }
 }
 
 impl Model for Home {

@@ -11,9 +11,14 @@ use go_term_core::{Signature, TypeTerm};
 use std::marker::Model;
 
 /// A signature that is lent. Contracts see the signature.
-#[derive(Drop)]
 pub struct SignatureRef<'a> {
     signature: &'a Signature,
+}
+
+impl Drop for SignatureRef<'_> {
+    fn drop(self) {
+        let SignatureRef { signature: _ } = self;
+    }
 }
 
 impl<'a> Model for SignatureRef<'a> {

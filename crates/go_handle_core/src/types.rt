@@ -13,10 +13,15 @@ use std::alloc::AllocError;
 use std::marker::Model;
 
 /// A type that is lent, under some stars: pointers to pointers to it, so many. Contracts see the type.
-#[derive(Drop)]
 pub struct TypeRef<'a> {
     pub(crate) stars: usize,
     pub(crate) term: &'a TypeTerm,
+}
+
+impl Drop for TypeRef<'_> {
+    fn drop(self) {
+        let TypeRef { stars: _, term: _ } = self;
+    }
 }
 
 impl<'a> Model for TypeRef<'a> {

@@ -11,12 +11,17 @@ use std::alloc::{AllocError, Global};
 use std::marker::Model;
 
 /// A type that is written inside a function or in an initialiser.
-#[derive(Drop)]
 pub struct InlineType {
     /// The type, settled: `TypeTerm::NoType` where it is none.
     pub term: TypeTerm,
     /// The faults of its fields, its methods and their parameters, in the order in which they are written, each kind together.
     pub faults: Vec<Fault>,
+}
+
+impl Drop for InlineType {
+    fn drop(self) {
+        let InlineType { term: _, faults: _ } = self;
+    }
 }
 
 /// A type with the offset in bytes of its first byte, from the file's start. Contracts see both.
@@ -47,9 +52,14 @@ impl Note {
 }
 
 /// Types by the offsets in bytes of their first bytes, from the file's start. Contracts see a list of both.
-#[derive(Drop)]
 pub struct InlineTypes {
     types: IndexMap<usize, InlineType>,
+}
+
+impl Drop for InlineTypes {
+    fn drop(self) {
+        let InlineTypes { types: _ } = self;
+    }
 }
 
 impl Model for InlineTypes {

@@ -8,7 +8,7 @@ use Rattle.go_snap_core.specs.local_core.Binding.{Local}
 use Rattle.go_snap_core.specs.local_core.Steps.{Piece}
 use Rattle.go_snap_core.specs.local_core.Tables.{IsFuncPlaced}
 use Rattle.go_snap_core.specs.denote_core.declared.things.Outcome.TheVariants as outcomes
-use Rattle.go_snap_core.specs.denote_core.declared.things.Place.TheVariants as places
+use Rattle.go_snap_core.specs.denote_core.declared.things.Stand.TheVariants as stands
 use Rattle.go_snap_core.specs.expr_core.Faults.{faults}
 use Rattle.go_snap_core.specs.expr_core.Uses.{uses}
 use Rattle.go_snap_core.specs.handle_core.Declarations.{Declaration}
@@ -85,13 +85,13 @@ module _ (fine : ObjectsAreOfFaultless) (one : FunctionsHaveOneTable) (of_locals
         read = are_read binds of_locals i c well others part n t f file locals_rise g g_there placed all right
 
         module _ (p : Piece) (piece : Contains (pieces_of g) p) (e : ExprTree) (expr : Contains (piece_exprs p) e) where
-          in_file : (u : TheUse) → Contains (uses (looks_among (stand_in_part i c n t) all) places.«Value» e) u → HasItem f.answers.uses u
+          in_file : (u : TheUse) → Contains (uses (looks_among (stand_in_part i c n t) all) stands.«Value» e) u → HasItem f.answers.uses u
           in_file u h =
-              let here = expr_has one (stand_in_part i c n t) g placed all right p e u (has (pieces_of g) p piece) (has (piece_exprs p) e expr) (has (uses (looks_among (stand_in_part i c n t) all) places.«Value» e) u h) in
+              let here = expr_has one (stand_in_part i c n t) g placed all right p e u (has (pieces_of g) p piece) (has (piece_exprs p) e expr) (has (uses (looks_among (stand_in_part i c n t) all) stands.«Value» e) u h) in
               subst (λ us. HasItem us u) (sym file.uses)
               (has_right (imports_uses (file_specs t) (imports_at (package_seen i c.blocks (seen_by i)) n)) (tops_uses (stand_in_part i c n t) t.decls) u (file_has (decl_uses (stand_in_part i c n t)) t g g_there u here))
 
-          pub are_meant : AreMeant (code_names_of i c n f g) (outcome_meaning (code_scene_over (told_to i c) i c) n (locals_meant (types_told (told_to i c)) f.answers.locals)) (uses (looks_among (stand_in_part i c n t) all) places.«Value» e)
+          pub are_meant : AreMeant (code_names_of i c n f g) (outcome_meaning (code_scene_over (told_to i c) i c) n (locals_meant (types_told (told_to i c)) f.answers.locals)) (uses (looks_among (stand_in_part i c n t) all) stands.«Value» e)
           are_meant u h =
               let here = in_file u h in
               let value = λ (v : TheUse). outcome_meaning (code_scene_over (told_to i c) i c) n (locals_meant (types_told (told_to i c)) f.answers.locals) v.outcome in
@@ -100,22 +100,22 @@ module _ (fine : ObjectsAreOfFaultless) (one : FunctionsHaveOneTable) (of_locals
                 declared = declared_from u.outcome (file.declared u here);
               }
 
-          pub none_broken : faults (looks_among (stand_in_part i c n t) all) places.«Value» e ≡ []
+          pub none_broken : faults (looks_among (stand_in_part i c n t) all) stands.«Value» e ≡ []
           none_broken = expr_breaks one (stand_in_part i c n t) g placed all right p e (has (pieces_of g) p piece) (has (piece_exprs p) e expr) (file_none (decl_faults (stand_in_part i c n t)) t g g_there file.faults)
 
 pub constants_agree : ConstantsAreFolded Term Sign Declaration (List ℕ) → ExpressionsAreFolded Term Sign Declaration (List ℕ) → ObjectsAreOfFaultless → FunctionsHaveOneTable → LocalsAreDeclarations → FunctionsArePlaced → ImportsBindTheirs → BodiesAreBetweenBraces
     → ConstantsAreOfTheCheck
 constants_agree constants operands fine one of_locals funcs binds between i c well others part clean n t f tree there grammar in_order g func all right p piece e expr q x inside slots = record {
   constant = λ w gives_one.
-      constants (looks_among (stand_in_part i c n t) all) (code_names_of i c n f g) (outcome_meaning (code_scene_over (told_to i c) i c) n (locals_meant (types_told (told_to i c)) f.answers.locals)) slots places.«Value» e
+      constants (looks_among (stand_in_part i c n t) all) (code_names_of i c n f g) (outcome_meaning (code_scene_over (told_to i c) i c) n (locals_meant (types_told (told_to i c)) f.answers.locals)) slots stands.«Value» e
       (names fine one of_locals funcs binds between i c well others part clean n t f tree there grammar in_order g func all right)
       (are_meant fine one of_locals funcs binds between i c well others part clean n t f tree there grammar in_order g func all right p piece e expr)
       (none_broken fine one of_locals funcs binds between i c well others part clean n t f tree there grammar in_order g func all right p piece e expr)
       q x inside w gives_one;
   operand = λ w gives_one.
-      let judged = operands (looks_among (stand_in_part i c n t) all) (without_methods (code_names_of i c n f g)) (λ o. without_method (outcome_meaning (code_scene_over (told_to i c) i c) n (locals_meant (types_told (told_to i c)) f.answers.locals) o)) slots places.«Value» e
+      let judged = operands (looks_among (stand_in_part i c n t) all) (without_methods (code_names_of i c n f g)) (λ o. without_method (outcome_meaning (code_scene_over (told_to i c) i c) n (locals_meant (types_told (told_to i c)) f.answers.locals) o)) slots stands.«Value» e
       (read fine one of_locals funcs binds between i c well others part clean n t f tree there grammar in_order g func all right)
-      (meant_calm (looks_among (stand_in_part i c n t) all) (outcome_meaning (code_scene_over (told_to i c) i c) n (locals_meant (types_told (told_to i c)) f.answers.locals)) (code_names_of i c n f g) (uses (looks_among (stand_in_part i c n t) all) places.«Value» e)
+      (meant_calm (looks_among (stand_in_part i c n t) all) (outcome_meaning (code_scene_over (told_to i c) i c) n (locals_meant (types_told (told_to i c)) f.answers.locals)) (code_names_of i c n f g) (uses (looks_among (stand_in_part i c n t) all) stands.«Value» e)
       (are_meant fine one of_locals funcs binds between i c well others part clean n t f tree there grammar in_order g func all right p piece e expr))
       (none_broken fine one of_locals funcs binds between i c well others part clean n t f tree there grammar in_order g func all right p piece e expr)
       q x inside w gives_one in

@@ -17,8 +17,8 @@ use Rattle.go_snap_core.specs.operand_core.Values.{default_type}
 use Rattle.go_snap_core.specs.operand_core.Operators.{binary_operand}
 use Rattle.go_snap_core.specs.operand_core.Prefixes.{unary_operand}
 use Rattle.go_snap_core.specs.operand_core.Conversions.{convert, length_of}
-use Rattle.go_snap_core.specs.denote_core.declared.things.Place.{Place}
-use Rattle.go_snap_core.specs.denote_core.declared.things.Place.TheVariants as places
+use Rattle.go_snap_core.specs.denote_core.declared.things.Stand.{Stand}
+use Rattle.go_snap_core.specs.denote_core.declared.things.Stand.TheVariants as stands
 use Rattle.go_snap_core.specs.denote_core.declared.things.Usage.{Usage}
 use Rattle.go_snap_core.specs.denote_core.declared.things.Usage.TheVariants as usages
 use Rattle.go_snap_core.specs.denote_core.declared.things.Builtin.{Builtin}
@@ -142,35 +142,35 @@ module _ (Inside : List ℕ → Type 0) where
   of_value_in None = tt
   of_value_in (Some o) = tt
 
-  package_in : (p : Place) (d : Declaration) → IsDeclIn d → IsAnswerIn (package_answer p d)
-  package_in places.BeforeDot d h = (h, h)
-  package_in places.TypeDot d h = (h, h)
-  package_in places.«Type» d h = (tt, tt)
-  package_in places.«Value» d h = (tt, tt)
-  package_in places.Callee d h = (tt, tt)
+  package_in : (p : Stand) (d : Declaration) → IsDeclIn d → IsAnswerIn (package_answer p d)
+  package_in stands.BeforeDot d h = (h, h)
+  package_in stands.TypeDot d h = (h, h)
+  package_in stands.«Type» d h = (tt, tt)
+  package_in stands.«Value» d h = (tt, tt)
+  package_in stands.Callee d h = (tt, tt)
 
-  type_in : (p : Place) (d : Declaration) (t : Option Term) → IsDeclIn d → IsAnswerIn (type_answer p d t)
-  type_in places.«Type» d t h = (h, h)
-  type_in places.Callee d t h = (h, h)
-  type_in places.TypeDot d t h = (tt, tt)
-  type_in places.«Value» d t h = (tt, tt)
-  type_in places.BeforeDot d t h = (tt, tt)
+  type_in : (p : Stand) (d : Declaration) (t : Option Term) → IsDeclIn d → IsAnswerIn (type_answer p d t)
+  type_in stands.«Type» d t h = (h, h)
+  type_in stands.Callee d t h = (h, h)
+  type_in stands.TypeDot d t h = (tt, tt)
+  type_in stands.«Value» d t h = (tt, tt)
+  type_in stands.BeforeDot d t h = (tt, tt)
 
-  func_in : (p : Place) (d : Declaration) (f : Denoted Term Sign Declaration) → IsDeclIn d → IsDenotedKept f → IsAnswerIn (func_answer p d f)
-  func_in places.«Type» d f h k = (tt, tt)
-  func_in places.TypeDot d f h k = (tt, tt)
-  func_in places.Callee d f h k = (h, k)
-  func_in places.«Value» d f h k = (tt, tt)
-  func_in places.BeforeDot d f h k = (tt, tt)
+  func_in : (p : Stand) (d : Declaration) (f : Denoted Term Sign Declaration) → IsDeclIn d → IsDenotedKept f → IsAnswerIn (func_answer p d f)
+  func_in stands.«Type» d f h k = (tt, tt)
+  func_in stands.TypeDot d f h k = (tt, tt)
+  func_in stands.Callee d f h k = (h, k)
+  func_in stands.«Value» d f h k = (tt, tt)
+  func_in stands.BeforeDot d f h k = (tt, tt)
 
-  value_in : (p : Place) (d : Declaration) (o : Option (Operand Term)) → IsDeclIn d → IsAnswerIn (value_answer p d o)
-  value_in places.«Type» d o h = (tt, tt)
-  value_in places.TypeDot d o h = (tt, tt)
-  value_in places.Callee d o h = (tt, tt)
-  value_in places.«Value» d o h = (h, of_value_in o)
-  value_in places.BeforeDot d o h = (h, of_value_in o)
+  value_in : (p : Stand) (d : Declaration) (o : Option (Operand Term)) → IsDeclIn d → IsAnswerIn (value_answer p d o)
+  value_in stands.«Type» d o h = (tt, tt)
+  value_in stands.TypeDot d o h = (tt, tt)
+  value_in stands.Callee d o h = (tt, tt)
+  value_in stands.«Value» d o h = (h, of_value_in o)
+  value_in stands.BeforeDot d o h = (h, of_value_in o)
 
-  found_in : (p : Place) (f : Found Term Sign Declaration) → IsFoundKept f → IsAnswerIn (found_answer p f)
+  found_in : (p : Stand) (f : Found Term Sign Declaration) → IsFoundKept f → IsAnswerIn (found_answer p f)
   found_in p founds.Missing h = (tt, tt)
   found_in p founds.BadImport h = (tt, tt)
   found_in p founds.Outside h = (tt, tt)
@@ -276,7 +276,7 @@ module _ (Inside : List ℕ → Type 0) where
       pub fields : (t : Term) → Near t → Each IsFieldKept (looks.literals.fields t)
 
     module _ (law : AreClosed Near Rest looks) (kept : AreKept) where
-      pub ident_in : (p : Place) (x : Ident) → IsAnswerIn (ident_answer looks p x)
+      pub ident_in : (p : Stand) (x : Ident) → IsAnswerIn (ident_answer looks p x)
       ident_in p x = either IsAnswerIn (is_blank x.name) _ _ (tt, tt) (found_in p (looks.find x.name x.span.start) (kept.find x.name x.span.start))
 
       value_selector_in : (o : ℕ) (u : Usage) (b : Bool) (t : Option Term) (name : List ℕ) → IfAny Near t → IsAnswerIn (value_selector (look_of_place looks o) u b t name)
@@ -292,12 +292,12 @@ module _ (Inside : List ℕ → Type 0) where
           (value_selector_in o u operand.addressable (default_type looks.types operand.value_type) name (default_near Near looks.types law.types operand.value_type h))
 
       pub type_name_in : (n : TypeName) → IsAnswerIn (type_name_answer looks n)
-      type_name_in (type_names.Plain x) = ident_in places.«Type» x
+      type_name_in (type_names.Plain x) = ident_in stands.«Type» x
       type_name_in (type_names.Qualified q dot x) =
-          selector_in x.span.start usages.«Type» (dot_of true (ident_answer looks places.TypeDot q).denoted) x.name
-          (dot_near Near Rest looks law true (ident_answer looks places.TypeDot q).denoted (ident_near Near Rest looks looks law (alike_itself Near Rest looks) places.TypeDot q))
+          selector_in x.span.start usages.«Type» (dot_of true (ident_answer looks stands.TypeDot q).denoted) x.name
+          (dot_near Near Rest looks law true (ident_answer looks stands.TypeDot q).denoted (ident_near Near Rest looks looks law (alike_itself Near Rest looks) stands.TypeDot q))
 
-      pub select_in : (p : Place) (e : ExprTree) (x : Ident) → IsAnswerIn (select_answer looks p e x)
+      pub select_in : (p : Stand) (e : ExprTree) (x : Ident) → IsAnswerIn (select_answer looks p e x)
       select_in p e x =
           selector_in x.span.start (whole p) (dot_of (is_name e) (denoted looks (left_place p e) e)) x.name
           (dot_near Near Rest looks law (is_name e) (denoted looks (left_place p e) e) (denoted_near Near Rest looks looks law (alike_itself Near Rest looks) (left_place p e) e))
@@ -364,16 +364,16 @@ module _ (Inside : List ℕ → Type 0) where
 
       -- what an expression denotes
 
-      pub denoted_in : (p : Place) (e : ExprTree) → IsDenotedKept (denoted looks p e)
+      pub denoted_in : (p : Stand) (e : ExprTree) → IsDenotedKept (denoted looks p e)
       denoted_in p (Integer n span) = tt
       denoted_in p (Text t) = tt
       denoted_in p (Named x) = (ident_in p x).1
       denoted_in p (Paren first e last) = denoted_in (inside p) e
       denoted_in p (Unary op span e) = unary_in looks.types op (is_literal e) (denoted looks (under_place op p) e) (denoted_in (under_place op p) e)
-      denoted_in p (Binary a op span b) = operands_in looks.types op (operand_of (denoted looks places.«Value» a)) (operand_of (denoted looks places.«Value» b))
+      denoted_in p (Binary a op span b) = operands_in looks.types op (operand_of (denoted looks stands.«Value» a)) (operand_of (denoted looks stands.«Value» b))
       denoted_in p (Select e dot x) = (select_in p e x).1
       denoted_in p (Call e first items last) =
-          (call_in first.start (denoted looks places.Callee e) (is_free (is_lone_call items) (denoted_items looks items)) (arguments_of (look_of_place looks first.start) (denoted_items looks items)) (denoted_in places.Callee e)).1
+          (call_in first.start (denoted looks stands.Callee e) (is_free (is_lone_call items) (denoted_items looks items)) (arguments_of (look_of_place looks first.start) (denoted_items looks items)) (denoted_in stands.Callee e)).1
       denoted_in p (Literal n first items last) = literal_in (named_type looks n)
       denoted_in p (StructLiteral t first items last) = literal_in (written_type looks t)
 

@@ -10,6 +10,7 @@ use Rattle.go_tree_nodes.specs.Trees.{FileTree}
 use Rattle.govisd_core.specs.parse_core.declared.error.SynFault.{SynFault}
 use Rattle.govisd_core.specs.parse_core.Correct.{HasOneTree, IsSynFault}
 use Rattle.govisd_core.specs.parse_core.Refusing.{HasOneRule}
+use Rattle.go_snap_core.specs.answer_core.Outer.{fault}
 use Rattle.go_snap_core.specs.graph_core.Lists.{AllNumbered}
 use Rattle.go_snap_core.specs.graph_core.Packages.{blank, trees_of}
 use Rattle.go_snap_core.specs.graph_core.Sources.{SourceModel, IsContent, source}
@@ -28,7 +29,7 @@ use Rattle.go_snap_core.specs.mirrors.Reports.{part_faults}
 use Rattle.go_snap_core.proofs.OneFaults.{one_faults}
 use Rattle.govisd_core.specs.Alone.{StandsInFile, ImportIsRefused, file_alone, package_alone, the_name, the_path, workspace_alone}
 use Rattle.govisd_core.specs.Reports.{Input, TooLong, NoText, BadToken, NoTree, TooHigh, NoName, AFile, IsFile, IsInputOfBytes, OneInput}
-use Rattle.go_laws_core.specs.FileLaws.{HasWhatIsTold, HasFound, HasNoPart, IsFileOf, SnapshotsHaveWhatIsTold, rule_fault, without_tree}
+use Rattle.go_laws_core.specs.FileLaws.{HasWhatIsTold, HasFound, HasNoPart, IsFileOf, SnapshotsHaveWhatIsTold, without_tree}
 use Rattle.go_laws_core.proofs.Refusing.{faults_of_part, is_assembled, name_wanted, one_entry, one_report, tree_wanted}
 use Rattle.go_laws_core.proofs.FileStanding.{comes_refused, only_zero, told_none}
 
@@ -126,10 +127,10 @@ module _ (one : OneInput) where
         → IsInputOfBytes bytes input → IsContent bytes c → IsSnapshot (workspace_alone (source the_name bytes c)) parts faults → HasWhatIsTold (source the_name bytes c) parts faults input
     told bytes c TooLong parts faults i r h = tt
     told bytes c NoText parts faults i r h = tt
-    told bytes (Ok g) (BadToken fault) parts faults i r h = absurd (not_both bytes r.found.tokens fault r.found.scanned i.1)
-    told bytes (Err e) (BadToken fault) parts faults i r h = elim r.0 [
-      | inl scanned ↦ subst (λ (x : LexFault). HasNoPart parts faults (without_tree x.offset x.rule)) (one_fault bytes (lex_fault e) fault scanned i.1) (tree_wanted bytes e parts faults r h)
-      | inr t ↦ absurd (not_both bytes t.tokens fault t.scanned i.1)
+    told bytes (Ok g) (BadToken bad) parts faults i r h = absurd (not_both bytes r.found.tokens bad r.found.scanned i.1)
+    told bytes (Err e) (BadToken bad) parts faults i r h = elim r.0 [
+      | inl scanned ↦ subst (λ (x : LexFault). HasNoPart parts faults (without_tree x.offset x.rule)) (one_fault bytes (lex_fault e) bad scanned i.1) (tree_wanted bytes e parts faults r h)
+      | inr t ↦ absurd (not_both bytes t.tokens bad t.scanned i.1)
     ]
     told bytes (Ok g) (NoTree offset) parts faults i r h = absurd (i.1 g r.found)
     told bytes (Err e) (NoTree offset) parts faults i r h = elim r.0 [
@@ -143,7 +144,7 @@ module _ (one : OneInput) where
     ]
     told bytes (Ok g) (NoName f) parts faults i r h =
         let same : g ≡ f = tree bytes g f r.found i.0.parse.found in
-        subst (λ (x : FileTree). HasNoPart parts faults (rule_fault x.name.span.start K3 ∷ [])) same (name_wanted bytes g parts faults r (subst (λ (x : FileTree). x.name.name ≡ blank) (sym same) i.1) h)
+        subst (λ (x : FileTree). HasNoPart parts faults (fault x.name.span.start K3 ∷ [])) same (name_wanted bytes g parts faults r (subst (λ (x : FileTree). x.name.name ≡ blank) (sym same) i.1) h)
     told bytes (Err e) (NoName f) parts faults i r h = absurd (no_fault bytes f e i.0 r.0)
     told bytes (Ok g) (AFile f found) parts faults i r h =
         let same : f ≡ g = tree bytes f g i.0.parse.found r.found in

@@ -7,6 +7,7 @@ use Rattle.go_text_core.specs.declared.rule.Rule.TheVariants.{K3, K4, P1, P2}
 use Rattle.go_scan_core.proofs.Answered.{not_both}
 use Rattle.go_tree_nodes.specs.Trees.{FileTree}
 use Rattle.govisd_core.specs.parse_core.declared.error.SynFault.{SynFault}
+use Rattle.go_snap_core.specs.answer_core.Outer.{fault}
 use Rattle.go_snap_core.specs.graph_core.Packages.{blank, trees_of}
 use Rattle.go_snap_core.specs.graph_core.Sources.{SourceModel, IsContent, source}
 use Rattle.go_snap_core.specs.block_core.Growing.{package_weaker}
@@ -21,7 +22,7 @@ use Rattle.go_snap_core.specs.Snapshots.{IsSnapshot, contents_of}
 use Rattle.go_snap_core.specs.mirrors.Reports.{part_faults}
 use Rattle.govisd_core.specs.Alone.{StandsInFile, ImportIsRefused, file_alone, package_alone, the_name, workspace_alone}
 use Rattle.govisd_core.specs.Reports.{Input, TooLong, NoText, BadToken, NoTree, TooHigh, NoName, AFile, IsFile, IsInputOfBytes, is_input_clean, has_no_items}
-use Rattle.go_laws_core.specs.FileLaws.{CleanIsFaultless, HasWhatIsTold, IsFileOf, SnapshotsHaveWhatIsTold, TextsHaveSnapshots, rule_fault, in_lone_file, without_tree}
+use Rattle.go_laws_core.specs.FileLaws.{CleanIsFaultless, HasWhatIsTold, IsFileOf, SnapshotsHaveWhatIsTold, TextsHaveSnapshots, in_lone_file, without_tree}
 use Rattle.go_laws_core.proofs.Refusing.{faults_of_part, is_assembled, name_none, tree_none}
 use Rattle.go_laws_core.proofs.FileStanding.{is_workspace, none_told, refused_comes}
 
@@ -62,9 +63,9 @@ module _ (whole : PartsAreWhole) where
   pub texts_have : TextsHaveSnapshots
   texts_have bytes TooLong text i = absurd (let many = text.size in omega (arith, many, i))
   texts_have bytes NoText text i = absurd (i.1 text.utf8)
-  texts_have bytes (BadToken fault) text i =
-      let e : SynFault = syn_fault fault.offset fault.rule in
-      let read : IsContent bytes (Err e) = (inl i.1, (λ tokens scanned. absurd (not_both bytes tokens fault scanned i.1))) in
+  texts_have bytes (BadToken bad) text i =
+      let e : SynFault = syn_fault bad.offset bad.rule in
+      let read : IsContent bytes (Err e) = (inl i.1, (λ tokens scanned. absurd (not_both bytes tokens bad scanned i.1))) in
       (source the_name bytes (Err e), of_file bytes (Err e) read, tree_made bytes e read)
   texts_have bytes (NoTree offset) text i =
       let e : SynFault = syn_fault offset P1 in
@@ -76,7 +77,7 @@ module _ (whole : PartsAreWhole) where
       (source the_name bytes (Err e), of_file bytes (Err e) read, tree_made bytes e read)
   texts_have bytes (NoName f) text i =
       let t = name_none bytes f i.0.parse i.1 in
-      (source the_name bytes (Ok f), of_file bytes (Ok f) i.0.parse, made bytes (Ok f) (None ∷ []) (map in_lone_file (rule_fault f.name.span.start K3 ∷ [])) i.0.parse t.0 t.1)
+      (source the_name bytes (Ok f), of_file bytes (Ok f) i.0.parse, made bytes (Ok f) (None ∷ []) (map in_lone_file (fault f.name.span.start K3 ∷ [])) i.0.parse t.0 t.1)
   texts_have bytes (AFile f found) text i = (source the_name bytes (Ok f), of_file bytes (Ok f) i.0.parse, found_made bytes f found i.0 i.1 i.2)
 
 -- clean reports
@@ -94,8 +95,8 @@ clean_is_faultless have bytes input s parts faults text i file h = by input i (h
     by : (x : Input) → IsInputOfBytes bytes x → HasWhatIsTold s parts faults x → (is_input_clean x ≡ true) ↔ (faults ≡ [])
     by TooLong j k = absurd (let many = text.size in omega (arith, many, j))
     by NoText j k = absurd (j.1 text.utf8)
-    by (BadToken fault) j k = nothing_there (rule_fault 0 K4) (rule_fault fault.offset fault.rule ∷ []) faults k.faults_are
-    by (NoTree offset) j k = nothing_there (rule_fault 0 K4) (rule_fault k.0 P1 ∷ []) faults k.2.faults_are
-    by (TooHigh offset) j k = nothing_there (rule_fault 0 K4) (rule_fault k.0 P2 ∷ []) faults k.2.faults_are
-    by (NoName f) j k = nothing_there (rule_fault f.name.span.start K3) [] faults k.faults_are
+    by (BadToken bad) j k = nothing_there (fault 0 K4) (fault bad.offset bad.rule ∷ []) faults k.faults_are
+    by (NoTree offset) j k = nothing_there (fault 0 K4) (fault k.0 P1 ∷ []) faults k.2.faults_are
+    by (TooHigh offset) j k = nothing_there (fault 0 K4) (fault k.0 P2 ∷ []) faults k.2.faults_are
+    by (NoName f) j k = nothing_there (fault f.name.span.start K3) [] faults k.faults_are
     by (AFile f found) j k = empty_there found.report faults k.faults_are

@@ -11,7 +11,7 @@ use Rattle.go_snap_core.specs.local_core.Steps.{Piece, Header, Spec, Act, Condit
 use Rattle.go_snap_core.specs.local_core.Tables.{out_by_intervals, IsFuncPlaced}
 use Rattle.go_snap_core.specs.walk_core.Ends.{is_blank_target}
 use Rattle.go_term_core.specs.Terms.{Term}
-use Rattle.go_snap_core.specs.denote_core.declared.things.Place.TheVariants as places
+use Rattle.go_snap_core.specs.denote_core.declared.things.Stand.TheVariants as stands
 use Rattle.go_snap_core.specs.expr_core.declared.things.Fault.{Fault}
 use Rattle.go_snap_core.specs.expr_core.Faults.{faults}
 use Rattle.go_snap_core.specs.expr_core.Lists.{exprs_faults, exprs_uses, is_list}
@@ -34,10 +34,10 @@ use Rattle.go_laws_core.proofs.ConstantLists.{HasItem, InOne, from_flat, has_eit
 
 module _ (looks : TheLooks) where
   abbrev Uses : ExprTree → List TheUse
-  Uses e = uses looks places.«Value» e
+  Uses e = uses looks stands.«Value» e
 
   abbrev Breaks : ExprTree → List Fault
-  Breaks e = faults looks places.«Value» e
+  Breaks e = faults looks stands.«Value» e
 
   -- lists
 
@@ -171,12 +171,12 @@ module _ (one : FunctionsHaveOneTable) (st : FileStand) (g : FuncTree) (placed :
   piece_noted : (p : Piece) → HasItem (pieces_of g) p → IsNoted (func_rules st g) (outer_meanings st) all noted_of p
   piece_noted p h = noted (func_rules st g) (outer_meanings st) all (func_steps g) (func_opens g) (func_closes g) p h
 
-  pub expr_has : (p : Piece) (e : ExprTree) (u : TheUse) → HasItem (pieces_of g) p → HasItem (piece_exprs p) e → HasItem (uses (looks_among st all) places.«Value» e) u → HasItem (checked_func st g).uses u
+  pub expr_has : (p : Piece) (e : ExprTree) (u : TheUse) → HasItem (pieces_of g) p → HasItem (piece_exprs p) e → HasItem (uses (looks_among st all) stands.«Value» e) u → HasItem (checked_func st g).uses u
   expr_has p e u h k there =
       let n = piece_noted p h in
       subst (λ (b : BodyOf). HasItem b.uses u) same_body (has_flat (λ (x : NoteOf). x.uses) noted_of _ u (n.there _ (inl refl)) (piece_has (looks_among st all) p e u k there))
 
-  pub expr_breaks : (p : Piece) (e : ExprTree) → HasItem (pieces_of g) p → HasItem (piece_exprs p) e → (checked_func st g).faults ≡ [] → faults (looks_among st all) places.«Value» e ≡ []
+  pub expr_breaks : (p : Piece) (e : ExprTree) → HasItem (pieces_of g) p → HasItem (piece_exprs p) e → (checked_func st g).faults ≡ [] → faults (looks_among st all) stands.«Value» e ≡ []
   expr_breaks p e h k none =
       let n = piece_noted p h in
       let whole : noted_faults noted_of ++ _ ≡ [] = ap (λ (b : BodyOf). b.faults) same_body ∙ none in

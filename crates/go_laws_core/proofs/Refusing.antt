@@ -6,6 +6,7 @@ use Rattle.go_text_core.specs.declared.rule.Rule.TheVariants.{K3, K4}
 use Rattle.go_tree_nodes.specs.declared.names.Ident.{Ident}
 use Rattle.go_tree_nodes.specs.Trees.{FileTree}
 use Rattle.govisd_core.specs.parse_core.declared.error.SynFault.{SynFault}
+use Rattle.go_snap_core.specs.answer_core.Outer.{fault}
 use Rattle.go_snap_core.specs.graph_core.declared.assembly.KFault.{KFault}
 use Rattle.go_snap_core.specs.graph_core.Packages.{Differs, HasNoClause, IsAssembled, IsAssembly, IsBlank, blank}
 use Rattle.go_snap_core.specs.graph_core.Sources.{SourceModel, IsContent, source}
@@ -20,7 +21,7 @@ use Rattle.go_snap_core.proofs.Faulty.{all_added, none_added, part_added}
 use Rattle.go_snap_core.proofs.OneFaults.{one_faults}
 use Rattle.go_snap_core.proofs.Reporting.{no_faults}
 use Rattle.govisd_core.specs.Alone.{package_alone, the_name, workspace_alone}
-use Rattle.go_laws_core.specs.FileLaws.{HasNoPart, rule_fault, in_lone_file, without_tree}
+use Rattle.go_laws_core.specs.FileLaws.{HasNoPart, in_lone_file, without_tree}
 use Rattle.go_laws_core.proofs.FileStanding.{is_workspace}
 
 -- the one entry of the list of parts
@@ -121,14 +122,14 @@ tree_wanted bytes e parts faults read h =
       faults_are = one_faults (workspace_alone s) (contents_of parts) faults (map in_lone_file (without_tree e.offset e.rule)) h.faults_are (faults_of_none bytes (Err e) read parts h.made k4_fault none (is_k4 bytes e));
     }
 
-pub name_wanted : (bytes : List ℕ) (f : FileTree) (parts : List (Option PartModel)) (faults : List PlacedFault) → IsContent bytes (Ok f) → f.name.name ≡ blank → IsSnapshot (workspace_alone (source the_name bytes (Ok f))) parts faults → HasNoPart parts faults (rule_fault f.name.span.start K3 ∷ [])
+pub name_wanted : (bytes : List ℕ) (f : FileTree) (parts : List (Option PartModel)) (faults : List PlacedFault) → IsContent bytes (Ok f) → f.name.name ≡ blank → IsSnapshot (workspace_alone (source the_name bytes (Ok f))) parts faults → HasNoPart parts faults (fault f.name.span.start K3 ∷ [])
 name_wanted bytes f parts faults read b h =
     let s : SourceModel = source the_name bytes (Ok f) in
     let entry = one_entry s parts h.made in
     let none = no_part s entry.0 parts (blank_clause bytes f b) entry.1 entry.2 in
     record {
       none = none;
-      faults_are = one_faults (workspace_alone s) (contents_of parts) faults (map in_lone_file (rule_fault f.name.span.start K3 ∷ [])) h.faults_are (faults_of_none bytes (Ok f) read parts h.made (k3_fault f) none (is_k3 bytes f b));
+      faults_are = one_faults (workspace_alone s) (contents_of parts) faults (map in_lone_file (fault f.name.span.start K3 ∷ [])) h.faults_are (faults_of_none bytes (Ok f) read parts h.made (k3_fault f) none (is_k3 bytes f b));
     }
 
 -- what is reported of the one file of a part
@@ -146,5 +147,5 @@ pub tree_none : (bytes : List ℕ) (e : SynFault) → IsContent bytes (Err e)
 tree_none bytes e read = none_made bytes (Err e) k4_fault read (no_clause bytes e) (is_k4 bytes e)
 
 pub name_none : (bytes : List ℕ) (f : FileTree) → IsContent bytes (Ok f) → f.name.name ≡ blank
-    → (all : AreParts (workspace_alone (source the_name bytes (Ok f))) (None ∷ [])) × AreFaults (workspace_alone (source the_name bytes (Ok f))) (contents_of (None ∷ [])) (map in_lone_file (rule_fault f.name.span.start K3 ∷ []))
+    → (all : AreParts (workspace_alone (source the_name bytes (Ok f))) (None ∷ [])) × AreFaults (workspace_alone (source the_name bytes (Ok f))) (contents_of (None ∷ [])) (map in_lone_file (fault f.name.span.start K3 ∷ []))
 name_none bytes f read b = none_made bytes (Ok f) (k3_fault f) read (blank_clause bytes f b) (is_k3 bytes f b)

@@ -11,8 +11,8 @@ use Rattle.go_tree_nodes.specs.Trees.{Separated, One, Then, Specs, Single, Group
 use Rattle.go_term_core.specs.Terms.{Term, Sign}
 use Rattle.go_snap_core.specs.local_core.Steps.{Piece, Header, Spec, Act, Condition, Given}
 use Rattle.go_snap_core.specs.walk_core.Ends.{is_blank_target}
-use Rattle.go_snap_core.specs.denote_core.declared.things.Place.{Place}
-use Rattle.go_snap_core.specs.denote_core.declared.things.Place.TheVariants as places
+use Rattle.go_snap_core.specs.denote_core.declared.things.Stand.{Stand}
+use Rattle.go_snap_core.specs.denote_core.declared.things.Stand.TheVariants as stands
 use Rattle.go_snap_core.specs.denote_core.Arguments.{arguments_of, is_free}
 use Rattle.go_snap_core.specs.denote_core.Calls.{call_answer}
 use Rattle.go_snap_core.specs.denote_core.Selectors.{dot_of}
@@ -70,9 +70,9 @@ module _ (Inside : List ℕ → Type 0) where
     -- types
 
     type_name_uses_in : (n : TypeName) → AreIn (type_name_spots looks n)
-    type_name_uses_in (type_names.Plain x) = ((ident_in Inside Near Rest looks law kept places.«Type» x).0, tt)
+    type_name_uses_in (type_names.Plain x) = ((ident_in Inside Near Rest looks law kept stands.«Type» x).0, tt)
     type_name_uses_in (type_names.Qualified q dot x) =
-        ((ident_in Inside Near Rest looks law kept places.TypeDot q).0, ((type_name_in Inside Near Rest looks law kept (type_names.Qualified q dot x)).0, tt))
+        ((ident_in Inside Near Rest looks law kept stands.TypeDot q).0, ((type_name_in Inside Near Rest looks law kept (type_names.Qualified q dot x)).0, tt))
 
     mutual
       type_uses_in : (t : TypeTree) → AreIn (type_spots looks t)
@@ -110,22 +110,22 @@ module _ (Inside : List ℕ → Type 0) where
     key_uses_in t mixed others (Some k) h = (key_in Inside Near Rest looks law kept k.name.span.start t mixed (has_name k.name.name others) k.name.name h, tt)
 
     mutual
-      pub uses_in : (p : Place) (e : ExprTree) → AreIn (spots looks p e)
+      pub uses_in : (p : Stand) (e : ExprTree) → AreIn (spots looks p e)
       uses_in p (Integer n span) = tt
       uses_in p (Text t) = tt
       uses_in p (Named x) = ((ident_in Inside Near Rest looks law kept p x).0, tt)
       uses_in p (Paren first e last) = uses_in (inside p) e
       uses_in p (Unary op span e) = uses_in (under_place op p) e
-      uses_in p (Binary a op span b) = joined (spots looks places.«Value» a) (spots looks places.«Value» b) (uses_in places.«Value» a) (uses_in places.«Value» b)
+      uses_in p (Binary a op span b) = joined (spots looks stands.«Value» a) (spots looks stands.«Value» b) (uses_in stands.«Value» a) (uses_in stands.«Value» b)
       uses_in p (Select e dot x) =
           joined (spots looks (left_place p e) e) (Identifier (SelectorBehind (whole p) (dot_of (is_name e) (denoted looks (left_place p e) e))) x ∷ []) (uses_in (left_place p e) e)
           ((select_in Inside Near Rest looks law kept p e x).0, tt)
       uses_in p (Call e first items last) =
-          joined (spots looks places.Callee e)
-          (CallAt first (call_answer (look_of_place looks first.start) (denoted looks places.Callee e) (is_free (is_lone_call items) (denoted_items looks items)) (arguments_of (look_of_place looks first.start) (denoted_items looks items))).outcome ∷ args_spots looks items)
-          (uses_in places.Callee e) (
-            (call_in Inside Near Rest looks law kept first.start (denoted looks places.Callee e) (is_free (is_lone_call items) (denoted_items looks items)) (arguments_of (look_of_place looks first.start) (denoted_items looks items))
-                (denoted_in Inside Near Rest looks law kept places.Callee e)).0,
+          joined (spots looks stands.Callee e)
+          (CallAt first (call_answer (look_of_place looks first.start) (denoted looks stands.Callee e) (is_free (is_lone_call items) (denoted_items looks items)) (arguments_of (look_of_place looks first.start) (denoted_items looks items))).outcome ∷ args_spots looks items)
+          (uses_in stands.Callee e) (
+            (call_in Inside Near Rest looks law kept first.start (denoted looks stands.Callee e) (is_free (is_lone_call items) (denoted_items looks items)) (arguments_of (look_of_place looks first.start) (denoted_items looks items))
+                (denoted_in Inside Near Rest looks law kept stands.Callee e)).0,
             args_in items,
           )
       uses_in p (Literal n first items last) =
@@ -137,22 +137,22 @@ module _ (Inside : List ℕ → Type 0) where
 
       args_in : (items : ItemTrees) → AreIn (args_spots looks items)
       args_in NoItems = tt
-      args_in (Item key e comma rest) = joined (spots looks places.«Value» e) (args_spots looks rest) (uses_in places.«Value» e) (args_in rest)
+      args_in (Item key e comma rest) = joined (spots looks stands.«Value» e) (args_spots looks rest) (uses_in stands.«Value» e) (args_in rest)
 
       items_in : (t : Option Term) (mixed : Bool) (before : List (List ℕ)) (items : ItemTrees) → IfAny Near t → AreIn (items_spots looks t mixed before items)
       items_in t mixed before NoItems h = tt
       items_in t mixed before (Item key e comma rest) h =
-          joined (key_spots t mixed (before ++ all_keys rest) key) (spots looks places.«Value» e ++ items_spots looks t mixed (before ++ key_names key) rest) (key_uses_in t mixed (before ++ all_keys rest) key h)
-          (joined (spots looks places.«Value» e) (items_spots looks t mixed (before ++ key_names key) rest) (uses_in places.«Value» e) (items_in t mixed (before ++ key_names key) rest h))
+          joined (key_spots t mixed (before ++ all_keys rest) key) (spots looks stands.«Value» e ++ items_spots looks t mixed (before ++ key_names key) rest) (key_uses_in t mixed (before ++ all_keys rest) key h)
+          (joined (spots looks stands.«Value» e) (items_spots looks t mixed (before ++ key_names key) rest) (uses_in stands.«Value» e) (items_in t mixed (before ++ key_names key) rest h))
 
     -- pieces
 
     exprs_in : (es : Separated ExprTree) → Each IsUseIn (exprs_uses looks es)
-    exprs_in (One e) = uses_in places.«Value» e
-    exprs_in (Then e comma more) = each_both IsUseIn (uses looks places.«Value» e) (exprs_uses looks more) (uses_in places.«Value» e) (exprs_in more)
+    exprs_in (One e) = uses_in stands.«Value» e
+    exprs_in (Then e comma more) = each_both IsUseIn (uses looks stands.«Value» e) (exprs_uses looks more) (uses_in stands.«Value» e) (exprs_in more)
 
     target_in : (e : ExprTree) → Each IsUseIn (target_uses looks e)
-    target_in e = either (Each IsUseIn) (is_blank_target e) _ _ tt (uses_in places.«Value» e)
+    target_in e = either (Each IsUseIn) (is_blank_target e) _ _ tt (uses_in stands.«Value» e)
 
     targets_in : (ts : Separated ExprTree) → Each IsUseIn (targets_uses looks ts)
     targets_in (One e) = target_in e
@@ -173,10 +173,10 @@ module _ (Inside : List ℕ → Type 0) where
     written_uses_in t = type_uses_in t
 
     simple_in : (s : SimpleTree) → Each IsUseIn (simple_uses looks s)
-    simple_in (Alone e) = uses_in places.«Value» e
-    simple_in (Step e op span) = uses_in places.«Value» e
+    simple_in (Alone e) = uses_in stands.«Value» e
+    simple_in (Step e op span) = uses_in stands.«Value» e
     simple_in (Assign ts span es) = each_both IsUseIn (targets_uses looks ts) (exprs_uses looks es) (targets_in ts) (exprs_in es)
-    simple_in (Update e op span v) = each_both IsUseIn (uses looks places.«Value» e) (uses looks places.«Value» v) (uses_in places.«Value» e) (uses_in places.«Value» v)
+    simple_in (Update e op span v) = each_both IsUseIn (uses looks stands.«Value» e) (uses looks stands.«Value» v) (uses_in stands.«Value» e) (uses_in stands.«Value» v)
     simple_in (Define xs span es) = exprs_in es
 
     receiver_in : (r : Option Receiver) → Each IsUseIn (receiver_uses looks r)
@@ -191,5 +191,5 @@ module _ (Inside : List ℕ → Type 0) where
     piece_in (Header r s) = each_both IsUseIn (receiver_uses looks r) (signature_uses looks s) (receiver_in r) (signature_uses_in s)
     piece_in (Spec kind v) = spec_in v
     piece_in (Act s) = simple_in s
-    piece_in (Condition e) = uses_in places.«Value» e
+    piece_in (Condition e) = uses_in stands.«Value» e
     piece_in (Given place es) = returned_in es

@@ -12,8 +12,8 @@ use Rattle.go_fold_core.specs.fragment_core.Names as code_names
 use Rattle.go_fold_core.specs.fragment_core.Names.{frame_of}
 use Rattle.go_snap_core.specs.local_core.Binding.{Local}
 use Rattle.go_snap_core.specs.local_core.Steps.{Piece}
-use Rattle.go_snap_core.specs.denote_core.declared.things.Place.{Place}
-use Rattle.go_snap_core.specs.denote_core.declared.things.Place.TheVariants as places
+use Rattle.go_snap_core.specs.denote_core.declared.things.Stand.{Stand}
+use Rattle.go_snap_core.specs.denote_core.declared.things.Stand.TheVariants as stands
 use Rattle.go_snap_core.specs.handle_core.Declarations.{Declaration}
 use Rattle.go_snap_core.specs.env_core.declared.meaning.Meaning.{Meaning}
 use Rattle.go_snap_core.specs.env_core.Looks.{TheLooks}
@@ -42,7 +42,7 @@ abbrev pub code_names_of : InputModel → ContentOf → ℕ → FileOf → FuncT
 code_names_of i c n f g = looks_of (code_scene_over (told_to i c) i c) n f.answers.uses f.answers.locals (body_first f.answers.uses g)
 
 -- code and check agree on an expression, at the place where the check judges it
-pub record AreAgreed (looks : TheLooks) (names : code_names.CodeLooks) (slots : List (Option ℕ)) (q : Place) (x : ExprTree) : Type 0 where
+pub record AreAgreed (looks : TheLooks) (names : code_names.CodeLooks) (slots : List (Option ℕ)) (q : Stand) (x : ExprTree) : Type 0 where
   -- where code is made of it, code takes it for a constant exactly where it is one over `int` or `bool` to the check, and then with its value
   pub constant : (w : Word) → expr_gives (frame_of names slots) x ≡ gives.One w → IsConstantFolded Term Sign Declaration (List ℕ) looks names q x
   -- and where it calls no method, it is an operand to the check
@@ -55,7 +55,7 @@ ConstantsAreOfTheCheck =
     (i : InputModel) (c : ContentOf) → IsInput i → ImportsAreOthers i → IsPart i c → are_clean c.files ≡ true
     → (n : ℕ) (t : FileTree) (f : FileOf) → slice_get (trees_in i.source) n ≡ Some t → slice_get c.files n ≡ Some f → Wf_file t → IsPlaced t
     → (g : FuncTree) → Contains (file_funcs t) g → (all : List (Local Meaning)) → AreFuncDeclarations (stand_in_part i c n t) g all
-    → (p : Piece) → Contains (pieces_of g) p → (e : ExprTree) → Contains (piece_exprs p) e → (q : Place) (x : ExprTree) → Contains (parts places.«Value» e) (q, x)
+    → (p : Piece) → Contains (pieces_of g) p → (e : ExprTree) → Contains (piece_exprs p) e → (q : Stand) (x : ExprTree) → Contains (parts stands.«Value» e) (q, x)
     → (slots : List (Option ℕ)) → AreAgreed (looks_among (stand_in_part i c n t) all) (code_names_of i c n f g) slots q x
 
 -- a part is made from what these laws ask of an input

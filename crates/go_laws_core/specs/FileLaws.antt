@@ -4,6 +4,7 @@
 use Rattle.std.specs.Prelude.{◌≡◌, ◌↔◌, ◌≤◌, ℕ, true, List, [], ◌∷◌, map, length, Option, Some, None, slice_get}
 use Rattle.go_text_core.specs.declared.rule.Rule.{Rule}
 use Rattle.go_text_core.specs.declared.rule.Rule.TheVariants.{K3, K4, P1, P2}
+use Rattle.go_snap_core.specs.answer_core.Outer.{fault}
 use Rattle.go_snap_core.specs.graph_core.Sources.{SourceModel, IsRead}
 use Rattle.go_snap_core.specs.expr_core.declared.things.Fault.{Fault}
 use Rattle.go_snap_core.specs.used_core.Used.{FileUse}
@@ -23,9 +24,6 @@ pub record IsFileOf (bytes : List ℕ) (s : SourceModel) : Type 0 where
 abbrev pub in_lone_file : Fault → PlacedFault
 in_lone_file f = record { «package» = 0; file = 0; offset = f.offset; rule = f.rule }
 
-abbrev pub rule_fault : ℕ → Rule → Fault
-rule_fault offset rule = record { offset = offset; rule = rule }
-
 -- the one package has a part: what stands in its one file is what was found there. The faults are those that are reported of the file, in their order.
 -- An occurrence of the file is answered by what was found for its number, and by nothing else
 pub record HasFound (s : SourceModel) (parts : List (Option PartModel)) (faults : List PlacedFault) (found : FileOf) : Type 0 where
@@ -42,17 +40,17 @@ pub record HasNoPart (parts : List (Option PartModel)) (faults : List PlacedFaul
 
 -- a file without a tree: K4 of its package, and its own fault
 abbrev pub without_tree : ℕ → Rule → List Fault
-without_tree offset rule = rule_fault 0 K4 ∷ (rule_fault offset rule ∷ [])
+without_tree offset rule = fault 0 K4 ∷ (fault offset rule ∷ [])
 
 -- what a snapshot has of a file, by what `resolve` takes its text for. Where it has P1 or P2 there is one in the text; which place `resolve` tells is
 -- not said here. Nothing is asked of bytes that are too many or no text, of which `resolve` reads no file
 abbrev pub HasWhatIsTold : SourceModel → List (Option PartModel) → List PlacedFault → Input → Type 0
 HasWhatIsTold s parts faults TooLong = Unit {0}
 HasWhatIsTold s parts faults NoText = Unit {0}
-HasWhatIsTold s parts faults (BadToken fault) = HasNoPart parts faults (without_tree fault.offset fault.rule)
+HasWhatIsTold s parts faults (BadToken f) = HasNoPart parts faults (without_tree f.offset f.rule)
 HasWhatIsTold s parts faults (NoTree offset) = (at : ℕ) × (at ≤ length s.text) × HasNoPart parts faults (without_tree at P1)
 HasWhatIsTold s parts faults (TooHigh offset) = (at : ℕ) × (at ≤ length s.text) × HasNoPart parts faults (without_tree at P2)
-HasWhatIsTold s parts faults (NoName f) = HasNoPart parts faults (rule_fault f.name.span.start K3 ∷ [])
+HasWhatIsTold s parts faults (NoName f) = HasNoPart parts faults (fault f.name.span.start K3 ∷ [])
 HasWhatIsTold s parts faults (AFile f found) = HasFound s parts faults found
 
 -- what `resolve` takes a text for is what each snapshot has of the workspace whose one file it is

@@ -24,11 +24,20 @@ pub struct Reached<'a> {
 }
 
 /// The types that paths reach, in order of their lengths, each with the path of its number. A type of the table stands there once.
-#[derive(Drop)]
 pub struct Levels<'a> {
     pub trails: Trails,
     pub types: Vec<Reached<'a>>,
     pub met: Numbers,
+}
+
+impl Drop for Levels<'_> {
+    fn drop(self) {
+        let Levels {
+            trails: _,
+            types: _,
+            met: _,
+        } = self;
+    }
 }
 
 /// What a level alone says of a name.

@@ -7,9 +7,14 @@ use std::alloc::{AllocError, Global};
 use std::marker::Model;
 
 /// Types by their numbers in a table, each with its place among those that are reached. Contracts see the list of the pairs.
-#[derive(Drop)]
 pub struct Numbers {
     places: IndexMap<usize, usize>,
+}
+
+impl Drop for Numbers {
+    fn drop(self) {
+        let Numbers { places: _ } = self;
+    }
 }
 
 impl Model for Numbers {

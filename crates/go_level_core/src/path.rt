@@ -7,9 +7,14 @@ use std::marker::Model;
 
 /// A list of embedded fields, each by its place among the fields of its struct type, from 0. Up to four take no memory beside. Contracts see
 /// the list.
-#[derive(Drop)]
 pub struct EmbedPath {
     pub(crate) steps: SmallVec<usize, 4>,
+}
+
+impl Drop for EmbedPath {
+    fn drop(self) {
+        let EmbedPath { steps: _ } = self;
+    }
 }
 
 impl Model for EmbedPath {

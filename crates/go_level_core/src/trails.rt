@@ -16,9 +16,14 @@ struct Link {
 
 /// Paths by numbers, each but the first one field longer than an earlier one. Contracts see the list of the paths, of which the first is
 /// empty.
-#[derive(Drop)]
 pub struct Trails {
     links: Vec<Link>,
+}
+
+impl Drop for Trails {
+    fn drop(self) {
+        let Trails { links: _ } = self;
+    }
 }
 
 impl Model for Trails {

@@ -43,11 +43,19 @@ pub struct SpottedDecl<'a> {
 }
 
 /// What declarations come to, by where they stand. Contracts see the list of both.
-#[derive(Drop)]
 pub struct DeclTable<'a> {
     items: Vec<SpottedDecl<'a>>,
     /// The number of the first item of each place.
     numbers: IndexMap<DeclSpot<'a>, usize>,
+}
+
+impl Drop for DeclTable<'_> {
+    fn drop(self) {
+        let DeclTable {
+            items: _,
+            numbers: _,
+        } = self;
+    }
 }
 
 impl<'a> Model for DeclTable<'a> {

@@ -7,7 +7,6 @@ use crate::offset_table::OffsetTable;
 use go_fragment_core::{CodeNames, Meaning};
 
 /// What the names of a file come to.
-#[derive(Drop)]
 pub struct FileCodeNames {
     /// What its occurrences come to, by their offsets.
     pub uses: OffsetTable,
@@ -15,12 +14,23 @@ pub struct FileCodeNames {
     pub locals: OffsetTable,
 }
 
+impl Drop for FileCodeNames {
+    fn drop(self) {
+        let FileCodeNames { uses: _, locals: _ } = self;
+    }
+}
+
 /// What the names of a function come to: those of its file, and how many occurrences of the file stand before its body. What code calls at an offset
 /// is the reference of the occurrence there: of its number among those of the body, from 0.
-#[derive(Drop)]
 pub struct FuncCodeNames<'f> {
     pub file: &'f FileCodeNames,
     pub before: usize,
+}
+
+impl Drop for FuncCodeNames<'_> {
+    fn drop(self) {
+        let FuncCodeNames { file: _, before: _ } = self;
+    }
 }
 
 /// What something comes to of which nothing may be known.

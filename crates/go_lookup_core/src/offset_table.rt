@@ -10,11 +10,19 @@ use std::alloc::{AllocError, Global};
 use std::marker::Model;
 
 /// What stands at offsets in bytes from a file's start. Contracts see the list of both.
-#[derive(Drop)]
 pub struct OffsetTable {
     items: Vec<(usize, Meaning)>,
     /// The place of the first item of each offset.
     places: IndexMap<usize, usize>,
+}
+
+impl Drop for OffsetTable {
+    fn drop(self) {
+        let OffsetTable {
+            items: _,
+            places: _,
+        } = self;
+    }
 }
 
 impl Model for OffsetTable {

@@ -1,3 +1,3 @@
--- What the crates above name of go_locality_core.
+-- What the crates above name of go_whole_core.
 pub use Rattle.go_whole_core.specs.Known as Known
 pub use Rattle.go_whole_core.specs.LocalLaws as Laws

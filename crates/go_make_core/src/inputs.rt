@@ -18,8 +18,7 @@ use go_whole_core::graph_core::{
 };
 use go_whole_core::part_core::{Part, PartInput};
 use go_whole_core::reach_core::Reached;
-use go_whole_core::summary_core::import_view;
-use go_whole_core::told_core::ReachedSummaries;
+use go_whole_core::summary_core::{ReachedSummaries, import_view};
 use std::alloc::{AllocError, Global};
 
 /// What an import of this outcome comes to, where these are the parts of packages by their numbers.

@@ -14,8 +14,7 @@ use crate::told::Told;
 use go_whole_core::graph_core::Workspace;
 use go_whole_core::part_core::{Part, PartInput, same_imports};
 use go_whole_core::reach_core::Reached;
-use go_whole_core::summary_core::{Summary, View};
-use go_whole_core::told_core::ReachedSummaries;
+use go_whole_core::summary_core::{ReachedSummaries, Summary, View};
 use std::alloc::{AllocError, Global};
 
 /// Whether all these numbers are marked.

@@ -7,8 +7,7 @@ ghost use Rattle.go_make_core.specs.mirrors.Telling.{AreTold, IsToldAt};
 use go_text_core::add;
 use go_whole_core::part_core::close_summaries;
 use go_whole_core::reach_core::NumberSet;
-use go_whole_core::summary_core::Summary;
-use go_whole_core::told_core::{ReachedSummaries, SummaryList};
+use go_whole_core::summary_core::{ReachedSummaries, Summary, SummaryList};
 use std::alloc::{AllocError, Global};
 
 /// What packages tell, in the order in which they are made, and by the number of each its place there. What is told to a package is that list,

@@ -10,7 +10,7 @@ use Rattle.go_part_core.specs.Parts.{ContentOf}
 use Rattle.go_meaning_core.specs.declared.tables.Tables.{Tables}
 use Rattle.go_meaning_core.specs.Scenes.{CodeScene, decl_at, package_decl_refs}
 use Rattle.go_meaning_core.specs.mirrors.Listing.{outlines_decls}
-use Rattle.go_meaning_core.specs.mirrors.Naming.{scene_in, scene_with}
+use Rattle.go_meaning_core.specs.mirrors.Naming.{code_scene_in, scene_with}
 
 decls_outlined : (n : ℕ) (ts : Trees) → outlines_decls n (map (λ t. outline_of t.1) ts) ≡ package_decl_refs n (map tree_shown ts)
 decls_outlined n [] = refl
@@ -18,8 +18,8 @@ decls_outlined n (t ∷ ts) = ap (λ l. map (decl_at n) (top_decls t.1) ++ l) (d
 
 -- what is looked up in is the scene
 pub scene_made : (t : Tables) (i : InputModel) (c : ContentOf) (s : CodeScene) (path : List ℕ) (known : List (Option TheFace)) (os : List FileOutline)
-    → s ≡ scene_in t path (outlines_decls 0 os) known
+    → s ≡ code_scene_in t path (outlines_decls 0 os) known
     → path ≡ path_in i → os ≡ map (λ t. outline_of t.1) (trees_of i.source.1) → known ≡ c.declared → s ≡ scene_with t i c
 scene_made t i c s path known os made at outlined ks =
     let here : outlines_decls 0 os ≡ package_decl_refs 0 (trees_in i.source) = ap (outlines_decls 0) outlined ∙ decls_outlined 0 (trees_of i.source.1) in
-    made ∙ (λ k. scene_in t (at k) (here k) (ks k))
+    made ∙ (λ k. code_scene_in t (at k) (here k) (ks k))

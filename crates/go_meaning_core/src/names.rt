@@ -5,7 +5,7 @@ ghost use Rattle.go_part_core.specs.face_core.Packages.{face_in};
 ghost use Rattle.go_part_core.specs.package_core.Checked.{local_shown};
 ghost use Rattle.go_meaning_core.specs.Looking.{locals_meant, uses_meant};
 ghost use Rattle.go_meaning_core.specs.Scenes.{decl_meaning, declared_meaning, local_place_meaning, method_meaning, method_place_meaning, outcome_meaning, own_or, place_meaning, selected_meaning};
-ghost use Rattle.go_meaning_core.specs.mirrors.Naming.{scene_shown};
+ghost use Rattle.go_meaning_core.specs.mirrors.Naming.{code_scene_shown};
 
 use crate::meanings::{local_meaning, some_meaning, universe_meaning};
 use crate::scene::PackageNames;
@@ -43,7 +43,7 @@ fn decl_meaning(
     path: &ImportPath,
     decl: DeclRef,
 ) -> Result<Meaning, AllocError>
-    ensures { IfOk result (λ m. m ≡ decl_meaning (scene_shown package_names.now) path.now decl) }
+    ensures { IfOk result (λ m. m ≡ decl_meaning (code_scene_shown package_names.now) path.now decl) }
 {
     match package_names.own.meaning(path, decl) {
         Some(meaning) => Ok(meaning),
@@ -62,7 +62,7 @@ fn local_at(
     path: &ImportPath,
     place: LocalPlace,
 ) -> Meaning
-    ensures { result ≡ local_place_meaning (scene_shown package_names.now) file locals.now path.now place }
+    ensures { result ≡ local_place_meaning (code_scene_shown package_names.now) file locals.now path.now place }
 {
     if path.is_same(package_names.path) && place.file == file {
         meant(locals.meaning(place.offset))
@@ -78,7 +78,7 @@ fn place_meaning(
     path: &ImportPath,
     place: MemberPlace,
 ) -> Result<Meaning, AllocError>
-    ensures { IfOk result (λ m. m ≡ place_meaning (scene_shown package_names.now) file locals.now path.now place) }
+    ensures { IfOk result (λ m. m ≡ place_meaning (code_scene_shown package_names.now) file locals.now path.now place) }
 {
     match place {
         MemberPlace::Declared(decl) => decl_meaning(package_names, path, decl),
@@ -93,7 +93,7 @@ fn declared_at(
     locals: &OffsetTable,
     site: DeclSite<'_>,
 ) -> Result<Meaning, AllocError>
-    ensures { IfOk result (λ m. m ≡ declared_meaning (scene_shown package_names.now) file locals.now (site_shown site.entry)) }
+    ensures { IfOk result (λ m. m ≡ declared_meaning (code_scene_shown package_names.now) file locals.now (site_shown site.entry)) }
 {
     match site {
         DeclSite::Universe(name) => Ok(universe_meaning(name)),
@@ -104,7 +104,7 @@ fn declared_at(
 }
 
 fn method_place(package_names: &PackageNames<'_>, path: &ImportPath, place: MemberPlace) -> Meaning
-    ensures { result ≡ method_place_meaning (scene_shown package_names.now) path.now place }
+    ensures { result ≡ method_place_meaning (code_scene_shown package_names.now) path.now place }
 {
     match place {
         MemberPlace::Declared(decl) => meant(package_names.tables.methods.meaning(path, decl)),
@@ -113,7 +113,7 @@ fn method_place(package_names: &PackageNames<'_>, path: &ImportPath, place: Memb
 }
 
 fn method_at(package_names: &PackageNames<'_>, site: DeclSite<'_>) -> Meaning
-    ensures { result ≡ method_meaning (scene_shown package_names.now) (site_shown site.entry) }
+    ensures { result ≡ method_meaning (code_scene_shown package_names.now) (site_shown site.entry) }
 {
     match site {
         DeclSite::InFile(path, place) => method_place(package_names, path, place),
@@ -125,7 +125,7 @@ fn method_at(package_names: &PackageNames<'_>, site: DeclSite<'_>) -> Meaning
 
 // A member that is selected: a method to which no embedded field leads.
 fn selected_meaning(package_names: &PackageNames<'_>, site: &Site, path: &EmbedPath) -> Meaning
-    ensures { result ≡ selected_meaning (scene_shown package_names.now) site.now path.now }
+    ensures { result ≡ selected_meaning (code_scene_shown package_names.now) site.now path.now }
 {
     match path.steps() {
         [] => method_at(package_names, site.decl().site()),
@@ -139,7 +139,7 @@ fn outcome_meaning(
     locals: &OffsetTable,
     outcome: &Outcome<Site, EmbedPath>,
 ) -> Result<Meaning, AllocError>
-    ensures { IfOk result (λ m. m ≡ outcome_meaning (scene_shown package_names.now) file locals.now outcome.now) }
+    ensures { IfOk result (λ m. m ≡ outcome_meaning (code_scene_shown package_names.now) file locals.now outcome.now) }
 {
     match outcome {
         Outcome::Declared(site) => { declared_at(package_names, file, locals, site.decl().site()) }
@@ -172,7 +172,7 @@ fn use_items(
     locals: &OffsetTable,
     answers: &[Answer],
 ) -> Result<Vec<(usize, Meaning)>, AllocError>
-    ensures { IfOk result (λ items. items.items ≡ uses_meant (scene_shown package_names.now) file locals.now answers.now) }
+    ensures { IfOk result (λ items. items.items ≡ uses_meant (code_scene_shown package_names.now) file locals.now answers.now) }
 {
     let mut items = Vec::new(alloc);
     for answer in answers {
@@ -195,7 +195,7 @@ pub fn file_names(
     locals: &[HeldLocal],
 ) -> Result<FileCodeNames, AllocError>
     ensures locals { IfOk result (λ f. f.locals ≡ locals_meant package_names.now.tables.now.types.now (map local_shown locals.now)) }
-    ensures uses { IfOk result (λ f. f.uses ≡ uses_meant (scene_shown package_names.now) file (locals_meant package_names.now.tables.now.types.now (map local_shown locals.now)) answers.now) }
+    ensures uses { IfOk result (λ f. f.uses ≡ uses_meant (code_scene_shown package_names.now) file (locals_meant package_names.now.tables.now.types.now (map local_shown locals.now)) answers.now) }
 {
     let local_items = local_items(alloc, package_names.tables.types, locals)?;
     let local_table = OffsetTable::new(alloc, local_items)?;

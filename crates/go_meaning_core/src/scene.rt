@@ -9,7 +9,7 @@ ghost use Rattle.go_meaning_core.specs.Meanings.{some_face_meaning};
 ghost use Rattle.go_meaning_core.specs.Scenes.{decl_at, own_spotted};
 ghost use Rattle.go_lookup_core.specs.Places.{decl_spot};
 ghost use Rattle.go_meaning_core.specs.mirrors.Listing.{outlines_decls};
-ghost use Rattle.go_meaning_core.specs.mirrors.Naming.{scene_in, scene_shown, scene_with};
+ghost use Rattle.go_meaning_core.specs.mirrors.Naming.{code_scene_in, code_scene_shown, scene_with};
 ghost use Rattle.go_lookup_core.specs.mirrors.Spotting.{item_shown};
 
 use crate::meanings::some_meaning;
@@ -25,7 +25,6 @@ use go_text_core::add;
 use std::alloc::{AllocError, Global};
 
 /// What the names of a package are looked up in.
-#[derive(Drop)]
 pub struct PackageNames<'a> {
     /// The path of the package.
     pub path: &'a ImportPath,
@@ -33,6 +32,16 @@ pub struct PackageNames<'a> {
     pub own: DeclTable<'a>,
     /// What is told of other packages, and of this one.
     pub tables: &'a Tables<'a>,
+}
+
+impl Drop for PackageNames<'_> {
+    fn drop(self) {
+        let PackageNames {
+            path: _,
+            own: _,
+            tables: _,
+        } = self;
+    }
 }
 
 /// The smaller of two lengths.
@@ -124,7 +133,7 @@ fn package_names<'a>(
     declared: &[Option<Face<TypeTerm, Signature>>],
     outlines: &[Outline<'_>],
 ) -> Result<PackageNames<'a>, AllocError>
-    ensures { IfOk result (λ names. scene_shown names ≡ scene_in tables.now path.now (outlines_decls 0 (map outline_shown outlines.now)) (map (option_map face_shown) declared.now)) }
+    ensures { IfOk result (λ names. code_scene_shown names ≡ code_scene_in tables.now path.now (outlines_decls 0 (map outline_shown outlines.now)) (map (option_map face_shown) declared.now)) }
 {
     let decls = decls_of(alloc, outlines)?;
     let items = own_items(alloc, tables.types, path, &decls, declared)?;
@@ -146,7 +155,7 @@ pub fn names_of<'a>(
     outlines: &[Outline<'_>],
 ) -> Result<PackageNames<'a>, AllocError>
     requires { map outline_shown outlines.now ≡ map (λ t. outline_of t.1) (trees_of part.now.input.source.1) }
-    ensures { IfOk result (λ names. scene_shown names ≡ scene_with tables.now part.now.input part.now.content) }
+    ensures { IfOk result (λ names. code_scene_shown names ≡ scene_with tables.now part.now.input part.now.content) }
 {
     let content = part.content();
     let names = package_names(alloc, tables, part.path(), &content.declared, outlines)?;

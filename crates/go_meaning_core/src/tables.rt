@@ -18,7 +18,6 @@ use go_text_core::add;
 use std::alloc::{AllocError, Global};
 
 /// What the names of packages are looked up in, by what some packages tell. It is made once for all of them. Types and faces are lent.
-#[derive(Drop)]
 pub struct Tables<'a> {
     /// The types that the packages declare.
     pub types: &'a TypeTable,
@@ -26,6 +25,16 @@ pub struct Tables<'a> {
     pub methods: DeclTable<'a>,
     /// What the packages show.
     pub faces: &'a FaceTable,
+}
+
+impl Drop for Tables<'_> {
+    fn drop(self) {
+        let Tables {
+            types: _,
+            methods: _,
+            faces: _,
+        } = self;
+    }
 }
 
 // Adds a method of a type of the package of a path.

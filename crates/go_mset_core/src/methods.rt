@@ -12,11 +12,16 @@ use go_text_core::add;
 use std::alloc::{AllocError, Global};
 
 /// A method of a method set.
-#[derive(Drop)]
 pub struct SetMethod<'a> {
     pub member: Member<'a>,
     /// The embedded fields that lead to the type which has the method, each by its place among the fields of its struct type.
     pub path: EmbedPath,
+}
+
+impl Drop for SetMethod<'_> {
+    fn drop(self) {
+        let SetMethod { member: _, path: _ } = self;
+    }
 }
 
 // Adds what a selector denotes, where it is a method of the method set.

@@ -48,12 +48,17 @@ pub struct NameUse {
 }
 
 /// What the names of a function denote.
-#[derive(Drop)]
 pub struct FuncNames {
     /// The identifiers that are looked up in scope, in order of their places.
     pub uses: Vec<NameUse>,
     /// B1 and B4 of the names that the function declares, those of one piece together.
     pub faults: Vec<Fault>,
+}
+
+impl Drop for FuncNames {
+    fn drop(self) {
+        let FuncNames { uses: _, faults: _ } = self;
+    }
 }
 
 /// What the names of a function denote, where it stands in a file of a package, by the file's number in order of name, from 0.

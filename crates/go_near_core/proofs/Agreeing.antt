@@ -21,7 +21,7 @@ use Rattle.go_file_core.specs.operand_core.Values.{is_over, form_basic, basic_un
 use Rattle.go_file_core.specs.operand_core.Assign.{takes_nil, takes_untyped, untyped_assignable, assignable, taken, common_typed, common_untyped, common_nil, common, comparable_typed, comparable_untyped, comparable_nil, comparable}
 use Rattle.go_file_core.specs.operand_core.Operators.{group, divides, takes, is_some_zero, with_constants, value, arithmetic, ordered, equated, binary_in, binary_operand}
 use Rattle.go_file_core.specs.operand_core.Prefixes.{prefix, refused_unary, signed, pointed, indirection, address, signed_over, unary_in, unary_operand}
-use Rattle.go_file_core.specs.denote_core.declared.things.Place.{Place}
+use Rattle.go_file_core.specs.denote_core.declared.things.Stand.{Stand}
 use Rattle.go_file_core.specs.denote_core.declared.things.Usage.{Usage}
 use Rattle.go_file_core.specs.denote_core.declared.things.Builtin.TheVariants as builtins
 use Rattle.go_file_core.specs.denote_core.declared.things.Dot.{Dot}
@@ -293,7 +293,7 @@ module _ {T : Type 0} (Near : T → Type 0) (rules others : TypeRules T) (law : 
 -- names, selectors, calls and literals
 
 module _ {T S D P : Type 0} (Near : T → Type 0) (Rest : NearRest S D) (looks others : Looks T S D P) (law : AreClosed Near Rest looks) (agree : LooksAgree Near Rest looks others) where
-  pub name_same : (o : ℕ) (p : Place) (name : List ℕ) → name_answer (look_of_place looks o) p name ≡ name_answer (look_of_place others o) p name
+  pub name_same : (o : ℕ) (p : Stand) (name : List ℕ) → name_answer (look_of_place looks o) p name ≡ name_answer (look_of_place others o) p name
   name_same o p name = λ j. if is_blank name then refused N8 else found_answer p (agree.find name o j)
 
   says_alike : (o : ℕ) (dot : Dot T D) (name : List ℕ) → NearDot Near Rest dot → SaysAlike (look_of_place looks o) (look_of_place others o) dot name name

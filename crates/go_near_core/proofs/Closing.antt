@@ -23,8 +23,8 @@ use Rattle.go_file_core.specs.operand_core.Assign.{assignable, taken, common_typ
 use Rattle.go_file_core.specs.operand_core.Operators.{group, divides, takes, is_some_zero, computed, with_constants, arithmetic, ordered, equated, binary_in, binary_operand}
 use Rattle.go_file_core.specs.operand_core.Prefixes.{prefix, signed, pointed, indirection, address, signed_over, unary_in, unary_operand}
 use Rattle.go_file_core.specs.operand_core.Conversions.{makes_text, fits, convert, length_of}
-use Rattle.go_file_core.specs.denote_core.declared.things.Place.{Place}
-use Rattle.go_file_core.specs.denote_core.declared.things.Place.TheVariants as places
+use Rattle.go_file_core.specs.denote_core.declared.things.Stand.{Stand}
+use Rattle.go_file_core.specs.denote_core.declared.things.Stand.TheVariants as stands
 use Rattle.go_file_core.specs.denote_core.declared.things.Usage.{Usage}
 use Rattle.go_file_core.specs.denote_core.declared.things.Usage.TheVariants as usages
 use Rattle.go_file_core.specs.denote_core.declared.things.Builtin.{Builtin}
@@ -203,35 +203,35 @@ module _ {T S D P : Type 0} (Near : T → Type 0) (Rest : NearRest S D) (looks :
   of_type_near b None h = tt
   of_type_near b (Some t) h = h
 
-  package_near : (p : Place) (d : D) → Rest.decl d → Answers (package_answer p d)
-  package_near places.BeforeDot d h = h
-  package_near places.TypeDot d h = h
-  package_near places.«Type» d h = tt
-  package_near places.«Value» d h = tt
-  package_near places.Callee d h = tt
+  package_near : (p : Stand) (d : D) → Rest.decl d → Answers (package_answer p d)
+  package_near stands.BeforeDot d h = h
+  package_near stands.TypeDot d h = h
+  package_near stands.«Type» d h = tt
+  package_near stands.«Value» d h = tt
+  package_near stands.Callee d h = tt
 
-  type_near : (p : Place) (d : D) (t : Option T) → IfAny Near t → Answers (type_answer p d t)
-  type_near places.BeforeDot d t h = tt
-  type_near places.TypeDot d t h = tt
-  type_near places.«Type» d t h = h
-  type_near places.«Value» d t h = tt
-  type_near places.Callee d t h = h
+  type_near : (p : Stand) (d : D) (t : Option T) → IfAny Near t → Answers (type_answer p d t)
+  type_near stands.BeforeDot d t h = tt
+  type_near stands.TypeDot d t h = tt
+  type_near stands.«Type» d t h = h
+  type_near stands.«Value» d t h = tt
+  type_near stands.Callee d t h = h
 
-  func_near : (p : Place) (d : D) (f : Denoted T S D) → Denotes f → Answers (func_answer p d f)
-  func_near places.BeforeDot d f h = tt
-  func_near places.TypeDot d f h = tt
-  func_near places.«Type» d f h = tt
-  func_near places.«Value» d f h = tt
-  func_near places.Callee d f h = h
+  func_near : (p : Stand) (d : D) (f : Denoted T S D) → Denotes f → Answers (func_answer p d f)
+  func_near stands.BeforeDot d f h = tt
+  func_near stands.TypeDot d f h = tt
+  func_near stands.«Type» d f h = tt
+  func_near stands.«Value» d f h = tt
+  func_near stands.Callee d f h = h
 
-  valued_near : (p : Place) (d : D) (o : Option (Operand T)) → IfAny (NearOperand Near) o → Answers (value_answer p d o)
-  valued_near places.BeforeDot d o h = value_near o h
-  valued_near places.TypeDot d o h = tt
-  valued_near places.«Type» d o h = tt
-  valued_near places.«Value» d o h = value_near o h
-  valued_near places.Callee d o h = tt
+  valued_near : (p : Stand) (d : D) (o : Option (Operand T)) → IfAny (NearOperand Near) o → Answers (value_answer p d o)
+  valued_near stands.BeforeDot d o h = value_near o h
+  valued_near stands.TypeDot d o h = tt
+  valued_near stands.«Type» d o h = tt
+  valued_near stands.«Value» d o h = value_near o h
+  valued_near stands.Callee d o h = tt
 
-  found_near : (p : Place) (f : Found T S D) → NearFound Near Rest f → Answers (found_answer p f)
+  found_near : (p : Stand) (f : Found T S D) → NearFound Near Rest f → Answers (found_answer p f)
   found_near p founds.Missing h = tt
   found_near p founds.BadImport h = tt
   found_near p founds.Outside h = tt
@@ -241,7 +241,7 @@ module _ {T S D P : Type 0} (Near : T → Type 0) (Rest : NearRest S D) (looks :
   found_near p (founds.Builtin d b) h = func_near p d (denotes.Builtin d b) tt
   found_near p (founds.«Value» d o) h = valued_near p d o h
 
-  pub name_near : (o : ℕ) (p : Place) (name : List ℕ) → Answers (name_answer (look_of_place looks o) p name)
+  pub name_near : (o : ℕ) (p : Stand) (name : List ℕ) → Answers (name_answer (look_of_place looks o) p name)
   name_near o p name = either Answers (is_blank name) _ _ tt (found_near p (looks.find name o) (law.find name o))
 
   exported_near : (u : Usage) (e : Exported T S D) → NearExported Near Rest e → Answers (exported_answer u e)

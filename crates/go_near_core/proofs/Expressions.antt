@@ -10,8 +10,8 @@ use Rattle.go_tree_nodes.specs.declared.types.TypeName.TheVariants as type_names
 use Rattle.go_tree_nodes.specs.Trees.{TypeTree, FieldTrees, MethodTrees, SignatureTree, ResultTree, ParamTrees, NamedType, Pointer, ParenType, Struct, Interface, NoFields, NamedFields, EmbeddedField, NoMethods, Method, Signed, NoResult, OneResult, Results, NoParams, Param, ExprTree, ItemTrees, Integer, Text, Named, Paren, Unary, Binary, Select, Call, Literal, StructLiteral, NoItems, Item}
 use Rattle.go_tree_nodes.specs.Counts.{item_count}
 use Rattle.go_file_core.specs.tree_core.declared.occurrence.Role.TheVariants as roles
-use Rattle.go_file_core.specs.denote_core.declared.things.Place.{Place}
-use Rattle.go_file_core.specs.denote_core.declared.things.Place.TheVariants as places
+use Rattle.go_file_core.specs.denote_core.declared.things.Stand.{Stand}
+use Rattle.go_file_core.specs.denote_core.declared.things.Stand.TheVariants as stands
 use Rattle.go_file_core.specs.denote_core.declared.things.Usage.TheVariants as usages
 use Rattle.go_file_core.specs.denote_core.declared.things.Denoted as things
 use Rattle.go_file_core.specs.denote_core.declared.things.Denoted.TheVariants as denotes
@@ -48,24 +48,24 @@ module _ {T S D P : Type 0} (Near : T → Type 0) (Rest : NearRest S D) (looks o
 
   -- names
 
-  pub ident_near : (p : Place) (x : Ident) → Denotes (ident_answer looks p x).denoted
+  pub ident_near : (p : Stand) (x : Ident) → Denotes (ident_answer looks p x).denoted
   ident_near p x = name_near Near Rest looks law x.span.start p x.name
 
-  pub ident_same : (p : Place) (x : Ident) → ident_answer looks p x ≡ ident_answer others p x
+  pub ident_same : (p : Stand) (x : Ident) → ident_answer looks p x ≡ ident_answer others p x
   ident_same p x = name_same Near Rest looks others law agree x.span.start p x.name
 
-  qualifier_near : (x : Ident) → NearDot Near Rest (dot_of true (ident_answer looks places.TypeDot x).denoted)
-  qualifier_near x = dot_near Near Rest looks law true (ident_answer looks places.TypeDot x).denoted (ident_near places.TypeDot x)
+  qualifier_near : (x : Ident) → NearDot Near Rest (dot_of true (ident_answer looks stands.TypeDot x).denoted)
+  qualifier_near x = dot_near Near Rest looks law true (ident_answer looks stands.TypeDot x).denoted (ident_near stands.TypeDot x)
 
   type_name_near : (n : TypeName) → Denotes (type_name_answer looks n).denoted
-  type_name_near (type_names.Plain x) = ident_near places.«Type» x
-  type_name_near (type_names.Qualified q dot x) = selector_near Near Rest looks law x.span.start usages.«Type» (dot_of true (ident_answer looks places.TypeDot q).denoted) x.name (qualifier_near q)
+  type_name_near (type_names.Plain x) = ident_near stands.«Type» x
+  type_name_near (type_names.Qualified q dot x) = selector_near Near Rest looks law x.span.start usages.«Type» (dot_of true (ident_answer looks stands.TypeDot q).denoted) x.name (qualifier_near q)
 
   type_name_same : (n : TypeName) → type_name_answer looks n ≡ type_name_answer others n
-  type_name_same (type_names.Plain x) = ident_same places.«Type» x
+  type_name_same (type_names.Plain x) = ident_same stands.«Type» x
   type_name_same (type_names.Qualified q dot x) =
-      selector_same Near Rest looks others law agree x.span.start usages.«Type» (dot_of true (ident_answer looks places.TypeDot q).denoted) x.name (qualifier_near q)
-      ∙ ap (λ (a : Answer T S D P). selector_answer (look_of_place others x.span.start) usages.«Type» (dot_of true a.denoted) x.name) (ident_same places.TypeDot q)
+      selector_same Near Rest looks others law agree x.span.start usages.«Type» (dot_of true (ident_answer looks stands.TypeDot q).denoted) x.name (qualifier_near q)
+      ∙ ap (λ (a : Answer T S D P). selector_answer (look_of_place others x.span.start) usages.«Type» (dot_of true a.denoted) x.name) (ident_same stands.TypeDot q)
 
   literal_near : (d : things.Denoted T S D) → Denotes d → IfAny Near (literal_type d)
   literal_near (denotes.«Type» d t) h = h
@@ -97,77 +97,77 @@ module _ {T S D P : Type 0} (Near : T → Type 0) (Rest : NearRest S D) (looks o
   -- what is denoted
 
   mutual
-    pub denoted_near : (p : Place) (e : ExprTree) → Denotes (denoted looks p e)
+    pub denoted_near : (p : Stand) (e : ExprTree) → Denotes (denoted looks p e)
     denoted_near p (Integer n span) = tt
     denoted_near p (Text t) = tt
     denoted_near p (Named x) = ident_near p x
     denoted_near p (Paren first e last) = denoted_near (inside p) e
     denoted_near p (Unary op span e) = unary_of_near Near looks.types others.types law.types agree.types Rest op (is_literal e) (denoted looks (under_place op p) e) (denoted_near (under_place op p) e)
     denoted_near p (Binary a op span b) =
-        binary_of_near Near looks.types others.types law.types agree.types Rest op (denoted looks places.«Value» a) (denoted looks places.«Value» b) (denoted_near places.«Value» a) (denoted_near places.«Value» b)
+        binary_of_near Near looks.types others.types law.types agree.types Rest op (denoted looks stands.«Value» a) (denoted looks stands.«Value» b) (denoted_near stands.«Value» a) (denoted_near stands.«Value» b)
     denoted_near p (Select e dot x) =
         selector_near Near Rest looks law x.span.start (whole p) (dot_of (is_name e) (denoted looks (left_place p e) e)) x.name (dot_near Near Rest looks law (is_name e) (denoted looks (left_place p e) e) (denoted_near (left_place p e) e))
     denoted_near p (Call e first items last) =
-        call_near Near Rest looks law first.start (denoted looks places.Callee e) (is_free (is_lone_call items) (denoted_items looks items)) (arguments_of (look_of_place looks first.start) (denoted_items looks items)) (denoted_near places.Callee e)
+        call_near Near Rest looks law first.start (denoted looks stands.Callee e) (is_free (is_lone_call items) (denoted_items looks items)) (arguments_of (look_of_place looks first.start) (denoted_items looks items)) (denoted_near stands.Callee e)
     denoted_near p (Literal n first items last) = literal_denotes_near (named_type looks n) (named_near n)
     denoted_near p (StructLiteral t first items last) = literal_denotes_near (written_type looks t) (written_near t)
 
     items_near : (items : ItemTrees) → Each Denotes (denoted_items looks items)
     items_near NoItems = tt
-    items_near (Item key e comma rest) = (denoted_near places.«Value» e, items_near rest)
+    items_near (Item key e comma rest) = (denoted_near stands.«Value» e, items_near rest)
 
   called_near : (first : ℕ) (items : ItemTrees) → Each (NearArgument Near) (arguments_of (look_of_place looks first) (denoted_items looks items))
   called_near first items = arguments_near Near Rest looks law first (denoted_items looks items) (items_near items)
 
-  left_near : (p : Place) (e : ExprTree) → NearDot Near Rest (dot_of (is_name e) (denoted looks (left_place p e) e))
+  left_near : (p : Stand) (e : ExprTree) → NearDot Near Rest (dot_of (is_name e) (denoted looks (left_place p e) e))
   left_near p e = dot_near Near Rest looks law (is_name e) (denoted looks (left_place p e) e) (denoted_near (left_place p e) e)
 
-  select_by : (p : Place) (e : ExprTree) (x : Ident) → denoted looks (left_place p e) e ≡ denoted others (left_place p e) e → select_answer looks p e x ≡ select_answer others p e x
+  select_by : (p : Stand) (e : ExprTree) (x : Ident) → denoted looks (left_place p e) e ≡ denoted others (left_place p e) e → select_answer looks p e x ≡ select_answer others p e x
   select_by p e x same =
       selector_same Near Rest looks others law agree x.span.start (whole p) (dot_of (is_name e) (denoted looks (left_place p e) e)) x.name (left_near p e)
       ∙ ap (λ d. selector_answer (look_of_place others x.span.start) (whole p) (dot_of (is_name e) d) x.name) same
 
-  call_by : (e : ExprTree) (o : ℕ) (items : ItemTrees) → denoted looks places.Callee e ≡ denoted others places.Callee e → denoted_items looks items ≡ denoted_items others items
-      → call_answer (look_of_place looks o) (denoted looks places.Callee e) (is_free (is_lone_call items) (denoted_items looks items)) (arguments_of (look_of_place looks o) (denoted_items looks items))
-      ≡ call_answer (look_of_place others o) (denoted others places.Callee e) (is_free (is_lone_call items) (denoted_items others items)) (arguments_of (look_of_place others o) (denoted_items others items))
+  call_by : (e : ExprTree) (o : ℕ) (items : ItemTrees) → denoted looks stands.Callee e ≡ denoted others stands.Callee e → denoted_items looks items ≡ denoted_items others items
+      → call_answer (look_of_place looks o) (denoted looks stands.Callee e) (is_free (is_lone_call items) (denoted_items looks items)) (arguments_of (look_of_place looks o) (denoted_items looks items))
+      ≡ call_answer (look_of_place others o) (denoted others stands.Callee e) (is_free (is_lone_call items) (denoted_items others items)) (arguments_of (look_of_place others o) (denoted_items others items))
   call_by e o items same all =
-      call_same Near Rest looks others law agree o (denoted looks places.Callee e) (is_free (is_lone_call items) (denoted_items looks items)) (arguments_of (look_of_place looks o) (denoted_items looks items)) (denoted_near places.Callee e) (called_near o items)
-      ∙ (ap (λ l. call_answer (look_of_place others o) (denoted looks places.Callee e) (is_free (is_lone_call items) (denoted_items looks items)) l) (arguments_same Near Rest looks others law agree o (denoted_items looks items) (items_near items))
+      call_same Near Rest looks others law agree o (denoted looks stands.Callee e) (is_free (is_lone_call items) (denoted_items looks items)) (arguments_of (look_of_place looks o) (denoted_items looks items)) (denoted_near stands.Callee e) (called_near o items)
+      ∙ (ap (λ l. call_answer (look_of_place others o) (denoted looks stands.Callee e) (is_free (is_lone_call items) (denoted_items looks items)) l) (arguments_same Near Rest looks others law agree o (denoted_items looks items) (items_near items))
       ∙ (λ j. call_answer (look_of_place others o) (same j) (is_free (is_lone_call items) (all j)) (arguments_of (look_of_place others o) (all j))))
 
-  unary_by : (p : Place) (op : Operator) (e : ExprTree) → denoted looks p e ≡ denoted others p e → unary_of looks.types op (is_literal e) (denoted looks p e) ≡ unary_of others.types op (is_literal e) (denoted others p e)
+  unary_by : (p : Stand) (op : Operator) (e : ExprTree) → denoted looks p e ≡ denoted others p e → unary_of looks.types op (is_literal e) (denoted looks p e) ≡ unary_of others.types op (is_literal e) (denoted others p e)
   unary_by p op e same =
       unary_judged Near looks.types others.types law.types agree.types Rest op (is_literal e) (denoted looks p e) (denoted_near p e) ∙ ap (unary_of others.types op (is_literal e)) same
 
-  binary_by : (op : Operator) (a b : ExprTree) → denoted looks places.«Value» a ≡ denoted others places.«Value» a → denoted looks places.«Value» b ≡ denoted others places.«Value» b
-      → binary_of looks.types op (denoted looks places.«Value» a) (denoted looks places.«Value» b) ≡ binary_of others.types op (denoted others places.«Value» a) (denoted others places.«Value» b)
+  binary_by : (op : Operator) (a b : ExprTree) → denoted looks stands.«Value» a ≡ denoted others stands.«Value» a → denoted looks stands.«Value» b ≡ denoted others stands.«Value» b
+      → binary_of looks.types op (denoted looks stands.«Value» a) (denoted looks stands.«Value» b) ≡ binary_of others.types op (denoted others stands.«Value» a) (denoted others stands.«Value» b)
   binary_by op a b one two =
-      binary_judged Near looks.types others.types law.types agree.types Rest op (denoted looks places.«Value» a) (denoted looks places.«Value» b) (denoted_near places.«Value» a) (denoted_near places.«Value» b)
+      binary_judged Near looks.types others.types law.types agree.types Rest op (denoted looks stands.«Value» a) (denoted looks stands.«Value» b) (denoted_near stands.«Value» a) (denoted_near stands.«Value» b)
       ∙ (λ j. binary_of others.types op (one j) (two j))
 
   mutual
-    pub denoted_same : (p : Place) (e : ExprTree) → denoted looks p e ≡ denoted others p e
+    pub denoted_same : (p : Stand) (e : ExprTree) → denoted looks p e ≡ denoted others p e
     denoted_same p (Integer n span) = refl
     denoted_same p (Text t) = refl
     denoted_same p (Named x) = λ j. (ident_same p x j).denoted
     denoted_same p (Paren first e last) = denoted_same (inside p) e
     denoted_same p (Unary op span e) = λ j. (unary_by (under_place op p) op e (denoted_same (under_place op p) e) j).denoted
-    denoted_same p (Binary a op span b) = λ j. (binary_by op a b (denoted_same places.«Value» a) (denoted_same places.«Value» b) j).denoted
+    denoted_same p (Binary a op span b) = λ j. (binary_by op a b (denoted_same stands.«Value» a) (denoted_same stands.«Value» b) j).denoted
     denoted_same p (Select e dot x) = λ j. (select_by p e x (denoted_same (left_place p e) e) j).denoted
-    denoted_same p (Call e first items last) = λ j. (call_by e first.start items (denoted_same places.Callee e) (items_same items) j).denoted
+    denoted_same p (Call e first items last) = λ j. (call_by e first.start items (denoted_same stands.Callee e) (items_same items) j).denoted
     denoted_same p (Literal n first items last) = λ j. literal_denotes (named_same n j)
     denoted_same p (StructLiteral t first items last) = λ j. literal_denotes (written_same t j)
 
     items_same : (items : ItemTrees) → denoted_items looks items ≡ denoted_items others items
     items_same NoItems = refl
-    items_same (Item key e comma rest) = λ j. denoted_same places.«Value» e j ∷ items_same rest j
+    items_same (Item key e comma rest) = λ j. denoted_same stands.«Value» e j ∷ items_same rest j
 
   -- uses
 
   pub name_uses : (n : TypeName) → type_name_uses looks n ≡ type_name_uses others n
-  name_uses (type_names.Plain x) = λ j. made_use x.span.start (place_role places.«Type») (ident_same places.«Type» x j).outcome ∷ []
+  name_uses (type_names.Plain x) = λ j. made_use x.span.start (place_role stands.«Type») (ident_same stands.«Type» x j).outcome ∷ []
   name_uses (type_names.Qualified q dot x) =
-      λ j. made_use q.span.start (place_role places.TypeDot) (ident_same places.TypeDot q j).outcome
+      λ j. made_use q.span.start (place_role stands.TypeDot) (ident_same stands.TypeDot q j).outcome
       ∷ (made_use x.span.start (roles.Selector (role_usage usages.«Type»)) (type_name_same (type_names.Qualified q dot x) j).outcome ∷ [])
 
   mutual
@@ -205,19 +205,19 @@ module _ {T S D P : Type 0} (Near : T → Type 0) (Rest : NearRest S D) (looks o
       ap (λ (a : KeyAnswer T D P). made_use k.name.span.start roles.Key a.outcome ∷ []) (key_same Near Rest looks others law agree k.name.span.start t m (has_name k.name.name before) k.name.name h)
 
   mutual
-    pub used_same : (p : Place) (e : ExprTree) → uses looks p e ≡ uses others p e
+    pub used_same : (p : Stand) (e : ExprTree) → uses looks p e ≡ uses others p e
     used_same p (Integer n span) = refl
     used_same p (Text t) = refl
     used_same p (Named x) = λ j. made_use x.span.start (place_role p) (ident_same p x j).outcome ∷ []
     used_same p (Paren first e last) = used_same (inside p) e
     used_same p (Unary op span e) = used_same (under_place op p) e
-    used_same p (Binary a op span b) = mapped (use_of looks) (use_of others) (spots looks places.«Value» a) (spots looks places.«Value» b) (spots others places.«Value» a) (spots others places.«Value» b) (used_same places.«Value» a) (used_same places.«Value» b)
+    used_same p (Binary a op span b) = mapped (use_of looks) (use_of others) (spots looks stands.«Value» a) (spots looks stands.«Value» b) (spots others stands.«Value» a) (spots others stands.«Value» b) (used_same stands.«Value» a) (used_same stands.«Value» b)
     used_same p (Select e dot x) =
         mapped _ _ (spots looks (left_place p e) e) _ (spots others (left_place p e) e) _ (used_same (left_place p e) e)
         (λ j. made_use x.span.start (roles.Selector (role_usage (whole p))) (select_by p e x (denoted_same (left_place p e) e) j).outcome ∷ [])
     used_same p (Call e first items last) =
-        mapped _ _ (spots looks places.Callee e) _ (spots others places.Callee e) _ (used_same places.Callee e)
-        (λ j. made_use first.start roles.Call (call_by e first.start items (denoted_same places.Callee e) (items_same items) j).outcome ∷ args_used items j)
+        mapped _ _ (spots looks stands.Callee e) _ (spots others stands.Callee e) _ (used_same stands.Callee e)
+        (λ j. made_use first.start roles.Call (call_by e first.start items (denoted_same stands.Callee e) (items_same items) j).outcome ∷ args_used items j)
     used_same p (Literal n first items last) =
         mapped (use_of looks) (use_of others) (type_name_spots looks n) (items_spots looks (named_type looks n) (is_mixed (keys_of items)) [] items) (type_name_spots others n) (items_spots others (named_type others n) (is_mixed (keys_of items)) [] items)
         (name_uses n) (items_used (named_type looks n) (is_mixed (keys_of items)) [] items (named_near n) ∙ (λ j. items_uses others (named_same n j) (is_mixed (keys_of items)) [] items))
@@ -227,18 +227,18 @@ module _ {T S D P : Type 0} (Near : T → Type 0) (Rest : NearRest S D) (looks o
 
     args_used : (items : ItemTrees) → args_uses looks items ≡ args_uses others items
     args_used NoItems = refl
-    args_used (Item key e comma rest) = mapped (use_of looks) (use_of others) (spots looks places.«Value» e) (args_spots looks rest) (spots others places.«Value» e) (args_spots others rest) (used_same places.«Value» e) (args_used rest)
+    args_used (Item key e comma rest) = mapped (use_of looks) (use_of others) (spots looks stands.«Value» e) (args_spots looks rest) (spots others stands.«Value» e) (args_spots others rest) (used_same stands.«Value» e) (args_used rest)
 
     items_used : (t : Option T) (m : Bool) (before : List (List ℕ)) (items : ItemTrees) → IfAny Near t → items_uses looks t m before items ≡ items_uses others t m before items
     items_used t m before NoItems h = refl
     items_used t m before (Item key e comma rest) h =
         mapped _ _ (key_spots t m (before ++ all_keys rest) key) _ (key_spots t m (before ++ all_keys rest) key) _ (key_used t m (before ++ all_keys rest) key h)
-        (mapped (use_of looks) (use_of others) (spots looks places.«Value» e) (items_spots looks t m (before ++ key_names key) rest) (spots others places.«Value» e) (items_spots others t m (before ++ key_names key) rest)
-        (used_same places.«Value» e) (items_used t m (before ++ key_names key) rest h))
+        (mapped (use_of looks) (use_of others) (spots looks stands.«Value» e) (items_spots looks t m (before ++ key_names key) rest) (spots others stands.«Value» e) (items_spots others t m (before ++ key_names key) rest)
+        (used_same stands.«Value» e) (items_used t m (before ++ key_names key) rest h))
 
   -- faults
 
-  pub operand_with : (p : Place) (e : ExprTree) → faults looks p e ≡ faults others p e → operand_faults looks p e ≡ operand_faults others p e
+  pub operand_with : (p : Stand) (e : ExprTree) → faults looks p e ≡ faults others p e → operand_faults looks p e ≡ operand_faults others p e
   operand_with p e same = λ j. same j ++ fault_at (start e) (single_rule (denoted_same p e j))
 
   literal_with : (offset : ℕ) (t : Option T) (items : ItemTrees) → IfAny Near t
@@ -249,16 +249,16 @@ module _ {T S D P : Type 0} (Near : T → Type 0) (Rest : NearRest S D) (looks o
       λ j. fault_at offset (rule_same Near Rest looks others law agree offset t (keys_of items) (item_count items) h j) ++ elements j
 
   element_by : (t : Option T) (mode : Mode) (m : Bool) (n : ℕ) (keys : List (List ℕ)) (key : Option Key) (e : ExprTree) → IfAny Near t
-      → element_rule looks (start e) (element_type looks (start e) t mode m n keys key) (denoted looks places.«Value» e) ≡ element_rule others (start e) (element_type others (start e) t mode m n keys key) (denoted others places.«Value» e)
+      → element_rule looks (start e) (element_type looks (start e) t mode m n keys key) (denoted looks stands.«Value» e) ≡ element_rule others (start e) (element_type others (start e) t mode m n keys key) (denoted others stands.«Value» e)
   element_by t mode m n keys key e h =
-      misfit_same Near Rest looks others law agree (start e) (element_type looks (start e) t mode m n keys key) (denoted looks places.«Value» e) (target_near Near Rest looks others law agree (start e) t mode m n keys key h) (denoted_near places.«Value» e)
-      ∙ (λ j. element_rule others (start e) (target_same Near Rest looks others law agree (start e) t mode m n keys key h j) (denoted_same places.«Value» e j))
+      misfit_same Near Rest looks others law agree (start e) (element_type looks (start e) t mode m n keys key) (denoted looks stands.«Value» e) (target_near Near Rest looks others law agree (start e) t mode m n keys key h) (denoted_near stands.«Value» e)
+      ∙ (λ j. element_rule others (start e) (target_same Near Rest looks others law agree (start e) t mode m n keys key h j) (denoted_same stands.«Value» e j))
 
   pub written_faults : (t : TypeTree) → looks.written.faults_of (named_type looks) t ≡ others.written.faults_of (named_type others) t
   written_faults t = agree.faults_of (named_type looks) t ∙ (λ j. others.written.faults_of (λ n. named_same n j) t)
 
   mutual
-    pub faults_same : (p : Place) (e : ExprTree) → faults looks p e ≡ faults others p e
+    pub faults_same : (p : Stand) (e : ExprTree) → faults looks p e ≡ faults others p e
     faults_same p (Integer n span) = refl
     faults_same p (Text t) = refl
     faults_same p (Named x) = refl
@@ -266,10 +266,10 @@ module _ {T S D P : Type 0} (Near : T → Type 0) (Rest : NearRest S D) (looks o
     faults_same p (Unary op span e) =
         λ j. operand_with (under_place op p) e (faults_same (under_place op p) e) j ++ fault_at span.start (unary_by (under_place op p) op e (denoted_same (under_place op p) e) j).fault
     faults_same p (Binary a op span b) =
-        λ j. operand_with places.«Value» a (faults_same places.«Value» a) j ++ (operand_with places.«Value» b (faults_same places.«Value» b) j
-        ++ fault_at (start a) (binary_by op a b (denoted_same places.«Value» a) (denoted_same places.«Value» b) j).fault)
+        λ j. operand_with stands.«Value» a (faults_same stands.«Value» a) j ++ (operand_with stands.«Value» b (faults_same stands.«Value» b) j
+        ++ fault_at (start a) (binary_by op a b (denoted_same stands.«Value» a) (denoted_same stands.«Value» b) j).fault)
     faults_same p (Select e dot x) = faults_same (left_place p e) e
-    faults_same p (Call e first items last) = λ j. faults_same places.Callee e j ++ args_same (is_several items) items j
+    faults_same p (Call e first items last) = λ j. faults_same stands.Callee e j ++ args_same (is_several items) items j
     faults_same p (Literal n first items last) =
         literal_with (type_name_start n) (named_type looks n) items (named_near n) (elements_same (named_type looks n) (whole_mode looks (type_name_start n) (named_type looks n) items) (is_mixed (keys_of items)) 0 [] items (named_near n))
         ∙ (λ j. literal_faults others (type_name_start n) (named_same n j) items)
@@ -279,12 +279,12 @@ module _ {T S D P : Type 0} (Near : T → Type 0) (Rest : NearRest S D) (looks o
 
     args_same : (b : Bool) (items : ItemTrees) → args_faults looks b items ≡ args_faults others b items
     args_same b NoItems = refl
-    args_same b (Item key e comma rest) = λ j. (faults_same places.«Value» e j ++ fault_at (start e) (listed_rule b (denoted_same places.«Value» e j))) ++ args_same b rest j
+    args_same b (Item key e comma rest) = λ j. (faults_same stands.«Value» e j ++ fault_at (start e) (listed_rule b (denoted_same stands.«Value» e j))) ++ args_same b rest j
 
     elements_same : (t : Option T) (mode : Mode) (m : Bool) (n : ℕ) (before : List (List ℕ)) (items : ItemTrees) → IfAny Near t → items_faults looks t mode m n before items ≡ items_faults others t mode m n before items
     elements_same t mode m n before NoItems h = refl
     elements_same t mode m n before (Item key e comma rest) h =
-        λ j. (operand_with places.«Value» e (faults_same places.«Value» e) j ++ fault_at (item_start key e) (element_by t mode m n (before ++ all_keys rest) key e h j)) ++ elements_same t mode m (suc n) (before ++ key_names key) rest h j
+        λ j. (operand_with stands.«Value» e (faults_same stands.«Value» e) j ++ fault_at (item_start key e) (element_by t mode m n (before ++ all_keys rest) key e h j)) ++ elements_same t mode m (suc n) (before ++ key_names key) rest h j
 
-  pub nearby : (p : Place) (e : ExprTree) → IsNearby Near Rest looks others p e
+  pub nearby : (p : Stand) (e : ExprTree) → IsNearby Near Rest looks others p e
   nearby p e = record { near = denoted_near p e; denoted = denoted_same p e; uses = used_same p e; faults = faults_same p e }

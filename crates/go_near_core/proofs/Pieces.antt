@@ -13,7 +13,7 @@ use Rattle.go_file_core.specs.walk_core.Ends.{is_blank_target}
 use Rattle.go_file_core.specs.local_core.Outline.{idents}
 use Rattle.go_file_core.specs.local_core.Steps.{Piece, Header, Spec, Act, Condition, Given}
 use Rattle.go_file_core.specs.operand_core.TypeRules.{TypeRules}
-use Rattle.go_file_core.specs.denote_core.declared.things.Place.TheVariants as places
+use Rattle.go_file_core.specs.denote_core.declared.things.Stand.TheVariants as stands
 use Rattle.go_file_core.specs.denote_core.declared.things.Denoted.{Denoted}
 use Rattle.go_file_core.specs.denote_core.declared.things.Argument.{Argument}
 use Rattle.go_file_core.specs.denote_core.declared.things.Argument.TheVariants as arguments
@@ -70,20 +70,20 @@ module _ {T S D P : Type 0} (Near : T → Type 0) (Rest : NearRest S D) (looks o
   abbrev Denotes : Denoted T S D → Type 0
   Denotes d = NearDenoted Near Rest d
 
-  value_near : (e : ExprTree) → Denotes (denoted looks places.«Value» e)
-  value_near e = denoted_near Near Rest looks others law agree places.«Value» e
+  value_near : (e : ExprTree) → Denotes (denoted looks stands.«Value» e)
+  value_near e = denoted_near Near Rest looks others law agree stands.«Value» e
 
-  value_same : (e : ExprTree) → denoted looks places.«Value» e ≡ denoted others places.«Value» e
-  value_same e = denoted_same Near Rest looks others law agree places.«Value» e
+  value_same : (e : ExprTree) → denoted looks stands.«Value» e ≡ denoted others stands.«Value» e
+  value_same e = denoted_same Near Rest looks others law agree stands.«Value» e
 
-  value_used : (e : ExprTree) → uses looks places.«Value» e ≡ uses others places.«Value» e
-  value_used e = used_same Near Rest looks others law agree places.«Value» e
+  value_used : (e : ExprTree) → uses looks stands.«Value» e ≡ uses others stands.«Value» e
+  value_used e = used_same Near Rest looks others law agree stands.«Value» e
 
-  value_faults : (e : ExprTree) → faults looks places.«Value» e ≡ faults others places.«Value» e
-  value_faults e = faults_same Near Rest looks others law agree places.«Value» e
+  value_faults : (e : ExprTree) → faults looks stands.«Value» e ≡ faults others stands.«Value» e
+  value_faults e = faults_same Near Rest looks others law agree stands.«Value» e
 
-  operand_breaks : (e : ExprTree) → operand_faults looks places.«Value» e ≡ operand_faults others places.«Value» e
-  operand_breaks e = operand_with Near Rest looks others law agree places.«Value» e (value_faults e)
+  operand_breaks : (e : ExprTree) → operand_faults looks stands.«Value» e ≡ operand_faults others stands.«Value» e
+  operand_breaks e = operand_with Near Rest looks others law agree stands.«Value» e (value_faults e)
 
   member_breaks : (b : Bool) (e : ExprTree) → member_faults looks b e ≡ member_faults others b e
   member_breaks b e = λ j. value_faults e j ++ fault_at (start e) (listed_rule b (value_same e j))
@@ -323,7 +323,7 @@ module _ {T S D P : Type 0} (Near : T → Type 0) (Rest : NearRest S D) (looks o
   -- targets
 
   left_near : (several : Bool) (e : ExprTree) → NearTarget Near (target looks several e)
-  left_near several e = either (NearTarget Near) (is_blank_target e) _ _ tt (target_near Near rules other_rules law.types agree.types Rest (denoted looks places.«Value» e) (not several) (value_near e))
+  left_near several e = either (NearTarget Near) (is_blank_target e) _ _ tt (target_near Near rules other_rules law.types agree.types Rest (denoted looks stands.«Value» e) (not several) (value_near e))
 
   left_same : (several : Bool) (e : ExprTree) → target looks several e ≡ target others several e
   left_same several e = λ j. if is_blank_target e then targets.Blank else target_of (value_same e j) (not several)
@@ -351,10 +351,10 @@ module _ {T S D P : Type 0} (Near : T → Type 0) (Rest : NearRest S D) (looks o
   lefts_break several (Then e comma more) = λ j. left_breaks several e j ++ lefts_break several more j
 
   old_near : (x : Ident) → NearTarget Near (old_target looks x)
-  old_near x = target_near Near rules other_rules law.types agree.types Rest (ident_answer looks places.«Value» x).denoted true (ident_near Near Rest looks others law agree places.«Value» x)
+  old_near x = target_near Near rules other_rules law.types agree.types Rest (ident_answer looks stands.«Value» x).denoted true (ident_near Near Rest looks others law agree stands.«Value» x)
 
   old_same : (x : Ident) → old_target looks x ≡ old_target others x
-  old_same x = λ j. target_of (ident_same Near Rest looks others law agree places.«Value» x j).denoted true
+  old_same x = λ j. target_of (ident_same Near Rest looks others law agree stands.«Value» x j).denoted true
 
   new_near : (first : Bool) (before : List (List ℕ)) (x : Ident) → NearTarget Near (short_target looks first before x)
   new_near first before x = either (NearTarget Near) (is_blank x.name) _ _ tt (either (NearTarget Near) first _ _ tt (either (NearTarget Near) (is_listed before x.name) _ _ tt (old_near x)))
@@ -373,7 +373,7 @@ module _ {T S D P : Type 0} (Near : T → Type 0) (Rest : NearRest S D) (looks o
   -- statements
 
   callee_same : (e : ExprTree) → callee_of looks e ≡ callee_of others e
-  callee_same (Call e first items last) = λ j. Some (denoted_same Near Rest looks others law agree places.Callee e j)
+  callee_same (Call e first items last) = λ j. Some (denoted_same Near Rest looks others law agree stands.Callee e j)
   callee_same (Paren first e last) = callee_same e
   callee_same (Integer n span) = refl
   callee_same (Text t) = refl
@@ -385,7 +385,7 @@ module _ {T S D P : Type 0} (Near : T → Type 0) (Rest : NearRest S D) (looks o
   callee_same (StructLiteral t first items last) = refl
 
   operand_near : (e : ExprTree) → NearArgument Near (operand_argument looks e)
-  operand_near e = argument_near Near Rest looks law (denoted looks places.«Value» e) (value_near e)
+  operand_near e = argument_near Near Rest looks law (denoted looks stands.«Value» e) (value_near e)
 
   operand_same : (e : ExprTree) → operand_argument looks e ≡ operand_argument others e
   operand_same e = ap argument_of (value_same e)
@@ -446,9 +446,9 @@ module _ {T S D P : Type 0} (Near : T → Type 0) (Rest : NearRest S D) (looks o
   piece_used (Given place None) = refl
   piece_used (Given place (Some es)) = list_used es
 
-  condition_same : (e : ExprTree) → condition_rule rules (denoted looks places.«Value» e) ≡ condition_rule other_rules (denoted others places.«Value» e)
+  condition_same : (e : ExprTree) → condition_rule rules (denoted looks stands.«Value» e) ≡ condition_rule other_rules (denoted others stands.«Value» e)
   condition_same e =
-      alike.conditions rules other_rules (denoted looks places.«Value» e) (condition_alike Near rules other_rules law.types agree.types Rest (denoted looks places.«Value» e) (value_near e))
+      alike.conditions rules other_rules (denoted looks stands.«Value» e) (condition_alike Near rules other_rules law.types agree.types Rest (denoted looks stands.«Value» e) (value_near e))
       ∙ ap (condition_rule other_rules) (value_same e)
 
   piece_breaks : (results : List (Option T)) (has_names : Bool) (firsts : List Bool) (p : Piece) → Each (IfAny Near) results → piece_faults looks results has_names firsts p ≡ piece_faults others results has_names firsts p

@@ -7,7 +7,7 @@ use Rattle.go_tree_nodes.specs.declared.decls.ValueKind.{ValueKind}
 use Rattle.go_tree_nodes.specs.declared.decls.ValueKind.TheVariants as kinds
 use Rattle.go_tree_nodes.specs.Trees.{Separated, One, Then, ExprTree, Specs, ValueSpecTree, ValueTree, TypeDeclTree, of_specs}
 use Rattle.go_file_core.specs.local_core.Steps.{Spec}
-use Rattle.go_file_core.specs.denote_core.declared.things.Place.TheVariants as places
+use Rattle.go_file_core.specs.denote_core.declared.things.Stand.TheVariants as stands
 use Rattle.go_file_core.specs.expr_core.Looks.{Looks}
 use Rattle.go_file_core.specs.expr_core.Places.{start}
 use Rattle.go_file_core.specs.expr_core.Faults.{fault_at}
@@ -33,8 +33,8 @@ module _ {T S D P : Type 0} (Near : T → Type 0) (Rest : NearRest S D) (looks o
   values_used d = specs_same (spec_uses looks) (spec_uses others) d.specs spec_used
 
   initial_list : (es : Separated ExprTree) → list_initial_faults looks es ≡ list_initial_faults others es
-  initial_list (One e) = λ j. fault_at (start e) (initial_rule (denoted_same Near Rest looks others law agree places.«Value» e j))
-  initial_list (Then e comma more) = λ j. fault_at (start e) (initial_rule (denoted_same Near Rest looks others law agree places.«Value» e j)) ++ initial_list more j
+  initial_list (One e) = λ j. fault_at (start e) (initial_rule (denoted_same Near Rest looks others law agree stands.«Value» e j))
+  initial_list (Then e comma more) = λ j. fault_at (start e) (initial_rule (denoted_same Near Rest looks others law agree stands.«Value» e j)) ++ initial_list more j
 
   initial_values : (es : Option (Span × Separated ExprTree)) → values_initial_faults looks es ≡ values_initial_faults others es
   initial_values None = refl

@@ -4,7 +4,7 @@ use Rattle.go_tree_nodes.specs.Trees.{ExprTree, FuncTree, FileTree}
 use Rattle.go_file_core.specs.block_core.declared.imports.Imported.{Imported}
 use Rattle.go_file_core.specs.written_core.Written as types
 use Rattle.go_file_core.specs.written_core.Written.{InFile}
-use Rattle.go_file_core.specs.denote_core.declared.things.Place.{Place}
+use Rattle.go_file_core.specs.denote_core.declared.things.Stand.{Stand}
 use Rattle.go_file_core.specs.expr_core.Looks.{Looks}
 use Rattle.go_file_core.specs.expr_core.Denoting as denoting
 use Rattle.go_file_core.specs.expr_core.Uses as all_uses
@@ -53,7 +53,7 @@ pub record TablesLookNearby : Type 0 where
       → Each (NearField (IsNear (near_by near))) ((literals_in s).fields u) × ((literals_in s).fields u ≡ (literals_in t).fields u)
 
 -- what an expression comes to is the same, and is near
-pub record IsNearby {T S D P : Type 0} (Near : T → Type 0) (Rest : NearRest S D) (looks others : Looks T S D P) (p : Place) (e : ExprTree) : Type 0 where
+pub record IsNearby {T S D P : Type 0} (Near : T → Type 0) (Rest : NearRest S D) (looks others : Looks T S D P) (p : Stand) (e : ExprTree) : Type 0 where
   pub near : NearDenoted Near Rest (denoting.denoted looks p e)
   pub denoted : denoting.denoted looks p e ≡ denoting.denoted others p e
   pub uses : all_uses.uses looks p e ≡ all_uses.uses others p e
@@ -62,13 +62,13 @@ pub record IsNearby {T S D P : Type 0} (Near : T → Type 0) (Rest : NearRest S 
 -- look-ups that lead from near things to near ones, and others that have the same of these, make the same of an expression, and what it denotes
 -- is near
 abbrev pub ExpressionsLookNearby : Type 0
-ExpressionsLookNearby = (near : NearTests) (looks others : TheLooks) (p : Place) (e : ExprTree)
+ExpressionsLookNearby = (near : NearTests) (looks others : TheLooks) (p : Stand) (e : ExprTree)
     → AreClosed (IsNear (near_by near)) (near_rest (near_by near)) looks → LooksAgree (IsNear (near_by near)) (near_rest (near_by near)) looks others → IsNearby (IsNear (near_by near)) (near_rest (near_by near)) looks others p e
 
 -- so in two scenes of one package that agree on what is near, where names stand for the same near things and written types are the same near types,
 -- an expression comes to the same, and what it denotes is near
 abbrev pub ScenesLookNearby : Type 0
-ScenesLookNearby = (near : NearTests) (s t : SceneModel) (file : ℕ) (known others : List (Option TheFace)) (look other : NameLook Meaning) (written made : WrittenRules Term) (p : Place) (e : ExprTree)
+ScenesLookNearby = (near : NearTests) (s t : SceneModel) (file : ℕ) (known others : List (Option TheFace)) (look other : NameLook Meaning) (written made : WrittenRules Term) (p : Stand) (e : ExprTree)
     → ScenesAgree (near_by near) s t → NamesAgree (near_by near) s t file known others look other → WrittenAgree (near_by near) written made
     → IsNearby (IsNear (near_by near)) (near_rest (near_by near)) (looks_in s file known written look) (looks_in t file others made other) p e
 

@@ -23,9 +23,14 @@ use std::marker::Model;
 pub struct DeclId(pub usize);
 
 /// The open blocks, from the outermost to the innermost.
-#[derive(Drop)]
 pub struct OpenBlocks {
     blocks: Vec<IndexMap<String, DeclId>>,
+}
+
+impl Drop for OpenBlocks {
+    fn drop(self) {
+        let OpenBlocks { blocks: _ } = self;
+    }
 }
 
 impl Model for OpenBlocks {

@@ -11,12 +11,17 @@ use std::marker::Model;
 const FEW: usize = 8;
 
 /// Names, each once, in the order in which they were added first. Contracts see it as their list.
-#[derive(Drop)]
 pub struct NameList<'a> {
     /// The first of them, which are compared one by one.
     few: Vec<&'a str>,
     /// The others.
     more: IndexSet<&'a str>,
+}
+
+impl Drop for NameList<'_> {
+    fn drop(self) {
+        let NameList { few: _, more: _ } = self;
+    }
 }
 
 impl<'a> Model for NameList<'a> {

@@ -33,9 +33,14 @@ impl ShortName {
 }
 
 /// What the names to the left of a `:=` are, in their order. Contracts see it as that list.
-#[derive(Drop)]
 pub struct ShortDecl {
     names: Vec<ShortName>,
+}
+
+impl Drop for ShortDecl {
+    fn drop(self) {
+        let ShortDecl { names: _ } = self;
+    }
 }
 
 impl Model for ShortDecl {

@@ -6,7 +6,6 @@ use go_ready_core::type_core::PackageTypes;
 use go_term_core::{Signature, TypeTerm};
 
 /// What stands in a file of a package. It holds what it names, and lends nothing of the package.
-#[derive(Drop)]
 pub struct FileAnswers {
     /// What its occurrences have, in order of place: imports, then identifiers and calls, each at its offset in bytes from the file's start.
     pub answers: Vec<Answer>,
@@ -15,6 +14,16 @@ pub struct FileAnswers {
     /// The locals that its functions declare, in order of their identifiers' places: one for each receiver, parameter, result, constant and
     /// variable that is not blank and is the first of its name in its block. A name that a short declaration uses again has none there.
     pub locals: Vec<HeldLocal>,
+}
+
+impl Drop for FileAnswers {
+    fn drop(self) {
+        let FileAnswers {
+            answers: _,
+            faults: _,
+            locals: _,
+        } = self;
+    }
 }
 
 /// A package that was checked. It holds what it names, and lends nothing of the package.

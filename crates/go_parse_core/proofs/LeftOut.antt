@@ -1,14 +1,14 @@
 -- Trees with marks, and token lists that leave out semicolons, say the same.
 use Rattle.std.proofs.Common.{subst}
 use Rattle.go_tree_nodes.specs.Terminals.{terminals}
-use Rattle.go_parse_core.specs.LeftOut.{LeftOut, signs_file, Fills_file, MarkedIsWhole, WholeIsMarked, HasOneWholeTree}
+use Rattle.go_parse_core.specs.LeftOut.{LeftOut, symbols_file, Fills_file, MarkedIsWhole, WholeIsMarked, HasOneWholeTree}
 use Rattle.go_parse_core.proofs.LeftOutFiles.{file_shown, file_filled}
 use Rattle.go_parse_core.proofs.Meanings.{has_one_tree}
 
 pub marked_is_whole : MarkedIsWhole
 marked_is_whole text m has =
     let q = file_filled m has.tree.wf in
-    let left : LeftOut (signs_file q.tree) (terminals text has.tokens) = subst (LeftOut (signs_file q.tree)) has.tree.spelled q.left_out in
+    let left : LeftOut (symbols_file q.tree) (terminals text has.tokens) = subst (LeftOut (symbols_file q.tree)) has.tree.spelled q.left_out in
     (q.tree, record { tokens = has.tokens; scanned = has.scanned; wf = q.wf; full = q.full; left_out = left }, q.fills, q.high)
 
 pub whole_is_marked : WholeIsMarked

@@ -11,7 +11,7 @@ use Rattle.go_tree_nodes.specs.Trees.{Separated, TypeTree, ExprTree, ValueSpecTr
 use Rattle.go_tree_nodes.specs.Spelling.{mark, word, spell_ident, spell_idents, spell_some_type, spell_values, spell_value_spec, spell_specs_of, spell_specs, keyword_of, spell_value, spell_type_spec, spell_types}
 use Rattle.go_tree_nodes.specs.Rules.{IsNothing, HasEnough, Wf_type, Wf_some_type, Wf_values, Wf_value_spec, Wf_group, Wf_specs, Wf_value, Wf_types}
 use Rattle.go_tree_nodes.specs.Heights.{type_height, some_type_height, values_height, value_spec_height, group_height, specs_height, value_height, types_height}
-use Rattle.go_parse_core.specs.LeftOut.{Sign, sure, Closes, sign_semicolon, signs_type, signs_some, signs_values, signs_value_spec, signs_group, signs_specs, signs_value, signs_type_spec, signs_types, Fills_type, Fills_some, Fills_values, Fills_value_spec, Fills_group, Fills_specs, Fills_value, Fills_type_spec, Fills_types}
+use Rattle.go_parse_core.specs.LeftOut.{Symbol, sure, Closes, symbol_semicolon, symbols_type, symbols_some, symbols_values, symbols_value_spec, symbols_group, symbols_specs, symbols_value, symbols_type_spec, symbols_types, Fills_type, Fills_some, Fills_values, Fills_value_spec, Fills_group, Fills_specs, Fills_value, Fills_type_spec, Fills_types}
 use Rattle.go_parse_core.proofs.LeftOutParts.{Any, Opens, opens_along, opens_not, Splits, nothing, sure_then, one_then, both, maps, loose, join_nothing, join_both, join_sure, join_one, filled, filled_fills, filled_kept, filled_full, join_loose, Good, Filled, AnyLike, higher, both_high, in_parens, join_parens}
 use Rattle.go_parse_core.proofs.LeftOutTypes.{idents_open, type_split, type_fill}
 use Rattle.go_parse_core.proofs.LeftOutExprs.{exprs_split, exprs_fill}
@@ -68,40 +68,40 @@ type_spec x t = record { name = x; type_expr = t }
 abbrev types_tree : Span → Specs TypeSpecTree → TypeDeclTree
 types_tree k specs = record { keyword = k; specs = specs }
 
-some_type_split : (t : Option TypeTree) → Wf_some_type t → Fills_some Fills_type t t → Splits Any (signs_some signs_type t) (Option TypeTree) spell_some_type (GoodSomeType t)
+some_type_split : (t : Option TypeTree) → Wf_some_type t → Fills_some Fills_type t t → Splits Any (symbols_some symbols_type t) (Option TypeTree) spell_some_type (GoodSomeType t)
 some_type_split None whole full = maps nothing (λ x. None) (λ x. refl) (λ x g. record { fills = tt; wf = tt; high = refl; like = tt })
 some_type_split (Some t) whole full = maps (type_split t whole full) (λ x. Some x) (λ x. refl) (λ x g. record { fills = g.fills; wf = g.wf; high = g.high; like = tt })
 
-some_values_split : (v : Option (Span × Separated ExprTree)) → Wf_values v → Fills_some Fills_values v v → Splits Any (signs_some signs_values v) (Option (Span × Separated ExprTree)) spell_values (GoodSomeValues v)
+some_values_split : (v : Option (Span × Separated ExprTree)) → Wf_values v → Fills_some Fills_values v v → Splits Any (symbols_some symbols_values v) (Option (Span × Separated ExprTree)) spell_values (GoodSomeValues v)
 some_values_split None whole full = maps nothing (λ x. None) (λ x. refl) (λ x g. record { fills = tt; wf = tt; high = refl; like = tt })
 some_values_split (Some (s, es)) whole full =
     maps (one_then (mark operator.Assign s) (exprs_split false es whole full.1)) (λ x. Some (s, x)) (λ x. refl) (λ x g. record { fills = (refl, g.fills); wf = g.wf; high = g.high; like = tt })
 
-value_spec_split : (kind : ValueKind) (v : ValueSpecTree) → Wf_value_spec kind v → Fills_value_spec v v → Splits Any (signs_value_spec v) ValueSpecTree spell_value_spec (GoodValueSpec kind v)
+value_spec_split : (kind : ValueKind) (v : ValueSpecTree) → Wf_value_spec kind v → Fills_value_spec v v → Splits Any (symbols_value_spec v) ValueSpecTree spell_value_spec (GoodValueSpec kind v)
 value_spec_split kind v whole full =
     maps (sure_then (spell_idents v.names) (both (some_type_split v.type_expr whole.1 full.1) (some_values_split v.values whole.2 full.2)))
     (λ x. value_spec v.names x.0 x.1) (λ x. refl)
     (λ x g. record { fills = (refl, g.0.fills, g.1.fills); wf = (enough_like kind v.type_expr x.0 v.values x.1 g.0.like g.1.like whole.0, g.0.wf, g.1.wf); high = both_high g.0.high g.1.high; like = tt })
 
-value_spec_opens : (v : ValueSpecTree) → Opens (signs_value_spec v)
+value_spec_opens : (v : ValueSpecTree) → Opens (symbols_value_spec v)
 value_spec_opens v = opens_along (sure (spell_idents v.names)) _ (idents_open v.names)
 
-type_spec_split : (t : TypeSpecTree) → Wf_type_spec t → Fills_type_spec t t → Splits Any (signs_type_spec t) TypeSpecTree spell_type_spec (GoodTypeSpec t)
+type_spec_split : (t : TypeSpecTree) → Wf_type_spec t → Fills_type_spec t t → Splits Any (symbols_type_spec t) TypeSpecTree spell_type_spec (GoodTypeSpec t)
 type_spec_split t whole full =
     maps (one_then (spell_ident t.name) (type_split t.type_expr whole full.1)) (λ x. type_spec t.name x) (λ x. refl) (λ x g. record { fills = (refl, g.fills); wf = g.wf; high = g.high; like = tt })
 
-type_spec_opens : (t : TypeSpecTree) → Opens (signs_type_spec t)
+type_spec_opens : (t : TypeSpecTree) → Opens (symbols_type_spec t)
 type_spec_opens t = λ c. c
 
 -- a group, of what its items are split by
 
-group_last : {A : Type 0} (s : A → List Sign) → ((x : A) → Opens (s x)) → (xs : List (A × Option Span)) (more : List Sign) → Closes (signs_group s xs ++ more) → IsNothing xs
+group_last : {A : Type 0} (s : A → List Symbol) → ((x : A) → Opens (s x)) → (xs : List (A × Option Span)) (more : List Symbol) → Closes (symbols_group s xs ++ more) → IsNothing xs
 group_last s opens [] more h = tt
 group_last s opens (x ∷ xs) more h =
-    let behind = sign_semicolon x.1 ++ signs_group s xs in
+    let behind = symbol_semicolon x.1 ++ symbols_group s xs in
     opens_not (s x.0 ++ behind) more (opens_along (s x.0) behind (opens x.0)) h
 
-group_split : {A : Type 0} {f : A → List Terminal} {s : A → List Sign} {F : A → A → Type 0} {W : A → Type 0} {h : A → ℕ} {L : A → A → Type 0} → ((x : A) → W x → F x x → Splits Any (s x) A f (Good F W h L x)) → ((x : A) → Opens (s x)) → (xs : List (A × Option Span)) → Wf_group W xs → Fills_group F xs xs → Splits Closes (signs_group s xs) (List (A × Option Span)) (spell_specs_of f) (Good (Fills_group F) (Wf_group W) (group_height h) GroupsLike xs)
+group_split : {A : Type 0} {f : A → List Terminal} {s : A → List Symbol} {F : A → A → Type 0} {W : A → Type 0} {h : A → ℕ} {L : A → A → Type 0} → ((x : A) → W x → F x x → Splits Any (s x) A f (Good F W h L x)) → ((x : A) → Opens (s x)) → (xs : List (A × Option Span)) → Wf_group W xs → Fills_group F xs xs → Splits Closes (symbols_group s xs) (List (A × Option Span)) (spell_specs_of f) (Good (Fills_group F) (Wf_group W) (group_height h) GroupsLike xs)
 group_split split opens [] whole full = maps nothing (λ x. []) (λ x. refl) (λ x g. record { fills = tt; wf = tt; high = refl; like = λ y. y })
 group_split split opens ((x, None) ∷ xs) whole full = absurd full.1
 group_split {A} {f} {s} split opens ((x, Some r) ∷ xs) whole full =
@@ -109,7 +109,7 @@ group_split {A} {f} {s} split opens ((x, Some r) ∷ xs) whole full =
     (λ y. (y.0, y.1.0) ∷ y.1.1) (λ y. refl)
     (λ y g. record { fills = (g.0.fills, g.1.fills, g.1.rest.fills); wf = (g.0.wf, g.1.kept, g.1.rest.wf); high = both_high g.0.high g.1.rest.high; like = λ z. z })
 
-pub specs_split : {A : Type 0} {f : A → List Terminal} {s : A → List Sign} {F : A → A → Type 0} {W : A → Type 0} {h : A → ℕ} {L : A → A → Type 0} → ((x : A) → W x → F x x → Splits Any (s x) A f (Good F W h L x)) → ((x : A) → Opens (s x)) → (specs : Specs A) → Wf_specs W specs → Fills_specs F specs specs → Splits Any (signs_specs s specs) (Specs A) (spell_specs f) (Good (Fills_specs F) (Wf_specs W) (specs_height h) AnyLike specs)
+pub specs_split : {A : Type 0} {f : A → List Terminal} {s : A → List Symbol} {F : A → A → Type 0} {W : A → Type 0} {h : A → ℕ} {L : A → A → Type 0} → ((x : A) → W x → F x x → Splits Any (s x) A f (Good F W h L x)) → ((x : A) → Opens (s x)) → (specs : Specs A) → Wf_specs W specs → Fills_specs F specs specs → Splits Any (symbols_specs s specs) (Specs A) (spell_specs f) (Good (Fills_specs F) (Wf_specs W) (specs_height h) AnyLike specs)
 specs_split split opens (Single x) whole full = maps (split x whole full) (λ y. Single y) (λ y. refl) (λ y g. record { fills = g.fills; wf = g.wf; high = g.high; like = tt })
 specs_split split opens (Group first xs last) whole full =
     maps (in_parens first last (group_split split opens xs whole full.1) (λ more. tt))
@@ -122,13 +122,13 @@ GoodValue = Good Fills_value Wf_value value_height AnyLike
 abbrev pub GoodTypes : TypeDeclTree → TypeDeclTree → Type 0
 GoodTypes = Good Fills_types Wf_types types_height AnyLike
 
-pub value_split : (v : ValueTree) → Wf_value v → Fills_value v v → Splits Any (signs_value v) ValueTree spell_value (GoodValue v)
+pub value_split : (v : ValueTree) → Wf_value v → Fills_value v v → Splits Any (symbols_value v) ValueTree spell_value (GoodValue v)
 value_split v whole full =
     maps (one_then (word (keyword_of v.kind) v.keyword) (specs_split (value_spec_split v.kind) value_spec_opens v.specs whole full.2))
     (λ x. value_tree v.kind v.keyword x) (λ x. refl)
     (λ x g. record { fills = (refl, refl, g.fills); wf = g.wf; high = higher g.high; like = tt })
 
-pub types_split : (t : TypeDeclTree) → Wf_types t → Fills_types t t → Splits Any (signs_types t) TypeDeclTree spell_types (GoodTypes t)
+pub types_split : (t : TypeDeclTree) → Wf_types t → Fills_types t t → Splits Any (symbols_types t) TypeDeclTree spell_types (GoodTypes t)
 types_split t whole full =
     maps (one_then (word keyword.«Type» t.keyword) (specs_split type_spec_split type_spec_opens t.specs whole full.1))
     (λ x. types_tree t.keyword x) (λ x. refl)
@@ -137,16 +137,16 @@ types_split t whole full =
 -- from marked declarations to whole ones
 
 abbrev FilledSomeType : Option TypeTree → Type 0
-FilledSomeType = Filled Any (signs_some signs_type) spell_some_type (Fills_some Fills_type) (Wf_some_type) some_type_height SomeLike
+FilledSomeType = Filled Any (symbols_some symbols_type) spell_some_type (Fills_some Fills_type) (Wf_some_type) some_type_height SomeLike
 
 abbrev FilledSomeValues : Option (Span × Separated ExprTree) → Type 0
-FilledSomeValues = Filled Any (signs_some signs_values) spell_values (Fills_some Fills_values) (Wf_values) values_height SomeLike
+FilledSomeValues = Filled Any (symbols_some symbols_values) spell_values (Fills_some Fills_values) (Wf_values) values_height SomeLike
 
 abbrev FilledValueSpec : ValueKind → ValueSpecTree → Type 0
-FilledValueSpec kind = Filled Any signs_value_spec spell_value_spec Fills_value_spec (Wf_value_spec kind) value_spec_height AnyLike
+FilledValueSpec kind = Filled Any symbols_value_spec spell_value_spec Fills_value_spec (Wf_value_spec kind) value_spec_height AnyLike
 
 abbrev FilledTypeSpec : TypeSpecTree → Type 0
-FilledTypeSpec = Filled Any signs_type_spec spell_type_spec Fills_type_spec Wf_type_spec type_spec_height AnyLike
+FilledTypeSpec = Filled Any symbols_type_spec spell_type_spec Fills_type_spec Wf_type_spec type_spec_height AnyLike
 
 some_type_fill : (t : Option TypeTree) → Wf_some_type t → FilledSomeType t
 some_type_fill None wf = record { tree = None; fills = tt; full = tt; wf = tt; high = refl; like = tt; joins = join_nothing }
@@ -181,11 +181,11 @@ type_spec_fill t wf =
 
 -- a group, of what its items are filled by
 
-group_end : {A : Type 0} (s : A → List Sign) (xs : List (A × Option Span)) → IsNothing xs → (more : List Sign) → Closes more → Closes (signs_group s xs ++ more)
+group_end : {A : Type 0} (s : A → List Symbol) (xs : List (A × Option Span)) → IsNothing xs → (more : List Symbol) → Closes more → Closes (symbols_group s xs ++ more)
 group_end s [] last more h = h
 group_end s (x ∷ xs) last more h = absurd last
 
-group_fill : {A : Type 0} {f : A → List Terminal} {s : A → List Sign} {F : A → A → Type 0} {W : A → Type 0} {h : A → ℕ} {L : A → A → Type 0} → ((x : A) → W x → Filled Any s f F W h L x) → (xs : List (A × Option Span)) → Wf_group W xs → Filled Closes (signs_group s) (spell_specs_of f) (Fills_group F) (Wf_group W) (group_height h) GroupsLike xs
+group_fill : {A : Type 0} {f : A → List Terminal} {s : A → List Symbol} {F : A → A → Type 0} {W : A → Type 0} {h : A → ℕ} {L : A → A → Type 0} → ((x : A) → W x → Filled Any s f F W h L x) → (xs : List (A × Option Span)) → Wf_group W xs → Filled Closes (symbols_group s) (spell_specs_of f) (Fills_group F) (Wf_group W) (group_height h) GroupsLike xs
 group_fill fill [] wf = record { tree = []; fills = tt; full = tt; wf = tt; high = refl; like = λ y. y; joins = join_nothing }
 group_fill {A} {f} {s} fill ((x, r) ∷ xs) wf =
     let q = fill x wf.0 in
@@ -200,7 +200,7 @@ group_fill {A} {f} {s} fill ((x, r) ∷ xs) wf =
       joins = join_both q.joins (join_loose r (IsNothing xs) wf.1 (λ last. group_end s m.tree (m.like last)) m.joins);
     }
 
-pub specs_fill : {A : Type 0} {f : A → List Terminal} {s : A → List Sign} {F : A → A → Type 0} {W : A → Type 0} {h : A → ℕ} {L : A → A → Type 0} → ((x : A) → W x → Filled Any s f F W h L x) → (specs : Specs A) → Wf_specs W specs → Filled Any (signs_specs s) (spell_specs f) (Fills_specs F) (Wf_specs W) (specs_height h) AnyLike specs
+pub specs_fill : {A : Type 0} {f : A → List Terminal} {s : A → List Symbol} {F : A → A → Type 0} {W : A → Type 0} {h : A → ℕ} {L : A → A → Type 0} → ((x : A) → W x → Filled Any s f F W h L x) → (specs : Specs A) → Wf_specs W specs → Filled Any (symbols_specs s) (spell_specs f) (Fills_specs F) (Wf_specs W) (specs_height h) AnyLike specs
 specs_fill fill (Single x) wf =
     let q = fill x wf in
     record { tree = Single q.tree; fills = q.fills; full = q.full; wf = q.wf; high = q.high; like = tt; joins = q.joins }
@@ -217,10 +217,10 @@ specs_fill fill (Group first xs last) wf =
     }
 
 abbrev pub FilledValue : ValueTree → Type 0
-FilledValue = Filled Any signs_value spell_value Fills_value Wf_value value_height AnyLike
+FilledValue = Filled Any symbols_value spell_value Fills_value Wf_value value_height AnyLike
 
 abbrev pub FilledTypes : TypeDeclTree → Type 0
-FilledTypes = Filled Any signs_types spell_types Fills_types Wf_types types_height AnyLike
+FilledTypes = Filled Any symbols_types spell_types Fills_types Wf_types types_height AnyLike
 
 pub value_fill : (v : ValueTree) → Wf_value v → FilledValue v
 value_fill v wf =

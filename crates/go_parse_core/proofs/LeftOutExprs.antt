@@ -7,7 +7,7 @@ use Rattle.go_tree_nodes.specs.Trees.{Separated, One, Then, ExprTree, ItemTrees,
 use Rattle.go_tree_nodes.specs.Spelling.{mark, spell_ident, spell_text, spell_some, spell_type_name, spell_key, spell, spell_items, spell_exprs, spell_some_exprs}
 use Rattle.go_tree_nodes.specs.Rules.{rank_of, unary_rank, primary_rank, is_unary, Binds, IsLastItem, Wf, Wf_items, Wf_exprs, Wf_some_exprs}
 use Rattle.go_tree_nodes.specs.Heights.{height, items_height, exprs_height, some_exprs_height}
-use Rattle.go_parse_core.specs.LeftOut.{sure, IsClosingMark, signs_some, signs_expr, signs_items, signs_exprs, signs_type, Fills_some, Fills_expr, Fills_items, Fills_exprs}
+use Rattle.go_parse_core.specs.LeftOut.{sure, IsClosingMark, symbols_some, symbols_expr, symbols_items, symbols_exprs, symbols_type, Fills_some, Fills_expr, Fills_items, Fills_exprs}
 use Rattle.go_parse_core.proofs.LeftOutParts.{Any, Opens, opens_along, Splits, nothing, sure_then, one_then, both, maps, join_nothing, join_both, join_sure, join_one, Good, Filled, AnyLike, higher, both_high, kept_like, in_parens, in_braces, join_parens, join_braces}
 use Rattle.go_parse_core.proofs.LeftOutTypes.{type_name_opens, type_opens, type_split, type_fill}
 
@@ -18,21 +18,21 @@ unary_opens operator.CloseParen e c = cc
 unary_opens operator.CloseBrace e c = cc
 unary_opens _ e c = c
 
-pub expr_opens : (header : Bool) (t : ExprTree) → Wf header t → Opens (signs_expr t)
+pub expr_opens : (header : Bool) (t : ExprTree) → Wf header t → Opens (symbols_expr t)
 expr_opens header (Integer n span) whole = λ c. c
 expr_opens header (Text t) whole = λ c. c
 expr_opens header (Named x) whole = λ c. c
 expr_opens header (Paren first t last) whole = λ c. c
 expr_opens header (Unary op span t) whole = unary_opens op whole.0
-expr_opens header (Binary a op span b) whole = opens_along (signs_expr a) _ (expr_opens header a whole.1)
-expr_opens header (Select t dot x) whole = opens_along (signs_expr t) _ (expr_opens header t whole.0)
-expr_opens header (Call t first is last) whole = opens_along (signs_expr t) _ (expr_opens header t whole.0)
+expr_opens header (Binary a op span b) whole = opens_along (symbols_expr a) _ (expr_opens header a whole.1)
+expr_opens header (Select t dot x) whole = opens_along (symbols_expr t) _ (expr_opens header t whole.0)
+expr_opens header (Call t first is last) whole = opens_along (symbols_expr t) _ (expr_opens header t whole.0)
 expr_opens header (Literal n first is last) whole = opens_along (sure (spell_type_name n)) _ (type_name_opens n)
-expr_opens header (StructLiteral t first is last) whole = opens_along (signs_type t) _ (type_opens t)
+expr_opens header (StructLiteral t first is last) whole = opens_along (symbols_type t) _ (type_opens t)
 
-pub exprs_open : (header : Bool) (es : Separated ExprTree) → Wf_exprs header es → Opens (signs_exprs es)
+pub exprs_open : (header : Bool) (es : Separated ExprTree) → Wf_exprs header es → Opens (symbols_exprs es)
 exprs_open header (One t) whole = expr_opens header t whole
-exprs_open header (Then t comma more) whole = opens_along (signs_expr t) _ (expr_opens header t whole.0)
+exprs_open header (Then t comma more) whole = opens_along (symbols_expr t) _ (expr_opens header t whole.0)
 
 -- what the rules ask of the outside of an expression
 
@@ -57,7 +57,7 @@ abbrev pub GoodSomeExprs : Option (Separated ExprTree) → Option (Separated Exp
 GoodSomeExprs = Good (Fills_some Fills_exprs) Wf_some_exprs some_exprs_height AnyLike
 
 mutual
-  pub expr_split : (header : Bool) (t : ExprTree) → Wf header t → Fills_expr t t → Splits Any (signs_expr t) ExprTree spell (GoodExpr header t)
+  pub expr_split : (header : Bool) (t : ExprTree) → Wf header t → Fills_expr t t → Splits Any (symbols_expr t) ExprTree spell (GoodExpr header t)
   expr_split header (Integer n span) whole full =
       maps (one_then (terminal (Number n) span) nothing) (λ x. Integer n span) (λ x. refl) (λ x g. record { fills = (refl, refl); wf = tt; high = refl; like = λ l y. y })
   expr_split header (Text t) whole full =
@@ -91,14 +91,14 @@ mutual
       (λ x. StructLiteral x.0 first x.1 last) (λ x. refl)
       (λ x g. record { fills = (g.0.fills, refl, g.1.fills, refl); wf = (g.0.like.1 whole.0, g.0.wf, g.1.wf); high = higher (both_high g.0.high g.1.high); like = λ l y. y })
 
-  items_split : (keyed : Bool) (is : ItemTrees) → Wf_items keyed is → Fills_items is is → Splits Any (signs_items is) ItemTrees spell_items (GoodItems keyed is)
+  items_split : (keyed : Bool) (is : ItemTrees) → Wf_items keyed is → Fills_items is is → Splits Any (symbols_items is) ItemTrees spell_items (GoodItems keyed is)
   items_split keyed NoItems whole full = maps nothing (λ x. NoItems) (λ x. refl) (λ x g. record { fills = tt; wf = tt; high = refl; like = λ y. y })
   items_split keyed (Item key t comma rest) whole full =
       maps (sure_then (spell_key key) (both (expr_split false t whole.1 full.1) (sure_then (spell_some operator.Comma comma) (items_split keyed rest whole.3 full.3))))
       (λ x. Item key x.0 comma x.1) (λ x. refl)
       (λ x g. record { fills = (refl, g.0.fills, refl, g.1.fills); wf = (whole.0, g.0.wf, kept_like comma g.1.like whole.2, g.1.wf); high = both_high g.0.high g.1.high; like = λ y. y })
 
-pub exprs_split : (header : Bool) (es : Separated ExprTree) → Wf_exprs header es → Fills_exprs es es → Splits Any (signs_exprs es) (Separated ExprTree) spell_exprs (GoodExprs header es)
+pub exprs_split : (header : Bool) (es : Separated ExprTree) → Wf_exprs header es → Fills_exprs es es → Splits Any (symbols_exprs es) (Separated ExprTree) spell_exprs (GoodExprs header es)
 exprs_split header (One t) whole full =
     maps (expr_split header t whole full) (λ x. One x) (λ x. refl) (λ x g. record { fills = g.fills; wf = g.wf; high = g.high; like = tt })
 exprs_split header (Then t comma more) whole full =
@@ -106,7 +106,7 @@ exprs_split header (Then t comma more) whole full =
     (λ x. Then x.0 comma x.1) (λ x. refl)
     (λ x g. record { fills = (g.0.fills, refl, g.1.fills); wf = (g.0.wf, g.1.wf); high = both_high g.0.high g.1.high; like = tt })
 
-pub some_exprs_split : (es : Option (Separated ExprTree)) → Wf_some_exprs es → Fills_some Fills_exprs es es → Splits Any (signs_some signs_exprs es) (Option (Separated ExprTree)) spell_some_exprs (GoodSomeExprs es)
+pub some_exprs_split : (es : Option (Separated ExprTree)) → Wf_some_exprs es → Fills_some Fills_exprs es es → Splits Any (symbols_some symbols_exprs es) (Option (Separated ExprTree)) spell_some_exprs (GoodSomeExprs es)
 some_exprs_split None whole full = maps nothing (λ x. None) (λ x. refl) (λ x g. record { fills = tt; wf = tt; high = refl; like = tt })
 some_exprs_split (Some es) whole full =
     maps (exprs_split false es whole full) (λ x. Some x) (λ x. refl) (λ x g. record { fills = g.fills; wf = g.wf; high = g.high; like = tt })
@@ -114,16 +114,16 @@ some_exprs_split (Some es) whole full =
 -- from marked expressions to whole ones
 
 abbrev pub FilledExpr : Bool → ExprTree → Type 0
-FilledExpr header = Filled Any signs_expr spell Fills_expr (Wf header) height ExprsLike
+FilledExpr header = Filled Any symbols_expr spell Fills_expr (Wf header) height ExprsLike
 
 abbrev FilledItems : Bool → ItemTrees → Type 0
-FilledItems keyed = Filled Any signs_items spell_items Fills_items (Wf_items keyed) items_height ItemsLike
+FilledItems keyed = Filled Any symbols_items spell_items Fills_items (Wf_items keyed) items_height ItemsLike
 
 abbrev pub FilledExprs : Bool → Separated ExprTree → Type 0
-FilledExprs header = Filled Any signs_exprs spell_exprs Fills_exprs (Wf_exprs header) exprs_height AnyLike
+FilledExprs header = Filled Any symbols_exprs spell_exprs Fills_exprs (Wf_exprs header) exprs_height AnyLike
 
 abbrev pub FilledSomeExprs : Option (Separated ExprTree) → Type 0
-FilledSomeExprs = Filled Any (signs_some signs_exprs) spell_some_exprs (Fills_some Fills_exprs) (Wf_some_exprs) some_exprs_height AnyLike
+FilledSomeExprs = Filled Any (symbols_some symbols_exprs) spell_some_exprs (Fills_some Fills_exprs) (Wf_some_exprs) some_exprs_height AnyLike
 
 mutual
   pub expr_fill : (header : Bool) (t : ExprTree) → Wf header t → FilledExpr header t

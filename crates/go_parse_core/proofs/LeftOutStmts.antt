@@ -8,7 +8,7 @@ use Rattle.go_tree_nodes.specs.Trees.{ExprTree, SimpleTree, Alone, Step, Assign,
 use Rattle.go_tree_nodes.specs.Spelling.{mark, word, spell_idents, spell_some, spell_simple, spell_some_simple, spell_some_expr, spell_init, spell_if, spell_for, spell_stmt, spell_branch, spell_else, spell_lines}
 use Rattle.go_tree_nodes.specs.Rules.{IsKept, IsPost, IsLastLine, MayEnd, Wf_simple, Wf_some_simple, Wf_some_expr, Wf_init, Wf_if, Wf_for, Wf_stmt, Wf_branch, Wf_else, Wf_lines}
 use Rattle.go_tree_nodes.specs.Heights.{simple_height, some_simple_height, some_expr_height, init_height, if_height, for_height, stmt_height, branch_height, else_height, lines_height}
-use Rattle.go_parse_core.specs.LeftOut.{Sign, Loose, sure, Closes, signs_some, signs_expr, signs_exprs, signs_simple, signs_init, signs_if, signs_for, signs_end, signs_stmt, signs_branch, signs_else, signs_lines, Fills_some, Fills_expr, Fills_simple, Fills_init, Fills_if, Fills_for, Fills_stmt, Fills_branch, Fills_else, Fills_lines}
+use Rattle.go_parse_core.specs.LeftOut.{Symbol, Loose, sure, Closes, symbols_some, symbols_expr, symbols_exprs, symbols_simple, symbols_init, symbols_if, symbols_for, symbols_end, symbols_stmt, symbols_branch, symbols_else, symbols_lines, Fills_some, Fills_expr, Fills_simple, Fills_init, Fills_if, Fills_for, Fills_stmt, Fills_branch, Fills_else, Fills_lines}
 use Rattle.go_tree_nodes.specs.Counts.{is_empty}
 use Rattle.go_parse_core.proofs.LeftOutParts.{Any, NoClose, Opens, opens_along, opens_not, Splits, nothing, sure_then, one_then, before, both, maps, Kept, loose, kept_then, weaken, Joins, join_nothing, join_before, join_both, join_sure, join_one, join_kept, filled, filled_fills, filled_kept, filled_full, join_loose, Good, Filled, AnyLike, higher, both_high, kept_like, in_braces, join_braces}
 use Rattle.go_parse_core.proofs.LeftOutTypes.{idents_open}
@@ -17,17 +17,17 @@ use Rattle.go_parse_core.proofs.LeftOutDecls.{value_split, value_fill}
 
 -- a statement, with the semicolon of an empty one, begins with no closing mark
 
-simple_opens : (header : Bool) (s : SimpleTree) → Wf_simple header s → Opens (signs_simple s)
+simple_opens : (header : Bool) (s : SimpleTree) → Wf_simple header s → Opens (symbols_simple s)
 simple_opens header (Alone t) whole = expr_opens header t whole
-simple_opens header (Step t op span) whole = opens_along (signs_expr t) _ (expr_opens header t whole.1)
-simple_opens header (Assign ts span es) whole = opens_along (signs_exprs ts) _ (exprs_open header ts whole.0)
-simple_opens header (Update t op span e) whole = opens_along (signs_expr t) _ (expr_opens header t whole.1)
+simple_opens header (Step t op span) whole = opens_along (symbols_expr t) _ (expr_opens header t whole.1)
+simple_opens header (Assign ts span es) whole = opens_along (symbols_exprs ts) _ (exprs_open header ts whole.0)
+simple_opens header (Update t op span e) whole = opens_along (symbols_expr t) _ (expr_opens header t whole.1)
 simple_opens header (Define xs span es) whole = opens_along (sure (spell_idents xs)) _ (idents_open xs)
 
-line_opens : (c : StmtTree) → Wf_stmt c → (s : Span) (more : List Sign) → Opens (signs_stmt c ++ (signs_end (is_empty c) (Some s) ++ more))
+line_opens : (c : StmtTree) → Wf_stmt c → (s : Span) (more : List Symbol) → Opens (symbols_stmt c ++ (symbols_end (is_empty c) (Some s) ++ more))
 line_opens Empty whole s more = λ c. c
 line_opens (Declare v) whole s more = λ c. c
-line_opens (Simple x) whole s more = opens_along (signs_simple x) _ (simple_opens false x whole)
+line_opens (Simple x) whole s more = opens_along (symbols_simple x) _ (simple_opens false x whole)
 line_opens (Return r es) whole s more = λ c. c
 line_opens (Break r) whole s more = λ c. c
 line_opens (Continue r) whole s more = λ c. c
@@ -35,25 +35,25 @@ line_opens (Block a ls z) whole s more = λ c. c
 line_opens (If (Branch k head a ls z otherwise)) whole s more = λ c. c
 line_opens (For k head a ls z) whole s more = λ c. c
 
-lines_last : (ls : Lines) → Wf_lines ls → Fills_lines ls ls → (more : List Sign) → Closes (signs_lines ls ++ more) → IsLastLine ls
+lines_last : (ls : Lines) → Wf_lines ls → Fills_lines ls ls → (more : List Symbol) → Closes (symbols_lines ls ++ more) → IsLastLine ls
 lines_last NoLines whole full more h = tt
 lines_last (Line c None rest) whole full more h = absurd full.1
 lines_last (Line c (Some s) rest) whole full more h =
-    opens_not (signs_stmt c ++ (signs_end (is_empty c) (Some s) ++ signs_lines rest)) more (line_opens c whole.0 s (signs_lines rest)) h
+    opens_not (symbols_stmt c ++ (symbols_end (is_empty c) (Some s) ++ symbols_lines rest)) more (line_opens c whole.0 s (symbols_lines rest)) h
 
-lines_end : (ls : Lines) → IsLastLine ls → (more : List Sign) → Closes more → Closes (signs_lines ls ++ more)
+lines_end : (ls : Lines) → IsLastLine ls → (more : List Symbol) → Closes more → Closes (symbols_lines ls ++ more)
 lines_end NoLines last more h = h
 lines_end (Line c s rest) last more h = absurd last
 
 -- no closing mark follows a semicolon of a header
 
-clauses_open : (t : Option ExprTree) → Wf_some_expr t → (s : Terminal) (more : List Sign) → Opens (signs_some signs_expr t ++ (Loose s ∷ more))
+clauses_open : (t : Option ExprTree) → Wf_some_expr t → (s : Terminal) (more : List Symbol) → Opens (symbols_some symbols_expr t ++ (Loose s ∷ more))
 clauses_open None whole s more = tt
-clauses_open (Some t) whole s more = opens_along (signs_expr t) _ (expr_opens true t whole)
+clauses_open (Some t) whole s more = opens_along (symbols_expr t) _ (expr_opens true t whole)
 
-post_not : (s : Option SimpleTree) → Wf_some_simple s → (more : List Sign) → NoClose more → Closes (signs_some signs_simple s ++ more) → ⊥
+post_not : (s : Option SimpleTree) → Wf_some_simple s → (more : List Symbol) → NoClose more → Closes (symbols_some symbols_simple s ++ more) → ⊥
 post_not None whole more ok c = ok c
-post_not (Some s) whole more ok c = opens_not (signs_simple s) more (simple_opens true s whole) c
+post_not (Some s) whole more ok c = opens_not (symbols_simple s) more (simple_opens true s whole) c
 
 -- an empty statement keeps its semicolon
 
@@ -116,7 +116,7 @@ GoodFor = Good Fills_for Wf_for for_height AnyLike
 abbrev if_tree : Option (Option SimpleTree × Span) → ExprTree → IfTree
 if_tree i t = record { init = i; condition = t }
 
-simple_split : (header : Bool) (s : SimpleTree) → Wf_simple header s → Fills_simple s s → Splits Any (signs_simple s) SimpleTree spell_simple (GoodSimple header s)
+simple_split : (header : Bool) (s : SimpleTree) → Wf_simple header s → Fills_simple s s → Splits Any (symbols_simple s) SimpleTree spell_simple (GoodSimple header s)
 simple_split header (Alone t) whole full =
     maps (expr_split header t whole full) (λ x. Alone x) (λ x. refl) (λ x g. record { fills = g.fills; wf = g.wf; high = higher g.high; like = λ y. y })
 simple_split header (Step t op span) whole full =
@@ -133,33 +133,33 @@ simple_split header (Define xs span es) whole full =
     maps (sure_then (spell_idents xs) (one_then (mark operator.Define span) (exprs_split header es whole full.2))) (λ x. Define xs span x) (λ x. refl)
     (λ x g. record { fills = (refl, refl, g.fills); wf = g.wf; high = higher g.high; like = λ y. y })
 
-some_simple_split : (s : Option SimpleTree) → Wf_some_simple s → Fills_some Fills_simple s s → Splits Any (signs_some signs_simple s) (Option SimpleTree) spell_some_simple (GoodSomeSimple s)
+some_simple_split : (s : Option SimpleTree) → Wf_some_simple s → Fills_some Fills_simple s s → Splits Any (symbols_some symbols_simple s) (Option SimpleTree) spell_some_simple (GoodSomeSimple s)
 some_simple_split None whole full = maps nothing (λ x. None) (λ x. refl) (λ x g. record { fills = tt; wf = tt; high = refl; like = λ y. y })
 some_simple_split (Some s) whole full = maps (simple_split true s whole full) (λ x. Some x) (λ x. refl) (λ x g. record { fills = g.fills; wf = g.wf; high = g.high; like = g.like })
 
-some_expr_split : (t : Option ExprTree) → Wf_some_expr t → Fills_some Fills_expr t t → Splits Any (signs_some signs_expr t) (Option ExprTree) spell_some_expr (GoodSomeExpr t)
+some_expr_split : (t : Option ExprTree) → Wf_some_expr t → Fills_some Fills_expr t t → Splits Any (symbols_some symbols_expr t) (Option ExprTree) spell_some_expr (GoodSomeExpr t)
 some_expr_split None whole full = maps nothing (λ x. None) (λ x. refl) (λ x g. record { fills = tt; wf = tt; high = refl; like = tt })
 some_expr_split (Some t) whole full = maps (expr_split true t whole full) (λ x. Some x) (λ x. refl) (λ x g. record { fills = g.fills; wf = g.wf; high = g.high; like = tt })
 
-init_split : (i : Option (Option SimpleTree × Span)) → Wf_init i → Fills_some Fills_init i i → Splits NoClose (signs_init i) (Option (Option SimpleTree × Span)) spell_init (GoodInit i)
+init_split : (i : Option (Option SimpleTree × Span)) → Wf_init i → Fills_some Fills_init i i → Splits NoClose (symbols_init i) (Option (Option SimpleTree × Span)) spell_init (GoodInit i)
 init_split None whole full = maps nothing (λ x. None) (λ x. refl) (λ x g. record { fills = tt; wf = tt; high = refl; like = tt })
 init_split (Some (s, r)) whole full =
     maps (both (some_simple_split s whole full.0) (kept_then (mark operator.Semicolon r) (λ more ok c. ok c) nothing)) (λ x. Some (x.0, r)) (λ x. refl)
     (λ x g. record { fills = (g.0.fills, refl); wf = g.0.wf; high = g.0.high; like = tt })
 
-if_split : (h : IfTree) → Wf_if h → Fills_if h h → Splits Any (signs_if h) IfTree spell_if (GoodIf h)
+if_split : (h : IfTree) → Wf_if h → Fills_if h h → Splits Any (symbols_if h) IfTree spell_if (GoodIf h)
 if_split h whole full =
-    maps (before (init_split h.init whole.0 full.0) (expr_split true h.condition whole.1 full.1) (λ more ok c. opens_not (signs_expr h.condition) more (expr_opens true h.condition whole.1) c))
+    maps (before (init_split h.init whole.0 full.0) (expr_split true h.condition whole.1 full.1) (λ more ok c. opens_not (symbols_expr h.condition) more (expr_opens true h.condition whole.1) c))
     (λ x. if_tree x.0 x.1) (λ x. refl)
     (λ x g. record { fills = (g.0.fills, g.1.fills); wf = (g.0.wf, g.1.wf); high = both_high g.0.high g.1.high; like = tt })
 
-for_split : (h : ForTree) → Wf_for h → Fills_for h h → Splits NoClose (signs_for h) ForTree spell_for (GoodFor h)
+for_split : (h : ForTree) → Wf_for h → Fills_for h h → Splits NoClose (symbols_for h) ForTree spell_for (GoodFor h)
 for_split Forever whole full = maps nothing (λ x. Forever) (λ x. refl) (λ x g. record { fills = tt; wf = tt; high = refl; like = tt })
 for_split (While t) whole full =
     maps (weaken (expr_split true t whole full)) (λ x. While x) (λ x. refl) (λ x g. record { fills = g.fills; wf = g.wf; high = g.high; like = tt })
 for_split (Clauses init a t b post) whole full =
     let second = mark operator.Semicolon b in
-    maps (both (some_simple_split init whole.0 full.0) (kept_then (mark operator.Semicolon a) (λ more ok c. opens_not (signs_some signs_expr t ++ (Loose second ∷ signs_some signs_simple post)) more (clauses_open t whole.1 second (signs_some signs_simple post)) c)
+    maps (both (some_simple_split init whole.0 full.0) (kept_then (mark operator.Semicolon a) (λ more ok c. opens_not (symbols_some symbols_expr t ++ (Loose second ∷ symbols_some symbols_simple post)) more (clauses_open t whole.1 second (symbols_some symbols_simple post)) c)
     (both (some_expr_split t whole.1 full.2) (kept_then second (post_not post whole.2) (weaken (some_simple_split post whole.2 full.4)))))) (λ x. Clauses x.0 a x.1.0 b x.1.1) (λ x. refl)
     (λ x g. record { fills = (g.0.fills, refl, g.1.0.fills, refl, g.1.1.fills); wf = (g.0.wf, g.1.0.wf, g.1.1.wf, g.1.1.like whole.3); high = both_high g.0.high (both_high g.1.0.high g.1.1.high); like = tt })
 
@@ -179,12 +179,12 @@ GoodLines = Good Fills_lines Wf_lines lines_height LinesLike
 abbrev IsEnd : Bool → Lines → Type 0
 IsEnd empty rest = (empty ≡ false) × IsLastLine rest
 
-end_split : (empty : Bool) (s : Span) (rest : Lines) → Wf_lines rest → Fills_lines rest rest → Splits Closes (signs_lines rest) Lines spell_lines (GoodLines rest) → Splits Closes (signs_end empty (Some s) ++ signs_lines rest) (Option Span × Lines) (λ x. spell_some operator.Semicolon x.0 ++ spell_lines x.1) (Kept s (IsEnd empty) (GoodLines rest))
+end_split : (empty : Bool) (s : Span) (rest : Lines) → Wf_lines rest → Fills_lines rest rest → Splits Closes (symbols_lines rest) Lines spell_lines (GoodLines rest) → Splits Closes (symbols_end empty (Some s) ++ symbols_lines rest) (Option Span × Lines) (λ x. spell_some operator.Semicolon x.0 ++ spell_lines x.1) (Kept s (IsEnd empty) (GoodLines rest))
 end_split true s rest whole full p = maps (one_then (mark operator.Semicolon s) p) (λ x. (Some s, x)) (λ x. refl) (λ x g. record { fills = refl; kept = tt; rest = g })
 end_split false s rest whole full p = loose s (IsLastLine rest) (IsEnd false) (lines_last rest whole full) (λ x g last. (refl, g.like last)) p
 
 mutual
-  stmt_split : (c : StmtTree) → Wf_stmt c → Fills_stmt c c → Splits Any (signs_stmt c) StmtTree spell_stmt (GoodStmt c)
+  stmt_split : (c : StmtTree) → Wf_stmt c → Fills_stmt c c → Splits Any (symbols_stmt c) StmtTree spell_stmt (GoodStmt c)
   stmt_split Empty whole full = maps nothing (λ x. Empty) (λ x. refl) (λ x g. record { fills = tt; wf = tt; high = refl; like = refl })
   stmt_split (Declare v) whole full = maps (value_split v whole full) (λ x. Declare x) (λ x. refl) (λ x g. record { fills = g.fills; wf = g.wf; high = g.high; like = refl })
   stmt_split (Simple s) whole full = maps (simple_split false s whole full) (λ x. Simple x) (λ x. refl) (λ x g. record { fills = g.fills; wf = g.wf; high = g.high; like = refl })
@@ -202,13 +202,13 @@ mutual
       (λ x. For k x.0 first x.1 last) (λ x. refl)
       (λ x g. record { fills = (refl, g.0.fills, refl, g.1.fills, refl); wf = (g.0.wf, g.1.wf); high = higher (both_high g.0.high (higher g.1.high)); like = refl })
 
-  branch_split : (b : BranchTree) → Wf_branch b → Fills_branch b b → Splits Any (signs_branch b) BranchTree spell_branch (GoodBranch b)
+  branch_split : (b : BranchTree) → Wf_branch b → Fills_branch b b → Splits Any (symbols_branch b) BranchTree spell_branch (GoodBranch b)
   branch_split (Branch k head first ls last otherwise) whole full =
       maps (one_then (word keyword.If k) (both (if_split head whole.0 full.1) (one_then (mark operator.OpenBrace first) (before (lines_split ls whole.1 full.3) (one_then (mark operator.CloseBrace last) (else_split otherwise whole.2 full.5)) (λ more ok. tt)))))
       (λ x. Branch k x.0 first x.1.0 last x.1.1) (λ x. refl)
       (λ x g. record { fills = (refl, g.0.fills, refl, g.1.0.fills, refl, g.1.1.fills); wf = (g.0.wf, g.1.0.wf, g.1.1.wf); high = higher (both_high g.0.high (both_high (higher g.1.0.high) g.1.1.high)); like = tt })
 
-  else_split : (e : ElseTree) → Wf_else e → Fills_else e e → Splits Any (signs_else e) ElseTree spell_else (GoodElse e)
+  else_split : (e : ElseTree) → Wf_else e → Fills_else e e → Splits Any (symbols_else e) ElseTree spell_else (GoodElse e)
   else_split NoElse whole full = maps nothing (λ x. NoElse) (λ x. refl) (λ x g. record { fills = tt; wf = tt; high = refl; like = tt })
   else_split (ElseBlock k first ls last) whole full =
       maps (one_then (word keyword.Else k) (in_braces first last (lines_split ls whole full.2) (λ more. tt)))
@@ -217,7 +217,7 @@ mutual
   else_split (ElseIf k b) whole full =
       maps (one_then (word keyword.Else k) (branch_split b whole full.1)) (λ x. ElseIf k x) (λ x. refl) (λ x g. record { fills = (refl, g.fills); wf = g.wf; high = g.high; like = tt })
 
-  pub lines_split : (ls : Lines) → Wf_lines ls → Fills_lines ls ls → Splits Closes (signs_lines ls) Lines spell_lines (GoodLines ls)
+  pub lines_split : (ls : Lines) → Wf_lines ls → Fills_lines ls ls → Splits Closes (symbols_lines ls) Lines spell_lines (GoodLines ls)
   lines_split NoLines whole full = maps nothing (λ x. NoLines) (λ x. refl) (λ x g. record { fills = tt; wf = tt; high = refl; like = λ y. y })
   lines_split (Line c None rest) whole full = absurd full.1
   lines_split (Line c (Some s) rest) whole full =
@@ -227,22 +227,22 @@ mutual
 -- from marked statements to whole ones
 
 abbrev FilledSimple : Bool → SimpleTree → Type 0
-FilledSimple header = Filled Any signs_simple spell_simple Fills_simple (Wf_simple header) simple_height SimplesLike
+FilledSimple header = Filled Any symbols_simple spell_simple Fills_simple (Wf_simple header) simple_height SimplesLike
 
 abbrev FilledSomeSimple : Option SimpleTree → Type 0
-FilledSomeSimple = Filled Any (signs_some signs_simple) spell_some_simple (Fills_some Fills_simple) (Wf_some_simple) some_simple_height SomeSimplesLike
+FilledSomeSimple = Filled Any (symbols_some symbols_simple) spell_some_simple (Fills_some Fills_simple) (Wf_some_simple) some_simple_height SomeSimplesLike
 
 abbrev FilledSomeExpr : Option ExprTree → Type 0
-FilledSomeExpr = Filled Any (signs_some signs_expr) spell_some_expr (Fills_some Fills_expr) (Wf_some_expr) some_expr_height AnyLike
+FilledSomeExpr = Filled Any (symbols_some symbols_expr) spell_some_expr (Fills_some Fills_expr) (Wf_some_expr) some_expr_height AnyLike
 
 abbrev FilledInit : Option (Option SimpleTree × Span) → Type 0
-FilledInit = Filled Any signs_init spell_init (Fills_some Fills_init) Wf_init init_height AnyLike
+FilledInit = Filled Any symbols_init spell_init (Fills_some Fills_init) Wf_init init_height AnyLike
 
 abbrev FilledIf : IfTree → Type 0
-FilledIf = Filled Any signs_if spell_if Fills_if Wf_if if_height AnyLike
+FilledIf = Filled Any symbols_if spell_if Fills_if Wf_if if_height AnyLike
 
 abbrev FilledFor : ForTree → Type 0
-FilledFor = Filled Any signs_for spell_for Fills_for Wf_for for_height AnyLike
+FilledFor = Filled Any symbols_for spell_for Fills_for Wf_for for_height AnyLike
 
 simple_fill : (header : Bool) (s : SimpleTree) → Wf_simple header s → FilledSimple header s
 simple_fill header (Alone t) wf =
@@ -355,18 +355,18 @@ for_fill (Clauses init a t b post) wf =
     }
 
 abbrev FilledStmt : StmtTree → Type 0
-FilledStmt = Filled Any signs_stmt spell_stmt Fills_stmt Wf_stmt stmt_height StmtsLike
+FilledStmt = Filled Any symbols_stmt spell_stmt Fills_stmt Wf_stmt stmt_height StmtsLike
 
 abbrev FilledBranch : BranchTree → Type 0
-FilledBranch = Filled Any signs_branch spell_branch Fills_branch Wf_branch branch_height AnyLike
+FilledBranch = Filled Any symbols_branch spell_branch Fills_branch Wf_branch branch_height AnyLike
 
 abbrev FilledElse : ElseTree → Type 0
-FilledElse = Filled Any signs_else spell_else Fills_else Wf_else else_height AnyLike
+FilledElse = Filled Any symbols_else spell_else Fills_else Wf_else else_height AnyLike
 
 abbrev pub FilledLines : Lines → Type 0
-FilledLines = Filled Closes signs_lines spell_lines Fills_lines Wf_lines lines_height LinesLike
+FilledLines = Filled Closes symbols_lines spell_lines Fills_lines Wf_lines lines_height LinesLike
 
-end_joins : (empty : Bool) (s : Option Span) (rest : Lines) (q : FilledLines rest) → IsKept s (IsEnd empty rest) → Joins Closes (signs_end empty (filled s) ++ signs_lines q.tree) (spell_some operator.Semicolon s ++ spell_lines rest)
+end_joins : (empty : Bool) (s : Option Span) (rest : Lines) (q : FilledLines rest) → IsKept s (IsEnd empty rest) → Joins Closes (symbols_end empty (filled s) ++ symbols_lines q.tree) (spell_some operator.Semicolon s ++ spell_lines rest)
 end_joins true (Some s) rest q kept = join_one (mark operator.Semicolon s) q.joins
 end_joins true None rest q kept = absurd (not_false kept.0)
   where

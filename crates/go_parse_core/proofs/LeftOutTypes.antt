@@ -10,7 +10,7 @@ use Rattle.go_tree_nodes.specs.Trees.{Separated, One, Then, TypeTree, FieldTrees
 use Rattle.go_tree_nodes.specs.Spelling.{mark, word, spell_ident, spell_idents, spell_some, spell_type_name, spell_tag, spell_names, spell_type, spell_fields, spell_methods, spell_signature, spell_result, spell_params}
 use Rattle.go_tree_nodes.specs.Rules.{IsLastField, IsLastMethod, IsLastParam, is_grouped, IsBare, IsStructType, Wf_type, Wf_fields, Wf_methods, Wf_signature, Wf_result, Wf_params}
 use Rattle.go_tree_nodes.specs.Heights.{type_height, fields_height, methods_height, signature_height, result_height, params_height}
-use Rattle.go_parse_core.specs.LeftOut.{Sign, sure, Closes, signs_type, signs_fields, signs_methods, signs_signature, signs_result, signs_params, sign_semicolon, Fills_type, Fills_fields, Fills_methods, Fills_signature, Fills_result, Fills_params}
+use Rattle.go_parse_core.specs.LeftOut.{Symbol, sure, Closes, symbols_type, symbols_fields, symbols_methods, symbols_signature, symbols_result, symbols_params, symbol_semicolon, Fills_type, Fills_fields, Fills_methods, Fills_signature, Fills_result, Fills_params}
 use Rattle.go_parse_core.proofs.LeftOutParts.{Any, Opens, opens_along, opens_not, Splits, nothing, sures, sure_then, one_then, both, maps, loose, join_nothing, join_sures, join_both, join_sure, join_one, filled, filled_fills, filled_kept, filled_full, join_loose, Good, Filled, AnyLike, higher, both_high, kept_like, in_parens, in_braces, join_parens, join_braces}
 
 -- what a type begins with
@@ -23,39 +23,39 @@ pub type_name_opens : (n : TypeName) → Opens (sure (spell_type_name n))
 type_name_opens (type_name.Plain x) = λ c. c
 type_name_opens (type_name.Qualified p dot x) = λ c. c
 
-pub type_opens : (t : TypeTree) → Opens (signs_type t)
+pub type_opens : (t : TypeTree) → Opens (symbols_type t)
 type_opens (NamedType n) = type_name_opens n
 type_opens (Pointer star t) = λ c. c
 type_opens (ParenType first t last) = λ c. c
 type_opens (Struct k first fs last) = λ c. c
 type_opens (Interface k first ms last) = λ c. c
 
-starred_opens : (star : Option Span) (n : TypeName) (more : List Sign) → Opens (sure (spell_some operator.Star star) ++ (sure (spell_type_name n) ++ more))
+starred_opens : (star : Option Span) (n : TypeName) (more : List Symbol) → Opens (sure (spell_some operator.Star star) ++ (sure (spell_type_name n) ++ more))
 starred_opens (Some s) n more = λ c. c
 starred_opens None n more = opens_along (sure (spell_type_name n)) more (type_name_opens n)
 
 -- a list that begins with a closing mark is empty
 
-fields_last : (fs : FieldTrees) (more : List Sign) → Closes (signs_fields fs ++ more) → IsLastField fs
+fields_last : (fs : FieldTrees) (more : List Symbol) → Closes (symbols_fields fs ++ more) → IsLastField fs
 fields_last NoFields more h = tt
 fields_last (NamedFields xs t tag s rest) more h =
     let front = sure (spell_idents xs) in
-    let behind = signs_type t ++ (sure (spell_tag tag) ++ (sign_semicolon s ++ signs_fields rest)) in
+    let behind = symbols_type t ++ (sure (spell_tag tag) ++ (symbol_semicolon s ++ symbols_fields rest)) in
     opens_not (front ++ behind) more (opens_along front behind (idents_open xs)) h
 fields_last (EmbeddedField star n tag s rest) more h =
-    let behind = sure (spell_tag tag) ++ (sign_semicolon s ++ signs_fields rest) in
+    let behind = sure (spell_tag tag) ++ (symbol_semicolon s ++ symbols_fields rest) in
     opens_not (sure (spell_some operator.Star star) ++ (sure (spell_type_name n) ++ behind)) more (starred_opens star n behind) h
 
-methods_last : (ms : MethodTrees) (more : List Sign) → Closes (signs_methods ms ++ more) → IsLastMethod ms
+methods_last : (ms : MethodTrees) (more : List Symbol) → Closes (symbols_methods ms ++ more) → IsLastMethod ms
 methods_last NoMethods more h = tt
 methods_last (Method x signature s rest) more h = h
 
-fields_end : (fs : FieldTrees) → IsLastField fs → (more : List Sign) → Closes more → Closes (signs_fields fs ++ more)
+fields_end : (fs : FieldTrees) → IsLastField fs → (more : List Symbol) → Closes more → Closes (symbols_fields fs ++ more)
 fields_end NoFields last more h = h
 fields_end (NamedFields xs t tag s rest) last more h = absurd last
 fields_end (EmbeddedField star n tag s rest) last more h = absurd last
 
-methods_end : (ms : MethodTrees) → IsLastMethod ms → (more : List Sign) → Closes more → Closes (signs_methods ms ++ more)
+methods_end : (ms : MethodTrees) → IsLastMethod ms → (more : List Symbol) → Closes more → Closes (symbols_methods ms ++ more)
 methods_end NoMethods last more h = h
 methods_end (Method x signature s rest) last more h = absurd last
 
@@ -94,7 +94,7 @@ abbrev GoodParams : Bool → ParamTrees → ParamTrees → Type 0
 GoodParams groups = Good Fills_params (Wf_params groups) params_height ParamsLike
 
 mutual
-  pub type_split : (t : TypeTree) → Wf_type t → Fills_type t t → Splits Any (signs_type t) TypeTree spell_type (GoodType t)
+  pub type_split : (t : TypeTree) → Wf_type t → Fills_type t t → Splits Any (symbols_type t) TypeTree spell_type (GoodType t)
   type_split (NamedType n) whole full =
       maps (sures (spell_type_name n)) (λ x. NamedType n) (λ x. refl) (λ x g. record { fills = refl; wf = tt; high = refl; like = (λ y. y, λ y. y) })
   type_split (Pointer star t) whole full =
@@ -113,7 +113,7 @@ mutual
       (λ x. Interface k first x last) (λ x. refl)
       (λ x g. record { fills = (refl, refl, g.fills, refl); wf = g.wf; high = higher g.high; like = (λ y. y, λ y. y) })
 
-  fields_split : (fs : FieldTrees) → Wf_fields fs → Fills_fields fs fs → Splits Closes (signs_fields fs) FieldTrees spell_fields (GoodFields fs)
+  fields_split : (fs : FieldTrees) → Wf_fields fs → Fills_fields fs fs → Splits Closes (symbols_fields fs) FieldTrees spell_fields (GoodFields fs)
   fields_split NoFields whole full = maps nothing (λ x. NoFields) (λ x. refl) (λ x g. record { fills = tt; wf = tt; high = refl; like = λ y. y })
   fields_split (NamedFields xs t tag None rest) whole full = absurd full.3
   fields_split (NamedFields xs t tag (Some s) rest) whole full =
@@ -126,7 +126,7 @@ mutual
       (λ x. EmbeddedField star n tag x.0 x.1) (λ x. refl)
       (λ x g. record { fills = (refl, refl, refl, g.fills, g.rest.fills); wf = (g.kept, g.rest.wf); high = both_high refl g.rest.high; like = λ y. y })
 
-  methods_split : (ms : MethodTrees) → Wf_methods ms → Fills_methods ms ms → Splits Closes (signs_methods ms) MethodTrees spell_methods (GoodMethods ms)
+  methods_split : (ms : MethodTrees) → Wf_methods ms → Fills_methods ms ms → Splits Closes (symbols_methods ms) MethodTrees spell_methods (GoodMethods ms)
   methods_split NoMethods whole full = maps nothing (λ x. NoMethods) (λ x. refl) (λ x g. record { fills = tt; wf = tt; high = refl; like = λ y. y })
   methods_split (Method x signature None rest) whole full = absurd full.2
   methods_split (Method n signature (Some s) rest) whole full =
@@ -134,13 +134,13 @@ mutual
       (λ x. Method n x.0 x.1.0 x.1.1) (λ x. refl)
       (λ x g. record { fills = (refl, g.0.fills, g.1.fills, g.1.rest.fills); wf = (g.0.wf, g.1.kept, g.1.rest.wf); high = both_high g.0.high g.1.rest.high; like = λ y. y })
 
-  pub signature_split : (g : SignatureTree) → Wf_signature g → Fills_signature g g → Splits Any (signs_signature g) SignatureTree spell_signature (GoodSignature g)
+  pub signature_split : (g : SignatureTree) → Wf_signature g → Fills_signature g g → Splits Any (symbols_signature g) SignatureTree spell_signature (GoodSignature g)
   signature_split (Signed first params last result) whole full =
       maps (one_then (mark operator.OpenParen first) (both (params_split (is_grouped params) params whole.0 full.1) (one_then (mark operator.CloseParen last) (result_split result whole.1 full.3))))
       (λ x. Signed first x.0 last x.1) (λ x. refl)
       (λ x g. record { fills = (refl, g.0.fills, refl, g.1.fills); wf = (subst (λ b. Wf_params b x.0) g.0.like.1 g.0.wf, g.1.wf); high = both_high g.0.high g.1.high; like = tt })
 
-  result_split : (r : ResultTree) → Wf_result r → Fills_result r r → Splits Any (signs_result r) ResultTree spell_result (GoodResult r)
+  result_split : (r : ResultTree) → Wf_result r → Fills_result r r → Splits Any (symbols_result r) ResultTree spell_result (GoodResult r)
   result_split NoResult whole full = maps nothing (λ x. NoResult) (λ x. refl) (λ x g. record { fills = tt; wf = tt; high = refl; like = tt })
   result_split (OneResult t) whole full =
       maps (type_split t whole.0 full) (λ x. OneResult x) (λ x. refl) (λ x g. record { fills = g.fills; wf = (g.wf, g.like.0 whole.1); high = g.high; like = tt })
@@ -149,7 +149,7 @@ mutual
       (λ x. Results first x last) (λ x. refl)
       (λ x g. record { fills = (refl, g.fills, refl); wf = subst (λ b. Wf_params b x) g.like.1 g.wf; high = g.high; like = tt })
 
-  params_split : (groups : Bool) (ps : ParamTrees) → Wf_params groups ps → Fills_params ps ps → Splits Any (signs_params ps) ParamTrees spell_params (GoodParams groups ps)
+  params_split : (groups : Bool) (ps : ParamTrees) → Wf_params groups ps → Fills_params ps ps → Splits Any (symbols_params ps) ParamTrees spell_params (GoodParams groups ps)
   params_split groups NoParams whole full = maps nothing (λ x. NoParams) (λ x. refl) (λ x g. record { fills = tt; wf = tt; high = refl; like = (λ y. y, refl) })
   params_split groups (Param xs t comma rest) whole full =
       maps (sure_then (spell_names xs) (both (type_split t whole.1 full.1) (sure_then (spell_some operator.Comma comma) (params_split groups rest whole.3 full.3))))
@@ -159,22 +159,22 @@ mutual
 -- from marked types to whole ones
 
 abbrev pub FilledType : TypeTree → Type 0
-FilledType = Filled Any signs_type spell_type Fills_type Wf_type type_height TypesLike
+FilledType = Filled Any symbols_type spell_type Fills_type Wf_type type_height TypesLike
 
 abbrev FilledFields : FieldTrees → Type 0
-FilledFields = Filled Closes signs_fields spell_fields Fills_fields Wf_fields fields_height FieldsLike
+FilledFields = Filled Closes symbols_fields spell_fields Fills_fields Wf_fields fields_height FieldsLike
 
 abbrev FilledMethods : MethodTrees → Type 0
-FilledMethods = Filled Closes signs_methods spell_methods Fills_methods Wf_methods methods_height MethodsLike
+FilledMethods = Filled Closes symbols_methods spell_methods Fills_methods Wf_methods methods_height MethodsLike
 
 abbrev pub FilledSignature : SignatureTree → Type 0
-FilledSignature = Filled Any signs_signature spell_signature Fills_signature Wf_signature signature_height AnyLike
+FilledSignature = Filled Any symbols_signature spell_signature Fills_signature Wf_signature signature_height AnyLike
 
 abbrev FilledResult : ResultTree → Type 0
-FilledResult = Filled Any signs_result spell_result Fills_result Wf_result result_height AnyLike
+FilledResult = Filled Any symbols_result spell_result Fills_result Wf_result result_height AnyLike
 
 abbrev FilledParams : Bool → ParamTrees → Type 0
-FilledParams groups = Filled Any signs_params spell_params Fills_params (Wf_params groups) params_height ParamsLike
+FilledParams groups = Filled Any symbols_params spell_params Fills_params (Wf_params groups) params_height ParamsLike
 
 mutual
   pub type_fill : (t : TypeTree) → Wf_type t → FilledType t

@@ -15,11 +15,11 @@ use Rattle.go_tree_nodes.specs.Heights.{file_height}
 use Rattle.go_parse_core.specs.Correct.{HasTree}
 
 -- what a tree writes: a terminal that stands there, or a semicolon that may be left out
-pub data Sign : Type 0 where
-  Sure : Terminal → Sign
-  Loose : Terminal → Sign
+pub data Symbol : Type 0 where
+  Sure : Terminal → Symbol
+  Loose : Terminal → Symbol
 
-abbrev pub sure : List Terminal → List Sign
+abbrev pub sure : List Terminal → List Symbol
 sure [] = []
 sure (t ∷ ts) = Sure t ∷ sure ts
 
@@ -34,182 +34,182 @@ IsClosing (Mark o) = IsClosingMark o
 IsClosing _ = ⊥
 
 -- a closing mark comes first
-abbrev pub Closes : List Sign → Type 0
+abbrev pub Closes : List Symbol → Type 0
 Closes (Sure t ∷ more) = IsClosing t.kind
 Closes _ = ⊥
 
--- the terminals are these signs, with some semicolons left out directly before a closing mark
-abbrev pub LeftOut : List Sign → List Terminal → Type 0
+-- the terminals are these symbols, with some semicolons left out directly before a closing mark
+abbrev pub LeftOut : List Symbol → List Terminal → Type 0
 LeftOut [] ts = ts ≡ []
 LeftOut (Sure t ∷ more) ts = (rest : List Terminal) × (ts ≡ t ∷ rest) × LeftOut more rest
 LeftOut (Loose t ∷ more) ts = ((rest : List Terminal) × (ts ≡ t ∷ rest) × LeftOut more rest) ⊎ (Closes more × LeftOut more ts)
 
--- what a tree writes, with each semicolon that may be left out. Those of headers and of the package block are such signs
+-- what a tree writes, with each semicolon that may be left out. Those of headers and of the package block are such symbols
 -- too; no closing mark follows them
 
-abbrev pub sign_semicolon : Option Span → List Sign
-sign_semicolon None = []
-sign_semicolon (Some s) = Loose (mark operator.Semicolon s) ∷ []
+abbrev pub symbol_semicolon : Option Span → List Symbol
+symbol_semicolon None = []
+symbol_semicolon (Some s) = Loose (mark operator.Semicolon s) ∷ []
 
 -- types
 
 abbrev mutual
-  pub signs_type : TypeTree → List Sign
-  signs_type (NamedType n) = sure (spell_type_name n)
-  signs_type (Pointer star t) = Sure (mark operator.Star star) ∷ signs_type t
-  signs_type (ParenType first t last) = Sure (mark operator.OpenParen first) ∷ (signs_type t ++ Sure (mark operator.CloseParen last) ∷ [])
-  signs_type (Struct k first fs last) = Sure (word keyword.Struct k) ∷ (Sure (mark operator.OpenBrace first) ∷ (signs_fields fs ++ Sure (mark operator.CloseBrace last) ∷ []))
-  signs_type (Interface k first ms last) = Sure (word keyword.Interface k) ∷ (Sure (mark operator.OpenBrace first) ∷ (signs_methods ms ++ Sure (mark operator.CloseBrace last) ∷ []))
+  pub symbols_type : TypeTree → List Symbol
+  symbols_type (NamedType n) = sure (spell_type_name n)
+  symbols_type (Pointer star t) = Sure (mark operator.Star star) ∷ symbols_type t
+  symbols_type (ParenType first t last) = Sure (mark operator.OpenParen first) ∷ (symbols_type t ++ Sure (mark operator.CloseParen last) ∷ [])
+  symbols_type (Struct k first fs last) = Sure (word keyword.Struct k) ∷ (Sure (mark operator.OpenBrace first) ∷ (symbols_fields fs ++ Sure (mark operator.CloseBrace last) ∷ []))
+  symbols_type (Interface k first ms last) = Sure (word keyword.Interface k) ∷ (Sure (mark operator.OpenBrace first) ∷ (symbols_methods ms ++ Sure (mark operator.CloseBrace last) ∷ []))
 
-  pub signs_fields : FieldTrees → List Sign
-  signs_fields NoFields = []
-  signs_fields (NamedFields xs t tag s rest) = sure (spell_idents xs) ++ (signs_type t ++ (sure (spell_tag tag) ++ (sign_semicolon s ++ signs_fields rest)))
-  signs_fields (EmbeddedField star n tag s rest) = sure (spell_some operator.Star star) ++ (sure (spell_type_name n) ++ (sure (spell_tag tag) ++ (sign_semicolon s ++ signs_fields rest)))
+  pub symbols_fields : FieldTrees → List Symbol
+  symbols_fields NoFields = []
+  symbols_fields (NamedFields xs t tag s rest) = sure (spell_idents xs) ++ (symbols_type t ++ (sure (spell_tag tag) ++ (symbol_semicolon s ++ symbols_fields rest)))
+  symbols_fields (EmbeddedField star n tag s rest) = sure (spell_some operator.Star star) ++ (sure (spell_type_name n) ++ (sure (spell_tag tag) ++ (symbol_semicolon s ++ symbols_fields rest)))
 
-  pub signs_methods : MethodTrees → List Sign
-  signs_methods NoMethods = []
-  signs_methods (Method x signature s rest) = Sure (spell_ident x) ∷ (signs_signature signature ++ (sign_semicolon s ++ signs_methods rest))
+  pub symbols_methods : MethodTrees → List Symbol
+  symbols_methods NoMethods = []
+  symbols_methods (Method x signature s rest) = Sure (spell_ident x) ∷ (symbols_signature signature ++ (symbol_semicolon s ++ symbols_methods rest))
 
-  pub signs_signature : SignatureTree → List Sign
-  signs_signature (Signed first params last result) = Sure (mark operator.OpenParen first) ∷ (signs_params params ++ (Sure (mark operator.CloseParen last) ∷ signs_result result))
+  pub symbols_signature : SignatureTree → List Symbol
+  symbols_signature (Signed first params last result) = Sure (mark operator.OpenParen first) ∷ (symbols_params params ++ (Sure (mark operator.CloseParen last) ∷ symbols_result result))
 
-  pub signs_result : ResultTree → List Sign
-  signs_result NoResult = []
-  signs_result (OneResult t) = signs_type t
-  signs_result (Results first params last) = Sure (mark operator.OpenParen first) ∷ (signs_params params ++ Sure (mark operator.CloseParen last) ∷ [])
+  pub symbols_result : ResultTree → List Symbol
+  symbols_result NoResult = []
+  symbols_result (OneResult t) = symbols_type t
+  symbols_result (Results first params last) = Sure (mark operator.OpenParen first) ∷ (symbols_params params ++ Sure (mark operator.CloseParen last) ∷ [])
 
-  pub signs_params : ParamTrees → List Sign
-  signs_params NoParams = []
-  signs_params (Param xs t comma rest) = sure (spell_names xs) ++ (signs_type t ++ (sure (spell_some operator.Comma comma) ++ signs_params rest))
+  pub symbols_params : ParamTrees → List Symbol
+  symbols_params NoParams = []
+  symbols_params (Param xs t comma rest) = sure (spell_names xs) ++ (symbols_type t ++ (sure (spell_some operator.Comma comma) ++ symbols_params rest))
 
 -- what a tree writes that may not be there
-abbrev pub signs_some : {A : Type 0} → (A → List Sign) → Option A → List Sign
-signs_some f None = []
-signs_some f (Some x) = f x
+abbrev pub symbols_some : {A : Type 0} → (A → List Symbol) → Option A → List Symbol
+symbols_some f None = []
+symbols_some f (Some x) = f x
 
 -- expressions
 
 abbrev mutual
-  pub signs_expr : ExprTree → List Sign
-  signs_expr (Integer n span) = Sure (terminal (Number n) span) ∷ []
-  signs_expr (Text t) = Sure (spell_text t) ∷ []
-  signs_expr (Named x) = Sure (spell_ident x) ∷ []
-  signs_expr (Paren first t last) = Sure (mark operator.OpenParen first) ∷ (signs_expr t ++ Sure (mark operator.CloseParen last) ∷ [])
-  signs_expr (Unary op span t) = Sure (mark op span) ∷ signs_expr t
-  signs_expr (Binary a op span b) = signs_expr a ++ (Sure (mark op span) ∷ signs_expr b)
-  signs_expr (Select t dot x) = signs_expr t ++ (Sure (mark operator.Dot dot) ∷ (Sure (spell_ident x) ∷ []))
-  signs_expr (Call t first is last) = signs_expr t ++ (Sure (mark operator.OpenParen first) ∷ (signs_items is ++ Sure (mark operator.CloseParen last) ∷ []))
-  signs_expr (Literal n first is last) = sure (spell_type_name n) ++ (Sure (mark operator.OpenBrace first) ∷ (signs_items is ++ Sure (mark operator.CloseBrace last) ∷ []))
-  signs_expr (StructLiteral t first is last) = signs_type t ++ (Sure (mark operator.OpenBrace first) ∷ (signs_items is ++ Sure (mark operator.CloseBrace last) ∷ []))
+  pub symbols_expr : ExprTree → List Symbol
+  symbols_expr (Integer n span) = Sure (terminal (Number n) span) ∷ []
+  symbols_expr (Text t) = Sure (spell_text t) ∷ []
+  symbols_expr (Named x) = Sure (spell_ident x) ∷ []
+  symbols_expr (Paren first t last) = Sure (mark operator.OpenParen first) ∷ (symbols_expr t ++ Sure (mark operator.CloseParen last) ∷ [])
+  symbols_expr (Unary op span t) = Sure (mark op span) ∷ symbols_expr t
+  symbols_expr (Binary a op span b) = symbols_expr a ++ (Sure (mark op span) ∷ symbols_expr b)
+  symbols_expr (Select t dot x) = symbols_expr t ++ (Sure (mark operator.Dot dot) ∷ (Sure (spell_ident x) ∷ []))
+  symbols_expr (Call t first is last) = symbols_expr t ++ (Sure (mark operator.OpenParen first) ∷ (symbols_items is ++ Sure (mark operator.CloseParen last) ∷ []))
+  symbols_expr (Literal n first is last) = sure (spell_type_name n) ++ (Sure (mark operator.OpenBrace first) ∷ (symbols_items is ++ Sure (mark operator.CloseBrace last) ∷ []))
+  symbols_expr (StructLiteral t first is last) = symbols_type t ++ (Sure (mark operator.OpenBrace first) ∷ (symbols_items is ++ Sure (mark operator.CloseBrace last) ∷ []))
 
-  pub signs_items : ItemTrees → List Sign
-  signs_items NoItems = []
-  signs_items (Item key t comma rest) = sure (spell_key key) ++ (signs_expr t ++ (sure (spell_some operator.Comma comma) ++ signs_items rest))
+  pub symbols_items : ItemTrees → List Symbol
+  symbols_items NoItems = []
+  symbols_items (Item key t comma rest) = sure (spell_key key) ++ (symbols_expr t ++ (sure (spell_some operator.Comma comma) ++ symbols_items rest))
 
-abbrev pub signs_exprs : Separated ExprTree → List Sign
-signs_exprs (One t) = signs_expr t
-signs_exprs (Then t comma more) = signs_expr t ++ (Sure (mark operator.Comma comma) ∷ signs_exprs more)
+abbrev pub symbols_exprs : Separated ExprTree → List Symbol
+symbols_exprs (One t) = symbols_expr t
+symbols_exprs (Then t comma more) = symbols_expr t ++ (Sure (mark operator.Comma comma) ∷ symbols_exprs more)
 
 -- declarations
 
-abbrev pub signs_values : Span × Separated ExprTree → List Sign
-signs_values v = Sure (mark operator.Assign v.0) ∷ signs_exprs v.1
+abbrev pub symbols_values : Span × Separated ExprTree → List Symbol
+symbols_values v = Sure (mark operator.Assign v.0) ∷ symbols_exprs v.1
 
-abbrev pub signs_value_spec : ValueSpecTree → List Sign
-signs_value_spec v = sure (spell_idents v.names) ++ (signs_some signs_type v.type_expr ++ signs_some signs_values v.values)
+abbrev pub symbols_value_spec : ValueSpecTree → List Symbol
+symbols_value_spec v = sure (spell_idents v.names) ++ (symbols_some symbols_type v.type_expr ++ symbols_some symbols_values v.values)
 
-abbrev pub signs_group : {A : Type 0} → (A → List Sign) → List (A × Option Span) → List Sign
-signs_group f [] = []
-signs_group f (x ∷ xs) = f x.0 ++ (sign_semicolon x.1 ++ signs_group f xs)
+abbrev pub symbols_group : {A : Type 0} → (A → List Symbol) → List (A × Option Span) → List Symbol
+symbols_group f [] = []
+symbols_group f (x ∷ xs) = f x.0 ++ (symbol_semicolon x.1 ++ symbols_group f xs)
 
-abbrev pub signs_specs : {A : Type 0} → (A → List Sign) → Specs A → List Sign
-signs_specs f (Single x) = f x
-signs_specs f (Group first xs last) = Sure (mark operator.OpenParen first) ∷ (signs_group f xs ++ Sure (mark operator.CloseParen last) ∷ [])
+abbrev pub symbols_specs : {A : Type 0} → (A → List Symbol) → Specs A → List Symbol
+symbols_specs f (Single x) = f x
+symbols_specs f (Group first xs last) = Sure (mark operator.OpenParen first) ∷ (symbols_group f xs ++ Sure (mark operator.CloseParen last) ∷ [])
 
-abbrev pub signs_value : ValueTree → List Sign
-signs_value v = Sure (word (keyword_of v.kind) v.keyword) ∷ signs_specs signs_value_spec v.specs
+abbrev pub symbols_value : ValueTree → List Symbol
+symbols_value v = Sure (word (keyword_of v.kind) v.keyword) ∷ symbols_specs symbols_value_spec v.specs
 
-abbrev pub signs_type_spec : TypeSpecTree → List Sign
-signs_type_spec t = Sure (spell_ident t.name) ∷ signs_type t.type_expr
+abbrev pub symbols_type_spec : TypeSpecTree → List Symbol
+symbols_type_spec t = Sure (spell_ident t.name) ∷ symbols_type t.type_expr
 
-abbrev pub signs_types : TypeDeclTree → List Sign
-signs_types t = Sure (word keyword.«Type» t.keyword) ∷ signs_specs signs_type_spec t.specs
+abbrev pub symbols_types : TypeDeclTree → List Symbol
+symbols_types t = Sure (word keyword.«Type» t.keyword) ∷ symbols_specs symbols_type_spec t.specs
 
 -- statements
 
-abbrev pub signs_simple : SimpleTree → List Sign
-signs_simple (Alone t) = signs_expr t
-signs_simple (Step t op span) = signs_expr t ++ Sure (mark op span) ∷ []
-signs_simple (Assign ts span es) = signs_exprs ts ++ (Sure (mark operator.Assign span) ∷ signs_exprs es)
-signs_simple (Update t op span e) = signs_expr t ++ (Sure (mark op span) ∷ signs_expr e)
-signs_simple (Define xs span es) = sure (spell_idents xs) ++ (Sure (mark operator.Define span) ∷ signs_exprs es)
+abbrev pub symbols_simple : SimpleTree → List Symbol
+symbols_simple (Alone t) = symbols_expr t
+symbols_simple (Step t op span) = symbols_expr t ++ Sure (mark op span) ∷ []
+symbols_simple (Assign ts span es) = symbols_exprs ts ++ (Sure (mark operator.Assign span) ∷ symbols_exprs es)
+symbols_simple (Update t op span e) = symbols_expr t ++ (Sure (mark op span) ∷ symbols_expr e)
+symbols_simple (Define xs span es) = sure (spell_idents xs) ++ (Sure (mark operator.Define span) ∷ symbols_exprs es)
 
-abbrev pub signs_init : Option (Option SimpleTree × Span) → List Sign
-signs_init None = []
-signs_init (Some i) = signs_some signs_simple i.0 ++ Loose (mark operator.Semicolon i.1) ∷ []
+abbrev pub symbols_init : Option (Option SimpleTree × Span) → List Symbol
+symbols_init None = []
+symbols_init (Some i) = symbols_some symbols_simple i.0 ++ Loose (mark operator.Semicolon i.1) ∷ []
 
-abbrev pub signs_if : IfTree → List Sign
-signs_if h = signs_init h.init ++ signs_expr h.condition
+abbrev pub symbols_if : IfTree → List Symbol
+symbols_if h = symbols_init h.init ++ symbols_expr h.condition
 
-abbrev pub signs_for : ForTree → List Sign
-signs_for Forever = []
-signs_for (While t) = signs_expr t
-signs_for (Clauses init a test b post) = signs_some signs_simple init ++ (Loose (mark operator.Semicolon a) ∷ (signs_some signs_expr test ++ (Loose (mark operator.Semicolon b) ∷ signs_some signs_simple post)))
+abbrev pub symbols_for : ForTree → List Symbol
+symbols_for Forever = []
+symbols_for (While t) = symbols_expr t
+symbols_for (Clauses init a test b post) = symbols_some symbols_simple init ++ (Loose (mark operator.Semicolon a) ∷ (symbols_some symbols_expr test ++ (Loose (mark operator.Semicolon b) ∷ symbols_some symbols_simple post)))
 
 -- the semicolon behind a statement. An empty statement writes nothing but its semicolon, and keeps it: with that left
 -- out, `{}` would be a block of no statement, and one of an empty statement
-abbrev pub signs_end : Bool → Option Span → List Sign
-signs_end true s = sure (spell_some operator.Semicolon s)
-signs_end false s = sign_semicolon s
+abbrev pub symbols_end : Bool → Option Span → List Symbol
+symbols_end true s = sure (spell_some operator.Semicolon s)
+symbols_end false s = symbol_semicolon s
 
 abbrev mutual
-  pub signs_stmt : StmtTree → List Sign
-  signs_stmt Empty = []
-  signs_stmt (Declare v) = signs_value v
-  signs_stmt (Simple s) = signs_simple s
-  signs_stmt (Return s es) = Sure (word keyword.Return s) ∷ signs_some signs_exprs es
-  signs_stmt (Break s) = Sure (word keyword.Break s) ∷ []
-  signs_stmt (Continue s) = Sure (word keyword.Continue s) ∷ []
-  signs_stmt (Block first ls last) = Sure (mark operator.OpenBrace first) ∷ (signs_lines ls ++ Sure (mark operator.CloseBrace last) ∷ [])
-  signs_stmt (If b) = signs_branch b
-  signs_stmt (For k head first ls last) = Sure (word keyword.For k) ∷ (signs_for head ++ (Sure (mark operator.OpenBrace first) ∷ (signs_lines ls ++ Sure (mark operator.CloseBrace last) ∷ [])))
+  pub symbols_stmt : StmtTree → List Symbol
+  symbols_stmt Empty = []
+  symbols_stmt (Declare v) = symbols_value v
+  symbols_stmt (Simple s) = symbols_simple s
+  symbols_stmt (Return s es) = Sure (word keyword.Return s) ∷ symbols_some symbols_exprs es
+  symbols_stmt (Break s) = Sure (word keyword.Break s) ∷ []
+  symbols_stmt (Continue s) = Sure (word keyword.Continue s) ∷ []
+  symbols_stmt (Block first ls last) = Sure (mark operator.OpenBrace first) ∷ (symbols_lines ls ++ Sure (mark operator.CloseBrace last) ∷ [])
+  symbols_stmt (If b) = symbols_branch b
+  symbols_stmt (For k head first ls last) = Sure (word keyword.For k) ∷ (symbols_for head ++ (Sure (mark operator.OpenBrace first) ∷ (symbols_lines ls ++ Sure (mark operator.CloseBrace last) ∷ [])))
 
-  pub signs_branch : BranchTree → List Sign
-  signs_branch (Branch k head first ls last otherwise) = Sure (word keyword.If k) ∷ (signs_if head ++ (Sure (mark operator.OpenBrace first) ∷ (signs_lines ls ++ (Sure (mark operator.CloseBrace last) ∷ signs_else otherwise))))
+  pub symbols_branch : BranchTree → List Symbol
+  symbols_branch (Branch k head first ls last otherwise) = Sure (word keyword.If k) ∷ (symbols_if head ++ (Sure (mark operator.OpenBrace first) ∷ (symbols_lines ls ++ (Sure (mark operator.CloseBrace last) ∷ symbols_else otherwise))))
 
-  pub signs_else : ElseTree → List Sign
-  signs_else NoElse = []
-  signs_else (ElseBlock k first ls last) = Sure (word keyword.Else k) ∷ (Sure (mark operator.OpenBrace first) ∷ (signs_lines ls ++ Sure (mark operator.CloseBrace last) ∷ []))
-  signs_else (ElseIf k b) = Sure (word keyword.Else k) ∷ signs_branch b
+  pub symbols_else : ElseTree → List Symbol
+  symbols_else NoElse = []
+  symbols_else (ElseBlock k first ls last) = Sure (word keyword.Else k) ∷ (Sure (mark operator.OpenBrace first) ∷ (symbols_lines ls ++ Sure (mark operator.CloseBrace last) ∷ []))
+  symbols_else (ElseIf k b) = Sure (word keyword.Else k) ∷ symbols_branch b
 
-  pub signs_lines : Lines → List Sign
-  signs_lines NoLines = []
-  signs_lines (Line c s rest) = signs_stmt c ++ (signs_end (is_empty c) s ++ signs_lines rest)
+  pub symbols_lines : Lines → List Symbol
+  symbols_lines NoLines = []
+  symbols_lines (Line c s rest) = symbols_stmt c ++ (symbols_end (is_empty c) s ++ symbols_lines rest)
 
 -- functions and files
 
-abbrev pub signs_func : FuncTree → List Sign
-signs_func f =
-    Sure (word keyword.Func f.func) ∷ (sure (spell_receiver f.receiver) ++ (Sure (spell_ident f.name) ∷ (signs_signature f.signature ++ (Sure (mark operator.OpenBrace f.open_brace) ∷ (signs_lines f.body ++ Sure (mark operator.CloseBrace f.close_brace) ∷ [])))))
+abbrev pub symbols_func : FuncTree → List Symbol
+symbols_func f =
+    Sure (word keyword.Func f.func) ∷ (sure (spell_receiver f.receiver) ++ (Sure (spell_ident f.name) ∷ (symbols_signature f.signature ++ (Sure (mark operator.OpenBrace f.open_brace) ∷ (symbols_lines f.body ++ Sure (mark operator.CloseBrace f.close_brace) ∷ [])))))
 
-abbrev pub signs_decl : DeclTree → List Sign
-signs_decl (Value v) = signs_value v
-signs_decl (Types t) = signs_types t
-signs_decl (Func f) = signs_func f
+abbrev pub symbols_decl : DeclTree → List Symbol
+symbols_decl (Value v) = symbols_value v
+symbols_decl (Types t) = symbols_types t
+symbols_decl (Func f) = symbols_func f
 
-abbrev pub signs_tops : List TopTree → List Sign
-signs_tops [] = []
-signs_tops (d ∷ ds) = signs_decl d.decl ++ (Loose (mark operator.Semicolon d.semicolon) ∷ signs_tops ds)
+abbrev pub symbols_tops : List TopTree → List Symbol
+symbols_tops [] = []
+symbols_tops (d ∷ ds) = symbols_decl d.decl ++ (Loose (mark operator.Semicolon d.semicolon) ∷ symbols_tops ds)
 
-abbrev pub signs_import : ImportSpecTree → List Sign
-signs_import i = sure (spell_import i)
+abbrev pub symbols_import : ImportSpecTree → List Symbol
+symbols_import i = sure (spell_import i)
 
-abbrev pub signs_imports : List ImportTree → List Sign
-signs_imports [] = []
-signs_imports (i ∷ is) = (Sure (word keyword.Import i.keyword) ∷ signs_specs signs_import i.specs) ++ (Loose (mark operator.Semicolon i.semicolon) ∷ signs_imports is)
+abbrev pub symbols_imports : List ImportTree → List Symbol
+symbols_imports [] = []
+symbols_imports (i ∷ is) = (Sure (word keyword.Import i.keyword) ∷ symbols_specs symbols_import i.specs) ++ (Loose (mark operator.Semicolon i.semicolon) ∷ symbols_imports is)
 
-abbrev pub signs_file : FileTree → List Sign
-signs_file f = Sure (word keyword.Package f.clause) ∷ (Sure (spell_ident f.name) ∷ (Loose (mark operator.Semicolon f.semicolon) ∷ (signs_imports f.imports ++ signs_tops f.decls)))
+abbrev pub symbols_file : FileTree → List Symbol
+symbols_file f = Sure (word keyword.Package f.clause) ∷ (Sure (spell_ident f.name) ∷ (Loose (mark operator.Semicolon f.semicolon) ∷ (symbols_imports f.imports ++ symbols_tops f.decls)))
 
 -- the second tree is the first, with a semicolon wherever the first has none
 
@@ -400,7 +400,7 @@ pub record HasWholeTree (text : List ℕ) (f : FileTree) : Type 0 where
   pub scanned : IsAnswer text (Ok tokens)
   pub wf : Wf_file f
   pub full : IsFull f
-  pub left_out : LeftOut (signs_file f) (terminals text tokens)
+  pub left_out : LeftOut (symbols_file f) (terminals text tokens)
 
 -- a tree of a text can be filled to one that writes all its semicolons, and is as high
 abbrev pub MarkedIsWhole : Type 0

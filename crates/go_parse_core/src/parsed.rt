@@ -31,10 +31,15 @@ const PART_HEIGHT: u32 = 199;
 
 /// A text that has a tree of height at most 200, with that tree. Contracts see it as its text, of which it
 /// is the only tree.
-#[derive(Drop)]
 pub struct Parsed {
     text: String,
     tree: File,
+}
+
+impl Drop for Parsed {
+    fn drop(self) {
+        let Parsed { text: _, tree: _ } = self;
+    }
 }
 
 impl Model for Parsed {

@@ -2,25 +2,14 @@
 use Rattle.std.proofs.Common.{◌≡◌, ℕ, zero, suc, ◌<◌, length, get_or, arith, List, [], ◌∷◌, ◌++◌, Option, Some, None, refl, sym, ap, ◌∙◌}
 use Rattle.go_text_core.specs.declared.span.Span.{Span}
 use Rattle.go_tree_nodes.specs.declared.exprs.Expr.{Expr}
-use Rattle.go_tree_nodes.specs.declared.exprs.Expr.TheVariants as expr
-use Rattle.go_tree_nodes.specs.declared.exprs.CallExpr.{CallExpr'}
-use Rattle.go_tree_nodes.specs.declared.exprs.LiteralExpr.{LiteralExpr'}
-use Rattle.go_tree_nodes.specs.declared.exprs.StructLiteralExpr.{StructLiteralExpr'}
 use Rattle.go_tree_nodes.specs.declared.exprs.NextExpr.{NextExpr}
 use Rattle.go_tree_nodes.specs.declared.names.Ident.{Ident}
 use Rattle.go_tree_nodes.specs.declared.names.NextIdent.{NextIdent}
 use Rattle.go_tree_nodes.specs.Shapes.{shape, exprs_from}
 use Rattle.go_tree_nodes.specs.TypeShapes.{idents_from}
 use Rattle.go_tree_nodes.specs.Trees.{Then}
-use Rattle.go_parse_stmts.specs.mirrors.StmtReading.{name_of, names_one, names_more, names_of}
-
--- any other expression is no name
-pub unnamed : (e : Expr) → ((x : Ident) → e ≡ expr.Name x → ⊥) → None ≡ name_of (shape e)
-unnamed (expr.Name x) other = absurd (other x refl)
-unnamed (expr.Call' _ (CallExpr' e first _ row last)) other = refl
-unnamed (expr.Literal' _ (LiteralExpr' n first _ row last)) other = refl
-unnamed (expr.StructLiteral' _ (StructLiteralExpr' t first _ row last)) other = refl
-unnamed _ other = refl
+use Rattle.go_tree_nodes.specs.Naming.{name_of}
+use Rattle.go_parse_stmts.specs.mirrors.StmtReading.{names_one, names_more, names_of}
 
 -- the expressions are these names, with commas in the same places
 abbrev pub AreNames : Expr → List NextExpr → Ident → List NextIdent → Type 0

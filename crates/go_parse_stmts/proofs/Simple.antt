@@ -13,7 +13,8 @@ use Rattle.go_tree_nodes.specs.Rules.{is_step, is_update, Wf, Wf_exprs, Wf_simpl
 use Rattle.go_tree_nodes.specs.Heights.{height, exprs_height, simple_height}
 use Rattle.go_parse_types.specs.mirrors.Marks.{TooHigh, ◌>>=◌, MarkAhead, need, mark_at, mark_that}
 use Rattle.go_parse_exprs.specs.mirrors.ExprReading.{expr_at, exprs_at}
-use Rattle.go_parse_stmts.specs.mirrors.StmtReading.{single, name_of, names_then, names_one, names_more, names_of, alone_by, update_by, step_by, assign_by, define_by, simple_by, simple_at, simple_from}
+use Rattle.go_tree_nodes.specs.Naming.{name_of}
+use Rattle.go_parse_stmts.specs.mirrors.StmtReading.{single, names_then, names_one, names_more, names_of, alone_by, update_by, step_by, assign_by, define_by, simple_by, simple_at, simple_from}
 use Rattle.go_parse_types.proofs.Marks.{mark_was, mark_that_was, bind_ok, need_ok, AgreesAt, bind_agrees, agrees_along}
 use Rattle.go_parse_types.proofs.Lists.{ReadsItem}
 use Rattle.go_parse_exprs.proofs.ExprFound.{expr_complete}

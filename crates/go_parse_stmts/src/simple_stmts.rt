@@ -11,7 +11,8 @@ ghost use Rattle.go_parse_types.specs.mirrors.Giving.{Gives, NeverMemory};
 ghost use Rattle.go_parse_types.specs.mirrors.Marks as marks;
 ghost use Rattle.go_parse_types.specs.mirrors.Marks.{mark_that};
 ghost use Rattle.go_parse_stmts.specs.mirrors.StmtReading as reading;
-ghost use Rattle.go_parse_stmts.specs.mirrors.StmtReading.{name_of, names_of, step_by, simple_by, simple_at, simple_from};
+ghost use Rattle.go_tree_nodes.specs.Naming.{name_of};
+ghost use Rattle.go_parse_stmts.specs.mirrors.StmtReading.{names_of, step_by, simple_by, simple_at, simple_from};
 
 use go_parse_exprs::{expr, exprs};
 use go_parse_types::{Ahead, Stop, add, boxed, fitted};
@@ -26,13 +27,7 @@ use std::alloc::{AllocError, Global};
 fn name(expr: Expr) -> Option<Ident>
     ensures { result ≡ name_of (shape expr) }
 {
-    match expr {
-        Expr::Name(name) => Some(name),
-        other => {
-            drop(other);
-            None
-        }
-    }
+    expr.into_name()
 }
 
 /// The names that expressions are, or none where one of them is no name.

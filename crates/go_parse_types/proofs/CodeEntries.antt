@@ -12,7 +12,8 @@ use Rattle.go_tree_nodes.specs.Trees.{Separated, One, Then, TypeTree, ParamTrees
 use Rattle.go_tree_nodes.specs.TypeShapes.{idents_from, shape_idents, shape_names, shape_type, params_of}
 use Rattle.go_parse_types.specs.declared.entries.Entry.{Entry}
 use Rattle.go_parse_types.specs.mirrors.EntryShapes.{entry_of, last_behind, with_last}
-use Rattle.go_parse_types.specs.mirrors.TypeReading.{EntryTree, has_name, as_types, group_one, group_more, plain_name, group_next, as_groups}
+use Rattle.go_tree_nodes.specs.Naming.{plain_name}
+use Rattle.go_parse_types.specs.mirrors.TypeReading.{EntryTree, has_name, as_types, group_one, group_more, group_next, as_groups}
 
 abbrev Entries : Type 0
 Entries = List (EntryTree × Option Span)

@@ -10,7 +10,8 @@ use Rattle.go_tree_nodes.specs.Spelling.{mark, spell_ident, spell_idents, spell_
 use Rattle.go_tree_nodes.specs.Rules.{IsKept, IsNothing, IsLastParam, is_grouped, Wf_type, Wf_params, Wf_group}
 use Rattle.go_tree_nodes.specs.Heights.{type_height, params_height, group_height}
 use Rattle.go_parse_types.specs.mirrors.Marks.{◌>>=◌, Reading, need, mark_at, name_at, list_go}
-use Rattle.go_parse_types.specs.mirrors.TypeReading.{EntryTree, begins_type, entry_if, entry_by, entry_at, has_name, as_types, group_one, group_more, plain_name, group_next, as_groups, as_params, params_by, params_at}
+use Rattle.go_tree_nodes.specs.Naming.{plain_name}
+use Rattle.go_parse_types.specs.mirrors.TypeReading.{EntryTree, begins_type, entry_if, entry_by, entry_at, has_name, as_types, group_one, group_more, group_next, as_groups, as_params, params_by, params_at}
 use Rattle.go_parse_types.proofs.Marks.{name_was, bind_ok, need_ok, AgreesAt, bind_agrees, agrees_along}
 use Rattle.go_parse_types.proofs.Lists.{spell_list, FoundItem, list_complete, ReadsItem, list_sound}
 use Rattle.go_parse_types.proofs.TypeFacts.{FindsTypes, ReadsTypes, type_no_mark, type_begins, spell_type_some, type_height_some}

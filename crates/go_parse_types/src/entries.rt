@@ -3,10 +3,11 @@ ghost use Rattle.std.specs.Prelude.{◌≡◌, map, Some, IfOk};
 ghost use Rattle.std.specs.Option.{option_map};
 ghost use Rattle.go_tree_nodes.specs.TypeShapes.{shape_idents, shape_names, shape_type, params_of};
 ghost use Rattle.go_parse_types.specs.mirrors.EntryShapes.{entry_of, with_last};
-ghost use Rattle.go_parse_types.specs.mirrors.TypeReading.{has_name, as_types, as_groups, as_params, plain_name};
+ghost use Rattle.go_tree_nodes.specs.Naming.{plain_name};
+ghost use Rattle.go_parse_types.specs.mirrors.TypeReading.{has_name, as_types, as_groups, as_params};
 
 use go_text_core::{Span, add, fitted};
-use go_tree_nodes::{Ident, Idents, NextIdent, Param, TypeExpr, TypeName};
+use go_tree_nodes::{Ident, Idents, NextIdent, Param, TypeExpr};
 use std::alloc::{AllocError, Global};
 
 /// An entry of a parameter list: a type, or a name and a type, with the comma behind it where one stands.
@@ -76,10 +77,7 @@ fn with_name(
 fn plain(type_expr: TypeExpr) -> Option<Ident>
     ensures { result ≡ plain_name (shape_type type_expr) }
 {
-    match type_expr {
-        TypeExpr::Name(TypeName::Plain(name)) => Some(name),
-        _ => None,
-    }
+    type_expr.into_plain_name()
 }
 
 /// The parameters of one type: the names so far, and one more before the type.

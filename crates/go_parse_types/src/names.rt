@@ -1,7 +1,7 @@
 //! Names with commas between them, and the names of types.
 ghost use Rattle.std.specs.Prelude.{◌≡◌, suc, length};
 ghost use Rattle.go_tree_nodes.specs.TypeShapes.{shape_idents, shape_type};
-ghost use Rattle.go_parse_types.specs.mirrors.EntryShapes.{type_name_of};
+ghost use Rattle.go_tree_nodes.specs.Naming.{type_name_of};
 ghost use Rattle.go_parse_types.specs.mirrors.Giving.{Gives};
 ghost use Rattle.go_parse_types.specs.mirrors.Marks.{idents_go};
 ghost use Rattle.go_parse_types.specs.mirrors.TypeReading.{type_name_at};
@@ -53,12 +53,5 @@ pub fn type_name<'a>(alloc: Global, ahead: Ahead<'a>) -> Result<(TypeName, Ahead
 pub fn name_of(type_expr: TypeExpr) -> Option<TypeName>
     ensures { result ≡ type_name_of (shape_type type_expr) }
 {
-    match type_expr {
-        TypeExpr::Name(name) => Some(name),
-        other => {
-            // By name: one call, where the end of the scope would take the tree apart kind by kind.
-            drop(other);
-            None
-        }
-    }
+    type_expr.into_name()
 }

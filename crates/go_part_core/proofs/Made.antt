@@ -6,7 +6,7 @@ use Rattle.go_used_core.specs.block_core.Naming.{package_named}
 use Rattle.go_package_core.specs.table_core.Tables.{PackageTypesModel, package_types}
 use Rattle.go_package_core.specs.ready_core.Packages.{trees_in}
 use Rattle.go_package_core.specs.Checked.{CheckedOf, IsChecked}
-use Rattle.go_told_core.specs.summary_core.Summaries.{summary_of}
+use Rattle.go_summary_core.specs.Summaries.{summary_of}
 use Rattle.go_part_core.specs.Inputs.{InputModel, path_in}
 use Rattle.go_part_core.specs.Parts.{AreFilesMade, ContentOf, IsMade, SeenOf, package_seen}
 

@@ -5,9 +5,9 @@ use Rattle.go_package_core.specs.table_core.Entries.{Entry}
 use Rattle.go_package_core.specs.entry_core.Showing.{shown_in}
 use Rattle.go_used_core.specs.face_core.Packages.{PackageFacesModel}
 use Rattle.go_package_core.specs.table_core.Tables.{AreOthers}
-use Rattle.go_told_core.specs.summary_core.Summaries.{IsOfOne, SummaryModel, path_of}
-use Rattle.go_told_core.specs.summary_core.Views.{exports_told, faces_told, types_told}
-use Rattle.go_told_core.specs.summary_core.Viewed.{AreElsewhere, AreOfOne, types_apart}
+use Rattle.go_summary_core.specs.Summaries.{IsOfOne, SummaryModel, path_of}
+use Rattle.go_summary_core.specs.Views.{exports_told, faces_told, types_told}
+use Rattle.go_summary_core.proofs.Viewed.{AreElsewhere, AreOfOne, types_apart}
 use Rattle.go_part_core.specs.Inputs.{InputModel, IsInput, path_in}
 use Rattle.go_part_core.specs.Parts.{ContentOf, IsMade, IsPart, seen_with}
 

@@ -21,8 +21,8 @@ use Rattle.go_used_core.specs.Used.{without_unused}
 use Rattle.go_used_core.specs.Reported.{IsReported}
 use Rattle.go_package_core.specs.ready_core.Packages.{PackageIn, trees_in}
 use Rattle.go_package_core.specs.Checked.{AnswersOf, CheckedOf, IsChecked, answers_shown}
-use Rattle.go_told_core.specs.summary_core.Summaries.{SummaryModel, summary_of}
-use Rattle.go_told_core.specs.summary_core.Views.{exports_told, faces_told, types_told}
+use Rattle.go_summary_core.specs.Summaries.{SummaryModel, summary_of}
+use Rattle.go_summary_core.specs.Views.{exports_told, faces_told, types_told}
 use Rattle.go_part_core.specs.declared.content.PackageContent.{PackageContent}
 use Rattle.go_part_core.specs.declared.files.PartFile.{PartFile}
 use Rattle.go_part_core.specs.Inputs.{InputModel, path_in}

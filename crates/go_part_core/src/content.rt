@@ -5,7 +5,7 @@ ghost use Rattle.go_used_core.specs.block_core.Blocks.{AreBlocks};
 ghost use Rattle.go_used_core.specs.block_core.Naming.{package_named};
 ghost use Rattle.go_package_core.specs.entry_core.Showing.{shown_in};
 ghost use Rattle.go_package_core.specs.table_core.Tables.{AreOthers};
-ghost use Rattle.go_told_core.specs.summary_core.Summaries.{summary_of};
+ghost use Rattle.go_summary_core.specs.Summaries.{summary_of};
 ghost use Rattle.go_package_core.specs.ready_core.Packages.{trees_in};
 ghost use Rattle.go_package_core.specs.Checked.{IsChecked, answers_shown, checked_shown};
 ghost use Rattle.go_part_core.specs.Inputs.{path_in};
@@ -14,14 +14,13 @@ ghost use Rattle.go_part_core.specs.Parts.{AreFilesMade, IsMade, part_content_sh
 use crate::files::{PartFile, files_made};
 use crate::input::PartInput;
 use go_package_core::{CheckedPackage, PackageAt, check_package};
+use go_summary_core::{Summary, View, summarize};
 use go_term_core::{Signature, TypeTerm};
-use go_told_core::summary_core::{Summary, View, summarize};
 use go_used_core::block_core::{Blocks, blocks, import_names};
 use go_used_core::face_core::Face;
 use std::alloc::{AllocError, Global};
 
 /// What a package has.
-#[derive(Drop)]
 pub struct PackageContent {
     /// What its package block and its file blocks bind.
     pub blocks: Blocks,
@@ -31,6 +30,17 @@ pub struct PackageContent {
     pub files: Vec<PartFile>,
     /// What it tells those that reach it by imports.
     pub summary: Summary,
+}
+
+impl Drop for PackageContent {
+    fn drop(self) {
+        let PackageContent {
+            blocks: _,
+            declared: _,
+            files: _,
+            summary: _,
+        } = self;
+    }
 }
 
 // The blocks of the package of an input.

@@ -1,8 +1,7 @@
 //! The ends of what holds trees and types, so that crates above prove no drops of them. They promise nothing: no answer may rest on them.
 use crate::part::Part;
 use go_package_core::table_core::TypeTable;
-use go_told_core::SummaryList;
-use go_told_core::summary_core::{Summary, View};
+use go_summary_core::{Summary, SummaryList, View};
 
 /// Ends parts, as their drops do.
 pub fn close_parts(_parts: Vec<Part>) {}

@@ -16,13 +16,21 @@ use go_used_core::{refuse_unused, report};
 use std::alloc::{AllocError, Global};
 
 /// What stands in a file.
-#[derive(Drop)]
 pub struct PartFile {
     /// What its occurrences have, where an import that is not used has the rule I7; its faults, without those that an outcome says; and the locals
     /// that its functions declare.
     pub answers: FileAnswers,
     /// What is reported of it: the rules that its occurrences break, and its faults, by offset, then by the bytes of the rule's number, each once.
     pub report: Vec<Fault>,
+}
+
+impl Drop for PartFile {
+    fn drop(self) {
+        let PartFile {
+            answers: _,
+            report: _,
+        } = self;
+    }
 }
 
 // What stands in the file of a number and a tree, where its check gives this.

@@ -8,7 +8,7 @@ ghost use Rattle.go_part_core.specs.Inputs.{AreOfOthers, IsInput, input_with, pa
 use crate::same::same_imports;
 use go_package_core::graph_core::Package;
 use go_path_core::ImportPath;
-use go_told_core::ReachedSummaries;
+use go_summary_core::ReachedSummaries;
 use go_used_core::block_core::Imported;
 use std::alloc::{AllocError, Global};
 use std::marker::Model;
@@ -26,9 +26,14 @@ struct InputContent {
 /// shared pointer; trees and summaries are shared with the workspace and with other inputs. Contracts see the three.
 ///
 /// The Go specification, "Import declarations".
-#[derive(Drop)]
 pub struct PartInput {
     content: Arc<InputContent>,
+}
+
+impl Drop for PartInput {
+    fn drop(self) {
+        let PartInput { content: _ } = self;
+    }
 }
 
 impl Model for PartInput {

@@ -67,7 +67,7 @@ pub mod handle_core {
 
 /// What the crates above name of `go_operand_core`.
 pub mod operand_core {
-    pub use go_told_core::operand_core::{Operand, TypeForm, ValueType};
+    pub use go_summary_core::operand_core::{Operand, TypeForm, ValueType};
 }
 
 /// What the crates above name of `go_package_core`.
@@ -82,22 +82,19 @@ pub mod parse_core {
 
 /// What the crates above name of `go_select_core`.
 pub mod select_core {
-    pub use go_told_core::select_core::{EmbedPath, Member, Owner, Selected, select, selectable};
+    pub use go_summary_core::select_core::{
+        EmbedPath, Member, Owner, Selected, select, selectable,
+    };
 }
 
 /// What the crates above name of `go_summary_core`.
 pub mod summary_core {
-    pub use go_told_core::summary_core::{Summary, View, import_view, view_of};
+    pub use go_summary_core::{ReachedSummaries, Summary, SummaryList, View, import_view, view_of};
 }
 
 /// What the crates above name of `go_table_core`.
 pub mod table_core {
     pub use go_package_core::table_core::{DeclaredMethod, DefinedType, TypeTable};
-}
-
-/// What the crates above name of `go_told_core`.
-pub mod told_core {
-    pub use go_told_core::{ReachedSummaries, SummaryList};
 }
 
 /// What the crates above name of `go_tree_core`.

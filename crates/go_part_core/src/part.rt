@@ -1,12 +1,13 @@
 //! The part of a package.
-ghost use Rattle.std.specs.Prelude.{◌≡◌, IfOk};
+ghost use Rattle.std.specs.Prelude.{◌≡◌, ◌++◌, ◌∷◌, [], IfOk, OnOk};
 ghost use Rattle.go_part_core.specs.Inputs.{path_in};
 ghost use Rattle.go_part_core.specs.Parts.{IsPart, part_content_shown, part_with};
 
 use crate::content::{PackageContent, compile_over};
 use crate::input::PartInput;
 use go_path_core::ImportPath;
-use go_told_core::summary_core::{Summary, view_of};
+use go_summary_core::{Summary, view_of};
+use go_text_core::add;
 use std::alloc::{AllocError, Global};
 use std::marker::Model;
 use std::sync::Arc;
@@ -14,10 +15,18 @@ use std::sync::Arc;
 /// What one package has by its input alone: what each occurrence of its files has, its faults, the locals of its functions, and what it tells those
 /// that import it. A handle over shared pointers. Its content is what its input gives: no part says of a package what is not so. Contracts see
 /// the input and the content.
-#[derive(Drop)]
 pub struct Part {
     input: PartInput,
     content: Arc<PackageContent>,
+}
+
+impl Drop for Part {
+    fn drop(self) {
+        let Part {
+            input: _,
+            content: _,
+        } = self;
+    }
 }
 
 impl Model for Part {
@@ -25,7 +34,7 @@ impl Model for Part {
     ghost use Rattle.std.specs.Coded.{codes};
     ghost use Rattle.go_used_core.specs.block_core.Blocks.{coded_blocks};
     ghost use Rattle.go_used_core.specs.face_core.codes.FaceCodes.{coded_face, coded_operand};
-    ghost use Rattle.go_told_core.specs.summary_core.codes.SummaryCodes.{coded_summary};
+    ghost use Rattle.go_summary_core.specs.codes.SummaryCodes.{coded_summary};
     ghost use Rattle.go_part_core.specs.Inputs.{coded_input};
     ghost use Rattle.go_part_core.specs.Parts.{IsPart, PartModel, part_content_shown, part_with};
 
@@ -92,6 +101,17 @@ impl Part {
         ensures { result.now ≡ self.now.content.summary }
     {
         &self.content.summary
+    }
+
+    /// Adds what the package tells to what others tell. A crate that lists what parts tell by this call proves no drops of types of its own.
+    ///
+    /// # Errors
+    ///
+    /// `AllocError` where memory is wanting.
+    pub fn tell(&self, told: &mut Vec<Summary>) -> Result<(), AllocError>
+        ensures { OnOk result (told.new.items ≡ told.old.items ++ self.now.content.summary ∷ []) }
+    {
+        add(told, self.summary().share()?)
     }
 
     /// Ends the part, as its drop does, and promises nothing: no answer may rest on it. A crate that ends its parts by this call proves no

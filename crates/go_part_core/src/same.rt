@@ -2,8 +2,8 @@
 ghost use Rattle.std.specs.Prelude.{◌≡◌, ◌↔◌, IsTrue, map};
 ghost use Rattle.go_used_core.specs.block_core.Naming.{imported_in};
 
+use go_summary_core::alike_core::same_exports;
 use go_text_core::Rule;
-use go_told_core::alike_core::same_exports;
 use go_used_core::block_core::Imported;
 
 // Whether two rules are the same.

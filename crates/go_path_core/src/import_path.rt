@@ -9,9 +9,14 @@ use std::marker::Model;
 use std::sync::Arc;
 
 /// A well-formed path where its text stands. Contracts see it as its bytes.
-#[derive(Drop)]
 pub struct PathText<'a> {
     text: &'a str,
+}
+
+impl Drop for PathText<'_> {
+    fn drop(self) {
+        let PathText { text: _ } = self;
+    }
 }
 
 impl<'a> Model for PathText<'a> {
@@ -59,9 +64,14 @@ impl<'a> PathText<'a> {
 }
 
 /// A well-formed import path, shared by all that hold it. Contracts see it as its bytes.
-#[derive(Drop)]
 pub struct ImportPath {
     text: Arc<String>,
+}
+
+impl Drop for ImportPath {
+    fn drop(self) {
+        let ImportPath { text: _ } = self;
+    }
 }
 
 impl Model for ImportPath {

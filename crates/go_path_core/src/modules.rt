@@ -9,9 +9,14 @@ use std::alloc::{AllocError, Global};
 use std::marker::Model;
 
 /// A well-formed module: the path under which its packages lie. Contracts see it as its bytes.
-#[derive(Drop)]
 pub struct Module {
     text: String,
+}
+
+impl Drop for Module {
+    fn drop(self) {
+        let Module { text: _ } = self;
+    }
 }
 
 impl Model for Module {

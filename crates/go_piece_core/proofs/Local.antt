@@ -16,7 +16,7 @@ use Rattle.go_walk_core.specs.Ends.{is_blank_target}
 use Rattle.go_walk_core.specs.local_core.Steps.{Piece, Header, Spec, Act, Condition, Given}
 use Rattle.go_walk_core.specs.local_core.Outline as outline
 use Rattle.go_walk_core.specs.local_core.Pieces.{piece_types}
-use Rattle.go_statement_core.specs.denote_core.declared.things.Place.TheVariants as places
+use Rattle.go_statement_core.specs.denote_core.declared.things.Stand.TheVariants as stands
 use Rattle.go_statement_core.specs.denote_core.declared.things.Denoted.{Denoted}
 use Rattle.go_statement_core.specs.denote_core.declared.things.Denoted.TheVariants as denotes
 use Rattle.go_statement_core.specs.denote_core.declared.things.Found.{Found}
@@ -93,20 +93,20 @@ module _ {T S D P : Type 0} (looks : Looks T S D P) (find : List ℕ → ℕ →
   right xs ys ts us h = (agree_right looks.find find xs ys h.0, makes_right ts us h.1)
 
   abbrev SameExpr : ExprTree → Type 0
-  SameExpr e = Same T S D P looks other places.«Value» e
+  SameExpr e = Same T S D P looks other stands.«Value» e
 
   expr_same : (e : ExprTree) → Both (expressions.expr_idents e) (expr_types e) → SameExpr e
-  expr_same e h = (expressions_seen T S D P).whole looks find written places.«Value» e h.0 h.1
+  expr_same e h = (expressions_seen T S D P).whole looks find written stands.«Value» e h.0 h.1
 
   -- types
 
   name_used : (n : TypeName) → Finds (expressions.type_name_idents n) → type_name_uses looks n ≡ type_name_uses other n
-  name_used (type_names.Plain x) h = ((expressions_seen T S D P).whole looks find written places.«Type» (Named x) h tt).uses
-  name_used (type_names.Qualified p dot x) h = ((expressions_seen T S D P).whole looks find written places.«Type» (Select (Named p) dot x) h tt).uses
+  name_used (type_names.Plain x) h = ((expressions_seen T S D P).whole looks find written stands.«Type» (Named x) h tt).uses
+  name_used (type_names.Qualified p dot x) h = ((expressions_seen T S D P).whole looks find written stands.«Type» (Select (Named p) dot x) h tt).uses
 
   name_same : (n : TypeName) → Finds (expressions.type_name_idents n) → named_type looks n ≡ named_type other n
-  name_same (type_names.Plain x) h = ap literal_type ((expressions_seen T S D P).whole looks find written places.«Type» (Named x) h tt).denoted
-  name_same (type_names.Qualified p dot x) h = ap literal_type ((expressions_seen T S D P).whole looks find written places.«Type» (Select (Named p) dot x) h tt).denoted
+  name_same (type_names.Plain x) h = ap literal_type ((expressions_seen T S D P).whole looks find written stands.«Type» (Named x) h tt).denoted
+  name_same (type_names.Qualified p dot x) h = ap literal_type ((expressions_seen T S D P).whole looks find written stands.«Type» (Select (Named p) dot x) h tt).denoted
 
   with_nothing : (xs : List Ident) → Finds xs → Finds (xs ++ [])
   with_nothing [] h = tt
@@ -117,7 +117,7 @@ module _ {T S D P : Type 0} (looks : Looks T S D P) (find : List ℕ → ℕ →
   type_used t h k =
       let nowhere : Span = record { start = 0; end = 0 } in
       ap (map (use_of looks)) (sym (append-nil (type_spots looks t)))
-      ∙ (((expressions_seen T S D P).whole looks find written places.«Value» (StructLiteral t nowhere NoItems nowhere) (with_nothing (expressions.type_idents t) h) k).uses
+      ∙ (((expressions_seen T S D P).whole looks find written stands.«Value» (StructLiteral t nowhere NoItems nowhere) (with_nothing (expressions.type_idents t) h) k).uses
       ∙ ap (map (use_of other)) (append-nil (type_spots other t)))
 
   params_used : (ps : ParamTrees) → Finds (expressions.params_idents ps) → Makes (params_types ps) → params_uses looks ps ≡ params_uses other ps
@@ -187,7 +187,7 @@ module _ {T S D P : Type 0} (looks : Looks T S D P) (find : List ℕ → ℕ →
   member_same : (b : Bool) (e : ExprTree) → SameExpr e → member_faults looks b e ≡ member_faults other b e
   member_same b e s = pieces _ _ _ _ s.faults (ap (λ d. fault_at (start e) (listed_rule b d)) s.denoted)
 
-  operand_same : (e : ExprTree) → SameExpr e → operand_faults looks places.«Value» e ≡ operand_faults other places.«Value» e
+  operand_same : (e : ExprTree) → SameExpr e → operand_faults looks stands.«Value» e ≡ operand_faults other stands.«Value» e
   operand_same e s = pieces _ _ _ _ s.faults (ap (λ d. fault_at (start e) (single_rule d)) s.denoted)
 
   list_same : (es : Separated ExprTree) → Both (laws.list_idents es) (exprs_types es) → SameList es
@@ -196,7 +196,7 @@ module _ {T S D P : Type 0} (looks : Looks T S D P) (find : List ℕ → ℕ →
       let s = expr_same e (left (expressions.expr_idents e) (laws.list_idents more) (expr_types e) (exprs_types more) h) in
       let rest = list_same more (right (expressions.expr_idents e) (laws.list_idents more) (expr_types e) (exprs_types more) h) in
       record {
-        denoted = ap (λ d. d ∷ denoted_exprs looks more) s.denoted ∙ ap (λ l. denoted other places.«Value» e ∷ l) rest.denoted;
+        denoted = ap (λ d. d ∷ denoted_exprs looks more) s.denoted ∙ ap (λ l. denoted other stands.«Value» e ∷ l) rest.denoted;
         uses = pieces _ _ _ _ s.uses rest.uses;
         faults = λ b. pieces _ _ _ _ (member_same b e s) (rest.faults b);
       }
@@ -227,8 +227,8 @@ module _ {T S D P : Type 0} (looks : Looks T S D P) (find : List ℕ → ℕ →
   target_same b e h k = by (is_blank_target e) h
     where
       by : (blank : Bool) → Finds (if blank then [] else expressions.expr_idents e)
-          → ((if blank then targets_are.Blank else target_of (denoted looks places.«Value» e) (not b)) ≡ (if blank then targets_are.Blank else target_of (denoted other places.«Value» e) (not b)))
-          × ((if blank then [] else uses looks places.«Value» e) ≡ (if blank then [] else uses other places.«Value» e))
+          → ((if blank then targets_are.Blank else target_of (denoted looks stands.«Value» e) (not b)) ≡ (if blank then targets_are.Blank else target_of (denoted other stands.«Value» e) (not b)))
+          × ((if blank then [] else uses looks stands.«Value» e) ≡ (if blank then [] else uses other stands.«Value» e))
           × ((if blank then [] else member_faults looks b e) ≡ (if blank then [] else member_faults other b e))
       by true h = (refl, refl, refl)
       by false h = let s = expr_same e (h, k) in (ap (λ d. target_of d (not b)) s.denoted, s.uses, member_same b e s)
@@ -286,7 +286,7 @@ module _ {T S D P : Type 0} (looks : Looks T S D P) (find : List ℕ → ℕ →
 
   callee_same : (e : ExprTree) → Both (expressions.expr_idents e) (expr_types e) → callee_of looks e ≡ callee_of other e
   callee_same (Call e first items last) h =
-      ap (λ d. Some d) ((expressions_seen T S D P).whole looks find written places.Callee e (agree_left looks.find find (expressions.expr_idents e) (expressions.items_idents items) h.0)
+      ap (λ d. Some d) ((expressions_seen T S D P).whole looks find written stands.Callee e (agree_left looks.find find (expressions.expr_idents e) (expressions.items_idents items) h.0)
       (makes_left (expr_types e) (items_types items) h.1)).denoted
   callee_same (Paren first e last) h = callee_same e h
   callee_same (Integer n span) h = refl
@@ -302,7 +302,7 @@ module _ {T S D P : Type 0} (looks : Looks T S D P) (find : List ℕ → ℕ →
       → (simple_uses looks s ≡ simple_uses other s) × ((firsts : List Bool) → simple_faults looks firsts s ≡ simple_faults other firsts s) × ((firsts : List Bool) → simple_values looks firsts s ≡ simple_values other firsts s)
   simple_same (Alone e) h =
       let s = expr_same e h in
-      (s.uses, λ firsts. pieces _ _ _ _ s.faults (ap (λ c. fault_at (start e) (statement_rule c (denoted looks places.«Value» e))) (callee_same e h) ∙ ap (λ d. fault_at (start e) (statement_rule (callee_of other e) d)) s.denoted), λ firsts. refl)
+      (s.uses, λ firsts. pieces _ _ _ _ s.faults (ap (λ c. fault_at (start e) (statement_rule c (denoted looks stands.«Value» e))) (callee_same e h) ∙ ap (λ d. fault_at (start e) (statement_rule (callee_of other e) d)) s.denoted), λ firsts. refl)
   simple_same (Step e op span) h =
       let s = expr_same e h in
       (s.uses, λ firsts. pieces _ _ _ _ (operand_same e s) (ap (λ d. fault_at (start e) (increment_rule looks.types (argument_of d))) s.denoted), λ firsts. refl)

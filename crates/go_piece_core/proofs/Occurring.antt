@@ -19,7 +19,7 @@ use Rattle.go_expr_core.specs.tree_core.Occurrences.{under, expr_occs, exprs_occ
 use Rattle.go_walk_core.specs.Ends.{is_blank_target}
 use Rattle.go_walk_core.specs.local_core.Steps.{Piece, Header, Spec, Act, Condition, Given, Newness, EachFirst, OneNew, Steps, Done, Check, Declare, Inner}
 use Rattle.go_walk_core.specs.local_core.Outline.{idents, end_of, spec_steps, group_steps, specs_steps, simple_steps, some_simple_steps, init_steps, some_condition_steps, if_steps, for_steps, stmt_steps, branch_steps, else_steps, lines_steps, func_steps}
-use Rattle.go_statement_core.specs.denote_core.declared.things.Place.TheVariants as places
+use Rattle.go_statement_core.specs.denote_core.declared.things.Stand.TheVariants as stands
 use Rattle.go_expr_core.specs.declared.things.Use.{Use}
 use Rattle.go_expr_core.specs.Looks.{Looks}
 use Rattle.go_expr_core.specs.Uses.{uses, type_name_uses, use_of, signature_spots}
@@ -67,12 +67,12 @@ module _ {T S D P : Type 0} (looks : Looks T S D P) where
     is = map-append use_place us vs ∙ (ap (λ l. l ++ map use_place vs) first.is ∙ (ap (λ l. map occurrence_place os ++ l) second.is ∙ sym (map-append occurrence_place os ps)));
   }
 
-  value_occurs : (header : Bool) (e : ExprTree) → Wf header e → Occur (uses looks places.«Value» e) (expr_occs contexts.«Value» e)
-  value_occurs header e wf = record { is = (uses_occur T S D P).expressions looks places.«Value» header e wf }
+  value_occurs : (header : Bool) (e : ExprTree) → Wf header e → Occur (uses looks stands.«Value» e) (expr_occs contexts.«Value» e)
+  value_occurs header e wf = record { is = (uses_occur T S D P).expressions looks stands.«Value» header e wf }
 
   list_occurs : (header : Bool) (es : Separated ExprTree) → Wf_exprs header es → Occur (exprs_uses looks es) (exprs_occs contexts.«Value» es)
   list_occurs header (One e) wf = value_occurs header e wf
-  list_occurs header (Then e comma more) wf = both (uses looks places.«Value» e) (exprs_uses looks more) (expr_occs contexts.«Value» e) (exprs_occs contexts.«Value» more) (value_occurs header e wf.0) (list_occurs header more wf.1)
+  list_occurs header (Then e comma more) wf = both (uses looks stands.«Value» e) (exprs_uses looks more) (expr_occs contexts.«Value» e) (exprs_occs contexts.«Value» more) (value_occurs header e wf.0) (list_occurs header more wf.1)
 
   type_occurs : (t : TypeTree) → Occur (type_uses looks t) (type_occs t)
   type_occurs t = record { is = (uses_occur T S D P).types looks t }
@@ -97,7 +97,7 @@ module _ {T S D P : Type 0} (looks : Looks T S D P) where
   target_occurs : (header : Bool) (e : ExprTree) → Wf header e → Occur (target_uses looks e) (expr_occs contexts.Target e)
   target_occurs header e wf = record { is = (by (is_blank_target e)).is ∙ ap (map occurrence_place) (sym (target_occs e)) }
     where
-      by : (b : Bool) → Occur (if b then [] else uses looks places.«Value» e) (if b then [] else expr_occs contexts.«Value» e)
+      by : (b : Bool) → Occur (if b then [] else uses looks stands.«Value» e) (if b then [] else expr_occs contexts.«Value» e)
       by true = none
       by false = value_occurs header e wf
 
@@ -118,7 +118,7 @@ module _ {T S D P : Type 0} (looks : Looks T S D P) where
   simple_occurs header (Step e op span) wf = value_occurs header e wf.1
   simple_occurs header (Assign ts span es) wf = both (targets_uses looks ts) (exprs_uses looks es) (exprs_occs contexts.Target ts) (exprs_occs contexts.«Value» es) (targets_occur header ts wf.0) (list_occurs header es wf.1)
   simple_occurs header (Update e op span v) wf =
-      both (uses looks places.«Value» e) (uses looks places.«Value» v) (expr_occs contexts.«Value» e) (expr_occs contexts.«Value» v) (value_occurs header e wf.1) (value_occurs header v wf.2)
+      both (uses looks stands.«Value» e) (uses looks stands.«Value» v) (expr_occs contexts.«Value» e) (expr_occs contexts.«Value» v) (value_occurs header e wf.1) (value_occurs header v wf.2)
   simple_occurs header (Define xs span es) wf = list_occurs header es wf
 
   piece_occurs : (header : Bool) (p : Piece) → IsWellFormedPiece header p → Occur (piece_uses looks p) (piece_occs p)

@@ -9,7 +9,7 @@ use Rattle.go_walk_core.specs.local_core.Steps.{Piece, Header, Spec, Act, Condit
 use Rattle.go_walk_core.specs.local_core.Pieces.{simple_declares}
 use Rattle.go_walk_core.specs.local_core.Outline.{idents, header_idents}
 use Rattle.go_statement_core.specs.operand_core.declared.types.Operand.{Operand}
-use Rattle.go_statement_core.specs.denote_core.declared.things.Place.TheVariants as places
+use Rattle.go_statement_core.specs.denote_core.declared.things.Stand.TheVariants as stands
 use Rattle.go_expr_core.specs.declared.things.Use.{Use}
 use Rattle.go_expr_core.specs.declared.things.Fault.{Fault}
 use Rattle.go_expr_core.specs.Looks.{Looks}
@@ -24,7 +24,7 @@ abbrev pub piece_uses : {T S D P : Type 0} → Looks T S D P → Piece → List 
 piece_uses looks (Header r s) = header_uses looks r s
 piece_uses looks (Spec kind v) = spec_uses looks v
 piece_uses looks (Act s) = simple_uses looks s
-piece_uses looks (Condition e) = uses looks places.«Value» e
+piece_uses looks (Condition e) = uses looks stands.«Value» e
 piece_uses looks (Given place es) = returned_uses looks es
 
 -- its faults: those of its types, those of its expressions, its own; in a function whose results have these types, and have names or

@@ -8,7 +8,7 @@ use Rattle.go_token_core.specs.declared.kind.Operator.{Operator}
 use Rattle.go_tree_nodes.specs.declared.names.Ident.{Ident}
 use Rattle.go_tree_nodes.specs.Trees.{Separated, ExprTree, Paren, Call, SimpleTree, Alone, Step, Assign, Update, Define}
 use Rattle.go_walk_core.specs.local_core.Outline.{idents}
-use Rattle.go_statement_core.specs.denote_core.declared.things.Place.TheVariants as places
+use Rattle.go_statement_core.specs.denote_core.declared.things.Stand.TheVariants as stands
 use Rattle.go_statement_core.specs.denote_core.declared.things.Denoted.{Denoted}
 use Rattle.go_statement_core.specs.denote_core.declared.things.Argument.{Argument}
 use Rattle.go_statement_core.specs.denote_core.Arguments.{argument_of}
@@ -31,23 +31,23 @@ use Rattle.go_piece_core.specs.Specifications.{names_start}
 
 -- what an expression calls, if it is a call, in parentheses or not
 abbrev pub callee_of : {T S D P : Type 0} → Looks T S D P → ExprTree → Option (Denoted T S D)
-callee_of looks (Call e first items last) = Some (denoted looks places.Callee e)
+callee_of looks (Call e first items last) = Some (denoted looks stands.Callee e)
 callee_of looks (Paren first e last) = callee_of looks e
 callee_of looks _ = None
 
 -- an operand, as a rule takes it
 abbrev pub operand_argument : {T S D P : Type 0} → Looks T S D P → ExprTree → Argument T
-operand_argument looks e = argument_of (denoted looks places.«Value» e)
+operand_argument looks e = argument_of (denoted looks stands.«Value» e)
 
 abbrev pub assign_uses : {T S D P : Type 0} → Looks T S D P → Separated ExprTree → Separated ExprTree → List (Use D P)
 assign_uses looks ts es = targets_uses looks ts ++ list_uses looks es
 
 abbrev pub update_uses : {T S D P : Type 0} → Looks T S D P → ExprTree → ExprTree → List (Use D P)
-update_uses looks e v = uses looks places.«Value» e ++ uses looks places.«Value» v
+update_uses looks e v = uses looks stands.«Value» e ++ uses looks stands.«Value» v
 
 abbrev pub simple_uses : {T S D P : Type 0} → Looks T S D P → SimpleTree → List (Use D P)
-simple_uses looks (Alone e) = uses looks places.«Value» e
-simple_uses looks (Step e op span) = uses looks places.«Value» e
+simple_uses looks (Alone e) = uses looks stands.«Value» e
+simple_uses looks (Step e op span) = uses looks stands.«Value» e
 simple_uses looks (Assign ts span es) = assign_uses looks ts es
 simple_uses looks (Update e op span v) = update_uses looks e v
 simple_uses looks (Define xs span es) = list_uses looks es
@@ -55,10 +55,10 @@ simple_uses looks (Define xs span es) = list_uses looks es
 -- each form with its faults
 
 abbrev pub alone_faults : {T S D P : Type 0} → Looks T S D P → ExprTree → List Fault
-alone_faults looks e = faults looks places.«Value» e ++ fault_at (start e) (statement_rule (callee_of looks e) (denoted looks places.«Value» e))
+alone_faults looks e = faults looks stands.«Value» e ++ fault_at (start e) (statement_rule (callee_of looks e) (denoted looks stands.«Value» e))
 
 abbrev pub step_faults : {T S D P : Type 0} → Looks T S D P → ExprTree → List Fault
-step_faults looks e = operand_faults looks places.«Value» e ++ fault_at (start e) (increment_rule looks.types (operand_argument looks e))
+step_faults looks e = operand_faults looks stands.«Value» e ++ fault_at (start e) (increment_rule looks.types (operand_argument looks e))
 
 abbrev pub assign_faults : {T S D P : Type 0} → Looks T S D P → Separated ExprTree → Separated ExprTree → List Fault
 assign_faults looks ts es =
@@ -66,7 +66,7 @@ assign_faults looks ts es =
 
 abbrev pub update_faults : {T S D P : Type 0} → Looks T S D P → ExprTree → Operator → ExprTree → List Fault
 update_faults looks e op v =
-    operand_faults looks places.«Value» e ++ (operand_faults looks places.«Value» v ++ fault_at (start e) (update_rule looks.types op (operand_argument looks e) (operand_argument looks v)))
+    operand_faults looks stands.«Value» e ++ (operand_faults looks stands.«Value» v ++ fault_at (start e) (update_rule looks.types op (operand_argument looks e) (operand_argument looks v)))
 
 abbrev pub short_piece_faults : {T S D P : Type 0} → Looks T S D P → List Bool → Separated Ident → Separated ExprTree → List Fault
 short_piece_faults looks firsts xs es =
@@ -84,7 +84,7 @@ abbrev pub short_name_types : {T S D P : Type 0} → Looks T S D P → List Bool
 short_name_types looks firsts xs es = short_types looks.types (short_targets looks firsts [] (idents xs)) (given looks es)
 
 abbrev pub condition_faults : {T S D P : Type 0} → Looks T S D P → ExprTree → List Fault
-condition_faults looks e = faults looks places.«Value» e ++ fault_at (start e) (condition_rule looks.types (denoted looks places.«Value» e))
+condition_faults looks e = faults looks stands.«Value» e ++ fault_at (start e) (condition_rule looks.types (denoted looks stands.«Value» e))
 
 -- what is returned, where the results have these types and have names or not
 

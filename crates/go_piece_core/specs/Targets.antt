@@ -8,7 +8,7 @@ use Rattle.go_tree_nodes.specs.declared.names.Ident.{Ident}
 use Rattle.go_tree_nodes.specs.Trees.{Separated, One, Then, ExprTree}
 use Rattle.go_open_core.specs.Blocks.{is_listed, list_name}
 use Rattle.go_walk_core.specs.Ends.{is_blank_target}
-use Rattle.go_statement_core.specs.denote_core.declared.things.Place.TheVariants as places
+use Rattle.go_statement_core.specs.denote_core.declared.things.Stand.TheVariants as stands
 use Rattle.go_statement_core.specs.declared.targets.Target.{Target}
 use Rattle.go_statement_core.specs.declared.targets.Target.TheVariants as kinds
 use Rattle.go_statement_core.specs.Targets.{target_of}
@@ -22,10 +22,10 @@ use Rattle.go_expr_core.specs.Faults.{member_faults}
 -- left of `=`: `_`, in parentheses too, is no occurrence; anything else is an operand
 
 abbrev pub target : {T S D P : Type 0} → Looks T S D P → Bool → ExprTree → Target T
-target looks several e = if is_blank_target e then kinds.Blank else target_of (denoted looks places.«Value» e) (not several)
+target looks several e = if is_blank_target e then kinds.Blank else target_of (denoted looks stands.«Value» e) (not several)
 
 abbrev pub target_uses : {T S D P : Type 0} → Looks T S D P → ExprTree → List (Use D P)
-target_uses looks e = if is_blank_target e then [] else uses looks places.«Value» e
+target_uses looks e = if is_blank_target e then [] else uses looks stands.«Value» e
 
 abbrev pub target_faults : {T S D P : Type 0} → Looks T S D P → Bool → ExprTree → List Fault
 target_faults looks several e = if is_blank_target e then [] else member_faults looks several e
@@ -48,7 +48,7 @@ targets_faults looks several (Then e comma more) = target_faults looks several e
 -- is assigned to: it stands for what the block has
 
 abbrev pub old_target : {T S D P : Type 0} → Looks T S D P → Ident → Target T
-old_target looks x = target_of (ident_answer looks places.«Value» x).denoted true
+old_target looks x = target_of (ident_answer looks stands.«Value» x).denoted true
 
 -- by whether it is the first of its block, and by the names to its left
 abbrev pub short_target : {T S D P : Type 0} → Looks T S D P → Bool → List (List ℕ) → Ident → Target T

@@ -31,7 +31,7 @@ pub use types::variable;
 /// What the crates above name of `go_denote_core`.
 pub mod denote_core {
     pub use go_statement_core::denote_core::{
-        Argument, Denoted, Outcome, Place, argument_of, arguments_of,
+        Argument, Denoted, Outcome, Stand, argument_of, arguments_of,
     };
 }
 

@@ -14,7 +14,7 @@ use crate::starts::names_start;
 use crate::types::variables;
 use go_expr_core::{Exprs, Notes, note_fault};
 use go_open_core::NameList;
-use go_statement_core::denote_core::{Place, name_answer};
+use go_statement_core::denote_core::{Stand, name_answer};
 use go_statement_core::operand_core::Operand;
 use go_statement_core::{Target, assignment_rule, short_types, target_of};
 use go_tree_nodes::{Ident, Idents};
@@ -48,7 +48,7 @@ fn old_target<E: Exprs>(
 ) -> Result<Target<E::Type>, AllocError>
     ensures { IfOk result (λ t. t ≡ targets.old_target (everywhere (E.types env.now) (E.names env.now) (E.literals env.now) (E.written env.now)) ident.now) }
 {
-    let answer = name_answer(env, alloc, Place::Value, ident.name.as_str())?;
+    let answer = name_answer(env, alloc, Stand::Value, ident.name.as_str())?;
     Ok(target_of(answer.denoted, true))
 }
 

@@ -1,7 +1,7 @@
 //! Statements that may stand in a header, and conditions.
 ghost use Rattle.std.specs.Prelude.{◌≡◌, ◌++◌, None, IfOk, OnOk};
 ghost use Rattle.go_tree_nodes.specs.Shapes.{shape, shape_exprs};
-ghost use Rattle.go_statement_core.specs.denote_core.declared.things.Place.TheVariants as stands;
+ghost use Rattle.go_statement_core.specs.denote_core.declared.things.Stand.TheVariants as stands;
 ghost use Rattle.go_expr_core.specs.Looks.{everywhere};
 ghost use Rattle.go_expr_core.specs.Denoting.{denoted};
 ghost use Rattle.go_expr_core.specs.Uses.{uses};
@@ -14,7 +14,7 @@ use crate::given::check_list;
 use crate::starts::list_start;
 use crate::targets::check_targets;
 use go_expr_core::{Exprs, Notes, check_called, check_expr, check_operand, note_fault, start};
-use go_statement_core::denote_core::{Denoted, Place, argument_of};
+use go_statement_core::denote_core::{Denoted, Stand, argument_of};
 use go_statement_core::{
     assignment_rule, condition_rule, increment_rule, statement_rule, update_rule,
 };
@@ -40,7 +40,7 @@ fn check_other<E: Exprs>(
     ensures uses { OnOk result (notes.new.uses.items ≡ notes.old.uses.items ++ uses (everywhere (E.types env.now) (E.names env.now) (E.literals env.now) (E.written env.now)) stands.«Value» (shape expr.now)) }
     ensures faults { OnOk result (notes.new.faults.items ≡ notes.old.faults.items ++ faults (everywhere (E.types env.now) (E.names env.now) (E.literals env.now) (E.written env.now)) stands.«Value» (shape expr.now)) }
 {
-    let denoted = check_expr(env, alloc, Place::Value, expr, notes)?;
+    let denoted = check_expr(env, alloc, Stand::Value, expr, notes)?;
     Ok(Alone {
         callee: None,
         denoted,
@@ -61,7 +61,7 @@ fn check_with_callee<E: Exprs>(
 {
     match expr {
         Expr::Call(call) => {
-            let callee = check_expr(env, alloc, Place::Callee, &call.callee, notes)?;
+            let callee = check_expr(env, alloc, Stand::Callee, &call.callee, notes)?;
             let denoted = check_called(env, alloc, &callee, call.open, &call.args, notes)?;
             Ok(Alone {
                 callee: Some(callee),
@@ -105,7 +105,7 @@ pub(crate) fn check_step<E: Exprs>(
     ensures uses { OnOk result (notes.new.uses.items ≡ notes.old.uses.items ++ uses (everywhere (E.types env.now) (E.names env.now) (E.literals env.now) (E.written env.now)) stands.«Value» (shape expr.now)) }
     ensures faults { OnOk result (notes.new.faults.items ≡ notes.old.faults.items ++ statements.step_faults (everywhere (E.types env.now) (E.names env.now) (E.literals env.now) (E.written env.now)) (shape expr.now)) }
 {
-    let denoted = check_operand(env, alloc, Place::Value, expr, notes)?;
+    let denoted = check_operand(env, alloc, Stand::Value, expr, notes)?;
     let rule = increment_rule(env, alloc, argument_of(denoted))?;
     note_fault(&mut notes.faults, start(expr), rule)
 }
@@ -136,8 +136,8 @@ pub(crate) fn check_update<E: Exprs>(
     ensures uses { OnOk result (notes.new.uses.items ≡ notes.old.uses.items ++ statements.update_uses (everywhere (E.types env.now) (E.names env.now) (E.literals env.now) (E.written env.now)) (shape update.now.target) (shape update.now.value)) }
     ensures faults { OnOk result (notes.new.faults.items ≡ notes.old.faults.items ++ statements.update_faults (everywhere (E.types env.now) (E.names env.now) (E.literals env.now) (E.written env.now)) (shape update.now.target) update.now.operator (shape update.now.value)) }
 {
-    let target = check_operand(env, alloc, Place::Value, &update.target, notes)?;
-    let value = check_operand(env, alloc, Place::Value, &update.value, notes)?;
+    let target = check_operand(env, alloc, Stand::Value, &update.target, notes)?;
+    let value = check_operand(env, alloc, Stand::Value, &update.value, notes)?;
     let operator = update.operator;
     let left = argument_of(target);
     let right = argument_of(value);
@@ -159,7 +159,7 @@ pub fn check_condition<E: Exprs>(
     ensures uses { OnOk result (notes.new.uses.items ≡ notes.old.uses.items ++ uses (everywhere (E.types env.now) (E.names env.now) (E.literals env.now) (E.written env.now)) stands.«Value» (shape condition.now)) }
     ensures faults { OnOk result (notes.new.faults.items ≡ notes.old.faults.items ++ statements.condition_faults (everywhere (E.types env.now) (E.names env.now) (E.literals env.now) (E.written env.now)) (shape condition.now)) }
 {
-    let denoted = check_expr(env, alloc, Place::Value, condition, notes)?;
+    let denoted = check_expr(env, alloc, Stand::Value, condition, notes)?;
     let rule = condition_rule(env, &denoted);
     note_fault(&mut notes.faults, start(condition), rule)
 }

@@ -6,7 +6,7 @@ ghost use Rattle.go_expr_core.specs.Lists.{is_list};
 ghost use Rattle.go_piece_core.specs.Targets as targets;
 
 use go_expr_core::{Exprs, Notes, check_expr, is_list, note_member, start};
-use go_statement_core::denote_core::Place;
+use go_statement_core::denote_core::Stand;
 use go_statement_core::{Target, target_of};
 use go_tree_nodes::Expr;
 use go_walk_core::is_blank_target;
@@ -27,7 +27,7 @@ fn check_target<E: Exprs>(
     if is_blank_target(expr) {
         return Ok(Target::Blank);
     }
-    let denoted = check_expr(env, alloc, Place::Value, expr, notes)?;
+    let denoted = check_expr(env, alloc, Stand::Value, expr, notes)?;
     note_member(&mut notes.faults, start(expr), several, &denoted)?;
     Ok(target_of(denoted, !several))
 }

@@ -11,9 +11,14 @@ use std::alloc::{AllocError, Global};
 use std::marker::Model;
 
 /// What each node of a graph reaches. Contracts see it as the list of these sets.
-#[derive(Drop)]
 pub struct Reached {
     sets: Vec<NumberSet>,
+}
+
+impl Drop for Reached {
+    fn drop(self) {
+        let Reached { sets: _ } = self;
+    }
 }
 
 impl Model for Reached {

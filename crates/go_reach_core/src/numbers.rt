@@ -8,10 +8,15 @@ use std::alloc::{AllocError, Global};
 use std::marker::Model;
 
 /// A set of numbers below a bound. Contracts see it as the bound and the list of its numbers in rising order.
-#[derive(Drop)]
 pub struct NumberSet {
     bound: usize,
     words: Vec<u64>,
+}
+
+impl Drop for NumberSet {
+    fn drop(self) {
+        let NumberSet { bound: _, words: _ } = self;
+    }
 }
 
 impl Model for NumberSet {

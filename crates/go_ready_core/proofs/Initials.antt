@@ -6,7 +6,7 @@ use Rattle.go_tree_nodes.specs.declared.names.Ident.{Ident}
 use Rattle.go_tree_nodes.specs.declared.decls.ValueKind.{ValueKind}
 use Rattle.go_tree_nodes.specs.Trees.{Separated, One, Then, TypeTree, ExprTree, ValueSpecTree}
 use Rattle.go_tree_nodes.specs.WrittenTypes.{expr_types, exprs_types, values_types, spec_types, some_type}
-use Rattle.go_func_core.specs.denote_core.declared.things.Place.TheVariants as places
+use Rattle.go_func_core.specs.denote_core.declared.things.Stand.TheVariants as stands
 use Rattle.go_func_core.specs.denote_core.Arguments.{arguments_of}
 use Rattle.go_func_core.specs.expr_core.Looks.{Looks, WrittenRules, look_of_place}
 use Rattle.go_func_core.specs.expr_core.Denoting.{denoted}
@@ -35,14 +35,14 @@ module _ {T S D P : Type 0} (looks : Looks T S D P) (written : WrittenRules T) w
   agrees [] = tt
   agrees (x ∷ xs) = (refl, agrees xs)
 
-  expr_same : (e : ExprTree) → Makes (expr_types e) → denoted looks places.«Value» e ≡ denoted other places.«Value» e
-  expr_same e h = ((expressions_seen T S D P).whole looks looks.find written places.«Value» e (agrees (expr_idents e)) h).denoted
+  expr_same : (e : ExprTree) → Makes (expr_types e) → denoted looks stands.«Value» e ≡ denoted other stands.«Value» e
+  expr_same e h = ((expressions_seen T S D P).whole looks looks.find written stands.«Value» e (agrees (expr_idents e)) h).denoted
 
   exprs_same : (es : Separated ExprTree) → Makes (exprs_types es) → denoted_exprs looks es ≡ denoted_exprs other es
   exprs_same (One e) h = ap (λ d. d ∷ []) (expr_same e h)
   exprs_same (Then e comma more) h =
       ap (λ d. d ∷ denoted_exprs looks more) (expr_same e (makes_left (expr_types e) (exprs_types more) h))
-      ∙ ap (λ l. denoted other places.«Value» e ∷ l) (exprs_same more (makes_right (expr_types e) (exprs_types more) h))
+      ∙ ap (λ l. denoted other stands.«Value» e ∷ l) (exprs_same more (makes_right (expr_types e) (exprs_types more) h))
 
   values_same : (vs : Option (Span × Separated ExprTree)) → Makes (values_types vs) → values_given looks vs ≡ values_given other vs
   values_same None h = refl

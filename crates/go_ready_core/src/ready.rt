@@ -16,7 +16,6 @@ use go_term_core::decl_core::Outline;
 use std::alloc::{AllocError, Global};
 
 /// What is made of a package before its files are checked, beside its types.
-#[derive(Drop)]
 pub struct Ready {
     /// The package's path, and the predeclared types.
     pub home: Home,
@@ -26,6 +25,17 @@ pub struct Ready {
     pub initial: Vec<InlineTypes>,
     /// Of each file the types in each of its functions, in order of place.
     pub functions: Vec<Vec<InlineTypes>>,
+}
+
+impl Drop for Ready {
+    fn drop(self) {
+        let Ready {
+            home: _,
+            written: _,
+            initial: _,
+            functions: _,
+        } = self;
+    }
 }
 
 /// Makes what is to be known of a package before its files are checked. `outlines` are those of its files, in order of name, and `types` has

@@ -29,11 +29,20 @@ pub enum InScope<'a> {
 /// The blocks that are open at a place of a file: the universe's, the package's inside it, the file's inside that, and
 /// those of the function innermost. Contracts see it as the blocks of the package, the number of the file in order of name, and the
 /// open blocks of the function, the outermost first.
-#[derive(Drop)]
 pub struct Scopes<'a> {
     blocks: &'a Blocks,
     file: usize,
     open_blocks: OpenBlocks,
+}
+
+impl Drop for Scopes<'_> {
+    fn drop(self) {
+        let Scopes {
+            blocks: _,
+            file: _,
+            open_blocks: _,
+        } = self;
+    }
 }
 
 impl<'a> Model for Scopes<'a> {

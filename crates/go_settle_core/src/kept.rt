@@ -8,8 +8,8 @@ use go_term_core::{Field, Method};
 use go_text_core::add;
 use std::alloc::{AllocError, Global};
 
-// Whether a name is the blank identifier.
-fn is_blank(name: &str) -> bool
+/// Whether a name is the blank identifier.
+pub fn is_blank(name: &str) -> bool
     ensures { result ≡ is_blank name.now }
 {
     name == "_"

@@ -26,12 +26,21 @@ use std::marker::Model;
 
 /// A workspace with the parts of its assembled packages, and all faults. Contracts see the three, and that they are what the trees of all packages
 /// give.
-#[derive(Drop)]
 pub struct Snapshot {
     sources: Workspace,
     /// By the numbers of packages; none where files are not assembled.
     parts: Parts,
     faults: Vec<PlacedFault>,
+}
+
+impl Drop for Snapshot {
+    fn drop(self) {
+        let Snapshot {
+            sources: _,
+            parts: _,
+            faults: _,
+        } = self;
+    }
 }
 
 impl Model for Snapshot {

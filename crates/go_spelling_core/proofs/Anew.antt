@@ -10,7 +10,7 @@ use Rattle.go_tree_nodes.specs.Trees.{Separated, TypeTree, ExprTree, Named, Valu
 use Rattle.go_term_core.specs.decl_core.TopDecls.{FormTree, ValueForm, TypeForm, FuncForm}
 use Rattle.go_package_core.specs.handle_core.Declarations.{Declaration}
 use Rattle.go_package_core.specs.denote_core.declared.things.Found.{Found}
-use Rattle.go_package_core.specs.denote_core.declared.things.Place.TheVariants as places
+use Rattle.go_package_core.specs.denote_core.declared.things.Stand.TheVariants as stands
 use Rattle.go_term_core.specs.Terms.{Term, Sign}
 use Rattle.go_package_core.specs.expr_core.Looks.{WrittenRules}
 use Rattle.go_package_core.specs.expr_core.Denoting.{denoted}
@@ -36,7 +36,7 @@ use Rattle.go_spelling_core.specs.Contexts.{ContextStays}
 use Rattle.go_spelling_core.specs.PieceLaws.{InitialContextsStay}
 use Rattle.go_spelling_core.specs.Package.{FileForm, AreFixed, AllFixed, file_looks, form_needs, all_needs, face_of, face_at_position, AreFacesOf, IsWrittenAnew, IsAsItWas, AreWrittenAnew}
 use Rattle.go_spelling_core.specs.PieceSpots.{some_type_spots, values_spots, spec_spots}
-use Rattle.go_spelling_core.specs.Trees.{RespellsExprs, InValues, value_spec}
+use Rattle.go_spelling_core.specs.Trees.{RespellsExprs, InValues, value_spec_with}
 use Rattle.go_spelling_core.specs.Values.{IsSame, NeedsInBoth}
 use Rattle.go_spelling_core.proofs.Splits.{len, map_len, split_stays}
 use Rattle.go_spelling_core.proofs.Splits as splits
@@ -111,10 +111,10 @@ module _ (s : SceneModel) (a : ℕ) where
 
   module _ (n file : ℕ) (x : Ident) (name : List ℕ) (xs : Separated Ident) (t : Option TypeTree) (place : Span) (es fs : Separated ExprTree) (l : InList Term Sign Declaration (List ℕ) x name es fs) where
     abbrev v : ValueSpecTree
-    v = value_spec xs t (Some (place, es))
+    v = value_spec_with xs t (Some (place, es))
 
     abbrev w : ValueSpecTree
-    w = value_spec xs t (Some (place, fs))
+    w = value_spec_with xs t (Some (place, fs))
 
     abbrev Result : FileForm → FileForm → Type 0
     Result d e = Kept (Some d) (Some e) ⊎ BothNeed n (Some d) (Some e)
@@ -163,7 +163,7 @@ module _ (s : SceneModel) (a : ℕ) where
     same_needed q o p (inr h) = ap some_needed h.0 ∙ (q ∙ ap some_needed (sym h.1))
 
     -- where both expressions denote the same
-    kept_alike : needed_idents l.old ≡ needed_idents l.new → ((looks : TheLooks) → denoted looks places.«Value» l.old ≡ denoted looks places.«Value» l.new)
+    kept_alike : needed_idents l.old ≡ needed_idents l.new → ((looks : TheLooks) → denoted looks stands.«Value» l.old ≡ denoted looks stands.«Value» l.new)
         → (written : WrittenRules Term) (kind : ValueKind) (i : ℕ) → Result (made file written (ValueForm kind v i)) (made file written (ValueForm kind w i))
     kept_alike q alike written kind i =
         inl (kept_name written kind i (same_needed q (expr_of v i) (expr_of w i) (l.own _ i)) (λ looks k. initial_same looks xs t place es fs l.alone k i (argument_same looks (l.own _ i))))
@@ -210,10 +210,10 @@ agree_right find other (x ∷ xs) ys h = agree_right find other xs ys h.1
 module _ (s : SceneModel) (ds es : List FileForm) (t u : List (Option TheFace)) (file : ℕ) (written : WrittenRules Term) (x : Ident) (name : List ℕ)
     (xs : Separated Ident) (type_expr : Option TypeTree) (place : Span) (olds news : Separated ExprTree) (r : RespellsExprs x name olds news) where
   abbrev earlier : ValueSpecTree
-  earlier = value_spec xs type_expr (Some (place, olds))
+  earlier = value_spec_with xs type_expr (Some (place, olds))
 
   abbrev later : ValueSpecTree
-  later = value_spec xs type_expr (Some (place, news))
+  later = value_spec_with xs type_expr (Some (place, news))
 
   abbrev looks : TheLooks
   looks = file_looks s file written t
@@ -241,7 +241,7 @@ module _ (s : SceneModel) (ds es : List FileForm) (t u : List (Option TheFace)) 
         each a = turn a (all a (slice_get ds a) (slice_get es a) (pair_at file earlier later ds es anew a))
 
     -- where nothing changes, all declarations are what they were
-    all_same : needed_idents l.old ≡ needed_idents l.new → ((k : TheLooks) → denoted k places.«Value» l.old ≡ denoted k places.«Value» l.new) → t ≡ u
+    all_same : needed_idents l.old ≡ needed_idents l.new → ((k : TheLooks) → denoted k stands.«Value» l.old ≡ denoted k stands.«Value» l.new) → t ≡ u
     all_same q alike =
         let long : length t ≡ length u = at.as_many ∙ (rows_long ∙ sym au.as_many) in
         same_lists t u long (λ k d lt.
@@ -249,13 +249,13 @@ module _ (s : SceneModel) (ds es : List FileForm) (t u : List (Option TheFace)) 
         get_or_default t k d None lt ∙ (same_at k (λ a. at_pair s a k file x name xs type_expr place olds news l (kept_alike s a k file x name xs type_expr place olds news l q alike)) ∙ sym (get_or_default u k d None lt')))
 
     abbrev Stays : TheLooks → Type 0
-    Stays k = ContextStays Term Sign Declaration (List ℕ) k x name (spots looks places.«Value» l.old) (uses k places.«Value» l.new)
+    Stays k = ContextStays Term Sign Declaration (List ℕ) k x name (spots looks stands.«Value» l.old) (uses k stands.«Value» l.new)
 
     seen : (p : _) (e : ExprTree) → AgreeOnIdents looks.find other.find (needed_idents e) → denoted looks p e ≡ denoted other p e
     seen p e h = needed_names Term Sign Declaration (List ℕ) looks other.find p e (fixed_law written law) h
 
     by_change : Change Term Declaration (List ℕ) (AgreeOnIdents looks.find other.find) x name ((k : TheLooks) (p : _) → denoted k p l.old ≡ denoted k p l.new)
-        (needed_idents l.old) (needed_idents l.new) (spots looks places.«Value» l.old) (spots other places.«Value» l.new)
+        (needed_idents l.old) (needed_idents l.new) (spots looks stands.«Value» l.old) (spots other stands.«Value» l.new)
         → Stays other
     by_change (OfName split) = split_stays x name other _ _ split
     by_change (OfSelector q split) =
@@ -263,15 +263,15 @@ module _ (s : SceneModel) (ds es : List FileForm) (t u : List (Option TheFace)) 
         λ n has. same_at n (λ a. at_pair s a n file x name xs type_expr place olds news l (kept_or_needed s a n file x name xs type_expr place olds news l q has)) in
         split_stays x name other _ _ (split (idents_alike s file t u written (needed_idents l.old) known))
     by_change (OfElement q alike) =
-        let decides = (own_name Term Sign Declaration (List ℕ)).decides looks places.«Value» x name l.old l.new l.respells in
-        subst (λ k. Stays (file_looks s file written k)) (all_same q (λ k. alike k places.«Value»))
+        let decides = (own_name Term Sign Declaration (List ℕ)).decides looks stands.«Value» x name l.old l.new l.respells in
+        subst (λ k. Stays (file_looks s file written k)) (all_same q (λ k. alike k stands.«Value»))
         (record { number = decides.number; context = decides.context; stands = decides.stands; has = decides.has })
 
     expr_stays : Stays other
     expr_stays =
         by_change
         (of_expr (AgreeOnIdents looks.find other.find) (agree_left looks.find other.find) (agree_right looks.find other.find) x name looks other
-        (λ y h. seen places.TypeDot (Named y) h) seen places.«Value» l.old l.new l.respells)
+        (λ y h. seen stands.TypeDot (Named y) h) seen stands.«Value» l.old l.new l.respells)
 
     type_long : (o : Option TypeTree) → len (some_type_spots looks o) ≡ len (some_type_uses other o)
     type_long None = refl

@@ -7,8 +7,8 @@ use Rattle.go_tree_nodes.specs.declared.exprs.Key.{Key}
 use Rattle.go_tree_nodes.specs.declared.types.TypeName.{TypeName}
 use Rattle.go_tree_nodes.specs.declared.types.TypeName.TheVariants as type_names
 use Rattle.go_tree_nodes.specs.Trees.{TypeTree, FieldTrees, MethodTrees, SignatureTree, ResultTree, ParamTrees, NamedType, Pointer, ParenType, Struct, Interface, NoFields, NamedFields, EmbeddedField, NoMethods, Method, Signed, NoResult, OneResult, Results, NoParams, Param, ExprTree, ItemTrees, Integer, Text, Named, Paren, Unary, Binary, Select, Call, Literal, StructLiteral, NoItems, Item}
-use Rattle.go_package_core.specs.denote_core.declared.things.Place.{Place}
-use Rattle.go_package_core.specs.denote_core.declared.things.Place.TheVariants as places
+use Rattle.go_package_core.specs.denote_core.declared.things.Stand.{Stand}
+use Rattle.go_package_core.specs.denote_core.declared.things.Stand.TheVariants as stands
 use Rattle.go_package_core.specs.denote_core.declared.things.Usage.TheVariants as usages
 use Rattle.go_package_core.specs.denote_core.Arguments.{arguments_of, is_free}
 use Rattle.go_package_core.specs.denote_core.Calls.{call_answer}
@@ -65,33 +65,33 @@ module _ {T S D P : Type 0} (looks other : Looks T S D P) where
   key_len t u m others (Some k) = refl
 
   mutual
-    pub expr_len : (p : Place) (e : ExprTree) → len (spots looks p e) ≡ len (spots other p e)
+    pub expr_len : (p : Stand) (e : ExprTree) → len (spots looks p e) ≡ len (spots other p e)
     expr_len p (Integer n span) = refl
     expr_len p (Text t) = refl
     expr_len p (Named x) = refl
     expr_len p (Paren first e last) = expr_len (inside p) e
     expr_len p (Unary op span e) = expr_len (under_place op p) e
-    expr_len p (Binary a op span b) = len_app (spots looks places.«Value» a) _ (spots other places.«Value» a) _ (expr_len places.«Value» a) (expr_len places.«Value» b)
+    expr_len p (Binary a op span b) = len_app (spots looks stands.«Value» a) _ (spots other stands.«Value» a) _ (expr_len stands.«Value» a) (expr_len stands.«Value» b)
     expr_len p (Select e dot x) = len_app (spots looks (left_place p e) e) (_ ∷ []) (spots other (left_place p e) e) (_ ∷ []) (expr_len (left_place p e) e) refl
     expr_len p (Call e first items last) =
-        len_app (spots looks places.Callee e) (_ ∷ args_spots looks items) (spots other places.Callee e) (_ ∷ args_spots other items) (expr_len places.Callee e) (ap suc (args_len items))
+        len_app (spots looks stands.Callee e) (_ ∷ args_spots looks items) (spots other stands.Callee e) (_ ∷ args_spots other items) (expr_len stands.Callee e) (ap suc (args_len items))
     expr_len p (Literal n first items last) = len_app (type_name_spots looks n) _ (type_name_spots other n) _ (name_len n) (items_len (named_type looks n) (named_type other n) (is_mixed (keys_of items)) [] items)
     expr_len p (StructLiteral t first items last) = len_app (type_spots looks t) _ (type_spots other t) _ (type_len t) (items_len (written_type looks t) (written_type other t) (is_mixed (keys_of items)) [] items)
 
     args_len : (items : ItemTrees) → len (args_spots looks items) ≡ len (args_spots other items)
     args_len NoItems = refl
-    args_len (Item key e comma rest) = len_app (spots looks places.«Value» e) _ (spots other places.«Value» e) _ (expr_len places.«Value» e) (args_len rest)
+    args_len (Item key e comma rest) = len_app (spots looks stands.«Value» e) _ (spots other stands.«Value» e) _ (expr_len stands.«Value» e) (args_len rest)
 
     items_len : (t u : Option T) (m : Bool) (before : List (List ℕ)) (items : ItemTrees) → len (items_spots looks t m before items) ≡ len (items_spots other u m before items)
     items_len t u m before NoItems = refl
     items_len t u m before (Item key e comma rest) =
         len_app (key_spots t m (before ++ all_keys rest) key) _ (key_spots u m (before ++ all_keys rest) key) _ (key_len t u m (before ++ all_keys rest) key)
-        (len_app (spots looks places.«Value» e) _ (spots other places.«Value» e) _ (expr_len places.«Value» e) (items_len t u m (before ++ key_names key) rest))
+        (len_app (spots looks stands.«Value» e) _ (spots other stands.«Value» e) _ (expr_len stands.«Value» e) (items_len t u m (before ++ key_names key) rest))
 
 -- what a respelling leaves as it was, whatever the look-ups
 
 module _ (x : Ident) (name : List ℕ) where
-  pub left_same : (p : Place) (e f : ExprTree) → Respells x name e f → left_place p f ≡ left_place p e
+  pub left_same : (p : Stand) (e f : ExprTree) → Respells x name e f → left_place p f ≡ left_place p e
   left_same p e f InName = refl
   left_same p e f (InParen r) = refl
   left_same p e f (InUnary r) = refl
@@ -198,7 +198,7 @@ module _ {T D P : Type 0} (Sees : List Ident → Type 0) (left : (xs ys : List I
   on_right zs xs ys ps ps' bs bs' long f (OfSelector q s) = OfSelector (ap (λ l. zs ++ l) q) (λ sees. in_right x name ps ps' bs bs' long (s (right zs xs sees)))
   on_right zs xs ys ps ps' bs bs' long f (OfElement q same) = OfElement (ap (λ l. zs ++ l) q) (f same)
 
-  module _ {S : Type 0} (looks other : Looks T S D P) (named : (y : Ident) → Sees (y ∷ []) → (ident_answer looks places.TypeDot y).denoted ≡ (ident_answer other places.TypeDot y).denoted) where
+  module _ {S : Type 0} (looks other : Looks T S D P) (named : (y : Ident) → Sees (y ∷ []) → (ident_answer looks stands.TypeDot y).denoted ≡ (ident_answer other stands.TypeDot y).denoted) where
     -- types, in which no element stands
 
     pub of_name : (n m : TypeName) → RespellsName x name n m → Changes ⊥ (type_name_idents n) (type_name_idents m) (type_name_spots looks n) (type_name_spots other m)
@@ -242,7 +242,7 @@ module _ {T D P : Type 0} (Sees : List Ident → Type 0) (left : (xs ys : List I
     -- expressions
 
     abbrev Alike : ExprTree → ExprTree → Type 0
-    Alike e f = (l : Looks T S D P) (p : Place) → denoted l p e ≡ denoted l p f
+    Alike e f = (l : Looks T S D P) (p : Stand) → denoted l p e ≡ denoted l p f
 
     abbrev AlikeItems : ItemTrees → ItemTrees → Type 0
     AlikeItems xs ys = (l : Looks T S D P) → denoted_items l xs ≡ denoted_items l ys
@@ -260,23 +260,23 @@ module _ {T D P : Type 0} (Sees : List Ident → Type 0) (left : (xs ys : List I
 
     args_alike : (e : ExprTree) (first last : Span) (xs ys : ItemTrees) → RespellsArgs x name xs ys → AlikeItems xs ys → Alike (Call e first xs last) (Call e first ys last)
     args_alike e first last xs ys r same l p =
-        ap (λ b. (call_answer (look_of_place l first.start) (denoted l places.Callee e) (is_free b (denoted_items l xs)) (arguments_of (look_of_place l first.start) (denoted_items l xs))).denoted) (lone_same x name xs ys r)
-        ∙ ap (λ ds. (call_answer (look_of_place l first.start) (denoted l places.Callee e) (is_free (is_lone_call ys) ds) (arguments_of (look_of_place l first.start) ds)).denoted) (same l)
+        ap (λ b. (call_answer (look_of_place l first.start) (denoted l stands.Callee e) (is_free b (denoted_items l xs)) (arguments_of (look_of_place l first.start) (denoted_items l xs))).denoted) (lone_same x name xs ys r)
+        ∙ ap (λ ds. (call_answer (look_of_place l first.start) (denoted l stands.Callee e) (is_free (is_lone_call ys) ds) (arguments_of (look_of_place l first.start) ds)).denoted) (same l)
 
-    module _ (seen : (p : Place) (e : ExprTree) → Sees (needed_idents e) → denoted looks p e ≡ denoted other p e) where
+    module _ (seen : (p : Stand) (e : ExprTree) → Sees (needed_idents e) → denoted looks p e ≡ denoted other p e) where
       mutual
-        pub of_expr : (p : Place) (e f : ExprTree) → Respells x name e f → Changes (Alike e f) (needed_idents e) (needed_idents f) (spots looks p e) (spots other p f)
+        pub of_expr : (p : Stand) (e f : ExprTree) → Respells x name e f → Changes (Alike e f) (needed_idents e) (needed_idents f) (spots looks p e) (spots other p f)
         of_expr p e f InName = OfName (here x name _ _ refl [] [])
         of_expr p e f (InParen {e = a} {f = b} r) = changed (needed_idents a) (needed_idents b) _ _ (λ same l p. same l (inside p)) (of_expr (inside p) a b r)
         of_expr p e f (InUnary {op = op} {span = span} {e = a} {f = b} r) = changed (needed_idents a) (needed_idents b) _ _ (unary_alike op span a b r) (of_expr (under_place op p) a b r)
         of_expr p e f (InLeft {op = op} {a = a} {b = b} {c = c} r) =
-            on_left (needed_idents a) (needed_idents c) (needed_idents b) _ _ _ _ (λ same l p. ap (λ d. (binary_of l.types op d (denoted l places.«Value» b)).denoted) (same l places.«Value»)) (of_expr places.«Value» a c r)
+            on_left (needed_idents a) (needed_idents c) (needed_idents b) _ _ _ _ (λ same l p. ap (λ d. (binary_of l.types op d (denoted l stands.«Value» b)).denoted) (same l stands.«Value»)) (of_expr stands.«Value» a c r)
         of_expr p e f (InRight {op = op} {a = a} {b = b} {c = c} r) =
-            on_right (needed_idents a) (needed_idents b) (needed_idents c) _ _ _ _ (expr_len looks other places.«Value» a)
-            (λ same l p. ap (λ d. (binary_of l.types op (denoted l places.«Value» a) d).denoted) (same l places.«Value»)) (of_expr places.«Value» b c r)
+            on_right (needed_idents a) (needed_idents b) (needed_idents c) _ _ _ _ (expr_len looks other stands.«Value» a)
+            (λ same l p. ap (λ d. (binary_of l.types op (denoted l stands.«Value» a) d).denoted) (same l stands.«Value»)) (of_expr stands.«Value» b c r)
         of_expr p e f (InOperand {dot = dot} {y = y} {e = a} {f = b} r) =
             in_front (needed_idents a) (needed_idents b) _ _ _ _ (operand_alike a b dot y r)
-            (let At : Place → Type 0 = λ q. Changes (Alike a b) (needed_idents a) (needed_idents b) (spots looks (left_place p a) a) (spots other q b) in
+            (let At : Stand → Type 0 = λ q. Changes (Alike a b) (needed_idents a) (needed_idents b) (spots looks (left_place p a) a) (spots other q b) in
             subst At (sym (left_same x name p a b r)) (of_expr (left_place p a) a b r))
         of_expr p e f (InSelector {e = a}) =
             OfSelector refl
@@ -284,10 +284,10 @@ module _ {T D P : Type 0} (Sees : List Ident → Type 0) (left : (xs ys : List I
             (here x name _ _ (ap (λ d. SelectorBehind (whole p) (dot_of (is_name a) d)) (seen (left_place p a) a sees)) [] []))
         of_expr p e f (InCallee {first = first} {items = items} {e = a} {f = b} r) =
             on_left (needed_idents a) (needed_idents b) (needed_by_args items) _ _ _ _
-            (λ same l p. ap (λ d. (call_answer (look_of_place l first.start) d (is_free (is_lone_call items) (denoted_items l items)) (arguments_of (look_of_place l first.start) (denoted_items l items))).denoted) (same l places.Callee))
-            (of_expr places.Callee a b r)
+            (λ same l p. ap (λ d. (call_answer (look_of_place l first.start) d (is_free (is_lone_call items) (denoted_items l items)) (arguments_of (look_of_place l first.start) (denoted_items l items))).denoted) (same l stands.Callee))
+            (of_expr stands.Callee a b r)
         of_expr p e f (InArguments {first = first} {last = last} {items = xs} {others = ys} {e = a} r) =
-            on_right (needed_idents a) (needed_by_args xs) (needed_by_args ys) _ _ _ _ (expr_len looks other places.Callee a) (args_alike a first last xs ys r)
+            on_right (needed_idents a) (needed_by_args xs) (needed_by_args ys) _ _ _ _ (expr_len looks other stands.Callee a) (args_alike a first last xs ys r)
             (on_right [] (needed_by_args xs) (needed_by_args ys) (_ ∷ []) (_ ∷ []) _ _ refl (λ (same : AlikeItems xs ys). same) (of_args xs ys r))
         of_expr p e f (InLiteralType {n = n} {m = m} r) = in_front (type_name_idents n) (type_name_idents m) _ _ _ _ (λ h. absurd h) (of_name n m r)
         of_expr p e f (InElements r) = OfElement refl (λ l p. refl)
@@ -296,7 +296,7 @@ module _ {T D P : Type 0} (Sees : List Ident → Type 0) (left : (xs ys : List I
 
         of_args : (xs ys : ItemTrees) → RespellsArgs x name xs ys → Changes (AlikeItems xs ys) (needed_by_args xs) (needed_by_args ys) (args_spots looks xs) (args_spots other ys)
         of_args xs ys (InArgument {e = a} {f = b} {rest = rest} r) =
-            on_left (needed_idents a) (needed_idents b) (needed_by_args rest) _ _ _ _ (λ same l. ap (λ d. d ∷ denoted_items l rest) (same l places.«Value»)) (of_expr places.«Value» a b r)
+            on_left (needed_idents a) (needed_idents b) (needed_by_args rest) _ _ _ _ (λ same l. ap (λ d. d ∷ denoted_items l rest) (same l stands.«Value»)) (of_expr stands.«Value» a b r)
         of_args xs ys (InLaterArguments {e = a} {rest = rest} {more = more} r) =
-            on_right (needed_idents a) (needed_by_args rest) (needed_by_args more) _ _ _ _ (expr_len looks other places.«Value» a)
-            (λ same l. ap (λ ds. denoted l places.«Value» a ∷ ds) (same l)) (of_args rest more r)
+            on_right (needed_idents a) (needed_by_args rest) (needed_by_args more) _ _ _ _ (expr_len looks other stands.«Value» a)
+            (λ same l. ap (λ ds. denoted l stands.«Value» a ∷ ds) (same l)) (of_args rest more r)

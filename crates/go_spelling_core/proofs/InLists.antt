@@ -6,7 +6,7 @@ use Rattle.go_text_core.specs.declared.span.Span.{Span}
 use Rattle.go_tree_nodes.specs.declared.names.Ident.{Ident}
 use Rattle.go_tree_nodes.specs.declared.decls.ValueKind.{ValueKind}
 use Rattle.go_tree_nodes.specs.Trees.{Separated, TypeTree, ExprTree, ValueSpecTree}
-use Rattle.go_package_core.specs.denote_core.declared.things.Place.TheVariants as places
+use Rattle.go_package_core.specs.denote_core.declared.things.Stand.TheVariants as stands
 use Rattle.go_package_core.specs.denote_core.declared.things.Denoted.{Denoted}
 use Rattle.go_package_core.specs.denote_core.declared.things.Denoted.TheVariants as denotes
 use Rattle.go_package_core.specs.denote_core.Arguments.{argument_of, arguments_of}
@@ -21,7 +21,7 @@ use Rattle.go_package_core.specs.value_core.mirrors.Own.{one_of, is_one, given_b
 use Rattle.go_package_core.specs.value_core.Owning.{initial_is, initial_past}
 use Rattle.go_spelling_core.specs.Contexts.{ContextStays}
 use Rattle.go_spelling_core.specs.PieceSpots.{exprs_spots}
-use Rattle.go_spelling_core.specs.Trees.{RespellsExprs, InOnly, InFirst, InLater, value_spec}
+use Rattle.go_spelling_core.specs.Trees.{RespellsExprs, InOnly, InFirst, InLater, value_spec_with}
 use Rattle.go_spelling_core.proofs.Splits.{map_len, behind, before}
 use Rattle.go_spelling_core.proofs.Changes.{expr_len}
 
@@ -37,7 +37,7 @@ pub record InList (T S D P : Type 0) (x : Ident) (name : List ℕ) (es fs : Sepa
   pub alone : is_one es ≡ is_one fs
   pub each : (i : ℕ) → OneOf old new (slice_get (exprs es) i) (slice_get (exprs fs) i)
   pub own : (n i : ℕ) → OneOf old new (expr_in n i es) (expr_in n i fs)
-  pub stays : (looks other : Looks T S D P) → ContextStays T S D P other x name (spots looks places.«Value» old) (uses other places.«Value» new)
+  pub stays : (looks other : Looks T S D P) → ContextStays T S D P other x name (spots looks stands.«Value» old) (uses other stands.«Value» new)
       → ContextStays T S D P other x name (exprs_spots looks es) (exprs_uses other fs)
 
 chosen : (e f : ExprTree) (o p : Option ExprTree) (b : Bool) → OneOf e f o p → OneOf e f (if b then o else None) (if b then p else None)
@@ -68,7 +68,7 @@ module _ {T S D P : Type 0} (x : Ident) (name : List ℕ) where
     alone = refl;
     each = each;
     own = λ n i. chosen e f (slice_get (e ∷ exprs more) i) (slice_get (f ∷ exprs more) i) (n == length (e ∷ exprs more)) (each i);
-    stays = λ looks other c. behind other x name (spots looks places.«Value» e) (exprs_spots looks more) (uses other places.«Value» f) (exprs_uses other more) c;
+    stays = λ looks other c. behind other x name (spots looks stands.«Value» e) (exprs_spots looks more) (uses other stands.«Value» f) (exprs_uses other more) c;
   }
     where
       each : (i : ℕ) → OneOf e f (slice_get (e ∷ exprs more) i) (slice_get (f ∷ exprs more) i)
@@ -88,8 +88,8 @@ module _ {T S D P : Type 0} (x : Ident) (name : List ℕ) where
             subst (λ k. OneOf l.old l.new (if n == suc (length (exprs more)) then slice_get (e ∷ exprs more) i else None) (if n == k then slice_get (e ∷ exprs rest) i else None)) (ap suc l.long)
             (chosen l.old l.new (slice_get (e ∷ exprs more) i) (slice_get (e ∷ exprs rest) i) (n == suc (length (exprs more))) (each i));
         stays = λ looks other c.
-            before other x name (spots looks places.«Value» e) (exprs_spots looks more) (uses other places.«Value» e) (exprs_uses other rest)
-            (expr_len looks other places.«Value» e ∙ sym (map_len (use_of other) (spots other places.«Value» e))) (l.stays looks other c);
+            before other x name (spots looks stands.«Value» e) (exprs_spots looks more) (uses other stands.«Value» e) (exprs_uses other rest)
+            (expr_len looks other stands.«Value» e ∙ sym (map_len (use_of other) (spots other stands.«Value» e))) (l.stays looks other c);
       }
     where
       later : (e : ExprTree) (more rest : List ExprTree) (old new : ExprTree) → ((i : ℕ) → OneOf old new (slice_get more i) (slice_get rest i))
@@ -111,22 +111,22 @@ module _ {T S D P : Type 0} (looks : Looks T S D P) where
   any_place o p (denotes.Func d s) = refl
   any_place o p (denotes.Builtin d b) = refl
 
-  given_same : (n i : ℕ) (alone : Bool) (e f : ExprTree) → denoted looks places.«Value» e ≡ denoted looks places.«Value» f → given_by looks n i alone (Some e) ≡ given_by looks n i alone (Some f)
-  given_same n i true e f h = ap (one_of n i) (ap (λ d. arguments_of (look_of_place looks (start e)) (d ∷ [])) h ∙ any_place (start e) (start f) (denoted looks places.«Value» f))
+  given_same : (n i : ℕ) (alone : Bool) (e f : ExprTree) → denoted looks stands.«Value» e ≡ denoted looks stands.«Value» f → given_by looks n i alone (Some e) ≡ given_by looks n i alone (Some f)
+  given_same n i true e f h = ap (one_of n i) (ap (λ d. arguments_of (look_of_place looks (start e)) (d ∷ [])) h ∙ any_place (start e) (start f) (denoted looks stands.«Value» f))
   given_same n i false e f h = ap argument_of h
 
   module _ (xs : Separated Ident) (t : Option TypeTree) (s : Span) (es fs : Separated ExprTree) (alone : is_one es ≡ is_one fs) where
     abbrev v : ValueSpecTree
-    v = value_spec xs t (Some (s, es))
+    v = value_spec_with xs t (Some (s, es))
 
     abbrev w : ValueSpecTree
-    w = value_spec xs t (Some (s, fs))
+    w = value_spec_with xs t (Some (s, fs))
 
     -- one expression, or two that denote the same
     pub own_same : (i : ℕ) → expr_of v i ≡ expr_of w i → own_argument looks v i ≡ own_argument looks w i
     own_same i h = ap (λ b. given_by looks (spec_name_count v) i b (expr_of v i)) alone ∙ ap (given_by looks (spec_name_count v) i (is_one fs)) h
 
-    pub own_alike : (i : ℕ) (e f : ExprTree) → expr_of v i ≡ Some e → expr_of w i ≡ Some f → denoted looks places.«Value» e ≡ denoted looks places.«Value» f → own_argument looks v i ≡ own_argument looks w i
+    pub own_alike : (i : ℕ) (e f : ExprTree) → expr_of v i ≡ Some e → expr_of w i ≡ Some f → denoted looks stands.«Value» e ≡ denoted looks stands.«Value» f → own_argument looks v i ≡ own_argument looks w i
     own_alike i e f he hf same =
         ap (λ b. given_by looks (spec_name_count v) i b (expr_of v i)) alone
         ∙ (ap (given_by looks (spec_name_count v) i (is_one fs)) he ∙ (given_same (spec_name_count v) i (is_one fs) e f same ∙ ap (given_by looks (spec_name_count v) i (is_one fs)) (sym hf)))

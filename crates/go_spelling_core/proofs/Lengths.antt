@@ -13,7 +13,7 @@ use Rattle.go_package_core.specs.local_core.Outline.{func_steps, func_opens, fun
 use Rattle.go_package_core.specs.local_core.Steps.{Piece, Header, Spec, Act, Condition, Given, Steps, Done, Check, Declare, Inner}
 use Rattle.go_package_core.specs.local_core.mirrors.Walk.{Names, look_in, with_names, news, names_of, walk_out}
 use Rattle.go_package_core.specs.operand_core.declared.types.Operand.{Operand}
-use Rattle.go_package_core.specs.denote_core.declared.things.Place.TheVariants as places
+use Rattle.go_package_core.specs.denote_core.declared.things.Stand.TheVariants as stands
 use Rattle.go_package_core.specs.expr_core.Looks.{Looks}
 use Rattle.go_package_core.specs.expr_core.TypeUses.{type_uses}
 use Rattle.go_package_core.specs.expr_core.Uses.{Spot, use_of, spots, type_name_spots, type_spots, signature_spots}
@@ -36,8 +36,8 @@ use Rattle.go_spelling_core.proofs.Checked.{func_noted}
 
 module _ {T S D P : Type 0} (looks other : Looks T S D P) where
   exprs_len : (es : Separated ExprTree) → len (exprs_spots looks es) ≡ len (exprs_spots other es)
-  exprs_len (One e) = expr_len looks other places.«Value» e
-  exprs_len (Then e comma more) = len_app (spots looks places.«Value» e) (exprs_spots looks more) (spots other places.«Value» e) (exprs_spots other more) (expr_len looks other places.«Value» e) (exprs_len more)
+  exprs_len (One e) = expr_len looks other stands.«Value» e
+  exprs_len (Then e comma more) = len_app (spots looks stands.«Value» e) (exprs_spots looks more) (spots other stands.«Value» e) (exprs_spots other more) (expr_len looks other stands.«Value» e) (exprs_len more)
 
   some_type_len : (t : Option TypeTree) → len (some_type_spots looks t) ≡ len (some_type_spots other t)
   some_type_len None = refl
@@ -55,17 +55,17 @@ module _ {T S D P : Type 0} (looks other : Looks T S D P) where
   either_len false ps qs h = h
 
   target_len : (e : ExprTree) → len (target_spots looks e) ≡ len (target_spots other e)
-  target_len e = either_len (is_blank_target e) (spots looks places.«Value» e) (spots other places.«Value» e) (expr_len looks other places.«Value» e)
+  target_len e = either_len (is_blank_target e) (spots looks stands.«Value» e) (spots other stands.«Value» e) (expr_len looks other stands.«Value» e)
 
   targets_len : (es : Separated ExprTree) → len (targets_spots looks es) ≡ len (targets_spots other es)
   targets_len (One e) = target_len e
   targets_len (Then e comma more) = len_app (target_spots looks e) (targets_spots looks more) (target_spots other e) (targets_spots other more) (target_len e) (targets_len more)
 
   simple_len : (s : SimpleTree) → len (simple_spots looks s) ≡ len (simple_spots other s)
-  simple_len (Alone e) = expr_len looks other places.«Value» e
-  simple_len (Step e op span) = expr_len looks other places.«Value» e
+  simple_len (Alone e) = expr_len looks other stands.«Value» e
+  simple_len (Step e op span) = expr_len looks other stands.«Value» e
   simple_len (Assign ts span es) = len_app (targets_spots looks ts) (exprs_spots looks es) (targets_spots other ts) (exprs_spots other es) (targets_len ts) (exprs_len es)
-  simple_len (Update e op span v) = len_app (spots looks places.«Value» e) (spots looks places.«Value» v) (spots other places.«Value» e) (spots other places.«Value» v) (expr_len looks other places.«Value» e) (expr_len looks other places.«Value» v)
+  simple_len (Update e op span v) = len_app (spots looks stands.«Value» e) (spots looks stands.«Value» v) (spots other stands.«Value» e) (spots other stands.«Value» v) (expr_len looks other stands.«Value» e) (expr_len looks other stands.«Value» v)
   simple_len (Define xs span es) = exprs_len es
 
   receiver_len : (r : Option Receiver) → len (receiver_spots looks r) ≡ len (receiver_spots other r)
@@ -80,7 +80,7 @@ module _ {T S D P : Type 0} (looks other : Looks T S D P) where
   piece_len (Header r g) = len_app (receiver_spots looks r) (signature_spots looks g) (receiver_spots other r) (signature_spots other g) (receiver_len r) (signature_len looks other g)
   piece_len (Spec k v) = spec_len v
   piece_len (Act s) = simple_len s
-  piece_len (Condition e) = expr_len looks other places.«Value» e
+  piece_len (Condition e) = expr_len looks other stands.«Value» e
   piece_len (Given place es) = given_len es
 
 -- on the way through a function

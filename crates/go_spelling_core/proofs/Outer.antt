@@ -25,7 +25,7 @@ use Rattle.go_package_core.specs.file_core.Files.{decl_uses, tops_uses}
 use Rattle.go_spelling_core.specs.Contexts.{ContextStays}
 use Rattle.go_spelling_core.specs.Package.{file_looks}
 use Rattle.go_spelling_core.specs.PieceSpots.{values_spots, receiver_spots, header_spots}
-use Rattle.go_spelling_core.specs.Trees.{value_spec, with_base, with_receiver, with_signature}
+use Rattle.go_spelling_core.specs.Trees.{value_spec_with, with_base, with_receiver, with_signature}
 use Rattle.go_spelling_core.proofs.Splits.{behind, before}
 use Rattle.go_spelling_core.proofs.Types as outer
 use Rattle.go_spelling_core.proofs.Walks.{spot_walk, use_walk, block_after}
@@ -101,7 +101,7 @@ module _ (st other : FileStand) (x : Ident) (name : List ℕ) (path : st.scene.p
 
   decl_stays : (d e : DeclTree) → RespellsOuterType x name d e → Stays (decl_spots st d) (decl_uses other e)
   decl_stays d e (InValueType {vs = vs} {ws = ws} {xs = xs} {t = t} {u = u} {values = values} r s) =
-      in_specs st other after x name (value_spec xs (Some t) values) (value_spec xs (Some u) values)
+      in_specs st other after x name (value_spec_with xs (Some t) values) (value_spec_with xs (Some u) values)
       (behind after x name (type_spots looks t) (values_spots looks values) (type_uses after u) (values_uses after values) (type_stays t u r)) vs ws s
   decl_stays d e (InTypeDecl {ts = ts} {us = us} r) = types_stay ts us r
   decl_stays d e (InReceiverType {f = f} {r = r} {n = n} is h) = func_stays f (with_receiver f (with_base r n)) (receiver_stays f.receiver r n f.signature is h)

@@ -9,7 +9,7 @@ use Rattle.go_tree_nodes.specs.declared.types.TypeName.{TypeName}
 use Rattle.go_tree_nodes.specs.Trees.{Separated, One, Then, TypeTree, SignatureTree, ExprTree, ValueSpecTree, SimpleTree, Alone, Step, Assign, Update, Define}
 use Rattle.go_package_core.specs.walk_core.Ends.{is_blank_target}
 use Rattle.go_package_core.specs.local_core.Steps.{Piece, Header, Spec, Act, Condition, Given}
-use Rattle.go_package_core.specs.denote_core.declared.things.Place.TheVariants as places
+use Rattle.go_package_core.specs.denote_core.declared.things.Stand.TheVariants as stands
 use Rattle.go_package_core.specs.expr_core.declared.things.Use.{Use}
 use Rattle.go_package_core.specs.expr_core.Looks.{Looks}
 use Rattle.go_package_core.specs.expr_core.Lists.{exprs_uses}
@@ -36,7 +36,7 @@ module _ {T S D P : Type 0} (looks : Looks T S D P) where
 
   exprs_used : (es : Separated ExprTree) → exprs_uses looks es ≡ map (use_of looks) (exprs_spots looks es)
   exprs_used (One e) = refl
-  exprs_used (Then e comma more) = ap (λ l. uses looks places.«Value» e ++ l) (exprs_used more) ∙ sym (map-append (use_of looks) (spots looks places.«Value» e) (exprs_spots looks more))
+  exprs_used (Then e comma more) = ap (λ l. uses looks stands.«Value» e ++ l) (exprs_used more) ∙ sym (map-append (use_of looks) (spots looks stands.«Value» e) (exprs_spots looks more))
 
   type_used : (t : Option TypeTree) → some_type_uses looks t ≡ map (use_of looks) (some_type_spots looks t)
   type_used None = refl
@@ -57,7 +57,7 @@ module _ {T S D P : Type 0} (looks : Looks T S D P) where
   either_used false us ps h = h
 
   target_used : (e : ExprTree) → target_uses looks e ≡ map (use_of looks) (target_spots looks e)
-  target_used e = either_used (is_blank_target e) (uses looks places.«Value» e) (spots looks places.«Value» e) refl
+  target_used e = either_used (is_blank_target e) (uses looks stands.«Value» e) (spots looks stands.«Value» e) refl
 
   targets_used : (es : Separated ExprTree) → targets_uses looks es ≡ map (use_of looks) (targets_spots looks es)
   targets_used (One e) = target_used e
@@ -67,7 +67,7 @@ module _ {T S D P : Type 0} (looks : Looks T S D P) where
   simple_used (Alone e) = refl
   simple_used (Step e op span) = refl
   simple_used (Assign ts span es) = two_used (targets_uses looks ts) (exprs_uses looks es) (targets_spots looks ts) (exprs_spots looks es) (targets_used ts) (exprs_used es)
-  simple_used (Update e op span v) = two_used (uses looks places.«Value» e) (uses looks places.«Value» v) (spots looks places.«Value» e) (spots looks places.«Value» v) refl refl
+  simple_used (Update e op span v) = two_used (uses looks stands.«Value» e) (uses looks stands.«Value» v) (spots looks stands.«Value» e) (spots looks stands.«Value» v) refl refl
   simple_used (Define xs span es) = exprs_used es
 
   receiver_used : (r : Option Receiver) → receiver_uses looks r ≡ map (use_of looks) (receiver_spots looks r)
@@ -98,9 +98,9 @@ module _ {T S D P : Type 0} (looks : Looks T S D P) where
     abbrev Stays : List (Spot T D P) → List (Use D P) → Type 0
     Stays ps us = ContextStays T S D P looks x name ps us
 
-    expr_stays : (e f : ExprTree) → Respells x name e f → Stays (spots looks places.«Value» e) (uses looks places.«Value» f)
+    expr_stays : (e f : ExprTree) → Respells x name e f → Stays (spots looks stands.«Value» e) (uses looks stands.«Value» f)
     expr_stays e f r =
-        let d = (own_name T S D P).decides looks places.«Value» x name e f r in
+        let d = (own_name T S D P).decides looks stands.«Value» x name e f r in
         record { number = d.number; context = d.context; stands = d.stands; has = d.has }
 
     abbrev Sees : List Ident → Type 0
@@ -143,7 +143,7 @@ module _ {T S D P : Type 0} (looks : Looks T S D P) where
     no_blank b c ps us h k s = subst (λ y. Stays (if y then [] else ps) (if c then [] else us)) (sym h) (subst (λ y. Stays ps (if y then [] else us)) (sym k) s)
 
     target_stays : (e f : ExprTree) → RespellsTarget x name e f → Stays (target_spots looks e) (target_uses looks f)
-    target_stays e f (InTarget {e = a} {f = b} h k r) = no_blank (is_blank_target a) (is_blank_target b) (spots looks places.«Value» a) (uses looks places.«Value» b) h k (expr_stays a b r)
+    target_stays e f (InTarget {e = a} {f = b} h k r) = no_blank (is_blank_target a) (is_blank_target b) (spots looks stands.«Value» a) (uses looks stands.«Value» b) h k (expr_stays a b r)
 
     targets_stay : (es fs : Separated ExprTree) → RespellsTargets x name es fs → Stays (targets_spots looks es) (targets_uses looks fs)
     targets_stay es fs (InOnlyTarget r) = target_stays _ _ r
@@ -157,9 +157,9 @@ module _ {T S D P : Type 0} (looks : Looks T S D P) where
     simple_stays s t (InTargets {ts = ts} {us = us} {es = es} r) = behind looks x name (targets_spots looks ts) (exprs_spots looks es) (targets_uses looks us) (exprs_uses looks es) (targets_stay ts us r)
     simple_stays s t (InAssigned {ts = ts} {es = es} {fs = fs} r) =
         before looks x name (targets_spots looks ts) (exprs_spots looks es) (targets_uses looks ts) (exprs_uses looks fs) (long_of (targets_uses looks ts) (targets_spots looks ts) (targets_used ts)) (exprs_stay es fs r)
-    simple_stays s t (InUpdated {e = e} {f = f} {v = v} r) = behind looks x name (spots looks places.«Value» e) (spots looks places.«Value» v) (uses looks places.«Value» f) (uses looks places.«Value» v) (expr_stays e f r)
+    simple_stays s t (InUpdated {e = e} {f = f} {v = v} r) = behind looks x name (spots looks stands.«Value» e) (spots looks stands.«Value» v) (uses looks stands.«Value» f) (uses looks stands.«Value» v) (expr_stays e f r)
     simple_stays s t (InUpdate {e = e} {v = v} {w = w} r) =
-        before looks x name (spots looks places.«Value» e) (spots looks places.«Value» v) (uses looks places.«Value» e) (uses looks places.«Value» w) (long_of (uses looks places.«Value» e) (spots looks places.«Value» e) refl) (expr_stays v w r)
+        before looks x name (spots looks stands.«Value» e) (spots looks stands.«Value» v) (uses looks stands.«Value» e) (uses looks stands.«Value» w) (long_of (uses looks stands.«Value» e) (spots looks stands.«Value» e) refl) (expr_stays v w r)
     simple_stays s t (InDefined {es = es} {fs = fs} r) = exprs_stay es fs r
 
     pub piece_stays : (p q : Piece) → RespellsPiece x name p q → Stays (piece_spots looks p) (piece_uses looks q)

@@ -13,7 +13,7 @@ use Rattle.go_package_core.specs.block_core.Blocks.{file_binding}
 use Rattle.go_package_core.specs.denote_core.declared.things.Answer.{Answer}
 use Rattle.go_package_core.specs.denote_core.declared.things.Denoted.{Denoted}
 use Rattle.go_package_core.specs.denote_core.declared.things.Denoted.TheVariants as denotes
-use Rattle.go_package_core.specs.denote_core.declared.things.Place.TheVariants as places
+use Rattle.go_package_core.specs.denote_core.declared.things.Stand.TheVariants as stands
 use Rattle.go_package_core.specs.denote_core.Answers.{refused, found_answer}
 use Rattle.go_package_core.specs.handle_core.Declarations.{Declaration}
 use Rattle.go_term_core.specs.Terms.{Term, Sign}
@@ -41,29 +41,29 @@ abbrev nothing : Denoted Term Sign Declaration
 nothing = denotes.Refused
 
 -- before the dot of a type a declaration that is no package is nothing
-face_refused : (d : Declaration) (f : Option TheFace) → (found_answer {P = List ℕ} places.TypeDot (found_face d f)).denoted ≡ nothing
+face_refused : (d : Declaration) (f : Option TheFace) → (found_answer {P = List ℕ} stands.TypeDot (found_face d f)).denoted ≡ nothing
 face_refused d None = refl
 face_refused d (Some (faces.«Type» t)) = refl
 face_refused d (Some (faces.Func g)) = refl
 face_refused d (Some (faces.«Value» o)) = refl
 
 module _ (s other : SceneModel) (known known' : List (Option TheFace)) (file : ℕ) (name : List ℕ) (path : s.path ≡ other.path) (blocks : s.blocks ≡ other.blocks) where
-  target_same : (t : Target) → (found_answer {P = List ℕ} places.TypeDot (found_target s t)).denoted ≡ (found_answer {P = List ℕ} places.TypeDot (found_target other t)).denoted
+  target_same : (t : Target) → (found_answer {P = List ℕ} stands.TypeDot (found_target s t)).denoted ≡ (found_answer {P = List ℕ} stands.TypeDot (found_target other t)).denoted
   target_same (targets.«Package» p) = refl
   target_same (targets.Refused rule) = refl
   target_same (targets.Exported k) = face_refused _ _ ∙ sym (face_refused _ _)
 
-  binding_same : (t : Option Binding) → (found_answer {P = List ℕ} places.TypeDot (found_binding s t)).denoted ≡ (found_answer {P = List ℕ} places.TypeDot (found_binding other t)).denoted
+  binding_same : (t : Option Binding) → (found_answer {P = List ℕ} stands.TypeDot (found_binding s t)).denoted ≡ (found_answer {P = List ℕ} stands.TypeDot (found_binding other t)).denoted
   binding_same None = refl
   binding_same (Some b) = target_same b.target
 
-  meaning_same : (m : Option Meaning) → (found_answer {P = List ℕ} places.TypeDot (found_of s file known name m)).denoted ≡ (found_answer {P = List ℕ} places.TypeDot (found_of other file known' name m)).denoted
+  meaning_same : (m : Option Meaning) → (found_answer {P = List ℕ} stands.TypeDot (found_of s file known name m)).denoted ≡ (found_answer {P = List ℕ} stands.TypeDot (found_of other file known' name m)).denoted
   meaning_same None = refl
   meaning_same (Some (meanings.Local at value)) = refl
   meaning_same (Some (meanings.Outside (outsides.«Package» d))) = face_refused _ _ ∙ sym (face_refused _ _)
   meaning_same (Some (meanings.Outside (outsides.File at))) =
-      binding_same (file_binding s.blocks file name) ∙ ap (λ b. (found_answer {P = List ℕ} places.TypeDot (found_binding other (file_binding b file name))).denoted) blocks
-  meaning_same (Some (meanings.Outside (outsides.Universe p))) = ap (λ q. (found_answer {P = List ℕ} places.TypeDot (found_universe q p)).denoted) path
+      binding_same (file_binding s.blocks file name) ∙ ap (λ b. (found_answer {P = List ℕ} stands.TypeDot (found_binding other (file_binding b file name))).denoted) blocks
+  meaning_same (Some (meanings.Outside (outsides.Universe p))) = ap (λ q. (found_answer {P = List ℕ} stands.TypeDot (found_universe q p)).denoted) path
 
 either_same : (b : Bool) (x y : Answer Term Sign Declaration (List ℕ)) → x.denoted ≡ y.denoted → (if b then refused N8 else x).denoted ≡ (if b then refused N8 else y).denoted
 either_same true x y h = refl
@@ -76,11 +76,11 @@ module _ (s other : SceneModel) (file : ℕ) (written written' : WrittenRules Te
   abbrev after : TheLooks
   after = file_looks other file written' known'
 
-  qualifier_same : (y : Ident) → (ident_answer looks places.TypeDot y).denoted ≡ (ident_answer after places.TypeDot y).denoted
+  qualifier_same : (y : Ident) → (ident_answer looks stands.TypeDot y).denoted ≡ (ident_answer after stands.TypeDot y).denoted
   qualifier_same y =
-      either_same (is_blank y.name) (found_answer places.TypeDot (looks.find y.name y.span.start)) (found_answer places.TypeDot (after.find y.name y.span.start))
+      either_same (is_blank y.name) (found_answer stands.TypeDot (looks.find y.name y.span.start)) (found_answer stands.TypeDot (after.find y.name y.span.start))
       (meaning_same s other known known' file y.name path blocks (top_look s.blocks file y.name y.span.start)
-      ∙ ap (λ b. (found_answer {P = List ℕ} places.TypeDot (found_of other file known' y.name (top_look b file y.name y.span.start))).denoted) blocks)
+      ∙ ap (λ b. (found_answer {P = List ℕ} stands.TypeDot (found_of other file known' y.name (top_look b file y.name y.span.start))).denoted) blocks)
 
   abbrev Sees : List Ident → Type 0
   Sees xs = ⊤

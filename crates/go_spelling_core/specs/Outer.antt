@@ -14,28 +14,28 @@ use Rattle.go_package_core.specs.expr_core.Respelling.{RespellsName, RespellsTyp
 use Rattle.go_package_core.specs.func_core.Stands.{FileStand, outer_looks}
 use Rattle.go_package_core.specs.file_core.Files.{tops_uses}
 use Rattle.go_spelling_core.specs.Contexts.{ContextStays}
-use Rattle.go_spelling_core.specs.Trees.{value_spec, with_base, with_receiver, with_signature}
+use Rattle.go_spelling_core.specs.Trees.{value_spec_with, with_base, with_receiver, with_signature}
 use Rattle.go_spelling_core.specs.Files.{WritesInSpecs}
 use Rattle.go_spelling_core.specs.Spots.{tops_spots}
 
-abbrev pub type_spec : Ident → TypeTree → TypeSpecTree
-type_spec y t = record { name = y; type_expr = t }
+abbrev pub type_spec_with : Ident → TypeTree → TypeSpecTree
+type_spec_with y t = record { name = y; type_expr = t }
 
 -- declarations of types, alone or in parentheses
 
 pub data RespellsTypeGroup (x : Ident) (name : List ℕ) : List (TypeSpecTree × Option Span) → List (TypeSpecTree × Option Span) → Type 0 where
   InFirstType : {y : Ident} {t u : TypeTree} {s : Option Span} {more : List (TypeSpecTree × Option Span)} → RespellsType x name t u
-      → RespellsTypeGroup x name ((type_spec y t, s) ∷ more) ((type_spec y u, s) ∷ more)
+      → RespellsTypeGroup x name ((type_spec_with y t, s) ∷ more) ((type_spec_with y u, s) ∷ more)
   InLaterTypes : {a : TypeSpecTree × Option Span} {more rest : List (TypeSpecTree × Option Span)} → RespellsTypeGroup x name more rest → RespellsTypeGroup x name (a ∷ more) (a ∷ rest)
 
 pub data RespellsTypeSpecs (x : Ident) (name : List ℕ) : Specs TypeSpecTree → Specs TypeSpecTree → Type 0 where
-  InOneType : {y : Ident} {t u : TypeTree} → RespellsType x name t u → RespellsTypeSpecs x name (Single (type_spec y t)) (Single (type_spec y u))
+  InOneType : {y : Ident} {t u : TypeTree} → RespellsType x name t u → RespellsTypeSpecs x name (Single (type_spec_with y t)) (Single (type_spec_with y u))
   InTypeGroup : {first last : Span} {ts us : List (TypeSpecTree × Option Span)} → RespellsTypeGroup x name ts us → RespellsTypeSpecs x name (Group first ts last) (Group first us last)
 
 -- a declaration: of constants or variables with a type that is written, of types, of a function or a method by its header
 pub data RespellsOuterType (x : Ident) (name : List ℕ) : DeclTree → DeclTree → Type 0 where
   InValueType : {k : ValueKind} {place : Span} {vs ws : Specs ValueSpecTree} {xs : Separated Ident} {t u : TypeTree} {values : Option (Span × Separated ExprTree)}
-      → RespellsType x name t u → WritesInSpecs (value_spec xs (Some t) values) (value_spec xs (Some u) values) vs ws
+      → RespellsType x name t u → WritesInSpecs (value_spec_with xs (Some t) values) (value_spec_with xs (Some u) values) vs ws
       → RespellsOuterType x name (Value (record { kind = k; keyword = place; specs = vs })) (Value (record { kind = k; keyword = place; specs = ws }))
   InTypeDecl : {place : Span} {ts us : Specs TypeSpecTree} → RespellsTypeSpecs x name ts us → RespellsOuterType x name (Types (record { keyword = place; specs = ts })) (Types (record { keyword = place; specs = us }))
   InReceiverType : {f : FuncTree} {r : Receiver} {n : TypeName} → f.receiver ≡ Some r → RespellsName x name r.base n → RespellsOuterType x name (Func f) (Func (with_receiver f (with_base r n)))

@@ -21,17 +21,17 @@ pub data RespellsExprs (x : Ident) (name : List ℕ) : Separated ExprTree → Se
   InLater : {e : ExprTree} {comma : Span} {more rest : Separated ExprTree} → RespellsExprs x name more rest → RespellsExprs x name (Then e comma more) (Then e comma rest)
 
 -- a specification of these names, of this type, with these values
-abbrev pub value_spec : Separated Ident → Option TypeTree → Option (Span × Separated ExprTree) → ValueSpecTree
-value_spec xs t vs = record { names = xs; type_expr = t; values = vs }
+abbrev pub value_spec_with : Separated Ident → Option TypeTree → Option (Span × Separated ExprTree) → ValueSpecTree
+value_spec_with xs t vs = record { names = xs; type_expr = t; values = vs }
 
 -- a specification, in its values
 pub data RespellsValues (x : Ident) (name : List ℕ) : ValueSpecTree → ValueSpecTree → Type 0 where
-  InValues : {xs : Separated Ident} {t : Option TypeTree} {s : Span} {es fs : Separated ExprTree} → RespellsExprs x name es fs → RespellsValues x name (value_spec xs t (Some (s, es))) (value_spec xs t (Some (s, fs)))
+  InValues : {xs : Separated Ident} {t : Option TypeTree} {s : Span} {es fs : Separated ExprTree} → RespellsExprs x name es fs → RespellsValues x name (value_spec_with xs t (Some (s, es))) (value_spec_with xs t (Some (s, fs)))
 
 -- or in its type
 pub data RespellsSpec (x : Ident) (name : List ℕ) : ValueSpecTree → ValueSpecTree → Type 0 where
   InSomeValues : {v w : ValueSpecTree} → RespellsValues x name v w → RespellsSpec x name v w
-  InSpecType : {xs : Separated Ident} {t u : TypeTree} {vs : Option (Span × Separated ExprTree)} → RespellsType x name t u → RespellsSpec x name (value_spec xs (Some t) vs) (value_spec xs (Some u) vs)
+  InSpecType : {xs : Separated Ident} {t u : TypeTree} {vs : Option (Span × Separated ExprTree)} → RespellsType x name t u → RespellsSpec x name (value_spec_with xs (Some t) vs) (value_spec_with xs (Some u) vs)
 
 -- of several in parentheses
 pub data RespellsGroup (x : Ident) (name : List ℕ) : List (ValueSpecTree × Option Span) → List (ValueSpecTree × Option Span) → Type 0 where

@@ -33,7 +33,7 @@ pub use updates::{increment_rule, update_rule};
 /// What the crates above name of `go_denote_core`.
 pub mod denote_core {
     pub use go_denote_core::{
-        Argument, Denoted, Outcome, Place, argument_of, arguments_of, is_free, name_answer,
+        Argument, Denoted, Outcome, Stand, argument_of, arguments_of, is_free, name_answer,
     };
 }
 

@@ -1,3 +1,5 @@
+mod Growing
+mod Places
 pub mod Records
 pub mod Telling
 pub mod Viewed

@@ -1,5 +1,6 @@
 pub mod Laws
 pub mod Summaries
+pub mod Told
 pub mod Views
 pub mod codes
 pub mod alike_core

@@ -1,10 +1,14 @@
 //! What a package tells the packages that reach it by imports, and what a package sees by what others tell.
 //!
 //! A summary is compared with an earlier one of its package: where they are the same, nothing has to be checked again that the package
-//! does not declare itself. The Go specification, "Import declarations", "Exported identifiers".
+//! does not declare itself. Of many packages each reaches many: what they tell is listed once, in the order in which they are made, and each
+//! names the places of those that it reaches. The Go specification, "Import declarations", "Exported identifiers".
 #![tactic(auto)]
 
 mod laws;
+mod list;
+mod piece;
+mod reached;
 mod summary;
 mod view;
 
@@ -12,6 +16,8 @@ pub use laws::{
     hidden_names_are_known, hidden_names_do_not_count, views_tell_nothing_else,
     views_tell_what_summaries_do,
 };
+pub use list::SummaryList;
+pub use reached::ReachedSummaries;
 pub use summary::{Summary, import_view, summarize};
 pub use view::{View, view_of};
 

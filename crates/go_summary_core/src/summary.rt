@@ -29,9 +29,14 @@ struct SummaryContent {
 /// handle over one shared pointer. It holds keys and no offset, so that an edit of a body leaves it the same.
 ///
 /// The Go specification, "Exported identifiers", "Import declarations".
-#[derive(Drop)]
 pub struct Summary {
     content: Arc<SummaryContent>,
+}
+
+impl Drop for Summary {
+    fn drop(self) {
+        let Summary { content: _ } = self;
+    }
 }
 
 impl Model for Summary {

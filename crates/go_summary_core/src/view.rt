@@ -12,11 +12,20 @@ use go_alike_core::table_core::TypeTable;
 use std::alloc::{AllocError, Global};
 
 /// What a package sees of the packages that it reaches by imports: their types, what they show behind a dot, and what their declarations are.
-#[derive(Drop)]
 pub struct View {
     pub types: TypeTable,
     pub shown: ShownPackages,
     pub faces: FaceTable,
+}
+
+impl Drop for View {
+    fn drop(self) {
+        let View {
+            types: _,
+            shown: _,
+            faces: _,
+        } = self;
+    }
 }
 
 /// Adds the types of a package behind others.

@@ -15,7 +15,6 @@ use std::marker::Model;
 use std::sync::Arc;
 
 /// A method that is declared with a receiver.
-#[derive(Drop)]
 pub struct DeclaredMethod {
     pub name: Name,
     pub place: MemberPlace,
@@ -24,8 +23,18 @@ pub struct DeclaredMethod {
     pub signature: Signature,
 }
 
+impl Drop for DeclaredMethod {
+    fn drop(self) {
+        let DeclaredMethod {
+            name: _,
+            place: _,
+            pointer: _,
+            signature: _,
+        } = self;
+    }
+}
+
 /// A type declaration as it is written, with each name of a type that resolves as its declaration's key.
-#[derive(Drop)]
 pub struct TypeEntry {
     pub key: DeclKey,
     pub name: Name,
@@ -35,9 +44,19 @@ pub struct TypeEntry {
     pub methods: Vec<DeclaredMethod>,
 }
 
+impl Drop for TypeEntry {
+    fn drop(self) {
+        let TypeEntry {
+            key: _,
+            name: _,
+            term: _,
+            methods: _,
+        } = self;
+    }
+}
+
 /// A defined type of a package. Contracts see its key, its name, its underlying type, and those of its methods that are its own by the
 /// rules.
-#[derive(Drop)]
 pub struct DefinedType {
     key: DeclKey,
     name: Name,
@@ -45,6 +64,18 @@ pub struct DefinedType {
     methods: Vec<DeclaredMethod>,
     /// Whether a field of its struct type has the identifier of one of its methods, which keeps the field from it.
     hides: bool,
+}
+
+impl Drop for DefinedType {
+    fn drop(self) {
+        let DefinedType {
+            key: _,
+            name: _,
+            underlying: _,
+            methods: _,
+            hides: _,
+        } = self;
+    }
 }
 
 impl Model for DefinedType {

@@ -28,10 +28,18 @@ struct Earliest {
 }
 
 /// The fields of a struct type by their names; of any other type it has none. Contracts see the type.
-#[derive(Drop)]
 pub struct FieldTable<'a> {
     underlying: &'a TypeTerm,
     places: IndexMap<&'a str, Earliest>,
+}
+
+impl Drop for FieldTable<'_> {
+    fn drop(self) {
+        let FieldTable {
+            underlying: _,
+            places: _,
+        } = self;
+    }
 }
 
 impl<'a> Model for FieldTable<'a> {

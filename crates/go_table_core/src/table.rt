@@ -21,9 +21,14 @@ struct TypesContent {
 }
 
 /// The types of a package, shared by all that hold it. Contracts see its path and a list of entries in order of their keys.
-#[derive(Drop)]
 pub struct PackageTypes {
     content: Arc<TypesContent>,
+}
+
+impl Drop for PackageTypes {
+    fn drop(self) {
+        let PackageTypes { content: _ } = self;
+    }
 }
 
 impl Model for PackageTypes {
@@ -48,7 +53,6 @@ struct Numbered {
 }
 
 /// A view of the types of several packages. Contracts see one list of entries.
-#[derive(Drop)]
 pub struct TypeTable {
     /// How many types there are.
     len: usize,
@@ -56,6 +60,16 @@ pub struct TypeTable {
     packages: IndexMap<String, Numbered>,
     /// The term of what is no type, to be lent.
     nothing: TypeTerm,
+}
+
+impl Drop for TypeTable {
+    fn drop(self) {
+        let TypeTable {
+            len: _,
+            packages: _,
+            nothing: _,
+        } = self;
+    }
 }
 
 impl Model for TypeTable {

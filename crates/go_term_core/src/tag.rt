@@ -5,9 +5,14 @@ use std::alloc::{AllocError, Global};
 use std::marker::Model;
 
 /// What the tag of a field stands for: bytes, which need not be text, and none where there is no tag. Contracts see the bytes.
-#[derive(Drop)]
 pub struct Tag {
     bytes: Option<Box<Vec<u8>>>,
+}
+
+impl Drop for Tag {
+    fn drop(self) {
+        let Tag { bytes: _ } = self;
+    }
 }
 
 impl Model for Tag {

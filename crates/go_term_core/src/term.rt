@@ -33,7 +33,6 @@ pub enum MemberPlace {
 
 /// A type.
 #[cycle(term)]
-#[derive(Drop)]
 pub enum TypeTerm {
     /// No type: a name that is refused, a type that reaches itself outside pointers and interfaces, and what is a pointer to such
     /// or is defined by such.
@@ -52,8 +51,22 @@ pub enum TypeTerm {
     Interface(ImportPath, Vec<Method>),
 }
 
+impl Drop for TypeTerm {
+    #[cycle(term_end)]
+    fn drop(self) {
+        match self {
+            TypeTerm::NoType => {}
+            TypeTerm::Basic(_) => {}
+            TypeTerm::Error => {}
+            TypeTerm::Defined(_) => {}
+            TypeTerm::Pointer(_) => {}
+            TypeTerm::Struct(_, _, _) => {}
+            TypeTerm::Interface(_, _) => {}
+        }
+    }
+}
+
 /// A field of a struct type.
-#[derive(Drop)]
 pub struct Field {
     pub name: Name,
     pub place: MemberPlace,
@@ -61,9 +74,18 @@ pub struct Field {
     pub line: usize,
 }
 
+impl Drop for Field {
+    fn drop(self) {
+        let Field {
+            name: _,
+            place: _,
+            line: _,
+        } = self;
+    }
+}
+
 /// What the fields of one line of a struct type have in common. A field whose line is not there is of no type.
 #[cycle(term)]
-#[derive(Drop)]
 pub struct FieldLine {
     /// Whether the one field is written as a type's name, with or without a star, and no other name.
     pub embedded: bool,
@@ -72,28 +94,64 @@ pub struct FieldLine {
     pub tag: Tag,
 }
 
+impl Drop for FieldLine {
+    #[cycle(term_end)]
+    fn drop(self) {
+        let FieldLine {
+            embedded: _,
+            term: _,
+            tag: _,
+        } = self;
+    }
+}
+
 /// A method of an interface type.
 #[cycle(term)]
-#[derive(Drop)]
 pub struct Method {
     pub name: Name,
     pub place: MemberPlace,
     pub signature: Signature,
 }
 
+impl Drop for Method {
+    #[cycle(term_end)]
+    fn drop(self) {
+        let Method {
+            name: _,
+            place: _,
+            signature: _,
+        } = self;
+    }
+}
+
 /// The types of parameters and of results.
 #[cycle(term)]
-#[derive(Drop)]
 pub struct Signature {
     pub params: Params,
     pub results: Params,
 }
 
+impl Drop for Signature {
+    #[cycle(term_end)]
+    fn drop(self) {
+        let Signature {
+            params: _,
+            results: _,
+        } = self;
+    }
+}
+
 /// The types of parameters, or of results. Those whose names are written before one type share its term.
 #[cycle(term)]
-#[derive(Drop)]
 pub struct Params {
     /// For each parameter the number of its type among the terms, from 0. One whose type is not there is of no type.
     pub lines: Vec<usize>,
     pub terms: Vec<TypeTerm>,
+}
+
+impl Drop for Params {
+    #[cycle(term_end)]
+    fn drop(self) {
+        let Params { lines: _, terms: _ } = self;
+    }
 }

@@ -19,9 +19,14 @@ enum Form {
 
 /// How a name is spelled. Contracts see it as its bytes. It is 16 bytes large, since trees keep many names, and
 /// takes no memory beside where it has at most 14 bytes, as most names have.
-#[derive(Drop)]
 pub struct Name {
     form: Form,
+}
+
+impl Drop for Name {
+    fn drop(self) {
+        let Name { form: _ } = self;
+    }
 }
 
 const _: () = prove!(size_of::<Name>() == 16);

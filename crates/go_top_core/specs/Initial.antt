@@ -9,7 +9,7 @@ use Rattle.go_piece_core.specs.constant_core.declared.values.Constant.{Constant}
 use Rattle.go_tree_nodes.specs.declared.decls.ValueKind.{ValueKind}
 use Rattle.go_tree_nodes.specs.declared.decls.ValueKind.TheVariants as kinds
 use Rattle.go_tree_nodes.specs.Trees.{Separated, One, Then, ExprTree, ValueSpecTree}
-use Rattle.go_piece_core.specs.denote_core.declared.things.Place.TheVariants as places
+use Rattle.go_piece_core.specs.denote_core.declared.things.Stand.TheVariants as stands
 use Rattle.go_piece_core.specs.denote_core.declared.things.Denoted.{Denoted}
 use Rattle.go_piece_core.specs.denote_core.declared.things.Denoted.TheVariants as denotes
 use Rattle.go_piece_core.specs.expr_core.declared.things.Fault.{Fault}
@@ -36,7 +36,7 @@ initial_rule (denotes.Builtin d b) = Some X1
 
 -- an initialiser
 abbrev pub expr_initial_faults : {T S D P : Type 0} → Looks T S D P → ExprTree → List Fault
-expr_initial_faults looks e = fault_at (start e) (initial_rule (denoted looks places.«Value» e))
+expr_initial_faults looks e = fault_at (start e) (initial_rule (denoted looks stands.«Value» e))
 
 -- each initialiser of a list
 abbrev pub list_initial_faults : {T S D P : Type 0} → Looks T S D P → Separated ExprTree → List Fault

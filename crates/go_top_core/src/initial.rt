@@ -5,7 +5,7 @@ ghost use Rattle.go_piece_core.specs.expr_core.Looks.{everywhere};
 ghost use Rattle.go_piece_core.specs.expr_core.Faults as expr_faults;
 ghost use Rattle.go_top_core.specs.Initial as initials;
 
-use go_piece_core::denote_core::{Denoted, Place};
+use go_piece_core::denote_core::{Denoted, Stand};
 use go_piece_core::expr_core::{Exprs, Fault, Notes, check_expr, start};
 use go_text_core::Rule;
 use go_tree_nodes::{Expr, ValueKind, ValueSpec, Values};
@@ -47,7 +47,7 @@ fn note_initial<E: Exprs>(
         uses: Vec::new(alloc),
         faults: Vec::new(alloc),
     };
-    let denoted = check_expr(env, alloc, Place::Value, expr, &mut aside)?;
+    let denoted = check_expr(env, alloc, Stand::Value, expr, &mut aside)?;
     match initial_rule(&denoted) {
         None => Ok(()),
         Some(rule) => {

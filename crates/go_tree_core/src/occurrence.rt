@@ -62,11 +62,20 @@ pub enum Context {
 
 /// An occurrence: what it is, its spelling, and where it stands. An import is spelled as its string stands in the text, with its
 /// quotes and escapes, a call as `(`.
-#[derive(Drop)]
 pub struct Occ {
     pub role: Role,
     pub spelling: Name,
     pub span: Span,
+}
+
+impl Drop for Occ {
+    fn drop(self) {
+        let Occ {
+            role: _,
+            spelling: _,
+            span: _,
+        } = self;
+    }
 }
 
 /// The number of an occurrence among those of its file, in order of their places, from 0 on.

@@ -1,3 +1,4 @@
 pub mod InOrder
+pub mod Naming
 pub mod ShapeLemmas
 pub mod TypeShapes

@@ -1,5 +1,6 @@
 pub mod Counts
 pub mod Heights
+pub mod Naming
 pub mod Rules
 pub mod Samples
 pub mod Shapes

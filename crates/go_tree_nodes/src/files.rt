@@ -6,7 +6,6 @@ use crate::types::{Signature, TypeName};
 use go_text_core::Span;
 
 /// The receiver of a method, between the places of its parentheses.
-#[derive(Drop)]
 pub struct Receiver {
     pub open_paren: Span,
     pub name: Option<Ident>,
@@ -16,8 +15,20 @@ pub struct Receiver {
     pub close_paren: Span,
 }
 
+impl Drop for Receiver {
+    fn drop(self) {
+        let Receiver {
+            open_paren: _,
+            name: _,
+            star: _,
+            base: _,
+            comma: _,
+            close_paren: _,
+        } = self;
+    }
+}
+
 /// A function or a method.
-#[derive(Drop)]
 pub struct FuncDecl {
     /// The place of `func`.
     pub func: Span,
@@ -29,23 +40,53 @@ pub struct FuncDecl {
     pub close_brace: Span,
 }
 
+impl Drop for FuncDecl {
+    fn drop(self) {
+        let FuncDecl {
+            func: _,
+            receiver: _,
+            name: _,
+            signature: _,
+            open_brace: _,
+            body: _,
+            close_brace: _,
+        } = self;
+    }
+}
+
 /// A declaration of the package block.
-#[derive(Drop)]
 pub enum Decl {
     Value(ValueDecl),
     Type(TypeDecl),
     Func(FuncDecl),
 }
 
+impl Drop for Decl {
+    fn drop(self) {
+        match self {
+            Decl::Value(_) => {}
+            Decl::Type(_) => {}
+            Decl::Func(_) => {}
+        }
+    }
+}
+
 /// A declaration of the package block, and the semicolon behind it.
-#[derive(Drop)]
 pub struct TopDecl {
     pub decl: Decl,
     pub semicolon: Span,
 }
 
+impl Drop for TopDecl {
+    fn drop(self) {
+        let TopDecl {
+            decl: _,
+            semicolon: _,
+        } = self;
+    }
+}
+
 /// The name under which a package is imported.
-#[derive(Drop)]
 pub enum ImportName {
     /// That of the package's clause.
     Own,
@@ -55,38 +96,77 @@ pub enum ImportName {
     Dot(Span),
 }
 
+impl Drop for ImportName {
+    fn drop(self) {
+        match self {
+            ImportName::Own => {}
+            ImportName::Named(_) => {}
+            ImportName::Dot(_) => {}
+        }
+    }
+}
+
 /// One import.
-#[derive(Drop)]
 pub struct ImportSpec {
     pub name: ImportName,
     pub path: TextLiteral,
 }
 
+impl Drop for ImportSpec {
+    fn drop(self) {
+        let ImportSpec { name: _, path: _ } = self;
+    }
+}
+
 /// An import in parentheses, and the semicolon behind it where one stands.
-#[derive(Drop)]
 pub struct ImportLine {
     pub spec: ImportSpec,
     pub semicolon: Option<Span>,
 }
 
+impl Drop for ImportLine {
+    fn drop(self) {
+        let ImportLine {
+            spec: _,
+            semicolon: _,
+        } = self;
+    }
+}
+
 /// One import, or several in parentheses.
-#[derive(Drop)]
 pub enum ImportSpecs {
     One(ImportSpec),
     /// Between the places of the parentheses.
     Group(Span, Vec<ImportLine>, Span),
 }
 
+impl Drop for ImportSpecs {
+    fn drop(self) {
+        match self {
+            ImportSpecs::One(_) => {}
+            ImportSpecs::Group(_, _, _) => {}
+        }
+    }
+}
+
 /// An import declaration behind the place of `import`, and the semicolon behind it.
-#[derive(Drop)]
 pub struct ImportDecl {
     pub keyword: Span,
     pub specs: ImportSpecs,
     pub semicolon: Span,
 }
 
+impl Drop for ImportDecl {
+    fn drop(self) {
+        let ImportDecl {
+            keyword: _,
+            specs: _,
+            semicolon: _,
+        } = self;
+    }
+}
+
 /// A file: its package clause, its imports and its declarations.
-#[derive(Drop)]
 pub struct File {
     /// The place of `package`.
     pub clause: Span,
@@ -94,4 +174,16 @@ pub struct File {
     pub semicolon: Span,
     pub imports: Vec<ImportDecl>,
     pub decls: Vec<TopDecl>,
+}
+
+impl Drop for File {
+    fn drop(self) {
+        let File {
+            clause: _,
+            name: _,
+            semicolon: _,
+            imports: _,
+            decls: _,
+        } = self;
+    }
 }

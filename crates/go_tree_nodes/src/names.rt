@@ -8,10 +8,15 @@ use go_token_core::{plain_value, string_value};
 use std::alloc::{AllocError, Global};
 
 /// A name, and where it stands.
-#[derive(Drop)]
 pub struct Ident {
     pub name: Name,
     pub span: Span,
+}
+
+impl Drop for Ident {
+    fn drop(self) {
+        let Ident { name: _, span: _ } = self;
+    }
 }
 
 /// Names with commas between them.
@@ -22,17 +27,30 @@ pub struct Idents {
 }
 
 /// A comma, and the name behind it.
-#[derive(Drop)]
 pub struct NextIdent {
     pub comma: Span,
     pub ident: Ident,
 }
 
+impl Drop for NextIdent {
+    fn drop(self) {
+        let NextIdent { comma: _, ident: _ } = self;
+    }
+}
+
 /// A string literal, as it is spelled, quotes included, and where it stands.
-#[derive(Drop)]
 pub struct TextLiteral {
     pub spelled: Name,
     pub span: Span,
+}
+
+impl Drop for TextLiteral {
+    fn drop(self) {
+        let TextLiteral {
+            spelled: _,
+            span: _,
+        } = self;
+    }
 }
 
 impl TextLiteral {

@@ -4,22 +4,14 @@ ghost use Rattle.go_table_core.specs.settle_core.Settled.{is_among_names, kind_o
 ghost use Rattle.go_table_core.specs.Methods.{has_field_before};
 ghost use Rattle.go_table_core.specs.Shown.{member_shown};
 ghost use Rattle.go_term_core.specs.Shapes.{shape};
-ghost use Rattle.go_text_core.specs.Text.{is_blank};
 ghost use Rattle.go_type_core.specs.Built.{unrepeated_methods, kept_over, settled_member};
 ghost use Rattle.go_type_core.specs.mirrors.Making.{is_left_out, seen_after};
 
 use go_path_core::ImportPath;
-use go_table_core::settle_core::{Kind, Kinds, SeenNames, kind_of, settle_signature};
+use go_table_core::settle_core::{Kind, Kinds, SeenNames, is_blank, kind_of, settle_signature};
 use go_table_core::{DeclaredMethod, FieldTable};
 use go_term_core::TypeTerm;
 use std::alloc::{AllocError, Global};
-
-// Whether a name is the blank identifier.
-fn is_blank(name: &str) -> bool
-    ensures { result ≡ is_blank name.now }
-{
-    name == "_"
-}
 
 // Whether a method is its type's own: it is not blank, stands behind no field of its identifier, and repeats no earlier name. Its name
 // is then among those that were seen.

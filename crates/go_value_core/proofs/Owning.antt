@@ -19,7 +19,7 @@ use Rattle.go_piece_core.specs.local_core.Outline.{idents}
 use Rattle.go_piece_core.specs.operand_core.declared.types.Operand.{Operand}
 use Rattle.go_piece_core.specs.operand_core.TypeRules.{TypeRules}
 use Rattle.go_piece_core.specs.denote_core.declared.things.Found.{Found}
-use Rattle.go_piece_core.specs.denote_core.declared.things.Place.TheVariants as places
+use Rattle.go_piece_core.specs.denote_core.declared.things.Stand.TheVariants as stands
 use Rattle.go_piece_core.specs.denote_core.declared.things.Denoted as declared_denoted
 use Rattle.go_piece_core.specs.denote_core.declared.things.Denoted.TheVariants as denotes
 use Rattle.go_piece_core.specs.denote_core.declared.things.Argument.{Argument}
@@ -98,7 +98,7 @@ one_way false x = refl
 
 module _ {T S D P : Type 0} (looks : Looks T S D P) where
   abbrev each : ExprTree → Argument T
-  each e = argument_of (denoted looks places.«Value» e)
+  each e = argument_of (denoted looks stands.«Value» e)
 
   each_of : (es : Separated ExprTree) → map argument_of (denoted_exprs looks es) ≡ map each (exprs es)
   each_of (One e) = refl
@@ -214,9 +214,9 @@ module _ {T S D P : Type 0} (looks : Looks T S D P) (find : List ℕ → ℕ →
     given_alike : (n i : ℕ) (alone : Bool) (o : Option ExprTree) → AgreeOnIdents looks.find find (some_needed o) → given_by looks n i alone o ≡ given_by (finding find looks) n i alone o
     given_alike n i alone None h = refl
     given_alike n i true (Some e) h =
-        let same = needed_names T S D P looks find places.«Value» e law h in
-        ap (one_of n i) (ap (λ d. arguments_of (look_of_place looks (start e)) (d ∷ [])) same ∙ alone_alike (start e) (denoted (finding find looks) places.«Value» e))
-    given_alike n i false (Some e) h = ap argument_of (needed_names T S D P looks find places.«Value» e law h)
+        let same = needed_names T S D P looks find stands.«Value» e law h in
+        ap (one_of n i) (ap (λ d. arguments_of (look_of_place looks (start e)) (d ∷ [])) same ∙ alone_alike (start e) (denoted (finding find looks) stands.«Value» e))
+    given_alike n i false (Some e) h = ap argument_of (needed_names T S D P looks find stands.«Value» e law h)
 
     within : (kind : ValueKind) (v : ValueSpecTree) (i : ℕ) → some_written_type looks v.type_expr ≡ some_written_type (finding find looks) v.type_expr → AgreeOnIdents looks.find find (initial_idents v i) → i < spec_name_count v
         → initial looks kind v i ≡ initial (finding find looks) kind v i

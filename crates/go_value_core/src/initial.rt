@@ -1,14 +1,14 @@
 //! What a name of a specification of constants or variables stands for.
 ghost use Rattle.std.specs.Prelude.{◌≡◌, IfOk, Some, true};
 ghost use Rattle.go_tree_nodes.specs.Shapes.{shape, shape_some_type, shape_value_spec};
-ghost use Rattle.go_piece_core.specs.denote_core.declared.things.Place.TheVariants as stands;
+ghost use Rattle.go_piece_core.specs.denote_core.declared.things.Stand.TheVariants as stands;
 ghost use Rattle.go_piece_core.specs.expr_core.Looks.{everywhere};
 ghost use Rattle.go_piece_core.specs.expr_core.Denoting as denoting;
 ghost use Rattle.go_value_core.specs.Initial as values;
 ghost use Rattle.go_value_core.specs.mirrors.Own as own;
 
 use crate::specs::{expr_of, is_alone, name_count};
-use go_piece_core::denote_core::{Argument, Denoted, Place, argument_of, arguments_of};
+use go_piece_core::denote_core::{Argument, Denoted, Stand, argument_of, arguments_of};
 use go_piece_core::expr_core::{Exprs, Notes, check_expr};
 use go_piece_core::operand_core::Operand;
 use go_piece_core::statement_core::{constant_answer, declared_types};
@@ -28,7 +28,7 @@ fn denoted<E: Exprs>(
         uses: Vec::new(alloc),
         faults: Vec::new(alloc),
     };
-    check_expr(env, alloc, Place::Value, expr, &mut notes)
+    check_expr(env, alloc, Stand::Value, expr, &mut notes)
 }
 
 // One of so many values, by its number: refused where there are not as many.

@@ -9,6 +9,7 @@ use Rattle.go_tree_nodes.specs.declared.files.Receiver.{Receiver}
 use Rattle.go_tree_nodes.specs.declared.types.TypeName.{TypeName}
 use Rattle.go_text_core.specs.Text.{is_blank}
 use Rattle.go_text_core.specs.declared.rule.Rule.TheVariants.{B5, B6}
+use Rattle.go_tree_nodes.specs.Starts.{type_name_start}
 use Rattle.go_term_core.specs.decl_core.declared.keys.DeclKey.{DeclKey}
 use Rattle.go_term_core.specs.decl_core.TopDecls.{TopDeclTree, FormTree, ValueForm, TypeForm, FuncForm}
 use Rattle.go_term_core.specs.declared.term.MemberPlace.{MemberPlace}
@@ -24,7 +25,7 @@ use Rattle.go_near_core.specs.entry_core.Entries.{Meanings}
 use Rattle.go_near_core.specs.entry_core.Outlines.{FileOutline}
 use Rattle.go_near_core.specs.entry_core.Among.{Among}
 use Rattle.go_part_core.specs.fault_core.Places.{all_located, fault_in}
-use Rattle.go_part_core.specs.fault_core.TypeFaults.{base_start, entries_faults, entry_faults, faults_of_types, form_fault, loops_faults, met_in, met_type, received_fault, receivers_faults}
+use Rattle.go_part_core.specs.fault_core.TypeFaults.{entries_faults, entry_faults, faults_of_types, form_fault, loops_faults, met_in, met_type, received_fault, receivers_faults}
 use Rattle.go_whole_core.proofs.Names.{AllInside, none_inside}
 use Rattle.go_whole_core.proofs.Types.{IsEntryInside}
 use Rattle.go_near_core.specs.settle_core.Settled.{can_be_pointed}
@@ -89,7 +90,7 @@ module _ (Inside : List ℕ → Type 0) (es fs : List Entry) (same : (k : DeclKe
   module _ (means : Meanings) (near : (file : ℕ) (n : TypeName) → AllInside Inside (term_keys (means file n))) (path : List ℕ) where
     received_same : (file : ℕ) (o : Option Receiver) → received_fault es (means file) path file o ≡ received_fault fs (means file) path file o
     received_same file None = refl
-    received_same file (Some r) = λ j. if base_same path (means file r.base) (near file r.base) j then [] else fault_in file (base_start r.base) B6 ∷ []
+    received_same file (Some r) = λ j. if base_same path (means file r.base) (near file r.base) j then [] else fault_in file (type_name_start r.base) B6 ∷ []
 
     receiver_same : (file : ℕ) (form : FormTree) → form_fault es (means file) path file form ≡ form_fault fs (means file) path file form
     receiver_same file (ValueForm k v i) = refl

@@ -59,15 +59,12 @@ pub mod reach_core {
 
 /// What the crates above name of `go_summary_core`.
 pub mod summary_core {
-    pub use go_part_core::summary_core::{Summary, View, import_view, view_of};
+    pub use go_part_core::summary_core::{
+        ReachedSummaries, Summary, SummaryList, View, import_view, view_of,
+    };
 }
 
 /// What the crates above name of `go_table_core`.
 pub mod table_core {
     pub use go_near_core::table_core::{DefinedType, PackageTypes, StructField, TypeTable};
-}
-
-/// What the crates above name of `go_told_core`.
-pub mod told_core {
-    pub use go_part_core::told_core::{ReachedSummaries, SummaryList};
 }

@@ -114,6 +114,21 @@ unfolding walked walk_fault
 value_last s id position h word plain =
     ap₂ (λ f (w : Walk). or_else (or_else f []) (at_end s w.held)) (value_turned s [] id position h word plain) (value_passed s [] id position h word plain)
 
+-- others stand behind such a value
+value_then : (s : Shape) (id : Text) (position : ℕ) (h : Held) (word : Text) (rest : List Text) → is_plain word ≡ true → or_else (walk_fault s [] (waits id position h) (word ∷ rest)) (at_end s (fold (walked s.rules []) (waits id position h) (word ∷ rest)).held) ≡ or_else (walk_fault s [] (behind_value s id position h word) rest) (at_end s (fold (walked s.rules []) (behind_value s id position h word) rest).held)
+unfolding walked walk_fault
+value_then s id position h word rest plain =
+    ap₂ (λ f (w : Walk). or_else (or_else f (walk_fault s [] w rest)) (at_end s (fold (walked s.rules []) w rest).held)) (value_turned s [] id position h word plain) (value_passed s [] id position h word plain)
+
+-- where the walk stands behind a first word, with flags in front of it
+abbrev behind_flags : Shape → Held → Text → Walk
+behind_flags s h word = to_positional s.rules (arg_by_index s.rules 1) word (at 1 h) h
+
+-- the last word is a first one behind flags
+word_last : (s : Shape) (h : Held) (word : Text) → is_plain word ≡ true → or_else (walk_fault s [] (at 1 h) (word ∷ [])) (at_end s (walked s.rules [] (at 1 h) word).held) ≡ or_else (or_else (step_fault s 1 h value) []) (at_end s (behind_flags s h word).held)
+unfolding walked walk_fault
+word_last s h word plain = ap₂ (λ f (w : Walk). or_else (or_else f []) (at_end s w.held)) (turned s [] 1 word h refl plain) (passed s.rules [] 1 word h refl plain)
+
 -- a subcommand as it is built
 abbrev sub : ℕ → Shape
 sub i = get_or (built govisd_app).subs i explain_app.top
@@ -159,6 +174,46 @@ unfolding clap_on_literals
 check_module_named program folder path plain plain' =
     ap (λ (w : Walk). order_in (finished (sub 2).rules (walked (sub 2).rules [] (walked (sub 2).rules [] w (codes "--module")) path).held)) (passed (sub 2).rules [] 1 folder nothing_held refl plain)
     ∙ ap (λ (w : Walk). order_in (finished (sub 2).rules w.held)) (value_passed (sub 2) [] (codes "module") 2 (held_behind folder) path plain')
+
+pub check_module_json : (program folder path : Text) → is_plain folder ≡ true → is_plain path ≡ true → refusals (command_line program (codes "check" ∷ (folder ∷ (codes "--module" ∷ (path ∷ (codes "--json" ∷ [])))))) ≡ []
+unfolding clap_on_literals
+check_module_json program folder path plain plain' =
+    ap (λ k. or_else k []) (word_then (sub 2) folder (codes "--module" ∷ (path ∷ (codes "--json" ∷ []))) plain ∙ value_then (sub 2) (codes "module") 2 (held_behind folder) path (codes "--json" ∷ []) plain')
+
+pub check_module_json_named : (program folder path : Text) → is_plain folder ≡ true → is_plain path ≡ true → asked_by_subcommand (command_line program (codes "check" ∷ (folder ∷ (codes "--module" ∷ (path ∷ (codes "--json" ∷ [])))))) ≡ ToCheck folder (Some path) true
+unfolding clap_on_literals
+check_module_json_named program folder path plain plain' =
+    ap (λ (w : Walk). order_in (finished (sub 2).rules (walked (sub 2).rules [] (walked (sub 2).rules [] (walked (sub 2).rules [] w (codes "--module")) path) (codes "--json")).held)) (passed (sub 2).rules [] 1 folder nothing_held refl plain)
+    ∙ ap (λ (w : Walk). order_in (finished (sub 2).rules (walked (sub 2).rules [] w (codes "--json")).held)) (value_passed (sub 2) [] (codes "module") 2 (held_behind folder) path plain')
+
+-- what is held behind a flag that stands first, and where the path of a module is waited for
+abbrev held_json : Held
+held_json = (walked (sub 2).rules [] (at 1 nothing_held) (codes "--json")).held
+
+abbrev held_module : Held
+held_module = (walked (sub 2).rules [] (at 1 nothing_held) (codes "--module")).held
+
+abbrev held_path : Text → Held
+held_path path = (behind_value (sub 2) (codes "module") 1 held_module path).held
+
+pub json_check : (program folder : Text) → is_plain folder ≡ true → refusals (command_line program (codes "check" ∷ (codes "--json" ∷ (folder ∷ [])))) ≡ []
+unfolding clap_on_literals
+json_check program folder plain = ap (λ k. or_else k []) (word_last (sub 2) held_json folder plain)
+
+pub json_check_named : (program folder : Text) → is_plain folder ≡ true → asked_by_subcommand (command_line program (codes "check" ∷ (codes "--json" ∷ (folder ∷ [])))) ≡ ToCheck folder None true
+unfolding clap_on_literals
+json_check_named program folder plain = ap (λ (w : Walk). order_in (finished (sub 2).rules w.held)) (passed (sub 2).rules [] 1 folder held_json refl plain)
+
+pub module_check : (program folder path : Text) → is_plain folder ≡ true → is_plain path ≡ true → refusals (command_line program (codes "check" ∷ (codes "--module" ∷ (path ∷ (folder ∷ []))))) ≡ []
+unfolding clap_on_literals
+module_check program folder path plain plain' =
+    ap (λ k. or_else k []) (value_then (sub 2) (codes "module") 1 held_module path (folder ∷ []) plain' ∙ word_last (sub 2) (held_path path) folder plain)
+
+pub module_check_named : (program folder path : Text) → is_plain folder ≡ true → is_plain path ≡ true → asked_by_subcommand (command_line program (codes "check" ∷ (codes "--module" ∷ (path ∷ (folder ∷ []))))) ≡ ToCheck folder (Some path) false
+unfolding clap_on_literals
+module_check_named program folder path plain plain' =
+    ap (λ (w : Walk). order_in (finished (sub 2).rules (walked (sub 2).rules [] w folder).held)) (value_passed (sub 2) [] (codes "module") 1 held_module path plain')
+    ∙ ap (λ (w : Walk). order_in (finished (sub 2).rules w.held)) (passed (sub 2).rules [] 1 folder (held_path path) refl plain)
 
 pub help_word : (program word : Text) → is_plain word ≡ true → refusals (command_line program (codes "help" ∷ (word ∷ []))) ≡ []
 unfolding clap_on_literals

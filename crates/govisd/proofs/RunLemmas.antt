@@ -18,9 +18,9 @@ use Rattle.govisd.specs.declared.program.Ran.{Ran}
 use Rattle.govisd.specs.declared.words.Request.{Request}
 use Rattle.govisd.specs.declared.words.Request.TheVariants.{Resolve, Explain, Check, Help, Version}
 use Rattle.govisd.specs.Asking.{Asks, ToCheck, ToExplain, ToHelp, is_plain, command_line, asked_by_subcommand as asked_by, refusals, said}
-use Rattle.govisd.specs.Runs.{Answering, ChecksEach, ChecksFolder, Does, Explains, ExplainsEach, ExplainsFound, Helps, HelpsEach, HelpsFound, ListsAll, Refuses, RefusesName, RefusesOtherCommands, RefusesOthers, Runs, RunsOut, ShowsOrRunsOut}
+use Rattle.govisd.specs.Runs.{Answering, ChecksEach, ChecksEachAsJson, ChecksEachModule, ChecksFolder, Does, Explains, ExplainsEach, ExplainsFound, Helps, HelpsEach, HelpsFound, ListsAll, Refuses, RefusesName, RefusesOtherCommands, RefusesOthers, Runs, RunsOut, ShowsOrRunsOut}
 use Rattle.govisd.specs.Texts.{help_of, unknown_command_text}
-use Rattle.govisd.proofs.PlainWords.{check_folder, check_folder_named, explain_word, explain_word_named, help_word, help_word_named}
+use Rattle.govisd.proofs.PlainWords.{check_folder, check_folder_named, check_module, check_module_json, check_module_json_named, check_module_named, explain_word, explain_word_named, help_word, help_word_named}
 
 -- words that are not refused ask for what they name
 asked : (words : List Text) (request : Request) → refusals words ≡ [] → Asks words (Ok request) → said request ≡ asked_by words
@@ -149,6 +149,14 @@ all_rules Answers program ran given left out out' err err' r =
 pub each_folder : (Answers : Answering) → ChecksEach Answers
 each_folder Answers program folder plain ran given left out out' err err' r =
     checked Answers ran given left out out' err err' (command_line program (codes "check" ∷ (folder ∷ []))) folder None false (check_folder program folder plain) (check_folder_named program folder plain) r
+
+pub each_module : (Answers : Answering) → ChecksEachModule Answers
+each_module Answers program folder path plain plain' ran given left out out' err err' r =
+    checked Answers ran given left out out' err err' (command_line program (codes "check" ∷ (folder ∷ (codes "--module" ∷ (path ∷ []))))) folder (Some path) false (check_module program folder path plain plain') (check_module_named program folder path plain plain') r
+
+pub each_as_json : (Answers : Answering) → ChecksEachAsJson Answers
+each_as_json Answers program folder path plain plain' ran given left out out' err err' r =
+    checked Answers ran given left out out' err err' (command_line program (codes "check" ∷ (folder ∷ (codes "--module" ∷ (path ∷ (codes "--json" ∷ [])))))) folder (Some path) true (check_module_json program folder path plain plain') (check_module_json_named program folder path plain plain') r
 
 pub each_command : (Answers : Answering) → HelpsEach Answers
 each_command Answers program name text plain is ran given left out out' err err' r =

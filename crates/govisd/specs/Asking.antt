@@ -130,6 +130,12 @@ pub record AskAs (program : Text) : Type 0 where
   pub check_json_named : (folder : Text) → is_plain folder ≡ true → asked_by_subcommand (command_line program (codes "check" ∷ (folder ∷ (codes "--json" ∷ [])))) ≡ ToCheck folder None true
   pub check_module : (folder path : Text) → is_plain folder ≡ true → is_plain path ≡ true → refusals (command_line program (codes "check" ∷ (folder ∷ (codes "--module" ∷ (path ∷ []))))) ≡ []
   pub check_module_named : (folder path : Text) → is_plain folder ≡ true → is_plain path ≡ true → asked_by_subcommand (command_line program (codes "check" ∷ (folder ∷ (codes "--module" ∷ (path ∷ []))))) ≡ ToCheck folder (Some path) false
+  pub check_module_json : (folder path : Text) → is_plain folder ≡ true → is_plain path ≡ true → refusals (command_line program (codes "check" ∷ (folder ∷ (codes "--module" ∷ (path ∷ (codes "--json" ∷ [])))))) ≡ []
+  pub check_module_json_named : (folder path : Text) → is_plain folder ≡ true → is_plain path ≡ true → asked_by_subcommand (command_line program (codes "check" ∷ (folder ∷ (codes "--module" ∷ (path ∷ (codes "--json" ∷ [])))))) ≡ ToCheck folder (Some path) true
+  pub json_check : (folder : Text) → is_plain folder ≡ true → refusals (command_line program (codes "check" ∷ (codes "--json" ∷ (folder ∷ [])))) ≡ []
+  pub json_check_named : (folder : Text) → is_plain folder ≡ true → asked_by_subcommand (command_line program (codes "check" ∷ (codes "--json" ∷ (folder ∷ [])))) ≡ ToCheck folder None true
+  pub module_check : (folder path : Text) → is_plain folder ≡ true → is_plain path ≡ true → refusals (command_line program (codes "check" ∷ (codes "--module" ∷ (path ∷ (folder ∷ []))))) ≡ []
+  pub module_check_named : (folder path : Text) → is_plain folder ≡ true → is_plain path ≡ true → asked_by_subcommand (command_line program (codes "check" ∷ (codes "--module" ∷ (path ∷ (folder ∷ []))))) ≡ ToCheck folder (Some path) false
   pub help_flag : refusals (command_line program (codes "--help" ∷ [])) ≡ kind.DisplayHelp ∷ []
   pub short_help_flag : refusals (command_line program (codes "-h" ∷ [])) ≡ kind.DisplayHelp ∷ []
   pub resolve_help_flag : refusals (command_line program (codes "resolve" ∷ (codes "--help" ∷ []))) ≡ kind.DisplayHelp ∷ []

@@ -156,6 +156,16 @@ ListsAll Answers = (program : Text) → RunsFor Answers (command_line program (c
 abbrev pub ChecksEach : Answering → Type 0
 ChecksEach Answers = (program folder : Text) → is_plain folder ≡ true → RunsFor Answers (command_line program (codes "check" ∷ (folder ∷ []))) (λ ran out out' err err'. ChecksFolder Answers folder false None ran out out' err err' ⊎ (RunsOut ran err err' × Keeps out out'))
 
+-- with the path of its module, it is checked as that of this module
+abbrev pub ChecksEachModule : Answering → Type 0
+ChecksEachModule Answers =
+    (program folder path : Text) → is_plain folder ≡ true → is_plain path ≡ true → RunsFor Answers (command_line program (codes "check" ∷ (folder ∷ (codes "--module" ∷ (path ∷ []))))) (λ ran out out' err err'. ChecksFolder Answers folder false (Some path) ran out out' err err' ⊎ (RunsOut ran err err' × Keeps out out'))
+
+-- and as JSON where that is asked for
+abbrev pub ChecksEachAsJson : Answering → Type 0
+ChecksEachAsJson Answers =
+    (program folder path : Text) → is_plain folder ≡ true → is_plain path ≡ true → RunsFor Answers (command_line program (codes "check" ∷ (folder ∷ (codes "--module" ∷ (path ∷ (codes "--json" ∷ [])))))) (λ ran out out' err err'. ChecksFolder Answers folder true (Some path) ran out out' err err' ⊎ (RunsOut ran err err' × Keeps out out'))
+
 -- `help` with a command's name writes what the command takes
 abbrev pub HelpsEach : Answering → Type 0
 HelpsEach Answers =

@@ -4,7 +4,7 @@ ghost use Rattle.clap.specs.Values.{kind_of};
 ghost use Rattle.std.specs.Result.{result_ok};
 ghost use Rattle.govisd_folders.specs.Checks.{IsAnswerOfCheck};
 ghost use Rattle.govisd.specs.Texts.{refused_text as text_of_refused};
-ghost use Rattle.govisd.specs.Runs.{ChecksEach, ChecksFolder, Explains, WritesAnswer, Helps, Refuses, RefusesMade, Resolves, Runs, RunsOut, ShowsText, ShowsMade, SaysText, ExplainsEach, HelpsEach, ListsAll, RefusesOtherCommands, RefusesOthers};
+ghost use Rattle.govisd.specs.Runs.{ChecksEach, ChecksEachAsJson, ChecksEachModule, ChecksFolder, Explains, WritesAnswer, Helps, Refuses, RefusesMade, Resolves, Runs, RunsOut, ShowsText, ShowsMade, SaysText, ExplainsEach, HelpsEach, ListsAll, RefusesOtherCommands, RefusesOthers};
 
 use crate::status::{end_status, refusal_status};
 use crate::texts::{
@@ -226,12 +226,14 @@ pub fn run<S: AsStr, C: Checks, R: Read, W: Write, E: Write>(
 }
 
 /// A law, with nothing to run: what a run of `explain` does for each rule, for a word that names none and without a word,
-/// one of `check` for each folder, and one of `help` for each command and for a word that names none, whatever checks folders.
+/// one of `check` for each folder, also with the path of its module and as JSON, and one of `help` for each command and for a word that names none, whatever checks folders.
 pub fn runs_answer_words<C: Checks>(_checks: &C)
     ensures each { ExplainsEach (C.Answers _checks.now) }
     ensures other { RefusesOthers (C.Answers _checks.now) }
     ensures all { ListsAll (C.Answers _checks.now) }
     ensures folder { ChecksEach (C.Answers _checks.now) }
+    ensures of_module { ChecksEachModule (C.Answers _checks.now) }
+    ensures as_json { ChecksEachAsJson (C.Answers _checks.now) }
     ensures command { HelpsEach (C.Answers _checks.now) }
     ensures no_command { RefusesOtherCommands (C.Answers _checks.now) }
 {}

@@ -10,7 +10,7 @@ ghost use Rattle.govisd_core.specs.mirrors.Making.{AreRefusedAlone, AreRefusedIn
 
 use go_part_core::block_core::{Imported, import_specs};
 use go_part_core::graph_core::{ImportAt, ImportOutcome, Package, Plan, Workspace, plan_imports};
-use go_part_core::told_core::ReachedSummaries;
+use go_part_core::summary_core::ReachedSummaries;
 use go_part_core::{Part, PartInput, compile_part};
 use go_path_core::ImportPath;
 use go_text_core::add;

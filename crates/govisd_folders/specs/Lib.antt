@@ -1,4 +1,5 @@
 pub mod Checks
 pub mod Notes
 pub mod Puts
+pub mod Reads
 pub mod Telling

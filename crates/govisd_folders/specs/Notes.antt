@@ -1,5 +1,5 @@
 -- What is said beside the answer.
-use Rattle.std.specs.Prelude.{◌≡◌, ℕ, Bool, true, false, List, [], ◌++◌, ◌==◌, ◌&&◌, codes, decimal, if◌then◌else◌}
+use Rattle.std.specs.Prelude.{◌≡◌, ℕ, Bool, true, false, List, [], ◌∷◌, ◌++◌, ◌==◌, ◌&&◌, codes, decimal, if◌then◌else◌}
 use Rattle.std.specs.declared.io.ErrorKind.{ErrorKind}
 use Rattle.std.specs.declared.io.ErrorKind.TheVariants.{OutOfMemory}
 use Rattle.go_text_core.specs.Rules.{rule_number}
@@ -9,6 +9,11 @@ use Rattle.go_explain_core.specs.Meanings.{rule_meaning}
 -- what is wrong with what lies at a path
 abbrev pub note_line : List ℕ → List ℕ → List ℕ
 note_line path what = codes "govisd: " ++ path ++ codes ": " ++ what ++ codes "\n"
+
+-- a name as it is said: two quotation marks stand for that of no bytes
+abbrev pub shown_name : List ℕ → List ℕ
+shown_name [] = codes "\"\""
+shown_name (b ∷ bs) = b ∷ bs
 
 -- memory was wanting
 abbrev pub wants_memory : ErrorKind → Bool

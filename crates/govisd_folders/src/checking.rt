@@ -1,14 +1,13 @@
 //! From a folder to its faults.
-ghost use Rattle.std.specs.Prelude.{◌≡◌, IfOk, false, map, option_map, string_bytes};
+ghost use Rattle.std.specs.Prelude.{◌≡◌, ◌++◌, IfOk, map, option_map, string_bytes};
 ghost use Rattle.std.specs.IoError.{error_kind};
 ghost use Rattle.std.specs.Path.{path_buf_bytes};
 ghost use Rattle.go_path_core.specs.Path.{IsPath};
-ghost use Rattle.govisd_folders.specs.Checks.{IsAnswerOfCheck, IsAnswerOnFolder, IsAnswerFor, IsAnswerOn, WorkspaceIsChecked, IsOfFolders, NothingIsChecked, folder_name, module_option, own_path, status_of};
+ghost use Rattle.govisd_folders.specs.Checks.{IsAnswerOfCheck, IsAnswerOnFolder, IsAnswerFor, IsAnswerOn, WorkspaceIsChecked, IsOfFolders, FolderIsUnread, NothingIsChecked, folder_name, no_module_text, own_path, refused_line, status_of};
 ghost use Rattle.go_snap_core.specs.Snapshots.{IsSnapshot};
-ghost use Rattle.govisd_folders.specs.Notes.{wants_memory};
 ghost use Rattle.govisd_folders.specs.Puts.{folder_of};
 
-use crate::notes::{note, note_passed, note_rule, push, why_unread};
+use crate::notes::{note, note_rule, passed_text, push, shown_name, why_unread};
 use crate::progress::Progress;
 use crate::putting::put_all;
 use crate::reading::{FolderFiles, FoundFolders, found_below};
@@ -97,12 +96,12 @@ fn check_workspace(
     answer
 }
 
-// Nothing is checked, for a reason of what has a name, which stands behind what is said already.
+// Nothing is checked, for a reason of what has a name. That stands behind what is said already.
 fn refused(alloc: Global, said: String, name: &str, why: &str) -> Result<CheckAnswer, AllocError>
-    ensures { IfOk result (NothingIsChecked name.now) }
+    ensures { IfOk result (NothingIsChecked (string_bytes said ++ refused_line name.now why.now)) }
 {
     let mut said = said;
-    note(&mut said, name, why)?;
+    note(&mut said, shown_name(name), why)?;
     Ok(CheckAnswer {
         status: 2,
         text: String::new(alloc),
@@ -122,7 +121,9 @@ fn answer_on(
     ensures { IfOk result (λ a. IsAnswerOn order.now.folder.now order.now.json module_path.now workspace.now (string_bytes notes) passed.now a) }
 {
     if workspace.packages().is_empty() {
-        return refused(alloc, notes, order.folder, "no Go files to check");
+        let mut said = notes;
+        push(&mut said, passed)?;
+        return refused(alloc, said, order.folder, "no Go files to check");
     }
     check_workspace(
         alloc,
@@ -184,8 +185,7 @@ fn check_module(
         passed_folders,
         ..
     } = found_below(rt, root, progress)?;
-    let mut passed = String::new(alloc);
-    note_passed(alloc, &mut passed, passed_files, passed_folders)?;
+    let passed = passed_text(alloc, passed_files, passed_folders)?;
     check_found(
         alloc,
         order,
@@ -216,8 +216,7 @@ fn module_of<'a>(given: Option<&'a str>, root: &'a PathBuf) -> &'a str
 
 // Nothing is checked, since the folder cannot be read.
 fn refuse_folder(alloc: Global, folder: &str, error: &io::Error) -> Result<CheckAnswer, AllocError>
-    ensures refused { IfOk result (NothingIsChecked folder.now) }
-    ensures other { IfOk result (λ _. wants_memory (error_kind error.now) ≡ false) }
+    ensures { IfOk result (FolderIsUnread folder.now (error_kind error.now)) }
 {
     let why = why_unread(alloc, error)?;
     let answer = refused(alloc, String::new(alloc), folder, why.as_str())?;
@@ -226,10 +225,10 @@ fn refuse_folder(alloc: Global, folder: &str, error: &io::Error) -> Result<Check
 
 // Nothing is checked, since the path of the module is none.
 fn refuse_module(alloc: Global, module_path: &str) -> Result<CheckAnswer, AllocError>
-    ensures { IfOk result (NothingIsChecked module_option) }
+    ensures { IfOk result (NothingIsChecked (no_module_text module_path.now)) }
 {
     let mut said = String::new(alloc);
-    note_rule(&mut said, module_path, Rule::O2)?;
+    note_rule(&mut said, shown_name(module_path), Rule::O2)?;
     refused(
         alloc,
         said,

@@ -1,7 +1,7 @@
 //! What is said beside the answer: lines, each of which names what lies at a path.
 ghost use Rattle.std.specs.Prelude.{◌≡◌, ◌++◌, IfOk, OnOk, decimal, false, string_bytes};
 ghost use Rattle.std.specs.IoError.{error_kind};
-ghost use Rattle.govisd_folders.specs.Notes.{SaysUnread, counts_line, none_passed, note_line, passed_line, refusal_line, wants_memory};
+ghost use Rattle.govisd_folders.specs.Notes.{SaysUnread, counts_line, none_passed, note_line, passed_line, refusal_line, shown_name, wants_memory};
 
 use go_explain_core::meaning;
 use go_text_core::Rule;
@@ -44,6 +44,16 @@ pub fn note(notes: &mut String, path: &str, what: &str) -> Result<(), AllocError
     push(notes, ": ")?;
     push(notes, what)?;
     push(notes, "\n")
+}
+
+/// A name as it is said: two quotation marks stand for that of no bytes.
+pub fn shown_name(name: &str) -> &str
+    ensures { result.now ≡ shown_name name.now }
+{
+    if name.is_empty() {
+        return "\"\"";
+    }
+    name
 }
 
 /// Whether memory was wanting.
@@ -128,12 +138,8 @@ fn push_passed(
     push(notes, "\n")
 }
 
-/// Adds a line: how many Go files and folders were passed over by their names, where there are any.
-///
-/// # Errors
-///
-/// `AllocError` for want of memory.
-pub fn note_passed(
+// Adds a line: how many Go files and folders were passed over by their names, where there are any.
+fn note_passed(
     alloc: Global,
     notes: &mut String,
     files: usize,
@@ -145,4 +151,17 @@ pub fn note_passed(
         return Ok(());
     }
     push_passed(alloc, notes, files, folders)
+}
+
+/// A line that says how many Go files and folders were passed over by their names, where there are any.
+///
+/// # Errors
+///
+/// `AllocError` for want of memory.
+pub fn passed_text(alloc: Global, files: usize, folders: usize) -> Result<String, AllocError>
+    ensures { IfOk result (λ text. string_bytes text ≡ passed_line files folders) }
+{
+    let mut text = String::new(alloc);
+    note_passed(alloc, &mut text, files, folders)?;
+    Ok(text)
 }

@@ -1,4 +1,8 @@
 //! The source files below a folder.
+ghost use Rattle.std.specs.Prelude.{◌≡◌, ◌≤◌, OnOk, IfOk, length, string_bytes};
+ghost use Rattle.go_folder_core.specs.Names.{kind_of_file, passed_over};
+ghost use Rattle.govisd_folders.specs.Reads.{AddsEntry, AddsLooked, EntersFolder, IsTextRead, LinksFolder, PassesFile, PassesFolder, TakesFile, TakesOther, TakesSource, begins_with_dot, one_more};
+
 use crate::notes::{is_memory, note, note_rule, note_unread};
 use crate::progress::Progress;
 use go_folder_core::{FileKind, MAX_FILES, below, file_kind, is_passed_over};
@@ -128,7 +132,9 @@ fn names_in(
 }
 
 /// The text of the file at a path, or the rule that refuses it.
-fn text_at(rt: &HostRuntime, path: &str) -> io::Result<Result<String, Rule>> {
+fn text_at(rt: &HostRuntime, path: &str) -> io::Result<Result<String, Rule>>
+    ensures { IfOk result IsTextRead }
+{
     let most = u64::try_from(MAX_BYTES).unwrap_or(u64::MAX);
     if fs::metadata(rt, path)?.len() > most {
         return Ok(Err(Rule::E3));
@@ -145,56 +151,168 @@ fn text_at(rt: &HostRuntime, path: &str) -> io::Result<Result<String, Rule>> {
 
 /// Adds the text of a source file, or says why it is left out.
 fn add_file(
-    checked: CheckedFolder<'_>,
-    found: &mut FoundFolders,
+    rt: &HostRuntime,
     files: &mut BTreeMap<String, String>,
+    left_out: &mut String,
+    bytes: &mut usize,
     name: String,
     own: &str,
     path: &str,
-) -> Result<(), AllocError> {
+) -> Result<(), AllocError>
+    ensures { OnOk result (TakesFile own.now name files.old.entries files.new.entries (string_bytes left_out.old) (string_bytes left_out.new)) }
+{
     if files.len() >= MAX_FILES {
-        return note_rule(&mut found.left_out, own, Rule::E4);
+        return note_rule(left_out, own, Rule::E4);
     }
-    match text_at(checked.rt, path) {
+    match text_at(rt, path) {
         Ok(Ok(text)) => {
-            found.bytes = found.bytes.saturating_add(text.len());
+            *bytes = bytes.saturating_add(text.len());
             match files.insert(name, text) {
                 Ok(_) => Ok(()),
                 Err(_) => Err(AllocError),
             }
         }
-        Ok(Err(rule)) => note_rule(&mut found.left_out, own, rule),
-        Err(error) => note_unread(checked.rt.alloc(), &mut found.left_out, own, &error),
+        Ok(Err(rule)) => note_rule(left_out, own, rule),
+        Err(error) => note_unread(rt.alloc(), left_out, own, &error),
     }
 }
 
-/// Adds what is no folder: the text of a source file, or why it is left out.
-fn add_other(
-    checked: CheckedFolder<'_>,
+/// Adds what is a source file by its name: its text, or why it is left out.
+fn add_source(
+    rt: &HostRuntime,
     found: &mut FoundFolders,
     files: &mut BTreeMap<String, String>,
     kind: EntryKind,
     name: String,
     own: &str,
     path: &str,
-) -> Result<(), AllocError> {
-    match (file_kind(name.as_str()), kind) {
-        (FileKind::Other, _) => {
-            if name.as_str().ends_with(".go") {
-                found.passed_files = found.passed_files.saturating_add(1);
-            }
-            Ok(())
-        }
-        (FileKind::BadName, _) => note_rule(&mut found.left_out, own, Rule::E2),
-        (FileKind::Source, EntryKind::File) => add_file(checked, found, files, name, own, path),
-        (FileKind::Source, _) => note(&mut found.left_out, own, "no regular file"),
+) -> Result<(), AllocError>
+    ensures { OnOk result (TakesSource kind own.now name files.old.entries files.new.entries found.old found.new) }
+{
+    match kind {
+        EntryKind::File => add_file(
+            rt,
+            files,
+            &mut found.left_out,
+            &mut found.bytes,
+            name,
+            own,
+            path,
+        ),
+        _ => note(&mut found.left_out, own, "no regular file"),
     }
 }
 
-/// Notes a folder that is passed over by its name, unless the name begins with a dot.
-fn pass_over(found: &mut FoundFolders, name: &str) {
-    if !name.starts_with('.') {
-        found.passed_folders = found.passed_folders.saturating_add(1);
+/// One more than a number; the greatest stays.
+fn one_more(count: usize) -> usize
+    ensures { result ≡ one_more count }
+{
+    if count == usize::MAX {
+        return count;
+    }
+    count + 1
+}
+
+/// Counts a file that is none of a package by its name, where its name ends in `.go`.
+fn pass_file(found: &mut FoundFolders, name: &str)
+    ensures { PassesFile name.now found.old found.new }
+{
+    if name.as_bytes().ends_with(b".go".as_slice()) {
+        found.passed_files = one_more(found.passed_files);
+    }
+}
+
+/// Adds what is no folder: the text of a source file, or why it is left out.
+fn add_other(
+    rt: &HostRuntime,
+    found: &mut FoundFolders,
+    files: &mut BTreeMap<String, String>,
+    kind: EntryKind,
+    name: String,
+    own: &str,
+    path: &str,
+) -> Result<(), AllocError>
+    ensures { OnOk result (TakesOther (kind_of_file (string_bytes name)) kind own.now name files.old.entries files.new.entries found.old found.new) }
+{
+    match file_kind(name.as_str()) {
+        FileKind::Other => {
+            pass_file(found, name.as_str());
+            Ok(())
+        }
+        FileKind::BadName => note_rule(&mut found.left_out, own, Rule::E2),
+        FileKind::Source => add_source(rt, found, files, kind, name, own, path),
+    }
+}
+
+/// Whether a name begins with a dot.
+fn has_dot(name: &str) -> bool
+    ensures { result ≡ begins_with_dot name.now }
+{
+    match name.as_bytes().first() {
+        Some(byte) => *byte == b'.',
+        None => false,
+    }
+}
+
+/// Counts a folder that is passed over by its name, unless the name begins with a dot.
+fn pass_over(found: &mut FoundFolders, name: &str)
+    ensures { PassesFolder name.now found.old found.new }
+{
+    if !has_dot(name) {
+        found.passed_folders = one_more(found.passed_folders);
+    }
+}
+
+/// Adds a folder to those that are read next, or passes it over.
+fn add_below(
+    found: &mut FoundFolders,
+    next: &mut Vec<String>,
+    name: &str,
+    own: String,
+) -> Result<(), AllocError>
+    ensures { OnOk result (EntersFolder (passed_over name.now) own name.now next.old.items next.new.items found.old found.new) }
+{
+    if is_passed_over(name) {
+        pass_over(found, name);
+        return Ok(());
+    }
+    next.push(own)?;
+    Ok(())
+}
+
+/// Says that a link to a folder is left out, or passes it over.
+fn add_link(found: &mut FoundFolders, name: &str, own: &str) -> Result<(), AllocError>
+    ensures { OnOk result (LinksFolder (passed_over name.now) own.now name.now found.old found.new) }
+{
+    if is_passed_over(name) {
+        pass_over(found, name);
+        return Ok(());
+    }
+    note(
+        &mut found.left_out,
+        own,
+        "a link to a folder, which is not followed",
+    )
+}
+
+/// Adds what lies in a folder by a name, by its kind.
+fn add_looked(
+    rt: &HostRuntime,
+    found: &mut FoundFolders,
+    files: &mut BTreeMap<String, String>,
+    next: &mut Vec<String>,
+    kind: EntryKind,
+    name: String,
+    own: String,
+    path: &str,
+) -> Result<(), AllocError>
+    ensures { OnOk result (AddsLooked kind own name files.old.entries files.new.entries next.old.items next.new.items found.old found.new) }
+{
+    match kind {
+        EntryKind::Folder => add_below(found, next, name.as_str(), own),
+        EntryKind::FolderLink => add_link(found, name.as_str(), own.as_str()),
+        EntryKind::File => add_other(rt, found, files, EntryKind::File, name, own.as_str(), path),
+        EntryKind::Other => add_other(rt, found, files, EntryKind::Other, name, own.as_str(), path),
     }
 }
 
@@ -206,37 +324,21 @@ fn add_entry(
     next: &mut Vec<String>,
     folder: &str,
     name: String,
-) -> Result<(), AllocError> {
+) -> Result<(), AllocError>
+    ensures { OnOk result (AddsEntry folder.now name files.old.entries files.new.entries next.old.items next.new.items found.old found.new) }
+{
     let alloc = checked.rt.alloc();
     let own = below(alloc, folder, name.as_str())?;
     let path = below(alloc, checked.root, own.as_str())?;
     match look(checked.rt, path.as_str()) {
-        Ok(EntryKind::Folder) => {
-            if is_passed_over(name.as_str()) {
-                pass_over(found, name.as_str());
-                return Ok(());
-            }
-            next.push(own)?;
-            Ok(())
-        }
-        Ok(EntryKind::FolderLink) => {
-            if is_passed_over(name.as_str()) {
-                pass_over(found, name.as_str());
-                return Ok(());
-            }
-            note(
-                &mut found.left_out,
-                own.as_str(),
-                "a link to a folder, which is not followed",
-            )
-        }
-        Ok(kind) => add_other(
-            checked,
+        Ok(kind) => add_looked(
+            checked.rt,
             found,
             files,
+            next,
             kind,
             name,
-            own.as_str(),
+            own,
             path.as_str(),
         ),
         Err(error) => note_unread(alloc, &mut found.left_out, own.as_str(), &error),

@@ -35,6 +35,11 @@ impl Lines {
         }
     }
 
+    /// The text so far, for what adds to a text.
+    pub fn text(&mut self) -> &mut String {
+        &mut self.text
+    }
+
     /// Adds pieces, one behind the other.
     pub fn pieces(&mut self, pieces: &[&str]) {
         for piece in pieces {

@@ -1,37 +1,46 @@
 //! The packages of a workspace as answers name them, and what each is.
 use crate::lines::Lines;
-use go_decl_core::{DeclRef, Place, Places, outline};
+use go_decl_core::{DeclRef, Place, outline};
 use go_graph_core::{PackageSource, SourceFile, Workspace, assemble};
 use go_text_core::add;
 use std::alloc::{AllocError, Global};
 
-/// A file: its name, and the places of what it declares, where it has a tree.
-#[derive(Drop)]
+/// A file: its name, and the places of what it declares, which are none where it has no tree.
 pub struct NamedFile {
     pub name: String,
-    places: Option<Places>,
+    places: Vec<Place>,
     /// The offsets of what it declares outside functions, in order.
     declared: Vec<usize>,
 }
 
+impl Drop for NamedFile {
+    fn drop(self) {
+        let NamedFile {
+            name: _,
+            places: _,
+            declared: _,
+        } = self;
+    }
+}
+
 /// The path of a package, and its files.
-#[derive(Drop)]
 pub struct Named {
     pub path: String,
     pub files: Vec<NamedFile>,
+}
+
+impl Drop for Named {
+    fn drop(self) {
+        let Named { path: _, files: _ } = self;
+    }
 }
 
 impl Named {
     /// The identifiers that the file of a number declares outside bodies, and none where it has no tree.
     pub fn places(&self, number: usize) -> &[Place] {
         match self.files.get(number) {
-            Some(
-                NamedFile {
-                    places: Some(places),
-                    ..
-                },
-            ) => places.places(),
-            _ => &[],
+            Some(file) => file.places.as_slice(),
+            None => &[],
         }
     }
 
@@ -69,20 +78,17 @@ pub fn close_names(_packages: Vec<Named>) {}
 /// The name of a file and the places of what it declares.
 fn name_file(alloc: Global, file: &SourceFile) -> Result<NamedFile, AllocError> {
     let name = String::from_str(alloc, file.name())?;
+    let mut places = Vec::new(alloc);
     let mut declared = Vec::new(alloc);
-    let Ok(tree) = file.tree() else {
-        let places = None;
-        return Ok(NamedFile {
-            name,
-            places,
-            declared,
-        });
-    };
-    let outline = outline(alloc, tree)?;
-    for decl in &outline.decls {
-        add(&mut declared, decl.ident.span.start as usize)?;
+    if let Ok(tree) = file.tree() {
+        let outline = outline(alloc, tree)?;
+        for place in outline.places.places() {
+            add(&mut places, *place)?;
+        }
+        for decl in &outline.decls {
+            add(&mut declared, decl.ident.span.start as usize)?;
+        }
     }
-    let places = Some(outline.places);
     Ok(NamedFile {
         name,
         places,

@@ -1,8 +1,8 @@
 //! How faults and what occurrences have are written.
 use go_path_core::ImportPath;
+use go_site_core::SiteSpelling;
 use go_snap_core::answer_core::{Answer, Site};
 use go_snap_core::denote_core::Outcome;
-use go_snap_core::handle_core::DeclSite;
 use go_snap_core::tree_core::{OccId, Role};
 use go_snap_core::{PlacedFault, Snapshot};
 use go_term_core::MemberPlace;
@@ -21,13 +21,9 @@ pub fn add_place(out: &mut Lines, named: &[Named], path: &ImportPath, place: Mem
 }
 
 /// Adds a declaration.
-pub fn add_site(out: &mut Lines, named: &[Named], site: &Site) {
-    let place = site.decl().site();
-    match place {
-        DeclSite::Universe(name) => out.pieces(&["universe.", name.spelling()]),
-        DeclSite::ErrorMethod => out.add("universe.error.Error"),
-        DeclSite::Package(path) => out.pieces(&["package ", path.as_str()]),
-        DeclSite::InFile(path, place) => add_place(out, named, path, place),
+pub fn add_site(out: &mut Lines, spelling: &SiteSpelling<'_>, site: &Site) {
+    if spelling.add_site(out.text(), site).is_err() {
+        out.cut();
     }
 }
 
@@ -72,7 +68,7 @@ pub fn spelling_at(text: &str, offset: usize) -> &str {
 }
 
 /// Adds what an occurrence of a text has.
-pub fn add_answer(out: &mut Lines, named: &[Named], text: &str, answer: &Answer) {
+pub fn add_answer(out: &mut Lines, spelling: &SiteSpelling<'_>, text: &str, answer: &Answer) {
     out.count("", answer.offset, " ");
     out.add(role_word(answer.role));
     out.add(" ");
@@ -80,11 +76,11 @@ pub fn add_answer(out: &mut Lines, named: &[Named], text: &str, answer: &Answer)
     out.add(" ");
     match &answer.outcome {
         Outcome::Declared(site) => {
-            add_site(out, named, site);
+            add_site(out, spelling, site);
             out.line("");
         }
         Outcome::Selected(site, path) => {
-            add_site(out, named, site);
+            add_site(out, spelling, site);
             out.count("\npath ", answer.offset, " ");
             add_steps(out, path.steps());
             out.line("");
@@ -111,7 +107,7 @@ fn text_of<'a>(snapshot: &'a Snapshot, path: &ImportPath, name: &str) -> &'a str
 pub fn add_outcomes(
     out: &mut Lines,
     snapshot: &Snapshot,
-    named: &[Named],
+    spelling: &SiteSpelling<'_>,
     path: &ImportPath,
     name: &str,
 ) {
@@ -119,7 +115,7 @@ pub fn add_outcomes(
     for number in 0..usize::MAX {
         out.count("", number, " ");
         match snapshot.outcome(path, name, OccId(number)) {
-            Some(answer) => add_answer(out, named, text, answer),
+            Some(answer) => add_answer(out, spelling, text, answer),
             None => return out.line("none"),
         }
     }

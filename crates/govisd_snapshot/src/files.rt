@@ -1,6 +1,7 @@
 //! What stands in the files of packages.
 use crate::answers::{add_answer, add_place, spelling_at};
 use crate::shot::Shot;
+use go_site_core::SiteSpelling;
 use go_snap_core::answer_core::HeldLocal;
 use go_snap_core::constant_core::Constant;
 use go_snap_core::denote_core::Outcome;
@@ -97,10 +98,16 @@ fn add_locals(out: &mut Lines, named: &[Named], text: &str, locals: &[HeldLocal]
 }
 
 /// Adds what the occurrences of a file have, those that break a rule alone where all are not asked for, and its faults.
-fn add_answers(out: &mut Lines, named: &[Named], all: bool, text: &str, file: &FileAnswers) {
+fn add_answers(
+    out: &mut Lines,
+    spelling: &SiteSpelling<'_>,
+    all: bool,
+    text: &str,
+    file: &FileAnswers,
+) {
     for answer in &file.answers {
         if all || matches!(answer.outcome, Outcome::Refused(_)) {
-            add_answer(out, named, text, answer);
+            add_answer(out, spelling, text, answer);
         }
     }
     for fault in &file.faults {
@@ -110,7 +117,7 @@ fn add_answers(out: &mut Lines, named: &[Named], all: bool, text: &str, file: &F
 }
 
 /// Adds what stands in the files of a package.
-fn add_part(out: &mut Lines, kind: &str, named: &[Named], package: &Named, part: &Part) {
+fn add_part(out: &mut Lines, kind: &str, shot: &Shot<'_>, package: &Named, part: &Part) {
     let content = part.content();
     let sources = part.input().package().files();
     let mut declared = content.declared.as_slice();
@@ -119,11 +126,11 @@ fn add_part(out: &mut Lines, kind: &str, named: &[Named], package: &Named, part:
             let (text, offsets) = (source.text(), package.declared(number));
             out.pieces(&["file ", source.name(), "\n"]);
             match kind {
-                "locals" => add_locals(out, named, text, file.answers.locals.as_slice()),
-                "refusals" => add_answers(out, named, false, text, &file.answers),
+                "locals" => add_locals(out, shot.named, text, file.answers.locals.as_slice()),
+                "refusals" => add_answers(out, &shot.spelling, false, text, &file.answers),
                 _ => {
                     add_constants(out, offsets, declared);
-                    add_answers(out, named, true, text, &file.answers);
+                    add_answers(out, &shot.spelling, true, text, &file.answers);
                 }
             }
             declared = declared.get(offsets.len()..).unwrap_or(&[]);
@@ -139,7 +146,7 @@ pub fn add_packages(out: &mut Lines, kind: &str, shot: &Shot<'_>) {
     for source in shot.snapshot.sources().packages() {
         add_package(out, source);
         if let (Some(Some(part)), Some(package)) = (parts.get(number), shot.named.get(number)) {
-            add_part(out, kind, shot.named, package, part);
+            add_part(out, kind, shot, package, part);
         } else {
             for file in source.files() {
                 if let Err(fault) = file.tree() {

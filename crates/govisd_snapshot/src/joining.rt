@@ -8,7 +8,7 @@ use crate::answers::{add_faults, add_outcomes};
 use crate::shot::Shot;
 use go_snap_core::part_core::{Part, close_parts, compile_part, one_part};
 use go_snap_core::{Snapshot, join};
-use govisd_show::{Lines, Named, add_counts, add_files};
+use govisd_show::{Lines, add_counts, add_files};
 use std::alloc::{AllocError, Global};
 
 /// The part of the same input, made anew: it is the same.
@@ -90,13 +90,13 @@ fn joined(alloc: Global, snapshot: &Snapshot) -> Result<Snapshot, AllocError> {
     }
 }
 
-/// Adds all that a snapshot has: its sources, its faults, and what each occurrence has. The names are those of its packages.
-fn add_all(out: &mut Lines, named: &[Named], snapshot: &Snapshot) {
+/// Adds all that a snapshot has: its sources, its faults, and what each occurrence has. It is written as the first one is.
+fn add_all(out: &mut Lines, shot: &Shot<'_>, snapshot: &Snapshot) {
     add_files(out, snapshot.sources());
-    add_faults(out, named, snapshot.faults(), "", None);
+    add_faults(out, shot.named, snapshot.faults(), "", None);
     for source in snapshot.sources().packages() {
         for file in source.files() {
-            add_outcomes(out, snapshot, named, source.path(), file.name());
+            add_outcomes(out, snapshot, &shot.spelling, source.path(), file.name());
         }
     }
 }
@@ -104,9 +104,9 @@ fn add_all(out: &mut Lines, named: &[Named], snapshot: &Snapshot) {
 /// Adds a word, and whether another snapshot has the same sources, faults and outcomes.
 pub fn add_same(out: &mut Lines, alloc: Global, word: &str, shot: &Shot<'_>, other: &Snapshot) {
     let mut first = Lines::new(alloc);
-    add_all(&mut first, shot.named, shot.snapshot);
+    add_all(&mut first, shot, shot.snapshot);
     let mut second = Lines::new(alloc);
-    add_all(&mut second, shot.named, other);
+    add_all(&mut second, shot, other);
     out.compare(word, first, second);
 }
 

@@ -69,7 +69,7 @@ mod types;
 use go_snap_core::part_core::close_types;
 use go_snap_core::table_core::TypeTable;
 use govisd_show::{Lines, close_names, name_packages};
-use shot::{Shot, snapshot_of};
+use shot::{Shot, shot_of, snapshot_of};
 use std::alloc::{AllocError, Global};
 use types::{Typed, add_types};
 
@@ -133,12 +133,13 @@ pub fn add_of_file(
         Ok(snapshot) => {
             match name_packages(alloc, snapshot.sources()) {
                 Ok(packages) => {
-                    let shot = Shot {
-                        snapshot: &snapshot,
-                        named: packages.as_slice(),
-                    };
-                    add_answer(out, alloc, kind, text, last, &shot);
-                    drop(shot);
+                    match shot_of(alloc, &snapshot, packages.as_slice()) {
+                        Ok(shot) => {
+                            add_answer(out, alloc, kind, text, last, &shot);
+                            drop(shot);
+                        }
+                        Err(AllocError) => out.cut(),
+                    }
                     close_names(packages);
                 }
                 Err(AllocError) => out.cut(),

@@ -2,66 +2,22 @@
 use crate::answers::add_site;
 use crate::shot::Shot;
 use go_path_core::ImportPath;
+use go_site_core::SiteSpelling;
 use go_snap_core::answer_core::Site;
 use go_snap_core::emit_core::{close_object, close_objects, emit};
-use go_snap_core::object_core::{FunctionCode, Object, Spelling, listing};
-use govisd_show::{Lines, Named};
+use go_snap_core::object_core::{Object, listing};
+use govisd_show::Lines;
 use std::alloc::{AllocError, Global};
 
-/// Declarations as nothing: what they are is added to the lines of the listing.
-struct Blank;
-
-impl Spelling<Site> for Blank {
-    ghost use Rattle.std.specs.Prelude.{[]};
-
-    ghost text_of = { λ _ _. [] };
-
-    fn add_decl(&self, _text: &mut String, _decl: &Site) -> Result<(), AllocError> {
-        Ok(())
-    }
-}
-
-/// Adds the listing of some functions, in which nothing stands for declarations, with each declaration in its place: behind `func `, and at the end of the
-/// line of a reference.
-fn add_listed(out: &mut Lines, named: &[Named], functions: &[FunctionCode<Site>], listed: &str) {
-    let (mut function, mut reference) = (0usize, 0usize);
-    let mut references: &[Site] = &[];
-    for line in listed.lines() {
-        match line.strip_prefix("func ") {
-            Some(slots) => {
-                out.add("func ");
-                if let Some(begun) = functions.get(function) {
-                    add_site(out, named, &begun.declaration);
-                    references = begun.references.as_slice();
-                }
-                out.line(slots);
-                function = function.saturating_add(1);
-                reference = 0;
-            }
-            None => {
-                out.add(line);
-                if line.starts_with("ref ") {
-                    if let Some(site) = references.get(reference) {
-                        add_site(out, named, site);
-                    }
-                    reference = reference.saturating_add(1);
-                }
-                out.line("");
-            }
-        }
-    }
-}
-
 /// Adds an object: its path, its name, the packages that its imports come to, and its functions.
-fn add_object(out: &mut Lines, alloc: Global, named: &[Named], object: &Object<Site>) {
+fn add_object(out: &mut Lines, alloc: Global, spelling: &SiteSpelling<'_>, object: &Object<Site>) {
     out.pieces(&["object ", object.path.as_str(), " ", object.name.as_str()]);
     for import in &object.imports {
         out.pieces(&[" ", import.as_str()]);
     }
     out.line("");
-    let functions = object.functions.as_slice();
-    match listing(alloc, &Blank, functions) {
-        Ok(listed) => add_listed(out, named, functions, listed.as_str()),
+    match listing(alloc, spelling, object.functions.as_slice()) {
+        Ok(listed) => out.add(listed.as_str()),
         Err(AllocError) => out.cut(),
     }
 }
@@ -71,7 +27,7 @@ pub fn add_objects(out: &mut Lines, alloc: Global, shot: &Shot<'_>) {
     match shot.snapshot.objects(alloc) {
         Ok(objects) => {
             for object in &objects {
-                add_object(out, alloc, shot.named, object);
+                add_object(out, alloc, &shot.spelling, object);
             }
             close_objects(objects);
         }
@@ -80,7 +36,7 @@ pub fn add_objects(out: &mut Lines, alloc: Global, shot: &Shot<'_>) {
 }
 
 /// Adds what the occurrences of the functions of an object come to, by the numbers of the functions, up to the first number that none has.
-fn add_refs(out: &mut Lines, named: &[Named], object: &Object<Site>) {
+fn add_refs(out: &mut Lines, spelling: &SiteSpelling<'_>, object: &Object<Site>) {
     for number in 0..usize::MAX {
         out.count("", number, "");
         let Some(sites) = object.refs(number) else {
@@ -88,7 +44,7 @@ fn add_refs(out: &mut Lines, named: &[Named], object: &Object<Site>) {
         };
         for site in sites {
             out.add(" ");
-            add_site(out, named, site);
+            add_site(out, spelling, site);
         }
         out.line("");
     }
@@ -108,9 +64,9 @@ pub fn add_emitted(
     match emit(alloc, part) {
         Ok(Some(object)) => {
             if is_listed {
-                add_object(out, alloc, shot.named, &object);
+                add_object(out, alloc, &shot.spelling, &object);
             } else {
-                add_refs(out, shot.named, &object);
+                add_refs(out, &shot.spelling, &object);
             }
             close_object(object);
         }

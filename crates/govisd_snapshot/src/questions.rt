@@ -40,7 +40,7 @@ fn add_of_package(out: &mut Lines, alloc: Global, last: &str, shot: &Shot<'_>, l
         return;
     };
     match kind {
-        "outcomes" => add_outcomes(out, shot.snapshot, shot.named, &path, file),
+        "outcomes" => add_outcomes(out, shot.snapshot, &shot.spelling, &path, file),
         "listing" => add_emitted(out, alloc, shot, &path, true),
         "refs" => add_emitted(out, alloc, shot, &path, false),
         "compare" => add_over(out, alloc, last, shot, Some(&path)),

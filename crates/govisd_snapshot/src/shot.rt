@@ -1,15 +1,35 @@
-//! Snapshots, with the names of their packages.
+//! Snapshots, with the names of their packages, and how their declarations are written.
+use go_site_core::SiteSpelling;
 use go_snap_core::{Snapshot, compile};
 use go_text_core::Rule;
 use govisd_show::graph_core::Workspace;
 use govisd_show::{Named, put_archive};
 use std::alloc::{AllocError, Global};
 
-/// A snapshot, and the names of the packages of its workspace, in order.
+/// A snapshot, the names of the packages of its workspace, in order, and how the declarations of the workspace are written.
 #[derive(Drop)]
 pub struct Shot<'a> {
     pub snapshot: &'a Snapshot,
     pub named: &'a [Named],
+    pub spelling: SiteSpelling<'a>,
+}
+
+/// A snapshot with these names of its packages.
+///
+/// # Errors
+///
+/// `AllocError` for want of memory.
+pub fn shot_of<'a>(
+    alloc: Global,
+    snapshot: &'a Snapshot,
+    named: &'a [Named],
+) -> Result<Shot<'a>, AllocError> {
+    let spelling = SiteSpelling::new(alloc, snapshot.sources())?;
+    Ok(Shot {
+        snapshot,
+        named,
+        spelling,
+    })
 }
 
 /// The snapshot of the workspace that an archive writes. Whoever has it ends it by `close`.

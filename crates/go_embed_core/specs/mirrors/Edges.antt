@@ -1,27 +1,9 @@
 -- The fields and embedded fields of an owner, as the program reads them.
 use Rattle.std.specs.Prelude.{◌≡◌, ◌⊎◌, ℕ, zero, suc, Bool, true, false, List, [], ◌++◌, Option, Some, None, option_to_list, if◌then◌else◌}
-use Rattle.std.specs.Borrow.{Bor}
-use Rattle.go_term_core.specs.declared.term.TypeTerm.{TypeTerm}
-use Rattle.go_term_core.specs.Terms.{Term, NoType, Predeclared, ErrorType, Defined, PointerTo, StructOf, InterfaceOf, Fields, NoField}
-use Rattle.go_term_core.specs.Shapes.{shape}
+use Rattle.go_term_core.specs.Terms.{Term, NoType, Predeclared, ErrorType, Defined, PointerTo, StructOf, InterfaceOf}
 use Rattle.go_type_core.specs.table_core.Entries.{Member, has_method}
 use Rattle.go_type_core.specs.table_core.Shown.{hides_some}
 use Rattle.go_embed_core.specs.Owners.{OwnerModel, EmbeddedEdge, embedded_edge}
-
--- an underlying type, or none
-abbrev pub under_shown : Option (Bor TypeTerm) → Term
-under_shown None = NoType
-under_shown (Some t) = shape t.now
-
--- the fields of a struct type, and none of any other type
-abbrev pub struct_fields : Term → Fields
-struct_fields NoType = NoField
-struct_fields (Predeclared b) = NoField
-struct_fields ErrorType = NoField
-struct_fields (Defined k) = NoField
-struct_fields (PointerTo t) = NoField
-struct_fields (StructOf path fs) = fs
-struct_fields (InterfaceOf path ms) = NoField
 
 -- a method has the identifier of a field that is so named
 abbrev pub hidden_in : List ℕ → List Member → List ℕ → Term → Bool

@@ -2,7 +2,7 @@
 use Rattle.std.specs.Prelude.{Bool, List, [], ◌∷◌, ◌++◌}
 use Rattle.go_tree_nodes.specs.declared.exprs.NextExpr.{NextExpr}
 use Rattle.go_tree_nodes.specs.Shapes.{shape}
-use Rattle.go_literal_core.specs.denote_core.declared.things.Place.TheVariants as places
+use Rattle.go_literal_core.specs.denote_core.declared.things.Stand.TheVariants as stands
 use Rattle.go_literal_core.specs.denote_core.declared.things.Denoted.{Denoted}
 use Rattle.go_expr_core.specs.declared.things.Use.{Use}
 use Rattle.go_expr_core.specs.declared.things.Fault.{Fault}
@@ -13,11 +13,11 @@ use Rattle.go_expr_core.specs.Faults.{member_faults}
 
 abbrev pub later_denoted : {T S D P : Type 0} → Looks T S D P → List NextExpr → List (Denoted T S D)
 later_denoted looks [] = []
-later_denoted looks (n ∷ ns) = denoted looks places.«Value» (shape n.expr) ∷ later_denoted looks ns
+later_denoted looks (n ∷ ns) = denoted looks stands.«Value» (shape n.expr) ∷ later_denoted looks ns
 
 abbrev pub later_uses : {T S D P : Type 0} → Looks T S D P → List NextExpr → List (Use D P)
 later_uses looks [] = []
-later_uses looks (n ∷ ns) = uses looks places.«Value» (shape n.expr) ++ later_uses looks ns
+later_uses looks (n ∷ ns) = uses looks stands.«Value» (shape n.expr) ++ later_uses looks ns
 
 abbrev pub later_faults : {T S D P : Type 0} → Looks T S D P → Bool → List NextExpr → List Fault
 later_faults looks several [] = []

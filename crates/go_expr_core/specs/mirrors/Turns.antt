@@ -3,7 +3,7 @@ use Rattle.std.specs.Prelude.{ℕ, Bool, List, [], ◌∷◌, ◌++◌, Option, 
 use Rattle.go_tree_nodes.specs.declared.exprs.Key.{Key}
 use Rattle.go_tree_nodes.specs.Trees.{ExprTree}
 use Rattle.go_tree_core.specs.declared.occurrence.Role.TheVariants as roles
-use Rattle.go_literal_core.specs.denote_core.declared.things.Place.TheVariants as places
+use Rattle.go_literal_core.specs.denote_core.declared.things.Stand.TheVariants as stands
 use Rattle.go_literal_core.specs.declared.things.Mode.{Mode}
 use Rattle.go_literal_core.specs.Literals.{element_target}
 use Rattle.go_literal_core.specs.declared.things.KeyMark.{KeyMark}
@@ -26,9 +26,9 @@ key_target_marked looks t mixed mark None = None
 key_target_marked looks t mixed mark (Some k) = (marked_answer (literals_at looks k.name.span.start) t mixed mark k.name.name).target
 
 abbrev pub turn_uses : {T S D P : Type 0} → Looks T S D P → Option T → Bool → KeyMark → Option Key → ExprTree → List (Use D P)
-turn_uses looks t mixed mark key e = key_uses_marked looks t mixed mark key ++ uses looks places.«Value» e
+turn_uses looks t mixed mark key e = key_uses_marked looks t mixed mark key ++ uses looks stands.«Value» e
 
 abbrev pub turn_faults : {T S D P : Type 0} → Looks T S D P → Option T → Mode → Bool → ℕ → KeyMark → Option Key → ExprTree → List Fault
 turn_faults looks t mode mixed number mark key e =
-    operand_faults looks places.«Value» e
-    ++ fault_at (item_start key e) (element_rule looks (start e) (element_target (literals_at looks (start e)) t mode number (key_target_marked looks t mixed mark key)) (denoted looks places.«Value» e))
+    operand_faults looks stands.«Value» e
+    ++ fault_at (item_start key e) (element_rule looks (start e) (element_target (literals_at looks (start e)) t mode number (key_target_marked looks t mixed mark key)) (denoted looks stands.«Value» e))

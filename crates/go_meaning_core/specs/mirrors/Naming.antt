@@ -17,12 +17,12 @@ abbrev pub scene_from : List Entry → Spotted → List PackageFacesModel → Li
 scene_from types methods others path decls known = record { path = path; own = own_spotted types path decls known; methods = methods; types = types; others = others }
 
 -- the package of a path with these declarations, where this is known of each, by tables
-abbrev pub scene_in : Tables → List ℕ → List DeclRef → List (Option TheFace) → CodeScene
-scene_in t path decls known = scene_from t.types.now t.methods t.faces.now path decls known
+abbrev pub code_scene_in : Tables → List ℕ → List DeclRef → List (Option TheFace) → CodeScene
+code_scene_in t path decls known = scene_from t.types.now t.methods t.faces.now path decls known
 
 -- a package by tables
 abbrev pub scene_with : Tables → InputModel → ContentOf → CodeScene
-scene_with t i c = scene_in t (path_in i) (package_decl_refs 0 (trees_in i.source)) c.declared
+scene_with t i c = code_scene_in t (path_in i) (package_decl_refs 0 (trees_in i.source)) c.declared
 
-abbrev pub scene_shown : PackageNames → CodeScene
-scene_shown p = record { path = p.path.now; own = p.own; methods = p.tables.now.methods; types = p.tables.now.types.now; others = p.tables.now.faces.now }
+abbrev pub code_scene_shown : PackageNames → CodeScene
+code_scene_shown p = record { path = p.path.now; own = p.own; methods = p.tables.now.methods; types = p.tables.now.types.now; others = p.tables.now.faces.now }

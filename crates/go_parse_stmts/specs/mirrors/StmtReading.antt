@@ -11,6 +11,7 @@ use Rattle.go_tree_nodes.specs.Terminals.{Terminal}
 use Rattle.go_tree_nodes.specs.Trees.{Separated, One, Then, TypeTree, ExprTree, Named, ValueSpecTree, Specs, Single, Group, ValueTree, TypeSpecTree, TypeDeclTree, SimpleTree, Alone, Step, Assign, Update, Define, IfTree, ForTree, Forever, While, Clauses, StmtTree, BranchTree, ElseTree, Lines, Empty, Declare, Simple, Return, Break, Continue, Block, If, For, Branch, NoElse, ElseBlock, ElseIf, NoLines, Line}
 use Rattle.go_tree_nodes.specs.Rules.{is_step, is_update}
 use Rattle.go_tree_nodes.specs.Heights.{exprs_height}
+use Rattle.go_tree_nodes.specs.Naming.{name_of}
 use Rattle.go_parse_types.specs.mirrors.Marks.{Grammar, TooHigh, ◌>>=◌, Reading, MarkAhead, need, mark_at, keyword_at, name_at, mark_that, list_go, idents_go}
 use Rattle.go_parse_types.specs.mirrors.TypeReading.{begins_type, type_at}
 use Rattle.go_parse_exprs.specs.mirrors.ExprReading.{expr_at, exprs_at}
@@ -101,11 +102,6 @@ types_at b keyword ts = specs_at (type_spec_at b) ts >>= λ x. Ok (type_decl key
 abbrev pub single : Separated ExprTree → Option ExprTree
 single (One t) = Some t
 single (Then t comma more) = None
-
--- the name that an expression is
-abbrev pub name_of : ExprTree → Option Ident
-name_of (Named x) = Some x
-name_of _ = None
 
 abbrev pub names_then : Ident → Span → Option (Separated Ident) → Option (Separated Ident)
 names_then x comma None = None

@@ -54,11 +54,6 @@ paren_at type first ts = type ts >>= λ t. paren_by first t.0 (mark_at operator.
 abbrev pub listed_at : (List Terminal → Reading TypeTree) → Span → List Terminal → Reading ResultTree
 listed_at type first ts = params_at type ts >>= λ p. results_by first p.0 (mark_at operator.CloseParen p.1)
 
--- the name that a type is, where it is one
-abbrev pub type_name_of : TypeTree → Option TypeName
-type_name_of (NamedType n) = Some n
-type_name_of _ = None
-
 -- names with a comma and one more behind them
 abbrev pub last_behind : Separated Ident → Span → Ident → Separated Ident
 last_behind (One y) s x = Then y s (One x)

@@ -9,6 +9,7 @@ use Rattle.go_tree_nodes.specs.declared.types.TypeName.{TypeName}
 use Rattle.go_tree_nodes.specs.declared.types.TypeName.TheVariants as type_name
 use Rattle.go_tree_nodes.specs.Terminals.{TerminalKind, Spelled, Terminal}
 use Rattle.go_tree_nodes.specs.Trees.{Separated, One, Then, TypeTree, FieldTrees, MethodTrees, SignatureTree, ResultTree, ParamTrees, NamedType, Pointer, ParenType, Struct, Interface, NoFields, NamedFields, EmbeddedField, NoMethods, Method, Signed, NoResult, OneResult, Results, NoParams, Param}
+use Rattle.go_tree_nodes.specs.Naming.{plain_name}
 use Rattle.go_parse_types.specs.mirrors.Marks.{Grammar, TooHigh, ◌>>=◌, Reading, MarkAhead, need, mark_at, keyword_at, name_at, text_at, list_go, idents_go}
 
 -- the name of a type
@@ -67,11 +68,6 @@ group_one x t comma (Some rest) = Some (Param (Some (One x)) t comma rest)
 abbrev pub group_more : Ident → Span → Option ParamTrees → Option ParamTrees
 group_more x comma (Some (Param (Some xs) t s rest)) = Some (Param (Some (Then x comma xs)) t s rest)
 group_more x comma _ = None
-
--- the name that a type is, where it is one
-abbrev pub plain_name : TypeTree → Option Ident
-plain_name (NamedType (type_name.Plain x)) = Some x
-plain_name _ = None
 
 abbrev pub group_next : Option Ident → Option Span → Option ParamTrees → Option ParamTrees
 group_next (Some x) (Some comma) rest = group_more x comma rest

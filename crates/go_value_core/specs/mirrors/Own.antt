@@ -6,7 +6,7 @@ use Rattle.go_tree_nodes.specs.declared.decls.ValueKind.TheVariants as kinds
 use Rattle.go_tree_nodes.specs.Trees.{Separated, One, Then, ExprTree, ValueSpecTree}
 use Rattle.go_piece_core.specs.operand_core.declared.types.Operand.{Operand}
 use Rattle.go_piece_core.specs.operand_core.TypeRules.{TypeRules}
-use Rattle.go_piece_core.specs.denote_core.declared.things.Place.TheVariants as places
+use Rattle.go_piece_core.specs.denote_core.declared.things.Stand.TheVariants as stands
 use Rattle.go_piece_core.specs.denote_core.declared.things.Argument.{Argument}
 use Rattle.go_piece_core.specs.denote_core.declared.things.Argument.TheVariants as arguments
 use Rattle.go_piece_core.specs.denote_core.Arguments.{argument_of, arguments_of}
@@ -32,8 +32,8 @@ is_alone (Some es) = is_one es.1
 -- what an expression gives to the i-th of n names, where it stands alone or is its own
 abbrev pub given_by : {T S D P : Type 0} → Looks T S D P → ℕ → ℕ → Bool → Option ExprTree → Argument T
 given_by looks n i alone None = arguments.Refused
-given_by looks n i true (Some e) = one_of n i (arguments_of (look_of_place looks (start e)) (denoted looks places.«Value» e ∷ []))
-given_by looks n i false (Some e) = argument_of (denoted looks places.«Value» e)
+given_by looks n i true (Some e) = one_of n i (arguments_of (look_of_place looks (start e)) (denoted looks stands.«Value» e ∷ []))
+given_by looks n i false (Some e) = argument_of (denoted looks stands.«Value» e)
 
 abbrev pub own_argument : {T S D P : Type 0} → Looks T S D P → ValueSpecTree → ℕ → Argument T
 own_argument looks v i = given_by looks (spec_name_count v) i (is_alone v.values) (expr_of v i)

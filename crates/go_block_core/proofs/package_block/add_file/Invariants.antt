@@ -5,10 +5,10 @@ use Rattle.go_decl_core.specs.declared.tops.TopDecl.{TopDecl}
 use Rattle.go_block_core.specs.Declarations.{top_declared}
 use Rattle.go_block_core.specs.Faults.{block_decl_faults}
 use Rattle.go_block_core.specs.Holding.{declared_block}
-use Rattle.go_block_core.specs.Tables.{table_of}
+use Rattle.go_block_core.specs.Tables.{block_of}
 use Rattle.go_block_core.proofs.package_block.add_file.Given as goal
 
 abbrev pub invariant-loop-top : goal.invariant-loop-top
 invariant-loop-top l =
-    (table_of l.table ≡ declared_block (table_of l.fn.table) (flat_map (λ (d : TopDecl). top_declared l.file (decl_shown d)) (take l.top-index l.top-items)))
-    × (l.faults.items ≡ l.fn.faults.items ++ block_decl_faults l.is_main (table_of l.fn.table) (flat_map (λ (d : TopDecl). top_declared l.file (decl_shown d)) (take l.top-index l.top-items)))
+    (block_of l.table ≡ declared_block (block_of l.fn.table) (flat_map (λ (d : TopDecl). top_declared l.file (decl_shown d)) (take l.top-index l.top-items)))
+    × (l.faults.items ≡ l.fn.faults.items ++ block_decl_faults l.is_main (block_of l.fn.table) (flat_map (λ (d : TopDecl). top_declared l.file (decl_shown d)) (take l.top-index l.top-items)))

@@ -3,9 +3,9 @@ use Rattle.go_meaning_core.specs.entry_core.Outlines.{outline_shown}
 use Rattle.go_object_core.specs.Objects.{function_shown}
 use Rattle.go_meaning_core.specs.part_core.Parts.{file_shown}
 use Rattle.go_emit_core.specs.mirrors.Listing.{outlines_functions}
-use Rattle.go_meaning_core.specs.mirrors.Naming.{scene_shown}
+use Rattle.go_meaning_core.specs.mirrors.Naming.{code_scene_shown}
 use Rattle.go_emit_core.proofs.object.functions_of.Given as goal
 
 abbrev pub invariant-loop-number : goal.invariant-loop-number
 invariant-loop-number l =
-    map function_shown l.functions.items ++ outlines_functions (scene_shown l.names) l.number (map outline_shown (drop l.number l.outlines)) (map file_shown (drop l.number l.files)) ≡ outlines_functions (scene_shown l.names) 0 (map outline_shown l.outlines) (map file_shown l.files)
+    map function_shown l.functions.items ++ outlines_functions (code_scene_shown l.names) l.number (map outline_shown (drop l.number l.outlines)) (map file_shown (drop l.number l.files)) ≡ outlines_functions (code_scene_shown l.names) 0 (map outline_shown l.outlines) (map file_shown l.files)

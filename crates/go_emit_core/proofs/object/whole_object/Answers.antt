@@ -7,7 +7,7 @@ use Rattle.go_meaning_core.specs.part_core.Inputs.{InputModel}
 use Rattle.go_meaning_core.specs.part_core.Parts.{ContentOf, file_shown}
 use Rattle.go_object_core.specs.Objects.{object_shown}
 use Rattle.go_emit_core.specs.Imports.{all_passing}
-use Rattle.go_meaning_core.specs.mirrors.Naming.{scene_shown, scene_with}
+use Rattle.go_meaning_core.specs.mirrors.Naming.{code_scene_shown, scene_with}
 use Rattle.go_emit_core.proofs.Outlined.{functions_made, object_made}
 use Rattle.go_emit_core.proofs.object.whole_object.Goals as goal
 
@@ -23,4 +23,4 @@ returns c =
     (c.in_ok-path.ensures ∙ c.path.ensures)
     (c.in_ok-name.ensures ∙ (c.name.ensures ∙ ap (λ e. e.name) (c.exports.ensures ∙ ap (λ (s : SummaryModel). s.exports) c.summary.ensures)))
     (c.in_ok-imports.ensures ∙ ap all_passing (c.imports.ensures.value ∙ ap (λ (x : InputModel). x.imports) c.input-2.ensures))
-    (c.in_ok-functions.ensures ∙ functions_made i k (scene_shown c.in_ok-names.names) scene (map outline_shown c.deref-2.result.now) (map file_shown c.deref-3.result.now) c.in_ok-names.ensures outlined files)
+    (c.in_ok-functions.ensures ∙ functions_made i k (code_scene_shown c.in_ok-names.names) scene (map outline_shown c.deref-2.result.now) (map file_shown c.deref-3.result.now) c.in_ok-names.ensures outlined files)

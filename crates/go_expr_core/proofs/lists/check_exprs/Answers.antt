@@ -1,6 +1,6 @@
 use Rattle.std.proofs.Common.{◌++◌, [], ◌∷◌, refl, sym, ap, ◌∙◌, append_assoc}
 use Rattle.go_tree_nodes.specs.Shapes.{shape, shape_exprs}
-use Rattle.go_literal_core.specs.denote_core.declared.things.Place.TheVariants as places
+use Rattle.go_literal_core.specs.denote_core.declared.things.Stand.TheVariants as stands
 use Rattle.go_expr_core.specs.Looks.{everywhere}
 use Rattle.go_expr_core.specs.Denoting.{denoted}
 use Rattle.go_expr_core.specs.Uses.{uses}
@@ -15,17 +15,17 @@ pub returns-clause-denoted : goal.returns-clause-denoted
 returns-clause-denoted g c =
     let looks = everywhere (g.E.TypeLooks.types c.args.env.now) (g.E.Names.names c.args.env.now) (g.E.Literals.literals c.args.env.now) (g.E.Exprs.written c.args.env.now) in
     let es = c.args.exprs.now in
-    ended (later_denoted looks) refl c.deref-next-items.result.now c.loop-next.next-index c.loop-next-test.false (denoted looks places.«Value» (shape es.first) ∷ []) c.loop-next.members.items c.loop-next.invariant.made
-    ∙ (ap (λ l. denoted looks places.«Value» (shape es.first) ∷ later_denoted looks l) c.deref-next-items.ensures.value ∙ sym (list_denoted looks es.first es.more.items))
+    ended (later_denoted looks) refl c.deref-next-items.result.now c.loop-next.next-index c.loop-next-test.false (denoted looks stands.«Value» (shape es.first) ∷ []) c.loop-next.members.items c.loop-next.invariant.made
+    ∙ (ap (λ l. denoted looks stands.«Value» (shape es.first) ∷ later_denoted looks l) c.deref-next-items.ensures.value ∙ sym (list_denoted looks es.first es.more.items))
 
 pub returns-clause-uses : goal.returns-clause-uses
 returns-clause-uses g c =
     let looks = everywhere (g.E.TypeLooks.types c.args.env.now) (g.E.Names.names c.args.env.now) (g.E.Literals.literals c.args.env.now) (g.E.Exprs.written c.args.env.now) in
     let es = c.args.exprs.now in
     let old = c.args.notes.now.uses.items in
-    ended (later_uses looks) refl c.deref-next-items.result.now c.loop-next.next-index c.loop-next-test.false (old ++ uses looks places.«Value» (shape es.first)) c.loop-next.notes.uses.items c.loop-next.invariant.used
-    ∙ (append_assoc old (uses looks places.«Value» (shape es.first)) (later_uses looks c.deref-next-items.result.now)
-    ∙ ap (λ l. old ++ l) (ap (λ l. uses looks places.«Value» (shape es.first) ++ later_uses looks l) c.deref-next-items.ensures.value ∙ sym (list_uses looks es.first es.more.items)))
+    ended (later_uses looks) refl c.deref-next-items.result.now c.loop-next.next-index c.loop-next-test.false (old ++ uses looks stands.«Value» (shape es.first)) c.loop-next.notes.uses.items c.loop-next.invariant.used
+    ∙ (append_assoc old (uses looks stands.«Value» (shape es.first)) (later_uses looks c.deref-next-items.result.now)
+    ∙ ap (λ l. old ++ l) (ap (λ l. uses looks stands.«Value» (shape es.first) ++ later_uses looks l) c.deref-next-items.ensures.value ∙ sym (list_uses looks es.first es.more.items)))
 
 pub returns-clause-faults : goal.returns-clause-faults
 returns-clause-faults g c =

@@ -2,7 +2,7 @@ use Rattle.std.proofs.Common.{rules, ◌≡◌, ◌++◌, [], ◌∷◌, ◌<◌
 use Rattle.std.proofs.lemmas.List.{map-append}
 use Rattle.go_tree_nodes.specs.declared.exprs.«Item» as declared_item
 use Rattle.go_tree_nodes.specs.Shapes.{shape, items_of, shape_key}
-use Rattle.go_literal_core.specs.denote_core.declared.things.Place.TheVariants as places
+use Rattle.go_literal_core.specs.denote_core.declared.things.Stand.TheVariants as stands
 use Rattle.go_expr_core.specs.Places.{start}
 use Rattle.go_expr_core.specs.Looks.{everywhere}
 use Rattle.go_tree_nodes.specs.TypeShapes.{shape_type}
@@ -28,9 +28,9 @@ check_args-loop-item-preserved g t c =
     let x = c.item-item.result in
     let b = c.is_several-several.result in
     record {
-      made = step (λ l. denoted_items looks (items_of l)) (λ (y : declared_item.Item). denoted looks places.«Value» (shape y.value) ∷ []) (λ y ys. refl) xs i x c.loop-item-test.true c.item-item.is _ _
+      made = step (λ l. denoted_items looks (items_of l)) (λ (y : declared_item.Item). denoted looks stands.«Value» (shape y.value) ∷ []) (λ y ys. refl) xs i x c.loop-item-test.true c.item-item.is _ _
           (c.in_ok-push.ensures.items ∙ ap (λ d. c.loop-item.members.items ++ d ∷ []) c.in_ok-denoted.ensures.denoted) ∙ c.loop-item.invariant.made;
-      used = step (λ l. args_uses looks (items_of l)) (λ (y : declared_item.Item). uses looks places.«Value» (shape y.value)) (λ y ys. map-append (use_of looks) (spots looks places.«Value» (shape y.value)) (args_spots looks (items_of ys))) xs i x c.loop-item-test.true c.item-item.is _ _
+      used = step (λ l. args_uses looks (items_of l)) (λ (y : declared_item.Item). uses looks stands.«Value» (shape y.value)) (λ y ys. map-append (use_of looks) (spots looks stands.«Value» (shape y.value)) (args_spots looks (items_of ys))) xs i x c.loop-item-test.true c.item-item.is _ _
           c.in_ok-denoted.ensures.uses ∙ c.loop-item.invariant.used;
       noted = step (λ l. args_faults looks b (items_of l)) (λ (y : declared_item.Item). member_faults looks b (shape y.value)) (λ y ys. refl) xs i x c.loop-item-test.true c.item-item.is _ _
           c.in_ok-denoted.ensures.faults ∙ c.loop-item.invariant.noted;

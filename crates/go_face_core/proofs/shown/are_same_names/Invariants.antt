@@ -1,6 +1,6 @@
 use Rattle.std.proofs.Common.{◌≡◌, take}
-use Rattle.go_entry_core.specs.block_core.Tables.{table_of}
+use Rattle.go_entry_core.specs.block_core.Tables.{block_of}
 use Rattle.go_face_core.proofs.shown.are_same_names.Given as goal
 
 abbrev pub invariant-loop-place : goal.invariant-loop-place
-invariant-loop-place l = take l.place (table_of l.names) ≡ take l.place (table_of l.others)
+invariant-loop-place l = take l.place (block_of l.names) ≡ take l.place (block_of l.others)

@@ -6,12 +6,12 @@ use Rattle.go_part_core.specs.entry_core.Outlines.{outline_shown}
 use Rattle.go_part_core.specs.face_core.declared.face.Face.{Face}
 use Rattle.go_part_core.specs.face_core.Faces.{face_shown}
 use Rattle.go_part_core.specs.Parts.{ContentOf}
-use Rattle.go_meaning_core.specs.mirrors.Naming.{scene_shown}
+use Rattle.go_meaning_core.specs.mirrors.Naming.{code_scene_shown}
 use Rattle.go_meaning_core.proofs.Outlined.{scene_made}
 use Rattle.go_meaning_core.proofs.scene.names_of.Goals as goal
 
 pub returns : goal.returns
 returns c =
-    scene_made c.args.tables.now c.args.part.now.input c.args.part.now.content (scene_shown c.in_ok-names.names) c.path.result.now (map (option_map face_shown) c.deref.result.now) (map outline_shown c.args.outlines.now)
+    scene_made c.args.tables.now c.args.part.now.input c.args.part.now.content (code_scene_shown c.in_ok-names.names) c.path.result.now (map (option_map face_shown) c.deref.result.now) (map outline_shown c.args.outlines.now)
     c.in_ok-names.ensures c.path.ensures c.requires
     (ap (λ (l : List (Option (Face TypeTerm Signature))). map (option_map face_shown) l) c.deref.ensures.value ∙ ap (λ (x : ContentOf). x.declared) c.content-content.ensures.value)

@@ -1,6 +1,6 @@
 use Rattle.std.proofs.Common.{refl}
 use Rattle.clap.proofs.OnLiterals.{clap_on_literals}
-use Rattle.govisd.proofs.PlainWords.{check_folder, check_folder_named, check_json, check_json_named, check_module, check_module_named, explain_word, explain_word_named, help_word, help_word_named, resolve_word}
+use Rattle.govisd.proofs.PlainWords.{check_folder, check_folder_named, check_json, check_json_named, check_module, check_module_json, check_module_json_named, check_module_named, explain_word, explain_word_named, help_word, help_word_named, json_check, json_check_named, module_check, module_check_named, resolve_word}
 use Rattle.govisd.proofs.words.forms.Goals as goal
 
 pub returns : goal.returns
@@ -23,6 +23,12 @@ returns c = λ program. record {
   check_json_named = check_json_named program;
   check_module = check_module program;
   check_module_named = check_module_named program;
+  check_module_json = check_module_json program;
+  check_module_json_named = check_module_json_named program;
+  json_check = json_check program;
+  json_check_named = json_check_named program;
+  module_check = module_check program;
+  module_check_named = module_check_named program;
   help_flag = refl;
   short_help_flag = refl;
   resolve_help_flag = refl;

@@ -1,0 +1,167 @@
+//! How declarations of a workspace are written.
+ghost use Rattle.std.specs.Prelude.{◌≡◌, ◌++◌, Some, map, option_map, string_bytes, IfOk, OnOk};
+ghost use Rattle.go_site_core.specs.Sites.{file_number, items_of, located, located_in, offset_among, offsets_in, place_text, site_text, with_offset};
+ghost use Rattle.go_answer_core.specs.handle_core.Declarations.{site_shown};
+
+use crate::offsets::all_offsets;
+use crate::search::number_of;
+use go_answer_core::Site;
+use go_answer_core::handle_core::DeclSite;
+use go_graph_core::{SourceFile, Workspace};
+use go_object_core::Spelling;
+use go_term_core::MemberPlace;
+use std::alloc::{AllocError, Global};
+use std::marker::Model;
+
+/// How the declarations of a workspace are written. What the files declare is counted once, when it is made. Contracts see the workspace.
+pub struct SiteSpelling<'w> {
+    workspace: &'w Workspace,
+    // By the numbers of packages, of files, and of the identifiers that a file declares outside function bodies.
+    offsets: Vec<Vec<Vec<usize>>>,
+}
+
+impl Drop for SiteSpelling<'_> {
+    fn drop(self) {
+        let SiteSpelling {
+            workspace: _,
+            offsets: _,
+        } = self;
+    }
+}
+
+impl<'w> Model for SiteSpelling<'w> {
+    ghost use Rattle.std.specs.Prelude.{◌≡◌, List, map};
+    ghost use Rattle.std.specs.Coded.{coded_list};
+    ghost use Rattle.go_graph_core.specs.Workspaces.{PackageModel, coded_package};
+    ghost use Rattle.go_site_core.specs.Sites.{items_of, offsets_in};
+
+    ghost Value = { List PackageModel };
+
+    ghost coded = { coded_list coded_package };
+
+    ghost view = { λ s. s.workspace.now };
+
+    ghost invariant = { λ s. map (λ p. map items_of p.items) s.offsets.items ≡ map (λ p. map (λ f. offsets_in f.content) p.1) s.workspace.now };
+}
+
+// The number of the file of an identifier.
+fn file_number(place: MemberPlace) -> usize
+    ensures { result ≡ file_number place }
+{
+    match place {
+        MemberPlace::Declared(decl) => decl.file,
+        MemberPlace::Local(local) => local.file,
+    }
+}
+
+// The offset of an identifier of a file that declares identifiers at these offsets outside function bodies.
+fn offset_among(offsets: &[usize], place: MemberPlace) -> Option<usize>
+    ensures { result ≡ offset_among offsets.now place }
+{
+    match place {
+        MemberPlace::Declared(decl) => offsets.get(decl.number).copied(),
+        MemberPlace::Local(local) => Some(local.offset),
+    }
+}
+
+// The name of a file, and an offset in it, if there is one.
+fn at_offset(file: &SourceFile, offset: Option<usize>) -> Option<(&str, usize)>
+    ensures { option_map (λ at. (at.0.now, at.1)) result ≡ with_offset file.now.name offset }
+{
+    match offset {
+        Some(offset) => Some((file.name(), offset)),
+        None => None,
+    }
+}
+
+// The name of the file of an identifier of a package with these files, and its offset there.
+fn locate<'a>(
+    files: &'a [SourceFile],
+    offsets: &[Vec<usize>],
+    place: MemberPlace,
+) -> Option<(&'a str, usize)>
+    requires { map items_of offsets.now ≡ map (λ s. offsets_in s.content) files.now }
+    ensures { option_map (λ at. (at.0.now, at.1)) result ≡ located_in place (Some files.now) }
+{
+    let number = file_number(place);
+    let file = files.get(number)?;
+    let declared = offsets.get(number)?;
+    at_offset(file, offset_among(declared.as_slice(), place))
+}
+
+// Adds where an identifier of the package of a path stands.
+fn add_offset(text: &mut String, path: &str, name: &str, offset: usize) -> Result<(), AllocError>
+    ensures { OnOk result (string_bytes text.new ≡ string_bytes text.old ++ place_text path.now (Some (name.now, offset))) }
+{
+    text.push_str(path)?;
+    text.push_str("/")?;
+    text.push_str(name)?;
+    text.push_str(":")?;
+    write!(text, "{offset}")
+}
+
+impl<'w> SiteSpelling<'w> {
+    /// How the declarations of a workspace are written. The time is linear in what its files declare.
+    ///
+    /// # Errors
+    ///
+    /// `AllocError` where memory is wanting.
+    pub fn new(alloc: Global, workspace: &'w Workspace) -> Result<SiteSpelling<'w>, AllocError>
+        ensures { IfOk result (λ s. s ≡ workspace.now) }
+    {
+        let offsets = all_offsets(alloc, workspace.packages())?;
+        Ok(SiteSpelling { workspace, offsets })
+    }
+
+    // The name of the file of an identifier of the package of a path, and its offset there. The time is logarithmic in the packages.
+    fn find(&self, path: &str, place: MemberPlace) -> Option<(&str, usize)>
+        ensures { option_map (λ at. (at.0.now, at.1)) result ≡ located self.now path.now place }
+    {
+        let packages = self.workspace.packages();
+        let number = number_of(packages, path)?;
+        let source = packages.get(number)?;
+        let offsets = self.offsets.get(number)?;
+        locate(source.files(), offsets.as_slice(), place)
+    }
+
+    // Adds an identifier of the package of a path.
+    fn add_place(&self, text: &mut String, path: &str, place: MemberPlace) -> Result<(), AllocError>
+        ensures { OnOk result (string_bytes text.new ≡ string_bytes text.old ++ place_text path.now (located self.now path.now place)) }
+    {
+        match self.find(path, place) {
+            Some((name, offset)) => add_offset(text, path, name, offset),
+            None => Ok(()),
+        }
+    }
+    /// Adds a declaration: `universe.NAME`, `package PATH`, or `PATH/FILE:OFFSET` with the offset in bytes of the identifier that it declares.
+    ///
+    /// # Errors
+    ///
+    /// `AllocError` where memory is wanting.
+    pub fn add_site(&self, text: &mut String, site: &Site) -> Result<(), AllocError>
+        ensures { OnOk result (string_bytes text.new ≡ string_bytes text.old ++ site_text self.now site.now) }
+    {
+        match site.decl().site() {
+            DeclSite::Universe(predeclared) => {
+                text.push_str("universe.")?;
+                text.push_str(predeclared.spelling())
+            }
+            DeclSite::ErrorMethod => text.push_str("universe.error.Error"),
+            DeclSite::Package(path) => {
+                text.push_str("package ")?;
+                text.push_str(path.as_str())
+            }
+            DeclSite::InFile(path, place) => self.add_place(text, path.as_str(), place),
+        }
+    }
+}
+
+impl Spelling<Site> for SiteSpelling<'_> {
+    ghost use Rattle.go_site_core.specs.Sites.{site_text};
+
+    ghost text_of = { λ s d. site_text s d };
+
+    fn add_decl(&self, text: &mut String, decl: &Site) -> Result<(), AllocError> {
+        self.add_site(text, decl)
+    }
+}

@@ -1,0 +1,125 @@
+//! What the packages tell that a package reaches.
+ghost use Rattle.std.specs.Prelude.{◌≡◌, ◌↔◌, ◌<◌, ℕ, [], All, IfOk, IsTrue, Some, length, map, slice_get};
+ghost use Rattle.std.specs.Option.{option_map};
+ghost use Rattle.go_summary_core.specs.Summaries.{IsOfOne};
+
+use crate::list::SummaryList;
+use crate::summary::Summary;
+use go_text_core::add;
+use std::alloc::{AllocError, Global};
+use std::marker::Model;
+
+/// What the packages tell that a package reaches: a list that it shares with others, and the places in it. Contracts see the summaries at these
+/// places, in order.
+///
+/// The Go specification, "Import declarations".
+pub struct ReachedSummaries {
+    told: SummaryList,
+    places: Vec<usize>,
+}
+
+impl Drop for ReachedSummaries {
+    fn drop(self) {
+        let ReachedSummaries { told: _, places: _ } = self;
+    }
+}
+
+impl Model for ReachedSummaries {
+    ghost use Rattle.std.specs.Prelude.{List};
+    ghost use Rattle.std.specs.Coded.{coded_list};
+    ghost use Rattle.go_summary_core.specs.Summaries.{SummaryModel};
+    ghost use Rattle.go_summary_core.specs.codes.SummaryCodes.{coded_summary};
+    ghost use Rattle.go_summary_core.specs.Told.{AreAt, at_places};
+
+    ghost Value = { List SummaryModel };
+
+    ghost coded = { coded_list coded_summary };
+
+    ghost view = { λ r. at_places r.told r.places.items };
+
+    ghost invariant = { λ r. AreAt r.told r.places.items };
+}
+
+impl ReachedSummaries {
+    /// The summaries at these places of a list.
+    pub fn new(told: SummaryList, places: Vec<usize>) -> ReachedSummaries
+        requires { All (λ (p : ℕ). p < length told) places.items }
+        ensures { map Some result ≡ map (slice_get told) places.items }
+    {
+        // All of each summary is of one package.
+        let _count = told.len();
+        ReachedSummaries { told, places }
+    }
+
+    /// No summaries: those of a package that reaches no other.
+    pub fn none(alloc: Global) -> ReachedSummaries
+        ensures { result ≡ [] }
+    {
+        ReachedSummaries::new(SummaryList::new(alloc), Vec::new(alloc))
+    }
+
+    /// How many summaries there are. Each of them is of one package.
+    pub fn len(&self) -> usize
+        ensures value { result ≡ length self.now }
+        ensures own { All IsOfOne self.now }
+    {
+        self.places.len()
+    }
+
+    /// The summary of a number, where there is one.
+    pub fn get(&self, number: usize) -> Option<&Summary>
+        ensures { option_map (λ s. s.now) result ≡ slice_get self.now number }
+    {
+        if number < self.places.len() {
+            self.told.get(self.places[number])
+        } else {
+            None
+        }
+    }
+
+    /// The summaries, each a handle.
+    ///
+    /// # Errors
+    ///
+    /// `AllocError` where memory is wanting.
+    pub fn list(&self, alloc: Global) -> Result<Vec<Summary>, AllocError>
+        ensures { IfOk result (λ v. v.items ≡ self.now) }
+    {
+        let mut summaries = Vec::with_capacity(alloc, self.len())?;
+        for number in 0..self.len() {
+            match self.get(number) {
+                Some(summary) => add(&mut summaries, summary.share()?)?,
+                None => unreachable!(),
+            }
+        }
+        Ok(summaries)
+    }
+
+    /// Whether two are the same summaries in order, wherever they stand. It takes no memory; the time that it takes is linear in the one and in
+    /// the other.
+    pub fn is_same(&self, other: &ReachedSummaries) -> bool
+        ensures { IsTrue result ↔ (self.now ≡ other.now) }
+    {
+        if self.len() != other.len() {
+            return false;
+        }
+        for number in 0..self.len() {
+            if !self.is_same_at(other, number) {
+                return false;
+            }
+        }
+        true
+    }
+
+    // Whether two have the same summary of a number, or have none both.
+    fn is_same_at(&self, other: &ReachedSummaries, number: usize) -> bool
+        ensures { IsTrue result ↔ (slice_get self.now number ≡ slice_get other.now number) }
+    {
+        match (self.get(number), other.get(number)) {
+            (Some(one), Some(other)) => one.is_same(other),
+            (None, None) => true,
+            (Some(_), None) => false,
+            (None, Some(_)) => false,
+        }
+    }
+}

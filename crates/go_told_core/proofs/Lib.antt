@@ -1,2 +1,0 @@
-mod Growing
-mod Places

@@ -1,5 +1,0 @@
-use Rattle.std.proofs.Common.{◌≡◌, take}
-use Rattle.go_told_core.proofs.piece.shared_summaries.Given as goal
-
-abbrev pub invariant-loop-summary : goal.invariant-loop-summary
-invariant-loop-summary l = l.shared.items ≡ take l.summary-index l.summaries

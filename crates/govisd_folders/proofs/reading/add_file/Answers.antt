@@ -1,0 +1,14 @@
+use Rattle.std.proofs.Common.{refl, rules}
+use Rattle.std.specs.IoError.{error_kind}
+use Rattle.govisd_folders.specs.Reads.{IsKept, IsRefused, IsUnread}
+use Rattle.govisd_folders.proofs.ReadingLemmas.{on_ok}
+use Rattle.govisd_folders.proofs.reading.add_file.Goals as goal
+
+pub returns-in-Ok : goal.returns-in-Ok
+returns-in-Ok c = IsKept c.in-Ok-Ok.text (search rules) (search rules) c.in-Ok.ensures.entries refl
+
+pub returns-in-Ok-Err : goal.returns-in-Ok-Err
+returns-in-Ok-Err c = on_ok c.note_rule-in-Ok-Err.result (λ h. IsRefused c.in-Ok-Err.rule (search rules) refl h) c.note_rule-in-Ok-Err.ensures
+
+pub returns : goal.returns
+returns c = on_ok c.note_unread.result (λ h. IsUnread (error_kind c.in-Err.error) refl h) c.note_unread.ensures
