@@ -133,6 +133,11 @@ make_long
 make_deep
 put 'only/f g.go' only
 put only/a_test.go only
+put hidden/a_test.go hidden
+put hidden/_a.go hidden
+put hidden/testdata/a.go hidden
+put hidden/_old/a.go hidden
+put hidden/.git/a.go hidden
 mkdir 'no path'
 printf 'package a\n' >'no path/a.go'
 printf 'No folder.\n' >file
@@ -152,6 +157,10 @@ printf 'No folder.\n' >file
     run check 'no path' --module ex.com/path
     run check mine --module ex.com//mine
     run check mine/links/itself --module ex.com/links
+    run check hidden
+    run check /
+    run check --module '' mine
+    run check --json --module ex.com/links mine/links/itself
 } >"$room/said"
 
 if [ "${1:-}" = show ]; then

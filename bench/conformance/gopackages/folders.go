@@ -82,6 +82,15 @@ func ask(program, folder string, files []string, out io.Writer) {
 
 // checkFolder runs the program on a folder, and holds its status and standard error against what it tells.
 func checkFolder(program, folder, root, file string) []told {
+	faults, said, status := runCheck(program, folder, root, file)
+	if said != "" || (status == 1) != (len(faults) > 0) || status < 0 || status > 1 {
+		fail(fmt.Errorf("%s: status %d with %d faults: %s", file, status, len(faults), said))
+	}
+	return faults
+}
+
+// runCheck gives what the program tells of a folder, what it says on standard error, and its status, below 0 where a signal ended it.
+func runCheck(program, folder, root, file string) ([]told, string, int) {
 	var out, said bytes.Buffer
 	run := exec.Command(program, "check", folder, "--module", root, "--json")
 	run.Stdout, run.Stderr = &out, &said
@@ -101,10 +110,7 @@ func checkFolder(program, folder, root, file string) []told {
 		}
 		faults = append(faults, one)
 	}
-	if status := run.ProcessState.ExitCode(); said.Len() > 0 || (status == 1) != (len(faults) > 0) || status > 1 {
-		fail(fmt.Errorf("%s: status %d with %d faults: %s", file, status, len(faults), said.String()))
-	}
-	return faults
+	return faults, said.String(), run.ProcessState.ExitCode()
 }
 
 // writeTold writes the answer to an archive. Line and column must be those of the offset. K4 says no more than the fault of a file that stands beside it.

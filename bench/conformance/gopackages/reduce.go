@@ -3,7 +3,6 @@ package main
 import (
 	"fmt"
 	"go/ast"
-	"go/build"
 	"go/constant"
 	"go/parser"
 	"go/token"
@@ -19,14 +18,16 @@ import (
 
 // A source is a file of a package, with the pieces that are left out of it: these are spaces, so that all places stay what they were.
 type source struct {
-	name string
-	text []byte
-	tree *ast.File
+	name   string
+	text   []byte
+	tree   *ast.File
+	isRead bool // the tree is that of the text
 }
 
 // A reduced is a package whose declarations outside the grammar, and those that name them, are left out.
 type reduced struct {
 	path    string
+	name    string // in the clauses
 	files   []*source
 	checked *types.Package
 	rounds  int
@@ -38,16 +39,18 @@ type reducer struct {
 	folders map[string]string // of each path
 	done    map[string]*reduced
 	fset    *token.FileSet
+	kept    map[string]int // what is left
+	decls   map[string]int // the declarations that are left, by kind
 	out     map[string]int // what was left out, by reason
+	gone    []string       // the folders and files that were left out whole, each with its reason
+	alone   []string       // what was left out because only govisd refuses it, each with its package, its name and its reason
 }
 
-// most is the size of the largest text that govisd takes, and highest is near the height of the highest tree: what is higher counts as outside the grammar.
-const (
-	most    = 1_048_576
-	highest = 190
-)
+// highest is near the height of the highest tree: what is higher counts as outside the grammar.
+const highest = 190
 
-// find notes the folders with Go files below a root, by their paths. The folders `vendor` of Go's own sources hold packages of other paths.
+// find notes the folders below a root, by their paths. The folder `vendor` of Go's own library holds packages of other paths; what lies in others is left out, as
+// `govisd check` passes over them.
 func (r *reducer) find(root string) {
 	root, err := filepath.EvalSymlinks(root)
 	if err != nil {
@@ -63,7 +66,13 @@ func (r *reducer) find(root string) {
 		}
 		below, _ := filepath.Rel(root, file)
 		below = strings.TrimPrefix(filepath.ToSlash(below), "vendor/")
-		if r.folders[below] == "" && below != "." {
+		switch {
+		case below == "." || r.folders[below] != "":
+		case name == "vendor" && below != name:
+			return r.leaveOutFolder(below, file, "a folder that govisd passes over")
+		case !isPath(r.module + "/" + below):
+			return r.leaveOutFolder(below, file, "a path that no package may have (E1)")
+		default:
 			r.folders[below] = file
 		}
 		return nil
@@ -71,24 +80,6 @@ func (r *reducer) find(root string) {
 	if err != nil {
 		fail(err)
 	}
-}
-
-// read reads the files of a package that are built on Linux for amd64 without cgo.
-func (r *reducer) read(from string) *reduced {
-	context := build.Default
-	context.GOOS, context.GOARCH, context.CgoEnabled = "linux", "amd64", false
-	found, err := context.ImportDir(r.folders[from], 0)
-	if err != nil {
-		return nil
-	}
-	p := &reduced{path: from}
-	for _, name := range found.GoFiles {
-		text, err := os.ReadFile(filepath.Join(r.folders[from], name))
-		if err == nil && len(text) <= most {
-			p.files = append(p.files, &source{name: name, text: text})
-		}
-	}
-	return p
 }
 
 // Import gives a package, reduced.
@@ -108,35 +99,52 @@ func (r *reducer) reduce(from string) *reduced {
 	if r.folders[from] == "" || from == "unsafe" {
 		return nil
 	}
-	p := r.read(from)
-	if p == nil {
+	p := &reduced{path: from, files: r.files(from)}
+	if len(p.files) == 0 {
 		return nil
 	}
 	for isChanged := true; isChanged; p.rounds++ {
 		isChanged = r.round(p)
 	}
+	for _, f := range p.files {
+		r.kept["files"]++
+		r.kept["bytes"] += len(strings.Join(strings.Fields(string(f.text)), " "))
+		r.kept["imports"] += len(f.tree.Imports)
+		count(f.tree, r.decls)
+		f.tree = nil
+	}
+	r.kept["packages"]++
 	r.done[from] = p
 	return p
 }
 
-// round parses and checks a package, and leaves out what is refused. It tells whether anything was.
-func (r *reducer) round(p *reduced) bool {
+// parse parses the files of a package that were changed, and leaves out of these what is outside the grammar, in the first round imports alone. It tells whether
+// anything was.
+func (r *reducer) parse(p *reduced) ([]*ast.File, bool) {
 	isChanged := false
 	var trees []*ast.File
 	for _, f := range p.files {
-		tree, err := parser.ParseFile(r.fset, p.path+"/"+f.name, f.text, parser.SkipObjectResolution)
-		if err != nil {
-			fail(err)
+		if !f.isRead {
+			tree, err := parser.ParseFile(r.fset, p.path+"/"+f.name, f.text, parser.SkipObjectResolution)
+			if err != nil {
+				fail(err)
+			}
+			f.tree, f.isRead, p.name = tree, true, tree.Name.Name
+			if p.rounds == 0 {
+				r.imports(p, f)
+				f.isRead, isChanged = false, true
+			} else {
+				isChanged = r.outside(f) || isChanged
+			}
 		}
-		f.tree = tree
-		trees = append(trees, tree)
-		if p.rounds == 0 {
-			r.imports(f)
-			isChanged = true
-			continue
-		}
-		isChanged = r.outside(f) || isChanged
+		trees = append(trees, f.tree)
 	}
+	return trees, isChanged
+}
+
+// round parses and checks a package, and leaves out what is refused. It tells whether anything was.
+func (r *reducer) round(p *reduced) bool {
+	trees, isChanged := r.parse(p)
 	if isChanged {
 		return true
 	}
@@ -151,18 +159,23 @@ func (r *reducer) round(p *reduced) bool {
 		return true
 	}
 	for _, f := range p.files {
-		isChanged = r.own(f, info) || isChanged
+		isChanged = r.own(p, f, info) || isChanged
 	}
 	return isChanged
 }
 
-// imports makes the paths of a file those of the workspace, and leaves out the imports of packages that it has not.
-func (r *reducer) imports(f *source) {
+// imports makes the paths of a file those of the workspace, and leaves out the imports of packages that it has not, and those that the go command refuses.
+func (r *reducer) imports(p *reduced, f *source) {
 	for at := len(f.tree.Imports) - 1; at >= 0; at-- {
 		spec := f.tree.Imports[at]
 		to, _ := strconv.Unquote(spec.Path.Value)
-		if p := r.reduce(to); p == nil {
+		found := r.reduce(to)
+		if found == nil {
 			r.blank(f, f.cover(spec), "imports of packages that are not there")
+			continue
+		}
+		if !mayImport(r.module+"/"+p.path, r.module+"/"+to) || found.name == "main" {
+			r.blank(f, f.cover(spec), "imports that the go command refuses")
 			continue
 		}
 		written := strconv.Quote(r.module + "/" + to)
@@ -186,7 +199,7 @@ func (f *source) cover(spec ast.Node) ast.Node {
 // blank leaves a node out, with a semicolon right behind it.
 func (r *reducer) blank(f *source, n ast.Node, why string) {
 	start, end := r.offset(n.Pos()), r.offset(n.End())
-	f.text = append([]byte{}, f.text...)
+	f.isRead = false
 	r.out[why]++
 	for at := start; at < end; at++ {
 		if f.text[at] != '\n' {
@@ -364,12 +377,13 @@ func isSignature(root ast.Node, signature *ast.FuncType) bool {
 	return isOne
 }
 
-// own leaves out what rules of docs/RULES.md refuse that Go does not have, and imports that are not used.
-func (r *reducer) own(f *source, info *types.Info) bool {
+// own leaves out what rules of docs/RULES.md refuse that Go does not have, and notes each such piece by its name.
+func (r *reducer) own(p *reduced, f *source, info *types.Info) bool {
 	isChanged := false
-	leave := func(n ast.Node, why string) {
+	leave := func(n ast.Node, name, why string) {
 		if !f.isBlank(r, n) {
 			r.blank(f, n, why)
+			r.alone = append(r.alone, fmt.Sprintf("%s/%s %s: %s", r.module, p.path, name, why))
 			isChanged = true
 		}
 	}
@@ -377,7 +391,7 @@ func (r *reducer) own(f *source, info *types.Info) bool {
 		switch decl := decl.(type) {
 		case *ast.FuncDecl:
 			if why := ownReason(decl, info); why != "" {
-				leave(decl, why)
+				leave(decl, names(decl), why)
 			}
 		case *ast.GenDecl:
 			for _, spec := range decl.Specs {
@@ -390,19 +404,19 @@ func (r *reducer) own(f *source, info *types.Info) bool {
 
 // ownSpec leaves out a specification, or the fields and methods of its type, that own rules refuse. A variable with a written type loses its initialiser where
 // that is not constant.
-func (r *reducer) ownSpec(f *source, spec ast.Spec, info *types.Info, leave func(n ast.Node, why string)) {
+func (r *reducer) ownSpec(f *source, spec ast.Spec, info *types.Info, leave func(n ast.Node, name, why string)) {
 	switch spec := spec.(type) {
 	case *ast.ValueSpec:
 		why := ownReason(spec, info)
 		if why == "" && !isConstant(spec.Values, info) {
 			why = "initialisers that are not constant (X1)"
 			if spec.Type != nil {
-				leave(stretch{spec.Type.End(), spec.End()}, why)
+				leave(stretch{spec.Type.End(), spec.End()}, names(spec), why)
 				return
 			}
 		}
 		if why != "" {
-			leave(f.cover(spec), why)
+			leave(f.cover(spec), names(spec), why)
 		}
 	case *ast.TypeSpec:
 		fields := []*ast.Field{}
@@ -413,12 +427,12 @@ func (r *reducer) ownSpec(f *source, spec ast.Spec, info *types.Info, leave func
 			fields = written.Methods.List
 		default:
 			if why := ownReason(spec, info); why != "" {
-				leave(f.cover(spec), why)
+				leave(f.cover(spec), names(spec), why)
 			}
 		}
 		for _, field := range fields {
 			if why := ownReason(field, info); why != "" {
-				leave(field, why)
+				leave(field, names(spec)+"."+names(field), why)
 			}
 		}
 	}
@@ -526,14 +540,13 @@ func isPrintOfOther(call *ast.CallExpr, info *types.Info) bool {
 	return false
 }
 
-// write writes the reduced packages, and tells how much is left of them.
+// write writes the reduced packages, and tells how much is left of them, and what is left out: folders and files one by one, and in a file of its own each piece that
+// only govisd refuses.
 func (r *reducer) write(folder string) {
-	counts, decls := map[string]int{}, map[string]int{}
 	for from, p := range r.done {
 		if p == nil {
 			continue
 		}
-		counts["packages"]++
 		for _, f := range p.files {
 			file := filepath.Join(folder, from, f.name)
 			if err := os.MkdirAll(path.Dir(file), 0o777); err != nil {
@@ -542,15 +555,19 @@ func (r *reducer) write(folder string) {
 			if err := os.WriteFile(file, f.text, 0o666); err != nil {
 				fail(err)
 			}
-			counts["files"]++
-			counts["bytes"] += len(strings.Join(strings.Fields(string(f.text)), " "))
-			counts["imports"] += len(f.tree.Imports)
-			count(f.tree, decls)
 		}
 	}
-	writeCounts(os.Stdout, "kept", counts)
-	writeCounts(os.Stdout, "kept", decls)
+	writeCounts(os.Stdout, "kept", r.kept)
+	writeCounts(os.Stdout, "kept", r.decls)
 	writeCounts(os.Stdout, "left out:", r.out)
+	sort.Strings(r.gone)
+	for _, line := range r.gone {
+		fmt.Println(line)
+	}
+	fmt.Printf("only govisd refuses %d pieces, named one by one in %s\n", len(r.alone), r.writeOwn(folder))
+	if r.kept["files"] == 0 {
+		fail(fmt.Errorf("no file is left, so nothing can be checked"))
+	}
 }
 
 // count counts the declarations of a file.
@@ -574,7 +591,8 @@ func reduceAll(module, folder string, roots []string) {
 	if err := os.RemoveAll(folder); err != nil {
 		fail(err)
 	}
-	r := &reducer{module: module, folders: map[string]string{}, done: map[string]*reduced{}, fset: token.NewFileSet(), out: map[string]int{}}
+	r := &reducer{module: module, folders: map[string]string{}, done: map[string]*reduced{}, fset: token.NewFileSet(),
+		kept: map[string]int{}, decls: map[string]int{}, out: map[string]int{}}
 	for _, root := range roots {
 		r.find(root)
 	}
@@ -589,30 +607,40 @@ func reduceAll(module, folder string, roots []string) {
 	r.write(folder)
 }
 
-// ownRules are rules that Go does not have. What the reducer does not see of them is counted, and not a difference.
+// ownRules are rules that Go does not have. What the reducer does not see of them is named, and not a difference.
 var ownRules = []string{"X1", "N7"}
 
-// checkReduced checks a workspace that was reduced, and tells each rule that is broken in it, with the first place.
+// checkReduced checks a workspace that was reduced, and names each fault in it by its package and declaration. What the program could not take, or says
+// otherwise, is a difference too.
 func checkReduced(program, folder, module string) int {
-	counts, first := map[string]int{}, map[string]told{}
-	for _, one := range checkFolder(program, folder, module, folder) {
-		if counts[one.Rule]++; counts[one.Rule] == 1 {
-			first[one.Rule] = one
-		}
+	faults, said, status := runCheck(program, folder, module, folder)
+	if status != 0 && status != 1 {
+		fail(fmt.Errorf("%s: status %d: %s", folder, status, said))
 	}
-	status := 0
-	for rule, many := range counts {
-		what := "differ"
-		if has(ownRules, rule) {
+	named, differ := 0, 0
+	for _, one := range faults {
+		what := "differs"
+		if has(ownRules, one.Rule) {
 			what = "on purpose"
+			named++
 		} else {
-			status = 1
+			differ++
 		}
-		one := first[rule]
-		fmt.Printf("%s: %s: %d (%s:%d:%d %s)\n", what, rule, many, one.File, one.Line, one.Column, one.Meaning)
+		fmt.Printf("%s: %s %s %s: %s:%d:%d %s\n", what, one.Rule, one.Package, namesAt(filepath.Join(folder, one.File), one.Offset), one.File, one.Line, one.Column, one.Meaning)
 	}
-	if len(counts) == 0 {
-		fmt.Println("no fault")
+	for _, line := range strings.Split(strings.TrimSpace(said), "\n") {
+		if line != "" {
+			fmt.Println("differs: not taken:", line)
+			differ++
+		}
 	}
-	return status
+	if isWanted := len(faults) > 0 || said != ""; (status == 1) != isWanted {
+		fmt.Printf("differs: the status is %d\n", status)
+		differ++
+	}
+	fmt.Printf("faults on purpose: %d, that differ: %d\n", named, differ)
+	if differ > 0 {
+		return 1
+	}
+	return 0
 }
