@@ -1,7 +1,7 @@
 #!/bin/sh
 # Checks the packages of Go's own library and of Debian's golang-*-dev packages by `govisd check`, all in one workspace, after what lies outside the grammar is
-# left out of them: go/types accepts what is left, and so must govisd. WORKSPACES.md in this folder says which packages, why these, and what is left out. No source
-# of them is kept in the repository.
+# left out of them: go/types accepts what is left, and so must govisd, but for what its own rules refuse. WORKSPACES.md in this folder says which packages, why these,
+# and what is left out. No source of them is kept in the repository.
 #
 #     bench/conformance/debian.sh               the program crates/govisd/out/govisd
 #     GOVISD=FILE bench/conformance/debian.sh   another program
@@ -9,7 +9,7 @@
 #     WANTED='golang-uber-goleak-dev ..' bench/conformance/debian.sh   these packages of Debian, with all that they depend on, in place of seven
 #     ALL=1 bench/conformance/debian.sh         every golang-*-dev package that apt knows, unpacked into bench/out and not installed
 #
-# It prints what is left out and each fault, with its package and declaration.
+# It prints what is left out and each difference, with its package and declaration.
 # Status 0 where there is no fault but those that are named, 1 where there is one, or the program left something out, 2 where nothing could be checked.
 set -u
 
@@ -56,5 +56,12 @@ elif [ "${INSTALL:-1}" = 1 ]; then
     install_wanted
 fi
 [ ! -d /usr/share/gocode/src ] || set -- "$@" /usr/share/gocode/src
-"$peer" reduce debian "$out/debian" "$@" || exit 2
-exec "$peer" checked "$govisd" "$out/debian" debian
+"$peer" reduce debian "$out/debian_whole" "$@" || exit 2
+"$peer" own debian "$out/debian" "$out/debian_whole" || exit 2
+"$peer" checked "$govisd" "$out/debian" debian
+left=$?
+[ $left -lt 2 ] || exit 2
+"$peer" refused "$govisd" "$out/debian" debian "$out/debian_whole"
+refused=$?
+[ $refused -lt 2 ] || exit 2
+exit $((left | refused))

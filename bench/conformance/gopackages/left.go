@@ -9,7 +9,6 @@ import (
 	"io/fs"
 	"os"
 	"path/filepath"
-	"sort"
 	"strings"
 )
 
@@ -171,14 +170,4 @@ func namesAt(file string, offset int) string {
 		return true
 	})
 	return names(found)
-}
-
-// writeOwn writes what only govisd refuses, each by its package and name, and gives the name of the file.
-func (r *reducer) writeOwn(folder string) string {
-	file := folder + "_own.txt"
-	sort.Strings(r.alone)
-	if err := os.WriteFile(file, []byte(strings.Join(append(r.alone, ""), "\n")), 0o666); err != nil {
-		fail(err)
-	}
-	return file
 }

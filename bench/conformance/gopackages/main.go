@@ -10,7 +10,9 @@
 //	gopackages ask PROGRAM FOLDER FILE..     what `govisd check` answers to these, in the format of govisd_cases, each written into the folder
 //	gopackages list GO FOLDER FILE..         what `go list` refuses of these, all of them one module in the folder
 //	gopackages reduce MODULE FOLDER ROOT..   writes the packages below folders as a workspace of a module, without what is outside the grammar
+//	gopackages own MODULE FOLDER WHOLE       writes such a workspace again, without what only govisd refuses
 //	gopackages checked PROGRAM FOLDER MODULE what `govisd check` finds in it
+//	gopackages refused PROGRAM FOLDER MODULE WHOLE   whether `govisd check` refuses of the whole what is left out of the folder, and nothing else
 //
 // The status is 0 where nothing differs but in the ways that are named, 1 where something does, 2 where a run fails.
 package main
@@ -124,7 +126,11 @@ func main() {
 		}
 		tell(words, true)
 	case mode == "reduce" && len(words) > 2:
-		reduceAll(words[0], words[1], words[2:])
+		reduceAll(words[0], words[1], false, words[2:])
+	case mode == "own" && len(words) == 3:
+		reduceAll(words[0], words[1], true, words[2:])
+	case mode == "refused" && len(words) == 4:
+		os.Exit(checkOwn(words[0], words[1], words[2], words[3]))
 	case mode == "checked" && len(words) == 3:
 		os.Exit(checkReduced(words[0], words[1], words[2]))
 	case mode == "compare" && len(words) > 0:

@@ -36,6 +36,8 @@ type reduced struct {
 // A reducer reduces the packages of folder trees, each after those that it imports.
 type reducer struct {
 	module  string
+	isOwn   bool              // what only govisd refuses is left out too
+	isLast  bool              // nothing else of a package is left that only govisd refuses
 	folders map[string]string // of each path
 	done    map[string]*reduced
 	fset    *token.FileSet
@@ -43,7 +45,7 @@ type reducer struct {
 	decls   map[string]int // the declarations that are left, by kind
 	out     map[string]int // what was left out, by reason
 	gone    []string       // the folders and files that were left out whole, each with its reason
-	alone   []string       // what was left out because only govisd refuses it, each with its package, its name and its reason
+	alone   []refusal      // what was left out because only govisd refuses it
 }
 
 // highest is near the height of the highest tree: what is higher counts as outside the grammar.
@@ -155,13 +157,18 @@ func (r *reducer) round(p *reduced) bool {
 		}
 	}}
 	p.checked, _ = config.Check(r.module+"/"+p.path, r.fset, trees, info)
-	if isChanged {
-		return true
+	if isChanged || !r.isOwn {
+		return isChanged
 	}
-	for _, f := range p.files {
-		isChanged = r.own(p, f, info) || isChanged
+	for _, r.isLast = range []bool{false, true} {
+		for _, f := range p.files {
+			isChanged = r.own(p, f, info) || isChanged
+		}
+		if isChanged {
+			return true
+		}
 	}
-	return isChanged
+	return false
 }
 
 // imports makes the paths of a file those of the workspace, and leaves out the imports of packages that it has not, and those that the go command refuses.
@@ -169,6 +176,7 @@ func (r *reducer) imports(p *reduced, f *source) {
 	for at := len(f.tree.Imports) - 1; at >= 0; at-- {
 		spec := f.tree.Imports[at]
 		to, _ := strconv.Unquote(spec.Path.Value)
+		to = strings.TrimPrefix(to, r.module+"/")
 		found := r.reduce(to)
 		if found == nil {
 			r.blank(f, f.cover(spec), "imports of packages that are not there")
@@ -340,7 +348,7 @@ func isWithin(root ast.Node) bool {
 		case *ast.BranchStmt:
 			isRight = isRight && (n.Tok == token.BREAK || n.Tok == token.CONTINUE)
 		case *ast.CallExpr:
-			isRight = isRight && !n.Ellipsis.IsValid()
+			isRight = isRight && !n.Ellipsis.IsValid() && !hasWrittenType(n.Args)
 		case *ast.DeclStmt:
 			isRight = isRight && n.Decl.(*ast.GenDecl).Tok != token.TYPE
 		case *ast.FuncType:
@@ -350,6 +358,17 @@ func isWithin(root ast.Node) bool {
 		return true
 	})
 	return isRight
+}
+
+// hasWrittenType tells whether a struct or interface type stands as an argument, as in `new(struct{})`.
+func hasWrittenType(arguments []ast.Expr) bool {
+	for _, argument := range arguments {
+		switch unparen(argument).(type) {
+		case *ast.StructType, *ast.InterfaceType:
+			return true
+		}
+	}
+	return false
 }
 
 // isInt64 tells whether a literal is of an integer of 64 bits with a sign.
@@ -383,14 +402,14 @@ func (r *reducer) own(p *reduced, f *source, info *types.Info) bool {
 	leave := func(n ast.Node, name, why string) {
 		if !f.isBlank(r, n) {
 			r.blank(f, n, why)
-			r.alone = append(r.alone, fmt.Sprintf("%s/%s %s: %s", r.module, p.path, name, why))
+			r.alone = append(r.alone, refusal{ruleOf(why), r.module + "/" + p.path, name, p.path + "/" + f.name, r.offset(n.Pos()), r.offset(n.End()), why})
 			isChanged = true
 		}
 	}
 	for _, decl := range f.tree.Decls {
 		switch decl := decl.(type) {
 		case *ast.FuncDecl:
-			if why := ownReason(decl, info); why != "" {
+			if why := r.ownReason(decl, info); why != "" {
 				leave(decl, names(decl), why)
 			}
 		case *ast.GenDecl:
@@ -407,7 +426,7 @@ func (r *reducer) own(p *reduced, f *source, info *types.Info) bool {
 func (r *reducer) ownSpec(f *source, spec ast.Spec, info *types.Info, leave func(n ast.Node, name, why string)) {
 	switch spec := spec.(type) {
 	case *ast.ValueSpec:
-		why := ownReason(spec, info)
+		why := r.ownReason(spec, info)
 		if why == "" && !isConstant(spec.Values, info) {
 			why = "initialisers that are not constant (X1)"
 			if spec.Type != nil {
@@ -426,12 +445,12 @@ func (r *reducer) ownSpec(f *source, spec ast.Spec, info *types.Info, leave func
 		case *ast.InterfaceType:
 			fields = written.Methods.List
 		default:
-			if why := ownReason(spec, info); why != "" {
+			if why := r.ownReason(spec, info); why != "" {
 				leave(f.cover(spec), names(spec), why)
 			}
 		}
 		for _, field := range fields {
-			if why := ownReason(field, info); why != "" {
+			if why := r.ownReason(field, info); why != "" {
 				leave(field, names(spec)+"."+names(field), why)
 			}
 		}
@@ -463,8 +482,9 @@ var profile = map[string]bool{"any": true, "bool": true, "error": true, "int": t
 var bits = map[token.Token]bool{token.AND: true, token.OR: true, token.XOR: true, token.SHL: true, token.SHR: true, token.AND_NOT: true,
 	token.AND_ASSIGN: true, token.OR_ASSIGN: true, token.XOR_ASSIGN: true, token.SHL_ASSIGN: true, token.SHR_ASSIGN: true, token.AND_NOT_ASSIGN: true}
 
-// ownReason tells by which own rule a piece is refused, if any.
-func ownReason(root ast.Node, info *types.Info) string {
+// ownReason tells by which own rule a piece is refused, if any. Constants beyond 64 bits are looked for last, since govisd does not know the value of a constant that is
+// made of what it refuses.
+func (r *reducer) ownReason(root ast.Node, info *types.Info) string {
 	why := ""
 	note := func(is bool, text string) {
 		if is && why == "" {
@@ -500,11 +520,20 @@ func ownReason(root ast.Node, info *types.Info) string {
 		}
 		if expr, ok := n.(ast.Expr); ok {
 			value := info.Types[expr].Value
-			note(value != nil && (value.Kind() == constant.Float || value.Kind() == constant.Complex || !fits64(value)), "constants beyond 64 bits (X1)")
+			note(r.isLast && value != nil && !isNamed(expr) && !fits64(value), "constants beyond 64 bits (X1)")
 		}
 		return why == ""
 	})
 	return why
+}
+
+// isNamed tells whether an expression names a constant, whose own declaration is what is refused.
+func isNamed(expr ast.Expr) bool {
+	switch unparen(expr).(type) {
+	case *ast.Ident, *ast.SelectorExpr:
+		return true
+	}
+	return false
 }
 
 func unparen(expr ast.Expr) ast.Expr {
@@ -517,13 +546,14 @@ func unparen(expr ast.Expr) ast.Expr {
 	}
 }
 
-// isIntToString tells whether a call converts an integer to a string.
+// isIntToString tells whether a call converts an `int` to a string. Other integers are of types outside the profile.
 func isIntToString(call *ast.CallExpr, info *types.Info) bool {
 	to := info.Types[call.Fun]
 	if !to.IsType() || len(call.Args) != 1 || info.Types[call.Args[0]].Type == nil {
 		return false
 	}
-	return basicOf(to.Type) == 's' && basicOf(info.Types[call.Args[0]].Type) == 'i'
+	from, isBasic := info.Types[call.Args[0]].Type.Underlying().(*types.Basic)
+	return basicOf(to.Type) == 's' && isBasic && (from.Kind() == types.Int || from.Kind() == types.UntypedInt)
 }
 
 // isPrintOfOther tells whether a call prints what is over neither of `bool`, `int` nor `string`.
@@ -564,7 +594,9 @@ func (r *reducer) write(folder string) {
 	for _, line := range r.gone {
 		fmt.Println(line)
 	}
-	fmt.Printf("only govisd refuses %d pieces, named one by one in %s\n", len(r.alone), r.writeOwn(folder))
+	if r.isOwn {
+		fmt.Printf("only govisd refuses %d pieces, named one by one in %s\n", len(r.alone), r.writeOwn(folder))
+	}
 	if r.kept["files"] == 0 {
 		fail(fmt.Errorf("no file is left, so nothing can be checked"))
 	}
@@ -587,11 +619,11 @@ func count(tree *ast.File, decls map[string]int) {
 }
 
 // reduceAll reduces the packages below folders, and writes them as a workspace of a module.
-func reduceAll(module, folder string, roots []string) {
+func reduceAll(module, folder string, isOwn bool, roots []string) {
 	if err := os.RemoveAll(folder); err != nil {
 		fail(err)
 	}
-	r := &reducer{module: module, folders: map[string]string{}, done: map[string]*reduced{}, fset: token.NewFileSet(),
+	r := &reducer{module: module, isOwn: isOwn, folders: map[string]string{}, done: map[string]*reduced{}, fset: token.NewFileSet(),
 		kept: map[string]int{}, decls: map[string]int{}, out: map[string]int{}}
 	for _, root := range roots {
 		r.find(root)
@@ -605,42 +637,4 @@ func reduceAll(module, folder string, roots []string) {
 		r.reduce(from)
 	}
 	r.write(folder)
-}
-
-// ownRules are rules that Go does not have. What the reducer does not see of them is named, and not a difference.
-var ownRules = []string{"X1", "N7"}
-
-// checkReduced checks a workspace that was reduced, and names each fault in it by its package and declaration. What the program could not take, or says
-// otherwise, is a difference too.
-func checkReduced(program, folder, module string) int {
-	faults, said, status := runCheck(program, folder, module, folder)
-	if status != 0 && status != 1 {
-		fail(fmt.Errorf("%s: status %d: %s", folder, status, said))
-	}
-	named, differ := 0, 0
-	for _, one := range faults {
-		what := "differs"
-		if has(ownRules, one.Rule) {
-			what = "on purpose"
-			named++
-		} else {
-			differ++
-		}
-		fmt.Printf("%s: %s %s %s: %s:%d:%d %s\n", what, one.Rule, one.Package, namesAt(filepath.Join(folder, one.File), one.Offset), one.File, one.Line, one.Column, one.Meaning)
-	}
-	for _, line := range strings.Split(strings.TrimSpace(said), "\n") {
-		if line != "" {
-			fmt.Println("differs: not taken:", line)
-			differ++
-		}
-	}
-	if isWanted := len(faults) > 0 || said != ""; (status == 1) != isWanted {
-		fmt.Printf("differs: the status is %d\n", status)
-		differ++
-	}
-	fmt.Printf("faults on purpose: %d, that differ: %d\n", named, differ)
-	if differ > 0 {
-		return 1
-	}
-	return 0
 }
