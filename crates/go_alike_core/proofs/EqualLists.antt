@@ -1,20 +1,13 @@
 -- Lists that are compared, as far as a loop has come.
-use Rattle.std.proofs.Common.{◌≡◌, ◌↔◌, ℕ, suc, ◌+◌, ◌<◌, ◌≤◌, List, [], ◌∷◌, ◌⊎◌, inl, inr, length, get_or, drop, Bool, IsTrue, true, false, Option, Some, None, refl, ap, sym, ◌∙◌, subst}
-use Rattle.std.proofs.lemmas.List.{drop_all, drop_more}
+use Rattle.std.proofs.Common.{◌≡◌, ◌↔◌, ℕ, suc, ◌+◌, ◌<◌, List, [], ◌∷◌, ◌⊎◌, inl, inr, length, get_or, drop, Bool, IsTrue, true, false, Option, Some, None, refl, ap, sym, ◌∙◌, subst}
 use Rattle.go_term_core.specs.declared.term.Field.{Field}
 use Rattle.go_term_core.specs.declared.term.Method.{Method}
 use Rattle.go_term_core.specs.Terms.{Term, NoType}
 use Rattle.go_term_core.specs.Shapes.{Line, line_with, line_at, term_at, fields_in, terms_in, method_shapes}
 use Rattle.go_term_core.specs.declared.same.LinePair.{LinePair}
 use Rattle.go_term_core.specs.Meeting.{IsMet}
+use Rattle.go_term_core.proofs.SameLists.{fails, first_is}
 use Rattle.go_alike_core.specs.mirrors.Equality.{IsEqualToNoLine, IsEqualHead, IsEqualLine, IsEqualMethod, EqualTerm, EqualFields, EqualMethods, EqualTerms}
-
--- a test that failed, of what does not hold
-pub fails : {W : Type 0} → (W → ⊥) → IsTrue false ↔ W
-fails never = (λ h. absurd (let k : false ≡ true = h in cc), λ w. absurd (never w))
-
-first_is : {X : Type 0} (xs : List X) (i : ℕ) (x : X) → i < length xs → x ≡ get_or xs i x → drop i xs ≡ x ∷ drop (i + 1) xs
-first_is xs i x h is = drop_more xs i x h ∙ ap (λ y. y ∷ drop (i + 1) xs) (sym is)
 
 -- lists of other lengths
 
@@ -50,11 +43,6 @@ module _ {X : Type 0} (P : List X → List X → Type 0) (Here : X → X → Typ
 
   pub both_differ : (Here x y → ⊥) → (P (drop i xs) (drop i ys) ↔ P xs ys) → IsTrue false ↔ P xs ys
   both_differ never so_far = fails (λ w. never (opened.0 (so_far.1 w)).0)
-
-pub both_end : {X : Type 0} (P : List X → List X → Type 0) → P [] [] → (items xs ys : List X) (i : ℕ) → items ≡ xs → length xs ≡ length ys → length items ≤ i → (P (drop i xs) (drop i ys) ↔ P xs ys) → IsTrue true ↔ P xs ys
-both_end P nil items xs ys i are many h so_far =
-    let below : length xs ≤ i = subst (λ n. n ≤ i) (ap length are) h in
-    (λ _. so_far.0 (subst (λ l. P l (drop i ys)) (sym (drop_all i xs below)) (subst (λ l. P [] l) (sym (drop_all i ys (subst (λ n. n ≤ i) many below))) nil)), λ _. refl)
 
 -- the lines that met last are the same
 abbrev pub KnowsLines : List Line → List Line → Option LinePair → Type 0
@@ -137,10 +125,6 @@ methods_open m n ms ns = (λ h. ((h.0, h.1, h.2), h.3), λ h. (h.0.0, h.0.1, h.0
 module _ (a b s t : Term) (r : Bool) (at_a : a ≡ s) (at_b : b ≡ t) where
   pub same_at : (IsTrue r ↔ EqualTerm s t) → IsTrue r ↔ EqualTerm a b
   same_at same = subst (λ x. IsTrue r ↔ EqualTerm x b) (sym at_a) (subst (λ x. IsTrue r ↔ EqualTerm s x) (sym at_b) same)
-
--- an answer where two did not meet last
-pub unless_met : (M W V : Type 0) (r : Bool) → (IsTrue false ↔ M) → (IsTrue r ↔ W) → (W ↔ V) → IsTrue r ↔ (M ⊎ V)
-unless_met M W V r never same there = (λ h. inr (there.0 (same.0 h)), λ h. elim h [ inl m ↦ absurd (let k : false ≡ true = never.1 m in cc) | inr v ↦ same.1 (there.1 v) ])
 
 -- an answer about what two types hold that are written in one package
 pub with_path : (p q : List ℕ) (W : Type 0) (r : Bool) → p ≡ q → (IsTrue r ↔ W) → IsTrue r ↔ ((p ≡ q) × W)

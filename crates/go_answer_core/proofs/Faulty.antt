@@ -4,15 +4,15 @@ use Rattle.std.specs.Prelude.{Contains, slice_get, nat_eq, if◌then◌else◌}
 use Rattle.std.proofs.lemmas.Bool.{eqb-true, eq-eqb}
 use Rattle.go_term_core.specs.decl_core.TopDecls.{TopDeclTree}
 use Rattle.go_text_core.specs.declared.rule.Rule.TheVariants.{Y7}
+use Rattle.go_term_core.proofs.Members.{In, contained_in, in_back, in_contained, in_either, in_front}
 use Rattle.go_fault_core.specs.block_core.Blocks.{BlocksModel}
 use Rattle.go_fault_core.specs.block_core.Faults.{rule_of}
 use Rattle.go_fault_core.specs.block_core.declared.fault.BlockFault.{BlockFault}
 use Rattle.go_report_core.specs.expr_core.declared.things.Fault.{Fault}
+use Rattle.go_report_core.specs.expr_core.Independence.{either}
 use Rattle.go_fault_core.specs.declared.places.PackageFault.{PackageFault}
-use Rattle.go_report_core.proofs.Members.{In, contained_in, in_contained}
 use Rattle.go_answer_core.specs.Laws.{IsOfBlocks, IsOfLooped, IsOfTypes, OuterFaultsAreThese}
 use Rattle.go_answer_core.specs.Outer.{block_faults_in, fault, looped_decl_faults, looped_if, outer_faults, type_faults_in}
-use Rattle.go_answer_core.proofs.Showing.{either, in_left, in_parts, in_right}
 
 -- those that are in a file
 
@@ -52,24 +52,24 @@ type_same file (f ∷ fs) = ap (λ l. if nat_eq f.file file then fault f.offset 
 of_blocks : (file : ℕ) (b : BlocksModel) (f : Fault) → In (block_faults_in file b.faults) f → IsOfBlocks file b f
 of_blocks file b f h =
     let r = of_file (λ (g : BlockFault). g.file) (λ (g : BlockFault). fault g.offset (rule_of g.rule)) file b.faults f (subst (λ l. In l f) (block_same file b.faults) h) in
-    record { found = r.0; there = in_contained b.faults r.0 r.1; in_file = r.2; is = r.3 }
+    record { found = r.0; there = contained_in b.faults r.0 r.1; in_file = r.2; is = r.3 }
 
 in_blocks : (file : ℕ) (b : BlocksModel) (f : Fault) → IsOfBlocks file b f → In (block_faults_in file b.faults) f
 in_blocks file b f x =
     subst (λ l. In l f) (sym (block_same file b.faults))
     (subst (λ g. In (faults_of_file (λ (y : BlockFault). y.file) (λ (y : BlockFault). fault y.offset (rule_of y.rule)) file b.faults) g) (sym x.is)
-    (in_file (λ (y : BlockFault). y.file) (λ (y : BlockFault). fault y.offset (rule_of y.rule)) file b.faults x.found (contained_in b.faults x.found x.there) x.in_file))
+    (in_file (λ (y : BlockFault). y.file) (λ (y : BlockFault). fault y.offset (rule_of y.rule)) file b.faults x.found (in_contained b.faults x.found x.there) x.in_file))
 
 of_types : (file : ℕ) (types : List PackageFault) (f : Fault) → In (type_faults_in file types) f → IsOfTypes file types f
 of_types file types f h =
     let r = of_file (λ (g : PackageFault). g.file) (λ (g : PackageFault). fault g.offset g.rule) file types f (subst (λ l. In l f) (type_same file types) h) in
-    record { found = r.0; there = in_contained types r.0 r.1; in_file = r.2; is = r.3 }
+    record { found = r.0; there = contained_in types r.0 r.1; in_file = r.2; is = r.3 }
 
 in_types : (file : ℕ) (types : List PackageFault) (f : Fault) → IsOfTypes file types f → In (type_faults_in file types) f
 in_types file types f x =
     subst (λ l. In l f) (sym (type_same file types))
     (subst (λ g. In (faults_of_file (λ (y : PackageFault). y.file) (λ (y : PackageFault). fault y.offset y.rule) file types) g) (sym x.is)
-    (in_file (λ (y : PackageFault). y.file) (λ (y : PackageFault). fault y.offset y.rule) file types x.found (contained_in types x.found x.there) x.in_file))
+    (in_file (λ (y : PackageFault). y.file) (λ (y : PackageFault). fault y.offset y.rule) file types x.found (in_contained types x.found x.there) x.in_file))
 
 -- constants that are defined through themselves
 
@@ -93,7 +93,7 @@ in_flags (e ∷ ds) (flag ∷ flags) zero d at set =
     let is : e ≡ d = (let s : Some e ≡ Some d = at in cc) in
     let on : true ≡ flag = (let s : Some flag ≡ Some true = set in cc) in
     subst (λ b. In (looped_if b e ++ looped_decl_faults ds flags) (fault d.ident.span.start Y7)) on (inl (ap (λ (x : TopDeclTree). fault x.ident.span.start Y7) is))
-in_flags (e ∷ ds) (flag ∷ flags) (suc n) d at set = in_right (looped_if flag e) (looped_decl_faults ds flags) (fault d.ident.span.start Y7) (in_flags ds flags n d at set)
+in_flags (e ∷ ds) (flag ∷ flags) (suc n) d at set = in_back (looped_if flag e) (looped_decl_faults ds flags) (fault d.ident.span.start Y7) (in_flags ds flags n d at set)
 
 -- flags from a place on
 
@@ -125,14 +125,14 @@ module _ (file : ℕ) (b : BlocksModel) (types : List PackageFault) (ds : List T
 
   is_these : Contains (outer_faults file b types ds (drop first looped)) f → IsOfBlocks file b f ⊎ IsOfTypes file types f ⊎ IsOfLooped ds first looped f
   is_these h =
-      either (in_parts (blocks ++ of_type) loops f (contained_in ((blocks ++ of_type) ++ loops) f h))
-      (λ k. either (in_parts blocks of_type f k) (λ m. inl (of_blocks file b f m)) (λ m. inr (inl (of_types file types f m))))
+      either (in_either (blocks ++ of_type) loops f (in_contained ((blocks ++ of_type) ++ loops) f h))
+      (λ k. either (in_either blocks of_type f k) (λ m. inl (of_blocks file b f m)) (λ m. inr (inl (of_types file types f m))))
       (λ k. inr (inr (of_looped ds first looped f k)))
 
   these_are : IsOfBlocks file b f ⊎ IsOfTypes file types f ⊎ IsOfLooped ds first looped f → Contains (outer_faults file b types ds (drop first looped)) f
-  these_are (inl x) = in_contained ((blocks ++ of_type) ++ loops) f (in_left (blocks ++ of_type) loops f (in_left blocks of_type f (in_blocks file b f x)))
-  these_are (inr (inl x)) = in_contained ((blocks ++ of_type) ++ loops) f (in_left (blocks ++ of_type) loops f (in_right blocks of_type f (in_types file types f x)))
-  these_are (inr (inr x)) = in_contained ((blocks ++ of_type) ++ loops) f (in_right (blocks ++ of_type) loops f (in_looped ds first looped f x))
+  these_are (inl x) = contained_in ((blocks ++ of_type) ++ loops) f (in_front (blocks ++ of_type) loops f (in_front blocks of_type f (in_blocks file b f x)))
+  these_are (inr (inl x)) = contained_in ((blocks ++ of_type) ++ loops) f (in_front (blocks ++ of_type) loops f (in_back blocks of_type f (in_types file types f x)))
+  these_are (inr (inr x)) = contained_in ((blocks ++ of_type) ++ loops) f (in_back (blocks ++ of_type) loops f (in_looped ds first looped f x))
 
 pub outer_faults_are_these : OuterFaultsAreThese
 outer_faults_are_these file b types ds first looped f = (is_these file b types ds first looped f, these_are file b types ds first looped f)

@@ -10,10 +10,11 @@ use Rattle.std.specs.declared.cmp.Ordering.TheVariants.{Less, Equal, Greater}
 use Rattle.std.proofs.lemmas.Bool.{true≢false, cases_lt}
 use Rattle.std.proofs.lemmas.List.Sorted.{searchable_from_sorted, ranks_by, Contains-permutation, IsPermutation-sym}
 use Rattle.go_term_core.specs.decl_core.declared.keys.DeclRef.{DeclRef}
-use Rattle.go_report_core.proofs.Members.{In, in_at, contained_in, in_contained}
+use Rattle.go_report_core.proofs.Settled.{or_true}
 use Rattle.go_face_core.specs.Faces.{TheFace}
 use Rattle.go_face_core.specs.Written.{same_decl_place}
 use Rattle.go_term_core.specs.decl_core.Order.{place_cmp}
+use Rattle.go_term_core.proofs.Members.{In, contained_in, in_at, in_contained}
 use Rattle.go_face_core.proofs.Placed.{place_total, same_equal, equal_same}
 use Rattle.go_answer_core.specs.Shown.{is_decl_listed, shown_among, shown_if}
 
@@ -23,10 +24,6 @@ order_weak = ranks_by place_total (λ (d : DeclRef). d)
 -- one of the list has the file and the number
 abbrev pub IsAmong : List DeclRef → DeclRef → Type 0
 IsAmong es d = (e : DeclRef) × In es e × (same_decl_place e d ≡ true)
-
-or_true : (b : Bool) → (b || true) ≡ true
-or_true true = refl
-or_true false = refl
 
 pub among_listed : (es : List DeclRef) (e d : DeclRef) → In es e → same_decl_place e d ≡ true → is_decl_listed es d ≡ true
 among_listed [] e d h same = absurd h
@@ -52,7 +49,7 @@ searched es d (Err k) sorted le parted = by (is_decl_listed es d) refl
     by false e = sym e
     by true e =
         let found = listed_among es d e in
-        let at = in_contained es found.0 found.1 in
+        let at = contained_in es found.0 found.1 in
         let here : place_cmp (get_or es at.0 found.0) d ≡ Equal = ap (λ x. place_cmp x d) at.2 ∙ same_equal found.0 d found.2 in
         let split = parted (searchable_from_sorted place_total (λ (x : DeclRef). x) es d sorted) in
         elim (cases_lt at.0 k) [
@@ -65,7 +62,7 @@ searched es d (Err k) sorted le parted = by (is_decl_listed es d) refl
 listed_there : (es fs : List DeclRef) (d : DeclRef) → IsPermutation es fs → is_decl_listed es d ≡ true → is_decl_listed fs d ≡ true
 listed_there es fs d moves h =
     let found = listed_among es d h in
-    among_listed fs found.0 d (contained_in fs found.0 (Contains-permutation es fs found.0 moves (in_contained es found.0 found.1))) found.2
+    among_listed fs found.0 d (in_contained fs found.0 (Contains-permutation es fs found.0 moves (contained_in es found.0 found.1))) found.2
 
 pub moved_listed : (es fs : List DeclRef) (d : DeclRef) → IsPermutation es fs → is_decl_listed fs d ≡ is_decl_listed es d
 moved_listed es fs d moves = by (is_decl_listed es d) (is_decl_listed fs d) refl refl

@@ -1,13 +1,14 @@
 -- What a package shows of its declarations.
-use Rattle.std.proofs.Common.{◌≡◌, ◌⊎◌, inl, inr, ℕ, zero, suc, Bool, true, false, List, [], ◌∷◌, ◌++◌, map, Option, Some, None, refl, sym, ap, ◌∙◌, cond, subst}
+use Rattle.std.proofs.Common.{◌≡◌, inl, inr, ℕ, zero, suc, Bool, true, false, List, [], ◌∷◌, map, Option, Some, None, refl, sym, ap, ◌∙◌, cond, subst}
 use Rattle.std.specs.Prelude.{Contains, slice_get}
 use Rattle.std.specs.Str.{bytes_eq, chars}
 use Rattle.std.proofs.lemmas.Slice.Eq.{bytes_eq-Decides}
 use Rattle.go_text_core.specs.Text.{exported}
 use Rattle.go_term_core.specs.decl_core.declared.keys.DeclRef.{DeclRef}
+use Rattle.go_term_core.proofs.Members.{In, contained_in, filter_in, in_back, in_contained, in_either, in_filter, in_front, in_map, map_in, ordered_same}
 use Rattle.go_fault_core.specs.block_core.Exports.{exported_names}
 use Rattle.go_fault_core.specs.block_core.Tables.{in_block, with_first}
-use Rattle.go_report_core.proofs.Members.{In, contained_in, in_contained, in_filter, filter_in, ordered_same}
+use Rattle.go_report_core.specs.expr_core.Independence.{either}
 use Rattle.go_face_core.specs.Faces.{TheFace}
 use Rattle.go_face_core.specs.Packages.{DeclaredOf, as_seen, names_seen, package_faces, seen_after}
 use Rattle.go_face_core.specs.Written.{same_decl_place}
@@ -21,36 +22,6 @@ use Rattle.go_answer_core.proofs.Rising.{IsEarlier, earlier_onward, never_earlie
 
 abbrev Named : Type 0
 Named = List ℕ × DeclRef
-
--- members
-
-pub either : {A B C : Type 0} → A ⊎ B → (A → C) → (B → C) → C
-either (inl a) f g = f a
-either (inr b) f g = g b
-
-pub in_left : {A : Type 0} (xs ys : List A) (x : A) → In xs x → In (xs ++ ys) x
-in_left [] ys x h = absurd h
-in_left (z ∷ xs) ys x (inl e) = inl e
-in_left (z ∷ xs) ys x (inr h) = inr (in_left xs ys x h)
-
-pub in_right : {A : Type 0} (xs ys : List A) (x : A) → In ys x → In (xs ++ ys) x
-in_right [] ys x h = h
-in_right (z ∷ xs) ys x h = inr (in_right xs ys x h)
-
-pub in_parts : {A : Type 0} (xs ys : List A) (x : A) → In (xs ++ ys) x → In xs x ⊎ In ys x
-in_parts [] ys x h = inr h
-in_parts (z ∷ xs) ys x (inl e) = inl (inl e)
-in_parts (z ∷ xs) ys x (inr h) = either (in_parts xs ys x h) (λ k. inl (inr k)) (λ k. inr k)
-
-in_map : {A B : Type 0} (f : A → B) (xs : List A) (x : A) → In xs x → In (map f xs) (f x)
-in_map f [] x h = absurd h
-in_map f (z ∷ xs) x (inl e) = inl (ap f e)
-in_map f (z ∷ xs) x (inr h) = inr (in_map f xs x h)
-
-map_in : {A B : Type 0} (f : A → B) (xs : List A) (y : B) → In (map f xs) y → (x : A) × In xs x × (f x ≡ y)
-map_in f [] y h = absurd h
-map_in f (z ∷ xs) y (inl e) = (z, inl refl, e)
-map_in f (z ∷ xs) y (inr h) = let r = map_in f xs y h in (r.0, inr r.1, r.2)
 
 -- one face
 
@@ -69,7 +40,7 @@ shown_in : (these ds : List DeclRef) (known : List (Option TheFace)) (e : Declar
 shown_in these [] known e h = absurd h
 shown_in these (d ∷ ds) [] e h = absurd h
 shown_in these (d ∷ ds) (face ∷ known) e h =
-    either (in_parts (shown_if (is_decl_listed these d) d face) (shown_among these ds known) e h)
+    either (in_either (shown_if (is_decl_listed these d) d face) (shown_among these ds known) e h)
     (λ k. let p = shown_one (is_decl_listed these d) d face e k in (record { place = 0; decl = ap Some p.1; face = ap Some p.2 }, ap (is_decl_listed these) (sym p.1) ∙ p.0))
     (λ k. let r = shown_in these ds known e k in (record { place = suc r.0.place; decl = r.0.decl; face = r.0.face }, r.1))
 
@@ -79,10 +50,10 @@ in_shown these (d ∷ ds) [] e n at is listed = absurd (let no : None ≡ Some (
 in_shown these (d ∷ ds) (face ∷ known) e zero at is listed =
     let same : e.decl ≡ d = (let s : Some d ≡ Some e.decl = at in cc) in
     let held : Some e.face ≡ face = (let s : Some face ≡ Some (Some e.face) = is in cc) in
-    in_left (shown_if (is_decl_listed these d) d face) (shown_among these ds known) e
+    in_front (shown_if (is_decl_listed these d) d face) (shown_among these ds known) e
     (subst (λ o. In (shown_if (is_decl_listed these d) d o) e) held (subst (λ x. In (shown_if (is_decl_listed these x) x (Some e.face)) e) same (subst (λ b. In (shown_if b e.decl (Some e.face)) e) (sym listed) (one_shown e))))
 in_shown these (d ∷ ds) (face ∷ known) e (suc n) at is listed =
-    in_right (shown_if (is_decl_listed these d) d face) (shown_among these ds known) e (in_shown these ds known e n at is listed)
+    in_back (shown_if (is_decl_listed these d) d face) (shown_among these ds known) e (in_shown these ds known e n at is listed)
 
 -- exported names
 
@@ -91,24 +62,24 @@ listed_exported block d h =
     let found = listed_among (exported_decls block) d h in
     let entry = map_in (λ (e : Named). e.1) (exported_names block) found.0 found.1 in
     let kept = filter_in (λ (e : Named). exported (chars e.0)) block entry.0 entry.1 in
-    record { name = entry.0.0; decl = entry.0.1; bound = in_contained block entry.0 kept.0; is_exported = kept.1; same = ap (λ (x : DeclRef). same_decl_place x d) entry.2 ∙ found.2 }
+    record { name = entry.0.0; decl = entry.0.1; bound = contained_in block entry.0 kept.0; is_exported = kept.1; same = ap (λ (x : DeclRef). same_decl_place x d) entry.2 ∙ found.2 }
 
 exported_listed : (block : List Named) (d : DeclRef) → IsExported block d → is_decl_listed (exported_decls block) d ≡ true
 exported_listed block d x =
     let entry : Named = (x.name, x.decl) in
     among_listed (exported_decls block) x.decl d
-    (in_map (λ (e : Named). e.1) (exported_names block) entry (in_filter (λ (e : Named). exported (chars e.0)) block entry (contained_in block entry x.bound) x.is_exported)) x.same
+    (in_map (λ (e : Named). e.1) (exported_names block) entry (in_filter (λ (e : Named). exported (chars e.0)) block entry (in_contained block entry x.bound) x.is_exported)) x.same
 
 -- the laws
 
 shown_there : (block : List Named) (ds : List DeclRef) (known : List (Option TheFace)) (e : DeclaredOf) → Contains (shown_of block ds known) e → IsKnown ds known e × IsExported block e.decl
 shown_there block ds known e h =
-    let r = shown_in (exported_decls block) ds known e (contained_in (shown_of block ds known) e h) in
+    let r = shown_in (exported_decls block) ds known e (in_contained (shown_of block ds known) e h) in
     (r.0, listed_exported block e.decl r.1)
 
 there_shown : (block : List Named) (ds : List DeclRef) (known : List (Option TheFace)) (e : DeclaredOf) → IsKnown ds known e × IsExported block e.decl → Contains (shown_of block ds known) e
 there_shown block ds known e h =
-    in_contained (shown_of block ds known) e (in_shown (exported_decls block) ds known e h.0.place h.0.decl h.0.face (exported_listed block e.decl h.1))
+    contained_in (shown_of block ds known) e (in_shown (exported_decls block) ds known e h.0.place h.0.decl h.0.face (exported_listed block e.decl h.1))
 
 pub shown_are_exported : ShownAreExported
 shown_are_exported = record {
@@ -155,6 +126,6 @@ bound_in (e ∷ es) name d h = by (bytes_eq name e.0) refl h (bound_in es name d
 pub names_show_their_faces : NamesShowTheirFaces
 names_show_their_faces path b ds known name e rise bound is_exported known_so =
     let shown = shown_of b.names ds known in
-    let there = there_shown b.names ds known e (known_so, record { name = name; decl = e.decl; bound = in_contained b.names (name, e.decl) (bound_in b.names name e.decl bound); is_exported = is_exported; same = same_itself e.decl }) in
+    let there = there_shown b.names ds known e (known_so, record { name = name; decl = e.decl; bound = contained_in b.names (name, e.decl) (bound_in b.names name e.decl bound); is_exported = is_exported; same = same_itself e.decl }) in
     shows_its_block.shown path b.names shown name e.decl bound is_exported
     ∙ ap (λ f. shows.Shown e.decl f) (faces_are_found shown e (shown_rise (exported_decls b.names) ds known rise) there)

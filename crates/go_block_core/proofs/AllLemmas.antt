@@ -31,7 +31,7 @@ use Rattle.go_block_core.proofs.NamingLemmas.{text_of, same_texts}
 -- an import is there where one is written
 
 -- the file that has a tree
-file_of_tree : (files : List SourceModel) (file : ℕ) (t : List ℕ × FileTree) → AllHaveTrees files → slice_get (trees_of files) file ≡ Some t → (s : SourceModel) × (slice_get files file ≡ Some s) × (s.content ≡ Ok t.1)
+pub file_of_tree : (files : List SourceModel) (file : ℕ) (t : List ℕ × FileTree) → AllHaveTrees files → slice_get (trees_of files) file ≡ Some t → (s : SourceModel) × (slice_get files file ≡ Some s) × (s.content ≡ Ok t.1)
 file_of_tree files file t trees at =
     let lt : file < length files = omega (arith, slice_get_within (trees_of files) file t at, as_many files trees) in
     let d = source t.0 [] (Ok t.1) in
@@ -41,7 +41,7 @@ file_of_tree files file t trees at =
     let same : ◌≡◌ {A = List ℕ × FileTree} (s.name, has.0) t = (let e : Some (s.name, has.0) ≡ Some t = sym (tree_at files file s has.0 trees here has.1) ∙ at in cc) in
     (s, here, has.1 ∙ ap (λ (x : List ℕ × FileTree). Ok x.1) same)
 
-import_there : (ps : List PackageModel) (number : ℕ) (p : PackageModel) (file n : ℕ) (t : List ℕ × FileTree) → slice_get ps number ≡ Some p → IsAssembled p.1 → slice_get (trees_of p.1) file ≡ Some t → n < length (file_specs t.1) → (text : List ℕ) × IsImport ps (import_at number file n) p.0 text
+pub import_there : (ps : List PackageModel) (number : ℕ) (p : PackageModel) (file n : ℕ) (t : List ℕ × FileTree) → slice_get ps number ≡ Some p → IsAssembled p.1 → slice_get (trees_of p.1) file ≡ Some t → n < length (file_specs t.1) → (text : List ℕ) × IsImport ps (import_at number file n) p.0 text
 import_there ps number p file n t numbered assembled at lt =
     let found = file_of_tree p.1 file t assembled.trees at in
     let texts : content_texts found.0.content ≡ map text_of (file_specs t.1) = ap content_texts found.2 ∙ same_texts t.1.imports in
@@ -70,10 +70,10 @@ pub record AreMade (ps : List PackageModel) (done : List ℕ) (bs : List (Option
   pub right : (i : ℕ) (b : BlocksModel) → slice_get bs i ≡ Some (Some b) → Contains done i × AreBlocksAt ps bs i b
   pub right_shown : (i : ℕ) (e : ExportsModel) → IsShownIn es i e → IsShown ps bs i e
 
-no_number : (i : ℕ) → Contains [] i → ⊥
+pub no_number : (i : ℕ) → Contains [] i → ⊥
 no_number i h = omega (arith, h.1)
 
-nothing_at : {A : Type 0} (n : ℕ) (xs : List (Option A)) (i : ℕ) (x : A) → xs ≡ replicate n None → slice_get xs i ≡ Some (Some x) → ⊥
+pub nothing_at : {A : Type 0} (n : ℕ) (xs : List (Option A)) (i : ℕ) (x : A) → xs ≡ replicate n None → slice_get xs i ≡ Some (Some x) → ⊥
 nothing_at {A} n xs i x is h =
     let at : slice_get (replicate n None) i ≡ Some (Some x) = sym (ap (λ l. slice_get l i) is) ∙ h in
     let lt : i < n = omega (arith, slice_get_within _ i _ at, length-replicate {A = Option A} n None) in
@@ -207,7 +207,7 @@ one_more ps plan k number bs es b e planned lt is old new =
 
 -- in the end
 
-numbered_from : {A B : Type 0} (R : ℕ → A → B → Type 0) (k : ℕ) (xs : List A) (ys : List B) → length ys ≡ length xs → ((i : ℕ) (x : A) (y : B) → slice_get xs i ≡ Some x → slice_get ys i ≡ Some y → R (k + i) x y) → AllNumbered R k xs ys
+pub numbered_from : {A B : Type 0} (R : ℕ → A → B → Type 0) (k : ℕ) (xs : List A) (ys : List B) → length ys ≡ length xs → ((i : ℕ) (x : A) (y : B) → slice_get xs i ≡ Some x → slice_get ys i ≡ Some y → R (k + i) x y) → AllNumbered R k xs ys
 numbered_from R k [] [] e h = tt
 numbered_from R k [] (y ∷ ys) e h = absurd (omega (arith, e))
 numbered_from R k (x ∷ xs) [] e h = absurd (omega (arith, e))

@@ -163,10 +163,10 @@ module _ (p : TopDeclTree → ℕ) where
       (λ k e lt. (let r = rises_all (p d + 1) ds high h.2 k e lt in omega (arith, r)))
       (rises_pairs (p d + 1) ds high h.2)
 
-abbrev IsBefore : TopDeclTree → TopDeclTree → Type 0
-IsBefore d e = (number d < number e) × (place d < place e)
+abbrev IsAhead : TopDeclTree → TopDeclTree → Type 0
+IsAhead d e = (number d < number e) × (place d < place e)
 
-tops_before : (f : FileTree) → IsPlaced f → AllPairs IsBefore (top_decls f)
+tops_before : (f : FileTree) → IsPlaced f → AllPairs IsAhead (top_decls f)
 tops_before f placed = λ i j d low high. (rises_pairs number 0 (top_decls f) (0 + length (outer_names f)) (file_numbers f) i j d low high, rises_pairs place 0 (top_decls f) placed.0 ((file_gives f).rise 0 placed.0 placed.1) i j d low high)
 
 -- what is declared
@@ -187,7 +187,7 @@ module _ (file : ℕ) where
       (unless_all P (is_method_form d.form) (declaration file d) (All-head (λ e. P (declaration file e)) d ds h))
       (declared_all P ds (All-tail (λ e. P (declaration file e)) d ds h))
 
-  declared_pairs : (ds : List TopDeclTree) → AllPairs IsBefore ds → AllPairs StandsBefore (flat_map (top_declared file) ds)
+  declared_pairs : (ds : List TopDeclTree) → AllPairs IsAhead ds → AllPairs StandsBefore (flat_map (top_declared file) ds)
   declared_pairs [] h = λ i j d low high. absurd (omega arith)
   declared_pairs (d ∷ ds) h =
       let behind : All (λ e. StandsBefore (declaration file d) (declaration file e)) ds = λ k e lt. (let b = h 0 (suc k) e (omega arith) (omega arith) in inr (refl, b.0, b.1)) in

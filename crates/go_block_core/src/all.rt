@@ -144,9 +144,8 @@ fn made_at(
     let source = packages[number].share()?;
     match assemble(source) {
         Ok(package) => {
-            let made = made_of(alloc, plan, number, &package, exports);
-            package.close();
-            made
+            let made = made_of(alloc, plan, number, &package, exports)?;
+            Ok(made)
         }
         Err(_) => unreachable!(),
     }

@@ -28,13 +28,13 @@ use Rattle.go_body_core.proofs.WellFormed.{pieces_are_of_grammar}
 use Rattle.go_body_core.proofs.Walks.{NotesOfPieces, walked_notes, given_notes}
 
 -- where the occurrences of a piece stand, with their roles
-abbrev places : Piece → List (ℕ × Role)
+abbrev pub places : Piece → List (ℕ × Role)
 places p = map occurrence_place (piece_occs p)
 
-abbrev noted : NoteOf → List (ℕ × Role)
+abbrev pub noted : NoteOf → List (ℕ × Role)
 noted n = map use_place n.uses
 
-note_places : (ns : List NoteOf) → map use_place (all_uses ns) ≡ flat_map noted ns
+pub note_places : (ns : List NoteOf) → map use_place (all_uses ns) ≡ flat_map noted ns
 note_places [] = refl
 note_places (n ∷ ns) = map-append use_place n.uses (all_uses ns) ∙ ap (λ l. noted n ++ l) (note_places ns)
 
@@ -45,7 +45,7 @@ piece_places (Act s) h {T} {S} {D} {P} looks = (pieces_occur T S D P).pieces loo
 piece_places (Condition t) h {T} {S} {D} {P} looks = (pieces_occur T S D P).pieces looks true (Condition t) h
 piece_places (Given place es) h {T} {S} {D} {P} looks = (pieces_occur T S D P).pieces looks true (Given place es) h
 
-steps_places : (steps : Steps) → of_pieces places steps ≡ map occurrence_place (steps_occs steps)
+pub steps_places : (steps : Steps) → of_pieces places steps ≡ map occurrence_place (steps_occs steps)
 steps_places Done = refl
 steps_places (Check p rest) = ap (λ l. places p ++ l) (steps_places rest) ∙ sym (map-append occurrence_place (piece_occs p) (steps_occs rest))
 steps_places (Declare m from p xs rest) = ap (λ l. places p ++ l) (steps_places rest) ∙ sym (map-append occurrence_place (piece_occs p) (steps_occs rest))

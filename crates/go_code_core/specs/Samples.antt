@@ -65,18 +65,18 @@ paren at = record { start = at; end = at + 1 }
 
 -- what they come to
 
-abbrev pub meaning_at : List (ℕ × Meaning) → ℕ → Meaning
-meaning_at [] at = meanings.Other
-meaning_at (m ∷ ms) at = if nat_eq m.0 at then m.1 else meaning_at ms at
+abbrev pub meaning_listed : List (ℕ × Meaning) → ℕ → Meaning
+meaning_listed [] at = meanings.Other
+meaning_listed (m ∷ ms) at = if nat_eq m.0 at then m.1 else meaning_listed ms at
 
-abbrev pub number_at : List (ℕ × ℕ) → ℕ → ℕ
-number_at [] at = 0
-number_at (c ∷ cs) at = if nat_eq c.0 at then c.1 else number_at cs at
+abbrev pub reference_at : List (ℕ × ℕ) → ℕ → ℕ
+reference_at [] at = 0
+reference_at (c ∷ cs) at = if nat_eq c.0 at then c.1 else reference_at cs at
 
 -- identifiers, each with what it comes to, and calls by their opening parentheses, each with the number of its reference. Each name to the
 -- left of `:=` is new
 abbrev pub looks_by : List (ℕ × Meaning) → List (ℕ × ℕ) → CodeLooks
-looks_by names calls = record { meaning = meaning_at names; reference = number_at calls; is_new = λ at. true }
+looks_by names calls = record { meaning = meaning_listed names; reference = reference_at calls; is_new = λ at. true }
 
 abbrev pub int_type : Meaning
 int_type = meanings.«Type» words.Int
@@ -96,14 +96,14 @@ bool_var at = meanings.Variable at words.Bool
 abbrev pub name : List ℕ → ℕ → ExprTree
 name text at = Named (ident_at text at)
 
-abbrev pub type_at : List ℕ → ℕ → TypeTree
-type_at text at = NamedType (type_names.Plain (ident_at text at))
+abbrev pub type_written : List ℕ → ℕ → TypeTree
+type_written text at = NamedType (type_names.Plain (ident_at text at))
 
-abbrev pub int_at : ℕ → TypeTree
-int_at at = type_at (codes "int") at
+abbrev pub int_written : ℕ → TypeTree
+int_written at = type_written (codes "int") at
 
-abbrev pub bool_at : ℕ → TypeTree
-bool_at at = type_at (codes "bool") at
+abbrev pub bool_written : ℕ → TypeTree
+bool_written at = type_written (codes "bool") at
 
 -- a parameter or several of one type, and an argument
 abbrev pub param : Span → List ℕ → ℕ → TypeTree → ParamTrees → ParamTrees
@@ -142,7 +142,7 @@ add_looks = looks_by ((14, int_type) ∷ (19, int_type) ∷ (32, int_var 9) ∷ 
 
 abbrev pub add : Span → FuncTree
 add s =
-    sample_func s (codes "add") (two_params s a 9 b 12 (int_at 14) NoParams) (OneResult (int_at 19))
+    sample_func s (codes "add") (two_params s a 9 b 12 (int_written 14) NoParams) (OneResult (int_written 19))
     (line s (returns s (Binary (name a 32) operators.Plus s (name b 36))) NoLines)
 
 abbrev pub OperandsInOrder : Type 0
@@ -154,7 +154,7 @@ between_looks = looks_by ((21, int_type) ∷ (26, bool_type) ∷ (40, int_var 13
 
 abbrev pub between : Span → FuncTree
 between s =
-    sample_func s (codes "between") (Param (Some (Then (ident_at a 13) s (Then (ident_at b 16) s (One (ident_at c 19))))) (int_at 21) None NoParams) (OneResult (bool_at 26))
+    sample_func s (codes "between") (Param (Some (Then (ident_at a 13) s (Then (ident_at b 16) s (One (ident_at c 19))))) (int_written 21) None NoParams) (OneResult (bool_written 26))
     (line s (returns s (Binary (Binary (name a 40) operators.Less s (name b 44)) operators.LogicalAnd s (Binary (name b 49) operators.Less s (name c 53)))) NoLines)
 
 abbrev pub between_code : List Instruction
@@ -170,7 +170,7 @@ beyond_looks = looks_by ((20, int_type) ∷ (25, bool_type) ∷ (39, int_var 15)
 
 abbrev pub beyond_function : Span → FuncTree
 beyond_function s =
-    sample_func s (codes "beyond") (Param (Some (Then (ident_at a 12) s (Then (ident_at b 15) s (One (ident_at c 18))))) (int_at 20) None NoParams) (OneResult (bool_at 25))
+    sample_func s (codes "beyond") (Param (Some (Then (ident_at a 12) s (Then (ident_at b 15) s (One (ident_at c 18))))) (int_written 20) None NoParams) (OneResult (bool_written 25))
     (line s (returns s (Binary (Binary (name b 39) operators.Less s (name a 43)) operators.LogicalOr s (Binary (name c 48) operators.Less s (name b 52)))) NoLines)
 
 abbrev pub beyond_code : List Instruction
@@ -196,8 +196,8 @@ larger_looks =
 
 abbrev pub larger : Span → FuncTree
 larger s =
-    sample_func s (codes "larger") (two_params s a 12 b 15 (int_at 17) NoParams) (OneResult (int_at 22))
-    (line s (Declare (record { kind = value_kinds.Var; keyword = s; specs = Single (record { names = One (ident_at m 32); type_expr = Some (int_at 34); values = None }) }))
+    sample_func s (codes "larger") (two_params s a 12 b 15 (int_written 17) NoParams) (OneResult (int_written 22))
+    (line s (Declare (record { kind = value_kinds.Var; keyword = s; specs = Single (record { names = One (ident_at m 32); type_expr = Some (int_written 34); values = None }) }))
     (line s (If (Branch s (record { init = None; condition = Binary (name a 42) operators.Less s (name b 46) })
     s (line s (assigned s (name m 50) (name b 54)) NoLines) s
     (ElseBlock s s (line s (assigned s (name m 65) (name a 69)) NoLines) s)))
@@ -223,7 +223,7 @@ sum_looks =
 
 abbrev pub sum : Span → FuncTree
 sum s =
-    sample_func s (codes "sum") (param s n 9 (int_at 11) NoParams) (OneResult (int_at 16))
+    sample_func s (codes "sum") (param s n 9 (int_written 11) NoParams) (OneResult (int_written 16))
     (line s (Simple (defined s (ident_at t 22) (Integer 0 s)))
     (line s (For s (Clauses (Some (defined s (ident_at i 34) (Integer 0 s))) s (Some (Binary (name i 42) operators.Less s (name n 46))) s (Some (Step (name i 49) operators.Increment s)))
     s
@@ -251,7 +251,7 @@ rest_looks = looks_by ((12, int_type) ∷ (17, int_type) ∷ (32, int_var 10) �
 
 abbrev pub rest : Span → FuncTree
 rest s =
-    sample_func s (codes "rest") (param s n 10 (int_at 12) NoParams) (OneResult (int_at 17))
+    sample_func s (codes "rest") (param s n 10 (int_written 12) NoParams) (OneResult (int_written 17))
     (line s (For s Forever
     s
     (line s (If (Branch s (record { init = None; condition = Binary (name n 32) operators.Less s (Integer 2 s) }) s (line s (Break s) NoLines) s NoElse))
@@ -284,7 +284,7 @@ show_looks =
 
 abbrev pub show : Span → FuncTree
 show s =
-    sample_func s (codes "show") (param s a 10 (int_at 12) NoParams) NoResult
+    sample_func s (codes "show") (param s a 10 (int_written 12) NoParams) NoResult
     (line s (Simple (Alone (Call (name (codes "add") 19) (paren 22) (argument s (name a 23) (argument s (Integer 2 s) NoItems)) s)))
     (line s (Simple (Alone (Call (name (codes "println") 30) (paren 37)
     (argument s (Call (name (codes "add") 38) (paren 41) (argument s (Integer 1 s) (argument s (name a 45) NoItems)) s)
@@ -308,7 +308,7 @@ sizes_looks =
 
 abbrev pub sizes : Span → FuncTree
 sizes s =
-    sample_func s (codes "sizes") (param s a 11 (type_at (codes "small") 13) (param s b 20 (type_at (codes "large") 22) NoParams)) (OneResult (int_at 29))
+    sample_func s (codes "sizes") (param s a 11 (type_written (codes "small") 13) (param s b 20 (type_written (codes "large") 22) NoParams)) (OneResult (int_written 29))
     (line s (returns s (Binary (Call (Select (name a 42) s (ident_at (codes "size") 44)) (paren 48) NoItems s) operators.Plus s
     (Call (Select (name b 53) s (ident_at (codes "size") 55)) (paren 59) NoItems s))) NoLines)
 
@@ -332,7 +332,7 @@ twice_looks =
 
 abbrev pub twice : Span → FuncTree
 twice s =
-    sample_method s (receiver s (Some (ident_at c 6)) None (ident_at (codes "count") 8)) (codes "twice") (Param None (bool_at 21) None NoParams) (OneResult (int_at 27))
+    sample_method s (receiver s (Some (ident_at c 6)) None (ident_at (codes "count") 8)) (codes "twice") (Param None (bool_written 21) None NoParams) (OneResult (int_written 27))
     (line s (returns s (Call (Select (Call (Select (name c 40) s (ident_at (codes "plus") 42)) (paren 46) (argument s (Integer 1 s) NoItems) s) s (ident_at (codes "plus") 50)) (paren 54) (argument s (Integer 2 s) NoItems) s)) NoLines)
 
 abbrev pub twice_code : List Instruction
@@ -344,7 +344,7 @@ last_looks = looks_by ((6, int_type) ∷ (20, int_type) ∷ (27, bool_type) ∷ 
 
 abbrev pub last : Span → FuncTree
 last s =
-    sample_method s (receiver s None None (ident_at (codes "count") 6)) (codes "last") (param s blank_text 18 (int_at 20) (param s b 25 (bool_at 27) (param s blank_text 33 (bool_at 35) NoParams))) (OneResult (int_at 41))
+    sample_method s (receiver s None None (ident_at (codes "count") 6)) (codes "last") (param s blank_text 18 (int_written 20) (param s b 25 (bool_written 27) (param s blank_text 33 (bool_written 35) NoParams))) (OneResult (int_written 41))
     (line s (Simple (defined s (ident_at x_text 47) (Integer 1 s)))
     (line s (assigned s (name blank_text 55) (name b 59))
     (line s (returns s (name x_text 69)) NoLines)))
@@ -358,7 +358,7 @@ third_looks = looks_by ((11, int_type) ∷ (16, bool_type) ∷ (22, int_type) �
 
 abbrev pub third : Span → FuncTree
 third s =
-    sample_func s (codes "third") (Param None (int_at 11) (Some s) (Param None (bool_at 16) None NoParams)) (OneResult (int_at 22))
+    sample_func s (codes "third") (Param None (int_written 11) (Some s) (Param None (bool_written 16) None NoParams)) (OneResult (int_written 22))
     (line s (Simple (defined s (ident_at x_text 28) (Integer 1 s)))
     (line s (returns s (name x_text 43)) NoLines))
 
@@ -382,7 +382,7 @@ inner_looks =
 
 abbrev pub inner : Span → FuncTree
 inner s =
-    sample_func s (codes "inner") (param s x_text 11 (int_at 13) NoParams) (OneResult (int_at 18))
+    sample_func s (codes "inner") (param s x_text 11 (int_written 13) NoParams) (OneResult (int_written 18))
     (line s (Block s (line s (Simple (defined s (ident_at x_text 26) (Binary (name x_text 31) operators.Plus s (Integer 1 s))))
     (line s (Simple (Alone (Call (name (codes "println") 38) (paren 45) (argument s (name x_text 46) NoItems) s))) NoLines)) s)
     (line s (If (Branch s (record { init = Some (Some (defined s (ident_at x_text 55) (Integer 3 s)), s); condition = Binary (name x_text 63) operators.Less s (Integer 4 s) }) s (line s (returns s (name x_text 78)) NoLines) s NoElse))
@@ -407,7 +407,7 @@ day_looks = looks_by ((11, int_type) ∷ []) []
 
 abbrev pub day : Span → FuncTree
 day s =
-    sample_func s (codes "day") NoParams (OneResult (int_at 11))
+    sample_func s (codes "day") NoParams (OneResult (int_written 11))
     (line s (returns s (Binary (Integer 24 s) operators.Star s (Paren s (Binary (Integer 60 s) operators.Star s (Integer 60 s)) s))) NoLines)
 
 abbrev pub ConstantsArePushed : Type 0
@@ -425,14 +425,14 @@ abbrev pub root_looks : CodeLooks
 root_looks = looks_by ((15, int_type) ∷ []) []
 
 abbrev pub root : Span → FuncTree
-root s = sample_func s (codes "root") NoParams (Results s (param s n 13 (int_at 15) NoParams) s) (line s (returns s (Integer 1 s)) NoLines)
+root s = sample_func s (codes "root") NoParams (Results s (param s n 13 (int_written 15) NoParams) s) (line s (returns s (Integer 1 s)) NoLines)
 
 -- func label(s string) {}
 abbrev pub label_looks : CodeLooks
 label_looks = looks_by [] []
 
 abbrev pub label : Span → FuncTree
-label s = sample_func s (codes "label") (param s (codes "s") 11 (type_at (codes "string") 13) NoParams) NoResult NoLines
+label s = sample_func s (codes "label") (param s (codes "s") 11 (type_written (codes "string") 13) NoParams) NoResult NoLines
 
 -- a receiver that is a pointer, a result with a name, a parameter over something else
 pub record Outsiders (s : Span) : Type 0 where

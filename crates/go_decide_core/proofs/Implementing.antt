@@ -7,10 +7,11 @@ use Rattle.go_term_core.specs.Terms.{Term, NoType, Predeclared, ErrorType, Defin
 use Rattle.go_term_core.specs.Identity.{IsMethod}
 use Rattle.go_mset_core.specs.table_core.Entries.{Entry, EntryLook, find_entry, underlying_in}
 use Rattle.go_mset_core.specs.embed_core.Owners.{Found, AFieldOf, AMethodOf, AnInterfaces, TheErrorMethod}
-use Rattle.go_mset_core.specs.level_core.Selectors.{Searched, Refused, In, FieldsIn, searched, IsFieldFound, IsFoundAs}
+use Rattle.go_mset_core.specs.level_core.Selectors.{Searched, Refused, In, FieldsIn, searched, IsFoundAs}
 use Rattle.go_mset_core.specs.MethodSets.{IsCallable, IsMethodFound}
 use Rattle.go_mset_core.specs.Implementing.{IsSigned, HasMethod, HasMethodsOf, error_sign}
 use Rattle.go_mset_core.proofs.Answering.{error_has}
+use Rattle.go_mset_core.proofs.Sets.{field_not_callable}
 use Rattle.go_decide_core.specs.Selecting.{Choice, selected_of}
 use Rattle.go_decide_core.specs.Implementing.{is_method_callable, is_signed, is_method_chosen, has_method_of, has_methods, has_methods_under}
 use Rattle.go_decide_core.specs.Laws.{ImplementationIsDecided}
@@ -31,17 +32,10 @@ decides_signed (AMethodOf path place pointer h) g = decides_signs true h g
 decides_signed (AnInterfaces path place h) g = decides_signs true h g
 decides_signed TheErrorMethod g = decides_signs true error_sign g
 
--- a field is not called
-no_field : (f : Found) (passes : Bool) → IsFieldFound f → IsCallable f passes → ⊥
-no_field (AFieldOf path place t) passes h c = c
-no_field (AMethodOf path place pointer g) passes h c = h
-no_field (AnInterfaces path place g) passes h c = h
-no_field TheErrorMethod passes h c = h
-
 to_method : (look : EntryLook) (w : Searched) (name from path : List ℕ) (passes : Bool) (f : Found) → IsFoundAs look w name from path passes f → IsCallable f passes → IsMethodFound look w name from path f
 to_method look (Refused why) name from path passes f x c = x
 to_method look (In t by_pointer) name from path passes f x c = (x.0, x.1, subst (λ b. IsCallable f b) x.2 c)
-to_method look (FieldsIn t) name from path passes f x c = no_field f passes x.1 c
+to_method look (FieldsIn t) name from path passes f x c = field_not_callable f passes x.1 c
 
 of_method : (look : EntryLook) (w : Searched) (name from path : List ℕ) (f : Found) → IsMethodFound look w name from path f → (passes : Bool) × IsFoundAs look w name from path passes f × IsCallable f passes
 of_method look (Refused why) name from path f x = absurd x

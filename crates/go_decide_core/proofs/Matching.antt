@@ -3,14 +3,14 @@ use Rattle.std.proofs.Common.{◌≡◌, ℕ, zero, suc, ◌+◌, ◌≤◌, Boo
 use Rattle.std.specs.Prelude.{slice_get}
 use Rattle.go_text_core.specs.Text.{SameId}
 use Rattle.go_term_core.specs.Terms.{Term, NoType, Predeclared, ErrorType, Defined, PointerTo, StructOf, InterfaceOf, Fields, NoField, AField}
+use Rattle.go_term_core.proofs.Members.{In, contained_in, in_back, in_either, in_front, in_map, map_in}
 use Rattle.go_mset_core.specs.table_core.Entries.{EntryLook, same_id, has_method}
 use Rattle.go_mset_core.specs.embed_core.Owners.{OwnerModel, EmbeddedEdge, embedded_edge, owner_in, embedded_edges, term_embedded, embedded_in, Found, Named, members_of}
 use Rattle.go_mset_core.specs.embed_core.OwnersShown.{IsNamedAt}
 use Rattle.go_mset_core.specs.level_core.Paths.{Step, FieldsLead, Hit}
-use Rattle.go_mset_core.specs.level_core.ListLemmas.{In, contained_in}
-use Rattle.go_mset_core.specs.level_core.Edges.{step_edge}
+use Rattle.go_mset_core.specs.level_core.Edges.{above, step_edge}
 use Rattle.go_decide_core.specs.Selecting.{Trail, trail, behind_edge, behind_edges, trails_of, Match, match_at, matches_among, matches_behind, matches_of}
-use Rattle.go_decide_core.proofs.Lists.{in_append, in_front, in_back, in_mapped, mapped_in, Apart, apart_append, apart_map}
+use Rattle.go_decide_core.proofs.Lists.{Apart, apart_append, apart_map}
 use Rattle.go_decide_core.proofs.Alike.{decides_id}
 
 -- trails
@@ -18,8 +18,8 @@ use Rattle.go_decide_core.proofs.Alike.{decides_id}
 behind_found : (f : Term → List Trail) (es : List EmbeddedEdge) (w : Trail) → In (behind_edges f es) w → (e : EmbeddedEdge) × In es e × ((v : Trail) × In (f e.target) v × (behind_edge e v ≡ w))
 behind_found f [] w h = absurd h
 behind_found f (e ∷ es) w h =
-    elim (in_append (map (behind_edge e) (f e.target)) (behind_edges f es) w h) [
-      | inl k ↦ (e, inl refl, in_mapped (behind_edge e) (f e.target) w k)
+    elim (in_either (map (behind_edge e) (f e.target)) (behind_edges f es) w h) [
+      | inl k ↦ (e, inl refl, map_in (behind_edge e) (f e.target) w k)
       | inr k ↦ let r = behind_found f es w k in (r.0, inr r.1, r.2)
     ]
 
@@ -27,7 +27,7 @@ found_behind : (f : Term → List Trail) (es : List EmbeddedEdge) (e : EmbeddedE
 found_behind f [] e v h k = absurd h
 found_behind f (x ∷ es) e v (inl s) k =
     in_front (map (behind_edge x) (f x.target)) (behind_edges f es) (behind_edge e v)
-    (subst (λ y. In (map (behind_edge x) (f x.target)) (behind_edge y v)) s (mapped_in (behind_edge x) (f x.target) v (subst (λ (y : EmbeddedEdge). In (f y.target) v) (sym s) k)))
+    (subst (λ y. In (map (behind_edge x) (f x.target)) (behind_edge y v)) s (in_map (behind_edge x) (f x.target) v (subst (λ (y : EmbeddedEdge). In (f y.target) v) (sym s) k)))
 found_behind f (x ∷ es) e v (inr h) k = in_back (map (behind_edge x) (f x.target)) (behind_edges f es) (behind_edge e v) (found_behind f es e v h k)
 
 edge_step : (look : EntryLook) (t : Term) (e : EmbeddedEdge) → In (embedded_in (owner_in look t)) e → Step look t e.position e.pointer e.target
@@ -64,16 +64,6 @@ SamePlace e f = e.position ≡ f.position
 abbrev SamePath : Trail → Trail → Type 0
 SamePath w v = w.path ≡ v.path
 
-above_step : (b : Bool) (i : ℕ) (t : Term) (rest : List EmbeddedEdge) (e : EmbeddedEdge) → (In rest e → suc i ≤ e.position) → In (if b then embedded_edge i t ∷ rest else rest) e → i ≤ e.position
-above_step true i t rest e more (inl s) = let p : i ≡ e.position = ap (λ (y : EmbeddedEdge). y.position) s in omega (arith, p)
-above_step true i t rest e more (inr r) = let l = more r in omega (arith, l)
-above_step false i t rest e more r = let l = more r in omega (arith, l)
-
-above : (o : OwnerModel) (path : List ℕ) (i : ℕ) (fs : Fields) (e : EmbeddedEdge) → In (embedded_edges o path i fs) e → i ≤ e.position
-above o path i NoField e h = absurd h
-above o path i (AField name place embedded t tag fs) e h =
-    above_step (embedded && not (has_method o.path o.methods name path)) i t (embedded_edges o path (suc i) fs) e (λ r. above o path (suc i) fs e r) h
-
 apart_step : (b : Bool) (i : ℕ) (t : Term) (rest : List EmbeddedEdge) → ((e : EmbeddedEdge) → In rest e → suc i ≤ e.position) → Apart SamePlace rest → Apart SamePlace (if b then embedded_edge i t ∷ rest else rest)
 apart_step true i t rest higher a = (λ e h same. let l = higher e h in omega (arith, l, same), a)
 apart_step false i t rest higher a = a
@@ -105,7 +95,7 @@ behind_apart f (e ∷ es) a each =
     (apart_map SamePath SamePath (behind_edge e) (f e.target) (λ x y s. tails e.position e.position x.path y.path s) (each e.target))
     (behind_apart f es a.1 each)
     (λ x y h k s.
-    let m = in_mapped (behind_edge e) (f e.target) x h in
+    let m = map_in (behind_edge e) (f e.target) x h in
     let n = behind_found f es y k in
     a.0 n.0 n.1 (heads e.position n.0.position m.0.path n.2.0.path (ap (λ (v : Trail). v.path) m.2 ∙ s ∙ sym (ap (λ (v : Trail). v.path) n.2.2))))
 
@@ -171,7 +161,7 @@ IsMatch look name from ws m = In ws m.trail × IsNamedAt (owner_in look m.trail.
 matched : (look : EntryLook) (name from : List ℕ) (ws : List Trail) (m : Match) → In (matches_behind look name from ws) m → IsMatch look name from ws m
 matched look name from [] m h = absurd h
 matched look name from (w ∷ ws) m h =
-    elim (in_append (matches_among w name from 0 (members_of (owner_in look w.node))) (matches_behind look name from ws) m h) [
+    elim (in_either (matches_among w name from 0 (members_of (owner_in look w.node))) (matches_behind look name from ws) m h) [
       | inl k ↦
           let r = among w name from 0 (members_of (owner_in look w.node)) m k in
           let number : r.1.0 ≡ m.number = (let e = r.1.2 in omega (arith, e)) in

@@ -3,11 +3,12 @@ use Rattle.std.proofs.Common.{◌≡◌, ℕ, zero, suc, ◌+◌, ◌<◌, ◌�
 use Rattle.std.proofs.lemmas.Bool.{or_cases, or_left, or_right}
 use Rattle.go_text_core.specs.declared.rule.Rule.{Rule}
 use Rattle.go_term_core.specs.Terms.{Term}
+use Rattle.go_term_core.proofs.Members.{In}
 use Rattle.go_mset_core.specs.table_core.Entries.{Entry, EntryLook, find_entry}
 use Rattle.go_mset_core.specs.embed_core.Owners.{owner_in, Found, has_spelled}
 use Rattle.go_mset_core.specs.level_core.Paths.{Hit, HasHit, IsSelected, IsAmbiguous, IsMemberSpelled}
 use Rattle.go_mset_core.specs.level_core.Selectors.{IsMissing, ambiguous, hidden, absent}
-use Rattle.go_mset_core.specs.level_core.ListLemmas.{In, above_or_same, below_or_not}
+use Rattle.go_mset_core.specs.level_core.ListLemmas.{above_or_same, below_or_not}
 use Rattle.go_decide_core.specs.Selecting.{Trail, trail, trails_of, Match, match_at, matches_of, unless_some, first_matches, some_spelled, spelled_from, last_depth, Choice, only_match, match_in}
 use Rattle.go_decide_core.proofs.Lists.{Apart}
 use Rattle.go_decide_core.proofs.Shortening.{short_path}

@@ -1,20 +1,19 @@
 -- A path can be cut until it comes to no type of the table twice, whatever types are embedded.
-use Rattle.std.proofs.Common.{◌≡◌, ℕ, zero, suc, ◌+◌, ◌*◌, ◌<◌, ◌≤◌, Bool, true, false, not, ◌&&◌, ◌||◌, List, [], ◌∷◌, ◌++◌, length, max, Option, Some, None, refl, sym, ap, ◌∙◌, subst, arith, ◌⊎◌, inl, inr, if◌then◌else◌}
+use Rattle.std.proofs.Common.{◌≡◌, ℕ, zero, suc, ◌+◌, ◌*◌, ◌<◌, ◌≤◌, Bool, true, false, not, ◌&&◌, ◌||◌, List, [], ◌∷◌, ◌++◌, length, max, Option, Some, None, refl, ap, subst, arith, ◌⊎◌, inl, inr, if◌then◌else◌}
 use Rattle.std.specs.Prelude.{nat_eq}
 use Rattle.std.specs.Map.{lookup}
 use Rattle.go_term_core.specs.decl_core.declared.keys.DeclKey.{DeclKey}
 use Rattle.go_term_core.specs.Terms.{Term, NoType, Predeclared, ErrorType, Defined, PointerTo, StructOf, InterfaceOf, Fields, NoField, AField}
+use Rattle.go_term_core.proofs.Members.{In}
 use Rattle.go_mset_core.specs.table_core.Entries.{Entry, find_entry, same_key, term_in, underlying_in, has_method}
 use Rattle.go_mset_core.specs.embed_core.Owners.{OwnerModel, EmbeddedEdge, embedded_edge, off, owner_in, embedded_edges, term_embedded, embedded_in}
 use Rattle.go_mset_core.specs.level_core.Paths.{Step, FieldsLead}
-use Rattle.go_mset_core.specs.level_core.mirrors.Ways.{At, IsNumbered}
-use Rattle.go_mset_core.specs.level_core.mirrors.Levels.{left_below, left}
-use Rattle.go_mset_core.specs.level_core.ListLemmas.{In}
+use Rattle.go_mset_core.specs.level_core.mirrors.Ways.{IsNumbered}
+use Rattle.go_mset_core.specs.level_core.mirrors.Levels.{left}
 use Rattle.go_mset_core.specs.level_core.Edges.{step_edge}
-use Rattle.go_mset_core.specs.level_core.Weights.{lookup_more, lookup_new, left_falls}
-use Rattle.go_mset_core.specs.level_core.Growing.{numbered_same}
+use Rattle.go_mset_core.specs.level_core.Weights.{left_falls}
+use Rattle.go_mset_core.specs.select_core.Short.{Avoids, avoids_none, last_visit, left_none, marked, numbered, starts}
 use Rattle.go_decide_core.specs.Selecting.{nesting, fields_nesting, deepest, last_depth}
-use Rattle.go_decide_core.proofs.Tests.{decides_key}
 
 -- how deep the types are that a type embeds
 
@@ -56,21 +55,6 @@ term_deep o (PointerTo t) e h = absurd h
 term_deep o (StructOf path fs) e h = let l = fields_deep o path 0 fs e h in omega (arith, l)
 term_deep o (InterfaceOf path ms) e h = absurd h
 
--- what is found stands at a place
-
-found_step : (b : Bool) (x e : Entry) (rest : Option Entry) (k : DeclKey) (es : List Entry) → same_key x.key k ≡ b → (rest ≡ Some e → (n : ℕ) × At es n e × (e.key ≡ k)) → (if b then Some x else rest) ≡ Some e → (n : ℕ) × At (x ∷ es) n e × (e.key ≡ k)
-found_step true x e rest k es is more h = let s : x ≡ e = (cc) in (0, ap Some s, ap (λ (y : Entry). y.key) (sym s) ∙ (decides_key x.key k).0 is)
-found_step false x e rest k es is more h = let r = more h in (suc r.0, r.1, r.2)
-
-found_at : (es : List Entry) (k : DeclKey) (e : Entry) → find_entry es k ≡ Some e → (n : ℕ) × At es n e × (e.key ≡ k)
-found_at [] k e h = cc
-found_at (x ∷ es) k e h = found_step (same_key x.key k) x e (find_entry es k) k es refl (λ r. found_at es k e r) h
-
-numbered : (es : List Entry) (k : DeclKey) (e : Entry) → find_entry es k ≡ Some e → (n : ℕ) × IsNumbered es n (Defined k)
-numbered es k e h =
-    let r = found_at es k e h in
-    (r.0, record { entry = e; at = r.1; is = ap Defined (sym r.2); found = ap (find_entry es) r.2 ∙ h })
-
 -- a type that embeds one is of the table, or the one stands within it
 abbrev Falls : List Entry → Term → Term → Type 0
 Falls es t v = (((n : ℕ) × IsNumbered es n t) × (nesting v ≤ deepest es)) ⊎ (nesting v < nesting t)
@@ -94,71 +78,6 @@ edge_falls es (InterfaceOf path ms) e h = absurd h
 
 step_falls : (es : List Entry) (t : Term) (i : ℕ) (p : Bool) (v : Term) → Step (find_entry es) t i p v → Falls es t v
 step_falls es t i p v s = let x = step_edge (find_entry es) t i p v s in subst (λ w. Falls es t w) x.5 (edge_falls es t x.0 x.2)
-
--- whether a type is that defined type
-same_node : (w : Term) (j : DeclKey) → (w ≡ Defined j) ⊎ (w ≡ Defined j → ⊥)
-same_node NoType j = inr (λ e. cc)
-same_node (Predeclared b) j = inr (λ e. cc)
-same_node ErrorType j = inr (λ e. cc)
-same_node (Defined k) j = by (same_key k j) refl
-  where
-    by : (b : Bool) → same_key k j ≡ b → (Defined k ≡ Defined j) ⊎ (Defined k ≡ Defined j → ⊥)
-    by true e = inl (ap Defined ((decides_key k j).0 e))
-    by false e = inr (λ s. let kj : k ≡ j = (cc) in let t : same_key k j ≡ true = (decides_key k j).1 kj in let z : true ≡ false = sym t ∙ e in (cc))
-same_node (PointerTo t) j = inr (λ e. cc)
-same_node (StructOf path fs) j = inr (λ e. cc)
-same_node (InterfaceOf path ms) j = inr (λ e. cc)
-
--- paths that come to no type that is marked
-
-abbrev Free : List Entry → List (ℕ × ℕ) → Term → Type 0
-Free es met u = (n : ℕ) → IsNumbered es n u → lookup (nat_eq n) met ≡ None
-
-abbrev Avoids : List Entry → List (ℕ × ℕ) → Term → List ℕ → Term → Type 0
-Avoids es met t [] u = Free es met t × (t ≡ u)
-Avoids es met t (i ∷ q) u = Free es met t × ((v : Term) × (p : Bool) × Step (find_entry es) t i p v × Avoids es met v q u)
-
-avoids_none : (es : List Entry) (t : Term) (q : List ℕ) (p : Bool) (u : Term) → FieldsLead (find_entry es) t q p u → Avoids es [] t q u
-avoids_none es t [] p u h = (λ n num. refl, h.0)
-avoids_none es t (i ∷ q) p u h = (λ n num. refl, (h.0, h.1, h.3, avoids_none es h.0 q h.2 u h.4))
-
-free_more : (es : List Entry) (met : List (ℕ × ℕ)) (n : ℕ) (w : Term) → Free es met w → (IsNumbered es n w → ⊥) → Free es (met ++ (n, 0) ∷ []) w
-free_more es met n w free other m num = lookup_more met n 0 m (λ e. other (subst (λ k. IsNumbered es k w) e num)) ∙ free m num
-
--- the last time that a path is at t: it never is, or the rest of it never comes back
-abbrev Rest : List Entry → List (ℕ × ℕ) → Term → Term → Type 0
-Rest es met t u = (t ≡ u) ⊎ ((i : ℕ) × (p : Bool) × (v : Term) × (q : List ℕ) × Step (find_entry es) t i p v × Avoids es met v q u)
-
-same_as : (es : List Entry) (n : ℕ) (t : Term) (num : IsNumbered es n t) (w : Term) → (w ≡ t) ⊎ (w ≡ t → ⊥)
-same_as es n t num w = elim (same_node w num.entry.key) [ inl e ↦ inl (e ∙ sym num.is) | inr d ↦ inr (λ e. d (e ∙ num.is)) ]
-
-last_visit : (es : List Entry) (met : List (ℕ × ℕ)) (n : ℕ) (t : Term) (num : IsNumbered es n t) (w : Term) (q : List ℕ) (u : Term) → Avoids es met w q u → Avoids es (met ++ (n, 0) ∷ []) w q u ⊎ Rest es (met ++ (n, 0) ∷ []) t u
-last_visit es met n t num w [] u h =
-    elim (same_as es n t num w) [
-      | inl z ↦ inr (inl (sym z ∙ h.1))
-      | inr d ↦ inl (free_more es met n w h.0 (λ m. d (numbered_same es n w t m num)), h.1)
-    ]
-last_visit es met n t num w (i ∷ q) u h =
-    elim (last_visit es met n t num h.1.0 q u h.1.3) [
-      | inr r ↦ inr r
-      | inl a ↦ elim (same_as es n t num w) [
-        | inl z ↦ inr (inr (i, h.1.1, h.1.0, q, subst (λ k. Step (find_entry es) k i h.1.1 h.1.0) z h.1.2, a))
-        | inr d ↦ inl (free_more es met n w h.0 (λ m. d (numbered_same es n w t m num)), (h.1.0, h.1.1, h.1.2, a))
-      ]
-    ]
-
-starts : (es : List Entry) (met : List (ℕ × ℕ)) (t : Term) (q : List ℕ) (u : Term) → Avoids es met t q u → Free es met t
-starts es met t [] u h = h.0
-starts es met t (i ∷ q) u h = h.0
-
-marked : (es : List Entry) (met : List (ℕ × ℕ)) (n : ℕ) (t : Term) (q : List ℕ) (u : Term) → IsNumbered es n t → lookup (nat_eq n) met ≡ None → Avoids es (met ++ (n, 0) ∷ []) t q u → ⊥
-marked es met n t q u num none a =
-    let x = starts es (met ++ (n, 0) ∷ []) t q u a n num in
-    let y = lookup_new met n 0 none in
-    some_none 0 (sym y ∙ x)
-  where
-    some_none : (p : ℕ) → Some p ≡ None → ⊥
-    some_none p z = cc
 
 -- one type fewer that may be met makes room for the deepest that is embedded
 drops : (d l m : ℕ) → l < m → l * suc d + suc d ≤ m * suc d
@@ -219,10 +138,6 @@ short (suc b) es met t (i ∷ q) u l h =
           let s = short b es met h.1.0 q u (omega (arith, y, l)) h.1.3 in
           (i ∷ s.0, h.1.1 || s.1, (h.1.0, h.1.1, s.1, h.1.2, s.2, refl), omega (arith, s.3))
     ]
-
-left_none : (n : ℕ) → left_below n [] ≤ n
-left_none zero = omega arith
-left_none (suc n) = let l = left_none n in omega (arith, l)
 
 times : (d l m : ℕ) → l ≤ m → l * suc d ≤ m * suc d
 times d l m h = grind arith

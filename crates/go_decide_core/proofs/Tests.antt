@@ -1,17 +1,15 @@
 -- Tests that decide.
 use Rattle.std.proofs.Common.{◌≡◌, ◌↔◌, ℕ, Bool, true, false, not, ◌&&◌, ◌||◌, List, IsTrue, ◌⊎◌, inl, inr, refl, subst, eq-eqb}
 use borrow.Author.Tests.{eqb-true}
-use denote.Enum.Bare.{sameb, same_true, true_same}
 use Rattle.std.specs.Prelude.{nat_eq}
-use Rattle.std.specs.Str.{bytes_eq}
 use Rattle.std.proofs.lemmas.Bool.{and_parts, and_from, or_cases, or_left, or_right}
 use Rattle.std.proofs.lemmas.Slice.Eq.{bytes_eq-Decides}
-use Rattle.go_term_core.specs.decl_core.contracts.places.DeclKind as decl_kind
 use Rattle.go_term_core.specs.decl_core.declared.keys.DeclKey.{DeclKey}
 use Rattle.go_term_core.specs.declared.term.Basic.{Basic}
 use Rattle.go_term_core.specs.declared.term.Basic.TheVariants as basics
 use Rattle.go_term_core.specs.Identity.{TagsAgree}
-use Rattle.go_mset_core.specs.table_core.Entries.{same_key, same_decl}
+use Rattle.go_mset_core.specs.table_core.Entries.{same_key}
+use Rattle.go_mset_core.specs.table_core.Keys.{same_key_itself, same_key_true}
 use Rattle.go_denote_core.specs.operand_core.Values.{is_basic}
 use Rattle.go_decide_core.specs.Identity.{same_flag, tags_agree}
 
@@ -58,22 +56,5 @@ decides_basic basics.Text basics.Bool = (λ h. cc, λ h. cc)
 decides_basic basics.Text basics.Int = (λ h. cc, λ h. cc)
 decides_basic basics.Text basics.Text = (λ h. refl, λ h. refl)
 
-key_same : (a b : DeclKey) → same_key a b ≡ true → a ≡ b
-key_same a b h =
-    let x = and_parts (bytes_eq a.path b.path) (same_decl a.decl b.decl) h in
-    let y = and_parts (nat_eq a.decl.file b.decl.file) (nat_eq a.decl.number b.decl.number && sameb decl_kind.the_type a.decl.kind b.decl.kind) x.1 in
-    let z = and_parts (nat_eq a.decl.number b.decl.number) (sameb decl_kind.the_type a.decl.kind b.decl.kind) y.1 in
-    let p = (bytes_eq-Decides a.path b.path).0 x.0 in
-    let f = eqb-true a.decl.file b.decl.file y.0 in
-    let n = eqb-true a.decl.number b.decl.number z.0 in
-    let k = same_true decl_kind.the_type tt a.decl.kind b.decl.kind z.1 in
-    λ i. record { path = p i; decl = record { file = f i; number = n i; kind = k i } }
-
-pub key_itself : (k : DeclKey) → same_key k k ≡ true
-key_itself k =
-    and_from (bytes_eq k.path k.path) (same_decl k.decl k.decl) ((bytes_eq-Decides k.path k.path).1 refl)
-    (and_from (nat_eq k.decl.file k.decl.file) (nat_eq k.decl.number k.decl.number && sameb decl_kind.the_type k.decl.kind k.decl.kind) (eq-eqb k.decl.file k.decl.file refl)
-    (and_from (nat_eq k.decl.number k.decl.number) (sameb decl_kind.the_type k.decl.kind k.decl.kind) (eq-eqb k.decl.number k.decl.number refl) (true_same decl_kind.the_type k.decl.kind k.decl.kind refl)))
-
 pub decides_key : (a b : DeclKey) → IsTrue (same_key a b) ↔ (a ≡ b)
-decides_key a b = (λ h. key_same a b h, λ h. subst (λ k. same_key a k ≡ true) h (key_itself a))
+decides_key a b = (λ h. same_key_true a b h, λ h. subst (λ k. same_key a k ≡ true) h (same_key_itself a))

@@ -82,7 +82,7 @@ abbrev assigned : {T : Type 0} → TypeRules T → T → Option T → Bool
 assigned rules t None = false
 assigned rules t (Some s) = rules.assignable s t
 
-untyped_alike : {T : Type 0} (rules others : TypeRules T) (b : Basic) (t : T) → Some (basic_type rules b) ≡ Some (basic_type others b) → rules.form t ≡ others.form t
+pub untyped_alike : {T : Type 0} (rules others : TypeRules T) (b : Basic) (t : T) → Some (basic_type rules b) ≡ Some (basic_type others b) → rules.form t ≡ others.form t
     → rules.assignable (basic_type others b) t ≡ others.assignable (basic_type others b) t → untyped_assignable rules b t ≡ untyped_assignable others b t
 untyped_alike rules others b t own form is =
     ap (λ o. takes_untyped b (assigned rules t o) (rules.form t)) own
@@ -102,7 +102,7 @@ convertible_alike rules others types.UntypedText t h = refl
 convertible_alike rules others types.UntypedBool t h = refl
 convertible_alike rules others types.Nil t h = refl
 
-basic_alike : {T : Type 0} (rules others : TypeRules T) (v : ValueType T) → ValueAlike rules others v → basic_under rules v ≡ basic_under others v
+pub basic_alike : {T : Type 0} (rules others : TypeRules T) (v : ValueType T) → ValueAlike rules others v → basic_under rules v ≡ basic_under others v
 basic_alike rules others (types.Typed s) h = ap form_basic h.1
 basic_alike rules others types.UntypedInt h = refl
 basic_alike rules others types.UntypedText h = refl

@@ -2,12 +2,12 @@
 ghost use Rattle.std.specs.Prelude.{◌≡◌, IfOk};
 ghost use Rattle.go_denote_core.specs.Look.{look_of};
 ghost use Rattle.go_denote_core.specs.Selectors as selectors;
-ghost use Rattle.go_operand_core.specs.Values.{default_type};
+ghost use Rattle.go_operand_core.specs.Values as values;
 
 use crate::answers::{func_answer, refused, type_answer, value_answer, value_of_type};
 use crate::looks::Names;
 use crate::things::{Answer, Denoted, Dot, Exported, Outcome, Selection, Stand, Usage};
-use go_operand_core::{Operand, ValueType};
+use go_operand_core::{Operand, default_type};
 use go_text_core::Rule;
 use std::alloc::{AllocError, Global};
 
@@ -129,19 +129,6 @@ fn member_answer<E: Names>(
     }
 }
 
-// The type in which a member is searched: that of an untyped value is its default type, and `nil` has none.
-fn searched_type<E: Names>(env: &E, value_type: &ValueType<E::Type>) -> Option<E::Type>
-    ensures { result ≡ default_type (E.types env.now) value_type.now }
-{
-    match value_type {
-        ValueType::Typed(t) => Some(env.again(t)),
-        ValueType::UntypedInt => Some(env.int()),
-        ValueType::UntypedText => Some(env.string()),
-        ValueType::UntypedBool => Some(env.bool()),
-        ValueType::Nil => None,
-    }
-}
-
 fn value_selector<E: Names>(
     env: &E,
     alloc: Global,
@@ -149,9 +136,9 @@ fn value_selector<E: Names>(
     operand: &Operand<E::Type>,
     name: &str,
 ) -> Result<Answer<E::Type, E::Signature, E::Decl, E::Path>, AllocError>
-    ensures { IfOk result (λ answer. answer ≡ selectors.value_selector (look_of (E.types env.now) (E.names env.now)) usage operand.now.addressable (default_type (E.types env.now) operand.now.value_type) name.now) }
+    ensures { IfOk result (λ answer. answer ≡ selectors.value_selector (look_of (E.types env.now) (E.names env.now)) usage operand.now.addressable (values.default_type (E.types env.now) operand.now.value_type) name.now) }
 {
-    match searched_type(env, &operand.value_type) {
+    match default_type(env, &operand.value_type) {
         None => Ok(refused(Rule::S6)),
         Some(t) => {
             let selection = env.select(alloc, &t, name)?;

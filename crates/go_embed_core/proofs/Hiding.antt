@@ -1,15 +1,16 @@
 -- Laws of fields that a method of their type stands before.
 use Rattle.std.proofs.Common.{◌≡◌, ℕ, zero, suc, Bool, true, false, not, ◌&&◌, ◌||◌, List, [], ◌∷◌, if◌then◌else◌, inl, inr, refl, sym, ap, ◌∙◌, subst}
-use Rattle.std.specs.Prelude.{IsTrue, Contains}
-use Rattle.std.specs.Str.{bytes_eq, chars}
+use Rattle.std.specs.Prelude.{Contains}
+use Rattle.std.specs.Str.{bytes_eq}
 use Rattle.std.proofs.lemmas.Bool.{true≢false, or_parts, or_cases, or_left, or_right, and_from}
 use Rattle.std.proofs.lemmas.List.Elements.{Contains-append_left, Contains-append_right, Contains-append_cases}
 use Rattle.std.proofs.lemmas.Slice.Eq.{bytes_eq-Decides}
-use Rattle.go_text_core.specs.Text.{SameId, exported, is_blank}
+use Rattle.go_text_core.specs.Text.{SameId, is_blank}
 use Rattle.go_text_core.specs.declared.rule.Rule.TheVariants as rules
 use Rattle.go_term_core.specs.decl_core.declared.keys.DeclKey.{DeclKey}
 use Rattle.go_term_core.specs.declared.term.MemberPlace.{MemberPlace}
 use Rattle.go_term_core.specs.Terms.{Term, StructOf, Fields, NoField, AField}
+use Rattle.go_term_core.proofs.Meanings.{id_back}
 use Rattle.go_type_core.specs.settle_core.declared.kind.Kind.{Kind}
 use Rattle.go_type_core.specs.settle_core.Settled.{is_among_names}
 use Rattle.go_type_core.specs.table_core.Entries.{Member, same_id, has_method}
@@ -225,9 +226,6 @@ none_stands : (path home : List ℕ) (fs : Fields) (i : ℕ) (name : List ℕ) (
 none_stands path home fs i name place embedded t ms m field own same before =
     true≢false (sym (field_stands path home fs i name place embedded t m field same before) ∙ (or_parts (is_blank m.name) (has_field_before path (StructOf home fs) m) own.own).1)
 
-same_back : (a p b q : List ℕ) → SameId a p b q → SameId b q a p
-same_back a p b q h = (sym h.0, elim h.1 [ inl e ↦ inl (subst (λ n. IsTrue (exported (chars n))) h.0 e) | inr e ↦ inr (sym e) ])
-
 -- 5. Both directions.
 
 hidden_by : (kind : DeclKey → Kind) (path home : List ℕ) (fs : Fields) (ms : List Member) (i : ℕ) (name : List ℕ) (place : MemberPlace) (embedded : Bool) (t : Term) (b : Bool) → bytes_eq home path ≡ b
@@ -247,7 +245,7 @@ hides kind path home fs ms i name place embedded t m true is field k same =
     named_telling (own_names path u ms) fs i name place embedded t field (ap (is_among_names (own_names path u ms)) (sym e) ∙ own_named path u ms k.source k.own)
 hides kind path home fs ms i name place embedded t m false is field k same =
     let e : k.source.name ≡ m.name = ap (λ (x : Member). x.name) k.is in
-    let back : SameId name home k.source.name path = subst (λ n. SameId name home n path) (sym e) (same_back m.name path name home same) in
+    let back : SameId name home k.source.name path = subst (λ n. SameId name home n path) (sym e) (id_back m.name path name home same) in
     absurd (none_stands path home fs i name place embedded t ms k.source field k.own (same_id_from name home k.source.name path back)
     (or_left (not (bytes_eq home path)) (is_before place k.source.place) (ap not is)))
 
@@ -262,7 +260,7 @@ stands_before kind path home fs ms name place f h =
       elim (f.ordered k.source k.own.among) [
         | inl before ↦ before
         | inr before ↦ absurd (none_stands path home fs f.number name place f.embedded f.term ms k.source f.field k.own
-            (same_id_from name home k.source.name path (same_back k.source.name path name home same)) (or_right (not (bytes_eq home path)) (is_before place k.source.place) before))
+            (same_id_from name home k.source.name path (id_back k.source.name path name home same)) (or_right (not (bytes_eq home path)) (is_before place k.source.place) before))
       ],
     )
 

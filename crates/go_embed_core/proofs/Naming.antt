@@ -3,6 +3,7 @@ use Rattle.std.proofs.Common.{◌≡◌, ℕ, ◌+◌, ◌<◌, ◌≤◌, Bool,
 use Rattle.std.specs.Str.{bytes_eq}
 use Rattle.std.proofs.lemmas.List.{drop_more, drop_all}
 use Rattle.go_text_core.specs.declared.rule.Rule.TheVariants as rules
+use Rattle.go_text_core.proofs.Each.{or_false}
 use Rattle.go_term_core.specs.declared.term.Field.{Field}
 use Rattle.go_term_core.specs.Terms.{Term, StructOf}
 use Rattle.go_term_core.specs.Shapes.{Line, fields_in}
@@ -41,10 +42,6 @@ names_step path u ms i m names more lt is same before n =
     ap (λ b. b || is_among_names (own_names path u (map member_shown rest)) n) (same n)
     ∙ (taken path u (member_shown m) (map member_shown rest) names n
     ∙ (ap (λ l. is_among_names names n || is_among_names (own_names path u (map member_shown l)) n) (ap (λ y. y ∷ rest) is ∙ sym (drop_more ms i m lt)) ∙ before n))
-
-or_false : (b : Bool) → (b || false) ≡ b
-or_false true = refl
-or_false false = refl
 
 pub names_end : (path : List ℕ) (u : Term) (ms : List DeclaredMethod) (i : ℕ) (names : List (List ℕ)) → length ms ≤ i
     → ((n : List ℕ) → (is_among_names names n || is_among_names (own_names path u (map member_shown (drop i ms))) n) ≡ is_among_names (own_names path u (map member_shown ms)) n)

@@ -3,6 +3,7 @@ use Rattle.std.proofs.Common.{◌≡◌, ◌↔◌, ◌⊎◌, inl, inr, ℕ, su
 use Rattle.std.proofs.lemmas.Bool.{and_parts, and_from}
 use Rattle.std.proofs.lemmas.List.Elements.{All-nil, All-cons}
 use Rattle.go_tree_nodes.specs.Trees.{FileTree}
+use Rattle.go_meaning_core.specs.needs_core.Edges.{none_inside}
 use Rattle.go_meaning_core.specs.denote_core.declared.things.Outcome.{Outcome}
 use Rattle.go_meaning_core.specs.denote_core.declared.things.Outcome.TheVariants as outcomes
 use Rattle.go_meaning_core.specs.handle_core.Declarations.{Declaration}
@@ -39,9 +40,6 @@ none_said [] f h s = s
 none_said (u ∷ us) f h (inl s) = (let said : is_declared u.outcome ≡ false = ap is_declared s.1 in let fine : is_declared u.outcome ≡ true = h 0 u (omega arith) in let no : false ≡ true = sym said ∙ fine in cc)
 none_said (u ∷ us) f h (inr s) = none_said us f (λ k d lt. h (suc k) d (omega (arith, lt))) s
 
-nothing_in : {A : Type 0} (x : A) → Contains [] x → ⊥
-nothing_in x h = omega (arith, h.1)
-
 nothing_left : {A : Type 0} (xs : List A) → ((x : A) → Contains xs x → ⊥) → xs ≡ []
 nothing_left [] h = refl
 nothing_left (x ∷ xs) h = (let lt : 0 < suc (length xs) = omega arith in absurd (h x (0, lt, refl)))
@@ -51,8 +49,8 @@ IsReportedIn f = (x : Fault) → Contains f.report x ↔ (IsSaid f.answers.uses 
 
 faultless : (f : FileOf) → IsReportedIn f → f.report ≡ [] → HasNoFault f
 faultless f h none = record {
-  declared = all_declared f.answers.uses (λ x s. nothing_in x (subst (λ (l : List Fault). Contains l x) none ((h x).1 (inl s))));
-  unfaulted = nothing_left f.answers.faults (λ x s. nothing_in x (subst (λ (l : List Fault). Contains l x) none ((h x).1 (inr s))));
+  declared = all_declared f.answers.uses (λ x s. none_inside x (subst (λ (l : List Fault). Contains l x) none ((h x).1 (inl s))));
+  unfaulted = nothing_left f.answers.faults (λ x s. none_inside x (subst (λ (l : List Fault). Contains l x) none ((h x).1 (inr s))));
 }
 
 unreported : (f : FileOf) → IsReportedIn f → HasNoFault f → f.report ≡ []
@@ -60,7 +58,7 @@ unreported f h fine = nothing_left f.report (λ x s. by x ((h x).0 s))
   where
     by : (x : Fault) → IsSaid f.answers.uses x ⊎ Contains f.answers.faults x → ⊥
     by x (inl s) = none_said f.answers.uses x fine.declared s
-    by x (inr s) = nothing_in x (subst (λ (l : List Fault). Contains l x) fine.unfaulted s)
+    by x (inr s) = none_inside x (subst (λ (l : List Fault). Contains l x) fine.unfaulted s)
 
 is_nothing : (r : List Fault) → nothing_reported r ≡ true → r ≡ []
 is_nothing [] h = refl

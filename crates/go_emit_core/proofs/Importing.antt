@@ -1,8 +1,8 @@
 -- The imports of an object are those that pass.
-use Rattle.std.proofs.Common.{◌≡◌, inl, inr, ℕ, zero, suc, ◌<◌, Bool, true, false, if◌then◌else◌, List, [], ◌∷◌, Contains, Some, None, slice_get, refl, sym, ap, subst, arith}
+use Rattle.std.proofs.Common.{◌≡◌, ℕ, zero, suc, ◌<◌, Bool, true, false, if◌then◌else◌, List, [], ◌∷◌, Contains, Some, None, refl, sym, ap, subst, arith}
 use Rattle.std.specs.Prelude.{slice_index_or}
 use Rattle.std.specs.List.{flat_map}
-use Rattle.std.proofs.lemmas.List.Elements.{Contains-append_left, Contains-append_right, Contains-append_cases}
+use Rattle.go_meaning_core.specs.graph_core.PlanEdges.{from_flat, in_flat}
 use Rattle.go_meaning_core.specs.block_core.declared.imports.Imported.{Imported}
 use Rattle.go_meaning_core.specs.block_core.declared.imports.Imported.TheVariants as imported
 use Rattle.go_meaning_core.specs.handle_core.Declarations.{Declaration}
@@ -11,18 +11,6 @@ use Rattle.go_object_core.specs.Objects.{ObjectOf}
 use Rattle.go_emit_core.specs.Emitted.{are_clean, code_scene_over, whole_object}
 use Rattle.go_emit_core.specs.Imports.{all_passing, imported_paths}
 use Rattle.go_emit_core.specs.Laws.{ImportsPass, HasImportOf}
-
-in_flat : {A B : Type 0} (g : A → List B) (xs : List A) (i : ℕ) (x : A) (y : B) → slice_get xs i ≡ Some x → Contains (g x) y → Contains (flat_map g xs) y
-in_flat g [] i x y e h = cc
-in_flat g (a ∷ xs) zero x y e h = (let same : a ≡ x = cc in Contains-append_left (g a) (flat_map g xs) y (subst (λ z. Contains (g z) y) (sym same) h))
-in_flat g (a ∷ xs) (suc i) x y e h = Contains-append_right (g a) (flat_map g xs) y (in_flat g xs i x y e h)
-
-from_flat : {A B : Type 0} (g : A → List B) (xs : List A) (y : B) → Contains (flat_map g xs) y → (i : ℕ) × (x : A) × (slice_get xs i ≡ Some x) × Contains (g x) y
-from_flat g [] y h = absurd (omega (arith, h.1))
-from_flat g (a ∷ xs) y h = elim (Contains-append_cases (g a) (flat_map g xs) y h) [
-  | inl k ↦ (0, a, refl, k)
-  | inr k ↦ (let rest = from_flat g xs y k in (suc rest.0, rest.1, rest.2, rest.3))
-]
 
 single : (x y : List ℕ) → Contains (x ∷ []) y → x ≡ y
 single x y h = by h.0 h.1 h.2

@@ -26,7 +26,7 @@ use Rattle.go_meaning_core.specs.face_core.Faces.{TheFace}
 use Rattle.go_meaning_core.specs.face_core.Packages.{PackageFacesModel}
 use Rattle.go_meaning_core.specs.body_core.Notes.{TheUse, TheLocal}
 use Rattle.go_object_core.specs.instruction_core.declared.instruction.Instruction.TheVariants as instructions
-use Rattle.go_code_core.specs.Samples.{argument, ident_at, int_at, line, name, paren, returns, two_params}
+use Rattle.go_code_core.specs.Samples.{argument, ident_at, int_written, line, name, paren, returns, two_params}
 use Rattle.go_object_core.specs.Objects.{FunctionOf}
 use Rattle.go_emit_core.specs.Emitted.{functions_of}
 use Rattle.go_meaning_core.specs.Looking.{looks_of}
@@ -43,12 +43,12 @@ sample_function s text at params results first body last =
 
 abbrev pub sample_add : Span → FuncTree
 sample_add s =
-    sample_function s (codes "add") 16 (two_params s (codes "a") 20 (codes "b") 23 (int_at 25) NoParams) (OneResult (int_at 30)) 34
+    sample_function s (codes "add") 16 (two_params s (codes "a") 20 (codes "b") 23 (int_written 25) NoParams) (OneResult (int_written 30)) 34
     (line s (returns s (Binary (name (codes "a") 43) operators.Plus s (name (codes "b") 47))) NoLines) 49
 
 abbrev pub five : Span → FuncTree
 five s =
-    sample_function s (codes "five") 56 NoParams (OneResult (int_at 63)) 67
+    sample_function s (codes "five") 56 NoParams (OneResult (int_written 63)) 67
     (line s (returns s (Call (name (codes "add") 76) (paren 79) (argument s (Integer 2 s) (argument s (Integer 3 s) NoItems)) s)) NoLines) 86
 
 -- the identifiers that the file declares outside bodies are add, a, b and five

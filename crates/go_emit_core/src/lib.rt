@@ -15,7 +15,7 @@ pub use laws::{
     bodies_are_between_braces, calls_name_their_own, imports_pass, objects_are_of_faultless,
     objects_are_of_their_parts, one_object, sample_is_emitted,
 };
-pub use object::{close_object, close_objects, emit, emit_all};
+pub use object::{emit, emit_all};
 
 /// What the crates above name of `go_answer_core`.
 pub mod answer_core {
@@ -42,14 +42,9 @@ pub mod expr_core {
     pub use go_meaning_core::expr_core::Fault;
 }
 
-/// What the crates above name of `go_handle_core`.
-pub mod handle_core {
-    pub use go_meaning_core::handle_core::DeclSite;
-}
-
 /// What the crates above name of `go_object_core`.
 pub mod object_core {
-    pub use go_object_core::{FunctionCode, Object, Spelling, listing};
+    pub use go_object_core::{Object, listing};
 }
 
 /// What the crates above name of `go_operand_core`.
@@ -69,5 +64,5 @@ pub mod select_core {
 
 /// What the crates above name of `go_tree_core`.
 pub mod tree_core {
-    pub use go_meaning_core::tree_core::{OccId, Role, occurrences_are_written};
+    pub use go_meaning_core::tree_core::{OccId, occurrences_are_written};
 }

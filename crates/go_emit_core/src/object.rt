@@ -17,7 +17,7 @@ use crate::imports::passing_of;
 use crate::tables::tables_of;
 use go_meaning_core::answer_core::Site;
 use go_meaning_core::entry_core::outlines;
-use go_meaning_core::part_core::{Part, PartFile, close_told, close_view};
+use go_meaning_core::part_core::{Part, PartFile};
 use go_meaning_core::summary_core::{Summary, View, view_of};
 use go_meaning_core::{PackageNames, Tables, names_of, shorter};
 use go_object_core::{FunctionCode, Object};
@@ -123,9 +123,8 @@ fn object_told(
     tell_own(told, part)?;
     let all = told.as_slice();
     let seen = view_of(alloc, all)?;
-    let object = object_seen(alloc, part, all, &seen);
-    close_view(seen);
-    object
+    let object = object_seen(alloc, part, all, &seen)?;
+    Ok(object)
 }
 
 // The object of the package of a part, whatever is reported of it, over what the packages tell that it reaches and what it tells itself.
@@ -133,9 +132,8 @@ fn own_object(alloc: Global, part: &Part) -> Result<Object<Site>, AllocError>
     ensures { IfOk result (λ object. object_shown object ≡ whole_object (code_scene_over (told_to part.now.input part.now.content) part.now.input part.now.content) part.now.input part.now.content) }
 {
     let mut told = part.input().reached().list(alloc)?;
-    let object = object_told(alloc, part, &mut told);
-    close_told(told);
-    object
+    let object = object_told(alloc, part, &mut told)?;
+    Ok(object)
 }
 
 /// The object of the package of a part: none where anything is reported of a file of it. Its functions stand in order of file name and offset. Each
@@ -235,9 +233,8 @@ fn objects_told(
     tell_parts(told, parts)?;
     let all = told.as_slice();
     let seen = view_of(alloc, all)?;
-    let objects = objects_seen(alloc, parts, all, &seen);
-    close_view(seen);
-    objects
+    let objects = objects_seen(alloc, parts, all, &seen)?;
+    Ok(objects)
 }
 
 /// The objects of packages by their parts, as of a whole workspace, in the order of the parts: of each part that is there, and of which nothing is
@@ -254,14 +251,6 @@ pub fn emit_all(alloc: Global, parts: &[Option<Part>]) -> Result<Vec<Object<Site
     ensures { IfOk result (λ objects. map object_shown objects.items ≡ objects_of (somes parts.now)) }
 {
     let mut told = Vec::new(alloc);
-    let objects = objects_told(alloc, parts, &mut told);
-    close_told(told);
-    objects
+    let objects = objects_told(alloc, parts, &mut told)?;
+    Ok(objects)
 }
-
-/// Ends an object, as its drop does, and promises nothing: no answer may rest on it. A crate that ends its objects by this call proves no drops of
-/// functions of its own.
-pub fn close_object(_object: Object<Site>) {}
-
-/// Ends objects, as their drops do. It promises nothing either.
-pub fn close_objects(_objects: Vec<Object<Site>>) {}

@@ -23,7 +23,8 @@ use Rattle.go_entry_core.specs.Meanings.{Shows}
 use Rattle.go_entry_core.specs.Outlines.{FileOutline, IsOutline}
 use Rattle.go_entry_core.proofs.Among.{Among, among_from, among_to, among_flat, flat_among, among_numbered, numbered_among, among_filter, filter_among, among_map, map_among}
 use Rattle.go_entry_core.proofs.Ordered.{NumbersFrom, IsFrom, outline_rises, before_next, entries_rise, entries_own}
-use Rattle.go_entry_core.proofs.Placing.{same_key_itself, rise_one, type_is}
+use Rattle.go_entry_core.proofs.Placing.{rise_one, type_is}
+use Rattle.go_table_core.proofs.Keys.{same_key_itself}
 use Rattle.go_scope_core.specs.block_core.Declarations.{decl_ref}
 
 -- types and keys

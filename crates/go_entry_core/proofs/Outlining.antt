@@ -10,13 +10,11 @@ use Rattle.go_term_core.specs.decl_core.Shown.{decl_shown}
 use Rattle.go_term_core.specs.decl_core.TopDecls.{top_decls}
 use Rattle.go_scope_core.specs.graph_core.Packages.{Trees, trees_of}
 use Rattle.go_scope_core.specs.graph_core.Sources.{SourceModel, source}
+use Rattle.go_scope_core.specs.graph_core.Assemblies.{one_more}
 use Rattle.go_entry_core.specs.Outlines.{FileOutline, IsOutline, outline_of, outline_shown}
 
 abbrev outlines_of : Trees → List FileOutline
 outlines_of ts = map (λ t. outline_of t.1) ts
-
-trees_one : (s : SourceModel) (ss : List SourceModel) (f : FileTree) → s.content ≡ Ok f → trees_of (s ∷ ss) ≡ (s.name, f) ∷ trees_of ss
-trees_one s ss f e = ap (λ (r : Result FileTree SynFault). trees_of (source s.name s.text r ∷ ss)) e
 
 trees_none : (s : SourceModel) (ss : List SourceModel) (fault : SynFault) → s.content ≡ Err fault → trees_of (s ∷ ss) ≡ trees_of ss
 trees_none s ss fault e = ap (λ (r : Result FileTree SynFault). trees_of (source s.name s.text r ∷ ss)) e
@@ -26,7 +24,7 @@ trees_of-append [] ys = refl
 trees_of-append (x ∷ xs) ys = by x.content refl (trees_of-append xs ys)
   where
     by : (r : Result FileTree SynFault) → x.content ≡ r → trees_of (xs ++ ys) ≡ trees_of xs ++ trees_of ys → trees_of (x ∷ xs ++ ys) ≡ trees_of (x ∷ xs) ++ trees_of ys
-    by (Ok f) e h = trees_one x (xs ++ ys) f e ∙ (ap (λ l. (x.name, f) ∷ l) h ∙ ap (λ l. l ++ trees_of ys) (sym (trees_one x xs f e)))
+    by (Ok f) e h = one_more x (xs ++ ys) f e ∙ (ap (λ l. (x.name, f) ∷ l) h ∙ ap (λ l. l ++ trees_of ys) (sym (one_more x xs f e)))
     by (Err fault) e h = trees_none x (xs ++ ys) fault e ∙ (h ∙ ap (λ l. l ++ trees_of ys) (sym (trees_none x xs fault e)))
 
 trees_more : (files : List SourceModel) (i : ℕ) (s : SourceModel) → i < length files → s ≡ get_or files i s → trees_of (take (i + 1) files) ≡ trees_of (take i files) ++ trees_of (s ∷ [])
@@ -42,7 +40,7 @@ outline_more files i s f o old new lt is content places decls made was =
     ∙ (ap (λ l. l ++ outline_shown o ∷ []) was
     ∙ (ap (λ p. outlines_of ts ++ p ∷ []) one
     ∙ (sym (map-append (λ t. outline_of t.1) ts ((s.name, f) ∷ []))
-    ∙ ap outlines_of (ap (λ l. ts ++ l) (sym (trees_one s [] f content)) ∙ sym (trees_more files i s lt is))))))
+    ∙ ap outlines_of (ap (λ l. ts ++ l) (sym (one_more s [] f content)) ∙ sym (trees_more files i s lt is))))))
 
 pub outline_same : (files : List SourceModel) (i : ℕ) (s : SourceModel) (fault : SynFault) (old : List Outline) → i < length files → s ≡ get_or files i s → s.content ≡ Err fault
     → map outline_shown old ≡ outlines_of (trees_of (take i files)) → map outline_shown old ≡ outlines_of (trees_of (take (i + 1) files))

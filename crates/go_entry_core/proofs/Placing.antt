@@ -1,44 +1,19 @@
 -- The place of an entry among entries whose keys rise.
-use Rattle.std.proofs.Common.{◌≡◌, ℕ, zero, suc, ◌<◌, ◌⊎◌, inl, inr, true, false, ◌&&◌, List, [], ◌∷◌, length, get_or, map, Some, None, option_map, refl, sym, ap, ◌∙◌, subst, arith}
+use Rattle.std.proofs.Common.{◌≡◌, ℕ, zero, suc, ◌<◌, inl, inr, true, false, ◌&&◌, List, [], ◌∷◌, length, get_or, map, Some, None, option_map, refl, sym, ap, ◌∙◌, subst, arith}
 use Rattle.std.specs.Prelude.{slice_get, nat_eq, nat_lt}
-use Rattle.std.specs.Str.{bytes_eq}
 use Rattle.std.specs.List.Sorted.{IsPartitionPoint, IsPartitionedBy}
 use Rattle.std.proofs.lemmas.Bool.{true≢false, cases_order, false_from_ne_true, and_parts, and_from, or_cases, or_left, or_right, eqb-true, eq-eqb, ltb-true, lt-ltb}
-use Rattle.std.proofs.lemmas.Slice.Eq.{bytes_eq-Decides}
 use Rattle.std.proofs.lemmas.Option.{slice_get_within, slice_get-map, slice_get-get_or, get_or_from_slice_get}
-use denote.Enum.Bare.{sameb, same_true, true_same}
-use Rattle.go_term_core.specs.decl_core.contracts.places.DeclKind as decl_kind
 use Rattle.go_term_core.specs.decl_core.declared.keys.DeclKey.{DeclKey}
 use Rattle.go_term_core.specs.decl_core.declared.keys.DeclRef.{DeclRef}
 use Rattle.go_term_core.specs.Terms.{Term, NoType, Predeclared, ErrorType, Defined, PointerTo, StructOf, InterfaceOf}
 use Rattle.go_table_core.specs.declared.entry.TypeEntry.{TypeEntry}
-use Rattle.go_table_core.specs.Entries.{Entry, same_decl, same_key}
+use Rattle.go_table_core.specs.Entries.{Entry, same_key}
 use Rattle.go_table_core.specs.Shown.{entry_shown}
 use Rattle.go_table_core.specs.Tables.{KeysRise}
+use Rattle.go_table_core.proofs.Keys.{Before, before_on, rise_rest, same_key_from, same_key_true}
 use Rattle.go_entry_core.specs.Entries.{is_type_of}
 use Rattle.go_entry_core.specs.mirrors.Gaining.{is_before, IsMeantAt}
-
--- equal keys
-
-pub same_key_true : (a b : DeclKey) → same_key a b ≡ true → a ≡ b
-same_key_true a b h =
-    let parts = and_parts (bytes_eq a.path b.path) (same_decl a.decl b.decl) h in
-    let path : a.path ≡ b.path = (bytes_eq-Decides a.path b.path).0 parts.0 in
-    let inner = and_parts (nat_eq a.decl.file b.decl.file) (nat_eq a.decl.number b.decl.number && sameb decl_kind.the_type a.decl.kind b.decl.kind) parts.1 in
-    let last = and_parts (nat_eq a.decl.number b.decl.number) (sameb decl_kind.the_type a.decl.kind b.decl.kind) inner.1 in
-    let file : a.decl.file ≡ b.decl.file = eqb-true a.decl.file b.decl.file inner.0 in
-    let number : a.decl.number ≡ b.decl.number = eqb-true a.decl.number b.decl.number last.0 in
-    let kind : a.decl.kind ≡ b.decl.kind = same_true decl_kind.the_type tt a.decl.kind b.decl.kind last.1 in
-    λ i. record { path = path i; decl = record { file = file i; number = number i; kind = kind i } }
-
-pub same_key_itself : (k : DeclKey) → same_key k k ≡ true
-same_key_itself k =
-    and_from (bytes_eq k.path k.path) (same_decl k.decl k.decl) ((bytes_eq-Decides k.path k.path).1 refl)
-    (and_from (nat_eq k.decl.file k.decl.file) (nat_eq k.decl.number k.decl.number && sameb decl_kind.the_type k.decl.kind k.decl.kind) (eq-eqb k.decl.file k.decl.file refl)
-    (and_from (nat_eq k.decl.number k.decl.number) (sameb decl_kind.the_type k.decl.kind k.decl.kind) (eq-eqb k.decl.number k.decl.number refl) (true_same decl_kind.the_type k.decl.kind k.decl.kind refl)))
-
-pub same_key_from : (a b : DeclKey) → a ≡ b → same_key a b ≡ true
-same_key_from a b e = subst (λ (x : DeclKey). same_key a x ≡ true) e (same_key_itself a)
 
 -- a type of a key
 pub type_is : (k : DeclKey) (t : Term) → is_type_of k t ≡ true → t ≡ Defined k
@@ -52,9 +27,6 @@ type_is k (InterfaceOf path ms) h = absurd (true≢false (sym h))
 
 -- before and behind
 
-abbrev Before : DeclRef → DeclRef → Type 0
-Before a b = (a.file < b.file) ⊎ ((a.file ≡ b.file) × (a.number < b.number))
-
 before_from : (a b : DeclRef) → is_before a b ≡ true → Before a b
 before_from a b h = elim (or_cases (nat_lt a.file b.file) (nat_eq a.file b.file && nat_lt a.number b.number) h) [
   | inl f ↦ inl (ltb-true a.file b.file f)
@@ -67,12 +39,6 @@ before_to a b h = elim h [
   | inr s ↦ or_right (nat_lt a.file b.file) (nat_eq a.file b.file && nat_lt a.number b.number) (and_from (nat_eq a.file b.file) (nat_lt a.number b.number) (eq-eqb a.file b.file s.0) (lt-ltb a.number b.number s.1))
 ]
 
-before_on : (a b c : DeclRef) → Before a b → Before b c → Before a c
-before_on a b c h k = elim h [
-  | inl f ↦ elim k [ inl g ↦ inl (omega arith) | inr s ↦ (let e = s.0 in inl (omega (arith, e))) ]
-  | inr s ↦ elim k [ inl g ↦ (let e = s.0 in inl (omega (arith, e))) | inr r ↦ (let lt = s.1 in let mt = r.1 in inr (s.0 ∙ r.0, omega (arith, lt, mt))) ]
-]
-
 pub is_before_on : (a b c : DeclRef) → is_before a b ≡ true → is_before b c ≡ true → is_before a c ≡ true
 is_before_on a b c h k = before_to a c (before_on a b c (before_from a b h) (before_from b c k))
 
@@ -83,10 +49,6 @@ not_before_itself a b e h =
     elim (before_from a b h) [ inl f ↦ absurd (omega (arith, file, f)) | inr s ↦ (let lt = s.1 in absurd (omega (arith, number, lt))) ]
 
 -- entries that rise
-
-rise_rest : (w : Entry) (es : List Entry) → KeysRise (w ∷ es) → KeysRise es
-rise_rest w [] rise = tt
-rise_rest w (v ∷ es) rise = rise.1
 
 rise_first : (w : Entry) (es : List Entry) → KeysRise (w ∷ es) → (i : ℕ) (e : Entry) → slice_get es i ≡ Some e → is_before w.key.decl e.key.decl ≡ true
 rise_first w [] rise i e h = absurd (let no : None ≡ Some e = h in cc)

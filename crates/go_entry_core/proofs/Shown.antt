@@ -18,7 +18,7 @@ use Rattle.go_entry_core.specs.mirrors.Indexing.{AreKeyed, shown_of}
 
 -- equal texts
 
-same_text : (a b : List ℕ) → bytes_eq a b ≡ true → a ≡ b
+pub same_text : (a b : List ℕ) → bytes_eq a b ≡ true → a ≡ b
 same_text a b h = (bytes_eq-Decides a b).0 h
 
 text_same : (a b : List ℕ) → a ≡ b → bytes_eq a b ≡ true

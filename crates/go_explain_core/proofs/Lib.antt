@@ -1,3 +1,3 @@
 pub mod Everywhere
-mod LineLemmas
+pub mod LineLemmas
 pub mod Numbers

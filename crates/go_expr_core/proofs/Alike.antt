@@ -88,7 +88,7 @@ arguments_self rules (a ∷ given) (param ∷ params) = (argument_self rules a p
 
 -- identifiers of pieces
 
-agree_left : {T S D : Type 0} (find other : List ℕ → ℕ → Found T S D) (xs ys : List Ident) → AgreeOnIdents find other (xs ++ ys) → AgreeOnIdents find other xs
+pub agree_left : {T S D : Type 0} (find other : List ℕ → ℕ → Found T S D) (xs ys : List Ident) → AgreeOnIdents find other (xs ++ ys) → AgreeOnIdents find other xs
 agree_left find other [] ys h = tt
 agree_left find other (x ∷ xs) ys h = (h.0, agree_left find other xs ys h.1)
 
@@ -96,7 +96,7 @@ agree_both : {T S D : Type 0} (find other : List ℕ → ℕ → Found T S D) (x
 agree_both find other [] ys h k = k
 agree_both find other (x ∷ xs) ys h k = (h.0, agree_both find other xs ys h.1 k)
 
-agree_right : {T S D : Type 0} (find other : List ℕ → ℕ → Found T S D) (xs ys : List Ident) → AgreeOnIdents find other (xs ++ ys) → AgreeOnIdents find other ys
+pub agree_right : {T S D : Type 0} (find other : List ℕ → ℕ → Found T S D) (xs ys : List Ident) → AgreeOnIdents find other (xs ++ ys) → AgreeOnIdents find other ys
 agree_right find other [] ys h = h
 agree_right find other (x ∷ xs) ys h = agree_right find other xs ys h.1
 
@@ -104,10 +104,10 @@ same_both : {T : Type 0} (types other : TypeName → Option T) (ns ms : List Typ
 same_both types other [] ms h k = k
 same_both types other (n ∷ ns) ms h k = (h.0, same_both types other ns ms h.1 k)
 
-pieces : {A : Type 0} (a b c d : List A) → a ≡ c → b ≡ d → a ++ b ≡ c ++ d
+pub pieces : {A : Type 0} (a b c d : List A) → a ≡ c → b ≡ d → a ++ b ≡ c ++ d
 pieces a b c d e f = ap (λ l. l ++ b) e ∙ ap (λ l. c ++ l) f
 
-mapped : {A B : Type 0} (f g : A → B) (xs ys zs ws : List A) → map f xs ≡ map g zs → map f ys ≡ map g ws → map f (xs ++ ys) ≡ map g (zs ++ ws)
+pub mapped : {A B : Type 0} (f g : A → B) (xs ys zs ws : List A) → map f xs ≡ map g zs → map f ys ≡ map g ws → map f (xs ++ ys) ≡ map g (zs ++ ws)
 mapped f g xs ys zs ws e h = map-append f xs ys ∙ (pieces _ _ _ _ e h ∙ sym (map-append g zs ws))
 
 module _ {T S D P : Type 0} (looks : Looks T S D P) (find : List ℕ → ℕ → Found T S D) (written : WrittenRules T) where

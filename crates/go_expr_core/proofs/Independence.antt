@@ -18,23 +18,23 @@ use Rattle.go_expr_core.specs.Elements.{key_names, all_keys, keys_of, is_mixed}
 use Rattle.go_expr_core.specs.Uses.{Context, Spot, Identifier, CallAt, use_of, type_name_spots, type_spots, fields_spots, methods_spots, signature_spots, result_spots, params_spots, key_spots, spots, args_spots, items_spots}
 use Rattle.go_expr_core.specs.Respelling.{respelled, RespellsName, InPlain, InQualifier, BehindDot, RespellsType, InNamedType, InPointer, InParenType, InStruct, InInterface, RespellsFields, InFieldType, InLaterFields, InEmbedded, BehindEmbedded, RespellsMethods, InMethod, InLaterMethods, RespellsSignature, InParams, InResult, RespellsResult, InOneResult, InResults, RespellsParams, InParam, InLaterParams, Respells, InName, InParen, InUnary, InLeft, InRight, InOperand, InSelector, InCallee, InArguments, InLiteralType, InElements, InStructType, InStructElements, RespellsArgs, InArgument, InLaterArguments, RespellsItems, InKey, InElement, InLaterElements, NameDecides, StandsAmongSpots, OwnNameDecides}
 
-abbrev len : {A : Type 0} → List A → ℕ
+abbrev pub len : {A : Type 0} → List A → ℕ
 len [] = zero
 len (x ∷ xs) = suc (len xs)
 
-abbrev plus : ℕ → ℕ → ℕ
+abbrev pub plus : ℕ → ℕ → ℕ
 plus zero n = n
 plus (suc m) n = suc (plus m n)
 
-len_both : {A : Type 0} (xs ys : List A) → len (xs ++ ys) ≡ plus (len xs) (len ys)
+pub len_both : {A : Type 0} (xs ys : List A) → len (xs ++ ys) ≡ plus (len xs) (len ys)
 len_both [] ys = refl
 len_both (x ∷ xs) ys = ap suc (len_both xs ys)
 
-at_seam : {A : Type 0} (xs : List A) (y : A) (ys : List A) → slice_get (xs ++ y ∷ ys) (len xs) ≡ Some y
+pub at_seam : {A : Type 0} (xs : List A) (y : A) (ys : List A) → slice_get (xs ++ y ∷ ys) (len xs) ≡ Some y
 at_seam [] y ys = refl
 at_seam (x ∷ xs) y ys = at_seam xs y ys
 
-map_len : {A B : Type 0} (f : A → B) (xs : List A) → len (map f xs) ≡ len xs
+pub map_len : {A B : Type 0} (f : A → B) (xs : List A) → len (map f xs) ≡ len xs
 map_len f [] = refl
 map_len f (x ∷ xs) = ap suc (map_len f xs)
 
@@ -192,7 +192,7 @@ module _ {T S D P : Type 0} (looks : Looks T S D P) (x : Ident) (name : List ℕ
 
 -- each identifier can be respelled
 
-either : {A B C : Type 0} → A ⊎ B → (A → C) → (B → C) → C
+pub either : {A B C : Type 0} → A ⊎ B → (A → C) → (B → C) → C
 either (inl a) f g = f a
 either (inr b) f g = g b
 

@@ -4,15 +4,12 @@ use Rattle.std.specs.Prelude.{string_bytes, if◌then◌else◌}
 use Rattle.std.specs.Str.{bytes_eq}
 use Rattle.std.specs.String.{string_eq}
 use Rattle.std.specs.declared.string.String.{String}
-use Rattle.std.proofs.lemmas.Slice.Eq.{bytes_eq-Decides}
 use Rattle.indexmap.specs.IndexMap.{IndexMap, get_by, insert_entry}
 use Rattle.go_entry_core.specs.block_core.Tables.{in_block, block_of}
 use Rattle.go_entry_core.specs.block_core_lemmas.TableLemmas.{in_table}
+use Rattle.go_entry_core.proofs.Shown.{same_text}
 use Rattle.go_face_core.specs.Packages.{PackageFacesModel, package_in, with_faces}
 use Rattle.go_face_core.specs.mirrors.Tables.{AreKeyed, packages_of}
-
-same_text : (a b : List ℕ) → bytes_eq a b ≡ true → a ≡ b
-same_text a b h = (bytes_eq-Decides a b).0 h
 
 abbrev as_block : {Y : Type 0} → List (String Y × PackageFacesModel) → List (List ℕ × PackageFacesModel)
 as_block es = map (λ e. (string_bytes e.0, e.1)) es

@@ -23,7 +23,7 @@ use Rattle.go_entry_core.specs.block_core.Declarations.{decl_ref}
 
 -- items and their numbers
 
-among_at : {A : Type 0} (xs : List A) (n : ℕ) (x : A) → slice_get xs n ≡ Some x → Among xs x
+pub among_at : {A : Type 0} (xs : List A) (n : ℕ) (x : A) → slice_get xs n ≡ Some x → Among xs x
 among_at [] n x h = absurd (let no : None ≡ Some x = h in cc)
 among_at (y ∷ xs) zero x h = inl (let s : Some y ≡ Some x = h in cc)
 among_at (y ∷ xs) (suc n) x h = inr (among_at xs n x h)

@@ -13,7 +13,7 @@ ghost use Rattle.go_handle_core.specs.table_core.Entries.{kinds_in};
 use go_entry_core::written_core::{TypeNames, WrittenIn, write_signature, write_type};
 use go_handle_core::settle_core::{settle, settle_signature};
 use go_handle_core::table_core::TypeTable;
-use go_term_core::{Signature, TypeTerm, close, is_no_type};
+use go_term_core::{Signature, TypeTerm, is_no_type};
 use go_tree_nodes::TypeExpr;
 use std::alloc::{AllocError, Global};
 
@@ -22,7 +22,6 @@ pub(crate) fn typed(types: &TypeTable, term: TypeTerm) -> Option<TypeTerm>
     ensures { option_map shape result ≡ typed (find_entry types.now) (shape term) }
 {
     if is_no_type(types.underlying(&term)) {
-        close(term);
         return None;
     }
     Some(term)
@@ -39,9 +38,8 @@ pub(crate) fn settled_type<N: TypeNames>(
     ensures { IfOk result (λ t. option_map shape t ≡ type_written (N.meaning names.now) (in_file at.now) types.now (shape_type tree.now)) }
 {
     let written = write_type(alloc, names, at, tree)?;
-    let settled = settle(alloc, types, &written);
-    close(written);
-    Ok(typed(types, settled?))
+    let settled = settle(alloc, types, &written)?;
+    Ok(typed(types, settled))
 }
 
 /// A signature that is written in a file, settled.

@@ -2,7 +2,6 @@
 ghost use Rattle.std.specs.Prelude.{◌≡◌, ◌++◌, OnOk, map};
 ghost use Rattle.go_term_core.specs.decl_core.Shown.{decl_shown};
 ghost use Rattle.go_tree_nodes.specs.Shapes.{func_of};
-ghost use Rattle.go_tree_nodes.specs.Starts.{type_name_start};
 ghost use Rattle.go_entry_core.specs.Entries.{package_meanings};
 ghost use Rattle.go_entry_core.specs.Outlines.{outline_shown};
 ghost use Rattle.go_fault_core.specs.TypeFaults.{base_fault, file_receivers, form_fault, received_fault, receivers_faults};
@@ -14,20 +13,9 @@ use go_entry_core::block_core::Blocks;
 use go_entry_core::written_core::TypeNames;
 use go_entry_core::{FileNames, ImportedNames};
 use go_path_core::ImportPath;
-use go_term_core::close;
 use go_term_core::decl_core::{DeclForm, Outline, TopDecl};
-use go_tree_nodes::{FuncDecl, TypeName};
+use go_tree_nodes::{FuncDecl, TypeName, type_name_start};
 use std::alloc::{AllocError, Global};
-
-// Where the name of a receiver's base begins.
-fn base_start(base: &TypeName) -> usize
-    ensures { result ≡ type_name_start base.now }
-{
-    match base {
-        TypeName::Plain(ident) => ident.span.start as usize,
-        TypeName::Qualified(qualifier, _, _) => qualifier.span.start as usize,
-    }
-}
 
 // Adds the fault of a receiver's base in a file, if it has one.
 fn add_base<N: TypeNames>(
@@ -42,12 +30,10 @@ fn add_base<N: TypeNames>(
     ensures { OnOk result (faults.new.items ≡ faults.old.items ++ base_fault types.now (N.meaning names.now) path.now file base.now) }
 {
     let term = names.named(alloc, base)?;
-    let judged = check_base(types, path, &term);
-    close(term);
-    match judged {
+    match check_base(types, path, &term) {
         Ok(()) => Ok(()),
         Err(rule) => {
-            let offset = base_start(base);
+            let offset = type_name_start(base);
             faults.push(PackageFault { file, offset, rule })?;
             Ok(())
         }

@@ -18,7 +18,7 @@ use Rattle.go_top_core.specs.expr_core.Faults.{fault_at}
 use Rattle.go_top_core.specs.expr_core.Denoting.{named_type}
 use Rattle.go_top_core.specs.expr_core.Laws.{AgreeOnIdents, expr_idents}
 use Rattle.go_top_core.specs.expr_core.Locality.{SameWritten}
-use Rattle.go_top_core.specs.expr_core.Alike.{expressions_seen}
+use Rattle.go_top_core.specs.expr_core.Alike.{pieces, expressions_seen}
 use Rattle.go_top_core.specs.inline_core.Types.{InlineOf}
 use Rattle.go_top_core.specs.piece_core.Laws.{SamePiece, piece_idents}
 use Rattle.go_top_core.specs.local_core.Pieces.{piece_types}
@@ -30,7 +30,7 @@ use Rattle.go_top_core.specs.Tops.{top_spec_faults, value_decl_uses, value_decl_
 use Rattle.go_func_core.specs.body_core.Rules.{outside_looks}
 use Rattle.go_func_core.specs.Stands.{FileStand, outer_looks}
 use Rattle.go_file_core.specs.mirrors.Steps.{AreSeen}
-use Rattle.go_file_core.proofs.Typed.{both, type_used}
+use Rattle.go_file_core.proofs.Typed.{type_used}
 
 module _ (st : FileStand) (types : List (ℕ × InlineOf)) where
   -- by the table, and by what names mean
@@ -74,7 +74,7 @@ module _ (st : FileStand) (types : List (ℕ × InlineOf)) where
 
   list_same : (es : Separated ExprTree) → Seen (exprs_types es) → list_initial_faults by_table es ≡ list_initial_faults by_names es
   list_same (One e) h = expr_same e h
-  list_same (Then e comma more) h = both _ _ _ _ (expr_same e (seen_left (expr_types e) (exprs_types more) h)) (list_same more (seen_right (expr_types e) (exprs_types more) h))
+  list_same (Then e comma more) h = pieces _ _ _ _ (expr_same e (seen_left (expr_types e) (exprs_types more) h)) (list_same more (seen_right (expr_types e) (exprs_types more) h))
 
   values_same : (v : Option (Span × Separated ExprTree)) → Seen (values_types v) → values_initial_faults by_table v ≡ values_initial_faults by_names v
   values_same None h = refl
@@ -93,14 +93,14 @@ module _ (st : FileStand) (types : List (ℕ × InlineOf)) where
   uses_same v h = (spec_same kinds.Var v h).uses
 
   faults_same : (k : ValueKind) (v : ValueSpecTree) → Seen (spec_types v) → top_spec_faults by_table k v ≡ top_spec_faults by_names k v
-  faults_same k v h = both _ _ _ _ ((spec_same k v h).faults [] false []) (initial_same k v h)
+  faults_same k v h = pieces _ _ _ _ ((spec_same k v h).faults [] false []) (initial_same k v h)
 
   lines_same : {B : Type 0} (f g : ValueSpecTree → List B) → ((v : ValueSpecTree) → Seen (spec_types v) → f v ≡ g v) → (ls : List (ValueSpecTree × Option Span))
       → Seen (flat_map (λ (l : ValueSpecTree × Option Span). spec_types l.0) ls) → flat_map (λ (l : ValueSpecTree × Option Span). f l.0) ls ≡ flat_map (λ (l : ValueSpecTree × Option Span). g l.0) ls
   lines_same f g each [] h = refl
   lines_same f g each (l ∷ ls) h =
       let rest = flat_map (λ (x : ValueSpecTree × Option Span). spec_types x.0) ls in
-      both _ _ _ _ (each l.0 (seen_left (spec_types l.0) rest h)) (lines_same f g each ls (seen_right (spec_types l.0) rest h))
+      pieces _ _ _ _ (each l.0 (seen_left (spec_types l.0) rest h)) (lines_same f g each ls (seen_right (spec_types l.0) rest h))
 
   specs_same : {B : Type 0} (f g : ValueSpecTree → List B) → ((v : ValueSpecTree) → Seen (spec_types v) → f v ≡ g v) → (s : Specs ValueSpecTree) → Seen (specs_types s) → of_specs f s ≡ of_specs g s
   specs_same f g each (Single v) h = each v h
@@ -119,7 +119,7 @@ module _ (st : FileStand) (types : List (ℕ × InlineOf)) where
 
   lines_typed : (ls : List (TypeSpecTree × Option Span)) → flat_map (λ (l : TypeSpecTree × Option Span). type_spec_uses by_table l.0) ls ≡ flat_map (λ (l : TypeSpecTree × Option Span). type_spec_uses by_names l.0) ls
   lines_typed [] = refl
-  lines_typed (l ∷ ls) = both _ _ _ _ (spec_typed l.0) (lines_typed ls)
+  lines_typed (l ∷ ls) = pieces _ _ _ _ (spec_typed l.0) (lines_typed ls)
 
   specs_typed : (s : Specs TypeSpecTree) → of_specs (type_spec_uses by_table) s ≡ of_specs (type_spec_uses by_names) s
   specs_typed (Single t) = spec_typed t

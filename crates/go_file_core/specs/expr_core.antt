@@ -1,4 +1,5 @@
 -- What the crates above name of go_expr_core.
+pub use Rattle.go_top_core.specs.expr_core.Alike as Alike
 pub use Rattle.go_top_core.specs.expr_core.Denoting as Denoting
 pub use Rattle.go_top_core.specs.expr_core.Elements as Elements
 pub use Rattle.go_top_core.specs.expr_core.Faults as Faults

@@ -1,7 +1,7 @@
 -- Each expression of which code is made is an operand to the check, whose constant is the one that code folds.
 use Rattle.std.proofs.Common.{◌≡◌, ℕ, suc, Bool, true, false, ◌&&◌, List, Option, Some, refl, sym, ◌∙◌, ap, subst, if◌then◌else◌, arith}
 use Rattle.std.specs.Prelude.{⊤, nat_eq, nat_lt, ◌^◌, pos}
-use Rattle.std.proofs.lemmas.Bool.{eqb-true}
+use Rattle.std.proofs.lemmas.Bool.{and_parts, eqb-true}
 use Rattle.go_text_core.specs.declared.span.Span.{Span}
 use Rattle.go_fragment_core.specs.constant_core.declared.values.Constant.TheVariants as values
 use Rattle.go_fragment_core.specs.constant_core.Values.{natural}
@@ -69,10 +69,6 @@ if_one : (b : Bool) (g : Gives) (w : Word) → (if b then g else gives.Other) �
 if_one true g w h = (refl, h)
 if_one false g w h = absurd cc
 
-both_true : (a b : Bool) → a && b ≡ true → (a ≡ true) × (b ≡ true)
-both_true true b h = (refl, h)
-both_true false b h = absurd cc
-
 one_only : (n : ℕ) → nat_eq (suc (suc n)) 1 ≡ true → ⊥
 one_only n h = (let same : suc (suc n) ≡ 1 = eqb-true (suc (suc n)) 1 h in omega (arith, same))
 
@@ -129,7 +125,7 @@ module _ {T S D P : Type 0} (looks : Looks T S D P) (code : code_names.CodeLooks
         unary_of_judged S D looks.types Certain Known w op (is_literal e) (denoted looks (under_place op p) e) (folded code e) inner.0 by.1 j (no_fault span.start _ (none_right _ _ h.sound))
     folds p (Binary a op span b) w h one =
         let by : (is_one (expr_gives frame a) && is_one (expr_gives frame b) ≡ true) × (over (binary_word op) ≡ gives.One w) = if_one (is_one (expr_gives frame a) && is_one (expr_gives frame b)) (over (binary_word op)) w one in
-        let both : (is_one (expr_gives frame a) ≡ true) × (is_one (expr_gives frame b) ≡ true) = both_true (is_one (expr_gives frame a)) (is_one (expr_gives frame b)) by.0 in
+        let both : (is_one (expr_gives frame a) ≡ true) × (is_one (expr_gives frame b) ≡ true) = and_parts (is_one (expr_gives frame a)) (is_one (expr_gives frame b)) by.0 in
         let left : (v : Word) × (expr_gives frame a ≡ gives.One v) = one_word (expr_gives frame a) both.0 in
         let right : (v : Word) × (expr_gives frame b ≡ gives.One v) = one_word (expr_gives frame b) both.1 in
         let j : Folds left.0 stands.«Value» a = folds stands.«Value» a left.0 (fine_first looks code mean p a op span b h) left.1 in
@@ -143,7 +139,7 @@ module _ {T S D P : Type 0} (looks : Looks T S D P) (code : code_names.CodeLooks
     folds p (Call e first items last) w h one =
         let by : (receiver_fits frame e && all_ones frame items ≡ true) × (call_gives (callee_meaning code e) (item_count items) ≡ gives.One w) =
         if_one (receiver_fits frame e && all_ones frame items) (call_gives (callee_meaning code e) (item_count items)) w one in
-        call_folds p e first items last w h by.1 (one_folds items (fine_arguments looks code mean p e first items last h) (both_true (receiver_fits frame e) (all_ones frame items) by.0).1)
+        call_folds p e first items last w h by.1 (one_folds items (fine_arguments looks code mean p e first items last h) (and_parts (receiver_fits frame e) (all_ones frame items) by.0).1)
     folds p (Literal n first items last) w h one = absurd cc
     folds p (StructLiteral t first items last) w h one = absurd cc
 
@@ -151,7 +147,7 @@ module _ {T S D P : Type 0} (looks : Looks T S D P) (code : code_names.CodeLooks
         → IsOneArgument T S D looks.types Certain Known (denoted_items looks items) (folded_one code items)
     one_folds NoItems h ones n = absurd cc
     one_folds (Item key e comma NoItems) h ones n =
-        let is : is_one (expr_gives frame e) ≡ true = (both_true (is_one (expr_gives frame e)) true ones).0 in
+        let is : is_one (expr_gives frame e) ≡ true = (and_parts (is_one (expr_gives frame e)) true ones).0 in
         let inner : (v : Word) × (expr_gives frame e ≡ gives.One v) = one_word (expr_gives frame e) is in
         record { argument = denoted looks stands.«Value» e; alone = refl; word = inner.0; judged = folds stands.«Value» e inner.0 h.0 inner.1 }
     one_folds (Item key e comma (Item key' e' comma' rest)) h ones n = absurd (one_only (item_count rest) n)

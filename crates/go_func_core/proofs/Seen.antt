@@ -47,7 +47,7 @@ module _ (st : FileStand) (types : List (ℕ × InlineOf)) (f : FuncTree) (place
   has_at t there =
       ap (λ l. inline_at l (type_start t)) told ∙ types_are_found.in_function f placed (kinds_in_scene st.scene) st.file (here_named st all) t there
 
-outside : (st : FileStand) (n : TypeName) → named_where (outer_look st) st.top n ≡ st.top n
+pub outside : (st : FileStand) (n : TypeName) → named_where (outer_look st) st.top n ≡ st.top n
 outside st n = ap (λ b. if b then NoType else st.top n) (none_outside st.scene.blocks st.file.file (looked_up_ident n).name)
 
 same_at : (st : FileStand) (types : List (ℕ × InlineOf)) (look : NameLook Meaning) (t : TypeTree) → HasAt st types (named_where look st.top) t → MakeSame (types_where st look) (inline_rules st.scene types) t

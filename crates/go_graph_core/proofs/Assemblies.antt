@@ -1,5 +1,5 @@
 -- What the tests of package clauses say of a package.
-use Rattle.std.proofs.Common.{◌≡◌, ◌≢◌, ℕ, ◌<◌, ◌≤◌, ◌⊎◌, inl, inr, Bool, true, false, not, cond, List, [], ◌∷◌, length, get_or, All, Option, Some, None, Result, Ok, Err, slice_get, refl, sym, ◌∙◌, ap, subst, arith, zero, suc}
+use Rattle.std.proofs.Common.{◌≡◌, ◌≢◌, ℕ, ◌<◌, ◌≤◌, inl, inr, Bool, true, false, not, cond, List, [], ◌∷◌, length, get_or, All, Option, Some, None, Result, Ok, Err, slice_get, refl, sym, ◌∙◌, ap, subst, arith, zero, suc}
 use Rattle.std.specs.Str.{bytes_eq}
 use Rattle.std.specs.Option.{option_map}
 use Rattle.std.specs.List.{position, position_or_len}
@@ -11,6 +11,7 @@ use Rattle.std.proofs.lemmas.Bool.{ltb-false}
 use Rattle.std.proofs.lemmas.Slice.Eq.{bytes_eq-Decides}
 use lib.Dec.{ltb}
 use Rattle.go_text_core.specs.declared.rule.Rule.TheVariants.{K2, K3, K4}
+use Rattle.go_text_core.proofs.Each.{true_or_false}
 use Rattle.go_tree_nodes.specs.declared.names.Ident.{Ident}
 use Rattle.go_tree_nodes.specs.Trees.{FileTree}
 use Rattle.go_parse_core.specs.declared.error.SynFault.{SynFault}
@@ -18,15 +19,11 @@ use Rattle.go_graph_core.specs.Sources.{SourceModel, source, clause_of, clause_i
 use Rattle.go_graph_core.specs.mirrors.Clauses.{has_none, clause_has_name, place_in, lacks_clause, is_named, is_other}
 use Rattle.go_graph_core.specs.Packages.{trees_of, HasNoClause, IsBlankAt, IsBlank, blank, DiffersAt, Differs, IsFirst, AllHaveTrees, NoneIsBlank, IsNameOf, IsK4, IsK3, IsK2, IsAssembled, IsPackageName, IsTreeAt, tree_shown}
 
-pub two : (b : Bool) → (b ≡ true) ⊎ (b ≡ false)
-two true = inl refl
-two false = inr refl
-
 -- positions
 
 -- nothing passes where no position is found
 pub none_passes : {A : Type 0} (t : A → Bool) (xs : List A) → position t xs ≡ None → All (λ x. t x ≡ false) xs
-none_passes t xs h = elim (two (ltb (position_or_len t xs) (length xs))) [
+none_passes t xs h = elim (true_or_false (ltb (position_or_len t xs) (length xs))) [
   | inl e ↦ (let j : Some (position_or_len t xs) ≡ None = sym (ap (λ b. cond b (Some (position_or_len t xs)) None) e) ∙ h in cc)
   | inr e ↦ (let up : length xs ≤ position_or_len t xs = ltb-false _ _ e in λ k d lt. fails_before_first t xs k d (omega arith))
 ]
@@ -71,7 +68,7 @@ named-false name (Some x) id h e same =
 
 -- a clause that is not of this name is of another
 pub other-true : (name : List ℕ) (o : Option Ident) (id : Ident) → o ≡ Some id → not (clause_has_name name o) ≡ true → id.name ≢ name
-other-true name o id e h = elim (two (clause_has_name name o)) [
+other-true name o id e h = elim (true_or_false (clause_has_name name o)) [
   | inl y ↦ (let f : false ≡ true = sym (ap not y) ∙ h in cc)
   | inr n ↦ named-false name o id n e
 ]
@@ -118,7 +115,7 @@ differs_of name s some h =
     (found.0, found.1, other-true name (clause_of s) found.0 found.1 h, ap place_in found.1)
 
 pub not_other : (name : List ℕ) (s : SourceModel) → is_other name s ≡ false → Differs name s → ⊥
-not_other name s h b = elim (two (is_named name s)) [
+not_other name s h b = elim (true_or_false (is_named name s)) [
   | inl y ↦
       let found = named-true name (clause_of s) y in
       (let same : Some b.1.0 ≡ Some found.0 = sym b.1.1 ∙ found.1 in b.1.2 (ap (λ (o : Option Ident). elim o [ None ↦ name | Some x ↦ x.name ]) same ∙ found.2))
@@ -195,7 +192,7 @@ tree_at (x ∷ xs) (suc i) s f all at e =
 
 -- a clause without another name has this one
 only_name : (name : List ℕ) (s : SourceModel) (f : FileTree) → s.content ≡ Ok f → (Differs name s → ⊥) → f.name.name ≡ name
-only_name name s f e never = elim (two (bytes_eq f.name.name name)) [
+only_name name s f e never = elim (true_or_false (bytes_eq f.name.name name)) [
   | inl y ↦ (bytes_eq-Decides f.name.name name).0 y
   | inr n ↦ absurd (never (f.name.span.start, (f.name, ap clause_in e, (λ h. let j : false ≡ true = sym n ∙ (bytes_eq-Decides f.name.name name).1 h in cc), refl)))
 ]

@@ -1,9 +1,10 @@
 -- Files have exactly one assembly.
-use Rattle.std.proofs.Common.{◌≡◌, ℕ, zero, suc, All, ◌≤◌, ◌⊎◌, inl, inr, Bool, true, false, List, [], ◌∷◌, get_or, Option, Some, None, Result, Ok, Err, slice_get, refl, sym, ◌∙◌, ap, subst, arith}
+use Rattle.std.proofs.Common.{◌≡◌, ℕ, zero, suc, All, ◌≤◌, inl, inr, List, [], ◌∷◌, get_or, Option, Some, None, Result, Ok, Err, slice_get, refl, sym, ◌∙◌, ap, subst, arith}
 use Rattle.std.specs.List.{position}
 use Rattle.std.proofs.lemmas.Bool.{ltb-true, ltb-false}
 use lib.Dec.{ltb}
 use Rattle.go_text_core.specs.declared.rule.Rule.TheVariants.{K2, K3, K4}
+use Rattle.go_text_core.proofs.Each.{true_or_false}
 use Rattle.go_graph_core.specs.declared.assembly.KFault.{KFault}
 use Rattle.go_graph_core.specs.Sources.{SourceModel, clause_of}
 use Rattle.go_graph_core.specs.mirrors.Clauses.{place_in, lacks_clause, is_named, is_other}
@@ -41,15 +42,11 @@ has_assembly (s ∷ ss) some = by_trees s ss (position lacks_clause (s ∷ ss)) 
 
 -- and one at most
 
-two : (b : Bool) → (b ≡ true) ⊎ (b ≡ false)
-two true = inl refl
-two false = inr refl
-
 -- two first files of one kind are the same
 first_same : (P : SourceModel → Type 0) (files : List SourceModel) (i j : ℕ) (s r : SourceModel) → IsFirst P files i s → IsFirst P files j r → (i ≡ j) × (s ≡ r)
-first_same P files i j s r f g = elim (two (ltb i j)) [
+first_same P files i j s r f g = elim (true_or_false (ltb i j)) [
   | inl lt ↦ absurd (g.before i s (ltb-true _ _ lt) f.at f.holds)
-  | inr ge ↦ elim (two (ltb j i)) [
+  | inr ge ↦ elim (true_or_false (ltb j i)) [
     | inl lt ↦ absurd (f.before j r (ltb-true _ _ lt) g.at g.holds)
     | inr le ↦
         let down : j ≤ i = ltb-false _ _ ge in

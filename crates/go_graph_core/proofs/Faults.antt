@@ -8,6 +8,7 @@ use Rattle.std.proofs.lemmas.Bool.{ltb-true, ltb-false, lt-ltb}
 use lib.Dec.{ltb}
 use denote.Ref.{Bor}
 use Rattle.go_text_core.specs.declared.rule.Rule.TheVariants.{K2, K3, K4}
+use Rattle.go_text_core.proofs.Each.{true_or_false}
 use Rattle.go_graph_core.specs.declared.assembly.ClauseFlaw.{ClauseFlaw}
 use Rattle.go_graph_core.specs.declared.assembly.ClauseFlaw.TheVariants.{NotNamed}
 use Rattle.go_graph_core.specs.declared.assembly.KFault.{KFault}
@@ -15,14 +16,14 @@ use Rattle.go_graph_core.specs.Sources.{SourceModel, clause_of}
 use Rattle.go_graph_core.specs.mirrors.Clauses.{place_in, lacks_clause, is_named, is_other}
 use Rattle.go_graph_core.specs.mirrors.Flaws.{is_flawed, IsFirstFault, IsFlaw}
 use Rattle.go_graph_core.specs.Packages.{blank, IsNameOf, IsK2, IsK3, IsK4}
-use Rattle.go_graph_core.proofs.Assemblies.{two, lacks-true, k2_of, k3_of, k4_of, assembled_of}
+use Rattle.go_graph_core.proofs.Assemblies.{lacks-true, k2_of, k3_of, k4_of, assembled_of}
 
 -- no file before this number has the flaw
 abbrev pub NoneBefore : ClauseFlaw → List SourceModel → ℕ → Type 0
 NoneBefore flaw files i = (k : ℕ) (d : SourceModel) → k < i → is_flawed flaw (get_or files k d) ≡ false
 
 pub none_more : (flaw : ClauseFlaw) (files : List SourceModel) (i : ℕ) (s : SourceModel) → i < length files → s ≡ get_or files i s → NoneBefore flaw files i → is_flawed flaw s ≡ false → NoneBefore flaw files (i + 1)
-none_more flaw files i s lt is before fine k d up = elim (two (ltb k i)) [
+none_more flaw files i s lt is before fine k d up = elim (true_or_false (ltb k i)) [
   | inl e ↦ before k d (ltb-true k i e)
   | inr e ↦
       let from : i ≤ k = ltb-false k i e in
@@ -37,7 +38,7 @@ first_here flaw files i s lt is before has =
     ap (λ n. cond (ltb n (length files)) (Some n) None) at ∙ ap (λ b. cond b (Some i) None) (lt-ltb i (length files) lt)
 
 pub first_nowhere : (flaw : ClauseFlaw) (files : List SourceModel) (i : ℕ) (d : SourceModel) → length files ≤ i → NoneBefore flaw files i → position (is_flawed flaw) files ≡ None
-first_nowhere flaw files i d all before = elim (two (ltb (position_or_len (is_flawed flaw) files) (length files))) [
+first_nowhere flaw files i d all before = elim (true_or_false (ltb (position_or_len (is_flawed flaw) files) (length files))) [
   | inl e ↦
       let found : position (is_flawed flaw) files ≡ Some (position_or_len (is_flawed flaw) files) = ap (λ b. cond b (Some (position_or_len (is_flawed flaw) files)) None) e in
       let at = position-Some (is_flawed flaw) files (position_or_len (is_flawed flaw) files) d found in

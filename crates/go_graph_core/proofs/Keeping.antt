@@ -1,5 +1,5 @@
 -- What a put and a replacement keep of packages, and what look-ups find after them.
-use Rattle.std.proofs.Common.{◌≡◌, ◌≢◌, ℕ, zero, suc, ◌<◌, ◌⊎◌, inl, inr, Bool, true, false, not, cond, List, [], ◌∷◌, ◌++◌, length, get_or, All, Option, Some, None, refl, sym, ◌∙◌, ap, subst, arith}
+use Rattle.std.proofs.Common.{◌≡◌, ◌≢◌, ℕ, zero, suc, ◌<◌, inl, inr, Bool, true, false, not, cond, List, [], ◌∷◌, ◌++◌, length, get_or, All, Option, Some, None, refl, sym, ◌∙◌, ap, subst, arith}
 use Rattle.std.specs.List.{AllByRecursion, filter}
 use Rattle.std.specs.List.Sorted.{IsStrictlySortedBy, IsPermutation}
 use Rattle.std.specs.Ordering.{match_ordering, is_eq}
@@ -21,15 +21,12 @@ use Rattle.std.proofs.lemmas.Map.Text.{is_eq-slice_cmp}
 use Rattle.std.proofs.lemmas.Slice.Eq.{bytes_eq-Decides}
 use Rattle.std.specs.declared.string.String.{String}
 use lib.Dec.{eqb}
+use Rattle.go_text_core.proofs.Each.{true_or_false}
 use Rattle.go_path_core.specs.Path.{elements, IsPath, IsPrefix}
 use Rattle.go_graph_core.specs.Sources.{SourceModel}
 use Rattle.go_graph_core.specs.Workspaces.{PackageModel, by_bytes, files_at, IsWorkspace, IsPackage, AreAllRead, AreReadFrom, given_files, Puts, begins, is_path_inside, packages_inside, packages_outside, put_all, replaced, Replaces}
 use Rattle.go_graph_core.proofs.Contents.{placed_content}
 use Rattle.go_graph_core.proofs.Places.{IsOrdered, turned, equal_texts, same_text}
-
-two : (b : Bool) → (b ≡ true) ⊎ (b ≡ false)
-two true = inl refl
-two false = inr refl
 
 -- keys
 
@@ -156,7 +153,7 @@ is_same : (a b : List ℕ) → is_at (by_bytes a) b ≡ true → a ≡ b
 is_same a b h = (bytes_eq-Decides a b).0 (sym (is_eq-slice_cmp a b) ∙ h)
 
 is_not : (a b : List ℕ) → a ≢ b → is_at (by_bytes a) b ≡ false
-is_not a b other = elim (two (is_at (by_bytes a) b)) [
+is_not a b other = elim (true_or_false (is_at (by_bytes a) b)) [
   | inl y ↦ absurd (other (is_same a b y))
   | inr n ↦ n
 ]
@@ -262,7 +259,7 @@ pub replaces : (own : List ℕ) (old from new : List PackageModel) → IsOrdered
 replaces own old from new ordered e = record {
   packages = e;
   here = λ path pre. let test : is_path_inside own path ≡ true = (begins-Decides (elements own) (elements path)).1 pre in found path true test;
-  others = λ path never. found path false (elim (two (is_path_inside own path)) [
+  others = λ path never. found path false (elim (true_or_false (is_path_inside own path)) [
     | inl y ↦ absurd (never ((begins-Decides (elements own) (elements path)).0 y))
     | inr n ↦ n
   ]);

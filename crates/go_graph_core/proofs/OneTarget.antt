@@ -25,16 +25,16 @@ abbrev OfPath : List PackageModel → List ℕ → List ℕ → ImportOutcome �
 OfPath ps q text o = ((o ≡ Refused I3) × (MayImport (elements q) (elements text) → ⊥)) ⊎ (MayImport (elements q) (elements text) × OfPackages ps text o)
 
 -- the rules in their order, one inside the other
-abbrev InOrder : List PackageModel → List ℕ → List ℕ → ImportOutcome → Type 0
-InOrder ps q text o = ((o ≡ Refused I1) × (IsPath text → ⊥)) ⊎ (IsPath text × OfPath ps q text o)
+abbrev ByRules : List PackageModel → List ℕ → List ℕ → ImportOutcome → Type 0
+ByRules ps q text o = ((o ≡ Refused I1) × (IsPath text → ⊥)) ⊎ (IsPath text × OfPath ps q text o)
 
-in_order : (ps : List PackageModel) (q text : List ℕ) (o : ImportOutcome) → IsTarget ps q text o → InOrder ps q text o
-in_order ps q text (Package i) h = inr (h.allowed.0, inr (h.allowed.1, inr (i, h.files, h.numbered, inr (inr (refl, h.library)))))
-in_order ps q text (Refused rule) (inl h) = inl (ap Refused h.is, h.malformed)
-in_order ps q text (Refused rule) (inr (inl h)) = inr (h.path, inl (ap Refused h.is, h.hidden))
-in_order ps q text (Refused rule) (inr (inr (inl h))) = inr (h.allowed.0, inr (h.allowed.1, inl (ap Refused h.is, h.nowhere)))
-in_order ps q text (Refused rule) (inr (inr (inr (inl h)))) = inr (h.allowed.0, inr (h.allowed.1, inr (h.number, h.files, h.numbered, inl (ap Refused h.is, h.faulty))))
-in_order ps q text (Refused rule) (inr (inr (inr (inr h)))) = inr (h.allowed.0, inr (h.allowed.1, inr (h.number, h.files, h.numbered, inr (inl (ap Refused h.is, h.program)))))
+by_rules : (ps : List PackageModel) (q text : List ℕ) (o : ImportOutcome) → IsTarget ps q text o → ByRules ps q text o
+by_rules ps q text (Package i) h = inr (h.allowed.0, inr (h.allowed.1, inr (i, h.files, h.numbered, inr (inr (refl, h.library)))))
+by_rules ps q text (Refused rule) (inl h) = inl (ap Refused h.is, h.malformed)
+by_rules ps q text (Refused rule) (inr (inl h)) = inr (h.path, inl (ap Refused h.is, h.hidden))
+by_rules ps q text (Refused rule) (inr (inr (inl h))) = inr (h.allowed.0, inr (h.allowed.1, inl (ap Refused h.is, h.nowhere)))
+by_rules ps q text (Refused rule) (inr (inr (inr (inl h)))) = inr (h.allowed.0, inr (h.allowed.1, inr (h.number, h.files, h.numbered, inl (ap Refused h.is, h.faulty))))
+by_rules ps q text (Refused rule) (inr (inr (inr (inr h)))) = inr (h.allowed.0, inr (h.allowed.1, inr (h.number, h.files, h.numbered, inr (inl (ap Refused h.is, h.program)))))
 
 -- files that are assembled are not faulty
 pub not_faulty : (files : List SourceModel) → IsAssembled files → AreFaulty files → ⊥
@@ -84,11 +84,11 @@ of_path ps q text o r well (inl a) (inr b) = absurd (a.1 b.0)
 of_path ps q text o r well (inr a) (inl b) = absurd (b.1 a.0)
 of_path ps q text o r well (inr a) (inr b) = of_packages ps text o r well a.1 b.1
 
-of_text : (ps : List PackageModel) (q text : List ℕ) (o r : ImportOutcome) → IsWorkspace ps → InOrder ps q text o → InOrder ps q text r → o ≡ r
+of_text : (ps : List PackageModel) (q text : List ℕ) (o r : ImportOutcome) → IsWorkspace ps → ByRules ps q text o → ByRules ps q text r → o ≡ r
 of_text ps q text o r well (inl a) (inl b) = a.0 ∙ sym b.0
 of_text ps q text o r well (inl a) (inr b) = absurd (a.1 b.0)
 of_text ps q text o r well (inr a) (inl b) = absurd (b.1 a.0)
 of_text ps q text o r well (inr a) (inr b) = of_path ps q text o r well a.1 b.1
 
 pub one_target : (ps : List PackageModel) (q text : List ℕ) (o r : ImportOutcome) → IsWorkspace ps → IsTarget ps q text o → IsTarget ps q text r → o ≡ r
-one_target ps q text o r well a b = of_text ps q text o r well (in_order ps q text o a) (in_order ps q text r b)
+one_target ps q text o r well a b = of_text ps q text o r well (by_rules ps q text o a) (by_rules ps q text r b)

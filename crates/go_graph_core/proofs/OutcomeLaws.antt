@@ -82,7 +82,7 @@ cycles_are_assembled ps e is lies =
     ]
 
 -- what holds of all holds of the one at a place
-all_at_place : {A : Type 0} (P : A → Type 0) (xs : List A) (i : ℕ) (x : A) → All P xs → slice_get xs i ≡ Some x → P x
+pub all_at_place : {A : Type 0} (P : A → Type 0) (xs : List A) (i : ℕ) (x : A) → All P xs → slice_get xs i ≡ Some x → P x
 all_at_place P xs i x all at = subst P (get_or_from_slice_get xs i x x at) (all i x (slice_get_within xs i x at))
 
 -- a target is found by one test behind the other

@@ -10,8 +10,8 @@ use Rattle.std.proofs.lemmas.List.{take_more, map-append, length-map}
 use Rattle.std.proofs.lemmas.Map.Keys.{sorted_tail}
 use Rattle.std.proofs.lemmas.Slice.Eq.{bytes_eq-Decides}
 use lib.Dec.{ltb}
+use Rattle.go_text_core.proofs.Each.{true_or_false}
 use Rattle.go_graph_core.specs.Workspaces.{PackageModel, by_bytes}
-use Rattle.go_graph_core.proofs.Assemblies.{two}
 use Rattle.go_graph_core.proofs.Places.{IsOrdered, same_text, path_below}
 
 -- paths that are owned
@@ -35,7 +35,7 @@ position_shown path keys =
 -- a path is none of those before it
 
 apart : (x q : List ℕ) → by_bytes x q ≡ Less → bytes_eq q x ≡ false
-apart x q less = elim (two (bytes_eq q x)) [
+apart x q less = elim (true_or_false (bytes_eq q x)) [
   | inl is ↦ (let same : q ≡ x = (bytes_eq-Decides q x).0 is in let none : Equal ≡ Less = sym (same_text x) ∙ subst (λ t. by_bytes x t ≡ Less) same less in cc)
   | inr differs ↦ differs
 ]

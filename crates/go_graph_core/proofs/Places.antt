@@ -39,7 +39,7 @@ same_text x = by_cases (by_bytes x x) refl
     by_cases Greater h = (let t : Greater ≡ Less = sym h ∙ turned x x Greater h in cc)
 
 -- a text below another is told no later than that one by what they are compared with
-rises : (x y q : List ℕ) (o : Ordering) → by_bytes x y ≡ Less → by_bytes y q ≡ o → ordering_index (by_bytes x q) ≤ ordering_index o
+pub rises : (x y q : List ℕ) (o : Ordering) → by_bytes x y ≡ Less → by_bytes y q ≡ o → ordering_index (by_bytes x q) ≤ ordering_index o
 rises x y q Less up h = subst (λ p. ordering_index p ≤ 0) (sym (nat_list_cmp_total.trans x y q up h)) (omega arith)
 rises x y q Equal up h = subst (λ z. ordering_index (by_bytes x z) ≤ 1) (equal_texts y q h) (subst (λ p. ordering_index p ≤ 1) (sym up) (omega arith))
 rises x y q Greater up h = at_most (by_bytes x q)

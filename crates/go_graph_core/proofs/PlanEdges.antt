@@ -47,12 +47,12 @@ file_edges_more {S} from fs i f start old new lt at before e =
     ap (package_edges from) more ∙ (flat_map-append (λ (os : Files S). flat_map (edge_of from) os.items) (take i fs) (f ∷ []) ∙ ap (λ l. package_edges from (take i fs) ++ l) (append-nil here)) in
     e ∙ (ap (λ (l : List Edge). l ++ here) before ∙ (append_assoc start (package_edges from (take i fs)) here ∙ ap (λ (l : List Edge). start ++ l) (sym all)))
 
-in_flat : {A B : Type 0} (g : A → List B) (xs : List A) (i : ℕ) (x : A) (y : B) → slice_get xs i ≡ Some x → Contains (g x) y → Contains (flat_map g xs) y
+pub in_flat : {A B : Type 0} (g : A → List B) (xs : List A) (i : ℕ) (x : A) (y : B) → slice_get xs i ≡ Some x → Contains (g x) y → Contains (flat_map g xs) y
 in_flat g [] i x y e h = cc
 in_flat g (a ∷ xs) zero x y e h = (let same : a ≡ x = cc in Contains-append_left (g a) (flat_map g xs) y (subst (λ z. Contains (g z) y) (sym same) h))
 in_flat g (a ∷ xs) (suc i) x y e h = Contains-append_right (g a) (flat_map g xs) y (in_flat g xs i x y e h)
 
-from_flat : {A B : Type 0} (g : A → List B) (xs : List A) (y : B) → Contains (flat_map g xs) y → (i : ℕ) × (x : A) × (slice_get xs i ≡ Some x) × Contains (g x) y
+pub from_flat : {A B : Type 0} (g : A → List B) (xs : List A) (y : B) → Contains (flat_map g xs) y → (i : ℕ) × (x : A) × (slice_get xs i ≡ Some x) × Contains (g x) y
 from_flat g [] y h = absurd (omega (arith, h.1))
 from_flat g (a ∷ xs) y h = elim (Contains-append_cases (g a) (flat_map g xs) y h) [
   | inl k ↦ (0, a, refl, k)

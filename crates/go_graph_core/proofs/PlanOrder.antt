@@ -1,5 +1,5 @@
 -- The order of a plan: the assembled packages, each once, behind those that its imports come to.
-use Rattle.std.proofs.Common.{◌≡◌, ◌≢◌, ℕ, ◌<◌, ◌+◌, ◌↔◌, ◌⊎◌, inl, inr, Bool, true, false, cond, eqb, nat_eq, List, [], ◌∷◌, ◌++◌, length, get_or, take, slice_index, Option, Some, None, slice_get, refl, sym, ◌∙◌, ap, subst, arith}
+use Rattle.std.proofs.Common.{◌≡◌, ◌≢◌, ℕ, ◌<◌, ◌+◌, ◌↔◌, inl, inr, Bool, true, false, cond, eqb, nat_eq, List, [], ◌∷◌, ◌++◌, length, get_or, take, slice_index, Option, Some, None, slice_get, refl, sym, ◌∙◌, ap, subst, arith}
 use Rattle.std.specs.List.{Contains, filter, AllPairs, IsDistinct, range_with_len}
 use Rattle.std.specs.List.Sorted.{IsPermutation}
 use Rattle.std.proofs.lemmas.Bool.{cases_lt, ne_eqb}
@@ -13,6 +13,7 @@ use Rattle.std.proofs.lemmas.List.Sorted.{Contains-permutation}
 use Rattle.std.proofs.lemmas.Map.Keys.{IsDistinct-from_apart, IsDistinct-IsPermutation}
 use Rattle.std.proofs.lemmas.Map.Made.{AllPairs-from_IsDistinct, IsDistinct-from_AllPairs}
 use Rattle.std.proofs.lemmas.Option.{slice_get_within}
+use Rattle.go_text_core.proofs.Each.{true_or_false}
 use Rattle.go_cycle_core.specs.declared.edge.Edge.{Edge}
 use Rattle.go_cycle_core.specs.Cycle.{IsOnCycle, IsAfter}
 use Rattle.go_graph_core.specs.declared.imports.Standing.{Standing}
@@ -24,10 +25,6 @@ use Rattle.go_graph_core.specs.mirrors.Targets.{IsStanding, HaveStandings, is_so
 use Rattle.go_graph_core.specs.Plans.{IsAssembledAt}
 use Rattle.go_graph_core.proofs.OneTarget.{not_faulty}
 use Rattle.go_graph_core.proofs.Zips.{zip_at, zip_back}
-
-two : (b : Bool) → (b ≡ true) ⊎ (b ≡ false)
-two true = inl refl
-two false = inr refl
 
 -- what passes a test stays in a filter
 kept : (p : ℕ → Bool) (xs : List ℕ) (i : ℕ) → Contains xs i → p i ≡ true → Contains (filter p xs) i
@@ -43,7 +40,7 @@ kept p (x ∷ xs) i h t = elim (Contains-append_cases (x ∷ []) xs i h) [
   ]
   | inr there ↦
       let rest : Contains (filter p xs) i = kept p xs i there t in
-      elim (two (p x)) [
+      elim (true_or_false (p x)) [
         | inl pass ↦ subst (λ (l : List ℕ). Contains l i) (sym (ap (λ b. cond b (x ∷ filter p xs) (filter p xs)) pass)) (Contains-append_right (x ∷ []) (filter p xs) i rest)
         | inr fail ↦ subst (λ (l : List ℕ). Contains l i) (sym (ap (λ b. cond b (x ∷ filter p xs) (filter p xs)) fail)) rest
       ]

@@ -31,7 +31,7 @@ pub drained : {X : Type 0} (yielded rest all : List X) → length rest ≡ 0 →
 drained yielded [] all h e = sym (append-nil yielded) ∙ e
 drained yielded (x ∷ xs) all h e = absurd (omega (arith, h))
 
-map_last : {X Y : Type 0} (f : X → Y) (xs : List X) (x : X) → map f (xs ++ x ∷ []) ≡ map f xs ++ f x ∷ []
+pub map_last : {X Y : Type 0} (f : X → Y) (xs : List X) (x : X) → map f (xs ++ x ∷ []) ≡ map f xs ++ f x ∷ []
 map_last f [] x = refl
 map_last f (y ∷ xs) x = ap (λ l. f y ∷ l) (map_last f xs x)
 

@@ -97,23 +97,6 @@ impl Package {
     {
         &self.source
     }
-
-    /// Ends the package, as its drop does, and promises nothing: no answer may rest on it. A crate that ends its packages by
-    /// this call proves no drops of trees of its own.
-    pub fn close(self) {}
-
-    /// The same package, once more. It takes no memory.
-    ///
-    /// # Errors
-    ///
-    /// `AllocError` where the package has too many owners.
-    pub fn share(&self) -> Result<Package, AllocError>
-        ensures { IfOk result (λ p. p ≡ self.now) }
-    {
-        Ok(Package {
-            source: self.source.share()?,
-        })
-    }
 }
 
 /// The name in the clauses of files that are assembled.

@@ -137,19 +137,6 @@ impl SourceFile {
         }
     }
 
-    /// The same file, once more. It takes no memory.
-    ///
-    /// # Errors
-    ///
-    /// `AllocError` where the file has too many owners.
-    pub fn share(&self) -> Result<SourceFile, AllocError>
-        ensures { IfOk result (λ f. f ≡ self.now) }
-    {
-        Ok(SourceFile {
-            content: Arc::try_clone(&self.content)?,
-        })
-    }
-
     /// Whether two files, each with the content that its text has, are the same. A text has one tree at most, so names, texts and faults
     /// are compared.
     pub fn is_same(&self, other: &SourceFile) -> bool

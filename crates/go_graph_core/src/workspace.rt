@@ -234,10 +234,6 @@ impl Workspace {
         Ok(())
     }
 
-    /// Ends the workspace, as its drop does, and promises nothing: no answer may rest on it. A crate that ends its
-    /// workspaces by this call proves no drops of trees of its own.
-    pub fn close(self) {}
-
     /// An equal value, whose packages are shared.
     ///
     /// # Errors

@@ -20,7 +20,8 @@ use Rattle.go_snap_core.specs.part_core.Parts.{ContentOf, FileOf, IsFileMadeIn, 
 use Rattle.go_snap_core.specs.emit_core.Emitted.{are_clean, code_scene_over, told_to, whole_object}
 use Rattle.go_snap_core.specs.emit_core.Laws.{HasNoFault, ObjectsAreOfFaultless}
 use Rattle.go_laws_core.specs.Standing.{stand_in_part}
-use Rattle.go_laws_core.proofs.ConstantLists.{HasItem, contained, has, has_get, has_of_all, left_empty}
+use Rattle.go_fold_core.proofs.Inside.{none_left}
+use Rattle.go_laws_core.proofs.ConstantLists.{HasItem, contained, has, has_get, has_of_all}
 use Rattle.go_laws_core.proofs.Told.{seen, table, types_are}
 
 -- lists
@@ -122,7 +123,7 @@ module _ (law : ObjectsAreOfFaultless) (i : InputModel) (c : ContentOf) (well : 
     pub is_clean_file : IsCleanFile i c n t f
     is_clean_file = record {
       uses = uses_same ∙ here.uses;
-      faults = left_empty _ _ (none_settled made.checked.uses _ made.checked.faults (λ u h. each_declared u (subst (λ us. HasItem us u) (sym uses_same) h)) here.settled checked_faults);
+      faults = none_left _ _ (none_settled made.checked.uses _ made.checked.faults (λ u h. each_declared u (subst (λ us. HasItem us u) (sym uses_same) h)) here.settled checked_faults);
       locals = made.made_of.locals ∙ here.locals;
       declared = each_declared;
     }

@@ -5,6 +5,7 @@ use Rattle.std.proofs.lemmas.List.Elements.{All-nil, All-cons, All-append}
 use Rattle.go_tree_nodes.specs.Trees.{FileTree, FuncTree}
 use Rattle.go_term_core.specs.decl_core.TopDecls.{FormTree, FuncForm, TopDeclTree, TypeForm, ValueForm, top_decls}
 use Rattle.go_snap_core.specs.handle_core.Declarations.{Declaration}
+use Rattle.go_snap_core.specs.entry_core.Among.{Among}
 use Rattle.go_snap_core.specs.body_core.Notes.{TheUse}
 use Rattle.go_snap_core.specs.ready_core.Packages.{trees_in}
 use Rattle.go_snap_core.specs.summary_core.Summaries.{SummaryModel}
@@ -15,7 +16,6 @@ use Rattle.go_snap_core.specs.object_core.Objects.{FunctionOf, ObjectOf}
 use Rattle.go_snap_core.specs.meaning_core.Looking.{looks_of}
 use Rattle.go_snap_core.specs.meaning_core.Scenes.{CodeScene}
 use Rattle.go_snap_core.specs.emit_core.Emitted.{are_clean, file_functions, form_function, function_of, functions_of, object_over, package_functions, code_scene_over, whole_object}
-use Rattle.go_laws_core.proofs.Among.{Among}
 use Rattle.go_laws_core.proofs.Declaring.{Declares, declared_in}
 
 module _ (Q : FunctionOf Declaration → Type 0) where

@@ -4,6 +4,7 @@ use Rattle.std.specs.Prelude.{slice_get}
 use Rattle.std.specs.List.{flat_map}
 use Rattle.std.specs.Map.{lookup}
 use Rattle.std.proofs.lemmas.Bool.{eq-eqb, ne_eqb}
+use Rattle.go_fold_core.proofs.Inside.{none_left, none_right}
 
 -- an item of a list
 abbrev pub HasItem : {A : Type 0} → List A → A → Type 0
@@ -75,19 +76,10 @@ has_get [] n x e = absurd cc
 has_get (y ∷ ys) zero x e = inl cc
 has_get (y ∷ ys) (suc n) x e = inr (has_get ys n x e)
 
--- nothing is in the parts of what is empty
-pub left_empty : {A : Type 0} (xs ys : List A) → xs ++ ys ≡ [] → xs ≡ []
-left_empty [] ys e = refl
-left_empty (x ∷ xs) ys e = absurd cc
-
-pub right_empty : {A : Type 0} (xs ys : List A) → xs ++ ys ≡ [] → ys ≡ []
-right_empty [] ys e = e
-right_empty (x ∷ xs) ys e = absurd cc
-
 pub none_in : {A B : Type 0} (g : A → List B) (xs : List A) (x : A) → flat_map g xs ≡ [] → HasItem xs x → g x ≡ []
 none_in g [] x e h = absurd h
-none_in g (a ∷ xs) x e (inl s) = subst (λ z. g z ≡ []) s (left_empty (g a) (flat_map g xs) e)
-none_in g (a ∷ xs) x e (inr h) = none_in g xs x (right_empty (g a) (flat_map g xs) e) h
+none_in g (a ∷ xs) x e (inl s) = subst (λ z. g z ≡ []) s (none_left (g a) (flat_map g xs) e)
+none_in g (a ∷ xs) x e (inr h) = none_in g xs x (none_right (g a) (flat_map g xs) e) h
 
 -- looking up
 

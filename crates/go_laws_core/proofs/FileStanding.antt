@@ -1,5 +1,5 @@
 -- A file alone: its workspace is one, and none of its imports comes to a package.
-use Rattle.std.proofs.Common.{◌≡◌, ◌≤◌, ℕ, zero, suc, List, [], ◌∷◌, length, inl, inr, refl, sym, ap, subst, ◌∙◌, arith}
+use Rattle.std.proofs.Common.{◌≡◌, ℕ, zero, suc, List, [], ◌∷◌, length, inl, refl, sym, ap, subst, ◌∙◌, arith}
 use Rattle.std.specs.Prelude.{All, Contains, Option, Some, slice_get}
 use Rattle.std.specs.List.{AllZip}
 use Rattle.std.specs.List.Sorted.{IsStrictlySortedBy}
@@ -21,11 +21,9 @@ use Rattle.go_snap_core.specs.summary_core.Summaries.{SummaryModel}
 use Rattle.go_snap_core.specs.part_core.Parts.{PartModel}
 use Rattle.go_snap_core.specs.whole_core.Inputs.{AreToldTo, ComesTo, IsPassingImport, ReachesPackage, Shown, Tells}
 use Rattle.govisd_core.specs.Alone.{ImportIsRefused, package_alone, the_path, workspace_alone}
+use Rattle.govisd_core.proofs.OneFound.{letter_there}
 
 -- the workspace of a file
-
-letter_there : (b : ℕ) → 97 ≤ b → b ≤ 122 → IsPathByte b
-letter_there b low high = inr (inl (low, high))
 
 is_element : IsElement the_path
 is_element =

@@ -13,6 +13,7 @@ use Rattle.go_term_core.specs.Terms.{Term, Sign}
 use Rattle.go_snap_core.specs.local_core.Binding.{Local, bound}
 use Rattle.go_snap_core.specs.local_core.Tables.{IsFuncPlaced}
 use Rattle.go_snap_core.specs.table_core.Entries.{Entry}
+use Rattle.go_snap_core.specs.table_core.Finding.{bytes_same}
 use Rattle.go_snap_core.specs.block_core.declared.binding.Binding.{Binding}
 use Rattle.go_snap_core.specs.block_core.declared.binding.Target.{Target}
 use Rattle.go_snap_core.specs.block_core.declared.binding.Target.TheVariants as targets
@@ -60,7 +61,6 @@ use Rattle.go_laws_core.proofs.ConstantCalling.{exported_calm, found_calm, selec
 use Rattle.go_laws_core.proofs.Clean.{IsCleanFile}
 use Rattle.go_laws_core.proofs.ConstantLists.{HasItem, Rising, contained, found_at, has, has_flat}
 use Rattle.go_laws_core.proofs.ConstantMethods.{method_found}
-use Rattle.go_laws_core.proofs.Own.{same_text}
 use Rattle.go_laws_core.proofs.Pieces.{file_has}
 use Rattle.go_laws_core.proofs.Reading.{face_read, local_read, shown_read}
 use Rattle.go_laws_core.proofs.Told.{decl_other, decl_own, none_own}
@@ -133,7 +133,7 @@ module _ (binds : ImportsBindTheirs) (of_locals : LocalsAreDeclarations) (i : In
       local_is : (at : ℕ) (value : TheValue) → HasItem f.answers.locals (record { offset = at; value = value }) → mean (outcomes.Declared (InFile own (places.Local (record { file = n; offset = at })))) ≡ local_meaning es at value
       local_is at value h =
           let locals = locals_meant es f.answers.locals in
-          ap (λ (b : Bool). if b && nat_eq n n then meaning_or_other (lookup (nat_eq at) locals) else meanings.Other) (same_text own own refl)
+          ap (λ (b : Bool). if b && nat_eq n n then meaning_or_other (lookup (nat_eq at) locals) else meanings.Other) (bytes_same own own refl)
           ∙ (ap (λ (b : Bool). if b then meaning_or_other (lookup (nat_eq at) locals) else meanings.Other) (eq-eqb n n refl)
           ∙ ap meaning_or_other (found_at (λ (l : TheLocal). l.offset) (λ (l : TheLocal). local_meaning es l.offset l.value) f.answers.locals (record { offset = at; value = value }) rises h))
 

@@ -3,14 +3,14 @@ use Rattle.std.proofs.Common.{◌≡◌, ℕ, suc, ◌+◌, Bool, true, false, �
 use Rattle.std.specs.Prelude.{if◌then◌else◌}
 use Rattle.std.specs.List.{enumerate_from, flat_map}
 use Rattle.std.specs.Option.{option_map}
-use Rattle.std.specs.Str.{bytes_eq}
 use Rattle.std.proofs.lemmas.Cmp.{nat_eq_equiv}
 use Rattle.std.proofs.lemmas.List.{map-append}
-use Rattle.std.proofs.lemmas.Slice.Eq.{bytes_eq-Decides}
 use Rattle.go_tree_nodes.specs.Trees.{FileTree}
 use Rattle.go_term_core.specs.decl_core.declared.keys.DeclRef.{DeclRef}
 use Rattle.go_term_core.specs.decl_core.TopDecls.{TopDeclTree, top_decls}
 use Rattle.go_snap_core.specs.table_core.Entries.{Entry}
+use Rattle.go_snap_core.specs.table_core.Finding.{bytes_same}
+use Rattle.go_snap_core.specs.summary_core.Viewed.{text_apart}
 use Rattle.go_snap_core.specs.written_core.Written.{InFile, Meaning as TypeMeaning}
 use Rattle.go_snap_core.specs.entry_core.Entries.{Meanings, file_at}
 use Rattle.go_snap_core.specs.entry_core.Outlines.{outline_of}
@@ -25,28 +25,18 @@ use Rattle.go_snap_core.specs.meaning_core.Meanings.{some_face_meaning}
 use Rattle.go_snap_core.specs.meaning_core.Scenes.{decl_at, own_or, own_spotted, package_decl_refs}
 use Rattle.go_snap_core.specs.lookup_core.Places.{spotted_meaning, same_spot, decl_spot}
 
-pub same_text : (x y : List ℕ) → x ≡ y → bytes_eq x y ≡ true
-same_text x y e = (bytes_eq-Decides x y).1 e
-
-pub other_text : (x y : List ℕ) → (x ≡ y → ⊥) → bytes_eq x y ≡ false
-other_text x y apart = by (bytes_eq x y) refl
-  where
-    by : (b : Bool) → bytes_eq x y ≡ b → bytes_eq x y ≡ false
-    by true e = absurd (apart ((bytes_eq-Decides x y).0 e))
-    by false e = e
-
 -- places
 
 spot_is : (path : List ℕ) (a d : DeclRef) → same_spot (decl_spot path d) (decl_spot path a) ≡ same_decl_place a d
 spot_is path a d =
-    ap (λ (b : Bool). b && (nat_eq d.file a.file && nat_eq d.number a.number)) (same_text path path refl)
+    ap (λ (b : Bool). b && (nat_eq d.file a.file && nat_eq d.number a.number)) (bytes_same path path refl)
     ∙ ap₂ ◌&&◌ (nat_eq_equiv.symm d.file a.file) (nat_eq_equiv.symm d.number a.number)
 
 pub elsewhere : (es : List Entry) (path other : List ℕ) (d : DeclRef) (ds : List DeclRef) (known : List (Option TheFace)) → (other ≡ path → ⊥) → spotted_meaning (own_spotted es path ds known) (decl_spot other d) ≡ None
 elsewhere es path other d [] known apart = refl
 elsewhere es path other d (a ∷ ds) [] apart = refl
 elsewhere es path other d (a ∷ ds) (k ∷ known) apart =
-    ap (λ (b : Bool). cond (b && (nat_eq d.file a.file && nat_eq d.number a.number)) (Some (some_face_meaning es k)) (spotted_meaning (own_spotted es path ds known) (decl_spot other d))) (other_text other path apart)
+    ap (λ (b : Bool). cond (b && (nat_eq d.file a.file && nat_eq d.number a.number)) (Some (some_face_meaning es k)) (spotted_meaning (own_spotted es path ds known) (decl_spot other d))) (text_apart other path apart)
     ∙ elsewhere es path other d ds known apart
 
 module _ (es : List Entry) (path : List ℕ) (these : List DeclRef) (d : DeclRef) where

@@ -1,9 +1,8 @@
 -- What the check of a package gives is declared in some packages alone, and mentions these alone, where its imports bind what is theirs and what they
 -- tell does.
-use Rattle.std.proofs.Common.{◌≡◌, ◌⊎◌, ◌++◌, ℕ, zero, suc, Bool, true, false, List, [], ◌∷◌, All, map, length, inl, inr, if◌then◌else◌, refl, sym, ap, subst, ◌∙◌, eqb}
+use Rattle.std.proofs.Common.{◌≡◌, ◌⊎◌, ◌++◌, ℕ, zero, suc, Bool, true, false, List, [], ◌∷◌, All, length, inl, inr, if◌then◌else◌, refl, sym, ap, subst, ◌∙◌}
 use Rattle.std.specs.Prelude.{Option, Some, None, Contains, slice_get, slice_index_or}
 use Rattle.std.specs.List.{AllZip, enumerate_from, range_with_len}
-use Rattle.std.proofs.lemmas.Bool.{eqb-true, eqb-false}
 use Rattle.go_tree_nodes.specs.declared.decls.ValueKind.{ValueKind}
 use Rattle.go_tree_nodes.specs.declared.decls.ValueKind.TheVariants as value_kinds
 use Rattle.go_tree_nodes.specs.declared.types.TypeName.{TypeName}
@@ -38,7 +37,7 @@ use Rattle.go_snap_core.specs.value_core.Owning.{specifications_alike}
 use Rattle.go_snap_core.specs.value_core.Deciding.{needs_decide}
 use Rattle.go_snap_core.specs.answer_core.Shown.{exported_decls, is_decl_listed, shown_among, shown_if}
 use Rattle.go_snap_core.specs.ready_core.Laws.{package_placed}
-use Rattle.go_snap_core.specs.ready_core.Lists.{among_at}
+use Rattle.go_snap_core.specs.face_core.Places.{among_at}
 use Rattle.go_snap_core.specs.ready_core.Packages.{PackageIn, entries_in, outlines_in, scene_in, stand_in}
 use Rattle.go_snap_core.specs.ready_core.Values.{declared_in, decls_in, needs_in, some_decl_face}
 use Rattle.go_snap_core.specs.ready_core.ValuesProofs.{faces_same, needs_same}
@@ -47,6 +46,7 @@ use Rattle.go_snap_core.specs.near_core.Near.{IfAny, NearOperand}
 use Rattle.go_snap_core.specs.near_core.Closing.{either}
 use Rattle.go_snap_core.specs.near_core.PiecesProofs.{pieces_nearby}
 use Rattle.go_snap_core.specs.whole_core.Known.{BindsInside}
+use Rattle.go_snap_core.specs.whole_core.Values.{each_at, is_or_not, mapped_at}
 use Rattle.go_laws_core.proofs.Terms.{IsTermIn, settled_in, settled_sign_in, signature_in, term_in}
 use Rattle.go_laws_core.proofs.Tables.{AreEntriesIn, IsEntryIn, both_in, own_in, written_in}
 use Rattle.go_laws_core.proofs.Answers.{alike_itself}
@@ -57,33 +57,10 @@ use Rattle.go_tree_nodes.specs.Spelling.{IsPlaced}
 use Rattle.go_snap_core.specs.table_core.Entries.{kinds_in}
 use Rattle.go_snap_core.specs.statement_core.Locality.{Each}
 
--- numbers of a list
-
-is_or_not : (ns : List ℕ) (m : ℕ) → Among ns m ⊎ (Among ns m → ⊥)
-is_or_not [] m = inr (λ h. h)
-is_or_not (n ∷ ns) m = by (eqb n m) refl (is_or_not ns m)
-  where
-    by : (b : Bool) → eqb n m ≡ b → Among ns m ⊎ (Among ns m → ⊥) → Among (n ∷ ns) m ⊎ (Among (n ∷ ns) m → ⊥)
-    by true e rest = inl (inl (eqb-true n m e))
-    by false e rest = elim rest [
-      | inl h ↦ inl (inr h)
-      | inr other ↦ inr (λ h. elim h [ inl same ↦ eqb-false n m e same | inr there ↦ other there ])
-    ]
-
 -- what a table has for the numbers of a list, and nothing for others
 abbrev kept : (ℕ → Option TheFace) → (ns : List ℕ) (m : ℕ) → Among ns m ⊎ (Among ns m → ⊥) → Option TheFace
 kept known ns m (inl h) = known m
 kept known ns m (inr other) = None
-
-each_at : {X : Type 0} (Is : X → Type 0) (xs : List (Option X)) (n : ℕ) → Each (IfAny Is) xs → IfAny Is (slice_index_or xs n None)
-each_at Is [] n h = tt
-each_at Is (x ∷ xs) zero h = h.0
-each_at Is (x ∷ xs) (suc n) h = each_at Is xs n h.1
-
-mapped_at : {X : Type 0} (Is : X → Type 0) (f : ℕ → Option X) (ns : List ℕ) (n : ℕ) → ((m : ℕ) → IfAny Is (f m)) → IfAny Is (slice_index_or (map f ns) n None)
-mapped_at Is f [] n h = tt
-mapped_at Is f (m ∷ ns) zero h = h m
-mapped_at Is f (m ∷ ns) (suc n) h = mapped_at Is f ns n h
 
 -- each that stands in such a relation is so
 zipped_each : {A B : Type 0} (R : A → B → Type 0) (Is : B → Type 0) → ((x : A) (y : B) → R x y → Is y) → (xs : List A) (ys : List B) → AllZip R xs ys → Each Is ys

@@ -30,7 +30,8 @@ use Rattle.go_snap_core.specs.func_core.Stands.{FileStand, outer_looks, outer_me
 use Rattle.go_snap_core.specs.file_core.Stands.{decl_funcs, file_funcs}
 use Rattle.go_snap_core.specs.value_core.Initial.{exprs}
 use Rattle.go_laws_core.specs.Standing.{looks_among, piece_exprs, pieces_in, pieces_of, target_listed, targets_listed, values_listed}
-use Rattle.go_laws_core.proofs.ConstantLists.{HasItem, InOne, from_flat, has_either, has_flat, has_left, has_right, left_empty, none_in, right_empty}
+use Rattle.go_fold_core.proofs.Inside.{none_left, none_right}
+use Rattle.go_laws_core.proofs.ConstantLists.{HasItem, InOne, from_flat, has_either, has_flat, has_left, has_right, none_in}
 
 module _ (looks : TheLooks) where
   abbrev Uses : ExprTree → List TheUse
@@ -48,10 +49,10 @@ module _ (looks : TheLooks) where
   listed_uses (Then x comma more) e u (inr h) k = has_right (Uses x) (exprs_uses looks more) u (listed_uses more e u h k)
 
   listed_faults : (b : Bool) (es : Separated ExprTree) (e : ExprTree) → HasItem (exprs es) e → exprs_faults looks b es ≡ [] → Breaks e ≡ []
-  listed_faults b (One x) e (inl s) k = subst (λ y. Breaks y ≡ []) s (left_empty (Breaks x) _ k)
+  listed_faults b (One x) e (inl s) k = subst (λ y. Breaks y ≡ []) s (none_left (Breaks x) _ k)
   listed_faults b (One x) e (inr h) k = absurd h
-  listed_faults b (Then x comma more) e (inl s) k = subst (λ y. Breaks y ≡ []) s (left_empty (Breaks x) _ (left_empty _ (exprs_faults looks b more) k))
-  listed_faults b (Then x comma more) e (inr h) k = listed_faults b more e h (right_empty _ (exprs_faults looks b more) k)
+  listed_faults b (Then x comma more) e (inl s) k = subst (λ y. Breaks y ≡ []) s (none_left (Breaks x) _ (none_left _ (exprs_faults looks b more) k))
+  listed_faults b (Then x comma more) e (inr h) k = listed_faults b more e h (none_right _ (exprs_faults looks b more) k)
 
   -- what stands left of `=`
 
@@ -62,7 +63,7 @@ module _ (looks : TheLooks) where
 
   target_breaks : (b : Bool) (x e : ExprTree) (fs : List Fault) → HasItem (if b then [] else x ∷ []) e → (if b then [] else Breaks x ++ fs) ≡ [] → Breaks e ≡ []
   target_breaks true x e fs h k = absurd h
-  target_breaks false x e fs (inl s) k = subst (λ y. Breaks y ≡ []) s (left_empty (Breaks x) fs k)
+  target_breaks false x e fs (inl s) k = subst (λ y. Breaks y ≡ []) s (none_left (Breaks x) fs k)
   target_breaks false x e fs (inr h) k = absurd h
 
   targets_has : (ts : Separated ExprTree) (e : ExprTree) (u : TheUse) → HasItem (targets_listed ts) e → HasItem (Uses e) u → HasItem (targets_uses looks ts) u
@@ -75,8 +76,8 @@ module _ (looks : TheLooks) where
   targets_break : (b : Bool) (ts : Separated ExprTree) (e : ExprTree) → HasItem (targets_listed ts) e → targets_faults looks b ts ≡ [] → Breaks e ≡ []
   targets_break b (One x) e h k = target_breaks (is_blank_target x) x e _ h k
   targets_break b (Then x comma more) e h k = elim (has_either (target_listed x) (targets_listed more) e h) [
-    | inl here ↦ target_breaks (is_blank_target x) x e _ here (left_empty (target_faults looks b x) (targets_faults looks b more) k)
-    | inr later ↦ targets_break b more e later (right_empty (target_faults looks b x) (targets_faults looks b more) k)
+    | inl here ↦ target_breaks (is_blank_target x) x e _ here (none_left (target_faults looks b x) (targets_faults looks b more) k)
+    | inr later ↦ targets_break b more e later (none_right (target_faults looks b x) (targets_faults looks b more) k)
   ]
 
   -- pieces
@@ -115,19 +116,19 @@ module _ (looks : TheLooks) where
 
   pub piece_breaks : (results : List (Option Term)) (has_names : Bool) (firsts : List Bool) (p : Piece) (e : ExprTree) → HasItem (piece_exprs p) e → piece_faults looks results has_names firsts p ≡ [] → Breaks e ≡ []
   piece_breaks results has_names firsts (Header r s) e h k = absurd h
-  piece_breaks results has_names firsts (Spec kind v) e h k = values_break v.values e h (left_empty (values_faults looks v.values) _ (right_empty _ _ k))
-  piece_breaks results has_names firsts (Act (Alone x)) e h k = one_breaks x e h (left_empty (Breaks x) _ k)
-  piece_breaks results has_names firsts (Act (Step x op span)) e h k = one_breaks x e h (left_empty (Breaks x) _ (left_empty _ _ k))
+  piece_breaks results has_names firsts (Spec kind v) e h k = values_break v.values e h (none_left (values_faults looks v.values) _ (none_right _ _ k))
+  piece_breaks results has_names firsts (Act (Alone x)) e h k = one_breaks x e h (none_left (Breaks x) _ k)
+  piece_breaks results has_names firsts (Act (Step x op span)) e h k = one_breaks x e h (none_left (Breaks x) _ (none_left _ _ k))
   piece_breaks results has_names firsts (Act (Assign ts span es)) e h k = elim (has_either (targets_listed ts) (exprs es) e h) [
-    | inl here ↦ targets_break (is_list ts) ts e here (left_empty (targets_faults looks (is_list ts) ts) _ k)
-    | inr later ↦ listed_faults (is_list es) es e later (left_empty (exprs_faults looks (is_list es) es) _ (right_empty (targets_faults looks (is_list ts) ts) _ k))
+    | inl here ↦ targets_break (is_list ts) ts e here (none_left (targets_faults looks (is_list ts) ts) _ k)
+    | inr later ↦ listed_faults (is_list es) es e later (none_left (exprs_faults looks (is_list es) es) _ (none_right (targets_faults looks (is_list ts) ts) _ k))
   ]
-  piece_breaks results has_names firsts (Act (Update x op span v)) e (inl s) k = subst (λ y. Breaks y ≡ []) s (left_empty (Breaks x) _ (left_empty _ _ k))
-  piece_breaks results has_names firsts (Act (Update x op span v)) e (inr h) k = one_breaks v e h (left_empty (Breaks v) _ (left_empty _ _ (right_empty _ _ k)))
-  piece_breaks results has_names firsts (Act (Define xs span es)) e h k = listed_faults (is_list es) es e h (left_empty (exprs_faults looks (is_list es) es) _ k)
-  piece_breaks results has_names firsts (Condition x) e h k = one_breaks x e h (left_empty (Breaks x) _ k)
+  piece_breaks results has_names firsts (Act (Update x op span v)) e (inl s) k = subst (λ y. Breaks y ≡ []) s (none_left (Breaks x) _ (none_left _ _ k))
+  piece_breaks results has_names firsts (Act (Update x op span v)) e (inr h) k = one_breaks v e h (none_left (Breaks v) _ (none_left _ _ (none_right _ _ k)))
+  piece_breaks results has_names firsts (Act (Define xs span es)) e h k = listed_faults (is_list es) es e h (none_left (exprs_faults looks (is_list es) es) _ k)
+  piece_breaks results has_names firsts (Condition x) e h k = one_breaks x e h (none_left (Breaks x) _ k)
   piece_breaks results has_names firsts (Given place None) e h k = absurd h
-  piece_breaks results has_names firsts (Given place (Some es)) e h k = listed_faults (is_list es) es e h (left_empty (exprs_faults looks (is_list es) es) _ k)
+  piece_breaks results has_names firsts (Given place (Some es)) e h k = listed_faults (is_list es) es e h (none_left (exprs_faults looks (is_list es) es) _ k)
 
 -- what is noted of a piece is noted of its function
 
@@ -180,7 +181,7 @@ module _ (one : FunctionsHaveOneTable) (st : FileStand) (g : FuncTree) (placed :
   expr_breaks p e h k none =
       let n = piece_noted p h in
       let whole : noted_faults noted_of ++ _ ≡ [] = ap (λ (b : BodyOf). b.faults) same_body ∙ none in
-      piece_breaks (looks_among st all) (returned_types (outer_looks st) g.signature) (returned_names g.signature) n.firsts p e k (none_in (λ (x : NoteOf). x.faults) noted_of _ (left_empty (noted_faults noted_of) _ whole) (n.there _ (inl refl)))
+      piece_breaks (looks_among st all) (returned_types (outer_looks st) g.signature) (returned_names g.signature) n.firsts p e k (none_in (λ (x : NoteOf). x.faults) noted_of _ (none_left (noted_faults noted_of) _ whole) (n.there _ (inl refl)))
 
 -- files
 

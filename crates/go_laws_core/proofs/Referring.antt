@@ -17,6 +17,7 @@ use Rattle.go_term_core.specs.decl_core.TopDecls.{TopDeclTree}
 use Rattle.go_snap_core.specs.denote_core.declared.things.Outcome.{Outcome}
 use Rattle.go_snap_core.specs.denote_core.declared.things.Outcome.TheVariants as outcomes
 use Rattle.go_snap_core.specs.handle_core.Declarations.{Declaration}
+use Rattle.go_snap_core.specs.entry_core.Among.{Among, among_from, among_to, filter_among}
 use Rattle.go_snap_core.specs.expr_core.Laws.{use_place, occurrence_place}
 use Rattle.go_snap_core.specs.body_core.Notes.{TheUse}
 use Rattle.go_snap_core.specs.used_core.Used.{is_declared}
@@ -37,7 +38,7 @@ use Rattle.go_snap_core.specs.emit_core.Emitted.{body_first, body_uses, outcome_
 use Rattle.go_snap_core.specs.emit_core.Laws.{BodiesAreBetweenBraces, CallsNameTheirOwn, HasNoFault, ObjectsAreOfFaultless, declaration_of, is_between}
 use Rattle.go_laws_core.specs.Calls.{HasWords, body_calls}
 use Rattle.go_laws_core.specs.CodeLaws.{AreOfGrammar, FunctionsReferToTheirBodies, IsCallWithWords, IsOfCall, IsWellFormed, ObjectsAreWellFormed, RefersToItsBody}
-use Rattle.go_laws_core.proofs.Among.{Among, among_alike, among_at, among_from, among_passing, among_to}
+use Rattle.go_laws_core.proofs.Among.{among_alike, among_at}
 use Rattle.go_laws_core.proofs.Called.{calls_are_of_the_body}
 use Rattle.go_laws_core.proofs.Declaring.{Declares, file_has, file_places}
 use Rattle.go_laws_core.proofs.CodeFunctions.{object_all}
@@ -106,7 +107,7 @@ module _ (occurs : PartHasOccurrences) (written : OccurrencesAreWritten) (betwee
           let start : u.0.offset ≡ s.start = ap (λ (p : ℕ × Role). p.0) u.2 in
           let opened : nat_le g.open_brace.start u.0.offset ≡ true = le-leb g.open_brace.start u.0.offset (omega (arith, low, start)) in
           let closed : nat_lt u.0.offset g.close_brace.start ≡ true = lt-ltb u.0.offset g.close_brace.start (omega (arith, high, start)) in
-          (u.0, among_passing (is_between g) f.answers.uses u.0 u.1 (and_from (nat_le g.open_brace.start u.0.offset) (nat_lt u.0.offset g.close_brace.start) opened closed), u.2)
+          (u.0, filter_among (is_between g) f.answers.uses u.0 u.1 (and_from (nat_le g.open_brace.start u.0.offset) (nat_lt u.0.offset g.close_brace.start) opened closed), u.2)
 
       -- what code calls is the number of such an occurrence
       call_is : (reference words : ℕ) → IsOfCall looks (lines_occs g.body) (body_calls g) reference words → IsCallWithWords (body_calls g) inside reference words

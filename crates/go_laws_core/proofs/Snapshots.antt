@@ -4,6 +4,7 @@ use Rattle.std.specs.Prelude.{slice_get}
 use Rattle.std.proofs.lemmas.List.Elements.{All-nil, All-cons, All-append}
 use Rattle.go_snap_core.specs.graph_core.Workspaces.{PackageModel, IsWorkspace}
 use Rattle.go_snap_core.specs.handle_core.Declarations.{Declaration}
+use Rattle.go_snap_core.specs.entry_core.Among.{Among, among_to}
 use Rattle.go_snap_core.specs.summary_core.Summaries.{SummaryModel}
 use Rattle.go_snap_core.specs.part_core.Inputs.{IsInput}
 use Rattle.go_snap_core.specs.part_core.Parts.{PartModel}
@@ -17,7 +18,6 @@ use Rattle.go_snap_core.proofs.Faulty.{read_there}
 use Rattle.go_laws_core.proofs.Given.{is_input}
 use Rattle.go_laws_core.proofs.Grammar.{all_keep_rules}
 use Rattle.go_laws_core.specs.CodeLaws.{AreOfGrammar, FunctionsReferToTheirBodies, IsSoundObject, ObjectsAreWellFormed, SnapshotsHaveSoundObjects}
-use Rattle.go_laws_core.proofs.Among.{Among, among_to}
 
 -- what is there has a number
 some_at : {A : Type 0} (xs : List (Option A)) (x : A) → Among (somes xs) x → (n : ℕ) × (slice_get xs n ≡ Some (Some x))

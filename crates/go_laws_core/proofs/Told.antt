@@ -5,6 +5,7 @@ use Rattle.std.specs.Str.{bytes_eq}
 use Rattle.std.proofs.lemmas.Grind.{flat_map-append}
 use Rattle.go_term_core.specs.decl_core.declared.keys.DeclRef.{DeclRef}
 use Rattle.go_snap_core.specs.table_core.Entries.{Entry}
+use Rattle.go_snap_core.specs.table_core.Finding.{bytes_same}
 use Rattle.go_snap_core.specs.entry_core.Entries.{package_meanings}
 use Rattle.go_snap_core.specs.face_core.Packages.{PackageFacesModel, face_among, face_in_some, package_in}
 use Rattle.go_snap_core.specs.face_core.Written.{decls_of, position_of}
@@ -13,6 +14,7 @@ use Rattle.go_snap_core.specs.ready_core.Packages.{PackageIn, scene_in, trees_in
 use Rattle.go_snap_core.specs.env_core.Found.{face_at}
 use Rattle.go_snap_core.specs.summary_core.Summaries.{SummaryModel, IsOfOne, path_of}
 use Rattle.go_snap_core.specs.summary_core.Views.{faces_told, types_told}
+use Rattle.go_snap_core.specs.summary_core.Viewed.{text_apart}
 use Rattle.go_snap_core.specs.part_core.Inputs.{InputModel, IsInput, path_in}
 use Rattle.go_snap_core.specs.part_core.Parts.{ContentOf, IsPart, package_seen, seen_by}
 use Rattle.go_snap_core.specs.emit_core.Emitted.{code_scene_over, told_to}
@@ -20,14 +22,14 @@ use Rattle.go_snap_core.specs.meaning_core.Meanings.{some_face_meaning}
 use Rattle.go_snap_core.specs.meaning_core.Scenes.{CodeScene, decl_meaning, own_or, own_spotted, package_decl_refs}
 use Rattle.go_snap_core.specs.lookup_core.Places.{spotted_meaning, decl_spot}
 use Rattle.go_laws_core.proofs.ConstantLists.{HasItem, has_of_all}
-use Rattle.go_laws_core.proofs.Own.{elsewhere, other_text, own_means, same_text, written_decls}
+use Rattle.go_laws_core.proofs.Own.{elsewhere, own_means, written_decls}
 
 -- what packages show, with one more behind them
 
 none_here : (ss : List SummaryModel) (path : List ℕ) → ((s : SummaryModel) → HasItem ss s → path ≡ s.faces.path → ⊥) → package_in (faces_told ss) path ≡ None
 none_here [] path h = refl
 none_here (s ∷ ss) path h =
-    ap (λ (b : Bool). if b then Some s.faces else package_in (faces_told ss) path) (other_text path s.faces.path (h s (inl refl))) ∙ none_here ss path (λ t k. h t (inr k))
+    ap (λ (b : Bool). if b then Some s.faces else package_in (faces_told ss) path) (text_apart path s.faces.path (h s (inl refl))) ∙ none_here ss path (λ t k. h t (inr k))
 
 faces_last : (ss : List SummaryModel) (s : SummaryModel) (path : List ℕ) → package_in (faces_told ss) path ≡ None → package_in (faces_told (ss ++ s ∷ [])) path ≡ package_in (s.faces ∷ []) path
 faces_last [] s path e = refl
@@ -40,7 +42,7 @@ faces_last (t ∷ ts) s path e = by (bytes_eq path t.faces.path) e (faces_last t
     by false e rest = rest e
 
 faces_other : (ss : List SummaryModel) (s : SummaryModel) (path : List ℕ) → (path ≡ s.faces.path → ⊥) → package_in (faces_told (ss ++ s ∷ [])) path ≡ package_in (faces_told ss) path
-faces_other [] s path apart = ap (λ (b : Bool). if b then Some s.faces else None) (other_text path s.faces.path apart)
+faces_other [] s path apart = ap (λ (b : Bool). if b then Some s.faces else None) (text_apart path s.faces.path apart)
 faces_other (t ∷ ts) s path apart = ap (λ (o : Option PackageFacesModel). if bytes_eq path t.faces.path then Some t.faces else o) (faces_other ts s path apart)
 
 module _ (i : InputModel) (c : ContentOf) (well : IsInput i) (part : IsPart i c) where
@@ -92,7 +94,7 @@ module _ (i : InputModel) (c : ContentOf) (well : IsInput i) (part : IsPart i c)
   own_shown : (d : DeclRef) → face_in_some (package_in (faces_told (told_to i c)) (path_in i)) d ≡ face_among (shown_among shown_decls own_decls c.declared) d
   own_shown d =
       ap (λ o. face_in_some o d) (faces_last i.reached c.summary (path_in i) none_own)
-      ∙ (ap (λ (b : Bool). face_in_some (if b then Some c.summary.faces else None) d) (same_text (path_in i) c.summary.faces.path (sym (ap (λ (m : PackageFacesModel). m.path) faces_are)))
+      ∙ (ap (λ (b : Bool). face_in_some (if b then Some c.summary.faces else None) d) (bytes_same (path_in i) c.summary.faces.path (sym (ap (λ (m : PackageFacesModel). m.path) faces_are)))
       ∙ ap (λ (m : PackageFacesModel). face_among m.faces d) faces_are)
 
   pub decl_own : (d : DeclRef) → decl_meaning scene (path_in i) d ≡ some_face_meaning table (face_at c.declared (position_of (scene_in seen table).written d))

@@ -5,8 +5,9 @@ use Rattle.go_term_core.specs.Terms.{Term, NoType, Predeclared, ErrorType, Defin
 use Rattle.go_embed_core.specs.table_core.Entries.{EntryLook, has_method}
 use Rattle.go_embed_core.specs.Owners.{OwnerModel, EmbeddedEdge, embedded_edge, owner_in, embedded_edges, term_embedded, embedded_in, edge_at, embeds_at, term_field_count, owner_field_count}
 use Rattle.go_level_core.specs.Paths.{Step}
-use Rattle.go_level_core.proofs.ListLemmas.{In, in_contained, contained_in, not_same}
+use Rattle.go_level_core.proofs.ListLemmas.{not_same}
 use Rattle.go_term_core.specs.Forms.{field_count}
+use Rattle.go_term_core.proofs.Members.{In, contained_in, in_contained}
 
 at_here : (x : EmbeddedEdge) (es : List EmbeddedEdge) (i : ℕ) → x.position ≡ i → edge_at (x ∷ es) i ≡ Some x
 at_here x es i h = ap (λ b. if b then Some x else edge_at es i) (eq-eqb x.position i h)
@@ -29,7 +30,7 @@ above_step true i t rest e more (inl s) = let p : i ≡ e.position = ap (λ (y :
 above_step true i t rest e more (inr r) = let l = more r in omega (arith, l)
 above_step false i t rest e more r = let l = more r in omega (arith, l)
 
-above : (o : OwnerModel) (path : List ℕ) (i : ℕ) (fs : Fields) (e : EmbeddedEdge) → In (embedded_edges o path i fs) e → i ≤ e.position
+pub above : (o : OwnerModel) (path : List ℕ) (i : ℕ) (fs : Fields) (e : EmbeddedEdge) → In (embedded_edges o path i fs) e → i ≤ e.position
 above o path i NoField e h = absurd h
 above o path i (AField name place embedded t tag fs) e h =
     above_step (embedded && not (has_method o.path o.methods name path)) i t (embedded_edges o path (suc i) fs) e (λ r. above o path (suc i) fs e r) h

@@ -1,8 +1,9 @@
 -- Items of lists by their place.
-use Rattle.std.proofs.Common.{◌≡◌, ℕ, zero, suc, ◌+◌, ◌<◌, ◌≤◌, Bool, true, false, ◌||◌, List, [], ◌∷◌, ◌++◌, length, set, get_or, Contains, refl, sym, ap, ◌∙◌, subst, arith, ◌⊎◌, inl, inr}
+use Rattle.std.proofs.Common.{◌≡◌, ℕ, zero, suc, ◌+◌, ◌<◌, ◌≤◌, Bool, true, false, ◌||◌, List, [], ◌∷◌, ◌++◌, length, set, get_or, refl, sym, ap, ◌∙◌, subst, arith, ◌⊎◌, inl, inr}
 use Rattle.std.specs.Prelude.{slice_get, nat_eq}
 use Rattle.std.proofs.lemmas.Option.{slice_get_within, slice_get_read}
 use Rattle.std.proofs.lemmas.Bool.Decides.{eqb_tells}
+use Rattle.go_term_core.proofs.Members.{In}
 use Rattle.go_level_core.specs.mirrors.Ways.{At}
 
 pub at_old : {A : Type 0} (xs : List A) (y : A) (n : ℕ) (x : A) → At xs n x → At (xs ++ y ∷ []) n x
@@ -107,10 +108,6 @@ below_or_not m zero = inr (omega arith)
 below_or_not zero (suc n) = inl (omega arith)
 below_or_not (suc m) (suc n) = elim (below_or_not m n) [ inl l ↦ inl (omega arith) | inr l ↦ inr (omega arith) ]
 
-pub tell : (b : Bool) → (b ≡ true) ⊎ (b ≡ false)
-tell true = inl refl
-tell false = inr refl
-
 pub true_false : {A : Type 0} (b : Bool) → b ≡ true → b ≡ false → A
 true_false b t f = cc
 
@@ -124,24 +121,6 @@ or_assoc false b c = refl
 pub or_false : (a : Bool) → a || false ≡ a
 or_false true = refl
 or_false false = refl
-
--- an item of a list, by cases
-abbrev pub In : {A : Type 0} → List A → A → Type 0
-In [] x = ⊥
-In (y ∷ ys) x = (y ≡ x) ⊎ In ys x
-
-pub in_list : {A : Type 0} (xs : List A) (k : ℕ) (x : A) → k < length xs → get_or xs k x ≡ x → In xs x
-in_list [] k x l h = absurd (omega arith)
-in_list (y ∷ ys) zero x l h = inl h
-in_list (y ∷ ys) (suc k) x l h = inr (in_list ys k x (omega arith) h)
-
-pub in_contained : {A : Type 0} (xs : List A) (x : A) → Contains xs x → In xs x
-in_contained xs x c = in_list xs c.0 x c.1 c.2
-
-pub contained_in : {A : Type 0} (xs : List A) (x : A) → In xs x → Contains xs x
-contained_in [] x h = absurd h
-contained_in (y ∷ ys) x (inl e) = (0, omega arith, e)
-contained_in (y ∷ ys) x (inr r) = let c = contained_in ys x r in (suc c.0, omega (arith, c.1), c.2)
 
 pub at_in : {A : Type 0} (xs : List A) (n : ℕ) (x : A) → At xs n x → In xs x
 at_in [] n x h = cc

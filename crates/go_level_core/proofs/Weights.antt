@@ -4,12 +4,13 @@ use Rattle.std.specs.Prelude.{nat_eq}
 use Rattle.std.specs.Map.{lookup}
 use Rattle.go_term_core.specs.decl_core.declared.keys.DeclKey.{DeclKey}
 use Rattle.go_term_core.specs.Terms.{Term, NoType, Predeclared, ErrorType, Defined, PointerTo, StructOf, InterfaceOf, Fields, NoField, AField}
+use Rattle.go_term_core.proofs.Members.{In}
 use Rattle.go_embed_core.specs.table_core.Entries.{Entry, find_entry, same_key, term_in, underlying_in, has_method}
 use Rattle.go_embed_core.specs.Owners.{OwnerModel, EmbeddedEdge, embedded_edge, off, owner_in, embedded_edges, term_embedded, embedded_in}
 use Rattle.go_level_core.specs.Paths.{Step}
 use Rattle.go_level_core.specs.mirrors.Ways.{At, Way, IsNumber, IsNumbered}
 use Rattle.go_level_core.specs.mirrors.Levels.{depth, fields_depth, tallest, entry_weight, weight, is_free, left_below, left, peak, bound, height, IsLighter}
-use Rattle.go_level_core.proofs.ListLemmas.{In, not_same, same_or_not, at_some}
+use Rattle.go_level_core.proofs.ListLemmas.{not_same, same_or_not, at_some}
 use Rattle.go_level_core.proofs.Edges.{step_edge}
 
 -- each entry of a table is as deep as the deepest at most

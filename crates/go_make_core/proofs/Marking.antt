@@ -7,6 +7,7 @@ use Rattle.std.proofs.lemmas.Bool.{cases_eq}
 use Rattle.std.proofs.lemmas.List.{length-set, length-replicate, get_or-set_same, get_or-set_other, take_more}
 use Rattle.std.proofs.lemmas.List.Elements.{All-cons, All-head, All-nil, All-push, All-tail}
 use Rattle.std.proofs.lemmas.Option.{slice_get_within, slice_get-get_or, get_or_from_slice_get}
+use Rattle.go_whole_core.specs.graph_core.OutcomeLaws.{all_at_place}
 use Rattle.go_whole_core.specs.graph_core.Workspaces.{PackageModel, AreAllRead, IsWorkspace}
 use Rattle.go_whole_core.specs.reach_core.Numbers.{Numbers}
 use Rattle.go_whole_core.specs.summary_core.Summaries.{SummaryModel, path_of}
@@ -22,10 +23,6 @@ use Rattle.go_make_core.specs.Keeping.{WasThere}
 use Rattle.go_make_core.specs.mirrors.Marking.{AllMarked, AreMarked, AreMarkedFor, IsMarked, LookAlike, WasTold}
 use Rattle.go_make_core.proofs.Finding.{one_part_at}
 use Rattle.go_make_core.proofs.Telling.{nothing_at}
-
--- what holds of all items holds of the one at a place
-pub at_place : {A : Type 0} (P : A → Type 0) (xs : List A) (i : ℕ) (x : A) → All P xs → slice_get xs i ≡ Some x → P x
-at_place P xs i x all at = subst P (get_or_from_slice_get xs i x x at) (all i x (slice_get_within xs i x at))
 
 -- a list with one item set
 module _ {A : Type 0} (xs : List A) (n : ℕ) (x : A) (lt : n < length xs) where
@@ -158,7 +155,7 @@ module _ (ps : List PackageModel) (parts : List (Option PartModel)) (well : IsWo
 
   -- its files are read
   pub part_read : (k : ℕ) (part : PartModel) → slice_get parts k ≡ Some (Some part) → AreAllRead part.input.source
-  part_read k part there = at_place AreAllRead ps k part.input.source well.read (right k part there).numbered
+  part_read k part there = all_at_place AreAllRead ps k part.input.source well.read (right k part there).numbered
 
   -- a part stands at its path
   pub part_stands : (k : ℕ) (part : PartModel) (path : List ℕ) → slice_get parts k ≡ Some (Some part) → path_in part.input ≡ path → IsPartAt ps parts path part

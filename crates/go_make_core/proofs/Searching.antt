@@ -1,34 +1,18 @@
 -- Searches in lists whose keys are texts in strict order.
-use Rattle.std.proofs.Common.{◌≡◌, ℕ, zero, suc, ◌<◌, ◌≤◌, ◌⊎◌, inl, inr, Bool, true, false, List, [], ◌∷◌, length, get_or, map, Some, Ok, Err, slice_get, refl, sym, ◌∙◌, ap, subst, arith}
+use Rattle.std.proofs.Common.{◌≡◌, ℕ, zero, suc, ◌<◌, ◌≤◌, inl, inr, List, [], ◌∷◌, length, get_or, map, Some, Ok, Err, slice_get, refl, sym, ◌∙◌, ap, subst, arith}
 use lib.Dec.{ltb}
-use Rattle.std.specs.Ordering.{ordering_index, ordering_reverse, is_eq}
-use Rattle.std.specs.declared.cmp.Ordering.{Ordering}
+use Rattle.std.specs.Ordering.{ordering_index}
 use Rattle.std.specs.declared.cmp.Ordering.TheVariants.{Less, Equal, Greater}
 use Rattle.std.specs.List.Sorted.{IsStrictlySortedBy, IsNonDecreasingBy, IsBinarySearchResult, IsSearchInRange}
 use Rattle.std.proofs.lemmas.Bool.{ltb-true, ltb-false}
-use Rattle.std.proofs.lemmas.Cmp.{nat_list_cmp_total}
 use Rattle.std.proofs.lemmas.List.{length-map}
 use Rattle.std.proofs.lemmas.Map.Keys.{Less-from_sorted}
-use Rattle.std.proofs.lemmas.Map.Text.{is_eq-slice_cmp}
 use Rattle.std.proofs.lemmas.Option.{slice_get_within, slice_get-get_or, get_or_from_slice_get}
-use Rattle.std.proofs.lemmas.Slice.Eq.{bytes_eq-Decides}
+use Rattle.go_text_core.proofs.Each.{true_or_false}
 use Rattle.go_whole_core.specs.graph_core.Workspaces.{by_bytes}
+use Rattle.go_whole_core.specs.graph_core.Places.{equal_texts, rises, same_text, some_item, turned}
 
 -- the order of texts
-
-turned : (x y : List ℕ) (o : Ordering) → by_bytes x y ≡ o → by_bytes y x ≡ ordering_reverse o
-turned x y o h = nat_list_cmp_total.antisymm y x ∙ ap ordering_reverse h
-
-equal_texts : (x y : List ℕ) → by_bytes x y ≡ Equal → x ≡ y
-equal_texts x y h = (bytes_eq-Decides x y).0 (sym (is_eq-slice_cmp x y) ∙ ap is_eq h)
-
-same_text : (x : List ℕ) → by_bytes x x ≡ Equal
-same_text x = by_cases (by_bytes x x) refl
-  where
-    by_cases : (o : Ordering) → by_bytes x x ≡ o → by_bytes x x ≡ Equal
-    by_cases Equal h = h
-    by_cases Less h = (let t : Less ≡ Greater = sym h ∙ turned x x Less h in cc)
-    by_cases Greater h = (let t : Greater ≡ Less = sym h ∙ turned x x Greater h in cc)
 
 not_less : (x y : List ℕ) → by_bytes x y ≡ Less → x ≡ y → ⊥
 not_less x y h e = (let t : Less ≡ Equal = sym h ∙ (ap (λ z. by_bytes x z) (sym e) ∙ same_text x) in cc)
@@ -39,26 +23,6 @@ not_greater x y h e = (let t : Greater ≡ Equal = sym h ∙ (ap (λ z. by_bytes
 -- no two texts are each below the other
 pub never_less : (x y : List ℕ) → by_bytes x y ≡ Less → by_bytes y x ≡ Less → ⊥
 never_less x y h k = (let t : Greater ≡ Less = sym (turned x y Less h) ∙ k in cc)
-
--- a text below another is told no later than that one by what they are compared with
-rises : (x y q : List ℕ) (o : Ordering) → by_bytes x y ≡ Less → by_bytes y q ≡ o → ordering_index (by_bytes x q) ≤ ordering_index o
-rises x y q Less up h = subst (λ p. ordering_index p ≤ 0) (sym (nat_list_cmp_total.trans x y q up h)) (omega arith)
-rises x y q Equal up h = subst (λ z. ordering_index (by_bytes x z) ≤ 1) (equal_texts y q h) (subst (λ p. ordering_index p ≤ 1) (sym up) (omega arith))
-rises x y q Greater up h = at_most (by_bytes x q)
-  where
-    at_most : (p : Ordering) → ordering_index p ≤ 2
-    at_most Less = omega arith
-    at_most Equal = omega arith
-    at_most Greater = omega arith
-
-pub some_item : {A : Type 0} (xs : List A) (i : ℕ) → i < length xs → (x : A) × (slice_get xs i ≡ Some x)
-some_item [] i lt = absurd (omega arith)
-some_item (x ∷ xs) zero lt = (x, refl)
-some_item (x ∷ xs) (suc i) lt = some_item xs i (omega (arith, lt))
-
-two : (b : Bool) → (b ≡ true) ⊎ (b ≡ false)
-two true = inl refl
-two false = inr refl
 
 module _ {A : Type 0} (key : A → List ℕ) where
   abbrev pub IsOrdered : List A → Type 0
@@ -76,7 +40,7 @@ module _ {A : Type 0} (key : A → List ℕ) where
       subst (λ k. by_bytes k (key (get_or xs j d)) ≡ Less) (key_at xs i d) (subst (λ k. by_bytes (get_or (map key xs) i (key d)) k ≡ Less) (key_at xs j d) compared)
 
   told_in_turn : (xs : List A) (q : List ℕ) → IsOrdered xs → IsNonDecreasingBy (λ x. ordering_index (by_bytes (key x) q)) xs
-  told_in_turn xs q ordered i j d up lt = elim (two (ltb i j)) [
+  told_in_turn xs q ordered i j d up lt = elim (true_or_false (ltb i j)) [
     | inl less ↦
         let below : i < j = ltb-true _ _ less in
         rises (key (get_or xs i d)) (key (get_or xs j d)) q (by_bytes (key (get_or xs j d)) q) (key_below xs i j d ordered below lt) refl
@@ -94,9 +58,9 @@ module _ {A : Type 0} (key : A → List ℕ) where
       let first : get_or xs i x ≡ x = get_or_from_slice_get xs i x x p in
       let second : get_or xs j x ≡ y = get_or_from_slice_get xs j y x q in
       let keys : key (get_or xs i x) ≡ key (get_or xs j x) = ap key first ∙ (same ∙ ap key (sym second)) in
-      elim (two (ltb i j)) [
+      elim (true_or_false (ltb i j)) [
         | inl less ↦ absurd (not_less _ _ (key_below xs i j x ordered (ltb-true _ _ less) high) keys)
-        | inr more ↦ elim (two (ltb j i)) [
+        | inr more ↦ elim (true_or_false (ltb j i)) [
           | inl less ↦ absurd (not_less _ _ (key_below xs j i x ordered (ltb-true _ _ less) low) (sym keys))
           | inr less ↦ (let a : j ≤ i = ltb-false _ _ more in let b : i ≤ j = ltb-false _ _ less in omega (arith, a, b))
         ]
@@ -114,7 +78,7 @@ module _ {A : Type 0} (key : A → List ℕ) where
       let cut = is (told_in_turn xs q ordered) in
       let lt : j < length xs = slice_get_within xs j x at in
       let here : key (get_or xs j x) ≡ q = ap key (get_or_from_slice_get xs j x x at) ∙ same in
-      elim (two (ltb j i)) [
+      elim (true_or_false (ltb j i)) [
         | inl less ↦ not_less _ q (cut.0 j x (omega arith) (ltb-true _ _ less)) here
         | inr more ↦ not_greater _ q (cut.1 j x (ltb-false _ _ more) lt) here
       ]

@@ -1,11 +1,12 @@
 -- What is told of packages, and the places where it stands.
-use Rattle.std.proofs.Common.{◌≡◌, ◌≢◌, ℕ, zero, suc, ◌+◌, ◌<◌, ◌⊎◌, inl, inr, List, [], ◌∷◌, ◌++◌, All, length, map, take, get_or, Option, Some, None, refl, sym, ap, subst, ◌∙◌, arith}
+use Rattle.std.proofs.Common.{◌≡◌, ◌≢◌, ℕ, zero, suc, ◌+◌, ◌<◌, ◌⊎◌, inl, inr, List, [], ◌∷◌, ◌++◌, All, length, map, take, get_or, Option, Some, None, sym, ap, subst, ◌∙◌, arith}
 use Rattle.std.specs.Prelude.{slice_get, slice_set, replicate}
 use Rattle.std.specs.List.{AllZip}
 use Rattle.std.proofs.lemmas.Bool.{cases_eq}
 use Rattle.std.proofs.lemmas.List.{length-set, length-replicate, get_or-replicate, get_or-set_same, get_or-set_other, map-append, take_more}
 use Rattle.std.proofs.lemmas.List.Elements.{All-cons, All-contains_itself, All-head, All-tail}
 use Rattle.std.proofs.lemmas.Option.{slice_get_within, slice_get-get_or, get_or_from_slice_get}
+use Rattle.go_whole_core.specs.type_core.Keyed.{slice_get_here}
 use Rattle.go_whole_core.specs.reach_core.Numbers.{Numbers}
 use Rattle.go_whole_core.specs.summary_core.Summaries.{SummaryModel}
 use Rattle.go_whole_core.specs.part_core.Parts.{PartModel}
@@ -121,10 +122,6 @@ stays_at [] y i x at = (let e : None ≡ Some x = at in absurd cc)
 stays_at (z ∷ xs) y zero x at = at
 stays_at (z ∷ xs) y (suc i) x at = stays_at xs y i x at
 
-at_end : {A : Type 0} (xs : List A) (y : A) → slice_get (xs ++ y ∷ []) (length xs) ≡ Some y
-at_end [] y = refl
-at_end (x ∷ xs) y = at_end xs y
-
 -- a part with its place
 module _ (parts : List (Option PartModel)) (told : List SummaryModel) (places : List ℕ) (before : HavePlaces parts told places) (n : ℕ) (part : PartModel) (lt : n < length parts) where
   below : n < length places
@@ -144,7 +141,7 @@ module _ (parts : List (Option PartModel)) (told : List SummaryModel) (places : 
       record {
         place = length told;
         at = ap (slice_get (slice_set places n (length told))) e ∙ put_here;
-        is = at_end told part.content.summary ∙ ap (λ (r : PartModel). Some r.content.summary) same;
+        is = slice_get_here told part.content.summary ∙ ap (λ (r : PartModel). Some r.content.summary) same;
       }
   told_put k q at (inr ne) =
       let t = before.told_at k q (set_back parts n part lt k ne (Some q) at) in

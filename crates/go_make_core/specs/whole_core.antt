@@ -14,5 +14,6 @@ pub use Rattle.go_whole_core.proofs.Parts as Parts
 pub use Rattle.go_whole_core.proofs.PartsWhole as PartsWhole
 pub use Rattle.go_whole_core.proofs.Theirs as Theirs
 pub use Rattle.go_whole_core.proofs.Told as Told
+pub use Rattle.go_whole_core.proofs.Values as Values
 pub use Rattle.go_whole_core.specs.Whole as Whole
 pub use Rattle.go_whole_core.specs.mirrors as mirrors

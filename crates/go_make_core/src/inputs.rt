@@ -166,14 +166,7 @@ pub(crate) fn input_of(
 {
     let packages = workspace.packages();
     let package = package_at(packages, number)?;
-    match given_to(alloc, plan, reached, number, &package, parts, told) {
-        Ok((imports, summaries)) => {
-            let input = PartInput::new(alloc, package, imports, summaries)?;
-            Ok(input)
-        }
-        Err(AllocError) => {
-            package.close();
-            Err(AllocError)
-        }
-    }
+    let (imports, summaries) = given_to(alloc, plan, reached, number, &package, parts, told)?;
+    let input = PartInput::new(alloc, package, imports, summaries)?;
+    Ok(input)
 }

@@ -41,8 +41,7 @@ pub mod graph_core {
 /// What the crates above name of `go_part_core`.
 pub mod part_core {
     pub use go_whole_core::part_core::{
-        Part, PartInput, Parts, close_parts, close_types, compile_part, one_part,
-        part_has_occurrences,
+        Part, PartInput, Parts, compile_part, one_part, part_has_occurrences,
     };
 }
 

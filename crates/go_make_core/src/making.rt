@@ -17,7 +17,7 @@ use crate::inputs::input_of;
 use crate::kept::{earlier_part, is_told_again, keep};
 use crate::told::Told;
 use go_whole_core::graph_core::{Plan, Workspace, plan_imports};
-use go_whole_core::part_core::{Part, PartInput, Parts, close_view, compile_over};
+use go_whole_core::part_core::{Part, PartInput, Parts, compile_over};
 use go_whole_core::reach_core::Reached;
 use go_whole_core::summary_core::{View, view_of};
 use go_whole_core::{check_is_local, imports_bind_theirs};
@@ -33,16 +33,9 @@ fn new_part(alloc: Global, input: PartInput, seen: &mut View) -> Result<Part, Al
     ensures shown { seen.new.shown ≡ seen.old.shown }
     ensures faces { seen.new.faces ≡ seen.old.faces }
 {
-    match compile_over(alloc, &input, seen) {
-        Ok(content) => {
-            let part = Part::new(alloc, input, content)?;
-            Ok(part)
-        }
-        Err(AllocError) => {
-            input.close();
-            Err(AllocError)
-        }
-    }
+    let content = compile_over(alloc, &input, seen)?;
+    let part = Part::new(alloc, input, content)?;
+    Ok(part)
 }
 
 /// The part of the package of a number, which is the next one of the plan, where these are the parts of those before it, this they tell, and this
@@ -76,19 +69,15 @@ fn next_part(
     check_is_local();
     imports_bind_theirs();
     let input = input_of(alloc, workspace, plan, reached, number, parts, told)?;
-    match earlier_part(alloc, reached, number, &input, told, sources, earlier) {
-        Ok(Some(part)) => {
-            input.close();
+    let found = earlier_part(alloc, reached, number, &input, told, sources, earlier)?;
+    match found {
+        Some(part) => {
             let kept = keep(part, seen)?;
             Ok((kept, true))
         }
-        Ok(None) => {
+        None => {
             let made = new_part(alloc, input, seen)?;
             Ok((made, false))
-        }
-        Err(AllocError) => {
-            input.close();
-            Err(AllocError)
         }
     }
 }
@@ -169,13 +158,8 @@ fn make_all(
             earlier,
         )?;
         let again = tells_again(&part, kept, sources, earlier);
-        match learn(seen, told, *number, &part, again, kept) {
-            Ok(()) => parts.put(*number, part),
-            Err(AllocError) => {
-                part.close();
-                return Err(AllocError);
-            }
-        }
+        learn(seen, told, *number, &part, again, kept)?;
+        parts.put(*number, part);
     }
     Ok(())
 }
@@ -199,9 +183,7 @@ fn make_seen(
     ensures kept { OnOk result (AreKept earlier.now parts.new told.new.kept.items) }
 {
     let mut seen = view_of(alloc, &[])?;
-    let made = make_all(alloc, workspace, sources, earlier, parts, told, &mut seen);
-    close_view(seen);
-    made
+    make_all(alloc, workspace, sources, earlier, parts, told, &mut seen)
 }
 
 /// Makes them, where nothing is told yet. Says of each package whether its part was there.
@@ -249,13 +231,8 @@ pub fn parts_again(
 {
     let packages = workspace.packages();
     let mut parts = Parts::none(alloc, packages.len())?;
-    match make_told(alloc, workspace, sources, earlier, &mut parts) {
-        Ok(kept) => Ok((parts, kept)),
-        Err(AllocError) => {
-            parts.close();
-            Err(AllocError)
-        }
-    }
+    let kept = make_told(alloc, workspace, sources, earlier, &mut parts)?;
+    Ok((parts, kept))
 }
 
 /// The parts of the assembled packages of a workspace, by their numbers: each is made once, behind those of the packages that it imports, and from
@@ -271,8 +248,6 @@ pub fn parts_of(alloc: Global, workspace: &Workspace) -> Result<Parts, AllocErro
     ensures parts { IfOk result (λ parts. AreParts workspace.now parts) }
 {
     let nothing = Workspace::empty(alloc);
-    let made = parts_again(alloc, workspace, &nothing, &[]);
-    nothing.close();
-    let (parts, _kept) = made?;
+    let (parts, _kept) = parts_again(alloc, workspace, &nothing, &[])?;
     Ok(parts)
 }

@@ -5,7 +5,6 @@ ghost use Rattle.std.specs.List.Sorted.{IsStrictlyIncreasing};
 ghost use Rattle.go_make_core.specs.mirrors.Telling.{AreTold, IsToldAt};
 
 use go_text_core::add;
-use go_whole_core::part_core::close_summaries;
 use go_whole_core::reach_core::NumberSet;
 use go_whole_core::summary_core::{ReachedSummaries, Summary, SummaryList};
 use std::alloc::{AllocError, Global};
@@ -107,19 +106,11 @@ impl Told {
         self.again.as_slice()
     }
 
-    /// Ends the list, as its drop does, but for what it has of parts that were there.
+    /// Of each package, by its number, whether its part was there.
     pub(crate) fn into_kept(self) -> Vec<bool>
         ensures { result ≡ self.kept }
     {
-        let Told {
-            summaries,
-            places,
-            again,
-            kept,
-        } = self;
-        close_summaries(summaries);
-        drop(places);
-        drop(again);
+        let Told { kept, .. } = self;
         kept
     }
 }

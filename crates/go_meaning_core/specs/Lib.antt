@@ -15,6 +15,7 @@ pub mod graph_core
 pub mod handle_core
 pub mod level_core
 pub mod lookup_core
+pub mod needs_core
 pub mod operand_core
 pub mod package_core
 pub mod part_core

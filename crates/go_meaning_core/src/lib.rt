@@ -61,9 +61,7 @@ pub mod package_core {
 
 /// What the crates above name of `go_part_core`.
 pub mod part_core {
-    pub use go_part_core::{
-        Part, PartFile, close_told, close_view, one_part, part_has_occurrences,
-    };
+    pub use go_part_core::{Part, PartFile, one_part, part_has_occurrences};
 }
 
 /// What the crates above name of `go_select_core`.
@@ -78,5 +76,5 @@ pub mod summary_core {
 
 /// What the crates above name of `go_tree_core`.
 pub mod tree_core {
-    pub use go_part_core::tree_core::{OccId, Role, occurrences_are_written};
+    pub use go_part_core::tree_core::{OccId, occurrences_are_written};
 }

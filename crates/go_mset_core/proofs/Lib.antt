@@ -1,7 +1,6 @@
 pub mod Sets
 pub mod Interfaces
 pub mod Promoting
-pub mod Sorting
 pub mod Orders
 pub mod MethodSorts
 pub mod Answering

@@ -3,6 +3,8 @@ use Rattle.std.proofs.Common.{◌≡◌, ◌↔◌, ℕ, Bool, true, false, ◌|
 use Rattle.std.specs.Prelude.{map}
 use Rattle.go_text_core.specs.Text.{SameId}
 use Rattle.go_term_core.specs.Terms.{Term}
+use Rattle.go_term_core.proofs.Meanings.{id_back}
+use Rattle.go_term_core.proofs.Members.{In, Rises, contained_in, in_contained, in_map, map_in, pairs_rise, rising_pairs, rising_same}
 use Rattle.go_select_core.specs.table_core.Entries.{EntryLook}
 use Rattle.go_select_core.specs.embed_core.declared.member.Member.{Member}
 use Rattle.go_select_core.specs.embed_core.declared.member.Member.TheVariants as members
@@ -10,16 +12,14 @@ use Rattle.go_select_core.specs.embed_core.Owners.{Found, AFieldOf, AMethodOf, A
 use Rattle.go_select_core.specs.embed_core.OwnersShown.{found_shown, name_shown, member_package_shown}
 use Rattle.go_select_core.specs.level_core.declared.search.Selected.{Selected}
 use Rattle.go_select_core.specs.level_core.Selectors.{Searched, Refused, In as InType, FieldsIn, searched, IsFoundAs}
-use Rattle.go_select_core.specs.level_core.ListLemmas.{In, in_contained, contained_in}
 use Rattle.go_select_core.specs.Selections.{IsIdBefore, IsSelectedBefore, AreSelections}
 use Rattle.go_mset_core.specs.declared.methods.SetMethod.{SetMethod}
 use Rattle.go_mset_core.specs.MethodSets.{IsCallable, IsMethodFound, IsInMethodSet}
 use Rattle.go_mset_core.specs.MethodLists.{IsMethodBefore, IsMethodSet}
 use Rattle.go_mset_core.specs.Laws.{method_shown, OneMethodSet}
 use Rattle.go_mset_core.specs.mirrors.Keeping.{callable, method_of, kept}
-use Rattle.go_mset_core.proofs.Sets.{id_back, in_set_by, selectors}
+use Rattle.go_mset_core.proofs.Sets.{in_set_by, selectors}
 use Rattle.go_mset_core.proofs.Orders.{id_never, id_onward}
-use Rattle.go_mset_core.proofs.Sorting.{Rises, in_map, map_in, pairs_rise, rising_pairs, rising_same}
 
 -- at most one list
 

@@ -1,9 +1,9 @@
 -- What is in a method set.
-use Rattle.std.proofs.Common.{◌≡◌, ◌↔◌, ℕ, Bool, true, false, ◌||◌, List, refl, sym, ap, ◌∙◌, subst, inl, inr, IsTrue}
-use Rattle.std.specs.Str.{chars}
-use Rattle.go_text_core.specs.Text.{exported, SameId, is_blank}
+use Rattle.std.proofs.Common.{◌≡◌, ◌↔◌, ℕ, Bool, true, false, ◌||◌, List, refl, sym, ap, ◌∙◌, subst, inl, inr}
+use Rattle.go_text_core.specs.Text.{SameId, is_blank}
 use Rattle.go_text_core.specs.declared.rule.Rule.{Rule}
 use Rattle.go_term_core.specs.Terms.{Term, NoType, Predeclared, ErrorType, Defined, PointerTo, StructOf, InterfaceOf, Sign}
+use Rattle.go_term_core.proofs.Meanings.{id_back, id_on}
 use Rattle.go_select_core.specs.settle_core.declared.kind.Kind.TheVariants as kinds
 use Rattle.go_select_core.specs.settle_core.Settled.{kind_of_term}
 use Rattle.go_select_core.specs.table_core.Entries.{EntryLook, underlying_in}
@@ -12,23 +12,14 @@ use Rattle.go_select_core.specs.embed_core.Owners.{OwnerModel, Found, AFieldOf, 
 use Rattle.go_select_core.specs.embed_core.OwnersShown.{IsNamedAt, found_shown}
 use Rattle.go_select_core.specs.level_core.declared.search.Selected.{Selected}
 use Rattle.go_select_core.specs.level_core.Paths.{Hit, IsSelected}
-use Rattle.go_select_core.specs.level_core.Selectors.{Searched, Refused, In, FieldsIn, unless_refused, searched_under, searched, IsFieldFound, IsMissing, ambiguous, hidden, absent, IsFoundSelected, IsRefused, IsRule}
+use Rattle.go_select_core.specs.level_core.Selectors.{Searched, Refused, In, FieldsIn, unless_refused, searched_under, searched, IsFieldFound, IsFoundSelected, IsRefused, IsRule}
 use Rattle.go_select_core.specs.level_core.ListLemmas.{true_false}
-use Rattle.go_select_core.proofs.Meanings.{selected_same}
+use Rattle.go_select_core.proofs.Meanings.{selected_same, missing_or_selected}
 use Rattle.go_mset_core.specs.MethodSets.{IsCallable, IsMethodFound, IsInMethodSet}
 use Rattle.go_mset_core.specs.Implementing.{HasMethod}
 use Rattle.go_mset_core.specs.Laws.{IsOther, SelectorsDecide}
 
 -- identifiers
-
-pub id_back : (a p b q : List ℕ) → SameId a p b q → SameId b q a p
-id_back a p b q (e, inl h) = (sym e, inl (subst (λ s. IsTrue (exported (chars s))) e h))
-id_back a p b q (e, inr h) = (sym e, inr (sym h))
-
-pub id_on : (a p b q c r : List ℕ) → SameId a p b q → SameId b q c r → SameId a p c r
-id_on a p b q c r (e, inl h) (f, k) = (e ∙ f, inl h)
-id_on a p b q c r (e, inr h) (f, inl k) = (e ∙ f, inl (subst (λ s. IsTrue (exported (chars s))) (sym e) k))
-id_on a p b q c r (e, inr h) (f, inr k) = (e ∙ f, inr (h ∙ k))
 
 named_by : (o : OwnerModel) (a p b q : List ℕ) (i : ℕ) (f : Found) → SameId a p b q → IsNamedAt o a p i f → IsNamedAt o b q i f
 named_by o a p b q i f same h = (h.0, h.1, id_on h.0.0 h.0.1.0 a p b q h.2 same, h.3)
@@ -58,7 +49,7 @@ has_method_by look t a p b q g same h = (h.0, h.1, in_set_by look t a p b q h.0 
 
 -- what selectors denote
 
-field_not_callable : (f : Found) (passes : Bool) → IsFieldFound f → IsCallable f passes → ⊥
+pub field_not_callable : (f : Found) (passes : Bool) → IsFieldFound f → IsCallable f passes → ⊥
 field_not_callable (AFieldOf path place t) passes h c = c
 field_not_callable (AMethodOf path place pointer g) passes h c = h
 field_not_callable (AnInterfaces path place g) passes h c = h
@@ -80,11 +71,6 @@ found_only look (In t by_pointer) name from s path m f h =
     let e = selected_same look t name from path s.path h.0 f.0 m (found_shown s.member) h.1 f.1 in
     (e.0, e.2)
 found_only look (FieldsIn t) name from s path m f h = absurd h
-
-missing_or_selected : (look : EntryLook) (t : Term) (name from : List ℕ) (p : List ℕ) (a : Bool) (f : Found) (r : Rule) → IsSelected look t name from p a f → IsMissing look t name from r → ⊥
-missing_or_selected look t name from p a f r s (ambiguous x) = x.none p a f s
-missing_or_selected look t name from p a f r s (hidden none x) = none (p, a, s.number, f, s.hit)
-missing_or_selected look t name from p a f r s (absent none x) = none (p, a, s.number, f, s.hit)
 
 refused_has_none : (look : EntryLook) (w : Searched) (name from : List ℕ) (r : Rule) (path : List ℕ) (m : Found) → IsRefused look w name from r → IsMethodFound look w name from path m → ⊥
 refused_has_none look (Refused why) name from r path m f h = h

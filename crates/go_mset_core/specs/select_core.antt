@@ -2,3 +2,4 @@
 pub use Rattle.go_select_core.specs.Laws as Laws
 pub use Rattle.go_select_core.proofs.Local as Local
 pub use Rattle.go_select_core.proofs.Meanings as Meanings
+pub use Rattle.go_select_core.proofs.Short as Short

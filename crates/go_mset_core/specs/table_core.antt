@@ -2,6 +2,7 @@
 pub use Rattle.go_select_core.specs.table_core.Assign as Assign
 pub use Rattle.go_select_core.specs.table_core.Entries as Entries
 pub use Rattle.go_select_core.specs.table_core.Finding as Finding
+pub use Rattle.go_select_core.specs.table_core.Keys as Keys
 pub use Rattle.go_select_core.specs.table_core.Laws as Laws
 pub use Rattle.go_select_core.specs.table_core.Meanings as Meanings
 pub use Rattle.go_select_core.specs.table_core.Shown as Shown

@@ -2,8 +2,6 @@
 use Rattle.std.proofs.Common.{◌≡◌, ℕ, Bool, true, false, List, [], ◌∷◌, ◌++◌, Option, Some, None, if◌then◌else◌, refl, sym, ap, ◌∙◌, append_assoc, append-nil}
 use Rattle.go_text_core.specs.Text.{is_blank}
 use Rattle.go_text_core.specs.declared.span.Span.{Span}
-use Rattle.go_token_core.specs.declared.kind.Operator.{Operator}
-use Rattle.go_token_core.specs.declared.kind.Operator.TheVariants as operator
 use Rattle.go_tree_nodes.specs.declared.names.Ident.{Ident}
 use Rattle.go_tree_nodes.specs.declared.types.TypeName.{TypeName}
 use Rattle.go_tree_nodes.specs.declared.types.TypeName.TheVariants as type_name
@@ -19,6 +17,7 @@ use Rattle.go_tree_core.specs.declared.occurrence.Context.{Context}
 use Rattle.go_tree_core.specs.declared.occurrence.Context.TheVariants as context
 use Rattle.go_tree_core.specs.declared.occurrence.Occ.{Occ}
 use Rattle.go_tree_core.specs.Occurrences.{occurrence, call_at, type_name_occs, type_occs, fields_occs, methods_occs, signature_occs, result_occs, params_occs, key_occs, named_occs, expr_occs, items_occs, exprs_occs, inside_context, under, some_type_occs, values_occs, value_spec_occs, group_occs, specs_occs, simple_occs, some_simple_occs, some_expr_occs, some_exprs_occs, init_occs, if_occs, for_occs, stmt_occs, branch_occs, else_occs, lines_occs, receiver_occs}
+use Rattle.go_tree_core.proofs.Telling.{is_target, inside_not, under_not}
 use Rattle.go_walk_core.specs.local_core.Steps.{Piece, Spec, Act, Condition, Given, Newness, EachFirst, OneNew, Steps, Done, Check, Declare, Inner}
 use Rattle.go_walk_core.specs.local_core.Outline.{idents, end_of, spec_steps, group_steps, specs_steps, simple_steps, some_simple_steps, init_steps, some_condition_steps, if_steps, for_steps, stmt_steps, branch_steps, else_steps, lines_steps}
 use Rattle.go_names_core.specs.Uses.{type_name_used_idents, type_used_idents, fields_used_idents, methods_used_idents, signature_used_idents, result_used_idents, params_used_idents, receiver_used_idents, expr_used_idents, items_used_idents, exprs_used_idents, some_exprs_used_idents, target_used_idents, targets_used_idents, some_type_used_idents, values_used_idents, value_spec_used_idents, simple_used_idents, piece_used_idents}
@@ -91,83 +90,12 @@ receiver_looked (Some r) = type_name_looked r.base
 
 -- expressions: what is looked up is the same in each context but that of a target
 
-abbrev is_target : Context → Bool
-is_target context.«Type» = false
-is_target context.«Value» = false
-is_target context.Callee = false
-is_target context.BeforeDot = false
-is_target context.Target = true
-
 named_looked : (p : Context) → is_target p ≡ false → (x : Ident) → Looked (named_occs p x) (x ∷ [])
 named_looked context.«Type» h x = record { is = refl }
 named_looked context.«Value» h x = record { is = refl }
 named_looked context.Callee h x = record { is = refl }
 named_looked context.BeforeDot h x = record { is = refl }
 named_looked context.Target h x = absurd (cc)
-
-inside_plain : (p : Context) → is_target p ≡ false → is_target (inside_context p) ≡ false
-inside_plain context.«Type» h = refl
-inside_plain context.«Value» h = refl
-inside_plain context.Callee h = refl
-inside_plain context.BeforeDot h = refl
-inside_plain context.Target h = h
-
-star_plain : (p : Context) → is_target (under operator.Star p) ≡ false
-star_plain context.«Type» = refl
-star_plain context.«Value» = refl
-star_plain context.Callee = refl
-star_plain context.BeforeDot = refl
-star_plain context.Target = refl
-
-under_plain : (op : Operator) (p : Context) → is_target (under op p) ≡ false
-under_plain operator.ShiftLeftAssign p = refl
-under_plain operator.ShiftRightAssign p = refl
-under_plain operator.AndNotAssign p = refl
-under_plain operator.Ellipsis p = refl
-under_plain operator.ShiftLeft p = refl
-under_plain operator.ShiftRight p = refl
-under_plain operator.AndNot p = refl
-under_plain operator.PlusAssign p = refl
-under_plain operator.MinusAssign p = refl
-under_plain operator.StarAssign p = refl
-under_plain operator.SlashAssign p = refl
-under_plain operator.PercentAssign p = refl
-under_plain operator.AndAssign p = refl
-under_plain operator.OrAssign p = refl
-under_plain operator.CaretAssign p = refl
-under_plain operator.LogicalAnd p = refl
-under_plain operator.LogicalOr p = refl
-under_plain operator.Arrow p = refl
-under_plain operator.Increment p = refl
-under_plain operator.Decrement p = refl
-under_plain operator.Equal p = refl
-under_plain operator.NotEqual p = refl
-under_plain operator.LessEqual p = refl
-under_plain operator.GreaterEqual p = refl
-under_plain operator.Define p = refl
-under_plain operator.Plus p = refl
-under_plain operator.Minus p = refl
-under_plain operator.Star p = star_plain p
-under_plain operator.Slash p = refl
-under_plain operator.Percent p = refl
-under_plain operator.And p = refl
-under_plain operator.Or p = refl
-under_plain operator.Caret p = refl
-under_plain operator.Less p = refl
-under_plain operator.Greater p = refl
-under_plain operator.Assign p = refl
-under_plain operator.Not p = refl
-under_plain operator.Tilde p = refl
-under_plain operator.OpenParen p = refl
-under_plain operator.OpenBracket p = refl
-under_plain operator.OpenBrace p = refl
-under_plain operator.Comma p = refl
-under_plain operator.Dot p = refl
-under_plain operator.CloseParen p = refl
-under_plain operator.CloseBracket p = refl
-under_plain operator.CloseBrace p = refl
-under_plain operator.Semicolon p = refl
-under_plain operator.Colon p = refl
 
 key_looked : (k : Option Key) → Looked (key_occs k) []
 key_looked None = none
@@ -178,8 +106,8 @@ mutual
   expr_looked p h (Integer n span) = none
   expr_looked p h (Text t) = none
   expr_looked p h (Named x) = named_looked p h x
-  expr_looked p h (Paren first t last) = expr_looked (inside_context p) (inside_plain p h) t
-  expr_looked p h (Unary op span t) = expr_looked (under op p) (under_plain op p) t
+  expr_looked p h (Paren first t last) = expr_looked (inside_context p) (inside_not p h) t
+  expr_looked p h (Unary op span t) = expr_looked (under op p) (under_not op p) t
   expr_looked p h (Binary a op span b) = both (expr_looked context.«Value» refl a) (expr_looked context.«Value» refl b)
   expr_looked p h (Select t dot x) = but_last _ refl (expr_looked context.BeforeDot refl t)
   expr_looked p h (Call t first items last) = both (expr_looked context.Callee refl t) (skip (call_at first) refl (items_looked items))
@@ -206,7 +134,7 @@ target (Named x) = by (is_blank x.name)
     by true = none
     by false = record { is = refl }
 target (Paren first t last) = target t
-target (Unary op span t) = expr_looked (under op context.Target) (under_plain op context.Target) t
+target (Unary op span t) = expr_looked (under op context.Target) (under_not op context.Target) t
 target (Binary a op span b) = both (value a) (value b)
 target (Select t dot x) = but_last _ refl (expr_looked context.BeforeDot refl t)
 target (Call t first items last) = both (expr_looked context.Callee refl t) (skip (call_at first) refl (items_looked items))

@@ -12,7 +12,6 @@ pub use Rattle.go_scope_core.specs.block_core.Holding as Holding
 pub use Rattle.go_scope_core.specs.block_core.HoldingLaws as HoldingLaws
 pub use Rattle.go_scope_core.specs.block_core.Laws as Laws
 pub use Rattle.go_scope_core.specs.block_core.Naming as Naming
-pub use Rattle.go_scope_core.specs.block_core.NamingLemmas as NamingLemmas
 pub use Rattle.go_scope_core.specs.block_core.OneBlocks as OneBlocks
 pub use Rattle.go_scope_core.specs.block_core.Rising as Rising
 pub use Rattle.go_scope_core.specs.block_core.Tables as Tables

@@ -1,7 +1,6 @@
 -- An expression is the same to look-ups that have the same of near things, and what it denotes is near.
-use Rattle.std.proofs.Common.{◌≡◌, ℕ, suc, Bool, true, List, [], ◌∷◌, ◌++◌, map, refl, sym, ap, ◌∙◌}
+use Rattle.std.proofs.Common.{◌≡◌, ℕ, suc, Bool, true, List, [], ◌∷◌, ◌++◌, refl, ap, ◌∙◌}
 use Rattle.std.specs.Prelude.{Option, Some, None}
-use Rattle.std.proofs.lemmas.List.{map-append}
 use Rattle.go_token_core.specs.declared.kind.Operator.{Operator}
 use Rattle.go_tree_nodes.specs.declared.names.Ident.{Ident}
 use Rattle.go_tree_nodes.specs.declared.exprs.Key.{Key}
@@ -9,6 +8,7 @@ use Rattle.go_tree_nodes.specs.declared.types.TypeName.{TypeName}
 use Rattle.go_tree_nodes.specs.declared.types.TypeName.TheVariants as type_names
 use Rattle.go_tree_nodes.specs.Trees.{TypeTree, FieldTrees, MethodTrees, SignatureTree, ResultTree, ParamTrees, NamedType, Pointer, ParenType, Struct, Interface, NoFields, NamedFields, EmbeddedField, NoMethods, Method, Signed, NoResult, OneResult, Results, NoParams, Param, ExprTree, ItemTrees, Integer, Text, Named, Paren, Unary, Binary, Select, Call, Literal, StructLiteral, NoItems, Item}
 use Rattle.go_tree_nodes.specs.Counts.{item_count}
+use Rattle.go_file_core.specs.expr_core.Alike.{mapped}
 use Rattle.go_file_core.specs.tree_core.declared.occurrence.Role.TheVariants as roles
 use Rattle.go_file_core.specs.denote_core.declared.things.Stand.{Stand}
 use Rattle.go_file_core.specs.denote_core.declared.things.Stand.TheVariants as stands
@@ -38,9 +38,6 @@ use Rattle.go_near_core.specs.Laws.{IsNearby}
 use Rattle.go_near_core.proofs.Closing.{name_near, selector_near, dot_near, arguments_near, call_near}
 use Rattle.go_near_core.proofs.Agreeing.{unary_judged, binary_judged, unary_of_near, binary_of_near, name_same, selector_same, call_same, arguments_same, key_same, rule_same, mode_same, target_same, target_near, misfit_same}
 use Rattle.go_file_core.specs.statement_core.Locality.{Each}
-
-pub mapped : {A B : Type 0} (f g : A → B) (xs ys zs ws : List A) → map f xs ≡ map g zs → map f ys ≡ map g ws → map f (xs ++ ys) ≡ map g (zs ++ ws)
-mapped f g xs ys zs ws e h = map-append f xs ys ∙ ((λ j. e j ++ h j) ∙ sym (map-append g zs ws))
 
 module _ {T S D P : Type 0} (Near : T → Type 0) (Rest : NearRest S D) (looks others : Looks T S D P) (law : AreClosed Near Rest looks) (agree : LooksAgree Near Rest looks others) where
   abbrev Denotes : things.Denoted T S D → Type 0

@@ -18,7 +18,7 @@ edge a b = record { from = a; to = b }
 abbrev pub ends : Edge → ℕ
 ends e = e.to
 
-none_inside : {A : Type 0} (x : A) → Contains [] x → ⊥
+pub none_inside : {A : Type 0} (x : A) → Contains [] x → ⊥
 none_inside x h = omega (arith, h.1)
 
 -- edges from one node
@@ -96,7 +96,7 @@ cycle_back rows e has on =
 pub back_before : (rows : List (List ℕ)) (a b : ℕ) → Contains (needed rows a) b → IsEndless rows b → IsEndless rows a
 back_before rows a b h e = record { node = e.node; path = b ∷ e.path; leads = (h, e.leads); first = e.first; around = e.around; back = e.back }
 
-one_inside : (x : ℕ) → Contains (x ∷ []) x
+pub one_inside : (x : ℕ) → Contains (x ∷ []) x
 one_inside x = (let pos : 0 < length (x ∷ []) = omega arith in (0, pos, refl))
 
 -- the numbers of a range

@@ -9,7 +9,7 @@ use Rattle.go_open_core.specs.declared.short.ShortName.TheVariants.{New, Old, Bl
 use Rattle.go_open_core.specs.Blocks.{in_block, is_new, is_listed, short_name, short_names, short_names_behind, is_short_new, any_new}
 use Rattle.go_open_core.proofs.Names.{same_bytes, or-none, or-swap}
 
-or_true : (b : Bool) → b || true ≡ true
+pub or_true : (b : Bool) → b || true ≡ true
 or_true b = or-swap b true
 
 module _ {X : Type 0} (block : List (List ℕ × X)) where

@@ -151,7 +151,7 @@ not_equal_value basics.Text k l m v w h = with_texts k l v w (λ x y e d. truth_
 
 -- what lies under two values that have something in common
 
-under_untyped : {T : Type 0} (rules : TypeRules T) (b : Basic) → basic_under rules (untyped b) ≡ Some b
+pub under_untyped : {T : Type 0} (rules : TypeRules T) (b : Basic) → basic_under rules (untyped b) ≡ Some b
 under_untyped rules basics.Bool = refl
 under_untyped rules basics.Int = refl
 under_untyped rules basics.Text = refl

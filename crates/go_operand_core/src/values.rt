@@ -76,11 +76,11 @@ pub(crate) fn basic_type<E: TypeLooks>(env: &E, basic: Basic) -> E::Type
 ///
 /// The Go specification, "Constants": an untyped constant has a default type. "Variable declarations": the predeclared value `nil`
 /// cannot be used to initialize a variable with no explicit type.
-pub fn default_type<E: TypeLooks>(env: &E, value: ValueType<E::Type>) -> Option<E::Type>
-    ensures { result ≡ values.default_type (E.types env.now) value }
+pub fn default_type<E: TypeLooks>(env: &E, value: &ValueType<E::Type>) -> Option<E::Type>
+    ensures { result ≡ values.default_type (E.types env.now) value.now }
 {
     match value {
-        ValueType::Typed(t) => Some(t),
+        ValueType::Typed(t) => Some(env.again(t)),
         ValueType::UntypedInt => Some(env.int()),
         ValueType::UntypedText => Some(env.string()),
         ValueType::UntypedBool => Some(env.bool()),

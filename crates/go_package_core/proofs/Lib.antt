@@ -1,5 +1,5 @@
 mod Funcs
 pub mod Meanings
-mod Numbered
+pub mod Numbered
 mod Stages
-mod Steps
+pub mod Steps

@@ -74,10 +74,6 @@ impl Parsed {
         &self.tree
     }
 
-    /// Lets the text and its tree go, as `drop` does. It promises nothing: nothing may rest on it, not even that the memory is free
-    /// behind it. A crate that ends its parsed texts by this call has no drops of trees of its own.
-    pub fn close(self) {}
-
     /// An equal value. The one error is want of memory.
     pub fn copy(&self, alloc: Global) -> Result<Parsed, AllocError>
         ensures { IfOk result (λ p. p ≡ self.now) }

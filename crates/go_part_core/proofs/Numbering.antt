@@ -1,13 +1,12 @@
 -- What stands in the files of a package, one more.
-use Rattle.std.proofs.Common.{◌≡◌, ℕ, zero, suc, ◌+◌, ◌<◌, ◌≤◌, List, [], ◌∷◌, ◌++◌, length, map, take, drop, Some, Result, Ok, Err, refl, sym, ap, subst, ◌∙◌, arith}
+use Rattle.std.proofs.Common.{◌≡◌, ℕ, zero, suc, ◌+◌, ◌<◌, ◌≤◌, List, [], ◌∷◌, ◌++◌, length, map, take, drop, Some, refl, sym, ap, subst, ◌∙◌, arith}
 use Rattle.std.specs.Prelude.{Vec, vec_len, slice_get, option_map}
 use Rattle.std.specs.Global.{Global}
 use Rattle.std.proofs.lemmas.List.{length-map, map-append, take_all}
 use Rattle.go_tree_nodes.specs.Trees.{FileTree}
-use Rattle.go_package_core.specs.parse_core.declared.error.SynFault.{SynFault}
+use Rattle.go_package_core.proofs.Steps.{trees_within}
 use Rattle.go_package_core.specs.graph_core.Lists.{AllNumbered}
 use Rattle.go_package_core.specs.graph_core.Packages.{trees_of, tree_shown}
-use Rattle.go_package_core.specs.graph_core.Sources.{SourceModel, source}
 use Rattle.go_package_core.specs.graph_core.Workspaces.{PackageModel}
 use Rattle.go_used_core.specs.block_core.Blocks.{BlocksModel}
 use Rattle.go_used_core.specs.block_core.GivenSteps.{numbered_next}
@@ -115,14 +114,6 @@ pub counted : (files : Vec PartFile Global) (n : ℕ) → n ≡ vec_len files �
 counted files n is = (let held = files.ok.0 in omega (arith, is, held))
 
 -- there is a file of this number
-trees_within : (ss : List SourceModel) → length (trees_of ss) ≤ length ss
-trees_within [] = omega arith
-trees_within (s ∷ ss) = by s.name s.text s.content (trees_within ss)
-  where
-    by : (name text : List ℕ) (r : Result FileTree SynFault) → length (trees_of ss) ≤ length ss → length (trees_of (source name text r ∷ ss)) ≤ suc (length ss)
-    by name text (Ok f) rest = omega (arith, rest)
-    by name text (Err e) rest = omega (arith, rest)
-
 pub file_within : (b : BlocksModel) (p : PackageModel) (checked left next : List FileAnswers) (a : FileAnswers) (files : List PartFile) (file : ℕ)
     → length checked ≡ length (trees_in p) → file ≡ length files → left ≡ a ∷ next → SoFar b (trees_in p) (map answers_shown checked) (map answers_shown left) (map file_shown files) → file < length p.1
 file_within b p checked left next a files file many count first before =

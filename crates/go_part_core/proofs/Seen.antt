@@ -5,9 +5,10 @@ use Rattle.go_package_core.specs.table_core.Entries.{Entry}
 use Rattle.go_package_core.specs.entry_core.Showing.{shown_in}
 use Rattle.go_used_core.specs.face_core.Packages.{PackageFacesModel}
 use Rattle.go_package_core.specs.table_core.Tables.{AreOthers}
-use Rattle.go_summary_core.specs.Summaries.{IsOfOne, SummaryModel, path_of}
+use Rattle.go_summary_core.specs.Summaries.{SummaryModel, path_of}
 use Rattle.go_summary_core.specs.Views.{exports_told, faces_told, types_told}
-use Rattle.go_summary_core.proofs.Viewed.{AreElsewhere, AreOfOne, types_apart}
+use Rattle.go_summary_core.proofs.Telling.{of_one}
+use Rattle.go_summary_core.proofs.Viewed.{AreElsewhere, types_apart}
 use Rattle.go_part_core.specs.Inputs.{InputModel, IsInput, path_in}
 use Rattle.go_part_core.specs.Parts.{ContentOf, IsMade, IsPart, seen_with}
 
@@ -19,10 +20,6 @@ part_is i types shown faces c a b d h =
     (subst (λ x. IsMade i (seen_with x (shown_in shown) faces) c) a h))
 
 -- the summaries of an input are of other packages
-
-of_one : (ss : List SummaryModel) → All IsOfOne ss → AreOfOne ss
-of_one [] h = tt
-of_one (s ∷ ss) h = (h 0 s (omega arith), of_one ss (λ k d lt. h (suc k) d (omega (arith, lt))))
 
 elsewhere : (ss : List SummaryModel) (path : List ℕ) → All (λ s. path ≡ path_of s → ⊥) ss → AreElsewhere ss path
 elsewhere [] path h = tt

@@ -135,7 +135,4 @@ impl PartInput {
             && self.package().source().is_same(other.package().source())
             && self.reached().is_same(other.reached())
     }
-
-    /// Ends the input, as its drop does, and promises nothing: no answer may rest on it.
-    pub fn close(self) {}
 }

@@ -5,7 +5,6 @@
 #![tactic(auto)]
 
 mod content;
-mod ending;
 mod files;
 mod input;
 mod laws;
@@ -14,7 +13,6 @@ mod parts;
 mod same;
 
 pub use content::{PackageContent, compile_over};
-pub use ending::{close_parts, close_summaries, close_told, close_types, close_view};
 pub use files::PartFile;
 pub use input::PartInput;
 pub use laws::{one_part, part_has_occurrences};
@@ -99,7 +97,7 @@ pub mod table_core {
 
 /// What the crates above name of `go_tree_core`.
 pub mod tree_core {
-    pub use go_used_core::tree_core::{OccId, Role, occurrences_are_written};
+    pub use go_used_core::tree_core::{OccId, occurrences_are_written};
 }
 
 /// What the crates above name of `go_used_core`.

@@ -103,7 +103,7 @@ impl Part {
         &self.content.summary
     }
 
-    /// Adds what the package tells to what others tell. A crate that lists what parts tell by this call proves no drops of types of its own.
+    /// Adds what the package tells to what others tell.
     ///
     /// # Errors
     ///
@@ -113,10 +113,6 @@ impl Part {
     {
         add(told, self.summary().share()?)
     }
-
-    /// Ends the part, as its drop does, and promises nothing: no answer may rest on it. A crate that ends its parts by this call proves no
-    /// drops of trees and of types of its own.
-    pub fn close(self) {}
 }
 
 /// The part of an input, by the input alone: no other package is looked at. It has the blocks of the package, what each occurrence of its files

@@ -95,7 +95,4 @@ impl Parts {
             put_back(slot, parts);
         }
     }
-
-    /// Ends the parts, as their drops do, and promises nothing: no answer may rest on it.
-    pub fn close(self) {}
 }

@@ -1,5 +1,5 @@
 -- Each name that a piece declares stands for one thing.
-use Rattle.std.proofs.Common.{◌≡◌, ℕ, suc, ◌+◌, Bool, false, ◌==◌, List, [], ◌∷◌, ◌++◌, length, map, refl, sym, ap, ◌∙◌, inl, inr, arith}
+use Rattle.std.proofs.Common.{◌≡◌, ℕ, suc, ◌+◌, Bool, false, ◌==◌, List, [], ◌∷◌, ◌++◌, length, map, refl, sym, ap, ◌∙◌, inl, inr}
 use Rattle.std.specs.Prelude.{Option, Some, None, replicate, if◌then◌else◌}
 use Rattle.std.proofs.lemmas.Bool.{cases_Bool, eqb-true}
 use Rattle.std.proofs.lemmas.List.{length-map, length-append, length-replicate}
@@ -16,7 +16,8 @@ use Rattle.go_statement_core.specs.operand_core.TypeRules.{TypeRules}
 use Rattle.go_statement_core.specs.denote_core.declared.things.Argument.{Argument}
 use Rattle.go_statement_core.specs.denote_core.declared.things.Argument.TheVariants as arguments
 use Rattle.go_statement_core.specs.declared.targets.Target.{Target}
-use Rattle.go_statement_core.specs.Declarations.{given_type, declared_types, type_after, paired_types, short_types}
+use Rattle.go_statement_core.specs.Declarations.{declared_types, type_after, paired_types, short_types}
+use Rattle.go_statement_core.proofs.Typing.{declared_count, paired_count}
 use Rattle.go_expr_core.specs.Looks.{Looks}
 use Rattle.go_piece_core.specs.Values.{variable}
 use Rattle.go_piece_core.specs.Targets.{flags_behind, short_targets}
@@ -30,10 +31,6 @@ chosen n m xs ys f e = elim (cases_Bool (n == m)) [
   | inl h ↦ ap (λ b. length (if b then xs else ys)) h ∙ f (eqb-true n m h)
   | inr h ↦ ap (λ b. length (if b then xs else ys)) h ∙ e
 ]
-
-declared_count : {T : Type 0} (rules : TypeRules T) (written : Option (Option T)) (n : ℕ) (given : List (Argument T)) → length (declared_types rules written n given) ≡ n
-declared_count rules None n given = chosen n (length given) (map (given_type rules) given) (replicate n None) (λ e. length-map given (given_type rules) ∙ sym e) (length-replicate n None)
-declared_count rules (Some t) n given = length-replicate n t
 
 constant_count : {T : Type 0} (rules : TypeRules T) (written : Option (Option T)) (n : ℕ) (given : List (Argument T)) → length (constant_values rules written n given) ≡ n
 constant_count rules written n given =
@@ -49,11 +46,6 @@ names_count looks kinds.Var xs written es = length-map (declared_types looks.typ
 targets_count : {T S D P : Type 0} (looks : Looks T S D P) (firsts : List Bool) (before : List (List ℕ)) (xs : List Ident) → length (short_targets looks firsts before xs) ≡ length xs
 targets_count looks firsts before [] = refl
 targets_count looks firsts before (x ∷ xs) = ap suc (targets_count looks (flags_behind firsts) (list_name before x.name) xs)
-
-paired_count : {T : Type 0} (rules : TypeRules T) (ts : List (Target T)) (given : List (Argument T)) → length ts ≡ length given → length (paired_types rules ts given) ≡ length ts
-paired_count rules [] given e = refl
-paired_count rules (t ∷ ts) [] e = absurd (omega (arith, e))
-paired_count rules (t ∷ ts) (a ∷ given) e = ap suc (paired_count rules ts given (omega (arith, e)))
 
 short_count : {T : Type 0} (rules : TypeRules T) (ts : List (Target T)) (given : List (Argument T)) → length (short_types rules ts given) ≡ length ts
 short_count rules ts given =

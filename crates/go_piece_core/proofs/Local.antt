@@ -40,7 +40,7 @@ use Rattle.go_expr_core.specs.Lists.{is_list, denoted_exprs, exprs_uses, exprs_f
 use Rattle.go_expr_core.specs.Laws as expressions
 use Rattle.go_expr_core.specs.Laws.{AgreeOnIdents, Same}
 use Rattle.go_expr_core.specs.Locality.{SameType, SameWritten, seeing}
-use Rattle.go_expr_core.proofs.Alike.{expressions_seen}
+use Rattle.go_expr_core.proofs.Alike.{agree_left, agree_right, pieces, expressions_seen}
 use Rattle.std.proofs.lemmas.List.{map-append}
 use Rattle.std.proofs.Common.{append-nil}
 use Rattle.go_piece_core.specs.Values.{variable, is_call_alone, list_start, given, is_unknown}
@@ -52,17 +52,6 @@ use Rattle.go_piece_core.specs.Statements.{callee_of, operand_argument, simple_u
 use Rattle.go_piece_core.specs.Pieces.{simple_values}
 use Rattle.go_piece_core.specs.Laws as laws
 use Rattle.go_piece_core.specs.Laws.{SamePiece, PiecesAreLocal}
-
-agree_left : {T S D : Type 0} (find other : List ℕ → ℕ → Found T S D) (xs ys : List Ident) → AgreeOnIdents find other (xs ++ ys) → AgreeOnIdents find other xs
-agree_left find other [] ys h = tt
-agree_left find other (x ∷ xs) ys h = (h.0, agree_left find other xs ys h.1)
-
-agree_right : {T S D : Type 0} (find other : List ℕ → ℕ → Found T S D) (xs ys : List Ident) → AgreeOnIdents find other (xs ++ ys) → AgreeOnIdents find other ys
-agree_right find other [] ys h = h
-agree_right find other (x ∷ xs) ys h = agree_right find other xs ys h.1
-
-pieces : {A : Type 0} (a b c d : List A) → a ≡ c → b ≡ d → a ++ b ≡ c ++ d
-pieces a b c d e f = ap (λ l. l ++ b) e ∙ ap (λ l. c ++ l) f
 
 module _ {T S D P : Type 0} (looks : Looks T S D P) (find : List ℕ → ℕ → Found T S D) (written : WrittenRules T) where
   abbrev other : Looks T S D P

@@ -11,6 +11,8 @@ pub use Rattle.go_expr_core.specs.Needed as Needed
 pub use Rattle.go_expr_core.proofs.Occurring as Occurring
 pub use Rattle.go_expr_core.specs.Operators as Operators
 pub use Rattle.go_expr_core.specs.Places as Places
+pub use Rattle.go_expr_core.proofs.Steps as Steps
+pub use Rattle.go_expr_core.proofs.TypeTurns as TypeTurns
 pub use Rattle.go_expr_core.specs.TypeUses as TypeUses
 pub use Rattle.go_expr_core.specs.Uses as Uses
 pub use Rattle.go_expr_core.specs.declared as declared

@@ -1,11 +1,10 @@
 -- Bits of words of 64 bits.
-use Rattle.std.proofs.Common.{◌≡◌, ◌≢◌, ◌⊎◌, inl, inr, ℕ, ◌+◌, ◌*◌, ◌/◌, ◌%◌, ◌^◌, ◌<◌, ◌==◌, true, false, List, length, get_or, sym, ap, ◌∙◌, arith, bit_and, bit_or, min, max, slice_set}
+use Rattle.std.proofs.Common.{◌≡◌, ◌≢◌, ◌⊎◌, inl, inr, ℕ, ◌*◌, ◌/◌, ◌%◌, ◌^◌, ◌<◌, ◌==◌, true, false, List, length, get_or, sym, ap, ◌∙◌, arith, bit_or, max, slice_set}
 use Rattle.std.proofs.Common.{w64}
 use Rattle.std.specs.Int.{bit_at}
 use Rattle.std.proofs.lemmas.List.{get_or-set_same, get_or-set_other}
-use Rattle.std.proofs.lemmas.Nat.Bits.{bit_at_set_same, bit_at_set_other, bit_at_and, bit_at_or, bit_at-lt, bit_at-zero, bit_at_above, same_from_bits}
-use Rattle.std.proofs.Math.ListN.{get_or-eq_default}
-use Rattle.std.proofs.lemmas.Bool.{cases_lt, cases_eq, eqb-true, eq-eqb}
+use Rattle.std.proofs.lemmas.Nat.Bits.{bit_at_set_same, bit_at_set_other, bit_at_or, bit_at-lt, bit_at-zero}
+use Rattle.std.proofs.lemmas.Bool.{cases_eq, eqb-true, eq-eqb}
 use Rattle.go_reach_core.specs.mirrors.Words.{has_bit}
 
 -- the bit of a number
@@ -75,37 +74,3 @@ united_right xs ys zs k u h =
     let one : bit_of ys k ≡ 1 = eqb-true (bit_of ys k) 1 h in
     let z : bit_of zs k ≡ 1 = omega (arith, one, united_bit xs ys zs k u, bit_at-lt (get_or xs (k / 64) 0) (k % 64)) in
     eq-eqb (bit_of zs k) 1 z
-
--- where each word keeps all its ones under the other's, its bits are the other's
-pub within_bits : (xs ys : List ℕ) → ((i : ℕ) → i < length xs → bit_and (get_or xs i 0) (get_or ys i 0) ≡ get_or xs i 0) → (k : ℕ) → has_bit xs k ≡ true → has_bit ys k ≡ true
-within_bits xs ys each k h =
-    let one : bit_of xs k ≡ 1 = eqb-true (bit_of xs k) 1 h in
-    let x = get_or xs (k / 64) 0 in
-    let y = get_or ys (k / 64) 0 in
-    elim (cases_lt (k / 64) (length xs)) [
-      | inl lt ↦
-          let both : min (bit_at x (k % 64)) (bit_at y (k % 64)) ≡ bit_at x (k % 64) = sym (bit_at_and x y (k % 64)) ∙ ap (λ w. bit_at w (k % 64)) (each (k / 64) lt) in
-          let there : bit_of ys k ≡ 1 = omega (arith, both, one, bit_at-lt y (k % 64)) in
-          eq-eqb (bit_of ys k) 1 there
-      | inr past ↦ absurd (omega (arith, one, ap (λ w. bit_at w (k % 64)) (get_or-eq_default xs 0 past), bit_at-zero (k % 64)))
-    ]
-
--- and where its bits are the other's, it keeps all its ones
-pub bits_within : (xs ys : List ℕ) (i : ℕ) → get_or xs i 0 < 2 ^ 64 → ((k : ℕ) → has_bit xs k ≡ true → has_bit ys k ≡ true) → bit_and (get_or xs i 0) (get_or ys i 0) ≡ get_or xs i 0
-bits_within xs ys i fits inside =
-    let x = get_or xs i 0 in
-    let y = get_or ys i 0 in
-    same_from_bits (bit_and x y) x (λ b.
-    bit_at_and x y b ∙ elim (cases_lt b 64) [
-      | inl low ↦
-          let place : (i * 64 + b) / 64 ≡ i = omega (arith, low) in
-          let bit : (i * 64 + b) % 64 ≡ b = omega (arith, low) in
-          let at = λ (ws : List ℕ). (let e : bit_of ws (i * 64 + b) ≡ bit_at (get_or ws i 0) b = ap (λ p. bit_at (get_or ws p 0) ((i * 64 + b) % 64)) place ∙ ap (λ q. bit_at (get_or ws i 0) q) bit in e) in
-          elim (cases_eq (bit_at x b) 1) [
-            | inl one_here ↦
-                let one : bit_of ys (i * 64 + b) ≡ 1 = eqb-true (bit_of ys (i * 64 + b)) 1 (inside (i * 64 + b) (eq-eqb (bit_of xs (i * 64 + b)) 1 (at xs ∙ one_here))) in
-                omega (arith, one_here, one, at ys)
-            | inr none_here ↦ omega (arith, none_here, bit_at-lt x b)
-          ]
-      | inr high ↦ omega (arith, bit_at_above x 64 b fits high)
-    ])

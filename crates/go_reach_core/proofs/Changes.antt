@@ -1,11 +1,10 @@
 -- What a change of the words does to the set.
-use Rattle.std.proofs.Common.{◌≡◌, ◌⊎◌, ◌↔◌, inl, inr, ℕ, ◌*◌, ◌/◌, ◌%◌, ◌^◌, ◌<◌, ◌≤◌, Bool, true, IsTrue, List, [], ◌∷◌, ◌+◌, length, get_or, replicate, All, Contains, sym, ap, ◌∙◌, subst, arith, refl, bit_and, bit_or, slice_set, length-set}
+use Rattle.std.proofs.Common.{◌≡◌, ◌⊎◌, ◌↔◌, inl, inr, ℕ, ◌*◌, ◌/◌, ◌%◌, ◌^◌, ◌<◌, ◌≤◌, true, List, [], ◌∷◌, ◌+◌, length, get_or, replicate, Contains, sym, ap, ◌∙◌, subst, arith, refl, bit_or, slice_set, length-set}
 use Rattle.std.proofs.lemmas.Bool.{cases_lt, cases_eq, cases_Bool, both_ways}
 use Rattle.std.proofs.lemmas.List.{get_or-replicate, get_or_past, length-replicate}
-use Rattle.std.proofs.lemmas.List.Elements.{All-contains, All-contains_itself, All-weaker}
 use Rattle.go_reach_core.specs.Numbers.{Numbers, no_numbers}
 use Rattle.go_reach_core.specs.mirrors.Words.{has_bit, numbers_of, AreWords}
-use Rattle.go_reach_core.proofs.Bits.{AreUnited, has_here, has_other, has_none, united_cases, united_left, united_right, within_bits, bits_within}
+use Rattle.go_reach_core.proofs.Bits.{AreUnited, has_here, has_other, has_none, united_cases, united_left, united_right}
 use Rattle.go_reach_core.proofs.Members.{in_numbers}
 
 -- the members of a set that is seen
@@ -18,12 +17,6 @@ bit_below bound ws are k h = elim (cases_lt k bound) [
   | inl lt ↦ lt
   | inr past ↦ absurd (both_ways (has_bit ws k) (are.rest k past) h)
 ]
-
-pub has_exact : (bound : ℕ) (ws : List ℕ) (seen : Numbers) (n : ℕ) (b : Bool) → numbers_of bound ws ≡ seen → AreWords bound ws → b ≡ has_bit ws n → IsTrue b ↔ Contains seen.members n
-has_exact bound ws seen n b is are e = (
-  (λ h. (in_seen bound ws seen is n).1 (bit_below bound ws are n (sym e ∙ h), sym e ∙ h)),
-  (λ h. e ∙ ((in_seen bound ws seen is n).0 h).1),
-)
 
 -- words without ones
 abbrev pub zeros : ℕ → List ℕ
@@ -118,14 +111,3 @@ module _ (bound bound' : ℕ) (ws vs zs : List ℕ) (seen seen' : Numbers) (is :
           | inr b ↦ new.1 ((let le : bound' ≤ bound = bounds in let lt : j < bound = omega (arith, le, (more.0 b).0) in lt), united_right ws vs zs j united (more.0 b).1)
         ]),
       )
-
-module _ (bound bound' : ℕ) (ws vs : List ℕ) (seen seen' : Numbers) (is : numbers_of bound ws ≡ seen) (is' : numbers_of bound' vs ≡ seen') (are : AreWords bound ws) (are' : AreWords bound' vs) where
-  pub within_holds : ((i : ℕ) → i < length ws → bit_and (get_or ws i 0) (get_or vs i 0) ≡ get_or ws i 0) → All (Contains seen'.members) seen.members
-  within_holds each = All-weaker (Contains seen.members) (Contains seen'.members)
-      (λ k h. (let yes_there = within_bits ws vs each k ((in_seen bound ws seen is k).0 h).1 in (in_seen bound' vs seen' is' k).1 (bit_below bound' vs are' k yes_there, yes_there)))
-      seen.members (All-contains_itself seen.members)
-
-  pub within_fails : (i : ℕ) → get_or ws i 0 < 2 ^ 64 → (bit_and (get_or ws i 0) (get_or vs i 0) ≡ get_or ws i 0 → ⊥) → All (Contains seen'.members) seen.members → ⊥
-  within_fails i fits ne all =
-      ne (bits_within ws vs i fits (λ k h.
-      ((in_seen bound' vs seen' is' k).0 (All-contains (Contains seen'.members) seen.members k all ((in_seen bound ws seen is k).1 (bit_below bound ws are k h, h)))).1))

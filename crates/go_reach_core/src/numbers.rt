@@ -1,5 +1,5 @@
 //! Sets of numbers below a bound, as bits.
-ghost use Rattle.std.specs.Prelude.{◌≡◌, ◌<◌, ◌≤◌, ◌↔◌, ◌⊎◌, ℕ, All, Contains, IfOk, IsTrue, bit_or, length, slice_index};
+ghost use Rattle.std.specs.Prelude.{◌≡◌, ◌<◌, ◌≤◌, ◌↔◌, ◌⊎◌, ℕ, All, Contains, IfOk, bit_or, length, slice_index};
 ghost use Rattle.std.specs.List.Sorted.{IsStrictlyIncreasing};
 ghost use Rattle.go_reach_core.specs.Numbers.{no_numbers};
 ghost use Rattle.go_reach_core.specs.mirrors.Words.{has_bit};
@@ -69,13 +69,6 @@ impl NumberSet {
         })
     }
 
-    /// Whether a number is in the set.
-    pub fn has(&self, number: usize) -> bool
-        ensures { IsTrue result ↔ Contains self.now.members number }
-    {
-        has_bit(&self.words, number)
-    }
-
     /// Puts a number below the bound into the set.
     pub fn insert(&mut self, number: usize)
         requires { number < self.old.bound }
@@ -93,31 +86,6 @@ impl NumberSet {
         ensures members { (k : ℕ) → Contains self.new.members k ↔ (Contains self.old.members k ⊎ Contains other.now.members k) }
     {
         unite(&mut self.words, &other.words);
-    }
-
-    /// Whether each number of the set is one of the other.
-    pub fn is_within(&self, other: &NumberSet) -> bool
-        ensures { IsTrue result ↔ All (Contains other.now.members) self.now.members }
-    {
-        for (i, word) in self.words.iter().enumerate() {
-            if *word & word_at(&other.words, i) != *word {
-                return false;
-            }
-        }
-        true
-    }
-
-    /// How many numbers the set has.
-    pub fn len(&self) -> usize
-        ensures { result ≡ length self.now.members }
-    {
-        let mut count = 0;
-        for number in 0..self.bound {
-            if has_bit(&self.words, number) {
-                count += 1;
-            }
-        }
-        count
     }
 
     /// The numbers of the set, each once and in rising order. All lie below the bound.

@@ -1,7 +1,7 @@
 mod Forms
 mod Initials
 pub mod Lists
-mod Made
+pub mod Made
 mod Placing
 pub mod Tables
 mod Typed

@@ -1,9 +1,8 @@
 -- Lists that correspond, and their numbers.
-use Rattle.std.proofs.Common.{◌≡◌, ℕ, zero, suc, ◌+◌, ◌<◌, ◌≤◌, inl, inr, List, [], ◌∷◌, ◌++◌, map, length, take, get_or, refl, sym, ap, subst, ◌∙◌, arith}
+use Rattle.std.proofs.Common.{◌≡◌, ℕ, zero, suc, ◌+◌, ◌<◌, ◌≤◌, List, [], ◌∷◌, ◌++◌, map, length, take, get_or, refl, sym, ap, subst, ◌∙◌, arith}
 use Rattle.std.specs.Prelude.{Some, None, slice_get}
 use Rattle.std.specs.List.{AllZip, AllByRecursion, enumerate_from}
 use Rattle.std.proofs.lemmas.List.{length-map, length-take-le, map_more, take_all}
-use Rattle.go_fault_core.specs.entry_core.Among.{Among}
 use Rattle.go_fault_core.specs.entry_core.Numbered.{enumerate_from-append}
 
 pub map_map : {A B C : Type 0} (f : A → B) (g : B → C) (h : A → C) → ((x : A) → g (f x) ≡ h x) → (xs : List A) → map g (map f xs) ≡ map h xs
@@ -12,11 +11,6 @@ map_map f g h same (x ∷ xs) =
     let rest = map_map f g h same xs in
     let first = same x in
     λ i. first i ∷ rest i
-
-pub among_at : {A : Type 0} (xs : List A) (n : ℕ) (x : A) → slice_get xs n ≡ Some x → Among xs x
-among_at [] n x h = absurd (let no : None ≡ Some x = h in cc)
-among_at (y ∷ xs) zero x h = inl (let s : Some y ≡ Some x = h in cc)
-among_at (y ∷ xs) (suc n) x h = inr (among_at xs n x h)
 
 -- what stands at a place of a list that is seen in another way
 pub mapped_at : {A B : Type 0} (f : A → B) (xs : List A) (n : ℕ) (y : B) → slice_get (map f xs) n ≡ Some y → (x : A) × (slice_get xs n ≡ Some x) × (f x ≡ y)

@@ -1,20 +1,14 @@
 -- At the top of a file each type of a specification is what its names mean.
-use Rattle.std.proofs.Common.{◌≡◌, ℕ, false, inl, inr, List, [], ◌∷◌, refl, sym, ap, subst, ◌∙◌}
-use Rattle.std.specs.Prelude.{Option, Some, None, ⊤, if◌then◌else◌}
+use Rattle.std.proofs.Common.{◌≡◌, ℕ, inl, inr, List, [], ◌∷◌, refl, sym, ap, subst, ◌∙◌}
+use Rattle.std.specs.Prelude.{Option, Some, None, ⊤}
 use Rattle.std.specs.List.{AllByRecursion, flat_map}
-use Rattle.go_tree_nodes.specs.declared.types.TypeName.{TypeName}
 use Rattle.go_tree_nodes.specs.declared.decls.ValueKind.{ValueKind}
 use Rattle.go_tree_nodes.specs.declared.decls.ValueKind.TheVariants as kinds
 use Rattle.go_tree_nodes.specs.Starts.{type_start}
 use Rattle.go_tree_nodes.specs.Trees.{TypeTree, ValueSpecTree, Specs, Single, Group, DeclTree, Value, Types, Func, TopTree, FileTree}
 use Rattle.go_text_core.specs.declared.span.Span.{Span}
 use Rattle.go_term_core.specs.decl_core.TopDecls.{TopDeclTree, FormTree, ValueForm, TypeForm, FuncForm, top_decls}
-use Rattle.go_func_core.specs.scope_core.Models.{scopes_model}
-use Rattle.go_func_core.specs.scope_core.Scopes as scopes
-use Rattle.go_func_core.specs.scope_core.Scopes.{Denoted}
-use Rattle.go_func_core.specs.scope_core.Laws.{denotes}
-use Rattle.go_func_core.specs.names_core.Scope.{some_meaning}
-use Rattle.go_term_core.specs.Terms.{Term, Sign, NoType}
+use Rattle.go_term_core.specs.Terms.{Term, Sign}
 use Rattle.go_func_core.specs.handle_core.Declarations.{Declaration}
 use Rattle.go_func_core.specs.expr_core.Looks.{WrittenRules}
 use Rattle.go_func_core.specs.expr_core.Locality.{SameType, SameWritten}
@@ -22,15 +16,14 @@ use Rattle.go_fault_core.specs.entry_core.Among.{Among, among_to}
 use Rattle.go_func_core.specs.inline_core.Types.{InlineOf, inline_at}
 use Rattle.go_func_core.specs.inline_core.Trees.{decl_types, file_types}
 use Rattle.go_func_core.specs.inline_core.Inline.{inline_of, inlines}
-use Rattle.go_func_core.specs.inline_core.Functions.{looked_up_ident}
 use Rattle.go_func_core.specs.inline_core.Found.{types_are_found}
 use Rattle.go_func_core.specs.face_core.Faces.{TheFace}
 use Rattle.go_func_core.specs.face_core.declared.face.Face.TheVariants as faces
-use Rattle.go_func_core.specs.env_core.declared.meaning.Meaning.TheVariants as meanings
 use Rattle.go_func_core.specs.env_core.Looks.{TheLooks, looks_in, inline_rules, inline_type, inline_faults}
 use Rattle.go_value_core.specs.Package.{value_face, form_face}
-use Rattle.go_func_core.specs.Types.{is_local_meaning, named_where}
+use Rattle.go_func_core.specs.Types.{named_where}
 use Rattle.go_func_core.specs.Stands.{FileStand, kinds_in_scene, types_where, outer_look, outer_looks}
+use Rattle.go_func_core.proofs.Seen.{outside}
 use Rattle.go_ready_core.proofs.Forms.{DeclHolds, Forms, SpecsHold, file_holds, specs_all}
 use Rattle.go_ready_core.proofs.Initials.{initial_seen, makes_left, makes_right}
 use Rattle.go_tree_nodes.specs.Spelling.{IsPlaced}
@@ -38,18 +31,8 @@ use Rattle.go_tree_nodes.specs.WrittenTypes.{spec_types, specs_types}
 
 -- outside functions a name of a type means what it means at the top of the file
 
-never_inside : (o : Option Denoted) → is_local_meaning (some_meaning meanings.Outside [] o) ≡ false
-never_inside None = refl
-never_inside (Some (scopes.Universe p)) = refl
-never_inside (Some (scopes.Package d)) = refl
-never_inside (Some (scopes.File b)) = refl
-never_inside (Some (scopes.Local id)) = refl
-
-pub outside_is : (st : FileStand) (n : TypeName) → named_where (outer_look st) st.top n ≡ st.top n
-outside_is st n = ap (λ b. if b then NoType else st.top n) (never_inside (denotes (scopes_model st.scene.blocks st.file.file []) (looked_up_ident n).name))
-
 outside_all : (st : FileStand) → named_where (outer_look st) st.top ≡ st.top
-outside_all st = λ i n. outside_is st n i
+outside_all st = λ i n. outside st n i
 
 module _ (st : FileStand) (f : FileTree) (placed : IsPlaced f) where
   abbrev held : List (ℕ × InlineOf)

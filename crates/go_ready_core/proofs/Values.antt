@@ -20,6 +20,7 @@ use Rattle.go_func_core.specs.inline_core.Outlines.{outline_all}
 use Rattle.go_func_core.specs.face_core.Faces.{TheFace}
 use Rattle.go_func_core.specs.face_core.Laws.{FileDecl, file_decl, package_decls}
 use Rattle.go_func_core.specs.face_core.Written.{written_at}
+use Rattle.go_func_core.specs.face_core.Places.{among_at}
 use Rattle.go_value_core.specs.Package as values
 use Rattle.go_value_core.specs.Package.{PlacedOf, placed, placed_decls, package_needs, top_looks, first_values, form_face}
 use Rattle.go_func_core.specs.Stands.{kinds_in_scene}
@@ -27,7 +28,7 @@ use Rattle.go_ready_core.specs.Inlines.{initial_in, initial_types, types_stand}
 use Rattle.go_ready_core.specs.Laws.{package_placed}
 use Rattle.go_ready_core.specs.Packages.{PackageIn, outlines_in, scene_in, stand_in}
 use Rattle.go_ready_core.specs.Values.{file_decl_needs, declared_in, decls_in, face_there, needs_in, some_decl_face}
-use Rattle.go_ready_core.proofs.Lists.{among_at, holds_at, map_map, mapped_at}
+use Rattle.go_ready_core.proofs.Lists.{holds_at, map_map, mapped_at}
 use Rattle.go_ready_core.proofs.Typed.{face_same}
 use Rattle.go_tree_nodes.specs.Spelling.{IsPlaced}
 

@@ -8,8 +8,11 @@ pub use Rattle.go_fault_core.specs.graph_core.Lists as Lists
 pub use Rattle.go_fault_core.specs.graph_core.OneTarget as OneTarget
 pub use Rattle.go_fault_core.specs.graph_core.OutcomeLaws as OutcomeLaws
 pub use Rattle.go_fault_core.specs.graph_core.Packages as Packages
+pub use Rattle.go_fault_core.specs.graph_core.Places as Places
+pub use Rattle.go_fault_core.specs.graph_core.PlanEdges as PlanEdges
 pub use Rattle.go_fault_core.specs.graph_core.PlanLaws as PlanLaws
 pub use Rattle.go_fault_core.specs.graph_core.Plans as Plans
+pub use Rattle.go_fault_core.specs.graph_core.Reading as Reading
 pub use Rattle.go_fault_core.specs.graph_core.Sources as Sources
 pub use Rattle.go_fault_core.specs.graph_core.ToldApart as ToldApart
 pub use Rattle.go_fault_core.specs.graph_core.Workspaces as Workspaces

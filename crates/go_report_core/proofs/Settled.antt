@@ -1,5 +1,5 @@
 -- What faults settle to.
-use Rattle.std.proofs.Common.{◌≡◌, ◌⊎◌, inl, inr, ℕ, Bool, true, false, not, ◌||◌, List, [], ◌∷◌, ◌++◌, length, get_or, filter, refl, sym, ap, ◌∙◌, subst, arith}
+use Rattle.std.proofs.Common.{◌≡◌, inl, inr, ℕ, Bool, true, false, not, ◌||◌, List, [], ◌∷◌, ◌++◌, length, get_or, filter, refl, sym, ap, ◌∙◌, subst, arith}
 use Rattle.std.specs.Prelude.{◌↔◌, AllPairs, Contains, is_ok}
 use Rattle.std.specs.List.{dedup}
 use Rattle.std.specs.List.Sorted.{IsSortedBy, IsPermutation, IsBinarySearchResult, IsSearchInRange}
@@ -11,23 +11,20 @@ use Rattle.std.specs.declared.cmp.Ordering.TheVariants.{Less, Equal, Greater}
 use Rattle.std.proofs.lemmas.Bool.{true≢false, cases_lt}
 use Rattle.std.proofs.lemmas.List.Kept.{IsStrictlySortedBy-dedup, Contains-dedup, Contains-from_dedup}
 use Rattle.std.proofs.lemmas.List.Sorted.{searchable_from_sorted, Contains-permutation, IsPermutation-sym}
+use Rattle.go_term_core.proofs.Members.{In, contained_in, filter_in, in_at, in_contained, in_filter, ordered_same}
 use Rattle.go_expr_core.specs.denote_core.declared.things.Outcome.{Outcome}
 use Rattle.go_expr_core.specs.denote_core.declared.things.Outcome.TheVariants as outcomes
 use Rattle.go_expr_core.specs.declared.things.Use.{Use}
 use Rattle.go_expr_core.specs.declared.things.Fault.{Fault}
+use Rattle.go_expr_core.proofs.Independence.{either}
 use Rattle.go_report_core.specs.Faults.{fault_order, ComesBefore, IsSaid, IsSettled}
 use Rattle.go_report_core.specs.Laws.{SettledFaultsAreOne}
 use Rattle.go_report_core.specs.mirrors.Settling.{said_before, said_of, is_among, is_new, IsUnsaid}
-use Rattle.go_report_core.proofs.Members.{In, in_at, contained_in, in_contained, in_filter, filter_in, ordered_same}
 use Rattle.go_report_core.proofs.Order.{order_total, order_equiv, order_same, fault_is, tie_same, tied, never_itself, before_onward, sorted_pairs}
-
-either : {A B C : Type 0} → A ⊎ B → (A → C) → (B → C) → C
-either (inl a) f g = f a
-either (inr b) f g = g b
 
 -- among a list
 
-or_true : (b : Bool) → (b || true) ≡ true
+pub or_true : (b : Bool) → (b || true) ≡ true
 or_true true = refl
 or_true false = refl
 
@@ -55,7 +52,7 @@ searched xs f (Err k) sorted le parted = by (is_among xs f) refl
     by : (b : Bool) → is_among xs f ≡ b → false ≡ is_among xs f
     by false e = sym e
     by true e =
-        let at = in_contained xs f (among_in xs f e) in
+        let at = contained_in xs f (among_in xs f e) in
         let here : fault_order (get_or xs at.0 f) f ≡ Equal = ap (λ g. fault_order g f) at.2 ∙ tied f in
         let split = parted (searchable_from_sorted order_total (λ (g : Fault). g) xs f sorted) in
         elim (cases_lt at.0 k) [
@@ -110,23 +107,23 @@ true_not false h k = true≢false (sym k)
 module _ {D P : Type 0} (uses : List (Use D P)) (faults said sorted kept : List Fault) (is_said : said ≡ said_of uses) (sorted_said : IsPermutation said sorted) (is_kept : kept ≡ filter (is_new sorted) faults) where
   among_sorted : (f : Fault) → is_among sorted f ≡ true → IsSaid uses f
   among_sorted f h =
-      let there : Contains said f = Contains-permutation sorted said f (IsPermutation-sym said sorted sorted_said) (in_contained sorted f (among_in sorted f h)) in
-      among_said uses f (in_among (said_of uses) f (subst (λ l. In l f) is_said (contained_in said f there)))
+      let there : Contains said f = Contains-permutation sorted said f (IsPermutation-sym said sorted sorted_said) (contained_in sorted f (among_in sorted f h)) in
+      among_said uses f (in_among (said_of uses) f (subst (λ l. In l f) is_said (in_contained said f there)))
 
   sorted_among : (f : Fault) → IsSaid uses f → is_among sorted f ≡ true
   sorted_among f h =
       let there : In said f = subst (λ l. In l f) (sym is_said) (among_in (said_of uses) f (said_among uses f h)) in
-      in_among sorted f (contained_in sorted f (Contains-permutation said sorted f sorted_said (in_contained said f there)))
+      in_among sorted f (in_contained sorted f (Contains-permutation said sorted f sorted_said (contained_in said f there)))
 
   from_kept : (f : Fault) → Contains kept f → IsUnsaid uses faults f
   from_kept f h =
-      let there = filter_in (is_new sorted) faults f (subst (λ l. In l f) is_kept (contained_in kept f h)) in
-      (in_contained faults f there.0, λ s. true_not (is_among sorted f) there.1 (sorted_among f s))
+      let there = filter_in (is_new sorted) faults f (subst (λ l. In l f) is_kept (in_contained kept f h)) in
+      (contained_in faults f there.0, λ s. true_not (is_among sorted f) there.1 (sorted_among f s))
 
   into_kept : (f : Fault) → IsUnsaid uses faults f → Contains kept f
   into_kept f h =
       let new : is_new sorted f ≡ true = not_true (is_among sorted f) (λ k. h.1 (among_sorted f k)) in
-      in_contained kept f (subst (λ l. In l f) (sym is_kept) (in_filter (is_new sorted) faults f (contained_in faults f h.0) new))
+      contained_in kept f (subst (λ l. In l f) (sym is_kept) (in_filter (is_new sorted) faults f (in_contained faults f h.0) new))
 
   pub unsaid_kept : (f : Fault) → Contains kept f ↔ IsUnsaid uses faults f
   unsaid_kept f = (from_kept f, into_kept f)

@@ -8,6 +8,7 @@ use Rattle.std.proofs.lemmas.Slice.Eq.{bytes_eq-Decides}
 use Rattle.go_block_core.specs.Blocks.{held_in}
 use Rattle.go_open_core.specs.Blocks.{names_in, all_names, is_listed, list_name, list_names}
 use Rattle.go_open_core.proofs.Names.{list_names-append}
+use Rattle.go_open_core.proofs.News.{or_true}
 use Rattle.go_universe_core.specs.declared.TheConstants.{PREDECLARED}
 use Rattle.go_universe_core.specs.declared.Predeclared.{Predeclared}
 use Rattle.go_universe_core.specs.Universe.{spelling_of}
@@ -25,10 +26,6 @@ stays s (n ∷ ns) name h = stays (list_name s n) ns name (one (is_listed s n))
 
 itself : (name : List ℕ) → bytes_eq name name ≡ true
 itself name = (bytes_eq-Decides name name).1 refl
-
-or_true : (b : Bool) → b || true ≡ true
-or_true true = refl
-or_true false = refl
 
 list_name-has : (s : List (List ℕ)) (name : List ℕ) → is_listed (list_name s name) name ≡ true
 list_name-has s name = by (is_listed s name) refl

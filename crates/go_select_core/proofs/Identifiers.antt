@@ -8,9 +8,10 @@ use Rattle.std.specs.Str.{bytes_eq, chars}
 use Rattle.std.proofs.lemmas.Bool.{and_parts, and_from}
 use Rattle.std.proofs.lemmas.Slice.Eq.{bytes_eq-Decides}
 use Rattle.go_text_core.specs.Text.{exported, SameId}
+use Rattle.go_text_core.proofs.Each.{true_or_false}
 use Rattle.go_select_core.specs.Selections.{IsIdBefore}
 use Rattle.go_select_core.specs.mirrors.Names.{Identifier, identifier_of, Key, key_shown, key_cmp, same_identifier}
-use Rattle.go_level_core.proofs.ListLemmas.{tell, true_false}
+use Rattle.go_level_core.proofs.ListLemmas.{true_false}
 
 pub identifiers_same : (a b : Identifier) → same_identifier a b ≡ true → a ≡ b
 identifiers_same a b h =
@@ -23,7 +24,7 @@ pub same_identifiers : (a b : Identifier) → a ≡ b → same_identifier a b �
 same_identifiers a b h = and_from (bytes_eq a.0 b.0) (bytes_eq a.1 b.1) ((bytes_eq-Decides a.0 b.0).1 (ap (λ (q : Identifier). q.0) h)) ((bytes_eq-Decides a.1 b.1).1 (ap (λ (q : Identifier). q.1) h))
 
 pub same_swap : (a b : Identifier) → same_identifier a b ≡ same_identifier b a
-same_swap a b = by (tell (same_identifier a b)) (tell (same_identifier b a))
+same_swap a b = by (true_or_false (same_identifier a b)) (true_or_false (same_identifier b a))
   where
     by : (same_identifier a b ≡ true) ⊎ (same_identifier a b ≡ false) → (same_identifier b a ≡ true) ⊎ (same_identifier b a ≡ false) → same_identifier a b ≡ same_identifier b a
     by (inl h) (inl g) = h ∙ sym g
@@ -33,7 +34,7 @@ same_swap a b = by (tell (same_identifier a b)) (tell (same_identifier b a))
 
 -- equal identifiers are the same by the language's rule, and the other way round
 pub identifier_same : (a p b q : List ℕ) → identifier_of a p ≡ identifier_of b q → SameId a p b q
-identifier_same a p b q h = (name, by (tell (exported (chars a))))
+identifier_same a p b q h = (name, by (true_or_false (exported (chars a))))
   where
     name : a ≡ b
     name = ap (λ (i : Identifier). i.0) h
@@ -84,7 +85,7 @@ key_before k l a p b q hk hl less = by (slice_cmp nat_cmp a b) refl
     by Equal e =
         let same : a ≡ b = (bytes_eq-Decides a b).0 (texts_ties a b ∙ ap is_eq e) in
         let r : rest ≡ Less = sym (ap (λ c. ordering_then c rest) e) ∙ shown in
-        inr (of same r (tell (exported (chars a))))
+        inr (of same r (true_or_false (exported (chars a))))
       where
         of : a ≡ b → rest ≡ Less → (exported (chars a) ≡ true) ⊎ (exported (chars a) ≡ false) → (a ≡ b) × (exported (chars a) ≡ false) × (slice_cmp nat_cmp p q ≡ Less)
         of same r (inl x) =

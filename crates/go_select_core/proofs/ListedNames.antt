@@ -1,6 +1,6 @@
 -- Identifiers in order: what is found of them, and what is listed.
-use Rattle.std.proofs.Common.{◌≡◌, ℕ, zero, suc, ◌+◌, ◌<◌, Bool, true, false, not, ◌&&◌, ◌||◌, List, [], ◌∷◌, ◌++◌, length, get_or, Option, Some, None, Contains, Less, refl, sym, ap, ◌∙◌, subst, arith, ◌⊎◌, inl, inr, if◌then◌else◌, cond}
-use Rattle.std.specs.Prelude.{slice_get, AllPairs, Ok}
+use Rattle.std.proofs.Common.{◌≡◌, ℕ, ◌+◌, Bool, true, false, not, ◌&&◌, ◌||◌, List, [], ◌∷◌, ◌++◌, get_or, Option, Some, None, Contains, Less, refl, sym, ap, ◌∙◌, subst, arith, ◌⊎◌, inl, inr, if◌then◌else◌, cond}
+use Rattle.std.specs.Prelude.{slice_get, Ok}
 use Rattle.std.specs.declared.cmp.Ordering.{Ordering}
 use Rattle.std.specs.declared.cmp.Ordering.TheVariants.{Equal, Greater}
 use Rattle.std.specs.Ordering.{nat_cmp, is_eq, match_ordering}
@@ -16,7 +16,9 @@ use Rattle.std.proofs.lemmas.Map.Keys.{sorted_head, sorted_tail}
 use Rattle.go_text_core.specs.Text.{exported, SameId, is_blank}
 use Rattle.go_text_core.specs.declared.name.Name.{Name}
 use Rattle.go_text_core.specs.declared.rule.Rule.{Rule}
+use Rattle.go_text_core.proofs.Each.{true_or_false}
 use Rattle.go_term_core.specs.Terms.{Term}
+use Rattle.go_term_core.proofs.Members.{In, Rises, contained_in, in_back, in_contained, in_either, in_front, pairs_rise, rising_pairs}
 use Rattle.go_level_core.specs.table_core.Entries.{EntryLook}
 use Rattle.go_level_core.specs.embed_core.declared.member.Member as declared_member
 use Rattle.go_level_core.specs.embed_core.Owners.{Found, AFieldOf, AMethodOf, AnInterfaces, TheErrorMethod}
@@ -32,7 +34,7 @@ use Rattle.go_select_core.specs.Selections.{IsIdBefore, IsSelectedBefore, AreSel
 use Rattle.go_select_core.specs.mirrors.Names.{Identifier, identifier_of, identifier_in, Key, key_shown, key_cmp, same_identifier, names_shown, known_of, IsKnown, AreKnown}
 use Rattle.go_select_core.specs.mirrors.Listings.{IsWithin, AreWithin, AreListed, is_field_found, selected_at, listed_if, entry_listed, listed_of, IsShown, AreSelectionsIn, is_seen, named_if, seen_of}
 use Rattle.go_select_core.proofs.Identifiers.{identifiers_same, same_identifiers, same_swap, identifier_same, same_identifier_of, keys_tie, keys_apart, key_before, names_below}
-use Rattle.go_level_core.proofs.ListLemmas.{In, in_contained, contained_in, at_in, at_within, tell}
+use Rattle.go_level_core.proofs.ListLemmas.{at_in, at_within}
 use Rattle.go_select_core.proofs.Meanings.{selected_same}
 
 abbrev pub KeyedNames : Type 0
@@ -63,7 +65,7 @@ module _ (k : Key) (v : Known) (q : Identifier) where
   -- further on
   put_behind : (e : Key × Known) (es es' : KeyedNames) → same_identifier (key_shown k) (key_shown e.0) ≡ false → known_of (names_shown es') q ≡ (if same_identifier (key_shown k) q then Some v else known_of (names_shown es) q)
       → known_of (names_shown (e ∷ es')) q ≡ (if same_identifier (key_shown k) q then Some v else known_of (names_shown (e ∷ es)) q)
-  put_behind e es es' off rest = by (tell (same_identifier q (key_shown e.0)))
+  put_behind e es es' off rest = by (true_or_false (same_identifier q (key_shown e.0)))
     where
       by : (same_identifier q (key_shown e.0) ≡ true) ⊎ (same_identifier q (key_shown e.0) ≡ false)
           → known_of (names_shown (e ∷ es')) q ≡ (if same_identifier (key_shown k) q then Some v else known_of (names_shown (e ∷ es)) q)
@@ -107,7 +109,7 @@ found_own (d ∷ es) sorted e (inr m) =
 -- an identifier that is found is a key's
 pub found_in : (es : KeyedNames) (q : Identifier) (v : Known) → known_of (names_shown es) q ≡ Some v → (e : Key × Known) × In es e × (key_shown e.0 ≡ q) × (e.1 ≡ v)
 found_in [] q v h = cc
-found_in (d ∷ es) q v h = by (found_in es q v) (tell (same_identifier q (key_shown d.0)))
+found_in (d ∷ es) q v h = by (found_in es q v) (true_or_false (same_identifier q (key_shown d.0)))
   where
     by : (known_of (names_shown es) q ≡ Some v → (e : Key × Known) × In es e × (key_shown e.0 ≡ q) × (e.1 ≡ v)) → (same_identifier q (key_shown d.0) ≡ true) ⊎ (same_identifier q (key_shown d.0) ≡ false)
         → (e : Key × Known) × In (d ∷ es) e × (key_shown e.0 ≡ q) × (e.1 ≡ v)
@@ -181,36 +183,6 @@ module _ (look : EntryLook) (t : Term) (name from : List ℕ) (paths : List (Lis
 
 -- 4. The whole list.
 
-in_front : {A : Type 0} (xs ys : List A) (x : A) → In xs x → In (xs ++ ys) x
-in_front [] ys x h = absurd h
-in_front (y ∷ xs) ys x (inl e) = inl e
-in_front (y ∷ xs) ys x (inr h) = inr (in_front xs ys x h)
-
-in_back : {A : Type 0} (xs ys : List A) (x : A) → In ys x → In (xs ++ ys) x
-in_back [] ys x h = h
-in_back (y ∷ xs) ys x h = inr (in_back xs ys x h)
-
-in_either : {A : Type 0} (xs ys : List A) (x : A) → In (xs ++ ys) x → In xs x ⊎ In ys x
-in_either [] ys x h = inr h
-in_either (y ∷ xs) ys x (inl e) = inl (inl e)
-in_either (y ∷ xs) ys x (inr h) = elim (in_either xs ys x h) [ inl a ↦ inl (inr a) | inr b ↦ inr b ]
-
-in_get : {A : Type 0} (xs : List A) (j : ℕ) (d : A) → j < length xs → In xs (get_or xs j d)
-in_get [] j d l = absurd (omega (arith, l))
-in_get (x ∷ xs) zero d l = inl refl
-in_get (x ∷ xs) (suc j) d l = inr (in_get xs j d (omega (arith, l)))
-
--- each item before each later one
-abbrev pub Pairs : {A : Type 0} → (A → A → Type 0) → List A → Type 0
-Pairs {A} R [] = Unit {0}
-Pairs {A} R (x ∷ xs) = ((y : A) → In xs y → R x y) × Pairs R xs
-
-pub all_pairs : {A : Type 0} (R : A → A → Type 0) (xs : List A) → Pairs R xs → AllPairs R xs
-all_pairs R [] h i j d less l = absurd (omega (arith, l))
-all_pairs R (x ∷ xs) h i zero d less l = absurd (omega (arith, less))
-all_pairs R (x ∷ xs) h zero (suc j) d less l = h.0 (get_or xs j d) (in_get xs j d (omega (arith, l)))
-all_pairs R (x ∷ xs) h (suc i) (suc j) d less l = all_pairs R xs h.1 i j d (omega (arith, less)) (omega (arith, l))
-
 module _ (paths : List (List ℕ)) (types : List Reached) (by_pointer methods : Bool) where
   -- what is listed is listed of one of the keys
   listed_from : (es : KeyedNames) (s : Selected) → In (listed_of paths types by_pointer methods (names_shown es)) s → (e : Key × Known) × In es e × In (entry_listed paths types by_pointer methods e.1) s
@@ -232,17 +204,17 @@ module _ (paths : List (List ℕ)) (types : List Reached) (by_pointer methods : 
   Named es = (e : Key × Known) (n : ℕ) (m : declared_member.Member) → In es e → e.1 ≡ One n m → identifier_in m ≡ key_shown e.0
 
   rising_more : (b : Bool) (path : List ℕ) (m : declared_member.Member) (r : Option Reached) (rest : List Selected)
-      → ((o : Selected) → In rest o → IsIdBefore (name_shown m) (member_package_shown m) (name_shown o.member) (member_package_shown o.member)) → Pairs IsSelectedBefore rest → Pairs IsSelectedBefore (listed_if b (selected_at path by_pointer m r) ++ rest)
+      → ((o : Selected) → In rest o → IsIdBefore (name_shown m) (member_package_shown m) (name_shown o.member) (member_package_shown o.member)) → Rises IsSelectedBefore rest → Rises IsSelectedBefore (listed_if b (selected_at path by_pointer m r) ++ rest)
   rising_more false path m r rest below h = h
   rising_more true path m None rest below h = h
   rising_more true path m (Some r) rest below h = (below, h)
 
   rising_entry : (known : Known) (rest : List Selected) → ((n : ℕ) (m : declared_member.Member) → known ≡ One n m → (o : Selected) → In rest o → IsIdBefore (name_shown m) (member_package_shown m) (name_shown o.member) (member_package_shown o.member))
-      → Pairs IsSelectedBefore rest → Pairs IsSelectedBefore (entry_listed paths types by_pointer methods known ++ rest)
+      → Rises IsSelectedBefore rest → Rises IsSelectedBefore (entry_listed paths types by_pointer methods known ++ rest)
   rising_entry More rest below h = h
   rising_entry (One i m) rest below h = rising_more (not (is_blank (name_shown m)) && (methods || is_field_found (found_shown m))) (get_or paths i []) m (slice_get types i) rest (below i m refl) h
 
-  rising_list : (es : KeyedNames) → IsStrictlySortedBy key_cmp (keys_of es) → Named es → Pairs IsSelectedBefore (listed_of paths types by_pointer methods (names_shown es))
+  rising_list : (es : KeyedNames) → IsStrictlySortedBy key_cmp (keys_of es) → Named es → Rises IsSelectedBefore (listed_of paths types by_pointer methods (names_shown es))
   rising_list [] sorted named = tt
   rising_list (d ∷ es) sorted named =
       rising_entry d.1 (listed_of paths types by_pointer methods (names_shown es))
@@ -286,7 +258,7 @@ module _ (look : EntryLook) (t : Term) (paths : List (List ℕ)) (types : List R
   pub listing_in : AreSelectionsIn look t by_pointer methods found
   listing_in =
       subst (AreSelectionsIn look t by_pointer methods) (sym listed.is) (record {
-        rising = all_pairs IsSelectedBefore all (rising_list paths types by_pointer methods es listed.ordered named);
+        rising = rising_pairs IsSelectedBefore all (rising_list paths types by_pointer methods es listed.ordered named);
         seen = λ s c name from same. seen s (in_contained all s c) name from same;
         whole = λ name from path pointer f blank sel shown. whole name from path pointer f blank sel shown (known_of (names_shown es) (identifier_of name from)) refl;
       })
@@ -346,11 +318,6 @@ selections_of_none look t rule found is none =
 
 -- 7. The names that are seen in a package.
 
-pub pairs_from : {A : Type 0} (R : A → A → Type 0) (xs : List A) → AllPairs R xs → Pairs R xs
-pairs_from R [] h = tt
-pairs_from R (x ∷ xs) h =
-    (λ y m. let c = contained_in xs y m in subst (R x) c.2 (h 0 (suc c.0) y (omega arith) (omega (arith, c.1))), pairs_from R xs (λ i j d less l. h (suc i) (suc j) d (omega (arith, less)) (omega (arith, l))))
-
 module _ (from : List ℕ) where
   is_seen_so : (s : Selected) → is_seen from s ≡ true → SameId (name_shown s.member) (member_package_shown s.member) (name_shown s.member) from
   is_seen_so s h = (refl, elim (or_cases (exported (chars (name_shown s.member))) (bytes_eq (member_package_shown s.member) from) h) [ inl e ↦ inl e | inr e ↦ inr ((bytes_eq-Decides (member_package_shown s.member) from).0 e) ])
@@ -388,11 +355,11 @@ module _ (from : List ℕ) where
   abbrev Below : Name × Selected → Name × Selected → Type 0
   Below a b = slice_cmp nat_cmp a.0 b.0 ≡ Less
 
-  below_more : (b : Bool) (s : Selected) (rest : List (Name × Selected)) → (b ≡ true → (o : Name × Selected) → In rest o → Below (name_shown s.member, s) o) → Pairs Below rest → Pairs Below (named_if b s ++ rest)
+  below_more : (b : Bool) (s : Selected) (rest : List (Name × Selected)) → (b ≡ true → (o : Name × Selected) → In rest o → Below (name_shown s.member, s) o) → Rises Below rest → Rises Below (named_if b s ++ rest)
   below_more true s rest below h = (below refl, h)
   below_more false s rest below h = h
 
-  rising_seen : (found : List Selected) → Pairs IsSelectedBefore found → Pairs Below (seen_of from found)
+  rising_seen : (found : List Selected) → Rises IsSelectedBefore found → Rises Below (seen_of from found)
   rising_seen [] h = tt
   rising_seen (s ∷ ss) h =
       below_more (is_seen from s) s (seen_of from ss)
@@ -405,7 +372,7 @@ module _ (from : List ℕ) where
 pub listing_from : (look : EntryLook) (t : Term) (from : List ℕ) (found : List Selected) (names : List (Name × Selected)) → AreSelections look t found → names ≡ seen_of from found → IsListing look t from names
 listing_from look t from found names l is =
     subst (IsListing look t from) (sym is) (record {
-      rising = all_pairs (λ (a b : Name × Selected). slice_cmp nat_cmp a.0 b.0 ≡ Less) (seen_of from found) (rising_seen from found (pairs_from IsSelectedBefore found l.rising));
+      rising = rising_pairs (λ (a b : Name × Selected). slice_cmp nat_cmp a.0 b.0 ≡ Less) (seen_of from found) (rising_seen from found (pairs_rise IsSelectedBefore found l.rising));
       sound = λ n c.
           let r = seen_back from found n (in_contained (seen_of from found) n c) in
           let v = is_seen_so from n.1 r.2 in

@@ -4,6 +4,7 @@ use Rattle.std.proofs.lemmas.List.Elements.{Contains-append_left, Contains-appen
 use Rattle.go_text_core.specs.declared.rule.Rule.{Rule}
 use Rattle.go_term_core.specs.decl_core.declared.keys.DeclKey.{DeclKey}
 use Rattle.go_term_core.specs.Terms.{Term, NoType, Predeclared, ErrorType, Defined, PointerTo, StructOf, InterfaceOf, Fields, NoField, AField, Methods, NoMethod, AMethod, term_keys, fields_keys, methods_keys, sign_keys}
+use Rattle.go_term_core.proofs.Members.{In as AmongItems}
 use Rattle.go_level_core.specs.table_core.Entries.{Member, Entry, EntryLook, term_in, methods_in, underlying_in, declared_methods, has_method, members_keys, entry_keys}
 use Rattle.go_level_core.specs.table_core.Laws.{LeadsTo, IsReached, AgreeFrom}
 use Rattle.go_level_core.specs.settle_core.declared.kind.Kind.{Kind}
@@ -15,7 +16,7 @@ use Rattle.go_level_core.specs.declared.search.Selected.{Selected}
 use Rattle.go_level_core.specs.Paths.{Step, FieldsLead, Hit, HasHit, IsSelected, IsMemberSpelled}
 use Rattle.go_level_core.specs.Selectors.{Searched, Refused, In, FieldsIn, unless_refused, term_kind_in, searched_under, searched, IsMissing, ambiguous, hidden, absent, IsFoundSelected, IsFoundAs, IsDenoted, IsRefused, IsSelectorAnswer}
 use Rattle.go_select_core.specs.Laws.{found_keys, SelectionIsLocal, ListingIsLocal}
-use Rattle.go_level_core.proofs.ListLemmas.{In as AmongItems, at_in}
+use Rattle.go_level_core.proofs.ListLemmas.{at_in}
 use Rattle.go_level_core.proofs.Edges.{step_edge}
 
 -- what is reached through a list of types that are reached

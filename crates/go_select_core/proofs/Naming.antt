@@ -3,6 +3,7 @@ use Rattle.std.proofs.Common.{◌≡◌, ℕ, zero, suc, ◌+◌, ◌<◌, ◌�
 use Rattle.std.specs.Prelude.{slice_get}
 use Rattle.std.proofs.lemmas.Bool.{true≢false}
 use Rattle.go_text_core.specs.Text.{SameId}
+use Rattle.go_text_core.proofs.Each.{true_or_false}
 use Rattle.go_term_core.specs.Shapes.{shape}
 use Rattle.go_level_core.specs.table_core.Entries.{EntryLook}
 use Rattle.go_level_core.specs.embed_core.declared.member.Member as declared_member
@@ -15,7 +16,7 @@ use Rattle.go_level_core.specs.mirrors.Ways.{At}
 use Rattle.go_level_core.specs.mirrors.Levels.{Before, IsClash}
 use Rattle.go_select_core.specs.mirrors.Names.{Identifier, identifier_of, identifier_in, same_identifier, known_of, IsNoted, AreNoted, IsSaid, IsSaidOrKnown, AreSaid, AreBefore, AreNamed}
 use Rattle.go_select_core.proofs.Identifiers.{identifiers_same, same_identifiers, identifier_same, same_identifier_of}
-use Rattle.go_level_core.proofs.ListLemmas.{at_same, at_within, at_read, less_or_same, tell}
+use Rattle.go_level_core.proofs.ListLemmas.{at_same, at_within, at_read, less_or_same}
 
 -- a member before (n, j) that the name names
 abbrev HitTo : EntryLook → List ℕ → List ℕ → List Reached → ℕ → ℕ → ℕ → ℕ → Reached → ℕ → Found → Type 0
@@ -149,7 +150,7 @@ module _ (look : EntryLook) (types : List Reached) (first n : ℕ) (x : Reached)
     (has : slice_get (members_of o) j ≡ Some (named_shown m)) (mid new : List (Identifier × Known)) (a : AreNoted mid first n x.many m new) where
   -- a member is noted
   pub are_noted_more : (old : List (Identifier × Known)) → AreBefore first old → AreNotedTo look types first n j old mid → AreNotedTo look types first n (j + 1) old new
-  are_noted_more old before noted name from = by (tell (same_identifier (identifier_in m) (identifier_of name from)))
+  are_noted_more old before noted name from = by (true_or_false (same_identifier (identifier_in m) (identifier_of name from)))
     where
       id : Identifier
       id = identifier_of name from
@@ -167,7 +168,7 @@ module _ (look : EntryLook) (types : List Reached) (first n : ℕ) (x : Reached)
 
   -- and those that are known alone have their identifiers
   pub are_named_more : AreNamed mid → AreNamed new
-  are_named_more named id i other h = by (tell (same_identifier (identifier_in m) id))
+  are_named_more named id i other h = by (true_or_false (same_identifier (identifier_in m) id))
     where
       alone : (r : Option Known) (many : Bool) → IsNoted r first n many m (One i other) → known_of mid (identifier_in m) ≡ r → identifier_in other ≡ identifier_in m
       alone None true e is' = cc

@@ -5,6 +5,7 @@ use Rattle.std.specs.Ordering.{nat_cmp}
 use Rattle.std.specs.Cmp.Lexicographic.{slice_cmp}
 use Rattle.go_text_core.specs.declared.name.Name.{Name}
 use Rattle.go_term_core.specs.Terms.{Term}
+use Rattle.go_term_core.proofs.Members.{In, Rises, contained_in, in_contained, in_map, map_in, pairs_rise}
 use Rattle.go_level_core.specs.table_core.Entries.{EntryLook}
 use Rattle.go_level_core.specs.embed_core.Owners.{Found}
 use Rattle.go_level_core.specs.embed_core.OwnersShown.{found_shown}
@@ -13,8 +14,6 @@ use Rattle.go_level_core.specs.Selectors.{IsSelectorAnswer}
 use Rattle.go_select_core.specs.Selections.{IsListing}
 use Rattle.go_select_core.specs.Laws.{name_listed, OneListing}
 use Rattle.go_select_core.proofs.Identifiers.{never_below, never_both}
-use Rattle.go_level_core.proofs.ListLemmas.{In, in_contained, contained_in}
-use Rattle.go_select_core.proofs.ListedNames.{Pairs, pairs_from}
 use Rattle.go_select_core.proofs.Meanings.{one_answer}
 
 abbrev Row : Type 0
@@ -24,7 +23,7 @@ abbrev Below : Row → Row → Type 0
 Below a b = slice_cmp nat_cmp a.0 b.0 ≡ Less
 
 -- two rising lists of the same rows are one
-rows_same : (xs ys : List Row) → Pairs Below xs → Pairs Below ys → ((r : Row) → In xs r → In ys r) → ((r : Row) → In ys r → In xs r) → xs ≡ ys
+rows_same : (xs ys : List Row) → Rises Below xs → Rises Below ys → ((r : Row) → In xs r → In ys r) → ((r : Row) → In ys r → In xs r) → xs ≡ ys
 rows_same [] [] hx hy to back = refl
 rows_same [] (y ∷ ys) hx hy to back = absurd (back y (inl refl))
 rows_same (x ∷ xs) [] hx hy to back = absurd (to x (inl refl))
@@ -46,31 +45,21 @@ rows_same (x ∷ xs) (y ∷ ys) hx hy to back =
     tail_back same r m (inl e) = absurd (never_below y.0 (subst (λ q. Below y q) (sym (sym same ∙ e)) (hy.0 r m)))
     tail_back same r m (inr n) = n
 
-in_rows : (ns : List (Name × Selected)) (n : Name × Selected) → In ns n → In (map name_listed ns) (name_listed n)
-in_rows [] n h = absurd h
-in_rows (m ∷ ns) n (inl e) = inl (ap name_listed e)
-in_rows (m ∷ ns) n (inr h) = inr (in_rows ns n h)
-
-rows_in : (ns : List (Name × Selected)) (r : Row) → In (map name_listed ns) r → (n : Name × Selected) × In ns n × (name_listed n ≡ r)
-rows_in [] r h = absurd h
-rows_in (m ∷ ns) r (inl e) = (m, inl refl, e)
-rows_in (m ∷ ns) r (inr h) = let n = rows_in ns r h in (n.0, inr n.1, n.2)
-
-rows_rise : (ns : List (Name × Selected)) → Pairs (λ a b. slice_cmp nat_cmp a.0 b.0 ≡ Less) ns → Pairs Below (map name_listed ns)
+rows_rise : (ns : List (Name × Selected)) → Rises (λ a b. slice_cmp nat_cmp a.0 b.0 ≡ Less) ns → Rises Below (map name_listed ns)
 rows_rise [] h = tt
-rows_rise (n ∷ ns) h = (λ r m. let o = rows_in ns r m in subst (λ q. Below (name_listed n) q) o.2 (h.0 o.0 o.1), rows_rise ns h.1)
+rows_rise (n ∷ ns) h = (λ r m. let o = map_in name_listed ns r m in subst (λ q. Below (name_listed n) q) o.2 (h.0 o.0 o.1), rows_rise ns h.1)
 
 -- what one has the other has
 there : (look : EntryLook) (t : Term) (from : List ℕ) (a b : List (Name × Selected)) → IsListing look t from a → IsListing look t from b → (r : Row) → In (map name_listed a) r → In (map name_listed b) r
 there look t from a b la lb r h =
-    let n = rows_in a r h in
+    let n = map_in name_listed a r h in
     let answer = la.sound n.0 (contained_in a n.0 n.1) in
     let m = lb.whole n.0.0 n.0.1.path n.0.1.through_pointer (found_shown n.0.1.member) answer in
     let other : IsSelectorAnswer look t n.0.0 from (Ok m.0.1) = subst (λ q. IsSelectorAnswer look t q from (Ok m.0.1)) m.2 (lb.sound m.0 m.1) in
     let same = one_answer.selected look t n.0.0 from m.0.1 n.0.1 other answer in
-    subst (In (map name_listed b)) ((λ i. (m.2 i, (same.0 i, (same.1 i, same.2 i)))) ∙ n.2) (in_rows b m.0 (in_contained b m.0 m.1))
+    subst (In (map name_listed b)) ((λ i. (m.2 i, (same.0 i, (same.1 i, same.2 i)))) ∙ n.2) (in_map name_listed b m.0 (in_contained b m.0 m.1))
 
 pub one_list : OneListing
 one_list look t from a b la lb =
-    rows_same (map name_listed a) (map name_listed b) (rows_rise a (pairs_from (λ (x y : Name × Selected). slice_cmp nat_cmp x.0 y.0 ≡ Less) a la.rising))
-    (rows_rise b (pairs_from (λ (x y : Name × Selected). slice_cmp nat_cmp x.0 y.0 ≡ Less) b lb.rising)) (λ r h. there look t from a b la lb r h) (λ r h. there look t from b a lb la r h)
+    rows_same (map name_listed a) (map name_listed b) (rows_rise a (pairs_rise (λ (x y : Name × Selected). slice_cmp nat_cmp x.0 y.0 ≡ Less) a la.rising))
+    (rows_rise b (pairs_rise (λ (x y : Name × Selected). slice_cmp nat_cmp x.0 y.0 ≡ Less) b lb.rising)) (λ r h. there look t from a b la lb r h) (λ r h. there look t from b a lb la r h)

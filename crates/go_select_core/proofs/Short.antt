@@ -1,50 +1,20 @@
 -- A path can be cut until it meets no type of the table twice.
-use Rattle.std.proofs.Common.{◌≡◌, ℕ, zero, suc, ◌≤◌, Bool, true, false, ◌&&◌, ◌||◌, List, [], ◌∷◌, ◌++◌, length, Option, Some, None, refl, sym, ap, ◌∙◌, subst, arith, ◌⊎◌, inl, inr, if◌then◌else◌, eq-eqb}
-use borrow.Author.Tests.{eqb-true}
-use denote.Enum.Bare.{sameb, same_true, true_same}
+use Rattle.std.proofs.Common.{◌≡◌, ℕ, zero, suc, ◌≤◌, Bool, true, false, ◌||◌, List, [], ◌∷◌, ◌++◌, length, Option, Some, None, refl, sym, ap, ◌∙◌, subst, arith, ◌⊎◌, inl, inr, if◌then◌else◌}
 use Rattle.std.specs.Prelude.{nat_eq}
 use Rattle.std.specs.Map.{lookup}
-use Rattle.std.specs.Str.{bytes_eq}
-use Rattle.std.proofs.lemmas.Slice.Eq.{bytes_eq-Decides}
-use Rattle.go_term_core.specs.decl_core.contracts.places.DeclKind as decl_kind
 use Rattle.go_term_core.specs.decl_core.declared.keys.DeclKey.{DeclKey}
 use Rattle.go_term_core.specs.Terms.{Term, NoType, Predeclared, ErrorType, Defined, PointerTo, StructOf, InterfaceOf, Fields}
-use Rattle.go_level_core.specs.table_core.Entries.{Entry, find_entry, same_key, same_decl, term_in, underlying_in}
+use Rattle.go_term_core.proofs.Members.{In}
+use Rattle.go_level_core.specs.table_core.Entries.{Entry, find_entry, same_key, term_in, underlying_in}
+use Rattle.go_level_core.specs.table_core.Keys.{same_key_itself, same_key_true}
 use Rattle.go_level_core.specs.embed_core.Owners.{EmbeddedEdge, Found, owner_in, term_embedded, embedded_in}
 use Rattle.go_level_core.specs.Paths.{Step, FieldsLead, Hit}
 use Rattle.go_select_core.specs.Laws.{ShortPathsSuffice}
 use Rattle.go_level_core.specs.mirrors.Ways.{At, IsNumbered}
 use Rattle.go_level_core.specs.mirrors.Levels.{left_below, left}
-use Rattle.go_level_core.proofs.ListLemmas.{In}
 use Rattle.go_level_core.proofs.Edges.{step_edge}
 use Rattle.go_level_core.proofs.Weights.{lookup_more, lookup_new, left_falls}
 use Rattle.go_level_core.proofs.Growing.{numbered_same}
-
--- keys
-
-both : (a b : Bool) → a && b ≡ true → (a ≡ true) × (b ≡ true)
-both true b h = (refl, h)
-both false b h = cc
-
-joined : (a b : Bool) → a ≡ true → b ≡ true → a && b ≡ true
-joined a b h g = ap (λ c. c && b) h ∙ g
-
-key_same : (a b : DeclKey) → same_key a b ≡ true → a ≡ b
-key_same a b h =
-    let x = both (bytes_eq a.path b.path) (same_decl a.decl b.decl) h in
-    let y = both (nat_eq a.decl.file b.decl.file) (nat_eq a.decl.number b.decl.number && sameb decl_kind.the_type a.decl.kind b.decl.kind) x.1 in
-    let z = both (nat_eq a.decl.number b.decl.number) (sameb decl_kind.the_type a.decl.kind b.decl.kind) y.1 in
-    let p = (bytes_eq-Decides a.path b.path).0 x.0 in
-    let f = eqb-true a.decl.file b.decl.file y.0 in
-    let n = eqb-true a.decl.number b.decl.number z.0 in
-    let k = same_true decl_kind.the_type tt a.decl.kind b.decl.kind z.1 in
-    λ i. record { path = p i; decl = record { file = f i; number = n i; kind = k i } }
-
-key_itself : (k : DeclKey) → same_key k k ≡ true
-key_itself k =
-    joined (bytes_eq k.path k.path) (same_decl k.decl k.decl) ((bytes_eq-Decides k.path k.path).1 refl)
-    (joined (nat_eq k.decl.file k.decl.file) (nat_eq k.decl.number k.decl.number && sameb decl_kind.the_type k.decl.kind k.decl.kind) (eq-eqb k.decl.file k.decl.file refl)
-    (joined (nat_eq k.decl.number k.decl.number) (sameb decl_kind.the_type k.decl.kind k.decl.kind) (eq-eqb k.decl.number k.decl.number refl) (true_same decl_kind.the_type k.decl.kind k.decl.kind refl)))
 
 -- whether a type is that defined type
 same_node : (w : Term) (j : DeclKey) → (w ≡ Defined j) ⊎ (w ≡ Defined j → ⊥)
@@ -54,8 +24,8 @@ same_node ErrorType j = inr (λ e. cc)
 same_node (Defined k) j = by (same_key k j) refl
   where
     by : (b : Bool) → same_key k j ≡ b → (Defined k ≡ Defined j) ⊎ (Defined k ≡ Defined j → ⊥)
-    by true e = inl (ap Defined (key_same k j e))
-    by false e = inr (λ s. let kj : k ≡ j = (cc) in let t : same_key k j ≡ true = subst (λ x. same_key k x ≡ true) kj (key_itself k) in let z : true ≡ false = sym t ∙ e in (cc))
+    by true e = inl (ap Defined (same_key_true k j e))
+    by false e = inr (λ s. let kj : k ≡ j = (cc) in let t : same_key k j ≡ true = subst (λ x. same_key k x ≡ true) kj (same_key_itself k) in let z : true ≡ false = sym t ∙ e in (cc))
 same_node (PointerTo t) j = inr (λ e. cc)
 same_node (StructOf path fs) j = inr (λ e. cc)
 same_node (InterfaceOf path ms) j = inr (λ e. cc)
@@ -63,14 +33,14 @@ same_node (InterfaceOf path ms) j = inr (λ e. cc)
 -- what is found stands at a place
 
 found_step : (b : Bool) (x e : Entry) (rest : Option Entry) (k : DeclKey) (es : List Entry) → same_key x.key k ≡ b → (rest ≡ Some e → (n : ℕ) × At es n e × (e.key ≡ k)) → (if b then Some x else rest) ≡ Some e → (n : ℕ) × At (x ∷ es) n e × (e.key ≡ k)
-found_step true x e rest k es is more h = let s : x ≡ e = (cc) in (0, ap Some s, ap (λ (y : Entry). y.key) (sym s) ∙ key_same x.key k is)
+found_step true x e rest k es is more h = let s : x ≡ e = (cc) in (0, ap Some s, ap (λ (y : Entry). y.key) (sym s) ∙ same_key_true x.key k is)
 found_step false x e rest k es is more h = let r = more h in (suc r.0, r.1, r.2)
 
 found_at : (es : List Entry) (k : DeclKey) (e : Entry) → find_entry es k ≡ Some e → (n : ℕ) × At es n e × (e.key ≡ k)
 found_at [] k e h = cc
 found_at (x ∷ es) k e h = found_step (same_key x.key k) x e (find_entry es k) k es refl (λ r. found_at es k e r) h
 
-numbered : (es : List Entry) (k : DeclKey) (e : Entry) → find_entry es k ≡ Some e → (n : ℕ) × IsNumbered es n (Defined k)
+pub numbered : (es : List Entry) (k : DeclKey) (e : Entry) → find_entry es k ≡ Some e → (n : ℕ) × IsNumbered es n (Defined k)
 numbered es k e h =
     let r = found_at es k e h in
     (r.0, record { entry = e; at = r.1; is = ap Defined (sym r.2); found = ap (find_entry es) r.2 ∙ h })
@@ -101,14 +71,14 @@ step_numbered es t i p v clean s = by t refl (let x = step_edge (find_entry es) 
 
 -- paths that meet no type that is marked
 
-abbrev Free : List Entry → List (ℕ × ℕ) → Term → Type 0
+abbrev pub Free : List Entry → List (ℕ × ℕ) → Term → Type 0
 Free es met u = (n : ℕ) → IsNumbered es n u → lookup (nat_eq n) met ≡ None
 
-abbrev Avoids : List Entry → List (ℕ × ℕ) → Term → List ℕ → Term → Type 0
+abbrev pub Avoids : List Entry → List (ℕ × ℕ) → Term → List ℕ → Term → Type 0
 Avoids es met t [] u = Free es met t × (t ≡ u)
 Avoids es met t (i ∷ q) u = Free es met t × ((v : Term) × (p : Bool) × Step (find_entry es) t i p v × Avoids es met v q u)
 
-avoids_none : (es : List Entry) (t : Term) (q : List ℕ) (p : Bool) (u : Term) → FieldsLead (find_entry es) t q p u → Avoids es [] t q u
+pub avoids_none : (es : List Entry) (t : Term) (q : List ℕ) (p : Bool) (u : Term) → FieldsLead (find_entry es) t q p u → Avoids es [] t q u
 avoids_none es t [] p u h = (λ n num. refl, h.0)
 avoids_none es t (i ∷ q) p u h = (λ n num. refl, (h.0, h.1, h.3, avoids_none es h.0 q h.2 u h.4))
 
@@ -116,13 +86,13 @@ free_more : (es : List Entry) (met : List (ℕ × ℕ)) (n : ℕ) (w : Term) →
 free_more es met n w free other m num = lookup_more met n 0 m (λ e. other (subst (λ k. IsNumbered es k w) e num)) ∙ free m num
 
 -- the last time that a path is at t: it never is, or the rest of it never comes back
-abbrev Rest : List Entry → List (ℕ × ℕ) → Term → Term → Type 0
+abbrev pub Rest : List Entry → List (ℕ × ℕ) → Term → Term → Type 0
 Rest es met t u = (t ≡ u) ⊎ ((i : ℕ) × (p : Bool) × (v : Term) × (q : List ℕ) × Step (find_entry es) t i p v × Avoids es met v q u)
 
 same_as : (es : List Entry) (n : ℕ) (t : Term) (num : IsNumbered es n t) (w : Term) → (w ≡ t) ⊎ (w ≡ t → ⊥)
 same_as es n t num w = elim (same_node w num.entry.key) [ inl e ↦ inl (e ∙ sym num.is) | inr d ↦ inr (λ e. d (e ∙ num.is)) ]
 
-last_visit : (es : List Entry) (met : List (ℕ × ℕ)) (n : ℕ) (t : Term) (num : IsNumbered es n t) (w : Term) (q : List ℕ) (u : Term) → Avoids es met w q u → Avoids es (met ++ (n, 0) ∷ []) w q u ⊎ Rest es (met ++ (n, 0) ∷ []) t u
+pub last_visit : (es : List Entry) (met : List (ℕ × ℕ)) (n : ℕ) (t : Term) (num : IsNumbered es n t) (w : Term) (q : List ℕ) (u : Term) → Avoids es met w q u → Avoids es (met ++ (n, 0) ∷ []) w q u ⊎ Rest es (met ++ (n, 0) ∷ []) t u
 last_visit es met n t num w [] u h =
     elim (same_as es n t num w) [
       | inl z ↦ inr (inl (sym z ∙ h.1))
@@ -137,11 +107,11 @@ last_visit es met n t num w (i ∷ q) u h =
       ]
     ]
 
-starts : (es : List Entry) (met : List (ℕ × ℕ)) (t : Term) (q : List ℕ) (u : Term) → Avoids es met t q u → Free es met t
+pub starts : (es : List Entry) (met : List (ℕ × ℕ)) (t : Term) (q : List ℕ) (u : Term) → Avoids es met t q u → Free es met t
 starts es met t [] u h = h.0
 starts es met t (i ∷ q) u h = h.0
 
-marked : (es : List Entry) (met : List (ℕ × ℕ)) (n : ℕ) (t : Term) (q : List ℕ) (u : Term) → IsNumbered es n t → lookup (nat_eq n) met ≡ None → Avoids es (met ++ (n, 0) ∷ []) t q u → ⊥
+pub marked : (es : List Entry) (met : List (ℕ × ℕ)) (n : ℕ) (t : Term) (q : List ℕ) (u : Term) → IsNumbered es n t → lookup (nat_eq n) met ≡ None → Avoids es (met ++ (n, 0) ∷ []) t q u → ⊥
 marked es met n t q u num none a =
     let x = starts es (met ++ (n, 0) ∷ []) t q u a n num in
     let y = lookup_new met n 0 none in
@@ -170,7 +140,7 @@ short (suc b) es met t (i ∷ q) u l clean h =
       ]
     ]
 
-left_none : (n : ℕ) → left_below n [] ≤ n
+pub left_none : (n : ℕ) → left_below n [] ≤ n
 left_none zero = omega arith
 left_none (suc n) = let l = left_none n in omega (arith, l)
 

@@ -1,7 +1,6 @@
 -- What the crates above name of go_level_core.
 pub use Rattle.go_level_core.proofs.Answering as Answering
 pub use Rattle.go_level_core.proofs.Edges as Edges
-pub use Rattle.go_level_core.proofs.Growing as Growing
 pub use Rattle.go_level_core.proofs.ListLemmas as ListLemmas
 pub use Rattle.go_level_core.specs.Paths as Paths
 pub use Rattle.go_level_core.specs.Selectors as Selectors

@@ -1,18 +1,10 @@
 -- Loops that keep some of a list, and put what they make of it behind one another.
-use Rattle.std.proofs.Common.{◌≡◌, ℕ, ◌+◌, ◌<◌, ◌≤◌, Bool, true, false, not, List, [], ◌∷◌, ◌++◌, length, get_or, map, drop, Ok, if◌then◌else◌, refl, sym, ap, ◌∙◌, subst, append_assoc, append-nil, arith}
-use Rattle.std.specs.Prelude.{IfOk}
-use Rattle.std.specs.declared.result.Result.{Result}
+use Rattle.std.proofs.Common.{◌≡◌, ℕ, ◌+◌, ◌<◌, ◌≤◌, Bool, true, false, not, List, [], ◌∷◌, ◌++◌, length, get_or, map, drop, if◌then◌else◌, refl, sym, ap, ◌∙◌, append_assoc, append-nil, arith}
 use Rattle.std.proofs.lemmas.List.{drop_more, drop_all}
+use Rattle.go_term_core.proofs.SameLists.{first_is}
 use Rattle.go_settle_core.specs.Settled.{is_among_names}
 use Rattle.go_settle_core.specs.mirrors.Kept.{kept_names}
 use Rattle.go_settle_core.proofs.Names.{SameNames, one_more}
-
--- what holds of a value where one was made
-pub of_made : {X E : Type 0} (P : X → Type 0) (r : Result X E) (x : X) → r ≡ Ok x → IfOk r P → P x
-of_made P r x e h = subst (λ r. IfOk r P) e h
-
-pub first_of_rest : {X : Type 0} (xs : List X) (i : ℕ) (x : X) → i < length xs → x ≡ get_or xs i x → drop i xs ≡ x ∷ drop (i + 1) xs
-first_of_rest xs i x lt is = drop_more xs i x lt ∙ ap (λ y. y ∷ drop (i + 1) xs) (sym is)
 
 module _ {X T : Type 0} (put make : X → T → T) (none : T) where
   -- elements behind one another
@@ -39,7 +31,7 @@ module _ {X T : Type 0} (put make : X → T → T) (none : T) where
       → masked (drop i ks) (drop i xs) ≡ (if b then make x (masked (drop (i + 1) ks) (drop (i + 1) xs)) else masked (drop (i + 1) ks) (drop (i + 1) xs))
   front ks xs i x b k_lt lt kept is =
       let ks_at = drop_more ks i false k_lt ∙ ap (λ k. k ∷ drop (i + 1) ks) kept in
-      let xs_at = first_of_rest xs i x lt is in
+      let xs_at = first_is xs i x lt is in
       (λ j. masked (ks_at j) (xs_at j))
 
   pub one_kept : (settled more : List X) (y x : X) (ks : List Bool) (xs : List X) (i : ℕ) (all : T) → i < length ks → i < length xs → get_or ks i false ≡ true → x ≡ get_or xs i x
@@ -61,7 +53,7 @@ module _ {X T : Type 0} (put make : X → T → T) (none : T) where
       → onto settled (made (drop i xs)) ≡ all → onto more (made (drop (i + 1) xs)) ≡ all
   one_made settled more y x xs i all lt is pushed same before =
       let rest : T = made (drop (i + 1) xs) in
-      ap (λ l. onto l rest) pushed ∙ (onto_push settled y rest ∙ (ap (onto settled) (same rest ∙ sym (ap made (first_of_rest xs i x lt is))) ∙ before))
+      ap (λ l. onto l rest) pushed ∙ (onto_push settled y rest ∙ (ap (onto settled) (same rest ∙ sym (ap made (first_is xs i x lt is))) ∙ before))
 
   pub all_made : (settled xs : List X) (i : ℕ) (all : T) → length xs ≤ i → onto settled (made (drop i xs)) ≡ all → onto settled none ≡ all
   all_made settled xs i all h before = sym (ap (λ l. onto settled (made l)) (drop_all i xs h)) ∙ before
@@ -84,7 +76,7 @@ module _ {X : Type 0} (keeps : List ℕ → Bool → Bool) (name_of : X → List
             ∙ (append_assoc before (flag ∷ []) (kept_names keeps (name ∷ s) rest)
             ∙ (ap (λ b. before ++ b ∷ kept_names keeps (name ∷ s) rest) flag_is
             ∙ (ap (λ m. before ++ keeps m (not (is_among_names s m)) ∷ kept_names keeps (m ∷ s) rest) named
-            ∙ (sym (ap (λ l. before ++ kept_names keeps s (map name_of l)) (first_of_rest xs i x lt is))
+            ∙ (sym (ap (λ l. before ++ kept_names keeps s (map name_of l)) (first_is xs i x lt is))
             ∙ h.2)))),
       )
 

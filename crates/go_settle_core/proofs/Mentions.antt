@@ -10,7 +10,7 @@ use Rattle.go_settle_core.specs.declared.kind.Kind.TheVariants as kinds
 use Rattle.go_settle_core.specs.Settled.{can_be_embedded, pointer_to, defined_unless, is_among_names, repeats_earlier, settled, settled_fields, settled_methods, settled_sign, settled_terms}
 use Rattle.go_settle_core.specs.Laws.{SettledMentionsWritten}
 
-none_in : (k : DeclKey) → Contains [] k → ⊥
+pub none_in : (k : DeclKey) → Contains [] k → ⊥
 none_in k at = (let lt : at.0 < 0 = at.1 in omega arith)
 
 module _ (kind : DeclKey → Kind) where

@@ -13,8 +13,8 @@ use Rattle.go_graph_core.specs.Workspaces.{PackageModel, files_at}
 use Rattle.go_answer_core.specs.handle_core.Declarations.{Declaration, Universe, OfError, Package, InFile}
 
 -- what a list in memory has
-abbrev pub items_of : {X S : Type 0} → Vec X S → List X
-items_of v = v.items
+abbrev pub held_items : {X S : Type 0} → Vec X S → List X
+held_items v = v.items
 
 -- the offsets of the identifiers that a file declares outside function bodies, by their numbers there; none where it has no tree
 abbrev pub offsets_in : {E : Type 0} → Result FileTree E → List ℕ
@@ -46,17 +46,17 @@ located_in place None = None
 located_in place (Some files) = located_at place (slice_get files (file_number place))
 
 -- the same of an identifier of the package of a path of a workspace: none where there is no such package, file or number
-abbrev pub located : List PackageModel → List ℕ → MemberPlace → Option (List ℕ × ℕ)
-located ps path place = located_in place (files_at ps path)
+abbrev pub place_of_site : List PackageModel → List ℕ → MemberPlace → Option (List ℕ × ℕ)
+place_of_site ps path place = located_in place (files_at ps path)
 
 -- PATH/FILE:OFFSET, and nothing where there is no place
-abbrev pub place_text : List ℕ → Option (List ℕ × ℕ) → List ℕ
-place_text path None = []
-place_text path (Some at) = path ++ (codes "/" ++ (at.0 ++ (codes ":" ++ decimal at.1)))
+abbrev pub located_text : List ℕ → Option (List ℕ × ℕ) → List ℕ
+located_text path None = []
+located_text path (Some at) = path ++ (codes "/" ++ (at.0 ++ (codes ":" ++ decimal at.1)))
 
 -- a declaration of a workspace with these packages
 abbrev pub site_text : List PackageModel → Declaration → List ℕ
 site_text ps (Universe predeclared) = codes "universe." ++ spelling_of predeclared
 site_text ps OfError = codes "universe.error.Error"
 site_text ps (Package path) = codes "package " ++ path
-site_text ps (InFile path place) = place_text path (located ps path place)
+site_text ps (InFile path place) = located_text path (place_of_site ps path place)

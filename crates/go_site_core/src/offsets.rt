@@ -1,6 +1,6 @@
 //! The offsets of what the files of a workspace declare, by numbers.
 ghost use Rattle.std.specs.Prelude.{◌≡◌, map, IfOk};
-ghost use Rattle.go_site_core.specs.Sites.{items_of, offsets_in};
+ghost use Rattle.go_site_core.specs.Sites.{held_items, offsets_in};
 
 use go_graph_core::{PackageSource, SourceFile};
 use go_term_core::decl_core::{Places, outline};
@@ -33,7 +33,7 @@ fn file_offsets(alloc: Global, file: &SourceFile) -> Result<Vec<usize>, AllocErr
 
 // The same of each file of a package.
 fn package_offsets(alloc: Global, files: &[SourceFile]) -> Result<Vec<Vec<usize>>, AllocError>
-    ensures { IfOk result (λ offsets. map items_of offsets.items ≡ map (λ s. offsets_in s.content) files.now) }
+    ensures { IfOk result (λ offsets. map held_items offsets.items ≡ map (λ s. offsets_in s.content) files.now) }
 {
     let mut offsets = Vec::new(alloc);
     for file in files {
@@ -51,7 +51,7 @@ pub(crate) fn all_offsets(
     alloc: Global,
     packages: &[PackageSource],
 ) -> Result<Vec<Vec<Vec<usize>>>, AllocError>
-    ensures { IfOk result (λ offsets. map (λ p. map items_of p.items) offsets.items ≡ map (λ p. map (λ s. offsets_in s.content) p.1) packages.now) }
+    ensures { IfOk result (λ offsets. map (λ p. map held_items p.items) offsets.items ≡ map (λ p. map (λ s. offsets_in s.content) p.1) packages.now) }
 {
     let mut offsets = Vec::new(alloc);
     for source in packages {

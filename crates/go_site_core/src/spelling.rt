@@ -1,6 +1,6 @@
 //! How declarations of a workspace are written.
 ghost use Rattle.std.specs.Prelude.{◌≡◌, ◌++◌, Some, map, option_map, string_bytes, IfOk, OnOk};
-ghost use Rattle.go_site_core.specs.Sites.{file_number, items_of, located, located_in, offset_among, offsets_in, place_text, site_text, with_offset};
+ghost use Rattle.go_site_core.specs.Sites.{file_number, held_items, place_of_site, located_in, offset_among, offsets_in, located_text, site_text, with_offset};
 ghost use Rattle.go_answer_core.specs.handle_core.Declarations.{site_shown};
 
 use crate::offsets::all_offsets;
@@ -33,7 +33,7 @@ impl<'w> Model for SiteSpelling<'w> {
     ghost use Rattle.std.specs.Prelude.{◌≡◌, List, map};
     ghost use Rattle.std.specs.Coded.{coded_list};
     ghost use Rattle.go_graph_core.specs.Workspaces.{PackageModel, coded_package};
-    ghost use Rattle.go_site_core.specs.Sites.{items_of, offsets_in};
+    ghost use Rattle.go_site_core.specs.Sites.{held_items, offsets_in};
 
     ghost Value = { List PackageModel };
 
@@ -41,7 +41,7 @@ impl<'w> Model for SiteSpelling<'w> {
 
     ghost view = { λ s. s.workspace.now };
 
-    ghost invariant = { λ s. map (λ p. map items_of p.items) s.offsets.items ≡ map (λ p. map (λ f. offsets_in f.content) p.1) s.workspace.now };
+    ghost invariant = { λ s. map (λ p. map held_items p.items) s.offsets.items ≡ map (λ p. map (λ f. offsets_in f.content) p.1) s.workspace.now };
 }
 
 // The number of the file of an identifier.
@@ -80,7 +80,7 @@ fn locate<'a>(
     offsets: &[Vec<usize>],
     place: MemberPlace,
 ) -> Option<(&'a str, usize)>
-    requires { map items_of offsets.now ≡ map (λ s. offsets_in s.content) files.now }
+    requires { map held_items offsets.now ≡ map (λ s. offsets_in s.content) files.now }
     ensures { option_map (λ at. (at.0.now, at.1)) result ≡ located_in place (Some files.now) }
 {
     let number = file_number(place);
@@ -91,7 +91,7 @@ fn locate<'a>(
 
 // Adds where an identifier of the package of a path stands.
 fn add_offset(text: &mut String, path: &str, name: &str, offset: usize) -> Result<(), AllocError>
-    ensures { OnOk result (string_bytes text.new ≡ string_bytes text.old ++ place_text path.now (Some (name.now, offset))) }
+    ensures { OnOk result (string_bytes text.new ≡ string_bytes text.old ++ located_text path.now (Some (name.now, offset))) }
 {
     text.push_str(path)?;
     text.push_str("/")?;
@@ -115,7 +115,7 @@ impl<'w> SiteSpelling<'w> {
 
     // The name of the file of an identifier of the package of a path, and its offset there. The time is logarithmic in the packages.
     fn find(&self, path: &str, place: MemberPlace) -> Option<(&str, usize)>
-        ensures { option_map (λ at. (at.0.now, at.1)) result ≡ located self.now path.now place }
+        ensures { option_map (λ at. (at.0.now, at.1)) result ≡ place_of_site self.now path.now place }
     {
         let packages = self.workspace.packages();
         let number = number_of(packages, path)?;
@@ -126,14 +126,16 @@ impl<'w> SiteSpelling<'w> {
 
     // Adds an identifier of the package of a path.
     fn add_place(&self, text: &mut String, path: &str, place: MemberPlace) -> Result<(), AllocError>
-        ensures { OnOk result (string_bytes text.new ≡ string_bytes text.old ++ place_text path.now (located self.now path.now place)) }
+        ensures { OnOk result (string_bytes text.new ≡ string_bytes text.old ++ located_text path.now (place_of_site self.now path.now place)) }
     {
         match self.find(path, place) {
             Some((name, offset)) => add_offset(text, path, name, offset),
             None => Ok(()),
         }
     }
-    /// Adds a declaration: `universe.NAME`, `package PATH`, or `PATH/FILE:OFFSET` with the offset in bytes of the identifier that it declares.
+
+    /// Adds a declaration: `universe.NAME`, `package PATH`, or `PATH/FILE:OFFSET` with the offset in bytes of the identifier that it declares. Of a
+    /// package, a file or a declaration that the workspace has not nothing is added.
     ///
     /// # Errors
     ///

@@ -27,7 +27,7 @@ use Rattle.go_snap_core.specs.Snapshots.{IsAnswerAt, IsSnapshot, contents_of}
 use Rattle.go_snap_core.specs.mirrors.Reports.{assembly_fault, fault_with}
 use Rattle.go_snap_core.proofs.Faulty.{contents_at}
 use Rattle.go_snap_core.proofs.OneFaults.{never_both}
-use Rattle.go_make_core.proofs.Searching.{some_item}
+use Rattle.go_make_core.specs.graph_core.Places.{some_item}
 
 -- an occurrence of a list says what it says alone
 said_at : (uses : List FileUse) (n : ℕ) (u : FileUse) (f : Fault) → slice_get uses n ≡ Some u → IsSaid (u ∷ []) f → IsSaid uses f

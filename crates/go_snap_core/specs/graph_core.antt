@@ -6,6 +6,7 @@ pub use Rattle.go_make_core.specs.graph_core.Lists as Lists
 pub use Rattle.go_make_core.specs.graph_core.Packages as Packages
 pub use Rattle.go_make_core.specs.graph_core.PlanLaws as PlanLaws
 pub use Rattle.go_make_core.specs.graph_core.Plans as Plans
+pub use Rattle.go_make_core.specs.graph_core.Reading as Reading
 pub use Rattle.go_make_core.specs.graph_core.Sources as Sources
 pub use Rattle.go_make_core.specs.graph_core.Workspaces as Workspaces
 pub use Rattle.go_make_core.specs.graph_core.Zips as Zips

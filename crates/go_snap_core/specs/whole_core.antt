@@ -12,5 +12,6 @@ pub use Rattle.go_make_core.specs.whole_core.Parts as Parts
 pub use Rattle.go_make_core.specs.whole_core.PartsWhole as PartsWhole
 pub use Rattle.go_make_core.specs.whole_core.Theirs as Theirs
 pub use Rattle.go_make_core.specs.whole_core.Told as Told
+pub use Rattle.go_make_core.specs.whole_core.Values as Values
 pub use Rattle.go_make_core.specs.whole_core.Whole as Whole
 pub use Rattle.go_make_core.specs.whole_core.mirrors as mirrors

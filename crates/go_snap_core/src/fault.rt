@@ -86,10 +86,7 @@ fn add_unassembled(
     ensures { OnOk result (AddsUnassembled «package» source.now.1 faults.old.items faults.new.items) }
 {
     match assemble(source.share()?) {
-        Ok(package) => {
-            package.close();
-            unreachable!()
-        }
+        Ok(_) => unreachable!(),
         Err(fault) => faults.push(PlacedFault {
             package,
             file: fault.file,

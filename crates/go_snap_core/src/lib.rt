@@ -41,8 +41,7 @@ pub mod embed_core {
 /// What the crates above name of `go_emit_core`.
 pub mod emit_core {
     pub use go_emit_core::{
-        bodies_are_between_braces, calls_name_their_own, close_object, close_objects, emit,
-        objects_are_of_faultless, one_object,
+        bodies_are_between_braces, calls_name_their_own, emit, objects_are_of_faultless, one_object,
     };
 }
 
@@ -66,14 +65,9 @@ pub mod graph_core {
     pub use go_make_core::graph_core::{SourceFile, Workspace};
 }
 
-/// What the crates above name of `go_handle_core`.
-pub mod handle_core {
-    pub use go_emit_core::handle_core::DeclSite;
-}
-
 /// What the crates above name of `go_object_core`.
 pub mod object_core {
-    pub use go_emit_core::object_core::{FunctionCode, Object, Spelling, listing};
+    pub use go_emit_core::object_core::{Object, listing};
 }
 
 /// What the crates above name of `go_operand_core`.
@@ -89,7 +83,7 @@ pub mod package_core {
 /// What the crates above name of `go_part_core`.
 pub mod part_core {
     pub use go_make_core::part_core::{
-        Part, PartInput, close_parts, close_types, compile_part, one_part, part_has_occurrences,
+        Part, PartInput, compile_part, one_part, part_has_occurrences,
     };
 }
 
@@ -105,7 +99,7 @@ pub mod table_core {
 
 /// What the crates above name of `go_tree_core`.
 pub mod tree_core {
-    pub use go_emit_core::tree_core::{OccId, Role, occurrences_are_written};
+    pub use go_emit_core::tree_core::{OccId, occurrences_are_written};
 }
 
 /// What the crates above name of `go_whole_core`.

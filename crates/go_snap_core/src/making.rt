@@ -35,13 +35,8 @@ fn with_faults(
 {
     check_is_local();
     imports_bind_theirs();
-    match faults_of(alloc, workspace, parts.as_slice()) {
-        Ok(faults) => Ok((parts, faults)),
-        Err(AllocError) => {
-            parts.close();
-            Err(AllocError)
-        }
-    }
+    let faults = faults_of(alloc, workspace, parts.as_slice())?;
+    Ok((parts, faults))
 }
 
 // What the snapshot of a workspace has beside it: the parts of its assembled packages, by their numbers, and all faults.
@@ -80,13 +75,8 @@ pub fn compile(alloc: Global, workspace: &Workspace) -> Result<Snapshot, AllocEr
     ensures whole { IfOk result (λ s. IsSnapshot workspace.now s.parts s.faults) }
 {
     let sources = workspace.copy(alloc)?;
-    match made_of(alloc, &sources) {
-        Ok((parts, faults)) => Ok(Snapshot::new(sources, parts, faults)),
-        Err(AllocError) => {
-            sources.close();
-            Err(AllocError)
-        }
-    }
+    let (parts, faults) = made_of(alloc, &sources)?;
+    Ok(Snapshot::new(sources, parts, faults))
 }
 
 /// The snapshot of a workspace, over an earlier one of any workspace: what `compile` gives, since a workspace has one snapshot (`one_snapshot`). A
@@ -109,14 +99,9 @@ pub fn recompile(
     ensures kept { IfOk result (λ r. AreKept earlier.now.parts r.snapshot.parts r.kept.items) }
 {
     let current = workspace.copy(alloc)?;
-    match made_again(alloc, &current, earlier) {
-        Ok((parts, faults, kept)) => Ok(Recompiled {
-            snapshot: Snapshot::new(current, parts, faults),
-            kept,
-        }),
-        Err(AllocError) => {
-            current.close();
-            Err(AllocError)
-        }
-    }
+    let (parts, faults, kept) = made_again(alloc, &current, earlier)?;
+    Ok(Recompiled {
+        snapshot: Snapshot::new(current, parts, faults),
+        kept,
+    })
 }

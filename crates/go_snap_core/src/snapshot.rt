@@ -17,7 +17,7 @@ use go_emit_core::emit_all;
 use go_emit_core::object_core::Object;
 use go_emit_core::tree_core::OccId;
 use go_make_core::graph_core::{PackageSource, SourceFile, Workspace};
-use go_make_core::part_core::{Part, PartInput, Parts, close_parts};
+use go_make_core::part_core::{Part, PartInput, Parts};
 use go_make_core::whole_core::parts_are_whole;
 use go_make_core::{package_of, part_of};
 use go_path_core::ImportPath;
@@ -158,19 +158,6 @@ impl Snapshot {
         let objects = emit_all(alloc, self.parts())?;
         Ok(objects)
     }
-
-    /// Ends the snapshot, as its drop does, and promises nothing: no answer may rest on it. A crate that ends its snapshots by this call proves
-    /// no drops of trees and of types of its own.
-    pub fn close(self) {
-        let Snapshot {
-            sources,
-            parts,
-            faults,
-        } = self;
-        sources.close();
-        parts.close();
-        drop(faults);
-    }
 }
 
 /// Puts a part to the number of its package.
@@ -182,7 +169,7 @@ fn put_part(packages: &[PackageSource], part: Part, slots: &mut Parts)
 {
     match package_of(packages, part.path().as_str()) {
         Some(number) => slots.put(number, part),
-        None => part.close(),
+        None => {}
     }
 }
 
@@ -224,10 +211,7 @@ pub fn join(
     };
     put_parts(workspace.packages(), &mut parts, &mut slots);
     match faults_of(alloc, &workspace, slots.as_slice()) {
-        Ok(faults) => {
-            close_parts(parts);
-            Ok(Snapshot::new(workspace, slots, faults))
-        }
+        Ok(faults) => Ok(Snapshot::new(workspace, slots, faults)),
         Err(AllocError) => {
             slots.take_back(&mut parts);
             Err((workspace, parts))

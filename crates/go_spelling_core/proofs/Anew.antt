@@ -1,5 +1,5 @@
 -- A package in which one identifier of one initialiser is spelled anew.
-use Rattle.std.proofs.Common.{◌≡◌, ◌⊎◌, ℕ, zero, suc, ◌<◌, inl, inr, List, [], ◌∷◌, ◌++◌, length, slice_get, refl, sym, ap, ◌∙◌, subst, arith}
+use Rattle.std.proofs.Common.{◌≡◌, ◌⊎◌, ℕ, zero, suc, ◌<◌, inl, inr, List, [], ◌∷◌, length, slice_get, refl, sym, ap, ◌∙◌, subst, arith}
 use Rattle.std.specs.Prelude.{⊤, Option, Some, None, Contains}
 use Rattle.std.proofs.lemmas.List.{same_lists, get_or_default, length-map}
 use Rattle.go_text_core.specs.declared.span.Span.{Span}
@@ -9,7 +9,6 @@ use Rattle.go_tree_nodes.specs.declared.names.Ident.{Ident}
 use Rattle.go_tree_nodes.specs.Trees.{Separated, TypeTree, ExprTree, Named, ValueSpecTree}
 use Rattle.go_term_core.specs.decl_core.TopDecls.{FormTree, ValueForm, TypeForm, FuncForm}
 use Rattle.go_package_core.specs.handle_core.Declarations.{Declaration}
-use Rattle.go_package_core.specs.denote_core.declared.things.Found.{Found}
 use Rattle.go_package_core.specs.denote_core.declared.things.Stand.TheVariants as stands
 use Rattle.go_term_core.specs.Terms.{Term, Sign}
 use Rattle.go_package_core.specs.expr_core.Looks.{WrittenRules}
@@ -17,8 +16,8 @@ use Rattle.go_package_core.specs.expr_core.Denoting.{denoted}
 use Rattle.go_package_core.specs.expr_core.Laws.{AgreeOnIdents}
 use Rattle.go_package_core.specs.expr_core.Needed.{needed_idents}
 use Rattle.go_package_core.specs.expr_core.Uses.{use_of, spots, uses, type_spots}
-use Rattle.go_package_core.specs.expr_core.Alike.{needed_names}
-use Rattle.go_package_core.specs.expr_core.Independence.{own_name}
+use Rattle.go_package_core.specs.expr_core.Alike.{agree_left, agree_right, needed_names}
+use Rattle.go_package_core.specs.expr_core.Independence.{len, map_len, own_name}
 use Rattle.go_package_core.specs.face_core.declared.face.Face.TheVariants as faces
 use Rattle.go_package_core.specs.face_core.Faces.{TheFace}
 use Rattle.go_package_core.specs.face_core.Written.{written_at}
@@ -38,7 +37,7 @@ use Rattle.go_spelling_core.specs.Package.{FileForm, AreFixed, AllFixed, file_lo
 use Rattle.go_spelling_core.specs.PieceSpots.{some_type_spots, values_spots, spec_spots}
 use Rattle.go_spelling_core.specs.Trees.{RespellsExprs, InValues, value_spec_with}
 use Rattle.go_spelling_core.specs.Values.{IsSame, NeedsInBoth}
-use Rattle.go_spelling_core.proofs.Splits.{len, map_len, split_stays}
+use Rattle.go_spelling_core.proofs.Splits.{split_stays}
 use Rattle.go_spelling_core.proofs.Splits as splits
 use Rattle.go_spelling_core.proofs.Changes.{type_len, Change, OfName, OfSelector, OfElement, of_expr}
 use Rattle.go_spelling_core.proofs.InLists.{OneOf, InList, in_list, own_same, own_alike, initial_same}
@@ -196,16 +195,6 @@ module _ (s : SceneModel) (a : ℕ) where
         let e_is : e ≡ made file d.written (ValueForm h.kind w h.number) =
         ap (λ k. made k e.written e.form) (sym h.files ∙ h.here) ∙ (ap (λ r. made file r e.form) (sym h.written) ∙ ap (λ g. made file d.written g) h.after) in
         subst (λ y. Result d y) (sym e_is) (subst (λ y. Result y (made file d.written (ValueForm h.kind w h.number))) (sym d_is) (all d.written h.kind h.number))
-
--- names are looked up alike in parts of a list where they are in the list
-
-agree_left : {T S D : Type 0} (find other : List ℕ → ℕ → Found T S D) (xs ys : List Ident) → AgreeOnIdents find other (xs ++ ys) → AgreeOnIdents find other xs
-agree_left find other [] ys h = tt
-agree_left find other (x ∷ xs) ys h = (h.0, agree_left find other xs ys h.1)
-
-agree_right : {T S D : Type 0} (find other : List ℕ → ℕ → Found T S D) (xs ys : List Ident) → AgreeOnIdents find other (xs ++ ys) → AgreeOnIdents find other ys
-agree_right find other [] ys h = h
-agree_right find other (x ∷ xs) ys h = agree_right find other xs ys h.1
 
 module _ (s : SceneModel) (ds es : List FileForm) (t u : List (Option TheFace)) (file : ℕ) (written : WrittenRules Term) (x : Ident) (name : List ℕ)
     (xs : Separated Ident) (type_expr : Option TypeTree) (place : Span) (olds news : Separated ExprTree) (r : RespellsExprs x name olds news) where

@@ -22,7 +22,8 @@ use Rattle.go_package_core.specs.expr_core.Laws.{type_name_idents, type_idents, 
 use Rattle.go_package_core.specs.expr_core.Needed.{needed_idents, needed_by_args}
 use Rattle.go_package_core.specs.expr_core.Uses.{SelectorBehind, Spot, type_name_spots, type_spots, fields_spots, methods_spots, signature_spots, result_spots, params_spots, key_spots, spots, args_spots, items_spots}
 use Rattle.go_package_core.specs.expr_core.Respelling.{RespellsName, InPlain, InQualifier, BehindDot, RespellsType, InNamedType, InPointer, InParenType, InStruct, InInterface, RespellsFields, InFieldType, InLaterFields, InEmbedded, BehindEmbedded, RespellsMethods, InMethod, InLaterMethods, RespellsSignature, InParams, InResult, RespellsResult, InOneResult, InResults, RespellsParams, InParam, InLaterParams, Respells, InName, InParen, InUnary, InLeft, InRight, InOperand, InSelector, InCallee, InArguments, InLiteralType, InElements, InStructType, InStructElements, RespellsArgs, InArgument, InLaterArguments}
-use Rattle.go_spelling_core.proofs.Splits.{len, len_app, Split, here, in_left, in_right}
+use Rattle.go_package_core.specs.expr_core.Independence.{len}
+use Rattle.go_spelling_core.proofs.Splits.{len_app, Split, here, in_left, in_right}
 
 -- how many spots there are does not depend on the look-ups
 

@@ -16,13 +16,14 @@ use Rattle.go_package_core.specs.expr_core.Denoting.{denoted}
 use Rattle.go_package_core.specs.expr_core.Lists.{exprs_uses}
 use Rattle.go_package_core.specs.expr_core.Uses.{use_of, uses, spots}
 use Rattle.go_package_core.specs.expr_core.Respelling.{Respells}
+use Rattle.go_package_core.specs.expr_core.Independence.{map_len}
 use Rattle.go_package_core.specs.value_core.Initial.{spec_name_count, some_written_type, initial, exprs, expr_in, expr_of}
 use Rattle.go_package_core.specs.value_core.mirrors.Own.{one_of, is_one, given_by, own_argument, value_from}
 use Rattle.go_package_core.specs.value_core.Owning.{initial_is, initial_past}
 use Rattle.go_spelling_core.specs.Contexts.{ContextStays}
 use Rattle.go_spelling_core.specs.PieceSpots.{exprs_spots}
 use Rattle.go_spelling_core.specs.Trees.{RespellsExprs, InOnly, InFirst, InLater, value_spec_with}
-use Rattle.go_spelling_core.proofs.Splits.{map_len, behind, before}
+use Rattle.go_spelling_core.proofs.Splits.{behind, before}
 use Rattle.go_spelling_core.proofs.Changes.{expr_len}
 
 -- both are the same, or they are these two

@@ -17,6 +17,7 @@ use Rattle.go_package_core.specs.denote_core.declared.things.Stand.TheVariants a
 use Rattle.go_package_core.specs.expr_core.Looks.{Looks}
 use Rattle.go_package_core.specs.expr_core.TypeUses.{type_uses}
 use Rattle.go_package_core.specs.expr_core.Uses.{Spot, use_of, spots, type_name_spots, type_spots, signature_spots}
+use Rattle.go_package_core.specs.expr_core.Independence.{len, map_len}
 use Rattle.go_package_core.specs.piece_core.Headers.{receiver_uses}
 use Rattle.go_package_core.specs.piece_core.Pieces.{piece_values}
 use Rattle.go_package_core.specs.piece_core.Specifications.{spec_uses}
@@ -26,7 +27,7 @@ use Rattle.go_package_core.specs.func_core.Functions.{checked_func}
 use Rattle.go_package_core.specs.file_core.Files.{decl_uses}
 use Rattle.go_spelling_core.specs.PieceContexts.{spot_rules}
 use Rattle.go_spelling_core.specs.PieceSpots.{exprs_spots, some_type_spots, values_spots, spec_spots, target_spots, targets_spots, simple_spots, receiver_spots, given_spots, piece_spots}
-use Rattle.go_spelling_core.proofs.Splits.{len, len_app, map_len}
+use Rattle.go_spelling_core.proofs.Splits.{len_app}
 use Rattle.go_spelling_core.proofs.Changes.{name_len, type_len, signature_len, expr_len}
 use Rattle.go_spelling_core.proofs.Pieces.{piece_long}
 use Rattle.go_spelling_core.proofs.Walks.{walk_long}

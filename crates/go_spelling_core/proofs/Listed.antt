@@ -1,7 +1,7 @@
 -- Items at a number of lists that are mapped, joined or in step.
 use Rattle.std.proofs.Common.{◌≡◌, ℕ, zero, suc, ◌+◌, List, [], ◌∷◌, ◌++◌, map, length, refl, ap, subst, ◌∙◌, arith}
 use Rattle.std.specs.Prelude.{Some, None, slice_get}
-use Rattle.std.specs.List.{AllZip, enumerate_from}
+use Rattle.std.specs.List.{AllZip}
 
 -- what stands at a number of a list, and what holds of it
 pub record Item {A : Type 0} (Holds : A → Type 0) (xs : List A) (n : ℕ) : Type 0 where
@@ -42,16 +42,6 @@ get_behind (x ∷ xs) ys n =
 pub get_seam : {A : Type 0} (xs : List A) (y : A) (ys : List A) → slice_get (xs ++ y ∷ ys) (length xs) ≡ Some y
 get_seam [] y ys = refl
 get_seam (x ∷ xs) y ys = get_seam xs y ys
-
-pub numbered_at : {A : Type 0} (m : ℕ) (xs : List A) (n : ℕ) (x : A) → slice_get xs n ≡ Some x → slice_get (enumerate_from m xs) n ≡ Some (m + n, x)
-numbered_at m [] n x h = absurd (let no : None ≡ Some x = h in cc)
-numbered_at m (y ∷ xs) zero x h =
-    let same : y ≡ x = (let s : Some y ≡ Some x = h in cc) in
-    let at : m ≡ m + 0 = omega arith in
-    λ i. Some (at i, same i)
-numbered_at m (y ∷ xs) (suc n) x h =
-    let at : m + 1 + n ≡ m + suc n = omega arith in
-    numbered_at (m + 1) xs n x h ∙ ap (λ (k : ℕ). Some (k, x)) at
 
 -- what corresponds to an item
 pub zip_at : {A B : Type 0} (R : A → B → Type 0) (xs : List A) (ys : List B) (n : ℕ) (x : A) → AllZip R xs ys → slice_get xs n ≡ Some x → Item (R x) ys n

@@ -16,7 +16,7 @@ use Rattle.go_package_core.specs.expr_core.Lists.{exprs_uses}
 use Rattle.go_package_core.specs.expr_core.Respelling.{Respells, RespellsName, RespellsType, RespellsSignature}
 use Rattle.go_package_core.specs.expr_core.TypeUses.{type_uses, signature_uses}
 use Rattle.go_package_core.specs.expr_core.Uses.{Spot, use_of, uses, spots, type_name_spots, type_name_uses, type_spots, signature_spots}
-use Rattle.go_package_core.specs.expr_core.Independence.{own_name}
+use Rattle.go_package_core.specs.expr_core.Independence.{len, map_len, own_name}
 use Rattle.go_package_core.specs.piece_core.Headers.{receiver_uses}
 use Rattle.go_package_core.specs.piece_core.Pieces.{piece_uses}
 use Rattle.go_package_core.specs.piece_core.Specifications.{spec_uses, values_uses}
@@ -27,7 +27,7 @@ use Rattle.go_spelling_core.specs.Contexts.{ContextStays}
 use Rattle.go_spelling_core.specs.PieceContexts.{PieceContextsStay}
 use Rattle.go_spelling_core.specs.PieceSpots.{exprs_spots, some_type_spots, values_spots, spec_spots, target_spots, targets_spots, simple_spots, receiver_spots, given_spots, piece_spots}
 use Rattle.go_spelling_core.specs.Trees.{RespellsExprs, RespellsValues, InValues, RespellsSpec, InSomeValues, InSpecType, RespellsTarget, InTarget, RespellsTargets, InOnlyTarget, InFirstTarget, InLaterTarget, RespellsSimple, InAlone, InStep, InTargets, InAssigned, InUpdated, InUpdate, InDefined, RespellsPiece, InReceiver, InSignature, InSpec, InAct, InCondition, InGiven}
-use Rattle.go_spelling_core.proofs.Splits.{len, map_len, split_stays, behind, before}
+use Rattle.go_spelling_core.proofs.Splits.{split_stays, behind, before}
 use Rattle.go_spelling_core.proofs.Changes.{Change, OfName, OfSelector, OfElement, of_name, of_type, of_signature}
 use Rattle.go_spelling_core.proofs.InLists.{in_list}
 

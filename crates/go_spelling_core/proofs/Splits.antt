@@ -8,30 +8,11 @@ use Rattle.go_package_core.specs.expr_core.declared.things.Use.{Use}
 use Rattle.go_package_core.specs.expr_core.Looks.{Looks}
 use Rattle.go_package_core.specs.expr_core.Uses.{Context, Spot, Identifier, use_of}
 use Rattle.go_package_core.specs.expr_core.Respelling.{respelled}
+use Rattle.go_package_core.specs.expr_core.Independence.{at_seam, len, len_both, map_len, plus}
 use Rattle.go_spelling_core.specs.Contexts.{ContextStays}
-
-abbrev pub len : {A : Type 0} → List A → ℕ
-len [] = zero
-len (x ∷ xs) = suc (len xs)
-
-abbrev plus : ℕ → ℕ → ℕ
-plus zero n = n
-plus (suc m) n = suc (plus m n)
-
-len_both : {A : Type 0} (xs ys : List A) → len (xs ++ ys) ≡ plus (len xs) (len ys)
-len_both [] ys = refl
-len_both (x ∷ xs) ys = ap suc (len_both xs ys)
 
 pub len_app : {A B : Type 0} (xs ys : List A) (zs ws : List B) → len xs ≡ len zs → len ys ≡ len ws → len (xs ++ ys) ≡ len (zs ++ ws)
 len_app xs ys zs ws h k = len_both xs ys ∙ (ap (λ n. plus n (len ys)) h ∙ (ap (plus (len zs)) k ∙ sym (len_both zs ws)))
-
-pub map_len : {A B : Type 0} (f : A → B) (xs : List A) → len (map f xs) ≡ len xs
-map_len f [] = refl
-map_len f (x ∷ xs) = ap suc (map_len f xs)
-
-at_seam : {A : Type 0} (xs : List A) (y : A) (ys : List A) → slice_get (xs ++ y ∷ ys) (len xs) ≡ Some y
-at_seam [] y ys = refl
-at_seam (x ∷ xs) y ys = at_seam xs y ys
 
 not_there : {A : Type 0} (y : A) → None ≡ Some y → ⊥
 not_there {A} y h = both_ways (is_some {T = A} None) refl (ap is_some h)

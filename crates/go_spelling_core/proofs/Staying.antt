@@ -5,6 +5,7 @@ use Rattle.std.specs.List.{enumerate_from}
 use Rattle.go_tree_nodes.specs.declared.names.Ident.{Ident}
 use Rattle.go_tree_nodes.specs.Trees.{ValueSpecTree, FuncTree, Lines, TopTree, FileTree}
 use Rattle.go_term_core.specs.Terms.{Term, Sign}
+use Rattle.go_package_core.proofs.Numbered.{numbered_at}
 use Rattle.go_package_core.specs.entry_core.Outlines.{outline_of}
 use Rattle.go_package_core.specs.table_core.Entries.{Entry}
 use Rattle.go_package_core.specs.handle_core.Declarations.{Declaration}
@@ -25,7 +26,7 @@ use Rattle.go_spelling_core.specs.Laws.{some_uses, uses_in, checked_stand, impor
 use Rattle.go_spelling_core.specs.Places.{placed_spot, placed_use, tops_places, MeanThere}
 use Rattle.go_spelling_core.specs.Spellings.{RespellsTops, InInitialiser, InOuterTypes, InBody}
 use Rattle.go_spelling_core.proofs.Bodies.{stands_same}
-use Rattle.go_spelling_core.proofs.Listed.{get_mapped, mapped_from, get_behind, get_seam, numbered_at, zip_at}
+use Rattle.go_spelling_core.proofs.Listed.{get_mapped, mapped_from, get_behind, get_seam, zip_at}
 use Rattle.go_spelling_core.proofs.Noted.{tops_noted, tops_spotted}
 use Rattle.go_spelling_core.proofs.Walking.{in_tops}
 

@@ -10,12 +10,13 @@ use Rattle.go_package_core.specs.operand_core.declared.types.Operand.{Operand}
 use Rattle.go_package_core.specs.expr_core.declared.things.Use.{Use}
 use Rattle.go_package_core.specs.expr_core.Looks.{Looks}
 use Rattle.go_package_core.specs.expr_core.Uses.{Spot}
+use Rattle.go_package_core.specs.expr_core.Independence.{len}
 use Rattle.go_package_core.specs.piece_core.Pieces.{piece_uses, piece_values}
 use Rattle.go_spelling_core.specs.Contexts.{ContextStays}
 use Rattle.go_spelling_core.specs.PieceContexts.{use_rules, spot_rules, names_there, FunctionContextsStay}
 use Rattle.go_spelling_core.specs.PieceSpots.{piece_spots}
 use Rattle.go_spelling_core.specs.Trees.{RespellsSteps, AtCheck, AtDeclare, BehindCheck, BehindDeclare, InBlock, BehindBlock}
-use Rattle.go_spelling_core.proofs.Splits.{len, len_app, behind, before}
+use Rattle.go_spelling_core.proofs.Splits.{len_app, behind, before}
 use Rattle.go_spelling_core.proofs.Pieces.{piece_long, piece_stays}
 use Rattle.go_spelling_core.proofs.Treading.{func_respelled}
 

@@ -1,5 +1,5 @@
 -- Answers are the same under look-ups on types that agree on what is asked.
-use Rattle.std.proofs.Common.{◌≡◌, ℕ, Bool, false, ◌&&◌, ◌==◌, List, [], ◌∷◌, length, map, replicate, refl, ap, ◌∙◌}
+use Rattle.std.proofs.Common.{◌≡◌, ℕ, Bool, ◌&&◌, ◌==◌, List, [], ◌∷◌, length, map, replicate, refl, ap, ◌∙◌}
 use Rattle.std.specs.Prelude.{Option, Some, None, is_some, if◌then◌else◌}
 use Rattle.std.specs.List.{list_all}
 use Rattle.go_text_core.specs.declared.rule.Rule.TheVariants.{Y3, Y4, Y7}
@@ -9,14 +9,15 @@ use Rattle.go_operand_core.specs.declared.types.ValueType.{ValueType}
 use Rattle.go_operand_core.specs.declared.types.ValueType.TheVariants as value_types
 use Rattle.go_operand_core.specs.declared.types.Operand.{Operand}
 use Rattle.go_operand_core.specs.TypeRules.{TypeRules}
-use Rattle.go_operand_core.specs.Values.{is_over, form_basic, basic_type, basic_under}
-use Rattle.go_operand_core.specs.Assign.{takes_nil, takes_untyped, untyped_assignable, assignable, assignable_to}
+use Rattle.go_operand_core.specs.Values.{is_over, form_basic}
+use Rattle.go_operand_core.specs.Assign.{takes_nil, assignable, assignable_to}
 use Rattle.go_operand_core.specs.Conversions.{kept}
 use Rattle.go_denote_core.specs.declared.things.Argument.{Argument}
 use Rattle.go_denote_core.specs.declared.things.Argument.TheVariants as arguments
 use Rattle.go_denote_core.specs.declared.things.Denoted.{Denoted}
 use Rattle.go_denote_core.specs.declared.things.Denoted.TheVariants as denotes
 use Rattle.go_denote_core.specs.Laws.{ValueAlike}
+use Rattle.go_denote_core.proofs.Locality.{untyped_alike, basic_alike}
 use Rattle.go_statement_core.specs.declared.targets.Target.{Target}
 use Rattle.go_statement_core.specs.declared.targets.Target.TheVariants as targets
 use Rattle.go_denote_core.specs.Arguments.{fits_type}
@@ -28,30 +29,12 @@ use Rattle.go_statement_core.specs.Statements.{condition_rule}
 use Rattle.go_statement_core.specs.Locality.{FitsAlike, ArgumentGivenAlike, target_wanted, EachPair, Each, TypeAlike, UnderAlike, type_if_written, FormAlike, ConditionAlike, StatementsAreLocal}
 use Rattle.go_statement_core.proofs.Pairing.{counted}
 
--- a value of the type may be assigned, if there is one
-abbrev assigned : {T : Type 0} → TypeRules T → T → Option T → Bool
-assigned rules t None = false
-assigned rules t (Some s) = rules.assignable s t
-
-untyped_alike : {T : Type 0} (rules others : TypeRules T) (b : Basic) (t : T) → Some (basic_type rules b) ≡ Some (basic_type others b) → rules.form t ≡ others.form t
-    → rules.assignable (basic_type others b) t ≡ others.assignable (basic_type others b) t → untyped_assignable rules b t ≡ untyped_assignable others b t
-untyped_alike rules others b t own form is =
-    ap (λ o. takes_untyped b (assigned rules t o) (rules.form t)) own
-    ∙ (ap (λ f. takes_untyped b (rules.assignable (basic_type others b) t) f) form ∙ ap (λ a. takes_untyped b a (others.form t)) is)
-
 assignable_alike : {T : Type 0} (rules others : TypeRules T) (v : ValueType T) (t : T) → FitsAlike rules others v t → assignable rules v t ≡ assignable others v t
 assignable_alike rules others (value_types.Typed s) t h = h.2
 assignable_alike rules others value_types.UntypedInt t h = untyped_alike rules others basics.Int t h.0 h.1 h.2
 assignable_alike rules others value_types.UntypedText t h = untyped_alike rules others basics.Text t h.0 h.1 h.2
 assignable_alike rules others value_types.UntypedBool t h = untyped_alike rules others basics.Bool t h.0 h.1 h.2
 assignable_alike rules others value_types.Nil t h = ap takes_nil h.1
-
-basic_alike : {T : Type 0} (rules others : TypeRules T) (v : ValueType T) → ValueAlike rules others v → basic_under rules v ≡ basic_under others v
-basic_alike rules others (value_types.Typed s) h = ap form_basic h.1
-basic_alike rules others value_types.UntypedInt h = refl
-basic_alike rules others value_types.UntypedText h = refl
-basic_alike rules others value_types.UntypedBool h = refl
-basic_alike rules others value_types.Nil h = refl
 
 -- lists in step
 

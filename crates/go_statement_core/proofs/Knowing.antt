@@ -7,19 +7,19 @@ use Rattle.go_text_core.specs.declared.rule.Rule.{Rule}
 use Rattle.go_text_core.specs.declared.rule.Rule.TheVariants.{Y4, Y7}
 use Rattle.go_constant_core.specs.declared.values.Constant.{Constant}
 use Rattle.go_term_core.specs.declared.term.Basic.{Basic}
-use Rattle.go_term_core.specs.declared.term.Basic.TheVariants as basics
 use Rattle.go_operand_core.specs.declared.types.ValueType.{ValueType}
 use Rattle.go_operand_core.specs.declared.types.ValueType.TheVariants as value_types
 use Rattle.go_operand_core.specs.declared.types.TypeForm.{TypeForm}
 use Rattle.go_operand_core.specs.declared.types.TypeForm.TheVariants as forms
 use Rattle.go_operand_core.specs.declared.types.Operand.{Operand}
 use Rattle.go_operand_core.specs.TypeRules.{TypeRules}
-use Rattle.go_operand_core.specs.Values.{form_basic, basic_under, untyped}
+use Rattle.go_operand_core.specs.Values.{form_basic, basic_under}
 use Rattle.go_operand_core.specs.Assign.{assignable_to}
 use Rattle.go_operand_core.specs.Operators.{value}
 use Rattle.go_operand_core.specs.Conversions.{kept}
 use Rattle.go_operand_core.specs.Relations.{IsAssignable, by_type, nil_to_pointer, nil_to_interface, by_kind, by_default_type, IsValueOf}
 use Rattle.go_operand_core.specs.Known.{KeepsKinds, IsOfType, IsConstantOfItsType}
+use Rattle.go_operand_core.proofs.Known.{under_untyped}
 use Rattle.go_operand_core.proofs.Relating.{assigned, assigns}
 use Rattle.go_denote_core.specs.declared.things.Argument.{Argument}
 use Rattle.go_denote_core.specs.declared.things.Argument.TheVariants as arguments
@@ -303,11 +303,6 @@ answer_only rules (Some None) (arguments.«Value» o) = seventh_only (is_constan
 answer_only rules (Some (Some t)) given = form_only rules t (form_basic (rules.form t)) given
 
 -- constants are of their types
-
-under_untyped : {T : Type 0} (rules : TypeRules T) (b : Basic) → basic_under rules (untyped b) ≡ Some b
-under_untyped rules basics.Bool = refl
-under_untyped rules basics.Int = refl
-under_untyped rules basics.Text = refl
 
 same_basic : {T : Type 0} (rules : TypeRules T) (v : ValueType T) (t : T) (b c : Basic) → KeepsKinds rules → rules.form t ≡ forms.Basic b → basic_under rules v ≡ Some c
     → IsAssignable rules v t → c ≡ b

@@ -72,7 +72,7 @@ types_count : {T : Type 0} (rules : TypeRules T) (n : ℕ) (given : List (Argume
 types_count rules n given true e = length-map given (given_type rules) ∙ sym (eqb-true n (length given) e)
 types_count rules n given false e = length-replicate n None
 
-declared_count : {T : Type 0} (rules : TypeRules T) (written : Option (Option T)) (n : ℕ) (given : List (Argument T)) → length (declared_types rules written n given) ≡ n
+pub declared_count : {T : Type 0} (rules : TypeRules T) (written : Option (Option T)) (n : ℕ) (given : List (Argument T)) → length (declared_types rules written n given) ≡ n
 declared_count rules None n given = types_count rules n given (n == length given) refl
 declared_count rules (Some t) n given = length-replicate n t
 
@@ -132,7 +132,7 @@ all_new : {T : Type 0} (rules : TypeRules T) (n : ℕ) (given : List (Argument T
 all_new rules n given =
     ap (λ m. short_if rules (replicate n targets.New) given (m == length given)) (length-replicate n targets.New) ∙ new_alike rules n given (n == length given) refl
 
-paired_count : {T : Type 0} (rules : TypeRules T) (ts : List (Target T)) (given : List (Argument T)) → length ts ≡ length given → length (paired_types rules ts given) ≡ length ts
+pub paired_count : {T : Type 0} (rules : TypeRules T) (ts : List (Target T)) (given : List (Argument T)) → length ts ≡ length given → length (paired_types rules ts given) ≡ length ts
 paired_count rules [] given e = refl
 paired_count rules (t ∷ ts) [] e = absurd cc
 paired_count rules (t ∷ ts) (a ∷ given) e = let less : length ts ≡ length given = omega (arith, e) in ap suc (paired_count rules ts given less)

@@ -2,14 +2,13 @@
 ghost use Rattle.std.specs.Prelude.{◌≡◌, IfOk, Some, length, map, replicate};
 ghost use Rattle.std.specs.List.{list_all};
 ghost use Rattle.go_denote_core.specs.declared.things.Argument.TheVariants as arguments;
-ghost use Rattle.go_operand_core.specs.Values as values;
 ghost use Rattle.go_statement_core.specs.Assignments as assignments;
 ghost use Rattle.go_statement_core.specs.Declarations as declarations;
 
 use crate::assignments::{takes, unless};
 use crate::targets::Target;
 use go_denote_core::Argument;
-use go_operand_core::{TypeLooks, ValueType};
+use go_operand_core::{TypeLooks, default_type};
 use go_text_core::Rule;
 use std::alloc::{AllocError, Global};
 
@@ -20,18 +19,6 @@ pub fn some_type_again<E: TypeLooks>(env: &E, t: &Option<E::Type>) -> Option<E::
     match t {
         None => None,
         Some(t) => Some(env.again(t)),
-    }
-}
-
-fn default_type<E: TypeLooks>(env: &E, value_type: &ValueType<E::Type>) -> Option<E::Type>
-    ensures { result ≡ values.default_type (E.types env.now) value_type.now }
-{
-    match value_type {
-        ValueType::Typed(t) => Some(env.again(t)),
-        ValueType::UntypedInt => Some(env.int()),
-        ValueType::UntypedText => Some(env.string()),
-        ValueType::UntypedBool => Some(env.bool()),
-        ValueType::Nil => None,
     }
 }
 

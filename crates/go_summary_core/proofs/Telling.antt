@@ -12,7 +12,7 @@ use Rattle.go_alike_core.specs.block_core.Exports.{exports_model}
 use Rattle.go_alike_core.specs.entry_core.Showing.{names_shown}
 use Rattle.go_alike_core.specs.table_core.Entries.{Entry, find_entry, same_key, same_decl}
 use Rattle.go_alike_core.specs.table_core.Tables.{AreOf}
-use Rattle.go_alike_core.specs.table_core.Finding.{find-append, or_else}
+use Rattle.go_alike_core.specs.table_core.Finding.{bytes_same, find-append, or_else, or_none}
 use Rattle.go_alike_core.specs.face_core.declared.shown.ShownFace.{ShownFace}
 use Rattle.go_alike_core.specs.face_core.declared.shown.ShownFace.TheVariants as shows
 use Rattle.go_alike_core.specs.face_core.Packages.{DeclaredOf, package_in, package_faces, names_seen, shown_by, shown_in_some, face_in_some}
@@ -20,9 +20,9 @@ use Rattle.go_alike_core.specs.face_core.Displaying.{shows_its_block}
 use Rattle.go_summary_core.specs.Summaries.{SummaryModel, IsOfOne, path_of, summary_with}
 use Rattle.go_summary_core.specs.Views.{PathsAreApart, exports_told, faces_told, types_told}
 use Rattle.go_summary_core.specs.Laws.{HiddenNamesAreKnown, HiddenNamesDoNotCount, ViewsTellNothingElse, ViewsTellSummaries}
-use Rattle.go_summary_core.proofs.Viewed.{AreElsewhere, AreOfOne, text_apart, text_same}
+use Rattle.go_summary_core.proofs.Viewed.{AreElsewhere, AreOfOne, text_apart}
 
-of_one : (ss : List SummaryModel) → All IsOfOne ss → AreOfOne ss
+pub of_one : (ss : List SummaryModel) → All IsOfOne ss → AreOfOne ss
 of_one [] all = tt
 of_one (s ∷ ss) all = (All-head IsOfOne s ss all, of_one ss (All-tail IsOfOne s ss all))
 
@@ -64,10 +64,6 @@ find-other : (es : List Entry) (path : List ℕ) (k : DeclKey) → AreOf path es
 find-other [] path k own other = refl
 find-other (e ∷ es) path k own other = ap (λ b. if b then Some e else find_entry es k) (other_key e.key k path own.0 other) ∙ find-other es path k own.1 other
 
-or_none : (o : Option Entry) → or_else o None ≡ o
-or_none (Some a) = refl
-or_none None = refl
-
 find_nowhere : (ss : List SummaryModel) (k : DeclKey) → AreOfOne ss → AreElsewhere ss k.path → find_entry (types_told ss) k ≡ None
 find_nowhere [] k own other = refl
 find_nowhere (s ∷ ss) k own other =
@@ -95,13 +91,13 @@ shown_nowhere (s ∷ ss) path other =
 shown_told : (ss : List SummaryModel) (i : ℕ) (s : SummaryModel) → PathsAreApart ss → i < length ss → slice_index_or ss i s ≡ s → names_shown (exports_told ss) (path_of s) ≡ s.exports.names
 shown_told [] i s apart lt is = absurd (omega (arith, lt))
 shown_told (t ∷ ts) zero s apart lt is =
-    ap (λ b. if b then t.exports.names else names_shown (exports_told ts) (path_of s)) (text_same (path_of s) (path_of t) (ap path_of (sym is))) ∙ ap (λ (x : SummaryModel). x.exports.names) is
+    ap (λ b. if b then t.exports.names else names_shown (exports_told ts) (path_of s)) (bytes_same (path_of s) (path_of t) (ap path_of (sym is))) ∙ ap (λ (x : SummaryModel). x.exports.names) is
 shown_told (t ∷ ts) (suc i) s apart lt is =
     ap (λ b. if b then t.exports.names else names_shown (exports_told ts) (path_of s)) (text_apart (path_of s) (path_of t) (λ e. first_apart t ts i s apart (omega (arith, lt)) is (sym e)))
     ∙ shown_told ts i s (tail_apart t ts apart) (omega (arith, lt)) is
 
 own_names : (s : SummaryModel) → names_shown (s.exports ∷ []) (path_of s) ≡ s.exports.names
-own_names s = ap (λ b. if b then s.exports.names else []) (text_same (path_of s) (path_of s) refl)
+own_names s = ap (λ b. if b then s.exports.names else []) (bytes_same (path_of s) (path_of s) refl)
 
 neither : (b : Bool) → ◌≡◌ {A = Option DeclRef} (if b then None else None) None
 neither true = refl
@@ -117,7 +113,7 @@ faces_nowhere (s ∷ ss) path own other =
 faces_there : (ss : List SummaryModel) (i : ℕ) (s : SummaryModel) → PathsAreApart ss → AreOfOne ss → i < length ss → slice_index_or ss i s ≡ s → package_in (faces_told ss) (path_of s) ≡ Some s.faces
 faces_there [] i s apart own lt is = absurd (omega (arith, lt))
 faces_there (t ∷ ts) zero s apart own lt is =
-    ap (λ b. if b then Some t.faces else package_in (faces_told ts) (path_of s)) (text_same (path_of s) t.faces.path (ap path_of (sym is) ∙ sym own.0.faces)) ∙ ap (λ (x : SummaryModel). Some x.faces) is
+    ap (λ b. if b then Some t.faces else package_in (faces_told ts) (path_of s)) (bytes_same (path_of s) t.faces.path (ap path_of (sym is) ∙ sym own.0.faces)) ∙ ap (λ (x : SummaryModel). Some x.faces) is
 faces_there (t ∷ ts) (suc i) s apart own lt is =
     ap (λ b. if b then Some t.faces else package_in (faces_told ts) (path_of s)) (text_apart (path_of s) t.faces.path (λ e. first_apart t ts i s apart (omega (arith, lt)) is (sym (e ∙ own.0.faces))))
     ∙ faces_there ts i s (tail_apart t ts apart) own.1 (omega (arith, lt)) is

@@ -20,9 +20,6 @@ text_apart x y apart = by (bytes_eq x y) refl
     by true e = absurd (apart ((bytes_eq-Decides x y).0 e))
     by false e = refl
 
-pub text_same : (x y : List ℕ) → x ≡ y → bytes_eq x y ≡ true
-text_same x y e = (bytes_eq-Decides x y).1 e
-
 -- none of these has the path
 abbrev pub AreElsewhere : List SummaryModel → List ℕ → Type 0
 AreElsewhere [] path = ⊤

@@ -8,13 +8,11 @@ use Rattle.std.proofs.lemmas.List.Elements.{All-nil, All-cons, All-head, All-tai
 use Rattle.std.proofs.lemmas.Option.{slice_get_within}
 use Rattle.go_decl_core.specs.declared.keys.DeclKey.{DeclKey}
 use Rattle.go_term_core.specs.Terms.{Term}
+use Rattle.go_settle_core.proofs.Names.{bytes_same as same_bytes}
 use Rattle.go_table_core.specs.declared.table.Numbered.{Numbered}
 use Rattle.go_table_core.specs.Entries.{Entry, same_decl, same_key, find_entry, IsUnnamed}
 use Rattle.go_table_core.specs.Tables.{AreOf, AreOthers, IsPlaceOf}
 use Rattle.go_table_core.specs.mirrors.Holding.{all_entries, package_at, AreKept, IsTable}
-
-pub same_bytes : (x y : List ℕ) → bytes_eq x y ≡ true → x ≡ y
-same_bytes x y h = (bytes_eq-Decides x y).0 h
 
 pub bytes_same : (x y : List ℕ) → x ≡ y → bytes_eq x y ≡ true
 bytes_same x y h = (bytes_eq-Decides x y).1 h
@@ -34,7 +32,7 @@ abbrev pub or_else : Option Entry → Option Entry → Option Entry
 or_else (Some a) b = Some a
 or_else None b = b
 
-or_none : (o : Option Entry) → or_else o None ≡ o
+pub or_none : (o : Option Entry) → or_else o None ≡ o
 or_none (Some a) = refl
 or_none None = refl
 

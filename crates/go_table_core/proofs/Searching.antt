@@ -16,10 +16,11 @@ use denote.Enum.Bare.{sameb, same_true, true_same}
 use Rattle.go_decl_core.specs.contracts.places.DeclKind as decl_kind
 use Rattle.go_decl_core.specs.declared.keys.DeclKey.{DeclKey}
 use Rattle.go_decl_core.specs.declared.keys.DeclRef.{DeclRef}
+use Rattle.go_settle_core.proofs.Names.{bytes_same as same_bytes}
 use Rattle.go_table_core.specs.Entries.{Entry, same_decl, same_key, find_entry}
 use Rattle.go_table_core.specs.Tables.{AreOf, KeysRise, ArePackageTypes, IsPlaceOf}
 use Rattle.go_decl_core.specs.Order.{place_cmp}
-use Rattle.go_table_core.proofs.Finding.{same_bytes, bytes_same}
+use Rattle.go_table_core.proofs.Finding.{bytes_same}
 
 decl_total : IsTotalOrder place_cmp
 decl_total = then_total (on_total (λ d. d.file) nat_cmp_total) (on_total (λ d. d.number) nat_cmp_total)

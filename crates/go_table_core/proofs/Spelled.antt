@@ -16,6 +16,7 @@ use Rattle.go_term_core.specs.declared.term.MemberPlace.{MemberPlace}
 use Rattle.go_term_core.specs.declared.term.MemberPlace.TheVariants as places
 use Rattle.go_term_core.specs.Shapes.{Line, fields_in}
 use Rattle.go_term_core.specs.Terms.{Term, NoType, Predeclared, ErrorType, Defined, PointerTo, StructOf, InterfaceOf, Fields, NoField, AField}
+use Rattle.go_settle_core.proofs.Names.{bytes_same as same_bytes}
 use Rattle.go_table_core.specs.declared.entry.DeclaredMethod.{DeclaredMethod}
 use Rattle.go_table_core.specs.declared.fields.Spot.{Spot}
 use Rattle.go_table_core.specs.declared.fields.Earliest.{Earliest}
@@ -23,7 +24,7 @@ use Rattle.go_table_core.specs.Entries.{Member, has_method}
 use Rattle.go_table_core.specs.Methods.{is_before, field_before, has_field_before, field_spelled, term_fields}
 use Rattle.go_table_core.specs.Shown.{member_shown, hides_field, hides_some}
 use Rattle.go_table_core.specs.mirrors.Spots.{spot, earliest, spot_before, some_before, earlier_of, earliest_with, earliest_before, found_or_none, found_before, named_places, found_places, named_before, struct_path, HasPlaces, HasPlacesSoFar, AddsField, spells_some}
-use Rattle.go_table_core.proofs.Finding.{same_bytes, bytes_same, bytes_apart, bytes_turned}
+use Rattle.go_table_core.proofs.Finding.{bytes_same, bytes_apart, bytes_turned}
 
 or_false : (b : Bool) → b ≡ b || false
 or_false true = refl

@@ -1,3 +1,4 @@
+pub mod Members
 pub mod TermShapes
 pub mod Copied
 pub mod SameLists

@@ -13,11 +13,11 @@ use Rattle.go_term_core.specs.Laws.{HasNone, IsApart, FieldsApart, MethodsApart,
 abbrev Exported : List ℕ → Type 0
 Exported name = IsTrue (exported (chars name))
 
-id_back : (a p b q : List ℕ) → SameId a p b q → SameId b q a p
+pub id_back : (a p b q : List ℕ) → SameId a p b q → SameId b q a p
 id_back a p b q (e, inl h) = (sym e, inl (subst Exported e h))
 id_back a p b q (e, inr h) = (sym e, inr (sym h))
 
-id_on : (a p b q c r : List ℕ) → SameId a p b q → SameId b q c r → SameId a p c r
+pub id_on : (a p b q c r : List ℕ) → SameId a p b q → SameId b q c r → SameId a p c r
 id_on a p b q c r (e, inl h) (f, k) = (e ∙ f, inl h)
 id_on a p b q c r (e, inr h) (f, inl k) = (e ∙ f, inl (subst Exported (sym e) k))
 id_on a p b q c r (e, inr h) (f, inr k) = (e ∙ f, inr (h ∙ k))

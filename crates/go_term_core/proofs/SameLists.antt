@@ -20,7 +20,7 @@ use Rattle.go_term_core.specs.mirrors.Alike.{HasAlike, IsNoLine, SameLine}
 pub fails : {W : Type 0} → (W → ⊥) → IsTrue false ↔ W
 fails never = (λ h. absurd (let k : false ≡ true = h in cc), λ w. absurd (never w))
 
-first_is : {X : Type 0} (xs : List X) (i : ℕ) (x : X) → i < length xs → x ≡ get_or xs i x → drop i xs ≡ x ∷ drop (i + 1) xs
+pub first_is : {X : Type 0} (xs : List X) (i : ℕ) (x : X) → i < length xs → x ≡ get_or xs i x → drop i xs ≡ x ∷ drop (i + 1) xs
 first_is xs i x h is = drop_more xs i x h ∙ ap (λ y. y ∷ drop (i + 1) xs) (sym is)
 
 -- lists of other lengths

@@ -174,6 +174,3 @@ fn copy_terms(alloc: Global, terms: &Vec<TypeTerm>) -> Result<Vec<TypeTerm>, All
     }
     Ok(copies)
 }
-
-/// Lets a term go. It spares the crates above a proof of how terms end.
-pub fn close(term: TypeTerm) {}

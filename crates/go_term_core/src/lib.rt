@@ -12,7 +12,7 @@ mod same;
 mod tag;
 mod term;
 
-pub use copies::{both, close, copy, copy_numbers, copy_signature};
+pub use copies::{both, copy, copy_numbers, copy_signature};
 pub use laws::{
     defined_by_key, identity_by_form, identity_is_equivalence, order_does_not_count,
     tags_are_compared, tags_do_not_count,

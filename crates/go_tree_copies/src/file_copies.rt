@@ -26,9 +26,3 @@ pub fn copy(alloc: Global, file: &File) -> Result<File, AllocError>
         decls,
     })
 }
-
-/// Lets a file go, as `drop` does. It promises nothing: nothing may rest on it, not even that the memory is free behind it.
-/// A crate that ends its trees by this call has no drops of their nodes of its own.
-pub fn close(file: File) {
-    drop(file);
-}

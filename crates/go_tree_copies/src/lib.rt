@@ -5,4 +5,4 @@ mod copies;
 mod file_copies;
 mod stmt_copies;
 
-pub use file_copies::{close, copy};
+pub use file_copies::copy;

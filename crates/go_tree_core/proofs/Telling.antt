@@ -213,11 +213,11 @@ mutual
 
 -- expressions
 
-abbrev is_target : Context → Bool
+abbrev pub is_target : Context → Bool
 is_target context.Target = true
 is_target _ = false
 
-inside_not : (p : Context) → is_target p ≡ false → is_target (inside_context p) ≡ false
+pub inside_not : (p : Context) → is_target p ≡ false → is_target (inside_context p) ≡ false
 inside_not context.«Type» h = refl
 inside_not context.«Value» h = refl
 inside_not context.Callee h = refl
@@ -231,7 +231,7 @@ pointed_not context.Callee = refl
 pointed_not context.BeforeDot = refl
 pointed_not context.Target = refl
 
-under_not : (op : Operator) (p : Context) → is_target (under op p) ≡ false
+pub under_not : (op : Operator) (p : Context) → is_target (under op p) ≡ false
 under_not operator.Star p = pointed_not p
 under_not _ p = refl
 

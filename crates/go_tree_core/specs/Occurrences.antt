@@ -1,5 +1,5 @@
 -- The identifiers of a file that are used, its imports and its calls, in order of their places.
-use Rattle.std.specs.Prelude.{◌≡◌, ℕ, ◌≤◌, ◌<◌, Bool, true, false, ◌&&◌, nat_le, nat_lt, List, [], ◌∷◌, ◌++◌, length, position, All, HoldsAt, Option, Some, None, if◌then◌else◌}
+use Rattle.std.specs.Prelude.{◌≡◌, ℕ, ◌≤◌, ◌<◌, Bool, true, false, ◌&&◌, nat_le, nat_lt, List, [], ◌∷◌, ◌++◌, length, position, All, HoldsAt, Option, Some, None, if◌then◌else◌, codes}
 use Rattle.go_text_core.specs.declared.span.Span.{Span}
 use Rattle.go_text_core.specs.Text.{is_blank}
 use Rattle.go_token_core.specs.declared.kind.Operator.{Operator}
@@ -258,6 +258,17 @@ abbrev pub is_identifier : Role → Bool
 is_identifier role.Import = false
 is_identifier role.Call = false
 is_identifier _ = true
+
+-- the word for a role
+abbrev pub role_word : Role → List ℕ
+role_word role.Import = codes "import"
+role_word role.«Type» = codes "type"
+role_word role.«Value» = codes "value"
+role_word role.Callee = codes "callee"
+role_word role.Qualifier = codes "qualifier"
+role_word (role.Selector usage) = codes "selector"
+role_word role.Key = codes "key"
+role_word role.Call = codes "call"
 
 -- the occurrence is an identifier, and the place lies in it
 abbrev pub covers : ℕ → Occ → Bool

@@ -12,7 +12,7 @@ mod type_occurrences;
 mod visitor;
 
 pub use file_occurrences::occurrences;
-pub use go_tree_copies::{close, copy};
+pub use go_tree_copies::copy;
 pub use go_tree_nodes::{
     Assignment, BinaryExpr, Branch, CallExpr, Decl, Definition, Expr, Exprs, FieldLine, Fields,
     File, ForHead, FuncDecl, Ident, Idents, IfHead, ImportDecl, ImportLine, ImportName, ImportSpec,

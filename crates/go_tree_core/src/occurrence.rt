@@ -1,6 +1,6 @@
 //! What an occurrence is.
 ghost use Rattle.std.specs.Prelude.{◌≡◌};
-ghost use Rattle.go_tree_core.specs.Occurrences.{is_identifier};
+ghost use Rattle.go_tree_core.specs.Occurrences.{is_identifier, role_word};
 
 use go_text_core::{Name, Span};
 
@@ -42,6 +42,22 @@ impl Role {
         ensures { result ≡ is_identifier self }
     {
         !matches!(self, Role::Import | Role::Call)
+    }
+
+    /// The word for it, as it is printed.
+    pub fn word(self) -> &'static str
+        ensures { result.now ≡ role_word self }
+    {
+        match self {
+            Role::Import => "import",
+            Role::Type => "type",
+            Role::Value => "value",
+            Role::Callee => "callee",
+            Role::Qualifier => "qualifier",
+            Role::Selector(_) => "selector",
+            Role::Key => "key",
+            Role::Call => "call",
+        }
     }
 }
 

@@ -15,7 +15,7 @@ use Rattle.go_type_core.specs.declared.build.TypeFault.{TypeFault}
 use Rattle.go_type_core.specs.Built.{base, NamesNothing, IsNothingBy, IsNoTypeHere, IsUnderBy, IsUnder, IsUnderlying, settled_member, unrepeated_methods, kept_over, IsEntry, AreEntries, IsBuilt}
 use Rattle.go_type_core.specs.Laws.{or_far, together, kind_in, written_keys, AgreeOutside, BuildingIsLocal}
 use Rattle.go_type_core.proofs.Nothings.{far_nothing, far_term}
-use Rattle.go_type_core.proofs.Keyed.{same_key_itself}
+use Rattle.go_table_core.proofs.Keys.{same_key_itself}
 use Rattle.go_type_core.proofs.Unders.{kind_nothing, gone_nothing}
 use Rattle.go_type_core.proofs.Together.{type_found, type_gone, far_known, kind_known}
 

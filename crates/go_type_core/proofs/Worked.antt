@@ -6,7 +6,8 @@ use Rattle.go_term_core.specs.Terms.{Term, NoType, Defined, PointerTo}
 use Rattle.go_table_core.specs.Entries.{Entry, EntryLook, find_entry}
 use Rattle.go_type_core.specs.Built.{base, direct_keys, NamesNothing, IsNothingBy, Uses, UsesAlong, IsLooped}
 use Rattle.go_type_core.specs.Sample.{sample_key, type_sample, sample_struct, WorkedDeclaredTypes}
-use Rattle.go_type_core.proofs.Keyed.{same_key_itself, found_first}
+use Rattle.go_type_core.proofs.Keyed.{found_first}
+use Rattle.go_table_core.proofs.Keys.{same_key_itself}
 use Rattle.go_type_core.proofs.Looping.{contains_first, none_there}
 
 sample_found : (t : Term) → find_entry (type_sample t ∷ []) sample_key ≡ Some (type_sample t)

@@ -1,5 +1,4 @@
 mod Bound
-mod Members
 mod Places
 mod Said
 mod Steps

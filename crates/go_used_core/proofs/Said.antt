@@ -2,6 +2,7 @@
 use Rattle.std.proofs.Common.{◌≡◌, ◌⊎◌, inl, inr, ⊎_elim, ℕ, List, [], ◌∷◌, ◌++◌, refl, sym, ap, subst, ◌∙◌}
 use Rattle.std.specs.Prelude.{AllPairs, Contains}
 use Rattle.go_text_core.specs.declared.rule.Rule.{Rule}
+use Rattle.go_term_core.proofs.Members.{In, contained_in, in_back, in_contained, in_either, in_front}
 use Rattle.go_answer_core.specs.report_core.Faults.{ComesBefore, IsSaid, IsSettled}
 use Rattle.go_answer_core.specs.report_core.Laws.{SettledFaultsAreOne}
 use Rattle.go_answer_core.specs.expr_core.declared.things.Fault.{Fault}
@@ -11,7 +12,6 @@ use Rattle.go_used_core.specs.Laws.{ReportsAreOne}
 use Rattle.go_used_core.specs.Reported.{IsReported}
 use Rattle.go_used_core.specs.Used.{TheOutcome, FileUse}
 use Rattle.go_used_core.specs.mirrors.Steps.{said, said_at}
-use Rattle.go_used_core.proofs.Members.{In, contained_in, in_contained, in_either, in_left, in_right}
 
 fault_is : (f g : Fault) → f.offset ≡ g.offset → f.rule ≡ g.rule → f ≡ g
 fault_is f g offset rule = ap (λ (n : ℕ). let h : Fault = record { offset = n; rule = f.rule } in h) offset ∙ ap (λ r. let h : Fault = record { offset = g.offset; rule = r } in h) rule
@@ -31,8 +31,8 @@ said_in (u ∷ us) f h = ⊎_elim (first_said u us f u.outcome refl) (λ k. inr 
 
 in_said : (us : List FileUse) (f : Fault) → IsSaid us f → In (said us) f
 in_said [] f h = absurd h
-in_said (u ∷ us) f (inl h) = in_left (said_at u.offset u.outcome) (said us) f (subst (λ x. In (said_at u.offset x) f) (sym h.1) (inl (fault_is (record { offset = u.offset; rule = f.rule }) f h.0 refl)))
-in_said (u ∷ us) f (inr h) = in_right (said_at u.offset u.outcome) (said us) f (in_said us f h)
+in_said (u ∷ us) f (inl h) = in_front (said_at u.offset u.outcome) (said us) f (subst (λ x. In (said_at u.offset x) f) (sym h.1) (inl (fault_is (record { offset = u.offset; rule = f.rule }) f h.0 refl)))
+in_said (u ∷ us) f (inr h) = in_back (said_at u.offset u.outcome) (said us) f (in_said us f h)
 
 -- what is reported, by what all of it settles to beside no occurrence
 pub reported : (uses none : List FileUse) (faults all report : List Fault) → none ≡ [] → all ≡ faults ++ said uses
@@ -40,18 +40,18 @@ pub reported : (uses none : List FileUse) (faults all report : List Fault) → n
 reported uses none faults all report nothing is ordered kept found = record {
   ordered = ordered;
   same = λ f. (
-    λ h. sides f (in_either faults (said uses) f (subst (λ l. In l f) is (contained_in all f (found f h)))),
-    λ h. kept f (subst (λ l. Contains l f) (sym is) (in_contained (faults ++ said uses) f (back f h))) (λ s. subst (λ us. IsSaid us f) nothing s),
+    λ h. sides f (in_either faults (said uses) f (subst (λ l. In l f) is (in_contained all f (found f h)))),
+    λ h. kept f (subst (λ l. Contains l f) (sym is) (contained_in (faults ++ said uses) f (back f h))) (λ s. subst (λ us. IsSaid us f) nothing s),
   );
 }
   where
     sides : (f : Fault) → In faults f ⊎ In (said uses) f → IsSaid uses f ⊎ Contains faults f
-    sides f (inl k) = inr (in_contained faults f k)
+    sides f (inl k) = inr (contained_in faults f k)
     sides f (inr k) = inl (said_in uses f k)
 
     back : (f : Fault) → IsSaid uses f ⊎ Contains faults f → In (faults ++ said uses) f
-    back f (inl k) = in_right faults (said uses) f (in_said uses f k)
-    back f (inr k) = in_left faults (said uses) f (contained_in faults f k)
+    back f (inl k) = in_back faults (said uses) f (in_said uses f k)
+    back f (inr k) = in_front faults (said uses) f (in_contained faults f k)
 
 -- reports of the same are one: each settles to itself beside no occurrence
 pub reports_one : SettledFaultsAreOne Declaration (List ℕ) → ReportsAreOne

@@ -1,13 +1,13 @@
 -- Which imports are used, by the occurrences of a file.
 use Rattle.std.proofs.Common.{◌≡◌, ◌⊎◌, inl, inr, ⊎_elim, ℕ, zero, suc, Bool, true, false, List, [], ◌∷◌, Option, Some, None, refl, sym, ap, subst}
 use Rattle.std.specs.Prelude.{if◌then◌else◌, slice_get}
+use Rattle.go_term_core.proofs.Members.{In, in_back, in_either, in_front}
 use Rattle.go_answer_core.specs.tree_core.declared.occurrence.Occ.{Occ}
 use Rattle.go_answer_core.specs.block_core.declared.binding.Binding.{Binding}
 use Rattle.go_answer_core.specs.block_core.Blocks.{BlocksModel, file_binding}
 use Rattle.go_used_core.specs.Laws.{IsBoundBy, IsByDot, IsQualified}
 use Rattle.go_used_core.specs.Used.{FileUse, is_name_role, used_by, used_if, used_places, uses_binding}
 use Rattle.go_used_core.proofs.Bound.{Dots, Qualifies, dots_used, qualifies_used, used_is}
-use Rattle.go_used_core.proofs.Members.{In, in_either, in_left, in_right}
 
 module _ (b : BlocksModel) (file : ℕ) (at : ℕ) where
   abbrev IsUsed : List Occ → List FileUse → Type 0
@@ -68,8 +68,8 @@ module _ (b : BlocksModel) (file : ℕ) (at : ℕ) where
   at_number (x ∷ os) (v ∷ us) zero o u e f h =
       let occ : x ≡ o = cc in
       let held : v ≡ u = cc in
-      in_left (used_by b file x v (slice_get us 0)) (used_places b file os us) at (subst (λ z. In (used_by b file z v (slice_get us 0)) at) (sym occ) (subst (λ z. In (used_by b file o z (slice_get us 0)) at) (sym held) h))
-  at_number (x ∷ os) (v ∷ us) (suc n) o u e f h = in_right (used_by b file x v (slice_get us 0)) (used_places b file os us) at (at_number os us n o u e f h)
+      in_front (used_by b file x v (slice_get us 0)) (used_places b file os us) at (subst (λ z. In (used_by b file z v (slice_get us 0)) at) (sym occ) (subst (λ z. In (used_by b file o z (slice_get us 0)) at) (sym held) h))
+  at_number (x ∷ os) (v ∷ us) (suc n) o u e f h = in_back (used_by b file x v (slice_get us 0)) (used_places b file os us) at (at_number os us n o u e f h)
 
   pub used_from : (os : List Occ) (us : List FileUse) → IsUsed os us → In (used_places b file os us) at
   used_from os us (inl q) =

@@ -52,5 +52,5 @@ pub mod report_core {
 
 /// What the crates above name of `go_tree_core`.
 pub mod tree_core {
-    pub use go_answer_core::tree_core::{OccId, Role, occurrences_are_written};
+    pub use go_answer_core::tree_core::{OccId, occurrences_are_written};
 }

@@ -32,6 +32,7 @@ use Rattle.go_env_core.specs.Scenes.{SceneModel}
 use Rattle.go_env_core.specs.Found.{found_of, found_face, face_at}
 use Rattle.go_env_core.specs.Looks.{TheLooks, looks_in, inline_rules}
 use Rattle.go_needs_core.specs.Needs.{LooksAtNeeds, NeedsAreInside, needed, known_in}
+use Rattle.go_needs_core.proofs.Edges.{none_inside, one_inside}
 use Rattle.go_value_core.specs.Initial.{initial, initial_idents, some_written_type}
 use Rattle.go_value_core.specs.Package.{PlacedOf, own_decl, some_position, position_in, name_needs, idents_need, value_idents, form_idents, decl_needs, package_needs, top_look, first_values, top_looks, value_face, form_face, some_face, declared_face}
 use Rattle.go_value_core.proofs.Owning.{initial_alike}
@@ -56,14 +57,8 @@ pub position_inside : (ws : List WrittenOf) (d : DeclRef) (n : ℕ) → position
 position_inside [] d n h = absurd (not_some n h)
 position_inside (w ∷ ws) d n h = first_inside (length ws) n (same_decl_place w.decl d) (position_of ws d) (λ m e. position_inside ws d m e) h
 
-one_inside : (x : ℕ) → Contains (x ∷ []) x
-one_inside x = (let pos : 0 < length (x ∷ []) = omega arith in (0, pos, refl))
-
 only_one : (a x : ℕ) → Contains (a ∷ []) x → a ≡ x
 only_one a x h = (let q : h.0 ≡ 0 = omega (arith, h.1) in sym (ap (λ k. get_or (a ∷ []) k x) q) ∙ h.2)
-
-none_inside : {A : Type 0} (x : A) → Contains [] x → ⊥
-none_inside x h = omega (arith, h.1)
 
 -- known is the same at what is needed
 abbrev pub SameAt : List ℕ → (ℕ → Option TheFace) → (ℕ → Option TheFace) → Type 0

@@ -1,9 +1,7 @@
 -- The walk over the identifiers that expressions and types need.
-use Rattle.std.proofs.Common.{◌≡◌, ℕ, ◌+◌, ◌<◌, ◌≤◌, List, [], ◌∷◌, ◌++◌, map, length, get_or, drop, refl, sym, ap, ◌∙◌, append_assoc, append-nil}
-use Rattle.std.specs.Prelude.{Option, Result, OnOk}
+use Rattle.std.proofs.Common.{◌≡◌, List, ◌∷◌, ◌++◌, map, refl, sym, ap, ◌∙◌}
+use Rattle.std.specs.Prelude.{Option}
 use Rattle.std.specs.Global.{Box}
-use Rattle.std.proofs.lemmas.List.{drop_more, drop_all}
-use Rattle.std.proofs.lemmas.Result.{on_ok_weaker}
 use Rattle.go_text_core.specs.declared.span.Span.{Span}
 use Rattle.go_tree_nodes.specs.declared.names.Ident.{Ident}
 use Rattle.go_tree_nodes.specs.declared.names.TextLiteral.{TextLiteral}
@@ -32,25 +30,6 @@ use Rattle.go_tree_nodes.proofs.ShapeLemmas.{call_parts, literal_parts, struct_l
 use Rattle.go_piece_core.specs.expr_core.Laws.{type_name_idents, type_idents, fields_idents, methods_idents, signature_type_idents, result_type_idents, params_idents}
 use Rattle.go_piece_core.specs.expr_core.Needed.{needed_idents, needed_by_args}
 use Rattle.go_value_core.specs.mirrors.Walked.{line_idents}
-
--- one turn of a loop that adds what an element has
-pub step : {A X : Type 0} (whole : List A → List X) (one : A → List X) → ((x : A) (xs : List A) → whole (x ∷ xs) ≡ one x ++ whole xs)
-    → (xs : List A) (i : ℕ) (x : A) → i < length xs → x ≡ get_or xs i x → (u0 u1 : List X) → u1 ≡ u0 ++ one x → u1 ++ whole (drop (i + 1) xs) ≡ u0 ++ whole (drop i xs)
-step whole one more xs i x h is u0 u1 e =
-    let rest = drop (i + 1) xs in
-    ap (λ l. l ++ whole rest) e ∙ (append_assoc u0 (one x) (whole rest)
-    ∙ ap (λ l. u0 ++ l) (sym (more x rest) ∙ ap whole (ap (λ y. y ∷ rest) is ∙ sym (drop_more xs i x h))))
-
--- a loop that is at its end
-pub ended : {A X : Type 0} (whole : List A → List X) → whole [] ≡ [] → (xs : List A) (i : ℕ) → length xs ≤ i → (u0 u1 : List X) → u1 ++ whole (drop i xs) ≡ u0 ++ whole xs → u1 ≡ u0 ++ whole xs
-ended whole none xs i h u0 u1 e = sym (append-nil u1) ∙ (ap (λ l. u1 ++ l) (sym none ∙ ap whole (sym (drop_all i xs h))) ∙ e)
-
-pub adds : {T E A : Type 0} (r : Result T E) (u1 u0 xs ys : List A) → xs ≡ ys → OnOk r (u1 ≡ u0 ++ xs) → OnOk r (u1 ≡ u0 ++ ys)
-adds r u1 u0 xs ys q h = on_ok_weaker r (λ e. e ∙ ap (λ l. u0 ++ l) q) h
-
--- two pieces that are added in turn
-pub both : {T E A : Type 0} (r : Result T E) (u0 u1 u2 xs ys zs : List A) → u1 ≡ u0 ++ xs → xs ++ ys ≡ zs → OnOk r (u2 ≡ u1 ++ ys) → OnOk r (u2 ≡ u0 ++ zs)
-both r u0 u1 u2 xs ys zs first q h = on_ok_weaker r (λ e. e ∙ (ap (λ l. l ++ ys) first ∙ (append_assoc u0 xs ys ∙ ap (λ l. u0 ++ l) q))) h
 
 -- types
 

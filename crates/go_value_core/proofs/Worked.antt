@@ -1,18 +1,15 @@
 -- The sample is computed.
-use Rattle.std.proofs.Common.{◌≡◌, ℕ, ◌<◌, List, [], ◌∷◌, length, refl, arith, subst}
-use Rattle.std.specs.Prelude.{Contains}
+use Rattle.std.proofs.Common.{◌≡◌, ℕ, List, [], ◌∷◌, refl, subst}
 use Rattle.go_universe_core.specs.Universe.{found, spelling_of}
 use Rattle.go_env_core.specs.scope_core.Scopes.{universe}
 use Rattle.go_needs_core.specs.Needs.{NeedsLead}
+use Rattle.go_needs_core.proofs.Edges.{one_inside}
 use Rattle.go_value_core.specs.Around.{LeadsBack}
 use Rattle.go_value_core.specs.Package.{package_needs, IsThroughItself}
 use Rattle.go_value_core.specs.Sample.{ValueSampleIsRight, value_sample_scene, value_sample}
 
 abbrev rows : List (List ℕ)
 rows = (1 ∷ (1 ∷ [])) ∷ ([] ∷ ((3 ∷ []) ∷ ((2 ∷ []) ∷ ((2 ∷ []) ∷ ((0 ∷ []) ∷ ((1 ∷ []) ∷ ([] ∷ ([] ∷ []))))))))
-
-one_inside : (x : ℕ) → Contains (x ∷ []) x
-one_inside x = (let pos : 0 < length (x ∷ []) = omega arith in (0, pos, refl))
 
 c_back : LeadsBack rows 2
 c_back = record { first = 3; around = 2 ∷ []; back = (one_inside 3, (one_inside 2, refl)) }

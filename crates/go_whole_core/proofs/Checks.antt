@@ -1,13 +1,9 @@
 -- What follows from a workspace, and from a check.
-use Rattle.std.proofs.Common.{◌≡◌, ℕ, List, [], ◌∷◌, All, Some, map, ap, subst, ◌∙◌}
-use Rattle.std.specs.Prelude.{Result, Ok, Err, slice_get}
-use Rattle.std.specs.List.{AllByRecursion}
+use Rattle.std.proofs.Common.{◌≡◌, ℕ, List, [], ◌∷◌, All, Some, ap, subst, ◌∙◌}
+use Rattle.std.specs.Prelude.{slice_get}
 use Rattle.std.proofs.lemmas.List.Elements.{All-from_recursion, recursion_from_All}
 use Rattle.std.proofs.lemmas.Option.{slice_get_within, get_or_from_slice_get}
-use Rattle.go_tree_nodes.specs.Trees.{FileTree}
-use Rattle.go_part_core.specs.parse_core.declared.error.SynFault.{SynFault}
-use Rattle.go_part_core.specs.graph_core.Packages.{trees_of, tree_shown}
-use Rattle.go_part_core.specs.graph_core.Sources.{SourceModel, source, IsPlacedContent, IsPlacedSource}
+use Rattle.go_part_core.specs.graph_core.Sources.{IsPlacedSource}
 use Rattle.go_part_core.specs.graph_core.Workspaces.{PackageModel, IsPackage, IsWorkspace}
 use Rattle.go_term_core.specs.decl_core.declared.keys.DeclKey.{DeclKey}
 use Rattle.go_near_core.specs.table_core.Entries.{Entry, EntryLook, find_entry}
@@ -17,19 +13,12 @@ use Rattle.go_near_core.specs.type_core.Built.{AreEntries}
 use Rattle.go_near_core.specs.entry_core.Entries.{package_meanings, package_methods}
 use Rattle.go_near_core.specs.entry_core.Ordered.{entries_own}
 use Rattle.go_near_core.specs.face_core.Packages.{PackageFacesModel}
+use Rattle.go_part_core.specs.ready_core.Made.{trees_placed}
 use Rattle.go_part_core.specs.ready_core.Packages.{PackageIn, entries_in, outlines_in, trees_in}
 use Rattle.go_part_core.specs.package_core.Checked.{CheckedOf, IsChecked}
 use Rattle.go_tree_nodes.specs.Spelling.{IsPlaced}
 
 -- the trees of a package of a workspace are placed
-
-trees_placed : (ss : List SourceModel) → AllByRecursion IsPlacedSource ss → AllByRecursion IsPlaced (map tree_shown (trees_of ss))
-trees_placed [] h = tt
-trees_placed (s ∷ ss) h = by s.name s.text s.content h.0 (trees_placed ss h.1)
-  where
-    by : (name text : List ℕ) (r : Result FileTree SynFault) → IsPlacedContent r → AllByRecursion IsPlaced (map tree_shown (trees_of ss)) → AllByRecursion IsPlaced (map tree_shown (trees_of (source name text r ∷ ss)))
-    by name text (Ok f) one rest = (one, rest)
-    by name text (Err e) one rest = rest
 
 package_there : (ps : List PackageModel) (n : ℕ) (p : PackageModel) → All IsPackage ps → slice_get ps n ≡ Some p → IsPackage p
 package_there ps n p all at = subst IsPackage (get_or_from_slice_get ps n p p at) (all n p (slice_get_within ps n p at))

@@ -1,29 +1,26 @@
 -- What the part of a package is made from, by a plan and by the parts of the packages that it reaches.
-use Rattle.std.proofs.Common.{◌≡◌, ℕ, zero, suc, ◌<◌, List, [], ◌∷◌, length, map, get_or, All, Option, Some, None, Ok, MatchOption, refl, sym, ap, subst, ◌∙◌, arith}
+use Rattle.std.proofs.Common.{◌≡◌, ℕ, zero, suc, ◌<◌, List, [], ◌∷◌, length, get_or, All, Option, Some, None, MatchOption, refl, sym, ap, subst, ◌∙◌, arith}
 use Rattle.std.specs.Prelude.{slice_get}
-use Rattle.std.proofs.lemmas.List.{length-map, get_or_default}
 use Rattle.std.proofs.lemmas.List.Kept.{AllPairs-from_increasing}
 use Rattle.std.proofs.lemmas.Option.{slice_get_within, slice_get-get_or}
-use Rattle.go_tree_nodes.specs.Trees.{FileTree}
 use Rattle.go_near_core.specs.cycle_core.declared.edge.Edge.{Edge}
 use Rattle.go_near_core.specs.reach_core.Numbers.{Numbers}
 use Rattle.go_part_core.specs.graph_core.declared.imports.ImportAt.{ImportAt}
 use Rattle.go_part_core.specs.graph_core.declared.imports.ImportOutcome.{ImportOutcome}
 use Rattle.go_part_core.specs.graph_core.declared.imports.ImportOutcome.TheVariants as outcomes
-use Rattle.go_part_core.specs.graph_core.Imports.{IsImport, IsNoImport, IsOutcome, content_texts}
-use Rattle.go_part_core.specs.graph_core.Packages.{AllHaveTrees, IsAssembled, trees_of}
+use Rattle.go_part_core.specs.graph_core.Imports.{IsImport, IsNoImport, IsOutcome}
+use Rattle.go_part_core.specs.graph_core.Packages.{IsAssembled, trees_of}
 use Rattle.go_part_core.specs.graph_core.Plans.{PlanModel, AreReached, IsAssembledAt, IsPlan, ReachesByImports, outcome_at}
 use Rattle.go_part_core.specs.graph_core.Plans as plans
-use Rattle.go_part_core.specs.graph_core.Sources.{SourceModel, source}
+use Rattle.go_part_core.specs.graph_core.Sources.{source}
 use Rattle.go_part_core.specs.graph_core.Workspaces.{PackageModel, IsWorkspace}
-use Rattle.go_part_core.specs.graph_core.Assemblies.{as_many, has_tree_at, tree_at}
 use Rattle.go_part_core.specs.graph_core.OutcomeLaws.{has_one_outcome}
 use Rattle.go_near_core.specs.block_core.declared.imports.Imported.{Imported}
 use Rattle.go_near_core.specs.block_core.Exports.{ExportsModel}
-use Rattle.go_near_core.specs.block_core.Naming.{AreInPackage, file_specs, import_at}
+use Rattle.go_near_core.specs.block_core.Naming.{AreInPackage, import_at}
 use Rattle.go_near_core.specs.block_core.mirrors.Steps.{AreReady, HasExports, IsPlanned, IsReady, IsShownIn}
 use Rattle.go_near_core.specs.block_core.Growing.{given_weaker, package_weaker}
-use Rattle.go_near_core.specs.block_core.NamingLemmas.{text_of, same_texts}
+use Rattle.go_near_core.specs.block_core.AllLemmas.{import_there}
 use Rattle.go_part_core.specs.summary_core.Summaries.{SummaryModel, path_of}
 use Rattle.go_part_core.specs.summary_core.Views.{PathsAreApart}
 use Rattle.go_near_core.specs.entry_core.Among.{among_to}
@@ -50,34 +47,6 @@ shown_from (x ∷ parts) (suc n) e h = shown_from parts n e h
 
 shown_by : (parts : List (Option PartModel)) (n : ℕ) (e : ExportsModel) → IsShownIn (exports_in parts) n e → Shown parts n e
 shown_by parts n e h = (let p = shown_from parts n e h in record { summary = p.0.content.summary; told = record { of_part = p.0; there = p.1; is = refl }; is = sym p.2 })
-
--- an import is there where one is written
-
-file_of_tree : (files : List SourceModel) (file : ℕ) (t : List ℕ × FileTree) → AllHaveTrees files → slice_get (trees_of files) file ≡ Some t → (s : SourceModel) × (slice_get files file ≡ Some s) × (s.content ≡ Ok t.1)
-file_of_tree files file t trees at =
-    let lt : file < length files = omega (arith, slice_get_within (trees_of files) file t at, as_many files trees) in
-    let d = source t.0 [] (Ok t.1) in
-    let s = get_or files file d in
-    let here : slice_get files file ≡ Some s = slice_get-get_or files file d lt in
-    let has = has_tree_at files file s trees lt (sym (get_or_default files file s d lt)) in
-    let same : ◌≡◌ {A = List ℕ × FileTree} (s.name, has.0) t = (let e : Some (s.name, has.0) ≡ Some t = sym (tree_at files file s has.0 trees here has.1) ∙ at in cc) in
-    (s, here, has.1 ∙ ap (λ (x : List ℕ × FileTree). Ok x.1) same)
-
-import_there : (ps : List PackageModel) (number : ℕ) (p : PackageModel) (file n : ℕ) (t : List ℕ × FileTree) → slice_get ps number ≡ Some p → IsAssembled p.1 → slice_get (trees_of p.1) file ≡ Some t → n < length (file_specs t.1) → (text : List ℕ) × IsImport ps (import_at number file n) p.0 text
-import_there ps number p file n t numbered assembled at lt =
-    let found = file_of_tree p.1 file t assembled.trees at in
-    let texts : content_texts found.0.content ≡ map text_of (file_specs t.1) = ap content_texts found.2 ∙ same_texts t.1.imports in
-    let lt_texts : n < length (map text_of (file_specs t.1)) = omega (arith, lt, length-map (file_specs t.1) text_of) in
-    let text = get_or (map text_of (file_specs t.1)) n [] in (
-      text,
-      record {
-        files = p.1;
-        file = found.0;
-        numbered = numbered;
-        in_files = found.1;
-        in_file = ap (λ ts. slice_get ts n) texts ∙ slice_get-get_or (map text_of (file_specs t.1)) n [] lt_texts;
-      },
-    )
 
 module _ (ps : List PackageModel) (plan : PlanModel) (planned : IsPlan ps plan) (parts : List (Option PartModel)) (n : ℕ) (has : HasReached ps parts n) where
   has_exports : (at : ImportAt) (o : ImportOutcome) → at.«package» ≡ n → IsOutcome ps at o → HasExports (exports_in parts) o

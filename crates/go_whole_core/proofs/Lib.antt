@@ -17,4 +17,4 @@ mod Seeing
 pub mod Theirs
 pub mod Told
 mod Types
-mod Values
+pub mod Values

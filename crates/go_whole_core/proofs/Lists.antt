@@ -1,20 +1,10 @@
 -- Lists with numbers.
-use Rattle.std.proofs.Common.{◌≡◌, ℕ, suc, ◌+◌, inl, inr, List, [], ◌∷◌, length, All, Some, None, refl, sym, ap, subst, ◌∙◌, arith}
+use Rattle.std.proofs.Common.{◌≡◌, ℕ, suc, inl, inr, List, [], ◌∷◌, length, All, Some, None, refl, sym, ap, subst, ◌∙◌, arith}
 use Rattle.std.specs.Prelude.{slice_get, AllPairs}
 use Rattle.std.specs.List.{AllZip}
 use Rattle.std.proofs.lemmas.List.Elements.{All-cons, All-nil}
 use Rattle.std.proofs.lemmas.List.Kept.{AllPairs-cons}
-use Rattle.go_part_core.specs.graph_core.Lists.{AllNumbered}
 use Rattle.go_near_core.specs.entry_core.Among.{Among, among_to}
-
-pub numbered_from : {A B : Type 0} (R : ℕ → A → B → Type 0) (k : ℕ) (xs : List A) (ys : List B) → length ys ≡ length xs → ((i : ℕ) (x : A) (y : B) → slice_get xs i ≡ Some x → slice_get ys i ≡ Some y → R (k + i) x y) → AllNumbered R k xs ys
-numbered_from R k [] [] e h = tt
-numbered_from R k [] (y ∷ ys) e h = absurd (omega (arith, e))
-numbered_from R k (x ∷ xs) [] e h = absurd (omega (arith, e))
-numbered_from R k (x ∷ xs) (y ∷ ys) e h = (
-  (let n : k + 0 ≡ k = omega arith in subst (λ m. R m x y) n (h 0 x y refl refl)),
-  numbered_from R (suc k) xs ys (omega (arith, e)) (λ i a b p q. (let n : k + suc i ≡ suc k + i = omega arith in subst (λ m. R m a b) n (h (suc i) a b p q))),
-)
 
 -- the same items at the same places
 pub same_list : {A : Type 0} (xs ys : List A) → length xs ≡ length ys → ((i : ℕ) (x y : A) → slice_get xs i ≡ Some x → slice_get ys i ≡ Some y → x ≡ y) → xs ≡ ys

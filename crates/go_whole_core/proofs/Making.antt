@@ -1,9 +1,9 @@
 -- Parts that are made in the order of a plan.
-use Rattle.std.proofs.Common.{◌≡◌, ◌≢◌, ℕ, suc, ◌+◌, ◌<◌, ◌⊎◌, inl, inr, nat_eq, eq-eqb, List, [], ◌∷◌, ◌++◌, length, get_or, take, All, Option, Some, None, refl, sym, ap, subst, ◌∙◌, arith, append_assoc, append-nil}
+use Rattle.std.proofs.Common.{◌≡◌, ◌≢◌, ℕ, suc, ◌+◌, ◌<◌, ◌⊎◌, inl, inr, nat_eq, eq-eqb, List, [], ◌∷◌, ◌++◌, length, get_or, take, Option, Some, None, refl, sym, ap, subst, ◌∙◌, arith, append_assoc, append-nil}
 use Rattle.std.specs.Prelude.{slice_get, slice_set, slice_index, AllPairs, Contains, replicate}
 use Rattle.std.specs.List.{AllZip, IsDistinct}
 use Rattle.std.proofs.lemmas.Bool.{cases_eq, true≢false}
-use Rattle.std.proofs.lemmas.List.{take_more, length-take, length-set, get_or-take, get_or-set_same, get_or-set_other, get_or-replicate, length-replicate, get_or_default, map-append}
+use Rattle.std.proofs.lemmas.List.{take_more, length-take, length-set, get_or-take, get_or-set_same, get_or-set_other, length-replicate, get_or_default, map-append}
 use Rattle.std.proofs.lemmas.List.Elements.{Contains-append_left, Contains-append_right, Contains-push_cases}
 use Rattle.std.proofs.lemmas.Map.Keys.{apart_from_distinct}
 use Rattle.std.proofs.lemmas.Option.{slice_get_within, slice_get-get_or, get_or_from_slice_get}
@@ -15,6 +15,7 @@ use Rattle.go_part_core.specs.graph_core.Zips.{zip_append}
 use Rattle.go_near_core.specs.block_core.declared.imports.Imported.{Imported}
 use Rattle.go_near_core.specs.block_core.Exports.{ExportsModel}
 use Rattle.go_near_core.specs.block_core.Growing.{given_weaker, package_weaker}
+use Rattle.go_near_core.specs.block_core.AllLemmas.{no_number, nothing_at, numbered_from}
 use Rattle.go_near_core.specs.entry_core.Showing.{shown_in, with_shown}
 use Rattle.go_near_core.specs.entry_core.Among.{Among, among_from}
 use Rattle.go_near_core.specs.table_core.Entries.{Entry}
@@ -22,12 +23,13 @@ use Rattle.go_near_core.specs.table_core.Tables.{AreOthers}
 use Rattle.go_near_core.specs.face_core.Packages.{PackageFacesModel, with_faces}
 use Rattle.go_part_core.specs.summary_core.Summaries.{SummaryModel, IsOfOne, path_of}
 use Rattle.go_part_core.specs.summary_core.Views.{exports_told, types_told}
-use Rattle.go_part_core.specs.summary_core.Viewed.{AreElsewhere, AreOfOne, exports_added, faces_added, types_apart}
+use Rattle.go_part_core.specs.summary_core.Telling.{of_one}
+use Rattle.go_part_core.specs.summary_core.Viewed.{AreElsewhere, exports_added, faces_added, types_apart}
 use Rattle.go_whole_core.specs.LocalLaws.{CheckIsLocal, ImportsBindTheirs}
 use Rattle.go_part_core.specs.Inputs.{InputModel}
 use Rattle.go_part_core.specs.Parts.{ContentOf, IsMade, IsPart, PartModel, seen_with}
 use Rattle.go_whole_core.specs.Inputs.{AreParts, ComesTo, IsInputOf, IsPartOf, Shown, Tells}
-use Rattle.go_whole_core.proofs.Lists.{all_from_among, numbered_from, one_at, zip_of, zip_to, zip_weaker}
+use Rattle.go_whole_core.proofs.Lists.{all_from_among, one_at, zip_of, zip_to, zip_weaker}
 use Rattle.go_whole_core.proofs.Told.{AreWell, NoneIsOf}
 use Rattle.go_whole_core.proofs.Beside.{one_place}
 use Rattle.go_whole_core.specs.mirrors.Steps.{AreMade, IsRight, IsSeen}
@@ -59,16 +61,6 @@ module _ (ps : List PackageModel) (parts more : List (Option PartModel)) (grows 
 
   pub right_grows : (n : ℕ) (part : PartModel) → IsRight ps parts n part → IsRight ps more n part
   right_grows n part h = record { numbered = h.numbered; assembled = h.assembled; input = input_grow n part.input.source part.input h.input; made = h.made }
-
-no_number : (i : ℕ) → Contains [] i → ⊥
-no_number i h = omega (arith, h.1)
-
-nothing_at : {A : Type 0} (n : ℕ) (xs : List (Option A)) (i : ℕ) (x : A) → xs ≡ replicate n None → slice_get xs i ≡ Some (Some x) → ⊥
-nothing_at {A} n xs i x is h =
-    let at : slice_get (replicate n None) i ≡ Some (Some x) = sym (ap (λ l. slice_get l i) is) ∙ h in
-    let lt : i < n = omega (arith, slice_get_within _ i _ at, length-replicate {A = Option A} n None) in
-    let e : None ≡ Some x = sym (get_or-replicate n i None (Some x) lt) ∙ get_or_from_slice_get _ i (Some x) (Some x) at in
-    cc
 
 -- none are made in the beginning
 pub none_made : (ps : List PackageModel) (parts : List (Option PartModel)) → parts ≡ replicate (length ps) None → AreMade ps [] parts []
@@ -179,24 +171,20 @@ types_push : (ss : List SummaryModel) (s : SummaryModel) → types_told ss ++ s.
 types_push [] s = sym (append-nil s.types.entries)
 types_push (t ∷ ss) s = append_assoc t.types.entries (types_told ss) s.types.entries ∙ ap (λ l. t.types.entries ++ l) (types_push ss s)
 
-each_of_one : (ss : List SummaryModel) → All IsOfOne ss → AreOfOne ss
-each_of_one [] h = tt
-each_of_one (s ∷ ss) h = (h 0 s (omega arith), each_of_one ss (λ k d lt. h (suc k) d (omega (arith, lt))))
-
 each_elsewhere : (ss : List SummaryModel) (path : List ℕ) → NoneIsOf ss path → AreElsewhere ss path
 each_elsewhere [] path h = tt
 each_elsewhere (s ∷ ss) path h = ((λ e. h 0 s (omega arith) (sym e)), each_elsewhere ss path (λ k d lt. h (suc k) d (omega (arith, lt))))
 
 -- no type that is seen is of a package of which nothing is told
 pub others_seen : (ss : List SummaryModel) (path : List ℕ) (types : List Entry) → AreWell ss → NoneIsOf ss path → types ≡ types_told ss → AreOthers path types
-others_seen ss path types well none is = subst (AreOthers path) (sym is) (types_apart ss path (each_of_one ss well.own) (each_elsewhere ss path none))
+others_seen ss path types well none is = subst (AreOthers path) (sym is) (types_apart ss path (of_one ss well.own) (each_elsewhere ss path none))
 
 pub seen_more : (ss : List SummaryModel) (s : SummaryModel) (types more : List Entry) (shown others : List ExportsModel) (faces told : List PackageFacesModel) → AreWell ss → IsOfOne s → NoneIsOf ss (path_of s) → IsSeen ss types shown faces
     → more ≡ types ++ s.types.entries → others ≡ with_shown shown s.exports → told ≡ with_faces faces s.faces → IsSeen (ss ++ s ∷ []) more others told
 seen_more ss s types more shown others faces told well one none seen a b c = record {
   types_are = a ∙ (ap (λ l. l ++ s.types.entries) seen.types_are ∙ types_push ss s);
   shown_are = b ∙ (ap (λ l. with_shown l s.exports) seen.shown_are ∙ (exports_added ss s.exports (each_elsewhere ss (path_of s) none) ∙ sym (map-append (λ (t : SummaryModel). t.exports) ss (s ∷ []))));
-  faces_are = c ∙ (ap (λ l. with_faces l s.faces) seen.faces_are ∙ (faces_added ss s.faces (each_of_one ss well.own) (subst (AreElsewhere ss) (sym one.faces) (each_elsewhere ss (path_of s) none)) ∙ sym (map-append (λ (t : SummaryModel). t.faces) ss (s ∷ []))));
+  faces_are = c ∙ (ap (λ l. with_faces l s.faces) seen.faces_are ∙ (faces_added ss s.faces (of_one ss well.own) (subst (AreElsewhere ss) (sym one.faces) (each_elsewhere ss (path_of s) none)) ∙ sym (map-append (λ (t : SummaryModel). t.faces) ss (s ∷ []))));
 }
 
 -- the next package of a plan, over what the packages before it tell

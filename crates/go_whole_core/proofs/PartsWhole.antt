@@ -13,6 +13,7 @@ use Rattle.go_near_core.specs.block_core.declared.imports.Imported.{Imported}
 use Rattle.go_near_core.specs.block_core.AllPackages.{IsImported, IsShown}
 use Rattle.go_near_core.specs.block_core.Exports.{ExportsModel}
 use Rattle.go_near_core.specs.block_core.Growing.{given_weaker, package_weaker}
+use Rattle.go_near_core.specs.block_core.AllLemmas.{numbered_from}
 use Rattle.go_near_core.specs.entry_core.Among.{Among}
 use Rattle.go_part_core.specs.summary_core.Summaries.{SummaryModel, IsOfOne}
 use Rattle.go_part_core.specs.summary_core.Views.{exports_told, faces_told, types_told}
@@ -24,7 +25,7 @@ use Rattle.go_part_core.specs.Parts.{AreFilesMade, IsPart, PartModel, package_se
 use Rattle.go_whole_core.specs.Whole.{AreWhole, IsWhole, IsWholeEntry, WholeOf, beside, blocks_in, exports_beside, faces_beside, types_beside, whole_with}
 use Rattle.go_whole_core.specs.Inputs.{AreParts, ComesTo, IsInputOf, IsPartOf, ReachesPackage, Shown}
 use Rattle.go_whole_core.specs.Entries.{IsPartEntry, summary_by}
-use Rattle.go_whole_core.proofs.Lists.{numbered_from, one_at, zip_weaker}
+use Rattle.go_whole_core.proofs.Lists.{one_at, zip_weaker}
 use Rattle.go_whole_core.proofs.Told.{known_by}
 use Rattle.go_whole_core.proofs.Order.{reaches_others}
 use Rattle.go_whole_core.proofs.Beside.{AreSourced, exports_are, faces_are, none_beside, over, some_beside, tell, tell_to, told_of, types_are, well_beside}

@@ -52,7 +52,7 @@ use Rattle.go_near_core.proofs.Functions.{outer_closed, outer_agree}
 use Rattle.go_part_core.specs.ready_core.Laws.{package_placed}
 use Rattle.go_part_core.specs.ready_core.Packages.{PackageIn, scene_in, stand_in}
 use Rattle.go_part_core.specs.ready_core.Values.{AreDeclared, AreLooped, declared_in, decls_in, needs_in, some_decl_face}
-use Rattle.go_part_core.specs.ready_core.Lists.{among_at}
+use Rattle.go_near_core.specs.face_core.Places.{among_at}
 use Rattle.go_part_core.specs.ready_core.ValuesProofs.{needs_same, faces_same}
 use Rattle.go_whole_core.specs.Known.{Known, package_with, type_keys, value_type_keys}
 use Rattle.go_whole_core.proofs.Names.{AllInside, none_inside, one_inside}
@@ -64,7 +64,7 @@ use Rattle.go_near_core.specs.statement_core.Locality.{Each}
 
 -- numbers of a list
 
-is_or_not : (ns : List ℕ) (m : ℕ) → Among ns m ⊎ (Among ns m → ⊥)
+pub is_or_not : (ns : List ℕ) (m : ℕ) → Among ns m ⊎ (Among ns m → ⊥)
 is_or_not [] m = inr (λ h. h)
 is_or_not (n ∷ ns) m = by (eqb n m) refl (is_or_not ns m)
   where
@@ -81,12 +81,12 @@ kept known ns m (inl h) = known m
 kept known ns m (inr other) = None
 
 -- an item of a list of which each is so
-each_at : {X : Type 0} (Is : X → Type 0) (xs : List (Option X)) (n : ℕ) → Each (IfAny Is) xs → IfAny Is (slice_index_or xs n None)
+pub each_at : {X : Type 0} (Is : X → Type 0) (xs : List (Option X)) (n : ℕ) → Each (IfAny Is) xs → IfAny Is (slice_index_or xs n None)
 each_at Is [] n h = tt
 each_at Is (x ∷ xs) zero h = h.0
 each_at Is (x ∷ xs) (suc n) h = each_at Is xs n h.1
 
-mapped_at : {X : Type 0} (Is : X → Type 0) (f : ℕ → Option X) (ns : List ℕ) (n : ℕ) → ((m : ℕ) → IfAny Is (f m)) → IfAny Is (slice_index_or (map f ns) n None)
+pub mapped_at : {X : Type 0} (Is : X → Type 0) (f : ℕ → Option X) (ns : List ℕ) (n : ℕ) → ((m : ℕ) → IfAny Is (f m)) → IfAny Is (slice_index_or (map f ns) n None)
 mapped_at Is f [] n h = tt
 mapped_at Is f (m ∷ ns) zero h = h m
 mapped_at Is f (m ∷ ns) (suc n) h = mapped_at Is f ns n h

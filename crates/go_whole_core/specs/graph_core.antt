@@ -4,9 +4,12 @@ pub use Rattle.go_part_core.specs.graph_core.AssemblyLaws as AssemblyLaws
 pub use Rattle.go_part_core.specs.graph_core.Contents as Contents
 pub use Rattle.go_part_core.specs.graph_core.Imports as Imports
 pub use Rattle.go_part_core.specs.graph_core.Lists as Lists
+pub use Rattle.go_part_core.specs.graph_core.OutcomeLaws as OutcomeLaws
 pub use Rattle.go_part_core.specs.graph_core.Packages as Packages
+pub use Rattle.go_part_core.specs.graph_core.Places as Places
 pub use Rattle.go_part_core.specs.graph_core.PlanLaws as PlanLaws
 pub use Rattle.go_part_core.specs.graph_core.Plans as Plans
+pub use Rattle.go_part_core.specs.graph_core.Reading as Reading
 pub use Rattle.go_part_core.specs.graph_core.Sources as Sources
 pub use Rattle.go_part_core.specs.graph_core.Workspaces as Workspaces
 pub use Rattle.go_part_core.specs.graph_core.Zips as Zips

@@ -47,8 +47,8 @@ pub mod graph_core {
 /// What the crates above name of `go_part_core`.
 pub mod part_core {
     pub use go_part_core::{
-        Part, PartInput, Parts, close_parts, close_summaries, close_types, close_view,
-        compile_over, compile_part, one_part, part_has_occurrences, same_imports,
+        Part, PartInput, Parts, compile_over, compile_part, one_part, part_has_occurrences,
+        same_imports,
     };
 }
 

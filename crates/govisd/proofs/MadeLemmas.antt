@@ -1,11 +1,11 @@
 -- Texts that are made before they are written.
-use Rattle.std.proofs.Common.{◌≡◌, inl, inr, ℕ, List, Option, Some, None, Result, Ok, Err, IfOk, Bor, refl, sym, subst}
+use Rattle.std.proofs.Common.{◌≡◌, inl, inr, ℕ, List, Option, Some, None, Result, Ok, Err, IfOk, Bor, sym, subst}
 use Rattle.std.specs.Prelude.{option_map, string_bytes}
-use Rattle.std.specs.Io.KnownBytes.{Keeps}
 use Rattle.std.specs.declared.string.String.{String}
 use Rattle.govisd.specs.declared.program.Ran.{Ran}
 use Rattle.go_explain_core.specs.Naming.{rule_of_number}
 use Rattle.go_explain_core.specs.Telling.{unknown_text}
+use Rattle.govisd_core.proofs.OutputLemmas.{keeps_same}
 use Rattle.govisd.specs.Runs.{Explains, ExplainsFound, Helps, HelpsFound, RefusesMade, RefusesName, SaysText}
 use Rattle.govisd.specs.Texts.{help_of, unknown_command_text}
 
@@ -13,10 +13,6 @@ use Rattle.govisd.specs.Texts.{help_of, unknown_command_text}
 refused : {Z E : Type 0} (made : Result (String Z) E) (text : List ℕ) (ran : Ran) (err err' : Option (List ℕ)) → IfOk made (λ t. string_bytes t ≡ text) → RefusesMade made ran err err' → RefusesName text ran err err'
 refused (Ok t) text ran err err' is h = inl (h.0, subst (λ l. SaysText ran.is_told l err err') is h.1)
 refused (Err e) text ran err err' is h = inr h
-
-keeps_same : (known : Option (List ℕ)) → Keeps known known
-keeps_same None = tt
-keeps_same (Some bytes) = refl
 
 module _ {Z E : Type 0} (made : Result (String Z) E) (ran : Ran) (out err err' : Option (List ℕ)) where
   -- no rule has a name

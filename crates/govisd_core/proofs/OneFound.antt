@@ -47,7 +47,7 @@ one_list R f k (a ∷ zs) (x ∷ xs) (y ∷ ys) r s = ap (λ z. z ∷ xs) (f k a
 
 -- the workspace of a file is one
 
-letter_there : (b : ℕ) → 97 ≤ b → b ≤ 122 → IsPathByte b
+pub letter_there : (b : ℕ) → 97 ≤ b → b ≤ 122 → IsPathByte b
 letter_there b low high = inr (inl (low, high))
 
 all_none : {A : Type 0} (P : A → Type 0) → All P []

@@ -12,7 +12,7 @@ pub record SentFirst (old new : Option (List ℕ)) (bytes rest : List ℕ) : Typ
   pub whole : bytes ≡ sent ++ rest
   pub writes : Appends old new sent
 
-appends_none : (known : Option (List ℕ)) → Appends known known []
+pub appends_none : (known : Option (List ℕ)) → Appends known known []
 appends_none None = tt
 appends_none (Some xs) = sym (append-nil xs)
 
@@ -22,7 +22,7 @@ appends_more (Some xs) None new bs cs h k = absurd h
 appends_more (Some xs) (Some ys) None bs cs h k = absurd k
 appends_more (Some xs) (Some ys) (Some zs) bs cs h k = k ∙ (ap (λ l. l ++ cs) h ∙ append_assoc xs bs cs)
 
-appends_kept : (old mid new : Option (List ℕ)) (bs : List ℕ) → Appends old mid bs → Keeps mid new → Appends old new bs
+pub appends_kept : (old mid new : Option (List ℕ)) (bs : List ℕ) → Appends old mid bs → Keeps mid new → Appends old new bs
 appends_kept None mid new bs h k = tt
 appends_kept (Some xs) None new bs h k = absurd h
 appends_kept (Some xs) (Some ys) None bs h k = absurd k
@@ -53,7 +53,7 @@ sent_part old mid new bytes rest before some kept = (
   subst (Appends old new) (sym (ap (take (length before.sent)) before.whole ∙ take_at before.sent rest (length before.sent) refl)) (appends_kept old mid new before.sent before.writes kept),
 )
 
-keeps_same : (known : Option (List ℕ)) → Keeps known known
+pub keeps_same : (known : Option (List ℕ)) → Keeps known known
 keeps_same None = tt
 keeps_same (Some xs) = refl
 

@@ -43,10 +43,7 @@ pub(crate) fn workspace_of(alloc: Global, text: String) -> Result<Workspace, All
     let mut workspace = Workspace::empty(alloc);
     match workspace.put(alloc, &path, files) {
         Ok(()) => Ok(workspace),
-        Err(_) => {
-            workspace.close();
-            Err(AllocError)
-        }
+        Err(_) => Err(AllocError),
     }
 }
 
@@ -69,7 +66,7 @@ fn imported_at(plan: &Plan, import: usize) -> Imported
 }
 
 // What the imports of the one file come to, in order of place.
-fn imports_of(alloc: Global, plan: &Plan, tree: &File) -> Result<Vec<Imported>, AllocError>
+fn file_imports(alloc: Global, plan: &Plan, tree: &File) -> Result<Vec<Imported>, AllocError>
     requires { AreRefusedIn plan.now.outcomes (file_of tree.now) }
     ensures { IfOk result (λ imports. AreInFile (IsGivenIn plan.now.outcomes) 0 0 (file_of tree.now) imports.items) }
 {
@@ -91,7 +88,7 @@ fn imports_alone(
     ensures { IfOk result (λ imports. AreRefusedAlone workspace.now (file_of tree.now) (map imported_in imports.items)) }
 {
     let plan = plan_imports(alloc, workspace)?;
-    let of_file = imports_of(alloc, &plan, tree)?;
+    let of_file = file_imports(alloc, &plan, tree)?;
     let mut imports = Vec::new(alloc);
     add(&mut imports, of_file)?;
     Ok(imports)
@@ -108,9 +105,7 @@ fn compile_alone(
 {
     let reached = ReachedSummaries::none(alloc);
     let input = PartInput::new(alloc, package, imports, reached)?;
-    let part = compile_part(alloc, &input);
-    input.close();
-    part
+    compile_part(alloc, &input)
 }
 
 /// The part of the one package of a workspace, whose one file has this tree.
@@ -127,11 +122,6 @@ pub(crate) fn part_of(
     requires { IsOwn workspace.now «package» (file_of tree.now) }
     ensures { IfOk result (λ p. IsInputIn workspace.now «package» (file_of tree.now) p.input) }
 {
-    match imports_alone(alloc, workspace, tree) {
-        Ok(imports) => compile_alone(alloc, package, imports),
-        Err(AllocError) => {
-            package.close();
-            Err(AllocError)
-        }
-    }
+    let imports = imports_alone(alloc, workspace, tree)?;
+    compile_alone(alloc, package, imports)
 }

@@ -3,6 +3,7 @@ ghost use Rattle.std.specs.Prelude.{◌≡◌, ◌≤◌, ◌<◌, take, IfOk, I
 ghost use Rattle.std.specs.Io.KnownBytes.{Consumes};
 ghost use Rattle.govisd_core.specs.Inputs.{ReadsBehind, IsUninterrupted, ReadsUpTo};
 
+use crate::failing::is_interruption;
 use std::alloc::Global;
 use std::io::{ErrorKind, Read};
 
@@ -35,7 +36,7 @@ fn read_part<R: Read>(reader: &mut R, bytes: &mut Vec<u8>, room: usize) -> Resul
     let mut buffer = [0u8; PIECE];
     let part = &mut buffer[..room];
     match reader.read(part) {
-        Err(error) if error.kind() == ErrorKind::Interrupted => Ok(true),
+        Err(error) if is_interruption(error.kind()) => Ok(true),
         Err(error) => Err(InputFault::Reader(error.kind())),
         Ok(count) => match bytes.extend_from_slice(&part[..count]) {
             Ok(()) => Ok(count > 0),

@@ -2,6 +2,7 @@
 #![tactic(auto)]
 
 mod alone;
+mod failing;
 mod input;
 mod laws;
 mod output;

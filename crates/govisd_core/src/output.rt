@@ -2,6 +2,7 @@
 ghost use Rattle.std.specs.Prelude.{◌<◌, length};
 ghost use Rattle.govisd_core.specs.Outputs.{IsPartWritten, IsWrittenOut};
 
+use crate::failing::is_interruption;
 use std::io::{ErrorKind, Write};
 
 // The most writes that are made.
@@ -15,7 +16,7 @@ fn write_part<W: Write>(writer: &mut W, bytes: &[u8]) -> Result<usize, ErrorKind
     match writer.write(bytes) {
         Ok(0) => Err(ErrorKind::WriteZero),
         Ok(count) => Ok(count),
-        Err(error) if error.kind() == ErrorKind::Interrupted => Ok(0),
+        Err(error) if is_interruption(error.kind()) => Ok(0),
         Err(error) => Err(error.kind()),
     }
 }

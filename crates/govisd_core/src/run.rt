@@ -89,9 +89,7 @@ fn tree_report(
     match assemble(source) {
         Ok(package) => {
             let part = part_of(alloc, workspace, tree, package)?;
-            let report = part_report(alloc, file.name(), tree, &part);
-            part.close();
-            report
+            part_report(alloc, file.name(), tree, &part)
         }
         Err(fault) => fault_report(alloc, fault.offset, fault.rule),
     }
@@ -121,9 +119,7 @@ fn text_report(alloc: Global, text: String) -> Result<Report, AllocError>
     let workspace = workspace_of(alloc, text)?;
     let packages = workspace.packages();
     let files = packages[0].files();
-    let report = file_report(alloc, &workspace, &files[0]);
-    workspace.close();
-    report
+    file_report(alloc, &workspace, &files[0])
 }
 
 // The report on bytes that may be too many, or no text.

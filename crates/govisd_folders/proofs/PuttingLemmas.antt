@@ -1,6 +1,5 @@
 -- Folders that are put one behind another.
-use Rattle.std.proofs.Common.{◌≡◌, ◌∙◌, ℕ, List, [], ◌∷◌, ◌++◌, length, map, inl, inr, Some, None, Result, Ok, Err, OnOk, refl, sym, ap, subst, arith}
-use Rattle.std.proofs.lemmas.List.{append-nil}
+use Rattle.std.proofs.Common.{◌≡◌, ◌∙◌, ℕ, List, [], ◌∷◌, ◌++◌, inl, inr, Some, None, Result, Ok, Err, OnOk, refl, sym, subst}
 use Rattle.go_text_core.specs.declared.rule.Rule.TheVariants.{E1}
 use Rattle.go_path_core.specs.Path.{IsPath}
 use Rattle.go_folder_core.specs.Folders.{joined_path}
@@ -12,15 +11,6 @@ use Rattle.govisd_folders.specs.Puts.{ArePut, FolderModel, IsPathOf, IsPut, Stat
 pub put_more : (own : List ℕ) (fs : List FolderModel) (f : FolderModel) (old mid new : StateModel) → ArePut own fs old mid → IsPut own f mid new → ArePut own (fs ++ f ∷ []) old new
 put_more own [] f old mid new h is = (new, subst (λ s. IsPut own f s new) h is, refl)
 put_more own (g ∷ fs) f old mid new h is = (h.0, h.1, put_more own fs f h.0 mid new h.2 is)
-
--- nothing is left to be put
-pub drained : {X : Type 0} (yielded rest all : List X) → length rest ≡ 0 → yielded ++ rest ≡ all → yielded ≡ all
-drained yielded [] all h e = sym (append-nil yielded) ∙ e
-drained yielded (x ∷ xs) all h e = absurd (omega (arith, h))
-
-pub map_last : {X Y : Type 0} (f : X → Y) (xs : List X) (x : X) → map f (xs ++ x ∷ []) ≡ map f xs ++ f x ∷ []
-map_last f [] x = refl
-map_last f (y ∷ xs) x = ap (λ l. f y ∷ l) (map_last f xs x)
 
 module _ (own folder : List ℕ) (files : List (List ℕ × List ℕ)) (ps : List PackageModel) where
   -- the files of a folder whose path is one are put

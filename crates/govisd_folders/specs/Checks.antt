@@ -9,7 +9,7 @@ use Rattle.go_snap_core.specs.declared.fault.PlacedFault.{PlacedFault}
 use Rattle.go_snap_core.specs.part_core.Parts.{PartModel}
 use Rattle.go_snap_core.specs.Snapshots.{IsSnapshot}
 use Rattle.govisd_folders.specs.declared.checking.CheckAnswer.{CheckAnswer}
-use Rattle.govisd_folders.specs.Notes.{note_line, passed_line, refusal_line, shown_name, wants_memory}
+use Rattle.govisd_folders.specs.Notes.{note_line, passed_line, refusal_line, name_or_quotes, wants_memory}
 use Rattle.govisd_folders.specs.Puts.{ArePut, FolderModel}
 use Rattle.govisd_folders.specs.Telling.{AreTold}
 
@@ -27,7 +27,7 @@ pub record NothingIsChecked (said : List ℕ) (a : CheckAnswer) : Type 0 where
 
 -- why nothing was checked of what has a name
 abbrev pub refused_line : List ℕ → List ℕ → List ℕ
-refused_line name why = note_line (shown_name name) why
+refused_line name why = note_line (name_or_quotes name) why
 
 -- it is said why the folder cannot be read, which is not that memory was wanting
 pub record FolderIsUnread (folder : List ℕ) (kind : ErrorKind) (a : CheckAnswer) : Type 0 where
@@ -75,7 +75,7 @@ module_option = codes "--module"
 
 -- what is said where a path is none of a module
 abbrev pub no_module_text : List ℕ → List ℕ
-no_module_text own = refusal_line (shown_name own) O2 ++ refused_line module_option (codes "gives the path of the module, as in --module example.com/mine")
+no_module_text own = refusal_line (name_or_quotes own) O2 ++ refused_line module_option (codes "gives the path of the module, as in --module example.com/mine")
 
 -- the answer on a module: its path is none, and is refused, or folders were read
 abbrev pub IsAnswerBelow : List ℕ → Bool → List ℕ → CheckAnswer → Type 0

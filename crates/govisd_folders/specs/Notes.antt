@@ -11,9 +11,9 @@ abbrev pub note_line : List ℕ → List ℕ → List ℕ
 note_line path what = codes "govisd: " ++ path ++ codes ": " ++ what ++ codes "\n"
 
 -- a name as it is said: two quotation marks stand for that of no bytes
-abbrev pub shown_name : List ℕ → List ℕ
-shown_name [] = codes "\"\""
-shown_name (b ∷ bs) = b ∷ bs
+abbrev pub name_or_quotes : List ℕ → List ℕ
+name_or_quotes [] = codes "\"\""
+name_or_quotes (b ∷ bs) = b ∷ bs
 
 -- memory was wanting
 abbrev pub wants_memory : ErrorKind → Bool

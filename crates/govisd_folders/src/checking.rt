@@ -7,7 +7,7 @@ ghost use Rattle.govisd_folders.specs.Checks.{IsAnswerOfCheck, IsAnswerOnFolder,
 ghost use Rattle.go_snap_core.specs.Snapshots.{IsSnapshot};
 ghost use Rattle.govisd_folders.specs.Puts.{folder_of};
 
-use crate::notes::{note, note_rule, passed_text, push, shown_name, why_unread};
+use crate::notes::{name_or_quotes, note, note_rule, passed_text, push, why_unread};
 use crate::progress::Progress;
 use crate::putting::put_all;
 use crate::reading::{FolderFiles, FoundFolders, found_below};
@@ -91,9 +91,7 @@ fn check_workspace(
     ensures { IfOk result (λ a. WorkspaceIsChecked json module_path.now workspace.now notes.now passed.now a) }
 {
     let snapshot = compile(alloc, workspace)?;
-    let answer = answer_from(alloc, json, module_path, &snapshot, notes, passed);
-    snapshot.close();
-    answer
+    answer_from(alloc, json, module_path, &snapshot, notes, passed)
 }
 
 // Nothing is checked, for a reason of what has a name. That stands behind what is said already.
@@ -101,7 +99,7 @@ fn refused(alloc: Global, said: String, name: &str, why: &str) -> Result<CheckAn
     ensures { IfOk result (NothingIsChecked (string_bytes said ++ refused_line name.now why.now)) }
 {
     let mut said = said;
-    note(&mut said, shown_name(name), why)?;
+    note(&mut said, name_or_quotes(name), why)?;
     Ok(CheckAnswer {
         status: 2,
         text: String::new(alloc),
@@ -149,21 +147,16 @@ fn check_found(
 {
     let mut notes = left_out;
     let mut workspace = Workspace::empty(alloc);
-    let Ok(()) = put_all(
+    put_all(
         alloc,
         &mut workspace,
         &mut notes,
         progress,
         module_path,
         found,
-    ) else {
-        workspace.close();
-        return Err(AllocError);
-    };
+    )?;
     progress.check(workspace.packages().len());
-    let answer = answer_on(alloc, order, module_path, &workspace, notes, passed);
-    workspace.close();
-    answer
+    answer_on(alloc, order, module_path, &workspace, notes, passed)
 }
 
 // Checks the folder at a path, below a module.
@@ -228,7 +221,7 @@ fn refuse_module(alloc: Global, module_path: &str) -> Result<CheckAnswer, AllocE
     ensures { IfOk result (NothingIsChecked (no_module_text module_path.now)) }
 {
     let mut said = String::new(alloc);
-    note_rule(&mut said, shown_name(module_path), Rule::O2)?;
+    note_rule(&mut said, name_or_quotes(module_path), Rule::O2)?;
     refused(
         alloc,
         said,

@@ -1,7 +1,7 @@
 //! What is said beside the answer: lines, each of which names what lies at a path.
 ghost use Rattle.std.specs.Prelude.{◌≡◌, ◌++◌, IfOk, OnOk, decimal, false, string_bytes};
 ghost use Rattle.std.specs.IoError.{error_kind};
-ghost use Rattle.govisd_folders.specs.Notes.{SaysUnread, counts_line, none_passed, note_line, passed_line, refusal_line, shown_name, wants_memory};
+ghost use Rattle.govisd_folders.specs.Notes.{SaysUnread, counts_line, none_passed, note_line, passed_line, refusal_line, name_or_quotes, wants_memory};
 
 use go_explain_core::meaning;
 use go_text_core::Rule;
@@ -47,8 +47,8 @@ pub fn note(notes: &mut String, path: &str, what: &str) -> Result<(), AllocError
 }
 
 /// A name as it is said: two quotation marks stand for that of no bytes.
-pub fn shown_name(name: &str) -> &str
-    ensures { result.now ≡ shown_name name.now }
+pub fn name_or_quotes(name: &str) -> &str
+    ensures { result.now ≡ name_or_quotes name.now }
 {
     if name.is_empty() {
         return "\"\"";

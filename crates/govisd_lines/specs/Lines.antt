@@ -6,10 +6,8 @@ use Rattle.std.specs.Option.{unwrap_or}
 use Rattle.go_text_core.specs.Rules.{rule_number}
 use Rattle.go_universe_core.specs.Universe.{spelling_of}
 use Rattle.go_tree_nodes.specs.Trees.{FileTree}
-use Rattle.go_answer_core.specs.tree_core.declared.occurrence.Role.{Role}
-use Rattle.go_answer_core.specs.tree_core.declared.occurrence.Role.TheVariants as roles
 use Rattle.go_answer_core.specs.tree_core.declared.occurrence.Occ.{Occ}
-use Rattle.go_answer_core.specs.tree_core.Occurrences.{file_occs}
+use Rattle.go_answer_core.specs.tree_core.Occurrences.{file_occs, role_word}
 use Rattle.go_term_core.specs.decl_core.declared.places.Place.{Place}
 use Rattle.go_term_core.specs.decl_core.Outer.{places_of}
 use Rattle.go_term_core.specs.decl_core.Table.{offset_of}
@@ -20,16 +18,6 @@ use Rattle.go_answer_core.specs.denote_core.declared.things.Outcome.{Outcome}
 use Rattle.go_answer_core.specs.denote_core.declared.things.Outcome.TheVariants as outcomes
 use Rattle.go_answer_core.specs.expr_core.declared.things.Use.{Use}
 use Rattle.go_answer_core.specs.expr_core.declared.things.Fault.{Fault}
-
-abbrev pub role_text : Role → List ℕ
-role_text roles.Import = codes "import"
-role_text roles.«Type» = codes "type"
-role_text roles.«Value» = codes "value"
-role_text roles.Callee = codes "callee"
-role_text roles.Qualifier = codes "qualifier"
-role_text (roles.Selector usage) = codes "selector"
-role_text roles.Key = codes "key"
-role_text roles.Call = codes "call"
 
 -- an identifier of a file of the package of a path, by its offset
 abbrev pub place_text : List ℕ → List ℕ → ℕ → List ℕ
@@ -56,7 +44,7 @@ answer_text name ps (outcomes.Refused rule) = rule_number rule
 -- OFFSET ROLE TEXT ANSWER
 abbrev pub occurrence_line : List ℕ → List Place → Occ → Use Declaration (List ℕ) → List ℕ
 occurrence_line name ps o u =
-    decimal o.span.start ++ codes " " ++ role_text o.role ++ codes " " ++ o.spelling ++ codes " " ++ answer_text name ps u.outcome ++ codes "\n"
+    decimal o.span.start ++ codes " " ++ role_word o.role ++ codes " " ++ o.spelling ++ codes " " ++ answer_text name ps u.outcome ++ codes "\n"
 
 -- of each occurrence, with what it has
 abbrev pub occurrence_lines : List ℕ → List Place → List Occ → List (Use Declaration (List ℕ)) → List ℕ

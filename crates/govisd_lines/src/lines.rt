@@ -1,7 +1,7 @@
 //! The lines of a file.
 ghost use Rattle.std.specs.Prelude.{◌≡◌, ◌++◌, flat_map, IfOk, OnOk};
 ghost use Rattle.go_tree_nodes.specs.Shapes.{file_of};
-ghost use Rattle.govisd_lines.specs.Lines.{answer_text, fault_line, file_lines, occurrence_line, occurrence_lines, role_text};
+ghost use Rattle.govisd_lines.specs.Lines.{answer_text, fault_line, file_lines, occurrence_line, occurrence_lines};
 ghost use Rattle.go_tree_nodes.specs.Spelling.{IsPlaced};
 
 use crate::bytes::{push, push_number};
@@ -9,25 +9,10 @@ use crate::places::push_declaration;
 use go_answer_core::Answer;
 use go_answer_core::denote_core::Outcome;
 use go_answer_core::expr_core::Fault;
-use go_answer_core::tree_core::{Occ, Role, occurrences};
+use go_answer_core::tree_core::{Occ, occurrences};
 use go_term_core::decl_core::{Places, outline};
 use go_tree_nodes::File;
 use std::alloc::{AllocError, Global};
-
-fn role_name(role: Role) -> &'static str
-    ensures { result.now ≡ role_text role }
-{
-    match role {
-        Role::Import => "import",
-        Role::Type => "type",
-        Role::Value => "value",
-        Role::Callee => "callee",
-        Role::Qualifier => "qualifier",
-        Role::Selector(_) => "selector",
-        Role::Key => "key",
-        Role::Call => "call",
-    }
-}
 
 // Adds what an occurrence has.
 fn push_answer(
@@ -57,7 +42,7 @@ fn push_occurrence(
 {
     push_number(out, occ.span.start as usize)?;
     push(out, b" ")?;
-    push(out, role_name(occ.role).as_bytes())?;
+    push(out, occ.role.word().as_bytes())?;
     push(out, b" ")?;
     push(out, occ.spelling.as_str().as_bytes())?;
     push(out, b" ")?;

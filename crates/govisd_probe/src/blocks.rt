@@ -8,7 +8,7 @@ use std::alloc::Global;
 
 /// A package with its blocks, among all packages.
 #[derive(Clone, Copy)]
-pub struct Place<'a> {
+pub struct PackageBlocks<'a> {
     pub packages: &'a [Named],
     pub package: &'a Named,
     pub blocks: &'a Blocks,
@@ -19,9 +19,9 @@ pub fn place_of<'a>(
     packages: &'a [Named],
     all: &'a [Option<Blocks>],
     number: usize,
-) -> Option<Place<'a>> {
+) -> Option<PackageBlocks<'a>> {
     match (packages.get(number), all.get(number)) {
-        (Some(package), Some(Some(blocks))) => Some(Place {
+        (Some(package), Some(Some(blocks))) => Some(PackageBlocks {
             packages,
             package,
             blocks,
@@ -113,7 +113,7 @@ pub fn add_target(out: &mut Lines, packages: &[Named], target: &Target) {
 
 /// Adds the blocks of a package, and the faults in them: the names of the package block, each with its kind and its place; the names that hold in the
 /// blocks of the files, of each the place of its import, and what it denotes; and the faults.
-pub fn add_blocks(out: &mut Lines, alloc: Global, place: Place<'_>) {
+pub fn add_blocks(out: &mut Lines, alloc: Global, place: PackageBlocks<'_>) {
     match place.blocks.names(alloc) {
         Ok(names) => {
             for named in &names {

@@ -3,7 +3,7 @@ ghost use Rattle.go_tree_nodes.specs.Shapes.{file_of, func_of};
 ghost use Rattle.go_local_core.specs.Tables.{IsFuncPlaced};
 ghost use Rattle.go_tree_nodes.specs.Spelling.{IsPlaced};
 
-use crate::blocks::{Place, kind_word};
+use crate::blocks::{PackageBlocks, kind_word};
 use go_graph_core::PackageSource;
 use go_names_core::{Denoted, Outside, function_names};
 use go_tree_nodes::{Decl, File, FuncDecl};
@@ -32,7 +32,7 @@ fn add_denoted(out: &mut Lines, package: &Named, file: usize, denoted: Option<De
 fn add_function(
     out: &mut Lines,
     alloc: Global,
-    place: Place<'_>,
+    place: PackageBlocks<'_>,
     file: usize,
     text: &str,
     func: &FuncDecl,
@@ -60,7 +60,7 @@ fn add_function(
 fn add_file_names(
     out: &mut Lines,
     alloc: Global,
-    place: Place<'_>,
+    place: PackageBlocks<'_>,
     file: usize,
     text: &str,
     tree: &File,
@@ -75,7 +75,7 @@ fn add_file_names(
 }
 
 /// Adds the names of the functions of a package.
-pub fn add_names(out: &mut Lines, alloc: Global, place: Place<'_>, source: &PackageSource) {
+pub fn add_names(out: &mut Lines, alloc: Global, place: PackageBlocks<'_>, source: &PackageSource) {
     let mut number = 0usize;
     for file in source.files() {
         if let Ok(tree) = file.tree() {

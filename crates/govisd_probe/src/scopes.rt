@@ -1,7 +1,7 @@
 //! What names denote in the files of a workspace.
 ghost use Rattle.std.specs.Prelude.{◌<◌, length};
 
-use crate::blocks::{Place, add_decl, add_target, place_of};
+use crate::blocks::{PackageBlocks, add_decl, add_target, place_of};
 use crate::words::pair;
 use go_block_core::Blocks;
 use go_scope_core::{DeclId, InScope, Scopes, ShortDecl, ShortName};
@@ -10,7 +10,7 @@ use govisd_show::{Lines, Named, member_place};
 use std::alloc::{AllocError, Global};
 
 /// Adds a name, and what it denotes in a file.
-fn add_found(out: &mut Lines, place: Place<'_>, scopes: &Scopes<'_>, name: &str) {
+fn add_found(out: &mut Lines, place: PackageBlocks<'_>, scopes: &Scopes<'_>, name: &str) {
     out.pieces(&[name, " "]);
     match scopes.find(name) {
         None => out.line("nothing"),
@@ -116,7 +116,7 @@ fn add_block(out: &mut Lines, alloc: Global, scopes: &mut Scopes<'_>, words: &st
 fn add_both(
     out: &mut Lines,
     alloc: Global,
-    place: Place<'_>,
+    place: PackageBlocks<'_>,
     inside: &Scopes<'_>,
     outside: &Scopes<'_>,
 ) {
@@ -136,7 +136,7 @@ fn add_both(
 fn add_inner(
     out: &mut Lines,
     alloc: Global,
-    place: Place<'_>,
+    place: PackageBlocks<'_>,
     scopes: &mut Scopes<'_>,
     words: &str,
 ) {
@@ -171,7 +171,13 @@ fn add_names(out: &mut Lines, alloc: Global, scopes: &Scopes<'_>) {
 
 /// Adds the answer to what is asked of a file of a package: what a name denotes there, or without a name the names that denote something there, or
 /// behind `{` what they denote in blocks of a function.
-fn add_in_package(out: &mut Lines, alloc: Global, place: Place<'_>, file: &str, asked: &str) {
+fn add_in_package(
+    out: &mut Lines,
+    alloc: Global,
+    place: PackageBlocks<'_>,
+    file: &str,
+    asked: &str,
+) {
     let mut number = 0usize;
     for named in &place.package.files {
         if named.name.as_str() == file {

@@ -1,7 +1,7 @@
 //! What is answered of trees.
 use crate::tokens::add_comments;
 use go_parse_core::{ParseError, Parsed, parse, tree_of};
-use go_tree_core::{Role, Usage, at, close, copy, occurrences};
+use go_tree_core::{Role, Usage, at, copy, occurrences};
 use go_tree_nodes::{Decl, File};
 use govisd_show::Lines;
 use std::alloc::Global;
@@ -72,13 +72,9 @@ fn add_copies(out: &mut Lines, alloc: Global, parsed: &Parsed) {
         Err(_) => out.cut(),
     }
     match copy(alloc, copied.tree()) {
-        Ok(tree) => {
-            add_file(out, &tree);
-            close(tree);
-        }
+        Ok(tree) => add_file(out, &tree),
         Err(_) => out.cut(),
     }
-    copied.close();
 }
 
 /// Adds how many of a text's beginnings have a tree, nothing and the whole text among them.
@@ -88,10 +84,7 @@ pub fn add_prefixes(out: &mut Lines, alloc: Global, text: &str) {
         // Inside a character there is no prefix.
         if let Some(prefix) = text.get(..end) {
             match tree_of(alloc, prefix) {
-                Ok(tree) => {
-                    close(tree);
-                    count = count.saturating_add(1);
-                }
+                Ok(_) => count = count.saturating_add(1),
                 Err(ParseError::Memory) => out.cut(),
                 Err(ParseError::Fault(_)) => {}
             }
@@ -115,15 +108,12 @@ pub fn add_answer(out: &mut Lines, alloc: Global, kind: &str, text: &str) {
         return out.cut();
     };
     match parse(alloc, file) {
-        Ok(parsed) => {
-            match kind {
-                "uses" => add_uses(out, alloc, parsed.tree()),
-                "places" => add_places(out, &parsed),
-                "copies" => add_copies(out, alloc, &parsed),
-                _ => out.line("tree"),
-            }
-            parsed.close();
-        }
+        Ok(parsed) => match kind {
+            "uses" => add_uses(out, alloc, parsed.tree()),
+            "places" => add_places(out, &parsed),
+            "copies" => add_copies(out, alloc, &parsed),
+            _ => out.line("tree"),
+        },
         Err(ParseError::Memory) => out.cut(),
         Err(ParseError::Fault(fault)) => out.fault(fault.rule, fault.offset),
     }

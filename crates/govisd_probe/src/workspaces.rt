@@ -9,9 +9,7 @@ use go_block_core::workspace_blocks;
 use go_graph_core::{ImportAt, Plan, Workspace, plan_imports};
 use go_path_core::Module;
 use go_text_core::Rule;
-use govisd_show::{
-    Lines, Named, add_counts, add_files, add_package, close_names, name_packages, put_archive,
-};
+use govisd_show::{Lines, Named, add_counts, add_files, add_package, name_packages, put_archive};
 use std::alloc::Global;
 
 /// Adds the packages of a workspace, their imports and their order.
@@ -91,18 +89,15 @@ fn add_of_plan(out: &mut Lines, alloc: Global, kind: &str, workspace: &Workspace
         return add_plan(out, workspace, &plan);
     }
     match name_packages(alloc, workspace) {
-        Ok(packages) => {
-            add_planned(
-                out,
-                alloc,
-                kind,
-                workspace,
-                packages.as_slice(),
-                &plan,
-                text,
-            );
-            close_names(packages);
-        }
+        Ok(packages) => add_planned(
+            out,
+            alloc,
+            kind,
+            workspace,
+            packages.as_slice(),
+            &plan,
+            text,
+        ),
         Err(_) => out.cut(),
     }
 }
@@ -115,12 +110,8 @@ fn put_replaced(workspace: &mut Workspace, alloc: Global, text: &str) -> Result<
     put_archive(workspace, alloc, old)?;
     let module = Module::read(alloc, module)?;
     let mut from = Workspace::empty(alloc);
-    let replaced = match put_archive(&mut from, alloc, new) {
-        Ok(()) => workspace.replace(&module, &from),
-        Err(rule) => Err(rule),
-    };
-    from.close();
-    replaced
+    put_archive(&mut from, alloc, new)?;
+    workspace.replace(&module, &from)
 }
 
 /// Puts the files into a workspace that an archive writes, of the kinds `names` and `keys` with a file in front.
@@ -152,15 +143,11 @@ pub fn add_answer(out: &mut Lines, alloc: Global, kind: &str, text: &str) {
             "sources" => add_counts(out, &workspace),
             "replaced" => add_files(out, &workspace),
             "copied" => match workspace.copy(alloc) {
-                Ok(copied) => {
-                    add_files(out, &copied);
-                    copied.close();
-                }
+                Ok(copied) => add_files(out, &copied),
                 Err(_) => out.cut(),
             },
             _ => add_of_plan(out, alloc, kind, &workspace, text),
         },
         Err(rule) => out.refuse(rule),
     }
-    workspace.close();
 }

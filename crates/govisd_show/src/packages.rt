@@ -72,9 +72,6 @@ impl Named {
     }
 }
 
-/// Lets go of the names of packages.
-pub fn close_names(_packages: Vec<Named>) {}
-
 /// The name of a file and the places of what it declares.
 fn name_file(alloc: Global, file: &SourceFile) -> Result<NamedFile, AllocError> {
     let name = String::from_str(alloc, file.name())?;
@@ -126,10 +123,7 @@ pub fn add_package(out: &mut Lines, source: &PackageSource) {
         return out.cut();
     };
     match assemble(shared) {
-        Ok(package) => {
-            out.line(package.name());
-            package.close();
-        }
+        Ok(package) => out.line(package.name()),
         Err(fault) => {
             out.pieces(&[fault.rule.number(), " "]);
             if let Some(file) = source.files().get(fault.file) {

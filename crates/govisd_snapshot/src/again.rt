@@ -22,7 +22,6 @@ pub fn add_again(out: &mut Lines, alloc: Global, shot: &Shot<'_>, earlier: &Snap
                 number = number.saturating_add(1);
             }
             add_same(out, alloc, "again", shot, &snapshot);
-            snapshot.close();
         }
         Err(AllocError) => out.cut(),
     }

@@ -4,7 +4,7 @@ use crate::types::Typed;
 use go_path_core::ImportPath;
 use go_snap_core::select_core::select;
 use go_snap_core::table_core::{DefinedType, PackageTypes, StructField};
-use go_term_core::{TypeTerm, close};
+use go_term_core::TypeTerm;
 use go_text_core::add;
 use govisd_show::Lines;
 use std::alloc::{AllocError, Global};
@@ -106,10 +106,7 @@ fn add_of_types(out: &mut Lines, alloc: Global, typed: &Typed<'_>, names: &[&str
         for defined in package.types() {
             for stars in &STARS {
                 match starred(alloc, defined, stars.len()) {
-                    Ok(term) => {
-                        add_of_type(out, alloc, typed, names, (defined, *stars, &term));
-                        close(term);
-                    }
+                    Ok(term) => add_of_type(out, alloc, typed, names, (defined, *stars, &term)),
                     Err(AllocError) => out.cut(),
                 }
             }
@@ -129,7 +126,6 @@ fn resolved_first(out: &mut Lines, alloc: Global, typed: &Typed<'_>, names: &[&s
                             count = count.saturating_add(1);
                         }
                     }
-                    close(term);
                 }
                 Err(AllocError) => out.cut(),
             }

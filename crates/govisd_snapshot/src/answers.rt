@@ -3,7 +3,7 @@ use go_path_core::ImportPath;
 use go_site_core::SiteSpelling;
 use go_snap_core::answer_core::{Answer, Site};
 use go_snap_core::denote_core::Outcome;
-use go_snap_core::tree_core::{OccId, Role};
+use go_snap_core::tree_core::OccId;
 use go_snap_core::{PlacedFault, Snapshot};
 use go_term_core::MemberPlace;
 use govisd_show::{Lines, Named, identifier_at};
@@ -38,20 +38,6 @@ pub fn add_steps(out: &mut Lines, steps: &[usize]) {
     out.add("]");
 }
 
-/// The name of a role.
-fn role_word(role: Role) -> &'static str {
-    match role {
-        Role::Import => "import",
-        Role::Type => "type",
-        Role::Value => "value",
-        Role::Callee => "callee",
-        Role::Qualifier => "qualifier",
-        Role::Selector(_) => "selector",
-        Role::Key => "key",
-        Role::Call => "call",
-    }
-}
-
 /// What stands at an offset of a text: a string up to the next quote of its kind, a parenthesis, or an identifier.
 pub fn spelling_at(text: &str, offset: usize) -> &str {
     let rest = text.get(offset..).unwrap_or("");
@@ -70,7 +56,7 @@ pub fn spelling_at(text: &str, offset: usize) -> &str {
 /// Adds what an occurrence of a text has.
 pub fn add_answer(out: &mut Lines, spelling: &SiteSpelling<'_>, text: &str, answer: &Answer) {
     out.count("", answer.offset, " ");
-    out.add(role_word(answer.role));
+    out.add(answer.role.word());
     out.add(" ");
     out.add(spelling_at(text, answer.offset));
     out.add(" ");

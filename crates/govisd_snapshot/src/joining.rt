@@ -6,8 +6,9 @@ ghost use Rattle.go_tree_nodes.specs.Spelling.{IsPlaced};
 
 use crate::answers::{add_faults, add_outcomes};
 use crate::shot::Shot;
-use go_snap_core::part_core::{Part, close_parts, compile_part, one_part};
+use go_snap_core::part_core::{Part, compile_part, one_part};
 use go_snap_core::{Snapshot, join};
+use go_text_core::add;
 use govisd_show::{Lines, add_counts, add_files};
 use std::alloc::{AllocError, Global};
 
@@ -27,13 +28,7 @@ fn add_made(parts: &mut Vec<Part>, alloc: Global, part: &Option<Part>) -> Result
     ensures { OnOk result (parts.new.items ≡ parts.old.items ++ if_there part.now) }
 {
     match part {
-        Some(part) => match parts.push(made(alloc, part)?) {
-            Ok(()) => Ok(()),
-            Err(failed) => {
-                failed.value.close();
-                Err(AllocError)
-            }
-        },
+        Some(part) => add(parts, made(alloc, part)?),
         None => Ok(()),
     }
 }
@@ -59,16 +54,9 @@ fn made_anew(alloc: Global, parts: &[Option<Part>]) -> Result<Vec<Part>, AllocEr
     ensures { IfOk result (λ made. made.items ≡ reverse (somes parts.now)) }
 {
     let mut made = Vec::new(alloc);
-    match add_all_made(&mut made, alloc, parts) {
-        Ok(()) => {
-            made.reverse();
-            Ok(made)
-        }
-        Err(error) => {
-            close_parts(made);
-            Err(error)
-        }
-    }
+    add_all_made(&mut made, alloc, parts)?;
+    made.reverse();
+    Ok(made)
 }
 
 /// A snapshot of the same workspace, joined of parts that are made anew.
@@ -76,17 +64,10 @@ fn joined(alloc: Global, snapshot: &Snapshot) -> Result<Snapshot, AllocError> {
     let sources = snapshot.sources();
     let _packages = sources.packages();
     let workspace = sources.copy(alloc)?;
-    let Ok(parts) = made_anew(alloc, snapshot.parts()) else {
-        workspace.close();
-        return Err(AllocError);
-    };
+    let parts = made_anew(alloc, snapshot.parts())?;
     match join(alloc, workspace, parts) {
         Ok(snapshot) => Ok(snapshot),
-        Err((workspace, parts)) => {
-            workspace.close();
-            close_parts(parts);
-            Err(AllocError)
-        }
+        Err(_) => Err(AllocError),
     }
 }
 
@@ -115,10 +96,7 @@ pub fn add_snapshot(out: &mut Lines, alloc: Global, shot: &Shot<'_>) {
     add_counts(out, shot.snapshot.sources());
     add_faults(out, shot.named, shot.snapshot.faults(), "fault ", None);
     match joined(alloc, shot.snapshot) {
-        Ok(other) => {
-            add_same(out, alloc, "joined", shot, &other);
-            other.close();
-        }
+        Ok(other) => add_same(out, alloc, "joined", shot, &other),
         Err(AllocError) => out.cut(),
     }
 }

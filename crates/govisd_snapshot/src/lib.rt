@@ -66,9 +66,8 @@ mod shot;
 mod type_questions;
 mod types;
 
-use go_snap_core::part_core::close_types;
 use go_snap_core::table_core::TypeTable;
-use govisd_show::{Lines, close_names, name_packages};
+use govisd_show::{Lines, name_packages};
 use shot::{Shot, shot_of, snapshot_of};
 use std::alloc::{AllocError, Global};
 use types::{Typed, add_types};
@@ -94,8 +93,6 @@ fn add_of_types(out: &mut Lines, alloc: Global, kind: &str, text: &str, shot: &S
         "ask" => type_questions::add_questions(out, alloc, &typed, text),
         _ => all_types::add_answer(out, alloc, kind, &typed),
     }
-    drop(typed);
-    close_types(table);
 }
 
 /// Adds what is answered of a snapshot. The texts are those of its archive and of the one before it.
@@ -130,22 +127,13 @@ pub fn add_of_file(
         _ => return false,
     }
     match snapshot_of(alloc, text) {
-        Ok(snapshot) => {
-            match name_packages(alloc, snapshot.sources()) {
-                Ok(packages) => {
-                    match shot_of(alloc, &snapshot, packages.as_slice()) {
-                        Ok(shot) => {
-                            add_answer(out, alloc, kind, text, last, &shot);
-                            drop(shot);
-                        }
-                        Err(AllocError) => out.cut(),
-                    }
-                    close_names(packages);
-                }
+        Ok(snapshot) => match name_packages(alloc, snapshot.sources()) {
+            Ok(packages) => match shot_of(alloc, &snapshot, packages.as_slice()) {
+                Ok(shot) => add_answer(out, alloc, kind, text, last, &shot),
                 Err(AllocError) => out.cut(),
-            }
-            snapshot.close();
-        }
+            },
+            Err(AllocError) => out.cut(),
+        },
         Err(rule) => out.refuse(rule),
     }
     true

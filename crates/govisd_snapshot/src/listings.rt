@@ -4,7 +4,7 @@ use crate::shot::Shot;
 use go_path_core::ImportPath;
 use go_site_core::SiteSpelling;
 use go_snap_core::answer_core::Site;
-use go_snap_core::emit_core::{close_object, close_objects, emit};
+use go_snap_core::emit_core::emit;
 use go_snap_core::object_core::{Object, listing};
 use govisd_show::Lines;
 use std::alloc::{AllocError, Global};
@@ -29,7 +29,6 @@ pub fn add_objects(out: &mut Lines, alloc: Global, shot: &Shot<'_>) {
             for object in &objects {
                 add_object(out, alloc, &shot.spelling, object);
             }
-            close_objects(objects);
         }
         Err(AllocError) => out.cut(),
     }
@@ -68,7 +67,6 @@ pub fn add_emitted(
             } else {
                 add_refs(out, &shot.spelling, &object);
             }
-            close_object(object);
         }
         Ok(None) => out.line("no object"),
         Err(AllocError) => out.cut(),

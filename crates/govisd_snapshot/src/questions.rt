@@ -21,13 +21,10 @@ fn add_over(
         return;
     }
     match snapshot_of(alloc, last) {
-        Ok(earlier) => {
-            match path {
-                Some(path) => add_comparison(out, shot.snapshot, &earlier, path),
-                None => add_again(out, alloc, shot, &earlier),
-            }
-            earlier.close();
-        }
+        Ok(earlier) => match path {
+            Some(path) => add_comparison(out, shot.snapshot, &earlier, path),
+            None => add_again(out, alloc, shot, &earlier),
+        },
         Err(rule) => out.refuse(rule),
     }
 }

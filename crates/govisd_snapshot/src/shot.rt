@@ -32,20 +32,16 @@ pub fn shot_of<'a>(
     })
 }
 
-/// The snapshot of the workspace that an archive writes. Whoever has it ends it by `close`.
+/// The snapshot of the workspace that an archive writes.
 ///
 /// # Errors
 ///
 /// `Rule::I1` where the path of a package is malformed, and `Rule::M0` for want of memory.
 pub fn snapshot_of(alloc: Global, text: &str) -> Result<Snapshot, Rule> {
     let mut workspace = Workspace::empty(alloc);
-    let made = match put_archive(&mut workspace, alloc, text) {
-        Ok(()) => match compile(alloc, &workspace) {
-            Ok(snapshot) => Ok(snapshot),
-            Err(AllocError) => Err(Rule::M0),
-        },
-        Err(rule) => Err(rule),
-    };
-    workspace.close();
-    made
+    put_archive(&mut workspace, alloc, text)?;
+    match compile(alloc, &workspace) {
+        Ok(snapshot) => Ok(snapshot),
+        Err(AllocError) => Err(Rule::M0),
+    }
 }

@@ -3,7 +3,7 @@ use crate::answers::add_faults;
 use crate::method_sets::{add_implements, add_method_set};
 use crate::selectors::{add_selectable, add_selector, starred};
 use crate::types::{Typed, find_package};
-use go_term_core::{TypeTerm, close};
+use go_term_core::TypeTerm;
 use govisd_show::{Lines, member_place};
 use std::alloc::{AllocError, Global};
 
@@ -46,7 +46,6 @@ fn add_of_operand(out: &mut Lines, alloc: Global, typed: &Typed<'_>, asked: &str
         "implements" => {
             if let Some(interface) = type_of(out, alloc, typed, behind) {
                 add_implements(out, alloc, typed, &term, &interface);
-                close(interface);
             }
         }
         path => {
@@ -60,7 +59,6 @@ fn add_of_operand(out: &mut Lines, alloc: Global, typed: &Typed<'_>, asked: &str
             }
         }
     }
-    close(term);
 }
 
 /// Adds a question, and behind a colon the answer: `PATH` asks for the faults of an assembled package, `PATH OPERAND` for the names that a selector may

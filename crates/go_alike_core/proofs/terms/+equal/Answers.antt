@@ -2,9 +2,9 @@ use Rattle.std.proofs.Common.{[], map, false, refl, ap, sym, ◌∙◌}
 use Rattle.go_term_core.specs.Shapes.{shape, line_shape, line_with, line_shapes}
 use Rattle.go_term_core.specs.Terms.{NoType}
 use Rattle.go_term_core.proofs.TermShapes.{shape_struct, shape_interface}
-use Rattle.go_term_core.proofs.SameLists.{found, missing}
+use Rattle.go_term_core.proofs.SameLists.{fails, found, missing, unless_met}
 use Rattle.go_term_core.specs.Meeting.{IsMet}
-use Rattle.go_alike_core.proofs.EqualLists.{fails, lines_at, no_line_left, no_line_right, unless_met, as_many_fields, as_many_methods, as_many_terms, same_at, with_path}
+use Rattle.go_alike_core.proofs.EqualLists.{lines_at, no_line_left, no_line_right, as_many_fields, as_many_methods, as_many_terms, same_at, with_path}
 use Rattle.go_alike_core.proofs.terms.+equal.Goals as goal
 
 pub are_lines_equal-returns-in-Some-None : goal.are_lines_equal-returns-in-Some-None

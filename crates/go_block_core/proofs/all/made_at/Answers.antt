@@ -1,6 +1,5 @@
 use Rattle.std.proofs.Common.{◌≡◌, length, sym, ap, subst, ◌∙◌, arith}
 use Rattle.std.proofs.lemmas.Option.{slice_get_within, get_or_from_slice_get}
-use Rattle.std.proofs.lemmas.Result.{IfOk-weaker}
 use Rattle.go_graph_core.specs.Packages.{IsAssembled, trees_of}
 use Rattle.go_graph_core.specs.Workspaces.{PackageModel}
 use Rattle.go_graph_core.proofs.OneTarget.{not_faulty}
@@ -21,8 +20,8 @@ unreachable-requires c =
     let well = subst (λ (p : PackageModel). IsAssembled p.1) (same ∙ sym c.in_ok-source.ensures) here.3 in
     not_faulty c.in_ok-source.source.1 well (c.in-Err.field-0, c.in-Err.ensures.assembly)
 
-pub made_of-made-requires : goal.made_of-made-requires
-made_of-made-requires c =
+pub made_of-requires : goal.made_of-requires
+made_of-requires c =
     let here = c.requires.assembled in
     let same = read_at c.args.workspace.now c.packages-packages.result.now c.args.number c.index-packages-number.result here c.packages-packages.ensures.packages c.index-packages-number.is in
     subst (λ (p : PackageModel). AreReady c.args.plan.now.outcomes c.args.exports.now c.args.number (trees_of p.1)) (same ∙ (sym c.in_ok-source.ensures ∙ sym c.in-Ok.ensures.source)) (c.requires.ready (here.0, here.1) here.2)
@@ -32,6 +31,8 @@ returns c =
     let here = c.requires.assembled in
     let same = read_at c.args.workspace.now c.packages-packages.result.now c.args.number c.index-packages-number.result here c.packages-packages.ensures.packages c.index-packages-number.is in
     let e = same ∙ (sym c.in_ok-source.ensures ∙ sym c.in-Ok.ensures.source) in
-    IfOk-weaker c.made_of-made.result _ _
-    (λ made h. record { of_package = (here.0, here.1); numbered = here.2; made = subst (λ (p : PackageModel). IsMadeOf c.args.plan.now.outcomes c.args.exports.now c.args.number p made.blocks made.exports) (sym e) h })
-    c.made_of-made.ensures
+    record {
+      of_package = (here.0, here.1);
+      numbered = here.2;
+      made = subst (λ (p : PackageModel). IsMadeOf c.args.plan.now.outcomes c.args.exports.now c.args.number p c.in_ok-made-in-Ok.made.blocks c.in_ok-made-in-Ok.made.exports) (sym e) c.in_ok-made-in-Ok.ensures;
+    }

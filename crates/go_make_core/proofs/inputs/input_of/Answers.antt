@@ -28,48 +28,48 @@ given_to-requires-clause-told c =
     told_for c.args.told.now.summaries c.args.told.now.places.items c.args.parts.now c.requires.told c.args.reached.now c.args.number there
 
 pub new-requires-clause-imports : goal.new-requires-clause-imports
-new-requires-clause-imports c = have_one_each (IsPlanned c.args.plan.now.outcomes (exports_in c.args.parts.now)) c.args.number (trees_of c.in_ok-package.package.1) (map imported_in c.in-Ok.imports.items) c.in-Ok.ensures.imports
+new-requires-clause-imports c = have_one_each (IsPlanned c.args.plan.now.outcomes (exports_in c.args.parts.now)) c.args.number (trees_of c.in_ok-package.package.1) (map imported_in c.in_ok-imports.imports.items) c.in_ok-imports.ensures.imports
 
 pub new-requires-clause-reached : goal.new-requires-clause-reached
 new-requires-clause-reached c =
     let ps = c.args.workspace.now in
     let n = c.args.number in
     let p = c.in_ok-package.package in
-    let ss = c.in-Ok.summaries in
+    let ss = c.in_ok-imports.summaries in
     let well = c.packages-packages.ensures.well in
     let numbered : slice_get ps n ≡ Some p = ap (λ l. slice_get l n) (sym c.packages-packages.ensures.packages) ∙ c.in_ok-package.ensures in
     let there = reached_there ps c.args.plan.now c.requires.plan c.args.parts.now n c.requires.parts c.args.reached.now well c.requires.reached c.requires.many c.requires.assembled in
-    let by_set = told_by_set c.args.told.now.summaries c.args.told.now.places.items c.args.parts.now c.requires.told c.args.reached.now n ss there c.in-Ok.ensures.told in
+    let by_set = told_by_set c.args.told.now.summaries c.args.told.now.places.items c.args.parts.now c.requires.told c.args.reached.now n ss there c.in_ok-imports.ensures.told in
     let told = told_is ps c.args.plan.now c.requires.plan c.args.parts.now n c.requires.parts c.args.reached.now ss well c.requires.reached by_set in
     record {
       apart = told_apart ps c.args.plan.now c.requires.plan c.args.parts.now n c.requires.parts ss well told;
       others = told_others ps c.args.plan.now c.requires.plan c.args.parts.now n c.requires.parts p ss well numbered told;
     }
 
-pub returns-in_ok-input-in-Ok-clause-told : goal.returns-in_ok-input-in-Ok-clause-told
-returns-in_ok-input-in-Ok-clause-told c =
+pub returns-clause-told : goal.returns-clause-told
+returns-clause-told c =
     let ps = c.args.workspace.now in
     let n = c.args.number in
     let sets = c.args.reached.now in
     let parts = c.args.parts.now in
-    let ss = c.in-Ok.summaries in
+    let ss = c.in_ok-imports.summaries in
     let there = reached_there ps c.args.plan.now c.requires.plan parts n c.requires.parts sets c.packages-packages.ensures.well c.requires.reached c.requires.many c.requires.assembled in
-    let by_set = told_by_set c.args.told.now.summaries c.args.told.now.places.items parts c.requires.told sets n ss there c.in-Ok.ensures.told in
-    subst (AreToldBySet sets parts n) (sym (ap (λ (i : InputModel). i.reached) c.in_ok-input-in-Ok.ensures)) by_set
+    let by_set = told_by_set c.args.told.now.summaries c.args.told.now.places.items parts c.requires.told sets n ss there c.in_ok-imports.ensures.told in
+    subst (AreToldBySet sets parts n) (sym (ap (λ (i : InputModel). i.reached) c.in_ok-input.ensures)) by_set
 
-pub returns-in_ok-input-in-Ok-clause-input : goal.returns-in_ok-input-in-Ok-clause-input
-returns-in_ok-input-in-Ok-clause-input c =
+pub returns-clause-input : goal.returns-clause-input
+returns-clause-input c =
     let ps = c.args.workspace.now in
     let n = c.args.number in
     let p = c.in_ok-package.package in
-    let imported = map imported_in c.in-Ok.imports.items in
-    let ss = c.in-Ok.summaries in
+    let imported = map imported_in c.in_ok-imports.imports.items in
+    let ss = c.in_ok-imports.summaries in
     let well = c.packages-packages.ensures.well in
     let numbered : slice_get ps n ≡ Some p = ap (λ l. slice_get l n) (sym c.packages-packages.ensures.packages) ∙ c.in_ok-package.ensures in
     let there = reached_there ps c.args.plan.now c.requires.plan c.args.parts.now n c.requires.parts c.args.reached.now well c.requires.reached c.requires.many c.requires.assembled in
-    let by_set = told_by_set c.args.told.now.summaries c.args.told.now.places.items c.args.parts.now c.requires.told c.args.reached.now n ss there c.in-Ok.ensures.told in
+    let by_set = told_by_set c.args.told.now.summaries c.args.told.now.places.items c.args.parts.now c.requires.told c.args.reached.now n ss there c.in_ok-imports.ensures.told in
     let told = told_is ps c.args.plan.now c.requires.plan c.args.parts.now n c.requires.parts c.args.reached.now ss well c.requires.reached by_set in
-    let comes = package_comes ps c.args.plan.now c.requires.plan c.args.parts.now n c.requires.parts p imported c.in-Ok.ensures.imports in
-    let is = c.in_ok-input-in-Ok.ensures in
-    input_made ps c.args.plan.now c.requires.plan c.args.parts.now n c.requires.parts p imported ss c.in_ok-input-in-Ok.input numbered comes told
+    let comes = package_comes ps c.args.plan.now c.requires.plan c.args.parts.now n c.requires.parts p imported c.in_ok-imports.ensures.imports in
+    let is = c.in_ok-input.ensures in
+    input_made ps c.args.plan.now c.requires.plan c.args.parts.now n c.requires.parts p imported ss c.in_ok-input.input numbered comes told
     (ap (λ (i : InputModel). i.source) is) (ap (λ (i : InputModel). i.imports) is) (ap (λ (i : InputModel). i.reached) is)

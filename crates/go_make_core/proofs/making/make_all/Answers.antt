@@ -101,18 +101,18 @@ loop-number-preserved c =
     let right : IsRight ps parts n part = subst (λ l. IsRight ps l n part) c.as_slice.ensures c.in_ok-part.ensures.right in
     let more = so_far_more ps plan well c.in_ok-plan.ensures parts n seen.types seen.shown seen.faces next part after.types after.shown after.faces right
     (c.learn.ensures.types ∙ c.in_ok-part.ensures.types)
-    (c.in-Ok.ensures.shown ∙ ap (λ l. with_shown l part.content.summary.exports) c.next_part.ensures.shown)
-    (c.in-Ok.ensures.faces ∙ ap (λ l. with_faces l part.content.summary.faces) c.next_part.ensures.faces) in
+    (c.in_ok-learn.ensures.shown ∙ ap (λ l. with_shown l part.content.summary.exports) c.next_part.ensures.shown)
+    (c.in_ok-learn.ensures.faces ∙ ap (λ l. with_faces l part.content.summary.faces) c.next_part.ensures.faces) in
     let told = c.loop-number.told in
     let lt : n < length parts = omega (arith, slice_get_within ps n part.input.source right.numbered, before.made.count) in
     let with_it = slice_set parts n (Some part) in
     let all = c.learn.new.told in
     let so_far : SoFar ps (plan_of [] order) (k + 1) with_it after.types after.shown after.faces
     = record { summaries = more.summaries; made = subst (λ l. AreMade ps (take (k + 1) l) with_it more.summaries) (sym e) more.made; seen = more.seen } in
-    let places = places_put parts told.summaries told.places.items c.loop-number.invariant.1 n part lt all.summaries all.places.items c.in-Ok.ensures.summaries c.in-Ok.ensures.places in
+    let places = places_put parts told.summaries told.places.items c.loop-number.invariant.1 n part lt all.summaries all.places.items c.in_ok-learn.ensures.summaries c.in_ok-learn.ensures.places in
     let earlier = c.args.earlier.now in
-    let marks = marks_put earlier parts told.again.items c.loop-number.invariant.2 n part lt c.tells_again-again.result c.tells_again-again.ensures all.again.items c.in-Ok.ensures.again in
-    let kept = one_kept earlier parts told.kept.items c.loop-number.invariant.3 n part lt c.in_ok-part.kept c.in_ok-part.ensures.kept all.kept.items c.in-Ok.ensures.kept in (
+    let marks = marks_put earlier parts told.again.items c.loop-number.invariant.2 n part lt c.tells_again-again.result c.tells_again-again.ensures all.again.items c.in_ok-learn.ensures.again in
+    let kept = one_kept earlier parts told.kept.items c.loop-number.invariant.3 n part lt c.in_ok-part.kept c.in_ok-part.ensures.kept all.kept.items c.in_ok-learn.ensures.kept in (
       subst (λ l. SoFar ps (plan_of [] order) (k + 1) l after.types after.shown after.faces) (sym c.put.ensures) so_far,
       subst (λ l. HavePlaces l all.summaries all.places.items) (sym c.put.ensures) places,
       subst (λ l. AreMarked earlier l all.again.items) (sym c.put.ensures) marks,

@@ -1,11 +1,12 @@
 use Rattle.std.proofs.Common.{◌≡◌, true, false, refl, sym, ap, subst, ◌∙◌}
+use Rattle.go_whole_core.specs.graph_core.OutcomeLaws.{all_at_place}
 use Rattle.go_whole_core.specs.graph_core.Workspaces.{AreAllRead}
 use Rattle.go_whole_core.specs.table_core.Tables.{AreOthers}
 use Rattle.go_whole_core.specs.part_core.Inputs.{path_in}
 use Rattle.go_whole_core.specs.part_core.Parts.{IsPart, PartModel}
 use Rattle.go_whole_core.proofs.Next.{next_assembled, next_is, next_others, next_reached, next_right}
 use Rattle.go_make_core.specs.Keeping.{WasThere}
-use Rattle.go_make_core.proofs.Marking.{at_place, made_alone, marked_for, none_found, one_found, types_own}
+use Rattle.go_make_core.proofs.Marking.{made_alone, marked_for, none_found, one_found, types_own}
 use Rattle.go_make_core.proofs.making.next_part.Goals as goal
 
 pub input_of-requires-clause-assembled : goal.input_of-requires-clause-assembled
@@ -15,7 +16,7 @@ pub input_of-requires-clause-parts : goal.input_of-requires-clause-parts
 input_of-requires-clause-parts c = next_reached c.args.workspace.now c.args.plan.now c.requires.well c.requires.plan c.args.parts.now c.args.number c.args.seen.now.types c.args.seen.now.shown c.args.seen.now.faces c.requires.next
 
 pub earlier_part-requires-clause-own : goal.earlier_part-requires-clause-own
-earlier_part-requires-clause-own c = at_place AreAllRead c.args.workspace.now c.args.number c.in_ok-input.input.source c.requires.well.read c.in_ok-input.ensures.input.numbered
+earlier_part-requires-clause-own c = all_at_place AreAllRead c.args.workspace.now c.args.number c.in_ok-input.input.source c.requires.well.read c.in_ok-input.ensures.input.numbered
 
 pub earlier_part-requires-clause-told : goal.earlier_part-requires-clause-told
 earlier_part-requires-clause-told c = marked_for c.args.earlier.now c.args.told.now.again.items c.args.parts.now c.args.reached.now c.args.number c.in_ok-input.input.reached c.requires.again c.in_ok-input.ensures.told
@@ -32,36 +33,36 @@ new_part-requires-clause-alone c = λ content made.
 
 pub keep-requires : goal.keep-requires
 keep-requires c =
-    let part = c.in-Ok-Some.part.now in
-    let found = one_found c.args.earlier.now c.in_ok-input.input c.in-Ok-Some.field-0 c.in-Ok-Some.part c.in-Ok-Some.field-0-is c.in-Ok-Some.ensures in
+    let part = c.in-Some.part.now in
+    let found = one_found c.args.earlier.now c.in_ok-input.input c.in_ok-found.found c.in-Some.part c.in-Some.is c.in_ok-found.ensures in
     let types = c.args.seen.now.types in
     let others =
     next_others c.args.workspace.now c.args.plan.now c.requires.well c.requires.plan c.args.parts.now c.args.number types c.args.seen.now.shown c.args.seen.now.faces c.requires.next
     c.in_ok-input.input c.in_ok-input.ensures.input in
     subst (λ path. AreOthers path types) (sym (types_own c.args.sources.now c.args.earlier.now c.requires.earlier found.0.0 part found.0.1 ∙ ap path_in found.1)) others
 
-pub returns-in_ok-kept-in-Ok-Some-clause-right : goal.returns-in_ok-kept-in-Ok-Some-clause-right
-returns-in_ok-kept-in-Ok-Some-clause-right c =
-    let part = c.in-Ok-Some.part.now in
-    let found = one_found c.args.earlier.now c.in_ok-input.input c.in-Ok-Some.field-0 c.in-Ok-Some.part c.in-Ok-Some.field-0-is c.in-Ok-Some.ensures in
-    let kept = c.in_ok-kept-in-Ok-Some.kept in
-    let same : kept ≡ part = c.in_ok-kept-in-Ok-Some.ensures.part in
+pub returns-in_ok-kept-in-Some-clause-right : goal.returns-in_ok-kept-in-Some-clause-right
+returns-in_ok-kept-in-Some-clause-right c =
+    let part = c.in-Some.part.now in
+    let found = one_found c.args.earlier.now c.in_ok-input.input c.in_ok-found.found c.in-Some.part c.in-Some.is c.in_ok-found.ensures in
+    let kept = c.in_ok-kept-in-Some.kept in
+    let same : kept ≡ part = c.in_ok-kept-in-Some.ensures.part in
     let made : IsPart part.input part.content = made_alone c.args.sources.now c.args.earlier.now c.requires.earlier found.0.0 part found.0.1 in
     next_right c.args.workspace.now c.args.plan.now c.requires.well c.requires.plan c.args.parts.now c.args.number c.args.seen.now.types c.args.seen.now.shown c.args.seen.now.faces c.requires.next
     c.in_ok-input.input kept c.in_ok-input.ensures.input (ap (λ (p : PartModel). p.input) same ∙ found.1) (subst (λ (p : PartModel). IsPart p.input p.content) (sym same) made)
 
-pub returns-in_ok-kept-in-Ok-Some-clause-kept : goal.returns-in_ok-kept-in-Ok-Some-clause-kept
-returns-in_ok-kept-in-Ok-Some-clause-kept c =
-    let found = one_found c.args.earlier.now c.in_ok-input.input c.in-Ok-Some.field-0 c.in-Ok-Some.part c.in-Ok-Some.field-0-is c.in-Ok-Some.ensures in
-    (λ yes. subst (WasThere c.args.earlier.now) (sym c.in_ok-kept-in-Ok-Some.ensures.part) found.0, λ was. refl)
+pub returns-in_ok-kept-in-Some-clause-kept : goal.returns-in_ok-kept-in-Some-clause-kept
+returns-in_ok-kept-in-Some-clause-kept c =
+    let found = one_found c.args.earlier.now c.in_ok-input.input c.in_ok-found.found c.in-Some.part c.in-Some.is c.in_ok-found.ensures in
+    (λ yes. subst (WasThere c.args.earlier.now) (sym c.in_ok-kept-in-Some.ensures.part) found.0, λ was. refl)
 
-pub returns-in_ok-made-in-Ok-None-clause-right : goal.returns-in_ok-made-in-Ok-None-clause-right
-returns-in_ok-made-in-Ok-None-clause-right c =
+pub returns-in_ok-made-in-None-clause-right : goal.returns-in_ok-made-in-None-clause-right
+returns-in_ok-made-in-None-clause-right c =
     next_right c.args.workspace.now c.args.plan.now c.requires.well c.requires.plan c.args.parts.now c.args.number c.args.seen.now.types c.args.seen.now.shown c.args.seen.now.faces c.requires.next
-    c.in_ok-input.input c.in_ok-made-in-Ok-None.made c.in_ok-input.ensures.input c.in_ok-made-in-Ok-None.ensures.input c.in_ok-made-in-Ok-None.ensures.made
+    c.in_ok-input.input c.in_ok-made-in-None.made c.in_ok-input.ensures.input c.in_ok-made-in-None.ensures.input c.in_ok-made-in-None.ensures.made
 
-pub returns-in_ok-made-in-Ok-None-clause-kept : goal.returns-in_ok-made-in-Ok-None-clause-kept
-returns-in_ok-made-in-Ok-None-clause-kept c =
-    let made = c.in_ok-made-in-Ok-None in
-    let none = none_found c.args.earlier.now c.in_ok-input.input c.in-Ok-None.field-0 c.in-Ok-None.field-0-is c.in-Ok-None.ensures in
+pub returns-in_ok-made-in-None-clause-kept : goal.returns-in_ok-made-in-None-clause-kept
+returns-in_ok-made-in-None-clause-kept c =
+    let made = c.in_ok-made-in-None in
+    let none = none_found c.args.earlier.now c.in_ok-input.input c.in_ok-found.found c.in-None.is c.in_ok-found.ensures in
     (λ yes. absurd (let no : false ≡ true = yes in cc), λ was. absurd (none made.made was made.ensures.input))

@@ -2,10 +2,11 @@ use Rattle.std.proofs.Common.{[], ◌∷◌, length, map, false, ap, sym, ◌∙
 use Rattle.std.proofs.lemmas.List.{get_or_default}
 use Rattle.go_term_core.specs.Terms.{StructOf, InterfaceOf, NoMethod}
 use Rattle.go_term_core.specs.Shapes.{shape, line_shapes, fields_in, terms_in, method_shapes}
+use Rattle.go_term_core.proofs.Copied.{of_made}
 use Rattle.go_term_core.proofs.TermShapes.{shape_struct, shape_interface}
 use Rattle.go_settle_core.specs.Settled.{settled, settled_methods}
 use Rattle.go_settle_core.specs.mirrors.Kept.{settled_line, put_method, make_method}
-use Rattle.go_settle_core.proofs.Loops.{of_made, one_kept, one_left, all_kept, one_made, all_made, within}
+use Rattle.go_settle_core.proofs.Loops.{one_kept, one_left, all_kept, one_made, all_made, within}
 use Rattle.go_settle_core.proofs.Masks.{put_line, make_line, put_term, make_term, fields_masked, terms_settled, lines_start, methods_start, terms_start, lines_onto, methods_onto, terms_onto, method_before}
 use Rattle.go_settle_core.proofs.terms.+settling.Goals as goal
 use Rattle.go_settle_core.proofs.terms.+settling.Goals.{settle_methods-then-index+in-Ok-settle_method+in-Ok-add, settle_methods-else-index}

@@ -10,5 +10,5 @@ new-requires-clause-reached c = none_reached c.args.«package».0 c.none-reached
 
 pub returns : goal.returns
 returns c =
-    IfOk-weaker c.compile_part-part.result _ _
-    (λ p same. same ∙ (c.in_ok-input.ensures ∙ ap (λ l. input_with c.args.«package» (map imported_in c.args.imports.items) l) c.none-reached.ensures)) c.compile_part-part.ensures.input
+    IfOk-weaker c.compile_part.result _ _
+    (λ p same. same ∙ (c.in_ok-input.ensures ∙ ap (λ l. input_with c.args.«package» (map imported_in c.args.imports.items) l) c.none-reached.ensures)) c.compile_part.ensures.input

@@ -3,8 +3,8 @@ use Rattle.go_tree_nodes.specs.Shapes.{file_of}
 use Rattle.govisd_core.proofs.Putting.{are_refused, refused_alone}
 use Rattle.govisd_core.proofs.alone.imports_alone.Goals as goal
 
-pub imports_of-requires : goal.imports_of-requires
-imports_of-requires c = are_refused c.args.workspace.now c.requires.0 (file_of c.args.tree.now) c.in_ok-plan.plan c.requires.1 c.in_ok-plan.ensures
+pub file_imports-requires : goal.file_imports-requires
+file_imports-requires c = are_refused c.args.workspace.now c.requires.0 (file_of c.args.tree.now) c.in_ok-plan.plan c.requires.1 c.in_ok-plan.ensures
 
 pub returns : goal.returns
 returns c =

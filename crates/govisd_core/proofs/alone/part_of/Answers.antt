@@ -9,8 +9,8 @@ pub imports_alone-requires : goal.imports_alone-requires
 imports_alone-requires c = (c.args.«package», c.requires)
 
 pub compile_alone-requires : goal.compile_alone-requires
-compile_alone-requires c = one_each c.args.workspace.now c.args.«package» (file_of c.args.tree.now) (map imported_in c.in-Ok.imports.items) c.requires c.in-Ok.ensures
+compile_alone-requires c = one_each c.args.workspace.now c.args.«package» (file_of c.args.tree.now) (map imported_in c.in_ok-imports.imports.items) c.requires c.in_ok-imports.ensures
 
-pub returns-in-Ok : goal.returns-in-Ok
-returns-in-Ok c =
-    IfOk-weaker c.compile_alone.result _ _ (λ p same. input_is c.args.workspace.now c.args.«package» (file_of c.args.tree.now) (map imported_in c.in-Ok.imports.items) p.input c.in-Ok.ensures same) c.compile_alone.ensures
+pub returns : goal.returns
+returns c =
+    IfOk-weaker c.compile_alone.result _ _ (λ p same. input_is c.args.workspace.now c.args.«package» (file_of c.args.tree.now) (map imported_in c.in_ok-imports.imports.items) p.input c.in_ok-imports.ensures same) c.compile_alone.ensures

@@ -9,13 +9,13 @@ bounds-packages-0 c = omega (arith, ap length (c.packages-packages.ensures.packa
 pub bounds-files-0 : goal.bounds-files-0
 bounds-files-0 c = omega (arith, ap length c.files-files.ensures.files, c.files-files.ensures.well.some)
 
-pub file_report-report-requires-clause-alone : goal.file_report-report-requires-clause-alone
-file_report-report-requires-clause-alone c =
+pub file_report-requires-clause-alone : goal.file_report-requires-clause-alone
+file_report-requires-clause-alone c =
     (alone_at (string_bytes c.args.text) c.in_ok-workspace.workspace c.packages-packages.result.now c.index-packages-0.result _ c.files-files.result.now c.index-files-0.result _
     c.in_ok-workspace.ensures c.packages-packages.ensures.packages c.index-packages-0.is c.files-files.ensures.files c.index-files-0.is).0
 
-pub file_report-report-requires-clause-text : goal.file_report-report-requires-clause-text
-file_report-report-requires-clause-text c =
+pub file_report-requires-clause-text : goal.file_report-requires-clause-text
+file_report-requires-clause-text c =
     let one = alone_at (string_bytes c.args.text) c.in_ok-workspace.workspace c.packages-packages.result.now c.index-packages-0.result _ c.files-files.result.now c.index-files-0.result _
     c.in_ok-workspace.ensures c.packages-packages.ensures.packages c.index-packages-0.is c.files-files.ensures.files c.index-files-0.is in
     subst IsText (sym one.1) c.requires
@@ -24,4 +24,4 @@ pub returns : goal.returns
 returns c =
     let one = alone_at (string_bytes c.args.text) c.in_ok-workspace.workspace c.packages-packages.result.now c.index-packages-0.result _ c.files-files.result.now c.index-files-0.result _
     c.in_ok-workspace.ensures c.packages-packages.ensures.packages c.index-packages-0.is c.files-files.ensures.files c.index-files-0.is in
-    subst (λ bytes. IfOk c.file_report-report.result (λ r. IsReport bytes r.clean r.text.items)) one.1 c.file_report-report.ensures
+    subst (λ bytes. IfOk c.file_report.result (λ r. IsReport bytes r.clean r.text.items)) one.1 c.file_report.ensures

@@ -2,7 +2,7 @@ use Rattle.std.proofs.Common.{◌≡◌, ◌++◌, refl}
 use Rattle.std.specs.Prelude.{codes, string_bytes}
 use Rattle.go_text_core.specs.Rules.{rule_number}
 use Rattle.go_explain_core.specs.Meanings.{rule_meaning}
-use Rattle.govisd_folders.proofs.LineLemmas.{begun, ended, more}
+use Rattle.go_explain_core.proofs.LineLemmas.{begun, ended, more}
 use Rattle.govisd_folders.proofs.notes.note_rule.Goals as goal
 
 pub returns : goal.returns

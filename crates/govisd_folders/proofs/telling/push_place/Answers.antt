@@ -1,6 +1,6 @@
 use Rattle.std.proofs.Common.{◌≡◌, ◌++◌, refl}
 use Rattle.std.specs.Prelude.{codes, decimal, string_bytes}
-use Rattle.govisd_folders.proofs.LineLemmas.{begun, ended, more}
+use Rattle.go_explain_core.proofs.LineLemmas.{begun, ended, more}
 use Rattle.govisd_folders.proofs.telling.push_place.Goals as goal
 
 pub returns : goal.returns

@@ -1,8 +1,8 @@
-use Rattle.std.proofs.Common.{◌≡◌, length, List, map, Some, slice_get, refl, sym, ap, subst, ◌∙◌}
+use Rattle.std.proofs.Common.{◌≡◌, length, map, Some, slice_get, refl, sym, ap, subst, ◌∙◌}
 use Rattle.std.proofs.lemmas.Option.{same_Some, slice_get_read}
 use Rattle.go_graph_core.specs.Sources.{SourceModel}
 use Rattle.go_graph_core.specs.Workspaces.{PackageModel, files_at}
-use Rattle.go_site_core.specs.Sites.{items_of, located_in, offsets_in}
+use Rattle.go_site_core.specs.Sites.{held_items, located_in, offsets_in}
 use Rattle.go_site_core.proofs.Locating.{paired}
 use Rattle.go_site_core.proofs.spelling.SiteSpelling.find.Goals as goal
 
@@ -16,10 +16,10 @@ locate-requires c =
     let here : slice_get packages n ≡ Some p = slice_get_read packages (length packages) n p refl c.in_ok-source.ensures.lookup.3.0 c.in_ok-source.ensures.lookup.1 in
     let there : slice_get all n ≡ Some v = slice_get_read all (length all) n v refl c.in_ok-offsets.ensures.lookup.3.0 c.in_ok-offsets.ensures.lookup.1 in
     let shown = λ (q : PackageModel). map (λ (f : SourceModel). offsets_in f.content) q.1 in
-    let same : map (λ q. map items_of q.items) all ≡ map shown packages =
-    ap (map (λ q. map items_of q.items)) c.deref.ensures.value ∙ (c.self.invariant ∙ ap (map shown) (sym c.packages-packages.ensures.packages)) in
-    ap (map items_of) c.as_slice.ensures.value
-    ∙ (paired (λ q. map items_of q.items) shown all packages n v p same there here
+    let same : map (λ q. map held_items q.items) all ≡ map shown packages =
+    ap (map (λ q. map held_items q.items)) c.deref.ensures.value ∙ (c.self.invariant ∙ ap (map shown) (sym c.packages-packages.ensures.packages)) in
+    ap (map held_items) c.as_slice.ensures.value
+    ∙ (paired (λ q. map held_items q.items) shown all packages n v p same there here
     ∙ ap (map (λ (f : SourceModel). offsets_in f.content)) (sym c.files.ensures.files))
 
 pub returns : goal.returns

@@ -8,7 +8,7 @@ use Rattle.go_part_core.specs.block_core.Naming.{file_specs, import_at}
 use Rattle.go_part_core.specs.block_core.mirrors.Shown.{spec_shown}
 use Rattle.go_part_core.specs.block_core.GivenSteps.{numbered_next}
 use Rattle.govisd_core.specs.mirrors.Making.{IsGivenIn}
-use Rattle.govisd_core.proofs.alone.imports_of.Goals as goal
+use Rattle.govisd_core.proofs.alone.file_imports.Goals as goal
 
 pub loop-import-init : goal.loop-import-init
 loop-import-init c = subst (λ l. AllNumbered (λ (n : ℕ) (spec : ImportSpecTree) (i : Imported). IsGivenIn c.args.plan.now.outcomes (import_at 0 0 n) i) 0 [] l) (sym c.in_ok-imports.ensures.items) tt
