@@ -8,20 +8,21 @@ use Rattle.go_term_core.specs.Identity.{IsMethod, method_count, IdenticalBy, Sam
 use Rattle.go_term_core.specs.mirrors.Alike.{HasAlike}
 use Rattle.go_mset_core.specs.table_core.Entries.{same_id}
 use Rattle.go_mset_core.specs.embed_core.Ids.{same_id_is, same_id_from}
-use Rattle.go_decide_core.specs.Identity.{same_flag, tags_agree, has_alike, identical_by, same_fields, has_all, same_sign, same_terms}
+use Rattle.go_decide_core.specs.Identity.{tags_agree, has_alike, identical_by, same_fields, has_all, same_sign, same_terms}
 use Rattle.go_decide_core.specs.Laws.{IdentityIsDecided}
 use Rattle.go_decide_core.proofs.Tests.{both_decide, some_decide, never, decides_number, decides_flag, decides_tags, decides_basic, decides_key}
+use Rattle.go_denote_core.specs.constant_core.Values.{bool_same}
 
 pub decides_id : (a p b q : List ℕ) → IsTrue (same_id a p b q) ↔ SameId a p b q
 decides_id a p b q = (λ h. same_id_is a p b q h, λ h. same_id_from a p b q h)
 
 -- the name, the flag, the type and the tag of a field, and what is behind it
 field_decides : {P Q R : Type 0} (name p name' q : List ℕ) (embedded embedded' a b c : Bool) → (IsTrue a ↔ P) → (IsTrue b ↔ Q) → (IsTrue c ↔ R)
-    → IsTrue (same_id name p name' q && (same_flag embedded embedded' && (a && (b && c)))) ↔ (SameId name p name' q × (embedded ≡ embedded') × P × Q × R)
+    → IsTrue (same_id name p name' q && (bool_same embedded embedded' && (a && (b && c)))) ↔ (SameId name p name' q × (embedded ≡ embedded') × P × Q × R)
 field_decides name p name' q embedded embedded' a b c x y z =
     let all =
-    both_decide (same_id name p name' q) (same_flag embedded embedded' && (a && (b && c))) (decides_id name p name' q)
-    (both_decide (same_flag embedded embedded') (a && (b && c)) (decides_flag embedded embedded') (both_decide a (b && c) x (both_decide b c y z))) in
+    both_decide (same_id name p name' q) (bool_same embedded embedded' && (a && (b && c))) (decides_id name p name' q)
+    (both_decide (bool_same embedded embedded') (a && (b && c)) (decides_flag embedded embedded') (both_decide a (b && c) x (both_decide b c y z))) in
     (λ h. let r = all.0 h in (r.0, r.1.0, r.1.1.0, r.1.1.1.0, r.1.1.1.1), λ h. all.1 (h.0, (h.1, (h.2, (h.3, h.4)))))
 
 module _ (tags : Bool) where

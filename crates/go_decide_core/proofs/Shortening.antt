@@ -13,7 +13,8 @@ use Rattle.go_mset_core.specs.level_core.mirrors.Levels.{left}
 use Rattle.go_mset_core.specs.level_core.Edges.{step_edge}
 use Rattle.go_mset_core.specs.level_core.Weights.{left_falls}
 use Rattle.go_mset_core.specs.select_core.Short.{Avoids, avoids_none, last_visit, left_none, marked, numbered, starts}
-use Rattle.go_decide_core.specs.Selecting.{nesting, fields_nesting, deepest, last_depth}
+use Rattle.go_decide_core.specs.Selecting.{last_depth}
+use Rattle.go_mset_core.specs.table_core.Nesting.{nesting, fields_nesting, deepest}
 
 -- how deep the types are that a type embeds
 

@@ -11,7 +11,8 @@ use Rattle.go_term_core.specs.Identity.{TagsAgree}
 use Rattle.go_mset_core.specs.table_core.Entries.{same_key}
 use Rattle.go_mset_core.specs.table_core.Keys.{same_key_itself, same_key_true}
 use Rattle.go_denote_core.specs.operand_core.Values.{is_basic}
-use Rattle.go_decide_core.specs.Identity.{same_flag, tags_agree}
+use Rattle.go_decide_core.specs.Identity.{tags_agree}
+use Rattle.go_denote_core.specs.constant_core.Values.{bool_same}
 
 -- both of two tests
 pub both_decide : {P Q : Type 0} (a b : Bool) → (IsTrue a ↔ P) → (IsTrue b ↔ Q) → IsTrue (a && b) ↔ (P × Q)
@@ -35,7 +36,7 @@ decides_not false p = (λ h x. let z : false ≡ true = p.1 x in (cc), λ h. ref
 pub decides_number : (m n : ℕ) → IsTrue (nat_eq m n) ↔ (m ≡ n)
 decides_number m n = (λ h. eqb-true m n h, λ h. eq-eqb m n h)
 
-pub decides_flag : (a b : Bool) → IsTrue (same_flag a b) ↔ (a ≡ b)
+pub decides_flag : (a b : Bool) → IsTrue (bool_same a b) ↔ (a ≡ b)
 decides_flag true true = (λ h. refl, λ h. refl)
 decides_flag true false = (λ h. cc, λ h. cc)
 decides_flag false true = (λ h. cc, λ h. cc)

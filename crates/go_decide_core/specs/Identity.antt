@@ -1,15 +1,11 @@
 -- Which types are identical, as a test: the Go specification, "Type identity".
-use Rattle.std.specs.Prelude.{ℕ, Bool, true, false, not, ◌&&◌, ◌||◌, List, nat_eq}
+use Rattle.std.specs.Prelude.{ℕ, Bool, true, false, ◌&&◌, ◌||◌, List, nat_eq}
 use Rattle.std.specs.Str.{bytes_eq}
 use Rattle.go_term_core.specs.Terms.{Term, NoType, Predeclared, ErrorType, Defined, PointerTo, StructOf, InterfaceOf, Fields, NoField, AField, Methods, NoMethod, AMethod, Sign, SignOf, Terms, NoTerm, ATerm}
 use Rattle.go_term_core.specs.Identity.{method_count}
 use Rattle.go_mset_core.specs.table_core.Entries.{same_key, same_id}
 use Rattle.go_denote_core.specs.operand_core.Values.{is_basic}
-
--- the same, of two that are yes or no
-abbrev pub same_flag : Bool → Bool → Bool
-same_flag true b = b
-same_flag false b = not b
+use Rattle.go_denote_core.specs.constant_core.Values.{bool_same}
 
 -- the same tags, where tags count
 abbrev pub tags_agree : Bool → List ℕ → List ℕ → Bool
@@ -37,7 +33,7 @@ abbrev mutual
   pub same_fields : Bool → List ℕ → Fields → List ℕ → Fields → Bool
   same_fields tags p NoField q NoField = true
   same_fields tags p (AField name place embedded t tag fs) q (AField name' place' embedded' t' tag' gs) =
-      same_id name p name' q && (same_flag embedded embedded' && (identical_by tags t t' && (tags_agree tags tag tag' && same_fields tags p fs q gs)))
+      same_id name p name' q && (bool_same embedded embedded' && (identical_by tags t t' && (tags_agree tags tag tag' && same_fields tags p fs q gs)))
   same_fields tags p _ q _ = false
 
   -- each method of the one is a method of the other

@@ -1,14 +1,15 @@
 -- What a selector denotes, by a search through one depth after another: the Go specification, "Selectors".
-use Rattle.std.specs.Prelude.{ℕ, zero, suc, ◌+◌, ◌*◌, Bool, true, false, ◌||◌, List, [], ◌∷◌, ◌++◌, length, map, Result, Ok, Err, max, if◌then◌else◌}
+use Rattle.std.specs.Prelude.{ℕ, zero, suc, ◌+◌, ◌*◌, Bool, true, false, ◌||◌, List, [], ◌∷◌, ◌++◌, length, map, Result, Ok, Err, if◌then◌else◌}
 use Rattle.go_text_core.specs.Text.{is_blank}
 use Rattle.go_text_core.specs.declared.rule.Rule.{Rule}
 use Rattle.go_text_core.specs.declared.rule.Rule.TheVariants.{S1, S2, S3, S7, S8}
-use Rattle.go_term_core.specs.Terms.{Term, NoType, Predeclared, ErrorType, Defined, PointerTo, StructOf, InterfaceOf, Fields, NoField, AField}
+use Rattle.go_term_core.specs.Terms.{Term}
 use Rattle.go_mset_core.specs.table_core.Entries.{Entry, EntryLook, find_entry, same_id}
 use Rattle.go_mset_core.specs.embed_core.Owners.{EmbeddedEdge, owner_in, embedded_in, Found, AFieldOf, AMethodOf, AnInterfaces, TheErrorMethod, Named, members_of, has_spelled}
 use Rattle.go_mset_core.specs.embed_core.OwnersShown.{found_shown}
 use Rattle.go_mset_core.specs.level_core.declared.search.Selected.{Selected}
 use Rattle.go_mset_core.specs.level_core.Selectors.{Searched, Refused, In, FieldsIn, searched}
+use Rattle.go_mset_core.specs.table_core.Nesting.{nesting, deepest}
 
 -- a type that embedded fields lead to: these, whether one of them has a star, and the type
 pub record Trail : Type 0 where
@@ -71,25 +72,6 @@ some_spelled look name (w ∷ ws) = has_spelled (owner_in look w.node) name || s
 abbrev pub spelled_from : (ℕ → Bool) → ℕ → ℕ → Bool
 spelled_from spelled depth zero = spelled depth
 spelled_from spelled depth (suc more) = spelled depth || spelled_from spelled (suc depth) more
-
--- how deep struct types stand in a type as they are written, one embedded by another
-abbrev mutual
-  pub nesting : Term → ℕ
-  nesting NoType = 0
-  nesting (Predeclared b) = 0
-  nesting ErrorType = 0
-  nesting (Defined k) = 0
-  nesting (PointerTo t) = nesting t
-  nesting (StructOf path fs) = suc (fields_nesting fs)
-  nesting (InterfaceOf path ms) = 0
-
-  pub fields_nesting : Fields → ℕ
-  fields_nesting NoField = 0
-  fields_nesting (AField name place embedded t tag fs) = max (nesting t) (fields_nesting fs)
-
-abbrev pub deepest : List Entry → ℕ
-deepest [] = 0
-deepest (e ∷ es) = max (nesting e.term) (deepest es)
 
 -- a path that is longer than this comes to a type twice
 abbrev pub last_depth : List Entry → Term → ℕ

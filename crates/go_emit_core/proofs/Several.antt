@@ -5,8 +5,9 @@ use Rattle.go_meaning_core.specs.summary_core.Summaries.{SummaryModel}
 use Rattle.go_object_core.specs.Objects.{ObjectOf}
 use Rattle.go_meaning_core.specs.part_core.Inputs.{path_in}
 use Rattle.go_meaning_core.specs.part_core.Parts.{PartModel}
-use Rattle.go_emit_core.specs.Emitted.{if_there, object_over, objects_over, code_scene_over, told_by, whole_object}
+use Rattle.go_emit_core.specs.Emitted.{object_over, objects_over, code_scene_over, told_by, whole_object}
 use Rattle.go_emit_core.specs.Laws.{ObjectsAreOfTheirParts, is_unreported}
+use Rattle.go_meaning_core.specs.part_core.Slots.{if_there}
 
 module _ (all : List SummaryModel) where
   abbrev object_at : PartModel → Option (ObjectOf Declaration)

@@ -9,10 +9,11 @@ use Rattle.go_meaning_core.specs.ready_core.Packages.{trees_in}
 use Rattle.go_meaning_core.specs.part_core.Inputs.{InputModel, path_in}
 use Rattle.go_meaning_core.specs.part_core.Parts.{ContentOf, PartModel}
 use Rattle.go_meaning_core.specs.declared.tables.Tables.{Tables}
-use Rattle.go_emit_core.specs.Emitted.{are_clean, if_there, object_in, object_of, objects_over, code_scene_over, told_to, whole_object}
+use Rattle.go_emit_core.specs.Emitted.{are_clean, object_in, object_of, objects_over, code_scene_over, told_to, whole_object}
 use Rattle.go_meaning_core.specs.Scenes.{methods_spotted, package_decl_refs}
 use Rattle.go_meaning_core.specs.mirrors.Naming.{scene_from, scene_with}
 use Rattle.go_emit_core.specs.mirrors.Naming.{objects_with}
+use Rattle.go_meaning_core.specs.part_core.Slots.{if_there}
 
 -- these are the tables of what some packages tell
 module _ (t : Tables) (all : List SummaryModel) (types : t.types.now ≡ types_told all) (methods : t.methods ≡ methods_spotted (types_told all) (types_told all)) (faces : t.faces.now ≡ faces_told all) where

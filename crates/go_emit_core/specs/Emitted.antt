@@ -23,6 +23,7 @@ use Rattle.go_object_core.specs.Objects.{FunctionOf, ObjectOf}
 use Rattle.go_emit_core.specs.Imports.{all_passing}
 use Rattle.go_meaning_core.specs.Looking.{looks_of}
 use Rattle.go_meaning_core.specs.Scenes.{CodeScene, decl_at, package_decl_refs, scene_by}
+use Rattle.go_meaning_core.specs.part_core.Slots.{if_there}
 
 -- the scene
 
@@ -121,14 +122,6 @@ abbrev pub object_of : InputModel → ContentOf → Option (ObjectOf Declaration
 object_of i c = object_over (told_to i c) i c
 
 -- the objects of several packages
-
--- those that are there
-abbrev pub if_there : {A : Type 0} → Option A → List A
-if_there None = []
-if_there (Some x) = x ∷ []
-
-abbrev pub somes : {A : Type 0} → List (Option A) → List A
-somes xs = flat_map if_there xs
 
 -- what parts tell, in their order
 abbrev pub told_by : List PartModel → List SummaryModel

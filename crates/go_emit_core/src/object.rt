@@ -7,10 +7,11 @@ ghost use Rattle.go_meaning_core.specs.summary_core.Views.{PathsAreApart, faces_
 ghost use Rattle.go_meaning_core.specs.graph_core.Packages.{trees_of};
 ghost use Rattle.go_object_core.specs.Objects.{function_shown, object_shown};
 ghost use Rattle.go_meaning_core.specs.part_core.Parts.{file_shown};
-ghost use Rattle.go_emit_core.specs.Emitted.{AreOfDifferentPackages, are_clean, code_scene_over, object_of, objects_of, somes, told_by, told_to, whole_object};
+ghost use Rattle.go_emit_core.specs.Emitted.{AreOfDifferentPackages, are_clean, code_scene_over, object_of, objects_of, told_by, told_to, whole_object};
 ghost use Rattle.go_emit_core.specs.mirrors.Listing.{outlines_functions};
 ghost use Rattle.go_meaning_core.specs.mirrors.Naming.{code_scene_shown, scene_with};
 ghost use Rattle.go_emit_core.specs.mirrors.Naming.{objects_with};
+ghost use Rattle.go_meaning_core.specs.part_core.Slots.{somes};
 
 use crate::functions::add_file;
 use crate::imports::passing_of;

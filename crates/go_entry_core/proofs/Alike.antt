@@ -14,9 +14,10 @@ use Rattle.go_term_core.specs.decl_core.Outer.{last_ident}
 use Rattle.go_entry_core.specs.Entries.{Received, Meanings, type_key, method_place, methods_received, func_methods, decl_methods, entry_of, file_at, file_methods, file_entries, package_methods}
 use Rattle.go_entry_core.specs.Laws.{EntriesAreLocal}
 use Rattle.go_entry_core.specs.Meanings.{file_meaning}
-use Rattle.go_entry_core.specs.Names.{written_type_names, written_field_names, written_method_names, written_signature_names, written_result_names, written_param_names, received_names, form_names, names_written}
+use Rattle.go_entry_core.specs.Names.{received_names, form_names, names_written}
 use Rattle.go_entry_core.specs.Outlines.{FileOutline}
 use Rattle.go_entry_core.proofs.Among.{Among, among_left, among_right, among_to}
+use Rattle.go_tree_nodes.specs.TypeNames.{type_names_in, field_names_in, method_names_in, signature_names_in, result_names_in, param_names_in}
 
 abbrev Agrees : Meaning → Meaning → List TypeName → Type 0
 Agrees mean other ns = (x : TypeName) → Among ns x → mean x ≡ other x
@@ -28,47 +29,47 @@ agrees_right : (mean other : Meaning) (xs ys : List TypeName) → Agrees mean ot
 agrees_right mean other xs ys h = λ x a. h x (among_right xs ys x a)
 
 mutual
-  type_alike : (mean other : Meaning) (f : InFile) (t : TypeTree) → Agrees mean other (written_type_names t) → term_of mean f t ≡ term_of other f t
+  type_alike : (mean other : Meaning) (f : InFile) (t : TypeTree) → Agrees mean other (type_names_in t) → term_of mean f t ≡ term_of other f t
   type_alike mean other f (NamedType n) h = h n (inl refl)
   type_alike mean other f (Pointer s t) h = ap PointerTo (type_alike mean other f t h)
   type_alike mean other f (ParenType a t b) h = type_alike mean other f t h
   type_alike mean other f (Struct a b fs c) h = ap (StructOf f.path) (fields_alike mean other f fs h)
   type_alike mean other f (Interface a b ms c) h = ap (InterfaceOf f.path) (methods_alike mean other f ms h)
 
-  fields_alike : (mean other : Meaning) (f : InFile) (fs : FieldTrees) → Agrees mean other (written_field_names fs) → fields_of_tree mean f fs ≡ fields_of_tree other f fs
+  fields_alike : (mean other : Meaning) (f : InFile) (fs : FieldTrees) → Agrees mean other (field_names_in fs) → fields_of_tree mean f fs ≡ fields_of_tree other f fs
   fields_alike mean other f NoFields h = refl
   fields_alike mean other f (NamedFields xs t tag semicolon fs) h =
-      let first = type_alike mean other f t (agrees_left mean other (written_type_names t) (written_field_names fs) h) in
-      let rest = fields_alike mean other f fs (agrees_right mean other (written_type_names t) (written_field_names fs) h) in
+      let first = type_alike mean other f t (agrees_left mean other (type_names_in t) (field_names_in fs) h) in
+      let rest = fields_alike mean other f fs (agrees_right mean other (type_names_in t) (field_names_in fs) h) in
       λ i. named_fields f (first i) (tag_of tag) xs (rest i)
   fields_alike mean other f (EmbeddedField star n tag semicolon fs) h =
       let first = h n (inl refl) in
       let rest = fields_alike mean other f fs (λ x a. h x (inr a)) in
       λ i. AField (last_ident n).name (member_place f kinds.Field (last_ident n).span.start) true (term_starred star (first i)) (tag_of tag) (rest i)
 
-  methods_alike : (mean other : Meaning) (f : InFile) (ms : MethodTrees) → Agrees mean other (written_method_names ms) → methods_of_tree mean f ms ≡ methods_of_tree other f ms
+  methods_alike : (mean other : Meaning) (f : InFile) (ms : MethodTrees) → Agrees mean other (method_names_in ms) → methods_of_tree mean f ms ≡ methods_of_tree other f ms
   methods_alike mean other f NoMethods h = refl
   methods_alike mean other f (Method x g semicolon ms) h =
-      let first = signature_alike mean other f g (agrees_left mean other (written_signature_names g) (written_method_names ms) h) in
-      let rest = methods_alike mean other f ms (agrees_right mean other (written_signature_names g) (written_method_names ms) h) in
+      let first = signature_alike mean other f g (agrees_left mean other (signature_names_in g) (method_names_in ms) h) in
+      let rest = methods_alike mean other f ms (agrees_right mean other (signature_names_in g) (method_names_in ms) h) in
       λ i. AMethod x.name (member_place f kinds.Method x.span.start) (first i) (rest i)
 
-  signature_alike : (mean other : Meaning) (f : InFile) (g : SignatureTree) → Agrees mean other (written_signature_names g) → signature_of mean f g ≡ signature_of other f g
+  signature_alike : (mean other : Meaning) (f : InFile) (g : SignatureTree) → Agrees mean other (signature_names_in g) → signature_of mean f g ≡ signature_of other f g
   signature_alike mean other f (Signed a ps b r) h =
-      let first = params_alike mean other f ps (agrees_left mean other (written_param_names ps) (written_result_names r) h) in
-      let rest = results_alike mean other f r (agrees_right mean other (written_param_names ps) (written_result_names r) h) in
+      let first = params_alike mean other f ps (agrees_left mean other (param_names_in ps) (result_names_in r) h) in
+      let rest = results_alike mean other f r (agrees_right mean other (param_names_in ps) (result_names_in r) h) in
       λ i. SignOf (first i) (rest i)
 
-  results_alike : (mean other : Meaning) (f : InFile) (r : ResultTree) → Agrees mean other (written_result_names r) → results_of_tree mean f r ≡ results_of_tree other f r
+  results_alike : (mean other : Meaning) (f : InFile) (r : ResultTree) → Agrees mean other (result_names_in r) → results_of_tree mean f r ≡ results_of_tree other f r
   results_alike mean other f NoResult h = refl
   results_alike mean other f (OneResult t) h = ap (λ u. ATerm u NoTerm) (type_alike mean other f t h)
   results_alike mean other f (Results a ps b) h = params_alike mean other f ps h
 
-  params_alike : (mean other : Meaning) (f : InFile) (ps : ParamTrees) → Agrees mean other (written_param_names ps) → params_of_tree mean f ps ≡ params_of_tree other f ps
+  params_alike : (mean other : Meaning) (f : InFile) (ps : ParamTrees) → Agrees mean other (param_names_in ps) → params_of_tree mean f ps ≡ params_of_tree other f ps
   params_alike mean other f NoParams h = refl
   params_alike mean other f (Param xs t comma ps) h =
-      let first = type_alike mean other f t (agrees_left mean other (written_type_names t) (written_param_names ps) h) in
-      let rest = params_alike mean other f ps (agrees_right mean other (written_type_names t) (written_param_names ps) h) in
+      let first = type_alike mean other f t (agrees_left mean other (type_names_in t) (param_names_in ps) h) in
+      let rest = params_alike mean other f ps (agrees_right mean other (type_names_in t) (param_names_in ps) h) in
       λ i. for_names (first i) xs (rest i)
 
 -- declarations

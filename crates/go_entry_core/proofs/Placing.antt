@@ -13,7 +13,8 @@ use Rattle.go_table_core.specs.Shown.{entry_shown}
 use Rattle.go_table_core.specs.Tables.{KeysRise}
 use Rattle.go_table_core.proofs.Keys.{Before, before_on, rise_rest, same_key_from, same_key_true}
 use Rattle.go_entry_core.specs.Entries.{is_type_of}
-use Rattle.go_entry_core.specs.mirrors.Gaining.{is_before, IsMeantAt}
+use Rattle.go_entry_core.specs.mirrors.Gaining.{IsMeantAt}
+use Rattle.go_term_core.specs.decl_core.Order.{is_ref_before}
 
 -- a type of a key
 pub type_is : (k : DeclKey) (t : Term) → is_type_of k t ≡ true → t ≡ Defined k
@@ -27,22 +28,22 @@ type_is k (InterfaceOf path ms) h = absurd (true≢false (sym h))
 
 -- before and behind
 
-before_from : (a b : DeclRef) → is_before a b ≡ true → Before a b
+before_from : (a b : DeclRef) → is_ref_before a b ≡ true → Before a b
 before_from a b h = elim (or_cases (nat_lt a.file b.file) (nat_eq a.file b.file && nat_lt a.number b.number) h) [
   | inl f ↦ inl (ltb-true a.file b.file f)
   | inr s ↦ (let p = and_parts (nat_eq a.file b.file) (nat_lt a.number b.number) s in inr (eqb-true a.file b.file p.0, ltb-true a.number b.number p.1))
 ]
 
-before_to : (a b : DeclRef) → Before a b → is_before a b ≡ true
+before_to : (a b : DeclRef) → Before a b → is_ref_before a b ≡ true
 before_to a b h = elim h [
   | inl f ↦ or_left (nat_lt a.file b.file) (nat_eq a.file b.file && nat_lt a.number b.number) (lt-ltb a.file b.file f)
   | inr s ↦ or_right (nat_lt a.file b.file) (nat_eq a.file b.file && nat_lt a.number b.number) (and_from (nat_eq a.file b.file) (nat_lt a.number b.number) (eq-eqb a.file b.file s.0) (lt-ltb a.number b.number s.1))
 ]
 
-pub is_before_on : (a b c : DeclRef) → is_before a b ≡ true → is_before b c ≡ true → is_before a c ≡ true
+pub is_before_on : (a b c : DeclRef) → is_ref_before a b ≡ true → is_ref_before b c ≡ true → is_ref_before a c ≡ true
 is_before_on a b c h k = before_to a c (before_on a b c (before_from a b h) (before_from b c k))
 
-pub not_before_itself : (a b : DeclRef) → a ≡ b → is_before a b ≡ true → ⊥
+pub not_before_itself : (a b : DeclRef) → a ≡ b → is_ref_before a b ≡ true → ⊥
 not_before_itself a b e h =
     let file : a.file ≡ b.file = ap (λ d. d.file) e in
     let number : a.number ≡ b.number = ap (λ d. d.number) e in
@@ -50,17 +51,17 @@ not_before_itself a b e h =
 
 -- entries that rise
 
-rise_first : (w : Entry) (es : List Entry) → KeysRise (w ∷ es) → (i : ℕ) (e : Entry) → slice_get es i ≡ Some e → is_before w.key.decl e.key.decl ≡ true
+rise_first : (w : Entry) (es : List Entry) → KeysRise (w ∷ es) → (i : ℕ) (e : Entry) → slice_get es i ≡ Some e → is_ref_before w.key.decl e.key.decl ≡ true
 rise_first w [] rise i e h = absurd (let no : None ≡ Some e = h in cc)
-rise_first w (v ∷ es) rise zero e h = (let ve : v ≡ e = (let s : Some v ≡ Some e = h in cc) in subst (λ (x : Entry). is_before w.key.decl x.key.decl ≡ true) ve rise.0)
+rise_first w (v ∷ es) rise zero e h = (let ve : v ≡ e = (let s : Some v ≡ Some e = h in cc) in subst (λ (x : Entry). is_ref_before w.key.decl x.key.decl ≡ true) ve rise.0)
 rise_first w (v ∷ es) rise (suc i) e h = is_before_on w.key.decl v.key.decl e.key.decl rise.0 (rise_first v es rise.1 i e h)
 
-pub rise_far : (es : List Entry) → KeysRise es → (i j : ℕ) (e f : Entry) → slice_get es i ≡ Some e → slice_get es j ≡ Some f → i < j → is_before e.key.decl f.key.decl ≡ true
+pub rise_far : (es : List Entry) → KeysRise es → (i j : ℕ) (e f : Entry) → slice_get es i ≡ Some e → slice_get es j ≡ Some f → i < j → is_ref_before e.key.decl f.key.decl ≡ true
 rise_far [] rise i j e f h k lt = absurd (let no : None ≡ Some e = h in cc)
 rise_far (x ∷ es) rise zero zero e f h k lt = absurd (omega (arith, lt))
 rise_far (x ∷ es) rise zero (suc j) e f h k lt =
     let same : x ≡ e = (let s : Some x ≡ Some e = h in cc) in
-    subst (λ (y : Entry). is_before y.key.decl f.key.decl ≡ true) same (rise_first x es rise j f k)
+    subst (λ (y : Entry). is_ref_before y.key.decl f.key.decl ≡ true) same (rise_first x es rise j f k)
 rise_far (x ∷ es) rise (suc i) zero e f h k lt = absurd (omega (arith, lt))
 rise_far (x ∷ es) rise (suc i) (suc j) e f h k lt = rise_far es (rise_rest x es rise) i j e f h k (omega (arith, lt))
 
@@ -79,9 +80,9 @@ rise_one es rise i j e f h k same = elim (cases_order i j) [
 shown_at : (ws : List TypeEntry) (i : ℕ) (d : TypeEntry) → i < length ws → slice_get (map entry_shown ws) i ≡ Some (entry_shown (get_or ws i d))
 shown_at ws i d lt = slice_get-map entry_shown ws i ∙ ap (option_map entry_shown) (slice_get-get_or ws i d lt)
 
-pub rise_split : (ws : List TypeEntry) (d : DeclRef) → KeysRise (map entry_shown ws) → IsPartitionedBy (λ e. is_before e.key.decl d) ws
+pub rise_split : (ws : List TypeEntry) (d : DeclRef) → KeysRise (map entry_shown ws) → IsPartitionedBy (λ e. is_ref_before e.key.decl d) ws
 rise_split ws d rise i j x le lt h = elim (cases_order i j) [
-  | inl same ↦ subst (λ (k : ℕ). is_before (get_or ws k x).key.decl d ≡ true) (sym same) h
+  | inl same ↦ subst (λ (k : ℕ). is_ref_before (get_or ws k x).key.decl d ≡ true) (sym same) h
   | inr apart ↦ elim apart [
     | inl less ↦ (
         let within : i < length ws = omega (arith, le, lt) in
@@ -93,7 +94,7 @@ rise_split ws d rise i j x le lt h = elim (cases_order i j) [
 ]
 
 abbrev IsSplit : List TypeEntry → DeclKey → ℕ → Type 0
-IsSplit ws k n = IsPartitionPoint (λ (e : TypeEntry). is_before e.key.decl k.decl ≡ true) (λ (e : TypeEntry). is_before e.key.decl k.decl ≡ false) ws n
+IsSplit ws k n = IsPartitionPoint (λ (e : TypeEntry). is_ref_before e.key.decl k.decl ≡ true) (λ (e : TypeEntry). is_ref_before e.key.decl k.decl ≡ false) ws n
 
 pub entry_here : (ws : List TypeEntry) (k : DeclKey) (n : ℕ) (w : TypeEntry) → slice_get ws n ≡ Some w → w.key ≡ k → IsMeantAt (map entry_shown ws) (Defined k) (Some n)
 entry_here ws k n w at same = (entry_shown w, slice_get-map entry_shown ws n ∙ ap (option_map entry_shown) at, same_key_from k w.key (sym same))
@@ -115,12 +116,12 @@ entry_nowhere ws k n rise split none i e at = false_from_ne_true (same_key k e.k
     elim (cases_order i n) [
       | inl here ↦ none w.0 (ap (slice_get ws) (sym here) ∙ w.1) own
       | inr apart ↦ elim apart [
-        | inl less ↦ not_before_itself w.0.key.decl k.decl decl (ap (λ (y : TypeEntry). is_before y.key.decl k.decl) (sym read) ∙ split.0 i w.0 (omega arith) less)
+        | inl less ↦ not_before_itself w.0.key.decl k.decl decl (ap (λ (y : TypeEntry). is_ref_before y.key.decl k.decl) (sym read) ∙ split.0 i w.0 (omega arith) less)
         | inr more ↦ (
             let lt : n < length ws = omega (arith, within, more) in
-            let below : is_before (get_or ws n w.0).key.decl (get_or ws i w.0).key.decl ≡ true =
+            let below : is_ref_before (get_or ws n w.0).key.decl (get_or ws i w.0).key.decl ≡ true =
             rise_far (map entry_shown ws) rise n i (entry_shown (get_or ws n w.0)) (entry_shown (get_or ws i w.0)) (shown_at ws n w.0 lt) (shown_at ws i w.0 within) more in
-            let yes : is_before (get_or ws n w.0).key.decl k.decl ≡ true = ap (is_before (get_or ws n w.0).key.decl) (sym (ap (λ (y : TypeEntry). y.key.decl) read ∙ decl)) ∙ below in
+            let yes : is_ref_before (get_or ws n w.0).key.decl k.decl ≡ true = ap (is_ref_before (get_or ws n w.0).key.decl) (sym (ap (λ (y : TypeEntry). y.key.decl) read ∙ decl)) ∙ below in
             true≢false (sym yes ∙ split.1 n w.0 (omega arith) lt)
             )
       ]

@@ -9,7 +9,8 @@ ghost use Rattle.go_table_core.specs.Shown.{entry_shown, member_shown};
 ghost use Rattle.go_table_core.specs.Tables.{KeysRise};
 ghost use Rattle.go_written_core.specs.Written.{in_file};
 ghost use Rattle.go_entry_core.specs.Entries.{decl_methods, file_methods, method_of, received_of};
-ghost use Rattle.go_entry_core.specs.mirrors.Gaining.{all_gaining, is_before, IsMeantAt};
+ghost use Rattle.go_entry_core.specs.mirrors.Gaining.{all_gaining, IsMeantAt};
+ghost use Rattle.go_term_core.specs.decl_core.Order.{is_ref_before};
 
 use go_table_core::{DeclaredMethod, TypeEntry};
 use go_term_core::decl_core::{DeclForm, DeclKey, DeclKind, DeclRef, TopDecl};
@@ -21,7 +22,7 @@ use std::alloc::{AllocError, Global};
 
 // Whether a declaration stands before another of its package: by file, then by number there.
 fn is_before(one: DeclRef, other: DeclRef) -> bool
-    ensures { result ≡ is_before one other }
+    ensures { result ≡ is_ref_before one other }
 {
     one.file < other.file || (one.file == other.file && one.number < other.number)
 }
@@ -30,11 +31,11 @@ fn is_before(one: DeclRef, other: DeclRef) -> bool
 fn count_before(entries: &[TypeEntry], decl: DeclRef) -> usize
     requires { KeysRise (map entry_shown entries.now) }
     ensures bound { result ≤ length entries.now }
-    ensures split { IsPartitionPoint (λ e. is_before e.key.decl decl ≡ true) (λ e. is_before e.key.decl decl ≡ false) entries.now result }
+    ensures split { IsPartitionPoint (λ e. is_ref_before e.key.decl decl ≡ true) (λ e. is_ref_before e.key.decl decl ≡ false) entries.now result }
 {
     entries.partition_point(
         |entry: &TypeEntry| -> bool
-            ensures { result ≡ is_before entry.now.key.decl decl }
+            ensures { result ≡ is_ref_before entry.now.key.decl decl }
         { is_before(entry.key.decl, decl) },
     )
 }

@@ -53,9 +53,11 @@ use Rattle.go_expr_core.specs.Elements.{key_names, all_keys, keys_of, is_mixed, 
 use Rattle.go_expr_core.specs.Uses.{made_use, uses, spots, type_name_spots, type_name_uses, type_spots, fields_spots, methods_spots, signature_spots, result_spots, params_spots, key_spots, key_uses, args_spots, args_uses, items_spots, items_uses}
 use Rattle.go_expr_core.specs.TypeUses.{type_uses, fields_uses, methods_uses, signature_uses, result_uses, params_uses}
 use Rattle.go_expr_core.specs.Faults.{fault_at, listed_rule, faults, args_faults, items_faults, operand_faults, literal_faults}
-use Rattle.go_expr_core.specs.Laws.{type_name_idents, type_idents, fields_idents, methods_idents, signature_type_idents, result_type_idents, params_idents, expr_idents, items_idents, AgreeOnIdents, type_names_of, field_names_of, method_names_of, signature_names_of, result_names_of, param_names_of, SameTypes, LooksAtNames, finding, Same, ExpressionsAreLocal}
+use Rattle.go_expr_core.specs.Laws.{AgreeOnIdents, SameTypes, LooksAtNames, finding, Same, ExpressionsAreLocal}
 use Rattle.go_expr_core.specs.Needed.{needed_idents, needed_by_args, DenotedByNeededNames}
 use Rattle.go_expr_core.specs.Locality.{needed_types, needed_types_in, SameType, SameWritten, seeing, ExpressionsAreSeenAlike}
+use Rattle.go_tree_nodes.specs.Idents.{type_name_idents, type_idents, fields_idents, methods_idents, signature_type_idents, result_type_idents, params_idents, expr_idents, items_idents}
+use Rattle.go_tree_nodes.specs.TypeNames.{type_names_in, field_names_in, method_names_in, signature_names_in, result_names_in, param_names_in}
 
 -- what is asked of types is the same
 
@@ -464,38 +466,38 @@ module _ {T S D P : Type 0} (looks : Looks T S D P) (find : List ℕ → ℕ →
   Names ns = SameTypes (named_type looks) (named_type found) ns
 
   mutual
-    type_agrees : (t : TypeTree) → Finds (type_idents t) → Names (type_names_of t)
+    type_agrees : (t : TypeTree) → Finds (type_idents t) → Names (type_names_in t)
     type_agrees (NamedType n) h = (named_same looks find looks.written n h, tt)
     type_agrees (Pointer star t) h = type_agrees t h
     type_agrees (ParenType first t last) h = type_agrees t h
     type_agrees (Struct k first ls last) h = fields_agree ls h
     type_agrees (Interface k first methods last) h = methods_agree methods h
 
-    fields_agree : (ls : FieldTrees) → Finds (fields_idents ls) → Names (field_names_of ls)
+    fields_agree : (ls : FieldTrees) → Finds (fields_idents ls) → Names (field_names_in ls)
     fields_agree NoFields h = tt
     fields_agree (NamedFields xs t tag s rest) h =
-        same_both _ _ (type_names_of t) (field_names_of rest) (type_agrees t (agree_left _ _ (type_idents t) (fields_idents rest) h)) (fields_agree rest (agree_right _ _ (type_idents t) (fields_idents rest) h))
+        same_both _ _ (type_names_in t) (field_names_in rest) (type_agrees t (agree_left _ _ (type_idents t) (fields_idents rest) h)) (fields_agree rest (agree_right _ _ (type_idents t) (fields_idents rest) h))
     fields_agree (EmbeddedField star n tag s rest) h =
         (named_same looks find looks.written n (agree_left _ _ (type_name_idents n) (fields_idents rest) h), fields_agree rest (agree_right _ _ (type_name_idents n) (fields_idents rest) h))
 
-    methods_agree : (ms : MethodTrees) → Finds (methods_idents ms) → Names (method_names_of ms)
+    methods_agree : (ms : MethodTrees) → Finds (methods_idents ms) → Names (method_names_in ms)
     methods_agree NoMethods h = tt
     methods_agree (Method x signature s rest) h =
-        same_both _ _ (signature_names_of signature) (method_names_of rest) (signature_agrees signature (agree_left _ _ (signature_type_idents signature) (methods_idents rest) h)) (methods_agree rest (agree_right _ _ (signature_type_idents signature) (methods_idents rest) h))
+        same_both _ _ (signature_names_in signature) (method_names_in rest) (signature_agrees signature (agree_left _ _ (signature_type_idents signature) (methods_idents rest) h)) (methods_agree rest (agree_right _ _ (signature_type_idents signature) (methods_idents rest) h))
 
-    signature_agrees : (s : SignatureTree) → Finds (signature_type_idents s) → Names (signature_names_of s)
+    signature_agrees : (s : SignatureTree) → Finds (signature_type_idents s) → Names (signature_names_in s)
     signature_agrees (Signed first params last result) h =
-        same_both _ _ (param_names_of params) (result_names_of result) (params_agree params (agree_left _ _ (params_idents params) (result_type_idents result) h)) (result_agrees result (agree_right _ _ (params_idents params) (result_type_idents result) h))
+        same_both _ _ (param_names_in params) (result_names_in result) (params_agree params (agree_left _ _ (params_idents params) (result_type_idents result) h)) (result_agrees result (agree_right _ _ (params_idents params) (result_type_idents result) h))
 
-    result_agrees : (r : ResultTree) → Finds (result_type_idents r) → Names (result_names_of r)
+    result_agrees : (r : ResultTree) → Finds (result_type_idents r) → Names (result_names_in r)
     result_agrees NoResult h = tt
     result_agrees (OneResult t) h = type_agrees t h
     result_agrees (Results first params last) h = params_agree params h
 
-    params_agree : (ps : ParamTrees) → Finds (params_idents ps) → Names (param_names_of ps)
+    params_agree : (ps : ParamTrees) → Finds (params_idents ps) → Names (param_names_in ps)
     params_agree NoParams h = tt
     params_agree (Param xs t comma rest) h =
-        same_both _ _ (type_names_of t) (param_names_of rest) (type_agrees t (agree_left _ _ (type_idents t) (params_idents rest) h)) (params_agree rest (agree_right _ _ (type_idents t) (params_idents rest) h))
+        same_both _ _ (type_names_in t) (param_names_in rest) (type_agrees t (agree_left _ _ (type_idents t) (params_idents rest) h)) (params_agree rest (agree_right _ _ (type_idents t) (params_idents rest) h))
 
   type_made : (t : TypeTree) → Finds (type_idents t) → SameType T S D P looks found t
   type_made t h = record { type_of = law.type_of _ _ t (type_agrees t h); faults_of = law.faults_of _ _ t (type_agrees t h) }

@@ -1,10 +1,10 @@
 -- What holds of expressions.
-use Rattle.std.specs.Prelude.{◌≡◌, ℕ, ⊤, Bool, List, [], ◌∷◌, ◌++◌, map, Option}
+use Rattle.std.specs.Prelude.{◌≡◌, ℕ, ⊤, Bool, List, [], ◌∷◌, map, Option}
 use Rattle.go_tree_nodes.specs.declared.names.Ident.{Ident}
 use Rattle.go_tree_nodes.specs.declared.types.TypeName.{TypeName}
 use Rattle.go_tree_nodes.specs.declared.types.TypeName.TheVariants as type_names
 use Rattle.go_tree_nodes.specs.Rules.{Wf}
-use Rattle.go_tree_nodes.specs.Trees.{TypeTree, FieldTrees, MethodTrees, SignatureTree, ResultTree, ParamTrees, NamedType, Pointer, ParenType, Struct, Interface, NoFields, NamedFields, EmbeddedField, NoMethods, Method, Signed, NoResult, OneResult, Results, NoParams, Param, ExprTree, ItemTrees, Integer, Text, Named, Paren, Unary, Binary, Select, Call, Literal, StructLiteral, NoItems, Item}
+use Rattle.go_tree_nodes.specs.Trees.{TypeTree, ExprTree}
 use Rattle.go_tree_core.specs.declared.occurrence.Role.{Role}
 use Rattle.go_tree_core.specs.declared.occurrence.Context as tree_context
 use Rattle.go_tree_core.specs.declared.occurrence.Context.TheVariants as contexts
@@ -19,6 +19,8 @@ use Rattle.go_expr_core.specs.Denoting.{denoted}
 use Rattle.go_expr_core.specs.Uses.{uses}
 use Rattle.go_expr_core.specs.TypeUses.{type_uses}
 use Rattle.go_expr_core.specs.Faults.{faults}
+use Rattle.go_tree_nodes.specs.TypeNames.{type_names_in}
+use Rattle.go_tree_nodes.specs.Idents.{expr_idents}
 
 -- each occurrence has exactly one outcome, and no other place has one
 
@@ -43,92 +45,10 @@ pub record UsesAreOccurrences (T S D P : Type 0) : Type 0 where
 
 -- names are looked up where they stand, and nothing else is looked up by a name
 
--- the identifiers of a type's name that are looked up: of a qualified one the package
-abbrev pub type_name_idents : TypeName → List Ident
-type_name_idents (type_names.Plain x) = x ∷ []
-type_name_idents (type_names.Qualified p dot x) = p ∷ []
-
-abbrev mutual
-  pub type_idents : TypeTree → List Ident
-  type_idents (NamedType n) = type_name_idents n
-  type_idents (Pointer star t) = type_idents t
-  type_idents (ParenType first t last) = type_idents t
-  type_idents (Struct k first ls last) = fields_idents ls
-  type_idents (Interface k first methods last) = methods_idents methods
-
-  pub fields_idents : FieldTrees → List Ident
-  fields_idents NoFields = []
-  fields_idents (NamedFields xs t tag s rest) = type_idents t ++ fields_idents rest
-  fields_idents (EmbeddedField star n tag s rest) = type_name_idents n ++ fields_idents rest
-
-  pub methods_idents : MethodTrees → List Ident
-  methods_idents NoMethods = []
-  methods_idents (Method x signature s rest) = signature_type_idents signature ++ methods_idents rest
-
-  pub signature_type_idents : SignatureTree → List Ident
-  signature_type_idents (Signed first params last result) = params_idents params ++ result_type_idents result
-
-  pub result_type_idents : ResultTree → List Ident
-  result_type_idents NoResult = []
-  result_type_idents (OneResult t) = type_idents t
-  result_type_idents (Results first params last) = params_idents params
-
-  pub params_idents : ParamTrees → List Ident
-  params_idents NoParams = []
-  params_idents (Param xs t comma rest) = type_idents t ++ params_idents rest
-
-abbrev mutual
-  -- the identifiers of an expression that are looked up: keys and names behind a dot are not
-  pub expr_idents : ExprTree → List Ident
-  expr_idents (Integer n span) = []
-  expr_idents (Text t) = []
-  expr_idents (Named x) = x ∷ []
-  expr_idents (Paren first e last) = expr_idents e
-  expr_idents (Unary op span e) = expr_idents e
-  expr_idents (Binary a op span b) = expr_idents a ++ expr_idents b
-  expr_idents (Select e dot x) = expr_idents e
-  expr_idents (Call e first items last) = expr_idents e ++ items_idents items
-  expr_idents (Literal n first items last) = type_name_idents n ++ items_idents items
-  expr_idents (StructLiteral t first items last) = type_idents t ++ items_idents items
-
-  pub items_idents : ItemTrees → List Ident
-  items_idents NoItems = []
-  items_idents (Item key e comma rest) = expr_idents e ++ items_idents rest
-
 -- two look-ups of names agree on each of these identifiers, where it stands
 abbrev pub AgreeOnIdents : {T S D : Type 0} → (List ℕ → ℕ → Found T S D) → (List ℕ → ℕ → Found T S D) → List Ident → Type 0
 AgreeOnIdents find other [] = ⊤
 AgreeOnIdents find other (x ∷ xs) = (find x.name x.span.start ≡ other x.name x.span.start) × AgreeOnIdents find other xs
-
--- the names of types that a type writes
-abbrev mutual
-  pub type_names_of : TypeTree → List TypeName
-  type_names_of (NamedType n) = n ∷ []
-  type_names_of (Pointer star t) = type_names_of t
-  type_names_of (ParenType first t last) = type_names_of t
-  type_names_of (Struct k first ls last) = field_names_of ls
-  type_names_of (Interface k first methods last) = method_names_of methods
-
-  pub field_names_of : FieldTrees → List TypeName
-  field_names_of NoFields = []
-  field_names_of (NamedFields xs t tag s rest) = type_names_of t ++ field_names_of rest
-  field_names_of (EmbeddedField star n tag s rest) = n ∷ field_names_of rest
-
-  pub method_names_of : MethodTrees → List TypeName
-  method_names_of NoMethods = []
-  method_names_of (Method x signature s rest) = signature_names_of signature ++ method_names_of rest
-
-  pub signature_names_of : SignatureTree → List TypeName
-  signature_names_of (Signed first params last result) = param_names_of params ++ result_names_of result
-
-  pub result_names_of : ResultTree → List TypeName
-  result_names_of NoResult = []
-  result_names_of (OneResult t) = type_names_of t
-  result_names_of (Results first params last) = param_names_of params
-
-  pub param_names_of : ParamTrees → List TypeName
-  param_names_of NoParams = []
-  param_names_of (Param xs t comma rest) = type_names_of t ++ param_names_of rest
 
 abbrev pub SameTypes : {T : Type 0} → (TypeName → Option T) → (TypeName → Option T) → List TypeName → Type 0
 SameTypes types other [] = ⊤
@@ -136,8 +56,8 @@ SameTypes types other (n ∷ ns) = (types n ≡ other n) × SameTypes types othe
 
 -- what is made of a type that is written out looks at the names in it alone
 pub record LooksAtNames (T : Type 0) (written : WrittenRules T) : Type 0 where
-  pub type_of : (types other : TypeName → Option T) (t : TypeTree) → SameTypes types other (type_names_of t) → written.type_of types t ≡ written.type_of other t
-  pub faults_of : (types other : TypeName → Option T) (t : TypeTree) → SameTypes types other (type_names_of t) → written.faults_of types t ≡ written.faults_of other t
+  pub type_of : (types other : TypeName → Option T) (t : TypeTree) → SameTypes types other (type_names_in t) → written.type_of types t ≡ written.type_of other t
+  pub faults_of : (types other : TypeName → Option T) (t : TypeTree) → SameTypes types other (type_names_in t) → written.faults_of types t ≡ written.faults_of other t
 
 -- the look-ups with another look-up of names
 abbrev pub finding : {T S D P : Type 0} → (List ℕ → ℕ → Found T S D) → Looks T S D P → Looks T S D P

@@ -8,8 +8,9 @@ use Rattle.go_literal_core.specs.denote_core.declared.things.Stand.{Stand}
 use Rattle.go_literal_core.specs.denote_core.declared.things.Found.{Found}
 use Rattle.go_expr_core.specs.Looks.{Looks, WrittenRules}
 use Rattle.go_expr_core.specs.Denoting.{named_type, written_type, denoted}
-use Rattle.go_expr_core.specs.Laws.{expr_idents, AgreeOnIdents, Same}
+use Rattle.go_expr_core.specs.Laws.{AgreeOnIdents, Same}
 use Rattle.go_expr_core.specs.Needed.{needed_idents}
+use Rattle.go_tree_nodes.specs.Idents.{expr_idents}
 
 abbrev mutual
   -- the struct types before literals that what an expression denotes needs: none in the elements of a literal

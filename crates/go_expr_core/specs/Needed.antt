@@ -8,7 +8,8 @@ use Rattle.go_literal_core.specs.denote_core.declared.things.Stand.{Stand}
 use Rattle.go_literal_core.specs.denote_core.declared.things.Found.{Found}
 use Rattle.go_expr_core.specs.Looks.{Looks}
 use Rattle.go_expr_core.specs.Denoting.{denoted}
-use Rattle.go_expr_core.specs.Laws.{type_name_idents, type_idents, AgreeOnIdents, LooksAtNames, finding}
+use Rattle.go_expr_core.specs.Laws.{AgreeOnIdents, LooksAtNames, finding}
+use Rattle.go_tree_nodes.specs.Idents.{type_name_idents, type_idents}
 
 abbrev mutual
   -- the identifiers that are looked up for what an expression denotes, in order of their places

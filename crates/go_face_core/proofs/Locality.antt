@@ -15,7 +15,6 @@ use Rattle.go_handle_core.specs.settle_core.Local.{settling_is_local, sign_alike
 use Rattle.go_handle_core.specs.settle_core.Mentions.{settled_mentions_written}
 use Rattle.go_term_core.specs.Terms.{Term, NoType, Predeclared, ErrorType, Defined, PointerTo, StructOf, InterfaceOf, is_no_type, term_keys, sign_keys}
 use Rattle.go_handle_core.specs.table_core.Entries.{Entry, find_entry, term_in}
-use Rattle.go_entry_core.specs.written_core.Laws.{type_names_in, signature_names_in}
 use Rattle.go_entry_core.specs.written_core.Written.{InFile, Meaning, term_of, signature_of}
 use Rattle.go_entry_core.specs.written_core.ByNames.{written_by_names}
 use Rattle.go_handle_core.specs.decide_core.Rules.{typed}
@@ -30,6 +29,7 @@ use Rattle.go_face_core.specs.Names.{value_names, face_names, names_faced}
 use Rattle.go_face_core.specs.Written.{type_written, value_as_written, form_as_written, written_of, file_written, package_written}
 use Rattle.go_entry_core.specs.block_core.Declarations.{decl_ref}
 use Rattle.go_handle_core.specs.table_core.Entries.{kinds_in}
+use Rattle.go_tree_nodes.specs.TypeNames.{type_names_in, signature_names_in}
 
 -- lists
 

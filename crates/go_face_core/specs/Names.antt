@@ -6,8 +6,8 @@ use Rattle.go_tree_nodes.specs.declared.decls.ValueKind.TheVariants as value_kin
 use Rattle.go_tree_nodes.specs.declared.types.TypeName.{TypeName}
 use Rattle.go_tree_nodes.specs.Trees.{TypeTree}
 use Rattle.go_term_core.specs.decl_core.TopDecls.{FormTree, ValueForm, TypeForm, FuncForm}
-use Rattle.go_entry_core.specs.written_core.Laws.{type_names_in, signature_names_in}
 use Rattle.go_entry_core.specs.Outlines.{FileOutline}
+use Rattle.go_tree_nodes.specs.TypeNames.{type_names_in, signature_names_in}
 
 -- a variable whose type is written
 abbrev pub value_names : ValueKind → Option TypeTree → List TypeName

@@ -16,7 +16,7 @@ use Rattle.go_top_core.specs.denote_core.declared.things.Stand.TheVariants as st
 use Rattle.go_top_core.specs.expr_core.Places.{start}
 use Rattle.go_top_core.specs.expr_core.Faults.{fault_at}
 use Rattle.go_top_core.specs.expr_core.Denoting.{named_type}
-use Rattle.go_top_core.specs.expr_core.Laws.{AgreeOnIdents, expr_idents}
+use Rattle.go_top_core.specs.expr_core.Laws.{AgreeOnIdents}
 use Rattle.go_top_core.specs.expr_core.Locality.{SameWritten}
 use Rattle.go_top_core.specs.expr_core.Alike.{pieces, expressions_seen}
 use Rattle.go_top_core.specs.inline_core.Types.{InlineOf}
@@ -31,6 +31,7 @@ use Rattle.go_func_core.specs.body_core.Rules.{outside_looks}
 use Rattle.go_func_core.specs.Stands.{FileStand, outer_looks}
 use Rattle.go_file_core.specs.mirrors.Steps.{AreSeen}
 use Rattle.go_file_core.proofs.Typed.{type_used}
+use Rattle.go_tree_nodes.specs.Idents.{expr_idents}
 
 module _ (st : FileStand) (types : List (ℕ × InlineOf)) where
   -- by the table, and by what names mean

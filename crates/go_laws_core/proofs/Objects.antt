@@ -28,7 +28,7 @@ use Rattle.go_snap_core.specs.object_core.Objects.{FunctionOf, ObjectOf}
 use Rattle.go_snap_core.specs.meaning_core.Scenes.{methods_spotted, package_decl_refs}
 use Rattle.go_snap_core.specs.lookup_core.Places.{spotted_meaning, decl_spot}
 use Rattle.go_snap_core.specs.emit_core.Imports.{all_passing}
-use Rattle.go_snap_core.specs.emit_core.Emitted.{are_clean, if_there, object_of, object_over, package_functions, code_scene_over, somes, told_to}
+use Rattle.go_snap_core.specs.emit_core.Emitted.{are_clean, object_of, object_over, package_functions, code_scene_over, told_to}
 use Rattle.go_snap_core.specs.emit_core.Emitted as emitted
 use Rattle.go_snap_core.specs.emit_core.Laws.{OneObject}
 use Rattle.go_laws_core.proofs.Methods.{told_methods}
@@ -40,6 +40,7 @@ use Rattle.go_laws_core.specs.Reached.{HasDeclaredIn, reached_paths}
 use Rattle.go_laws_core.specs.ObjectLaws.{AreOfPartsAlone}
 use Rattle.go_tree_nodes.specs.Spelling.{IsPlaced}
 use Rattle.go_snap_core.specs.statement_core.Locality.{Each}
+use Rattle.go_snap_core.specs.part_core.Slots.{if_there, somes}
 
 -- one more behind others that are apart from it
 apart_more : {A : Type 0} (R : A → A → Type 0) (xs : List A) (x : A) → AllPairs R xs → ((y : A) → Among xs y → R y x) → AllPairs R (xs ++ x ∷ [])

@@ -9,7 +9,7 @@ use Rattle.go_snap_core.specs.summary_core.Summaries.{SummaryModel}
 use Rattle.go_snap_core.specs.part_core.Inputs.{IsInput}
 use Rattle.go_snap_core.specs.part_core.Parts.{PartModel}
 use Rattle.go_snap_core.specs.object_core.Objects.{ObjectOf}
-use Rattle.go_snap_core.specs.emit_core.Emitted.{if_there, object_over, objects_over, somes, told_by}
+use Rattle.go_snap_core.specs.emit_core.Emitted.{object_over, objects_over, told_by}
 use Rattle.go_snap_core.specs.whole_core.Inputs.{AreParts}
 use Rattle.go_snap_core.specs.whole_core.mirrors.Steps.{AreRight}
 use Rattle.go_snap_core.specs.whole_core.Checks.{trees_are_placed}
@@ -18,6 +18,7 @@ use Rattle.go_snap_core.proofs.Faulty.{read_there}
 use Rattle.go_laws_core.proofs.Given.{is_input}
 use Rattle.go_laws_core.proofs.Grammar.{all_keep_rules}
 use Rattle.go_laws_core.specs.CodeLaws.{AreOfGrammar, FunctionsReferToTheirBodies, IsSoundObject, ObjectsAreWellFormed, SnapshotsHaveSoundObjects}
+use Rattle.go_snap_core.specs.part_core.Slots.{if_there, somes}
 
 -- what is there has a number
 some_at : {A : Type 0} (xs : List (Option A)) (x : A) → Among (somes xs) x → (n : ℕ) × (slice_get xs n ≡ Some (Some x))

@@ -8,12 +8,13 @@ use Rattle.go_snap_core.specs.graph_core.Zips.{zip_at}
 use Rattle.go_snap_core.specs.part_core.Parts.{PartModel}
 use Rattle.go_snap_core.specs.whole_core.Entries.{IsPartAmong, IsPartEntry}
 use Rattle.go_snap_core.specs.whole_core.Whole.{WholeOf}
-use Rattle.go_snap_core.specs.emit_core.Emitted.{object_in, object_over, somes, told_by}
+use Rattle.go_snap_core.specs.emit_core.Emitted.{object_in, object_over, told_by}
 use Rattle.go_snap_core.specs.meaning_core.Scenes.{package_decl_refs, scene_by}
 use Rattle.go_snap_core.specs.summary_core.Summaries.{SummaryModel}
 use Rattle.go_snap_core.specs.summary_core.Views.{faces_told, types_told}
 use Rattle.go_laws_core.specs.Trees.{all_faces, all_types, scene_of_trees}
 use Rattle.go_laws_core.specs.TreeLaws.{AreToldByTrees}
+use Rattle.go_snap_core.specs.part_core.Slots.{somes}
 
 types_are : (ws : List (Option WholeOf)) (parts : List (Option PartModel)) → AllZip IsPartEntry ws parts → types_told (told_by (somes parts)) ≡ all_types ws
 types_are [] [] h = refl

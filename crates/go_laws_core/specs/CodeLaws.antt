@@ -20,13 +20,14 @@ use Rattle.go_fold_core.specs.instruction_core.declared.instruction.Instruction.
 use Rattle.go_fold_core.specs.fragment_core.Names.{CodeLooks}
 use Rattle.go_snap_core.specs.code_core.Code.{code_of}
 use Rattle.go_snap_core.specs.object_core.Objects.{FunctionOf, ObjectOf}
-use Rattle.go_snap_core.specs.emit_core.Emitted.{object_over, objects_of, somes, told_by}
+use Rattle.go_snap_core.specs.emit_core.Emitted.{object_over, objects_of, told_by}
 use Rattle.go_snap_core.specs.emit_core.Laws.{declaration_of, is_between}
 use Rattle.go_snap_core.specs.declared.fault.PlacedFault.{PlacedFault}
 use Rattle.go_snap_core.specs.Snapshots.{IsSnapshot}
 use Rattle.go_laws_core.specs.Calls.{CallSite, IsCallOfSite, body_calls}
 use Rattle.go_tree_nodes.specs.Spelling.{IsPlaced}
 use Rattle.go_tree_nodes.specs.Counts.{item_count}
+use Rattle.go_snap_core.specs.part_core.Slots.{somes}
 
 -- code of any function
 

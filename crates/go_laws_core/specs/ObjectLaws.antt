@@ -8,8 +8,9 @@ use Rattle.go_snap_core.specs.part_core.Parts.{FileOf, PartModel}
 use Rattle.go_snap_core.specs.body_core.Notes.{TheUse}
 use Rattle.go_snap_core.specs.declared.fault.PlacedFault.{PlacedFault}
 use Rattle.go_snap_core.specs.Snapshots.{IsSnapshot}
-use Rattle.go_snap_core.specs.emit_core.Emitted.{if_there, object_of, object_over, objects_of, somes, told_by}
+use Rattle.go_snap_core.specs.emit_core.Emitted.{object_of, object_over, objects_of, told_by}
 use Rattle.go_laws_core.specs.Reached.{HasDeclaredIn, reached_paths}
+use Rattle.go_snap_core.specs.part_core.Slots.{if_there, somes}
 
 -- what an occurrence of a package has in a file is declared in the package or in one that it reaches, or is such a package
 abbrev pub DeclarationsAreReached : Type 0

@@ -5,11 +5,12 @@ use Rattle.std.specs.Prelude.{◌≡◌, ℕ, List, Option, Some, slice_get}
 use Rattle.go_snap_core.specs.graph_core.Workspaces.{PackageModel, IsWorkspace}
 use Rattle.go_snap_core.specs.part_core.Parts.{PartModel}
 use Rattle.go_snap_core.specs.whole_core.Whole.{AreWhole, WholeOf}
-use Rattle.go_snap_core.specs.emit_core.Emitted.{object_in, object_over, somes, told_by}
+use Rattle.go_snap_core.specs.emit_core.Emitted.{object_in, object_over, told_by}
 use Rattle.go_snap_core.specs.summary_core.Views.{faces_told, types_told}
 use Rattle.go_snap_core.specs.declared.fault.PlacedFault.{PlacedFault}
 use Rattle.go_snap_core.specs.Snapshots.{IsSnapshot}
 use Rattle.go_laws_core.specs.Trees.{all_faces, all_types, scene_of_trees}
+use Rattle.go_snap_core.specs.part_core.Slots.{somes}
 
 -- what the packages of a snapshot tell are the types and the faces that the trees of all files give
 pub record AreToldByTrees (ws : List (Option WholeOf)) (parts : List (Option PartModel)) : Type 0 where

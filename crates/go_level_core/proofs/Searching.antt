@@ -10,12 +10,13 @@ use Rattle.go_level_core.specs.declared.level.Reached.{Reached}
 use Rattle.go_level_core.specs.Paths.{FieldsLead, Hit, HasHit, IsSelected, IsAmbiguous, IsMemberSpelled}
 use Rattle.go_level_core.specs.Selectors.{IsMissing, ambiguous, hidden, absent}
 use Rattle.go_level_core.specs.mirrors.Ways.{At, Way, way_of, ways, root, IsRight, Begins}
-use Rattle.go_level_core.specs.mirrors.Levels.{IsWay, IsLevel, IsAbove, HasOne, Spells, entry_weight, weight, tallest, bound, height, IsNext, IsOnly, IsClash, IsNone, IsSpelt}
+use Rattle.go_level_core.specs.mirrors.Levels.{IsWay, IsLevel, IsAbove, HasOne, Spells, entry_weight, weight, bound, height, IsNext, IsOnly, IsClash, IsNone, IsSpelt}
 use Rattle.go_level_core.proofs.ListLemmas.{at_within, at_same}
 use Rattle.go_level_core.proofs.Walks.{deeper_above, no_more, selects, clashes}
 use Rattle.go_level_core.proofs.Weights.{height_falls}
 use Rattle.go_level_core.proofs.WayLemmas.{ways_length, ways_at, ways_back}
 use Rattle.go_level_core.proofs.Growing.{level_next, bounded_next}
+use Rattle.go_embed_core.specs.table_core.Nesting.{deepest}
 
 -- whether a type to which a path of at most k fields leads has a member that is spelled so
 abbrev pub SpeltWithin : EntryLook → Term → List ℕ → ℕ → Bool → Type 0
@@ -47,7 +48,7 @@ root_low es (Predeclared b) = omega arith
 root_low es ErrorType = omega arith
 root_low es (Defined k) = by (find_entry es k)
   where
-    by : (r : Option Entry) → entry_weight (tallest es) r ≤ bound es (Defined k)
+    by : (r : Option Entry) → entry_weight (deepest es) r ≤ bound es (Defined k)
     by None = omega arith
     by (Some e) = omega arith
 root_low es (PointerTo u) = omega arith

@@ -9,20 +9,21 @@ use Rattle.go_embed_core.specs.table_core.Entries.{Entry, find_entry, same_key, 
 use Rattle.go_embed_core.specs.Owners.{OwnerModel, EmbeddedEdge, embedded_edge, off, owner_in, embedded_edges, term_embedded, embedded_in}
 use Rattle.go_level_core.specs.Paths.{Step}
 use Rattle.go_level_core.specs.mirrors.Ways.{At, Way, IsNumber, IsNumbered}
-use Rattle.go_level_core.specs.mirrors.Levels.{depth, fields_depth, tallest, entry_weight, weight, is_free, left_below, left, peak, bound, height, IsLighter}
+use Rattle.go_level_core.specs.mirrors.Levels.{entry_weight, weight, is_free, left_below, left, peak, bound, height, IsLighter}
 use Rattle.go_level_core.proofs.ListLemmas.{not_same, same_or_not, at_some}
 use Rattle.go_level_core.proofs.Edges.{step_edge}
+use Rattle.go_embed_core.specs.table_core.Nesting.{nesting, fields_nesting, deepest}
 
 -- each entry of a table is as deep as the deepest at most
-deep_step : (b : Bool) (x e : Entry) (n : ℕ) (rest : Option Entry) → (rest ≡ Some e → depth e.term ≤ n) → (if b then Some x else rest) ≡ Some e → depth e.term ≤ max (depth x.term) n
-deep_step true x e n rest more h = let s : x ≡ e = (cc) in let d : depth x.term ≡ depth e.term = ap (λ (y : Entry). depth y.term) s in omega (arith, d)
+deep_step : (b : Bool) (x e : Entry) (n : ℕ) (rest : Option Entry) → (rest ≡ Some e → nesting e.term ≤ n) → (if b then Some x else rest) ≡ Some e → nesting e.term ≤ max (nesting x.term) n
+deep_step true x e n rest more h = let s : x ≡ e = (cc) in let d : nesting x.term ≡ nesting e.term = ap (λ (y : Entry). nesting y.term) s in omega (arith, d)
 deep_step false x e n rest more h = let l = more h in omega (arith, l)
 
-find_deep : (es : List Entry) (k : DeclKey) (e : Entry) → find_entry es k ≡ Some e → depth e.term ≤ tallest es
+find_deep : (es : List Entry) (k : DeclKey) (e : Entry) → find_entry es k ≡ Some e → nesting e.term ≤ deepest es
 find_deep [] k e h = cc
-find_deep (x ∷ es) k e h = deep_step (same_key x.key k) x e (tallest es) (find_entry es k) (λ r. find_deep es k e r) h
+find_deep (x ∷ es) k e h = deep_step (same_key x.key k) x e (deepest es) (find_entry es k) (λ r. find_deep es k e r) h
 
-off_depth : (t : Term) → depth (off t) ≤ depth t
+off_depth : (t : Term) → nesting (off t) ≤ nesting t
 off_depth NoType = omega arith
 off_depth (Predeclared b) = omega arith
 off_depth ErrorType = omega arith
@@ -31,19 +32,19 @@ off_depth (PointerTo t) = omega arith
 off_depth (StructOf path fs) = omega arith
 off_depth (InterfaceOf path ms) = omega arith
 
-field_step : (b : Bool) (i : ℕ) (t : Term) (n : ℕ) (rest : List EmbeddedEdge) (e : EmbeddedEdge) → (In rest e → depth e.target ≤ n) → In (if b then embedded_edge i t ∷ rest else rest) e → depth e.target ≤ max (depth t) n
+field_step : (b : Bool) (i : ℕ) (t : Term) (n : ℕ) (rest : List EmbeddedEdge) (e : EmbeddedEdge) → (In rest e → nesting e.target ≤ n) → In (if b then embedded_edge i t ∷ rest else rest) e → nesting e.target ≤ max (nesting t) n
 field_step true i t n rest e more (inl s) =
-    let d : depth (off t) ≡ depth e.target = ap (λ (y : EmbeddedEdge). depth y.target) s in
+    let d : nesting (off t) ≡ nesting e.target = ap (λ (y : EmbeddedEdge). nesting y.target) s in
     let l = off_depth t in omega (arith, d, l)
 field_step true i t n rest e more (inr r) = let l = more r in omega (arith, l)
 field_step false i t n rest e more r = let l = more r in omega (arith, l)
 
-fields_deep : (o : OwnerModel) (path : List ℕ) (i : ℕ) (fs : Fields) (e : EmbeddedEdge) → In (embedded_edges o path i fs) e → depth e.target ≤ fields_depth fs
+fields_deep : (o : OwnerModel) (path : List ℕ) (i : ℕ) (fs : Fields) (e : EmbeddedEdge) → In (embedded_edges o path i fs) e → nesting e.target ≤ fields_nesting fs
 fields_deep o path i NoField e h = absurd h
 fields_deep o path i (AField name place embedded t tag fs) e h =
-    field_step (embedded && not (has_method o.path o.methods name path)) i t (fields_depth fs) (embedded_edges o path (suc i) fs) e (λ r. fields_deep o path (suc i) fs e r) h
+    field_step (embedded && not (has_method o.path o.methods name path)) i t (fields_nesting fs) (embedded_edges o path (suc i) fs) e (λ r. fields_deep o path (suc i) fs e r) h
 
-term_deep : (o : OwnerModel) (u : Term) (e : EmbeddedEdge) → In (term_embedded o u) e → depth e.target < depth u
+term_deep : (o : OwnerModel) (u : Term) (e : EmbeddedEdge) → In (term_embedded o u) e → nesting e.target < nesting u
 term_deep o NoType e h = absurd h
 term_deep o (Predeclared b) e h = absurd h
 term_deep o ErrorType e h = absurd h
@@ -52,35 +53,35 @@ term_deep o (PointerTo t) e h = absurd h
 term_deep o (StructOf path fs) e h = let l = fields_deep o path 0 fs e h in omega (arith, l)
 term_deep o (InterfaceOf path ms) e h = absurd h
 
--- a type that is none of the table weighs what its depth says
-loose_weight : (es : List Entry) (u : Term) → IsNumber es u None → weight es u ≤ suc (depth u)
+-- a type that is none of the table weighs what its nesting says
+loose_weight : (es : List Entry) (u : Term) → IsNumber es u None → weight es u ≤ suc (nesting u)
 loose_weight es NoType h = omega arith
 loose_weight es (Predeclared b) h = omega arith
 loose_weight es ErrorType h = omega arith
-loose_weight es (Defined k) h = let w : entry_weight (tallest es) (find_entry es k) ≡ 1 = ap (entry_weight (tallest es)) (h k refl) in omega (arith, w)
+loose_weight es (Defined k) h = let w : entry_weight (deepest es) (find_entry es k) ≡ 1 = ap (entry_weight (deepest es)) (h k refl) in omega (arith, w)
 loose_weight es (PointerTo t) h = omega arith
 loose_weight es (StructOf path fs) h = omega arith
 loose_weight es (InterfaceOf path ms) h = omega arith
 
 -- a type with an edge weighs more than the edge's end is deep
-heavy : (es : List Entry) (u : Term) (e : EmbeddedEdge) → In (embedded_in (owner_in (find_entry es) u)) e → suc (depth e.target) < weight es u
+heavy : (es : List Entry) (u : Term) (e : EmbeddedEdge) → In (embedded_in (owner_in (find_entry es) u)) e → suc (nesting e.target) < weight es u
 heavy es NoType e h = absurd h
 heavy es (Predeclared b) e h = absurd h
 heavy es ErrorType e h = absurd h
 heavy es (Defined k) e h = pick (find_entry es k) refl
   where
-    none : find_entry es k ≡ None → suc (depth e.target) < weight es (Defined k)
+    none : find_entry es k ≡ None → suc (nesting e.target) < weight es (Defined k)
     none is = let u : (underlying_in (find_entry es) (Defined k)) ≡ NoType = ap term_in is in absurd (subst (λ w. In (term_embedded (owner_in (find_entry es) (Defined k)) w) e) u h)
 
-    some : (x : Entry) → find_entry es k ≡ Some x → suc (depth e.target) < weight es (Defined k)
+    some : (x : Entry) → find_entry es k ≡ Some x → suc (nesting e.target) < weight es (Defined k)
     some x is =
         let u : (underlying_in (find_entry es) (Defined k)) ≡ x.term = ap term_in is in
         let d = term_deep (owner_in (find_entry es) (Defined k)) x.term e (subst (λ w. In (term_embedded (owner_in (find_entry es) (Defined k)) w) e) u h) in
         let l = find_deep es k x is in
-        let w : weight es (Defined k) ≡ suc (suc (tallest es)) = ap (entry_weight (tallest es)) is in
+        let w : weight es (Defined k) ≡ suc (suc (deepest es)) = ap (entry_weight (deepest es)) is in
         omega (arith, d, l, w)
 
-    pick : (r : Option Entry) → find_entry es k ≡ r → suc (depth e.target) < weight es (Defined k)
+    pick : (r : Option Entry) → find_entry es k ≡ r → suc (nesting e.target) < weight es (Defined k)
     pick None is = none is
     pick (Some x) is = some x is
 heavy es (PointerTo t) e h = absurd h
@@ -92,32 +93,32 @@ pub step_lighter : (es : List Entry) (u : Term) (i : ℕ) (p : Bool) (v : Term) 
 step_lighter es u i p v s loose =
     let x = step_edge (find_entry es) u i p v s in
     let h = heavy es u x.0 x.2 in
-    let d : depth x.0.target ≡ depth v = ap depth x.5 in
+    let d : nesting x.0.target ≡ nesting v = ap nesting x.5 in
     let w = loose_weight es v loose in
     omega (arith, h, d, w)
 
-pub numbered_weight : (es : List Entry) (n : ℕ) (u : Term) → IsNumbered es n u → weight es u ≡ suc (suc (tallest es))
-numbered_weight es n u h = ap (weight es) h.is ∙ ap (entry_weight (tallest es)) h.found
+pub numbered_weight : (es : List Entry) (n : ℕ) (u : Term) → IsNumbered es n u → weight es u ≡ suc (suc (deepest es))
+numbered_weight es n u h = ap (weight es) h.is ∙ ap (entry_weight (deepest es)) h.found
 
 -- each type has a number or none
-pub number_or_none : (es : List Entry) (u : Term) (i : ℕ) (p : Bool) (v : Term) (b : ℕ) → Step (find_entry es) u i p v → weight es u ≤ b → suc (suc (tallest es)) ≤ b → weight es v ≤ b
+pub number_or_none : (es : List Entry) (u : Term) (i : ℕ) (p : Bool) (v : Term) (b : ℕ) → Step (find_entry es) u i p v → weight es u ≤ b → suc (suc (deepest es)) ≤ b → weight es v ≤ b
 number_or_none es u i p v b s wu low = by v refl
   where
     x : (e : EmbeddedEdge) × In (embedded_in (owner_in (find_entry es) u)) e × (e.target ≡ v)
     x = let r = step_edge (find_entry es) u i p v s in (r.0, r.2, r.5)
 
-    lighter : weight es v ≤ suc (depth v) → weight es v ≤ b
+    lighter : weight es v ≤ suc (nesting v) → weight es v ≤ b
     lighter w =
         let h = heavy es u x.0 x.1 in
-        let d : depth x.0.target ≡ depth v = ap depth x.2 in
+        let d : nesting x.0.target ≡ nesting v = ap nesting x.2 in
         omega (arith, h, d, w, wu)
 
     named : (k : DeclKey) (r : Option Entry) → find_entry es k ≡ r → v ≡ Defined k → weight es v ≤ b
-    named k None is e = let w : weight es v ≡ 1 = ap (weight es) e ∙ ap (entry_weight (tallest es)) is in omega (arith, w, low)
-    named k (Some y) is e = let w : weight es v ≡ suc (suc (tallest es)) = ap (weight es) e ∙ ap (entry_weight (tallest es)) is in omega (arith, w, low)
+    named k None is e = let w : weight es v ≡ 1 = ap (weight es) e ∙ ap (entry_weight (deepest es)) is in omega (arith, w, low)
+    named k (Some y) is e = let w : weight es v ≡ suc (suc (deepest es)) = ap (weight es) e ∙ ap (entry_weight (deepest es)) is in omega (arith, w, low)
 
-    plain : (w : Term) → v ≡ w → weight es w ≤ suc (depth w) → weight es v ≤ b
-    plain w e l = lighter (subst (λ z. weight es z ≤ suc (depth z)) (sym e) l)
+    plain : (w : Term) → v ≡ w → weight es w ≤ suc (nesting w) → weight es v ≤ b
+    plain w e l = lighter (subst (λ z. weight es z ≤ suc (nesting z)) (sym e) l)
 
     by : (w : Term) → v ≡ w → weight es v ≤ b
     by NoType e = plain NoType e (omega arith)
@@ -203,7 +204,7 @@ weight_some es (Predeclared b) = omega arith
 weight_some es ErrorType = omega arith
 weight_some es (Defined k) = by (find_entry es k)
   where
-    by : (r : Option Entry) → 0 < entry_weight (tallest es) r
+    by : (r : Option Entry) → 0 < entry_weight (deepest es) r
     by None = omega arith
     by (Some e) = omega arith
 weight_some es (PointerTo t) = omega arith

@@ -2,4 +2,4 @@
 pub use Rattle.go_whole_core.specs.part_core.Inputs as Inputs
 pub use Rattle.go_whole_core.specs.part_core.Laws as Laws
 pub use Rattle.go_whole_core.specs.part_core.Parts as Parts
-pub use Rattle.go_whole_core.specs.part_core.mirrors as mirrors
+pub use Rattle.go_whole_core.specs.part_core.Slots as Slots

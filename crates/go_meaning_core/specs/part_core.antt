@@ -2,3 +2,4 @@
 pub use Rattle.go_part_core.specs.Inputs as Inputs
 pub use Rattle.go_part_core.specs.Laws as Laws
 pub use Rattle.go_part_core.specs.Parts as Parts
+pub use Rattle.go_part_core.specs.Slots as Slots

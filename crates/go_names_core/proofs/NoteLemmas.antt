@@ -29,8 +29,10 @@ use Rattle.go_tree_nodes.proofs.TypeShapes.{listed_parts, signature_parts}
 use Rattle.go_tree_nodes.proofs.ShapeLemmas.{call_parts, literal_parts, struct_literal_parts}
 use Rattle.go_walk_core.specs.local_core.Binding.{NameLook}
 use Rattle.go_names_core.specs.declared.names.Denoted.{Denoted}
-use Rattle.go_names_core.specs.Uses.{type_name_used_idents, type_used_idents, field_used_idents, fields_used_idents, methods_used_idents, signature_used_idents, result_used_idents, params_used_idents, expr_used_idents, items_used_idents, exprs_used_idents, target_used_idents, targets_used_idents, name_use}
+use Rattle.go_names_core.specs.Uses.{name_use}
 use Rattle.go_names_core.specs.mirrors.Noting.{Notes, Adds}
+use Rattle.go_tree_nodes.specs.Idents.{type_name_idents, type_idents, field_idents, fields_idents, methods_idents, signature_type_idents, result_type_idents, params_idents, expr_idents, items_idents, list_idents}
+use Rattle.go_walk_core.specs.PieceIdents.{target_idents, targets_idents}
 
 -- noting
 
@@ -75,67 +77,67 @@ module _ (look : NameLook Denoted) where
 -- lists
 
 abbrev pub field_line_uses : FieldLine → List Ident
-field_line_uses l = field_used_idents l.fields
+field_line_uses l = field_idents l.fields
 
 abbrev pub method_uses : MethodLine → List Ident
-method_uses (MethodLine' x signature s) = signature_used_idents (shape_signature signature)
+method_uses (MethodLine' x signature s) = signature_type_idents (shape_signature signature)
 
 abbrev pub param_uses : declared_param.Param → List Ident
-param_uses p = type_used_idents (shape_type p.type_expr)
+param_uses p = type_idents (shape_type p.type_expr)
 
 abbrev pub item_uses : declared_item.Item → List Ident
-item_uses i = expr_used_idents (shape i.value)
+item_uses i = expr_idents (shape i.value)
 
 abbrev pub next_uses : NextExpr → List Ident
-next_uses n = expr_used_idents (shape n.expr)
+next_uses n = expr_idents (shape n.expr)
 
 abbrev pub next_target_uses : NextExpr → List Ident
-next_target_uses n = target_used_idents (shape n.expr)
+next_target_uses n = target_idents (shape n.expr)
 
-pub method_has : (m : MethodLine) → method_uses m ≡ signature_used_idents (shape_signature (out-MethodLine m).signature)
+pub method_has : (m : MethodLine) → method_uses m ≡ signature_type_idents (shape_signature (out-MethodLine m).signature)
 method_has m = ap method_uses (is-MethodLine' m)
 
-before_uses : (f : Fields) (tag : _) (s : Option Span) (rest : FieldTrees) → fields_used_idents (fields_before f tag s rest) ≡ field_used_idents f ++ fields_used_idents rest
+before_uses : (f : Fields) (tag : _) (s : Option Span) (rest : FieldTrees) → fields_idents (fields_before f tag s rest) ≡ field_idents f ++ fields_idents rest
 before_uses (fields.Named xs t) tag s rest = refl
 before_uses (fields.Embedded star n) tag s rest = refl
 
-pub fields_uses_list : (ls : List FieldLine) → fields_used_idents (fields_of ls) ≡ flat_map field_line_uses ls
+pub fields_uses_list : (ls : List FieldLine) → fields_idents (fields_of ls) ≡ flat_map field_line_uses ls
 fields_uses_list [] = refl
 fields_uses_list (l ∷ ls) = before_uses l.fields l.tag l.semicolon (fields_of ls) ∙ ap (λ us. field_line_uses l ++ us) (fields_uses_list ls)
 
-pub methods_uses_list : (ms : List MethodLine) → methods_used_idents (methods_of ms) ≡ flat_map method_uses ms
+pub methods_uses_list : (ms : List MethodLine) → methods_idents (methods_of ms) ≡ flat_map method_uses ms
 methods_uses_list [] = refl
-methods_uses_list (MethodLine' x signature s ∷ ms) = ap (λ us. signature_used_idents (shape_signature signature) ++ us) (methods_uses_list ms)
+methods_uses_list (MethodLine' x signature s ∷ ms) = ap (λ us. signature_type_idents (shape_signature signature) ++ us) (methods_uses_list ms)
 
-pub params_uses_list : (ps : List declared_param.Param) → params_used_idents (params_of ps) ≡ flat_map param_uses ps
+pub params_uses_list : (ps : List declared_param.Param) → params_idents (params_of ps) ≡ flat_map param_uses ps
 params_uses_list [] = refl
 params_uses_list (p ∷ ps) = ap (λ us. param_uses p ++ us) (params_uses_list ps)
 
-pub items_uses_list : (is : List declared_item.Item) → items_used_idents (items_of is) ≡ flat_map item_uses is
+pub items_uses_list : (is : List declared_item.Item) → items_idents (items_of is) ≡ flat_map item_uses is
 items_uses_list [] = refl
 items_uses_list (i ∷ is) = ap (λ us. item_uses i ++ us) (items_uses_list is)
 
-pub exprs_uses_list : (e : Expr) (ns : List NextExpr) → exprs_used_idents (exprs_from e ns) ≡ expr_used_idents (shape e) ++ flat_map next_uses ns
-exprs_uses_list e [] = sym (append-nil (expr_used_idents (shape e)))
-exprs_uses_list e (n ∷ ns) = ap (λ l. expr_used_idents (shape e) ++ l) (exprs_uses_list n.expr ns)
+pub exprs_uses_list : (e : Expr) (ns : List NextExpr) → list_idents (exprs_from e ns) ≡ expr_idents (shape e) ++ flat_map next_uses ns
+exprs_uses_list e [] = sym (append-nil (expr_idents (shape e)))
+exprs_uses_list e (n ∷ ns) = ap (λ l. expr_idents (shape e) ++ l) (exprs_uses_list n.expr ns)
 
-pub targets_uses_list : (e : Expr) (ns : List NextExpr) → targets_used_idents (exprs_from e ns) ≡ target_used_idents (shape e) ++ flat_map next_target_uses ns
-targets_uses_list e [] = sym (append-nil (target_used_idents (shape e)))
-targets_uses_list e (n ∷ ns) = ap (λ l. target_used_idents (shape e) ++ l) (targets_uses_list n.expr ns)
+pub targets_uses_list : (e : Expr) (ns : List NextExpr) → targets_idents (exprs_from e ns) ≡ target_idents (shape e) ++ flat_map next_target_uses ns
+targets_uses_list e [] = sym (append-nil (target_idents (shape e)))
+targets_uses_list e (n ∷ ns) = ap (λ l. target_idents (shape e) ++ l) (targets_uses_list n.expr ns)
 
 -- values that hold lists
 
-pub signature_has : (s : Signature) → signature_used_idents (shape_signature s) ≡ params_used_idents (params_of (out-Params (out-Signature s).params).entries.items) ++ result_used_idents (shape_results (out-Signature s).results)
-signature_has s = ap signature_used_idents (signature_parts s)
+pub signature_has : (s : Signature) → signature_type_idents (shape_signature s) ≡ params_idents (params_of (out-Params (out-Signature s).params).entries.items) ++ result_type_idents (shape_results (out-Signature s).results)
+signature_has s = ap signature_type_idents (signature_parts s)
 
-pub listed_has : (r : declared_results.Results) (p : Params) → r ≡ results.Listed p → result_used_idents (shape_results r) ≡ params_used_idents (params_of (out-Params p).entries.items)
-listed_has r p is = ap (λ r. result_used_idents (shape_results r)) is ∙ ap result_used_idents (listed_parts p)
+pub listed_has : (r : declared_results.Results) (p : Params) → r ≡ results.Listed p → result_type_idents (shape_results r) ≡ params_idents (params_of (out-Params p).entries.items)
+listed_has r p is = ap (λ r. result_type_idents (shape_results r)) is ∙ ap result_type_idents (listed_parts p)
 
-pub call_has : (t : Expr) (c : Box CallExpr) → t ≡ expr.Call c → expr_used_idents (shape t) ≡ expr_used_idents (shape (out-CallExpr c.value).callee) ++ items_used_idents (items_of (out-CallExpr c.value).args.items)
-call_has t c same = ap (λ t. expr_used_idents (shape t)) same ∙ ap expr_used_idents (call_parts c.value)
+pub call_has : (t : Expr) (c : Box CallExpr) → t ≡ expr.Call c → expr_idents (shape t) ≡ expr_idents (shape (out-CallExpr c.value).callee) ++ items_idents (items_of (out-CallExpr c.value).args.items)
+call_has t c same = ap (λ t. expr_idents (shape t)) same ∙ ap expr_idents (call_parts c.value)
 
-pub literal_has : (t : Expr) (l : Box LiteralExpr) → t ≡ expr.Literal l → expr_used_idents (shape t) ≡ type_name_used_idents (out-LiteralExpr l.value).type_name ++ items_used_idents (items_of (out-LiteralExpr l.value).elements.items)
-literal_has t l same = ap (λ t. expr_used_idents (shape t)) same ∙ ap expr_used_idents (literal_parts l.value)
+pub literal_has : (t : Expr) (l : Box LiteralExpr) → t ≡ expr.Literal l → expr_idents (shape t) ≡ type_name_idents (out-LiteralExpr l.value).type_name ++ items_idents (items_of (out-LiteralExpr l.value).elements.items)
+literal_has t l same = ap (λ t. expr_idents (shape t)) same ∙ ap expr_idents (literal_parts l.value)
 
-pub struct_literal_has : (t : Expr) (l : Box StructLiteralExpr) → t ≡ expr.StructLiteral l → expr_used_idents (shape t) ≡ type_used_idents (shape_type (out-StructLiteralExpr l.value).type_expr) ++ items_used_idents (items_of (out-StructLiteralExpr l.value).elements.items)
-struct_literal_has t l same = ap (λ t. expr_used_idents (shape t)) same ∙ ap expr_used_idents (struct_literal_parts l.value)
+pub struct_literal_has : (t : Expr) (l : Box StructLiteralExpr) → t ≡ expr.StructLiteral l → expr_idents (shape t) ≡ type_idents (shape_type (out-StructLiteralExpr l.value).type_expr) ++ items_idents (items_of (out-StructLiteralExpr l.value).elements.items)
+struct_literal_has t l same = ap (λ t. expr_idents (shape t)) same ∙ ap expr_idents (struct_literal_parts l.value)

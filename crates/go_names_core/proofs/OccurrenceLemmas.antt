@@ -20,8 +20,10 @@ use Rattle.go_tree_core.specs.Occurrences.{occurrence, call_at, type_name_occs, 
 use Rattle.go_tree_core.proofs.Telling.{is_target, inside_not, under_not}
 use Rattle.go_walk_core.specs.local_core.Steps.{Piece, Spec, Act, Condition, Given, Newness, EachFirst, OneNew, Steps, Done, Check, Declare, Inner}
 use Rattle.go_walk_core.specs.local_core.Outline.{idents, end_of, spec_steps, group_steps, specs_steps, simple_steps, some_simple_steps, init_steps, some_condition_steps, if_steps, for_steps, stmt_steps, branch_steps, else_steps, lines_steps}
-use Rattle.go_names_core.specs.Uses.{type_name_used_idents, type_used_idents, fields_used_idents, methods_used_idents, signature_used_idents, result_used_idents, params_used_idents, receiver_used_idents, expr_used_idents, items_used_idents, exprs_used_idents, some_exprs_used_idents, target_used_idents, targets_used_idents, some_type_used_idents, values_used_idents, value_spec_used_idents, simple_used_idents, piece_used_idents}
+use Rattle.go_names_core.specs.Uses.{simple_used_idents, piece_used_idents}
 use Rattle.go_names_core.specs.Occurrences.{is_looked_up, looked_up, steps_uses, PieceNamesAreOccurrences}
+use Rattle.go_tree_nodes.specs.Idents.{type_name_idents, type_idents, fields_idents, methods_idents, signature_type_idents, result_type_idents, params_idents, receiver_type_idents, expr_idents, items_idents, list_idents, returned_idents, some_type_idents}
+use Rattle.go_walk_core.specs.PieceIdents.{target_idents, targets_idents, values_idents, value_spec_idents}
 
 looked_append : (xs ys : List Occ) → looked_up (xs ++ ys) ≡ looked_up xs ++ looked_up ys
 looked_append [] ys = refl
@@ -51,40 +53,40 @@ but_last {xs} {us} o h first = record { is = (both first (skip o h none)).is ∙
 
 -- types
 
-type_name_looked : (n : TypeName) → Looked (type_name_occs n) (type_name_used_idents n)
+type_name_looked : (n : TypeName) → Looked (type_name_occs n) (type_name_idents n)
 type_name_looked (type_name.Plain x) = record { is = refl }
 type_name_looked (type_name.Qualified p dot x) = record { is = refl }
 
 mutual
-  type_looked : (t : TypeTree) → Looked (type_occs t) (type_used_idents t)
+  type_looked : (t : TypeTree) → Looked (type_occs t) (type_idents t)
   type_looked (NamedType n) = type_name_looked n
   type_looked (Pointer star t) = type_looked t
   type_looked (ParenType first t last) = type_looked t
   type_looked (Struct k first ls last) = fields_looked ls
   type_looked (Interface k first methods last) = methods_looked methods
 
-  fields_looked : (fs : FieldTrees) → Looked (fields_occs fs) (fields_used_idents fs)
+  fields_looked : (fs : FieldTrees) → Looked (fields_occs fs) (fields_idents fs)
   fields_looked NoFields = none
   fields_looked (NamedFields xs t tag s rest) = both (type_looked t) (fields_looked rest)
   fields_looked (EmbeddedField star n tag s rest) = both (type_name_looked n) (fields_looked rest)
 
-  methods_looked : (ms : MethodTrees) → Looked (methods_occs ms) (methods_used_idents ms)
+  methods_looked : (ms : MethodTrees) → Looked (methods_occs ms) (methods_idents ms)
   methods_looked NoMethods = none
   methods_looked (Method x signature s rest) = both (signature_looked signature) (methods_looked rest)
 
-  signature_looked : (s : SignatureTree) → Looked (signature_occs s) (signature_used_idents s)
+  signature_looked : (s : SignatureTree) → Looked (signature_occs s) (signature_type_idents s)
   signature_looked (Signed first params last result) = both (params_looked params) (result_looked result)
 
-  result_looked : (r : ResultTree) → Looked (result_occs r) (result_used_idents r)
+  result_looked : (r : ResultTree) → Looked (result_occs r) (result_type_idents r)
   result_looked NoResult = none
   result_looked (OneResult t) = type_looked t
   result_looked (Results first params last) = params_looked params
 
-  params_looked : (ps : ParamTrees) → Looked (params_occs ps) (params_used_idents ps)
+  params_looked : (ps : ParamTrees) → Looked (params_occs ps) (params_idents ps)
   params_looked NoParams = none
   params_looked (Param xs t comma rest) = both (type_looked t) (params_looked rest)
 
-receiver_looked : (r : Option Receiver) → Looked (receiver_occs r) (receiver_used_idents r)
+receiver_looked : (r : Option Receiver) → Looked (receiver_occs r) (receiver_type_idents r)
 receiver_looked None = none
 receiver_looked (Some r) = type_name_looked r.base
 
@@ -102,7 +104,7 @@ key_looked None = none
 key_looked (Some k) = record { is = refl }
 
 mutual
-  expr_looked : (p : Context) → is_target p ≡ false → (t : ExprTree) → Looked (expr_occs p t) (expr_used_idents t)
+  expr_looked : (p : Context) → is_target p ≡ false → (t : ExprTree) → Looked (expr_occs p t) (expr_idents t)
   expr_looked p h (Integer n span) = none
   expr_looked p h (Text t) = none
   expr_looked p h (Named x) = named_looked p h x
@@ -114,18 +116,18 @@ mutual
   expr_looked p h (Literal n first items last) = both (type_name_looked n) (items_looked items)
   expr_looked p h (StructLiteral t first items last) = both (type_looked t) (items_looked items)
 
-  items_looked : (is : ItemTrees) → Looked (items_occs is) (items_used_idents is)
+  items_looked : (is : ItemTrees) → Looked (items_occs is) (items_idents is)
   items_looked NoItems = none
   items_looked (Item key t comma rest) = both (key_looked key) (both (expr_looked context.«Value» refl t) (items_looked rest))
 
-value : (t : ExprTree) → Looked (expr_occs context.«Value» t) (expr_used_idents t)
+value : (t : ExprTree) → Looked (expr_occs context.«Value» t) (expr_idents t)
 value t = expr_looked context.«Value» refl t
 
-exprs_looked : (es : Separated ExprTree) → Looked (exprs_occs context.«Value» es) (exprs_used_idents es)
+exprs_looked : (es : Separated ExprTree) → Looked (exprs_occs context.«Value» es) (list_idents es)
 exprs_looked (One t) = value t
 exprs_looked (Then t comma more) = both (value t) (exprs_looked more)
 
-target : (t : ExprTree) → Looked (expr_occs context.Target t) (target_used_idents t)
+target : (t : ExprTree) → Looked (expr_occs context.Target t) (target_idents t)
 target (Integer n span) = none
 target (Text t) = none
 target (Named x) = by (is_blank x.name)
@@ -141,21 +143,21 @@ target (Call t first items last) = both (expr_looked context.Callee refl t) (ski
 target (Literal n first items last) = both (type_name_looked n) (items_looked items)
 target (StructLiteral t first items last) = both (type_looked t) (items_looked items)
 
-targets_looked : (ts : Separated ExprTree) → Looked (exprs_occs context.Target ts) (targets_used_idents ts)
+targets_looked : (ts : Separated ExprTree) → Looked (exprs_occs context.Target ts) (targets_idents ts)
 targets_looked (One t) = target t
 targets_looked (Then t comma more) = both (target t) (targets_looked more)
 
 -- pieces
 
-some_type_looked : (t : Option TypeTree) → Looked (some_type_occs t) (some_type_used_idents t)
+some_type_looked : (t : Option TypeTree) → Looked (some_type_occs t) (some_type_idents t)
 some_type_looked None = none
 some_type_looked (Some t) = type_looked t
 
-values_looked : (v : Option (Span × Separated ExprTree)) → Looked (values_occs v) (values_used_idents v)
+values_looked : (v : Option (Span × Separated ExprTree)) → Looked (values_occs v) (values_idents v)
 values_looked None = none
 values_looked (Some v) = exprs_looked v.1
 
-value_spec_looked : (v : ValueSpecTree) → Looked (value_spec_occs v) (value_spec_used_idents v)
+value_spec_looked : (v : ValueSpecTree) → Looked (value_spec_occs v) (value_spec_idents v)
 value_spec_looked v = both (some_type_looked v.type_expr) (values_looked v.values)
 
 simple_looked : (s : SimpleTree) → Looked (simple_occs s) (simple_used_idents s)
@@ -165,7 +167,7 @@ simple_looked (Assign ts span es) = both (targets_looked ts) (exprs_looked es)
 simple_looked (Update t op span e) = both (value t) (value e)
 simple_looked (Define xs span es) = exprs_looked es
 
-some_exprs_looked : (es : Option (Separated ExprTree)) → Looked (some_exprs_occs es) (some_exprs_used_idents es)
+some_exprs_looked : (es : Option (Separated ExprTree)) → Looked (some_exprs_occs es) (returned_idents es)
 some_exprs_looked None = none
 some_exprs_looked (Some es) = exprs_looked es
 

@@ -6,6 +6,8 @@ ghost use Rattle.go_tree_nodes.specs.TypeShapes as type_shapes;
 ghost use Rattle.go_names_core.specs.Scope.{open_look};
 ghost use Rattle.go_names_core.specs.Uses as used;
 ghost use Rattle.go_names_core.specs.mirrors.Noting.{Sees};
+ghost use Rattle.go_tree_nodes.specs.Idents.{type_name_idents, type_idents, fields_idents, methods_idents, signature_type_idents, result_type_idents, params_idents, field_idents, receiver_type_idents, expr_idents, items_idents, list_idents, returned_idents, some_type_idents};
+ghost use Rattle.go_walk_core.specs.PieceIdents.{target_idents, targets_idents, values_idents, value_spec_idents};
 
 use crate::look::OpenNames;
 use crate::names::{Denoted, NameUse};
@@ -68,7 +70,7 @@ fn note_use(noter: &mut Noter, names: &OpenNames<Denoted>, ident: &Ident)
 
 // Notes the name of a type, or the package's name before its dot.
 fn note_type_name(noter: &mut Noter, names: &OpenNames<Denoted>, name: &TypeName)
-    ensures { Sees (open_look used.denoted_outside names.now) noter.old (used.type_name_used_idents name.now) noter.new }
+    ensures { Sees (open_look used.denoted_outside names.now) noter.old (type_name_idents name.now) noter.new }
 {
     match name {
         TypeName::Plain(ident) => note_use(noter, names, ident),
@@ -79,7 +81,7 @@ fn note_type_name(noter: &mut Noter, names: &OpenNames<Denoted>, name: &TypeName
 // Notes the names of a type.
 #[cycle(types)]
 fn note_type(noter: &mut Noter, names: &OpenNames<Denoted>, type_expr: &TypeExpr)
-    ensures { Sees (open_look used.denoted_outside names.now) noter.old (used.type_used_idents (type_shapes.shape_type type_expr.now)) noter.new }
+    ensures { Sees (open_look used.denoted_outside names.now) noter.old (type_idents (type_shapes.shape_type type_expr.now)) noter.new }
 {
     match type_expr {
         TypeExpr::Name(name) => note_type_name(noter, names, name),
@@ -93,7 +95,7 @@ fn note_type(noter: &mut Noter, names: &OpenNames<Denoted>, type_expr: &TypeExpr
 // Notes the names of the fields of one line.
 #[cycle(types)]
 fn note_fields(noter: &mut Noter, names: &OpenNames<Denoted>, fields: &Fields)
-    ensures { Sees (open_look used.denoted_outside names.now) noter.old (used.field_used_idents fields.now) noter.new }
+    ensures { Sees (open_look used.denoted_outside names.now) noter.old (field_idents fields.now) noter.new }
 {
     match fields {
         Fields::Named(_, type_expr) => note_type(noter, names, type_expr),
@@ -104,7 +106,7 @@ fn note_fields(noter: &mut Noter, names: &OpenNames<Denoted>, fields: &Fields)
 // Notes the names of fields.
 #[cycle(types)]
 fn note_field_lines(noter: &mut Noter, names: &OpenNames<Denoted>, lines: &Vec<FieldLine>)
-    ensures { Sees (open_look used.denoted_outside names.now) noter.old (used.fields_used_idents (type_shapes.fields_of lines.now.items)) noter.new }
+    ensures { Sees (open_look used.denoted_outside names.now) noter.old (fields_idents (type_shapes.fields_of lines.now.items)) noter.new }
 {
     for line in lines {
         note_fields(noter, names, &line.fields);
@@ -114,7 +116,7 @@ fn note_field_lines(noter: &mut Noter, names: &OpenNames<Denoted>, lines: &Vec<F
 // Notes the names of methods.
 #[cycle(types)]
 fn note_methods(noter: &mut Noter, names: &OpenNames<Denoted>, methods: &Vec<MethodLine>)
-    ensures { Sees (open_look used.denoted_outside names.now) noter.old (used.methods_used_idents (type_shapes.methods_of methods.now.items)) noter.new }
+    ensures { Sees (open_look used.denoted_outside names.now) noter.old (methods_idents (type_shapes.methods_of methods.now.items)) noter.new }
 {
     for method in methods {
         note_signature(noter, names, &method.signature);
@@ -124,7 +126,7 @@ fn note_methods(noter: &mut Noter, names: &OpenNames<Denoted>, methods: &Vec<Met
 /// Notes the names of a signature.
 #[cycle(types)]
 pub(crate) fn note_signature(noter: &mut Noter, names: &OpenNames<Denoted>, signature: &Signature)
-    ensures { Sees (open_look used.denoted_outside names.now) noter.old (used.signature_used_idents (type_shapes.shape_signature signature.now)) noter.new }
+    ensures { Sees (open_look used.denoted_outside names.now) noter.old (signature_type_idents (type_shapes.shape_signature signature.now)) noter.new }
 {
     note_params(noter, names, &signature.params.entries);
     note_results(noter, names, &signature.results);
@@ -133,7 +135,7 @@ pub(crate) fn note_signature(noter: &mut Noter, names: &OpenNames<Denoted>, sign
 // Notes the names of results.
 #[cycle(types)]
 fn note_results(noter: &mut Noter, names: &OpenNames<Denoted>, results: &Results)
-    ensures { Sees (open_look used.denoted_outside names.now) noter.old (used.result_used_idents (type_shapes.shape_results results.now)) noter.new }
+    ensures { Sees (open_look used.denoted_outside names.now) noter.old (result_type_idents (type_shapes.shape_results results.now)) noter.new }
 {
     match results {
         Results::Nothing => {}
@@ -145,7 +147,7 @@ fn note_results(noter: &mut Noter, names: &OpenNames<Denoted>, results: &Results
 // Notes the names of parameters.
 #[cycle(types)]
 fn note_params(noter: &mut Noter, names: &OpenNames<Denoted>, params: &Vec<Param>)
-    ensures { Sees (open_look used.denoted_outside names.now) noter.old (used.params_used_idents (type_shapes.params_of params.now.items)) noter.new }
+    ensures { Sees (open_look used.denoted_outside names.now) noter.old (params_idents (type_shapes.params_of params.now.items)) noter.new }
 {
     for param in params {
         note_type(noter, names, &param.type_expr);
@@ -158,7 +160,7 @@ pub(crate) fn note_receiver(
     names: &OpenNames<Denoted>,
     receiver: &Option<Receiver>,
 )
-    ensures { Sees (open_look used.denoted_outside names.now) noter.old (used.receiver_used_idents receiver.now) noter.new }
+    ensures { Sees (open_look used.denoted_outside names.now) noter.old (receiver_type_idents receiver.now) noter.new }
 {
     match receiver {
         None => {}
@@ -169,7 +171,7 @@ pub(crate) fn note_receiver(
 /// Notes the names of an expression.
 #[cycle(exprs)]
 pub(crate) fn note_expr(noter: &mut Noter, names: &OpenNames<Denoted>, expr: &Expr)
-    ensures { Sees (open_look used.denoted_outside names.now) noter.old (used.expr_used_idents (shapes.shape expr.now)) noter.new }
+    ensures { Sees (open_look used.denoted_outside names.now) noter.old (expr_idents (shapes.shape expr.now)) noter.new }
 {
     match expr {
         Expr::Integer(_, _) => {}
@@ -200,7 +202,7 @@ pub(crate) fn note_expr(noter: &mut Noter, names: &OpenNames<Denoted>, expr: &Ex
 // Notes the names of arguments or elements.
 #[cycle(exprs)]
 fn note_items(noter: &mut Noter, names: &OpenNames<Denoted>, items: &Vec<Item>)
-    ensures { Sees (open_look used.denoted_outside names.now) noter.old (used.items_used_idents (shapes.items_of items.now.items)) noter.new }
+    ensures { Sees (open_look used.denoted_outside names.now) noter.old (items_idents (shapes.items_of items.now.items)) noter.new }
 {
     for item in items {
         note_expr(noter, names, &item.value);
@@ -209,7 +211,7 @@ fn note_items(noter: &mut Noter, names: &OpenNames<Denoted>, items: &Vec<Item>)
 
 /// Notes the names of expressions with commas between them.
 pub(crate) fn note_exprs(noter: &mut Noter, names: &OpenNames<Denoted>, exprs: &Exprs)
-    ensures { Sees (open_look used.denoted_outside names.now) noter.old (used.exprs_used_idents (shapes.shape_exprs exprs.now)) noter.new }
+    ensures { Sees (open_look used.denoted_outside names.now) noter.old (list_idents (shapes.shape_exprs exprs.now)) noter.new }
 {
     note_expr(noter, names, &exprs.first);
     for next in &exprs.more {
@@ -219,7 +221,7 @@ pub(crate) fn note_exprs(noter: &mut Noter, names: &OpenNames<Denoted>, exprs: &
 
 // Notes the names of a target of an assignment: the blank identifier is none.
 fn note_target(noter: &mut Noter, names: &OpenNames<Denoted>, target: &Expr)
-    ensures { Sees (open_look used.denoted_outside names.now) noter.old (used.target_used_idents (shapes.shape target.now)) noter.new }
+    ensures { Sees (open_look used.denoted_outside names.now) noter.old (target_idents (shapes.shape target.now)) noter.new }
 {
     if !is_blank_target(target) {
         note_expr(noter, names, target);
@@ -228,7 +230,7 @@ fn note_target(noter: &mut Noter, names: &OpenNames<Denoted>, target: &Expr)
 
 // Notes the names of targets of an assignment.
 fn note_targets(noter: &mut Noter, names: &OpenNames<Denoted>, targets: &Exprs)
-    ensures { Sees (open_look used.denoted_outside names.now) noter.old (used.targets_used_idents (shapes.shape_exprs targets.now)) noter.new }
+    ensures { Sees (open_look used.denoted_outside names.now) noter.old (targets_idents (shapes.shape_exprs targets.now)) noter.new }
 {
     note_target(noter, names, &targets.first);
     for next in &targets.more {
@@ -238,7 +240,7 @@ fn note_targets(noter: &mut Noter, names: &OpenNames<Denoted>, targets: &Exprs)
 
 // Notes the names of a type, where one is written.
 fn note_some_type(noter: &mut Noter, names: &OpenNames<Denoted>, type_expr: &Option<TypeExpr>)
-    ensures { Sees (open_look used.denoted_outside names.now) noter.old (used.some_type_used_idents (shapes.shape_some_type type_expr.now)) noter.new }
+    ensures { Sees (open_look used.denoted_outside names.now) noter.old (some_type_idents (shapes.shape_some_type type_expr.now)) noter.new }
 {
     match type_expr {
         None => {}
@@ -248,7 +250,7 @@ fn note_some_type(noter: &mut Noter, names: &OpenNames<Denoted>, type_expr: &Opt
 
 // Notes the names of values, where they are written.
 fn note_values(noter: &mut Noter, names: &OpenNames<Denoted>, values: &Option<Values>)
-    ensures { Sees (open_look used.denoted_outside names.now) noter.old (used.values_used_idents (shapes.shape_values values.now)) noter.new }
+    ensures { Sees (open_look used.denoted_outside names.now) noter.old (values_idents (shapes.shape_values values.now)) noter.new }
 {
     match values {
         None => {}
@@ -258,7 +260,7 @@ fn note_values(noter: &mut Noter, names: &OpenNames<Denoted>, values: &Option<Va
 
 /// Notes the names of a specification of values.
 pub(crate) fn note_value_spec(noter: &mut Noter, names: &OpenNames<Denoted>, spec: &ValueSpec)
-    ensures { Sees (open_look used.denoted_outside names.now) noter.old (used.value_spec_used_idents (shapes.shape_value_spec spec.now)) noter.new }
+    ensures { Sees (open_look used.denoted_outside names.now) noter.old (value_spec_idents (shapes.shape_value_spec spec.now)) noter.new }
 {
     note_some_type(noter, names, &spec.type_expr);
     note_values(noter, names, &spec.values);
@@ -289,7 +291,7 @@ pub(crate) fn note_some_exprs(
     names: &OpenNames<Denoted>,
     exprs: &Option<Box<Exprs>>,
 )
-    ensures { Sees (open_look used.denoted_outside names.now) noter.old (used.some_exprs_used_idents (shapes.shape_some_exprs exprs.now)) noter.new }
+    ensures { Sees (open_look used.denoted_outside names.now) noter.old (returned_idents (shapes.shape_some_exprs exprs.now)) noter.new }
 {
     match exprs {
         None => {}

@@ -1,7 +1,7 @@
 pub mod Inputs
 pub mod Laws
 pub mod Parts
-pub mod mirrors
+pub mod Slots
 pub mod answer_core
 pub mod block_core
 pub mod body_core

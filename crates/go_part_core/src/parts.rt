@@ -1,6 +1,6 @@
 //! The parts of packages, by the numbers of these.
 ghost use Rattle.std.specs.Prelude.{◌≡◌, ◌≤◌, ◌<◌, ◌+◌, ◌++◌, [], IfOk, None, Some, length, replicate, slice_set, vec_capacity};
-ghost use Rattle.go_part_core.specs.mirrors.Slots.{if_put, those_put};
+ghost use Rattle.go_part_core.specs.Slots.{if_there, somes};
 
 use crate::part::Part;
 use go_text_core::add;
@@ -42,8 +42,8 @@ fn no_parts(alloc: Global, count: usize) -> Result<Vec<Option<Part>>, AllocError
 
 // Puts a part back, if there is one, into a list that has room for it.
 fn put_back(slot: Option<Part>, parts: &mut Vec<Part>)
-    requires { length parts.old.items + length (if_put slot) ≤ vec_capacity parts.old }
-    ensures parts { parts.new.items ≡ parts.old.items ++ if_put slot }
+    requires { length parts.old.items + length (if_there slot) ≤ vec_capacity parts.old }
+    ensures parts { parts.new.items ≡ parts.old.items ++ if_there slot }
     ensures room { vec_capacity parts.old ≤ vec_capacity parts.new }
 {
     let Some(part) = slot else {
@@ -88,8 +88,8 @@ impl Parts {
     /// Takes the parts that are there, in order of number, back into a list that has room for them.
     pub fn take_back(self, parts: &mut Vec<Part>)
         requires empty { parts.old.items ≡ [] }
-        requires room { length (those_put self) ≤ vec_capacity parts.old }
-        ensures { parts.new.items ≡ those_put self }
+        requires room { length (somes self) ≤ vec_capacity parts.old }
+        ensures { parts.new.items ≡ somes self }
     {
         for slot in self.slots {
             put_back(slot, parts);

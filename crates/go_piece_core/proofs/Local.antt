@@ -52,6 +52,8 @@ use Rattle.go_piece_core.specs.Statements.{callee_of, operand_argument, simple_u
 use Rattle.go_piece_core.specs.Pieces.{simple_values}
 use Rattle.go_piece_core.specs.Laws as laws
 use Rattle.go_piece_core.specs.Laws.{SamePiece, PiecesAreLocal}
+use Rattle.go_tree_nodes.specs.Idents.{type_name_idents, type_idents, signature_type_idents, result_type_idents, params_idents, expr_idents, items_idents, receiver_type_idents, some_type_idents, list_idents}
+use Rattle.go_walk_core.specs.PieceIdents.{values_idents, target_idents, targets_idents}
 
 module _ {T S D P : Type 0} (looks : Looks T S D P) (find : List ℕ → ℕ → Found T S D) (written : WrittenRules T) where
   abbrev other : Looks T S D P
@@ -84,16 +86,16 @@ module _ {T S D P : Type 0} (looks : Looks T S D P) (find : List ℕ → ℕ →
   abbrev SameExpr : ExprTree → Type 0
   SameExpr e = Same T S D P looks other stands.«Value» e
 
-  expr_same : (e : ExprTree) → Both (expressions.expr_idents e) (expr_types e) → SameExpr e
+  expr_same : (e : ExprTree) → Both (expr_idents e) (expr_types e) → SameExpr e
   expr_same e h = (expressions_seen T S D P).whole looks find written stands.«Value» e h.0 h.1
 
   -- types
 
-  name_used : (n : TypeName) → Finds (expressions.type_name_idents n) → type_name_uses looks n ≡ type_name_uses other n
+  name_used : (n : TypeName) → Finds (type_name_idents n) → type_name_uses looks n ≡ type_name_uses other n
   name_used (type_names.Plain x) h = ((expressions_seen T S D P).whole looks find written stands.«Type» (Named x) h tt).uses
   name_used (type_names.Qualified p dot x) h = ((expressions_seen T S D P).whole looks find written stands.«Type» (Select (Named p) dot x) h tt).uses
 
-  name_same : (n : TypeName) → Finds (expressions.type_name_idents n) → named_type looks n ≡ named_type other n
+  name_same : (n : TypeName) → Finds (type_name_idents n) → named_type looks n ≡ named_type other n
   name_same (type_names.Plain x) h = ap literal_type ((expressions_seen T S D P).whole looks find written stands.«Type» (Named x) h tt).denoted
   name_same (type_names.Qualified p dot x) h = ap literal_type ((expressions_seen T S D P).whole looks find written stands.«Type» (Select (Named p) dot x) h tt).denoted
 
@@ -102,31 +104,31 @@ module _ {T S D P : Type 0} (looks : Looks T S D P) (find : List ℕ → ℕ →
   with_nothing (x ∷ xs) h = (h.0, with_nothing xs h.1)
 
   -- the names in a type are those of a literal of it
-  type_used : (t : TypeTree) → Finds (expressions.type_idents t) → Makes (t ∷ []) → type_uses looks t ≡ type_uses other t
+  type_used : (t : TypeTree) → Finds (type_idents t) → Makes (t ∷ []) → type_uses looks t ≡ type_uses other t
   type_used t h k =
       let nowhere : Span = record { start = 0; end = 0 } in
       ap (map (use_of looks)) (sym (append-nil (type_spots looks t)))
-      ∙ (((expressions_seen T S D P).whole looks find written stands.«Value» (StructLiteral t nowhere NoItems nowhere) (with_nothing (expressions.type_idents t) h) k).uses
+      ∙ (((expressions_seen T S D P).whole looks find written stands.«Value» (StructLiteral t nowhere NoItems nowhere) (with_nothing (type_idents t) h) k).uses
       ∙ ap (map (use_of other)) (append-nil (type_spots other t)))
 
-  params_used : (ps : ParamTrees) → Finds (expressions.params_idents ps) → Makes (params_types ps) → params_uses looks ps ≡ params_uses other ps
+  params_used : (ps : ParamTrees) → Finds (params_idents ps) → Makes (params_types ps) → params_uses looks ps ≡ params_uses other ps
   params_used NoParams h k = refl
   params_used (Param xs t comma rest) h k =
       map-append (use_of looks) (type_spots looks t) (params_spots looks rest)
-      ∙ (pieces (type_uses looks t) (params_uses looks rest) (type_uses other t) (params_uses other rest) (type_used t (agree_left looks.find find (expressions.type_idents t) (expressions.params_idents rest) h) (k.0, tt)) (params_used rest (agree_right looks.find find (expressions.type_idents t) (expressions.params_idents rest) h) k.1)
+      ∙ (pieces (type_uses looks t) (params_uses looks rest) (type_uses other t) (params_uses other rest) (type_used t (agree_left looks.find find (type_idents t) (params_idents rest) h) (k.0, tt)) (params_used rest (agree_right looks.find find (type_idents t) (params_idents rest) h) k.1)
       ∙ sym (map-append (use_of other) (type_spots other t) (params_spots other rest)))
 
-  result_used : (r : ResultTree) → Finds (expressions.result_type_idents r) → Makes (result_types r) → result_uses looks r ≡ result_uses other r
+  result_used : (r : ResultTree) → Finds (result_type_idents r) → Makes (result_types r) → result_uses looks r ≡ result_uses other r
   result_used NoResult h k = refl
   result_used (OneResult t) h k = type_used t h k
   result_used (Results first params last) h k = params_used params h k
 
-  signature_used : (s : SignatureTree) → Finds (expressions.signature_type_idents s) → Makes (signature_types s) → signature_uses looks s ≡ signature_uses other s
+  signature_used : (s : SignatureTree) → Finds (signature_type_idents s) → Makes (signature_types s) → signature_uses looks s ≡ signature_uses other s
   signature_used (Signed first params last result) h k =
       map-append (use_of looks) (params_spots looks params) (result_spots looks result)
       ∙ (pieces (params_uses looks params) (result_uses looks result) (params_uses other params) (result_uses other result)
-      (params_used params (agree_left looks.find find (expressions.params_idents params) (expressions.result_type_idents result) h) (makes_left (params_types params) (result_types result) k))
-      (result_used result (agree_right looks.find find (expressions.params_idents params) (expressions.result_type_idents result) h) (makes_right (params_types params) (result_types result) k))
+      (params_used params (agree_left looks.find find (params_idents params) (result_type_idents result) h) (makes_left (params_types params) (result_types result) k))
+      (result_used result (agree_right looks.find find (params_idents params) (result_type_idents result) h) (makes_right (params_types params) (result_types result) k))
       ∙ sym (map-append (use_of other) (params_spots other params) (result_spots other result)))
 
   params_noted : (ps : ParamTrees) → Makes (params_types ps) → params_faults looks ps ≡ params_faults other ps
@@ -158,11 +160,11 @@ module _ {T S D P : Type 0} (looks : Looks T S D P) (find : List ℕ → ℕ →
       pieces (entry_types looks false params) (types_of_result looks false result) (entry_types other false params) (types_of_result other false result)
       (entries_same params (makes_left (params_types params) (result_types result) k)) (results_same result (makes_right (params_types params) (result_types result) k))
 
-  receiver_used : (r : Option Receiver) → Finds (laws.receiver_type_idents r) → receiver_uses looks r ≡ receiver_uses other r
+  receiver_used : (r : Option Receiver) → Finds (receiver_type_idents r) → receiver_uses looks r ≡ receiver_uses other r
   receiver_used None h = refl
   receiver_used (Some r) h = name_used r.base h
 
-  receiver_same : (r : Option Receiver) → Finds (laws.receiver_type_idents r) → receiver_types looks r ≡ receiver_types other r
+  receiver_same : (r : Option Receiver) → Finds (receiver_type_idents r) → receiver_types looks r ≡ receiver_types other r
   receiver_same None h = refl
   receiver_same (Some r) h = ap (λ t. named_receiver r.name (some_starred looks.types r.star t)) (name_same r.base h)
 
@@ -179,11 +181,11 @@ module _ {T S D P : Type 0} (looks : Looks T S D P) (find : List ℕ → ℕ →
   operand_same : (e : ExprTree) → SameExpr e → operand_faults looks stands.«Value» e ≡ operand_faults other stands.«Value» e
   operand_same e s = pieces _ _ _ _ s.faults (ap (λ d. fault_at (start e) (single_rule d)) s.denoted)
 
-  list_same : (es : Separated ExprTree) → Both (laws.list_idents es) (exprs_types es) → SameList es
+  list_same : (es : Separated ExprTree) → Both (list_idents es) (exprs_types es) → SameList es
   list_same (One e) h = let s = expr_same e h in record { denoted = ap (λ d. d ∷ []) s.denoted; uses = s.uses; faults = λ b. member_same b e s }
   list_same (Then e comma more) h =
-      let s = expr_same e (left (expressions.expr_idents e) (laws.list_idents more) (expr_types e) (exprs_types more) h) in
-      let rest = list_same more (right (expressions.expr_idents e) (laws.list_idents more) (expr_types e) (exprs_types more) h) in
+      let s = expr_same e (left (expr_idents e) (list_idents more) (expr_types e) (exprs_types more) h) in
+      let rest = list_same more (right (expr_idents e) (list_idents more) (expr_types e) (exprs_types more) h) in
       record {
         denoted = ap (λ d. d ∷ denoted_exprs looks more) s.denoted ∙ ap (λ l. denoted other stands.«Value» e ∷ l) rest.denoted;
         uses = pieces _ _ _ _ s.uses rest.uses;
@@ -211,24 +213,24 @@ module _ {T S D P : Type 0} (looks : Looks T S D P) (find : List ℕ → ℕ →
 
   -- left sides
 
-  target_same : (b : Bool) (e : ExprTree) → Finds (laws.target_idents e) → Makes (expr_types e)
+  target_same : (b : Bool) (e : ExprTree) → Finds (target_idents e) → Makes (expr_types e)
       → (target looks b e ≡ target other b e) × (target_uses looks e ≡ target_uses other e) × (target_faults looks b e ≡ target_faults other b e)
   target_same b e h k = by (is_blank_target e) h
     where
-      by : (blank : Bool) → Finds (if blank then [] else expressions.expr_idents e)
+      by : (blank : Bool) → Finds (if blank then [] else expr_idents e)
           → ((if blank then targets_are.Blank else target_of (denoted looks stands.«Value» e) (not b)) ≡ (if blank then targets_are.Blank else target_of (denoted other stands.«Value» e) (not b)))
           × ((if blank then [] else uses looks stands.«Value» e) ≡ (if blank then [] else uses other stands.«Value» e))
           × ((if blank then [] else member_faults looks b e) ≡ (if blank then [] else member_faults other b e))
       by true h = (refl, refl, refl)
       by false h = let s = expr_same e (h, k) in (ap (λ d. target_of d (not b)) s.denoted, s.uses, member_same b e s)
 
-  targets_same : (b : Bool) (es : Separated ExprTree) → Both (laws.targets_idents es) (exprs_types es)
+  targets_same : (b : Bool) (es : Separated ExprTree) → Both (targets_idents es) (exprs_types es)
       → (targets looks b es ≡ targets other b es) × (targets_uses looks es ≡ targets_uses other es) × (targets_faults looks b es ≡ targets_faults other b es)
   targets_same b (One e) h = let s = target_same b e h.0 h.1 in (ap (λ t. t ∷ []) s.0, s.1, s.2)
   targets_same b (Then e comma more) h =
-      let here = left (laws.target_idents e) (laws.targets_idents more) (expr_types e) (exprs_types more) h in
+      let here = left (target_idents e) (targets_idents more) (expr_types e) (exprs_types more) h in
       let s = target_same b e here.0 here.1 in
-      let rest = targets_same b more (right (laws.target_idents e) (laws.targets_idents more) (expr_types e) (exprs_types more) h) in
+      let rest = targets_same b more (right (target_idents e) (targets_idents more) (expr_types e) (exprs_types more) h) in
       (ap (λ t. t ∷ targets looks b more) s.0 ∙ ap (λ l. target other b e ∷ l) rest.0, pieces _ _ _ _ s.1 rest.1, pieces _ _ _ _ s.2 rest.2)
 
   old_same : (x : Ident) → Finds (x ∷ []) → old_target looks x ≡ old_target other x
@@ -242,17 +244,17 @@ module _ {T S D P : Type 0} (looks : Looks T S D P) (find : List ℕ → ℕ →
 
   -- specifications
 
-  some_type_same : (t : Option TypeTree) → Both (laws.some_type_idents t) (some_type t)
+  some_type_same : (t : Option TypeTree) → Both (some_type_idents t) (some_type t)
       → (some_written_type looks t ≡ some_written_type other t) × (some_type_uses looks t ≡ some_type_uses other t) × (some_type_faults looks t ≡ some_type_faults other t)
   some_type_same None h = (refl, refl, refl)
   some_type_same (Some t) h = (ap (λ t. Some t) h.1.0.type_of, type_used t h.0 h.1, h.1.0.faults_of)
 
-  values_same : (v : Option (Span × Separated ExprTree)) → Both (laws.values_idents v) (values_types v)
+  values_same : (v : Option (Span × Separated ExprTree)) → Both (values_idents v) (values_types v)
       → (values_given looks v ≡ values_given other v) × (values_uses looks v ≡ values_uses other v) × (values_faults looks v ≡ values_faults other v)
   values_same None h = (refl, refl, refl)
   values_same (Some v) h = let s = list_same v.1 h in (given_same v.1 s, s.uses, s.faults (is_list v.1))
 
-  own_same : (kind : ValueKind) (xs : Separated Ident) (w w' : Option (Option T)) (v : Option (Span × Separated ExprTree)) → w ≡ w' → Both (laws.values_idents v) (values_types v)
+  own_same : (kind : ValueKind) (xs : Separated Ident) (w w' : Option (Option T)) (v : Option (Span × Separated ExprTree)) → w ≡ w' → Both (values_idents v) (values_types v)
       → own_faults looks kind xs w v ≡ own_faults other kind xs w' v
   own_same kinds.Const xs w w' None e h = refl
   own_same kinds.Const xs w w' (Some v) e h =
@@ -273,9 +275,9 @@ module _ {T S D P : Type 0} (looks : Looks T S D P) (find : List ℕ → ℕ →
 
   -- statements
 
-  callee_same : (e : ExprTree) → Both (expressions.expr_idents e) (expr_types e) → callee_of looks e ≡ callee_of other e
+  callee_same : (e : ExprTree) → Both (expr_idents e) (expr_types e) → callee_of looks e ≡ callee_of other e
   callee_same (Call e first items last) h =
-      ap (λ d. Some d) ((expressions_seen T S D P).whole looks find written stands.Callee e (agree_left looks.find find (expressions.expr_idents e) (expressions.items_idents items) h.0)
+      ap (λ d. Some d) ((expressions_seen T S D P).whole looks find written stands.Callee e (agree_left looks.find find (expr_idents e) (items_idents items) h.0)
       (makes_left (expr_types e) (items_types items) h.1)).denoted
   callee_same (Paren first e last) h = callee_same e h
   callee_same (Integer n span) h = refl
@@ -296,8 +298,8 @@ module _ {T S D P : Type 0} (looks : Looks T S D P) (find : List ℕ → ℕ →
       let s = expr_same e h in
       (s.uses, λ firsts. pieces _ _ _ _ (operand_same e s) (ap (λ d. fault_at (start e) (increment_rule looks.types (argument_of d))) s.denoted), λ firsts. refl)
   simple_same (Assign ts span es) h =
-      let ls = targets_same (is_list ts) ts (left (laws.targets_idents ts) (laws.list_idents es) (exprs_types ts) (exprs_types es) h) in
-      let s = list_same es (right (laws.targets_idents ts) (laws.list_idents es) (exprs_types ts) (exprs_types es) h) in (
+      let ls = targets_same (is_list ts) ts (left (targets_idents ts) (list_idents es) (exprs_types ts) (exprs_types es) h) in
+      let s = list_same es (right (targets_idents ts) (list_idents es) (exprs_types ts) (exprs_types es) h) in (
         pieces _ _ _ _ ls.1 s.uses,
         λ firsts. pieces _ _ _ _ ls.2 (pieces _ _ _ _ (s.faults (is_list es)) (ap (fault_at (list_start ts))
             (ap (λ l. assignment_rule looks.types l (is_unknown looks es) (given looks es)) ls.0
@@ -306,17 +308,17 @@ module _ {T S D P : Type 0} (looks : Looks T S D P) (find : List ℕ → ℕ →
         λ firsts. refl,
       )
   simple_same (Update e op span v) h =
-      let s = expr_same e (left (expressions.expr_idents e) (expressions.expr_idents v) (expr_types e) (expr_types v) h) in
-      let r = expr_same v (right (expressions.expr_idents e) (expressions.expr_idents v) (expr_types e) (expr_types v) h) in (
+      let s = expr_same e (left (expr_idents e) (expr_idents v) (expr_types e) (expr_types v) h) in
+      let r = expr_same v (right (expr_idents e) (expr_idents v) (expr_types e) (expr_types v) h) in (
         pieces _ _ _ _ s.uses r.uses,
         λ firsts. pieces _ _ _ _ (operand_same e s) (pieces _ _ _ _ (operand_same v r) (ap (fault_at (start e))
             (ap (λ d. update_rule looks.types op (argument_of d) (operand_argument looks v)) s.denoted ∙ ap (λ d. update_rule looks.types op (operand_argument other e) (argument_of d)) r.denoted))),
         λ firsts. refl,
       )
   simple_same (Define xs span es) h =
-      let s = list_same es (agree_right looks.find find (outline.idents xs) (laws.list_idents es) h.0, h.1) in
+      let s = list_same es (agree_right looks.find find (outline.idents xs) (list_idents es) h.0, h.1) in
       let ts : (firsts : List Bool) → short_targets looks firsts [] (outline.idents xs) ≡ short_targets other firsts [] (outline.idents xs) =
-      λ firsts. short_same firsts [] (outline.idents xs) (agree_left looks.find find (outline.idents xs) (laws.list_idents es) h.0) in (
+      λ firsts. short_same firsts [] (outline.idents xs) (agree_left looks.find find (outline.idents xs) (list_idents es) h.0) in (
         s.uses,
         λ firsts. pieces _ _ _ _ (s.faults (is_list es)) (ap (fault_at (names_start xs))
             (ap (λ l. assignment_rule looks.types l (is_unknown looks es) (given looks es)) (ts firsts)
@@ -328,15 +330,15 @@ module _ {T S D P : Type 0} (looks : Looks T S D P) (find : List ℕ → ℕ →
 
   piece_same : (p : Piece) → Both (laws.piece_idents p) (piece_types p) → SamePiece T S D P looks other p
   piece_same (Header r s) h =
-      let of_receiver = agree_left looks.find find (laws.receiver_type_idents r) (expressions.signature_type_idents s) h.0 in
+      let of_receiver = agree_left looks.find find (receiver_type_idents r) (signature_type_idents s) h.0 in
       record {
-        uses = pieces _ _ _ _ (receiver_used r of_receiver) (signature_used s (agree_right looks.find find (laws.receiver_type_idents r) (expressions.signature_type_idents s) h.0) h.1);
+        uses = pieces _ _ _ _ (receiver_used r of_receiver) (signature_used s (agree_right looks.find find (receiver_type_idents r) (signature_type_idents s) h.0) h.1);
         faults = λ results has_names firsts. signature_noted s h.1;
         values = λ firsts. ap (map variable) (pieces _ _ _ _ (receiver_same r of_receiver) (signature_same s h.1));
       }
   piece_same (Spec kind v) h =
-      let t = some_type_same v.type_expr (left (laws.some_type_idents v.type_expr) (laws.values_idents v.values) (some_type v.type_expr) (values_types v.values) h) in
-      let in_list = right (laws.some_type_idents v.type_expr) (laws.values_idents v.values) (some_type v.type_expr) (values_types v.values) h in
+      let t = some_type_same v.type_expr (left (some_type_idents v.type_expr) (values_idents v.values) (some_type v.type_expr) (values_types v.values) h) in
+      let in_list = right (some_type_idents v.type_expr) (values_idents v.values) (some_type v.type_expr) (values_types v.values) h in
       let s = values_same v.values in_list in
       record {
         uses = pieces _ _ _ _ t.1 s.1;

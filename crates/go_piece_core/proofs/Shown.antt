@@ -16,12 +16,14 @@ use Rattle.go_walk_core.specs.local_core.Binding.{NameLook}
 use Rattle.go_walk_core.specs.local_core.Alike.{Alike}
 use Rattle.go_walk_core.specs.Ends.{is_blank_target}
 use Rattle.go_expr_core.specs.Looks.{Looks}
-use Rattle.go_expr_core.specs.Laws.{AgreeOnIdents, type_name_idents, type_idents, fields_idents, methods_idents, signature_type_idents, result_type_idents, params_idents, expr_idents, items_idents}
+use Rattle.go_expr_core.specs.Laws.{AgreeOnIdents}
 use Rattle.go_expr_core.specs.Locality.{SameWritten, seeing}
 use Rattle.go_piece_core.specs.Pieces.{piece_uses, piece_faults}
-use Rattle.go_piece_core.specs.Laws.{receiver_type_idents, some_type_idents, list_idents, values_idents, target_idents, targets_idents, simple_idents, piece_idents, SamePiece, FindByNames, PiecesLookAtNames}
+use Rattle.go_piece_core.specs.Laws.{simple_idents, piece_idents, SamePiece, FindByNames, PiecesLookAtNames}
 use Rattle.go_walk_core.specs.local_core.Pieces.{piece_types}
 use Rattle.go_piece_core.proofs.Local.{pieces_local}
+use Rattle.go_tree_nodes.specs.Idents.{type_name_idents, type_idents, fields_idents, methods_idents, signature_type_idents, result_type_idents, params_idents, expr_idents, items_idents, receiver_type_idents, some_type_idents, list_idents}
+use Rattle.go_walk_core.specs.PieceIdents.{values_idents, target_idents, targets_idents}
 
 module _ {X T S D P : Type 0} (looks : NameLook X → Looks T S D P) (law : FindByNames X T S D P looks) (look other : NameLook X) where
   abbrev Agrees : List Ident → Type 0

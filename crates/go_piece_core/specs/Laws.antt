@@ -2,17 +2,13 @@
 --
 -- docs/RULES.md, "Occurrences", "Expressions: roles, order, faults of parts", "Assignments, declarations, returns, statements". The Go
 -- specification, "Declarations and scope".
-use Rattle.std.specs.Prelude.{◌≡◌, ℕ, ⊤, Bool, List, [], ◌++◌, length, map, Option, Some, None, if◌then◌else◌}
-use Rattle.go_text_core.specs.declared.span.Span.{Span}
+use Rattle.std.specs.Prelude.{◌≡◌, ℕ, ⊤, Bool, List, [], ◌++◌, length, map, Option}
 use Rattle.go_tree_nodes.specs.declared.names.Ident.{Ident}
-use Rattle.go_tree_nodes.specs.declared.files.Receiver.{Receiver}
-use Rattle.go_tree_nodes.specs.Trees.{Separated, One, Then, TypeTree, ExprTree, SimpleTree, Alone, Step, Assign, Update, Define, FuncTree}
+use Rattle.go_tree_nodes.specs.Trees.{SimpleTree, Alone, Step, Assign, Update, Define, FuncTree}
 use Rattle.go_tree_nodes.specs.Rules.{Wf, Wf_values, Wf_simple, Wf_some_exprs}
-use Rattle.go_tree_nodes.specs.WrittenTypes.{expr_types, some_exprs_types, signature_types, spec_types, simple_types}
 use Rattle.go_expr_core.specs.tree_core.declared.occurrence.Context.TheVariants as contexts
 use Rattle.go_expr_core.specs.tree_core.declared.occurrence.Occ.{Occ}
 use Rattle.go_expr_core.specs.tree_core.Occurrences.{receiver_occs, signature_occs, value_spec_occs, simple_occs, expr_occs, some_exprs_occs, func_occs}
-use Rattle.go_walk_core.specs.Ends.{is_blank_target}
 use Rattle.go_walk_core.specs.local_core.Steps.{Piece, Header, Spec, Act, Condition, Given, Steps, Done, Check, Declare, Inner, spell_piece}
 use Rattle.go_walk_core.specs.local_core.Outline.{func_steps}
 use Rattle.go_walk_core.specs.local_core.Outline as outline
@@ -28,6 +24,8 @@ use Rattle.go_expr_core.specs.Laws as expressions
 use Rattle.go_expr_core.specs.Locality.{SameWritten, seeing}
 use Rattle.go_piece_core.specs.Pieces.{piece_uses, piece_faults, piece_values}
 use Rattle.go_walk_core.specs.local_core.Pieces.{piece_declares, piece_types}
+use Rattle.go_tree_nodes.specs.Idents.{expr_idents, list_idents, receiver_type_idents, returned_idents, signature_type_idents, some_type_idents}
+use Rattle.go_walk_core.specs.PieceIdents.{targets_idents, values_idents}
 
 -- each occurrence has exactly one outcome, and no other place has one
 
@@ -67,47 +65,19 @@ NamesHaveValues T S D P = (looks : Looks T S D P) (firsts : List Bool) (p : Piec
 
 -- a piece looks at the names in it alone, each where it stands
 
-abbrev pub receiver_type_idents : Option Receiver → List Ident
-receiver_type_idents None = []
-receiver_type_idents (Some r) = expressions.type_name_idents r.base
-
-abbrev pub some_type_idents : Option TypeTree → List Ident
-some_type_idents None = []
-some_type_idents (Some t) = expressions.type_idents t
-
-abbrev pub list_idents : Separated ExprTree → List Ident
-list_idents (One e) = expressions.expr_idents e
-list_idents (Then e comma more) = expressions.expr_idents e ++ list_idents more
-
-abbrev pub values_idents : Option (Span × Separated ExprTree) → List Ident
-values_idents None = []
-values_idents (Some v) = list_idents v.1
-
-abbrev pub returned_idents : Option (Separated ExprTree) → List Ident
-returned_idents None = []
-returned_idents (Some es) = list_idents es
-
--- `_` left of `=` is looked up nowhere
-abbrev pub target_idents : ExprTree → List Ident
-target_idents e = if is_blank_target e then [] else expressions.expr_idents e
-
-abbrev pub targets_idents : Separated ExprTree → List Ident
-targets_idents (One e) = target_idents e
-targets_idents (Then e comma more) = target_idents e ++ targets_idents more
-
 abbrev pub simple_idents : SimpleTree → List Ident
-simple_idents (Alone e) = expressions.expr_idents e
-simple_idents (Step e op span) = expressions.expr_idents e
+simple_idents (Alone e) = expr_idents e
+simple_idents (Step e op span) = expr_idents e
 simple_idents (Assign ts span es) = targets_idents ts ++ list_idents es
-simple_idents (Update e op span v) = expressions.expr_idents e ++ expressions.expr_idents v
+simple_idents (Update e op span v) = expr_idents e ++ expr_idents v
 simple_idents (Define xs span es) = outline.idents xs ++ list_idents es
 
 -- the identifiers of a piece that are looked up
 abbrev pub piece_idents : Piece → List Ident
-piece_idents (Header r s) = receiver_type_idents r ++ expressions.signature_type_idents s
+piece_idents (Header r s) = receiver_type_idents r ++ signature_type_idents s
 piece_idents (Spec kind v) = some_type_idents v.type_expr ++ values_idents v.values
 piece_idents (Act s) = simple_idents s
-piece_idents (Condition e) = expressions.expr_idents e
+piece_idents (Condition e) = expr_idents e
 piece_idents (Given place es) = returned_idents es
 
 -- the same is noted, and the names stand for the same

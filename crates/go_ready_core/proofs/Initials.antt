@@ -11,10 +11,11 @@ use Rattle.go_func_core.specs.denote_core.Arguments.{arguments_of}
 use Rattle.go_func_core.specs.expr_core.Looks.{Looks, WrittenRules, look_of_place}
 use Rattle.go_func_core.specs.expr_core.Denoting.{denoted}
 use Rattle.go_func_core.specs.expr_core.Lists.{denoted_exprs}
-use Rattle.go_func_core.specs.expr_core.Laws.{AgreeOnIdents, expr_idents}
+use Rattle.go_func_core.specs.expr_core.Laws.{AgreeOnIdents}
 use Rattle.go_func_core.specs.expr_core.Locality.{SameWritten, seeing}
 use Rattle.go_func_core.specs.expr_core.Alike.{expressions_seen}
 use Rattle.go_value_core.specs.Initial.{spec_name_count, initial, list_start, some_written_type, values_given, values_of}
+use Rattle.go_tree_nodes.specs.Idents.{expr_idents}
 
 module _ {T S D P : Type 0} (looks : Looks T S D P) (written : WrittenRules T) where
   abbrev other : Looks T S D P

@@ -11,7 +11,8 @@ use Rattle.go_make_core.specs.whole_core.mirrors.Steps.{AreRight}
 use Rattle.go_make_core.specs.whole_core.Lists.{all_from_among}
 use Rattle.go_make_core.specs.whole_core.Parts.{told_apart}
 use Rattle.go_make_core.specs.whole_core.PartsWhole.{all_right}
-use Rattle.go_emit_core.specs.Emitted.{AreOfDifferentPackages, somes, told_by}
+use Rattle.go_emit_core.specs.Emitted.{AreOfDifferentPackages, told_by}
+use Rattle.go_make_core.specs.part_core.Slots.{somes}
 
 -- what is told is told by one of the parts
 record IsToldBy (xs : List (Option PartModel)) (s : SummaryModel) : Type 0 where

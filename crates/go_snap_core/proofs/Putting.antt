@@ -12,17 +12,16 @@ use Rattle.go_make_core.specs.graph_core.Workspaces.{PackageModel, IsWorkspace}
 use Rattle.go_make_core.specs.graph_core.Zips.{numbered_back, numbered_length}
 use Rattle.go_make_core.specs.entry_core.Among.{Among, among_cases, among_from, among_left, among_right, among_to}
 use Rattle.go_make_core.specs.part_core.Parts.{PartModel}
-use Rattle.go_make_core.specs.part_core.mirrors.Slots.{those_put}
 use Rattle.go_make_core.specs.whole_core.Inputs.{AreParts, IsPartOf}
 use Rattle.go_make_core.specs.whole_core.Lists.{none_is_some, one_at, same_list}
 use Rattle.go_make_core.specs.whole_core.Beside.{one_place}
 use Rattle.go_make_core.specs.whole_core.Making.{set_back, set_here, set_there}
-use Rattle.go_emit_core.specs.Emitted.{somes}
 use Rattle.go_make_core.proofs.Telling.{nothing_at}
+use Rattle.go_make_core.specs.part_core.Slots.{somes}
 
 -- those that are there
 
-pub those_are : {A : Type 0} (xs : List (Option A)) → those_put xs ≡ somes xs
+pub those_are : {A : Type 0} (xs : List (Option A)) → somes xs ≡ somes xs
 those_are [] = refl
 those_are (None ∷ xs) = those_are xs
 those_are (Some x ∷ xs) = ap (λ l. x ∷ l) (those_are xs)

@@ -5,17 +5,16 @@ use Rattle.std.specs.Prelude.{◌≡◌, ℕ, List, Option, Some, map, slice_get
 use Rattle.std.specs.List.{AllZip}
 use Rattle.std.specs.List.Sorted.{IsPermutation}
 use Rattle.std.specs.Option.{option_map}
-use Rattle.go_emit_core.specs.Emitted.{somes}
 use Rattle.go_make_core.specs.graph_core.Sources.{SourceModel}
 use Rattle.go_make_core.specs.graph_core.Workspaces.{PackageModel}
-use Rattle.go_emit_core.specs.ready_core.Packages.{trees_in}
 use Rattle.go_emit_core.specs.used_core.Used.{FileUse}
-use Rattle.go_make_core.specs.part_core.Parts.{AreFilesMade, ContentOf, FileOf, PartModel}
+use Rattle.go_make_core.specs.part_core.Parts.{ContentOf, FileOf, PartModel}
 use Rattle.go_snap_core.specs.declared.fault.PlacedFault.{PlacedFault}
 use Rattle.go_snap_core.specs.Faults.{AreFaults}
 use Rattle.go_make_core.specs.whole_core.Inputs.{AreParts}
 use Rattle.go_make_core.specs.whole_core.Entries.{IsPartEntry}
 use Rattle.go_make_core.specs.whole_core.Whole.{AreWhole, WholeOf}
+use Rattle.go_make_core.specs.part_core.Slots.{somes}
 pub use Rattle.go_make_core.specs.Finding.{IsPartAt}
 
 abbrev pub contents_of : List (Option PartModel) → List (Option ContentOf)

@@ -8,8 +8,9 @@ ghost use Rattle.go_emit_core.specs.used_core.Used.{FileUse};
 ghost use Rattle.go_make_core.specs.part_core.Parts.{PartModel};
 ghost use Rattle.go_make_core.specs.whole_core.Inputs.{AreParts};
 ghost use Rattle.go_emit_core.specs.object_core.Objects.{object_shown};
-ghost use Rattle.go_emit_core.specs.Emitted.{objects_of, somes};
+ghost use Rattle.go_emit_core.specs.Emitted.{objects_of};
 ghost use Rattle.go_snap_core.specs.Snapshots.{ArePartsOf, IsAnswerAt, IsPartAt, IsSnapshot, snapshot_with};
+ghost use Rattle.go_make_core.specs.part_core.Slots.{somes};
 
 use crate::fault::{PlacedFault, faults_of};
 use go_emit_core::answer_core::{Answer, Site};

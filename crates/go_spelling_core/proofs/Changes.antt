@@ -18,12 +18,12 @@ use Rattle.go_package_core.specs.expr_core.Places.{inside, under_place, left_pla
 use Rattle.go_package_core.specs.expr_core.Denoting.{ident_answer, named_type, written_type, denoted, denoted_items}
 use Rattle.go_package_core.specs.expr_core.Operators.{unary_of, binary_of}
 use Rattle.go_package_core.specs.expr_core.Elements.{key_names, all_keys, keys_of, is_mixed}
-use Rattle.go_package_core.specs.expr_core.Laws.{type_name_idents, type_idents, fields_idents, methods_idents, signature_type_idents, result_type_idents, params_idents}
 use Rattle.go_package_core.specs.expr_core.Needed.{needed_idents, needed_by_args}
 use Rattle.go_package_core.specs.expr_core.Uses.{SelectorBehind, Spot, type_name_spots, type_spots, fields_spots, methods_spots, signature_spots, result_spots, params_spots, key_spots, spots, args_spots, items_spots}
 use Rattle.go_package_core.specs.expr_core.Respelling.{RespellsName, InPlain, InQualifier, BehindDot, RespellsType, InNamedType, InPointer, InParenType, InStruct, InInterface, RespellsFields, InFieldType, InLaterFields, InEmbedded, BehindEmbedded, RespellsMethods, InMethod, InLaterMethods, RespellsSignature, InParams, InResult, RespellsResult, InOneResult, InResults, RespellsParams, InParam, InLaterParams, Respells, InName, InParen, InUnary, InLeft, InRight, InOperand, InSelector, InCallee, InArguments, InLiteralType, InElements, InStructType, InStructElements, RespellsArgs, InArgument, InLaterArguments}
 use Rattle.go_package_core.specs.expr_core.Independence.{len}
 use Rattle.go_spelling_core.proofs.Splits.{len_app, Split, here, in_left, in_right}
+use Rattle.go_tree_nodes.specs.Idents.{type_name_idents, type_idents, fields_idents, methods_idents, signature_type_idents, result_type_idents, params_idents}
 
 -- how many spots there are does not depend on the look-ups
 

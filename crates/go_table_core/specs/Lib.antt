@@ -1,4 +1,5 @@
 pub mod Entries
+pub mod Nesting
 pub mod codes
 pub mod Shown
 pub mod Methods

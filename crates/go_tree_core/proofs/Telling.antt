@@ -24,7 +24,8 @@ use Rattle.go_tree_core.specs.declared.occurrence.Context.TheVariants as context
 use Rattle.go_tree_core.specs.declared.occurrence.Occ.{Occ}
 use Rattle.go_tree_core.specs.Occurrences.{is_identifier, occ_at, call_at, pointed_context, occurrence, type_name_occs, type_occs, fields_occs, methods_occs, signature_occs, result_occs, params_occs, named_occs, inside_context, under, key_occs, expr_occs, items_occs, exprs_occs, some_expr_occs, some_exprs_occs, some_type_occs, values_occs, value_spec_occs, group_occs, specs_occs, value_occs, type_spec_occs, type_decl_occs, simple_occs, some_simple_occs, init_occs, if_occs, for_occs, stmt_occs, branch_occs, else_occs, lines_occs, receiver_occs, func_occs, decl_occs, tops_occs, import_occs, imports_occs, file_occs}
 use Rattle.go_tree_core.specs.Names.{take_some, take_each, take_group, take_specs, take_values, take_value_spec, take_value, take_type_spec, take_types, take_simple, take_init, take_if, take_for, take_stmt, take_branch, take_else, take_lines, take_receiver, take_func, take_decl, take_tops, take_import_name, take_imports, one_name, type_names, field_names, method_names, signature_names, result_names, param_names, expr_names, item_names, taking_names, blank_target, nothing, taking_blanks, expr_calls, item_calls, taking_calls, import_strings, declared_names, blank_targets, file_calls}
-use Rattle.go_tree_core.specs.Laws.{name_of, written_names, used_name, used_names, call_of, used_calls, string_of, used_imports, Interleave, Done, First, Second, Third, IsKindOf, AreWritten, NoneLeft, Passed, Written, NamesAreUsedOrDeclared, CallsAreOccurrences, ImportsAreOccurrences, OccurrencesAreWritten}
+use Rattle.go_tree_core.specs.Laws.{written_names, used_name, used_names, call_of, used_calls, string_of, used_imports, Interleave, Done, First, Second, Third, IsKindOf, AreWritten, NoneLeft, Passed, Written, NamesAreUsedOrDeclared, CallsAreOccurrences, ImportsAreOccurrences, OccurrencesAreWritten}
+use Rattle.go_tree_core.specs.Laws.{terminal_name}
 
 interleave_both : {A : Type 0} {xs ys zs all us vs ws more : List A} → Interleave xs ys zs all → Interleave us vs ws more → Interleave (xs ++ us) (ys ++ vs) (zs ++ ws) (all ++ more)
 interleave_both Done g = g
@@ -55,7 +56,7 @@ abbrev Quiet : List Terminal → Type 0
 Quiet ts = written_names ts ≡ []
 
 names_both : (ts us : List Terminal) → written_names (ts ++ us) ≡ written_names ts ++ written_names us
-names_both ts us = filter_map-append (λ t. name_of t.kind t.span) ts us
+names_both ts us = filter_map-append (λ t. terminal_name t.kind t.span) ts us
 
 -- what the occurrences among some terminals tell: with the names that are declared and the blank targets they are the names, these are
 -- the calls and the imports, and all are written
@@ -68,7 +69,7 @@ record Tells (ts : List Terminal) (os : List Occ) (ds bs : List Ident) (cs : Lis
 tells_none : {ts : List Terminal} → Quiet ts → Tells ts [] [] [] [] []
 tells_none {ts} quiet = record { names = subst (λ w. Interleave [] [] [] w) (sym quiet) Done; calls = refl; imports = refl; written = none_written ts }
 
-tells_skip : {t : Terminal} {ts : List Terminal} {os : List Occ} {ds bs : List Ident} {cs : List Span} {is : List TextLiteral} → name_of t.kind t.span ≡ None → Tells ts os ds bs cs is → Tells (t ∷ ts) os ds bs cs is
+tells_skip : {t : Terminal} {ts : List Terminal} {os : List Occ} {ds bs : List Ident} {cs : List Span} {is : List TextLiteral} → terminal_name t.kind t.span ≡ None → Tells ts os ds bs cs is → Tells (t ∷ ts) os ds bs cs is
 tells_skip {t} {ts} {os} {ds} {bs} none m = record { names = subst (λ n. Interleave (used_names os) ds bs (cons_option n (written_names ts))) (sym none) m.names; calls = m.calls; imports = m.imports; written = Passed m.written }
 
 -- roles of identifiers

@@ -15,12 +15,12 @@ use Rattle.go_tree_core.specs.Occurrences.{is_identifier, file_occs}
 use Rattle.go_tree_core.specs.Names.{declared_names, blank_targets, file_calls, import_strings}
 
 -- the names among terminals
-abbrev pub name_of : TerminalKind → Span → Option Ident
-name_of (Spelled name) s = Some (record { name = name; span = s })
-name_of _ s = None
+abbrev pub terminal_name : TerminalKind → Span → Option Ident
+terminal_name (Spelled name) s = Some (record { name = name; span = s })
+terminal_name _ s = None
 
 abbrev pub written_names : List Terminal → List Ident
-written_names ts = filter_map (λ t. name_of t.kind t.span) ts
+written_names ts = filter_map (λ t. terminal_name t.kind t.span) ts
 
 -- the identifiers, the calls and the imports among occurrences
 abbrev pub used_name : Occ → Option Ident

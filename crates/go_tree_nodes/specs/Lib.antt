@@ -1,5 +1,6 @@
 pub mod Counts
 pub mod Heights
+pub mod Idents
 pub mod Naming
 pub mod Rules
 pub mod Samples
@@ -8,6 +9,7 @@ pub mod Spelling
 pub mod Starts
 pub mod Terminals
 pub mod Trees
+pub mod TypeNames
 pub mod TypeShapes
 pub mod WrittenTypes
 pub mod codes

@@ -12,7 +12,8 @@ use Rattle.go_table_core.specs.declared.entry.TypeEntry.{TypeEntry}
 use Rattle.go_table_core.specs.Shown.{entry_shown}
 use Rattle.go_table_core.specs.Tables.{AreOf, KeysRise}
 use Rattle.go_table_core.proofs.Keys.{Before, before_on, rise_rest, same_key_from, same_key_itself, same_key_true}
-use Rattle.go_type_core.specs.mirrors.Numbers.{keys_of, keys_in, number_of, is_ref_before, RefsRise, IsTable}
+use Rattle.go_type_core.specs.mirrors.Numbers.{keys_of, keys_in, number_of, RefsRise, IsTable}
+use Rattle.go_term_core.specs.decl_core.Order.{is_ref_before}
 
 -- an entry that stands at a number, which is its key's
 pub record At (es : List Entry) (k : DeclKey) (i : ℕ) (e : Entry) : Type 0 where

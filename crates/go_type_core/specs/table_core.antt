@@ -7,6 +7,7 @@ pub use Rattle.go_table_core.proofs.Keys as Keys
 pub use Rattle.go_table_core.specs.Laws as Laws
 pub use Rattle.go_table_core.proofs.Meanings as Meanings
 pub use Rattle.go_table_core.specs.Methods as Methods
+pub use Rattle.go_table_core.specs.Nesting as Nesting
 pub use Rattle.go_table_core.specs.Shown as Shown
 pub use Rattle.go_table_core.specs.Tables as Tables
 pub use Rattle.go_table_core.specs.codes as codes

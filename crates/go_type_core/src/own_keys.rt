@@ -3,7 +3,8 @@ ghost use Rattle.std.specs.Prelude.{◌≡◌, ◌↔◌, ◌≤◌, false, IfOk
 ghost use Rattle.std.specs.List.Sorted.{IsPartitionPoint};
 ghost use Rattle.go_table_core.specs.Shown.{entry_shown};
 ghost use Rattle.go_table_core.specs.Tables.{AreOf, KeysRise};
-ghost use Rattle.go_type_core.specs.mirrors.Numbers.{is_ref_before, keys_in, keys_of, number_of, RefsRise};
+ghost use Rattle.go_type_core.specs.mirrors.Numbers.{keys_in, keys_of, number_of, RefsRise};
+ghost use Rattle.go_term_core.specs.decl_core.Order.{is_ref_before};
 
 use go_path_core::ImportPath;
 use go_table_core::TypeEntry;

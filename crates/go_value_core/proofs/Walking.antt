@@ -27,9 +27,9 @@ use Rattle.go_tree_nodes.specs.TypeShapes.{shape_type, shape_signature, shape_re
 use Rattle.go_tree_nodes.specs.Shapes.{shape, items_of}
 use Rattle.go_tree_nodes.proofs.TypeShapes.{shape_struct, shape_interface, listed_parts, signature_parts}
 use Rattle.go_tree_nodes.proofs.ShapeLemmas.{call_parts, literal_parts, struct_literal_parts}
-use Rattle.go_piece_core.specs.expr_core.Laws.{type_name_idents, type_idents, fields_idents, methods_idents, signature_type_idents, result_type_idents, params_idents}
 use Rattle.go_piece_core.specs.expr_core.Needed.{needed_idents, needed_by_args}
 use Rattle.go_value_core.specs.mirrors.Walked.{line_idents}
+use Rattle.go_tree_nodes.specs.Idents.{type_name_idents, type_idents, fields_idents, methods_idents, signature_type_idents, result_type_idents, params_idents}
 
 -- types
 

@@ -1,8 +1,8 @@
 //! The identifiers that are looked up in a type that is written out.
 ghost use Rattle.std.specs.Prelude.{◌≡◌, ◌++◌, [], ◌∷◌, map, OnOk};
 ghost use Rattle.go_tree_nodes.specs.TypeShapes.{shape_type, shape_signature, shape_results, fields_of, methods_of, params_of};
-ghost use Rattle.go_piece_core.specs.expr_core.Laws.{type_name_idents, type_idents, fields_idents, methods_idents, signature_type_idents, result_type_idents, params_idents};
 ghost use Rattle.go_value_core.specs.mirrors.Walked.{line_idents};
+ghost use Rattle.go_tree_nodes.specs.Idents.{type_name_idents, type_idents, fields_idents, methods_idents, signature_type_idents, result_type_idents, params_idents};
 
 use go_tree_nodes::{
     FieldLine, Fields, Ident, MethodLine, Param, Results, Signature, TypeExpr, TypeName,

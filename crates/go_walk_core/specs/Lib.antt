@@ -1,2 +1,3 @@
 pub mod Ends
+pub mod PieceIdents
 pub mod local_core

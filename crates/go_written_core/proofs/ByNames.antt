@@ -11,7 +11,8 @@ use Rattle.go_decl_core.specs.declared.places.DeclKind.TheVariants as kinds
 use Rattle.go_term_core.specs.Terms.{Term, PointerTo, StructOf, InterfaceOf, Fields, AField, AMethod, SignOf, Terms, NoTerm, ATerm, term_keys, fields_keys, methods_keys, sign_keys, terms_keys}
 use Rattle.go_written_core.specs.Written.{Meaning, InFile, member_place, term_starred, tag_of, named_fields, for_each, for_names, term_of, fields_of_tree, methods_of_tree, signature_of, results_of_tree, params_of_tree}
 use Rattle.go_decl_core.specs.Outer.{last_ident}
-use Rattle.go_written_core.specs.Laws.{type_names_in, field_names_in, method_names_in, signature_names_in, result_names_in, param_names_in, NameMentions, WrittenByNames}
+use Rattle.go_written_core.specs.Laws.{NameMentions, WrittenByNames}
+use Rattle.go_tree_nodes.specs.TypeNames.{type_names_in, field_names_in, method_names_in, signature_names_in, result_names_in, param_names_in}
 
 none_there : {X : Type 0} (x : X) → Contains [] x → ⊥
 none_there x at = (let lt : at.0 < 0 = at.1 in omega arith)

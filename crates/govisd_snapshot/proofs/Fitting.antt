@@ -14,9 +14,9 @@ use Rattle.go_snap_core.specs.part_core.Inputs.{InputModel}
 use Rattle.go_snap_core.specs.part_core.Parts.{ContentOf, IsPart, PartModel, part_with}
 use Rattle.go_snap_core.specs.whole_core.Inputs.{AreParts, IsPartOf}
 use Rattle.go_snap_core.specs.whole_core.Checks.{trees_are_placed}
-use Rattle.go_snap_core.specs.emit_core.Emitted.{if_there, somes}
 use Rattle.go_snap_core.specs.Snapshots.{ArePartsOf, IsPartAt}
 use Rattle.go_tree_nodes.specs.Spelling.{IsPlaced}
+use Rattle.go_snap_core.specs.part_core.Slots.{if_there, somes}
 
 -- the trees of its package are placed
 abbrev pub HasPlaced : PartModel → Type 0

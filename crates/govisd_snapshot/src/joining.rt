@@ -1,8 +1,8 @@
 //! What a snapshot has, and what a join of its parts has.
 ghost use Rattle.std.specs.Prelude.{◌≡◌, ◌++◌, All, IfOk, OnOk, reverse};
 ghost use Rattle.go_snap_core.specs.ready_core.Packages.{trees_in};
-ghost use Rattle.go_snap_core.specs.emit_core.Emitted.{if_there, somes};
 ghost use Rattle.go_tree_nodes.specs.Spelling.{IsPlaced};
+ghost use Rattle.go_snap_core.specs.part_core.Slots.{if_there, somes};
 
 use crate::answers::{add_faults, add_outcomes};
 use crate::shot::Shot;

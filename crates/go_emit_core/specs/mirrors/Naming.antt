@@ -5,7 +5,8 @@ use Rattle.go_meaning_core.specs.part_core.Parts.{PartModel}
 use Rattle.go_object_core.specs.Objects.{ObjectOf}
 use Rattle.go_meaning_core.specs.declared.tables.Tables.{Tables}
 use Rattle.go_meaning_core.specs.mirrors.Naming.{scene_with}
-use Rattle.go_emit_core.specs.Emitted.{if_there, object_in}
+use Rattle.go_emit_core.specs.Emitted.{object_in}
+use Rattle.go_meaning_core.specs.part_core.Slots.{if_there}
 
 -- of a package, if it has one
 abbrev pub objects_with : Tables → PartModel → List (ObjectOf Declaration)

@@ -1,6 +1,5 @@
 -- Entries that are given methods one after another.
-use Rattle.std.specs.Prelude.{◌≡◌, ◌++◌, ◌&&◌, ◌||◌, ℕ, Bool, true, false, List, map, Option, Some, None, nat_eq, nat_lt, slice_get}
-use Rattle.go_term_core.specs.decl_core.declared.keys.DeclRef.{DeclRef}
+use Rattle.std.specs.Prelude.{◌≡◌, ◌++◌, ℕ, true, false, List, map, Option, Some, None, slice_get}
 use Rattle.go_term_core.specs.Terms.{Term}
 use Rattle.go_table_core.specs.Entries.{Entry}
 use Rattle.go_entry_core.specs.Entries.{Received, is_type_of, methods_received}
@@ -16,7 +15,3 @@ all_gaining rs es = map (gaining rs) es
 abbrev pub IsMeantAt : List Entry → Term → Option ℕ → Type 0
 IsMeantAt es t None = (i : ℕ) (e : Entry) → slice_get es i ≡ Some e → is_type_of e.key t ≡ false
 IsMeantAt es t (Some n) = (e : Entry) × (slice_get es n ≡ Some e) × (is_type_of e.key t ≡ true)
-
--- a declaration stands before another of its package by file, then by number there
-abbrev pub is_before : DeclRef → DeclRef → Bool
-is_before a b = nat_lt a.file b.file || (nat_eq a.file b.file && nat_lt a.number b.number)

@@ -1,7 +1,7 @@
 -- What the types of one level say of all paths of their length.
 use Rattle.std.specs.Prelude.{◌≡◌, ℕ, zero, suc, ◌+◌, ◌*◌, ◌<◌, ◌≤◌, Bool, true, false, ◌||◌, List, [], ◌∷◌, ◌++◌, length, slice_get, Option, Some, None, ◌⊎◌, IsTrue, nat_eq, max}
 use Rattle.std.specs.Map.{lookup}
-use Rattle.go_term_core.specs.Terms.{Term, NoType, Predeclared, ErrorType, Defined, PointerTo, StructOf, InterfaceOf, Fields, NoField, AField}
+use Rattle.go_term_core.specs.Terms.{Term, NoType, Predeclared, ErrorType, Defined, PointerTo, StructOf, InterfaceOf}
 use Rattle.go_term_core.specs.Shapes.{shape}
 use Rattle.go_embed_core.specs.table_core.Entries.{Entry, EntryLook, find_entry}
 use Rattle.go_embed_core.specs.Owners.{Found, owner_in, has_spelled}
@@ -11,6 +11,7 @@ use Rattle.go_level_core.specs.declared.level.Reached.{Reached}
 use Rattle.go_level_core.specs.declared.level.Judged.{Judged}
 use Rattle.go_level_core.specs.declared.level.Judged.TheVariants as judged
 use Rattle.go_level_core.specs.mirrors.Ways.{At, Way, IsRight}
+use Rattle.go_embed_core.specs.table_core.Nesting.{nesting, deepest}
 
 -- a path shorter than k leads to v
 abbrev pub Sooner : EntryLook → Term → ℕ → Term → Type 0
@@ -73,25 +74,6 @@ pub record IsMade (look : EntryLook) (first : ℕ) (level : List Way) (a i : ℕ
 abbrev pub Carries : ℕ → List Way → Way → ℕ → Term → Type 0
 Carries begin ws y j v = (n : ℕ) × (z : Way) × At ws n z × (begin ≤ n) × (z.node ≡ v) × ((z.many ≡ true) ⊎ ((z.path ≡ y.path ++ j ∷ []) × (z.many ≡ y.many)))
 
--- how deep struct types stand in a type as they are written, one embedded by another
-abbrev mutual
-  pub depth : Term → ℕ
-  depth NoType = 0
-  depth (Predeclared b) = 0
-  depth ErrorType = 0
-  depth (Defined k) = 0
-  depth (PointerTo t) = depth t
-  depth (StructOf path fs) = suc (fields_depth fs)
-  depth (InterfaceOf path ms) = 0
-
-  pub fields_depth : Fields → ℕ
-  fields_depth NoField = 0
-  fields_depth (AField name place embedded t tag fs) = max (depth t) (fields_depth fs)
-
-abbrev pub tallest : List Entry → ℕ
-tallest [] = 0
-tallest (e ∷ es) = max (depth e.term) (tallest es)
-
 abbrev pub entry_weight : ℕ → Option Entry → ℕ
 entry_weight h None = 1
 entry_weight h (Some e) = suc (suc h)
@@ -101,9 +83,9 @@ abbrev pub weight : List Entry → Term → ℕ
 weight es NoType = 1
 weight es (Predeclared b) = 1
 weight es ErrorType = 1
-weight es (Defined k) = entry_weight (tallest es) (find_entry es k)
+weight es (Defined k) = entry_weight (deepest es) (find_entry es k)
 weight es (PointerTo t) = 1
-weight es (StructOf path fs) = suc (depth (StructOf path fs))
+weight es (StructOf path fs) = suc (nesting (StructOf path fs))
 weight es (InterfaceOf path ms) = 1
 
 abbrev pub is_free : Option ℕ → ℕ
@@ -125,7 +107,7 @@ peak es zero (w ∷ ws) = max (weight es w.node) (peak es zero ws)
 peak es (suc n) (w ∷ ws) = peak es n ws
 
 abbrev pub bound : List Entry → Term → ℕ
-bound es t = suc (suc (tallest es + depth t))
+bound es t = suc (suc (deepest es + nesting t))
 
 -- what falls from level to level
 abbrev pub height : List Entry → Term → ℕ → List Way → List (ℕ × ℕ) → ℕ

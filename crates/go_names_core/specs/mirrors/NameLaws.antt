@@ -16,8 +16,10 @@ use Rattle.go_walk_core.specs.local_core.Binding.{NameLook}
 use Rattle.go_walk_core.specs.local_core.Alike.{Alike, LookAtNames}
 use Rattle.go_names_core.specs.declared.names.Denoted.{Denoted}
 use Rattle.go_names_core.specs.declared.names.NameUse.{NameUse}
-use Rattle.go_names_core.specs.Uses.{type_name_used_idents, type_used_idents, fields_used_idents, methods_used_idents, signature_used_idents, result_used_idents, params_used_idents, receiver_used_idents, expr_used_idents, items_used_idents, exprs_used_idents, some_exprs_used_idents, target_used_idents, targets_used_idents, some_type_used_idents, values_used_idents, value_spec_used_idents, simple_used_idents, piece_used_idents, name_use, name_use_rules}
+use Rattle.go_names_core.specs.Uses.{simple_used_idents, piece_used_idents, name_use, name_use_rules}
 use Rattle.go_walk_core.specs.Ends.{is_blank_target}
+use Rattle.go_tree_nodes.specs.Idents.{type_name_idents, type_idents, fields_idents, methods_idents, signature_type_idents, result_type_idents, params_idents, receiver_type_idents, expr_idents, items_idents, list_idents, returned_idents, some_type_idents}
+use Rattle.go_walk_core.specs.PieceIdents.{target_idents, targets_idents, values_idents, value_spec_idents}
 
 -- what is used denotes the same where the names among these terminals mean the same
 pub record Same (look other : NameLook Denoted) (xs : List Ident) (ts : List Terminal) : Type 0 where
@@ -50,41 +52,41 @@ module _ (look other : NameLook Denoted) where
   one : (x : Ident) {ts : List Terminal} → Same look other (x ∷ []) (spell_ident x ∷ ts)
   one x = record { same = λ h. ap (λ d. record { offset = x.span.start; denoted = d } ∷ []) h.0 }
 
-  type_name_same : (n : TypeName) → Same look other (type_name_used_idents n) (spell_type_name n)
+  type_name_same : (n : TypeName) → Same look other (type_name_idents n) (spell_type_name n)
   type_name_same (type_name.Plain x) = one x
   type_name_same (type_name.Qualified p dot x) = one p
 
   mutual
-    type_same : (t : TypeTree) → Same look other (type_used_idents t) (spell_type t)
+    type_same : (t : TypeTree) → Same look other (type_idents t) (spell_type t)
     type_same (NamedType n) = type_name_same n
     type_same (Pointer star t) = skip (type_same t)
     type_same (ParenType first t last) = skip (front _ (type_same t))
     type_same (Struct k first ls last) = skip (skip (front _ (fields_same ls)))
     type_same (Interface k first methods last) = skip (skip (front _ (methods_same methods)))
 
-    fields_same : (fs : FieldTrees) → Same look other (fields_used_idents fs) (spell_fields fs)
+    fields_same : (fs : FieldTrees) → Same look other (fields_idents fs) (spell_fields fs)
     fields_same NoFields = none
     fields_same (NamedFields xs t tag s rest) = back (spell_idents xs) (both (type_same t) (back (spell_tag tag) (back (spell_some operator.Semicolon s) (fields_same rest))))
     fields_same (EmbeddedField star n tag s rest) = back (spell_some operator.Star star) (both (type_name_same n) (back (spell_tag tag) (back (spell_some operator.Semicolon s) (fields_same rest))))
 
-    methods_same : (ms : MethodTrees) → Same look other (methods_used_idents ms) (spell_methods ms)
+    methods_same : (ms : MethodTrees) → Same look other (methods_idents ms) (spell_methods ms)
     methods_same NoMethods = none
     methods_same (Method x signature s rest) = skip (both (signature_same signature) (back (spell_some operator.Semicolon s) (methods_same rest)))
 
-    signature_same : (s : SignatureTree) → Same look other (signature_used_idents s) (spell_signature s)
+    signature_same : (s : SignatureTree) → Same look other (signature_type_idents s) (spell_signature s)
     signature_same (Signed first params last result) = skip (both (params_same params) (skip (result_same result)))
 
-    result_same : (r : ResultTree) → Same look other (result_used_idents r) (spell_result r)
+    result_same : (r : ResultTree) → Same look other (result_type_idents r) (spell_result r)
     result_same NoResult = none
     result_same (OneResult t) = type_same t
     result_same (Results first params last) = skip (front _ (params_same params))
 
-    params_same : (ps : ParamTrees) → Same look other (params_used_idents ps) (spell_params ps)
+    params_same : (ps : ParamTrees) → Same look other (params_idents ps) (spell_params ps)
     params_same NoParams = none
     params_same (Param xs t comma rest) = back (spell_names xs) (both (type_same t) (back (spell_some operator.Comma comma) (params_same rest)))
 
   mutual
-    expr_same : (t : ExprTree) → Same look other (expr_used_idents t) (spell t)
+    expr_same : (t : ExprTree) → Same look other (expr_idents t) (spell t)
     expr_same (Integer n span) = none
     expr_same (Text t) = none
     expr_same (Named x) = one x
@@ -96,34 +98,34 @@ module _ (look other : NameLook Denoted) where
     expr_same (Literal n first items last) = both (type_name_same n) (skip (front _ (items_same items)))
     expr_same (StructLiteral t first items last) = both (type_same t) (skip (front _ (items_same items)))
 
-    items_same : (is : ItemTrees) → Same look other (items_used_idents is) (spell_items is)
+    items_same : (is : ItemTrees) → Same look other (items_idents is) (spell_items is)
     items_same NoItems = none
     items_same (Item key t comma rest) = back (spell_key key) (both (expr_same t) (back (spell_some operator.Comma comma) (items_same rest)))
 
-  exprs_same : (es : Separated ExprTree) → Same look other (exprs_used_idents es) (spell_exprs es)
+  exprs_same : (es : Separated ExprTree) → Same look other (list_idents es) (spell_exprs es)
   exprs_same (One t) = expr_same t
   exprs_same (Then t comma more) = both (expr_same t) (skip (exprs_same more))
 
-  target_same : (t : ExprTree) → Same look other (target_used_idents t) (spell t)
+  target_same : (t : ExprTree) → Same look other (target_idents t) (spell t)
   target_same t = by (is_blank_target t)
     where
-      by : (b : Bool) → Same look other (if b then [] else expr_used_idents t) (spell t)
+      by : (b : Bool) → Same look other (if b then [] else expr_idents t) (spell t)
       by true = none
       by false = expr_same t
 
-  targets_same : (ts : Separated ExprTree) → Same look other (targets_used_idents ts) (spell_exprs ts)
+  targets_same : (ts : Separated ExprTree) → Same look other (targets_idents ts) (spell_exprs ts)
   targets_same (One t) = target_same t
   targets_same (Then t comma more) = both (target_same t) (skip (targets_same more))
 
-  some_type_same : (t : Option TypeTree) → Same look other (some_type_used_idents t) (spell_some_type t)
+  some_type_same : (t : Option TypeTree) → Same look other (some_type_idents t) (spell_some_type t)
   some_type_same None = none
   some_type_same (Some t) = type_same t
 
-  values_same : (v : Option (Span × Separated ExprTree)) → Same look other (values_used_idents v) (spell_values v)
+  values_same : (v : Option (Span × Separated ExprTree)) → Same look other (values_idents v) (spell_values v)
   values_same None = none
   values_same (Some v) = skip (exprs_same v.1)
 
-  value_spec_same : (v : ValueSpecTree) → Same look other (value_spec_used_idents v) (spell_value_spec v)
+  value_spec_same : (v : ValueSpecTree) → Same look other (value_spec_idents v) (spell_value_spec v)
   value_spec_same v = back (spell_idents v.names) (both (some_type_same v.type_expr) (values_same v.values))
 
   simple_same : (s : SimpleTree) → Same look other (simple_used_idents s) (spell_simple s)
@@ -133,11 +135,11 @@ module _ (look other : NameLook Denoted) where
   simple_same (Update t op span e) = both (expr_same t) (skip (expr_same e))
   simple_same (Define xs span es) = back (spell_idents xs) (skip (exprs_same es))
 
-  some_exprs_same : (es : Option (Separated ExprTree)) → Same look other (some_exprs_used_idents es) (spell_some_exprs es)
+  some_exprs_same : (es : Option (Separated ExprTree)) → Same look other (returned_idents es) (spell_some_exprs es)
   some_exprs_same None = none
   some_exprs_same (Some es) = exprs_same es
 
-  receiver_same : (r : Option Receiver) → Same look other (receiver_used_idents r) (spell_receiver r)
+  receiver_same : (r : Option Receiver) → Same look other (receiver_type_idents r) (spell_receiver r)
   receiver_same None = none
   receiver_same (Some r) = skip (back (spell_receiver_name r.name) (back (spell_some operator.Star r.star) (front _ (type_name_same r.base))))
 

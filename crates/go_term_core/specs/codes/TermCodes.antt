@@ -1,7 +1,7 @@
 -- How terms are stored, so that a model may hold one: each term gives a tree of labels, which gives it back.
-use Rattle.std.specs.Prelude.{◌≡◌, refl, ℕ, zero, suc, Bool, true, false, List, [], ◌∷◌, Option, Some, None, ◌⊎◌}
-use Rattle.std.specs.Coded.{Coded, code_by, coded×, coded⊎, coded_list, coded_option, coded_bool, coded_ℕ}
-use Rattle.std.proofs.Common.{ap, ◌∙◌, inl, inr}
+use Rattle.std.specs.Prelude.{◌≡◌, refl, ℕ, zero, suc, Bool, true, false, List, ◌⊎◌}
+use Rattle.std.specs.Coded.{Coded, code_by, coded×, coded⊎, coded_list, coded_bool, coded_ℕ}
+use Rattle.std.proofs.Common.{inl, inr}
 use Rattle.go_decl_core.specs.declared.keys.DeclKey.{DeclKey}
 use Rattle.go_decl_core.specs.contracts.keys.DeclKey as key
 use Rattle.go_term_core.specs.declared.term.Basic.{Basic}
@@ -9,36 +9,7 @@ use Rattle.go_term_core.specs.contracts.term.Basic as basic
 use Rattle.go_term_core.specs.declared.term.MemberPlace.{MemberPlace}
 use Rattle.go_term_core.specs.contracts.term.MemberPlace as member_place
 use Rattle.go_term_core.specs.Terms.{Term, NoType, Predeclared, ErrorType, Defined, PointerTo, StructOf, InterfaceOf, Fields, NoField, AField, Methods, NoMethod, AMethod, Sign, SignOf, Terms, NoTerm, ATerm}
-
--- a tree of labels, each with two trees below it
-pub data Labels (L : Type 0) : Type 0 where
-  End : Labels L
-  Node : L → Labels L → Labels L → Labels L
-
-module _ {L : Type 0} where
-  -- each label behind those of the trees below it, before what follows
-  abbrev written : Labels L → List (Option L) → List (Option L)
-  written End rest = None ∷ rest
-  written (Node l s t) rest = written s (written t (Some l ∷ rest))
-
-  -- the trees that labels make, above those that were made before
-  abbrev made : List (Option L) → List (Labels L) → List (Labels L)
-  made [] below = below
-  made (None ∷ rest) below = made rest (End ∷ below)
-  made (Some l ∷ rest) (t ∷ s ∷ below) = made rest (Node l s t ∷ below)
-  made (Some l ∷ rest) (t ∷ []) = []
-  made (Some l ∷ rest) [] = []
-
-  abbrev top : List (Labels L) → Labels L
-  top [] = End
-  top (s ∷ below) = s
-
-  pub made-written : (s : Labels L) (rest : List (Option L)) (below : List (Labels L)) → made (written s rest) below ≡ made rest (s ∷ below)
-  made-written End rest below = refl
-  made-written (Node l s t) rest below = made-written s (written t (Some l ∷ rest)) below ∙ made-written t (Some l ∷ rest) (s ∷ below)
-
-  abbrev pub coded_labels : Coded L → Coded (Labels L)
-  coded_labels c = code_by (List (Option L)) (coded_list (coded_option c)) (λ s. written s []) (λ ls. top (made ls [])) (λ s. ap top (made-written s [] []))
+use Rattle.go_tree_nodes.specs.codes.Labels.{Labels, End, Node, coded_labels}
 
 -- what a node of a term holds beside its parts: a number for its form; or what its form has
 abbrev TermLabel : Type 0

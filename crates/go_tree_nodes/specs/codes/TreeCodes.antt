@@ -1,7 +1,7 @@
 -- How trees are stored, so that a model may hold one: each tree gives a tree of labels, which gives it back.
 use Rattle.std.specs.Prelude.{◌≡◌, refl, ℕ, zero, suc, List, [], ◌∷◌, Option, Some, None, ◌⊎◌}
 use Rattle.std.specs.Coded.{Coded, code_by, coded×, coded⊎, coded_list, coded_option, coded_ℕ}
-use Rattle.std.proofs.Common.{ap, ◌∙◌, inl, inr}
+use Rattle.std.proofs.Common.{ap, inl, inr}
 use Rattle.go_text_core.specs.declared.span.Span.{Span}
 use Rattle.go_text_core.specs.contracts.span.Span as span
 use Rattle.go_token_core.specs.declared.kind.Operator.{Operator}
@@ -22,36 +22,7 @@ use Rattle.go_tree_nodes.specs.contracts.files.ImportName as import_name
 use Rattle.go_tree_nodes.specs.declared.files.Receiver.{Receiver}
 use Rattle.go_tree_nodes.specs.contracts.files.Receiver as receiver
 use Rattle.go_tree_nodes.specs.Trees.{Separated, One, Then, TypeTree, NamedType, Pointer, ParenType, Struct, Interface, FieldTrees, NoFields, NamedFields, EmbeddedField, MethodTrees, NoMethods, Method, SignatureTree, Signed, ResultTree, NoResult, OneResult, Results, ParamTrees, NoParams, Param, ExprTree, Integer, Text, Named, Paren, Unary, Binary, Select, Call, Literal, StructLiteral, ItemTrees, NoItems, Item, ValueSpecTree, Specs, Single, Group, ValueTree, TypeSpecTree, TypeDeclTree, SimpleTree, Alone, Step, Assign, Update, Define, IfTree, ForTree, Forever, While, Clauses, StmtTree, Empty, Declare, Simple, Return, Break, Continue, Block, If, For, BranchTree, Branch, ElseTree, NoElse, ElseBlock, ElseIf, Lines, NoLines, Line, FuncTree, DeclTree, Value, Types, Func, TopTree, ImportSpecTree, ImportTree, FileTree}
-
--- a tree of labels, each with two trees below it
-pub data Labels (L : Type 0) : Type 0 where
-  End : Labels L
-  Node : L → Labels L → Labels L → Labels L
-
-module _ {L : Type 0} where
-  -- each label behind those of the trees below it, before what follows
-  abbrev written : Labels L → List (Option L) → List (Option L)
-  written End rest = None ∷ rest
-  written (Node l s t) rest = written s (written t (Some l ∷ rest))
-
-  -- the trees that labels make, above those that were made before
-  abbrev made : List (Option L) → List (Labels L) → List (Labels L)
-  made [] below = below
-  made (None ∷ rest) below = made rest (End ∷ below)
-  made (Some l ∷ rest) (t ∷ s ∷ below) = made rest (Node l s t ∷ below)
-  made (Some l ∷ rest) (t ∷ []) = []
-  made (Some l ∷ rest) [] = []
-
-  abbrev top : List (Labels L) → Labels L
-  top [] = End
-  top (s ∷ below) = s
-
-  pub made-written : (s : Labels L) (rest : List (Option L)) (below : List (Labels L)) → made (written s rest) below ≡ made rest (s ∷ below)
-  made-written End rest below = refl
-  made-written (Node l s t) rest below = made-written s (written t (Some l ∷ rest)) below ∙ made-written t (Some l ∷ rest) (s ∷ below)
-
-  abbrev pub coded_labels : Coded L → Coded (Labels L)
-  coded_labels c = code_by (List (Option L)) (coded_list (coded_option c)) (λ s. written s []) (λ ls. top (made ls [])) (λ s. ap top (made-written s [] []))
+use Rattle.go_tree_nodes.specs.codes.Labels.{Labels, End, Node, coded_labels}
 
 -- leaves
 

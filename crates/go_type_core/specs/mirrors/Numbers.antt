@@ -1,9 +1,10 @@
 -- The numbers of a package's types, and lists that are made item by item.
-use Rattle.std.specs.Prelude.{◌≡◌, ℕ, suc, ◌<◌, ◌&&◌, ◌||◌, true, Bool, List, [], ◌∷◌, Option, Some, None, option_map, map, length, slice_get, slice_index_or, nat_eq, nat_lt, if◌then◌else◌}
+use Rattle.std.specs.Prelude.{◌≡◌, ℕ, suc, ◌<◌, true, List, [], ◌∷◌, Option, Some, None, option_map, map, length, slice_get, slice_index_or, if◌then◌else◌}
 use Rattle.go_term_core.specs.decl_core.declared.keys.DeclKey.{DeclKey}
 use Rattle.go_term_core.specs.decl_core.declared.keys.DeclRef.{DeclRef}
 use Rattle.go_term_core.specs.Terms.{Term}
 use Rattle.go_table_core.specs.Entries.{Entry, same_key, term_in}
+use Rattle.go_term_core.specs.decl_core.Order.{is_ref_before}
 
 -- the keys of entries
 abbrev pub keys_of : List Entry → List DeclKey
@@ -21,10 +22,6 @@ number_of (j ∷ js) k = if same_key j k then Some 0 else option_map suc (number
 -- what is written of the type with a number
 abbrev pub term_at : List Entry → ℕ → Term
 term_at es i = term_in (slice_get es i)
-
--- a declaration stands before another by file, then by number there
-abbrev pub is_ref_before : DeclRef → DeclRef → Bool
-is_ref_before a b = nat_lt a.file b.file || (nat_eq a.file b.file && nat_lt a.number b.number)
 
 abbrev pub RefsRise : List DeclRef → Type 0
 RefsRise ds = (i j : ℕ) (d : DeclRef) → i < j → j < length ds → is_ref_before (slice_index_or ds i d) (slice_index_or ds j d) ≡ true

@@ -4,7 +4,7 @@ use Rattle.go_tree_nodes.specs.declared.names.Ident.{Ident}
 use Rattle.go_tree_nodes.specs.declared.types.Fields.{Fields}
 use Rattle.go_tree_nodes.specs.declared.types.Fields.TheVariants as fields
 use Rattle.go_tree_nodes.specs.TypeShapes.{shape_type}
-use Rattle.go_piece_core.specs.expr_core.Laws.{type_idents, type_name_idents}
+use Rattle.go_tree_nodes.specs.Idents.{type_idents, type_name_idents}
 
 abbrev pub line_idents : Fields → List Ident
 line_idents (fields.Named xs t) = type_idents (shape_type t)

@@ -2,10 +2,11 @@ use Rattle.std.proofs.Common.{[], ap, sym, subst, ◌∙◌}
 use Rattle.go_tree_nodes.specs.TypeShapes.{shape_type}
 use Rattle.go_tree_nodes.proofs.TypeShapes.{shape_struct, shape_interface}
 use Rattle.go_names_core.specs.Scope.{open_look}
-use Rattle.go_names_core.specs.Uses.{denoted_outside, type_used_idents}
+use Rattle.go_names_core.specs.Uses.{denoted_outside}
 use Rattle.go_names_core.specs.mirrors.Noting.{Sees}
 use Rattle.go_names_core.proofs.NoteLemmas.{sees_same, sees_both, sees_step, sees_whole, field_line_uses, method_uses, param_uses, fields_uses_list, methods_uses_list, params_uses_list, method_has, signature_has, listed_has}
 use Rattle.go_names_core.proofs.noting.+types.Goals as goal
+use Rattle.go_tree_nodes.specs.Idents.{type_idents}
 
 pub note_field_lines-loop-line-preserved : goal.note_field_lines-loop-line-preserved
 note_field_lines-loop-line-preserved t c = sees_step (open_look denoted_outside c.args.names.now) field_line_uses [] c.deref-line-items.result.now c.loop-line.line-index c.line-item.result _ _ _ c.loop-line-test.true c.line-item.is c.loop-line.invariant c.note_fields.ensures
@@ -28,12 +29,12 @@ note_params-returns t c = sees_whole (open_look denoted_outside c.args.names.now
 pub note_type-returns-in-Struct : goal.note_type-returns-in-Struct
 note_type-returns-in-Struct t c =
     let w = c.in-Struct in
-    sees_same (open_look denoted_outside c.args.names.now) _ _ _ _ (ap type_used_idents (ap shape_type w.is ∙ shape_struct w.field-0 w.field-1 w.lines w.field-3)) c.note_field_lines.ensures
+    sees_same (open_look denoted_outside c.args.names.now) _ _ _ _ (ap type_idents (ap shape_type w.is ∙ shape_struct w.field-0 w.field-1 w.lines w.field-3)) c.note_field_lines.ensures
 
 pub note_type-returns-in-Interface : goal.note_type-returns-in-Interface
 note_type-returns-in-Interface t c =
     let w = c.in-Interface in
-    sees_same (open_look denoted_outside c.args.names.now) _ _ _ _ (ap type_used_idents (ap shape_type w.is ∙ shape_interface w.field-0 w.field-1 w.methods w.field-3)) c.note_methods.ensures
+    sees_same (open_look denoted_outside c.args.names.now) _ _ _ _ (ap type_idents (ap shape_type w.is ∙ shape_interface w.field-0 w.field-1 w.methods w.field-3)) c.note_methods.ensures
 
 pub note_signature-returns : goal.note_signature-returns
 note_signature-returns t c = sees_both (open_look denoted_outside c.args.names.now) _ _ _ _ _ _ (signature_has c.args.signature.now) c.note_params.ensures c.note_results.ensures

@@ -1,11 +1,12 @@
 use Rattle.go_tree_nodes.specs.Shapes.{shape}
 use Rattle.go_names_core.specs.Scope.{open_look}
-use Rattle.go_names_core.specs.Uses.{denoted_outside, expr_used_idents}
+use Rattle.go_names_core.specs.Uses.{denoted_outside}
 use Rattle.go_names_core.proofs.NoteLemmas.{sees_step, sees_whole, next_uses, exprs_uses_list}
 use Rattle.go_names_core.proofs.noting.note_exprs.Goals as goal
+use Rattle.go_tree_nodes.specs.Idents.{expr_idents}
 
 pub loop-next-preserved : goal.loop-next-preserved
-loop-next-preserved c = sees_step (open_look denoted_outside c.args.names.now) next_uses (expr_used_idents (shape c.args.exprs.now.first)) c.deref-next-items.result.now c.loop-next.next-index c.next-item.result _ _ _ c.loop-next-test.true c.next-item.is c.loop-next.invariant c.note_expr-in-loop-next.ensures
+loop-next-preserved c = sees_step (open_look denoted_outside c.args.names.now) next_uses (expr_idents (shape c.args.exprs.now.first)) c.deref-next-items.result.now c.loop-next.next-index c.next-item.result _ _ _ c.loop-next-test.true c.next-item.is c.loop-next.invariant c.note_expr-in-loop-next.ensures
 
 pub returns : goal.returns
-returns c = sees_whole (open_look denoted_outside c.args.names.now) next_uses (expr_used_idents (shape c.args.exprs.now.first)) c.deref-next-items.result.now c.args.exprs.now.more.items c.loop-next.next-index _ _ _ c.deref-next-items.ensures.value c.loop-next-test.false (exprs_uses_list c.args.exprs.now.first c.args.exprs.now.more.items) c.loop-next.invariant
+returns c = sees_whole (open_look denoted_outside c.args.names.now) next_uses (expr_idents (shape c.args.exprs.now.first)) c.deref-next-items.result.now c.args.exprs.now.more.items c.loop-next.next-index _ _ _ c.deref-next-items.ensures.value c.loop-next-test.false (exprs_uses_list c.args.exprs.now.first c.args.exprs.now.more.items) c.loop-next.invariant

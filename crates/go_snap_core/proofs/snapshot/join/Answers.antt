@@ -3,11 +3,11 @@ use Rattle.std.specs.Prelude.{vec_capacity}
 use Rattle.std.specs.List.Sorted.{IsPermutation}
 use Rattle.std.proofs.lemmas.List.Sorted.{length_permutation}
 use Rattle.go_make_core.specs.whole_core.Inputs.{AreParts}
-use Rattle.go_emit_core.specs.Emitted.{somes}
 use Rattle.go_snap_core.specs.Faults.{AreFaults}
 use Rattle.go_snap_core.specs.Snapshots.{contents_of}
 use Rattle.go_snap_core.proofs.Putting.{those_are}
 use Rattle.go_snap_core.proofs.snapshot.join.Goals as goal
+use Rattle.go_make_core.specs.part_core.Slots.{somes}
 
 pub take_back-requires-clause-room : goal.take_back-requires-clause-room
 take_back-requires-clause-room c =

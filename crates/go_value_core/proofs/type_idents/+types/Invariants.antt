@@ -1,7 +1,7 @@
 use Rattle.std.proofs.Common.{◌≡◌, ◌++◌, drop, map}
 use Rattle.go_tree_nodes.specs.TypeShapes.{fields_of, methods_of, params_of}
-use Rattle.go_piece_core.specs.expr_core.Laws.{fields_idents, methods_idents, params_idents}
 use Rattle.go_value_core.proofs.type_idents.+types.Given as goal
+use Rattle.go_tree_nodes.specs.Idents.{fields_idents, methods_idents, params_idents}
 
 abbrev pub invariant-add_lines-loop-line : goal.invariant-add_lines-loop-line
 invariant-add_lines-loop-line l = map (λ x. x.now) l.found.items ++ fields_idents (fields_of (drop l.line-index l.line-items)) ≡ map (λ x. x.now) l.fn.found.items ++ fields_idents (fields_of l.line-items)

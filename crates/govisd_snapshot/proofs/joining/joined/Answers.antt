@@ -1,8 +1,8 @@
 use Rattle.std.proofs.Common.{All, sym, ap, subst, ◌∙◌, reverse}
 use Rattle.govisd_show.specs.graph_core.Workspaces.{IsWorkspace}
-use Rattle.go_snap_core.specs.emit_core.Emitted.{somes}
 use Rattle.govisd_snapshot.proofs.Fitting.{IfPlaced, are_parts_of, parts_are_placed}
 use Rattle.govisd_snapshot.proofs.joining.joined.Goals as goal
+use Rattle.go_snap_core.specs.part_core.Slots.{somes}
 
 pub made_anew-requires : goal.made_anew-requires
 made_anew-requires c =
