@@ -8,7 +8,7 @@ use Rattle.go_term_core.proofs.Members.{In, contained_in, in_back, in_contained,
 use Rattle.go_fault_core.specs.block_core.Blocks.{BlocksModel}
 use Rattle.go_fault_core.specs.block_core.Faults.{rule_of}
 use Rattle.go_fault_core.specs.block_core.declared.fault.BlockFault.{BlockFault}
-use Rattle.go_report_core.specs.expr_core.declared.things.Fault.{Fault}
+use Rattle.go_report_core.specs.local_core.declared.Fault.{Fault}
 use Rattle.go_report_core.specs.expr_core.Independence.{either}
 use Rattle.go_fault_core.specs.declared.places.PackageFault.{PackageFault}
 use Rattle.go_answer_core.specs.Laws.{IsOfBlocks, IsOfLooped, IsOfTypes, OuterFaultsAreThese}

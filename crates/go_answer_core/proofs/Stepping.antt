@@ -10,7 +10,7 @@ use Rattle.go_term_core.specs.decl_core.declared.keys.DeclRef.{DeclRef}
 use Rattle.go_term_core.specs.decl_core.declared.tops.TopDecl.{TopDecl}
 use Rattle.go_term_core.specs.decl_core.Shown.{decl_shown}
 use Rattle.go_term_core.specs.decl_core.TopDecls.{TopDeclTree}
-use Rattle.go_report_core.specs.expr_core.declared.things.Fault.{Fault}
+use Rattle.go_report_core.specs.local_core.declared.Fault.{Fault}
 use Rattle.go_face_core.specs.declared.face.Face.{Face}
 use Rattle.go_face_core.specs.Faces.{TheFace, face_shown}
 use Rattle.go_face_core.specs.Packages.{DeclaredOf}

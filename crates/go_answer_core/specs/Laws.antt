@@ -9,7 +9,7 @@ use Rattle.go_fault_core.specs.block_core.Blocks.{BlocksModel}
 use Rattle.go_fault_core.specs.block_core.Faults.{rule_of}
 use Rattle.go_fault_core.specs.block_core.Tables.{in_block}
 use Rattle.go_fault_core.specs.block_core.declared.fault.BlockFault.{BlockFault}
-use Rattle.go_report_core.specs.expr_core.declared.things.Fault.{Fault}
+use Rattle.go_report_core.specs.local_core.declared.Fault.{Fault}
 use Rattle.go_fault_core.specs.declared.places.PackageFault.{PackageFault}
 use Rattle.go_face_core.specs.Faces.{TheFace}
 use Rattle.go_face_core.specs.Packages.{DeclaredOf, as_seen, decls_declared, shown_by}

@@ -12,6 +12,7 @@ pub mod expr_core
 pub mod face_core
 pub mod fault_core
 pub mod handle_core
+pub mod local_core
 pub mod operand_core
 pub mod report_core
 pub mod tree_core

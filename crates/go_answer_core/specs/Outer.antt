@@ -8,7 +8,7 @@ use Rattle.go_term_core.specs.decl_core.TopDecls.{TopDeclTree}
 use Rattle.go_fault_core.specs.block_core.Blocks.{BlocksModel}
 use Rattle.go_fault_core.specs.block_core.Faults.{rule_of}
 use Rattle.go_fault_core.specs.block_core.declared.fault.BlockFault.{BlockFault}
-use Rattle.go_report_core.specs.expr_core.declared.things.Fault.{Fault}
+use Rattle.go_report_core.specs.local_core.declared.Fault.{Fault}
 use Rattle.go_fault_core.specs.declared.places.PackageFault.{PackageFault}
 
 abbrev pub fault : ℕ → Rule → Fault

@@ -38,11 +38,6 @@ pub mod entry_core {
     pub use go_fault_core::entry_core::{ImportedNames, outlines};
 }
 
-/// What the crates above name of `go_expr_core`.
-pub mod expr_core {
-    pub use go_report_core::expr_core::Fault;
-}
-
 /// What the crates above name of `go_face_core`.
 pub mod face_core {
     pub use go_face_core::{Face, FaceTable, PackageFaces, WrittenFaces, lend};
@@ -56,6 +51,11 @@ pub mod fault_core {
 /// What the crates above name of `go_handle_core`.
 pub mod handle_core {
     pub use go_face_core::handle_core::{Decl, DeclSite, Home, SignatureRef, TypeRef};
+}
+
+/// What the crates above name of `go_local_core`.
+pub mod local_core {
+    pub use go_report_core::local_core::Fault;
 }
 
 /// What the crates above name of `go_report_core`.

@@ -6,7 +6,7 @@ ghost use Rattle.go_answer_core.specs.mirrors.Steps.{is_set};
 
 use go_fault_core::PackageFault;
 use go_fault_core::block_core::{BlockFault, Blocks};
-use go_report_core::expr_core::Fault;
+use go_report_core::local_core::Fault;
 use go_term_core::decl_core::TopDecl;
 use go_text_core::Rule;
 use std::alloc::{AllocError, Global};

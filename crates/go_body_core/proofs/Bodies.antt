@@ -3,31 +3,29 @@ use Rattle.std.proofs.Common.{◌≡◌, ℕ, Bool, false, List, ◌++◌, map, 
 use Rattle.std.specs.Result.{IfOk}
 use Rattle.go_tree_nodes.specs.Trees.{FuncTree}
 use Rattle.go_term_core.specs.Terms.{Term}
-use Rattle.go_piece_core.specs.local_core.declared.Fault.{Fault as LocalFault}
+use Rattle.go_piece_core.specs.local_core.declared.Fault.{Fault}
 use Rattle.go_piece_core.specs.local_core.Law.{Rules, Out}
 use Rattle.go_piece_core.specs.local_core.Tables.{walked, out_by_intervals}
 use Rattle.go_piece_core.specs.walk_core.Ends.{lines_loop_faults}
 use Rattle.go_env_core.specs.names_core.Body.{AreWalked, AreGiven}
-use Rattle.go_piece_core.specs.expr_core.declared.things.Fault.{Fault}
 use Rattle.go_piece_core.specs.expr_core.Looks.{WrittenRules}
 use Rattle.go_piece_core.specs.Headers.{returned_types, returned_names}
 use Rattle.go_env_core.specs.face_core.Faces.{TheFace}
 use Rattle.go_env_core.specs.declared.meaning.Meaning.{Meaning}
 use Rattle.go_env_core.specs.Scenes.{SceneModel}
-use Rattle.go_env_core.specs.Looks.{local_fault_of}
 use Rattle.go_body_core.specs.declared.body.CheckedBody.{CheckedBody}
 use Rattle.go_body_core.specs.Notes.{TheUse, TheLocal, NoteOf, all_uses, noted_faults, all_locals}
 use Rattle.go_body_core.specs.Rules.{body_rules, func_body_rules, outside_looks, outside_in}
 use Rattle.go_body_core.specs.Body.{BodyOf, body_of, IsBody, IsWalkedBody, IsGivenBody}
 use Rattle.go_body_core.specs.Ends.{end_faults}
 
-body_by : (f : FuncTree) (o : Out Meaning NoteOf) (notes : List NoteOf) (names : List LocalFault) (us : List TheUse) (fs : List Fault) (ls : List TheLocal)
+body_by : (f : FuncTree) (o : Out Meaning NoteOf) (notes : List NoteOf) (names : List Fault) (us : List TheUse) (fs : List Fault) (ls : List TheLocal)
     → notes ≡ o.notes → names ≡ o.faults → IsBody f notes names us fs ls → (us ≡ (body_of f o).uses) × (fs ≡ (body_of f o).faults) × (ls ≡ (body_of f o).locals)
 body_by f o notes names us fs ls n m h = (
   h.0 ∙ ap all_uses n,
   h.1
-      ∙ (ap (λ ns. noted_faults ns ++ (map local_fault_of (names ++ lines_loop_faults false f.body) ++ end_faults (all_uses ns) f)) n
-      ∙ ap (λ xs. noted_faults o.notes ++ (map local_fault_of (xs ++ lines_loop_faults false f.body) ++ end_faults (all_uses o.notes) f)) m),
+      ∙ (ap (λ ns. noted_faults ns ++ ((names ++ lines_loop_faults false f.body) ++ end_faults (all_uses ns) f)) n
+      ∙ ap (λ xs. noted_faults o.notes ++ ((xs ++ lines_loop_faults false f.body) ++ end_faults (all_uses o.notes) f)) m),
   h.2 ∙ ap all_locals n,
 )
 
@@ -37,7 +35,7 @@ module _ (s : SceneModel) (file : ℕ) (known : List (Option TheFace)) (written 
       → body_rules s file known written results has_names ≡ func_body_rules s file known written f
   same_rules results has_names r h = ap (λ rs. body_rules s file known written rs has_names) r ∙ ap (body_rules s file known written (returned_types (outside_looks s file known written) f.signature)) h
 
-  module _ (rules : Rules Meaning NoteOf) (same : rules ≡ func_body_rules s file known written f) (notes : List NoteOf) (names : List LocalFault) (us : List TheUse) (fs : List Fault) (ls : List TheLocal) where
+  module _ (rules : Rules Meaning NoteOf) (same : rules ≡ func_body_rules s file known written f) (notes : List NoteOf) (names : List Fault) (us : List TheUse) (fs : List Fault) (ls : List TheLocal) where
     pub walked_by : AreWalked rules (outside_in s file) f notes names → IsBody f notes names us fs ls → IsWalkedBody s file known written f us fs ls
     walked_by made is =
         let right = subst (λ r. AreWalked r (outside_in s file) f notes names) same made in
@@ -48,7 +46,7 @@ module _ (s : SceneModel) (file : ℕ) (known : List (Option TheFace)) (written 
         let right = subst (λ r. AreGiven r (outside_in s file) f notes names) same made all h in
         body_by f (out_by_intervals (func_body_rules s file known written f) (outside_in s file) f all) notes names us fs ls right.0 right.1 is
 
-  module _ (rules : Rules Meaning NoteOf) (same : rules ≡ func_body_rules s file known written f) (notes : List NoteOf) (names list : List LocalFault) (are : names ≡ list) where
+  module _ (rules : Rules Meaning NoteOf) (same : rules ≡ func_body_rules s file known written f) (notes : List NoteOf) (names list : List Fault) (are : names ≡ list) where
     pub walked_ok : {E : Type 0} (r : Result CheckedBody E) → AreWalked rules (outside_in s file) f notes list → IfOk r (λ b. IsBody f notes names b.uses.items b.faults.items b.locals.items) → IfOk r (λ b. IsWalkedBody s file known written f b.uses.items b.faults.items b.locals.items)
     walked_ok (Ok b) made is = walked_by rules same notes names b.uses.items b.faults.items b.locals.items (subst (λ l. AreWalked rules (outside_in s file) f notes l) (sym are) made) is
     walked_ok (Err e) made is = tt

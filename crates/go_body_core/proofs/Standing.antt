@@ -11,7 +11,7 @@ use Rattle.go_env_core.specs.names_core.declared.look.OpenNames.{OpenNames}
 use Rattle.go_env_core.specs.names_core.Scope.{open_look, look_in_scope}
 use Rattle.go_env_core.specs.scope_core.Models.{scopes_model}
 use Rattle.go_env_core.specs.inline_core.Types.{InlineOf}
-use Rattle.go_piece_core.specs.expr_core.declared.things.Fault.{Fault}
+use Rattle.go_piece_core.specs.local_core.declared.Fault.{Fault}
 use Rattle.go_piece_core.specs.Headers.{returned_types}
 use Rattle.go_piece_core.specs.Pieces.{piece_uses, piece_faults, piece_values}
 use Rattle.go_piece_core.specs.local_core.Pieces.{piece_declares}

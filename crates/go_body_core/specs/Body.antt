@@ -1,20 +1,18 @@
 -- What the check of a function's body gives.
 --
 -- docs/RULES.md, "Bodies of functions". The Go specification, "Blocks", "Declarations and scope", "Statements".
-use Rattle.std.specs.Prelude.{◌≡◌, ℕ, false, List, ◌++◌, map, Option}
+use Rattle.std.specs.Prelude.{◌≡◌, ℕ, false, List, ◌++◌, Option}
 use Rattle.go_tree_nodes.specs.Trees.{FuncTree}
 use Rattle.go_term_core.specs.Terms.{Term}
-use Rattle.go_piece_core.specs.local_core.declared.Fault.{Fault as LocalFault}
+use Rattle.go_piece_core.specs.local_core.declared.Fault.{Fault}
 use Rattle.go_piece_core.specs.local_core.Binding.{Local}
 use Rattle.go_piece_core.specs.local_core.Law.{Out}
 use Rattle.go_piece_core.specs.local_core.Tables.{walked, out_by_intervals, IsTable}
 use Rattle.go_piece_core.specs.walk_core.Ends.{lines_loop_faults}
-use Rattle.go_piece_core.specs.expr_core.declared.things.Fault.{Fault}
 use Rattle.go_piece_core.specs.expr_core.Looks.{WrittenRules}
 use Rattle.go_env_core.specs.face_core.Faces.{TheFace}
 use Rattle.go_env_core.specs.declared.meaning.Meaning.{Meaning}
 use Rattle.go_env_core.specs.Scenes.{SceneModel}
-use Rattle.go_env_core.specs.Looks.{local_fault_of}
 use Rattle.go_body_core.specs.Notes.{TheUse, TheLocal, NoteOf, all_uses, noted_faults, all_locals}
 use Rattle.go_body_core.specs.Rules.{func_body_rules, outside_in}
 use Rattle.go_body_core.specs.Ends.{end_faults}
@@ -30,14 +28,14 @@ pub record BodyOf : Type 0 where
 abbrev pub body_of : FuncTree → Out Meaning NoteOf → BodyOf
 body_of f o = record {
   uses = all_uses o.notes;
-  faults = noted_faults o.notes ++ (map local_fault_of (o.faults ++ lines_loop_faults false f.body) ++ end_faults (all_uses o.notes) f);
+  faults = noted_faults o.notes ++ ((o.faults ++ lines_loop_faults false f.body) ++ end_faults (all_uses o.notes) f);
   locals = all_locals o.notes;
 }
 
 -- these are what its occurrences have, its faults and its locals, by the notes of its pieces and the faults of the names that they declare
-abbrev pub IsBody : FuncTree → List NoteOf → List LocalFault → List TheUse → List Fault → List TheLocal → Type 0
+abbrev pub IsBody : FuncTree → List NoteOf → List Fault → List TheUse → List Fault → List TheLocal → Type 0
 IsBody f notes names us fs ls =
-    (us ≡ all_uses notes) × (fs ≡ noted_faults notes ++ (map local_fault_of (names ++ lines_loop_faults false f.body) ++ end_faults (all_uses notes) f)) × (ls ≡ all_locals notes)
+    (us ≡ all_uses notes) × (fs ≡ noted_faults notes ++ ((names ++ lines_loop_faults false f.body) ++ end_faults (all_uses notes) f)) × (ls ≡ all_locals notes)
 
 -- on the way through the function, with the names that are open
 abbrev pub walked_body : SceneModel → ℕ → List (Option TheFace) → WrittenRules Term → FuncTree → BodyOf

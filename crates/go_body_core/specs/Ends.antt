@@ -11,7 +11,7 @@ use Rattle.go_env_core.specs.handle_core.Declarations.{Declaration, Universe, Of
 use Rattle.go_piece_core.specs.denote_core.declared.things.Outcome.{Outcome}
 use Rattle.go_piece_core.specs.denote_core.declared.things.Outcome.TheVariants as outcomes
 use Rattle.go_piece_core.specs.walk_core.Ends.{are_terminating}
-use Rattle.go_piece_core.specs.expr_core.declared.things.Fault.{Fault}
+use Rattle.go_piece_core.specs.local_core.declared.Fault.{Fault}
 use Rattle.go_body_core.specs.Notes.{TheUse}
 
 -- a function has results

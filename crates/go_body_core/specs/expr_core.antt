@@ -5,4 +5,3 @@ pub use Rattle.go_piece_core.specs.expr_core.Laws as Laws
 pub use Rattle.go_piece_core.specs.expr_core.Lists as Lists
 pub use Rattle.go_piece_core.specs.expr_core.Locality as Locality
 pub use Rattle.go_piece_core.specs.expr_core.Looks as Looks
-pub use Rattle.go_piece_core.specs.expr_core.declared as declared

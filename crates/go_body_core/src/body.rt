@@ -11,7 +11,7 @@ ghost use Rattle.go_body_core.specs.Body.{IsBody, IsWalkedBody, IsGivenBody};
 
 use crate::ends::add_end;
 use crate::locals::Local;
-use crate::notes::{BodyUse, Note, add_local_faults, joined};
+use crate::notes::{BodyUse, Note, joined};
 use crate::pieces::Pieces;
 use go_env_core::face_core::Face;
 use go_env_core::handle_core::{SignatureRef, TypeRef};
@@ -19,9 +19,8 @@ use go_env_core::inline_core::InlineTypes;
 use go_env_core::names_core::check_function;
 use go_env_core::scope_core::Scopes;
 use go_env_core::{Scene, outer_names};
-use go_piece_core::expr_core::Fault;
 use go_piece_core::has_named_results;
-use go_piece_core::local_core::Fault as LocalFault;
+use go_piece_core::local_core::Fault;
 use go_piece_core::walk_core::lines_loop_faults;
 use go_tree_nodes::FuncDecl;
 use std::alloc::{AllocError, Global};
@@ -68,7 +67,7 @@ fn results<'n, 'p>(
 fn gathered<'p>(
     alloc: Global,
     notes: Vec<Note<'p>>,
-    names: &[LocalFault],
+    names: &[Fault],
     func: &FuncDecl,
 ) -> Result<CheckedBody<'p>, AllocError>
     ensures { IfOk result (λ body. IsBody (func_of func.now) notes.entry.items names.now body.uses.items body.faults.items body.locals.items) }
@@ -78,10 +77,10 @@ fn gathered<'p>(
         mut faults,
         locals,
     } = joined(alloc, notes)?;
-    add_local_faults(&mut faults, names)?;
+    faults.extend_from_slice(names)?;
     let mut loops = Vec::new(alloc);
     lines_loop_faults(&mut loops, false, &func.body)?;
-    add_local_faults(&mut faults, loops.as_slice())?;
+    faults.extend_from_slice(loops.as_slice())?;
     add_end(alloc, uses.as_slice(), func, &mut faults)?;
     Ok(CheckedBody {
         uses,

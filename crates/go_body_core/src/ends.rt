@@ -7,7 +7,7 @@ ghost use Rattle.go_body_core.specs.Ends.{has_result, panics_at, calls_one, end_
 
 use crate::notes::BodyUse;
 use crate::panics::{PanicCalls, panic_offsets};
-use go_piece_core::expr_core::Fault;
+use go_piece_core::local_core::Fault;
 use go_piece_core::walk_core::are_terminating;
 use go_text_core::{Rule, add};
 use go_tree_nodes::{FuncDecl, Line, Results};

@@ -1,6 +1,5 @@
 //! What is noted of the pieces of a function.
 ghost use Rattle.std.specs.Prelude.{◌≡◌, [], ◌∷◌, ◌++◌, IfOk, OnOk, map};
-ghost use Rattle.go_env_core.specs.Looks.{local_fault_of};
 ghost use Rattle.go_body_core.specs.Notes.{note, all_uses, noted_faults, all_locals};
 ghost use Rattle.go_body_core.specs.Rules.{declared_among, locals_of};
 
@@ -9,8 +8,7 @@ use crate::locals::{Local, declared_locals, locals};
 use go_env_core::Meaning;
 use go_env_core::handle_core::{Decl, TypeRef};
 use go_env_core::select_core::EmbedPath;
-use go_piece_core::expr_core::{Fault, Notes, Use};
-use go_piece_core::local_core::Fault as LocalFault;
+use go_piece_core::expr_core::{Notes, Use};
 use go_piece_core::operand_core::Operand;
 use go_text_core::add;
 use go_tree_nodes::Ident;
@@ -111,23 +109,4 @@ pub(crate) fn joined<'p>(alloc: Global, notes: Vec<Note<'p>>) -> Result<CheckedB
         join(&mut all, next)?;
     }
     Ok(all)
-}
-
-/// Adds faults of names and of statements.
-pub(crate) fn add_local_faults(
-    all: &mut Vec<Fault>,
-    faults: &[LocalFault],
-) -> Result<(), AllocError>
-    ensures { OnOk result (all.new.items ≡ all.old.items ++ map local_fault_of faults.now) }
-{
-    for fault in faults {
-        add(
-            all,
-            Fault {
-                offset: fault.offset,
-                rule: fault.rule,
-            },
-        )?;
-    }
-    Ok(())
 }

@@ -7,7 +7,7 @@ use Rattle.go_meaning_core.specs.needs_core.Edges.{none_inside}
 use Rattle.go_meaning_core.specs.denote_core.declared.things.Outcome.{Outcome}
 use Rattle.go_meaning_core.specs.denote_core.declared.things.Outcome.TheVariants as outcomes
 use Rattle.go_meaning_core.specs.handle_core.Declarations.{Declaration}
-use Rattle.go_meaning_core.specs.expr_core.declared.things.Fault.{Fault}
+use Rattle.go_meaning_core.specs.local_core.declared.Fault.{Fault}
 use Rattle.go_meaning_core.specs.summary_core.Summaries.{SummaryModel}
 use Rattle.go_meaning_core.specs.graph_core.Lists.{AllNumbered}
 use Rattle.go_meaning_core.specs.block_core.Blocks.{BlocksModel}

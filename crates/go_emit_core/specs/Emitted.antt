@@ -9,7 +9,7 @@ use Rattle.go_term_core.specs.declared.term.MemberPlace.TheVariants as places
 use Rattle.go_meaning_core.specs.denote_core.declared.things.Outcome.{Outcome}
 use Rattle.go_meaning_core.specs.denote_core.declared.things.Outcome.TheVariants as outcomes
 use Rattle.go_meaning_core.specs.handle_core.Declarations.{Declaration, InFile}
-use Rattle.go_meaning_core.specs.expr_core.declared.things.Fault.{Fault}
+use Rattle.go_meaning_core.specs.local_core.declared.Fault.{Fault}
 use Rattle.go_meaning_core.specs.body_core.Notes.{TheUse}
 use Rattle.go_meaning_core.specs.ready_core.Packages.{trees_in}
 use Rattle.go_meaning_core.specs.summary_core.Summaries.{SummaryModel}

@@ -37,11 +37,6 @@ pub mod denote_core {
     pub use go_meaning_core::denote_core::Outcome;
 }
 
-/// What the crates above name of `go_expr_core`.
-pub mod expr_core {
-    pub use go_meaning_core::expr_core::Fault;
-}
-
 /// What the crates above name of `go_object_core`.
 pub mod object_core {
     pub use go_object_core::{Object, listing};

@@ -3,28 +3,16 @@ use Rattle.std.proofs.Common.{◌≡◌, zero, suc, Bool, true, false, not, ◌&
 use Rattle.std.specs.Prelude.{Contains, if◌then◌else◌}
 use Rattle.std.proofs.lemmas.List.Elements.{Contains-append_left, Contains-append_right, Contains-append_cases}
 use Rattle.go_tree_nodes.specs.Trees.{FuncTree}
-use Rattle.go_body_core.specs.local_core.declared.Fault.{Fault as LocalFault}
+use Rattle.go_body_core.specs.local_core.declared.Fault.{Fault}
 use Rattle.go_body_core.specs.local_core.Law.{Out}
 use Rattle.go_body_core.specs.walk_core.Ends.{are_terminating, lines_loop_faults}
-use Rattle.go_body_core.specs.expr_core.declared.things.Fault.{Fault}
 use Rattle.go_body_core.specs.Ends.{returns_some, panics_at, calls_one, end_faults}
-use Rattle.go_body_core.specs.env_core.Looks.{local_fault_of}
 use Rattle.go_body_core.specs.env_core.declared.meaning.Meaning.{Meaning}
 use Rattle.go_body_core.specs.Notes.{TheUse, NoteOf, all_uses, noted_faults}
 use Rattle.go_ending_core.specs.Functions.{LacksReturn, lack_at, IsFaultOf, OfAPiece, OfAName, OfAJump, OfItsEnd}
 use Rattle.go_ending_core.specs.FunctionLaws.{FunctionsHaveTheirFaults}
 use Rattle.go_ending_core.proofs.Lacking.{declares, end_found, are_lacked}
 use Rattle.go_ending_core.proofs.Straying.{are_faults}
-
-in_map : {A B : Type 0} (g : A → B) (xs : List A) (y : B) → Contains (map g xs) y → (x : A) × Contains xs x × (y ≡ g x)
-in_map g [] y h = absurd (omega (arith, h.1))
-in_map g (x ∷ xs) y (zero, lt, is) = (x, (0, omega arith, refl), sym is)
-in_map g (x ∷ xs) y (suc k, lt, is) = let r = in_map g xs y (k, omega (arith, lt), is) in (r.0, (suc r.1.0, omega (arith, r.1.1), r.1.2), r.2)
-
-map_in : {A B : Type 0} (g : A → B) (xs : List A) (x : A) → Contains xs x → Contains (map g xs) (g x)
-map_in g [] x h = absurd (omega (arith, h.1))
-map_in g (y ∷ xs) x (zero, lt, is) = (0, omega arith, ap g is)
-map_in g (y ∷ xs) x (suc k, lt, is) = let r = map_in g xs x (k, omega (arith, lt), is) in (suc r.0, omega (arith, r.1), r.2)
 
 end_by : (r e : Bool) (g x : Fault) → Contains (if r && not e then g ∷ [] else []) x → (r ≡ true) × (e ≡ false) × (x ≡ g)
 end_by true true g x h = absurd (omega (arith, h.1))
@@ -41,33 +29,31 @@ lack_has : (us : List TheUse) (f : FuncTree) → LacksReturn us f → Contains (
 lack_has us f l = subst (λ fs. Contains fs (lack_at f.close_brace)) (sym (are_lacked.fault us f l)) (0, omega arith, refl)
 
 module _ (f : FuncTree) (o : Out Meaning NoteOf) where
-  middle : (x : Fault) (y : LocalFault) → x ≡ local_fault_of y → Contains (o.faults ++ lines_loop_faults false f.body) y → Contains (noted_faults o.notes ++ (map local_fault_of (o.faults ++ lines_loop_faults false f.body) ++ end_faults (all_uses o.notes) f)) x
-  middle x y is h =
-      Contains-append_right (noted_faults o.notes) (map local_fault_of (o.faults ++ lines_loop_faults false f.body) ++ end_faults (all_uses o.notes) f) x
-      (Contains-append_left (map local_fault_of (o.faults ++ lines_loop_faults false f.body)) (end_faults (all_uses o.notes) f) x
-      (subst (λ g. Contains (map local_fault_of (o.faults ++ lines_loop_faults false f.body)) g) (sym is) (map_in local_fault_of (o.faults ++ lines_loop_faults false f.body) y h)))
+  middle : (x : Fault) → Contains (o.faults ++ lines_loop_faults false f.body) x → Contains (noted_faults o.notes ++ ((o.faults ++ lines_loop_faults false f.body) ++ end_faults (all_uses o.notes) f)) x
+  middle x h =
+      Contains-append_right (noted_faults o.notes) ((o.faults ++ lines_loop_faults false f.body) ++ end_faults (all_uses o.notes) f) x
+      (Contains-append_left (o.faults ++ lines_loop_faults false f.body) (end_faults (all_uses o.notes) f) x h)
 
-  found : (x : Fault) → Contains (noted_faults o.notes ++ (map local_fault_of (o.faults ++ lines_loop_faults false f.body) ++ end_faults (all_uses o.notes) f)) x → IsFaultOf f o x
+  found : (x : Fault) → Contains (noted_faults o.notes ++ ((o.faults ++ lines_loop_faults false f.body) ++ end_faults (all_uses o.notes) f)) x → IsFaultOf f o x
   found x h =
-      elim (Contains-append_cases (noted_faults o.notes) (map local_fault_of (o.faults ++ lines_loop_faults false f.body) ++ end_faults (all_uses o.notes) f) x h) [
+      elim (Contains-append_cases (noted_faults o.notes) ((o.faults ++ lines_loop_faults false f.body) ++ end_faults (all_uses o.notes) f) x h) [
         | inl p ↦ OfAPiece p
-        | inr q ↦ elim (Contains-append_cases (map local_fault_of (o.faults ++ lines_loop_faults false f.body)) (end_faults (all_uses o.notes) f) x q) [
-          | inl m ↦ (let r = in_map local_fault_of (o.faults ++ lines_loop_faults false f.body) x m in
-              elim (Contains-append_cases o.faults (lines_loop_faults false f.body) r.0 r.1) [
-                | inl n ↦ OfAName n r.2
-                | inr j ↦ OfAJump ((are_faults.each f.body r.0).0 j) r.2
-              ])
+        | inr q ↦ elim (Contains-append_cases (o.faults ++ lines_loop_faults false f.body) (end_faults (all_uses o.notes) f) x q) [
+          | inl m ↦ elim (Contains-append_cases o.faults (lines_loop_faults false f.body) x m) [
+            | inl n ↦ OfAName n
+            | inr j ↦ OfAJump ((are_faults.each f.body x).0 j)
+          ]
           | inr e ↦ (let l = end_lacks (all_uses o.notes) f x e in OfItsEnd l.0 l.1)
         ]
       ]
 
-  has : (x : Fault) → IsFaultOf f o x → Contains (noted_faults o.notes ++ (map local_fault_of (o.faults ++ lines_loop_faults false f.body) ++ end_faults (all_uses o.notes) f)) x
-  has x (OfAPiece p) = Contains-append_left (noted_faults o.notes) (map local_fault_of (o.faults ++ lines_loop_faults false f.body) ++ end_faults (all_uses o.notes) f) x p
-  has x (OfAName {x = y} n is) = middle x y is (Contains-append_left o.faults (lines_loop_faults false f.body) y n)
-  has x (OfAJump {x = y} j is) = middle x y is (Contains-append_right o.faults (lines_loop_faults false f.body) y ((are_faults.each f.body y).1 j))
+  has : (x : Fault) → IsFaultOf f o x → Contains (noted_faults o.notes ++ ((o.faults ++ lines_loop_faults false f.body) ++ end_faults (all_uses o.notes) f)) x
+  has x (OfAPiece p) = Contains-append_left (noted_faults o.notes) ((o.faults ++ lines_loop_faults false f.body) ++ end_faults (all_uses o.notes) f) x p
+  has x (OfAName n) = middle x (Contains-append_left o.faults (lines_loop_faults false f.body) x n)
+  has x (OfAJump j) = middle x (Contains-append_right o.faults (lines_loop_faults false f.body) x ((are_faults.each f.body x).1 j))
   has x (OfItsEnd l is) =
-      Contains-append_right (noted_faults o.notes) (map local_fault_of (o.faults ++ lines_loop_faults false f.body) ++ end_faults (all_uses o.notes) f) x
-      (Contains-append_right (map local_fault_of (o.faults ++ lines_loop_faults false f.body)) (end_faults (all_uses o.notes) f) x
+      Contains-append_right (noted_faults o.notes) ((o.faults ++ lines_loop_faults false f.body) ++ end_faults (all_uses o.notes) f) x
+      (Contains-append_right (o.faults ++ lines_loop_faults false f.body) (end_faults (all_uses o.notes) f) x
       (subst (λ g. Contains (end_faults (all_uses o.notes) f) g) (sym is) (lack_has (all_uses o.notes) f l)))
 
 pub are_theirs : FunctionsHaveTheirFaults

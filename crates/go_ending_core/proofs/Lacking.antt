@@ -11,7 +11,7 @@ use Rattle.go_body_core.specs.handle_core.Declarations.{Declaration, Universe, O
 use Rattle.go_body_core.specs.denote_core.declared.things.Outcome.{Outcome}
 use Rattle.go_body_core.specs.denote_core.declared.things.Outcome.TheVariants as outcomes
 use Rattle.go_body_core.specs.walk_core.Ends.{are_terminating}
-use Rattle.go_body_core.specs.expr_core.declared.things.Fault.{Fault}
+use Rattle.go_body_core.specs.local_core.declared.Fault.{Fault}
 use Rattle.go_body_core.specs.Ends.{returns_some, is_panic_name, is_panic_declaration, has_panic, panics_at, names_one, calls_one}
 use Rattle.go_body_core.specs.Notes.{TheUse}
 use Rattle.go_ending_core.specs.Ending.{IsTerminating, AReturn, APanic, ABlock, AnIf, AFor, EndTerminating}

@@ -9,10 +9,8 @@ use Rattle.go_tree_nodes.specs.declared.names.Ident.{Ident}
 use Rattle.go_tree_nodes.specs.Trees.{Separated, TypeTree, SignatureTree, Signed, OneResult, Results, ParamTrees, Param, ExprTree, ItemTrees, Named, Paren, Call, FuncTree}
 use Rattle.go_body_core.specs.handle_core.Declarations.{Universe}
 use Rattle.go_body_core.specs.denote_core.declared.things.Outcome.TheVariants as outcomes
-use Rattle.go_body_core.specs.expr_core.declared.things.Fault.{Fault}
-use Rattle.go_body_core.specs.local_core.declared.Fault.{Fault as LocalFault}
+use Rattle.go_body_core.specs.local_core.declared.Fault.{Fault}
 use Rattle.go_body_core.specs.local_core.Law.{Out}
-use Rattle.go_body_core.specs.env_core.Looks.{local_fault_of}
 use Rattle.go_body_core.specs.env_core.declared.meaning.Meaning.{Meaning}
 use Rattle.go_body_core.specs.Notes.{TheUse, NoteOf, all_uses, noted_faults}
 use Rattle.go_ending_core.specs.Ending.{EndTerminating}
@@ -61,6 +59,6 @@ lack_at close = record { offset = close.start; rule = Y5 }
 -- no `for` is around, or of its end
 pub data IsFaultOf (f : FuncTree) (o : Out Meaning NoteOf) (fault : Fault) : Type 0 where
   OfAPiece : Contains (noted_faults o.notes) fault → IsFaultOf f o fault
-  OfAName : {x : LocalFault} → Contains o.faults x → fault ≡ local_fault_of x → IsFaultOf f o fault
-  OfAJump : {x : LocalFault} → IsStray f.body x → fault ≡ local_fault_of x → IsFaultOf f o fault
+  OfAName : Contains o.faults fault → IsFaultOf f o fault
+  OfAJump : IsStray f.body fault → IsFaultOf f o fault
   OfItsEnd : LacksReturn (all_uses o.notes) f → fault ≡ lack_at f.close_brace → IsFaultOf f o fault

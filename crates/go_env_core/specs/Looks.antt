@@ -1,5 +1,5 @@
 -- All that an expression is judged by at a place of a package, by what names mean where they stand.
-use Rattle.std.specs.Prelude.{◌≡◌, ℕ, List, [], Option, Some, None, map}
+use Rattle.std.specs.Prelude.{◌≡◌, ℕ, List, [], Option, Some, None}
 use Rattle.go_term_core.specs.Terms.{Term, Sign}
 use Rattle.go_inline_core.specs.table_core.Entries.{Entry, find_entry}
 use Rattle.go_expr_core.specs.operand_core.TypeRules.{TypeRules}
@@ -7,10 +7,9 @@ use Rattle.go_face_core.specs.decide_core.Rules.{term_rules, param_types_of, res
 use Rattle.go_expr_core.specs.denote_core.Look.{NameRules}
 use Rattle.go_face_core.specs.handle_core.Declarations.{Declaration}
 use Rattle.go_face_core.specs.handle_core.Names.{selection_in}
-use Rattle.go_inline_core.specs.local_core.declared.Fault.{Fault as LocalFault}
+use Rattle.go_inline_core.specs.local_core.declared.Fault.{Fault}
 use Rattle.go_inline_core.specs.local_core.Binding.{NameLook}
 use Rattle.go_expr_core.specs.literal_core.Look.{LiteralRules}
-use Rattle.go_expr_core.specs.declared.things.Fault.{Fault}
 use Rattle.go_expr_core.specs.Looks.{Looks, WrittenRules, everywhere}
 use Rattle.go_tree_nodes.specs.Starts.{type_start}
 use Rattle.go_inline_core.specs.Types.{InlineOf, inline_at}
@@ -31,12 +30,9 @@ abbrev pub inline_type : List Entry → Option InlineOf → Option Term
 inline_type es None = None
 inline_type es (Some i) = typed (find_entry es) i.term
 
-abbrev pub local_fault_of : LocalFault → Fault
-local_fault_of f = record { offset = f.offset; rule = f.rule }
-
 abbrev pub inline_faults : Option InlineOf → List Fault
 inline_faults None = []
-inline_faults (Some i) = map local_fault_of i.faults
+inline_faults (Some i) = i.faults
 
 abbrev pub inline_rules : SceneModel → List (ℕ × InlineOf) → WrittenRules Term
 inline_rules s types = record { type_of = λ named t. inline_type s.types (inline_at types (type_start t)); faults_of = λ named t. inline_faults (inline_at types (type_start t)) }

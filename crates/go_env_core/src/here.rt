@@ -1,26 +1,25 @@
 //! A place of a package.
-ghost use Rattle.std.specs.Prelude.{◌≡◌, ◌++◌, OnOk, map, option_map};
+ghost use Rattle.std.specs.Prelude.{◌≡◌, ◌++◌, OnOk, option_map};
 ghost use Rattle.go_inline_core.specs.Types.{inline_shown};
-ghost use Rattle.go_env_core.specs.Looks.{local_fault_of, inline_faults, inline_type};
+ghost use Rattle.go_env_core.specs.Looks.{inline_faults, inline_type};
 
 use crate::fields::{field_at, field_count, field_names, seen_fields};
 use crate::found::{found_exported, found_of};
 use crate::meaning::Meaning;
 use crate::scene::Scene;
+use go_expr_core::Exprs;
 use go_expr_core::denote_core::{Exported, Found, Names, Selection};
 use go_expr_core::literal_core::{LiteralField, Literals};
 use go_expr_core::operand_core::{TypeForm, TypeLooks};
-use go_expr_core::{Exprs, Fault};
 use go_face_core::Face;
 use go_face_core::handle_core::{
     Decl, SignatureRef, TypeRef, is_assignable, is_convertible, is_identical, selection, typed,
 };
 use go_face_core::select_core::EmbedPath;
-use go_inline_core::local_core::Fault as LocalFault;
+use go_inline_core::local_core::Fault;
 use go_inline_core::names_core::OpenNames;
 use go_inline_core::table_core::TypeTable;
 use go_inline_core::{InlineType, InlineTypes};
-use go_text_core::add;
 use go_tree_nodes::{TypeExpr, type_start};
 use std::alloc::{AllocError, Global};
 
@@ -72,24 +71,15 @@ fn inline_type<'p>(table: &'p TypeTable, inline: Option<&'p InlineType>) -> Opti
     }
 }
 
-// Adds faults behind others.
-fn add_all(more: &[LocalFault], faults: &mut Vec<Fault>) -> Result<(), AllocError>
-    ensures { OnOk result (faults.new.items ≡ faults.old.items ++ map local_fault_of more.now) }
-{
-    for fault in more {
-        let offset = fault.offset;
-        let rule = fault.rule;
-        add(faults, Fault { offset, rule })?;
-    }
-    Ok(())
-}
-
 // Adds the faults of the type that is written at a place, if one is.
 fn add_inline(inline: Option<&InlineType>, faults: &mut Vec<Fault>) -> Result<(), AllocError>
     ensures { OnOk result (faults.new.items ≡ faults.old.items ++ inline_faults (option_map (λ t. inline_shown t.now) inline.entry)) }
 {
     match inline {
-        Some(inline) => add_all(inline.faults.as_slice(), faults),
+        Some(inline) => {
+            faults.extend_from_slice(inline.faults.as_slice())?;
+            Ok(())
+        }
         None => Ok(()),
     }
 }

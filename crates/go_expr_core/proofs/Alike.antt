@@ -43,7 +43,7 @@ use Rattle.go_literal_core.specs.declared.things.NamedField.TheVariants as named
 use Rattle.go_literal_core.specs.Fields.{named_field}
 use Rattle.go_literal_core.specs.Literals.{is_struct, literal_type, literal_denotes, literal_rule, literal_mode, element_target}
 use Rattle.go_literal_core.specs.Keys.{refused_key, found_key, key_answer}
-use Rattle.go_expr_core.specs.declared.things.Fault.{Fault}
+use Rattle.go_local_core.specs.declared.Fault.{Fault}
 use Rattle.go_expr_core.specs.Looks.{WrittenRules, Looks, look_of_place, literals_at}
 use Rattle.go_expr_core.specs.Places.{inside, under_place, left_place, whole, is_name, is_literal, is_lone_call, is_several, start, item_start, place_role, role_usage}
 use Rattle.go_tree_nodes.specs.Starts.{type_name_start, type_start}

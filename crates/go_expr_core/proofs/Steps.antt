@@ -31,7 +31,7 @@ use Rattle.go_literal_core.specs.denote_core.declared.things.Stand.TheVariants a
 use Rattle.go_literal_core.specs.declared.things.Keys.{Keys}
 use Rattle.go_literal_core.specs.declared.things.Mode.{Mode}
 use Rattle.go_literal_core.specs.Literals.{literal_rule, literal_mode, element_target, keys_among}
-use Rattle.go_expr_core.specs.declared.things.Fault.{Fault}
+use Rattle.go_local_core.specs.declared.Fault.{Fault}
 use Rattle.go_expr_core.specs.Places.{start, item_start}
 use Rattle.go_expr_core.specs.Denoting.{denoted}
 use Rattle.go_expr_core.specs.Elements.{all_keys, keys_of, is_mixed, element_rule, whole_rule, whole_mode}

@@ -13,7 +13,7 @@ use Rattle.go_literal_core.specs.denote_core.declared.things.Stand.{Stand}
 use Rattle.go_literal_core.specs.denote_core.declared.things.Stand.TheVariants as stands
 use Rattle.go_literal_core.specs.declared.things.Mode.{Mode}
 use Rattle.go_expr_core.specs.declared.things.Use.{Use}
-use Rattle.go_expr_core.specs.declared.things.Fault.{Fault}
+use Rattle.go_local_core.specs.declared.Fault.{Fault}
 use Rattle.go_expr_core.specs.Looks.{Looks}
 use Rattle.go_literal_core.specs.declared.things.KeyAnswer.{KeyAnswer}
 use Rattle.go_literal_core.specs.declared.things.KeyMark.{KeyMark}

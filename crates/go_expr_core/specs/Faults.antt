@@ -12,7 +12,7 @@ use Rattle.go_literal_core.specs.denote_core.declared.things.Stand.TheVariants a
 use Rattle.go_literal_core.specs.denote_core.declared.things.Denoted.{Denoted}
 use Rattle.go_literal_core.specs.denote_core.Arguments.{single_rule}
 use Rattle.go_literal_core.specs.declared.things.Mode.{Mode}
-use Rattle.go_expr_core.specs.declared.things.Fault.{Fault}
+use Rattle.go_local_core.specs.declared.Fault.{Fault}
 use Rattle.go_expr_core.specs.Looks.{Looks}
 use Rattle.go_expr_core.specs.Places.{inside, under_place, left_place, is_literal, is_several, start, item_start}
 use Rattle.go_expr_core.specs.Operators.{unary_of, binary_of}

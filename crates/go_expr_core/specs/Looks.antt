@@ -8,7 +8,7 @@ use Rattle.go_literal_core.specs.denote_core.declared.things.Exported.{Exported}
 use Rattle.go_literal_core.specs.denote_core.declared.things.Selection.{Selection}
 use Rattle.go_literal_core.specs.denote_core.Look.{NameRules, Look, look_of}
 use Rattle.go_literal_core.specs.Look.{LiteralRules, LiteralLook, literal_look_of}
-use Rattle.go_expr_core.specs.declared.things.Fault.{Fault}
+use Rattle.go_local_core.specs.declared.Fault.{Fault}
 
 -- struct types that are written out in expressions
 pub record WrittenRules (T : Type 0) : Type 0 where

@@ -28,7 +28,7 @@ use Rattle.go_literal_core.specs.denote_core.declared.things.Selection.{Selectio
 use Rattle.go_literal_core.specs.denote_core.declared.things.Selection.TheVariants as selections
 use Rattle.go_literal_core.specs.Look.{FieldOf}
 use Rattle.go_expr_core.specs.declared.things.Use.{Use}
-use Rattle.go_expr_core.specs.declared.things.Fault.{Fault}
+use Rattle.go_local_core.specs.declared.Fault.{Fault}
 use Rattle.go_expr_core.specs.Looks.{Looks}
 use Rattle.go_expr_core.specs.Denoting.{denoted}
 use Rattle.go_expr_core.specs.Uses.{made_use, uses}

@@ -22,7 +22,7 @@ pub use looks::Exprs;
 pub use names::check_type_name;
 pub use notes::{note_fault, note_member};
 pub use places::{is_call, start};
-pub use things::{Fault, Notes, Use};
+pub use things::{Notes, Use};
 pub use types::{check_signature, check_type};
 pub use walk::{check_called, check_expr, check_operand};
 
@@ -39,6 +39,16 @@ pub mod denote_core {
 /// What the crates above name of `go_literal_core`.
 pub mod literal_core {
     pub use go_literal_core::{LiteralField, Literals};
+}
+
+/// What the crates above name of `go_local_core`.
+pub mod local_core {
+    pub use go_local_core::Fault;
+}
+
+/// What the crates above name of `go_open_core`.
+pub mod open_core {
+    pub use go_local_core::open_core::NameList;
 }
 
 /// What the crates above name of `go_operand_core`.

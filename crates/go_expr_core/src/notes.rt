@@ -7,8 +7,9 @@ ghost use Rattle.go_text_core.specs.declared.rule.Rule.TheVariants as rules;
 ghost use Rattle.go_expr_core.specs.Uses as all_uses;
 ghost use Rattle.go_expr_core.specs.Faults as all_faults;
 
-use crate::things::{Fault, Judged, Notes, Use};
+use crate::things::{Judged, Notes, Use};
 use go_literal_core::denote_core::{Answer, Denoted, Outcome, single_rule};
+use go_local_core::Fault;
 use go_text_core::{Rule, Span};
 use go_tree_core::Role;
 use std::alloc::AllocError;

@@ -1,5 +1,6 @@
 //! What is noted of an expression.
 use go_literal_core::denote_core::{Denoted, Outcome};
+use go_local_core::Fault;
 use go_text_core::Rule;
 use go_tree_core::Role;
 
@@ -14,14 +15,6 @@ pub struct Use<D, P> {
     pub role: Role,
     /// Its declaration, or the first rule that it breaks.
     pub outcome: Outcome<D, P>,
-}
-
-/// A rule that is broken at a place and that is no outcome of an occurrence's own.
-#[derive(Clone, Copy)]
-pub struct Fault {
-    /// The offset in bytes.
-    pub offset: usize,
-    pub rule: Rule,
 }
 
 /// What is noted on the way through expressions: what occurrences have, in order of their places, and the faults of parts.

@@ -30,12 +30,13 @@ use crate::operators::{binary_of, unary_of};
 use crate::places::{
     inside, is_literal, is_name, item_start, left_place, start, under_place, whole,
 };
-use crate::things::{Fault, Notes, Use};
+use crate::things::{Notes, Use};
 use crate::types::check_type;
 use go_literal_core::constant_core::{Constant, ConstantText, natural};
 use go_literal_core::denote_core::{Denoted, Stand, dot_of};
 use go_literal_core::operand_core::{Operand, ValueType};
 use go_literal_core::{KeyMark, Mode, element_target, literal_denotes, literal_mode, literal_rule};
+use go_local_core::Fault;
 use go_text_core::Span;
 use go_token_core::Operator;
 use go_tree_nodes::{

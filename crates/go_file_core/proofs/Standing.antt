@@ -11,7 +11,7 @@ use Rattle.go_func_core.specs.entry_core.Meanings.{Shows}
 use Rattle.go_func_core.specs.names_core.declared.look.OpenNames.{OpenNames}
 use Rattle.go_top_core.specs.local_core.Tables.{IsFuncPlaced}
 use Rattle.go_top_core.specs.inline_core.Types.{InlineOf}
-use Rattle.go_top_core.specs.expr_core.declared.things.Fault.{Fault}
+use Rattle.go_top_core.specs.local_core.declared.Fault.{Fault}
 use Rattle.go_func_core.specs.env_core.declared.here.Here.{Here}
 use Rattle.go_func_core.specs.env_core.declared.meaning.Meaning.{Meaning}
 use Rattle.go_func_core.specs.env_core.Scenes.{scene_shown}

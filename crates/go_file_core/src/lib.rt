@@ -43,6 +43,11 @@ pub mod func_core {
     pub use go_func_core::{functions_have_one_table, locals_are_declarations};
 }
 
+/// What the crates above name of `go_local_core`.
+pub mod local_core {
+    pub use go_top_core::local_core::Fault;
+}
+
 /// What the crates above name of `go_reach_core`.
 pub mod reach_core {
     pub use go_top_core::reach_core::{NumberSet, Reached};

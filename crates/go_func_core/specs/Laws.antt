@@ -9,7 +9,7 @@ use Rattle.go_term_core.specs.Terms.{Term}
 use Rattle.go_body_core.specs.local_core.Binding.{Local, bound}
 use Rattle.go_body_core.specs.local_core.Tables.{IsFuncPlaced}
 use Rattle.go_body_core.specs.names_core.Scope.{beyond_in}
-use Rattle.go_body_core.specs.expr_core.declared.things.Fault.{Fault}
+use Rattle.go_body_core.specs.local_core.declared.Fault.{Fault}
 use Rattle.go_body_core.specs.expr_core.Looks.{WrittenRules}
 use Rattle.go_body_core.specs.expr_core.Laws.{use_place, occurrence_place}
 use Rattle.go_body_core.specs.inline_core.Types.{InlineOf}

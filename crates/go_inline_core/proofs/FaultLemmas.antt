@@ -24,7 +24,8 @@ use Rattle.go_names_core.specs.local_core.declared.Fault.{Fault}
 use Rattle.go_names_core.specs.local_core.Faults.{ident_fault}
 use Rattle.go_names_core.specs.local_core.Outline.{signature_idents}
 use Rattle.go_inline_core.specs.Inline.{repeat_faults, repeated_params, repeated_in_fields, repeated_in_methods, repeated_in_signature, repeated_in_result, repeated_in_entries}
-use Rattle.go_inline_core.specs.mirrors.Names.{SameNames, names_of, field_repeated}
+use Rattle.go_inline_core.specs.mirrors.Names.{names_of, field_repeated}
+use Rattle.go_embed_core.specs.mirrors.Passing.{SameNames}
 
 abbrev pub line_repeated : FieldLine → List Fault
 line_repeated l = field_repeated l.fields

@@ -8,7 +8,8 @@ ghost use Rattle.go_names_core.specs.local_core.Faults.{ident_fault};
 ghost use Rattle.go_names_core.specs.local_core.Outline.{signature_idents};
 ghost use Rattle.go_inline_core.specs.Inline as inline;
 ghost use Rattle.go_inline_core.specs.mirrors.Listing.{Breaks};
-ghost use Rattle.go_inline_core.specs.mirrors.Names.{SameNames, names_of, field_repeated};
+ghost use Rattle.go_inline_core.specs.mirrors.Names.{names_of, field_repeated};
+ghost use Rattle.go_embed_core.specs.mirrors.Passing.{SameNames};
 
 use go_embed_core::settle_core::SeenNames;
 use go_names_core::local_core::Fault;

@@ -6,7 +6,7 @@ use Rattle.std.proofs.lemmas.Option.{none-some}
 use Rattle.go_tree_nodes.specs.Trees.{FileTree}
 use Rattle.go_snap_core.specs.graph_core.Lists.{AllNumbered}
 use Rattle.go_snap_core.specs.denote_core.declared.things.Outcome.TheVariants as outcomes
-use Rattle.go_snap_core.specs.expr_core.declared.things.Fault.{Fault}
+use Rattle.go_snap_core.specs.local_core.declared.Fault.{Fault}
 use Rattle.go_snap_core.specs.handle_core.Declarations.{Declaration}
 use Rattle.govisd_core.specs.report_core.Faults.{IsSaid, IsSettled}
 use Rattle.go_snap_core.specs.body_core.Notes.{TheUse}

@@ -11,7 +11,7 @@ use Rattle.go_snap_core.specs.answer_core.Outer.{fault}
 use Rattle.go_snap_core.specs.graph_core.Packages.{blank, trees_of}
 use Rattle.go_snap_core.specs.graph_core.Sources.{SourceModel, IsContent, source}
 use Rattle.go_snap_core.specs.block_core.Growing.{package_weaker}
-use Rattle.go_snap_core.specs.expr_core.declared.things.Fault.{Fault}
+use Rattle.go_snap_core.specs.local_core.declared.Fault.{Fault}
 use Rattle.go_snap_core.specs.part_core.Inputs.{input_with}
 use Rattle.go_snap_core.specs.part_core.Parts.{FileOf, PartModel, part_with}
 use Rattle.go_snap_core.specs.whole_core.Inputs.{AreParts, ComesTo}

@@ -12,7 +12,7 @@ use Rattle.go_snap_core.specs.local_core.Tables.{out_by_intervals, IsFuncPlaced}
 use Rattle.go_snap_core.specs.walk_core.Ends.{is_blank_target}
 use Rattle.go_term_core.specs.Terms.{Term}
 use Rattle.go_snap_core.specs.denote_core.declared.things.Stand.TheVariants as stands
-use Rattle.go_snap_core.specs.expr_core.declared.things.Fault.{Fault}
+use Rattle.go_snap_core.specs.local_core.declared.Fault.{Fault}
 use Rattle.go_snap_core.specs.expr_core.Faults.{faults}
 use Rattle.go_snap_core.specs.expr_core.Lists.{exprs_faults, exprs_uses, is_list}
 use Rattle.go_snap_core.specs.expr_core.Uses.{uses}

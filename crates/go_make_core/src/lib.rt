@@ -38,6 +38,11 @@ pub mod graph_core {
     pub use go_whole_core::graph_core::{PackageSource, SourceFile, Workspace, assemble};
 }
 
+/// What the crates above name of `go_local_core`.
+pub mod local_core {
+    pub use go_whole_core::local_core::Fault;
+}
+
 /// What the crates above name of `go_part_core`.
 pub mod part_core {
     pub use go_whole_core::part_core::{

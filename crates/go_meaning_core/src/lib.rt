@@ -34,11 +34,6 @@ pub mod entry_core {
     pub use go_part_core::entry_core::outlines;
 }
 
-/// What the crates above name of `go_expr_core`.
-pub mod expr_core {
-    pub use go_part_core::expr_core::Fault;
-}
-
 /// What the crates above name of `go_handle_core`.
 pub mod handle_core {
     pub use go_part_core::handle_core::{Decl, DeclSite};

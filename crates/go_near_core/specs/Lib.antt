@@ -12,7 +12,6 @@ pub mod decide_core
 pub mod embed_core
 pub mod entry_core
 pub mod env_core
-pub mod expr_core
 pub mod face_core
 pub mod file_core
 pub mod func_core

@@ -6,4 +6,5 @@ pub use Rattle.go_file_core.specs.local_core.Pieces as Pieces
 pub use Rattle.go_file_core.specs.local_core.Placed as Placed
 pub use Rattle.go_file_core.specs.local_core.Steps as Steps
 pub use Rattle.go_file_core.specs.local_core.Tables as Tables
+pub use Rattle.go_file_core.specs.local_core.declared as declared
 pub use Rattle.go_file_core.specs.local_core.mirrors as mirrors

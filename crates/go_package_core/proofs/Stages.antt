@@ -15,7 +15,7 @@ use Rattle.go_answer_core.specs.face_core.Written.{WrittenOf, decls_of, package_
 use Rattle.go_known_core.specs.env_core.Scenes.{SceneModel}
 use Rattle.go_known_core.specs.value_core.Package.{PlacedOf, placed_decls}
 use Rattle.go_answer_core.specs.handle_core.Declarations.{Declaration}
-use Rattle.go_answer_core.specs.expr_core.declared.things.Fault.{Fault}
+use Rattle.go_file_core.specs.local_core.declared.Fault.{Fault}
 use Rattle.go_answer_core.specs.report_core.Faults.{IsSettled}
 use Rattle.go_file_core.specs.body_core.Notes.{TheUse}
 use Rattle.go_known_core.proofs.Alike.{decls_stand_alike}

@@ -22,7 +22,7 @@ use Rattle.go_answer_core.specs.entry_core.Outlines.{FileOutline, outline_of, ou
 use Rattle.go_answer_core.specs.entry_core.Numbered.{flat_more}
 use Rattle.go_answer_core.specs.fault_core.declared.places.PackageFault.{PackageFault}
 use Rattle.go_answer_core.specs.handle_core.Declarations.{Declaration}
-use Rattle.go_answer_core.specs.expr_core.declared.things.Fault.{Fault}
+use Rattle.go_file_core.specs.local_core.declared.Fault.{Fault}
 use Rattle.go_answer_core.specs.report_core.Faults.{IsSettled}
 use Rattle.go_known_core.specs.inline_core.Types.{InlineOf}
 use Rattle.go_known_core.specs.inline_core.Inline.{inlines}

@@ -12,7 +12,7 @@ use Rattle.go_known_core.specs.table_core.Entries.{Entry}
 use Rattle.go_answer_core.specs.entry_core.Outlines.{outline_of}
 use Rattle.go_answer_core.specs.fault_core.declared.places.PackageFault.{PackageFault}
 use Rattle.go_answer_core.specs.handle_core.Declarations.{Declaration}
-use Rattle.go_answer_core.specs.expr_core.declared.things.Fault.{Fault}
+use Rattle.go_file_core.specs.local_core.declared.Fault.{Fault}
 use Rattle.go_answer_core.specs.report_core.Faults.{IsSettled}
 use Rattle.go_answer_core.specs.declared.locals.HeldLocal.{HeldLocal}
 use Rattle.go_answer_core.specs.face_core.Faces.{TheFace, face_shown, operand_shown}

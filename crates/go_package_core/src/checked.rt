@@ -1,7 +1,7 @@
 //! What the check of a package gives.
-use go_answer_core::expr_core::Fault;
 use go_answer_core::face_core::{Face, PackageFaces};
 use go_answer_core::{Answer, HeldLocal};
+use go_file_core::local_core::Fault;
 use go_ready_core::type_core::PackageTypes;
 use go_term_core::{Signature, TypeTerm};
 

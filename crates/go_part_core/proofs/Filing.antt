@@ -7,7 +7,7 @@ use Rattle.go_tree_nodes.specs.Trees.{FileTree}
 use Rattle.go_used_core.specs.tree_core.Occurrences.{file_occs}
 use Rattle.go_used_core.specs.block_core.Blocks.{BlocksModel}
 use Rattle.go_used_core.specs.handle_core.Declarations.{Declaration}
-use Rattle.go_used_core.specs.expr_core.declared.things.Fault.{Fault}
+use Rattle.go_used_core.specs.local_core.declared.Fault.{Fault}
 use Rattle.go_used_core.specs.report_core.Faults.{IsSettled}
 use Rattle.go_used_core.specs.Reported.{IsReported}
 use Rattle.go_used_core.specs.Used.{FileUse, blank_places, judged_import, used_places, without_unused}

@@ -8,7 +8,7 @@ use Rattle.go_used_core.specs.block_core.Blocks.{BlocksModel}
 use Rattle.go_used_core.specs.block_core.Naming.{package_named}
 use Rattle.go_used_core.specs.block_core.OneBlocks.{one_blocks_alone}
 use Rattle.go_used_core.specs.handle_core.Declarations.{Declaration}
-use Rattle.go_used_core.specs.expr_core.declared.things.Fault.{Fault}
+use Rattle.go_used_core.specs.local_core.declared.Fault.{Fault}
 use Rattle.go_used_core.specs.report_core.Faults.{ComesBefore, IsSettled}
 use Rattle.go_used_core.specs.report_core.Settled.{settled_are_one}
 use Rattle.go_used_core.specs.Reported.{IsReported}

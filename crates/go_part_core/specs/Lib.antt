@@ -14,6 +14,7 @@ pub mod fault_core
 pub mod graph_core
 pub mod handle_core
 pub mod level_core
+pub mod local_core
 pub mod needs_core
 pub mod operand_core
 pub mod package_core

@@ -13,7 +13,7 @@ use Rattle.go_package_core.specs.table_core.Tables.{package_types}
 use Rattle.go_package_core.specs.entry_core.Meanings.{Shows}
 use Rattle.go_package_core.specs.entry_core.Showing.{shown_in}
 use Rattle.go_used_core.specs.handle_core.Declarations.{Declaration}
-use Rattle.go_used_core.specs.expr_core.declared.things.Fault.{Fault}
+use Rattle.go_used_core.specs.local_core.declared.Fault.{Fault}
 use Rattle.go_used_core.specs.report_core.Faults.{IsSettled}
 use Rattle.go_used_core.specs.face_core.Faces.{TheFace, face_shown}
 use Rattle.go_used_core.specs.face_core.Packages.{PackageFacesModel}

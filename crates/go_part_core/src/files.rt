@@ -10,7 +10,7 @@ use go_package_core::graph_core::Package;
 use go_text_core::add;
 use go_tree_nodes::File;
 use go_used_core::block_core::Blocks;
-use go_used_core::expr_core::Fault;
+use go_used_core::local_core::Fault;
 use go_used_core::report_core::settle_faults;
 use go_used_core::{refuse_unused, report};
 use std::alloc::{AllocError, Global};

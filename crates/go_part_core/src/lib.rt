@@ -40,11 +40,6 @@ pub mod entry_core {
     pub use go_package_core::entry_core::outlines;
 }
 
-/// What the crates above name of `go_expr_core`.
-pub mod expr_core {
-    pub use go_used_core::expr_core::Fault;
-}
-
 /// What the crates above name of `go_face_core`.
 pub mod face_core {
     pub use go_used_core::face_core::{Face, FaceTable, lend};

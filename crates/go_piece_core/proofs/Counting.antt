@@ -9,7 +9,7 @@ use Rattle.go_tree_nodes.specs.declared.decls.ValueKind.{ValueKind}
 use Rattle.go_tree_nodes.specs.declared.decls.ValueKind.TheVariants as kinds
 use Rattle.go_tree_nodes.specs.declared.files.Receiver.{Receiver}
 use Rattle.go_tree_nodes.specs.Trees.{Separated, ExprTree, SignatureTree, ResultTree, ParamTrees, Signed, NoResult, OneResult, Results, NoParams, Param, Alone, Step, Assign, Update, Define}
-use Rattle.go_open_core.specs.Blocks.{list_name}
+use Rattle.go_expr_core.specs.open_core.Blocks.{list_name}
 use Rattle.go_walk_core.specs.local_core.Steps.{Header, Spec, Act, Condition, Given}
 use Rattle.go_walk_core.specs.local_core.Outline.{idents, some_idents, param_idents, result_idents, signature_idents, receiver_idents, header_idents, some_ident}
 use Rattle.go_statement_core.specs.operand_core.TypeRules.{TypeRules}

@@ -6,7 +6,7 @@ use Rattle.go_statement_core.specs.operand_core.TypeRules.{TypeRules}
 use Rattle.go_statement_core.specs.denote_core.declared.things.Argument.{Argument}
 use Rattle.go_statement_core.specs.declared.targets.Target.{Target}
 use Rattle.go_statement_core.specs.Assignments.{assignment_rule}
-use Rattle.go_expr_core.specs.declared.things.Fault.{Fault}
+use Rattle.go_walk_core.specs.local_core.declared.Fault.{Fault}
 use Rattle.go_expr_core.specs.Faults.{fault_at}
 use Rattle.go_expr_core.proofs.Steps.{both}
 

@@ -11,7 +11,7 @@ use Rattle.go_tree_nodes.specs.Rules.{is_grouped}
 use Rattle.go_walk_core.specs.local_core.Outline.{idents}
 use Rattle.go_statement_core.specs.operand_core.TypeRules.{TypeRules}
 use Rattle.go_expr_core.specs.declared.things.Use.{Use}
-use Rattle.go_expr_core.specs.declared.things.Fault.{Fault}
+use Rattle.go_walk_core.specs.local_core.declared.Fault.{Fault}
 use Rattle.go_expr_core.specs.Looks.{Looks}
 use Rattle.go_expr_core.specs.Denoting.{named_type, written_type}
 use Rattle.go_expr_core.specs.Uses.{type_name_uses}

@@ -18,7 +18,7 @@ use Rattle.go_walk_core.specs.local_core.Alike.{Alike, LookAtNames}
 use Rattle.go_statement_core.specs.operand_core.declared.types.Operand.{Operand}
 use Rattle.go_statement_core.specs.denote_core.declared.things.Found.{Found}
 use Rattle.go_expr_core.specs.declared.things.Use.{Use}
-use Rattle.go_expr_core.specs.declared.things.Fault.{Fault}
+use Rattle.go_walk_core.specs.local_core.declared.Fault.{Fault}
 use Rattle.go_expr_core.specs.Looks.{Looks, WrittenRules}
 use Rattle.go_expr_core.specs.Laws as expressions
 use Rattle.go_expr_core.specs.Locality.{SameWritten, seeing}

@@ -14,15 +14,13 @@ use Rattle.go_tree_nodes.specs.Trees.{Separated, One, Then, TypeTree, NamedType,
 use Rattle.go_tree_nodes.specs.Samples.{type_at, at, called, name_at}
 use Rattle.go_expr_core.specs.tree_core.declared.occurrence.Role.TheVariants as roles
 use Rattle.go_walk_core.specs.local_core.Steps.{Piece, Header, Spec, Act, Condition, Given}
-use Rattle.go_statement_core.specs.constant_core.declared.values.Constant.{Constant}
 use Rattle.go_statement_core.specs.constant_core.declared.values.Constant.TheVariants as constant
-use Rattle.go_statement_core.specs.operand_core.declared.types.ValueType.{ValueType}
 use Rattle.go_statement_core.specs.operand_core.declared.types.ValueType.TheVariants as value_types
 use Rattle.go_statement_core.specs.operand_core.declared.types.Operand.{Operand}
 use Rattle.go_statement_core.specs.denote_core.declared.things.Builtin.TheVariants as builtins
 use Rattle.go_statement_core.specs.denote_core.declared.things.Found.{Found}
 use Rattle.go_statement_core.specs.denote_core.declared.things.Found.TheVariants as founds
-use Rattle.go_expr_core.specs.declared.things.Fault.{Fault}
+use Rattle.go_walk_core.specs.local_core.declared.Fault.{Fault}
 use Rattle.go_expr_core.specs.Looks.{Looks}
 use Rattle.go_expr_core.specs.Locality.{seeing}
 use Rattle.go_expr_core.specs.Samples as samples

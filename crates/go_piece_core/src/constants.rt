@@ -13,12 +13,13 @@ use crate::given::check_list;
 use crate::starts::{is_lone_call, names_start};
 use crate::types::check_some_type;
 use crate::variables::count_names;
-use go_expr_core::{Exprs, Fault, Notes, note_fault, start};
+use go_expr_core::{Exprs, Notes, note_fault, start};
 use go_statement_core::denote_core::Argument;
 use go_statement_core::operand_core::{Operand, TypeLooks};
 use go_statement_core::{constant_answer, constants_rule};
 use go_text_core::Rule;
 use go_tree_nodes::{Expr, Idents, NextExpr, ValueSpec, Values};
+use go_walk_core::local_core::Fault;
 use std::alloc::{AllocError, Global};
 
 // Where the rule of a constant lies.

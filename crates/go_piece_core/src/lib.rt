@@ -37,7 +37,7 @@ pub mod denote_core {
 
 /// What the crates above name of `go_expr_core`.
 pub mod expr_core {
-    pub use go_expr_core::{Exprs, Fault, Notes, Use, check_expr, check_type, start};
+    pub use go_expr_core::{Exprs, Notes, Use, check_expr, check_type, start};
 }
 
 /// What the crates above name of `go_local_core`.

@@ -2,7 +2,7 @@
 ghost use Rattle.std.specs.Prelude.{◌≡◌, ◌++◌, [], IfOk, OnOk, map};
 ghost use Rattle.go_tree_nodes.specs.Shapes.{shape_exprs};
 ghost use Rattle.go_tree_nodes.specs.TypeShapes.{shape_idents};
-ghost use Rattle.go_open_core.specs.Blocks.{list_name};
+ghost use Rattle.go_expr_core.specs.open_core.Blocks.{list_name};
 ghost use Rattle.go_walk_core.specs.local_core.Outline.{idents};
 ghost use Rattle.go_expr_core.specs.Looks.{everywhere};
 ghost use Rattle.go_piece_core.specs.Values as values;
@@ -12,8 +12,8 @@ ghost use Rattle.go_piece_core.specs.Statements as statements;
 use crate::given::check_list;
 use crate::starts::names_start;
 use crate::types::variables;
+use go_expr_core::open_core::NameList;
 use go_expr_core::{Exprs, Notes, note_fault};
-use go_open_core::NameList;
 use go_statement_core::denote_core::{Stand, name_answer};
 use go_statement_core::operand_core::Operand;
 use go_statement_core::{Target, assignment_rule, short_types, target_of};

@@ -14,7 +14,12 @@ pub mod denote_core {
 
 /// What the crates above name of `go_expr_core`.
 pub mod expr_core {
-    pub use go_expr_core::{Fault, Use};
+    pub use go_expr_core::Use;
+}
+
+/// What the crates above name of `go_local_core`.
+pub mod local_core {
+    pub use go_expr_core::local_core::Fault;
 }
 
 /// What the crates above name of `go_tree_core`.

@@ -4,8 +4,9 @@ ghost use Rattle.std.specs.List.Sorted.{IsSorted, IsPermutation};
 ghost use Rattle.go_report_core.specs.Faults.{fault_order, ComesBefore, IsSaid};
 ghost use Rattle.go_report_core.specs.mirrors.Settling.{said_of, is_among, is_new, IsUnsaid};
 
+use go_expr_core::Use;
 use go_expr_core::denote_core::Outcome;
-use go_expr_core::{Fault, Use};
+use go_expr_core::local_core::Fault;
 use std::alloc::{AllocError, Global};
 use std::cmp::Ordering;
 

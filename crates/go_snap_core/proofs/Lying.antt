@@ -5,7 +5,7 @@ use Rattle.std.specs.Option.{option_map}
 use Rattle.std.proofs.lemmas.List.{length-map}
 use Rattle.std.proofs.lemmas.Option.{slice_get-map, slice_get_within, get_or_from_slice_get}
 use Rattle.go_tree_nodes.specs.Trees.{FileTree}
-use Rattle.go_emit_core.specs.expr_core.declared.things.Fault.{Fault}
+use Rattle.go_make_core.specs.local_core.declared.Fault.{Fault}
 use Rattle.go_make_core.specs.graph_core.declared.assembly.KFault.{KFault}
 use Rattle.go_make_core.specs.graph_core.Assemblies.{as_many}
 use Rattle.go_make_core.specs.graph_core.AssemblyLaws.{has_assembly}

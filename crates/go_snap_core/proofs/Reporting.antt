@@ -22,7 +22,7 @@ use Rattle.go_make_core.specs.graph_core.Packages.{AllHaveTrees, HasNoClause, Is
 use Rattle.go_make_core.specs.graph_core.Sources.{SourceModel, IsContent, IsRead, clause_in}
 use Rattle.go_make_core.specs.graph_core.Workspaces.{PackageModel}
 use Rattle.go_make_core.specs.graph_core.AssemblyLaws.{has_no_other_assembly}
-use Rattle.go_emit_core.specs.expr_core.declared.things.Fault.{Fault}
+use Rattle.go_make_core.specs.local_core.declared.Fault.{Fault}
 use Rattle.go_emit_core.specs.report_core.Faults.{number_order}
 use Rattle.go_emit_core.specs.report_core.Faults as report
 use Rattle.go_make_core.specs.entry_core.Among.{Among, among_cases, among_from, among_left, among_map, among_right, among_to, map_among}

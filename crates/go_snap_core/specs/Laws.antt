@@ -1,7 +1,7 @@
 -- Laws of snapshots.
 use Rattle.std.specs.Prelude.{◌≡◌, ◌≢◌, ◌≤◌, ℕ, List, [], ◌∷◌, length, Option, Some, None, All, AllPairs, Contains, slice_get}
 use Rattle.std.specs.Str.{IsUtf8}
-use Rattle.go_emit_core.specs.expr_core.declared.things.Fault.{Fault}
+use Rattle.go_make_core.specs.local_core.declared.Fault.{Fault}
 use Rattle.go_make_core.specs.graph_core.Workspaces.{PackageModel, IsWorkspace}
 use Rattle.go_make_core.specs.part_core.Parts.{PartModel}
 use Rattle.go_emit_core.specs.report_core.Faults.{IsSaid}

@@ -5,7 +5,7 @@ use Rattle.std.proofs.lemmas.List.{append_assoc, append-nil, take_all}
 use Rattle.go_tree_nodes.specs.declared.exprs.Expr.{Expr}
 use Rattle.go_tree_nodes.specs.declared.exprs.NextExpr.{NextExpr}
 use Rattle.go_tree_nodes.specs.Shapes.{shape, exprs_from}
-use Rattle.go_piece_core.specs.expr_core.declared.things.Fault.{Fault}
+use Rattle.go_piece_core.specs.local_core.declared.Fault.{Fault}
 use Rattle.go_piece_core.specs.expr_core.Looks.{Looks}
 use Rattle.go_top_core.specs.Initial.{expr_initial_faults, list_initial_faults}
 

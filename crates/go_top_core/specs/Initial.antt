@@ -12,7 +12,7 @@ use Rattle.go_tree_nodes.specs.Trees.{Separated, One, Then, ExprTree, ValueSpecT
 use Rattle.go_piece_core.specs.denote_core.declared.things.Stand.TheVariants as stands
 use Rattle.go_piece_core.specs.denote_core.declared.things.Denoted.{Denoted}
 use Rattle.go_piece_core.specs.denote_core.declared.things.Denoted.TheVariants as denotes
-use Rattle.go_piece_core.specs.expr_core.declared.things.Fault.{Fault}
+use Rattle.go_piece_core.specs.local_core.declared.Fault.{Fault}
 use Rattle.go_piece_core.specs.expr_core.Looks.{Looks}
 use Rattle.go_piece_core.specs.expr_core.Places.{start}
 use Rattle.go_piece_core.specs.expr_core.Denoting.{denoted}

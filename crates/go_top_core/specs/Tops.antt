@@ -2,12 +2,11 @@
 --
 -- docs/RULES.md, "Declarations outside functions". The Go specification, "Constant declarations", "Variable declarations", "Type
 -- declarations".
-use Rattle.std.specs.Prelude.{List, ◌++◌, map}
+use Rattle.std.specs.Prelude.{List, ◌++◌}
 use Rattle.go_tree_nodes.specs.declared.decls.ValueKind.{ValueKind}
 use Rattle.go_tree_nodes.specs.Trees.{ValueSpecTree, ValueTree, TypeSpecTree, TypeDeclTree, of_specs}
-use Rattle.go_piece_core.specs.local_core.declared.Fault as local
 use Rattle.go_piece_core.specs.expr_core.declared.things.Use.{Use}
-use Rattle.go_piece_core.specs.expr_core.declared.things.Fault.{Fault}
+use Rattle.go_piece_core.specs.local_core.declared.Fault.{Fault}
 use Rattle.go_piece_core.specs.expr_core.Looks.{Looks}
 use Rattle.go_piece_core.specs.expr_core.TypeUses.{type_uses}
 use Rattle.go_piece_core.specs.Specifications.{spec_uses, spec_faults}
@@ -28,11 +27,8 @@ value_decl_faults looks d = of_specs (top_spec_faults looks d.kind) d.specs
 
 -- types: what is amiss in their fields and methods is said for the package as a whole; here the parameters of interface methods
 
-abbrev pub repeated_fault_of : local.Fault → Fault
-repeated_fault_of f = record { offset = f.offset; rule = f.rule }
-
 abbrev pub type_spec_faults : TypeSpecTree → List Fault
-type_spec_faults t = map repeated_fault_of (repeated_params t.type_expr)
+type_spec_faults t = repeated_params t.type_expr
 
 abbrev pub type_spec_uses : {T S D P : Type 0} → Looks T S D P → TypeSpecTree → List (Use D P)
 type_spec_uses looks t = type_uses looks t.type_expr

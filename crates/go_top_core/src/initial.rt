@@ -6,7 +6,8 @@ ghost use Rattle.go_piece_core.specs.expr_core.Faults as expr_faults;
 ghost use Rattle.go_top_core.specs.Initial as initials;
 
 use go_piece_core::denote_core::{Denoted, Stand};
-use go_piece_core::expr_core::{Exprs, Fault, Notes, check_expr, start};
+use go_piece_core::expr_core::{Exprs, Notes, check_expr, start};
+use go_piece_core::local_core::Fault;
 use go_text_core::Rule;
 use go_tree_nodes::{Expr, ValueKind, ValueSpec, Values};
 use std::alloc::{AllocError, Global};

@@ -22,12 +22,17 @@ pub mod embed_core {
 
 /// What the crates above name of `go_expr_core`.
 pub mod expr_core {
-    pub use go_piece_core::expr_core::{Exprs, Fault, Notes, Use};
+    pub use go_piece_core::expr_core::{Exprs, Notes, Use};
 }
 
 /// What the crates above name of `go_inline_core`.
 pub mod inline_core {
     pub use go_inline_core::InlineTypes;
+}
+
+/// What the crates above name of `go_local_core`.
+pub mod local_core {
+    pub use go_piece_core::local_core::Fault;
 }
 
 /// What the crates above name of `go_reach_core`.

@@ -6,24 +6,9 @@ ghost use Rattle.go_piece_core.specs.expr_core.Looks.{everywhere};
 ghost use Rattle.go_top_core.specs.Tops as tops;
 
 use go_inline_core::repeated_params;
-use go_piece_core::expr_core::{Exprs, Fault, Notes, check_type};
+use go_piece_core::expr_core::{Exprs, Notes, check_type};
 use go_tree_nodes::{TypeDecl, TypeLine, TypeSpec, TypeSpecs};
 use std::alloc::{AllocError, Global};
-
-// Adds faults to others.
-fn add_faults(
-    faults: &mut Vec<Fault>,
-    found: &[go_piece_core::local_core::Fault],
-) -> Result<(), AllocError>
-    ensures { OnOk result (faults.new.items ≡ faults.old.items ++ map tops.repeated_fault_of found.now) }
-{
-    for fault in found {
-        let offset = fault.offset;
-        let rule = fault.rule;
-        faults.push(Fault { offset, rule })?;
-    }
-    Ok(())
-}
 
 // Notes what a specification has and breaks.
 fn check_type_spec<E: Exprs>(
@@ -37,7 +22,8 @@ fn check_type_spec<E: Exprs>(
 {
     check_type(env, alloc, &spec.type_expr, &mut notes.uses)?;
     let repeated = repeated_params(alloc, &spec.type_expr)?;
-    add_faults(&mut notes.faults, &repeated)
+    notes.faults.extend_from_slice(&repeated)?;
+    Ok(())
 }
 
 // Notes what the specifications of a group have and break.

@@ -5,7 +5,7 @@ use Rattle.go_text_core.specs.declared.rule.Rule.{Rule}
 use Rattle.go_term_core.proofs.Members.{In, contained_in, in_back, in_contained, in_either, in_front}
 use Rattle.go_answer_core.specs.report_core.Faults.{ComesBefore, IsSaid, IsSettled}
 use Rattle.go_answer_core.specs.report_core.Laws.{SettledFaultsAreOne}
-use Rattle.go_answer_core.specs.expr_core.declared.things.Fault.{Fault}
+use Rattle.go_answer_core.specs.local_core.declared.Fault.{Fault}
 use Rattle.go_answer_core.specs.denote_core.declared.things.Outcome.TheVariants as outcomes
 use Rattle.go_answer_core.specs.handle_core.Declarations.{Declaration}
 use Rattle.go_used_core.specs.Laws.{ReportsAreOne}

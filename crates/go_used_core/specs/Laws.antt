@@ -11,7 +11,7 @@ use Rattle.go_answer_core.specs.block_core.declared.binding.Target.TheVariants a
 use Rattle.go_answer_core.specs.block_core.Blocks.{BlocksModel, file_binding}
 use Rattle.go_answer_core.specs.handle_core.Declarations.{Package, InFile}
 use Rattle.go_answer_core.specs.denote_core.declared.things.Outcome.TheVariants as outcomes
-use Rattle.go_answer_core.specs.expr_core.declared.things.Fault.{Fault}
+use Rattle.go_answer_core.specs.local_core.declared.Fault.{Fault}
 use Rattle.go_answer_core.specs.report_core.Faults.{IsSaid}
 use Rattle.go_answer_core.specs.face_core.Written.{same_decl_place}
 use Rattle.go_used_core.specs.Reported.{IsReported}

@@ -8,5 +8,6 @@ pub mod denote_core
 pub mod expr_core
 pub mod face_core
 pub mod handle_core
+pub mod local_core
 pub mod report_core
 pub mod tree_core

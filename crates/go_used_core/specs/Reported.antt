@@ -2,7 +2,7 @@
 --
 -- docs/RULES.md, "Reported faults".
 use Rattle.std.specs.Prelude.{◌↔◌, ◌⊎◌, List, AllPairs, Contains}
-use Rattle.go_answer_core.specs.expr_core.declared.things.Fault.{Fault}
+use Rattle.go_answer_core.specs.local_core.declared.Fault.{Fault}
 use Rattle.go_answer_core.specs.report_core.Faults.{ComesBefore, IsSaid}
 use Rattle.go_used_core.specs.Used.{FileUse}
 

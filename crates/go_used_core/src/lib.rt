@@ -30,11 +30,6 @@ pub mod denote_core {
     pub use go_answer_core::denote_core::Outcome;
 }
 
-/// What the crates above name of `go_expr_core`.
-pub mod expr_core {
-    pub use go_answer_core::expr_core::Fault;
-}
-
 /// What the crates above name of `go_face_core`.
 pub mod face_core {
     pub use go_answer_core::face_core::{Face, FaceTable, lend};
@@ -43,6 +38,11 @@ pub mod face_core {
 /// What the crates above name of `go_handle_core`.
 pub mod handle_core {
     pub use go_answer_core::handle_core::{Decl, DeclSite, SignatureRef, TypeRef};
+}
+
+/// What the crates above name of `go_local_core`.
+pub mod local_core {
+    pub use go_answer_core::local_core::Fault;
 }
 
 /// What the crates above name of `go_report_core`.

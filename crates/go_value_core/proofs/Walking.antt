@@ -28,16 +28,16 @@ use Rattle.go_tree_nodes.specs.Shapes.{shape, items_of}
 use Rattle.go_tree_nodes.proofs.TypeShapes.{shape_struct, shape_interface, listed_parts, signature_parts}
 use Rattle.go_tree_nodes.proofs.ShapeLemmas.{call_parts, literal_parts, struct_literal_parts}
 use Rattle.go_piece_core.specs.expr_core.Needed.{needed_idents, needed_by_args}
-use Rattle.go_value_core.specs.mirrors.Walked.{line_idents}
 use Rattle.go_tree_nodes.specs.Idents.{type_name_idents, type_idents, fields_idents, methods_idents, signature_type_idents, result_type_idents, params_idents}
+use Rattle.go_tree_nodes.specs.Idents.{field_idents}
 
 -- types
 
-before : (f : Fields) (tag : Option TextLiteral) (s : Option Span) (rest : FieldTrees) → fields_idents (fields_before f tag s rest) ≡ line_idents f ++ fields_idents rest
+before : (f : Fields) (tag : Option TextLiteral) (s : Option Span) (rest : FieldTrees) → fields_idents (fields_before f tag s rest) ≡ field_idents f ++ fields_idents rest
 before (fields.Named xs t) tag s rest = refl
 before (fields.Embedded star n) tag s rest = refl
 
-pub lines_more : (l : FieldLine) (ls : List FieldLine) → fields_idents (fields_of (l ∷ ls)) ≡ line_idents l.fields ++ fields_idents (fields_of ls)
+pub lines_more : (l : FieldLine) (ls : List FieldLine) → fields_idents (fields_of (l ∷ ls)) ≡ field_idents l.fields ++ fields_idents (fields_of ls)
 lines_more l ls = before l.fields l.tag l.semicolon (fields_of ls)
 
 abbrev method_idents : MethodLine → List Ident

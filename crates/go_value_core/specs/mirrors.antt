@@ -2,4 +2,3 @@
 pub mod Flags
 pub mod Kept
 pub mod Own
-pub mod Walked

@@ -1,8 +1,8 @@
 //! The identifiers that are looked up in a type that is written out.
 ghost use Rattle.std.specs.Prelude.{◌≡◌, ◌++◌, [], ◌∷◌, map, OnOk};
 ghost use Rattle.go_tree_nodes.specs.TypeShapes.{shape_type, shape_signature, shape_results, fields_of, methods_of, params_of};
-ghost use Rattle.go_value_core.specs.mirrors.Walked.{line_idents};
 ghost use Rattle.go_tree_nodes.specs.Idents.{type_name_idents, type_idents, fields_idents, methods_idents, signature_type_idents, result_type_idents, params_idents};
+ghost use Rattle.go_tree_nodes.specs.Idents.{field_idents};
 
 use go_tree_nodes::{
     FieldLine, Fields, Ident, MethodLine, Param, Results, Signature, TypeExpr, TypeName,
@@ -45,7 +45,7 @@ pub(crate) fn add_type<'a>(tree: &'a TypeExpr, found: &mut Vec<&'a Ident>) -> Re
 // Those of the fields of one line.
 #[cycle(types)]
 fn add_fields<'a>(fields: &'a Fields, found: &mut Vec<&'a Ident>) -> Result<(), AllocError>
-    ensures { OnOk result (map (λ x. x.now) found.new.items ≡ map (λ x. x.now) found.old.items ++ line_idents fields.now) }
+    ensures { OnOk result (map (λ x. x.now) found.new.items ≡ map (λ x. x.now) found.old.items ++ field_idents fields.now) }
 {
     match fields {
         Fields::Named(_, tree) => add_type(tree, found),

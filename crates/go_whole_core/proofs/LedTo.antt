@@ -17,7 +17,7 @@ use Rattle.go_near_core.specs.entry_core.Outlines.{FileOutline, outline_of}
 use Rattle.go_near_core.specs.entry_core.Among.{Among}
 use Rattle.go_part_core.specs.fault_core.TypeFaults.{faults_of_types}
 use Rattle.go_near_core.specs.handle_core.Declarations.{Declaration}
-use Rattle.go_near_core.specs.expr_core.declared.things.Fault.{Fault}
+use Rattle.go_near_core.specs.local_core.declared.Fault.{Fault}
 use Rattle.go_part_core.specs.report_core.Faults.{IsSettled}
 use Rattle.go_near_core.specs.face_core.Faces.{TheFace}
 use Rattle.go_near_core.specs.face_core.Packages.{PackageFacesModel, face_among, face_by, face_in}
@@ -33,13 +33,14 @@ use Rattle.go_part_core.specs.ready_core.Types.{AreTypes}
 use Rattle.go_part_core.specs.ready_core.Values.{AreDeclared, AreLooped}
 use Rattle.go_part_core.specs.package_core.Checked.{AnswersOf, CheckedOf, IsFileChecked, decls_before, imports_at}
 use Rattle.go_part_core.specs.package_core.Meanings.{one_check}
-use Rattle.go_whole_core.specs.Known.{Known, package_with, CheckGives, KnownAlike, BindsInside, MentionsInside, GivesInside}
+use Rattle.go_whole_core.specs.Known.{package_with, CheckGives, KnownAlike, BindsInside, MentionsInside, GivesInside}
 use Rattle.go_whole_core.proofs.Names.{AllInside, meaning_inside, meaning_same, meanings_same}
 use Rattle.go_whole_core.proofs.Types.{near_of, IsEntryInside, agree, built_over, entries_inside, own_inside, written_inside}
 use Rattle.go_whole_core.proofs.Faults.{faults_same}
 use Rattle.go_whole_core.proofs.Seeing.{IsFaceInside, IsAnyInside, exported_same, outside_near, outside_same, shown_near}
 use Rattle.go_whole_core.proofs.Values.{AreKnownInside, declared_over, known_inside, looped_over, written_at_inside}
 use Rattle.go_tree_nodes.specs.Spelling.{IsPlaced}
+use Rattle.go_part_core.specs.Parts.{SeenOf}
 
 -- lists
 
@@ -67,7 +68,7 @@ module _ (Is : TheFace → Type 0) where
       by true (Some g) k rest same = one (same_decl_place x d) g (k g refl) rest same
       by false (Some g) k rest same = rest same
 
-module _ (Inside : List ℕ → Type 0) (p : PackageIn) (one other : Known) (c : CheckedOf) (placed : All IsPlaced p.trees) (own : Inside p.path) (binds : BindsInside Inside p.blocks)
+module _ (Inside : List ℕ → Type 0) (p : PackageIn) (one other : SeenOf) (c : CheckedOf) (placed : All IsPlaced p.trees) (own : Inside p.path) (binds : BindsInside Inside p.blocks)
     (mentions : MentionsInside Inside (λ from to. Inside to) one) (alike : KnownAlike Inside one other) (given : CheckGives p one c) where
   abbrev here : PackageIn
   here = package_with p one
@@ -231,12 +232,12 @@ module _ (Inside : List ℕ → Type 0) (p : PackageIn) (one other : Known) (c :
   gives_inside = record { types = λ e j at m. types_inside e at j m; faces = λ d f j e m. faces_inside d f e j m }
 
 -- the same is known of what is known
-pub alike_itself : (Inside : List ℕ → Type 0) (k : Known) → KnownAlike Inside k k
+pub alike_itself : (Inside : List ℕ → Type 0) (k : SeenOf) → KnownAlike Inside k k
 alike_itself Inside k = record { types = λ key h. refl; shows = λ path name h. refl; faces = λ path name h. refl; declared = λ path d h. refl }
 
 -- two answers
 
-pub one_given : (Inside : List ℕ → Type 0) (p : PackageIn) (one other : Known) (c d : CheckedOf) → All IsPlaced p.trees → Inside p.path → BindsInside Inside p.blocks
+pub one_given : (Inside : List ℕ → Type 0) (p : PackageIn) (one other : SeenOf) (c d : CheckedOf) → All IsPlaced p.trees → Inside p.path → BindsInside Inside p.blocks
     → MentionsInside Inside (λ from to. Inside to) one → KnownAlike Inside one other → CheckGives p one c → CheckGives p other d → c ≡ d
 one_given Inside p one other c d placed own binds mentions alike given found =
     one_check (package_with p other) other.types c d placed (given_over Inside p one other c placed own binds mentions alike given) found

@@ -4,10 +4,11 @@ use Rattle.std.specs.Prelude.{Contains}
 use Rattle.go_near_core.specs.block_core.declared.binding.Target.{Target}
 use Rattle.go_near_core.specs.block_core.declared.binding.Target.TheVariants as targets
 use Rattle.go_part_core.specs.ready_core.Packages.{PackageIn}
-use Rattle.go_whole_core.specs.Known.{Known, BindsInside, IsTargetIn, MentionsInside}
+use Rattle.go_whole_core.specs.Known.{BindsInside, IsTargetIn, MentionsInside}
 use Rattle.go_whole_core.specs.Reached.{LeadsBy, ReachesPath}
 use Rattle.go_whole_core.specs.LocalLaws.{CheckIsLocal, OnlyReachedPackagesCount, StandsWithin}
 use Rattle.go_whole_core.proofs.LedTo.{alike_itself, given_over, gives_inside, one_given}
+use Rattle.go_part_core.specs.Parts.{SeenOf}
 
 pub check_local : CheckIsLocal
 check_local = record {
@@ -37,7 +38,7 @@ module _ (imports : List (List ℕ × List ℕ)) where
   target_reached a (targets.Refused rule) h = h
   target_reached a (targets.Exported k) h = reaches_next a k.path h
 
-  module _ (p : PackageIn) (k : Known) (within : StandsWithin imports p k) where
+  module _ (p : PackageIn) (k : SeenOf) (within : StandsWithin imports p k) where
     pub binds : BindsInside (ReachesPath imports p.path) p.blocks
     binds = λ file name b is. target_reached p.path b.target (within.binds file name b is)
 

@@ -17,12 +17,13 @@ use Rattle.go_part_core.specs.summary_core.Telling.{nothing_else, views_tell}
 use Rattle.go_part_core.specs.ready_core.Packages.{PackageIn}
 use Rattle.go_near_core.specs.block_core.declared.binding.Target.{Target}
 use Rattle.go_near_core.specs.block_core.declared.binding.Target.TheVariants as targets
-use Rattle.go_whole_core.specs.Known.{Known, IsImportedPath, IsTargetIn, KnownAlike, MentionsInside, face_keys}
+use Rattle.go_whole_core.specs.Known.{IsImportedPath, IsTargetIn, KnownAlike, MentionsInside, face_keys}
 use Rattle.go_whole_core.specs.LocalLaws.{ImportsBindTheirs, StandsAmong}
 use Rattle.go_tree_nodes.specs.Spelling.{IsPlaced}
+use Rattle.go_part_core.specs.Parts.{SeenOf}
 
 -- what summaries tell, as what is known of other packages
-abbrev pub known_by : List SummaryModel → Known
+abbrev pub known_by : List SummaryModel → SeenOf
 known_by ss = record { types = types_told ss; shows = shown_in (exports_told ss); faces = faces_told ss }
 
 -- summaries of different packages, all of each of one package

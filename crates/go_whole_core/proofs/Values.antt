@@ -54,13 +54,14 @@ use Rattle.go_part_core.specs.ready_core.Packages.{PackageIn, scene_in, stand_in
 use Rattle.go_part_core.specs.ready_core.Values.{AreDeclared, AreLooped, declared_in, decls_in, needs_in, some_decl_face}
 use Rattle.go_near_core.specs.face_core.Places.{among_at}
 use Rattle.go_part_core.specs.ready_core.ValuesProofs.{needs_same, faces_same}
-use Rattle.go_whole_core.specs.Known.{Known, package_with, type_keys, value_type_keys}
+use Rattle.go_whole_core.specs.Known.{package_with, type_keys, value_type_keys}
 use Rattle.go_whole_core.proofs.Names.{AllInside, none_inside, one_inside}
 use Rattle.go_whole_core.proofs.Types.{near_of}
 use Rattle.go_whole_core.proofs.Seeing.{IsFaceInside, IsAnyInside}
 use Rattle.go_tree_nodes.specs.Spelling.{IsPlaced}
 use Rattle.go_near_core.specs.table_core.Entries.{kinds_in}
 use Rattle.go_near_core.specs.statement_core.Locality.{Each}
+use Rattle.go_part_core.specs.Parts.{SeenOf}
 
 -- numbers of a list
 
@@ -160,7 +161,7 @@ module _ (Inside : List ℕ → Type 0) where
 
   -- a package, where this is known of others, and where that is
 
-  module _ (p : PackageIn) (one other : Known) (es fs : List Entry) (placed : All IsPlaced p.trees)
+  module _ (p : PackageIn) (one other : SeenOf) (es fs : List Entry) (placed : All IsPlaced p.trees)
       (written_same : (scene_in (package_with p one) es).written ≡ (scene_in (package_with p other) fs).written)
       (written_in : (n : ℕ) → IsAnyInside Inside (written_at (scene_in (package_with p one) es).written n))
       (stands : (known : List (Option TheFace)) → AreKnownInside known → (n : ℕ) (o : FileOutline)

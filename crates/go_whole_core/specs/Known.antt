@@ -16,29 +16,23 @@ use Rattle.go_near_core.specs.operand_core.declared.types.ValueType.TheVariants 
 use Rattle.go_near_core.specs.operand_core.declared.types.Operand.{Operand}
 use Rattle.go_term_core.specs.Terms.{Term, term_keys, sign_keys}
 use Rattle.go_near_core.specs.table_core.Entries.{Entry, find_entry, entry_keys}
-use Rattle.go_near_core.specs.entry_core.Meanings.{Shows}
 use Rattle.go_near_core.specs.face_core.declared.face.Face.TheVariants as faces
 use Rattle.go_near_core.specs.face_core.Faces.{TheFace}
-use Rattle.go_near_core.specs.face_core.Packages.{PackageFacesModel, exported_in, face_by, face_in}
+use Rattle.go_near_core.specs.face_core.Packages.{exported_in, face_by, face_in}
 use Rattle.go_part_core.specs.ready_core.Packages.{PackageIn}
 use Rattle.go_part_core.specs.package_core.Checked.{CheckedOf, IsChecked}
-
--- what is known of other packages: their types, the names that they show, and what these are
-pub record Known : Type 0 where
-  pub types : List Entry
-  pub shows : Shows
-  pub faces : List PackageFacesModel
+use Rattle.go_part_core.specs.Parts.{SeenOf}
 
 -- a package, where this is known of others
-abbrev pub package_with : PackageIn → Known → PackageIn
+abbrev pub package_with : PackageIn → SeenOf → PackageIn
 package_with p k = record { path = p.path; trees = p.trees; blocks = p.blocks; imports = p.imports; shows = k.shows; others = k.faces }
 
 -- where this is known of others, the check of a package gives this
-abbrev pub CheckGives : PackageIn → Known → CheckedOf → Type 0
+abbrev pub CheckGives : PackageIn → SeenOf → CheckedOf → Type 0
 CheckGives p k c = IsChecked (package_with p k) k.types c
 
 -- the same is known of some packages, by their paths: each type by its key, which declaration a name shows, and what a name and a declaration are
-pub record KnownAlike (Inside : List ℕ → Type 0) (one other : Known) : Type 0 where
+pub record KnownAlike (Inside : List ℕ → Type 0) (one other : SeenOf) : Type 0 where
   pub types : (k : DeclKey) → Inside k.path → find_entry one.types k ≡ find_entry other.types k
   pub shows : (path name : List ℕ) → Inside path → one.shows path name ≡ other.shows path name
   pub faces : (path name : List ℕ) → Inside path → exported_in one.faces path name ≡ exported_in other.faces path name
@@ -79,7 +73,7 @@ abbrev pub BindsInside : (List ℕ → Type 0) → BlocksModel → Type 0
 BindsInside Inside b = (file : ℕ) (name : List ℕ) (x : Binding) → file_binding b file name ≡ Some x → IsTargetIn Inside x.target
 
 -- the types and the faces that are known of some packages mention types of packages that may be led to from there
-pub record MentionsInside (Inside : List ℕ → Type 0) (May : List ℕ → List ℕ → Type 0) (k : Known) : Type 0 where
+pub record MentionsInside (Inside : List ℕ → Type 0) (May : List ℕ → List ℕ → Type 0) (k : SeenOf) : Type 0 where
   pub types : (key : DeclKey) (e : Entry) (j : DeclKey) → Inside key.path → find_entry k.types key ≡ Some e → Contains (entry_keys e) j → May key.path j.path
   pub faces : (path : List ℕ) (d : DeclRef) (f : TheFace) (j : DeclKey) → Inside path → face_in k.faces path d ≡ Some f → Contains (face_keys f) j → May path j.path
 

@@ -44,6 +44,11 @@ pub mod graph_core {
     };
 }
 
+/// What the crates above name of `go_local_core`.
+pub mod local_core {
+    pub use go_near_core::local_core::Fault;
+}
+
 /// What the crates above name of `go_part_core`.
 pub mod part_core {
     pub use go_part_core::{

@@ -19,7 +19,7 @@ use Rattle.go_part_core.specs.block_core.Blocks.{BlocksModel}
 use Rattle.go_part_core.specs.block_core.Laws.{OneBlocksAlone}
 use Rattle.go_part_core.specs.block_core.Naming.{file_specs, import_at, package_named}
 use Rattle.govisd_lines.specs.handle_core.Declarations.{Declaration}
-use Rattle.govisd_lines.specs.expr_core.declared.things.Fault.{Fault}
+use Rattle.govisd_lines.specs.local_core.declared.Fault.{Fault}
 use Rattle.go_part_core.specs.report_core.Faults.{IsSaid}
 use Rattle.go_part_core.specs.report_core.Laws.{SettledFaultsAreOne}
 use Rattle.go_part_core.specs.body_core.Notes.{TheLocal, TheUse}

@@ -13,7 +13,7 @@ use go_part_core::Part;
 use go_part_core::graph_core::{SourceFile, Workspace, assemble};
 use go_text_core::Rule;
 use go_tree_nodes::File;
-use govisd_lines::expr_core::Fault;
+use govisd_lines::local_core::Fault;
 use govisd_lines::{fault_line, file_lines};
 use std::alloc::{AllocError, Global};
 use std::io::{Read, Write};

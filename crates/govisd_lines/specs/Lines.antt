@@ -17,7 +17,7 @@ use Rattle.go_answer_core.specs.handle_core.Declarations.{Declaration, Universe,
 use Rattle.go_answer_core.specs.denote_core.declared.things.Outcome.{Outcome}
 use Rattle.go_answer_core.specs.denote_core.declared.things.Outcome.TheVariants as outcomes
 use Rattle.go_answer_core.specs.expr_core.declared.things.Use.{Use}
-use Rattle.go_answer_core.specs.expr_core.declared.things.Fault.{Fault}
+use Rattle.go_answer_core.specs.local_core.declared.Fault.{Fault}
 
 -- an identifier of a file of the package of a path, by its offset
 abbrev pub place_text : List ℕ → List ℕ → ℕ → List ℕ

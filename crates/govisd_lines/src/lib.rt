@@ -7,7 +7,7 @@ mod places;
 
 pub use lines::{fault_line, file_lines};
 
-/// What the crates above name of `go_expr_core`.
-pub mod expr_core {
-    pub use go_answer_core::expr_core::Fault;
+/// What the crates above name of `go_local_core`.
+pub mod local_core {
+    pub use go_answer_core::local_core::Fault;
 }

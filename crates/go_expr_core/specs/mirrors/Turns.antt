@@ -9,7 +9,7 @@ use Rattle.go_literal_core.specs.Literals.{element_target}
 use Rattle.go_literal_core.specs.declared.things.KeyMark.{KeyMark}
 use Rattle.go_literal_core.specs.Marks.{marked_answer}
 use Rattle.go_expr_core.specs.declared.things.Use.{Use}
-use Rattle.go_expr_core.specs.declared.things.Fault.{Fault}
+use Rattle.go_local_core.specs.declared.Fault.{Fault}
 use Rattle.go_expr_core.specs.Looks.{Looks, literals_at}
 use Rattle.go_expr_core.specs.Places.{start, item_start}
 use Rattle.go_expr_core.specs.Denoting.{denoted}

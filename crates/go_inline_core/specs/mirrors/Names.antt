@@ -1,20 +1,15 @@
 -- Names of a signature, and which of them were seen.
-use Rattle.std.specs.Prelude.{◌≡◌, ℕ, List, [], map}
+use Rattle.std.specs.Prelude.{List, [], map}
 use Rattle.std.specs.Borrow.{Bor}
 use Rattle.go_tree_nodes.specs.declared.names.Ident.{Ident}
 use Rattle.go_tree_nodes.specs.declared.types.Fields.{Fields}
 use Rattle.go_tree_nodes.specs.declared.types.Fields.TheVariants as fields
 use Rattle.go_tree_nodes.specs.TypeShapes.{shape_type}
-use Rattle.go_embed_core.specs.settle_core.Settled.{is_among_names}
 use Rattle.go_names_core.specs.local_core.declared.Fault.{Fault}
 use Rattle.go_inline_core.specs.Inline.{repeated_params}
 
 abbrev pub names_of : List (Bor Ident) → List Ident
 names_of xs = map (λ x. x.now) xs
-
--- two lists have the same names
-abbrev pub SameNames : List (List ℕ) → List (List ℕ) → Type 0
-SameNames seen other = (n : List ℕ) → is_among_names seen n ≡ is_among_names other n
 
 -- the fields of one line
 abbrev pub field_repeated : Fields → List Fault

@@ -7,7 +7,7 @@ use Rattle.go_make_core.specs.graph_core.declared.assembly.KFault.{KFault}
 use Rattle.go_make_core.specs.graph_core.Packages.{IsAssembly}
 use Rattle.go_make_core.specs.graph_core.Sources.{SourceModel}
 use Rattle.go_make_core.specs.graph_core.Workspaces.{PackageModel}
-use Rattle.go_emit_core.specs.expr_core.declared.things.Fault.{Fault}
+use Rattle.go_make_core.specs.local_core.declared.Fault.{Fault}
 use Rattle.go_make_core.specs.part_core.Parts.{ContentOf, FileOf}
 use Rattle.go_snap_core.specs.declared.fault.PlacedFault.{PlacedFault}
 use Rattle.go_snap_core.specs.Faults.{IsPlacedBefore, IsWorkspaceFault}

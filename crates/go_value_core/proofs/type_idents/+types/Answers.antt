@@ -7,10 +7,10 @@ use Rattle.go_tree_nodes.specs.declared.types.«Param» as declared_param
 use Rattle.go_tree_nodes.specs.declared.types.Params.{out-Params}
 use Rattle.go_tree_nodes.proofs.TypeShapes.{shape_struct, shape_interface}
 use Rattle.go_piece_core.specs.expr_core.Steps.{ok_adds, ok_both}
-use Rattle.go_value_core.specs.mirrors.Walked.{line_idents}
 use Rattle.go_value_core.proofs.Walking.{lines_more, methods_more, params_more, signature_has, listed_has}
 use Rattle.go_value_core.proofs.type_idents.+types.Goals as goal
 use Rattle.go_tree_nodes.specs.Idents.{type_idents, fields_idents, methods_idents, signature_type_idents, params_idents, result_type_idents}
+use Rattle.go_tree_nodes.specs.Idents.{field_idents}
 
 pub add_results-returns-in-Listed : goal.add_results-returns-in-Listed
 add_results-returns-in-Listed t c = ok_adds c.add_params.result _ _ _ _ (sym (listed_has c.args.results.now c.in-Listed.params c.in-Listed.is)) c.add_params.ensures
