@@ -10,6 +10,8 @@ import re
 import sys
 from collections import defaultdict
 
+from twice import texts
+
 TOKEN = re.compile(r"""\"[^\"]*\"|«\w+»|[A-Za-z_◌][\w'\-◌]*(?:\.[\w«»][\w'\-«»]*)*|[^\s\w]|\d+""")
 USE = re.compile(r"(?m)^(?:pub )?use (Rattle\.[^\s{}]*?)(?:\.\{([^}]*)\})?(?: as (\S+?))?$")
 HEAD = re.compile(r"(\s*)((?:abbrev |pub |unfoldable |pattern )*)(record |data )?([A-Za-z_][\w'\-]*)((?: *[({][^=]*?[)}])*)\s*:(?![=:])\s")
@@ -22,14 +24,8 @@ SHORTEST = 40
 def modules(root):
     """The modules of definitions: of each its crate, its name and its text without comments."""
     for crate in sorted(os.listdir(os.path.join(root, "crates"))):
-        top = os.path.join(root, "crates", crate, "specs")
-        for at, _, names in os.walk(top):
-            for name in sorted(names):
-                if name.endswith(".antt"):
-                    path = os.path.join(at, name)
-                    with open(path, encoding="utf-8") as file:
-                        text = re.sub(r"--[^\n]*", "", file.read())
-                    yield crate, os.path.relpath(path, top)[: -len(".antt")].replace(os.sep, "."), text
+        for path, text in texts(root, crate, "specs"):
+            yield crate, path[: -len(".antt")].replace(os.sep, "."), re.sub(r"--[^\n]*", "", text)
 
 
 def home(path, aliases):

@@ -37,17 +37,23 @@ def statements(text):
             yield found[1], " ".join(" ".join([found[2], *more]).split())
 
 
+def texts(root, crate, part):
+    """The files of definitions or lemmas in a part of a crate, specs or proofs: of each its path below the part, and its text."""
+    top = os.path.join(root, "crates", crate, part)
+    for at, _, names in os.walk(top):
+        for name in sorted(names):
+            if name.endswith(".antt"):
+                path = os.path.join(at, name)
+                with open(path, encoding="utf-8") as file:
+                    yield os.path.relpath(path, top), file.read()
+
+
 def main(root):
     below, found = listed(root), defaultdict(list)
     for crate in below:
-        top = os.path.join(root, "crates", crate, "proofs")
-        for at, _, names in os.walk(top):
-            for name in sorted(names):
-                if name.endswith(".antt"):
-                    path = os.path.join(at, name)
-                    with open(path, encoding="utf-8") as file:
-                        for lemma, said in statements(file.read()):
-                            found[said].append((crate, os.path.relpath(path, top), lemma))
+        for path, text in texts(root, crate, "proofs"):
+            for lemma, said in statements(text):
+                found[said].append((crate, path, lemma))
     twice = {said: places for said, places in found.items() if len(said) > SHORTEST and len({place[0] for place in places}) > 1}
     for said, places in twice.items():
         print(said)
