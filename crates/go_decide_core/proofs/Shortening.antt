@@ -1,60 +1,19 @@
 -- A path can be cut until it comes to no type of the table twice, whatever types are embedded.
-use Rattle.std.proofs.Common.{◌≡◌, ℕ, zero, suc, ◌+◌, ◌*◌, ◌<◌, ◌≤◌, Bool, true, false, not, ◌&&◌, ◌||◌, List, [], ◌∷◌, ◌++◌, length, max, Option, Some, None, refl, ap, subst, arith, ◌⊎◌, inl, inr, if◌then◌else◌}
+use Rattle.std.proofs.Common.{◌≡◌, ℕ, zero, suc, ◌+◌, ◌*◌, ◌<◌, ◌≤◌, Bool, false, ◌||◌, List, [], ◌∷◌, ◌++◌, length, Option, Some, None, refl, ap, subst, arith, ◌⊎◌, inl, inr}
 use Rattle.std.specs.Prelude.{nat_eq}
 use Rattle.std.specs.Map.{lookup}
-use Rattle.go_term_core.specs.decl_core.declared.keys.DeclKey.{DeclKey}
-use Rattle.go_term_core.specs.Terms.{Term, NoType, Predeclared, ErrorType, Defined, PointerTo, StructOf, InterfaceOf, Fields, NoField, AField}
+use Rattle.go_term_core.specs.Terms.{Term, NoType, Predeclared, ErrorType, Defined, PointerTo, StructOf, InterfaceOf}
 use Rattle.go_term_core.proofs.Members.{In}
-use Rattle.go_mset_core.specs.table_core.Entries.{Entry, find_entry, same_key, term_in, underlying_in, has_method}
-use Rattle.go_mset_core.specs.embed_core.Owners.{OwnerModel, EmbeddedEdge, embedded_edge, off, owner_in, embedded_edges, term_embedded, embedded_in}
+use Rattle.go_mset_core.specs.table_core.Entries.{Entry, find_entry, term_in, underlying_in}
+use Rattle.go_mset_core.specs.embed_core.Owners.{EmbeddedEdge, owner_in, term_embedded, embedded_in}
 use Rattle.go_mset_core.specs.level_core.Paths.{Step, FieldsLead}
 use Rattle.go_mset_core.specs.level_core.mirrors.Ways.{IsNumbered}
 use Rattle.go_mset_core.specs.level_core.mirrors.Levels.{left}
 use Rattle.go_mset_core.specs.level_core.Edges.{step_edge}
-use Rattle.go_mset_core.specs.level_core.Weights.{left_falls}
+use Rattle.go_mset_core.specs.level_core.Weights.{find_deep, left_falls, term_deep}
 use Rattle.go_mset_core.specs.select_core.Short.{Avoids, avoids_none, last_visit, left_none, marked, numbered, starts}
 use Rattle.go_decide_core.specs.Selecting.{last_depth}
-use Rattle.go_mset_core.specs.table_core.Nesting.{nesting, fields_nesting, deepest}
-
--- how deep the types are that a type embeds
-
-deep_step : (b : Bool) (x e : Entry) (n : ℕ) (rest : Option Entry) → (rest ≡ Some e → nesting e.term ≤ n) → (if b then Some x else rest) ≡ Some e → nesting e.term ≤ max (nesting x.term) n
-deep_step true x e n rest more h = let s : x ≡ e = (cc) in let d : nesting x.term ≡ nesting e.term = ap (λ (y : Entry). nesting y.term) s in omega (arith, d)
-deep_step false x e n rest more h = let l = more h in omega (arith, l)
-
-find_deep : (es : List Entry) (k : DeclKey) (e : Entry) → find_entry es k ≡ Some e → nesting e.term ≤ deepest es
-find_deep [] k e h = cc
-find_deep (x ∷ es) k e h = deep_step (same_key x.key k) x e (deepest es) (find_entry es k) (λ r. find_deep es k e r) h
-
-off_deep : (t : Term) → nesting (off t) ≤ nesting t
-off_deep NoType = omega arith
-off_deep (Predeclared b) = omega arith
-off_deep ErrorType = omega arith
-off_deep (Defined k) = omega arith
-off_deep (PointerTo t) = omega arith
-off_deep (StructOf path fs) = omega arith
-off_deep (InterfaceOf path ms) = omega arith
-
-field_step : (b : Bool) (i : ℕ) (t : Term) (n : ℕ) (rest : List EmbeddedEdge) (e : EmbeddedEdge) → (In rest e → nesting e.target ≤ n) → In (if b then embedded_edge i t ∷ rest else rest) e → nesting e.target ≤ max (nesting t) n
-field_step true i t n rest e more (inl s) =
-    let d : nesting (off t) ≡ nesting e.target = ap (λ (y : EmbeddedEdge). nesting y.target) s in
-    let l = off_deep t in omega (arith, d, l)
-field_step true i t n rest e more (inr r) = let l = more r in omega (arith, l)
-field_step false i t n rest e more r = let l = more r in omega (arith, l)
-
-fields_deep : (o : OwnerModel) (path : List ℕ) (i : ℕ) (fs : Fields) (e : EmbeddedEdge) → In (embedded_edges o path i fs) e → nesting e.target ≤ fields_nesting fs
-fields_deep o path i NoField e h = absurd h
-fields_deep o path i (AField name place embedded t tag fs) e h =
-    field_step (embedded && not (has_method o.path o.methods name path)) i t (fields_nesting fs) (embedded_edges o path (suc i) fs) e (λ r. fields_deep o path (suc i) fs e r) h
-
-term_deep : (o : OwnerModel) (u : Term) (e : EmbeddedEdge) → In (term_embedded o u) e → nesting e.target < nesting u
-term_deep o NoType e h = absurd h
-term_deep o (Predeclared b) e h = absurd h
-term_deep o ErrorType e h = absurd h
-term_deep o (Defined k) e h = absurd h
-term_deep o (PointerTo t) e h = absurd h
-term_deep o (StructOf path fs) e h = let l = fields_deep o path 0 fs e h in omega (arith, l)
-term_deep o (InterfaceOf path ms) e h = absurd h
+use Rattle.go_mset_core.specs.table_core.Nesting.{nesting, deepest}
 
 -- a type that embeds one is of the table, or the one stands within it
 abbrev Falls : List Entry → Term → Term → Type 0

@@ -1,8 +1,8 @@
 -- The place of an entry among entries whose keys rise.
-use Rattle.std.proofs.Common.{◌≡◌, ℕ, zero, suc, ◌<◌, inl, inr, true, false, ◌&&◌, List, [], ◌∷◌, length, get_or, map, Some, None, option_map, refl, sym, ap, ◌∙◌, subst, arith}
-use Rattle.std.specs.Prelude.{slice_get, nat_eq, nat_lt}
+use Rattle.std.proofs.Common.{◌≡◌, ℕ, zero, suc, ◌<◌, inl, inr, true, false, List, [], ◌∷◌, length, get_or, map, Some, None, option_map, refl, sym, ap, ◌∙◌, subst, arith}
+use Rattle.std.specs.Prelude.{slice_get}
 use Rattle.std.specs.List.Sorted.{IsPartitionPoint, IsPartitionedBy}
-use Rattle.std.proofs.lemmas.Bool.{true≢false, cases_order, false_from_ne_true, and_parts, and_from, or_cases, or_left, or_right, eqb-true, eq-eqb, ltb-true, lt-ltb}
+use Rattle.std.proofs.lemmas.Bool.{true≢false, cases_order, false_from_ne_true}
 use Rattle.std.proofs.lemmas.Option.{slice_get_within, slice_get-map, slice_get-get_or, get_or_from_slice_get}
 use Rattle.go_term_core.specs.decl_core.declared.keys.DeclKey.{DeclKey}
 use Rattle.go_term_core.specs.decl_core.declared.keys.DeclRef.{DeclRef}
@@ -11,7 +11,7 @@ use Rattle.go_table_core.specs.declared.entry.TypeEntry.{TypeEntry}
 use Rattle.go_table_core.specs.Entries.{Entry, same_key}
 use Rattle.go_table_core.specs.Shown.{entry_shown}
 use Rattle.go_table_core.specs.Tables.{KeysRise}
-use Rattle.go_table_core.proofs.Keys.{Before, before_on, rise_rest, same_key_from, same_key_true}
+use Rattle.go_table_core.proofs.Keys.{not_before_itself, ref_before_on, rise_first, rise_rest, same_key_from, same_key_true}
 use Rattle.go_entry_core.specs.Entries.{is_type_of}
 use Rattle.go_entry_core.specs.mirrors.Gaining.{IsMeantAt}
 use Rattle.go_term_core.specs.decl_core.Order.{is_ref_before}
@@ -26,35 +26,7 @@ type_is k (PointerTo t) h = absurd (true≢false (sym h))
 type_is k (StructOf path fs) h = absurd (true≢false (sym h))
 type_is k (InterfaceOf path ms) h = absurd (true≢false (sym h))
 
--- before and behind
-
-before_from : (a b : DeclRef) → is_ref_before a b ≡ true → Before a b
-before_from a b h = elim (or_cases (nat_lt a.file b.file) (nat_eq a.file b.file && nat_lt a.number b.number) h) [
-  | inl f ↦ inl (ltb-true a.file b.file f)
-  | inr s ↦ (let p = and_parts (nat_eq a.file b.file) (nat_lt a.number b.number) s in inr (eqb-true a.file b.file p.0, ltb-true a.number b.number p.1))
-]
-
-before_to : (a b : DeclRef) → Before a b → is_ref_before a b ≡ true
-before_to a b h = elim h [
-  | inl f ↦ or_left (nat_lt a.file b.file) (nat_eq a.file b.file && nat_lt a.number b.number) (lt-ltb a.file b.file f)
-  | inr s ↦ or_right (nat_lt a.file b.file) (nat_eq a.file b.file && nat_lt a.number b.number) (and_from (nat_eq a.file b.file) (nat_lt a.number b.number) (eq-eqb a.file b.file s.0) (lt-ltb a.number b.number s.1))
-]
-
-pub is_before_on : (a b c : DeclRef) → is_ref_before a b ≡ true → is_ref_before b c ≡ true → is_ref_before a c ≡ true
-is_before_on a b c h k = before_to a c (before_on a b c (before_from a b h) (before_from b c k))
-
-pub not_before_itself : (a b : DeclRef) → a ≡ b → is_ref_before a b ≡ true → ⊥
-not_before_itself a b e h =
-    let file : a.file ≡ b.file = ap (λ d. d.file) e in
-    let number : a.number ≡ b.number = ap (λ d. d.number) e in
-    elim (before_from a b h) [ inl f ↦ absurd (omega (arith, file, f)) | inr s ↦ (let lt = s.1 in absurd (omega (arith, number, lt))) ]
-
 -- entries that rise
-
-rise_first : (w : Entry) (es : List Entry) → KeysRise (w ∷ es) → (i : ℕ) (e : Entry) → slice_get es i ≡ Some e → is_ref_before w.key.decl e.key.decl ≡ true
-rise_first w [] rise i e h = absurd (let no : None ≡ Some e = h in cc)
-rise_first w (v ∷ es) rise zero e h = (let ve : v ≡ e = (let s : Some v ≡ Some e = h in cc) in subst (λ (x : Entry). is_ref_before w.key.decl x.key.decl ≡ true) ve rise.0)
-rise_first w (v ∷ es) rise (suc i) e h = is_before_on w.key.decl v.key.decl e.key.decl rise.0 (rise_first v es rise.1 i e h)
 
 pub rise_far : (es : List Entry) → KeysRise es → (i j : ℕ) (e f : Entry) → slice_get es i ≡ Some e → slice_get es j ≡ Some f → i < j → is_ref_before e.key.decl f.key.decl ≡ true
 rise_far [] rise i j e f h k lt = absurd (let no : None ≡ Some e = h in cc)
@@ -86,7 +58,7 @@ rise_split ws d rise i j x le lt h = elim (cases_order i j) [
   | inr apart ↦ elim apart [
     | inl less ↦ (
         let within : i < length ws = omega (arith, le, lt) in
-        is_before_on (get_or ws i x).key.decl (get_or ws j x).key.decl d
+        ref_before_on (get_or ws i x).key.decl (get_or ws j x).key.decl d
         (rise_far (map entry_shown ws) rise i j (entry_shown (get_or ws i x)) (entry_shown (get_or ws j x)) (shown_at ws i x within) (shown_at ws j x lt) less) h
         )
     | inr more ↦ absurd (omega (arith, le, more))

@@ -19,7 +19,7 @@ deep_step : (b : Bool) (x e : Entry) (n : ℕ) (rest : Option Entry) → (rest �
 deep_step true x e n rest more h = let s : x ≡ e = (cc) in let d : nesting x.term ≡ nesting e.term = ap (λ (y : Entry). nesting y.term) s in omega (arith, d)
 deep_step false x e n rest more h = let l = more h in omega (arith, l)
 
-find_deep : (es : List Entry) (k : DeclKey) (e : Entry) → find_entry es k ≡ Some e → nesting e.term ≤ deepest es
+pub find_deep : (es : List Entry) (k : DeclKey) (e : Entry) → find_entry es k ≡ Some e → nesting e.term ≤ deepest es
 find_deep [] k e h = cc
 find_deep (x ∷ es) k e h = deep_step (same_key x.key k) x e (deepest es) (find_entry es k) (λ r. find_deep es k e r) h
 
@@ -44,7 +44,7 @@ fields_deep o path i NoField e h = absurd h
 fields_deep o path i (AField name place embedded t tag fs) e h =
     field_step (embedded && not (has_method o.path o.methods name path)) i t (fields_nesting fs) (embedded_edges o path (suc i) fs) e (λ r. fields_deep o path (suc i) fs e r) h
 
-term_deep : (o : OwnerModel) (u : Term) (e : EmbeddedEdge) → In (term_embedded o u) e → nesting e.target < nesting u
+pub term_deep : (o : OwnerModel) (u : Term) (e : EmbeddedEdge) → In (term_embedded o u) e → nesting e.target < nesting u
 term_deep o NoType e h = absurd h
 term_deep o (Predeclared b) e h = absurd h
 term_deep o ErrorType e h = absurd h

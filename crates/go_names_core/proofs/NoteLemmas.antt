@@ -6,10 +6,6 @@ use Rattle.std.proofs.lemmas.Grind.{common_steps}
 use Rattle.std.proofs.lemmas.List.{map-append}
 use Rattle.go_text_core.specs.declared.span.Span.{Span}
 use Rattle.go_tree_nodes.specs.declared.names.Ident.{Ident}
-use Rattle.go_tree_nodes.specs.declared.types.Signature.{Signature, out-Signature}
-use Rattle.go_tree_nodes.specs.declared.types.Results as declared_results
-use Rattle.go_tree_nodes.specs.declared.types.Results.TheVariants as results
-use Rattle.go_tree_nodes.specs.declared.types.Params.{Params, out-Params}
 use Rattle.go_tree_nodes.specs.declared.types.FieldLine.{FieldLine}
 use Rattle.go_tree_nodes.specs.declared.types.MethodLine.{MethodLine, MethodLine', out-MethodLine, is-MethodLine'}
 use Rattle.go_tree_nodes.specs.declared.types.Fields.TheVariants as fields
@@ -23,15 +19,14 @@ use Rattle.go_tree_nodes.specs.declared.exprs.StructLiteralExpr.{StructLiteralEx
 use Rattle.go_tree_nodes.specs.declared.exprs.«Item» as declared_item
 use Rattle.go_tree_nodes.specs.declared.exprs.NextExpr.{NextExpr}
 use Rattle.go_tree_nodes.specs.Trees.{FieldTrees}
-use Rattle.go_tree_nodes.specs.TypeShapes.{shape_type, shape_signature, shape_results, fields_before, fields_of, methods_of, params_of}
+use Rattle.go_tree_nodes.specs.TypeShapes.{shape_type, shape_signature, fields_before, fields_of, methods_of, params_of}
 use Rattle.go_tree_nodes.specs.Shapes.{shape, items_of, exprs_from}
-use Rattle.go_tree_nodes.proofs.TypeShapes.{listed_parts, signature_parts}
 use Rattle.go_tree_nodes.proofs.ShapeLemmas.{call_parts, literal_parts, struct_literal_parts}
 use Rattle.go_walk_core.specs.local_core.Binding.{NameLook}
 use Rattle.go_names_core.specs.declared.names.Denoted.{Denoted}
 use Rattle.go_names_core.specs.Uses.{name_use}
 use Rattle.go_names_core.specs.mirrors.Noting.{Notes, Adds}
-use Rattle.go_tree_nodes.specs.Idents.{type_name_idents, type_idents, field_idents, fields_idents, methods_idents, signature_type_idents, result_type_idents, params_idents, expr_idents, items_idents, list_idents}
+use Rattle.go_tree_nodes.specs.Idents.{type_name_idents, type_idents, field_idents, fields_idents, methods_idents, signature_type_idents, params_idents, expr_idents, items_idents, list_idents}
 use Rattle.go_walk_core.specs.PieceIdents.{target_idents, targets_idents}
 
 -- noting
@@ -126,12 +121,6 @@ targets_uses_list e [] = sym (append-nil (target_idents (shape e)))
 targets_uses_list e (n ∷ ns) = ap (λ l. target_idents (shape e) ++ l) (targets_uses_list n.expr ns)
 
 -- values that hold lists
-
-pub signature_has : (s : Signature) → signature_type_idents (shape_signature s) ≡ params_idents (params_of (out-Params (out-Signature s).params).entries.items) ++ result_type_idents (shape_results (out-Signature s).results)
-signature_has s = ap signature_type_idents (signature_parts s)
-
-pub listed_has : (r : declared_results.Results) (p : Params) → r ≡ results.Listed p → result_type_idents (shape_results r) ≡ params_idents (params_of (out-Params p).entries.items)
-listed_has r p is = ap (λ r. result_type_idents (shape_results r)) is ∙ ap result_type_idents (listed_parts p)
 
 pub call_has : (t : Expr) (c : Box CallExpr) → t ≡ expr.Call c → expr_idents (shape t) ≡ expr_idents (shape (out-CallExpr c.value).callee) ++ items_idents (items_of (out-CallExpr c.value).args.items)
 call_has t c same = ap (λ t. expr_idents (shape t)) same ∙ ap expr_idents (call_parts c.value)

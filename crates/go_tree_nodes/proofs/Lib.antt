@@ -1,3 +1,4 @@
+pub mod IdentLemmas
 pub mod InOrder
 pub mod Naming
 pub mod ShapeLemmas

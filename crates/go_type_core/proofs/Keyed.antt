@@ -1,9 +1,9 @@
 -- Keys, their numbers, and tables that are made item by item.
-use Rattle.std.proofs.Common.{◌≡◌, ℕ, zero, suc, ◌+◌, ◌<◌, ◌≤◌, inl, inr, ◌↔◌, Bool, true, false, ◌&&◌, List, [], ◌∷◌, ◌++◌, Option, Some, None, option_map, map, length, get_or, take, refl, sym, ap, ◌∙◌, subst, arith}
-use Rattle.std.specs.Prelude.{slice_get, nat_eq, nat_lt, if◌then◌else◌, ⊤}
+use Rattle.std.proofs.Common.{◌≡◌, ℕ, zero, suc, ◌+◌, ◌<◌, ◌≤◌, inl, inr, ◌↔◌, Bool, true, false, List, [], ◌∷◌, ◌++◌, Option, Some, None, option_map, map, length, get_or, take, refl, sym, ap, ◌∙◌, subst, arith}
+use Rattle.std.specs.Prelude.{slice_get, if◌then◌else◌, ⊤}
 use Rattle.std.specs.List.Sorted.{IsPartitionPoint, IsPartitionedBy}
 use Rattle.std.proofs.lemmas.List.{length_push, map_more, take_all}
-use Rattle.std.proofs.lemmas.Bool.{cases_eq, cases_order, false_from_ne_true, and_parts, and_from, or_cases, or_left, or_right, eqb-true, eq-eqb, ltb-true, lt-ltb}
+use Rattle.std.proofs.lemmas.Bool.{cases_eq, cases_order, false_from_ne_true}
 use Rattle.std.proofs.lemmas.Option.{slice_get_within, slice_get-map, slice_get-get_or, get_or_from_slice_get}
 use Rattle.go_term_core.specs.decl_core.declared.keys.DeclKey.{DeclKey}
 use Rattle.go_term_core.specs.decl_core.declared.keys.DeclRef.{DeclRef}
@@ -11,7 +11,7 @@ use Rattle.go_table_core.specs.Entries.{Entry, same_key, find_entry}
 use Rattle.go_table_core.specs.declared.entry.TypeEntry.{TypeEntry}
 use Rattle.go_table_core.specs.Shown.{entry_shown}
 use Rattle.go_table_core.specs.Tables.{AreOf, KeysRise}
-use Rattle.go_table_core.proofs.Keys.{Before, before_on, rise_rest, same_key_from, same_key_itself, same_key_true}
+use Rattle.go_table_core.proofs.Keys.{not_before_itself, ref_before_on, rise_first, rise_rest, same_key_from, same_key_itself, same_key_true}
 use Rattle.go_type_core.specs.mirrors.Numbers.{keys_of, keys_in, number_of, RefsRise, IsTable}
 use Rattle.go_term_core.specs.decl_core.Order.{is_ref_before}
 
@@ -111,35 +111,6 @@ at_place (w ∷ es) zero e apart h =
     let we : w ≡ e = cc in
     subst (λ (x : Entry). At (w ∷ es) x.key 0 x) we (at_first w es w.key (same_key_itself w.key))
 at_place (w ∷ es) (suc i) e apart h = stands_step w es i e (same_key w.key e.key) refl (apart.0 i e h) (at_place es i e apart.1 h)
-
--- before and behind
-
-pub before_from : (a b : DeclRef) → is_ref_before a b ≡ true → Before a b
-before_from a b h = elim (or_cases (nat_lt a.file b.file) (nat_eq a.file b.file && nat_lt a.number b.number) h) [
-  | inl f ↦ inl (ltb-true a.file b.file f)
-  | inr s ↦ (let p = and_parts (nat_eq a.file b.file) (nat_lt a.number b.number) s in inr (eqb-true a.file b.file p.0, ltb-true a.number b.number p.1))
-]
-
-pub before_to : (a b : DeclRef) → Before a b → is_ref_before a b ≡ true
-before_to a b h = elim h [
-  | inl f ↦ or_left (nat_lt a.file b.file) (nat_eq a.file b.file && nat_lt a.number b.number) (lt-ltb a.file b.file f)
-  | inr s ↦ or_right (nat_lt a.file b.file) (nat_eq a.file b.file && nat_lt a.number b.number) (and_from (nat_eq a.file b.file) (nat_lt a.number b.number) (eq-eqb a.file b.file s.0) (lt-ltb a.number b.number s.1))
-]
-
-pub ref_before_on : (a b c : DeclRef) → is_ref_before a b ≡ true → is_ref_before b c ≡ true → is_ref_before a c ≡ true
-ref_before_on a b c h k = before_to a c (before_on a b c (before_from a b h) (before_from b c k))
-
-pub not_before_itself : (a b : DeclRef) → a ≡ b → is_ref_before a b ≡ true → ⊥
-not_before_itself a b e h =
-    let file : a.file ≡ b.file = ap (λ d. d.file) e in
-    let number : a.number ≡ b.number = ap (λ d. d.number) e in
-    elim (before_from a b h) [ inl f ↦ absurd (omega (arith, file, f)) | inr s ↦ (let lt = s.1 in absurd (omega (arith, number, lt))) ]
-
--- the first of entries that rise stands before each of the others
-rise_first : (w : Entry) (es : List Entry) → KeysRise (w ∷ es) → (i : ℕ) (e : Entry) → slice_get es i ≡ Some e → is_ref_before w.key.decl e.key.decl ≡ true
-rise_first w [] rise i e h = absurd (cc)
-rise_first w (v ∷ es) rise zero e h = (let ve : v ≡ e = cc in subst (λ (x : Entry). is_ref_before w.key.decl x.key.decl ≡ true) ve rise.0)
-rise_first w (v ∷ es) rise (suc i) e h = ref_before_on w.key.decl v.key.decl e.key.decl rise.0 (rise_first v es rise.1 i e h)
 
 pub rise_apart : (es : List Entry) → KeysRise es → Apart es
 rise_apart [] rise = tt

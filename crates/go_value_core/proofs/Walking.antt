@@ -1,20 +1,15 @@
 -- The walk over the identifiers that expressions and types need.
-use Rattle.std.proofs.Common.{◌≡◌, List, ◌∷◌, ◌++◌, map, refl, sym, ap, ◌∙◌}
+use Rattle.std.proofs.Common.{◌≡◌, List, ◌∷◌, ◌++◌, refl, sym, ap, ◌∙◌}
 use Rattle.std.specs.Prelude.{Option}
 use Rattle.std.specs.Global.{Box}
 use Rattle.go_text_core.specs.declared.span.Span.{Span}
 use Rattle.go_tree_nodes.specs.declared.names.Ident.{Ident}
 use Rattle.go_tree_nodes.specs.declared.names.TextLiteral.{TextLiteral}
-use Rattle.go_tree_nodes.specs.declared.types.TypeExpr.{TypeExpr}
 use Rattle.go_tree_nodes.specs.declared.types.TypeExpr.TheVariants as types
 use Rattle.go_tree_nodes.specs.declared.types.FieldLine.{FieldLine}
 use Rattle.go_tree_nodes.specs.declared.types.Fields.{Fields}
 use Rattle.go_tree_nodes.specs.declared.types.Fields.TheVariants as fields
 use Rattle.go_tree_nodes.specs.declared.types.MethodLine.{MethodLine, MethodLine', out-MethodLine, is-MethodLine'}
-use Rattle.go_tree_nodes.specs.declared.types.Signature.{Signature, out-Signature}
-use Rattle.go_tree_nodes.specs.declared.types.Results as declared_results
-use Rattle.go_tree_nodes.specs.declared.types.Results.TheVariants as results
-use Rattle.go_tree_nodes.specs.declared.types.Params.{Params, out-Params}
 use Rattle.go_tree_nodes.specs.declared.types.«Param» as declared_param
 use Rattle.go_tree_nodes.specs.declared.exprs.Expr.{Expr}
 use Rattle.go_tree_nodes.specs.declared.exprs.Expr.TheVariants as expr
@@ -23,12 +18,11 @@ use Rattle.go_tree_nodes.specs.declared.exprs.«Item» as declared_item
 use Rattle.go_tree_nodes.specs.declared.exprs.LiteralExpr.{LiteralExpr, out-LiteralExpr}
 use Rattle.go_tree_nodes.specs.declared.exprs.StructLiteralExpr.{StructLiteralExpr, out-StructLiteralExpr}
 use Rattle.go_tree_nodes.specs.Trees.{FieldTrees}
-use Rattle.go_tree_nodes.specs.TypeShapes.{shape_type, shape_signature, shape_results, fields_before, fields_of, methods_of, params_of}
+use Rattle.go_tree_nodes.specs.TypeShapes.{shape_type, shape_signature, fields_before, fields_of, methods_of, params_of}
 use Rattle.go_tree_nodes.specs.Shapes.{shape, items_of}
-use Rattle.go_tree_nodes.proofs.TypeShapes.{shape_struct, shape_interface, listed_parts, signature_parts}
 use Rattle.go_tree_nodes.proofs.ShapeLemmas.{call_parts, literal_parts, struct_literal_parts}
 use Rattle.go_piece_core.specs.expr_core.Needed.{needed_idents, needed_by_args}
-use Rattle.go_tree_nodes.specs.Idents.{type_name_idents, type_idents, fields_idents, methods_idents, signature_type_idents, result_type_idents, params_idents}
+use Rattle.go_tree_nodes.specs.Idents.{type_name_idents, type_idents, fields_idents, methods_idents, signature_type_idents, params_idents}
 use Rattle.go_tree_nodes.specs.Idents.{field_idents}
 
 -- types
@@ -51,12 +45,6 @@ methods_more m ms = method_more m ms ∙ ap (λ l. l ++ methods_idents (methods_
 
 pub params_more : (p : declared_param.Param) (ps : List declared_param.Param) → params_idents (params_of (p ∷ ps)) ≡ type_idents (shape_type p.type_expr) ++ params_idents (params_of ps)
 params_more p ps = refl
-
-pub signature_has : (s : Signature) → signature_type_idents (shape_signature s) ≡ params_idents (params_of (out-Params (out-Signature s).params).entries.items) ++ result_type_idents (shape_results (out-Signature s).results)
-signature_has s = ap signature_type_idents (signature_parts s)
-
-pub listed_has : (r : declared_results.Results) (p : Params) → r ≡ results.Listed p → result_type_idents (shape_results r) ≡ params_idents (params_of (out-Params p).entries.items)
-listed_has r p is = ap (λ r. result_type_idents (shape_results r)) is ∙ ap result_type_idents (listed_parts p)
 
 -- expressions
 

@@ -1,10 +1,11 @@
 use Rattle.std.proofs.Common.{[], ap, sym, subst, ◌∙◌}
 use Rattle.go_tree_nodes.specs.TypeShapes.{shape_type}
 use Rattle.go_tree_nodes.proofs.TypeShapes.{shape_struct, shape_interface}
+use Rattle.go_tree_nodes.proofs.IdentLemmas.{signature_has, listed_has}
 use Rattle.go_names_core.specs.Scope.{open_look}
 use Rattle.go_names_core.specs.Uses.{denoted_outside}
 use Rattle.go_names_core.specs.mirrors.Noting.{Sees}
-use Rattle.go_names_core.proofs.NoteLemmas.{sees_same, sees_both, sees_step, sees_whole, field_line_uses, method_uses, param_uses, fields_uses_list, methods_uses_list, params_uses_list, method_has, signature_has, listed_has}
+use Rattle.go_names_core.proofs.NoteLemmas.{sees_same, sees_both, sees_step, sees_whole, field_line_uses, method_uses, param_uses, fields_uses_list, methods_uses_list, params_uses_list, method_has}
 use Rattle.go_names_core.proofs.noting.+types.Goals as goal
 use Rattle.go_tree_nodes.specs.Idents.{type_idents}
 
