@@ -10,7 +10,7 @@ use Rattle.go_tree_nodes.specs.declared.exprs.Expr.TheVariants as expr
 use Rattle.go_tree_nodes.specs.declared.exprs.CallExpr.{CallExpr, out-CallExpr}
 use Rattle.go_tree_nodes.specs.Shapes.{shape, shape_call, items_of}
 use Rattle.go_tree_nodes.specs.Trees.{ExprTree, Integer, Text, Named, Paren, Unary, Binary, Select, Call, Literal, StructLiteral}
-use Rattle.go_tree_nodes.proofs.ShapeLemmas.{call_parts}
+use Rattle.go_tree_nodes.proofs.ShapeLemmas.{call_parts, call_form, call_tree}
 use Rattle.go_fragment_core.specs.instruction_core.declared.instruction.Distance.TheVariants as distances
 use Rattle.go_fragment_core.specs.instruction_core.declared.instruction.Instruction.{Instruction}
 use Rattle.go_fragment_core.specs.instruction_core.declared.instruction.Instruction.TheVariants as instructions
@@ -22,7 +22,6 @@ use Rattle.go_fragment_core.specs.Constants.{folded, folded_name}
 use Rattle.go_fragment_core.specs.Names.{Frame, callee_meaning}
 use Rattle.go_fragment_core.specs.Operators.{some_instruction, unary_instruction}
 use Rattle.go_code_core.specs.mirrors.Written.{applied}
-use Rattle.go_fragment_core.proofs.Forms.{call_form, call_tree}
 
 -- a piece in front of another
 joined : {X : Type 0} (a b old now new : List X) → now ≡ b ++ old → new ≡ a ++ now → new ≡ (a ++ b) ++ old

@@ -28,7 +28,8 @@ use Rattle.go_expr_core.specs.Elements.{keys_of, is_mixed}
 use Rattle.go_expr_core.specs.TypeUses.{type_uses}
 use Rattle.go_expr_core.specs.Uses.{made_use, use_of, uses, args_uses, type_name_spots, type_name_uses, type_spots, items_spots, elements_uses}
 use Rattle.go_expr_core.specs.Faults.{faults, args_faults, literal_faults}
-use Rattle.go_expr_core.proofs.Forms.{call_form, literal_form, struct_form, two, three}
+use Rattle.go_tree_nodes.proofs.ShapeLemmas.{call_form, literal_form, struct_form}
+use Rattle.go_expr_core.proofs.Forms.{two, three}
 use Rattle.go_expr_core.proofs.Turning.{placed, call_used}
 
 -- calls

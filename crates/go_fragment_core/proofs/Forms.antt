@@ -1,57 +1,25 @@
 -- The forms of trees that the program takes apart.
-use Rattle.std.proofs.Common.{◌≡◌, Vec, Bool, true, false, ◌&&◌, ℕ, sym, ap, ◌∙◌}
+use Rattle.std.proofs.Common.{◌≡◌, Bool, true, false, ◌&&◌, ℕ, sym, ap, ◌∙◌}
 use Rattle.std.specs.Prelude.{if◌then◌else◌}
-use Rattle.std.specs.Global.{Box, Global}
-use Rattle.go_text_core.specs.declared.span.Span.{Span}
+use Rattle.std.specs.Global.{Box}
 use Rattle.go_tree_nodes.specs.declared.exprs.Expr.{Expr}
 use Rattle.go_tree_nodes.specs.declared.exprs.Expr.TheVariants as expr
 use Rattle.go_tree_nodes.specs.declared.exprs.CallExpr.{CallExpr, out-CallExpr}
-use Rattle.go_tree_nodes.specs.declared.exprs.LiteralExpr.{LiteralExpr, out-LiteralExpr}
-use Rattle.go_tree_nodes.specs.declared.exprs.StructLiteralExpr.{StructLiteralExpr, out-StructLiteralExpr}
-use Rattle.go_tree_nodes.specs.declared.stmts.«Line» as declared_line
 use Rattle.go_tree_nodes.specs.declared.stmts.Loop.{Loop, out-Loop}
-use Rattle.go_tree_nodes.specs.declared.stmts.Stmt.{Stmt}
-use Rattle.go_tree_nodes.specs.declared.stmts.Stmt.TheVariants as stmt
-use Rattle.go_tree_nodes.specs.declared.stmts.Otherwise.{Otherwise}
-use Rattle.go_tree_nodes.specs.declared.stmts.Otherwise.TheVariants as otherwise
-use Rattle.go_tree_nodes.specs.Trees.{ExprTree, Call, Literal, StructLiteral, Block, ElseBlock}
+use Rattle.go_tree_nodes.specs.Trees.{Call}
 use Rattle.go_tree_nodes.specs.declared.types.Params.{out-Params}
 use Rattle.go_tree_nodes.specs.declared.types.Signature.{Signature, out-Signature}
-use Rattle.go_tree_nodes.specs.TypeShapes.{params_of, shape_results, shape_signature, shape_type}
+use Rattle.go_tree_nodes.specs.TypeShapes.{params_of, shape_results, shape_signature}
 use Rattle.go_tree_nodes.proofs.TypeShapes.{signature_parts}
-use Rattle.go_tree_nodes.specs.Shapes.{shape, items_of, shape_stmt, shape_else, shape_for, shape_loop, lines_of}
+use Rattle.go_tree_nodes.specs.Shapes.{shape, items_of, shape_for, shape_loop, lines_of}
 use Rattle.go_fragment_core.specs.declared.names.Gives.{Gives}
 use Rattle.go_fragment_core.specs.declared.names.Gives.TheVariants as gives
 use Rattle.go_fragment_core.specs.declared.names.Meaning.{Meaning}
 use Rattle.go_fragment_core.specs.Fragment.{all_ones, call_gives, expr_gives, receiver_fits}
 use Rattle.go_fragment_core.specs.Inside.{head_inside, lines_inside, params_inside, results_inside, signature_inside, stmt_inside}
 use Rattle.go_fragment_core.specs.Names.{Frame, CodeLooks, callee_meaning}
-use Rattle.go_tree_nodes.proofs.ShapeLemmas.{call_parts, literal_parts, struct_literal_parts, shape_block, loop_parts, shape_else_block}
+use Rattle.go_tree_nodes.proofs.ShapeLemmas.{call_form, loop_parts}
 use Rattle.go_tree_nodes.specs.Counts.{item_count}
-
-abbrev pub call_tree : CallExpr → ExprTree
-call_tree c = Call (shape (out-CallExpr c).callee) (out-CallExpr c).«open» (items_of (out-CallExpr c).args.items) (out-CallExpr c).close
-
-abbrev pub literal_tree : LiteralExpr → ExprTree
-literal_tree l = Literal (out-LiteralExpr l).type_name (out-LiteralExpr l).«open» (items_of (out-LiteralExpr l).elements.items) (out-LiteralExpr l).close
-
-abbrev pub struct_tree : StructLiteralExpr → ExprTree
-struct_tree l = StructLiteral (shape_type (out-StructLiteralExpr l).type_expr) (out-StructLiteralExpr l).«open» (items_of (out-StructLiteralExpr l).elements.items) (out-StructLiteralExpr l).close
-
-pub call_form : (e : Expr) (c : Box CallExpr) → e ≡ expr.Call c → shape e ≡ call_tree c.value
-call_form e c is = ap shape is ∙ call_parts c.value
-
-pub literal_form : (e : Expr) (l : Box LiteralExpr) → e ≡ expr.Literal l → shape e ≡ literal_tree l.value
-literal_form e l is = ap shape is ∙ literal_parts l.value
-
-pub struct_form : (e : Expr) (l : Box StructLiteralExpr) → e ≡ expr.StructLiteral l → shape e ≡ struct_tree l.value
-struct_form e l is = ap shape is ∙ struct_literal_parts l.value
-
-pub block_form : (s : Stmt) (first : Span) (ls : Vec declared_line.Line Global) (last : Span) → s ≡ stmt.Block first ls last → shape_stmt s ≡ Block first (lines_of ls.items) last
-block_form s first ls last is = ap shape_stmt is ∙ shape_block first ls last
-
-pub else_form : (o : Otherwise) (k first : Span) (ls : Vec declared_line.Line Global) (last : Span) → o ≡ otherwise.Block k first ls last → shape_else o ≡ ElseBlock k first (lines_of ls.items) last
-else_form o k first ls last is = ap shape_else is ∙ shape_else_block k first ls last
 
 -- what calls give
 

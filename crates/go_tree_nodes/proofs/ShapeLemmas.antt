@@ -1,11 +1,12 @@
 -- Rows of items and lines, as lists of them.
 use Rattle.std.proofs.Common.{◌≡◌, Vec, refl, ap, ◌∙◌}
-use Rattle.std.specs.Global.{Global}
+use Rattle.std.specs.Global.{Box, Global}
 use mathlib.Core.Former.{Count}
 use Rattle.go_text_core.specs.declared.span.Span.{Span}
 use Rattle.go_tree_nodes.specs.declared.types.TypeName.{TypeName}
 use Rattle.go_tree_nodes.specs.declared.types.TypeExpr.{TypeExpr}
 use Rattle.go_tree_nodes.specs.declared.exprs.Expr.{Expr}
+use Rattle.go_tree_nodes.specs.declared.exprs.Expr.TheVariants as expr
 use Rattle.go_tree_nodes.specs.declared.exprs.Expr.TheBlock.{hidden-the_row-Item-0}
 use Rattle.go_tree_nodes.specs.declared.exprs.CallExpr.{CallExpr, roll-CallExpr, out-CallExpr, rolls-CallExpr', is-CallExpr', Row_of-Item, end_of-Item, more_of-Item, items-the_row-Item, items_hidden-the_row-Item-0}
 use Rattle.go_tree_nodes.specs.declared.exprs.LiteralExpr.{LiteralExpr, roll-LiteralExpr, out-LiteralExpr, rolls-LiteralExpr', is-LiteralExpr'}
@@ -21,7 +22,7 @@ use Rattle.go_tree_nodes.specs.declared.stmts.Otherwise.{Otherwise}
 use Rattle.go_tree_nodes.specs.declared.stmts.Otherwise.TheBlock.{hidden-the_row-Line-0}
 use Rattle.go_tree_nodes.specs.declared.stmts.Otherwise.TheVariants as otherwise
 use Rattle.go_tree_nodes.specs.declared.stmts.«Line» as declared_line
-use Rattle.go_tree_nodes.specs.Trees.{Call, Literal, StructLiteral, Item, Block, For, Branch, ElseBlock, Line}
+use Rattle.go_tree_nodes.specs.Trees.{ExprTree, Call, Literal, StructLiteral, Item, Block, For, Branch, ElseBlock, Line}
 use Rattle.go_tree_nodes.specs.TypeShapes.{shape_type}
 use Rattle.go_tree_nodes.specs.Shapes.{shape, shape_call, shape_literal, shape_struct_literal, shape_items, items_of, shape_key, shape_loop, shape_if, shape_for, shape_stmt, shape_branch, shape_else, shape_row, lines_of}
 
@@ -115,3 +116,29 @@ branch_parts b =
     let o = declared_branch.out-Branch b in
     ap shape_branch (declared_branch.is-Branch' b)
     ∙ ap (λ l. Branch o.keyword (shape_if o.head) o.«open» l o.close (shape_else o.otherwise)) (row_lines _ (hidden-the_row-Line-0 o.«then») ∙ ap lines_of (items_hidden-the_row-Line-0 o.«then»))
+
+-- the trees of forms that the program takes apart
+
+abbrev pub call_tree : CallExpr → ExprTree
+call_tree c = Call (shape (out-CallExpr c).callee) (out-CallExpr c).«open» (items_of (out-CallExpr c).args.items) (out-CallExpr c).close
+
+abbrev pub literal_tree : LiteralExpr → ExprTree
+literal_tree l = Literal (out-LiteralExpr l).type_name (out-LiteralExpr l).«open» (items_of (out-LiteralExpr l).elements.items) (out-LiteralExpr l).close
+
+abbrev pub struct_tree : StructLiteralExpr → ExprTree
+struct_tree l = StructLiteral (shape_type (out-StructLiteralExpr l).type_expr) (out-StructLiteralExpr l).«open» (items_of (out-StructLiteralExpr l).elements.items) (out-StructLiteralExpr l).close
+
+pub call_form : (e : Expr) (c : Box CallExpr) → e ≡ expr.Call c → shape e ≡ call_tree c.value
+call_form e c is = ap shape is ∙ call_parts c.value
+
+pub literal_form : (e : Expr) (l : Box LiteralExpr) → e ≡ expr.Literal l → shape e ≡ literal_tree l.value
+literal_form e l is = ap shape is ∙ literal_parts l.value
+
+pub struct_form : (e : Expr) (l : Box StructLiteralExpr) → e ≡ expr.StructLiteral l → shape e ≡ struct_tree l.value
+struct_form e l is = ap shape is ∙ struct_literal_parts l.value
+
+pub block_form : (s : Stmt) (first : Span) (ls : Vec declared_line.Line Global) (last : Span) → s ≡ stmt.Block first ls last → shape_stmt s ≡ Block first (lines_of ls.items) last
+block_form s first ls last is = ap shape_stmt is ∙ shape_block first ls last
+
+pub else_form : (o : Otherwise) (k first : Span) (ls : Vec declared_line.Line Global) (last : Span) → o ≡ otherwise.Block k first ls last → shape_else o ≡ ElseBlock k first (lines_of ls.items) last
+else_form o k first ls last is = ap shape_else is ∙ shape_else_block k first ls last

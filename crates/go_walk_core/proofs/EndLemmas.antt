@@ -1,9 +1,8 @@
 -- Loops over lines, and the trees that values of the program hold.
-use Rattle.std.proofs.Common.{◌≡◌, ℕ, ◌+◌, ◌<◌, ◌≤◌, Bool, true, false, ◌||◌, List, [], ◌∷◌, ◌++◌, length, get_or, drop, Vec, Result, Ok, Err, refl, sym, ap, ◌∙◌}
+use Rattle.std.proofs.Common.{◌≡◌, ℕ, ◌+◌, ◌<◌, ◌≤◌, Bool, true, false, ◌||◌, List, ◌∷◌, ◌++◌, length, get_or, drop, Result, Ok, Err, sym, ap, ◌∙◌}
 use Rattle.std.proofs.lemmas.List.{drop_more, drop_all, append_assoc, append-nil}
-use Rattle.std.specs.Global.{Global, Box}
+use Rattle.std.specs.Global.{Box}
 use Rattle.std.specs.Result.{OnOk}
-use Rattle.go_text_core.specs.declared.span.Span.{Span}
 use Rattle.go_tree_nodes.specs.declared.stmts.«Line» as declared_line
 use Rattle.go_tree_nodes.specs.declared.stmts.«Branch» as declared_branch
 use Rattle.go_tree_nodes.specs.declared.stmts.Loop.{Loop, out-Loop}
@@ -11,22 +10,16 @@ use Rattle.go_tree_nodes.specs.declared.stmts.Stmt.{Stmt}
 use Rattle.go_tree_nodes.specs.declared.stmts.Stmt.TheVariants as stmt
 use Rattle.go_tree_nodes.specs.declared.stmts.Otherwise.{Otherwise}
 use Rattle.go_tree_nodes.specs.declared.stmts.Otherwise.TheVariants as otherwise
-use Rattle.go_tree_nodes.specs.Trees.{Lines, Block, For, ElseBlock}
+use Rattle.go_tree_nodes.specs.Trees.{Lines, For}
 use Rattle.go_tree_nodes.specs.Shapes.{shape_stmt, shape_branch, shape_else, shape_for, lines_of}
-use Rattle.go_tree_nodes.proofs.ShapeLemmas.{shape_block, loop_parts, shape_else_block, branch_parts}
+use Rattle.go_tree_nodes.proofs.ShapeLemmas.{loop_parts, branch_parts}
 use Rattle.go_local_core.specs.declared.Fault.{Fault}
 use Rattle.go_walk_core.specs.Ends.{has_break, branch_has_break, else_has_break, lines_have_break, loop_faults, branch_loop_faults, else_loop_faults, lines_loop_faults}
 
 -- the trees
 
-pub block_is : (s : Stmt) (first : Span) (ls : Vec declared_line.Line Global) (last : Span) → s ≡ stmt.Block first ls last → shape_stmt s ≡ Block first (lines_of ls.items) last
-block_is s first ls last is = ap shape_stmt is ∙ shape_block first ls last
-
 pub loop_is : (s : Stmt) (b : Box Loop) → s ≡ stmt.For b → shape_stmt s ≡ For (out-Loop b.value).keyword (shape_for (out-Loop b.value).head) (out-Loop b.value).«open» (lines_of (out-Loop b.value).body.items) (out-Loop b.value).close
 loop_is s b is = ap shape_stmt is ∙ loop_parts b.value
-
-pub else_is : (o : Otherwise) (k first : Span) (ls : Vec declared_line.Line Global) (last : Span) → o ≡ otherwise.Block k first ls last → shape_else o ≡ ElseBlock k first (lines_of ls.items) last
-else_is o k first ls last is = ap shape_else is ∙ shape_else_block k first ls last
 
 -- what is left of the lines
 

@@ -4,7 +4,7 @@ use Rattle.go_tree_nodes.specs.Shapes.{shape, shape_call}
 use Rattle.go_fragment_core.specs.Names.{frame_of}
 use Rattle.go_code_core.specs.Code.{binary_code, expr_code, receiver_code}
 use Rattle.go_code_core.specs.mirrors.Written.{applied}
-use Rattle.go_fragment_core.proofs.Forms.{call_form, literal_form, struct_form}
+use Rattle.go_tree_nodes.proofs.ShapeLemmas.{call_form, literal_form, struct_form}
 use Rattle.go_code_core.proofs.Pieces.{applied_made, call_made, is_pushed, or_made}
 use Rattle.go_code_core.proofs.exprs.+expr.Goals as goal
 

@@ -1,6 +1,6 @@
 use Rattle.std.proofs.Common.{ap, sym}
 use Rattle.go_expr_core.specs.Places as places
-use Rattle.go_expr_core.proofs.Forms.{call_form, literal_form, struct_form}
+use Rattle.go_tree_nodes.proofs.ShapeLemmas.{call_form, literal_form, struct_form}
 use Rattle.go_expr_core.proofs.places.+is_call.Goals as goal
 
 pub returns-in-Call : goal.returns-in-Call

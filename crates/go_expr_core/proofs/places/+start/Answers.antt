@@ -6,7 +6,7 @@ use Rattle.go_tree_nodes.specs.Shapes.{shape}
 use Rattle.go_tree_nodes.specs.Starts.{type_name_start, type_start}
 use Rattle.go_tree_nodes.specs.TypeShapes.{shape_type}
 use Rattle.go_expr_core.specs.Places as places
-use Rattle.go_expr_core.proofs.Forms.{call_form, literal_form, struct_form}
+use Rattle.go_tree_nodes.proofs.ShapeLemmas.{call_form, literal_form, struct_form}
 use Rattle.go_expr_core.proofs.places.+start.Goals as goal
 
 pub returns-in-Call : goal.returns-in-Call

@@ -1,6 +1,6 @@
 use Rattle.std.proofs.Common.{sym, ap}
 use Rattle.go_fragment_core.specs.Names.{callee_meaning}
-use Rattle.go_fragment_core.proofs.Forms.{call_form, literal_form, struct_form}
+use Rattle.go_tree_nodes.proofs.ShapeLemmas.{call_form, literal_form, struct_form}
 use Rattle.go_fragment_core.proofs.constants.+called.Goals as goal
 
 pub returns-in-Call : goal.returns-in-Call

@@ -3,7 +3,7 @@ use Rattle.go_tree_nodes.specs.Shapes.{shape, items_of}
 use Rattle.go_tree_nodes.specs.declared.exprs.CallExpr.{out-CallExpr}
 use Rattle.go_fragment_core.specs.Constants.{converted, folded, folded_one}
 use Rattle.go_fragment_core.specs.Names.{callee_meaning}
-use Rattle.go_fragment_core.proofs.Forms.{call_form, literal_form, struct_form}
+use Rattle.go_tree_nodes.proofs.ShapeLemmas.{call_form, literal_form, struct_form}
 use Rattle.go_fragment_core.proofs.Loops.{several}
 use Rattle.go_fragment_core.proofs.constants.+folding.Goals as goal
 

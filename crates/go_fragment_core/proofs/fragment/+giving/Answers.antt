@@ -1,7 +1,8 @@
 use Rattle.std.proofs.Common.{sym, ap}
 use Rattle.go_fragment_core.specs.Names.{frame_of}
 use Rattle.go_fragment_core.specs.Fragment.{expr_gives, receiver_fits}
-use Rattle.go_fragment_core.proofs.Forms.{argument_unfit, call_form, call_given, literal_form, receiver_unfit, struct_form}
+use Rattle.go_tree_nodes.proofs.ShapeLemmas.{call_form, literal_form, struct_form}
+use Rattle.go_fragment_core.proofs.Forms.{argument_unfit, call_given, receiver_unfit}
 use Rattle.go_fragment_core.proofs.fragment.+giving.Goals as goal
 use Rattle.go_fragment_core.proofs.fragment.+giving.Goals.{expr_gives-else-receiver_fits-via-then-receiver_fits+else-all_ones, expr_gives-else-receiver_fits-via-else-receiver_fits}
 

@@ -1,8 +1,8 @@
 use Rattle.std.proofs.Common.{rules, sym, ap, ◌∙◌}
-use Rattle.go_tree_nodes.proofs.ShapeLemmas.{branch_parts}
+use Rattle.go_tree_nodes.proofs.ShapeLemmas.{branch_parts, block_form, else_form}
 use Rattle.go_fragment_core.specs.Inside.{else_inside, stmt_inside}
 use Rattle.go_fragment_core.specs.Names.{frame_of}
-use Rattle.go_fragment_core.proofs.Forms.{block_form, else_form, loop_with, loop_without}
+use Rattle.go_fragment_core.proofs.Forms.{loop_with, loop_without}
 use Rattle.go_fragment_core.proofs.inside.+inside.Goals as goal
 
 pub branch_inside-returns-then-lines_inside : goal.branch_inside-returns-then-lines_inside

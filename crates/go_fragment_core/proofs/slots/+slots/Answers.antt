@@ -1,7 +1,7 @@
 use Rattle.std.proofs.Common.{◌++◌, sym, ap, ◌∙◌}
 use Rattle.std.proofs.lemmas.Result.{on_ok_weaker}
 use Rattle.go_fragment_core.specs.Slots.{else_slots, stmt_slots}
-use Rattle.go_fragment_core.proofs.Forms.{block_form, else_form}
+use Rattle.go_tree_nodes.proofs.ShapeLemmas.{block_form, else_form}
 use Rattle.go_fragment_core.proofs.Slotted.{branch_slotted, loop_slotted}
 use Rattle.go_fragment_core.proofs.slots.+slots.Goals as goal
 
