@@ -1,6 +1,7 @@
 //! Bytes at the end of others.
-ghost use Rattle.std.specs.Prelude.{◌≡◌, ◌+◌, ◌<◌, [], ◌∷◌, ◌++◌, decimal, OnOk};
+ghost use Rattle.std.specs.Prelude.{◌≡◌, ◌++◌, decimal, OnOk};
 
+use itoa::Buffer;
 use std::alloc::AllocError;
 
 /// Adds bytes.
@@ -14,14 +15,6 @@ pub(crate) fn push(out: &mut Vec<u8>, bytes: &[u8]) -> Result<(), AllocError>
     out.extend_from_slice(bytes)
 }
 
-// Adds a digit.
-fn push_digit(out: &mut Vec<u8>, digit: usize) -> Result<(), AllocError>
-    requires { digit < 10 }
-    ensures { OnOk result (out.new.items ≡ out.old.items ++ (48 + digit) ∷ []) }
-{
-    push(out, &[b'0' + digit as u8])
-}
-
 /// Adds a number, in decimal digits.
 ///
 /// # Errors
@@ -30,9 +23,5 @@ fn push_digit(out: &mut Vec<u8>, digit: usize) -> Result<(), AllocError>
 pub(crate) fn push_number(out: &mut Vec<u8>, number: usize) -> Result<(), AllocError>
     ensures { OnOk result (out.new.items ≡ out.old.items ++ decimal number) }
 {
-    if number < 10 {
-        return push_digit(out, number);
-    }
-    push_number(out, number / 10)?;
-    push_digit(out, number % 10)
+    push(out, Buffer::new().format(number).as_bytes())
 }
