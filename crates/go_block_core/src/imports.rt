@@ -1,6 +1,7 @@
 //! The imports of a package, and the names that they bind.
-ghost use Rattle.std.specs.Prelude.{◌≡◌, IfOk, map};
+ghost use Rattle.std.specs.Prelude.{◌≡◌, IfOk, OnErr, map, true};
 ghost use Rattle.go_block_core.specs.Holding.{imports_in, AreImportsInOrder};
+ghost use Rattle.go_block_core.specs.Naming.{comes_to_package};
 
 use crate::exports::Exports;
 use go_text_core::{Name, Rule};
@@ -28,9 +29,10 @@ impl Imported {
     ///
     /// # Errors
     ///
-    /// `AllocError` where what the package shows has too many owners.
+    /// `AllocError` where what the package shows has too many owners: never of an import that comes to none.
     pub fn share(&self) -> Result<Imported, AllocError>
-        ensures { IfOk result (λ imported. imported ≡ self.now) }
+        ensures same { IfOk result (λ imported. imported ≡ self.now) }
+        ensures memory { OnErr result (comes_to_package self.now ≡ true) }
     {
         match self {
             Imported::Package(exports) => Ok(Imported::Package(exports.share()?)),

@@ -1,6 +1,5 @@
 //! The name of a refused import that is written without one.
 ghost use Rattle.std.specs.Prelude.{◌≡◌, IfOk};
-ghost use Rattle.std.specs.Str.{chars};
 ghost use Rattle.std.specs.List.{list_all};
 ghost use Rattle.go_token_core.specs.Characters.{letter_or_digit};
 ghost use Rattle.go_tree_nodes.specs.Terminals.{value_of};
@@ -8,7 +7,7 @@ ghost use Rattle.go_block_core.specs.Words.{begins_with_letter, is_keyword, iden
 ghost use Rattle.go_block_core.specs.mirrors.Shown.{text_shown};
 
 use go_text_core::{Name, is_digit, is_letter};
-use go_token_core::KEYWORDS;
+use go_token_core::{KEYWORDS, characters_of};
 use go_tree_nodes::TextLiteral;
 use std::alloc::{AllocError, Global};
 use std::str;
@@ -63,13 +62,6 @@ fn as_text(bytes: &[u8]) -> Option<&str>
         Ok(text) => Some(text),
         Err(_) => None,
     }
-}
-
-/// The characters of a text.
-fn characters_of(alloc: Global, text: &str) -> Result<Vec<char>, AllocError>
-    ensures { IfOk result (λ word. word.items ≡ chars text.now) }
-{
-    text.chars().collect(alloc)
 }
 
 /// Whether a text is an identifier other than `_`.

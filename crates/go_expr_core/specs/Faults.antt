@@ -16,7 +16,7 @@ use Rattle.go_local_core.specs.declared.Fault.{Fault}
 use Rattle.go_expr_core.specs.Looks.{Looks}
 use Rattle.go_expr_core.specs.Places.{inside, under_place, left_place, is_literal, is_several, start, item_start}
 use Rattle.go_expr_core.specs.Operators.{unary_of, binary_of}
-use Rattle.go_expr_core.specs.Denoting.{named_type, written_type, denoted, unary_judged, binary_judged}
+use Rattle.go_expr_core.specs.Denoting.{named_type, written_type, denoted, unary_judged}
 use Rattle.go_expr_core.specs.Elements.{key_names, all_keys, keys_of, is_mixed, element_type, element_rule, whole_rule, whole_mode}
 
 abbrev pub fault_at : ℕ → Option Rule → List Fault
@@ -73,14 +73,8 @@ operand_faults looks p e = faults looks p e ++ fault_at (start e) (single_rule (
 abbrev pub unary_faults : {T S D P : Type 0} → Looks T S D P → Stand → Operator → Span → ExprTree → List Fault
 unary_faults looks p op span e = operand_faults looks (under_place op p) e ++ fault_at span.start (unary_judged looks p op e).fault
 
-abbrev pub binary_faults : {T S D P : Type 0} → Looks T S D P → Operator → ExprTree → ExprTree → List Fault
-binary_faults looks op a b = operand_faults looks stands.«Value» a ++ (operand_faults looks stands.«Value» b ++ fault_at (start a) (binary_judged looks op a b).fault)
-
 abbrev pub member_faults : {T S D P : Type 0} → Looks T S D P → Bool → ExprTree → List Fault
 member_faults looks listed e = faults looks stands.«Value» e ++ fault_at (start e) (listed_rule listed (denoted looks stands.«Value» e))
-
-abbrev pub call_faults : {T S D P : Type 0} → Looks T S D P → ExprTree → ItemTrees → List Fault
-call_faults looks e items = faults looks stands.Callee e ++ args_faults looks (is_several items) items
 
 abbrev pub literal_faults : {T S D P : Type 0} → Looks T S D P → ℕ → Option T → ItemTrees → List Fault
 literal_faults looks offset t items =

@@ -1,5 +1,5 @@
 -- What names mean at a place of a function, by the blocks that are open there.
-use Rattle.std.specs.Prelude.{ℕ, List, [], Option, Some, None, slice_get}
+use Rattle.std.specs.Prelude.{ℕ, Bool, true, false, List, [], Option, Some, None, slice_get}
 use Rattle.go_scope_core.specs.block_core.Blocks.{BlocksModel}
 use Rattle.go_scope_core.specs.Scopes as scopes
 use Rattle.go_scope_core.specs.Scopes.{Denoted}
@@ -28,6 +28,11 @@ look_in_scope of_outside s locals name place = some_meaning of_outside locals (d
 -- what a name means among the names that are open
 abbrev pub open_look : {X : Type 0} → (Outside → X) → OpenNames X → NameLook X
 open_look of_outside o = look_in_scope of_outside o.scopes.now o.locals.now
+
+-- a name denotes what a function declares
+abbrev pub is_of_function : Option Denoted → Bool
+is_of_function (Some (scopes.Local id)) = true
+is_of_function _ = false
 
 -- what a name means outside the function: in the blocks of the file, of the package and of the universe
 abbrev pub beyond_in : {X : Type 0} → (Outside → X) → BlocksModel → ℕ → List ℕ → Option X

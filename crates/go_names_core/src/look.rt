@@ -1,7 +1,8 @@
 //! The names that are open at a place of a function.
-ghost use Rattle.std.specs.Prelude.{◌≡◌, ℕ, [], slice_get, IfOk};
+ghost use Rattle.std.specs.Prelude.{◌≡◌, ℕ, [], Some, true, slice_get, IfOk, OnErr};
 ghost use Rattle.go_scope_core.specs.Scopes.{denoted_of};
-ghost use Rattle.go_names_core.specs.Scope.{meaning_of, open_look};
+ghost use Rattle.go_scope_core.specs.Laws.{denotes};
+ghost use Rattle.go_names_core.specs.Scope.{is_of_function, meaning_of, open_look};
 
 use crate::meaning::{Meant, Outside};
 use go_scope_core::open_core::DeclId;
@@ -31,7 +32,8 @@ fn local_meaning<M: Meant>(locals: &[M], number: usize) -> Result<Option<M>, All
 
 // What is found in a scope, as a checker means it.
 fn meaning_of<M: Meant>(locals: &[M], found: InScope) -> Result<Option<M>, AllocError>
-    ensures { IfOk result (λ meaning. meaning ≡ meaning_of M.outside locals.now (denoted_of found.entry)) }
+    ensures meaning { IfOk result (λ meaning. meaning ≡ meaning_of M.outside locals.now (denoted_of found.entry)) }
+    ensures memory { OnErr result (is_of_function (Some (denoted_of found.entry)) ≡ true) }
 {
     match found {
         InScope::Local(DeclId(number)) => local_meaning(locals, number),
@@ -69,9 +71,10 @@ impl<'a, M: Meant> OpenNames<'a, M> {
     ///
     /// # Errors
     ///
-    /// [`AllocError`] where memory is wanting for what is shared with the meaning of a local ([`Meant::again`]).
+    /// [`AllocError`] where memory is wanting for what is shared with the meaning of a local ([`Meant::again`]), and of nothing else.
     pub fn find(&self, name: &str) -> Result<Option<M>, AllocError>
-        ensures { IfOk result (λ meaning. (place : ℕ) → meaning ≡ open_look M.outside self.now name.now place) }
+        ensures meaning { IfOk result (λ meaning. (place : ℕ) → meaning ≡ open_look M.outside self.now name.now place) }
+        ensures memory { OnErr result (is_of_function (denotes self.now.scopes.now name.now) ≡ true) }
     {
         match self.scopes.find(name) {
             Some(found) => meaning_of(self.locals, found),

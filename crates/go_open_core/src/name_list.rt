@@ -1,5 +1,5 @@
 //! Lists of names, each once.
-ghost use Rattle.std.specs.Prelude.{◌≡◌, [], ◌∷◌, ◌++◌, IfOk, IfErr, OnOk, map, not, false};
+ghost use Rattle.std.specs.Prelude.{◌≡◌, [], ◌∷◌, ◌++◌, IfOk, IfErr, OnErr, OnOk, map, not, false};
 ghost use Rattle.go_open_core.specs.Blocks.{is_listed, list_name, list_names};
 
 use go_text_core::Rule;
@@ -37,6 +37,8 @@ fn insert<'a>(names: &mut IndexSet<&'a str>, name: &'a str) -> Result<bool, Rule
     ensures added { IfOk result (λ added. added ≡ not (is_listed (map (λ n. n.now) names.old.keys) name.now)) }
     ensures ok { OnOk result (map (λ n. n.now) names.new.keys ≡ list_name (map (λ n. n.now) names.old.keys) name.now) }
     ensures err { IfErr result (λ rule. rule ≡ Rule.M0) }
+    ensures kept { OnErr result (map (λ n. n.now) names.new.keys ≡ map (λ n. n.now) names.old.keys) }
+    ensures absent { OnErr result (is_listed (map (λ n. n.now) names.old.keys) name.now ≡ false) }
 {
     match names.insert(name) {
         Ok(added) => Ok(added),
@@ -60,6 +62,7 @@ fn is_among(names: &[&str], name: &str) -> bool
 fn append<'a>(names: &mut Vec<&'a str>, name: &'a str) -> Result<(), Rule>
     ensures ok { OnOk result (map (λ n. n.now) names.new.items ≡ map (λ n. n.now) names.old.items ++ name.now ∷ []) }
     ensures err { IfErr result (λ rule. rule ≡ Rule.M0) }
+    ensures kept { OnErr result (names.new.items ≡ names.old.items) }
 {
     match names.push(name) {
         Ok(()) => Ok(()),
@@ -77,6 +80,8 @@ fn add_behind<'a>(
     ensures added { IfOk result (λ added. added ≡ not (is_listed (map (λ n. n.now) few.old.items ++ map (λ n. n.now) more.old.keys) name.now)) }
     ensures ok { OnOk result (map (λ n. n.now) few.new.items ++ map (λ n. n.now) more.new.keys ≡ list_name (map (λ n. n.now) few.old.items ++ map (λ n. n.now) more.old.keys) name.now) }
     ensures err { IfErr result (λ rule. rule ≡ Rule.M0) }
+    ensures kept { OnErr result (map (λ n. n.now) few.new.items ++ map (λ n. n.now) more.new.keys ≡ map (λ n. n.now) few.old.items ++ map (λ n. n.now) more.old.keys) }
+    ensures absent { OnErr result (is_listed (map (λ n. n.now) few.old.items ++ map (λ n. n.now) more.old.keys) name.now ≡ false) }
 {
     if more.is_empty() && few.len() < FEW {
         append(few, name)?;
@@ -97,11 +102,17 @@ impl<'a> NameList<'a> {
         }
     }
 
-    /// Adds a name, unless it is there, and answers whether it was not. Errors: M0 where memory is wanting.
+    /// Adds a name, unless it is there, and answers whether it was not.
+    ///
+    /// # Errors
+    ///
+    /// `Rule::M0` where the name is not there and memory is wanting. The list is then as it was.
     pub fn add(&mut self, name: &'a str) -> Result<bool, Rule>
         ensures added { IfOk result (λ added. added ≡ not (is_listed self.old name.now)) }
         ensures ok { OnOk result (self.new ≡ list_name self.old name.now) }
         ensures err { IfErr result (λ rule. rule ≡ Rule.M0) }
+        ensures kept { OnErr result (self.new ≡ self.old) }
+        ensures absent { OnErr result (is_listed self.old name.now ≡ false) }
     {
         if is_among(self.few.as_slice(), name) {
             return Ok(false);
@@ -109,7 +120,11 @@ impl<'a> NameList<'a> {
         add_behind(&mut self.few, &mut self.more, name)
     }
 
-    /// Adds names, each unless it is there. Errors: M0 where memory is wanting.
+    /// Adds names, each unless it is there.
+    ///
+    /// # Errors
+    ///
+    /// `Rule::M0` where memory is wanting. Some of the names may have been added then.
     pub fn add_all(&mut self, more: &[&'a str]) -> Result<(), Rule>
         ensures ok { OnOk result (self.new ≡ list_names self.old (map (λ n. n.now) more.now)) }
         ensures err { IfErr result (λ rule. rule ≡ Rule.M0) }
