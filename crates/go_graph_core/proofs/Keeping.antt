@@ -1,5 +1,5 @@
 -- What a put and a replacement keep of packages, and what look-ups find after them.
-use Rattle.std.proofs.Common.{◌≡◌, ◌≢◌, ℕ, zero, suc, ◌<◌, inl, inr, Bool, true, false, not, cond, List, [], ◌∷◌, ◌++◌, length, get_or, All, Option, Some, None, refl, sym, ◌∙◌, ap, subst, arith}
+use Rattle.std.proofs.Common.{◌≡◌, ◌≢◌, ℕ, zero, suc, ◌<◌, inl, inr, Bool, true, false, not, cond, List, [], ◌∷◌, ◌++◌, length, get_or, All, Option, Some, None, Result, Ok, Err, refl, sym, ◌∙◌, ap, subst, arith}
 use Rattle.std.specs.List.{AllByRecursion, filter}
 use Rattle.std.specs.List.Sorted.{IsStrictlySortedBy, IsPermutation}
 use Rattle.std.specs.Ordering.{match_ordering, is_eq}
@@ -8,6 +8,7 @@ use Rattle.std.specs.Bool.{Decides}
 use Rattle.std.specs.Str.{bytes_eq}
 use Rattle.std.specs.declared.cmp.Ordering.{Ordering}
 use Rattle.std.specs.declared.cmp.Ordering.TheVariants.{Less, Equal, Greater}
+use Rattle.std.specs.Result.{OnErr}
 use Rattle.std.specs.BTreeMap.{insert_entry, is_at}
 use Rattle.std.specs.Map.{keys_of, remove_entry}
 use Rattle.std.proofs.lemmas.Bool.{and_parts, and_from}
@@ -142,6 +143,25 @@ well_replaced own old from one other = record {
   packages = all_all IsPackage (packages_outside own old) (packages_inside own from) (all_filter IsPackage _ old one.packages) (all_filter IsPackage _ from other.packages);
   read = all_all AreAllRead (packages_outside own old) (packages_inside own from) (all_filter AreAllRead _ old one.read) (all_filter AreAllRead _ from other.read);
 }
+
+-- what holds holds of an error
+pub on_err : {T E P : Type 0} (r : Result T E) → P → OnErr r P
+on_err (Ok x) p = tt
+on_err (Err e) p = p
+
+-- a list of which a package passes keeps some
+pub some_kept : (t : PackageModel → Bool) (ps : List PackageModel) (i : ℕ) (x : PackageModel) → i < length ps → x ≡ get_or ps i x → t x ≡ true → 0 < length (filter t ps)
+some_kept t [] i x lt at held = absurd (omega (arith, lt))
+some_kept t (p ∷ ps) zero x lt at held = step (t p) (ap t (sym at) ∙ held)
+  where
+    step : (b : Bool) → b ≡ true → 0 < length (cond b (p ∷ filter t ps) (filter t ps))
+    step true e = omega arith
+    step false e = cc
+some_kept t (p ∷ ps) (suc i) x lt at held = step (t p) (some_kept t ps i x (omega (arith, lt)) at held)
+  where
+    step : (b : Bool) → 0 < length (filter t ps) → 0 < length (cond b (p ∷ filter t ps) (filter t ps))
+    step true some = omega arith
+    step false some = some
 
 -- look-ups
 

@@ -1,6 +1,5 @@
 -- Which files make a package.
 use Rattle.std.specs.Prelude.{◌≡◌, ◌≢◌, ◌<◌, ◌⊎◌, ℕ, List, [], ◌∷◌, length, Result, Ok, Err, Some, None, All, slice_get, codes}
-use Rattle.std.specs.Coded.{Coded, coded×, coded_list, coded_ℕ}
 use Rattle.go_text_core.specs.declared.rule.Rule.TheVariants.{K2, K3, K4}
 use Rattle.go_tree_nodes.specs.declared.names.Ident.{Ident}
 use Rattle.go_tree_nodes.specs.Trees.{FileTree}
@@ -8,14 +7,10 @@ use Rattle.go_parse_core.specs.declared.error.SynFault.{SynFault}
 use Rattle.go_graph_core.specs.declared.assembly.KFault.{KFault}
 use Rattle.go_graph_core.specs.Sources.{SourceModel, clause_of}
 use Rattle.go_graph_core.specs.Workspaces.{PackageModel}
-use Rattle.go_tree_nodes.specs.codes.TreeCodes.{coded_file}
 
 -- the trees of a package's files, each with the name of its file
 abbrev pub Trees : Type 0
 Trees = List (List ℕ × FileTree)
-
-abbrev pub coded_trees : Coded Trees
-coded_trees = coded_list (coded× (coded_list coded_ℕ) coded_file)
 
 -- a file's tree before those of others
 abbrev tree_before : List ℕ → Result FileTree SynFault → Trees → Trees

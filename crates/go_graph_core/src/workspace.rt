@@ -218,9 +218,11 @@ impl Workspace {
     /// # Errors
     ///
     /// `Rule::M0` for want of memory, or where a package has too many owners. The workspace is then as it was.
+    /// A call that has no package to share never answers it.
     pub fn replace(&mut self, own: &Module, from: &Workspace) -> Result<(), Rule>
         ensures ok { OnOk result (Replaces own.now self.old from.now self.new) }
         ensures err { IfErr result (λ rule. (rule ≡ Rule.M0) × (self.new ≡ self.old)) }
+        ensures memory { OnErr result (0 < length (packages_inside own.now from.now)) }
     {
         let alloc = *self.packages.allocator();
         let Ok(inside) = share_inside(alloc, own, from.packages()) else {
@@ -238,9 +240,10 @@ impl Workspace {
     ///
     /// # Errors
     ///
-    /// `AllocError` for want of memory, or where a package has too many owners.
+    /// `AllocError` for want of memory, or where a package has too many owners. A copy of no packages never answers it.
     pub fn copy(&self, alloc: Global) -> Result<Workspace, AllocError>
-        ensures { IfOk result (λ w. w ≡ self.now) }
+        ensures same { IfOk result (λ w. w ≡ self.now) }
+        ensures memory { OnErr result (0 < length self.now) }
     {
         let mut packages = Vec::with_capacity(alloc, self.packages.len())?;
         for package in &self.packages {
@@ -298,12 +301,18 @@ fn lies_inside(package: &PackageSource, own: &Module) -> bool
 }
 
 /// The packages that lie inside a module, shared, in their order.
+///
+/// # Errors
+///
+/// `AllocError` for want of memory, or where a package has too many owners. A call that has no package to share never answers
+/// it.
 fn share_inside(
     alloc: Global,
     own: &Module,
     packages: &[PackageSource],
 ) -> Result<Vec<PackageSource>, AllocError>
-    ensures { IfOk result (λ inside. inside.items ≡ packages_inside own.now packages.now) }
+    ensures inside { IfOk result (λ inside. inside.items ≡ packages_inside own.now packages.now) }
+    ensures memory { OnErr result (0 < length (packages_inside own.now packages.now)) }
 {
     let mut inside = Vec::new(alloc);
     for package in packages {

@@ -14,7 +14,7 @@ pub invariant_of-self-2 : goal.invariant_of-self-2
 invariant_of-self-2 c =
     let own = c.args.own.now in
     let kept : c.retain.new.self.items ≡ packages_outside own c.self.inside.packages.items = filter_same _ (λ p. not (is_path_inside own p.0)) _ (λ x b f' k. search rules) c.reserve.new.self.items c.retain.new.self.items c.retain.ensures.filtered ∙ ap (packages_outside own) c.reserve.ensures.items in
-    let inside : c.in-Ok.inside.items ≡ packages_inside own c.args.from.now = c.in-Ok.ensures ∙ ap (packages_inside own) c.packages.ensures.packages in
+    let inside : c.in-Ok.inside.items ≡ packages_inside own c.args.from.now = c.in-Ok.ensures.inside ∙ ap (packages_inside own) c.packages.ensures.packages in
     let e : c.put_each.new.packages.items ≡ replaced own c.self.inside.packages.items c.args.from.now = c.put_each.ensures ∙ (λ i. put_all (kept i) (inside i)) in
     subst IsWorkspace (sym e) (well_replaced own c.self.inside.packages.items c.args.from.now c.self.invariant c.packages.ensures.well)
 
@@ -22,6 +22,6 @@ pub returns-clause-ok : goal.returns-clause-ok
 returns-clause-ok c =
     let own = c.args.own.now in
     let kept : c.retain.new.self.items ≡ packages_outside own c.self.inside.packages.items = filter_same _ (λ p. not (is_path_inside own p.0)) _ (λ x b f' k. search rules) c.reserve.new.self.items c.retain.new.self.items c.retain.ensures.filtered ∙ ap (packages_outside own) c.reserve.ensures.items in
-    let inside : c.in-Ok.inside.items ≡ packages_inside own c.args.from.now = c.in-Ok.ensures ∙ ap (packages_inside own) c.packages.ensures.packages in
+    let inside : c.in-Ok.inside.items ≡ packages_inside own c.args.from.now = c.in-Ok.ensures.inside ∙ ap (packages_inside own) c.packages.ensures.packages in
     let e : c.put_each.new.packages.items ≡ replaced own c.args.self.now c.args.from.now = c.put_each.ensures ∙ ((λ i. put_all (kept i) (inside i)) ∙ ap (λ l. put_all (packages_outside own l) (packages_inside own c.args.from.now)) c.self.view_is) in
     replaces own c.args.self.now c.args.from.now c.put_each.new.packages.items c.packages.ensures.well.order e
