@@ -6,4 +6,4 @@ use Rattle.go_inline_core.proofs.scoped.is_hidden.Goals as goal
 pub returns : goal.returns
 returns c =
     let place = c.args.ident.now.span.start in
-    c.is_local.ensures ∙ ap is_local (c.in_ok-found.ensures place ∙ ap (λ n. open_look scoped_outside c.args.names.now n place) c.as_str.ensures)
+    c.is_local.ensures ∙ ap is_local (c.in_ok-found.ensures.meaning place ∙ ap (λ n. open_look scoped_outside c.args.names.now n place) c.as_str.ensures)
