@@ -28,7 +28,7 @@ WHOLE = set(
 # Crates between others that pass nothing on: whoever names one lists it beside those that do.
 BESIDE = set()
 # What a crate lists beside, since it alone names some of it: to pass that on would change all crates between.
-ALONE = {"go_site_core": {"go_graph_core", "go_object_core"}, "govisd_snapshot": {"go_mset_core", "go_site_core"}}
+ALONE = {"go_laws_core": {"go_block_core"}, "go_site_core": {"go_graph_core", "go_object_core"}, "govisd_snapshot": {"go_mset_core", "go_site_core"}}
 # Modules that are named as a word of the library, which a reader would take them for: what they are passed on as.
 PASSED_AS = {"All": "AllPackages"}
 PASSED = re.compile(r"(?m)\n?/// What the crates above name of `\w+`\.\npub mod \w+ \{\n.*?\n\}\n", re.S)

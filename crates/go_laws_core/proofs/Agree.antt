@@ -21,7 +21,7 @@ use Rattle.go_snap_core.specs.file_core.Files.{decl_faults, decl_uses, tops_uses
 use Rattle.go_snap_core.specs.file_core.Imports.{imports_uses}
 use Rattle.go_snap_core.specs.file_core.Laws.{FunctionsArePlaced}
 use Rattle.go_snap_core.specs.file_core.Stands.{file_funcs}
-use Rattle.go_snap_core.specs.block_core.Naming.{file_specs}
+use Rattle.go_block_core.specs.Naming.{file_specs}
 use Rattle.go_snap_core.specs.whole_core.LocalLaws.{ImportsBindTheirs}
 use Rattle.go_snap_core.specs.used_core.Used.{TheOutcome, is_declared}
 use Rattle.go_snap_core.specs.ready_core.Packages.{trees_in}

@@ -14,9 +14,9 @@ use Rattle.go_snap_core.specs.graph_core.Imports.{IsEdge, IsOutcome, edge}
 use Rattle.go_snap_core.specs.graph_core.Sources.{SourceModel, IsPlacedSource, IsRead}
 use Rattle.go_snap_core.specs.graph_core.Workspaces.{AreAllRead, IsPackage, IsWorkspace}
 use Rattle.go_snap_core.specs.graph_core.Contents.{placed_content}
-use Rattle.go_snap_core.specs.block_core.declared.imports.Imported.{Imported}
-use Rattle.go_snap_core.specs.block_core.declared.imports.Imported.TheVariants as given
-use Rattle.go_snap_core.specs.block_core.Naming.{IsGiven}
+use Rattle.go_block_core.specs.declared.imports.Imported.{Imported}
+use Rattle.go_block_core.specs.declared.imports.Imported.TheVariants as given
+use Rattle.go_block_core.specs.Naming.{IsGiven}
 use Rattle.go_snap_core.specs.summary_core.Summaries.{SummaryModel}
 use Rattle.go_snap_core.specs.part_core.Parts.{PartModel}
 use Rattle.go_snap_core.specs.whole_core.Inputs.{AreToldTo, ComesTo, IsPassingImport, ReachesPackage, Shown, Tells}

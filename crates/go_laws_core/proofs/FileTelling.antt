@@ -15,9 +15,9 @@ use Rattle.go_snap_core.specs.graph_core.Lists.{AllNumbered}
 use Rattle.go_snap_core.specs.graph_core.Packages.{blank, trees_of}
 use Rattle.go_snap_core.specs.graph_core.Sources.{SourceModel, IsContent, source}
 use Rattle.go_snap_core.specs.graph_core.Workspaces.{PackageModel}
-use Rattle.go_snap_core.specs.block_core.declared.imports.Imported.{Imported}
-use Rattle.go_snap_core.specs.block_core.Naming.{AreInFile}
-use Rattle.go_snap_core.specs.block_core.Growing.{package_weaker}
+use Rattle.go_block_core.specs.declared.imports.Imported.{Imported}
+use Rattle.go_block_core.specs.Naming.{AreInFile}
+use Rattle.go_block_core.proofs.Growing.{package_weaker}
 use Rattle.go_snap_core.specs.used_core.Used.{FileUse}
 use Rattle.go_snap_core.specs.summary_core.Summaries.{SummaryModel}
 use Rattle.go_snap_core.specs.part_core.Inputs.{InputModel, input_with}

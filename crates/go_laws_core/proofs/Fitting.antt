@@ -5,10 +5,10 @@ use Rattle.std.specs.List.{flat_map}
 use Rattle.go_snap_core.specs.graph_core.Packages.{trees_of}
 use Rattle.go_snap_core.specs.graph_core.Workspaces.{PackageModel, IsWorkspace}
 use Rattle.go_snap_core.specs.graph_core.PlanLaws.{has_plan}
-use Rattle.go_snap_core.specs.block_core.declared.imports.Imported.{Imported}
-use Rattle.go_snap_core.specs.block_core.declared.imports.Imported.TheVariants as imported
-use Rattle.go_snap_core.specs.block_core.Exports.{ExportsModel}
-use Rattle.go_snap_core.specs.block_core.GivenSteps.{have_one_each}
+use Rattle.go_block_core.specs.declared.imports.Imported.{Imported}
+use Rattle.go_block_core.specs.declared.imports.Imported.TheVariants as imported
+use Rattle.go_block_core.specs.Exports.{ExportsModel}
+use Rattle.go_block_core.proofs.GivenSteps.{have_one_each}
 use Rattle.go_snap_core.specs.entry_core.Among.{among_to}
 use Rattle.go_snap_core.specs.summary_core.Summaries.{SummaryModel, path_of}
 use Rattle.go_snap_core.specs.whole_core.Known.{IsImportedPath}

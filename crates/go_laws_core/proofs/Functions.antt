@@ -7,9 +7,9 @@ use Rattle.go_tree_nodes.specs.declared.types.TypeName.{TypeName}
 use Rattle.go_tree_nodes.specs.Trees.{TypeTree, FuncTree, DeclTree, Value, Types, Func, TopTree, FileTree, ImportSpecTree, ValueSpecTree, TypeSpecTree}
 use Rattle.go_term_core.specs.decl_core.declared.keys.DeclKey.{DeclKey}
 use Rattle.go_term_core.specs.Terms.{Term, NoType, Predeclared, ErrorType, Defined, PointerTo, StructOf, InterfaceOf, Fields, NoField, AField, Sign}
-use Rattle.go_snap_core.specs.block_core.declared.imports.Imported.{Imported}
-use Rattle.go_snap_core.specs.block_core.declared.imports.Imported.TheVariants as given
-use Rattle.go_snap_core.specs.block_core.Naming.{file_specs}
+use Rattle.go_block_core.specs.declared.imports.Imported.{Imported}
+use Rattle.go_block_core.specs.declared.imports.Imported.TheVariants as given
+use Rattle.go_block_core.specs.Naming.{file_specs}
 use Rattle.go_snap_core.specs.table_core.Entries.{Entry, find_entry, has_method, underlying_in}
 use Rattle.go_snap_core.specs.settle_core.Settled.{settled}
 use Rattle.go_snap_core.specs.embed_core.Owners.{OwnerModel, owner_in, Found, AFieldOf, AMethodOf, AnInterfaces, TheErrorMethod}

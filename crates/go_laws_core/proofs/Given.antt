@@ -4,7 +4,7 @@ use Rattle.std.specs.Prelude.{slice_get}
 use Rattle.go_snap_core.specs.graph_core.Packages.{trees_of}
 use Rattle.go_snap_core.specs.graph_core.PlanLaws.{has_plan}
 use Rattle.go_snap_core.specs.graph_core.Workspaces.{PackageModel, IsWorkspace}
-use Rattle.go_snap_core.specs.block_core.GivenSteps.{have_one_each}
+use Rattle.go_block_core.proofs.GivenSteps.{have_one_each}
 use Rattle.go_snap_core.specs.summary_core.Summaries.{path_of}
 use Rattle.go_snap_core.specs.part_core.Inputs.{IsInput, path_in}
 use Rattle.go_snap_core.specs.part_core.Parts.{PartModel}

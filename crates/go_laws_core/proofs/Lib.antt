@@ -11,6 +11,7 @@ mod ConstantCalling
 mod ConstantLists
 mod ConstantMethods
 pub mod Declaring
+mod EscapeBytes
 pub mod FileStanding
 pub mod FileTelling
 mod Fitting
@@ -34,6 +35,7 @@ mod Scenes
 mod Selecting
 pub mod Snapshots
 pub mod Sound
+mod StringBytes
 mod Tables
 mod Telling
 mod Terms
@@ -42,3 +44,4 @@ mod Uses
 mod Walking
 mod Wider
 mod Within
+mod WordTests

@@ -10,7 +10,7 @@ use Rattle.govisd_core.specs.parse_core.declared.error.SynFault.{SynFault}
 use Rattle.go_snap_core.specs.answer_core.Outer.{fault}
 use Rattle.go_snap_core.specs.graph_core.Packages.{blank, trees_of}
 use Rattle.go_snap_core.specs.graph_core.Sources.{SourceModel, IsContent, source}
-use Rattle.go_snap_core.specs.block_core.Growing.{package_weaker}
+use Rattle.go_block_core.proofs.Growing.{package_weaker}
 use Rattle.go_snap_core.specs.local_core.declared.Fault.{Fault}
 use Rattle.go_snap_core.specs.part_core.Inputs.{input_with}
 use Rattle.go_snap_core.specs.part_core.Parts.{FileOf, PartModel, part_with}

@@ -14,12 +14,12 @@ use Rattle.go_snap_core.specs.local_core.Binding.{Local, bound}
 use Rattle.go_snap_core.specs.local_core.Tables.{IsFuncPlaced}
 use Rattle.go_snap_core.specs.table_core.Entries.{Entry}
 use Rattle.go_snap_core.specs.table_core.Finding.{bytes_same}
-use Rattle.go_snap_core.specs.block_core.declared.binding.Binding.{Binding}
-use Rattle.go_snap_core.specs.block_core.declared.binding.Target.{Target}
-use Rattle.go_snap_core.specs.block_core.declared.binding.Target.TheVariants as targets
-use Rattle.go_snap_core.specs.block_core.declared.imports.Imported.TheVariants as imported
-use Rattle.go_snap_core.specs.block_core.Blocks.{file_binding}
-use Rattle.go_snap_core.specs.block_core.Tables.{in_block}
+use Rattle.go_block_core.specs.declared.binding.Binding.{Binding}
+use Rattle.go_block_core.specs.declared.binding.Target.{Target}
+use Rattle.go_block_core.specs.declared.binding.Target.TheVariants as targets
+use Rattle.go_block_core.specs.declared.imports.Imported.TheVariants as imported
+use Rattle.go_block_core.specs.Blocks.{file_binding}
+use Rattle.go_block_core.specs.Tables.{in_block}
 use Rattle.go_snap_core.specs.names_core.declared.meaning.Outside.{Outside}
 use Rattle.go_snap_core.specs.names_core.declared.meaning.Outside.TheVariants as outsides
 use Rattle.go_snap_core.specs.graph_core.Packages.{trees_of}

@@ -9,10 +9,10 @@ use Rattle.go_snap_core.specs.graph_core.Lists.{AllNumbered}
 use Rattle.go_snap_core.specs.graph_core.Plans.{PlanModel, IsPlan}
 use Rattle.go_snap_core.specs.graph_core.Workspaces.{PackageModel, IsWorkspace}
 use Rattle.go_snap_core.specs.graph_core.Packages.{trees_of}
-use Rattle.go_snap_core.specs.block_core.declared.imports.Imported.{Imported}
-use Rattle.go_snap_core.specs.block_core.declared.imports.Imported.TheVariants as given
-use Rattle.go_snap_core.specs.block_core.Blocks.{BlocksModel}
-use Rattle.go_snap_core.specs.block_core.Exports.{ExportsModel}
+use Rattle.go_block_core.specs.declared.imports.Imported.{Imported}
+use Rattle.go_block_core.specs.declared.imports.Imported.TheVariants as given
+use Rattle.go_block_core.specs.Blocks.{BlocksModel}
+use Rattle.go_block_core.specs.Exports.{ExportsModel}
 use Rattle.go_snap_core.specs.table_core.Entries.{Entry, find_entry}
 use Rattle.go_snap_core.specs.entry_core.Among.{Among, among_from, among_map, among_to}
 use Rattle.go_snap_core.specs.whole_core.LocalLaws.{CheckIsLocal, ImportsBindTheirs}

@@ -4,7 +4,6 @@ pub mod mirrors
 pub mod Snapshots
 pub mod locality_core
 pub mod answer_core
-pub mod block_core
 pub mod body_core
 pub mod code_core
 pub mod decide_core
