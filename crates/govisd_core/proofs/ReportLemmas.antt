@@ -3,7 +3,7 @@ use Rattle.std.proofs.Common.{◌≡◌, ◌≢◌, ◌≤◌, ◌<◌, ℕ, zer
 use Rattle.std.specs.Prelude.{slice_get}
 use Rattle.std.specs.declared.alloc.AllocError.{AllocError}
 use Rattle.std.specs.Str.{IsUtf8}
-use Rattle.std.specs.Io.KnownBytes.{Appends}
+use Rattle.std.specs.Io.KnownBytes.{Appends, Keeps}
 use Rattle.go_text_core.specs.declared.rule.Rule.TheVariants.{E3, K3, L1}
 use Rattle.go_tree_nodes.specs.declared.names.Ident.{Ident}
 use Rattle.go_tree_nodes.specs.Trees.{FileTree}
@@ -19,9 +19,12 @@ use Rattle.go_part_core.specs.Inputs.{InputModel, input_with}
 use Rattle.go_part_core.specs.Parts.{IsPart}
 use Rattle.govisd_lines.specs.Lines.{file_lines}
 use Rattle.govisd_core.specs.Alone.{ImportIsRefused, file_alone, package_alone, the_name, workspace_alone}
-use Rattle.govisd_core.specs.Reports.{TooLong, NoText, BadToken, NoTree, TooHigh, NoName, AFile, IsText, IsFile, HasTokens, IsReport, Reports, ReportsPart, the_fault, max_bytes}
+use Rattle.govisd_core.specs.Reports.{TooLong, NoText, BadToken, NoTree, TooHigh, NoName, AFile, IsText, IsFile, HasTokens, IsEnd, IsReport, ReadsAll, Reports, ReportsPart, end_of, the_fault, max_bytes}
 use Rattle.govisd_core.specs.mirrors.Making.{IsAlone, IsInputIn, IsTold}
+use Rattle.govisd_core.specs.declared.input.InputFault.{InputFault}
+use Rattle.govisd_core.specs.declared.input.InputFault.TheVariants as input_faults
 use Rattle.govisd_core.specs.declared.run.Report.{Report}
+use Rattle.govisd_core.specs.declared.run.ResolveEnd.{ResolveEnd}
 use Rattle.govisd_core.specs.Outputs.{IsCutShort}
 
 tokens_of_fault : (bytes : List ℕ) (fault : SynFault) → IsText bytes → IsTreeFault bytes fault → HasTokens bytes
@@ -144,3 +147,22 @@ reported_part bytes clean out old new made part =
 pub reported_first : (remaining : Option (List ℕ)) (limit : ℕ) (bytes : List ℕ) (clean : Bool) (out : List ℕ) (old new : Option (List ℕ)) → IfSome remaining (λ xs. bytes ≡ take limit xs) → IsReport bytes clean out → IsCutShort old new out → IfSome remaining (λ xs. ReportsPart (take limit xs) old new)
 reported_first None limit bytes clean out old new read made part = tt
 reported_first (Some xs) limit bytes clean out old new read made part = subst (λ b. ReportsPart b old new) read (reported_part bytes clean out old new made part)
+
+-- ---- inputs that are not read
+
+-- why one is not read says how the run ends, and nothing is written
+pub unread_ends : (given : Option (List ℕ)) (n : ℕ) (fault : InputFault) (ending : ResolveEnd) (old new : Option (List ℕ)) → ending ≡ end_of fault → Keeps old new → IfSome given (λ bytes. IsEnd ending (take n bytes) old new)
+unread_ends None n fault ending old new is kept = tt
+unread_ends (Some bytes) n fault ending old new is kept = subst (λ e. IsEnd e (take n bytes) old new) (sym is) (by fault)
+  where
+    by : (f : InputFault) → IsEnd (end_of f) (take n bytes) old new
+    by (input_faults.Reader kind) = kept
+    by input_faults.Memory = kept
+
+pub unread_takes : (given left : Option (List ℕ)) (n : ℕ) (fault : InputFault) (ending : ResolveEnd) → ending ≡ end_of fault → IfSome given (λ bytes. ReadsAll ending (take n bytes) given left)
+unread_takes None left n fault ending is = tt
+unread_takes (Some bytes) left n fault ending is = subst (λ e. ReadsAll e (take n bytes) (Some bytes) left) (sym is) (by fault)
+  where
+    by : (f : InputFault) → ReadsAll (end_of f) (take n bytes) (Some bytes) left
+    by (input_faults.Reader kind) = tt
+    by input_faults.Memory = tt

@@ -14,6 +14,8 @@ use Rattle.govisd_lines.specs.Lines.{fault_line, file_lines}
 use Rattle.go_part_core.specs.parse_core.Correct.{HasNoTree, HasNoLowTree}
 use Rattle.go_part_core.specs.parse_core.Parsing.{IsParse}
 use Rattle.go_part_core.specs.parse_core.Refusing.{IsRuleRead}
+use Rattle.govisd_core.specs.declared.input.InputFault.{InputFault}
+use Rattle.govisd_core.specs.declared.input.InputFault.TheVariants as input_faults
 use Rattle.govisd_core.specs.declared.run.ResolveEnd.{ResolveEnd}
 use Rattle.govisd_core.specs.declared.run.ResolveEnd.TheVariants.{Clean, Faults, ReadFault, WriteFault, Memory}
 use Rattle.govisd_core.specs.Outputs.{IsCutShort}
@@ -106,6 +108,11 @@ IsEnd Faults bytes old new = Reports false bytes old new
 IsEnd ReadFault bytes old new = Keeps old new
 IsEnd Memory bytes old new = Keeps old new
 IsEnd WriteFault bytes old new = ReportsPart bytes old new
+
+-- how a run ends whose input is not read, by why
+abbrev pub end_of : InputFault → ResolveEnd
+end_of (input_faults.Reader kind) = ReadFault
+end_of input_faults.Memory = Memory
 
 -- where a report was made, all the bytes were read, and no others
 abbrev pub ReadsAll : ResolveEnd → List ℕ → Option (List ℕ) → Option (List ℕ) → Type 0

@@ -1,7 +1,8 @@
 //! Reading the input of a run.
-ghost use Rattle.std.specs.Prelude.{◌≡◌, ◌≤◌, ◌<◌, take, IfOk, IfErr, IfSome};
+ghost use Rattle.std.specs.Prelude.{◌≡◌, ◌+◌, ◌≤◌, ◌<◌, take, IfOk, IfErr, IfSome};
 ghost use Rattle.std.specs.Io.KnownBytes.{Consumes};
 ghost use Rattle.govisd_core.specs.Inputs.{ReadsBehind, IsUninterrupted, ReadsUpTo};
+ghost use Rattle.govisd_core.specs.Reports.{max_bytes};
 
 use crate::failing::is_interruption;
 use std::alloc::Global;
@@ -50,10 +51,10 @@ fn read_part<R: Read>(reader: &mut R, bytes: &mut Vec<u8>, room: usize) -> Resul
 /// A read that is interrupted is made again. The error of one that fails otherwise is the fault, and so is
 /// [`ErrorKind::TimedOut`] where the bytes want more than 2,097,152 reads. No byte beyond the limit is read.
 pub fn read_input<R: Read>(alloc: Global, reader: &mut R) -> Result<Vec<u8>, InputFault>
-    ensures ok { IfOk result (λ v. IfSome (R.remaining reader.old) (λ bytes. v.items ≡ take LIMIT bytes)) }
+    ensures ok { IfOk result (λ v. IfSome (R.remaining reader.old) (λ bytes. v.items ≡ take (max_bytes + 1) bytes)) }
     ensures taken { IfOk result (λ v. Consumes (R.remaining reader.old) (R.remaining reader.new) v.items) }
     ensures err { IfErr result IsUninterrupted }
-    ensures few { ReadsUpTo LIMIT (R.remaining reader.old) (R.remaining reader.new) }
+    ensures few { ReadsUpTo (max_bytes + 1) (R.remaining reader.old) (R.remaining reader.new) }
 {
     let mut bytes = Vec::new(alloc);
     for _turn in 0..READS {

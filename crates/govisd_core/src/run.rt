@@ -1,8 +1,8 @@
 //! A run of `govisd resolve`, from a reader to a writer.
-ghost use Rattle.std.specs.Prelude.{◌≡◌, false, take, string_bytes, IfOk, IfSome, Ok};
+ghost use Rattle.std.specs.Prelude.{◌≡◌, ◌+◌, false, take, string_bytes, IfOk, IfSome, Ok};
 ghost use Rattle.go_tree_nodes.specs.Shapes.{file_of};
 ghost use Rattle.govisd_core.specs.Inputs.{ReadsUpTo};
-ghost use Rattle.govisd_core.specs.Reports.{IsReport, IsEnd, IsText, ReadsAll, has_no_items, the_fault};
+ghost use Rattle.govisd_core.specs.Reports.{IsReport, IsEnd, IsText, ReadsAll, end_of, has_no_items, max_bytes, the_fault};
 ghost use Rattle.govisd_core.specs.mirrors.Making.{HasOneFile, IsAlone, IsTold};
 ghost use Rattle.go_tree_nodes.specs.Spelling.{IsPlaced};
 
@@ -135,6 +135,16 @@ fn report_of(alloc: Global, bytes: Vec<u8>) -> Result<Report, AllocError>
     }
 }
 
+// How a run ends whose input is not read.
+fn end_of(fault: InputFault) -> ResolveEnd
+    ensures { result ≡ end_of fault }
+{
+    match fault {
+        InputFault::Reader(_) => ResolveEnd::ReadFault,
+        InputFault::Memory => ResolveEnd::Memory,
+    }
+}
+
 /// Reads a Go file, and writes what each identifier, import and call in it denotes.
 ///
 /// The file is taken as `in.go`, the one file of the package of the path `local`, in a workspace without other packages. A file has a line
@@ -148,14 +158,13 @@ fn report_of(alloc: Global, bytes: Vec<u8>) -> Result<Report, AllocError>
 /// The report is made before any of it is written, and where the writer fails, what it took is a first part of the report. Reads and writes that
 /// are interrupted are made again. What the reader has beyond 1,048,577 bytes stays in it.
 pub fn run_resolve<R: Read, W: Write>(alloc: Global, reader: &mut R, writer: &mut W) -> ResolveEnd
-    ensures end { IfSome (R.remaining reader.old) (λ bytes. IsEnd result (take LIMIT bytes) (W.contents writer.old) (W.contents writer.new)) }
-    ensures few { ReadsUpTo LIMIT (R.remaining reader.old) (R.remaining reader.new) }
-    ensures all { IfSome (R.remaining reader.old) (λ bytes. ReadsAll result (take LIMIT bytes) (R.remaining reader.old) (R.remaining reader.new)) }
+    ensures end { IfSome (R.remaining reader.old) (λ bytes. IsEnd result (take (max_bytes + 1) bytes) (W.contents writer.old) (W.contents writer.new)) }
+    ensures few { ReadsUpTo (max_bytes + 1) (R.remaining reader.old) (R.remaining reader.new) }
+    ensures all { IfSome (R.remaining reader.old) (λ bytes. ReadsAll result (take (max_bytes + 1) bytes) (R.remaining reader.old) (R.remaining reader.new)) }
 {
     let bytes = match read_input(alloc, reader) {
         Ok(bytes) => bytes,
-        Err(InputFault::Reader(_)) => return ResolveEnd::ReadFault,
-        Err(InputFault::Memory) => return ResolveEnd::Memory,
+        Err(fault) => return end_of(fault),
     };
     let Ok(report) = report_of(alloc, bytes) else {
         return ResolveEnd::Memory;

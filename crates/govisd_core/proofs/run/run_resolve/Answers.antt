@@ -2,9 +2,15 @@ use Rattle.std.proofs.Common.{false, subst}
 use Rattle.std.specs.Io.KnownBytes.{Appends}
 use Rattle.govisd_core.specs.Outputs.{IsCutShort}
 use Rattle.govisd_core.specs.Reports.{IsReport}
-use Rattle.govisd_core.proofs.OutputLemmas.{all_written, cut_short}
-use Rattle.govisd_core.proofs.ReportLemmas.{reported_all, reported_first}
+use Rattle.govisd_core.proofs.OutputLemmas.{all_written, cut_short, keeps_same}
+use Rattle.govisd_core.proofs.ReportLemmas.{reported_all, reported_first, unread_ends, unread_takes}
 use Rattle.govisd_core.proofs.run.run_resolve.Goals as goal
+
+pub returns-in-Err-clause-end : goal.returns-in-Err-clause-end
+returns-in-Err-clause-end g c = unread_ends (g.R.Read.remaining c.args.reader.now) 1048577 c.in-Err.fault c.end_of.result _ _ c.end_of.ensures (keeps_same _)
+
+pub returns-in-Err-clause-all : goal.returns-in-Err-clause-all
+returns-in-Err-clause-all g c = unread_takes (g.R.Read.remaining c.args.reader.now) _ 1048577 c.in-Err.fault c.end_of.result c.end_of.ensures
 
 pub returns-then-is_err-clause-end : goal.returns-then-is_err-clause-end
 returns-then-is_err-clause-end g c =
