@@ -13,4 +13,4 @@ made_anew-requires c =
 pub join-requires : goal.join-requires
 join-requires c =
     let s = c.args.snapshot.now in
-    are_parts_of s.sources c.in_ok-workspace.workspace s.parts c.in_ok-parts.parts.items c.sources-sources.ensures.whole.made (c.in_ok-workspace.ensures ∙ c.sources-sources.ensures.value) (c.in_ok-parts.ensures ∙ ap (λ l. reverse (somes l)) c.parts.ensures)
+    are_parts_of s.sources c.in_ok-workspace.workspace s.parts c.in_ok-parts.parts.items c.sources-sources.ensures.whole.made (c.in_ok-workspace.ensures.same ∙ c.sources-sources.ensures.value) (c.in_ok-parts.ensures ∙ ap (λ l. reverse (somes l)) c.parts.ensures)
