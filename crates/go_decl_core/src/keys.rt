@@ -1,6 +1,6 @@
 //! How a declaration is known in its package and in a workspace.
 ghost use Rattle.std.specs.Prelude.{◌≡◌, ◌↔◌, IfOk, IsTrue};
-ghost use Rattle.go_decl_core.specs.Order.{place_cmp};
+ghost use Rattle.go_decl_core.specs.Order.{is_ref_before, place_cmp};
 
 use crate::places::DeclKind;
 use go_path_core::ImportPath;
@@ -15,6 +15,15 @@ pub struct DeclRef {
     /// Its number among the identifiers that the file declares outside function bodies, from 0.
     pub number: usize,
     pub kind: DeclKind,
+}
+
+impl DeclRef {
+    /// Whether it stands before another of its package: by file, then by number there. What they declare does not count.
+    pub fn is_before(self, other: DeclRef) -> bool
+        ensures { result ≡ is_ref_before self other }
+    {
+        self.file < other.file || (self.file == other.file && self.number < other.number)
+    }
 }
 
 /// The order in which declarations of a package stand: by file, then by number there. What they declare does not count.

@@ -4,8 +4,8 @@ use Rattle.std.specs.Prelude.{Option, Some, None, Result, Ok, Err, MatchOption, 
 use Rattle.std.specs.List.{list_all}
 use Rattle.go_text_core.specs.Text.{is_blank}
 use Rattle.go_text_core.specs.declared.rule.Rule.TheVariants.{N8, S4, S8, C2, C3, C4, X1}
+use Rattle.go_tree_nodes.specs.declared.usage.Usage.{Usage}
 use Rattle.go_denote_core.specs.declared.things.Stand.{Stand}
-use Rattle.go_denote_core.specs.declared.things.Usage.{Usage}
 use Rattle.go_denote_core.specs.declared.things.Builtin.TheVariants as builtins
 use Rattle.go_denote_core.specs.declared.things.Denoted.{Denoted}
 use Rattle.go_denote_core.specs.declared.things.Denoted.TheVariants as denotes

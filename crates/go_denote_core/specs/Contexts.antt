@@ -1,7 +1,7 @@
 -- What an identifier has in its context, which is known without its spelling.
 use Rattle.std.specs.Prelude.{ℕ, List}
+use Rattle.go_tree_nodes.specs.declared.usage.Usage.{Usage}
 use Rattle.go_denote_core.specs.declared.things.Stand.{Stand}
-use Rattle.go_denote_core.specs.declared.things.Usage.{Usage}
 use Rattle.go_denote_core.specs.declared.things.Dot.{Dot}
 use Rattle.go_denote_core.specs.declared.things.Outcome.{Outcome}
 use Rattle.go_denote_core.specs.Look.{Look}

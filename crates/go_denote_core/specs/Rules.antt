@@ -7,6 +7,8 @@ use Rattle.std.specs.List.{list_any, zip}
 use Rattle.go_text_core.specs.Text.{is_blank}
 use Rattle.go_text_core.specs.declared.rule.Rule.{Rule}
 use Rattle.go_text_core.specs.declared.rule.Rule.TheVariants.{N1, N2, N3, N4, N5, N6, N7, N8, N9, S4, S5, S6, S8, C1, C2, C3, C4, X1}
+use Rattle.go_tree_nodes.specs.declared.usage.Usage.{Usage}
+use Rattle.go_tree_nodes.specs.declared.usage.Usage.TheVariants as usages
 use Rattle.go_term_core.specs.declared.term.Basic.TheVariants as basics
 use Rattle.go_operand_core.specs.declared.types.Operand.{Operand}
 use Rattle.go_operand_core.specs.Values.{is_over, basic_under, default_type}
@@ -14,8 +16,6 @@ use Rattle.go_operand_core.specs.Assign.{assignable_to}
 use Rattle.go_operand_core.specs.Conversions.{makes_text, fits as is_convertible}
 use Rattle.go_denote_core.specs.declared.things.Stand.{Stand}
 use Rattle.go_denote_core.specs.declared.things.Stand.TheVariants as stands
-use Rattle.go_denote_core.specs.declared.things.Usage.{Usage}
-use Rattle.go_denote_core.specs.declared.things.Usage.TheVariants as usages
 use Rattle.go_denote_core.specs.declared.things.Builtin.{Builtin}
 use Rattle.go_denote_core.specs.declared.things.Builtin.TheVariants as builtins
 use Rattle.go_denote_core.specs.declared.things.Outcome.{Outcome}

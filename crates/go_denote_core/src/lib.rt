@@ -26,7 +26,7 @@ pub use laws::{
 pub use looks::Names;
 pub use selectors::{dot_of, selector_answer};
 pub use things::{
-    Answer, Argument, Builtin, Denoted, Dot, Exported, Found, Outcome, Selection, Stand, Usage,
+    Answer, Argument, Builtin, Denoted, Dot, Exported, Found, Outcome, Selection, Stand,
 };
 
 /// What the crates above name of `go_constant_core`.

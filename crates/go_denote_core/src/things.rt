@@ -19,17 +19,6 @@ pub enum Stand {
     BeforeDot,
 }
 
-/// How a selector as a whole is used.
-#[derive(Clone, Copy)]
-pub enum Usage {
-    /// As a type.
-    Type,
-    /// As an operand.
-    Value,
-    /// As what is called.
-    Callee,
-}
-
 /// A predeclared function.
 #[derive(Clone, Copy)]
 pub enum Builtin {

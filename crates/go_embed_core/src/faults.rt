@@ -11,8 +11,8 @@ ghost use Rattle.go_type_core.specs.settle_core.Settled.{can_be_pointed};
 
 use go_path_core::ImportPath;
 use go_term_core::FieldLine;
-use go_text_core::{Name, Rule, add};
-use go_type_core::settle_core::{SeenNames, is_blank};
+use go_text_core::{Name, Rule, add, is_blank};
+use go_type_core::settle_core::SeenNames;
 use go_type_core::table_core::FieldTable;
 use go_type_core::{
     DeclaredMethod, Field, Kind, Kinds, MemberPlace, Method, Signature, TypeTerm, can_embed,

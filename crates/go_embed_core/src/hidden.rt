@@ -10,8 +10,7 @@ ghost use Rattle.go_embed_core.specs.mirrors.Passing.{SameNames, names_with};
 
 use crate::faults::{MemberFault, note_if};
 use go_path_core::ImportPath;
-use go_text_core::Rule;
-use go_type_core::settle_core::is_blank;
+use go_text_core::{Rule, is_blank};
 use go_type_core::table_core::FieldTable;
 use go_type_core::{DeclaredMethod, Field, TypeTerm};
 use indexmap::IndexSet;

@@ -20,13 +20,6 @@ use go_tree_nodes::{FuncDecl, Receiver, TypeName};
 use go_written_core::{TypeNames, WrittenIn, write_signature};
 use std::alloc::{AllocError, Global};
 
-// Whether a declaration stands before another of its package: by file, then by number there.
-fn is_before(one: DeclRef, other: DeclRef) -> bool
-    ensures { result ≡ is_ref_before one other }
-{
-    one.file < other.file || (one.file == other.file && one.number < other.number)
-}
-
 // How many entries stand before a declaration.
 fn count_before(entries: &[TypeEntry], decl: DeclRef) -> usize
     requires { KeysRise (map entry_shown entries.now) }
@@ -36,7 +29,7 @@ fn count_before(entries: &[TypeEntry], decl: DeclRef) -> usize
     entries.partition_point(
         |entry: &TypeEntry| -> bool
             ensures { result ≡ is_ref_before entry.now.key.decl decl }
-        { is_before(entry.key.decl, decl) },
+        { entry.key.decl.is_before(decl) },
     )
 }
 

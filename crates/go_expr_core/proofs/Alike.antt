@@ -8,6 +8,8 @@ use Rattle.go_tree_nodes.specs.declared.names.Ident.{Ident}
 use Rattle.go_tree_nodes.specs.declared.exprs.Key.{Key}
 use Rattle.go_tree_nodes.specs.declared.types.TypeName.{TypeName}
 use Rattle.go_tree_nodes.specs.declared.types.TypeName.TheVariants as type_names
+use Rattle.go_tree_nodes.specs.declared.usage.Usage.{Usage}
+use Rattle.go_tree_nodes.specs.declared.usage.Usage.TheVariants as usages
 use Rattle.go_tree_nodes.specs.Trees.{TypeTree, FieldTrees, MethodTrees, SignatureTree, ResultTree, ParamTrees, NamedType, Pointer, ParenType, Struct, Interface, NoFields, NamedFields, EmbeddedField, NoMethods, Method, Signed, NoResult, OneResult, Results, NoParams, Param, ExprTree, ItemTrees, Integer, Text, Named, Paren, Unary, Binary, Select, Call, Literal, StructLiteral, NoItems, Item}
 use Rattle.go_tree_nodes.specs.WrittenTypes.{expr_types, items_types}
 use Rattle.go_tree_nodes.specs.Counts.{item_count}
@@ -17,8 +19,6 @@ use Rattle.go_literal_core.specs.operand_core.TypeRules.{TypeRules}
 use Rattle.go_literal_core.specs.operand_core.Values.{default_type}
 use Rattle.go_literal_core.specs.denote_core.declared.things.Stand.{Stand}
 use Rattle.go_literal_core.specs.denote_core.declared.things.Stand.TheVariants as stands
-use Rattle.go_literal_core.specs.denote_core.declared.things.Usage.{Usage}
-use Rattle.go_literal_core.specs.denote_core.declared.things.Usage.TheVariants as usages
 use Rattle.go_literal_core.specs.denote_core.declared.things.Builtin.TheVariants as builtins
 use Rattle.go_literal_core.specs.denote_core.declared.things.Dot.{Dot}
 use Rattle.go_literal_core.specs.denote_core.declared.things.Dot.TheVariants as dots
@@ -45,7 +45,7 @@ use Rattle.go_literal_core.specs.Literals.{is_struct, literal_type, literal_deno
 use Rattle.go_literal_core.specs.Keys.{refused_key, found_key, key_answer}
 use Rattle.go_local_core.specs.declared.Fault.{Fault}
 use Rattle.go_expr_core.specs.Looks.{WrittenRules, Looks, look_of_place, literals_at}
-use Rattle.go_expr_core.specs.Places.{inside, under_place, left_place, whole, is_name, is_literal, is_lone_call, is_several, start, item_start, place_role, role_usage}
+use Rattle.go_expr_core.specs.Places.{inside, under_place, left_place, whole, is_name, is_literal, is_lone_call, is_several, start, item_start, place_role}
 use Rattle.go_tree_nodes.specs.Starts.{type_name_start, type_start}
 use Rattle.go_expr_core.specs.Operators.{unary_of, binary_of}
 use Rattle.go_expr_core.specs.Denoting.{ident_answer, type_name_answer, named_type, written_type, denoted, denoted_items, select_answer, called_answer}
@@ -221,8 +221,8 @@ module _ {T S D P : Type 0} (looks : Looks T S D P) (find : List ℕ → ℕ →
   name_uses : (n : TypeName) → Agrees (type_name_idents n) → type_name_uses looks n ≡ type_name_uses other n
   name_uses (type_names.Plain x) h = ap (λ (a : Answer T S D P). made_use x.span.start roles.«Type» a.outcome ∷ []) (name_same stands.«Type» x h.0)
   name_uses (type_names.Qualified p dot x) h =
-      ap (λ (a : Answer T S D P). made_use p.span.start roles.Qualifier a.outcome ∷ (made_use x.span.start (roles.Selector (role_usage usages.«Type»)) (type_name_answer looks (type_names.Qualified p dot x)).outcome ∷ [])) (name_same stands.TypeDot p h.0)
-      ∙ ap (λ (a : Answer T S D P). made_use p.span.start roles.Qualifier (ident_answer other stands.TypeDot p).outcome ∷ (made_use x.span.start (roles.Selector (role_usage usages.«Type»)) a.outcome ∷ [])) (type_name_same (type_names.Qualified p dot x) h)
+      ap (λ (a : Answer T S D P). made_use p.span.start roles.Qualifier a.outcome ∷ (made_use x.span.start (roles.Selector usages.«Type») (type_name_answer looks (type_names.Qualified p dot x)).outcome ∷ [])) (name_same stands.TypeDot p h.0)
+      ∙ ap (λ (a : Answer T S D P). made_use p.span.start roles.Qualifier (ident_answer other stands.TypeDot p).outcome ∷ (made_use x.span.start (roles.Selector usages.«Type») a.outcome ∷ [])) (type_name_same (type_names.Qualified p dot x) h)
 
   mutual
     type_used : (t : TypeTree) → Agrees (type_idents t) → type_uses looks t ≡ type_uses other t
@@ -368,7 +368,7 @@ module _ {T S D P : Type 0} (looks : Looks T S D P) (find : List ℕ → ℕ →
         mapped _ _ (spots looks stands.«Value» a) (spots looks stands.«Value» b) (spots other stands.«Value» a) (spots other stands.«Value» b) (used_same stands.«Value» a (left (expr_idents a) (expr_idents b) (expr_types a) (expr_types b) h)) (used_same stands.«Value» b (right (expr_idents a) (expr_idents b) (expr_types a) (expr_types b) h))
     used_same p (Select e dot x) h =
         mapped _ _ (spots looks (left_place p e) e) _ (spots other (left_place p e) e) _ (used_same (left_place p e) e h)
-        (ap (λ (a : Answer T S D P). made_use x.span.start (roles.Selector (role_usage (whole p))) a.outcome ∷ []) (select_same p e x h))
+        (ap (λ (a : Answer T S D P). made_use x.span.start (roles.Selector (whole p)) a.outcome ∷ []) (select_same p e x h))
     used_same p (Call e first items last) h =
         mapped _ _ (spots looks stands.Callee e) _ (spots other stands.Callee e) _ (used_same stands.Callee e (left (expr_idents e) (items_idents items) (expr_types e) (items_types items) h))
         (ap (λ (a : Answer T S D P). made_use first.start roles.Call a.outcome ∷ args_uses looks items) (call_same first.start _ _ (is_lone_call items) _ _ (denoted_same stands.Callee e (left (expr_idents e) (items_idents items) (expr_types e) (items_types items) h)) (denoted_all items (right (expr_idents e) (items_idents items) (expr_types e) (items_types items) h)))

@@ -18,7 +18,7 @@ use Rattle.go_tree_core.specs.Occurrences as occ
 use Rattle.go_literal_core.specs.denote_core.declared.things.Stand.{Stand}
 use Rattle.go_literal_core.specs.denote_core.declared.things.Stand.TheVariants as stands
 use Rattle.go_expr_core.specs.Looks.{Looks}
-use Rattle.go_expr_core.specs.Places.{inside, under_place, left_place, whole, place_role, role_usage}
+use Rattle.go_expr_core.specs.Places.{inside, under_place, left_place, whole, place_role}
 use Rattle.go_expr_core.specs.Uses.{Spot, Identifier, CallAt, role_of, use_of, type_name_spots, type_spots, fields_spots, methods_spots, signature_spots, result_spots, params_spots, key_spots, spots, args_spots, items_spots}
 use Rattle.go_expr_core.specs.Laws.{context_of, use_place, occurrence_place, UsesAreOccurrences}
 
@@ -95,7 +95,7 @@ under_same operators.Star stands.Callee = refl
 under_same operators.Star stands.BeforeDot = refl
 under_same _ p = refl
 
-whole_same : (p : Stand) → role_usage (whole p) ≡ occ.whole_usage (context_of p)
+whole_same : (p : Stand) → whole p ≡ occ.whole_usage (context_of p)
 whole_same stands.«Type» = refl
 whole_same stands.TypeDot = refl
 whole_same stands.«Value» = refl

@@ -6,14 +6,13 @@ use Rattle.std.proofs.lemmas.Result.{on_ok_weaker}
 use Rattle.go_tree_nodes.specs.declared.names.Ident.{Ident}
 use Rattle.go_tree_nodes.specs.declared.exprs.Key.{Key}
 use Rattle.go_tree_nodes.specs.declared.exprs.«Item» as declared_item
+use Rattle.go_tree_nodes.specs.declared.usage.Usage.{Usage}
 use Rattle.go_tree_nodes.specs.Shapes.{items_of, shape_key}
-use Rattle.go_tree_core.specs.declared.occurrence.Role.{Role}
 use Rattle.go_tree_core.specs.declared.occurrence.Role.TheVariants as roles
 use Rattle.go_literal_core.specs.denote_core.declared.things.Answer.{Answer}
 use Rattle.go_literal_core.specs.denote_core.declared.things.Argument.{Argument}
 use Rattle.go_literal_core.specs.denote_core.declared.things.Denoted.{Denoted}
 use Rattle.go_literal_core.specs.denote_core.declared.things.Dot.{Dot}
-use Rattle.go_literal_core.specs.denote_core.declared.things.Usage.{Usage}
 use Rattle.go_literal_core.specs.denote_core.Look.{Look}
 use Rattle.go_literal_core.specs.denote_core.Selectors.{selector_answer}
 use Rattle.go_literal_core.specs.denote_core.Calls.{call_answer}
@@ -22,7 +21,7 @@ use Rattle.go_literal_core.specs.declared.things.KeyMark.{KeyMark}
 use Rattle.go_literal_core.specs.Marks.{marked_answer}
 use Rattle.go_expr_core.specs.declared.things.Use.{Use}
 use Rattle.go_expr_core.specs.Looks.{Looks, look_of_place, literals_at}
-use Rattle.go_expr_core.specs.Places.{role_usage, is_several, is_lone_call}
+use Rattle.go_expr_core.specs.Places.{is_several, is_lone_call}
 use Rattle.go_expr_core.specs.Uses.{made_use, behind_use}
 use Rattle.go_tree_nodes.specs.Trees.{ExprTree}
 use Rattle.go_tree_nodes.specs.Counts.{item_count}
@@ -59,11 +58,11 @@ pub called_as : {T S D P E : Type 0} (r : Result (Answer T S D P) E) (look : Loo
     → IfOk r (λ a. a ≡ call_answer look callee b l) → IfOk r (λ a. a ≡ call_answer look callee b2 l2)
 called_as r look callee b b2 l l2 e f h = ok_is r (call_answer look callee b l) (call_answer look callee b2 l2) (ap (λ x. call_answer look callee x l) e ∙ ap (λ x. call_answer look callee b2 x) f) h
 
-pub selector_noted : {T S D P X E : Type 0} (r : Result X E) (looks : Looks T S D P) (usage : Usage) (dot : Dot T D) (x : Ident) (name : List ℕ) (role : Role) (a : Answer T S D P) (u0 u1 : List (Use D P))
-    → role ≡ roles.Selector (role_usage usage) → name ≡ x.name → a ≡ selector_answer (look_of_place looks x.span.start) usage dot name
-    → OnOk r (u1 ≡ u0 ++ made_use x.span.start role a.outcome ∷ []) → OnOk r (u1 ≡ u0 ++ behind_use looks usage dot x ∷ [])
-selector_noted {T} {S} {D} {P} r looks usage dot x name role a u0 u1 er en ea h =
-    ok_adds r u1 u0 _ _ (ap (λ l. made_use x.span.start l a.outcome ∷ []) er ∙ ap (λ (b : Answer T S D P). made_use x.span.start (roles.Selector (role_usage usage)) b.outcome ∷ []) (ea ∙ ap (λ n. selector_answer (look_of_place looks x.span.start) usage dot n) en)) h
+pub selector_noted : {T S D P X E : Type 0} (r : Result X E) (looks : Looks T S D P) (usage : Usage) (dot : Dot T D) (x : Ident) (name : List ℕ) (a : Answer T S D P) (u0 u1 : List (Use D P))
+    → name ≡ x.name → a ≡ selector_answer (look_of_place looks x.span.start) usage dot name
+    → OnOk r (u1 ≡ u0 ++ made_use x.span.start (roles.Selector usage) a.outcome ∷ []) → OnOk r (u1 ≡ u0 ++ behind_use looks usage dot x ∷ [])
+selector_noted {T} {S} {D} {P} r looks usage dot x name a u0 u1 en ea h =
+    ok_adds r u1 u0 _ _ (ap (λ (b : Answer T S D P). made_use x.span.start (roles.Selector usage) b.outcome ∷ []) (ea ∙ ap (λ n. selector_answer (look_of_place looks x.span.start) usage dot n) en)) h
 
 pub key_noted : {T S D P : Type 0} (looks : Looks T S D P) (t : Option T) (m : Bool) (mark : KeyMark) (key : Option (Box Key)) (k : Box Key) (k2 : Key) (name : List ℕ) (a : KeyAnswer T D P) (u0 u1 : List (Use D P))
     → key ≡ Some k → name ≡ k.value.name.name → k2 ≡ k.value → a ≡ marked_answer (literals_at looks k.value.name.span.start) t m mark name

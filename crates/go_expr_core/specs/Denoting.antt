@@ -10,6 +10,8 @@ use Rattle.go_tree_nodes.specs.declared.names.Ident.{Ident}
 use Rattle.go_tree_nodes.specs.declared.names.TextLiteral.{TextLiteral}
 use Rattle.go_tree_nodes.specs.declared.types.TypeName.{TypeName}
 use Rattle.go_tree_nodes.specs.declared.types.TypeName.TheVariants as type_names
+use Rattle.go_tree_nodes.specs.declared.usage.Usage.{Usage}
+use Rattle.go_tree_nodes.specs.declared.usage.Usage.TheVariants as usages
 use Rattle.go_tree_nodes.specs.Terminals.{value_of}
 use Rattle.go_tree_nodes.specs.Trees.{TypeTree, ExprTree, ItemTrees, Integer, Text, Named, Paren, Unary, Binary, Select, Call, Literal, StructLiteral, NoItems, Item}
 use Rattle.go_text_core.specs.declared.span.Span.{Span}
@@ -17,9 +19,7 @@ use Rattle.go_literal_core.specs.operand_core.declared.types.ValueType.{ValueTyp
 use Rattle.go_literal_core.specs.operand_core.declared.types.ValueType.TheVariants as value_types
 use Rattle.go_literal_core.specs.denote_core.declared.things.Stand.{Stand}
 use Rattle.go_literal_core.specs.denote_core.declared.things.Stand.TheVariants as stands
-use Rattle.go_literal_core.specs.denote_core.declared.things.Usage.{Usage}
 use Rattle.go_literal_core.specs.denote_core.declared.things.Dot.{Dot}
-use Rattle.go_literal_core.specs.denote_core.declared.things.Usage.TheVariants as usages
 use Rattle.go_literal_core.specs.denote_core.declared.things.Denoted.{Denoted}
 use Rattle.go_literal_core.specs.denote_core.declared.things.Denoted.TheVariants as denotes
 use Rattle.go_literal_core.specs.denote_core.declared.things.Answer.{Answer}

@@ -6,16 +6,14 @@ use Rattle.std.specs.Prelude.{ℕ, Bool, true, false, Option, Some, None}
 use Rattle.go_token_core.specs.declared.kind.Operator.{Operator}
 use Rattle.go_token_core.specs.declared.kind.Operator.TheVariants as operators
 use Rattle.go_tree_nodes.specs.declared.exprs.Key.{Key}
+use Rattle.go_tree_nodes.specs.declared.usage.Usage.{Usage}
+use Rattle.go_tree_nodes.specs.declared.usage.Usage.TheVariants as usages
 use Rattle.go_tree_nodes.specs.Starts.{type_name_start, type_start}
 use Rattle.go_tree_nodes.specs.Trees.{ExprTree, ItemTrees, Integer, Text, Named, Paren, Unary, Binary, Select, Call, Literal, StructLiteral, NoItems, Item}
 use Rattle.go_tree_core.specs.declared.occurrence.Role.{Role}
 use Rattle.go_tree_core.specs.declared.occurrence.Role.TheVariants as roles
-use Rattle.go_tree_core.specs.declared.occurrence.Usage as tree_usage
-use Rattle.go_tree_core.specs.declared.occurrence.Usage.TheVariants as tree_usages
 use Rattle.go_literal_core.specs.denote_core.declared.things.Stand.{Stand}
 use Rattle.go_literal_core.specs.denote_core.declared.things.Stand.TheVariants as stands
-use Rattle.go_literal_core.specs.denote_core.declared.things.Usage.{Usage}
-use Rattle.go_literal_core.specs.denote_core.declared.things.Usage.TheVariants as usages
 
 -- the place of what stands in parentheses: a name in them is no qualifier
 abbrev pub inside : Stand → Stand
@@ -96,11 +94,6 @@ place_role stands.TypeDot = roles.Qualifier
 place_role stands.«Value» = roles.«Value»
 place_role stands.Callee = roles.Callee
 place_role stands.BeforeDot = roles.Qualifier
-
-abbrev pub role_usage : Usage → tree_usage.Usage
-role_usage usages.«Type» = tree_usages.«Type»
-role_usage usages.«Value» = tree_usages.«Value»
-role_usage usages.Callee = tree_usages.Callee
 
 -- where things begin
 

@@ -9,11 +9,11 @@ use Rattle.go_token_core.specs.declared.kind.Operator.TheVariants as operators
 use Rattle.go_term_core.specs.declared.term.Basic.TheVariants as basics
 use Rattle.go_tree_nodes.specs.declared.exprs.Key.{Key}
 use Rattle.go_tree_nodes.specs.declared.types.TypeName.TheVariants as type_names
+use Rattle.go_tree_nodes.specs.declared.usage.Usage.TheVariants as usages
 use Rattle.go_tree_nodes.specs.Trees.{One, NamedType, Struct, NoFields, NamedFields, ExprTree, ItemTrees, Integer, Paren, Unary, Binary, Select, Call, Literal, StructLiteral, NoItems, Item}
 use Rattle.go_tree_nodes.specs.Samples.{at, called, name_at}
 use Rattle.go_tree_core.specs.declared.occurrence.Role.{Role}
 use Rattle.go_tree_core.specs.declared.occurrence.Role.TheVariants as roles
-use Rattle.go_tree_core.specs.declared.occurrence.Usage.TheVariants as tree_usages
 use Rattle.go_literal_core.specs.operand_core.declared.types.TypeForm.{TypeForm}
 use Rattle.go_literal_core.specs.operand_core.declared.types.TypeForm.TheVariants as forms
 use Rattle.go_literal_core.specs.operand_core.declared.types.ValueType.TheVariants as value_types
@@ -163,15 +163,15 @@ abbrev pub imported : ItemTrees → ExprTree
 imported items = Literal (type_names.Qualified (called (codes "p") 0) (at 1) (called (codes "T") 2)) (at 3) items (at 90)
 
 abbrev pub imported_uses : List (Use ℕ ℕ) → List (Use ℕ ℕ)
-imported_uses more = declared_at 0 roles.Qualifier 7 ∷ (declared_at 2 (roles.Selector tree_usages.«Type») 701 ∷ more)
+imported_uses more = declared_at 0 roles.Qualifier 7 ∷ (declared_at 2 (roles.Selector usages.«Type») 701 ∷ more)
 
 pub record SampleExpressions : Type 0 where
   -- g().m(), where m needs a pointer: S5 at m, C1 at its call
   pub no_pointer : uses looks stands.«Value» (call (Select (call (name_at (codes "g") 0) 1 NoItems) (at 3) (called (codes "m") 4)) 5 NoItems)
-      ≡ declared_at 0 roles.Callee 111 ∷ (declared_at 1 roles.Call 111 ∷ (refused_at 4 (roles.Selector tree_usages.Callee) S5 ∷ (refused_at 5 roles.Call C1 ∷ [])))
+      ≡ declared_at 0 roles.Callee 111 ∷ (declared_at 1 roles.Call 111 ∷ (refused_at 4 (roles.Selector usages.Callee) S5 ∷ (refused_at 5 roles.Call C1 ∷ [])))
   -- h().m(), with a pointer on the way
   pub pointer_on_the_way : uses looks stands.«Value» (call (Select (call (name_at (codes "h") 0) 1 NoItems) (at 3) (called (codes "m") 4)) 5 NoItems)
-      ≡ declared_at 0 roles.Callee 112 ∷ (declared_at 1 roles.Call 112 ∷ (made_use 4 (roles.Selector tree_usages.Callee) (outcomes.Selected 120 1) ∷ (declared_at 5 roles.Call 120 ∷ [])))
+      ≡ declared_at 0 roles.Callee 112 ∷ (declared_at 1 roles.Call 112 ∷ (made_use 4 (roles.Selector usages.Callee) (outcomes.Selected 120 1) ∷ (declared_at 5 roles.Call 120 ∷ [])))
   -- p.T{A: 1} has no fault
   pub by_key : uses looks stands.«Value» (imported (Item (sample_literal_key (codes "A") 4) (integer_expr_at 1 6) None NoItems)) ≡ imported_uses (declared_at 4 roles.Key 705 ∷ [])
   pub by_key_faults : faults looks stands.«Value» (imported (Item (sample_literal_key (codes "A") 4) (integer_expr_at 1 6) None NoItems)) ≡ []

@@ -8,13 +8,13 @@ use Rattle.go_tree_nodes.specs.declared.names.Ident.{Ident}
 use Rattle.go_tree_nodes.specs.declared.types.TypeName.{TypeName}
 use Rattle.go_tree_nodes.specs.declared.types.TypeName.TheVariants as type_names
 use Rattle.go_tree_nodes.specs.declared.exprs.Key.{Key}
+use Rattle.go_tree_nodes.specs.declared.usage.Usage.{Usage}
+use Rattle.go_tree_nodes.specs.declared.usage.Usage.TheVariants as usages
 use Rattle.go_tree_nodes.specs.Trees.{TypeTree, FieldTrees, MethodTrees, SignatureTree, ResultTree, ParamTrees, NamedType, Pointer, ParenType, Struct, Interface, NoFields, NamedFields, EmbeddedField, NoMethods, Method, Signed, NoResult, OneResult, Results, NoParams, Param, ExprTree, ItemTrees, Integer, Text, Named, Paren, Unary, Binary, Select, Call, Literal, StructLiteral, NoItems, Item}
 use Rattle.go_tree_core.specs.declared.occurrence.Role.{Role}
 use Rattle.go_tree_core.specs.declared.occurrence.Role.TheVariants as roles
 use Rattle.go_literal_core.specs.denote_core.declared.things.Stand.{Stand}
 use Rattle.go_literal_core.specs.denote_core.declared.things.Stand.TheVariants as stands
-use Rattle.go_literal_core.specs.denote_core.declared.things.Usage.{Usage}
-use Rattle.go_literal_core.specs.denote_core.declared.things.Usage.TheVariants as usages
 use Rattle.go_literal_core.specs.denote_core.declared.things.Dot.{Dot}
 use Rattle.go_literal_core.specs.denote_core.declared.things.Outcome.{Outcome}
 use Rattle.go_literal_core.specs.denote_core.Answers.{name_answer}
@@ -24,7 +24,7 @@ use Rattle.go_literal_core.specs.denote_core.Calls.{call_answer}
 use Rattle.go_literal_core.specs.Keys.{KeyContext, key_rule}
 use Rattle.go_expr_core.specs.declared.things.Use.{Use}
 use Rattle.go_expr_core.specs.Looks.{Looks, look_of_place, literals_at}
-use Rattle.go_expr_core.specs.Places.{inside, under_place, left_place, whole, is_name, is_lone_call, place_role, role_usage}
+use Rattle.go_expr_core.specs.Places.{inside, under_place, left_place, whole, is_name, is_lone_call, place_role}
 use Rattle.go_expr_core.specs.Denoting.{ident_answer, named_type, written_type, denoted, denoted_items, called_answer}
 use Rattle.go_expr_core.specs.Elements.{key_names, all_keys, keys_of, is_mixed, key_context}
 
@@ -50,7 +50,7 @@ rule looks (KeyAmong k) offset name = key_rule (literals_at looks offset) k name
 
 abbrev pub role_of : {T D : Type 0} → Context T D → Role
 role_of (NameAt p) = place_role p
-role_of (SelectorBehind u dot) = roles.Selector (role_usage u)
+role_of (SelectorBehind u dot) = roles.Selector u
 role_of (KeyAmong k) = roles.Key
 
 abbrev pub made_use : {D P : Type 0} → ℕ → Role → Outcome D P → Use D P

@@ -6,13 +6,12 @@ ghost use Rattle.go_expr_core.specs.Uses as all_uses;
 
 use crate::looks::Exprs;
 use crate::notes::note_answer;
-use crate::places::{place_role, selector_role};
+use crate::places::place_role;
 use crate::things::Use;
-use go_literal_core::denote_core::{
-    Denoted, Dot, Stand, Usage, dot_of, name_answer, selector_answer,
-};
+use go_literal_core::denote_core::{Denoted, Dot, Stand, dot_of, name_answer, selector_answer};
 use go_literal_core::literal_type;
-use go_tree_nodes::{Ident, TypeName};
+use go_tree_core::Role;
+use go_tree_nodes::{Ident, TypeName, Usage};
 use std::alloc::{AllocError, Global};
 
 /// Notes what an identifier has at a place, and answers what it denotes.
@@ -46,7 +45,7 @@ pub(crate) fn check_selector<E: Exprs>(
     note_answer(
         uses,
         ident.span.start as usize,
-        selector_role(usage),
+        Role::Selector(usage),
         answer,
     )
 }

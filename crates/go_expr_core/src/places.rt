@@ -1,13 +1,12 @@
 //! Where the parts of an expression stand.
 ghost use Rattle.std.specs.Prelude.{◌≡◌};
 ghost use Rattle.go_tree_nodes.specs.Shapes.{shape, shape_key};
-ghost use Rattle.go_tree_core.specs.declared.occurrence.Role.TheVariants as roles;
 ghost use Rattle.go_expr_core.specs.Places as places;
 
-use go_literal_core::denote_core::{Stand, Usage};
+use go_literal_core::denote_core::Stand;
 use go_token_core::Operator;
 use go_tree_core::Role;
-use go_tree_nodes::{Expr, Key, type_name_start, type_start};
+use go_tree_nodes::{Expr, Key, Usage, type_name_start, type_start};
 
 /// The place of what stands in parentheses: a name in them is no qualifier.
 pub(crate) fn inside(place: Stand) -> Stand
@@ -135,17 +134,6 @@ pub(crate) fn place_role(place: Stand) -> Role
         Stand::TypeDot | Stand::BeforeDot => Role::Qualifier,
         Stand::Value => Role::Value,
         Stand::Callee => Role::Callee,
-    }
-}
-
-/// The role of a name behind a dot, by the use of the whole.
-pub(crate) fn selector_role(usage: Usage) -> Role
-    ensures { result ≡ roles.Selector (places.role_usage usage) }
-{
-    match usage {
-        Usage::Type => Role::Selector(go_tree_core::Usage::Type),
-        Usage::Value => Role::Selector(go_tree_core::Usage::Value),
-        Usage::Callee => Role::Selector(go_tree_core::Usage::Callee),
     }
 }
 

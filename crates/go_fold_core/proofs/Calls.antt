@@ -3,6 +3,7 @@ use Rattle.std.proofs.Common.{◌≡◌, ℕ, Bool, true, false, ◌&&◌, ◌||
 use Rattle.std.specs.Prelude.{⊤, nat_eq}
 use Rattle.go_text_core.specs.Text.{is_blank}
 use Rattle.go_text_core.specs.declared.rule.Rule.TheVariants.{N8, S4, S8, C1, C2, C3, C4, X1}
+use Rattle.go_tree_nodes.specs.declared.usage.Usage.TheVariants as usages
 use Rattle.go_term_core.specs.declared.term.Basic.{Basic}
 use Rattle.go_term_core.specs.declared.term.Basic.TheVariants as basics
 use Rattle.go_fragment_core.specs.constant_core.declared.values.Constant.{Constant}
@@ -17,7 +18,6 @@ use Rattle.go_expr_core.specs.operand_core.Values.{form_basic, basic_under, defa
 use Rattle.go_expr_core.specs.operand_core.Operators.{value}
 use Rattle.go_expr_core.specs.operand_core.Conversions.{kept, makes_text, fits}
 use Rattle.go_expr_core.specs.denote_core.declared.things.Stand.TheVariants as stands
-use Rattle.go_expr_core.specs.denote_core.declared.things.Usage.TheVariants as usages
 use Rattle.go_expr_core.specs.denote_core.declared.things.Outcome.{Outcome}
 use Rattle.go_expr_core.specs.denote_core.declared.things.Outcome.TheVariants as outcomes
 use Rattle.go_expr_core.specs.denote_core.declared.things.Denoted.{Denoted}

@@ -3,6 +3,8 @@ use Rattle.std.proofs.Common.{◌≡◌, ℕ, Bool, true, false, ◌||◌, not, 
 use Rattle.std.specs.Prelude.{is_some}
 use Rattle.go_text_core.specs.Text.{is_blank}
 use Rattle.go_text_core.specs.declared.rule.Rule.TheVariants.{N8, S4, S8}
+use Rattle.go_tree_nodes.specs.declared.usage.Usage.{Usage}
+use Rattle.go_tree_nodes.specs.declared.usage.Usage.TheVariants as usages
 use Rattle.go_fragment_core.specs.constant_core.declared.values.Constant.{Constant}
 use Rattle.go_fragment_core.specs.constant_core.declared.values.Constant.TheVariants as values
 use Rattle.go_expr_core.specs.operand_core.declared.types.Operand.{Operand}
@@ -11,8 +13,6 @@ use Rattle.go_expr_core.specs.operand_core.declared.types.ValueType.{ValueType}
 use Rattle.go_expr_core.specs.operand_core.Values.{basic_under, default_type}
 use Rattle.go_expr_core.specs.denote_core.declared.things.Stand.{Stand}
 use Rattle.go_expr_core.specs.denote_core.declared.things.Stand.TheVariants as stands
-use Rattle.go_expr_core.specs.denote_core.declared.things.Usage.{Usage}
-use Rattle.go_expr_core.specs.denote_core.declared.things.Usage.TheVariants as usages
 use Rattle.go_expr_core.specs.denote_core.declared.things.Outcome.{Outcome}
 use Rattle.go_expr_core.specs.denote_core.declared.things.Outcome.TheVariants as outcomes
 use Rattle.go_expr_core.specs.denote_core.declared.things.Denoted.{Denoted}

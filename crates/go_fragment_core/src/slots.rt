@@ -3,13 +3,13 @@
 //! Where a function that adds slots ends for want of memory, some of them may stand behind those that were there. Nothing is made of that list:
 //! it is let go.
 ghost use Rattle.std.specs.Prelude.{◌≡◌, ◌++◌, [], ◌∷◌, IfOk, OnErr, OnOk};
-ghost use Rattle.go_text_core.specs.Text.{is_blank};
 ghost use Rattle.go_tree_nodes.specs.Shapes.{shape_value_spec, shape_value, shape_simple, shape_some_simple, shape_init, shape_for, shape_stmt, shape_branch, shape_else, shape_loop, lines_of, func_of};
 ghost use Rattle.go_tree_nodes.specs.TypeShapes.{params_of, shape_idents, shape_names, shape_signature};
 ghost use Rattle.go_fragment_core.specs.Names.{slot_of};
 ghost use Rattle.go_fragment_core.specs.Slots.{branch_slots, define_slots, else_slots, entry_slots, head_slots, init_slots, lines_slots, local_slot, local_slots, new_slot, new_slots, param_names_slots, param_slot, param_slots, receiver_slots, signature_slots, simple_slots, slots_of, some_simple_slots, stmt_slots, value_spec_slots, value_specs_slots};
 
 use crate::names::CodeNames;
+use go_text_core::is_blank;
 use go_tree_nodes::{
     Branch, ForHead, FuncDecl, Ident, Idents, InitPart, Line, Loop, Otherwise, Param, Receiver,
     Signature, Simple, Stmt, ValueDecl, ValueKind, ValueSpec, ValueSpecs,
@@ -30,18 +30,11 @@ pub fn slot_of(slots: &[Option<usize>], offset: usize) -> Option<usize>
     None
 }
 
-/// Whether an identifier is the blank one.
-pub(crate) fn is_blank(ident: &Ident) -> bool
-    ensures { result ≡ is_blank ident.now.name }
-{
-    ident.name.as_str() == "_"
-}
-
 // The slot of a parameter.
 fn param_slot(ident: &Ident) -> Option<usize>
     ensures { result ≡ param_slot ident.now }
 {
-    if is_blank(ident) {
+    if is_blank(ident.name.as_str()) {
         None
     } else {
         Some(ident.span.start as usize)
@@ -62,7 +55,7 @@ fn add_local(slots: &mut Vec<Option<usize>>, ident: &Ident) -> Result<(), AllocE
     ensures added { OnOk result (slots.new.items ≡ slots.old.items ++ local_slot ident.now) }
     ensures kept { OnErr result (slots.new.items ≡ slots.old.items) }
 {
-    if is_blank(ident) {
+    if is_blank(ident.name.as_str()) {
         Ok(())
     } else {
         add(slots, Some(ident.span.start as usize))

@@ -4,7 +4,8 @@ ghost use Rattle.go_tree_nodes.specs.Shapes.{shape};
 ghost use Rattle.go_fragment_core.specs.Names.{declared_slot, frame_of, is_slot, is_target, meant_target, named_target, slot_target, slot_assigned};
 
 use crate::names::{CodeNames, Frame, Meaning};
-use crate::slots::{is_blank, slot_of};
+use crate::slots::slot_of;
+use go_text_core::is_blank;
 use go_tree_nodes::{Expr, Ident};
 
 /// What is assigned to.
@@ -40,7 +41,7 @@ fn meant_target(slots: &[Option<usize>], meaning: Meaning) -> Target
 pub fn declared_target<N: CodeNames>(frame: &Frame<'_, N>, ident: &Ident) -> Target
     ensures { result ≡ declared_slot (frame_of (N.looks frame.now.names.now) frame.now.slots.now) ident.now }
 {
-    if is_blank(ident) {
+    if is_blank(ident.name.as_str()) {
         return Target::Blank;
     }
     slot_target(slot_of(frame.slots, ident.span.start as usize))
@@ -50,7 +51,7 @@ pub fn declared_target<N: CodeNames>(frame: &Frame<'_, N>, ident: &Ident) -> Tar
 fn named_target<N: CodeNames>(frame: &Frame<'_, N>, ident: &Ident) -> Target
     ensures { result ≡ named_target (frame_of (N.looks frame.now.names.now) frame.now.slots.now) ident.now }
 {
-    if is_blank(ident) {
+    if is_blank(ident.name.as_str()) {
         return Target::Blank;
     }
     meant_target(frame.slots, frame.names.meaning(ident.span.start as usize))

@@ -9,6 +9,8 @@ use Rattle.go_token_core.specs.declared.kind.Operator.{Operator}
 use Rattle.go_tree_nodes.specs.declared.names.Ident.{Ident}
 use Rattle.go_tree_nodes.specs.declared.types.TypeName.{TypeName}
 use Rattle.go_tree_nodes.specs.declared.types.TypeName.TheVariants as type_names
+use Rattle.go_tree_nodes.specs.declared.usage.Usage.{Usage}
+use Rattle.go_tree_nodes.specs.declared.usage.Usage.TheVariants as usages
 use Rattle.go_tree_nodes.specs.Trees.{ExprTree, Integer, Text, Named, Paren, Unary, Binary, Select, Call, Literal, StructLiteral}
 use Rattle.go_term_core.specs.Terms.{Term, Sign}
 use Rattle.go_snap_core.specs.operand_core.declared.types.Operand.{Operand}
@@ -19,8 +21,6 @@ use Rattle.go_snap_core.specs.operand_core.Prefixes.{unary_operand}
 use Rattle.go_snap_core.specs.operand_core.Conversions.{convert, length_of}
 use Rattle.go_snap_core.specs.denote_core.declared.things.Stand.{Stand}
 use Rattle.go_snap_core.specs.denote_core.declared.things.Stand.TheVariants as stands
-use Rattle.go_snap_core.specs.denote_core.declared.things.Usage.{Usage}
-use Rattle.go_snap_core.specs.denote_core.declared.things.Usage.TheVariants as usages
 use Rattle.go_snap_core.specs.denote_core.declared.things.Builtin.{Builtin}
 use Rattle.go_snap_core.specs.denote_core.declared.things.Builtin.TheVariants as builtins
 use Rattle.go_snap_core.specs.denote_core.declared.things.Found.{Found}

@@ -35,7 +35,7 @@ pub mod constant_core {
 /// What the crates above name of `go_denote_core`.
 pub mod denote_core {
     pub use go_denote_core::{
-        Answer, Builtin, Denoted, Dot, Exported, Found, Names, Outcome, Selection, Stand, Usage,
+        Answer, Builtin, Denoted, Dot, Exported, Found, Names, Outcome, Selection, Stand,
         arguments_of, call_answer, dot_of, is_free, name_answer, selector_answer, single_rule,
     };
 }

@@ -9,6 +9,7 @@ use Rattle.go_file_core.specs.constant_core.declared.values.Constant.{Constant}
 use Rattle.go_term_core.specs.declared.term.Basic.{Basic}
 use Rattle.go_term_core.specs.declared.term.Basic.TheVariants as basics
 use Rattle.go_tree_nodes.specs.declared.exprs.Key.{Key}
+use Rattle.go_tree_nodes.specs.declared.usage.Usage.{Usage}
 use Rattle.go_file_core.specs.operand_core.declared.types.ValueType.{ValueType}
 use Rattle.go_file_core.specs.operand_core.declared.types.ValueType.TheVariants as types
 use Rattle.go_file_core.specs.operand_core.declared.types.Operand.{Operand}
@@ -22,7 +23,6 @@ use Rattle.go_file_core.specs.operand_core.Assign.{takes_nil, takes_untyped, unt
 use Rattle.go_file_core.specs.operand_core.Operators.{group, divides, takes, is_some_zero, with_constants, value, arithmetic, ordered, equated, binary_in, binary_operand}
 use Rattle.go_file_core.specs.operand_core.Prefixes.{prefix, refused_unary, signed, pointed, indirection, address, signed_over, unary_in, unary_operand}
 use Rattle.go_file_core.specs.denote_core.declared.things.Stand.{Stand}
-use Rattle.go_file_core.specs.denote_core.declared.things.Usage.{Usage}
 use Rattle.go_file_core.specs.denote_core.declared.things.Builtin.TheVariants as builtins
 use Rattle.go_file_core.specs.denote_core.declared.things.Dot.{Dot}
 use Rattle.go_file_core.specs.denote_core.declared.things.Dot.TheVariants as dots

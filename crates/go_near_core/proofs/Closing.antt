@@ -5,6 +5,8 @@ use Rattle.std.specs.List.{list_all}
 use Rattle.go_text_core.specs.Text.{is_blank}
 use Rattle.go_text_core.specs.declared.rule.Rule.{Rule}
 use Rattle.go_token_core.specs.declared.kind.Operator.{Operator}
+use Rattle.go_tree_nodes.specs.declared.usage.Usage.{Usage}
+use Rattle.go_tree_nodes.specs.declared.usage.Usage.TheVariants as usages
 use Rattle.go_file_core.specs.constant_core.declared.values.Constant.{Constant}
 use Rattle.go_term_core.specs.declared.term.Basic.{Basic}
 use Rattle.go_term_core.specs.declared.term.Basic.TheVariants as basics
@@ -25,8 +27,6 @@ use Rattle.go_file_core.specs.operand_core.Prefixes.{prefix, signed, pointed, in
 use Rattle.go_file_core.specs.operand_core.Conversions.{makes_text, fits, convert, length_of}
 use Rattle.go_file_core.specs.denote_core.declared.things.Stand.{Stand}
 use Rattle.go_file_core.specs.denote_core.declared.things.Stand.TheVariants as stands
-use Rattle.go_file_core.specs.denote_core.declared.things.Usage.{Usage}
-use Rattle.go_file_core.specs.denote_core.declared.things.Usage.TheVariants as usages
 use Rattle.go_file_core.specs.denote_core.declared.things.Builtin.{Builtin}
 use Rattle.go_file_core.specs.denote_core.declared.things.Builtin.TheVariants as builtins
 use Rattle.go_file_core.specs.denote_core.declared.things.Dot.{Dot}

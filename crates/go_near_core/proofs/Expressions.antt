@@ -6,13 +6,13 @@ use Rattle.go_tree_nodes.specs.declared.names.Ident.{Ident}
 use Rattle.go_tree_nodes.specs.declared.exprs.Key.{Key}
 use Rattle.go_tree_nodes.specs.declared.types.TypeName.{TypeName}
 use Rattle.go_tree_nodes.specs.declared.types.TypeName.TheVariants as type_names
+use Rattle.go_tree_nodes.specs.declared.usage.Usage.TheVariants as usages
 use Rattle.go_tree_nodes.specs.Trees.{TypeTree, FieldTrees, MethodTrees, SignatureTree, ResultTree, ParamTrees, NamedType, Pointer, ParenType, Struct, Interface, NoFields, NamedFields, EmbeddedField, NoMethods, Method, Signed, NoResult, OneResult, Results, NoParams, Param, ExprTree, ItemTrees, Integer, Text, Named, Paren, Unary, Binary, Select, Call, Literal, StructLiteral, NoItems, Item}
 use Rattle.go_tree_nodes.specs.Counts.{item_count}
 use Rattle.go_file_core.specs.expr_core.Alike.{mapped}
 use Rattle.go_file_core.specs.tree_core.declared.occurrence.Role.TheVariants as roles
 use Rattle.go_file_core.specs.denote_core.declared.things.Stand.{Stand}
 use Rattle.go_file_core.specs.denote_core.declared.things.Stand.TheVariants as stands
-use Rattle.go_file_core.specs.denote_core.declared.things.Usage.TheVariants as usages
 use Rattle.go_file_core.specs.denote_core.declared.things.Denoted as things
 use Rattle.go_file_core.specs.denote_core.declared.things.Denoted.TheVariants as denotes
 use Rattle.go_file_core.specs.denote_core.declared.things.Answer.{Answer}
@@ -24,7 +24,7 @@ use Rattle.go_file_core.specs.literal_core.declared.things.Mode.{Mode}
 use Rattle.go_file_core.specs.literal_core.Literals.{literal_type, literal_denotes}
 use Rattle.go_file_core.specs.literal_core.Repeats.{has_name}
 use Rattle.go_file_core.specs.expr_core.Looks.{Looks, look_of_place}
-use Rattle.go_file_core.specs.expr_core.Places.{inside, under_place, left_place, whole, is_name, is_literal, is_lone_call, is_several, start, item_start, place_role, role_usage}
+use Rattle.go_file_core.specs.expr_core.Places.{inside, under_place, left_place, whole, is_name, is_literal, is_lone_call, is_several, start, item_start, place_role}
 use Rattle.go_tree_nodes.specs.Starts.{type_name_start, type_start}
 use Rattle.go_file_core.specs.expr_core.Operators.{unary_of, binary_of}
 use Rattle.go_file_core.specs.expr_core.Denoting.{ident_answer, type_name_answer, named_type, written_type, denoted, denoted_items, select_answer}
@@ -165,7 +165,7 @@ module _ {T S D P : Type 0} (Near : T → Type 0) (Rest : NearRest S D) (looks o
   name_uses (type_names.Plain x) = λ j. made_use x.span.start (place_role stands.«Type») (ident_same stands.«Type» x j).outcome ∷ []
   name_uses (type_names.Qualified q dot x) =
       λ j. made_use q.span.start (place_role stands.TypeDot) (ident_same stands.TypeDot q j).outcome
-      ∷ (made_use x.span.start (roles.Selector (role_usage usages.«Type»)) (type_name_same (type_names.Qualified q dot x) j).outcome ∷ [])
+      ∷ (made_use x.span.start (roles.Selector usages.«Type») (type_name_same (type_names.Qualified q dot x) j).outcome ∷ [])
 
   mutual
     pub type_used : (t : TypeTree) → type_uses looks t ≡ type_uses others t
@@ -211,7 +211,7 @@ module _ {T S D P : Type 0} (Near : T → Type 0) (Rest : NearRest S D) (looks o
     used_same p (Binary a op span b) = mapped (use_of looks) (use_of others) (spots looks stands.«Value» a) (spots looks stands.«Value» b) (spots others stands.«Value» a) (spots others stands.«Value» b) (used_same stands.«Value» a) (used_same stands.«Value» b)
     used_same p (Select e dot x) =
         mapped _ _ (spots looks (left_place p e) e) _ (spots others (left_place p e) e) _ (used_same (left_place p e) e)
-        (λ j. made_use x.span.start (roles.Selector (role_usage (whole p))) (select_by p e x (denoted_same (left_place p e) e) j).outcome ∷ [])
+        (λ j. made_use x.span.start (roles.Selector (whole p)) (select_by p e x (denoted_same (left_place p e) e) j).outcome ∷ [])
     used_same p (Call e first items last) =
         mapped _ _ (spots looks stands.Callee e) _ (spots others stands.Callee e) _ (used_same stands.Callee e)
         (λ j. made_use first.start roles.Call (call_by e first.start items (denoted_same stands.Callee e) (items_same items) j).outcome ∷ args_used items j)

@@ -1,19 +1,11 @@
 //! Which fields and methods are kept.
 ghost use Rattle.std.specs.Prelude.{◌≡◌, [], IfOk, length};
-ghost use Rattle.go_text_core.specs.Text.{is_blank};
 ghost use Rattle.go_settle_core.specs.mirrors.Kept.{keeps_field, keeps_method, kept_fields, kept_methods, those_kept};
 
 use crate::seen::SeenNames;
 use go_term_core::{Field, Method};
-use go_text_core::add;
+use go_text_core::{add, is_blank};
 use std::alloc::{AllocError, Global};
-
-/// Whether a name is the blank identifier.
-pub fn is_blank(name: &str) -> bool
-    ensures { result ≡ is_blank name.now }
-{
-    name == "_"
-}
 
 // Whether a field is kept: it is blank, or its name is new.
 fn keeps_field(name: &str, is_new: bool) -> bool

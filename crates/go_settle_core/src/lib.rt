@@ -12,7 +12,6 @@ mod seen;
 mod terms;
 
 pub use embed::{can_embed, kind_of};
-pub use kept::is_blank;
 pub use kind::{Kind, Kinds};
 pub use laws::{
     settled_is_apart, settled_mentions_written, settling_cleans, settling_is_idempotent,

@@ -6,10 +6,10 @@ use Rattle.go_tree_nodes.specs.declared.names.Ident.{Ident}
 use Rattle.go_tree_nodes.specs.declared.exprs.Key.{Key}
 use Rattle.go_tree_nodes.specs.declared.types.TypeName.{TypeName}
 use Rattle.go_tree_nodes.specs.declared.types.TypeName.TheVariants as type_names
+use Rattle.go_tree_nodes.specs.declared.usage.Usage.TheVariants as usages
 use Rattle.go_tree_nodes.specs.Trees.{TypeTree, FieldTrees, MethodTrees, SignatureTree, ResultTree, ParamTrees, NamedType, Pointer, ParenType, Struct, Interface, NoFields, NamedFields, EmbeddedField, NoMethods, Method, Signed, NoResult, OneResult, Results, NoParams, Param, ExprTree, ItemTrees, Integer, Text, Named, Paren, Unary, Binary, Select, Call, Literal, StructLiteral, NoItems, Item}
 use Rattle.go_package_core.specs.denote_core.declared.things.Stand.{Stand}
 use Rattle.go_package_core.specs.denote_core.declared.things.Stand.TheVariants as stands
-use Rattle.go_package_core.specs.denote_core.declared.things.Usage.TheVariants as usages
 use Rattle.go_package_core.specs.denote_core.Arguments.{arguments_of, is_free}
 use Rattle.go_package_core.specs.denote_core.Calls.{call_answer}
 use Rattle.go_package_core.specs.denote_core.Selectors.{dot_of, selector_answer}

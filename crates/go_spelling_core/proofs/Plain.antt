@@ -2,10 +2,10 @@
 use Rattle.std.proofs.Common.{◌≡◌, ◌↔◌, ℕ, zero, suc, Bool, List, [], ◌∷◌, map, slice_get, refl, sym, ap, ◌∙◌, subst, if◌then◌else◌}
 use Rattle.std.specs.Prelude.{Option, Some, None}
 use Rattle.go_text_core.specs.Text.{is_blank}
+use Rattle.go_tree_nodes.specs.declared.usage.Usage.{Usage}
 use Rattle.go_package_core.specs.denote_core.declared.things.Dot.{Dot}
 use Rattle.go_package_core.specs.denote_core.declared.things.Dot.TheVariants as dots
 use Rattle.go_package_core.specs.denote_core.declared.things.Found.{Found}
-use Rattle.go_package_core.specs.denote_core.declared.things.Usage.{Usage}
 use Rattle.go_package_core.specs.denote_core.Answers.{refused}
 use Rattle.go_package_core.specs.denote_core.Selectors.{value_selector}
 use Rattle.go_package_core.specs.operand_core.Values.{default_type}

@@ -5,11 +5,11 @@
 use Rattle.std.specs.Prelude.{◌≡◌, ◌↔◌, ℕ, List, Option, map}
 use Rattle.go_tree_nodes.specs.declared.names.Ident.{Ident}
 use Rattle.go_tree_nodes.specs.declared.types.TypeName.{TypeName}
+use Rattle.go_tree_nodes.specs.declared.usage.Usage.{Usage}
 use Rattle.go_tree_nodes.specs.Trees.{TypeTree, SignatureTree, ValueSpecTree}
 use Rattle.go_package_core.specs.handle_core.Declarations.{Declaration}
 use Rattle.go_package_core.specs.denote_core.declared.things.Found.{Found}
 use Rattle.go_package_core.specs.denote_core.declared.things.Dot.{Dot}
-use Rattle.go_package_core.specs.denote_core.declared.things.Usage.{Usage}
 use Rattle.go_package_core.specs.literal_core.Keys.{KeyContext}
 use Rattle.go_term_core.specs.Terms.{Term, Sign}
 use Rattle.go_package_core.specs.expr_core.Looks.{Looks, WrittenRules}

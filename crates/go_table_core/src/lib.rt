@@ -23,6 +23,6 @@ pub use table::{Located, PackageTypes, TypeTable};
 /// What the crates above name of `go_settle_core`.
 pub mod settle_core {
     pub use go_settle_core::{
-        Kind, Kinds, SeenNames, can_embed, is_blank, kind_of, settle, settle_signature,
+        Kind, Kinds, SeenNames, can_embed, kind_of, settle, settle_signature,
     };
 }

@@ -5,6 +5,10 @@ use Rattle.go_text_core.specs.declared.name.TheConstants.{SHORT}
 use Rattle.go_text_core.specs.declared.name.Form.{Form}
 use Rattle.go_text_core.specs.declared.name.Form.TheVariants.{Short, Long}
 
+-- the greatest number of bytes of a name that takes no memory of its own
+abbrev pub most_without_memory : ℕ
+most_without_memory = 14
+
 -- the bytes of a name
 abbrev pub bytes_of : Form → List ℕ
 bytes_of (Short len bytes) = take len bytes

@@ -11,7 +11,7 @@ mod span;
 
 ghost use Rattle.std.specs.Prelude.{◌≡◌, ◌↔◌, IsTrue};
 ghost use Rattle.std.specs.Str.{chars};
-ghost use Rattle.go_text_core.specs.Text.{letter, digit, uppercase, exported, SameId};
+ghost use Rattle.go_text_core.specs.Text.{letter, digit, uppercase, exported, is_blank, SameId};
 
 pub use name::Name;
 pub use room::{add, boxed, fitted};
@@ -49,6 +49,13 @@ fn is_uppercase(c: char) -> bool
         return c.is_ascii_uppercase();
     }
     GeneralCategory::for_char(c) == GeneralCategory::UppercaseLetter
+}
+
+/// Whether a name is the blank identifier.
+pub fn is_blank(name: &str) -> bool
+    ensures { result ≡ is_blank name.now }
+{
+    name == "_"
 }
 
 /// Whether a name is exported: its first character is of the category Lu.

@@ -1,6 +1,7 @@
 //! The spelling of a name.
-ghost use Rattle.std.specs.Prelude.{◌≡◌, ◌≤◌, length, take, IfOk};
+ghost use Rattle.std.specs.Prelude.{◌≡◌, ◌≤◌, ◌<◌, length, take, IfOk, OnErr};
 ghost use Rattle.std.specs.Str.{IsUtf8};
+ghost use Rattle.go_text_core.specs.Names.{most_without_memory};
 ghost use Rattle.go_text_core.specs.declared.name.TheConstants.{SHORT};
 
 use std::alloc::{AllocError, Global};
@@ -67,9 +68,10 @@ impl Name {
     ///
     /// # Errors
     ///
-    /// An `AllocError` where memory is wanting.
+    /// An `AllocError` where memory is wanting, as it never is for a piece of at most 14 bytes.
     pub fn from_text(alloc: Global, spelled: &str) -> Result<Name, AllocError>
-        ensures { IfOk result (λ n. n ≡ spelled.now) }
+        ensures spelled { IfOk result (λ n. n ≡ spelled.now) }
+        ensures memory { OnErr result (most_without_memory < length spelled.now) }
     {
         let form = if spelled.len() <= SHORT {
             Form::Short(spelled.len() as u8, short_bytes(spelled))
@@ -93,9 +95,10 @@ impl Name {
     ///
     /// # Errors
     ///
-    /// An `AllocError` where memory is wanting.
+    /// An `AllocError` where memory is wanting, as it never is for a name of at most 14 bytes.
     pub fn copy(&self, alloc: Global) -> Result<Name, AllocError>
-        ensures { IfOk result (λ n. n ≡ self.now) }
+        ensures same { IfOk result (λ n. n ≡ self.now) }
+        ensures memory { OnErr result (most_without_memory < length self.now) }
     {
         Name::from_text(alloc, self.as_str())
     }

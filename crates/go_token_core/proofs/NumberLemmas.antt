@@ -1,9 +1,9 @@
 -- The numbers that digits write.
-use Rattle.std.proofs.Common.{◌≡◌, ℕ, ◌+◌, ◌*◌, ◌<◌, ◌≤◌, Bool, true, false, cond, List, [], ◌∷◌, length, take, drop, fold, get_or, nat_lt, Some, None, refl, sym, ap, ◌∙◌, arith}
+use Rattle.std.proofs.Common.{◌≡◌, ℕ, ◌+◌, ◌*◌, ◌<◌, ◌≤◌, Bool, true, false, cond, List, [], ◌∷◌, length, map, take, drop, fold, get_or, nat_lt, Some, None, refl, sym, ap, ◌∙◌, arith}
 use Rattle.std.specs.Char.{digit_value}
 use Rattle.std.proofs.lemmas.Bool.Decides.{nat_tests}
 use Rattle.std.proofs.Math.Nat.{mul-le-mul_left}
-use Rattle.std.proofs.lemmas.List.{take-append-drop}
+use Rattle.std.proofs.lemmas.List.{get_or-map, length-map, take-append-drop, take-map}
 use Rattle.std.proofs.lemmas.List.Sums.{fold-append, fold_more}
 use Rattle.go_token_core.specs.Numbers.{next_number, number_in, up_to_greatest}
 
@@ -41,10 +41,14 @@ stays_above n m e h = sym (elim (nat_lt 9223372036854775807 m) as (λ b. nat_lt 
         let small : m ≤ 9223372036854775807 = grind (arith, nat_tests) in
         omega arith
 
--- where one digit more is too much, so are all
-pub above_all : (radix : ℕ) (ds : List ℕ) (i value d : ℕ) → i < length ds → 1 ≤ radix → value ≡ number_in radix (take i ds) → d ≡ get_or ds i 0 → up_to_greatest (next_number radix value d) ≡ None → None ≡ up_to_greatest (number_in radix ds)
-above_all radix ds i value d inside h v e above =
-    let same : next_number radix value d ≡ number_in radix (take (i + 1) ds) = ap (λ x. next_number radix x d) v ∙ ap (next_number radix (number_in radix (take i ds))) e ∙ sym (number_in_more radix ds i inside) in
+-- where the digit of one item more is too much, so are those of all
+pub above_all : {X : Type 0} (code : X → ℕ) (radix : ℕ) (text : List X) (i : ℕ) (item : X) (value d : ℕ) → i < length text → 1 ≤ radix → value ≡ number_in radix (map code (take i text)) → item ≡ get_or text i item → d ≡ code item → up_to_greatest (next_number radix value d) ≡ None → None ≡ up_to_greatest (number_in radix (map code text))
+above_all code radix text i item value d inside h v read e above =
+    let ds : List ℕ = map code text in
+    let within : i < length ds = omega (arith, length-map text code, inside) in
+    let so_far : value ≡ number_in radix (take i ds) = v ∙ ap (number_in radix) (sym (take-map code i text)) in
+    let digit : d ≡ get_or ds i 0 = e ∙ ap code read ∙ sym (get_or-map code text i item 0 inside) in
+    let same : next_number radix value d ≡ number_in radix (take (i + 1) ds) = ap (λ x. next_number radix x d) so_far ∙ ap (next_number radix (number_in radix (take i ds))) digit ∙ sym (number_in_more radix ds i within) in
     stays_above (number_in radix (take (i + 1) ds)) (number_in radix ds) (sym (ap up_to_greatest same) ∙ above) (number_in-take-le radix (i + 1) ds h)
 
 -- one more character, and what is above the greatest then

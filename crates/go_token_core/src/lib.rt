@@ -15,6 +15,6 @@ mod value;
 pub use characters::characters_of;
 pub use escapes::{Meaning, escape};
 pub use kind::{CommentKind, KEYWORDS, Keyword, OPERATORS, Operator, TokenKind};
-pub use number::literal_value;
+pub use number::{integer_value, literal_value};
 pub use token::{Comment, LexFault, ScanError, Token};
-pub use value::{integer_value, plain_value, string_value};
+pub use value::{plain_value, string_value};

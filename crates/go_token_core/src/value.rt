@@ -1,57 +1,11 @@
-//! The values of literals.
+//! The values of string literals.
 ghost use Rattle.std.specs.Prelude.{◌≡◌, ◌≤◌, ◌<◌, ◌++◌, ◌↔◌, length, encode_utf8, is_some, None, IfOk, IfSome, IsTrue, OnOk};
 ghost use Rattle.std.specs.Str.{IsUtf8, chars};
-ghost use Rattle.go_token_core.specs.Numbers.{integer_value_of, number_in, radix_of, up_to_greatest};
 ghost use Rattle.go_token_core.specs.Values.{but_last, meaning_bytes, meaning_at, quoted_value, raw_bytes, raw_value, string_value_of, IsBetween, IsPlain, IsPlainBetween};
 
 use crate::characters::characters_of;
 use crate::escapes::{Meaning, escape};
-use crate::number::number_behind;
 use std::alloc::{AllocError, Global};
-
-/// The radix of a literal.
-fn radix(spelled: &[u8]) -> u32
-    ensures value { result ≡ radix_of spelled.now }
-    ensures low { 2 ≤ result }
-    ensures high { result ≤ 16 }
-{
-    match spelled {
-        [b'0', b'x' | b'X', ..] => 16,
-        [b'0', b'b' | b'B', ..] => 2,
-        [b'0', ..] => 8,
-        _ => 10,
-    }
-}
-
-/// The number that the digits among the bytes write, where it is no greater than the greatest.
-fn number_of_bytes(text: &[u8], radix: u32) -> Option<u64>
-    requires low { 2 ≤ radix }
-    requires high { radix ≤ 16 }
-    ensures { result ≡ up_to_greatest (number_in radix text.now) }
-{
-    let mut value: u64 = 0;
-    for b in text {
-        let Some(more) = number_behind(value, char::from(*b), radix) else {
-            return None;
-        };
-        value = more;
-    }
-    Some(value)
-}
-
-/// The number that an integer literal writes, where it is no greater than 2^63 - 1.
-///
-/// Each text has an answer: its base is 16 where it begins with `0x` or `0X`, 2 where it begins with
-/// `0b` or `0B`, otherwise 8 where it begins with `0`, and 10 where not. The number is the one that
-/// its digits of that base write, in their order; any other character is passed over, wherever it
-/// stands. So a text without such a digit, as the empty one, has the number 0, and where the text is
-/// an integer literal what is passed over are the letter of its base and each `_`.
-pub fn integer_value(spelled: &str) -> Option<u64>
-    ensures { result ≡ up_to_greatest (integer_value_of spelled.now) }
-{
-    let bytes = spelled.as_bytes();
-    number_of_bytes(bytes, radix(bytes))
-}
 
 /// Adds the bytes of what a character or an escape stands for.
 fn push_meaning(value: &mut Vec<u8>, meaning: Meaning) -> Result<(), AllocError>

@@ -11,8 +11,8 @@ use Rattle.go_tree_nodes.specs.declared.types.Fields.{Fields}
 use Rattle.go_tree_nodes.specs.declared.types.Fields.TheVariants as fields
 use Rattle.go_tree_nodes.specs.declared.exprs.Key.{Key}
 use Rattle.go_tree_nodes.specs.declared.files.Receiver.{Receiver}
-use Rattle.go_tree_core.specs.declared.occurrence.Usage.{Usage}
-use Rattle.go_tree_core.specs.declared.occurrence.Usage.TheVariants as usage
+use Rattle.go_tree_nodes.specs.declared.usage.Usage.{Usage}
+use Rattle.go_tree_nodes.specs.declared.usage.Usage.TheVariants as usage
 use Rattle.go_tree_core.specs.declared.occurrence.Role.{Role}
 use Rattle.go_tree_core.specs.declared.occurrence.Role.TheVariants as role
 use Rattle.go_tree_core.specs.declared.occurrence.Context.{Context}

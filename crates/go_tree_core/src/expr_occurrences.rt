@@ -4,13 +4,13 @@ ghost use Rattle.std.specs.Prelude.{◌≡◌};
 ghost use Rattle.go_tree_nodes.specs.Shapes as shapes;
 ghost use Rattle.go_tree_core.specs.Occurrences as occurrences;
 
-use crate::occurrence::{Context, Role, Usage};
+use crate::occurrence::{Context, Role};
 use crate::type_occurrences::{visit_type, visit_type_name};
 use crate::visitor::{Visitor, visit_call, visit_ident};
 use go_token_core::Operator;
 use go_tree_nodes::{
-    Expr, Exprs, Ident, Item, Key, TypeDecl, TypeExpr, TypeSpecs, ValueDecl, ValueSpec, ValueSpecs,
-    Values,
+    Expr, Exprs, Ident, Item, Key, TypeDecl, TypeExpr, TypeSpecs, Usage, ValueDecl, ValueSpec,
+    ValueSpecs, Values,
 };
 
 // The context of what stands in parentheses.

@@ -19,11 +19,11 @@ pub use go_tree_nodes::{
     ImportSpecs, InitPart, Item, Key, Line, LiteralExpr, Loop, MethodLine, NextExpr, NextIdent,
     Otherwise, Param, Params, Receiver, Results, SelectExpr, Signature, Simple, Stmt,
     StructLiteralExpr, TextLiteral, TopDecl, TypeDecl, TypeExpr, TypeLine, TypeName, TypeSpec,
-    TypeSpecs, Update, ValueDecl, ValueKind, ValueLine, ValueSpec, ValueSpecs, Values,
+    TypeSpecs, Update, Usage, ValueDecl, ValueKind, ValueLine, ValueSpec, ValueSpecs, Values,
 };
 pub use laws::{
     calls_are_occurrences, imports_are_occurrences, names_are_used_or_declared,
     occurrences_are_written,
 };
-pub use occurrence::{Context, Occ, OccId, Role, Usage};
+pub use occurrence::{Context, Occ, OccId, Role};
 pub use seek::at;

@@ -3,17 +3,7 @@ ghost use Rattle.std.specs.Prelude.{◌≡◌};
 ghost use Rattle.go_tree_core.specs.Occurrences.{is_identifier, role_word};
 
 use go_text_core::{Name, Span};
-
-/// How a selector as a whole is used.
-#[derive(Clone, Copy, Debug, PartialEq, Eq)]
-pub enum Usage {
-    /// It names a type.
-    Type,
-    /// It is an operand.
-    Value,
-    /// It is called.
-    Callee,
-}
+use go_tree_nodes::Usage;
 
 /// What an occurrence is.
 #[derive(Clone, Copy, Debug, PartialEq, Eq)]

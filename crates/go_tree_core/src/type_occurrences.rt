@@ -3,9 +3,11 @@
 ghost use Rattle.go_tree_nodes.specs.TypeShapes.{shape_type, shape_signature, shape_results, fields_of, methods_of, params_of};
 ghost use Rattle.go_tree_core.specs.Occurrences.{type_name_occs, type_occs, field_occs, fields_occs, methods_occs, signature_occs, result_occs, params_occs};
 
-use crate::occurrence::{Role, Usage};
+use crate::occurrence::Role;
 use crate::visitor::{Visitor, visit_ident};
-use go_tree_nodes::{FieldLine, Fields, MethodLine, Param, Results, Signature, TypeExpr, TypeName};
+use go_tree_nodes::{
+    FieldLine, Fields, MethodLine, Param, Results, Signature, TypeExpr, TypeName, Usage,
+};
 
 /// Visits the occurrences of the name of a type.
 pub(crate) fn visit_type_name<V: Visitor>(visitor: &mut V, name: &TypeName)

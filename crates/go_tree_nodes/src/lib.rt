@@ -9,6 +9,7 @@ mod operators;
 mod starts;
 mod stmts;
 mod types;
+mod usage;
 
 pub use decls::{
     TypeDecl, TypeLine, TypeSpec, TypeSpecs, ValueDecl, ValueKind, ValueLine, ValueSpec,
@@ -32,3 +33,4 @@ pub use stmts::{
 pub use types::{
     FieldLine, Fields, MethodLine, Param, Params, Results, Signature, TypeExpr, TypeName,
 };
+pub use usage::Usage;

@@ -30,7 +30,7 @@ pub use laws::{
 /// What the crates above name of `go_settle_core`.
 pub mod settle_core {
     pub use go_table_core::settle_core::{
-        Kind, Kinds, SeenNames, is_blank, kind_of, settle, settle_signature,
+        Kind, Kinds, SeenNames, kind_of, settle, settle_signature,
     };
 }
 

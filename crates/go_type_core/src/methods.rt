@@ -8,9 +8,10 @@ ghost use Rattle.go_type_core.specs.Built.{unrepeated_methods, kept_over, settle
 ghost use Rattle.go_type_core.specs.mirrors.Making.{is_left_out, seen_after};
 
 use go_path_core::ImportPath;
-use go_table_core::settle_core::{Kind, Kinds, SeenNames, is_blank, kind_of, settle_signature};
+use go_table_core::settle_core::{Kind, Kinds, SeenNames, kind_of, settle_signature};
 use go_table_core::{DeclaredMethod, FieldTable};
 use go_term_core::TypeTerm;
+use go_text_core::is_blank;
 use std::alloc::{AllocError, Global};
 
 // Whether a method is its type's own: it is not blank, stands behind no field of its identifier, and repeats no earlier name. Its name

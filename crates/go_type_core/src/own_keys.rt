@@ -31,13 +31,6 @@ impl Model for OwnKeys {
     ghost invariant = { λ o. RefsRise o.decls.items };
 }
 
-// Whether a declaration stands before another of its package: by file, then by number there.
-fn is_before(a: DeclRef, b: DeclRef) -> bool
-    ensures { result ≡ is_ref_before a b }
-{
-    a.file < b.file || (a.file == b.file && a.number < b.number)
-}
-
 // How many declarations stand before one.
 fn count_before(decls: &[DeclRef], decl: DeclRef) -> usize
     requires { RefsRise decls.now }
@@ -47,7 +40,7 @@ fn count_before(decls: &[DeclRef], decl: DeclRef) -> usize
     decls.partition_point(
         |other: &DeclRef| -> bool
             ensures { result ≡ is_ref_before other.now decl }
-        { is_before(*other, decl) },
+        { other.is_before(decl) },
     )
 }
 

@@ -8,5 +8,5 @@ pub returns : goal.returns
 returns c = on_ok_weaker c.add.result
     (λ added. ap (map name_and_decl) added
     ∙ (map-append name_and_decl c.args.names.now.items _
-    ∙ ap (λ name. map name_and_decl c.args.names.now.items ++ (name, c.args.decl) ∷ []) c.in_ok-from_text.ensures))
+    ∙ ap (λ name. map name_and_decl c.args.names.now.items ++ (name, c.args.decl) ∷ []) c.in_ok-from_text.ensures.spelled))
     c.add.ensures

@@ -21,6 +21,6 @@ returns c =
     let scene = scene_with c.args.tables.now i k in
     object_made i k scene (object_shown (record { path = c.in_ok-path.path; name = c.in_ok-name.name; imports = c.in_ok-imports.imports; functions = c.in_ok-functions.functions }))
     (c.in_ok-path.ensures ∙ c.path.ensures)
-    (c.in_ok-name.ensures ∙ (c.name.ensures ∙ ap (λ e. e.name) (c.exports.ensures ∙ ap (λ (s : SummaryModel). s.exports) c.summary.ensures)))
+    (c.in_ok-name.ensures.same ∙ (c.name.ensures ∙ ap (λ e. e.name) (c.exports.ensures ∙ ap (λ (s : SummaryModel). s.exports) c.summary.ensures)))
     (c.in_ok-imports.ensures ∙ ap all_passing (c.imports.ensures.value ∙ ap (λ (x : InputModel). x.imports) c.input-2.ensures))
     (c.in_ok-functions.ensures ∙ functions_made i k (code_scene_shown c.in_ok-names.names) scene (map outline_shown c.deref-2.result.now) (map file_shown c.deref-3.result.now) c.in_ok-names.ensures outlined files)

@@ -17,7 +17,7 @@ copy_terms-returns t c = all_copied shape _ _ _ _ c.deref-term-items.ensures.val
 pub copy_methods-loop-method-preserved : goal.copy_methods-loop-method-preserved
 copy_methods-loop-method-preserved t c =
     let x = c.method-item.result in
-    let name = of_made _ _ _ c.in-Ok-both.ensures.0 c.copy-name.ensures in
+    let name = of_made _ _ _ c.in-Ok-both.ensures.0 c.copy-name.ensures.same in
     let signature = of_made _ _ _ c.in-Ok-both.ensures.1 c.copy_signature.ensures in
     one_copied method_term _ _ _ _ x _ c.loop-method-test.true c.method-item.is c.in-Ok-add.ensures (λ i. AMethod (name i) x.place (signature i) NoMethod) c.loop-method.invariant
 

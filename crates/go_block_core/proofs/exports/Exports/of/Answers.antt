@@ -8,7 +8,7 @@ use Rattle.go_block_core.proofs.exports.Exports.of.Goals as goal
 pub returns : goal.returns
 returns c =
     let path = c.in_ok-share.ensures ∙ c.path.ensures in
-    let name = c.in_ok-from_text.ensures ∙ clause_of_name (trees_of c.args.«package».now.1) c.name.result.now c.name.ensures in
+    let name = c.in_ok-from_text.ensures.spelled ∙ clause_of_name (trees_of c.args.«package».now.1) c.name.result.now c.name.ensures in
     let names = c.in_ok-exported.ensures in
     ap (λ (x : ExportsContent). exports_model x.path x.name (map name_and_decl x.names.items)) c.in_ok-new.ensures.ok
     ∙ (λ i. exports_model (path i) (name i) (names i))
