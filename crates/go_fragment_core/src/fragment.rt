@@ -77,7 +77,8 @@ pub(crate) fn is_other(gives: Gives) -> bool
     }
 }
 
-fn over(word: Option<Word>) -> Gives
+/// What is given over a word: one value over it, or something else where there is none.
+pub fn over(word: Option<Word>) -> Gives
     ensures { result ≡ over word }
 {
     match word {

@@ -15,7 +15,7 @@ mod slots;
 mod targets;
 
 pub use constants::{called, folded};
-pub use fragment::{expr_gives, is_method};
+pub use fragment::{expr_gives, is_method, over};
 pub use inside::in_fragment;
 pub use names::{CodeNames, ConstantWord, Frame, Gives, Meaning};
 pub use operators::{binary_instruction, step_operator, unary_instruction, update_operator};

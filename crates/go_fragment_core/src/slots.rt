@@ -2,14 +2,14 @@
 //!
 //! Where a function that adds slots ends for want of memory, some of them may stand behind those that were there. Nothing is made of that list:
 //! it is let go.
-ghost use Rattle.std.specs.Prelude.{◌≡◌, ◌++◌, [], ◌∷◌, IfOk, OnErr, OnOk};
+ghost use Rattle.std.specs.Prelude.{◌≡◌, ◌++◌, [], ◌∷◌, IfOk, OnOk};
 ghost use Rattle.go_tree_nodes.specs.Shapes.{shape_value_spec, shape_value, shape_simple, shape_some_simple, shape_init, shape_for, shape_stmt, shape_branch, shape_else, shape_loop, lines_of, func_of};
 ghost use Rattle.go_tree_nodes.specs.TypeShapes.{params_of, shape_idents, shape_names, shape_signature};
 ghost use Rattle.go_fragment_core.specs.Names.{slot_of};
 ghost use Rattle.go_fragment_core.specs.Slots.{branch_slots, define_slots, else_slots, entry_slots, head_slots, init_slots, lines_slots, local_slot, local_slots, new_slot, new_slots, param_names_slots, param_slot, param_slots, receiver_slots, signature_slots, simple_slots, slots_of, some_simple_slots, stmt_slots, value_spec_slots, value_specs_slots};
 
 use crate::names::CodeNames;
-use go_text_core::is_blank;
+use go_text_core::{add, is_blank};
 use go_tree_nodes::{
     Branch, ForHead, FuncDecl, Ident, Idents, InitPart, Line, Loop, Otherwise, Param, Receiver,
     Signature, Simple, Stmt, ValueDecl, ValueKind, ValueSpec, ValueSpecs,
@@ -41,19 +41,9 @@ fn param_slot(ident: &Ident) -> Option<usize>
     }
 }
 
-// Adds a slot. Without memory for it the slots are as they were.
-fn add(slots: &mut Vec<Option<usize>>, slot: Option<usize>) -> Result<(), AllocError>
-    ensures added { OnOk result (slots.new.items ≡ slots.old.items ++ slot ∷ []) }
-    ensures kept { OnErr result (slots.new.items ≡ slots.old.items) }
-{
-    slots.push(slot)?;
-    Ok(())
-}
-
-// Adds the slot of a local variable. Without memory for it the slots are as they were.
+// Adds the slot of a local variable.
 fn add_local(slots: &mut Vec<Option<usize>>, ident: &Ident) -> Result<(), AllocError>
-    ensures added { OnOk result (slots.new.items ≡ slots.old.items ++ local_slot ident.now) }
-    ensures kept { OnErr result (slots.new.items ≡ slots.old.items) }
+    ensures { OnOk result (slots.new.items ≡ slots.old.items ++ local_slot ident.now) }
 {
     if is_blank(ident.name.as_str()) {
         Ok(())

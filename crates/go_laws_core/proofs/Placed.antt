@@ -2,6 +2,7 @@
 use Rattle.std.proofs.Common.{◌≡◌, ◌<◌, ◌≤◌, ◌+◌, ◌⊎◌, inl, inr, ℕ, suc, List, [], ◌∷◌, ◌++◌, refl, sym, ap, subst, ◌∙◌, arith}
 use Rattle.std.specs.Prelude.{None}
 use Rattle.go_text_core.specs.declared.span.Span.{Span}
+use Rattle.go_text_core.proofs.Each.{Each, each-append}
 use Rattle.go_token_core.specs.declared.kind.Operator.TheVariants as operators
 use Rattle.go_tree_nodes.specs.Spelling.{mark, spell_file, spell_func, spell_ident, spell_lines, spell_receiver, spell_signature}
 use Rattle.go_tree_nodes.specs.Terminals.{InOrder, Terminal, least_width}
@@ -13,14 +14,6 @@ use Rattle.go_snap_core.specs.tree_core.Occurrences.{call_at, lines_occs}
 use Rattle.go_snap_core.specs.entry_core.Among.{Among, among_left}
 
 -- what holds of each
-
-abbrev Each : {A : Type 0} → (A → Type 0) → List A → Type 0
-Each P [] = Unit {0}
-Each P (x ∷ xs) = P x × Each P xs
-
-each_append : {A : Type 0} (P : A → Type 0) (xs ys : List A) → Each P xs → Each P ys → Each P (xs ++ ys)
-each_append P [] ys h k = k
-each_append P (x ∷ xs) ys h k = (h.0, each_append P xs ys h.1 k)
 
 each_own : {A : Type 0} (P : A → Type 0) (xs : List A) → ((x : A) → Among xs x → P x) → Each P xs
 each_own P [] f = tt
@@ -52,8 +45,8 @@ each_one : (s : Span) (ls : Lines) → Each (IsOneOf s (spell_lines ls)) (spell_
 each_one s ls =
     let P : Terminal → Type 0 = IsOneOf s (spell_lines ls) in
     let lines : Each P (spell_lines ls) = each_own P (spell_lines ls) (λ t a. inr a) in
-    let body : Each P (spell_lines ls ++ mark operators.CloseBrace s ∷ []) = each_append P (spell_lines ls) (mark operators.CloseBrace s ∷ []) lines (inl refl, tt) in
-    let rest : Each P ((spell_lines ls ++ mark operators.CloseBrace s ∷ []) ++ mark operators.Semicolon s ∷ []) = each_append P (spell_lines ls ++ mark operators.CloseBrace s ∷ []) (mark operators.Semicolon s ∷ []) body (inl refl, tt) in
+    let body : Each P (spell_lines ls ++ mark operators.CloseBrace s ∷ []) = each-append P (spell_lines ls) (mark operators.CloseBrace s ∷ []) lines (inl refl, tt) in
+    let rest : Each P ((spell_lines ls ++ mark operators.CloseBrace s ∷ []) ++ mark operators.Semicolon s ∷ []) = each-append P (spell_lines ls ++ mark operators.CloseBrace s ∷ []) (mark operators.Semicolon s ∷ []) body (inl refl, tt) in
     (inl refl, (inl refl, (inl refl, (inl refl, (inl refl, (inl refl, (inl refl, (inl refl, rest))))))))
 
 -- another place than that of an occurrence

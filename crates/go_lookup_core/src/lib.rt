@@ -19,7 +19,7 @@ pub mod constant_core {
 
 /// What the crates above name of `go_fragment_core`.
 pub mod fragment_core {
-    pub use go_fragment_core::{ConstantWord, Gives, Meaning};
+    pub use go_fragment_core::{ConstantWord, Gives, Meaning, over};
 }
 
 /// What the crates above name of `go_instruction_core`.

@@ -1,10 +1,9 @@
 //! What types and values are over.
 ghost use Rattle.std.specs.Prelude.{◌≡◌};
 ghost use Rattle.go_part_core.specs.face_core.Faces.{value_type_shown};
-ghost use Rattle.go_lookup_core.specs.fragment_core.Fragment.{over};
 ghost use Rattle.go_meaning_core.specs.Words.{basic_word, form_word, sign_gives, some_word, value_word, word_in};
 
-use go_lookup_core::fragment_core::Gives;
+use go_lookup_core::fragment_core::{Gives, over};
 use go_lookup_core::instruction_core::Word;
 use go_part_core::handle_core::{SignatureRef, TypeRef};
 use go_part_core::operand_core::{TypeForm, ValueType};
@@ -63,15 +62,6 @@ pub(crate) fn value_word(types: &TypeTable, value_type: &ValueType<TypeTerm>) ->
     }
 }
 
-fn given(word: Option<Word>) -> Gives
-    ensures { result ≡ over word }
-{
-    match word {
-        Some(word) => Gives::One(word),
-        None => Gives::Other,
-    }
-}
-
 /// What a call gives of something with a signature, over the types of a table.
 ///
 /// The Go specification, "Function types", "Underlying types".
@@ -80,7 +70,7 @@ pub(crate) fn sign_gives(types: &TypeTable, signature: &SignatureRef<'_>) -> Giv
 {
     match signature.result_count(types) {
         0 => Gives::Nothing,
-        1 => given(some_word(types, &signature.result_at(types, 0))),
+        1 => over(some_word(types, &signature.result_at(types, 0))),
         _ => Gives::Other,
     }
 }

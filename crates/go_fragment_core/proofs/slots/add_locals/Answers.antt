@@ -9,4 +9,4 @@ pub returns : goal.returns
 returns c =
     let xs = c.args.names.now in
     ended locals_more refl c.deref-next-items.result.now xs.more.items c.loop-next.next-index c.deref-next-items.ensures.value c.loop-next-test.false
-    (local_slot xs.first) c.args.slots.now.items c.add_local.new.slots.items c.loop-next.slots.items (local_slots (shape_idents xs)) c.in_ok-add_local.ensures.added c.loop-next.invariant (all_locals xs.first xs.more.items)
+    (local_slot xs.first) c.args.slots.now.items c.add_local.new.slots.items c.loop-next.slots.items (local_slots (shape_idents xs)) c.in_ok-add_local.ensures c.loop-next.invariant (all_locals xs.first xs.more.items)

@@ -9,5 +9,5 @@ pub returns : goal.returns
 returns c =
     let xs = c.args.names.now in
     ended param_names_more refl c.deref-next-items.result.now xs.more.items c.loop-next.next-index c.deref-next-items.ensures.value c.loop-next-test.false
-    (c.param_slot.result ∷ []) c.args.slots.now.items c.add.new.slots.items c.loop-next.slots.items (param_names_slots (shape_idents xs)) c.in_ok-add.ensures.added c.loop-next.invariant
+    (c.param_slot.result ∷ []) c.args.slots.now.items c.add.new.all.items c.loop-next.slots.items (param_names_slots (shape_idents xs)) c.in_ok-add.ensures c.loop-next.invariant
     (all_params xs.first xs.more.items c.param_slot.result c.param_slot.ensures)
