@@ -1,4 +1,5 @@
 pub mod CommandLemmas
+pub mod FlagLemmas
 pub mod MadeLemmas
 pub mod PlainWords
 pub mod RunLemmas

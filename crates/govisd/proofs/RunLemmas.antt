@@ -23,13 +23,13 @@ use Rattle.govisd.specs.Texts.{help_of, unknown_command_text}
 use Rattle.govisd.proofs.PlainWords.{check_folder, check_folder_named, check_module, check_module_json, check_module_json_named, check_module_named, explain_word, explain_word_named, help_word, help_word_named}
 
 -- words that are not refused ask for what they name
-asked : (words : List Text) (request : Request) → refusals words ≡ [] → Asks words (Ok request) → said request ≡ asked_by words
+pub asked : (words : List Text) (request : Request) → refusals words ≡ [] → Asks words (Ok request) → said request ≡ asked_by words
 asked words request none (inl h) = h.1
 asked words request none (inr (inl h)) = absurd (subst (IsAmong kind.DisplayHelp) none h.0)
 asked words request none (inr (inr h)) = absurd (subst (IsAmong kind.DisplayVersion) none h.0)
 
 -- and only memory fails
-failed : (words : List Text) (e : Error) → refusals words ≡ [] → Asks words (Err e) → kind_of e ≡ kind.OutOfMemory
+pub failed : (words : List Text) (e : Error) → refusals words ≡ [] → Asks words (Err e) → kind_of e ≡ kind.OutOfMemory
 failed words e none (inl h) = h
 failed words e none (inr h) = absurd (subst (IsAmong (kind_of e)) none h.0)
 
@@ -57,7 +57,7 @@ module _ (Answers : Answering) (ran : Ran) (given left out out' err err' : Optio
   explains (Help topic) word is h = absurd (cc)
   explains Version word is h = absurd (cc)
 
-  helps : (request : Request) (word : Option Text) → said request ≡ ToHelp word → Does Answers (Ok request) ran given left out out' err err' → Helps word ran out out' err err' × Keeps given left
+  pub helps : (request : Request) (word : Option Text) → said request ≡ ToHelp word → Does Answers (Ok request) ran given left out out' err err' → Helps word ran out out' err err' × Keeps given left
   helps Resolve word is h = absurd (cc)
   helps (Explain rule) word is h = absurd (cc)
   helps (Check order) word is h = absurd (cc)
@@ -75,7 +75,7 @@ module _ (Answers : Answering) (ran : Ran) (given left out out' err err' : Optio
   checks (Help topic) folder path json is h = absurd (cc)
   checks Version folder path json is h = absurd (cc)
 
-  ran_out : (e : Error) → kind_of e ≡ kind.OutOfMemory → Refuses (kind_of e) ran err err' → RunsOut ran err err'
+  pub ran_out : (e : Error) → kind_of e ≡ kind.OutOfMemory → Refuses (kind_of e) ran err err' → RunsOut ran err err'
   ran_out e is h =
       let r : Refuses kind.OutOfMemory ran err err' = subst (λ k. Refuses k ran err err') is h in
       (r.status, r.says)
@@ -93,7 +93,7 @@ module _ (Answers : Answering) (ran : Ran) (given left out out' err err' : Optio
   explained : (words : List Text) (word : Option Text) → refusals words ≡ [] → asked_by words ≡ ToExplain word → Runs Answers words ran given left out out' err err' → (Explains word ran out out' err err' ⊎ (RunsOut ran err err' × Keeps out out')) × Keeps given left
   explained words word none is r = done words (Explains word ran out out' err err') (λ request asks did. explains request word (asks ∙ is) did) none r
 
-  helped : (words : List Text) (word : Option Text) → refusals words ≡ [] → asked_by words ≡ ToHelp word → Runs Answers words ran given left out out' err err' → (Helps word ran out out' err err' ⊎ (RunsOut ran err err' × Keeps out out')) × Keeps given left
+  pub helped : (words : List Text) (word : Option Text) → refusals words ≡ [] → asked_by words ≡ ToHelp word → Runs Answers words ran given left out out' err err' → (Helps word ran out out' err err' ⊎ (RunsOut ran err err' × Keeps out out')) × Keeps given left
   helped words word none is r = done words (Helps word ran out out' err err') (λ request asks did. helps request word (asks ∙ is) did) none r
 
   checked : (words : List Text) (folder : Text) (path : Option Text) (json : Bool) → refusals words ≡ [] → asked_by words ≡ ToCheck folder path json → Runs Answers words ran given left out out' err err' → (ChecksFolder Answers folder json path ran out out' err err' ⊎ (RunsOut ran err err' × Keeps out out')) × Keeps given left

@@ -6,7 +6,7 @@ use Rattle.clap.specs.Walk.{Text}
 use Rattle.clap.specs.Values.{kind_of}
 use Rattle.clap.specs.declared.error.Error.{Error}
 use Rattle.clap.specs.declared.error.kind.ErrorKind.{ErrorKind}
-use Rattle.clap.specs.declared.error.kind.ErrorKind.TheVariants.{OutOfMemory}
+use Rattle.clap.specs.declared.error.kind.ErrorKind.TheVariants.{MissingSubcommand, OutOfMemory, UnknownArgument}
 use Rattle.govisd_core.specs.Inputs.{ReadsUpTo}
 use Rattle.govisd_core.specs.Outputs.{IsCutShort}
 use Rattle.govisd_core.specs.Reports.{IsEnd, ReadsAll, max_bytes}
@@ -175,3 +175,33 @@ HelpsEach Answers =
 abbrev pub RefusesOtherCommands : Answering → Type 0
 RefusesOtherCommands Answers =
     (program name : Text) → is_plain name ≡ true → help_of name ≡ None → RunsFor Answers (command_line program (codes "help" ∷ (name ∷ []))) (λ ran out out' err err'. RefusesName (unknown_command_text name) ran err err' × Keeps out out')
+
+-- `resolve` alone resolves what it reads, where memory does not run out before
+abbrev pub ResolvesAlone : Answering → Type 0
+ResolvesAlone Answers =
+    (program : Text) (ran : Ran) (given left out out' err err' : Option (List ℕ)) → Runs Answers (command_line program (codes "resolve" ∷ [])) ran given left out out' err err' → Resolves ran given left out out' err err' ⊎ (RunsOut ran err err' × Keeps out out' × Keeps given left)
+
+-- `help` alone writes the program's help
+abbrev pub HelpsAlone : Answering → Type 0
+HelpsAlone Answers = (program : Text) → RunsFor Answers (command_line program (codes "help" ∷ [])) (ShowsOrRunsOut program_help_text)
+
+-- and so does `--help`
+abbrev pub HelpsByFlag : Answering → Type 0
+HelpsByFlag Answers = (program : Text) → RunsFor Answers (command_line program (codes "--help" ∷ [])) (ShowsOrRunsOut program_help_text)
+
+-- `--version` writes the version
+abbrev pub TellsVersion : Answering → Type 0
+TellsVersion Answers = (program : Text) → RunsFor Answers (command_line program (codes "--version" ∷ [])) (ShowsOrRunsOut version_text)
+
+-- a line is refused for a reason, where memory does not run out before, and nothing is written on standard output
+abbrev pub RefusesFor : ErrorKind → Ran → Option (List ℕ) → Option (List ℕ) → Option (List ℕ) → Option (List ℕ) → Type 0
+RefusesFor kind ran out out' err err' = (Refuses kind ran err err' ⊎ RunsOut ran err err') × Keeps out out'
+
+-- a line without a command is refused
+abbrev pub RefusesNothing : Answering → Type 0
+RefusesNothing Answers = (program : Text) → RunsFor Answers (command_line program []) (RefusesFor MissingSubcommand)
+
+-- and one of `resolve` with a word behind it
+abbrev pub RefusesWordBehind : Answering → Type 0
+RefusesWordBehind Answers =
+    (program word : Text) → is_plain word ≡ true → RunsFor Answers (command_line program (codes "resolve" ∷ (word ∷ []))) (RefusesFor UnknownArgument)

@@ -4,7 +4,7 @@ ghost use Rattle.clap.specs.Values.{kind_of};
 ghost use Rattle.std.specs.Result.{result_ok};
 ghost use Rattle.govisd_folders.specs.Checks.{IsAnswerOfCheck};
 ghost use Rattle.govisd.specs.Texts.{refused_text as text_of_refused};
-ghost use Rattle.govisd.specs.Runs.{ChecksEach, ChecksEachAsJson, ChecksEachModule, ChecksFolder, Explains, WritesAnswer, Helps, Refuses, RefusesMade, Resolves, Runs, RunsOut, ShowsText, ShowsMade, SaysText, ExplainsEach, HelpsEach, ListsAll, RefusesOtherCommands, RefusesOthers};
+ghost use Rattle.govisd.specs.Runs.{ChecksEach, ChecksEachAsJson, ChecksEachModule, ChecksFolder, Explains, WritesAnswer, Helps, Refuses, RefusesMade, Resolves, Runs, RunsOut, ShowsText, ShowsMade, SaysText, ExplainsEach, HelpsAlone, HelpsByFlag, HelpsEach, ListsAll, RefusesNothing, RefusesOtherCommands, RefusesOthers, RefusesWordBehind, ResolvesAlone, TellsVersion};
 
 use crate::status::{end_status, refusal_status};
 use crate::texts::{
@@ -226,7 +226,8 @@ pub fn run<S: AsStr, C: Checks, R: Read, W: Write, E: Write>(
 }
 
 /// A law, with nothing to run: what a run of `explain` does for each rule, for a word that names none and without a word,
-/// one of `check` for each folder, also with the path of its module and as JSON, and one of `help` for each command and for a word that names none, whatever checks folders.
+/// one of `check` for each folder, also with the path of its module and as JSON, one of `help` for each command, for a word that names none and without
+/// a word, one of `resolve`, of `--help` and of `--version`, and that a line without a command is refused, as `resolve` with a word is; whatever checks folders.
 pub fn runs_answer_words<C: Checks>(_checks: &C)
     ensures each { ExplainsEach (C.Answers _checks.now) }
     ensures other { RefusesOthers (C.Answers _checks.now) }
@@ -236,4 +237,10 @@ pub fn runs_answer_words<C: Checks>(_checks: &C)
     ensures as_json { ChecksEachAsJson (C.Answers _checks.now) }
     ensures command { HelpsEach (C.Answers _checks.now) }
     ensures no_command { RefusesOtherCommands (C.Answers _checks.now) }
+    ensures resolve { ResolvesAlone (C.Answers _checks.now) }
+    ensures help { HelpsAlone (C.Answers _checks.now) }
+    ensures help_flag { HelpsByFlag (C.Answers _checks.now) }
+    ensures version_flag { TellsVersion (C.Answers _checks.now) }
+    ensures nothing { RefusesNothing (C.Answers _checks.now) }
+    ensures word_behind { RefusesWordBehind (C.Answers _checks.now) }
 {}
