@@ -12,6 +12,7 @@ use Rattle.go_near_core.specs.table_core.Tables.{AreOf}
 use Rattle.go_near_core.specs.type_core.Built.{AreEntries}
 use Rattle.go_near_core.specs.entry_core.Entries.{package_meanings, package_methods}
 use Rattle.go_near_core.specs.entry_core.Ordered.{entries_own}
+use Rattle.go_near_core.specs.face_core.Packages.{PackageFacesModel}
 use Rattle.go_part_core.specs.ready_core.Made.{trees_placed}
 use Rattle.go_part_core.specs.ready_core.Packages.{PackageIn, entries_in, outlines_in, trees_in}
 use Rattle.go_part_core.specs.package_core.Checked.{CheckedOf, IsChecked}
@@ -37,3 +38,7 @@ pub types_own : (p : PackageIn) (far : List Entry) (c : CheckedOf) → IsChecked
 types_own p far c h =
     let means = package_meanings p.shows p.path p.blocks in
     own_built (entries_in p) (find_entry far) h.types.built.kind p.path (entries_in p) c.types (entries_own means p.path (package_methods means p.path (outlines_in p)) (outlines_in p)) h.types.built.entries
+
+-- what a package shows is of its path
+pub faces_own : (p : PackageIn) (far : List Entry) (c : CheckedOf) → IsChecked p far c → c.faces.path ≡ p.path
+faces_own p far c h = ap (λ (f : PackageFacesModel). f.path) h.faces

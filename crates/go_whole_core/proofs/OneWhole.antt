@@ -27,8 +27,7 @@ use Rattle.go_whole_core.proofs.Told.{IsTold, IsToldOf, NoneIsOf, TellAlike, kno
 use Rattle.go_whole_core.proofs.Order.{assembled_by, by_place, place_of, reached_before, reaches_next}
 use Rattle.go_whole_core.proofs.Beside.{AreSourced, exports_are, faces_are, none_beside, over, some_beside, tell, tell_to, told_of, types_are, well_beside}
 use Rattle.go_whole_core.proofs.Theirs.{Leads, imports_lead, one_import, one_imported, passes}
-use Rattle.go_part_core.proofs.Checks.{of_path}
-use Rattle.go_whole_core.proofs.Checks.{trees_are_placed, types_own}
+use Rattle.go_whole_core.proofs.Checks.{faces_own, trees_are_placed, types_own}
 
 -- a list of wholes
 
@@ -68,7 +67,7 @@ module _ (ps : List PackageModel) (ws : List (Option WholeOf)) (all : AreWhole p
   of_one i w h =
       let b = whole_back i w h in
       let p = package_among ws i w.source b.is.imported w.blocks in
-      record { types = refl; faces = of_path p (types_beside i ws) w.checked b.is.checked; own = types_own p (types_beside i ws) w.checked b.is.checked }
+      record { types = refl; faces = faces_own p (types_beside i ws) w.checked b.is.checked; own = types_own p (types_beside i ws) w.checked b.is.checked }
 
   -- its check, over what the others tell
   pub gives_beside : (n : ℕ) (p : PackageModel) (imported : List (List Imported)) (b : BlocksModel) (q : PackageIn) (c : CheckedOf) → IsChecked (package_among ws n p imported b) (types_beside n ws) c → q ≡ package_among ws n p imported b → CheckGives q (known_by (tell (beside n ws))) c

@@ -24,8 +24,7 @@ use Rattle.go_whole_core.proofs.Told.{AreWell, IsTold, IsToldOf, NoneIsOf, TellA
 use Rattle.go_whole_core.proofs.Order.{along, reaches_next, reaches_on, reaches_others}
 use Rattle.go_whole_core.proofs.Beside.{one_place}
 use Rattle.go_whole_core.proofs.Theirs.{Leads, imports_lead, passes}
-use Rattle.go_part_core.proofs.Checks.{of_path}
-use Rattle.go_whole_core.proofs.Checks.{trees_are_placed, types_own}
+use Rattle.go_whole_core.proofs.Checks.{faces_own, trees_are_placed, types_own}
 
 -- the paths of a package and of those that it reaches
 abbrev pub reach_paths : InputModel → List (List ℕ)
@@ -56,7 +55,7 @@ module _ (ps : List PackageModel) (parts : List (Option PartModel)) (well : IsWo
       subst IsOfOne (sym r.made.summary)
       (record {
         types = refl;
-        faces = of_path (package_seen part.input part.content.blocks (seen_by part.input)) (types_told part.input.reached) r.made.checked r.made.is_checked;
+        faces = faces_own (package_seen part.input part.content.blocks (seen_by part.input)) (types_told part.input.reached) r.made.checked r.made.is_checked;
         own = types_own (package_seen part.input part.content.blocks (seen_by part.input)) (types_told part.input.reached) r.made.checked r.made.is_checked;
       })
 
