@@ -21,7 +21,7 @@ RECURSIVE = {"go_tree_nodes", "go_term_core"}
 WHOLE = set(
     """go_text_core go_token_core go_scan_core go_universe_core go_tree_nodes go_tree_copies go_tree_core go_parse_types go_parse_exprs
     go_parse_stmts go_parse_core go_path_core go_cycle_core go_decl_core go_reach_core go_graph_core go_block_core go_open_core go_local_core
-    go_walk_core go_scope_core go_chain_core go_needs_core go_term_core go_settle_core go_table_core go_written_core go_constant_core
+    go_walk_core go_scope_core go_front_core go_chain_core go_needs_core go_term_core go_settle_core go_table_core go_written_core go_constant_core
     go_operand_core go_denote_core go_statement_core
     govisd govisd_show govisd_probe govisd_cases""".split()
 )

@@ -11,7 +11,6 @@ mod ConstantCalling
 mod ConstantLists
 mod ConstantMethods
 pub mod Declaring
-mod EscapeBytes
 pub mod FileStanding
 pub mod FileTelling
 mod Fitting
@@ -35,7 +34,6 @@ mod Scenes
 mod Selecting
 pub mod Snapshots
 pub mod Sound
-mod StringBytes
 mod Tables
 mod Telling
 mod Terms
@@ -44,4 +42,3 @@ mod Uses
 mod Walking
 mod Wider
 mod Within
-mod WordTests

@@ -7,7 +7,5 @@ pub mod FileLaws
 pub mod ObjectLaws
 pub mod Reached
 pub mod Standing
-pub mod StringLaws
 pub mod TreeLaws
 pub mod Trees
-pub mod WordLaws

@@ -1,8 +1,7 @@
 //! What is true of each workspace that has been compiled, beyond what single calls say: what its occurrences have, what its objects are made of, that
-//! their code is well formed, that code and check agree on constants, and that a file which stands alone is told as it is; and below that, what string
-//! literals stand for and which words are identifiers. Laws, with nothing to run.
+//! their code is well formed, that code and check agree on constants, and that a file which stands alone is told as it is. Laws, with nothing to run.
 //!
-//! The Go specification, "Packages", "Declarations and scope", "Constant expressions", "Calls", "String literals", "Identifiers", "Keywords".
+//! The Go specification, "Packages", "Declarations and scope", "Constant expressions", "Calls".
 #![tactic(auto)]
 
 mod answer_laws;
@@ -10,8 +9,6 @@ mod code_laws;
 mod constant_laws;
 mod file_laws;
 mod object_laws;
-mod string_laws;
-mod word_laws;
 
 pub use answer_laws::outcomes_are_of_occurrences;
 pub use code_laws::{
@@ -21,5 +18,3 @@ pub use code_laws::{
 pub use constant_laws::{constants_are_of_the_check, parts_are_fit};
 pub use file_laws::{clean_is_faultless, snapshots_have_what_is_told, texts_have_snapshots};
 pub use object_laws::{declarations_are_reached, objects_are_of_parts_alone, objects_are_of_trees};
-pub use string_laws::string_values_are_one;
-pub use word_laws::identifiers_are_words;

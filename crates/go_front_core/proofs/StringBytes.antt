@@ -14,8 +14,8 @@ use Rattle.go_scan_core.specs.declared.enclosed.Enclosure.TheVariants.{General, 
 use Rattle.go_scan_core.specs.Enclosed.{closing}
 use Rattle.go_scan_core.specs.Tokens.{AreItems, IsEnclosed, IsItem, IsLexeme, is_special, joined}
 use Rattle.go_scan_core.proofs.FrontLemmas.{or_false, same_number}
-use Rattle.go_laws_core.specs.StringLaws.{AreItemValues, IsEnclosedValue, IsEscapeValue, IsItemValue, IsStringValue, StringValuesAreOne}
-use Rattle.go_laws_core.proofs.EscapeBytes.{escape_has, escape_value_read}
+use Rattle.go_front_core.specs.StringLaws.{AreItemValues, IsEnclosedValue, IsEscapeValue, IsItemValue, IsStringValue, StringValuesAreOne}
+use Rattle.go_front_core.proofs.EscapeBytes.{escape_has, escape_value_read}
 
 -- ---- each item has bytes
 

@@ -13,7 +13,7 @@ use Rattle.go_scan_core.specs.Tokens.{AreDigits, IsEscape, is_escape_letter}
 use Rattle.go_scan_core.proofs.CandidateLemmas.{step}
 use Rattle.go_scan_core.proofs.EscapedLemmas.{escape_read}
 use Rattle.go_scan_core.proofs.FrontLemmas.{same_number}
-use Rattle.go_laws_core.specs.StringLaws.{IsEscapeValue, IsLetterValue}
+use Rattle.go_front_core.specs.StringLaws.{IsEscapeValue, IsLetterValue}
 
 -- what is read as one escape, to its end, with these bytes
 abbrev pub IsReadAs : List ℕ → List ℕ → Type 0

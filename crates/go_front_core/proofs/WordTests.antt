@@ -17,7 +17,7 @@ use Rattle.go_scan_core.specs.Tokens.{IsLexeme}
 use Rattle.go_scan_core.proofs.FrontLemmas.{and_true, keyword_again, not_true, or_true}
 use Rattle.go_scan_core.proofs.LexemeLemmas.{all_from_test}
 use Rattle.go_block_core.specs.Words.{begins_with_letter, identifier, is_keyword}
-use Rattle.go_laws_core.specs.WordLaws.{IdentifiersAreWords, IsSpelling}
+use Rattle.go_front_core.specs.WordLaws.{IdentifiersAreWords, IsSpelling}
 
 -- ---- keywords
 

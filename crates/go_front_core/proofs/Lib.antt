@@ -1,0 +1,6 @@
+mod EscapeBytes
+mod ImportElements
+mod ImportForms
+mod IntegerValues
+mod StringBytes
+mod WordTests

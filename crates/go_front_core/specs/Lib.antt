@@ -1,0 +1,4 @@
+pub mod ImportLaws
+pub mod IntegerLaws
+pub mod StringLaws
+pub mod WordLaws
