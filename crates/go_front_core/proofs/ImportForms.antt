@@ -35,7 +35,7 @@ use Rattle.go_block_core.specs.Holding.{file_block}
 use Rattle.go_block_core.specs.Naming.{file_named, file_specs, form_named, named_import, own_name, package_named, specs_named}
 use Rattle.go_block_core.specs.Words.{last_name}
 use Rattle.go_block_core.proofs.BlockLemmas.{clause_of_name}
-use Rattle.go_front_core.specs.ImportLaws.{Binds, BindsClauseName, BindsGivenName, BindsNothing, BindsRefusedElement, BindsRefusedName, BindsShownName, ImportsBindByForm, IsBoundIn, IsExportedName, IsFileOf, IsForm, IsOwnName, IsRefusedName, IsShownBy, place_of, sample_block, sample_file, sample_imported}
+use Rattle.go_front_core.specs.ImportLaws.{ImportBinds, BindsClauseName, BindsGivenName, BindsNothing, BindsRefusedElement, BindsRefusedName, BindsShownName, ImportsBindByForm, IsBoundIn, IsExportedName, AreImportsOfFile, IsForm, IsOwnName, IsRefusedName, IsShownBy, import_place, sample_block, sample_file, sample_imported}
 use Rattle.go_front_core.proofs.ImportElements.{blank_not, is_refused, not_blank, refused_is}
 
 -- ---- what lists have
@@ -149,36 +149,36 @@ bound_name : (at : ℕ) (name : List ℕ) (target : Target) (b : Bound) → name
 bound_name at name target b other same = rw (blank_not name other) (first_has (bound_as at name target) b [] same)
 
 abbrev IsFormBound : ImportSpecTree → ImportName → Imported → Bound → Type 0
-IsFormBound s n i b = Contains (form_bound (place_of s) i (form_named (value_of s.path) n i)) b
+IsFormBound s n i b = Contains (form_bound (import_place s) i (form_named (value_of s.path) n i)) b
 
 -- what an import has bound that is written with this name and comes to this
-bound_is : (s : ImportSpecTree) (n : ImportName) (i : Imported) (b : Bound) → s.name ≡ n → IsFormBound s n i b → Binds s i b
+bound_is : (s : ImportSpecTree) (n : ImportName) (i : Imported) (b : Bound) → s.name ≡ n → IsFormBound s n i b → ImportBinds s i b
 bound_is s written.Own (given.«Package» e) b w h =
-    let same = one_has (bound_as (place_of s) e.name (targets.«Package» e.path)) b h in
+    let same = one_has (bound_as (import_place s) e.name (targets.«Package» e.path)) b h in
     inl (record { unnamed = w; shown = e; comes = refl; named = sym (ap (λ x. x.name) same); stands = sym (ap (λ x. x.binding.at) same); denotes = sym (ap (λ x. x.binding.target) same) })
 bound_is s written.Own (given.Refused rule) b w h =
-    let own = if_bound (place_of s) (last_name (value_of s.path)) (targets.Refused rule) b h in
+    let own = if_bound (import_place s) (last_name (value_of s.path)) (targets.Refused rule) b h in
     let named : own.0 ≡ b.name = ap (λ x. x.name) own.2 in
     inr (inr (inr (inl (record { unnamed = w; rule = rule; refused = refl; named = subst (IsRefusedName (value_of s.path)) named (refused_is (value_of s.path) own.0 own.1); stands = sym (ap (λ x. x.binding.at) own.2); denotes = sym (ap (λ x. x.binding.target) own.2) }))))
 bound_is s (written.Named id) (given.«Package» e) b w h =
-    let is = name_bound (place_of s) id.name (targets.«Package» e.path) b h in
+    let is = name_bound (import_place s) id.name (targets.«Package» e.path) b h in
     let named : id.name ≡ b.name = ap (λ x. x.name) is.1 in
     inr (inl (record { named = (id, w, named); other = subst (λ x. x ≢ blank) named is.0; shown = e; comes = refl; stands = sym (ap (λ x. x.binding.at) is.1); denotes = sym (ap (λ x. x.binding.target) is.1) }))
 bound_is s (written.Named id) (given.Refused rule) b w h =
-    let is = name_bound (place_of s) id.name (targets.Refused rule) b h in
+    let is = name_bound (import_place s) id.name (targets.Refused rule) b h in
     let named : id.name ≡ b.name = ap (λ x. x.name) is.1 in
     inr (inr (inr (inr (record { named = (id, w, named); other = subst (λ x. x ≢ blank) named is.0; rule = rule; refused = refl; stands = sym (ap (λ x. x.binding.at) is.1); denotes = sym (ap (λ x. x.binding.target) is.1) }))))
 bound_is s (written.Dot dot) (given.«Package» e) b w h =
-    let had = map_had (exported_bound (place_of s) e.path) e.names b h in
+    let had = map_had (exported_bound (import_place s) e.path) e.names b h in
     let named : ◌≡◌ {A = List ℕ × DeclRef} had.0 (b.name, had.0.1) = ap (λ (x : Bound). (x.name, had.0.1)) had.2 in
     inr (inr (inl (record { dotted = (dot, w); shown = e; comes = refl; decl = had.0.1; named = subst (Contains e.names) named had.1; stands = sym (ap (λ x. x.binding.at) had.2); denotes = sym (ap (λ x. x.binding.target) had.2) })))
 bound_is s (written.Dot dot) (given.Refused rule) b w h = absurd (none_has b h)
 
 -- the bindings of an import, by how it is written and what it comes to
-as_written : (s : ImportSpecTree) (i j : Imported) (n : ImportName) → s.name ≡ n → i ≡ j → import_bound (named_import s i) ≡ form_bound (place_of s) j (form_named (value_of s.path) n j)
+as_written : (s : ImportSpecTree) (i j : Imported) (n : ImportName) → s.name ≡ n → i ≡ j → import_bound (named_import s i) ≡ form_bound (import_place s) j (form_named (value_of s.path) n j)
 as_written s i j n w comes =
-    ap (λ x. form_bound (place_of s) i (form_named (value_of s.path) x i)) w
-    ∙ ap (λ x. form_bound (place_of s) x (form_named (value_of s.path) n x)) comes
+    ap (λ x. form_bound (import_place s) i (form_named (value_of s.path) x i)) w
+    ∙ ap (λ x. form_bound (import_place s) x (form_named (value_of s.path) n x)) comes
 
 abbrev HasBound : ImportSpecTree → Imported → Bound → Type 0
 HasBound s i b = Contains (import_bound (named_import s i)) b
@@ -190,39 +190,39 @@ clause_bound : (s : ImportSpecTree) (i : Imported) (b : Bound) → BindsClauseNa
 clause_bound s i b r =
     let target = targets.«Package» r.shown.path in
     has_listed _ _ b (as_written s i (given.«Package» r.shown) written.Own r.unnamed r.comes)
-    (first_has (bound_as (place_of s) r.shown.name target) b [] (same_bound b r.shown.name (place_of s) target r.named r.stands r.denotes))
+    (first_has (bound_as (import_place s) r.shown.name target) b [] (same_bound b r.shown.name (import_place s) target r.named r.stands r.denotes))
 
 given_bound : (s : ImportSpecTree) (i : Imported) (b : Bound) → BindsGivenName s i b → HasBound s i b
 given_bound s i b r =
     let target = targets.«Package» r.shown.path in
     let id = r.named.0 in
     has_listed _ _ b (as_written s i (given.«Package» r.shown) (written.Named id) r.named.1 r.comes)
-    (bound_name (place_of s) id.name target b (subst (λ x. x ≢ blank) (sym r.named.2) r.other) (same_bound b id.name (place_of s) target (sym r.named.2) r.stands r.denotes))
+    (bound_name (import_place s) id.name target b (subst (λ x. x ≢ blank) (sym r.named.2) r.other) (same_bound b id.name (import_place s) target (sym r.named.2) r.stands r.denotes))
 
 shown_bound : (s : ImportSpecTree) (i : Imported) (b : Bound) → BindsShownName s i b → HasBound s i b
 shown_bound s i b r =
     let e = r.shown in
-    let show = exported_bound (place_of s) e.path in
+    let show = exported_bound (import_place s) e.path in
     let here : Contains (map show e.names) (show (b.name, r.decl)) = map_has show e.names (b.name, r.decl) r.named in
     let target : Target = (show (b.name, r.decl)).binding.target in
     has_listed _ _ b (as_written s i (given.«Package» e) (written.Dot r.dotted.0) r.dotted.1 r.comes)
-    (subst (Contains (map show e.names)) (same_bound b b.name (place_of s) target refl r.stands r.denotes) here)
+    (subst (Contains (map show e.names)) (same_bound b b.name (import_place s) target refl r.stands r.denotes) here)
 
 element_bound : (s : ImportSpecTree) (i : Imported) (b : Bound) → BindsRefusedElement s i b → HasBound s i b
 element_bound s i b r =
     let target = targets.Refused r.rule in
-    let has : bound_if (place_of s) (last_name (value_of s.path)) target ≡ bound_as (place_of s) b.name target ∷ [] = ap (λ o. bound_if (place_of s) o target) (is_refused (value_of s.path) b.name r.named) in
+    let has : bound_if (import_place s) (last_name (value_of s.path)) target ≡ bound_as (import_place s) b.name target ∷ [] = ap (λ o. bound_if (import_place s) o target) (is_refused (value_of s.path) b.name r.named) in
     has_listed _ _ b (as_written s i (given.Refused r.rule) written.Own r.unnamed r.refused ∙ has)
-    (first_has (bound_as (place_of s) b.name target) b [] (same_bound b b.name (place_of s) target refl r.stands r.denotes))
+    (first_has (bound_as (import_place s) b.name target) b [] (same_bound b b.name (import_place s) target refl r.stands r.denotes))
 
 refused_bound : (s : ImportSpecTree) (i : Imported) (b : Bound) → BindsRefusedName s i b → HasBound s i b
 refused_bound s i b r =
     let target = targets.Refused r.rule in
     let id = r.named.0 in
     has_listed _ _ b (as_written s i (given.Refused r.rule) (written.Named id) r.named.1 r.refused)
-    (bound_name (place_of s) id.name target b (subst (λ x. x ≢ blank) (sym r.named.2) r.other) (same_bound b id.name (place_of s) target (sym r.named.2) r.stands r.denotes))
+    (bound_name (import_place s) id.name target b (subst (λ x. x ≢ blank) (sym r.named.2) r.other) (same_bound b id.name (import_place s) target (sym r.named.2) r.stands r.denotes))
 
-is_bound : (s : ImportSpecTree) (i : Imported) (b : Bound) → Binds s i b → HasBound s i b
+is_bound : (s : ImportSpecTree) (i : Imported) (b : Bound) → ImportBinds s i b → HasBound s i b
 is_bound s i b h = elim h [
   | inl r ↦ clause_bound s i b r
   | inr h ↦ elim h [
@@ -238,14 +238,14 @@ is_bound s i b h = elim h [
 
 nothing_bound : (s : ImportSpecTree) (i : Imported) → BindsNothing s i → import_bound (named_import s i) ≡ []
 nothing_bound s i h = elim h [
-  | inl blank_one ↦ as_written s i i (written.Named blank_one.0) blank_one.1 refl ∙ ap (λ x. named_bound (place_of s) x (import_target i)) blank_one.2
+  | inl blank_one ↦ as_written s i i (written.Named blank_one.0) blank_one.1 refl ∙ ap (λ x. named_bound (import_place s) x (import_target i)) blank_one.2
   | inr other ↦ elim other [
     | inl dotted ↦ as_written s i (given.Refused dotted.0.0) (written.Dot dotted.1.0) dotted.1.1 dotted.0.1
     | inr nameless ↦ (
         let text = value_of s.path in
         let none : last_name text ≡ None = no_name (last_name text) (λ name e. nameless.2 name (refused_is text name e)) in
         as_written s i (given.Refused nameless.0.0) written.Own nameless.1 nameless.0.1
-        ∙ ap (λ o. bound_if (place_of s) o (targets.Refused nameless.0.0)) none)
+        ∙ ap (λ o. bound_if (import_place s) o (targets.Refused nameless.0.0)) none)
   ]
 ]
 
@@ -257,7 +257,7 @@ record IsOfSpecs (ss : List ImportSpecTree) (is : List Imported) (b : Bound) : T
   there : slice_get ss number ≡ Some spec
   imported : Imported
   comes : slice_get is number ≡ Some imported
-  binds : Binds spec imported b
+  binds : ImportBinds spec imported b
 
 specs_are : (ss : List ImportSpecTree) (is : List Imported) (b : Bound) → Contains (file_bound (specs_named ss is)) b → IsOfSpecs ss is b
 specs_are [] is b h = absurd (none_has b h)
@@ -267,13 +267,13 @@ specs_are (s ∷ ss) (i ∷ is) b h = elim (Contains-append_cases (import_bound 
   | inr more ↦ (let rest = specs_are ss is b more in record { number = suc rest.number; spec = rest.spec; there = rest.there; imported = rest.imported; comes = rest.comes; binds = rest.binds })
 ]
 
-are_specs : (ss : List ImportSpecTree) (is : List Imported) (n : ℕ) (s : ImportSpecTree) (i : Imported) (b : Bound) → slice_get ss n ≡ Some s → slice_get is n ≡ Some i → Binds s i b → Contains (file_bound (specs_named ss is)) b
+are_specs : (ss : List ImportSpecTree) (is : List Imported) (n : ℕ) (s : ImportSpecTree) (i : Imported) (b : Bound) → slice_get ss n ≡ Some s → slice_get is n ≡ Some i → ImportBinds s i b → Contains (file_bound (specs_named ss is)) b
 are_specs [] is n s i b there comes h = cc
 are_specs (t ∷ ss) [] n s i b there comes h = cc
 are_specs (t ∷ ss) (j ∷ is) zero s i b there comes h =
     let same : s ≡ t = cc in
     let alike : i ≡ j = cc in
-    let here : Binds t j b = subst (λ x. Binds x j b) same (subst (λ x. Binds s x b) alike h) in
+    let here : ImportBinds t j b = subst (λ x. ImportBinds x j b) same (subst (λ x. ImportBinds s x b) alike h) in
     Contains-append_left (import_bound (named_import t j)) (file_bound (specs_named ss is)) b (is_bound t j b here)
 are_specs (t ∷ ss) (j ∷ is) (suc n) s i b there comes h =
     Contains-append_right (import_bound (named_import t j)) (file_bound (specs_named ss is)) b (are_specs ss is n s i b there comes h)
@@ -288,7 +288,7 @@ is_bound_in f is b r = are_specs (file_specs f) is r.number r.spec r.imported b 
 
 -- ---- the files of a package
 
-file_is : (ts : Trees) (files : List (List Imported)) (number : ℕ) (imports : List NamedImport) → slice_get (package_named ts files) number ≡ Some imports → IsFileOf ts files number imports
+file_is : (ts : Trees) (files : List (List Imported)) (number : ℕ) (imports : List NamedImport) → slice_get (package_named ts files) number ≡ Some imports → AreImportsOfFile ts files number imports
 file_is [] files number imports h = cc
 file_is (t ∷ ts) [] number imports h = cc
 file_is (t ∷ ts) (is ∷ files) zero imports h = let same : imports ≡ file_named t.1 is = cc in record { file = t; there = refl; imported = is; comes = refl; imports_are = same }
@@ -305,7 +305,7 @@ file_at (t ∷ ts) (js ∷ files) zero file is there comes =
     ap (λ (x : List ℕ × FileTree). Some (file_named x.1 js)) same ∙ ap (λ x. Some (file_named file.1 x)) alike
 file_at (t ∷ ts) (js ∷ files) (suc number) file is there comes = file_at ts files number file is there comes
 
-is_file : (ts : Trees) (files : List (List Imported)) (number : ℕ) (imports : List NamedImport) → IsFileOf ts files number imports → slice_get (package_named ts files) number ≡ Some imports
+is_file : (ts : Trees) (files : List (List Imported)) (number : ℕ) (imports : List NamedImport) → AreImportsOfFile ts files number imports → slice_get (package_named ts files) number ≡ Some imports
 is_file ts files number imports r = file_at ts files number r.file r.imported r.there r.comes ∙ ap Some (sym r.imports_are)
 
 -- ---- what a package shows

@@ -1,6 +1,12 @@
+mod BranchTables
 mod EscapeBytes
+mod HeightCounts
+mod HeightPaths
 mod ImportElements
 mod ImportForms
 mod IntegerValues
+mod LocalBlocks
+mod LocalNames
+mod OrderLemmas
 mod StringBytes
 mod WordTests

@@ -36,8 +36,8 @@ use Rattle.go_block_core.specs.Naming.{file_named, file_specs, form_named, named
 -- ---- how an import is written, and what it comes to
 
 -- the place of an import is that of its string
-abbrev pub place_of : ImportSpecTree → ℕ
-place_of s = s.path.span.start
+abbrev pub import_place : ImportSpecTree → ℕ
+import_place s = s.path.span.start
 
 -- the import is written without a name
 abbrev pub HasNoName : ImportSpecTree → Type 0
@@ -52,16 +52,16 @@ abbrev pub HasDot : ImportSpecTree → Type 0
 HasDot s = (dot : Span) × (s.name ≡ written.Dot dot)
 
 -- the import comes to a package that shows this
-abbrev pub ComesTo : Imported → ExportsModel → Type 0
-ComesTo i shown = i ≡ given.«Package» shown
+abbrev pub ComesToShown : Imported → ExportsModel → Type 0
+ComesToShown i shown = i ≡ given.«Package» shown
 
 -- the import is refused by this rule
 abbrev pub IsRefusedBy : Imported → Rule → Type 0
 IsRefusedBy i rule = i ≡ given.Refused rule
 
 -- the import is refused
-abbrev pub IsRefused : Imported → Type 0
-IsRefused i = (rule : Rule) × IsRefusedBy i rule
+abbrev pub IsRefusedImport : Imported → Type 0
+IsRefusedImport i = (rule : Rule) × IsRefusedBy i rule
 
 -- ---- the name of an import that is written without one
 
@@ -92,8 +92,8 @@ IsRefusedName text name = IsLastElement text name × IsUsableName name
 -- the name of an import of this text that is written without one: that in the clauses of its package, or that of a refused import
 abbrev pub IsOwnName : List ℕ → Imported → List ℕ → Type 0
 IsOwnName text i name =
-    ((shown : ExportsModel) × ComesTo i shown × (name ≡ shown.name))
-    ⊎ (IsRefused i × IsRefusedName text name)
+    ((shown : ExportsModel) × ComesToShown i shown × (name ≡ shown.name))
+    ⊎ (IsRefusedImport i × IsRefusedName text name)
 
 -- ---- the form of an import
 
@@ -130,11 +130,11 @@ pub record BindsClauseName (s : ImportSpecTree) (i : Imported) (b : Bound) : Typ
   -- what a package shows
   pub shown : ExportsModel
   -- it comes to that package
-  pub comes : ComesTo i shown
+  pub comes : ComesToShown i shown
   -- the name is that in the package's clauses
   pub named : b.name ≡ shown.name
   -- it stands where the import's string does
-  pub stands : b.binding.at ≡ place_of s
+  pub stands : b.binding.at ≡ import_place s
   -- it denotes the package
   pub denotes : b.binding.target ≡ targets.«Package» shown.path
 
@@ -147,9 +147,9 @@ pub record BindsGivenName (s : ImportSpecTree) (i : Imported) (b : Bound) : Type
   -- what a package shows
   pub shown : ExportsModel
   -- it comes to that package
-  pub comes : ComesTo i shown
+  pub comes : ComesToShown i shown
   -- it stands where the import's string does
-  pub stands : b.binding.at ≡ place_of s
+  pub stands : b.binding.at ≡ import_place s
   -- it denotes the package
   pub denotes : b.binding.target ≡ targets.«Package» shown.path
 
@@ -160,13 +160,13 @@ pub record BindsShownName (s : ImportSpecTree) (i : Imported) (b : Bound) : Type
   -- what a package shows
   pub shown : ExportsModel
   -- it comes to that package
-  pub comes : ComesTo i shown
+  pub comes : ComesToShown i shown
   -- a declaration of the package
   pub decl : DeclRef
   -- the name is one that the package shows, with this declaration
   pub named : Contains shown.names (b.name, decl)
   -- it stands where the import's string does
-  pub stands : b.binding.at ≡ place_of s
+  pub stands : b.binding.at ≡ import_place s
   -- it denotes the declaration of the package
   pub denotes : b.binding.target ≡ targets.Exported (record { path = shown.path; decl = decl })
 
@@ -181,7 +181,7 @@ pub record BindsRefusedElement (s : ImportSpecTree) (i : Imported) (b : Bound) :
   -- the name is the last element of what the string stands for, and may be one
   pub named : IsRefusedName (value_of s.path) b.name
   -- it stands where the import's string does
-  pub stands : b.binding.at ≡ place_of s
+  pub stands : b.binding.at ≡ import_place s
   -- the rule refuses it
   pub denotes : b.binding.target ≡ targets.Refused rule
 
@@ -196,13 +196,13 @@ pub record BindsRefusedName (s : ImportSpecTree) (i : Imported) (b : Bound) : Ty
   -- it is refused by that rule
   pub refused : IsRefusedBy i rule
   -- it stands where the import's string does
-  pub stands : b.binding.at ≡ place_of s
+  pub stands : b.binding.at ≡ import_place s
   -- the rule refuses it
   pub denotes : b.binding.target ≡ targets.Refused rule
 
 -- an import that is written so and comes to this binds this
-abbrev pub Binds : ImportSpecTree → Imported → Bound → Type 0
-Binds s i b =
+abbrev pub ImportBinds : ImportSpecTree → Imported → Bound → Type 0
+ImportBinds s i b =
     BindsClauseName s i b
     ⊎ (BindsGivenName s i b
     ⊎ (BindsShownName s i b
@@ -213,8 +213,8 @@ Binds s i b =
 abbrev pub BindsNothing : ImportSpecTree → Imported → Type 0
 BindsNothing s i =
     HasName s blank
-    ⊎ ((IsRefused i × HasDot s)
-    ⊎ (IsRefused i × HasNoName s × ((name : List ℕ) → IsRefusedName (value_of s.path) name → ⊥)))
+    ⊎ ((IsRefusedImport i × HasDot s)
+    ⊎ (IsRefusedImport i × HasNoName s × ((name : List ℕ) → IsRefusedName (value_of s.path) name → ⊥)))
 
 -- an import of the file makes this binding
 pub record IsBoundIn (f : FileTree) (is : List Imported) (b : Bound) : Type 0 where
@@ -229,10 +229,10 @@ pub record IsBoundIn (f : FileTree) (is : List Imported) (b : Bound) : Type 0 wh
   -- that of this number comes to this
   pub comes : slice_get is number ≡ Some imported
   -- it binds this
-  pub binds : Binds spec imported b
+  pub binds : ImportBinds spec imported b
 
 -- the imports of the file of this number are those that its tree writes, each with what it comes to
-pub record IsFileOf (ts : Trees) (files : List (List Imported)) (number : ℕ) (imports : List NamedImport) : Type 0 where
+pub record AreImportsOfFile (ts : Trees) (files : List (List Imported)) (number : ℕ) (imports : List NamedImport) : Type 0 where
   -- a file's tree, with the file's name
   pub file : List ℕ × FileTree
   -- it is that of this number
@@ -347,7 +347,7 @@ sample_block =
 -- what imports bind, by their forms
 pub record ImportsBindByForm : Type 0 where
   -- each file of a package has the imports that its tree writes
-  pub each_file : (ts : Trees) (files : List (List Imported)) (number : ℕ) (imports : List NamedImport) → slice_get (package_named ts files) number ≡ Some imports ↔ IsFileOf ts files number imports
+  pub each_file : (ts : Trees) (files : List (List Imported)) (number : ℕ) (imports : List NamedImport) → slice_get (package_named ts files) number ≡ Some imports ↔ AreImportsOfFile ts files number imports
   -- the imports of a file bind what each of them binds, and nothing else
   pub bindings : (f : FileTree) (is : List Imported) (b : Bound) → Contains (file_bound (file_named f is)) b ↔ IsBoundIn f is b
   -- what binds nothing has no bindings

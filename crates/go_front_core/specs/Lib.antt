@@ -1,4 +1,10 @@
+pub mod Branches
+pub mod HeightLaws
+pub mod HeightNodes
+pub mod HeightSamples
 pub mod ImportLaws
 pub mod IntegerLaws
+pub mod LocalLaws
+pub mod OrderLaws
 pub mod StringLaws
 pub mod WordLaws
