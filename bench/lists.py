@@ -164,6 +164,39 @@ class Names:
         return {*self.logic[crate], *self.code[crate]}
 
 
+BUDGET = float(os.environ.get("BUDGET", "2e6"))
+
+
+def budgeted(repository, names, named):
+    """Lists by names, less those whose names cost least to pass on for the paths that they save, until the paths are within the budget."""
+    edges = {k: set(v) | repository.kept(k) for k, v in named.items()}
+    height = {}
+
+    def high(k):
+        if k not in height:
+            height[k] = 1 + max([high(d) for d in edges[k]], default=0)
+        return height[k]
+
+    order = sorted(edges, key=high)
+    # dearer: a name that goes through many crates
+    weight = lambda a, b: len(names.logic[a].get(b, ())) + len(names.code[a].get(b, ()))
+    fixed = {(a, b) for a in edges for b in edges[a] if b in SMALL or a in WHOLE or not weight(a, b)}
+    while True:
+        paths, reach, ups = {}, {}, {k: 1 for k in order}
+        for k in order:
+            paths[k] = 1 + sum(paths[d] for d in edges[k])
+            reach[k] = set(edges[k]).union(*[reach[d] for d in edges[k]])
+        for k in reversed(order):
+            for d in edges[k]:
+                ups[d] += ups[k]
+        if sum(paths.values()) <= BUDGET:
+            return edges, reach
+        hops = lambda a, b: 1 if any(b in edges[c] for c in edges[a]) else 3
+        found = [(ups[a] * paths[b] / weight(a, b) / hops(a, b), a, b) for a in edges for b in edges[a] if (a, b) not in fixed and any(b in reach[c] for c in edges[a] if c != b)]
+        _, a, b = max(found)
+        edges[a].discard(b)
+
+
 class Ways:
     """The lists, and by which crate each crate reaches another: none where it lists it."""
 
@@ -172,6 +205,7 @@ class Ways:
         self.known, self.heights, self.under = {}, {}, {}
         self.there = repository.there
         self.lists, self.through = {}, {}
+        self.kept_edges, self.reaches = budgeted(repository, names, self.named)
         self.logic, self.code = defaultdict(lambda: defaultdict(set)), defaultdict(lambda: defaultdict(set))
         for crate in sorted(repository.lists, key=lambda it: (-self.height(it), it)):
             wanted = {*self.named[crate], *self.logic[crate], *self.code[crate]} - {crate}
@@ -192,18 +226,10 @@ class Ways:
 
     def gives(self, crate, other):
         """Whether the crate names the other, or can get it from one that does."""
-        if (crate, other) not in self.known:
-            self.known[crate, other] = crate not in BESIDE and (
-                other in self.named[crate] or crate not in WHOLE and any(self.gives(it, other) for it in self.named[crate])
-            )
-        return self.known[crate, other]
+        return other in self.named[crate] or other in self.reaches[crate]
 
     def listed(self, repository, crate, wanted, names):
-        if crate in WHOLE:
-            return wanted | repository.kept(crate)
-        topmost = {it for it in wanted if not any(self.gives(above, it) for above in wanted if above != it)}
-        beside = SMALL | BESIDE | ALONE.get(crate, set())
-        return topmost | (wanted & beside) | ({*names.code[crate], *self.code[crate]} & RECURSIVE)
+        return set(self.kept_edges[crate]) | repository.kept(crate)
 
     def reach(self, crate, other, names):
         if other in self.lists[crate]:

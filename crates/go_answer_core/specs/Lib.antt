@@ -4,15 +4,6 @@ pub mod Sample
 pub mod Shown
 pub mod Sites
 pub mod mirrors
-pub mod block_core
-pub mod cycle_core
-pub mod denote_core
-pub mod entry_core
 pub mod expr_core
 pub mod face_core
 pub mod fault_core
-pub mod handle_core
-pub mod local_core
-pub mod operand_core
-pub mod report_core
-pub mod tree_core

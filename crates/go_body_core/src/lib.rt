@@ -17,16 +17,6 @@ pub use laws::{alike_rules_give_one, bodies_have_occurrences, pieces_are_of_gram
 pub use locals::Local;
 pub use notes::BodyUse;
 
-/// What the crates above name of `go_block_core`.
-pub mod block_core {
-    pub use go_env_core::block_core::{Imported, import_specs};
-}
-
-/// What the crates above name of `go_entry_core`.
-pub mod entry_core {
-    pub use go_env_core::entry_core::ImportedNames;
-}
-
 /// What the crates above name of `go_env_core`.
 pub mod env_core {
     pub use go_env_core::{Meaning, Scene, outer_names, stand};
@@ -34,40 +24,10 @@ pub mod env_core {
 
 /// What the crates above name of `go_face_core`.
 pub mod face_core {
-    pub use go_env_core::face_core::{Face, FaceTable, WrittenFaces, written_faces};
+    pub use go_env_core::face_core::Face;
 }
 
 /// What the crates above name of `go_handle_core`.
 pub mod handle_core {
-    pub use go_env_core::handle_core::{Decl, DeclSite, Home, SignatureRef, TypeRef};
-}
-
-/// What the crates above name of `go_inline_core`.
-pub mod inline_core {
-    pub use go_env_core::inline_core::{Ground, InlineTypes, function_types, initialiser_types};
-}
-
-/// What the crates above name of `go_names_core`.
-pub mod names_core {
-    pub use go_env_core::names_core::OpenNames;
-}
-
-/// What the crates above name of `go_scope_core`.
-pub mod scope_core {
-    pub use go_env_core::scope_core::Scopes;
-}
-
-/// What the crates above name of `go_select_core`.
-pub mod select_core {
-    pub use go_env_core::select_core::EmbedPath;
-}
-
-/// What the crates above name of `go_table_core`.
-pub mod table_core {
-    pub use go_env_core::table_core::{DefinedType, PackageTypes, StructField, TypeTable};
-}
-
-/// What the crates above name of `go_tree_core`.
-pub mod tree_core {
-    pub use go_piece_core::tree_core::Role;
+    pub use go_handle_core::Home;
 }

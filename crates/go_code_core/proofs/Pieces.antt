@@ -11,9 +11,9 @@ use Rattle.go_tree_nodes.specs.declared.exprs.CallExpr.{CallExpr, out-CallExpr}
 use Rattle.go_tree_nodes.specs.Shapes.{shape, shape_call, items_of}
 use Rattle.go_tree_nodes.specs.Trees.{ExprTree, Integer, Text, Named, Paren, Unary, Binary, Select, Call, Literal, StructLiteral}
 use Rattle.go_tree_nodes.proofs.ShapeLemmas.{call_parts, call_form, call_tree}
-use Rattle.go_fragment_core.specs.instruction_core.declared.instruction.Distance.TheVariants as distances
-use Rattle.go_fragment_core.specs.instruction_core.declared.instruction.Instruction.{Instruction}
-use Rattle.go_fragment_core.specs.instruction_core.declared.instruction.Instruction.TheVariants as instructions
+use Rattle.go_instruction_core.specs.declared.instruction.Distance.TheVariants as distances
+use Rattle.go_instruction_core.specs.declared.instruction.Instruction.{Instruction}
+use Rattle.go_instruction_core.specs.declared.instruction.Instruction.TheVariants as instructions
 use Rattle.go_fragment_core.specs.declared.names.ConstantWord.{ConstantWord}
 use Rattle.go_fragment_core.specs.declared.names.Meaning.{Meaning}
 use Rattle.go_fragment_core.specs.declared.names.Meaning.TheVariants as meanings

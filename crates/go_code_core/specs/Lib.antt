@@ -2,4 +2,3 @@ pub mod Code
 pub mod Laws
 pub mod Samples
 pub mod mirrors
-pub mod fragment_core

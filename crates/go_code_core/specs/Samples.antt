@@ -10,11 +10,11 @@ use Rattle.go_tree_nodes.specs.declared.decls.ValueKind.TheVariants as value_kin
 use Rattle.go_tree_nodes.specs.declared.files.Receiver.{Receiver}
 use Rattle.go_tree_nodes.specs.declared.types.TypeName.TheVariants as type_names
 use Rattle.go_tree_nodes.specs.Trees.{One, Then, TypeTree, NamedType, ParamTrees, NoParams, Param, ResultTree, OneResult, NoResult, Results, Signed, ExprTree, Integer, Named, Paren, Binary, Select, Call, ItemTrees, NoItems, Item, Single, SimpleTree, Alone, Step, Assign, Update, Define, Forever, Clauses, StmtTree, Declare, Simple, Return, Break, Continue, Block, If, For, Branch, NoElse, ElseBlock, Lines, NoLines, Line, FuncTree}
-use Rattle.go_fragment_core.specs.instruction_core.declared.letters.Word.TheVariants as words
-use Rattle.go_fragment_core.specs.instruction_core.declared.instruction.Distance.TheVariants as distances
-use Rattle.go_fragment_core.specs.instruction_core.declared.instruction.Instruction.{Instruction}
-use Rattle.go_fragment_core.specs.instruction_core.declared.instruction.Instruction.TheVariants as instructions
-use Rattle.go_fragment_core.specs.instruction_core.declared.instruction.Instruction.TheVariants.{Push, Load, Store, Add, Sub, Eq, Lt, JumpFalse, Println, Outside}
+use Rattle.go_instruction_core.specs.declared.letters.Word.TheVariants as words
+use Rattle.go_instruction_core.specs.declared.instruction.Distance.TheVariants as distances
+use Rattle.go_instruction_core.specs.declared.instruction.Instruction.{Instruction}
+use Rattle.go_instruction_core.specs.declared.instruction.Instruction.TheVariants as instructions
+use Rattle.go_instruction_core.specs.declared.instruction.Instruction.TheVariants.{Push, Load, Store, Add, Sub, Eq, Lt, JumpFalse, Println, Outside}
 use Rattle.go_fragment_core.specs.declared.names.Gives.TheVariants as gives
 use Rattle.go_fragment_core.specs.declared.names.Meaning.{Meaning}
 use Rattle.go_fragment_core.specs.declared.names.Meaning.TheVariants as meanings

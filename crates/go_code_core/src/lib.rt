@@ -21,8 +21,3 @@ pub use samples::{
     loops_are_coded, operands_come_in_order, operands_have_short_cuts, outsiders_are_not_coded,
     unnamed_have_slots,
 };
-
-/// What the crates above name of `go_constant_core`.
-pub mod constant_core {
-    pub use go_fragment_core::constant_core::Constant;
-}

@@ -2,8 +2,8 @@
 use Rattle.std.specs.Prelude.{◌≡◌, Bool, false, not, ◌&&◌, ◌||◌}
 use Rattle.go_term_core.specs.Terms.{Term, PointerTo, is_no_type}
 use Rattle.go_term_core.specs.Identity.{IdenticalButForTags}
-use Rattle.go_mset_core.specs.table_core.Entries.{EntryLook, underlying_in}
-use Rattle.go_mset_core.specs.table_core.Assign.{IsType}
+use Rattle.go_table_core.specs.Entries.{EntryLook, underlying_in}
+use Rattle.go_table_core.specs.Assign.{IsType}
 use Rattle.go_decide_core.specs.Identity.{identical_but_for_tags_of}
 
 -- the underlying types are identical apart from tags, and it is one

@@ -13,11 +13,6 @@ pub use laws::{
     worked_members, worked_types,
 };
 
-/// What the crates above name of `go_constant_core`.
-pub mod constant_core {
-    pub use go_denote_core::constant_core::Constant;
-}
-
 /// What the crates above name of `go_denote_core`.
 pub mod denote_core {
     pub use go_denote_core::Selection;
@@ -30,24 +25,22 @@ pub mod mset_core {
 
 /// What the crates above name of `go_operand_core`.
 pub mod operand_core {
-    pub use go_denote_core::operand_core::{Operand, TypeForm, TypeLooks, ValueType};
+    pub use go_denote_core::operand_core::{TypeForm, TypeLooks};
 }
 
 /// What the crates above name of `go_select_core`.
 pub mod select_core {
     pub use go_mset_core::select_core::{
-        EmbedPath, Member, Owner, Selected, select, select_behind_pointer, selectable,
+        EmbedPath, Member, Selected, select, select_behind_pointer,
     };
 }
 
 /// What the crates above name of `go_settle_core`.
 pub mod settle_core {
-    pub use go_mset_core::settle_core::{Kind, kind_of, settle, settle_signature};
+    pub use go_mset_core::settle_core::{Kind, kind_of};
 }
 
 /// What the crates above name of `go_table_core`.
 pub mod table_core {
-    pub use go_mset_core::table_core::{
-        DeclaredMethod, DefinedType, PackageTypes, TypeTable, is_named_type,
-    };
+    pub use go_table_core::{TypeTable, is_named_type};
 }

@@ -7,5 +7,4 @@ pub mod Contexts
 pub mod Rules
 pub mod Laws
 pub mod mirrors
-pub mod constant_core
 pub mod operand_core

@@ -29,15 +29,7 @@ pub use things::{
     Answer, Argument, Builtin, Denoted, Dot, Exported, Found, Outcome, Selection, Stand,
 };
 
-/// What the crates above name of `go_constant_core`.
-pub mod constant_core {
-    pub use go_constant_core::{Constant, ConstantText, natural};
-}
-
 /// What the crates above name of `go_operand_core`.
 pub mod operand_core {
-    pub use go_operand_core::{
-        Operand, TypeForm, TypeLooks, ValueType, assignable_to, binary, refused_binary,
-        refused_unary, unary,
-    };
+    pub use go_operand_core::{Operand, TypeForm, TypeLooks, ValueType, assignable_to};
 }

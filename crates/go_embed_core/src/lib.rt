@@ -22,22 +22,17 @@ pub use owner::{Embedded, Owner, embeds};
 
 /// What the crates above name of `go_settle_core`.
 pub mod settle_core {
-    pub use go_type_core::settle_core::{
-        Kind, Kinds, SeenNames, kind_of, settle, settle_signature,
-    };
+    pub use go_type_core::settle_core::{Kind, kind_of};
 }
 
 /// What the crates above name of `go_table_core`.
 pub mod table_core {
-    pub use go_type_core::table_core::{
-        DeclaredMethod, DefinedType, PackageTypes, StructField, TypeEntry, TypeTable, is_named_type,
-    };
+    pub use go_type_core::table_core::TypeTable;
 }
 
 /// What the crates above name of `go_type_core`.
 pub mod type_core {
     pub use go_type_core::{
-        Basic, Kind, Method, PackageTypes, Signature, TypeFault, TypeTable, TypeTerm, build_types,
-        has_same_signature, kind_of,
+        Basic, Kind, Method, Signature, TypeFault, TypeTable, TypeTerm, has_same_signature, kind_of,
     };
 }

@@ -19,45 +19,10 @@ pub use object::{emit, emit_all};
 
 /// What the crates above name of `go_answer_core`.
 pub mod answer_core {
-    pub use go_meaning_core::answer_core::{Answer, HeldLocal, Site};
-}
-
-/// What the crates above name of `go_code_core`.
-pub mod code_core {
-    pub use go_code_core::{code_is_whole, jumps_stay_inside, outside_is_alone};
-}
-
-/// What the crates above name of `go_constant_core`.
-pub mod constant_core {
-    pub use go_code_core::constant_core::Constant;
-}
-
-/// What the crates above name of `go_denote_core`.
-pub mod denote_core {
-    pub use go_meaning_core::denote_core::Outcome;
-}
-
-/// What the crates above name of `go_object_core`.
-pub mod object_core {
-    pub use go_object_core::{Object, listing};
-}
-
-/// What the crates above name of `go_operand_core`.
-pub mod operand_core {
-    pub use go_meaning_core::operand_core::{Operand, ValueType};
+    pub use go_meaning_core::answer_core::{Answer, Site};
 }
 
 /// What the crates above name of `go_package_core`.
 pub mod package_core {
     pub use go_meaning_core::package_core::FileAnswers;
-}
-
-/// What the crates above name of `go_select_core`.
-pub mod select_core {
-    pub use go_meaning_core::select_core::{Member, Owner, Selected, select, selectable};
-}
-
-/// What the crates above name of `go_tree_core`.
-pub mod tree_core {
-    pub use go_meaning_core::tree_core::{OccId, occurrences_are_written};
 }

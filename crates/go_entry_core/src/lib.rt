@@ -21,31 +21,5 @@ pub use shown_packages::ShownPackages;
 
 /// What the crates above name of `go_block_core`.
 pub mod block_core {
-    pub use go_scope_core::block_core::{
-        Binding, BlockFault, Blocks, DeclRef, Exports, Imported, NamedDecl, Target, blocks,
-        import_names, import_specs, one_blocks_alone,
-    };
-}
-
-/// What the crates above name of `go_graph_core`.
-pub mod graph_core {
-    pub use go_scope_core::graph_core::{
-        ImportAt, ImportOutcome, Package, PackageSource, Plan, SourceFile, Workspace, assemble,
-        one_outcome, plan_imports,
-    };
-}
-
-/// What the crates above name of `go_parse_core`.
-pub mod parse_core {
-    pub use go_parse_core::{one_rule, one_tree};
-}
-
-/// What the crates above name of `go_reach_core`.
-pub mod reach_core {
-    pub use go_reach_core::{NumberSet, Reached};
-}
-
-/// What the crates above name of `go_written_core`.
-pub mod written_core {
-    pub use go_written_core::{TypeNames, WrittenIn, write_signature, write_type};
+    pub use go_scope_core::block_core::Blocks;
 }

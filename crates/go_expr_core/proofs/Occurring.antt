@@ -15,8 +15,8 @@ use Rattle.go_tree_core.specs.declared.occurrence.Role.TheVariants as roles
 use Rattle.go_tree_core.specs.declared.occurrence.Context.TheVariants as contexts
 use Rattle.go_tree_core.specs.declared.occurrence.Occ.{Occ}
 use Rattle.go_tree_core.specs.Occurrences as occ
-use Rattle.go_literal_core.specs.denote_core.declared.things.Stand.{Stand}
-use Rattle.go_literal_core.specs.denote_core.declared.things.Stand.TheVariants as stands
+use Rattle.go_denote_core.specs.declared.things.Stand.{Stand}
+use Rattle.go_denote_core.specs.declared.things.Stand.TheVariants as stands
 use Rattle.go_expr_core.specs.Looks.{Looks}
 use Rattle.go_expr_core.specs.Places.{inside, under_place, left_place, whole, place_role}
 use Rattle.go_expr_core.specs.Uses.{Spot, Identifier, CallAt, role_of, use_of, type_name_spots, type_spots, fields_spots, methods_spots, signature_spots, result_spots, params_spots, key_spots, spots, args_spots, items_spots}

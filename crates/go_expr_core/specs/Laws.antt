@@ -10,9 +10,9 @@ use Rattle.go_tree_core.specs.declared.occurrence.Context as tree_context
 use Rattle.go_tree_core.specs.declared.occurrence.Context.TheVariants as contexts
 use Rattle.go_tree_core.specs.declared.occurrence.Occ.{Occ}
 use Rattle.go_tree_core.specs.Occurrences.{expr_occs, type_occs}
-use Rattle.go_literal_core.specs.denote_core.declared.things.Stand.{Stand}
-use Rattle.go_literal_core.specs.denote_core.declared.things.Stand.TheVariants as stands
-use Rattle.go_literal_core.specs.denote_core.declared.things.Found.{Found}
+use Rattle.go_denote_core.specs.declared.things.Stand.{Stand}
+use Rattle.go_denote_core.specs.declared.things.Stand.TheVariants as stands
+use Rattle.go_denote_core.specs.declared.things.Found.{Found}
 use Rattle.go_expr_core.specs.declared.things.Use.{Use}
 use Rattle.go_expr_core.specs.Looks.{WrittenRules, Looks}
 use Rattle.go_expr_core.specs.Denoting.{denoted}

@@ -1,5 +1,5 @@
 //! What is noted of an expression.
-use go_literal_core::denote_core::{Denoted, Outcome};
+use go_denote_core::{Denoted, Outcome};
 use go_local_core::Fault;
 use go_text_core::Rule;
 use go_tree_core::Role;

@@ -10,34 +10,3 @@ mod receivers;
 
 pub use entries::{WrittenTypes, type_faults};
 pub use places::PackageFault;
-
-/// What the crates above name of `go_block_core`.
-pub mod block_core {
-    pub use go_entry_core::block_core::{
-        Binding, BlockFault, Blocks, Imported, NamedDecl, Target, blocks, import_names,
-        import_specs, one_blocks_alone,
-    };
-}
-
-/// What the crates above name of `go_entry_core`.
-pub mod entry_core {
-    pub use go_entry_core::{ImportedNames, outlines, type_entries};
-}
-
-/// What the crates above name of `go_graph_core`.
-pub mod graph_core {
-    pub use go_entry_core::graph_core::{
-        ImportAt, ImportOutcome, Package, PackageSource, Plan, SourceFile, Workspace, assemble,
-        one_outcome, plan_imports,
-    };
-}
-
-/// What the crates above name of `go_parse_core`.
-pub mod parse_core {
-    pub use go_entry_core::parse_core::{one_rule, one_tree};
-}
-
-/// What the crates above name of `go_type_core`.
-pub mod type_core {
-    pub use go_embed_core::type_core::{PackageTypes, TypeTable, build_types};
-}

@@ -18,42 +18,7 @@ pub use file_at::FileAt;
 pub use laws::{declarations_stand_alone, files_have_occurrences, functions_are_placed};
 pub use whole::{CheckedFile, check_file};
 
-/// What the crates above name of `go_block_core`.
-pub mod block_core {
-    pub use go_func_core::block_core::{Imported, import_specs};
-}
-
 /// What the crates above name of `go_body_core`.
 pub mod body_core {
     pub use go_func_core::body_core::Local;
-}
-
-/// What the crates above name of `go_embed_core`.
-pub mod embed_core {
-    pub use go_top_core::embed_core::Hits;
-}
-
-/// What the crates above name of `go_face_core`.
-pub mod face_core {
-    pub use go_func_core::face_core::Face;
-}
-
-/// What the crates above name of `go_func_core`.
-pub mod func_core {
-    pub use go_func_core::{functions_have_one_table, locals_are_declarations};
-}
-
-/// What the crates above name of `go_local_core`.
-pub mod local_core {
-    pub use go_top_core::local_core::Fault;
-}
-
-/// What the crates above name of `go_reach_core`.
-pub mod reach_core {
-    pub use go_top_core::reach_core::{NumberSet, Reached};
-}
-
-/// What the crates above name of `go_table_core`.
-pub mod table_core {
-    pub use go_func_core::table_core::{DefinedType, PackageTypes, StructField, TypeTable};
 }

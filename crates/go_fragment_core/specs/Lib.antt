@@ -5,5 +5,3 @@ pub mod Names
 pub mod Operators
 pub mod Slots
 pub mod mirrors
-pub mod constant_core
-pub mod instruction_core

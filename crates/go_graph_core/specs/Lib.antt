@@ -6,3 +6,4 @@ pub mod Plans
 pub mod Sources
 pub mod Workspaces
 pub mod mirrors
+pub mod parse_core

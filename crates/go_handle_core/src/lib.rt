@@ -26,27 +26,12 @@ pub use selecting::selection;
 pub use signatures::{SignatureRef, typed};
 pub use types::{TypeParts, TypeRef};
 
-/// What the crates above name of `go_constant_core`.
-pub mod constant_core {
-    pub use go_decide_core::constant_core::Constant;
-}
-
-/// What the crates above name of `go_operand_core`.
-pub mod operand_core {
-    pub use go_decide_core::operand_core::{Operand, TypeForm, ValueType};
-}
-
 /// What the crates above name of `go_select_core`.
 pub mod select_core {
-    pub use go_decide_core::select_core::{EmbedPath, Member, Owner, Selected, select, selectable};
-}
-
-/// What the crates above name of `go_settle_core`.
-pub mod settle_core {
-    pub use go_decide_core::settle_core::{settle, settle_signature};
+    pub use go_decide_core::select_core::EmbedPath;
 }
 
 /// What the crates above name of `go_table_core`.
 pub mod table_core {
-    pub use go_decide_core::table_core::{DeclaredMethod, DefinedType, PackageTypes, TypeTable};
+    pub use go_decide_core::table_core::TypeTable;
 }

@@ -21,11 +21,6 @@ pub mod inline_core {
     pub use go_value_core::inline_core::InlineTypes;
 }
 
-/// What the crates above name of `go_table_core`.
-pub mod table_core {
-    pub use go_value_core::table_core::{DeclaredMethod, DefinedType, TypeTable};
-}
-
 /// What the crates above name of `go_value_core`.
 pub mod value_core {
     pub use go_value_core::through_itself;

@@ -4,29 +4,29 @@ use Rattle.std.specs.Prelude.{slice_get}
 use Rattle.go_tree_nodes.specs.Rules.{Wf_file}
 use Rattle.go_tree_nodes.specs.Trees.{FileTree, FuncTree, ExprTree}
 use Rattle.go_term_core.specs.Terms.{Term, Sign}
-use Rattle.go_snap_core.specs.local_core.Binding.{Local}
-use Rattle.go_snap_core.specs.local_core.Steps.{Piece}
-use Rattle.go_snap_core.specs.local_core.Tables.{IsFuncPlaced}
-use Rattle.go_snap_core.specs.denote_core.declared.things.Outcome.TheVariants as outcomes
-use Rattle.go_snap_core.specs.denote_core.declared.things.Stand.TheVariants as stands
-use Rattle.go_snap_core.specs.expr_core.Faults.{faults}
-use Rattle.go_snap_core.specs.expr_core.Uses.{uses}
-use Rattle.go_snap_core.specs.handle_core.Declarations.{Declaration}
-use Rattle.go_snap_core.specs.env_core.declared.meaning.Meaning.{Meaning}
-use Rattle.go_snap_core.specs.body_core.Notes.{TheLocal, TheUse}
-use Rattle.go_snap_core.specs.func_core.Functions.{AreFuncDeclarations}
-use Rattle.go_snap_core.specs.func_core.Laws.{FunctionsHaveOneTable}
-use Rattle.go_snap_core.specs.func_core.Locals.{LocalsAreDeclarations}
-use Rattle.go_snap_core.specs.file_core.Files.{decl_faults, decl_uses, tops_uses}
-use Rattle.go_snap_core.specs.file_core.Imports.{imports_uses}
-use Rattle.go_snap_core.specs.file_core.Laws.{FunctionsArePlaced}
-use Rattle.go_snap_core.specs.file_core.Stands.{file_funcs}
+use Rattle.go_local_core.specs.Binding.{Local}
+use Rattle.go_local_core.specs.Steps.{Piece}
+use Rattle.go_local_core.specs.Tables.{IsFuncPlaced}
+use Rattle.go_denote_core.specs.declared.things.Outcome.TheVariants as outcomes
+use Rattle.go_denote_core.specs.declared.things.Stand.TheVariants as stands
+use Rattle.go_expr_core.specs.Faults.{faults}
+use Rattle.go_expr_core.specs.Uses.{uses}
+use Rattle.go_handle_core.specs.Declarations.{Declaration}
+use Rattle.go_env_core.specs.declared.meaning.Meaning.{Meaning}
+use Rattle.go_body_core.specs.Notes.{TheLocal, TheUse}
+use Rattle.go_func_core.specs.Functions.{AreFuncDeclarations}
+use Rattle.go_func_core.specs.Laws.{FunctionsHaveOneTable}
+use Rattle.go_func_core.specs.Locals.{LocalsAreDeclarations}
+use Rattle.go_file_core.specs.Files.{decl_faults, decl_uses, tops_uses}
+use Rattle.go_file_core.specs.Imports.{imports_uses}
+use Rattle.go_file_core.specs.Laws.{FunctionsArePlaced}
+use Rattle.go_file_core.specs.Stands.{file_funcs}
 use Rattle.go_block_core.specs.Naming.{file_specs}
-use Rattle.go_snap_core.specs.whole_core.LocalLaws.{ImportsBindTheirs}
-use Rattle.go_snap_core.specs.used_core.Used.{TheOutcome, is_declared}
-use Rattle.go_snap_core.specs.ready_core.Packages.{trees_in}
+use Rattle.go_whole_core.specs.LocalLaws.{ImportsBindTheirs}
+use Rattle.go_used_core.specs.Used.{TheOutcome, is_declared}
+use Rattle.go_ready_core.specs.Packages.{trees_in}
 use Rattle.go_snap_core.specs.package_core.Checked.{imports_at}
-use Rattle.go_snap_core.specs.summary_core.Views.{types_told}
+use Rattle.go_summary_core.specs.Views.{types_told}
 use Rattle.go_snap_core.specs.part_core.Inputs.{InputModel, IsInput}
 use Rattle.go_snap_core.specs.part_core.Parts.{ContentOf, FileOf, IsPart, package_seen, seen_by}
 use Rattle.go_snap_core.specs.emit_core.Emitted.{are_clean, code_scene_over, told_to}
@@ -34,7 +34,7 @@ use Rattle.go_snap_core.specs.emit_core.Laws.{BodiesAreBetweenBraces, ObjectsAre
 use Rattle.go_snap_core.specs.meaning_core.Looking.{locals_meant}
 use Rattle.go_snap_core.specs.meaning_core.Meanings.{local_meaning}
 use Rattle.go_snap_core.specs.meaning_core.Scenes.{outcome_meaning}
-use Rattle.go_snap_core.specs.lookup_core.Looking.{meaning_or_other}
+use Rattle.go_lookup_core.specs.Looking.{meaning_or_other}
 use Rattle.go_fold_core.specs.Laws.{AreMeant, ConstantsAreFolded, ExpressionsAreFolded, HasDeclaration}
 use Rattle.go_fold_core.specs.Reading.{AreNamesRead, AreRead}
 use Rattle.go_laws_core.specs.Calling.{without_method, without_methods}

@@ -4,21 +4,21 @@ use Rattle.std.specs.Prelude.{Ok, slice_get}
 use Rattle.std.specs.Option.{option_map}
 use Rattle.std.proofs.lemmas.Option.{get_or_from_slice_get, slice_get-map, slice_get_within}
 use Rattle.go_tree_nodes.specs.Trees.{FileTree}
-use Rattle.go_snap_core.specs.tree_core.declared.occurrence.Occ.{Occ}
-use Rattle.go_snap_core.specs.tree_core.Occurrences.{file_occs}
-use Rattle.go_snap_core.specs.expr_core.Laws.{use_place, occurrence_place}
+use Rattle.go_tree_core.specs.declared.occurrence.Occ.{Occ}
+use Rattle.go_tree_core.specs.Occurrences.{file_occs}
+use Rattle.go_expr_core.specs.Laws.{use_place, occurrence_place}
 use Rattle.go_snap_core.specs.part_core.Laws.{PartHasOccurrences}
-use Rattle.go_snap_core.specs.graph_core.Assemblies.{has_tree_at, tree_at}
-use Rattle.go_snap_core.specs.graph_core.Packages.{IsAssembled, tree_shown, trees_of}
-use Rattle.go_snap_core.specs.graph_core.Sources.{SourceModel}
-use Rattle.go_snap_core.specs.graph_core.Workspaces.{PackageModel, IsPackage, IsWorkspace}
-use Rattle.go_snap_core.specs.graph_core.Zips.{numbered_at}
-use Rattle.go_snap_core.specs.ready_core.Packages.{trees_in}
-use Rattle.go_snap_core.specs.used_core.Used.{FileUse}
+use Rattle.go_graph_core.proofs.Assemblies.{has_tree_at, tree_at}
+use Rattle.go_graph_core.specs.Packages.{IsAssembled, tree_shown, trees_of}
+use Rattle.go_graph_core.specs.Sources.{SourceModel}
+use Rattle.go_graph_core.specs.Workspaces.{PackageModel, IsPackage, IsWorkspace}
+use Rattle.go_graph_core.proofs.Zips.{numbered_at}
+use Rattle.go_ready_core.specs.Packages.{trees_in}
+use Rattle.go_used_core.specs.Used.{FileUse}
 use Rattle.go_snap_core.specs.part_core.Parts.{FileOf, IsFileMadeIn, PartModel}
-use Rattle.go_snap_core.specs.whole_core.Inputs.{AreParts, IsPartOf}
-use Rattle.go_snap_core.specs.whole_core.Lists.{one_at}
-use Rattle.go_snap_core.specs.whole_core.PartsWhole.{all_right}
+use Rattle.go_whole_core.specs.Inputs.{AreParts, IsPartOf}
+use Rattle.go_whole_core.proofs.Lists.{one_at}
+use Rattle.go_whole_core.proofs.PartsWhole.{all_right}
 use Rattle.go_snap_core.specs.Snapshots.{IsAnswerAt}
 use Rattle.go_snap_core.proofs.Finding.{one_key, one_part_at}
 use Rattle.go_laws_core.specs.AnswerLaws.{AnswersOccurrences, IsUseOfOccurrence, IsOccurrenceAt, OutcomesAreOfOccurrences}

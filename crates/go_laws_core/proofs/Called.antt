@@ -12,29 +12,29 @@ use Rattle.go_tree_nodes.specs.declared.decls.ValueKind.TheVariants as value_kin
 use Rattle.go_tree_nodes.specs.declared.exprs.Key.{Key}
 use Rattle.go_tree_nodes.specs.Trees.{TypeTree, Separated, One, Then, ExprTree, ItemTrees, Integer, Text, Named, Paren, Unary, Binary, Select, Call, Literal, StructLiteral, NoItems, Item, ValueSpecTree, Specs, Single, Group, SimpleTree, Alone, Step, Assign, Update, Define, ForTree, Forever, While, Clauses, StmtTree, Empty, Declare, Simple, Return, Break, Continue, Block, If, For, BranchTree, Branch, NoElse, ElseBlock, ElseIf, Lines, NoLines, Line, FuncTree}
 use Rattle.go_tree_nodes.specs.Counts.{item_count}
-use Rattle.go_snap_core.specs.tree_core.declared.occurrence.Context.{Context}
-use Rattle.go_snap_core.specs.tree_core.declared.occurrence.Context.TheVariants as contexts
-use Rattle.go_snap_core.specs.tree_core.declared.occurrence.Occ.{Occ}
-use Rattle.go_snap_core.specs.tree_core.declared.occurrence.Role.TheVariants as roles
-use Rattle.go_snap_core.specs.tree_core.Names.{take_branch, take_each, take_for, take_group, take_init, take_lines, take_simple, take_some, take_specs, take_stmt, take_value_spec, take_values}
-use Rattle.go_snap_core.specs.tree_core.Occurrences.{call_at, inside_context, occurrence, under, whole_usage, key_occs, expr_occs, items_occs, exprs_occs, some_expr_occs, some_exprs_occs, some_type_occs, values_occs, value_spec_occs, group_occs, specs_occs, simple_occs, some_simple_occs, init_occs, for_occs, stmt_occs, branch_occs, lines_occs}
-use Rattle.go_fold_core.specs.instruction_core.declared.instruction.Distance.TheVariants as distances
-use Rattle.go_fold_core.specs.instruction_core.declared.instruction.Instruction.{Instruction}
-use Rattle.go_fold_core.specs.instruction_core.declared.instruction.Instruction.TheVariants as instructions
-use Rattle.go_fold_core.specs.fragment_core.declared.names.ConstantWord.{ConstantWord}
-use Rattle.go_fold_core.specs.fragment_core.declared.names.Gives.{Gives}
-use Rattle.go_fold_core.specs.fragment_core.declared.names.Gives.TheVariants as gives
-use Rattle.go_fold_core.specs.fragment_core.declared.names.Meaning.{Meaning}
-use Rattle.go_fold_core.specs.fragment_core.declared.names.Meaning.TheVariants as meanings
-use Rattle.go_fold_core.specs.fragment_core.declared.targets.Target.{Target}
-use Rattle.go_fold_core.specs.fragment_core.declared.targets.Target.TheVariants as targets
-use Rattle.go_fold_core.specs.fragment_core.Constants.{folded}
-use Rattle.go_fold_core.specs.fragment_core.Fragment.{expr_gives, means_method}
-use Rattle.go_fold_core.specs.fragment_core.Inside.{in_fragment}
-use Rattle.go_fold_core.specs.fragment_core.Names.{Frame, CodeLooks, slot_of, callee_meaning, slot_assigned, declared_slot}
-use Rattle.go_fold_core.specs.fragment_core.Operators.{some_instruction, binary_instruction, step_operator, unary_instruction, update_operator}
-use Rattle.go_snap_core.specs.code_core.Code.{Exits, before, binary_code, body_code, branch_code, call_end, constant_or, push, declared_code, dropped, expr_code, frame_in, head_init, head_post, head_test, in_loop, init_code, initial_code, items_code, jump, lines_code, load, loop_code, name_code, no_exits, one_code, receiver_code, returned_code, simple_code, some_simple_code, stmt_code, store, stored, test_code, updated, value_lines_code, value_spec_code, value_specs_code}
-use Rattle.go_snap_core.specs.code_core.Each.{Each, each_append, each_there}
+use Rattle.go_tree_core.specs.declared.occurrence.Context.{Context}
+use Rattle.go_tree_core.specs.declared.occurrence.Context.TheVariants as contexts
+use Rattle.go_tree_core.specs.declared.occurrence.Occ.{Occ}
+use Rattle.go_tree_core.specs.declared.occurrence.Role.TheVariants as roles
+use Rattle.go_tree_core.specs.Names.{take_branch, take_each, take_for, take_group, take_init, take_lines, take_simple, take_some, take_specs, take_stmt, take_value_spec, take_values}
+use Rattle.go_tree_core.specs.Occurrences.{call_at, inside_context, occurrence, under, whole_usage, key_occs, expr_occs, items_occs, exprs_occs, some_expr_occs, some_exprs_occs, some_type_occs, values_occs, value_spec_occs, group_occs, specs_occs, simple_occs, some_simple_occs, init_occs, for_occs, stmt_occs, branch_occs, lines_occs}
+use Rattle.go_instruction_core.specs.declared.instruction.Distance.TheVariants as distances
+use Rattle.go_instruction_core.specs.declared.instruction.Instruction.{Instruction}
+use Rattle.go_instruction_core.specs.declared.instruction.Instruction.TheVariants as instructions
+use Rattle.go_fragment_core.specs.declared.names.ConstantWord.{ConstantWord}
+use Rattle.go_fragment_core.specs.declared.names.Gives.{Gives}
+use Rattle.go_fragment_core.specs.declared.names.Gives.TheVariants as gives
+use Rattle.go_fragment_core.specs.declared.names.Meaning.{Meaning}
+use Rattle.go_fragment_core.specs.declared.names.Meaning.TheVariants as meanings
+use Rattle.go_fragment_core.specs.declared.targets.Target.{Target}
+use Rattle.go_fragment_core.specs.declared.targets.Target.TheVariants as targets
+use Rattle.go_fragment_core.specs.Constants.{folded}
+use Rattle.go_fragment_core.specs.Fragment.{expr_gives, means_method}
+use Rattle.go_fragment_core.specs.Inside.{in_fragment}
+use Rattle.go_fragment_core.specs.Names.{Frame, CodeLooks, slot_of, callee_meaning, slot_assigned, declared_slot}
+use Rattle.go_fragment_core.specs.Operators.{some_instruction, binary_instruction, step_operator, unary_instruction, update_operator}
+use Rattle.go_code_core.specs.Code.{Exits, before, binary_code, body_code, branch_code, call_end, constant_or, push, declared_code, dropped, expr_code, frame_in, head_init, head_post, head_test, in_loop, init_code, initial_code, items_code, jump, lines_code, load, loop_code, name_code, no_exits, one_code, receiver_code, returned_code, simple_code, some_simple_code, stmt_code, store, stored, test_code, updated, value_lines_code, value_spec_code, value_specs_code}
+use Rattle.go_code_core.proofs.Each.{Each, each_append, each_there}
 use Rattle.go_laws_core.specs.Calls.{CallSite, HasWords, expr_sites, items_sites, site, sites}
 use Rattle.go_laws_core.specs.CodeLaws.{CallsAreOfTheBody, IsOfCall}
 

@@ -3,16 +3,16 @@ use Rattle.std.proofs.Common.{◌≡◌, ℕ, suc, ◌+◌, Bool, true, false, i
 use Rattle.std.specs.Prelude.{slice_get}
 use Rattle.std.proofs.lemmas.List.Elements.{All-nil, All-cons, All-append}
 use Rattle.go_tree_nodes.specs.Trees.{FileTree, FuncTree}
-use Rattle.go_term_core.specs.decl_core.TopDecls.{FormTree, FuncForm, TopDeclTree, TypeForm, ValueForm, top_decls}
-use Rattle.go_snap_core.specs.handle_core.Declarations.{Declaration}
-use Rattle.go_snap_core.specs.entry_core.Among.{Among}
-use Rattle.go_snap_core.specs.body_core.Notes.{TheUse}
-use Rattle.go_snap_core.specs.ready_core.Packages.{trees_in}
-use Rattle.go_snap_core.specs.summary_core.Summaries.{SummaryModel}
+use Rattle.go_decl_core.specs.TopDecls.{FormTree, FuncForm, TopDeclTree, TypeForm, ValueForm, top_decls}
+use Rattle.go_handle_core.specs.Declarations.{Declaration}
+use Rattle.go_entry_core.proofs.Among.{Among}
+use Rattle.go_body_core.specs.Notes.{TheUse}
+use Rattle.go_ready_core.specs.Packages.{trees_in}
+use Rattle.go_summary_core.specs.Summaries.{SummaryModel}
 use Rattle.go_snap_core.specs.part_core.Inputs.{InputModel}
 use Rattle.go_snap_core.specs.part_core.Parts.{ContentOf, FileOf}
-use Rattle.go_fold_core.specs.fragment_core.Names.{CodeLooks}
-use Rattle.go_snap_core.specs.object_core.Objects.{FunctionOf, ObjectOf}
+use Rattle.go_fragment_core.specs.Names.{CodeLooks}
+use Rattle.go_object_core.specs.Objects.{FunctionOf, ObjectOf}
 use Rattle.go_snap_core.specs.meaning_core.Looking.{looks_of}
 use Rattle.go_snap_core.specs.meaning_core.Scenes.{CodeScene}
 use Rattle.go_snap_core.specs.emit_core.Emitted.{are_clean, file_functions, form_function, function_of, functions_of, object_over, package_functions, code_scene_over, whole_object}

@@ -1,25 +1,25 @@
 -- Where no method is called it does not matter what methods come to.
 use Rattle.std.proofs.Common.{◌≡◌, List, Option, Some, None, refl, sym, ap, ap₂, subst, ◌∙◌}
 use Rattle.go_tree_nodes.specs.Trees.{ExprTree, ItemTrees, Integer, Text, Named, Paren, Unary, Binary, Select, Call, Literal, StructLiteral, NoItems, Item}
-use Rattle.go_fold_core.specs.constant_core.declared.values.Constant.{Constant}
-use Rattle.go_fold_core.specs.fragment_core.declared.names.ConstantWord.{ConstantWord}
-use Rattle.go_fold_core.specs.fragment_core.declared.names.Meaning.{Meaning}
-use Rattle.go_fold_core.specs.fragment_core.declared.names.Meaning.TheVariants as meanings
-use Rattle.go_fold_core.specs.fragment_core.Constants.{converted, folded, folded_binary, folded_name, folded_one, folded_unary, held}
-use Rattle.go_fold_core.specs.fragment_core.Names as code_names
-use Rattle.go_fold_core.specs.fragment_core.Names.{callee_meaning}
-use Rattle.go_snap_core.specs.operand_core.declared.types.Operand.{Operand}
-use Rattle.go_snap_core.specs.operand_core.TypeRules.{TypeRules}
-use Rattle.go_snap_core.specs.denote_core.declared.things.Exported.{Exported}
-use Rattle.go_snap_core.specs.denote_core.declared.things.Exported.TheVariants as exporteds
-use Rattle.go_snap_core.specs.denote_core.declared.things.Found.{Found}
-use Rattle.go_snap_core.specs.denote_core.declared.things.Found.TheVariants as founds
-use Rattle.go_snap_core.specs.denote_core.declared.things.Outcome.{Outcome}
-use Rattle.go_snap_core.specs.denote_core.declared.things.Outcome.TheVariants as outcomes
-use Rattle.go_snap_core.specs.denote_core.declared.things.Selection.{Selection}
-use Rattle.go_snap_core.specs.denote_core.declared.things.Selection.TheVariants as selections
-use Rattle.go_snap_core.specs.expr_core.declared.things.Use.{Use}
-use Rattle.go_snap_core.specs.expr_core.Looks.{Looks}
+use Rattle.go_constant_core.specs.declared.values.Constant.{Constant}
+use Rattle.go_fragment_core.specs.declared.names.ConstantWord.{ConstantWord}
+use Rattle.go_fragment_core.specs.declared.names.Meaning.{Meaning}
+use Rattle.go_fragment_core.specs.declared.names.Meaning.TheVariants as meanings
+use Rattle.go_fragment_core.specs.Constants.{converted, folded, folded_binary, folded_name, folded_one, folded_unary, held}
+use Rattle.go_fragment_core.specs.Names as code_names
+use Rattle.go_fragment_core.specs.Names.{callee_meaning}
+use Rattle.go_operand_core.specs.declared.types.Operand.{Operand}
+use Rattle.go_operand_core.specs.TypeRules.{TypeRules}
+use Rattle.go_denote_core.specs.declared.things.Exported.{Exported}
+use Rattle.go_denote_core.specs.declared.things.Exported.TheVariants as exporteds
+use Rattle.go_denote_core.specs.declared.things.Found.{Found}
+use Rattle.go_denote_core.specs.declared.things.Found.TheVariants as founds
+use Rattle.go_denote_core.specs.declared.things.Outcome.{Outcome}
+use Rattle.go_denote_core.specs.declared.things.Outcome.TheVariants as outcomes
+use Rattle.go_denote_core.specs.declared.things.Selection.{Selection}
+use Rattle.go_denote_core.specs.declared.things.Selection.TheVariants as selections
+use Rattle.go_expr_core.specs.declared.things.Use.{Use}
+use Rattle.go_expr_core.specs.Looks.{Looks}
 use Rattle.go_fold_core.specs.Laws.{AreMeant}
 use Rattle.go_fold_core.specs.Reading.{IsBuiltinMeant, IsExportedMeant, IsFieldMeant, IsFoundMeant, IsFunctionMeant, IsMethodMeant, IsOperandMeant, IsSelectionMeant, IsTypeMeant, IsValueMeant, IsVariableMeant, held_meaning}
 use Rattle.go_laws_core.specs.Calling.{without_method, without_methods}

@@ -1,15 +1,15 @@
 -- What the methods of types come to in code.
 use Rattle.std.proofs.Common.{◌≡◌, inl, inr, Bool, true, false, cond, List, [], ◌∷◌, Some, refl, sym, ap, ◌∙◌}
 use Rattle.std.specs.Map.{lookup}
-use Rattle.go_term_core.specs.decl_core.declared.keys.DeclRef.{DeclRef}
+use Rattle.go_decl_core.specs.declared.keys.DeclRef.{DeclRef}
 use Rattle.go_term_core.specs.declared.term.MemberPlace.{MemberPlace}
 use Rattle.go_term_core.specs.declared.term.MemberPlace.TheVariants as places
-use Rattle.go_snap_core.specs.table_core.Entries.{Entry, Member}
-use Rattle.go_fold_core.specs.fragment_core.declared.names.Meaning.{Meaning}
-use Rattle.go_fold_core.specs.fragment_core.declared.names.Meaning.TheVariants as meanings
+use Rattle.go_table_core.specs.Entries.{Entry, Member}
+use Rattle.go_fragment_core.specs.declared.names.Meaning.{Meaning}
+use Rattle.go_fragment_core.specs.declared.names.Meaning.TheVariants as meanings
 use Rattle.go_snap_core.specs.meaning_core.Words.{sign_gives}
 use Rattle.go_snap_core.specs.meaning_core.Scenes.{method_at, method_spotted, methods_spotted}
-use Rattle.go_snap_core.specs.lookup_core.Places.{DeclSpotModel, Spotted, spotted_meaning, same_spot, decl_spot}
+use Rattle.go_lookup_core.specs.Places.{DeclSpotModel, Spotted, spotted_meaning, same_spot, decl_spot}
 use Rattle.go_laws_core.proofs.ConstantLists.{HasItem, from_flat}
 
 -- what is found at a place stands in the list

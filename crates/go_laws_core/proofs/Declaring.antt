@@ -8,11 +8,11 @@ use Rattle.go_tree_nodes.specs.Spelling.{mark, spell_decl, spell_func, spell_imp
 use Rattle.go_tree_nodes.specs.Terminals.{InOrder}
 use Rattle.go_tree_nodes.specs.Trees.{DeclTree, FileTree, Func, FuncTree, Group, One, Separated, Single, Specs, Then, TopTree, Types, Value, ValueSpecTree}
 use Rattle.go_tree_nodes.proofs.InOrder.{in_order_split}
-use Rattle.go_snap_core.specs.tree_core.declared.occurrence.Occ.{Occ}
-use Rattle.go_snap_core.specs.tree_core.Occurrences.{decl_occs, file_occs, imports_occs, lines_occs, receiver_occs, signature_occs, tops_occs}
-use Rattle.go_term_core.specs.decl_core.Outer.{Outer, decl_outers, type_spec_outers, value_spec_outers}
-use Rattle.go_term_core.specs.decl_core.TopDecls.{FormTree, FuncForm, TopDeclTree, TypeForm, ValueForm, decl_decls, named_decls, numbered, specs_decls, top_decls, tops_decls, type_spec_decls, value_spec_decls}
-use Rattle.go_snap_core.specs.entry_core.Among.{Among, among_cases, among_left, among_right}
+use Rattle.go_tree_core.specs.declared.occurrence.Occ.{Occ}
+use Rattle.go_tree_core.specs.Occurrences.{decl_occs, file_occs, imports_occs, lines_occs, receiver_occs, signature_occs, tops_occs}
+use Rattle.go_decl_core.specs.Outer.{Outer, decl_outers, type_spec_outers, value_spec_outers}
+use Rattle.go_decl_core.specs.TopDecls.{FormTree, FuncForm, TopDeclTree, TypeForm, ValueForm, decl_decls, named_decls, numbered, specs_decls, top_decls, tops_decls, type_spec_decls, value_spec_decls}
+use Rattle.go_entry_core.proofs.Among.{Among, among_cases, among_left, among_right}
 
 -- declarations that are no functions
 

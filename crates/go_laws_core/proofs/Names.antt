@@ -7,52 +7,52 @@ use Rattle.std.proofs.lemmas.Bool.{eq-eqb}
 use Rattle.go_universe_core.specs.declared.Predeclared.{Predeclared}
 use Rattle.go_universe_core.specs.declared.Predeclared.TheVariants as universe
 use Rattle.go_tree_nodes.specs.Trees.{FileTree, FuncTree}
-use Rattle.go_term_core.specs.decl_core.declared.keys.DeclRef.{DeclRef}
+use Rattle.go_decl_core.specs.declared.keys.DeclRef.{DeclRef}
 use Rattle.go_term_core.specs.declared.term.MemberPlace.TheVariants as places
 use Rattle.go_term_core.specs.Terms.{Term, Sign}
-use Rattle.go_snap_core.specs.local_core.Binding.{Local, bound}
-use Rattle.go_snap_core.specs.local_core.Tables.{IsFuncPlaced}
-use Rattle.go_snap_core.specs.table_core.Entries.{Entry}
-use Rattle.go_snap_core.specs.table_core.Finding.{bytes_same}
+use Rattle.go_local_core.specs.Binding.{Local, bound}
+use Rattle.go_local_core.specs.Tables.{IsFuncPlaced}
+use Rattle.go_table_core.specs.Entries.{Entry}
+use Rattle.go_table_core.proofs.Finding.{bytes_same}
 use Rattle.go_block_core.specs.declared.binding.Binding.{Binding}
 use Rattle.go_block_core.specs.declared.binding.Target.{Target}
 use Rattle.go_block_core.specs.declared.binding.Target.TheVariants as targets
 use Rattle.go_block_core.specs.declared.imports.Imported.TheVariants as imported
 use Rattle.go_block_core.specs.Blocks.{file_binding}
 use Rattle.go_block_core.specs.Tables.{in_block}
-use Rattle.go_snap_core.specs.names_core.declared.meaning.Outside.{Outside}
-use Rattle.go_snap_core.specs.names_core.declared.meaning.Outside.TheVariants as outsides
-use Rattle.go_snap_core.specs.graph_core.Packages.{trees_of}
-use Rattle.go_snap_core.specs.denote_core.declared.things.Outcome.{Outcome}
-use Rattle.go_snap_core.specs.denote_core.declared.things.Outcome.TheVariants as outcomes
-use Rattle.go_snap_core.specs.denote_core.declared.things.Selection.{Selection}
-use Rattle.go_snap_core.specs.denote_core.declared.things.Selection.TheVariants as selections
-use Rattle.go_snap_core.specs.handle_core.Declarations.{Declaration, Universe, OfError, Package, InFile}
-use Rattle.go_snap_core.specs.face_core.Packages.{PackageFacesModel, face_by, face_in, face_in_some, package_in, shown_in_some, shown_name}
-use Rattle.go_snap_core.specs.env_core.declared.meaning.Meaning.{Meaning as NameMeaning}
-use Rattle.go_snap_core.specs.env_core.declared.meaning.Meaning.TheVariants as means
-use Rattle.go_snap_core.specs.env_core.Found.{exported_shown, found_binding, found_exported, found_of, found_outside, found_target, found_universe, own_face}
-use Rattle.go_snap_core.specs.env_core.Looks.{TheLooks}
-use Rattle.go_snap_core.specs.body_core.Notes.{TheLocal, TheValue}
-use Rattle.go_snap_core.specs.func_core.Functions.{AreFuncDeclarations, checked_func}
-use Rattle.go_snap_core.specs.func_core.Locals.{LocalsAreDeclarations}
-use Rattle.go_snap_core.specs.func_core.Stands.{FileStand, outer_meanings}
-use Rattle.go_snap_core.specs.file_core.Files.{decl_locals}
-use Rattle.go_snap_core.specs.file_core.Stands.{file_funcs}
-use Rattle.go_snap_core.specs.whole_core.Known.{IsImportedPath, IsTargetIn}
-use Rattle.go_snap_core.specs.whole_core.LocalLaws.{ImportsBindTheirs}
-use Rattle.go_snap_core.specs.summary_core.Views.{faces_told, types_told}
+use Rattle.go_names_core.specs.declared.meaning.Outside.{Outside}
+use Rattle.go_names_core.specs.declared.meaning.Outside.TheVariants as outsides
+use Rattle.go_graph_core.specs.Packages.{trees_of}
+use Rattle.go_denote_core.specs.declared.things.Outcome.{Outcome}
+use Rattle.go_denote_core.specs.declared.things.Outcome.TheVariants as outcomes
+use Rattle.go_denote_core.specs.declared.things.Selection.{Selection}
+use Rattle.go_denote_core.specs.declared.things.Selection.TheVariants as selections
+use Rattle.go_handle_core.specs.Declarations.{Declaration, Universe, OfError, Package, InFile}
+use Rattle.go_face_core.specs.Packages.{PackageFacesModel, face_by, face_in, face_in_some, package_in, shown_in_some, shown_name}
+use Rattle.go_env_core.specs.declared.meaning.Meaning.{Meaning as NameMeaning}
+use Rattle.go_env_core.specs.declared.meaning.Meaning.TheVariants as means
+use Rattle.go_env_core.specs.Found.{exported_shown, found_binding, found_exported, found_of, found_outside, found_target, found_universe, own_face}
+use Rattle.go_env_core.specs.Looks.{TheLooks}
+use Rattle.go_body_core.specs.Notes.{TheLocal, TheValue}
+use Rattle.go_func_core.specs.Functions.{AreFuncDeclarations, checked_func}
+use Rattle.go_func_core.specs.Locals.{LocalsAreDeclarations}
+use Rattle.go_func_core.specs.Stands.{FileStand, outer_meanings}
+use Rattle.go_file_core.specs.Files.{decl_locals}
+use Rattle.go_file_core.specs.Stands.{file_funcs}
+use Rattle.go_whole_core.specs.Known.{IsImportedPath, IsTargetIn}
+use Rattle.go_whole_core.specs.LocalLaws.{ImportsBindTheirs}
+use Rattle.go_summary_core.specs.Views.{faces_told, types_told}
 use Rattle.go_snap_core.specs.part_core.Inputs.{InputModel, IsInput, path_in}
 use Rattle.go_snap_core.specs.part_core.Parts.{ContentOf, FileOf, IsPart}
-use Rattle.go_fold_core.specs.fragment_core.declared.names.Meaning.{Meaning}
-use Rattle.go_fold_core.specs.fragment_core.declared.names.Meaning.TheVariants as meanings
+use Rattle.go_fragment_core.specs.declared.names.Meaning.{Meaning}
+use Rattle.go_fragment_core.specs.declared.names.Meaning.TheVariants as meanings
 use Rattle.go_snap_core.specs.emit_core.Emitted.{code_scene_over, told_to}
 use Rattle.go_snap_core.specs.emit_core.Imports.{all_passing, imported_paths}
 use Rattle.go_snap_core.specs.meaning_core.Looking.{locals_meant}
 use Rattle.go_snap_core.specs.meaning_core.Meanings.{local_meaning, some_face_meaning}
 use Rattle.go_snap_core.specs.meaning_core.Scenes.{CodeScene, outcome_meaning, selected_meaning}
-use Rattle.go_snap_core.specs.lookup_core.Places.{spotted_meaning, decl_spot}
-use Rattle.go_snap_core.specs.lookup_core.Looking.{meaning_or_other}
+use Rattle.go_lookup_core.specs.Places.{spotted_meaning, decl_spot}
+use Rattle.go_lookup_core.specs.Looking.{meaning_or_other}
 use Rattle.go_fold_core.specs.Reading.{AreNamesRead, AreRead, IsExportedMeant, IsFieldMeant, IsFoundMeant, IsMemberMeant, IsValueMeant}
 use Rattle.go_laws_core.specs.Calling.{without_method}
 use Rattle.go_laws_core.specs.ConstantLaws.{ImportsAreOthers}

@@ -3,30 +3,30 @@ use Rattle.std.proofs.Common.{◌≡◌, ℕ, zero, suc, ◌⊎◌, inl, inr, if
 use Rattle.std.specs.Prelude.{Option, Some, None, AllPairs, Contains, slice_get}
 use Rattle.std.specs.List.{flat_map}
 use Rattle.std.proofs.lemmas.List.Kept.{AllPairs-cons}
-use Rattle.go_term_core.specs.decl_core.declared.keys.DeclRef.{DeclRef}
-use Rattle.go_snap_core.specs.graph_core.Plans.{PlanModel, IsPlan}
-use Rattle.go_snap_core.specs.graph_core.PlanLaws.{has_plan}
-use Rattle.go_snap_core.specs.graph_core.Workspaces.{PackageModel, IsWorkspace}
-use Rattle.go_snap_core.specs.entry_core.Among.{Among, among_cases, among_from, among_left, among_map, among_right, among_to}
-use Rattle.go_snap_core.specs.whole_core.Known.{KnownAlike}
-use Rattle.go_snap_core.specs.whole_core.LocalLaws.{CheckIsLocal, ImportsBindTheirs}
-use Rattle.go_snap_core.specs.handle_core.Declarations.{Declaration}
-use Rattle.go_snap_core.specs.body_core.Notes.{TheUse}
-use Rattle.go_snap_core.specs.ready_core.Packages.{trees_in}
-use Rattle.go_snap_core.specs.summary_core.Summaries.{SummaryModel, IsOfOne, path_of}
-use Rattle.go_snap_core.specs.summary_core.Views.{PathsAreApart, faces_told, types_told}
+use Rattle.go_decl_core.specs.declared.keys.DeclRef.{DeclRef}
+use Rattle.go_graph_core.specs.Plans.{PlanModel, IsPlan}
+use Rattle.go_graph_core.proofs.PlanLaws.{has_plan}
+use Rattle.go_graph_core.specs.Workspaces.{PackageModel, IsWorkspace}
+use Rattle.go_entry_core.proofs.Among.{Among, among_cases, among_from, among_left, among_map, among_right, among_to}
+use Rattle.go_whole_core.specs.Known.{KnownAlike}
+use Rattle.go_whole_core.specs.LocalLaws.{CheckIsLocal, ImportsBindTheirs}
+use Rattle.go_handle_core.specs.Declarations.{Declaration}
+use Rattle.go_body_core.specs.Notes.{TheUse}
+use Rattle.go_ready_core.specs.Packages.{trees_in}
+use Rattle.go_summary_core.specs.Summaries.{SummaryModel, IsOfOne, path_of}
+use Rattle.go_summary_core.specs.Views.{PathsAreApart, faces_told, types_told}
 use Rattle.go_snap_core.specs.part_core.Inputs.{InputModel, path_in}
 use Rattle.go_snap_core.specs.part_core.Parts.{ContentOf, FileOf, IsPart, PartModel}
-use Rattle.go_snap_core.specs.whole_core.Inputs.{AreParts, Tells}
-use Rattle.go_snap_core.specs.whole_core.mirrors.Steps.{AreRight}
-use Rattle.go_snap_core.specs.whole_core.Lists.{all_from_among, among_all, pairs_head, pairs_tail}
-use Rattle.go_snap_core.specs.whole_core.Told.{AreWell, NoneIsOf, known_alike, known_by}
-use Rattle.go_snap_core.specs.whole_core.Parts.{all_inside, none_reached, of_one, path_told, reach_paths, told_by, well_reached}
-use Rattle.go_snap_core.specs.whole_core.PartsWhole.{all_right}
-use Rattle.go_snap_core.specs.whole_core.Checks.{trees_are_placed}
-use Rattle.go_snap_core.specs.object_core.Objects.{FunctionOf, ObjectOf}
+use Rattle.go_whole_core.specs.Inputs.{AreParts, Tells}
+use Rattle.go_whole_core.specs.mirrors.Steps.{AreRight}
+use Rattle.go_whole_core.proofs.Lists.{all_from_among, among_all, pairs_head, pairs_tail}
+use Rattle.go_whole_core.proofs.Told.{AreWell, NoneIsOf, known_alike, known_by}
+use Rattle.go_whole_core.proofs.Parts.{all_inside, none_reached, of_one, path_told, reach_paths, told_by, well_reached}
+use Rattle.go_whole_core.proofs.PartsWhole.{all_right}
+use Rattle.go_whole_core.proofs.Checks.{trees_are_placed}
+use Rattle.go_object_core.specs.Objects.{FunctionOf, ObjectOf}
 use Rattle.go_snap_core.specs.meaning_core.Scenes.{methods_spotted, package_decl_refs}
-use Rattle.go_snap_core.specs.lookup_core.Places.{spotted_meaning, decl_spot}
+use Rattle.go_lookup_core.specs.Places.{spotted_meaning, decl_spot}
 use Rattle.go_snap_core.specs.emit_core.Imports.{all_passing}
 use Rattle.go_snap_core.specs.emit_core.Emitted.{are_clean, object_of, object_over, package_functions, code_scene_over, told_to}
 use Rattle.go_snap_core.specs.emit_core.Emitted as emitted
@@ -39,7 +39,7 @@ use Rattle.go_laws_core.proofs.Parts.{IsFileIn, IsPartIn, IsToldOf, all_in, face
 use Rattle.go_laws_core.specs.Reached.{HasDeclaredIn, reached_paths}
 use Rattle.go_laws_core.specs.ObjectLaws.{AreOfPartsAlone}
 use Rattle.go_tree_nodes.specs.Spelling.{IsPlaced}
-use Rattle.go_snap_core.specs.statement_core.Locality.{Each}
+use Rattle.go_statement_core.specs.Locality.{Each}
 use Rattle.go_snap_core.specs.part_core.Slots.{if_there, somes}
 
 -- one more behind others that are apart from it

@@ -6,24 +6,24 @@ use Rattle.std.specs.Option.{option_map}
 use Rattle.std.proofs.lemmas.Cmp.{nat_eq_equiv}
 use Rattle.std.proofs.lemmas.List.{map-append}
 use Rattle.go_tree_nodes.specs.Trees.{FileTree}
-use Rattle.go_term_core.specs.decl_core.declared.keys.DeclRef.{DeclRef}
-use Rattle.go_term_core.specs.decl_core.TopDecls.{TopDeclTree, top_decls}
-use Rattle.go_snap_core.specs.table_core.Entries.{Entry}
-use Rattle.go_snap_core.specs.table_core.Finding.{bytes_same}
-use Rattle.go_snap_core.specs.summary_core.Viewed.{text_apart}
-use Rattle.go_snap_core.specs.written_core.Written.{InFile, Meaning as TypeMeaning}
-use Rattle.go_snap_core.specs.entry_core.Entries.{Meanings, file_at}
-use Rattle.go_snap_core.specs.entry_core.Outlines.{outline_of}
-use Rattle.go_snap_core.specs.face_core.Faces.{TheFace}
-use Rattle.go_snap_core.specs.face_core.Packages.{DeclaredOf, face_among}
-use Rattle.go_snap_core.specs.face_core.Written.{WrittenOf, decls_of, file_written, position_of, same_decl_place, written_with}
-use Rattle.go_snap_core.specs.answer_core.Shown.{is_decl_listed, shown_among, shown_if}
-use Rattle.go_snap_core.specs.env_core.Found.{face_at}
-use Rattle.go_fold_core.specs.fragment_core.declared.names.Meaning.{Meaning}
-use Rattle.go_fold_core.specs.fragment_core.declared.names.Meaning.TheVariants as meanings
+use Rattle.go_decl_core.specs.declared.keys.DeclRef.{DeclRef}
+use Rattle.go_decl_core.specs.TopDecls.{TopDeclTree, top_decls}
+use Rattle.go_table_core.specs.Entries.{Entry}
+use Rattle.go_table_core.proofs.Finding.{bytes_same}
+use Rattle.go_summary_core.proofs.Viewed.{text_apart}
+use Rattle.go_written_core.specs.Written.{InFile, Meaning as TypeMeaning}
+use Rattle.go_entry_core.specs.Entries.{Meanings, file_at}
+use Rattle.go_entry_core.specs.Outlines.{outline_of}
+use Rattle.go_face_core.specs.Faces.{TheFace}
+use Rattle.go_face_core.specs.Packages.{DeclaredOf, face_among}
+use Rattle.go_face_core.specs.Written.{WrittenOf, decls_of, file_written, position_of, same_decl_place, written_with}
+use Rattle.go_answer_core.specs.Shown.{is_decl_listed, shown_among, shown_if}
+use Rattle.go_env_core.specs.Found.{face_at}
+use Rattle.go_fragment_core.specs.declared.names.Meaning.{Meaning}
+use Rattle.go_fragment_core.specs.declared.names.Meaning.TheVariants as meanings
 use Rattle.go_snap_core.specs.meaning_core.Meanings.{some_face_meaning}
 use Rattle.go_snap_core.specs.meaning_core.Scenes.{decl_at, own_or, own_spotted, package_decl_refs}
-use Rattle.go_snap_core.specs.lookup_core.Places.{spotted_meaning, same_spot, decl_spot}
+use Rattle.go_lookup_core.specs.Places.{spotted_meaning, same_spot, decl_spot}
 
 -- places
 

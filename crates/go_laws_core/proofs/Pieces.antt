@@ -4,31 +4,31 @@ use Rattle.std.specs.Prelude.{if◌then◌else◌}
 use Rattle.std.specs.List.{flat_map}
 use Rattle.go_text_core.specs.declared.span.Span.{Span}
 use Rattle.go_tree_nodes.specs.Trees.{Separated, One, Then, DeclTree, Value, Types, Func, TopTree, FileTree, FuncTree, ExprTree, Alone, Step, Assign, Update, Define}
-use Rattle.go_snap_core.specs.local_core.Binding.{Local, bound, is_first}
-use Rattle.go_snap_core.specs.local_core.Law.{Rules, law_out}
-use Rattle.go_snap_core.specs.local_core.Outline.{func_closes, func_opens, func_steps}
-use Rattle.go_snap_core.specs.local_core.Steps.{Piece, Header, Spec, Act, Condition, Given, Steps, Done, Check, Declare, Inner}
-use Rattle.go_snap_core.specs.local_core.Tables.{out_by_intervals, IsFuncPlaced}
-use Rattle.go_snap_core.specs.walk_core.Ends.{is_blank_target}
+use Rattle.go_local_core.specs.Binding.{Local, bound, is_first}
+use Rattle.go_local_core.specs.Law.{Rules, law_out}
+use Rattle.go_local_core.specs.Outline.{func_closes, func_opens, func_steps}
+use Rattle.go_local_core.specs.Steps.{Piece, Header, Spec, Act, Condition, Given, Steps, Done, Check, Declare, Inner}
+use Rattle.go_local_core.specs.Tables.{out_by_intervals, IsFuncPlaced}
+use Rattle.go_walk_core.specs.Ends.{is_blank_target}
 use Rattle.go_term_core.specs.Terms.{Term}
-use Rattle.go_snap_core.specs.denote_core.declared.things.Stand.TheVariants as stands
-use Rattle.go_snap_core.specs.local_core.declared.Fault.{Fault}
-use Rattle.go_snap_core.specs.expr_core.Faults.{faults}
-use Rattle.go_snap_core.specs.expr_core.Lists.{exprs_faults, exprs_uses, is_list}
-use Rattle.go_snap_core.specs.expr_core.Uses.{uses}
-use Rattle.go_snap_core.specs.piece_core.Headers.{returned_names, returned_types}
-use Rattle.go_snap_core.specs.piece_core.Pieces.{piece_faults, piece_uses}
-use Rattle.go_snap_core.specs.piece_core.Specifications.{values_faults, values_uses}
-use Rattle.go_snap_core.specs.piece_core.Targets.{target_faults, target_uses, targets_faults, targets_uses}
-use Rattle.go_snap_core.specs.env_core.declared.meaning.Meaning.{Meaning}
-use Rattle.go_snap_core.specs.env_core.Looks.{TheLooks}
-use Rattle.go_snap_core.specs.body_core.Body.{BodyOf}
-use Rattle.go_snap_core.specs.body_core.Notes.{NoteOf, TheUse, noted_faults}
-use Rattle.go_snap_core.specs.func_core.Functions.{AreFuncDeclarations, checked_func, func_by, func_rules}
-use Rattle.go_snap_core.specs.func_core.Laws.{FunctionsHaveOneTable}
-use Rattle.go_snap_core.specs.func_core.Stands.{FileStand, outer_looks, outer_meanings}
-use Rattle.go_snap_core.specs.file_core.Stands.{decl_funcs, file_funcs}
-use Rattle.go_snap_core.specs.value_core.Initial.{exprs}
+use Rattle.go_denote_core.specs.declared.things.Stand.TheVariants as stands
+use Rattle.go_local_core.specs.declared.Fault.{Fault}
+use Rattle.go_expr_core.specs.Faults.{faults}
+use Rattle.go_expr_core.specs.Lists.{exprs_faults, exprs_uses, is_list}
+use Rattle.go_expr_core.specs.Uses.{uses}
+use Rattle.go_piece_core.specs.Headers.{returned_names, returned_types}
+use Rattle.go_piece_core.specs.Pieces.{piece_faults, piece_uses}
+use Rattle.go_piece_core.specs.Specifications.{values_faults, values_uses}
+use Rattle.go_piece_core.specs.Targets.{target_faults, target_uses, targets_faults, targets_uses}
+use Rattle.go_env_core.specs.declared.meaning.Meaning.{Meaning}
+use Rattle.go_env_core.specs.Looks.{TheLooks}
+use Rattle.go_body_core.specs.Body.{BodyOf}
+use Rattle.go_body_core.specs.Notes.{NoteOf, TheUse, noted_faults}
+use Rattle.go_func_core.specs.Functions.{AreFuncDeclarations, checked_func, func_by, func_rules}
+use Rattle.go_func_core.specs.Laws.{FunctionsHaveOneTable}
+use Rattle.go_func_core.specs.Stands.{FileStand, outer_looks, outer_meanings}
+use Rattle.go_file_core.specs.Stands.{decl_funcs, file_funcs}
+use Rattle.go_value_core.specs.Initial.{exprs}
 use Rattle.go_laws_core.specs.Standing.{looks_among, piece_exprs, pieces_in, pieces_of, target_listed, targets_listed, values_listed}
 use Rattle.go_fold_core.proofs.Inside.{none_left, none_right}
 use Rattle.go_laws_core.proofs.ConstantLists.{HasItem, InOne, from_flat, has_either, has_flat, has_left, has_right, none_in}

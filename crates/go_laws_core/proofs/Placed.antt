@@ -8,10 +8,10 @@ use Rattle.go_tree_nodes.specs.Spelling.{mark, spell_file, spell_func, spell_ide
 use Rattle.go_tree_nodes.specs.Terminals.{InOrder, Terminal, least_width}
 use Rattle.go_tree_nodes.specs.Trees.{FileTree, Func, FuncTree, Lines, NoParams, NoResult, Signed}
 use Rattle.go_tree_nodes.proofs.InOrder.{in_order_ends, in_order_split}
-use Rattle.go_snap_core.specs.tree_core.declared.occurrence.Occ.{Occ}
-use Rattle.go_snap_core.specs.tree_core.Laws.{AreWritten, IsWritten, NoneLeft, OccurrencesAreWritten, Passed, Written}
-use Rattle.go_snap_core.specs.tree_core.Occurrences.{call_at, lines_occs}
-use Rattle.go_snap_core.specs.entry_core.Among.{Among, among_left}
+use Rattle.go_tree_core.specs.declared.occurrence.Occ.{Occ}
+use Rattle.go_tree_core.specs.Laws.{AreWritten, IsWritten, NoneLeft, OccurrencesAreWritten, Passed, Written}
+use Rattle.go_tree_core.specs.Occurrences.{call_at, lines_occs}
+use Rattle.go_entry_core.proofs.Among.{Among, among_left}
 
 -- what holds of each
 

@@ -1,27 +1,27 @@
 -- What words, types, signatures, constants and variables come to in code is what they are.
 use Rattle.std.proofs.Common.{◌≡◌, ℕ, List, [], ◌∷◌, Option, Some, None, refl, sym, subst}
-use Rattle.go_fold_core.specs.instruction_core.declared.letters.Word.{Word}
-use Rattle.go_fold_core.specs.instruction_core.declared.letters.Word.TheVariants as words
-use Rattle.go_fold_core.specs.fragment_core.declared.names.Meaning.{Meaning}
-use Rattle.go_fold_core.specs.fragment_core.declared.names.Meaning.TheVariants as meanings
-use Rattle.go_fold_core.specs.constant_core.declared.values.Constant.{Constant}
-use Rattle.go_fold_core.specs.constant_core.declared.values.Constant.TheVariants as values
+use Rattle.go_instruction_core.specs.declared.letters.Word.{Word}
+use Rattle.go_instruction_core.specs.declared.letters.Word.TheVariants as words
+use Rattle.go_fragment_core.specs.declared.names.Meaning.{Meaning}
+use Rattle.go_fragment_core.specs.declared.names.Meaning.TheVariants as meanings
+use Rattle.go_constant_core.specs.declared.values.Constant.{Constant}
+use Rattle.go_constant_core.specs.declared.values.Constant.TheVariants as values
 use Rattle.go_term_core.specs.declared.term.Basic.TheVariants as basics
 use Rattle.go_term_core.specs.Terms.{Term, Sign}
-use Rattle.go_snap_core.specs.operand_core.declared.types.Operand.{Operand}
-use Rattle.go_snap_core.specs.operand_core.declared.types.TypeForm.{TypeForm}
-use Rattle.go_snap_core.specs.operand_core.declared.types.TypeForm.TheVariants as forms
-use Rattle.go_snap_core.specs.operand_core.Values.{form_basic}
-use Rattle.go_snap_core.specs.table_core.Entries.{Entry, find_entry}
-use Rattle.go_snap_core.specs.denote_core.declared.things.Outcome.{Outcome}
-use Rattle.go_snap_core.specs.denote_core.declared.things.Outcome.TheVariants as outcomes
-use Rattle.go_snap_core.specs.decide_core.Rules.{form_of, results_of, term_rules}
-use Rattle.go_snap_core.specs.handle_core.Declarations.{Declaration}
-use Rattle.go_snap_core.specs.face_core.declared.face.Face.TheVariants as faces
-use Rattle.go_snap_core.specs.face_core.Faces.{TheFace}
-use Rattle.go_snap_core.specs.env_core.Found.{exported_face, found_face}
-use Rattle.go_snap_core.specs.env_core.Looks.{TheLooks}
-use Rattle.go_fold_core.specs.fragment_core.Fragment.{over}
+use Rattle.go_operand_core.specs.declared.types.Operand.{Operand}
+use Rattle.go_operand_core.specs.declared.types.TypeForm.{TypeForm}
+use Rattle.go_operand_core.specs.declared.types.TypeForm.TheVariants as forms
+use Rattle.go_operand_core.specs.Values.{form_basic}
+use Rattle.go_table_core.specs.Entries.{Entry, find_entry}
+use Rattle.go_denote_core.specs.declared.things.Outcome.{Outcome}
+use Rattle.go_denote_core.specs.declared.things.Outcome.TheVariants as outcomes
+use Rattle.go_decide_core.specs.Rules.{form_of, results_of, term_rules}
+use Rattle.go_handle_core.specs.Declarations.{Declaration}
+use Rattle.go_face_core.specs.declared.face.Face.TheVariants as faces
+use Rattle.go_face_core.specs.Faces.{TheFace}
+use Rattle.go_env_core.specs.Found.{exported_face, found_face}
+use Rattle.go_env_core.specs.Looks.{TheLooks}
+use Rattle.go_fragment_core.specs.Fragment.{over}
 use Rattle.go_snap_core.specs.meaning_core.Words.{form_word, results_give, sign_gives, some_word, value_word}
 use Rattle.go_snap_core.specs.meaning_core.Meanings.{constant_meaning, constant_meaning_or, local_meaning, some_face_meaning, type_meaning, value_meaning, variable_meaning}
 use Rattle.go_fold_core.specs.Reading.{IsExportedMeant, IsFoundMeant, IsFunctionMeant, ResultsGive, IsOperandMeant, IsOver, IsTypeMeant, IsValueMeant, IsVariableMeant, basic_of, meant_constant}

@@ -10,29 +10,29 @@ use Rattle.go_text_core.specs.declared.span.Span.{Span}
 use Rattle.go_tree_nodes.specs.declared.names.Ident.{Ident}
 use Rattle.go_tree_nodes.specs.Rules.{Wf_file}
 use Rattle.go_tree_nodes.specs.Trees.{FileTree, Func, FuncTree, TopTree}
-use Rattle.go_snap_core.specs.tree_core.declared.occurrence.Role.{Role}
-use Rattle.go_snap_core.specs.tree_core.Laws.{OccurrencesAreWritten}
-use Rattle.go_snap_core.specs.tree_core.Occurrences.{call_at, file_occs, lines_occs}
-use Rattle.go_term_core.specs.decl_core.TopDecls.{TopDeclTree}
-use Rattle.go_snap_core.specs.denote_core.declared.things.Outcome.{Outcome}
-use Rattle.go_snap_core.specs.denote_core.declared.things.Outcome.TheVariants as outcomes
-use Rattle.go_snap_core.specs.handle_core.Declarations.{Declaration}
-use Rattle.go_snap_core.specs.entry_core.Among.{Among, among_from, among_to, filter_among}
-use Rattle.go_snap_core.specs.expr_core.Laws.{use_place, occurrence_place}
-use Rattle.go_snap_core.specs.body_core.Notes.{TheUse}
-use Rattle.go_snap_core.specs.used_core.Used.{is_declared}
-use Rattle.go_snap_core.specs.ready_core.Packages.{trees_in}
-use Rattle.go_snap_core.specs.summary_core.Summaries.{SummaryModel}
+use Rattle.go_tree_core.specs.declared.occurrence.Role.{Role}
+use Rattle.go_tree_core.specs.Laws.{OccurrencesAreWritten}
+use Rattle.go_tree_core.specs.Occurrences.{call_at, file_occs, lines_occs}
+use Rattle.go_decl_core.specs.TopDecls.{TopDeclTree}
+use Rattle.go_denote_core.specs.declared.things.Outcome.{Outcome}
+use Rattle.go_denote_core.specs.declared.things.Outcome.TheVariants as outcomes
+use Rattle.go_handle_core.specs.Declarations.{Declaration}
+use Rattle.go_entry_core.proofs.Among.{Among, among_from, among_to, filter_among}
+use Rattle.go_expr_core.specs.Laws.{use_place, occurrence_place}
+use Rattle.go_body_core.specs.Notes.{TheUse}
+use Rattle.go_used_core.specs.Used.{is_declared}
+use Rattle.go_ready_core.specs.Packages.{trees_in}
+use Rattle.go_summary_core.specs.Summaries.{SummaryModel}
 use Rattle.go_snap_core.specs.part_core.Inputs.{InputModel, IsInput}
 use Rattle.go_snap_core.specs.part_core.Laws.{PartHasOccurrences}
 use Rattle.go_snap_core.specs.part_core.Parts.{ContentOf, FileOf, IsPart}
-use Rattle.go_fold_core.specs.instruction_core.declared.instruction.Instruction.{Instruction}
-use Rattle.go_fold_core.specs.instruction_core.declared.instruction.Instruction.TheVariants as instructions
-use Rattle.go_fold_core.specs.fragment_core.declared.names.Meaning.{Meaning}
-use Rattle.go_fold_core.specs.fragment_core.declared.names.Meaning.TheVariants as meanings
-use Rattle.go_fold_core.specs.fragment_core.Names.{CodeLooks, callee_meaning}
-use Rattle.go_snap_core.specs.code_core.Laws.{CodeIsWhole, JumpsStayInside, OutsideIsAlone}
-use Rattle.go_snap_core.specs.object_core.Objects.{FunctionOf}
+use Rattle.go_instruction_core.specs.declared.instruction.Instruction.{Instruction}
+use Rattle.go_instruction_core.specs.declared.instruction.Instruction.TheVariants as instructions
+use Rattle.go_fragment_core.specs.declared.names.Meaning.{Meaning}
+use Rattle.go_fragment_core.specs.declared.names.Meaning.TheVariants as meanings
+use Rattle.go_fragment_core.specs.Names.{CodeLooks, callee_meaning}
+use Rattle.go_code_core.specs.Laws.{CodeIsWhole, JumpsStayInside, OutsideIsAlone}
+use Rattle.go_object_core.specs.Objects.{FunctionOf}
 use Rattle.go_snap_core.specs.meaning_core.Looking.{looks_of}
 use Rattle.go_snap_core.specs.emit_core.Emitted.{body_first, body_uses, outcome_declarations, declarations_in, function_of, object_over, code_scene_over}
 use Rattle.go_snap_core.specs.emit_core.Laws.{BodiesAreBetweenBraces, CallsNameTheirOwn, HasNoFault, ObjectsAreOfFaultless, declaration_of, is_between}

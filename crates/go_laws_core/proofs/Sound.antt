@@ -1,16 +1,16 @@
 -- Each instruction of some code is sound, where its calls are.
 use Rattle.std.proofs.Common.{◌≡◌, ◌<◌, ℕ, suc, Bool, true, false, List, [], ◌∷◌, ◌++◌, length, refl, sym, subst, ◌∙◌}
 use Rattle.go_tree_nodes.specs.Trees.{FuncTree}
-use Rattle.go_fold_core.specs.instruction_core.declared.instruction.Distance.TheVariants as distances
-use Rattle.go_fold_core.specs.instruction_core.declared.instruction.Instruction.{Instruction}
-use Rattle.go_fold_core.specs.instruction_core.declared.instruction.Instruction.TheVariants as instructions
-use Rattle.go_fold_core.specs.fragment_core.Inside.{in_fragment}
-use Rattle.go_fold_core.specs.fragment_core.Names.{CodeLooks}
-use Rattle.go_fold_core.specs.fragment_core.Slots.{slots_of}
-use Rattle.go_snap_core.specs.code_core.Code.{code_of, frame_in}
-use Rattle.go_snap_core.specs.code_core.Laws.{CodeIsWhole, IsOfFunction, JumpsStayInside, LeadsInside, OutsideIsAlone}
-use Rattle.go_snap_core.specs.code_core.Each.{Each, each_there}
-use Rattle.go_snap_core.specs.object_core.Objects.{FunctionOf}
+use Rattle.go_instruction_core.specs.declared.instruction.Distance.TheVariants as distances
+use Rattle.go_instruction_core.specs.declared.instruction.Instruction.{Instruction}
+use Rattle.go_instruction_core.specs.declared.instruction.Instruction.TheVariants as instructions
+use Rattle.go_fragment_core.specs.Inside.{in_fragment}
+use Rattle.go_fragment_core.specs.Names.{CodeLooks}
+use Rattle.go_fragment_core.specs.Slots.{slots_of}
+use Rattle.go_code_core.specs.Code.{code_of, frame_in}
+use Rattle.go_code_core.specs.Laws.{CodeIsWhole, IsOfFunction, JumpsStayInside, LeadsInside, OutsideIsAlone}
+use Rattle.go_code_core.proofs.Each.{Each, each_there}
+use Rattle.go_object_core.specs.Objects.{FunctionOf}
 use Rattle.go_laws_core.specs.CodeLaws.{IsSound, IsWellFormed}
 
 -- an instruction looks at one of so many slots, if at any

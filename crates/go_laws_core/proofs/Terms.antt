@@ -6,13 +6,13 @@ use Rattle.go_text_core.specs.declared.span.Span.{Span}
 use Rattle.go_tree_nodes.specs.declared.names.Ident.{Ident}
 use Rattle.go_tree_nodes.specs.declared.types.TypeName.{TypeName}
 use Rattle.go_tree_nodes.specs.Trees.{Separated, One, Then, TypeTree, NamedType, Pointer, ParenType, Struct, Interface, FieldTrees, NoFields, NamedFields, EmbeddedField, MethodTrees, NoMethods, Method, SignatureTree, Signed, ResultTree, NoResult, OneResult, Results, ParamTrees, NoParams, Param}
-use Rattle.go_term_core.specs.decl_core.declared.keys.DeclKey.{DeclKey}
+use Rattle.go_decl_core.specs.declared.keys.DeclKey.{DeclKey}
 use Rattle.go_term_core.specs.Terms.{Term, NoType, Predeclared, ErrorType, Defined, PointerTo, StructOf, InterfaceOf, Fields, NoField, AField, Methods, NoMethod, AMethod, Sign, SignOf, Terms, NoTerm, ATerm}
-use Rattle.go_snap_core.specs.settle_core.declared.kind.Kind.{Kind}
-use Rattle.go_snap_core.specs.settle_core.declared.kind.Kind.TheVariants as kinds
-use Rattle.go_snap_core.specs.settle_core.Settled.{is_among_names, repeats_earlier, pointer_to, defined_unless, settled, settled_fields, settled_methods, settled_sign, settled_terms}
-use Rattle.go_snap_core.specs.written_core.Written.{InFile, Meaning, tag_of, term_starred, named_fields, for_each, for_names, term_of, fields_of_tree, methods_of_tree, signature_of, results_of_tree, params_of_tree}
-use Rattle.go_snap_core.specs.near_core.Closing.{either}
+use Rattle.go_settle_core.specs.declared.kind.Kind.{Kind}
+use Rattle.go_settle_core.specs.declared.kind.Kind.TheVariants as kinds
+use Rattle.go_settle_core.specs.Settled.{is_among_names, repeats_earlier, pointer_to, defined_unless, settled, settled_fields, settled_methods, settled_sign, settled_terms}
+use Rattle.go_written_core.specs.Written.{InFile, Meaning, tag_of, term_starred, named_fields, for_each, for_names, term_of, fields_of_tree, methods_of_tree, signature_of, results_of_tree, params_of_tree}
+use Rattle.go_near_core.proofs.Closing.{either}
 
 module _ (Inside : List ℕ → Type 0) where
   abbrev mutual

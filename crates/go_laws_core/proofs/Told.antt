@@ -3,24 +3,24 @@ use Rattle.std.proofs.Common.{◌≡◌, inl, inr, ℕ, Bool, true, false, List,
 use Rattle.std.specs.Prelude.{if◌then◌else◌}
 use Rattle.std.specs.Str.{bytes_eq}
 use Rattle.std.proofs.lemmas.Grind.{flat_map-append}
-use Rattle.go_term_core.specs.decl_core.declared.keys.DeclRef.{DeclRef}
-use Rattle.go_snap_core.specs.table_core.Entries.{Entry}
-use Rattle.go_snap_core.specs.table_core.Finding.{bytes_same}
-use Rattle.go_snap_core.specs.entry_core.Entries.{package_meanings}
-use Rattle.go_snap_core.specs.face_core.Packages.{PackageFacesModel, face_among, face_in_some, package_in}
-use Rattle.go_snap_core.specs.face_core.Written.{decls_of, position_of}
-use Rattle.go_snap_core.specs.answer_core.Shown.{exported_decls, package_shown, shown_among}
-use Rattle.go_snap_core.specs.ready_core.Packages.{PackageIn, scene_in, trees_in}
-use Rattle.go_snap_core.specs.env_core.Found.{face_at}
-use Rattle.go_snap_core.specs.summary_core.Summaries.{SummaryModel, IsOfOne, path_of}
-use Rattle.go_snap_core.specs.summary_core.Views.{faces_told, types_told}
-use Rattle.go_snap_core.specs.summary_core.Viewed.{text_apart}
+use Rattle.go_decl_core.specs.declared.keys.DeclRef.{DeclRef}
+use Rattle.go_table_core.specs.Entries.{Entry}
+use Rattle.go_table_core.proofs.Finding.{bytes_same}
+use Rattle.go_entry_core.specs.Entries.{package_meanings}
+use Rattle.go_face_core.specs.Packages.{PackageFacesModel, face_among, face_in_some, package_in}
+use Rattle.go_face_core.specs.Written.{decls_of, position_of}
+use Rattle.go_answer_core.specs.Shown.{exported_decls, package_shown, shown_among}
+use Rattle.go_ready_core.specs.Packages.{PackageIn, scene_in, trees_in}
+use Rattle.go_env_core.specs.Found.{face_at}
+use Rattle.go_summary_core.specs.Summaries.{SummaryModel, IsOfOne, path_of}
+use Rattle.go_summary_core.specs.Views.{faces_told, types_told}
+use Rattle.go_summary_core.proofs.Viewed.{text_apart}
 use Rattle.go_snap_core.specs.part_core.Inputs.{InputModel, IsInput, path_in}
 use Rattle.go_snap_core.specs.part_core.Parts.{ContentOf, IsPart, package_seen, seen_by}
 use Rattle.go_snap_core.specs.emit_core.Emitted.{code_scene_over, told_to}
 use Rattle.go_snap_core.specs.meaning_core.Meanings.{some_face_meaning}
 use Rattle.go_snap_core.specs.meaning_core.Scenes.{CodeScene, decl_meaning, own_or, own_spotted, package_decl_refs}
-use Rattle.go_snap_core.specs.lookup_core.Places.{spotted_meaning, decl_spot}
+use Rattle.go_lookup_core.specs.Places.{spotted_meaning, decl_spot}
 use Rattle.go_laws_core.proofs.ConstantLists.{HasItem, has_of_all}
 use Rattle.go_laws_core.proofs.Own.{elsewhere, own_means, written_decls}
 

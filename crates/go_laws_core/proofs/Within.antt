@@ -7,27 +7,27 @@ use Rattle.go_tree_nodes.specs.Terminals.{InOrder}
 use Rattle.go_tree_nodes.specs.Trees.{FuncTree, FileTree, DeclTree, Value, Types, Func, TopTree}
 use Rattle.go_tree_nodes.specs.Spelling.{mark, spell_decl, spell_func, spell_ident, spell_imports, spell_lines, spell_receiver, spell_signature, spell_tops, IsPlaced}
 use Rattle.go_tree_nodes.proofs.InOrder.{in_order_split, in_order_ends, AreInTurn, turn_ends}
-use Rattle.go_snap_core.specs.local_core.Binding.{Local, bound, is_first}
-use Rattle.go_snap_core.specs.local_core.Law.{law_out}
-use Rattle.go_snap_core.specs.local_core.Outline.{func_closes, func_opens, func_steps}
-use Rattle.go_snap_core.specs.local_core.Steps.{Steps, Done, Check, Declare, Inner, spell_piece}
-use Rattle.go_snap_core.specs.local_core.Pieces.{ident_place, piece_declares}
-use Rattle.go_snap_core.specs.local_core.Tables.{IsFuncPlaced}
-use Rattle.go_snap_core.specs.local_core.Placed.{Placed, func_placed}
+use Rattle.go_local_core.specs.Binding.{Local, bound, is_first}
+use Rattle.go_local_core.specs.Law.{law_out}
+use Rattle.go_local_core.specs.Outline.{func_closes, func_opens, func_steps}
+use Rattle.go_local_core.specs.Steps.{Steps, Done, Check, Declare, Inner, spell_piece}
+use Rattle.go_local_core.specs.Pieces.{ident_place, piece_declares}
+use Rattle.go_local_core.specs.Tables.{IsFuncPlaced}
+use Rattle.go_local_core.proofs.Placed.{Placed, func_placed}
 use Rattle.go_term_core.specs.Terms.{Term}
-use Rattle.go_snap_core.specs.names_core.Body.{each_means}
-use Rattle.go_snap_core.specs.piece_core.Headers.{returned_names, returned_types}
-use Rattle.go_snap_core.specs.piece_core.Pieces.{piece_values}
-use Rattle.go_snap_core.specs.env_core.declared.meaning.Meaning.{Meaning}
-use Rattle.go_snap_core.specs.env_core.declared.meaning.Meaning.TheVariants as meanings
-use Rattle.go_snap_core.specs.body_core.Body.{BodyOf}
-use Rattle.go_snap_core.specs.body_core.Notes.{NoteOf, TheLocal, TheValue, all_locals}
-use Rattle.go_snap_core.specs.body_core.Rules.{declared_among, value_at}
-use Rattle.go_snap_core.specs.func_core.Functions.{checked_func, own_rules, walked_func}
-use Rattle.go_snap_core.specs.func_core.Laws.{FunctionsHaveOneTable}
-use Rattle.go_snap_core.specs.func_core.Stands.{FileStand, looks_where, outer_looks, outer_meanings}
-use Rattle.go_snap_core.specs.func_core.Named.{AreNamed, steps_are_named}
-use Rattle.go_snap_core.specs.file_core.Files.{decl_locals, file_locals, tops_locals}
+use Rattle.go_names_core.specs.Body.{each_means}
+use Rattle.go_piece_core.specs.Headers.{returned_names, returned_types}
+use Rattle.go_piece_core.specs.Pieces.{piece_values}
+use Rattle.go_env_core.specs.declared.meaning.Meaning.{Meaning}
+use Rattle.go_env_core.specs.declared.meaning.Meaning.TheVariants as meanings
+use Rattle.go_body_core.specs.Body.{BodyOf}
+use Rattle.go_body_core.specs.Notes.{NoteOf, TheLocal, TheValue, all_locals}
+use Rattle.go_body_core.specs.Rules.{declared_among, value_at}
+use Rattle.go_func_core.specs.Functions.{checked_func, own_rules, walked_func}
+use Rattle.go_func_core.specs.Laws.{FunctionsHaveOneTable}
+use Rattle.go_func_core.specs.Stands.{FileStand, looks_where, outer_looks, outer_meanings}
+use Rattle.go_func_core.proofs.Named.{AreNamed, steps_are_named}
+use Rattle.go_file_core.specs.Files.{decl_locals, file_locals, tops_locals}
 use Rattle.go_laws_core.proofs.ConstantLists.{HasItem, Rising}
 
 -- locals that stand one behind another between two places

@@ -1,9 +1,9 @@
 -- Expressions that call no method.
 --
 -- docs/RULES.md, "Stack code". The Go specification, "Calls", "Method values".
-use Rattle.go_fold_core.specs.fragment_core.declared.names.Meaning.{Meaning}
-use Rattle.go_fold_core.specs.fragment_core.declared.names.Meaning.TheVariants as meanings
-use Rattle.go_fold_core.specs.fragment_core.Names.{CodeLooks}
+use Rattle.go_fragment_core.specs.declared.names.Meaning.{Meaning}
+use Rattle.go_fragment_core.specs.declared.names.Meaning.TheVariants as meanings
+use Rattle.go_fragment_core.specs.Names.{CodeLooks}
 
 -- a method is nothing that code is made of, and anything else is what it is
 abbrev pub without_method : Meaning → Meaning

@@ -5,10 +5,10 @@ use Rattle.std.specs.Prelude.{◌≡◌, ℕ, suc, List, [], ◌∷◌, ◌++◌
 use Rattle.go_text_core.specs.declared.span.Span.{Span}
 use Rattle.go_tree_nodes.specs.Trees.{ExprTree, ItemTrees, Integer, Text, Named, Paren, Unary, Binary, Select, Call, Literal, StructLiteral, NoItems, Item, FuncTree}
 use Rattle.go_tree_nodes.specs.Counts.{item_count}
-use Rattle.go_snap_core.specs.tree_core.Names.{Taking, nothing, take_lines}
-use Rattle.go_fold_core.specs.fragment_core.declared.names.Meaning.{Meaning}
-use Rattle.go_fold_core.specs.fragment_core.declared.names.Meaning.TheVariants as meanings
-use Rattle.go_fold_core.specs.fragment_core.Names.{CodeLooks, callee_meaning}
+use Rattle.go_tree_core.specs.Names.{Taking, nothing, take_lines}
+use Rattle.go_fragment_core.specs.declared.names.Meaning.{Meaning}
+use Rattle.go_fragment_core.specs.declared.names.Meaning.TheVariants as meanings
+use Rattle.go_fragment_core.specs.Names.{CodeLooks, callee_meaning}
 
 -- a call: what is called, the opening parenthesis, and the arguments
 pub record CallSite : Type 0 where

@@ -4,22 +4,22 @@
 use Rattle.std.specs.Prelude.{◌≡◌, ◌⊎◌, ◌<◌, ◌≤◌, ℕ, suc, List, ◌∷◌, ◌++◌, length, map, filter, Option, Some, is_some, All, Contains, slice_get}
 use Rattle.go_tree_nodes.specs.Rules.{Wf_file}
 use Rattle.go_tree_nodes.specs.Trees.{FileTree, Func, FuncTree, TopTree}
-use Rattle.go_snap_core.specs.tree_core.declared.occurrence.Occ.{Occ}
-use Rattle.go_snap_core.specs.tree_core.declared.occurrence.Role.TheVariants as roles
-use Rattle.go_snap_core.specs.tree_core.Occurrences.{call_at, lines_occs}
-use Rattle.go_snap_core.specs.graph_core.Workspaces.{PackageModel, IsWorkspace}
-use Rattle.go_snap_core.specs.handle_core.Declarations.{Declaration}
-use Rattle.go_snap_core.specs.body_core.Notes.{TheUse}
-use Rattle.go_snap_core.specs.ready_core.Packages.{trees_in}
-use Rattle.go_snap_core.specs.summary_core.Summaries.{SummaryModel}
+use Rattle.go_tree_core.specs.declared.occurrence.Occ.{Occ}
+use Rattle.go_tree_core.specs.declared.occurrence.Role.TheVariants as roles
+use Rattle.go_tree_core.specs.Occurrences.{call_at, lines_occs}
+use Rattle.go_graph_core.specs.Workspaces.{PackageModel, IsWorkspace}
+use Rattle.go_handle_core.specs.Declarations.{Declaration}
+use Rattle.go_body_core.specs.Notes.{TheUse}
+use Rattle.go_ready_core.specs.Packages.{trees_in}
+use Rattle.go_summary_core.specs.Summaries.{SummaryModel}
 use Rattle.go_snap_core.specs.part_core.Inputs.{InputModel, IsInput}
 use Rattle.go_snap_core.specs.part_core.Parts.{ContentOf, FileOf, IsPart, PartModel}
-use Rattle.go_fold_core.specs.instruction_core.declared.instruction.Distance.TheVariants as distances
-use Rattle.go_fold_core.specs.instruction_core.declared.instruction.Instruction.{Instruction}
-use Rattle.go_fold_core.specs.instruction_core.declared.instruction.Instruction.TheVariants as instructions
-use Rattle.go_fold_core.specs.fragment_core.Names.{CodeLooks}
-use Rattle.go_snap_core.specs.code_core.Code.{code_of}
-use Rattle.go_snap_core.specs.object_core.Objects.{FunctionOf, ObjectOf}
+use Rattle.go_instruction_core.specs.declared.instruction.Distance.TheVariants as distances
+use Rattle.go_instruction_core.specs.declared.instruction.Instruction.{Instruction}
+use Rattle.go_instruction_core.specs.declared.instruction.Instruction.TheVariants as instructions
+use Rattle.go_fragment_core.specs.Names.{CodeLooks}
+use Rattle.go_code_core.specs.Code.{code_of}
+use Rattle.go_object_core.specs.Objects.{FunctionOf, ObjectOf}
 use Rattle.go_snap_core.specs.emit_core.Emitted.{object_over, objects_of, told_by}
 use Rattle.go_snap_core.specs.emit_core.Laws.{declaration_of, is_between}
 use Rattle.go_snap_core.specs.declared.fault.PlacedFault.{PlacedFault}

@@ -1,12 +1,12 @@
 //! Laws of code that is well formed, with nothing to run.
 ghost use Rattle.go_laws_core.specs.CodeLaws.{CallsAreOfTheBody, FunctionsReferToTheirBodies, ObjectsAreWellFormed, SnapshotsHaveSoundObjects};
 
-use go_snap_core::code_core::{code_is_whole, jumps_stay_inside, outside_is_alone};
+use go_code_core::{code_is_whole, jumps_stay_inside, outside_is_alone};
 use go_snap_core::emit_core::{
     bodies_are_between_braces, calls_name_their_own, objects_are_of_faultless,
 };
 use go_snap_core::part_core::part_has_occurrences;
-use go_snap_core::tree_core::occurrences_are_written;
+use go_tree_core::occurrences_are_written;
 
 /// What the code of a function calls is what a call of the function's body calls, whatever the look-ups of names: a function or a method, by the
 /// reference that they have for the call's opening parenthesis, with a word for each argument and one for the receiver of a method.

@@ -1,9 +1,9 @@
 //! Laws of what is told of a file that stands alone, with nothing to run.
 ghost use Rattle.go_laws_core.specs.FileLaws.{CleanIsFaultless, SnapshotsHaveWhatIsTold, TextsHaveSnapshots};
 
-use go_snap_core::whole_core::parts_are_whole;
+use go_parse_core::{one_rule, one_tree};
+use go_whole_core::parts_are_whole;
 use govisd_core::one_input;
-use govisd_core::parse_core::{one_rule, one_tree};
 
 /// What `resolve` takes a text for is what each snapshot has of the workspace whose one file it is: of a file with a tree and a name of its package the
 /// same outcome for each occurrence and the same faults in the same order; of another the faults of the package and of the text.

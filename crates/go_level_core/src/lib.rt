@@ -24,14 +24,7 @@ pub mod embed_core {
 
 /// What the crates above name of `go_settle_core`.
 pub mod settle_core {
-    pub use go_embed_core::settle_core::{Kind, kind_of, settle, settle_signature};
-}
-
-/// What the crates above name of `go_table_core`.
-pub mod table_core {
-    pub use go_embed_core::table_core::{
-        DeclaredMethod, DefinedType, PackageTypes, TypeTable, is_named_type,
-    };
+    pub use go_embed_core::settle_core::{Kind, kind_of};
 }
 
 /// What the crates above name of `go_type_core`.

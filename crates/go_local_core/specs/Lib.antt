@@ -10,4 +10,3 @@ pub mod Steps
 pub mod Tables
 pub mod Worked
 pub mod mirrors
-pub mod open_core

@@ -11,18 +11,3 @@ mod offset_table;
 pub use decl_table::{DeclSpot, DeclTable, SpottedDecl};
 pub use names::{FileCodeNames, FuncCodeNames, meant};
 pub use offset_table::OffsetTable;
-
-/// What the crates above name of `go_constant_core`.
-pub mod constant_core {
-    pub use go_fragment_core::constant_core::Constant;
-}
-
-/// What the crates above name of `go_fragment_core`.
-pub mod fragment_core {
-    pub use go_fragment_core::{ConstantWord, Gives, Meaning, over};
-}
-
-/// What the crates above name of `go_instruction_core`.
-pub mod instruction_core {
-    pub use go_fragment_core::instruction_core::Word;
-}

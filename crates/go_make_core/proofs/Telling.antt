@@ -6,9 +6,9 @@ use Rattle.std.proofs.lemmas.Bool.{cases_eq}
 use Rattle.std.proofs.lemmas.List.{length-set, length-replicate, get_or-replicate, get_or-set_same, get_or-set_other, map-append, take_more}
 use Rattle.std.proofs.lemmas.List.Elements.{All-cons, All-contains_itself, All-head, All-tail}
 use Rattle.std.proofs.lemmas.Option.{slice_get_within, slice_get-get_or, get_or_from_slice_get}
-use Rattle.go_whole_core.specs.type_core.Keyed.{slice_get_here}
-use Rattle.go_whole_core.specs.reach_core.Numbers.{Numbers}
-use Rattle.go_whole_core.specs.summary_core.Summaries.{SummaryModel}
+use Rattle.go_type_core.proofs.Keyed.{slice_get_here}
+use Rattle.go_reach_core.specs.Numbers.{Numbers}
+use Rattle.go_summary_core.specs.Summaries.{SummaryModel}
 use Rattle.go_whole_core.specs.part_core.Parts.{PartModel}
 use Rattle.go_whole_core.specs.Inputs.{Tells}
 use Rattle.go_whole_core.specs.mirrors.Steps.{AreReachedAt, AreToldBySet}

@@ -4,9 +4,9 @@ ghost use Rattle.std.specs.List.{AllZip};
 ghost use Rattle.std.specs.List.Sorted.{IsStrictlyIncreasing};
 ghost use Rattle.go_make_core.specs.mirrors.Telling.{AreTold, IsToldAt};
 
+use go_reach_core::NumberSet;
+use go_summary_core::{ReachedSummaries, Summary, SummaryList};
 use go_text_core::add;
-use go_whole_core::reach_core::NumberSet;
-use go_whole_core::summary_core::{ReachedSummaries, Summary, SummaryList};
 use std::alloc::{AllocError, Global};
 
 /// What packages tell, in the order in which they are made, and by the number of each its place there. What is told to a package is that list,

@@ -5,17 +5,17 @@ use Rattle.std.specs.Prelude.{List, [], ◌∷◌, Option, Some, None}
 use Rattle.go_term_core.specs.declared.term.Basic.{Basic}
 use Rattle.go_term_core.specs.declared.term.Basic.TheVariants as basics
 use Rattle.go_term_core.specs.Terms.{Term, Sign}
-use Rattle.go_part_core.specs.operand_core.declared.types.TypeForm.{TypeForm}
-use Rattle.go_part_core.specs.operand_core.declared.types.TypeForm.TheVariants as forms
-use Rattle.go_part_core.specs.operand_core.declared.types.ValueType.{ValueType}
-use Rattle.go_part_core.specs.operand_core.declared.types.ValueType.TheVariants as value_types
-use Rattle.go_part_core.specs.table_core.Entries.{Entry, find_entry}
+use Rattle.go_operand_core.specs.declared.types.TypeForm.{TypeForm}
+use Rattle.go_operand_core.specs.declared.types.TypeForm.TheVariants as forms
+use Rattle.go_operand_core.specs.declared.types.ValueType.{ValueType}
+use Rattle.go_operand_core.specs.declared.types.ValueType.TheVariants as value_types
+use Rattle.go_table_core.specs.Entries.{Entry, find_entry}
 use Rattle.go_part_core.specs.decide_core.Rules.{form_of, results_of}
-use Rattle.go_lookup_core.specs.instruction_core.declared.letters.Word.{Word}
-use Rattle.go_lookup_core.specs.instruction_core.declared.letters.Word.TheVariants as words
-use Rattle.go_lookup_core.specs.fragment_core.declared.names.Gives.{Gives}
-use Rattle.go_lookup_core.specs.fragment_core.declared.names.Gives.TheVariants as gives
-use Rattle.go_lookup_core.specs.fragment_core.Fragment.{over}
+use Rattle.go_instruction_core.specs.declared.letters.Word.{Word}
+use Rattle.go_instruction_core.specs.declared.letters.Word.TheVariants as words
+use Rattle.go_fragment_core.specs.declared.names.Gives.{Gives}
+use Rattle.go_fragment_core.specs.declared.names.Gives.TheVariants as gives
+use Rattle.go_fragment_core.specs.Fragment.{over}
 
 abbrev pub basic_word : Basic → Option Word
 basic_word basics.Int = Some words.Int

@@ -16,37 +16,7 @@ pub use tables::{Tables, methods_of};
 
 /// What the crates above name of `go_answer_core`.
 pub mod answer_core {
-    pub use go_part_core::answer_core::{Answer, HeldLocal, Site};
-}
-
-/// What the crates above name of `go_block_core`.
-pub mod block_core {
-    pub use go_part_core::block_core::Imported;
-}
-
-/// What the crates above name of `go_denote_core`.
-pub mod denote_core {
-    pub use go_part_core::denote_core::Outcome;
-}
-
-/// What the crates above name of `go_entry_core`.
-pub mod entry_core {
-    pub use go_part_core::entry_core::outlines;
-}
-
-/// What the crates above name of `go_handle_core`.
-pub mod handle_core {
-    pub use go_part_core::handle_core::{Decl, DeclSite};
-}
-
-/// What the crates above name of `go_lookup_core`.
-pub mod lookup_core {
-    pub use go_lookup_core::{FileCodeNames, FuncCodeNames};
-}
-
-/// What the crates above name of `go_operand_core`.
-pub mod operand_core {
-    pub use go_part_core::operand_core::{Operand, ValueType};
+    pub use go_answer_core::{Answer, HeldLocal, Site};
 }
 
 /// What the crates above name of `go_package_core`.
@@ -57,19 +27,4 @@ pub mod package_core {
 /// What the crates above name of `go_part_core`.
 pub mod part_core {
     pub use go_part_core::{Part, PartFile, one_part, part_has_occurrences};
-}
-
-/// What the crates above name of `go_select_core`.
-pub mod select_core {
-    pub use go_part_core::select_core::{EmbedPath, Member, Owner, Selected, select, selectable};
-}
-
-/// What the crates above name of `go_summary_core`.
-pub mod summary_core {
-    pub use go_part_core::summary_core::{Summary, View, view_of};
-}
-
-/// What the crates above name of `go_tree_core`.
-pub mod tree_core {
-    pub use go_part_core::tree_core::{OccId, occurrences_are_written};
 }

@@ -18,19 +18,10 @@ pub use methods::{SetMethod, method_set};
 
 /// What the crates above name of `go_select_core`.
 pub mod select_core {
-    pub use go_select_core::{
-        EmbedPath, Member, Owner, Selected, select, select_behind_pointer, selectable,
-    };
+    pub use go_select_core::{EmbedPath, Member, Selected, select, select_behind_pointer};
 }
 
 /// What the crates above name of `go_settle_core`.
 pub mod settle_core {
-    pub use go_select_core::settle_core::{Kind, kind_of, settle, settle_signature};
-}
-
-/// What the crates above name of `go_table_core`.
-pub mod table_core {
-    pub use go_select_core::table_core::{
-        DeclaredMethod, DefinedType, PackageTypes, TypeTable, is_named_type,
-    };
+    pub use go_select_core::settle_core::{Kind, kind_of};
 }

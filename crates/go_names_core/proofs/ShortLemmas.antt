@@ -3,11 +3,11 @@ use Rattle.std.proofs.Common.{◌≡◌, ℕ, ◌+◌, ◌<◌, ◌&&◌, not, L
 use Rattle.std.proofs.lemmas.List.{append-nil, map-append, map_more}
 use Rattle.go_text_core.specs.Text.{is_blank}
 use Rattle.go_tree_nodes.specs.declared.names.Ident.{Ident}
-use Rattle.go_scope_core.specs.open_core.Blocks.{in_block, list_name, list_names, short_name, short_names, short_names_behind}
-use Rattle.go_scope_core.specs.open_core.declared.short.ShortName.{ShortName}
-use Rattle.go_scope_core.specs.open_core.declared.short.ShortName.TheVariants.{New, Old, Blank, Repeated}
-use Rattle.go_scope_core.specs.open_core.Names.{listed-names, list_names-append}
-use Rattle.go_walk_core.specs.local_core.Faults.{spellings}
+use Rattle.go_open_core.specs.Blocks.{in_block, list_name, list_names, short_name, short_names, short_names_behind}
+use Rattle.go_open_core.specs.declared.short.ShortName.{ShortName}
+use Rattle.go_open_core.specs.declared.short.ShortName.TheVariants.{New, Old, Blank, Repeated}
+use Rattle.go_open_core.proofs.Names.{listed-names, list_names-append}
+use Rattle.go_local_core.specs.Faults.{spellings}
 
 -- how the first of some identifiers are spelled
 abbrev pub spelled : List (Bor Ident) → ℕ → List (List ℕ)

@@ -3,16 +3,16 @@ use Rattle.std.proofs.Common.{◌≡◌, ℕ, suc, Bool, List, [], ◌∷◌, �
 use Rattle.std.specs.Prelude.{Option, Some, None, if◌then◌else◌}
 use Rattle.std.specs.Str.{bytes_eq}
 use Rattle.go_tree_nodes.specs.declared.names.Ident.{Ident}
-use Rattle.go_file_core.specs.open_core.Blocks.{or_else}
-use Rattle.go_file_core.specs.local_core.Steps.{Piece, Steps, Done, Check, Declare, Inner}
-use Rattle.go_file_core.specs.local_core.Binding.{NameLook}
-use Rattle.go_file_core.specs.local_core.Faults.{name_faults}
-use Rattle.go_file_core.specs.local_core.Law.{Rules, out, both, declared_from, declare_out}
-use Rattle.go_file_core.specs.local_core.mirrors.Walk.{Names, latest, look_in, is_new, with_name, with_names, news, names_of, walk_out}
+use Rattle.go_open_core.specs.Blocks.{or_else}
+use Rattle.go_local_core.specs.Steps.{Piece, Steps, Done, Check, Declare, Inner}
+use Rattle.go_local_core.specs.Binding.{NameLook}
+use Rattle.go_local_core.specs.Faults.{name_faults}
+use Rattle.go_local_core.specs.Law.{Rules, out, both, declared_from, declare_out}
+use Rattle.go_local_core.specs.mirrors.Walk.{Names, latest, look_in, is_new, with_name, with_names, news, names_of, walk_out}
 use Rattle.go_near_core.specs.Near.{IfAny}
 use Rattle.go_near_core.proofs.Closing.{either}
 use Rattle.go_near_core.proofs.Pieces.{each_both}
-use Rattle.go_file_core.specs.statement_core.Locality.{Each}
+use Rattle.go_statement_core.specs.Locality.{Each}
 
 or_near : {X : Type 0} (Near : X → Type 0) (a b : Option X) → IfAny Near a → IfAny Near b → IfAny Near (or_else a b)
 or_near Near None b h k = k

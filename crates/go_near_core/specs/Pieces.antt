@@ -1,10 +1,10 @@
 -- What a piece of a function comes to is the same, and what its names stand for is near.
 use Rattle.std.specs.Prelude.{◌≡◌, Bool, List, Option}
-use Rattle.go_file_core.specs.local_core.Steps.{Piece}
-use Rattle.go_file_core.specs.expr_core.Looks.{Looks}
-use Rattle.go_file_core.specs.piece_core.Pieces.{piece_uses, piece_faults, piece_values}
+use Rattle.go_local_core.specs.Steps.{Piece}
+use Rattle.go_expr_core.specs.Looks.{Looks}
+use Rattle.go_piece_core.specs.Pieces.{piece_uses, piece_faults, piece_values}
 use Rattle.go_near_core.specs.Near.{IfAny, NearOperand}
-use Rattle.go_file_core.specs.statement_core.Locality.{Each}
+use Rattle.go_statement_core.specs.Locality.{Each}
 
 -- in a function whose results have near types
 pub record IsPieceNearby {T S D P : Type 0} (Near : T → Type 0) (looks others : Looks T S D P) (p : Piece) : Type 0 where

@@ -12,8 +12,3 @@ mod table;
 pub use laws::{endless_never_ends, one_table};
 pub use needing::Needing;
 pub use table::{edges_of, values_of};
-
-/// What the crates above name of `go_cycle_core`.
-pub mod cycle_core {
-    pub use go_cycle_core::rank_and_order;
-}

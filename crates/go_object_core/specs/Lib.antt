@@ -1,3 +1,2 @@
 pub mod Objects
 pub mod Listing
-pub mod instruction_core

@@ -20,79 +20,14 @@ pub use part::{Part, compile_part};
 pub use parts::Parts;
 pub use same::same_imports;
 
-/// What the crates above name of `go_answer_core`.
-pub mod answer_core {
-    pub use go_used_core::answer_core::{Answer, HeldLocal, Site};
-}
-
-/// What the crates above name of `go_block_core`.
-pub mod block_core {
-    pub use go_used_core::block_core::{Imported, import_specs, one_blocks_alone};
-}
-
-/// What the crates above name of `go_denote_core`.
-pub mod denote_core {
-    pub use go_used_core::denote_core::Outcome;
-}
-
-/// What the crates above name of `go_entry_core`.
-pub mod entry_core {
-    pub use go_package_core::entry_core::outlines;
-}
-
-/// What the crates above name of `go_face_core`.
-pub mod face_core {
-    pub use go_used_core::face_core::{Face, FaceTable, lend};
-}
-
-/// What the crates above name of `go_graph_core`.
-pub mod graph_core {
-    pub use go_package_core::graph_core::{
-        ImportAt, ImportOutcome, Package, PackageSource, Plan, SourceFile, Workspace, assemble,
-        one_outcome, plan_imports,
-    };
-}
-
-/// What the crates above name of `go_handle_core`.
-pub mod handle_core {
-    pub use go_used_core::handle_core::{Decl, DeclSite, SignatureRef, TypeRef};
-}
-
-/// What the crates above name of `go_operand_core`.
-pub mod operand_core {
-    pub use go_summary_core::operand_core::{Operand, TypeForm, ValueType};
-}
-
 /// What the crates above name of `go_package_core`.
 pub mod package_core {
     pub use go_package_core::{FileAnswers, one_check};
 }
 
-/// What the crates above name of `go_parse_core`.
-pub mod parse_core {
-    pub use go_package_core::parse_core::{one_rule, one_tree};
-}
-
-/// What the crates above name of `go_select_core`.
-pub mod select_core {
-    pub use go_summary_core::select_core::{
-        EmbedPath, Member, Owner, Selected, select, selectable,
-    };
-}
-
 /// What the crates above name of `go_summary_core`.
 pub mod summary_core {
-    pub use go_summary_core::{ReachedSummaries, Summary, SummaryList, View, import_view, view_of};
-}
-
-/// What the crates above name of `go_table_core`.
-pub mod table_core {
-    pub use go_package_core::table_core::{DeclaredMethod, DefinedType, TypeTable};
-}
-
-/// What the crates above name of `go_tree_core`.
-pub mod tree_core {
-    pub use go_used_core::tree_core::{OccId, occurrences_are_written};
+    pub use go_summary_core::{ReachedSummaries, Summary};
 }
 
 /// What the crates above name of `go_used_core`.

@@ -32,7 +32,7 @@ impl Drop for Part {
 impl Model for Part {
     ghost use Rattle.std.specs.Arc.{arc_value};
     ghost use Rattle.std.specs.Coded.{codes};
-    ghost use Rattle.go_used_core.specs.block_core.Blocks.{coded_blocks};
+    ghost use Rattle.go_block_core.specs.Blocks.{coded_blocks};
     ghost use Rattle.go_used_core.specs.face_core.codes.FaceCodes.{coded_face, coded_operand};
     ghost use Rattle.go_summary_core.specs.codes.SummaryCodes.{coded_summary};
     ghost use Rattle.go_part_core.specs.Inputs.{coded_input};

@@ -4,6 +4,3 @@ pub mod Packages
 pub mod Types
 pub mod Values
 pub mod mirrors
-pub mod graph_core
-pub mod parse_core
-pub mod type_core

@@ -1,7 +1,4 @@
 pub mod Faults
 pub mod Laws
 pub mod mirrors
-pub mod denote_core
 pub mod expr_core
-pub mod local_core
-pub mod tree_core

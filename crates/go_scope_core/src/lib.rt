@@ -20,20 +20,11 @@ pub use scope::{InScope, Scopes};
 /// What the crates above name of `go_block_core`.
 pub mod block_core {
     pub use go_block_core::{
-        Binding, BlockFault, Blocks, DeclKey, DeclKind, DeclRef, Exports, Imported, NamedDecl,
-        Target, blocks, import_names, import_specs, one_blocks_alone,
+        Binding, Blocks, DeclKey, DeclKind, DeclRef, Exports, NamedDecl, Target,
     };
 }
 
 /// What the crates above name of `go_graph_core`.
 pub mod graph_core {
-    pub use go_graph_core::{
-        ImportAt, ImportOutcome, Package, PackageSource, Plan, SourceFile, Workspace, assemble,
-        one_outcome, plan_imports,
-    };
-}
-
-/// What the crates above name of `go_open_core`.
-pub mod open_core {
-    pub use go_open_core::{DeclId, NameList, ShortName};
+    pub use go_graph_core::SourceFile;
 }

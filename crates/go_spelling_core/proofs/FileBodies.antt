@@ -4,31 +4,31 @@ use Rattle.std.specs.Prelude.{⊤, Option, Some}
 use Rattle.std.specs.List.{flat_map, enumerate_from}
 use Rattle.go_tree_nodes.specs.declared.names.Ident.{Ident}
 use Rattle.go_tree_nodes.specs.Trees.{FuncTree, Lines, TopTree, FileTree}
-use Rattle.go_term_core.specs.decl_core.declared.places.Place.{Place}
-use Rattle.go_term_core.specs.decl_core.Outer.{decl_outers, tops_outers, places_of, place_of}
-use Rattle.go_term_core.specs.decl_core.TopDecls.{TopDeclTree, FormTree, FuncForm, kind_of_form, decl_decls, tops_decls}
-use Rattle.go_package_core.specs.block_core.Blocks.{BlocksModel}
-use Rattle.go_package_core.specs.table_core.Entries.{Entry}
+use Rattle.go_decl_core.specs.declared.places.Place.{Place}
+use Rattle.go_decl_core.specs.Outer.{decl_outers, tops_outers, places_of, place_of}
+use Rattle.go_decl_core.specs.TopDecls.{TopDeclTree, FormTree, FuncForm, kind_of_form, decl_decls, tops_decls}
+use Rattle.go_block_core.specs.Blocks.{BlocksModel}
+use Rattle.go_table_core.specs.Entries.{Entry}
 use Rattle.go_term_core.specs.Terms.{Term, Sign}
-use Rattle.go_package_core.specs.entry_core.Meanings.{Shows, file_meaning}
-use Rattle.go_package_core.specs.written_core.Written.{InFile}
-use Rattle.go_package_core.specs.entry_core.Outlines.{FileOutline, outline_of}
-use Rattle.go_package_core.specs.handle_core.Declarations.{Declaration}
-use Rattle.go_package_core.specs.face_core.Faces.{TheFace}
-use Rattle.go_package_core.specs.face_core.Laws.{FileDecl, file_decl, written_there}
-use Rattle.go_package_core.specs.face_core.Written.{WrittenOf, form_as_written, package_written}
-use Rattle.go_package_core.specs.face_core.Places.{positions_are_exact}
-use Rattle.go_package_core.specs.env_core.Scenes.{SceneModel}
-use Rattle.go_package_core.specs.needs_core.Needs.{AreValues, known_in}
-use Rattle.go_package_core.specs.needs_core.Needed.{one_table}
-use Rattle.go_package_core.specs.func_core.Stands.{FileStand, looks_where}
-use Rattle.go_package_core.specs.func_core.Functions.{checked_func}
+use Rattle.go_entry_core.specs.Meanings.{Shows, file_meaning}
+use Rattle.go_written_core.specs.Written.{InFile}
+use Rattle.go_entry_core.specs.Outlines.{FileOutline, outline_of}
+use Rattle.go_handle_core.specs.Declarations.{Declaration}
+use Rattle.go_face_core.specs.Faces.{TheFace}
+use Rattle.go_face_core.specs.Laws.{FileDecl, file_decl, written_there}
+use Rattle.go_face_core.specs.Written.{WrittenOf, form_as_written, package_written}
+use Rattle.go_face_core.proofs.Places.{positions_are_exact}
+use Rattle.go_env_core.specs.Scenes.{SceneModel}
+use Rattle.go_needs_core.specs.Needs.{AreValues, known_in}
+use Rattle.go_needs_core.proofs.Needed.{one_table}
+use Rattle.go_func_core.specs.Stands.{FileStand, looks_where}
+use Rattle.go_func_core.specs.Functions.{checked_func}
 use Rattle.go_package_core.specs.ready_core.Packages.{PackageIn, outlines_in, scene_in, stand_in}
 use Rattle.go_package_core.specs.ready_core.Values.{decls_in, AreDeclared}
 use Rattle.go_spelling_core.specs.Contexts.{ContextStays}
 use Rattle.go_spelling_core.specs.Package.{FileForm, all_needs, form_needs, face_of, face_at_position, AreFacesOf}
 use Rattle.go_spelling_core.specs.Trees.{RespellsLines, RespellsSteps, InFuncBody, with_body}
-use Rattle.go_package_core.specs.local_core.Outline.{func_steps}
+use Rattle.go_local_core.specs.Outline.{func_steps}
 use Rattle.go_package_core.specs.file_core.Files.{tops_uses}
 use Rattle.go_spelling_core.specs.Spots.{tops_spots}
 use Rattle.go_spelling_core.proofs.Looking.{looks_at_needs}
@@ -38,7 +38,7 @@ use Rattle.go_spelling_core.specs.Packages.{PackageBodiesStay}
 use Rattle.go_spelling_core.proofs.Checked.{checked_stay}
 use Rattle.go_spelling_core.proofs.InFiles.{in_bodies}
 use Rattle.go_spelling_core.proofs.Initials.{stand_for, rules_for, form_in, all_fixed, faces_of}
-use Rattle.go_package_core.specs.block_core.Declarations.{decl_ref}
+use Rattle.go_block_core.specs.Declarations.{decl_ref}
 
 -- one declaration of both: the same, or the function
 abbrev pub IsOther : FuncTree → Lines → TopDeclTree → TopDeclTree → Type 0

@@ -3,8 +3,8 @@ use Rattle.std.proofs.Common.{◌≡◌, ◌⊎◌, ℕ, zero, suc, ◌<◌, inl
 use Rattle.std.specs.List.{Contains}
 use Rattle.std.proofs.lemmas.Bool.{cases_lt}
 use Rattle.std.proofs.lemmas.List.{get_or_past}
-use Rattle.go_package_core.specs.needs_core.Needs.{needed, NeedsLead, IsEndless, EndsWithin, known_in, LooksAtNeeds, AreValues}
-use Rattle.go_package_core.specs.needs_core.Needed.{endless_never}
+use Rattle.go_needs_core.specs.Needs.{needed, NeedsLead, IsEndless, EndsWithin, known_in, LooksAtNeeds, AreValues}
+use Rattle.go_needs_core.proofs.Needed.{endless_never}
 use Rattle.go_spelling_core.specs.Values.{IsSame, NeedsInBoth, NeededStays, UntouchedStays}
 
 -- a path and one node more

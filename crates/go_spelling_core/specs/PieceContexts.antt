@@ -4,18 +4,18 @@
 use Rattle.std.specs.Prelude.{◌≡◌, ℕ, false, List, [], ◌++◌, map, Option}
 use Rattle.go_tree_nodes.specs.declared.names.Ident.{Ident}
 use Rattle.go_tree_nodes.specs.Trees.{FuncTree}
-use Rattle.go_package_core.specs.local_core.Binding.{NameLook}
-use Rattle.go_package_core.specs.local_core.Law.{Rules}
-use Rattle.go_package_core.specs.local_core.Outline.{func_steps}
-use Rattle.go_package_core.specs.local_core.Steps.{Piece, Steps}
-use Rattle.go_package_core.specs.local_core.Tables.{walked}
-use Rattle.go_package_core.specs.local_core.mirrors.Walk.{Names, look_in, with_names, news, names_of}
-use Rattle.go_package_core.specs.operand_core.declared.types.Operand.{Operand}
-use Rattle.go_package_core.specs.expr_core.declared.things.Use.{Use}
-use Rattle.go_package_core.specs.expr_core.Looks.{Looks}
-use Rattle.go_package_core.specs.expr_core.Uses.{Spot, use_of}
-use Rattle.go_package_core.specs.piece_core.Laws.{piece_rules}
-use Rattle.go_package_core.specs.piece_core.Pieces.{piece_uses, piece_values}
+use Rattle.go_local_core.specs.Binding.{NameLook}
+use Rattle.go_local_core.specs.Law.{Rules}
+use Rattle.go_local_core.specs.Outline.{func_steps}
+use Rattle.go_local_core.specs.Steps.{Piece, Steps}
+use Rattle.go_local_core.specs.Tables.{walked}
+use Rattle.go_local_core.specs.mirrors.Walk.{Names, look_in, with_names, news, names_of}
+use Rattle.go_operand_core.specs.declared.types.Operand.{Operand}
+use Rattle.go_expr_core.specs.declared.things.Use.{Use}
+use Rattle.go_expr_core.specs.Looks.{Looks}
+use Rattle.go_expr_core.specs.Uses.{Spot, use_of}
+use Rattle.go_piece_core.specs.Laws.{piece_rules}
+use Rattle.go_piece_core.specs.Pieces.{piece_uses, piece_values}
 use Rattle.go_spelling_core.specs.Contexts.{ContextStays}
 use Rattle.go_spelling_core.specs.PieceSpots.{piece_spots}
 use Rattle.go_spelling_core.specs.Trees.{RespellsPiece, RespellsSteps, AtCheck, AtDeclare, BehindCheck, BehindDeclare, InBlock, BehindBlock, RespellsFunc}

@@ -1,6 +1,6 @@
 -- Two tables of values that differ at some nodes, and the nodes that all of these need.
 use Rattle.std.specs.Prelude.{◌≡◌, ◌⊎◌, ℕ, List, Option, Contains, length}
-use Rattle.go_package_core.specs.needs_core.Needs.{needed, NeedsLead, known_in, LooksAtNeeds, AreValues}
+use Rattle.go_needs_core.specs.Needs.{needed, NeedsLead, known_in, LooksAtNeeds, AreValues}
 
 -- a node needs the same in both, and what it needs makes the same value of it
 pub record IsSame (V : Type 0) (rows others : List (List ℕ)) (value other : (ℕ → Option V) → ℕ → V) (a : ℕ) : Type 0 where

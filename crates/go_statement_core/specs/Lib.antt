@@ -9,6 +9,3 @@ pub mod Relations
 pub mod Laws
 pub mod Locality
 pub mod Worked
-pub mod constant_core
-pub mod denote_core
-pub mod operand_core

@@ -5,5 +5,3 @@ pub mod Views
 pub mod codes
 pub mod alike_core
 pub mod decide_core
-pub mod level_core
-pub mod operand_core

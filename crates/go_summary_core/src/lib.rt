@@ -25,13 +25,3 @@ pub use view::{View, view_of};
 pub mod alike_core {
     pub use go_alike_core::same_exports;
 }
-
-/// What the crates above name of `go_operand_core`.
-pub mod operand_core {
-    pub use go_alike_core::operand_core::{Operand, TypeForm, ValueType};
-}
-
-/// What the crates above name of `go_select_core`.
-pub mod select_core {
-    pub use go_alike_core::select_core::{EmbedPath, Member, Owner, Selected, select, selectable};
-}

@@ -27,7 +27,5 @@ pub use term::{
 
 /// What the crates above name of `go_decl_core`.
 pub mod decl_core {
-    pub use go_decl_core::{
-        DeclForm, DeclKey, DeclKind, DeclRef, Outline, Places, TopDecl, outline, place_order,
-    };
+    pub use go_decl_core::{DeclKey, DeclRef};
 }

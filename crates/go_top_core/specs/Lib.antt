@@ -1,16 +1,4 @@
 pub mod Initial
 pub mod Tops
-pub mod constant_core
-pub mod cycle_core
-pub mod denote_core
-pub mod embed_core
-pub mod expr_core
 pub mod inline_core
-pub mod literal_core
-pub mod local_core
-pub mod operand_core
 pub mod piece_core
-pub mod reach_core
-pub mod statement_core
-pub mod type_core
-pub mod walk_core

@@ -2,6 +2,5 @@ pub mod Built
 pub mod Laws
 pub mod Sample
 pub mod mirrors
-pub mod cycle_core
 pub mod settle_core
 pub mod table_core

@@ -29,15 +29,10 @@ pub use laws::{
 
 /// What the crates above name of `go_settle_core`.
 pub mod settle_core {
-    pub use go_table_core::settle_core::{
-        Kind, Kinds, SeenNames, kind_of, settle, settle_signature,
-    };
+    pub use go_table_core::settle_core::{Kind, SeenNames, kind_of};
 }
 
 /// What the crates above name of `go_table_core`.
 pub mod table_core {
-    pub use go_table_core::{
-        DeclaredMethod, DefinedType, FieldTable, PackageTypes, StructField, StructFields,
-        TypeEntry, TypeTable, is_named_type,
-    };
+    pub use go_table_core::{FieldTable, StructField, StructFields, TypeTable};
 }

@@ -4,7 +4,7 @@ ghost use Rattle.go_needs_core.specs.Needs.{NeedsAreInside, rows_of};
 ghost use Rattle.go_value_core.specs.Around.{AreLeadingBack};
 ghost use Rattle.go_value_core.specs.mirrors.Flags.{flags_from, has_own_rank};
 
-use go_needs_core::cycle_core::rank_and_order;
+use go_cycle_core::rank_and_order;
 use go_needs_core::edges_of;
 use std::alloc::{AllocError, Global};
 

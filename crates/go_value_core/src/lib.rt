@@ -29,11 +29,6 @@ pub mod env_core {
     pub use go_env_core::{Meaning, Scene, outer_names, stand};
 }
 
-/// What the crates above name of `go_face_core`.
-pub mod face_core {
-    pub use go_env_core::face_core::Face;
-}
-
 /// What the crates above name of `go_handle_core`.
 pub mod handle_core {
     pub use go_env_core::handle_core::{SignatureRef, TypeRef};
@@ -42,29 +37,4 @@ pub mod handle_core {
 /// What the crates above name of `go_inline_core`.
 pub mod inline_core {
     pub use go_env_core::inline_core::InlineTypes;
-}
-
-/// What the crates above name of `go_names_core`.
-pub mod names_core {
-    pub use go_env_core::names_core::OpenNames;
-}
-
-/// What the crates above name of `go_needs_core`.
-pub mod needs_core {
-    pub use go_needs_core::{Needing, values_of};
-}
-
-/// What the crates above name of `go_operand_core`.
-pub mod operand_core {
-    pub use go_piece_core::operand_core::Operand;
-}
-
-/// What the crates above name of `go_scope_core`.
-pub mod scope_core {
-    pub use go_env_core::scope_core::Scopes;
-}
-
-/// What the crates above name of `go_table_core`.
-pub mod table_core {
-    pub use go_env_core::table_core::{DeclaredMethod, DefinedType, TypeTable};
 }

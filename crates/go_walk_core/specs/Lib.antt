@@ -1,3 +1,2 @@
 pub mod Ends
 pub mod PieceIdents
-pub mod local_core

@@ -1,8 +1,8 @@
 -- Laws of what the check of a package looks at in other packages.
 use Rattle.std.proofs.Common.{◌≡◌, ℕ, List, [], ◌∷◌, refl, sym, subst}
 use Rattle.std.specs.Prelude.{Contains}
-use Rattle.go_near_core.specs.block_core.declared.binding.Target.{Target}
-use Rattle.go_near_core.specs.block_core.declared.binding.Target.TheVariants as targets
+use Rattle.go_block_core.specs.declared.binding.Target.{Target}
+use Rattle.go_block_core.specs.declared.binding.Target.TheVariants as targets
 use Rattle.go_part_core.specs.ready_core.Packages.{PackageIn}
 use Rattle.go_whole_core.specs.Known.{BindsInside, IsTargetIn, MentionsInside}
 use Rattle.go_whole_core.specs.Reached.{LeadsBy, ReachesPath}

@@ -4,19 +4,19 @@
 use Rattle.std.specs.Prelude.{◌≡◌, ◌↔◌, ℕ, List, Option, Some, None, All, Contains, slice_get}
 use Rattle.std.specs.List.{AllZip}
 use Rattle.std.specs.List.Sorted.{IsStrictlyIncreasing}
-use Rattle.go_near_core.specs.reach_core.Reach.{ReachesByEdges}
-use Rattle.go_near_core.specs.cycle_core.declared.edge.Edge.{Edge}
-use Rattle.go_part_core.specs.graph_core.declared.imports.ImportAt.{ImportAt}
-use Rattle.go_part_core.specs.graph_core.declared.imports.ImportOutcome.{ImportOutcome}
-use Rattle.go_part_core.specs.graph_core.declared.imports.ImportOutcome.TheVariants.{Package}
-use Rattle.go_part_core.specs.graph_core.Imports.{IsNumbered, IsOutcome}
-use Rattle.go_part_core.specs.graph_core.Lists.{AllNumbered}
-use Rattle.go_part_core.specs.graph_core.Packages.{IsAssembled, trees_of}
-use Rattle.go_part_core.specs.graph_core.Sources.{SourceModel}
-use Rattle.go_part_core.specs.graph_core.Workspaces.{PackageModel}
-use Rattle.go_near_core.specs.block_core.declared.imports.Imported.{Imported}
-use Rattle.go_near_core.specs.block_core.Exports.{ExportsModel}
-use Rattle.go_near_core.specs.block_core.Naming.{AreInPackage, IsGiven}
+use Rattle.go_reach_core.specs.Reach.{ReachesByEdges}
+use Rattle.go_cycle_core.specs.declared.edge.Edge.{Edge}
+use Rattle.go_graph_core.specs.declared.imports.ImportAt.{ImportAt}
+use Rattle.go_graph_core.specs.declared.imports.ImportOutcome.{ImportOutcome}
+use Rattle.go_graph_core.specs.declared.imports.ImportOutcome.TheVariants.{Package}
+use Rattle.go_graph_core.specs.Imports.{IsNumbered, IsOutcome}
+use Rattle.go_graph_core.specs.Lists.{AllNumbered}
+use Rattle.go_graph_core.specs.Packages.{IsAssembled, trees_of}
+use Rattle.go_graph_core.specs.Sources.{SourceModel}
+use Rattle.go_graph_core.specs.Workspaces.{PackageModel}
+use Rattle.go_block_core.specs.declared.imports.Imported.{Imported}
+use Rattle.go_block_core.specs.Exports.{ExportsModel}
+use Rattle.go_block_core.specs.Naming.{AreInPackage, IsGiven}
 use Rattle.go_part_core.specs.summary_core.Summaries.{SummaryModel, path_of}
 use Rattle.go_part_core.specs.Inputs.{InputModel}
 use Rattle.go_part_core.specs.Parts.{IsPart, PartModel}

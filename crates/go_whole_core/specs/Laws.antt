@@ -1,7 +1,7 @@
 -- Laws of whole workspaces.
 use Rattle.std.specs.Prelude.{◌≡◌, List, Option}
 use Rattle.std.specs.List.{AllZip}
-use Rattle.go_part_core.specs.graph_core.Workspaces.{PackageModel, IsWorkspace}
+use Rattle.go_graph_core.specs.Workspaces.{PackageModel, IsWorkspace}
 use Rattle.go_part_core.specs.Parts.{PartModel}
 use Rattle.go_whole_core.specs.Inputs.{AreParts}
 use Rattle.go_whole_core.specs.Entries.{IsPartEntry}

@@ -11,8 +11,3 @@ mod run;
 pub use laws::one_input;
 pub use output::write_report;
 pub use run::{ResolveEnd, run_resolve};
-
-/// What the crates above name of `go_parse_core`.
-pub mod parse_core {
-    pub use go_part_core::parse_core::{one_rule, one_tree};
-}

@@ -4,7 +4,7 @@ use Rattle.std.specs.Path.{path_file_name}
 use Rattle.std.specs.declared.io.ErrorKind.{ErrorKind}
 use Rattle.go_text_core.specs.declared.rule.Rule.TheVariants.{O2}
 use Rattle.go_path_core.specs.Path.{IsPath}
-use Rattle.go_snap_core.specs.graph_core.Workspaces.{PackageModel}
+use Rattle.go_graph_core.specs.Workspaces.{PackageModel}
 use Rattle.go_snap_core.specs.declared.fault.PlacedFault.{PlacedFault}
 use Rattle.go_snap_core.specs.part_core.Parts.{PartModel}
 use Rattle.go_snap_core.specs.Snapshots.{IsSnapshot}

@@ -7,8 +7,8 @@ ghost use Rattle.govisd_folders.specs.Telling.{AddsFault, AddsLine, AddsLines, A
 use crate::notes::{push, push_number};
 use go_explain_core::meaning;
 use go_folder_core::{Position, below, position_of};
+use go_graph_core::{SourceFile, Workspace};
 use go_snap_core::PlacedFault;
-use go_snap_core::graph_core::{SourceFile, Workspace};
 use go_text_core::Rule;
 use std::alloc::{AllocError, Global};
 

@@ -6,8 +6,3 @@ mod lines;
 mod places;
 
 pub use lines::{fault_line, file_lines};
-
-/// What the crates above name of `go_local_core`.
-pub mod local_core {
-    pub use go_answer_core::local_core::Fault;
-}

@@ -1,11 +1,11 @@
 //! How faults and what occurrences have are written.
+use go_answer_core::{Answer, Site};
+use go_denote_core::Outcome;
 use go_path_core::ImportPath;
 use go_site_core::SiteSpelling;
-use go_snap_core::answer_core::{Answer, Site};
-use go_snap_core::denote_core::Outcome;
-use go_snap_core::tree_core::OccId;
 use go_snap_core::{PlacedFault, Snapshot};
 use go_term_core::MemberPlace;
+use go_tree_core::OccId;
 use govisd_show::{Lines, Named, identifier_at};
 
 /// Adds an identifier of the package of a path.

@@ -1,8 +1,8 @@
 -- Which packages tell what was told earlier.
 use Rattle.std.specs.Prelude.{◌≡◌, ◌↔◌, ℕ, Bool, true, List, Option, Some, All, IsTrue, length, map, slice_get}
 use Rattle.std.specs.List.{AllZip}
-use Rattle.go_whole_core.specs.reach_core.Numbers.{Numbers}
-use Rattle.go_whole_core.specs.summary_core.Summaries.{SummaryModel, path_of}
+use Rattle.go_reach_core.specs.Numbers.{Numbers}
+use Rattle.go_summary_core.specs.Summaries.{SummaryModel, path_of}
 use Rattle.go_whole_core.specs.part_core.Inputs.{InputModel}
 use Rattle.go_whole_core.specs.part_core.Parts.{PartModel}
 use Rattle.go_whole_core.specs.Inputs.{Tells}

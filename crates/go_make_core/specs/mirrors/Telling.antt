@@ -2,8 +2,8 @@
 use Rattle.std.specs.Prelude.{◌≡◌, ℕ, List, Option, Some, Contains, length, slice_get}
 use Rattle.std.specs.List.{AllZip}
 use Rattle.std.specs.List.Sorted.{IsStrictlyIncreasing}
-use Rattle.go_whole_core.specs.reach_core.Numbers.{Numbers}
-use Rattle.go_whole_core.specs.summary_core.Summaries.{SummaryModel}
+use Rattle.go_reach_core.specs.Numbers.{Numbers}
+use Rattle.go_summary_core.specs.Summaries.{SummaryModel}
 use Rattle.go_whole_core.specs.part_core.Parts.{PartModel}
 
 -- the package of a number has a place, and tells what stands there

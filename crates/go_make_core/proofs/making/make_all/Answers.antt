@@ -1,8 +1,8 @@
 use Rattle.std.proofs.Common.{ℕ, ◌+◌, ◌<◌, [], length, take, get_or, Some, sym, ap, subst, ◌∙◌, arith}
 use Rattle.std.specs.Prelude.{slice_index, slice_set}
 use Rattle.std.proofs.lemmas.Option.{slice_get_within}
-use Rattle.go_whole_core.specs.graph_core.Plans.{plan_of}
-use Rattle.go_whole_core.specs.entry_core.Showing.{with_shown}
+use Rattle.go_graph_core.specs.Plans.{plan_of}
+use Rattle.go_entry_core.specs.Showing.{with_shown}
 use Rattle.go_whole_core.specs.face_core.Packages.{with_faces}
 use Rattle.go_whole_core.specs.mirrors.Steps.{AreMade, IsNext, IsRight, SoFar}
 use Rattle.go_whole_core.proofs.Next.{so_far_all, so_far_more, so_far_none}

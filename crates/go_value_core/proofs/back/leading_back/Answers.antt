@@ -1,6 +1,6 @@
 use Rattle.std.proofs.Common.{◌≡◌, ◌<◌, ℕ, List, ◌∙◌, sym, ap, length, get_or, subst, arith, All}
-use Rattle.go_needs_core.specs.cycle_core.declared.edge.Edge.{Edge}
-use Rattle.go_needs_core.specs.cycle_core.Cycle.{InRange, IsRanking}
+use Rattle.go_cycle_core.specs.declared.edge.Edge.{Edge}
+use Rattle.go_cycle_core.specs.Cycle.{InRange, IsRanking}
 use Rattle.go_needs_core.specs.Needs.{rows_of, needed, edges_from}
 use Rattle.go_needs_core.proofs.Reading.{rows_count, row_read}
 use Rattle.go_needs_core.proofs.Edges.{edges_inside, row_inside}

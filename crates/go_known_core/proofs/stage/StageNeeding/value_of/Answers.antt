@@ -1,7 +1,7 @@
 use Rattle.std.proofs.Common.{length, refl}
 use Rattle.std.proofs.lemmas.Option.{slice_get_read}
 use Rattle.go_value_core.specs.env_core.Scenes.{scene_shown}
-use Rattle.go_value_core.specs.needs_core.Needs.{known_in}
+use Rattle.go_needs_core.specs.Needs.{known_in}
 use Rattle.go_known_core.proofs.Standing.{declared}
 use Rattle.go_known_core.proofs.stage.StageNeeding.value_of.Goals as goal
 

@@ -1,5 +1,5 @@
 use Rattle.std.proofs.Common.{◌≡◌, ℕ, ◌<◌, List, All, Some, length, map, slice_get, sym, ap, ap₂, subst, ◌∙◌}
-use Rattle.go_whole_core.specs.summary_core.Summaries.{SummaryModel}
+use Rattle.go_summary_core.specs.Summaries.{SummaryModel}
 use Rattle.go_make_core.proofs.Telling.{found_below, found_told, numbered_below}
 use Rattle.go_make_core.proofs.told.Told.by.Goals as goal
 

@@ -1,3 +1,0 @@
--- What the crates above name of go_graph_core.
-pub use Rattle.go_face_core.specs.graph_core.Packages as Packages
-pub use Rattle.go_face_core.specs.graph_core.Workspaces as Workspaces

@@ -1,4 +1,0 @@
--- What the crates above name of go_fragment_core.
-pub use Rattle.go_fragment_core.specs.Fragment as Fragment
-pub use Rattle.go_fragment_core.specs.Names as Names
-pub use Rattle.go_fragment_core.specs.declared as declared

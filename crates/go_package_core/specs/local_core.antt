@@ -1,7 +1,0 @@
--- What the crates above name of go_local_core.
-pub use Rattle.go_file_core.specs.local_core.Binding as Binding
-pub use Rattle.go_file_core.specs.local_core.Law as Law
-pub use Rattle.go_file_core.specs.local_core.Outline as Outline
-pub use Rattle.go_file_core.specs.local_core.Steps as Steps
-pub use Rattle.go_file_core.specs.local_core.Tables as Tables
-pub use Rattle.go_file_core.specs.local_core.mirrors as mirrors

@@ -1,3 +1,0 @@
--- What the crates above name of go_needs_core.
-pub use Rattle.go_package_core.specs.needs_core.Edges as Edges
-pub use Rattle.go_package_core.specs.needs_core.Needs as Needs
