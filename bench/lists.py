@@ -1,10 +1,10 @@
 #!/usr/bin/env python3
 """Writes the lists of crates.txt, and what crates pass on, anew: python3 bench/lists.py [ROOT]
 
-A crate lists, of the small crates at the bottom, those that it names, and of all others the topmost alone. These pass on what is named of the
-crates below them: in code item by item, in a module `x_core` at the end of src/lib.rt, in definitions and proofs module by module, in a file
-specs/x_core.antt. Each name in src/, specs/, proofs/, must-fail/ and bench/wrong_bodies/ is written by the way that leads to it. Why, and what it
-saves, is in docs/DESIGN.md, "What a crate lists". It may be run again at any time, and changes nothing where nothing is to be changed: a way that
+A crate lists what it names. The toolchain goes down every path of crates.txt, so the paths are kept within a budget (BUDGET): where they are more, the
+edges whose names cost least for the paths that they save are left out, and a crate between passes on what is named of the one below: in code item by
+item, in a module `x_core` at the end of src/lib.rt, in definitions and proofs module by module, in a file specs/x_core.antt. Each name in src/, specs/,
+proofs/, must-fail/ and bench/wrong_bodies/ is written by the way that leads to it. Why is in docs/DESIGN.md, "What a crate lists". It may be run again at any time, and changes nothing where nothing is to be changed: a way that
 is there stays as long as it leads on, so that a new crate changes next to nothing of those below it, which then stay proved. Run `rt fmt` in the
 crates that it names, since the order of `use` lines may be another.
 """
@@ -15,8 +15,6 @@ from collections import Counter, defaultdict
 
 # Small crates at the bottom: whoever names one lists it.
 SMALL = set("go_text_core go_token_core go_scan_core go_tree_nodes go_path_core go_term_core go_universe_core".split())
-# Crates with types that contain themselves: whose code names one lists it (a type of this kind can't be passed on).
-RECURSIVE = {"go_tree_nodes", "go_term_core"}
 # Crates that list all that they name: their lists are short enough, and programs are listed by none.
 WHOLE = set(
     """go_text_core go_token_core go_scan_core go_universe_core go_tree_nodes go_tree_copies go_tree_core go_parse_types go_parse_exprs
@@ -25,10 +23,6 @@ WHOLE = set(
     go_operand_core go_denote_core go_statement_core
     govisd govisd_show govisd_probe govisd_cases""".split()
 )
-# Crates between others that pass nothing on: whoever names one lists it beside those that do.
-BESIDE = set()
-# What a crate lists beside, since it alone names some of it: to pass that on would change all crates between.
-ALONE = {"go_laws_core": {"go_block_core"}, "go_site_core": {"go_graph_core", "go_object_core"}, "govisd_snapshot": {"go_mset_core", "go_site_core"}}
 # Modules that are named as a word of the library, which a reader would take them for: what they are passed on as.
 PASSED_AS = {"All": "AllPackages"}
 PASSED = re.compile(r"(?m)\n?/// What the crates above name of `\w+`\.\npub mod \w+ \{\n.*?\n\}\n", re.S)
@@ -164,12 +158,15 @@ class Names:
         return {*self.logic[crate], *self.code[crate]}
 
 
-BUDGET = float(os.environ.get("BUDGET", "2e6"))
+# How many paths of crates.txt there may be in all: two million cost half a minute a gate.
+BUDGET = 2_000_000
 
 
 def budgeted(repository, names, named):
     """Lists by names, less those whose names cost least to pass on for the paths that they save, until the paths are within the budget."""
     edges = {k: set(v) | repository.kept(k) for k, v in named.items()}
+    # a name that is passed on already stays so: a new crate changes nothing of those below it
+    edges = {k: {d for d in v if d in repository.lists[k] or not repository.there[k, d]} for k, v in edges.items()}
     height = {}
 
     def high(k):
@@ -178,8 +175,9 @@ def budgeted(repository, names, named):
         return height[k]
 
     order = sorted(edges, key=high)
-    # dearer: a name that goes through many crates
-    weight = lambda a, b: len(names.logic[a].get(b, ())) + len(names.code[a].get(b, ()))
+    def weight(a, b):
+        return len(names.logic[a].get(b, ())) + len(names.code[a].get(b, ()))
+
     fixed = {(a, b) for a in edges for b in edges[a] if b in SMALL or a in WHOLE or not weight(a, b)}
     while True:
         paths, reach, ups = {}, {}, {k: 1 for k in order}
@@ -191,8 +189,13 @@ def budgeted(repository, names, named):
                 ups[d] += ups[k]
         if sum(paths.values()) <= BUDGET:
             return edges, reach
-        hops = lambda a, b: 1 if any(b in edges[c] for c in edges[a]) else 3
-        found = [(ups[a] * paths[b] / weight(a, b) / hops(a, b), a, b) for a in edges for b in edges[a] if (a, b) not in fixed and any(b in reach[c] for c in edges[a] if c != b)]
+        found = []
+        for a in edges:
+            for b in edges[a]:
+                if (a, b) not in fixed and any(b in reach[c] for c in edges[a] if c != b):
+                    # a name that goes through several crates costs more
+                    hops = 1 if any(b in edges[c] for c in edges[a]) else 3
+                    found.append((ups[a] * paths[b] / weight(a, b) / hops, a, b))
         _, a, b = max(found)
         edges[a].discard(b)
 
@@ -202,14 +205,14 @@ class Ways:
 
     def __init__(self, repository, names):
         self.named = {it: names.of(it) for it in repository.lists}
-        self.known, self.heights, self.under = {}, {}, {}
+        self.heights, self.under = {}, {}
         self.there = repository.there
         self.lists, self.through = {}, {}
         self.kept_edges, self.reaches = budgeted(repository, names, self.named)
         self.logic, self.code = defaultdict(lambda: defaultdict(set)), defaultdict(lambda: defaultdict(set))
         for crate in sorted(repository.lists, key=lambda it: (-self.height(it), it)):
             wanted = {*self.named[crate], *self.logic[crate], *self.code[crate]} - {crate}
-            self.lists[crate] = self.listed(repository, crate, wanted, names)
+            self.lists[crate] = set(self.kept_edges[crate]) | repository.kept(crate)
             self.through[crate] = {}
             for other in sorted(wanted):
                 self.reach(crate, other, names)
@@ -227,9 +230,6 @@ class Ways:
     def gives(self, crate, other):
         """Whether the crate names the other, or can get it from one that does."""
         return other in self.named[crate] or other in self.reaches[crate]
-
-    def listed(self, repository, crate, wanted, names):
-        return set(self.kept_edges[crate]) | repository.kept(crate)
 
     def reach(self, crate, other, names):
         if other in self.lists[crate]:

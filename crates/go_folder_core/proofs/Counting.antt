@@ -1,10 +1,10 @@
 -- What is counted is the place.
-use Rattle.std.proofs.Common.{◌≡◌, ◌≢◌, ◌+◌, ◌==◌, ◌≤◌, ◌∙◌, ℕ, false, cond, List, [], ◌∷◌, ◌++◌, length, drop, inl, inr, refl, sym, ap, subst, arith}
+use Rattle.std.proofs.Common.{◌≡◌, ◌≢◌, ◌+◌, ◌==◌, ◌≤◌, ◌∙◌, ℕ, false, cond, List, [], ◌∷◌, ◌++◌, length, drop, take, inl, inr, refl, sym, ap, subst, arith}
 use Rattle.std.specs.Prelude.{count_by}
 use Rattle.std.proofs.lemmas.Bool.Decides.{eqb_tells}
-use Rattle.std.proofs.lemmas.List.{append_assoc, append-nil, drop_all, length-append}
+use Rattle.std.proofs.lemmas.List.{append_assoc, append-nil, drop_all, length-append, length-take-le, take-append-drop}
 use Rattle.std.proofs.lemmas.List.Elements.{All-append, All-cons, All-nil}
-use Rattle.std.proofs.lemmas.List.Sums.{sum_by-append}
+use Rattle.std.proofs.lemmas.List.Sums.{count_by-le-length, sum_by-append}
 use Rattle.go_folder_core.specs.Places.{IsPosition}
 use Rattle.go_folder_core.specs.declared.places.Position.{Position}
 use Rattle.go_folder_core.specs.mirrors.Counting.{at, past, position_from}
@@ -67,7 +67,7 @@ after : (before bytes : List ℕ) (p : Position) → IsPosition before p → IsP
 after before [] p h = subst (λ xs. IsPosition xs p) (sym (append-nil before)) h
 after before (b ∷ bs) p h = subst (λ xs. IsPosition xs (position_from (past b p) bs)) (append_assoc before (b ∷ []) bs) (after (before ++ b ∷ []) bs (past b p) (past_byte before p b h))
 
-at_start : IsPosition [] (at 1 1)
+pub at_start : IsPosition [] (at 1 1)
 at_start = record {
   lines = [];
   rest = [];
@@ -78,8 +78,32 @@ at_start = record {
   column = refl;
 }
 
--- where the count has come to the end of the bytes, it is their place
-pub counted_position : (bytes : List ℕ) (i : ℕ) (p : Position) → length bytes ≤ i → position_from p (drop i bytes) ≡ position_from (at 1 1) bytes → IsPosition bytes p
-counted_position bytes i p past same =
-    let here : p ≡ position_from (at 1 1) bytes = sym (ap (position_from p) (drop_all i bytes past)) ∙ same in
-    subst (IsPosition bytes) (sym here) (after [] bytes (at 1 1) at_start)
+-- a place is no farther than there are bytes before it
+bounded : (before : List ℕ) (p : Position) → IsPosition before p → (p.line ≤ 1 + length before) × (p.column ≤ 1 + length before)
+bounded before p h = (
+    down p.line (ends_in before) (length before) h.line (count_by-le-length (λ b. b == 10) before),
+    within p.column (length before) (length h.lines) (length h.rest) h.column (ap length h.parts ∙ length-append h.lines h.rest),
+  )
+  where
+    down : (line k n : ℕ) → line ≡ 1 + k → k ≤ n → line ≤ 1 + n
+    down line k n e h = omega arith
+
+    within : (column n k m : ℕ) → column ≡ 1 + m → n ≡ k + m → column ≤ 1 + n
+    within column n k m e h = omega arith
+
+-- nor is the place behind the first bytes of a text
+pub bounded_front : (bytes : List ℕ) (n : ℕ) (p : Position) → n ≤ length bytes → IsPosition (take n bytes) p → (p.line ≤ 1 + (n + 0)) × (p.column ≤ 1 + (n + 0))
+bounded_front bytes n p within h =
+    let far = bounded (take n bytes) p h in
+    let long : length (take n bytes) ≡ n = length-take-le n bytes within in
+    (short p.line (length (take n bytes)) n far.0 long, short p.column (length (take n bytes)) n far.1 long)
+  where
+    short : (x k m : ℕ) → x ≤ 1 + k → k ≡ m → x ≤ 1 + (m + 0)
+    short x k m h e = omega arith
+
+-- where the count has come to the end of what stands behind the first bytes, it is the place of all
+pub counted_position : (bytes : List ℕ) (n i : ℕ) (p q : Position) → IsPosition (take n bytes) p → length (drop n bytes) ≤ i → position_from q (drop i (drop n bytes)) ≡ position_from p (drop n bytes) → IsPosition bytes q
+counted_position bytes n i p q h past same =
+    let here : q ≡ position_from p (drop n bytes) = sym (ap (position_from q) (drop_all i (drop n bytes) past)) ∙ same in
+    let whole : IsPosition bytes (position_from p (drop n bytes)) = subst (λ xs. IsPosition xs (position_from p (drop n bytes))) (take-append-drop n bytes) (after (take n bytes) (drop n bytes) p h) in
+    subst (IsPosition bytes) (sym here) whole

@@ -10,4 +10,4 @@ mod places;
 
 pub use folders::{below, package_path};
 pub use names::{FileKind, MAX_FILES, file_kind, is_passed_over};
-pub use places::{Position, position_of};
+pub use places::{LineCounter, Position, position_of};
