@@ -1,5 +1,5 @@
 #!/usr/bin/env python3
-"""Writes the lists of crates.txt, and what crates pass on, anew: python3 bench/lists.py [ROOT]
+"""Writes the lists of crates.txt, and what crates pass on, anew: python3 tools/lists.py [ROOT]
 
 A crate lists what it names. The toolchain goes down every path of crates.txt, so the paths are kept within a budget (BUDGET): where they are more, the
 edges whose names cost least for the paths that they save are left out, and a crate between passes on what is named of the one below: in code item by

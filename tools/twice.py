@@ -1,5 +1,5 @@
 #!/usr/bin/env python3
-"""Lists statements of lemmas that stand word for word in the proofs of two or more crates: python3 bench/twice.py [ROOT]
+"""Lists statements of lemmas that stand word for word in the proofs of two or more crates: python3 tools/twice.py [ROOT]
 
 Behind each statement stand the crates, files and names, from the bottom up, and the crate that the others can take it from, if one of them lies
 below all the others. It reads texts alone, in seconds: the same words may mean two things in two files, as a record of the file's own does."""

@@ -1,5 +1,5 @@
 #!/usr/bin/env python3
-"""Finds imports of definitions and lemmas that lead nowhere, by text alone and in seconds: python3 bench/imports.py [ROOT] [CRATE ..]
+"""Finds imports of definitions and lemmas that lead nowhere, by text alone and in seconds: python3 tools/imports.py [ROOT] [CRATE ..]
 
 Of each `use Rattle.CRATE.MODULE` in crates/ it asks that the module is there, or is passed on from where it is, and that what stands between its
 braces is named in it, beside its comments and what it imports for itself; of what stands in definitions and lemmas behind another name of a module the same; of each written answer that its goals are those of its own folder; and of each crate that no lemma file has the name of a

@@ -1,5 +1,5 @@
 #!/usr/bin/env python3
-"""Lists the crates whose wrong bodies were tried on another text than the one that stands: python3 bench/tried.py [ROOT]
+"""Lists the crates whose wrong bodies were tried on another text than the one that stands: python3 tools/tried.py [ROOT]
 
 The table "Wrong bodies" of docs/PROVING.md names for each crate the commits on which its edits were tried. A verdict is about what the edit changes,
 a body or a definition, and about the clauses around it; so it stands as long as the crate's src/ and specs/ do, imports, comments and the order of

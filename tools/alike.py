@@ -1,5 +1,5 @@
 #!/usr/bin/env python3
-"""Lists definitions that are the same but for the names in them, of two or more modules: python3 bench/alike.py [ROOT]
+"""Lists definitions that are the same but for the names in them, of two or more modules: python3 tools/alike.py [ROOT]
 
 Two definitions of specs/ are the same where their types and clauses are, once each variable is known by its place in its clause, the definition itself
 as itself, and what it names of others by what that is: two that name two others which are the same are the same too, so that a family of definitions

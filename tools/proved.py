@@ -1,0 +1,95 @@
+#!/usr/bin/env python3
+"""Makes docs/PROVED.md from the pages of the crates, and finds what the documents name that is not there: python3 tools/proved.py [--check]
+
+docs/PROVED.md has of each crate of crates.txt, in order, the first sentence of crates/NAME/README.md. With --check nothing is written, and the status is
+1 where docs/PROVED.md is another, where a crate has no page, or where a document names a file, a definition or a call that is not there. It takes a second.
+"""
+import os
+import re
+import sys
+
+ROOT = os.path.dirname(os.path.dirname(os.path.abspath(__file__)))
+# The documents that are read, and the folders whose words are those that there are.
+DOCUMENTS = ["README.md", "docs/RULES.md", "docs/DESIGN.md"]
+PARTS = ["src", "specs", "proofs"]
+
+
+def text_of(path):
+    with open(f"{ROOT}/{path}", encoding="utf-8") as file:
+        return file.read()
+
+
+def crates():
+    lines = text_of("crates.txt").splitlines()
+    return [it.partition(":")[0].split()[0] for it in lines if it.strip() and not it.startswith("#")]
+
+
+def page_of(crate):
+    """The first paragraph of the page of a crate, in one line; none where there is no page."""
+    path = f"crates/{crate}/README.md"
+    if not os.path.exists(f"{ROOT}/{path}"):
+        return None
+    parts = text_of(path).split("\n\n")
+    return " ".join(parts[1].split()) if len(parts) > 1 and parts[0].startswith("# ") else None
+
+
+def proved(names, pages):
+    head = "# What each crate answers\n\nFrom the bottom up. `crates/NAME/README.md` has what is proved of it. This page is made by `tools/proved.py`.\n"
+    return head + "\n| Crate | Answers |\n|---|---|\n" + "".join(f"| [`{it}`](../crates/{it}/README.md) | {pages[it]} |\n" for it in names if pages[it])
+
+
+def words_there(names):
+    """Each word of the sources, by crate and in all."""
+    found = {}
+    for crate in names:
+        words = set()
+        for part in PARTS:
+            for at, _, files in os.walk(f"{ROOT}/crates/{crate}/{part}"):
+                for name in files:
+                    words.add(name.rpartition(".")[0])
+                    with open(f"{at}/{name}", encoding="utf-8") as file:
+                        words |= set(re.findall(r"\w+", file.read()))
+        found[crate] = words
+    found["tools"] = set(re.findall(r"\w+", "".join(text_of(f"tools/{it}") for it in os.listdir(f"{ROOT}/tools") if it.endswith(".py"))))
+    return found
+
+
+def missing(document, words):
+    """What a document names that is not there."""
+    text = text_of(document)
+    everywhere = set().union(*words.values())
+    for path in sorted(set(re.findall(r"`((?:crates|docs|bench|tools|examples)/[\w./-]+)`", text))):
+        if not re.search(r"/[A-Z]+[/.]", path + "/") and not os.path.exists(f"{ROOT}/{path}"):
+            yield f"{document}: no file {path}"
+    # a file of definitions, and behind it their names
+    for crate, listed in re.findall(r"`crates/(\w+)/specs/[\w/]+\.antt`: ([\w, ]+)", text):
+        for name in re.findall(r"\w+", listed):
+            if name not in words.get(crate, set()) and name not in everywhere:
+                yield f"{document}: no definition {name} in {crate}"
+    # a call or a definition: words that are joined, or that begin with a capital letter and are longer than one
+    for name in sorted(set(re.findall(r"`((?:[A-Za-z]\w*::)*[A-Za-z]\w*)`", text))):
+        last = name.split("::")[-1]
+        if ("_" in last or re.match(r"[A-Z][a-z]+[A-Z]", last)) and last not in everywhere and last not in words:
+            yield f"{document}: nothing is named {name}"
+
+
+def main():
+    names = crates()
+    pages = {it: page_of(it) for it in names}
+    faults = [f"crates/{it}/README.md: no page" for it in names if not pages[it]]
+    page = proved(names, pages)
+    if "--check" in sys.argv[1:]:
+        if not os.path.exists(f"{ROOT}/docs/PROVED.md") or text_of("docs/PROVED.md") != page:
+            faults.append("docs/PROVED.md: run tools/proved.py")
+    else:
+        with open(f"{ROOT}/docs/PROVED.md", "w", encoding="utf-8") as file:
+            file.write(page)
+    words = words_there(names)
+    for document in DOCUMENTS:
+        faults += missing(document, words)
+    for fault in faults:
+        print(fault)
+    return 1 if faults else 0
+
+
+sys.exit(main())
