@@ -1,8 +1,9 @@
 -- Faults that are written one behind another, each of the file in which it lies.
-use Rattle.std.proofs.Common.{◌≡◌, ◌∙◌, ℕ, ◌+◌, ◌<◌, ◌≤◌, Bool, List, [], ◌∷◌, ◌++◌, length, get_or, take, append_assoc, All, Option, Some, None, Result, Ok, Err, OnOk, refl, sym, ap, subst}
+use Rattle.std.proofs.Common.{◌≡◌, ◌∙◌, ℕ, ◌+◌, ◌<◌, ◌≤◌, Bool, List, [], ◌∷◌, ◌++◌, length, drop, get_or, take, append_assoc, All, Option, Some, None, Result, Ok, Err, OnOk, refl, sym, ap, subst}
 use Rattle.std.specs.Prelude.{option_and_then, option_map, slice_get}
 use Rattle.std.proofs.lemmas.List.{append-nil, take_more, take_all}
 use Rattle.std.proofs.lemmas.Option.{none-some}
+use Rattle.std.proofs.Math.Seq.{take-add}
 use Rattle.go_graph_core.specs.Workspaces.{PackageModel}
 use Rattle.go_snap_core.specs.declared.fault.PlacedFault.{PlacedFault}
 use Rattle.go_folder_core.specs.Folders.{joined_path}
@@ -27,6 +28,12 @@ source_there ps f h =
 
 pub lies_somewhere : (ps : List PackageModel) (f : PlacedFault) → LiesIn ps f → source_at ps f ≡ None → ⊥
 lies_somewhere ps f h none = none-some _ (sym none ∙ source_there ps f h)
+
+-- faults of one file are found in the same
+pub source_beside : (ps : List PackageModel) (f g : PlacedFault) → f.«package» ≡ g.«package» → f.file ≡ g.file → source_at ps f ≡ source_at ps g
+source_beside ps f g of_package of_file =
+    ap (λ (n : ℕ). option_and_then (λ (p : PackageModel). option_map (λ s. (p.0, s)) (slice_get p.1 n)) (slice_get ps f.«package»)) of_file
+    ∙ ap (λ (n : ℕ). option_and_then (λ (p : PackageModel). option_map (λ s. (p.0, s)) (slice_get p.1 g.file)) (slice_get ps n)) of_package
 
 -- the faults of a snapshot, as they are read
 pub lie_in_these : (ps qs : List PackageModel) (faults these : List PlacedFault) → qs ≡ ps → these ≡ faults → All (LiesIn ps) faults → All (LiesIn qs) these
@@ -81,3 +88,16 @@ module _ (json : Bool) (own : List ℕ) (ps : List PackageModel) where
   -- the end of the loop
   pub adds_all : (faults : List PlacedFault) (i : ℕ) (start new : List ℕ) → length faults ≤ i → AddsLines json own ps (take i faults) start new → AddsLines json own ps faults start new
   adds_all faults i start new past h = subst (λ l. AddsLines json own ps l start new) (take_all i faults past) h
+
+  -- the lines of some faults behind those of others
+  lines_joined : (fs gs : List PlacedFault) (text rest : List ℕ) → AreLines json own ps fs text → AreLines json own ps gs rest → AreLines json own ps (fs ++ gs) (text ++ rest)
+  lines_joined [] gs text rest h k = subst (λ t. AreLines json own ps gs (t ++ rest)) (sym h) k
+  lines_joined (f ∷ fs) gs text rest h k = (h.0, h.1 ++ rest, h.2, lines_joined fs gs h.1 rest h.3 k, ap (λ t. t ++ rest) h.4 ∙ append_assoc h.0 h.1 rest)
+
+  -- the faults of one more file
+  pub adds_file : (faults : List PlacedFault) (i n : ℕ) (start mid new : List ℕ) → AddsLines json own ps (take i faults) start mid → AddsLines json own ps (take n (drop i faults)) mid new → AddsLines json own ps (take (i + n) faults) start new
+  adds_file faults i n start mid new h k = (
+    h.0 ++ k.0,
+    subst (λ l. AreLines json own ps l (h.0 ++ k.0)) (sym (take-add i n faults)) (lines_joined (take i faults) (take n (drop i faults)) h.0 k.0 h.1 k.1),
+    k.2 ∙ ap (λ t. t ++ k.0) h.2 ∙ append_assoc start h.0 k.0,
+  )

@@ -1,12 +1,12 @@
 //! How faults are written.
-ghost use Rattle.std.specs.Prelude.{◌≡◌, ◌++◌, ◌<◌, All, List, ℕ, IfOk, OnOk, length, option_map, string_bytes};
+ghost use Rattle.std.specs.Prelude.{◌≡◌, ◌++◌, ◌<◌, ◌≤◌, All, List, ℕ, IfOk, IsTrue, OnOk, length, option_map, string_bytes, take};
 ghost use Rattle.go_folder_core.specs.Folders.{joined_path};
 ghost use Rattle.go_snap_core.specs.Faults.{LiesIn};
-ghost use Rattle.govisd_folders.specs.Telling.{AddsFault, AddsLine, AddsLines, AreTold, count_text, faults_text, json_text, line_text, packages_text, position_text, source_at};
+ghost use Rattle.govisd_folders.specs.Telling.{AddsFault, AddsLines, AreTold, count_text, faults_text, json_text, line_text, packages_text, position_text, source_at};
 
 use crate::notes::{push, push_number};
 use go_explain_core::meaning;
-use go_folder_core::{Position, below, position_of};
+use go_folder_core::{LineCounter, Position, below};
 use go_graph_core::{SourceFile, Workspace};
 use go_snap_core::PlacedFault;
 use go_text_core::Rule;
@@ -83,19 +83,20 @@ fn push_json(
     push(out, "\"}\n")
 }
 
-// Adds a fault in a file, in one of the two forms.
+// Adds a fault in a file, in one of the two forms. The lines of the file are counted on from the last place that was asked for.
 fn push_fault(
     alloc: Global,
     out: &mut String,
     json: bool,
     package: &str,
     file: &str,
-    text: &str,
+    lines: &mut LineCounter<'_>,
     fault: PlacedFault,
 ) -> Result<(), AllocError>
-    ensures { OnOk result (AddsFault json «package».now file.now text.now fault.offset fault.rule (string_bytes out.old) (string_bytes out.new)) }
+    ensures added { OnOk result (AddsFault json «package».now file.now lines.old fault.offset fault.rule (string_bytes out.old) (string_bytes out.new)) }
+    ensures text { lines.new ≡ lines.old }
 {
-    let at = position_of(text, fault.offset);
+    let at = lines.position_of(fault.offset);
     if json {
         return push_json(alloc, out, package, file, at, fault.offset, fault.rule);
     }
@@ -115,23 +116,43 @@ fn source_of<'a>(workspace: &'a Workspace, fault: PlacedFault) -> Option<(&'a st
     }
 }
 
-// Adds a fault of a workspace.
-fn push_placed(
+// Whether two faults lie in the same file.
+fn is_beside(one: PlacedFault, other: PlacedFault) -> bool
+    ensures { IsTrue result → (one.«package» ≡ other.«package») × (one.file ≡ other.file) }
+{
+    one.package == other.package && one.file == other.file
+}
+
+// Adds the first of these faults and those that follow it in the same file, whose lines are counted once. Answers how many they are.
+fn push_file(
     alloc: Global,
     out: &mut String,
     json: bool,
     module_path: &str,
     workspace: &Workspace,
-    fault: PlacedFault,
-) -> Result<(), AllocError>
-    requires { LiesIn workspace.now fault }
-    ensures { OnOk result (AddsLine json module_path.now workspace.now fault (string_bytes out.old) (string_bytes out.new)) }
+    faults: &[PlacedFault],
+) -> Result<usize, AllocError>
+    requires some { 0 < length faults.now }
+    requires inside { All (LiesIn workspace.now) faults.now }
+    ensures some { IfOk result (λ count. 0 < count) }
+    ensures within { IfOk result (λ count. count ≤ length faults.now) }
+    ensures added { IfOk result (λ count. AddsLines json module_path.now workspace.now (take count faults.now) (string_bytes out.old) (string_bytes out.new)) }
 {
-    let Some((path, source)) = source_of(workspace, fault) else {
+    let first = faults[0];
+    let Some((path, source)) = source_of(workspace, first) else {
         unreachable!()
     };
     let file = below(alloc, folder_of(module_path, path), source.name())?;
-    push_fault(alloc, out, json, path, file.as_str(), source.text(), fault)
+    let mut lines = LineCounter::new(source.text());
+    push_fault(alloc, out, json, path, file.as_str(), &mut lines, first)?;
+    for place in 1..faults.len() {
+        let fault = faults[place];
+        if !is_beside(fault, first) {
+            return Ok(place);
+        }
+        push_fault(alloc, out, json, path, file.as_str(), &mut lines, fault)?;
+    }
+    Ok(faults.len())
 }
 
 // Adds the faults of a workspace.
@@ -146,8 +167,10 @@ fn push_all(
     requires { All (LiesIn workspace.now) faults.now }
     ensures { OnOk result (AddsLines json module_path.now workspace.now faults.now (string_bytes out.old) (string_bytes out.new)) }
 {
-    for fault in faults {
-        push_placed(alloc, out, json, module_path, workspace, *fault)?;
+    let mut told = 0;
+    'turns: while told < faults.len() {
+        let (_, rest) = faults.split_at(told);
+        told += push_file(alloc, out, json, module_path, workspace, rest)?;
     }
     Ok(())
 }

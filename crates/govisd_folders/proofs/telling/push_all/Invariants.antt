@@ -1,7 +1,13 @@
-use Rattle.std.proofs.Common.{take}
+use Rattle.std.proofs.Common.{◌-◌, ◌≤◌, ℕ, length, take}
 use Rattle.std.specs.Prelude.{string_bytes}
 use Rattle.govisd_folders.specs.Telling.{AddsLines}
 use Rattle.govisd_folders.proofs.telling.push_all.Given as goal
 
-abbrev pub invariant-loop-fault : goal.invariant-loop-fault
-invariant-loop-fault l = AddsLines l.json l.module_path l.workspace (take l.fault-index l.faults) (string_bytes l.initial.out) (string_bytes l.out)
+abbrev pub invariant-turns : goal.invariant-turns
+invariant-turns l = record {
+  within : l.told ≤ length l.faults;
+  added : AddsLines l.json l.module_path l.workspace (take l.told l.faults) (string_bytes l.initial.out) (string_bytes l.out);
+}
+
+abbrev pub measure-turns : goal.measure-turns
+measure-turns l = length l.faults - l.told
