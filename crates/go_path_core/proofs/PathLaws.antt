@@ -5,8 +5,8 @@ use Rattle.std.proofs.lemmas.List.{append_assoc}
 use Rattle.std.proofs.lemmas.List.Elements.{All-head, All-tail}
 use Rattle.std.proofs.lemmas.List.Splits.{join_with_byte-slice_split}
 use Rattle.go_path_core.specs.Path.{elements, internal, IsPrefix}
-use Rattle.go_path_core.specs.Laws.{ElementsDecide, OpenToAll, LastInternalDecides, OneModuleOfAPath, PrefixByElements, hidden}
-use Rattle.go_path_core.proofs.Paths.{same_first, may_import_is}
+use Rattle.go_path_core.specs.Laws.{ElementsDecide, OpenToAll, LastInternalDecides, OneModuleOfAPath, PrefixByElements, OverlapIsDecided, hidden}
+use Rattle.go_path_core.proofs.Paths.{same_first, may_import_is, begins_is, or_both}
 
 pub elements_decide : ElementsDecide
 elements_decide s t h = sym (join_with_byte-slice_split 47 s) ∙ (ap (λ l. join_with_byte 47 l) h ∙ join_with_byte-slice_split 47 t)
@@ -69,3 +69,6 @@ prefix_by_elements = (
   (λ m. not_below (m (codes "ex.com" ∷ codes "a" ∷ []) (codes "x" ∷ []) refl)),
   (may_import_is (elements (codes "ex.com/a/b")) (elements hidden) true refl).0 refl,
 )
+
+pub overlap_is_decided : OverlapIsDecided
+overlap_is_decided a b = or_both _ _ (begins_is (elements a) (elements b)) (begins_is (elements b) (elements a))

@@ -9,7 +9,7 @@ use Rattle.std.proofs.lemmas.Bool.{and_parts, and_from, ltb-true, ltb-false}
 use Rattle.std.proofs.lemmas.Slice.Eq.{bytes_eq-Decides}
 use Rattle.go_text_core.proofs.Each.{true_or_false}
 use lib.Dec.{ltb}
-use Rattle.go_path_core.specs.Path.{elements, IsElement, internal, IsPrefix, MayImport}
+use Rattle.go_path_core.specs.Path.{elements, IsElement, internal, begins, IsPrefix, MayImport}
 use Rattle.go_path_core.specs.mirrors.Steps.{is_first, tail_of, has_internal, importable}
 
 -- what position says, in terms of where the first slash stands
@@ -145,3 +145,29 @@ unnot false h = cc
 
 pub or_is : {P Q : Type 0} (r s : Bool) → (r ≡ true → Q) × (Q → r ≡ true) → r ≡ false → (s ≡ true → P) × (P → s ≡ true) → (s ≡ true → P ⊎ Q) × (P ⊎ Q → s ≡ true)
 or_is {P} {Q} r s hr off hs = ((λ t. inl (hs.0 t)), (λ e. elim e [ inl p ↦ hs.1 p | inr q ↦ (let t : r ≡ true = hr.1 q in cc) ]))
+
+-- the test of a prefix says what it is
+pub begins_is : (a q : List (List ℕ)) → (begins a q ≡ true → IsPrefix a q) × (IsPrefix a q → begins a q ≡ true)
+begins_is [] q = ((λ h. (q, refl)), (λ h. refl))
+begins_is (e ∷ a) [] = ((λ h. cc), (λ h. let j : [] ≡ e ∷ (a ++ h.0) = h.1 in cc))
+begins_is (e ∷ a) (x ∷ q) =
+    let rest = begins_is a q in (
+      (λ h. let parts = and_parts (bytes_eq e x) (begins a q) h in (let same : e ≡ x = (bytes_eq-Decides e x).0 parts.0 in let tail = rest.0 parts.1 in (tail.0, (ap (λ l. x ∷ l) tail.1) ∙ ap (λ y. y ∷ (a ++ tail.0)) (sym same)))),
+      (λ h. let parts = same_first e x a q h in and_from (bytes_eq e x) (begins a q) ((bytes_eq-Decides e x).1 (sym parts.0)) (rest.1 parts.1)),
+    )
+
+-- a test that is true exactly where P or Q holds is the one or the other of their tests
+pub or_test : {P Q : Type 0} (r x y : Bool) → (x ≡ true → P) × (P → x ≡ true) → (y ≡ true → Q) × (Q → y ≡ true) → (r ≡ true → P ⊎ Q) × (P ⊎ Q → r ≡ true) → r ≡ (x || y)
+or_test {P} {Q} true true y hx hy h = refl
+or_test {P} {Q} true false true hx hy h = refl
+or_test {P} {Q} true false false hx hy h = elim (h.0 refl) [ inl p ↦ sym (hx.1 p) | inr q ↦ sym (hy.1 q) ]
+or_test {P} {Q} false true y hx hy h = h.1 (inl (hx.0 refl))
+or_test {P} {Q} false false true hx hy h = h.1 (inr (hy.0 refl))
+or_test {P} {Q} false false false hx hy h = refl
+
+pub or_both : {P Q : Type 0} (x y : Bool) → (x ≡ true → P) × (P → x ≡ true) → (y ≡ true → Q) × (Q → y ≡ true) → ((x || y) ≡ true → P ⊎ Q) × (P ⊎ Q → (x || y) ≡ true)
+or_both {P} {Q} true y hx hy = ((λ h. inl (hx.0 refl)), (λ h. refl))
+or_both {P} {Q} false y hx hy = ((λ h. inr (hy.0 h)), (λ h. elim h [ inl p ↦ (let t : false ≡ true = hx.1 p in cc) | inr q ↦ hy.1 q ]))
+
+pub second_is : (r : Bool) (a b : List (List ℕ)) → r ≡ true → IsPrefix b a → r ≡ (begins a b || begins b a)
+second_is r a b e h = e ∙ sym ((or_both _ _ (begins_is a b) (begins_is b a)).1 (inr h))

@@ -1,6 +1,6 @@
 -- Laws of paths, of the rule of internal directories, and of modules.
-use Rattle.std.specs.Prelude.{◌≡◌, ◌≢◌, ℕ, ◌⊎◌, ◌↔◌, List, ◌∷◌, ◌++◌, All, codes}
-use Rattle.go_path_core.specs.Path.{elements, internal, IsPrefix, MayImport}
+use Rattle.std.specs.Prelude.{◌≡◌, ◌≢◌, ℕ, ◌⊎◌, ◌↔◌, List, ◌∷◌, ◌++◌, All, IsTrue, codes}
+use Rattle.go_path_core.specs.Path.{elements, internal, overlap, IsPrefix, MayImport}
 
 -- two texts of the same elements are the same text
 abbrev pub ElementsDecide : Type 0
@@ -48,3 +48,7 @@ OverlapIsSymmetric = (a b : List (List ℕ)) → Overlap a b → Overlap b a
 -- a module overlaps itself
 abbrev pub OverlapIsReflexive : Type 0
 OverlapIsReflexive = (a : List (List ℕ)) → Overlap a a
+
+-- whether modules overlap is what the test of their elements says
+abbrev pub OverlapIsDecided : Type 0
+OverlapIsDecided = (a b : List ℕ) → IsTrue (overlap a b) ↔ Overlap (elements a) (elements b)

@@ -1,5 +1,5 @@
 //! Laws of paths, of the rule of internal directories, and of modules.
-ghost use Rattle.go_path_core.specs.Laws.{ElementsDecide, ImportsItself, OpenToAll, LastInternalDecides, BelowAnImporter, PrefixByElements, OneModuleOfAPath, OverlapIsSymmetric, OverlapIsReflexive};
+ghost use Rattle.go_path_core.specs.Laws.{ElementsDecide, ImportsItself, OpenToAll, LastInternalDecides, BelowAnImporter, PrefixByElements, OneModuleOfAPath, OverlapIsSymmetric, OverlapIsReflexive, OverlapIsDecided};
 
 /// Two texts of the same elements are the same text.
 pub fn elements_decide()
@@ -46,4 +46,9 @@ pub fn overlap_is_symmetric()
 /// A module overlaps itself.
 pub fn overlap_is_reflexive()
     ensures { OverlapIsReflexive }
+{}
+
+/// Whether modules overlap is what the test of their elements says.
+pub fn overlap_is_decided()
+    ensures { OverlapIsDecided }
 {}

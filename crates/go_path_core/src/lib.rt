@@ -16,7 +16,7 @@ mod path_text;
 pub use import_path::{ImportPath, PathText, may_import, may_import_text};
 pub use laws::{
     below_an_importer, elements_decide, every_path_imports_itself, last_internal_decides,
-    one_module_of_a_path, open_to_all, overlap_is_reflexive, overlap_is_symmetric,
-    prefix_by_elements,
+    one_module_of_a_path, open_to_all, overlap_is_decided, overlap_is_reflexive,
+    overlap_is_symmetric, prefix_by_elements,
 };
 pub use modules::{Module, overlaps};

@@ -1,16 +1,17 @@
 //! Modules, and the paths that lie in them.
 ghost use Rattle.std.specs.Prelude.{◌≡◌, ◌↔◌, ◌⊎◌, IfOk, IfErr, IsTrue};
-ghost use Rattle.go_path_core.specs.Path.{elements, IsPath, IsPrefix};
+ghost use Rattle.go_path_core.specs.Path.{elements, overlap, IsPath, IsPrefix};
 
 use crate::import_path::{ImportPath, PathText};
 use crate::path_text::{is_path, is_within};
 use go_text_core::Rule;
 use std::alloc::{AllocError, Global};
 use std::marker::Model;
+use std::sync::Arc;
 
-/// A well-formed module: the path under which its packages lie. Contracts see it as its bytes.
+/// A well-formed module: the path under which its packages lie, shared by all that hold it. Contracts see it as its bytes.
 pub struct Module {
-    text: String,
+    text: Arc<String>,
 }
 
 impl Drop for Module {
@@ -21,13 +22,14 @@ impl Drop for Module {
 
 impl Model for Module {
     ghost use Rattle.std.specs.Prelude.{List, ℕ, string_bytes};
+    ghost use Rattle.std.specs.Arc.{arc_value};
     ghost use Rattle.go_path_core.specs.Path.{IsPath};
 
     ghost Value = { List ℕ };
 
-    ghost view = { λ p. string_bytes p.text };
+    ghost view = { λ p. string_bytes (arc_value p.text) };
 
-    ghost invariant = { λ p. IsPath (string_bytes p.text) };
+    ghost invariant = { λ p. IsPath (string_bytes (arc_value p.text)) };
 }
 
 impl Module {
@@ -43,10 +45,20 @@ impl Module {
         if !is_path(text) {
             return Err(Rule::O2);
         }
-        match String::from_str(alloc, text) {
-            Ok(text) => Ok(Module { text }),
+        match Module::new(alloc, text) {
+            Ok(own) => Ok(own),
             Err(_) => Err(Rule::M0),
         }
+    }
+
+    // The module that is written so.
+    fn new(alloc: Global, text: &str) -> Result<Module, AllocError>
+        requires { IsPath text.now }
+        ensures { IfOk result (λ own. own ≡ text.now) }
+    {
+        Ok(Module {
+            text: Arc::new(alloc, String::from_str(alloc, text)?)?,
+        })
     }
 
     /// The module's path as it is written.
@@ -68,6 +80,26 @@ impl Module {
         ImportPath::new(alloc, &PathText::from_tested(self.as_str()))
     }
 
+    /// The same module once more. It takes no memory.
+    ///
+    /// # Errors
+    ///
+    /// `AllocError` where the module has too many owners.
+    pub fn share(&self) -> Result<Module, AllocError>
+        ensures { IfOk result (λ own. own ≡ self.now) }
+    {
+        Ok(Module {
+            text: Arc::try_clone(&self.text)?,
+        })
+    }
+
+    /// Whether two modules are written alike.
+    pub fn is_same(&self, other: &Module) -> bool
+        ensures { IsTrue result ↔ (self.now ≡ other.now) }
+    {
+        self.text.as_bytes() == other.text.as_bytes()
+    }
+
     /// Whether a path is the module's own or lies below it, by elements: `ex.com/ab` is not below `ex.com/a`.
     pub fn contains(&self, path: &ImportPath) -> bool
         ensures { IsTrue result ↔ IsPrefix (elements self.now) (elements path.now) }
@@ -78,9 +110,10 @@ impl Module {
 
 /// Whether one of two modules is the other or lies below it, by elements.
 pub fn overlaps(one: &Module, other: &Module) -> bool
-    ensures { IsTrue result ↔ (IsPrefix (elements one.now) (elements other.now) ⊎ IsPrefix (elements other.now) (elements one.now)) }
+    ensures exact { IsTrue result ↔ (IsPrefix (elements one.now) (elements other.now) ⊎ IsPrefix (elements other.now) (elements one.now)) }
+    ensures value { result ≡ overlap one.now other.now }
 {
-    let one = one.text.as_bytes();
-    let other = other.text.as_bytes();
+    let one = one.as_str().as_bytes();
+    let other = other.as_str().as_bytes();
     is_within(one, other) || is_within(other, one)
 }

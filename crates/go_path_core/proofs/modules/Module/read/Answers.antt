@@ -1,14 +1,11 @@
-use Rattle.std.proofs.Common.{ℕ, List, ◌≡◌, true, false, inl, inr, refl, subst, sym, ◌∙◌}
-use Rattle.go_path_core.specs.Path.{IsPath}
+use Rattle.std.proofs.Common.{◌≡◌, true, false, inl, inr, refl, sym, ◌∙◌}
 use Rattle.go_path_core.proofs.modules.Module.read.Goals as goal
 
-pub invariant_of-result : goal.invariant_of-result
-invariant_of-result c =
-    let P : List ℕ → Type 0 = λ text. IsPath text in
-    subst P (sym c.in-Ok.ensures.ok) (c.is_path.ensures.0 c.if-not-is_path.false)
+pub new-requires : goal.new-requires
+new-requires c = c.is_path.ensures.0 c.if-not-is_path.false
 
 pub returns-in-Ok-clause-ok : goal.returns-in-Ok-clause-ok
-returns-in-Ok-clause-ok c = (c.in-Ok.ensures.ok, c.is_path.ensures.0 c.if-not-is_path.false)
+returns-in-Ok-clause-ok c = (c.in-Ok.ensures, c.is_path.ensures.0 c.if-not-is_path.false)
 
 pub returns-in-Err-clause-err : goal.returns-in-Err-clause-err
 returns-in-Err-clause-err c = inl (refl, c.is_path.ensures.0 c.if-not-is_path.false)
