@@ -1,5 +1,5 @@
 -- Marks, and the search that makes them.
-use Rattle.std.proofs.Common.{◌≡◌, ℕ, ◌<◌, ◌+◌, ◌⊎◌, inl, inr, Bool, true, false, not, cond, List, [], ◌∷◌, ◌++◌, length, get_or, set, refl, sym, ◌∙◌, ap, subst, arith, Vec}
+use Rattle.std.proofs.Common.{◌≡◌, ℕ, ◌<◌, ◌+◌, ◌⊎◌, inl, inr, Bool, true, false, not, cond, List, [], ◌∷◌, ◌++◌, length, get_or, set, map, refl, sym, ◌∙◌, ap, subst, arith, Vec}
 use Rattle.std.specs.List.{Contains, count_by}
 use Rattle.std.specs.declared.alloc.Global.{Global}
 use Rattle.std.proofs.lemmas.List.{get_or-set_other, get_or-set_same, length_push}
@@ -7,10 +7,10 @@ use Rattle.std.proofs.lemmas.List.Elements.{All-contains, All-push, All-weaker, 
 use Rattle.std.proofs.lemmas.List.Sums.{sum_by-set}
 use Rattle.std.proofs.lemmas.Bool.{cases_eq}
 use Rattle.go_cycle_core.specs.declared.edge.Edge.{Edge}
-use Rattle.go_cycle_core.specs.Cycle.{Leads, Reaches}
+use Rattle.go_cycle_core.specs.Cycle.{Leads, LeadTo, Reaches, reversed}
 use Rattle.go_cycle_core.specs.mirrors.Search.{edge_at, row_at, AreRows, IsMarked, IsReach, IsVisited, MarksRow}
 use Rattle.go_cycle_core.proofs.Places.{edge_there, edge_found, none_in, in_row}
-use Rattle.go_cycle_core.proofs.Walks.{reaches_itself, reaches_on, reaches_end}
+use Rattle.go_cycle_core.proofs.Walks.{reaches_itself, reaches_on, reaches_end, reaches_back, reaches_other_way}
 
 -- marks after one more mark
 
@@ -144,3 +144,10 @@ search_ends g a marks stack none s v =
     let t : Searches g a marks [] = subst P none s in
     let closed : (e : Edge) → Contains g e → IsMarked marks e.from → IsMarked marks e.to = λ e there m. elim (t.ended e there m) [ inl k ↦ k | inr z ↦ absurd (none_in e.from z) ] in
     ((λ m. t.reached v m), (λ r. closed_along g marks closed r.0 a v r.1 t.first))
+
+-- marks on what a node reaches along the edges the other way are on what leads to it
+pub lead_to : (g back : List Edge) (b : ℕ) (marks : List Bool) → back ≡ map reversed g → IsReach back b marks → LeadTo g b marks
+lead_to g back b marks e h n =
+    let P : List Edge → Type 0 = λ l. IsReach l b marks in
+    let there = subst P e h n in
+    ((λ m. reaches_other_way g b n (there.0 m)), (λ r. there.1 (reaches_back g n b r)))

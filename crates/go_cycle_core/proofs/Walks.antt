@@ -99,3 +99,19 @@ reversed_in_range g n within k d lt =
     let P : Edge → Type 0 = λ e. (e.from < n) × (e.to < n) in
     let here = within k d lt' in
     subst P (sym same) (here.1, here.0)
+
+into_reversed : (g : List Edge) (e : Edge) → Contains g e → Contains (map reversed g) (reversed e)
+into_reversed g e h =
+    let same : get_or (map reversed g) h.0 (reversed e) ≡ reversed (get_or g h.0 e) = get_or-map reversed g h.0 e (reversed e) h.1 in
+    (h.0, omega (arith, length-map g reversed, h.1), same ∙ ap reversed h.2)
+
+leads_back_way : (g es : List Edge) (a b : ℕ) → Leads g es a b → Reaches (map reversed g) b a
+leads_back_way g [] a b h = (let P : ℕ → Type 0 = λ x. Reaches (map reversed g) b x in subst P (sym h) (reaches_itself (map reversed g) b))
+leads_back_way g (e ∷ es) a b h =
+    let rest : Reaches (map reversed g) b e.to = leads_back_way g es e.to b h.2 in
+    let last : Reaches (map reversed g) e.to e.from = reaches_end (map reversed g) (reversed e) (into_reversed g e h.0) in
+    let P : ℕ → Type 0 = λ x. Reaches (map reversed g) b x in
+    subst P h.1 (reaches_on (map reversed g) b e.to e.from rest last)
+
+pub reaches_back : (g : List Edge) (a b : ℕ) → Reaches g a b → Reaches (map reversed g) b a
+reaches_back g a b h = leads_back_way g h.0 a b h.1

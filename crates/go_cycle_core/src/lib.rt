@@ -23,3 +23,4 @@ pub use laws::{
     reach_stays_in_range,
 };
 pub use order::{Ranked, rank_and_order};
+pub use reach::leading_to;

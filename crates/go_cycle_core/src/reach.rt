@@ -1,9 +1,9 @@
-//! Ranks by what each node reaches.
+//! What nodes reach: ranks by how many each reaches, and marks on those that lead to one.
 ghost use Rattle.std.specs.Prelude.{◌≡◌, ◌<◌, ℕ, All, IfOk, OnOk, count_by, length, slice_index_or, false};
-ghost use Rattle.go_cycle_core.specs.Cycle.{InRange, IsRanking};
+ghost use Rattle.go_cycle_core.specs.Cycle.{InRange, IsRanking, LeadTo};
 ghost use Rattle.go_cycle_core.specs.mirrors.Search.{AreRows, IsReach, IsReachCount, IsVisited, MarksRow};
 
-use crate::edge::Edge;
+use crate::edge::{Edge, reversed_edges};
 use crate::rows::{row_of, rows_of};
 use std::alloc::{AllocError, Global};
 
@@ -101,4 +101,43 @@ pub fn ranks_by_reach(alloc: Global, edges: &[Edge], count: usize) -> Result<Vec
         ranks.push(reached_count(alloc, edges, &rows, start)?)?;
     }
     Ok(ranks)
+}
+
+// Marks the nodes that these edges, which are all the other way, lead to from one.
+fn marks_back(
+    alloc: Global,
+    back_edges: &[Edge],
+    count: usize,
+    to: usize,
+) -> Result<Vec<bool>, AllocError>
+    requires edges { InRange count back_edges.now }
+    requires to { to < count }
+    ensures len { IfOk result (λ marks. length marks.items ≡ count) }
+    ensures marks { IfOk result (λ marks. IsReach back_edges.now to marks.items) }
+{
+    let rows = rows_of(alloc, back_edges, count)?;
+    let mut marks = vec![in alloc; false; count]?;
+    mark_reached(alloc, back_edges, &rows, &mut marks, to)?;
+    Ok(marks)
+}
+
+/// Which nodes below a count lead to a node, by a list of these edges, which may be empty: so the node itself is one of
+/// them. The answer has a mark for each node below the count; the time is linear in nodes and edges.
+///
+/// # Errors
+///
+/// `AllocError` for want of memory.
+pub fn leading_to(
+    alloc: Global,
+    edges: &[Edge],
+    count: usize,
+    to: usize,
+) -> Result<Vec<bool>, AllocError>
+    requires edges { InRange count edges.now }
+    requires to { to < count }
+    ensures len { IfOk result (λ marks. length marks.items ≡ count) }
+    ensures marks { IfOk result (λ marks. LeadTo edges.now to marks.items) }
+{
+    let back_edges = reversed_edges(alloc, edges)?;
+    marks_back(alloc, &back_edges, count, to)
 }
