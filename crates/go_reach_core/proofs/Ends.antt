@@ -2,12 +2,14 @@
 use Rattle.std.proofs.Common.{◌≡◌, ◌↔◌, ℕ, ◌<◌, inl, inr, List, [], ◌∷◌, ◌++◌, length, get_or, set, map, Vec, All, Contains, sym, ◌∙◌, ap, subst, arith}
 use Rattle.std.specs.declared.alloc.Global.{Global}
 use Rattle.std.proofs.lemmas.Bool.{cases_eq}
-use Rattle.std.proofs.lemmas.List.{get_or-map, get_or-set_same, get_or-set_other, length-map, map-set}
+use Rattle.std.proofs.lemmas.List.{get_or-map, get_or-set_same, get_or-set_other, length-map, map-append, map-set}
 use Rattle.std.proofs.lemmas.List.Elements.{All-contains, Contains-append_left, Contains-get_or, Contains-push, Contains-push_cases}
+use Rattle.std.proofs.lemmas.Option.{get_or_from_slice_get}
 use Rattle.go_cycle_core.specs.declared.edge.Edge.{Edge}
-use Rattle.go_cycle_core.specs.Cycle.{InRange}
+use Rattle.go_cycle_core.specs.Cycle.{InRange, reversed}
 use Rattle.go_cycle_core.specs.mirrors.Search.{AreEmpty, row_at}
 use Rattle.go_cycle_core.proofs.Places.{none_in}
+use Rattle.go_reach_core.specs.Reach.{AreStarts}
 use Rattle.go_reach_core.specs.mirrors.Filling.{AreEnds}
 
 abbrev pub edge : ℕ → ℕ → Edge
@@ -61,3 +63,29 @@ ends_push g e rows row new lt read pushed old v j = elim (cases_eq v e.from) [
 -- the ends of edges are in the range of the edges
 pub row_below : (n : ℕ) (g : List Edge) (rows : List (Vec ℕ Global)) (v : ℕ) → InRange n g → AreEnds g rows → All (λ t. t < n) (row_at rows v)
 row_below n g rows v within are k d lt = (let t : ℕ = get_or (row_at rows v) k d in (All-contains (λ (e : Edge). (e.from < n) × (e.to < n)) g (edge v t) within ((are v t).0 (Contains-get_or (row_at rows v) k d lt))).1)
+
+-- the edges the other way
+
+turned : (g : List Edge) (e : Edge) → Contains (map reversed g) e → Contains g (reversed e)
+turned g e h =
+    let lt : h.0 < length g = omega (arith, length-map g reversed, h.1) in
+    let same : get_or (map reversed g) h.0 e ≡ reversed (get_or g h.0 (reversed e)) = get_or-map reversed g h.0 (reversed e) e lt in
+    let back : reversed (get_or g h.0 (reversed e)) ≡ e = sym same ∙ h.2 in
+    (h.0, lt, ap reversed back)
+
+turns : (g : List Edge) (e : Edge) → Contains g e → Contains (map reversed g) (reversed e)
+turns g e h = (h.0, omega (arith, length-map g reversed, h.1), get_or-map reversed g h.0 e (reversed e) h.1 ∙ ap reversed h.2)
+
+-- one edge more, and its start in the row of its end
+pub starts_push : (g : List Edge) (e : Edge) (rows : List (Vec ℕ Global)) (row new : Vec ℕ Global) → e.to < length rows → row ≡ get_or rows e.to row → new.items ≡ row.items ++ e.from ∷ [] → AreEnds (map reversed g) rows → AreEnds (map reversed (g ++ e ∷ [])) (set rows e.to new)
+starts_push g e rows row new lt read pushed old =
+    let P : List Edge → Type 0 = λ l. AreEnds l (set rows e.to new) in
+    subst P (sym (map-append reversed g (e ∷ []))) (ends_push (map reversed g) (reversed e) rows row new lt read pushed old)
+
+-- the ends of the edges the other way are the starts of the edges
+pub are_starts : (g : List Edge) (rows : List (Vec ℕ Global)) → AreEnds (map reversed g) rows → AreStarts g (map (λ r. r.items) rows)
+are_starts g rows are to row at from =
+    let P : List ℕ → Type 0 = λ l. Contains l from ↔ Contains g (edge from to) in
+    let same : row_at rows to ≡ row = get_or_from_slice_get (map (λ r. r.items) rows) to row [] at in
+    let both = are to from in
+    subst P same ((λ h. turned g (edge to from) (both.0 h)), (λ h. both.1 (turns g (edge from to) h)))

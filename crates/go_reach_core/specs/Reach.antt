@@ -22,3 +22,9 @@ EndsStandBefore edges order =
     (e : Edge) → Contains edges e
     → Contains order e.to
     × ((i j : ℕ) → i < length order → j < length order → slice_index order i ≡ e.from → slice_index order j ≡ e.to → j < i)
+
+-- the row of each node has the starts of the edges that end there, and nothing else
+abbrev pub AreStarts : List Edge → List (List ℕ) → Type 0
+AreStarts edges rows =
+    (to : ℕ) (row : List ℕ) → slice_get rows to ≡ Some row
+    → (from : ℕ) → Contains row from ↔ Contains edges (record { from = from; to = to })

@@ -1,8 +1,8 @@
 //! What the nodes of a graph reach.
-ghost use Rattle.std.specs.Prelude.{◌≡◌, ◌<◌, ◌≤◌, ℕ, All, IfOk, OnOk, MatchOption, Some, length, slice_get};
+ghost use Rattle.std.specs.Prelude.{◌≡◌, ◌<◌, ◌≤◌, ℕ, All, IfOk, OnOk, MatchOption, Some, length, map, slice_get};
 ghost use Rattle.go_cycle_core.specs.Cycle.{InRange};
 ghost use Rattle.go_cycle_core.specs.mirrors.Search.{AreEmpty};
-ghost use Rattle.go_reach_core.specs.Reach.{AreReachSets, EndsStandBefore};
+ghost use Rattle.go_reach_core.specs.Reach.{AreReachSets, AreStarts, EndsStandBefore};
 ghost use Rattle.go_reach_core.specs.mirrors.Filling.{AreEnds, AreMarksIn, Completes, EndsComeFirst, IsReachSetAt, IsUnion};
 
 use crate::numbers::NumberSet;
@@ -61,6 +61,24 @@ fn ends_of(alloc: Global, count: usize, edges: &[Edge]) -> Result<Vec<Vec<usize>
     for edge in edges {
         let row = &mut rows[edge.from];
         row.push(edge.to)?;
+    }
+    Ok(rows)
+}
+
+/// For each node below a count the nodes that edges lead to it from, once for each edge, in the order of the edges.
+///
+/// # Errors
+///
+/// `AllocError` for want of memory.
+pub fn starts_of(alloc: Global, count: usize, edges: &[Edge]) -> Result<Vec<Vec<usize>>, AllocError>
+    requires { InRange count edges.now }
+    ensures len { IfOk result (λ rows. length rows.items ≡ count) }
+    ensures rows { IfOk result (λ rows. AreStarts edges.now (map (λ r. r.items) rows.items)) }
+{
+    let mut rows = empty_rows(alloc, count)?;
+    for edge in edges {
+        let row = &mut rows[edge.to];
+        row.push(edge.from)?;
     }
     Ok(rows)
 }

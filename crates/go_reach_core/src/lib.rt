@@ -7,5 +7,5 @@
 mod graph;
 mod numbers;
 
-pub use graph::{Reached, find_reached};
+pub use graph::{Reached, find_reached, starts_of};
 pub use numbers::NumberSet;
