@@ -1,1 +1,2 @@
 pub mod SameTrees
+mod Unchanged

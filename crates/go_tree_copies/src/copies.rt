@@ -1,4 +1,4 @@
-//! Copies of names, types and expressions. The one error is want of memory.
+//! Copies of names, types and expressions, in which each identifier is spelled as the copier says. The one error is want of memory.
 //!
 //! Where memory runs out, what has been copied is dropped. The drop of an enum is written out in place, variant by variant, which
 //! is long to prove. So parts of a tree are copied by [`both`], which drops either, or lists and boxes before enums: their drop is
@@ -10,7 +10,9 @@ ghost use Rattle.go_tree_nodes.specs.declared.names.TextLiteral.{TextLiteral as 
 ghost use Rattle.go_tree_nodes.specs.Trees.{FieldTrees, Binary, Select};
 ghost use Rattle.go_tree_nodes.specs.TypeShapes as type_shapes;
 ghost use Rattle.go_tree_nodes.specs.Shapes as shapes;
+ghost use Rattle.go_tree_copies.specs.Respelled.{spelled, separated_with, some_with, names_with, type_name_with, type_with, fields_with, methods_with, signature_with, result_with, params_with, key_with, expr_with, items_with, exprs_with};
 
+use crate::copier::Copier;
 use go_text_core::{add, boxed};
 use go_tree_nodes::{
     BinaryExpr, CallExpr, Expr, Exprs, FieldLine, Fields, Ident, Idents, Item, Key, LiteralExpr,
@@ -42,24 +44,24 @@ pub(crate) fn both<A: Drop, B: Drop>(
     Ok((first?, second?))
 }
 
-/// A name that is spelled alike, with the same place.
-pub(crate) fn copy_ident(alloc: Global, ident: &Ident) -> Result<Ident, AllocError>
-    ensures { IfOk result (λ x. x ≡ ident.now) }
+/// The identifier with the spelling that it has in the copy, where it stands.
+pub(crate) fn copy_ident(copier: &Copier<'_>, ident: &Ident) -> Result<Ident, AllocError>
+    ensures { IfOk result (λ x. x ≡ spelled copier.now ident.now) }
 {
     Ok(Ident {
-        name: copied!(ident.name.copy(alloc)),
+        name: copied!(copier.copy_name(ident)),
         span: ident.span,
     })
 }
 
 /// The same names.
-pub(crate) fn copy_idents(alloc: Global, idents: &Idents) -> Result<Idents, AllocError>
-    ensures { IfOk result (λ x. type_shapes.shape_idents x ≡ type_shapes.shape_idents idents.now) }
+pub(crate) fn copy_idents(copier: &Copier<'_>, idents: &Idents) -> Result<Idents, AllocError>
+    ensures { IfOk result (λ x. type_shapes.shape_idents x ≡ separated_with (spelled copier.now) (type_shapes.shape_idents idents.now)) }
 {
-    let first = copied!(copy_ident(alloc, &idents.first));
-    let mut more = Vec::new(alloc);
+    let first = copied!(copy_ident(copier, &idents.first));
+    let mut more = Vec::new(copier.alloc);
     for next in &idents.more {
-        let ident = copied!(copy_ident(alloc, &next.ident));
+        let ident = copied!(copy_ident(copier, &next.ident));
         copied!(add(
             &mut more,
             NextIdent {
@@ -72,12 +74,15 @@ pub(crate) fn copy_idents(alloc: Global, idents: &Idents) -> Result<Idents, Allo
 }
 
 // The same names, where some stand.
-fn copy_some_idents(alloc: Global, idents: &Option<Idents>) -> Result<Option<Idents>, AllocError>
-    ensures { IfOk result (λ x. type_shapes.shape_names x ≡ type_shapes.shape_names idents.now) }
+fn copy_some_idents(
+    copier: &Copier<'_>,
+    idents: &Option<Idents>,
+) -> Result<Option<Idents>, AllocError>
+    ensures { IfOk result (λ x. type_shapes.shape_names x ≡ names_with (spelled copier.now) (type_shapes.shape_names idents.now)) }
 {
     match idents {
         None => Ok(None),
-        Some(idents) => Ok(Some(copied!(copy_idents(alloc, idents)))),
+        Some(idents) => Ok(Some(copied!(copy_idents(copier, idents)))),
     }
 }
 
@@ -102,14 +107,14 @@ fn copy_tag(alloc: Global, tag: &Option<TextLiteral>) -> Result<Option<TextLiter
 }
 
 /// The same name of a type.
-pub(crate) fn copy_type_name(alloc: Global, name: &TypeName) -> Result<TypeName, AllocError>
-    ensures { IfOk result (λ x. x ≡ name.now) }
+pub(crate) fn copy_type_name(copier: &Copier<'_>, name: &TypeName) -> Result<TypeName, AllocError>
+    ensures { IfOk result (λ x. x ≡ type_name_with (spelled copier.now) name.now) }
 {
     match name {
-        TypeName::Plain(ident) => Ok(TypeName::Plain(copied!(copy_ident(alloc, ident)))),
+        TypeName::Plain(ident) => Ok(TypeName::Plain(copied!(copy_ident(copier, ident)))),
         TypeName::Qualified(package, dot, ident) => {
-            let package = copy_ident(alloc, package);
-            let (package, ident) = copied!(both(package, copy_ident(alloc, ident)));
+            let package = copy_ident(copier, package);
+            let (package, ident) = copied!(both(package, copy_ident(copier, ident)));
             Ok(TypeName::Qualified(package, *dot, ident))
         }
     }
@@ -117,23 +122,23 @@ pub(crate) fn copy_type_name(alloc: Global, name: &TypeName) -> Result<TypeName,
 
 /// The same type.
 #[cycle(types)]
-pub(crate) fn copy_type(alloc: Global, type_expr: &TypeExpr) -> Result<TypeExpr, AllocError>
-    ensures { IfOk result (λ x. type_shapes.shape_type x ≡ type_shapes.shape_type type_expr.now) }
+pub(crate) fn copy_type(copier: &Copier<'_>, type_expr: &TypeExpr) -> Result<TypeExpr, AllocError>
+    ensures { IfOk result (λ x. type_shapes.shape_type x ≡ type_with (spelled copier.now) (type_shapes.shape_type type_expr.now)) }
 {
     match type_expr {
-        TypeExpr::Name(name) => Ok(TypeExpr::Name(copied!(copy_type_name(alloc, name)))),
+        TypeExpr::Name(name) => Ok(TypeExpr::Name(copied!(copy_type_name(copier, name)))),
         TypeExpr::Pointer(star, inner) => {
-            Ok(TypeExpr::Pointer(*star, copied!(copy_boxed_type(alloc, inner))))
+            Ok(TypeExpr::Pointer(*star, copied!(copy_boxed_type(copier, inner))))
         }
         TypeExpr::Paren(open, inner, close) => {
-            Ok(TypeExpr::Paren(*open, copied!(copy_boxed_type(alloc, inner)), *close))
+            Ok(TypeExpr::Paren(*open, copied!(copy_boxed_type(copier, inner)), *close))
         }
         TypeExpr::Struct(keyword, open, lines, close) => {
-            let lines = copied!(copy_field_lines(alloc, lines));
+            let lines = copied!(copy_field_lines(copier, lines));
             Ok(TypeExpr::Struct(*keyword, *open, lines, *close))
         }
         TypeExpr::Interface(keyword, open, methods, close) => {
-            let methods = copied!(copy_methods(alloc, methods));
+            let methods = copied!(copy_methods(copier, methods));
             Ok(TypeExpr::Interface(*keyword, *open, methods, *close))
         }
     }
@@ -141,26 +146,29 @@ pub(crate) fn copy_type(alloc: Global, type_expr: &TypeExpr) -> Result<TypeExpr,
 
 // The same type, in a box.
 #[cycle(types)]
-fn copy_boxed_type(alloc: Global, type_expr: &Box<TypeExpr>) -> Result<Box<TypeExpr>, AllocError>
-    ensures { IfOk result (λ x. type_shapes.shape_type x.value ≡ type_shapes.shape_type type_expr.now.value) }
+fn copy_boxed_type(
+    copier: &Copier<'_>,
+    type_expr: &Box<TypeExpr>,
+) -> Result<Box<TypeExpr>, AllocError>
+    ensures { IfOk result (λ x. type_shapes.shape_type x.value ≡ type_with (spelled copier.now) (type_shapes.shape_type type_expr.now.value)) }
 {
-    let copy = copied!(copy_type(alloc, type_expr));
-    boxed(alloc, copy)
+    let copy = copied!(copy_type(copier, type_expr));
+    boxed(copier.alloc, copy)
 }
 
 // The same fields of one line.
 #[cycle(types)]
-fn copy_fields(alloc: Global, fields: &Fields) -> Result<Fields, AllocError>
-    ensures { IfOk result (λ x. (tag : Option TheText) (semicolon : Option TheSpan) (rest : FieldTrees) → type_shapes.fields_before x tag semicolon rest ≡ type_shapes.fields_before fields.now tag semicolon rest) }
+fn copy_fields(copier: &Copier<'_>, fields: &Fields) -> Result<Fields, AllocError>
+    ensures { IfOk result (λ x. (tag : Option TheText) (semicolon : Option TheSpan) (rest : FieldTrees) → type_shapes.fields_before x tag semicolon (fields_with (spelled copier.now) rest) ≡ fields_with (spelled copier.now) (type_shapes.fields_before fields.now tag semicolon rest)) }
 {
     match fields {
         Fields::Named(names, type_expr) => {
-            let names = copy_idents(alloc, names);
-            let (names, type_expr) = copied!(both(names, copy_type(alloc, type_expr)));
+            let names = copy_idents(copier, names);
+            let (names, type_expr) = copied!(both(names, copy_type(copier, type_expr)));
             Ok(Fields::Named(names, type_expr))
         }
         Fields::Embedded(star, name) => {
-            let name = copied!(copy_type_name(alloc, name));
+            let name = copied!(copy_type_name(copier, name));
             Ok(Fields::Embedded(*star, name))
         }
     }
@@ -168,13 +176,16 @@ fn copy_fields(alloc: Global, fields: &Fields) -> Result<Fields, AllocError>
 
 // The same lines of a struct type.
 #[cycle(types)]
-fn copy_field_lines(alloc: Global, lines: &Vec<FieldLine>) -> Result<Vec<FieldLine>, AllocError>
-    ensures { IfOk result (λ x. type_shapes.fields_of x.items ≡ type_shapes.fields_of lines.now.items) }
+fn copy_field_lines(
+    copier: &Copier<'_>,
+    lines: &Vec<FieldLine>,
+) -> Result<Vec<FieldLine>, AllocError>
+    ensures { IfOk result (λ x. type_shapes.fields_of x.items ≡ fields_with (spelled copier.now) (type_shapes.fields_of lines.now.items)) }
 {
-    let mut copies = Vec::new(alloc);
+    let mut copies = Vec::new(copier.alloc);
     for line in lines {
-        let tag = copy_tag(alloc, &line.tag);
-        let (tag, fields) = copied!(both(tag, copy_fields(alloc, &line.fields)));
+        let tag = copy_tag(copier.alloc, &line.tag);
+        let (tag, fields) = copied!(both(tag, copy_fields(copier, &line.fields)));
         copied!(add(
             &mut copies,
             FieldLine {
@@ -189,13 +200,16 @@ fn copy_field_lines(alloc: Global, lines: &Vec<FieldLine>) -> Result<Vec<FieldLi
 
 // The same methods.
 #[cycle(types)]
-fn copy_methods(alloc: Global, methods: &Vec<MethodLine>) -> Result<Vec<MethodLine>, AllocError>
-    ensures { IfOk result (λ x. type_shapes.methods_of x.items ≡ type_shapes.methods_of methods.now.items) }
+fn copy_methods(
+    copier: &Copier<'_>,
+    methods: &Vec<MethodLine>,
+) -> Result<Vec<MethodLine>, AllocError>
+    ensures { IfOk result (λ x. type_shapes.methods_of x.items ≡ methods_with (spelled copier.now) (type_shapes.methods_of methods.now.items)) }
 {
-    let mut copies = Vec::new(alloc);
+    let mut copies = Vec::new(copier.alloc);
     for method in methods {
-        let name = copy_ident(alloc, &method.name);
-        let (name, signature) = copied!(both(name, copy_signature(alloc, &method.signature)));
+        let name = copy_ident(copier, &method.name);
+        let (name, signature) = copied!(both(name, copy_signature(copier, &method.signature)));
         copied!(add(
             &mut copies,
             MethodLine {
@@ -210,11 +224,14 @@ fn copy_methods(alloc: Global, methods: &Vec<MethodLine>) -> Result<Vec<MethodLi
 
 /// The same signature.
 #[cycle(types)]
-pub(crate) fn copy_signature(alloc: Global, signature: &Signature) -> Result<Signature, AllocError>
-    ensures { IfOk result (λ x. type_shapes.shape_signature x ≡ type_shapes.shape_signature signature.now) }
+pub(crate) fn copy_signature(
+    copier: &Copier<'_>,
+    signature: &Signature,
+) -> Result<Signature, AllocError>
+    ensures { IfOk result (λ x. type_shapes.shape_signature x ≡ signature_with (spelled copier.now) (type_shapes.shape_signature signature.now)) }
 {
-    let entries = copy_params(alloc, &signature.params.entries);
-    let (entries, results) = copied!(both(entries, copy_results(alloc, &signature.results)));
+    let entries = copy_params(copier, &signature.params.entries);
+    let (entries, results) = copied!(both(entries, copy_results(copier, &signature.results)));
     let params = Params {
         open: signature.params.open,
         entries,
@@ -225,16 +242,16 @@ pub(crate) fn copy_signature(alloc: Global, signature: &Signature) -> Result<Sig
 
 // The same results.
 #[cycle(types)]
-fn copy_results(alloc: Global, results: &Results) -> Result<Results, AllocError>
-    ensures { IfOk result (λ x. type_shapes.shape_results x ≡ type_shapes.shape_results results.now) }
+fn copy_results(copier: &Copier<'_>, results: &Results) -> Result<Results, AllocError>
+    ensures { IfOk result (λ x. type_shapes.shape_results x ≡ result_with (spelled copier.now) (type_shapes.shape_results results.now)) }
 {
     match results {
         Results::Nothing => Ok(Results::Nothing),
         Results::Single(type_expr) => {
-            Ok(Results::Single(copied!(copy_boxed_type(alloc, type_expr))))
+            Ok(Results::Single(copied!(copy_boxed_type(copier, type_expr))))
         }
         Results::Listed(params) => {
-            let entries = copied!(copy_params(alloc, &params.entries));
+            let entries = copied!(copy_params(copier, &params.entries));
             Ok(Results::Listed(Params {
                 open: params.open,
                 entries,
@@ -246,13 +263,13 @@ fn copy_results(alloc: Global, results: &Results) -> Result<Results, AllocError>
 
 // The same entries of a parameter list.
 #[cycle(types)]
-fn copy_params(alloc: Global, params: &Vec<Param>) -> Result<Vec<Param>, AllocError>
-    ensures { IfOk result (λ x. type_shapes.params_of x.items ≡ type_shapes.params_of params.now.items) }
+fn copy_params(copier: &Copier<'_>, params: &Vec<Param>) -> Result<Vec<Param>, AllocError>
+    ensures { IfOk result (λ x. type_shapes.params_of x.items ≡ params_with (spelled copier.now) (type_shapes.params_of params.now.items)) }
 {
-    let mut copies = Vec::new(alloc);
+    let mut copies = Vec::new(copier.alloc);
     for param in params {
-        let names = copy_some_idents(alloc, &param.names);
-        let (names, type_expr) = copied!(both(names, copy_type(alloc, &param.type_expr)));
+        let names = copy_some_idents(copier, &param.names);
+        let (names, type_expr) = copied!(both(names, copy_type(copier, &param.type_expr)));
         copied!(add(
             &mut copies,
             Param {
@@ -267,47 +284,47 @@ fn copy_params(alloc: Global, params: &Vec<Param>) -> Result<Vec<Param>, AllocEr
 
 /// The same expression.
 #[cycle(exprs)]
-pub(crate) fn copy_expr(alloc: Global, expr: &Expr) -> Result<Expr, AllocError>
-    ensures { IfOk result (λ x. shapes.shape x ≡ shapes.shape expr.now) }
+pub(crate) fn copy_expr(copier: &Copier<'_>, expr: &Expr) -> Result<Expr, AllocError>
+    ensures { IfOk result (λ x. shapes.shape x ≡ expr_with (spelled copier.now) (shapes.shape expr.now)) }
 {
     match expr {
         Expr::Integer(value, span) => Ok(Expr::Integer(*value, *span)),
-        Expr::Text(text) => Ok(Expr::Text(copied!(copy_text(alloc, text)))),
-        Expr::Name(ident) => Ok(Expr::Name(copied!(copy_ident(alloc, ident)))),
+        Expr::Text(text) => Ok(Expr::Text(copied!(copy_text(copier.alloc, text)))),
+        Expr::Name(ident) => Ok(Expr::Name(copied!(copy_ident(copier, ident)))),
         Expr::Paren(open, inner, close) => {
-            Ok(Expr::Paren(*open, copied!(copy_boxed(alloc, inner)), *close))
+            Ok(Expr::Paren(*open, copied!(copy_boxed(copier, inner)), *close))
         }
         Expr::Unary(operator, span, inner) => {
-            Ok(Expr::Unary(*operator, *span, copied!(copy_boxed(alloc, inner))))
+            Ok(Expr::Unary(*operator, *span, copied!(copy_boxed(copier, inner))))
         }
-        Expr::Binary(binary) => Ok(Expr::Binary(copied!(copy_binary(alloc, binary)))),
-        Expr::Select(select) => Ok(Expr::Select(copied!(copy_select(alloc, select)))),
-        Expr::Call(call) => Ok(Expr::Call(copied!(copy_call(alloc, call)))),
-        Expr::Literal(literal) => Ok(Expr::Literal(copied!(copy_literal(alloc, literal)))),
+        Expr::Binary(binary) => Ok(Expr::Binary(copied!(copy_binary(copier, binary)))),
+        Expr::Select(select) => Ok(Expr::Select(copied!(copy_select(copier, select)))),
+        Expr::Call(call) => Ok(Expr::Call(copied!(copy_call(copier, call)))),
+        Expr::Literal(literal) => Ok(Expr::Literal(copied!(copy_literal(copier, literal)))),
         Expr::StructLiteral(literal) => {
-            Ok(Expr::StructLiteral(copied!(copy_struct_literal(alloc, literal))))
+            Ok(Expr::StructLiteral(copied!(copy_struct_literal(copier, literal))))
         }
     }
 }
 
 /// The same expression, in a box.
 #[cycle(exprs)]
-pub(crate) fn copy_boxed(alloc: Global, expr: &Box<Expr>) -> Result<Box<Expr>, AllocError>
-    ensures { IfOk result (λ x. shapes.shape x.value ≡ shapes.shape expr.now.value) }
+pub(crate) fn copy_boxed(copier: &Copier<'_>, expr: &Box<Expr>) -> Result<Box<Expr>, AllocError>
+    ensures { IfOk result (λ x. shapes.shape x.value ≡ expr_with (spelled copier.now) (shapes.shape expr.now.value)) }
 {
-    let copy = copied!(copy_expr(alloc, expr));
-    boxed(alloc, copy)
+    let copy = copied!(copy_expr(copier, expr));
+    boxed(copier.alloc, copy)
 }
 
 // The same operator between the same operands.
 #[cycle(exprs)]
-fn copy_binary(alloc: Global, binary: &BinaryExpr) -> Result<Box<BinaryExpr>, AllocError>
-    ensures { IfOk result (λ x. Binary (shapes.shape x.value.left) x.value.operator x.value.span (shapes.shape x.value.right) ≡ Binary (shapes.shape binary.now.left) binary.now.operator binary.now.span (shapes.shape binary.now.right)) }
+fn copy_binary(copier: &Copier<'_>, binary: &BinaryExpr) -> Result<Box<BinaryExpr>, AllocError>
+    ensures { IfOk result (λ x. Binary (shapes.shape x.value.left) x.value.operator x.value.span (shapes.shape x.value.right) ≡ expr_with (spelled copier.now) (Binary (shapes.shape binary.now.left) binary.now.operator binary.now.span (shapes.shape binary.now.right))) }
 {
-    let left = copy_expr(alloc, &binary.left);
-    let (left, right) = copied!(both(left, copy_expr(alloc, &binary.right)));
+    let left = copy_expr(copier, &binary.left);
+    let (left, right) = copied!(both(left, copy_expr(copier, &binary.right)));
     boxed(
-        alloc,
+        copier.alloc,
         BinaryExpr {
             left,
             operator: binary.operator,
@@ -319,13 +336,13 @@ fn copy_binary(alloc: Global, binary: &BinaryExpr) -> Result<Box<BinaryExpr>, Al
 
 // The same selector.
 #[cycle(exprs)]
-fn copy_select(alloc: Global, select: &SelectExpr) -> Result<Box<SelectExpr>, AllocError>
-    ensures { IfOk result (λ x. Select (shapes.shape x.value.operand) x.value.dot x.value.name ≡ Select (shapes.shape select.now.operand) select.now.dot select.now.name) }
+fn copy_select(copier: &Copier<'_>, select: &SelectExpr) -> Result<Box<SelectExpr>, AllocError>
+    ensures { IfOk result (λ x. Select (shapes.shape x.value.operand) x.value.dot x.value.name ≡ expr_with (spelled copier.now) (Select (shapes.shape select.now.operand) select.now.dot select.now.name)) }
 {
-    let name = copy_ident(alloc, &select.name);
-    let (name, operand) = copied!(both(name, copy_expr(alloc, &select.operand)));
+    let name = copy_ident(copier, &select.name);
+    let (name, operand) = copied!(both(name, copy_expr(copier, &select.operand)));
     boxed(
-        alloc,
+        copier.alloc,
         SelectExpr {
             operand,
             dot: select.dot,
@@ -336,13 +353,13 @@ fn copy_select(alloc: Global, select: &SelectExpr) -> Result<Box<SelectExpr>, Al
 
 // The same call.
 #[cycle(exprs)]
-fn copy_call(alloc: Global, call: &CallExpr) -> Result<Box<CallExpr>, AllocError>
-    ensures { IfOk result (λ x. shapes.shape_call x.value ≡ shapes.shape_call call.now) }
+fn copy_call(copier: &Copier<'_>, call: &CallExpr) -> Result<Box<CallExpr>, AllocError>
+    ensures { IfOk result (λ x. shapes.shape_call x.value ≡ expr_with (spelled copier.now) (shapes.shape_call call.now)) }
 {
-    let args = copy_items(alloc, &call.args);
-    let (args, callee) = copied!(both(args, copy_expr(alloc, &call.callee)));
+    let args = copy_items(copier, &call.args);
+    let (args, callee) = copied!(both(args, copy_expr(copier, &call.callee)));
     boxed(
-        alloc,
+        copier.alloc,
         CallExpr {
             callee,
             open: call.open,
@@ -354,13 +371,13 @@ fn copy_call(alloc: Global, call: &CallExpr) -> Result<Box<CallExpr>, AllocError
 
 // The same literal of a named type.
 #[cycle(exprs)]
-fn copy_literal(alloc: Global, literal: &LiteralExpr) -> Result<Box<LiteralExpr>, AllocError>
-    ensures { IfOk result (λ x. shapes.shape_literal x.value ≡ shapes.shape_literal literal.now) }
+fn copy_literal(copier: &Copier<'_>, literal: &LiteralExpr) -> Result<Box<LiteralExpr>, AllocError>
+    ensures { IfOk result (λ x. shapes.shape_literal x.value ≡ expr_with (spelled copier.now) (shapes.shape_literal literal.now)) }
 {
-    let type_name = copy_type_name(alloc, &literal.type_name);
-    let (type_name, elements) = copied!(both(type_name, copy_items(alloc, &literal.elements)));
+    let type_name = copy_type_name(copier, &literal.type_name);
+    let (type_name, elements) = copied!(both(type_name, copy_items(copier, &literal.elements)));
     boxed(
-        alloc,
+        copier.alloc,
         LiteralExpr {
             type_name,
             open: literal.open,
@@ -373,15 +390,15 @@ fn copy_literal(alloc: Global, literal: &LiteralExpr) -> Result<Box<LiteralExpr>
 // The same literal of a struct type that is written out.
 #[cycle(exprs)]
 fn copy_struct_literal(
-    alloc: Global,
+    copier: &Copier<'_>,
     literal: &StructLiteralExpr,
 ) -> Result<Box<StructLiteralExpr>, AllocError>
-    ensures { IfOk result (λ x. shapes.shape_struct_literal x.value ≡ shapes.shape_struct_literal literal.now) }
+    ensures { IfOk result (λ x. shapes.shape_struct_literal x.value ≡ expr_with (spelled copier.now) (shapes.shape_struct_literal literal.now)) }
 {
-    let type_expr = copy_type(alloc, &literal.type_expr);
-    let (type_expr, elements) = copied!(both(type_expr, copy_items(alloc, &literal.elements)));
+    let type_expr = copy_type(copier, &literal.type_expr);
+    let (type_expr, elements) = copied!(both(type_expr, copy_items(copier, &literal.elements)));
     boxed(
-        alloc,
+        copier.alloc,
         StructLiteralExpr {
             type_expr,
             open: literal.open,
@@ -392,30 +409,33 @@ fn copy_struct_literal(
 }
 
 // The same key, where one stands.
-fn copy_key(alloc: Global, key: &Option<Box<Key>>) -> Result<Option<Box<Key>>, AllocError>
-    ensures { IfOk result (λ x. shapes.shape_key x ≡ shapes.shape_key key.now) }
+fn copy_key(copier: &Copier<'_>, key: &Option<Box<Key>>) -> Result<Option<Box<Key>>, AllocError>
+    ensures { IfOk result (λ x. shapes.shape_key x ≡ some_with (key_with (spelled copier.now)) (shapes.shape_key key.now)) }
 {
     match key {
         None => Ok(None),
         Some(key) => {
-            let name = copied!(copy_ident(alloc, &key.name));
+            let name = copied!(copy_ident(copier, &key.name));
             let copy = Key {
                 name,
                 colon: key.colon,
             };
-            Ok(Some(copied!(boxed(alloc, copy))))
+            Ok(Some(copied!(boxed(copier.alloc, copy))))
         }
     }
 }
 
 // The same arguments or elements.
 #[cycle(exprs)]
-fn copy_items(alloc: Global, items: &Vec<Item>) -> Result<Vec<Item>, AllocError>
-    ensures { IfOk result (λ x. shapes.items_of x.items ≡ shapes.items_of items.now.items) }
+fn copy_items(copier: &Copier<'_>, items: &Vec<Item>) -> Result<Vec<Item>, AllocError>
+    ensures { IfOk result (λ x. shapes.items_of x.items ≡ items_with (spelled copier.now) (shapes.items_of items.now.items)) }
 {
-    let mut copies = Vec::new(alloc);
+    let mut copies = Vec::new(copier.alloc);
     for item in items {
-        let (key, value) = copied!(both(copy_key(alloc, &item.key), copy_expr(alloc, &item.value)));
+        let (key, value) = copied!(both(
+            copy_key(copier, &item.key),
+            copy_expr(copier, &item.value)
+        ));
         copied!(add(
             &mut copies,
             Item {
@@ -429,12 +449,12 @@ fn copy_items(alloc: Global, items: &Vec<Item>) -> Result<Vec<Item>, AllocError>
 }
 
 /// The same expressions.
-pub(crate) fn copy_exprs(alloc: Global, exprs: &Exprs) -> Result<Exprs, AllocError>
-    ensures { IfOk result (λ x. shapes.shape_exprs x ≡ shapes.shape_exprs exprs.now) }
+pub(crate) fn copy_exprs(copier: &Copier<'_>, exprs: &Exprs) -> Result<Exprs, AllocError>
+    ensures { IfOk result (λ x. shapes.shape_exprs x ≡ exprs_with (spelled copier.now) (shapes.shape_exprs exprs.now)) }
 {
-    let mut more = Vec::new(alloc);
+    let mut more = Vec::new(copier.alloc);
     for next in &exprs.more {
-        let expr = copied!(copy_expr(alloc, &next.expr));
+        let expr = copied!(copy_expr(copier, &next.expr));
         copied!(add(
             &mut more,
             NextExpr {
@@ -443,6 +463,6 @@ pub(crate) fn copy_exprs(alloc: Global, exprs: &Exprs) -> Result<Exprs, AllocErr
             },
         ));
     }
-    let first = copied!(copy_expr(alloc, &exprs.first));
+    let first = copied!(copy_expr(copier, &exprs.first));
     Ok(Exprs { first, more })
 }
