@@ -1,5 +1,6 @@
 pub mod Adding
 pub mod Alike
+pub mod AnchorLemmas
 pub mod Declared
 pub mod OnePlace
 pub mod ListLemmas

@@ -1,3 +1,4 @@
+pub mod Anchors
 pub mod Bodies
 pub mod Embedded
 pub mod Laws

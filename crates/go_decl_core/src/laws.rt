@@ -1,4 +1,5 @@
 //! Laws of the identifiers that a file declares outside function bodies.
+ghost use Rattle.go_decl_core.specs.Anchors.{AnchorsAreOfDeclarations};
 ghost use Rattle.go_decl_core.specs.Laws.{NumbersArePlaces, PlacesAreOneToOne, BodiesDoNotCount, PlacesAreDeclared, OneKeyAPlace};
 ghost use Rattle.go_decl_core.specs.Sample.{SampleIsRight};
 
@@ -34,4 +35,9 @@ pub fn one_key_a_place()
 /// the numbers behind it are the same.
 pub fn sample_is_right()
     ensures { SampleIsRight }
+{}
+
+/// A law, with nothing to run: a file has one place to look for a doc comment for each of its declarations.
+pub fn anchors_are_of_declarations()
+    ensures { AnchorsAreOfDeclarations }
 {}

@@ -4,6 +4,7 @@
 //! outside function bodies: an edit of a body moves offsets, and leaves these numbers as they are.
 #![tactic(auto)]
 
+mod anchoring;
 mod expr_places;
 mod file_places;
 mod keys;
@@ -13,11 +14,12 @@ mod places;
 mod tops;
 mod type_places;
 
+pub use anchoring::{Anchor, anchors};
 pub use file_places::outline;
 pub use keys::{DeclKey, DeclRef, place_order};
 pub use laws::{
-    bodies_do_not_count, numbers_are_places, one_key_a_place, places_are_declared,
-    places_are_one_to_one, sample_is_right,
+    anchors_are_of_declarations, bodies_do_not_count, numbers_are_places, one_key_a_place,
+    places_are_declared, places_are_one_to_one, sample_is_right,
 };
 pub use places::{DeclKind, Place, Places};
 pub use tops::{DeclForm, Outline, TopDecl, kind_of_value};
