@@ -18,7 +18,7 @@ fn is_same_constant(one: &Constant, other: &Constant) -> bool
         (Constant::Unknown, Constant::Unknown) => true,
         (Constant::Int(z), Constant::Int(y)) => *z == *y,
         (Constant::Bool(b), Constant::Bool(c)) => *b == *c,
-        (Constant::Text(text), Constant::Text(bytes)) => text.as_bytes() == bytes.as_bytes(),
+        (Constant::Text(text), Constant::Text(bytes)) => text.is_same(bytes),
         _ => false,
     }
 }

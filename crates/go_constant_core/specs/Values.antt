@@ -1,5 +1,5 @@
 -- Values of constants, and what operators make of them.
-use Rattle.std.specs.Prelude.{ℕ, Bool, true, false, ◌&&◌, ◌||◌, not, nat_lt, nat_eq, ◌^◌, List, ◌++◌, length, ℤ, pos, negsuc, ◌+ℤ◌, ◌-ℤ◌, ◌*ℤ◌, neg_ℤ, int_div, int_rem, Option, Some, None, if◌then◌else◌}
+use Rattle.std.specs.Prelude.{ℕ, ⊤, ◌≤◌, Bool, true, false, ◌&&◌, ◌||◌, not, nat_lt, nat_eq, ◌^◌, List, ◌++◌, length, ℤ, pos, negsuc, ◌+ℤ◌, ◌-ℤ◌, ◌*ℤ◌, neg_ℤ, int_div, int_rem, Option, Some, None, if◌then◌else◌}
 use Rattle.std.specs.Str.{bytes_eq}
 use Rattle.std.specs.Ordering.{nat_cmp, is_lt}
 use Rattle.std.specs.Cmp.Lexicographic.{slice_cmp}
@@ -31,6 +31,10 @@ text_same a b = bytes_eq a b
 -- by bytes: at the first place where they differ, or where one ends
 abbrev pub text_less : List ℕ → List ℕ → Bool
 text_less a b = is_lt (slice_cmp nat_cmp a b)
+
+-- no text of a program has more bytes, and none is joined that would
+abbrev pub most_bytes : ℕ
+most_bytes = 2 ^ 20
 
 abbrev pub bool_same : Bool → Bool → Bool
 bool_same true b = b
@@ -90,6 +94,14 @@ binary op (constants.Bool a) (constants.Int b) = Some constants.Unknown
 binary op (constants.Bool a) (constants.Text b) = Some constants.Unknown
 binary op (constants.Bool a) constants.Unknown = Some constants.Unknown
 binary op constants.Unknown b = Some constants.Unknown
+
+-- a text has no more bytes than one of a program
+abbrev pub IsBounded : Option Constant → Type 0
+IsBounded (Some (constants.Text a)) = length a ≤ most_bytes
+IsBounded (Some (constants.Int z)) = ⊤
+IsBounded (Some (constants.Bool b)) = ⊤
+IsBounded (Some constants.Unknown) = ⊤
+IsBounded None = ⊤
 
 abbrev pub of_int : Operator → ℤ → Option Constant
 of_int operators.Plus a = Some (constants.Int a)

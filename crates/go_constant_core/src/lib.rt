@@ -1,13 +1,17 @@
 //! Values of constants: integers, booleans and texts, and what operators make of them.
 //!
 //! An integer constant has 64 bits with a sign: what lies outside is out of range, and whoever asks says by which rule. A text is
-//! bytes, shared by all constants that have it. The Go specification, "Constants", "Constant expressions", "Arithmetic operators",
+//! bytes, shared by all constants that have it, and by those that are joined of it. The Go specification, "Constants", "Constant expressions", "Arithmetic operators",
 //! "Comparison operators", "Logical operators", "String concatenation".
 #![tactic(auto)]
 
 mod ints;
+mod joints;
 mod laws;
+mod left;
 mod operators;
+mod parts;
+mod pieces;
 mod texts;
 mod values;
 

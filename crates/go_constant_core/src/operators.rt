@@ -1,5 +1,5 @@
 //! Operators on constants.
-ghost use Rattle.std.specs.Prelude.{◌≡◌, IfOk};
+ghost use Rattle.std.specs.Prelude.{◌≡◌, IfOk, OnOk};
 ghost use Rattle.go_constant_core.specs.Values as values;
 
 use crate::ints;
@@ -33,7 +33,8 @@ fn of_texts(
     a: &ConstantText,
     b: &ConstantText,
 ) -> Result<Constant, AllocError>
-    ensures { IfOk result (λ constant. constant ≡ values.of_texts operator a.now b.now) }
+    ensures value { IfOk result (λ constant. constant ≡ values.of_texts operator a.now b.now) }
+    ensures bounded { OnOk result (values.IsBounded (Some (values.of_texts operator a.now b.now))) }
 {
     match operator {
         Operator::Plus => Ok(Constant::Text(joined(alloc, a, b)?)),
@@ -63,19 +64,20 @@ fn of_bools(operator: Operator, a: bool, b: bool) -> Constant
 ///
 /// Integers have `+ - * / %`, of which `/` truncates toward zero, `== != < <= > >=`; texts `+`, which joins, and the comparisons, by
 /// bytes; booleans `&& || == !=`. The value is unknown where an operand is, where the two are not of one kind, where the operator is
-/// none of these, and for a division by 0: those who ask have refused all but the first. The Go specification, "Arithmetic operators",
+/// none of these, and for a division by 0: those who ask have refused all but the first. No text is joined of more than 1,048,576 bytes. The Go specification, "Arithmetic operators",
 /// "Integer operators", "String concatenation", "Comparison operators", "Logical operators".
 ///
 /// # Errors
 ///
-/// `AllocError` where memory is wanting for a joined text.
+/// `AllocError` where memory is wanting for a joined text, or where it would have more bytes than any text of a program.
 pub fn binary(
     alloc: Global,
     operator: Operator,
     a: &Constant,
     b: &Constant,
 ) -> Result<Option<Constant>, AllocError>
-    ensures { IfOk result (λ value. value ≡ values.binary operator a.now b.now) }
+    ensures value { IfOk result (λ value. value ≡ values.binary operator a.now b.now) }
+    ensures bounded { OnOk result (values.IsBounded (values.binary operator a.now b.now)) }
 {
     match a {
         Constant::Unknown => Ok(Some(Constant::Unknown)),

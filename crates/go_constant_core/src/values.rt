@@ -65,7 +65,7 @@ pub fn text_length(constant: &Constant) -> Constant
     ensures { result ≡ values.text_length constant.now }
 {
     match constant {
-        Constant::Text(text) => natural(text.as_bytes().len() as u64),
+        Constant::Text(text) => natural(text.len() as u64),
         Constant::Unknown | Constant::Int(_) | Constant::Bool(_) => Constant::Unknown,
     }
 }

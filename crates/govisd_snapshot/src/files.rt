@@ -18,7 +18,13 @@ fn add_value(out: &mut Lines, constant: &Constant) {
         Constant::Unknown => out.add("unknown"),
         Constant::Int(value) => out.show(*value),
         Constant::Bool(value) => out.add(if *value { "true" } else { "false" }),
-        Constant::Text(text) => return out.quote(text.as_bytes()),
+        Constant::Text(text) => {
+            let alloc = *out.text().allocator();
+            return match text.bytes(alloc) {
+                Ok(bytes) => out.quote(bytes.as_slice()),
+                Err(_) => out.cut(),
+            };
+        }
     }
     out.line("");
 }
