@@ -6,3 +6,4 @@ pub mod Meanings
 pub mod Local
 pub mod Short
 pub mod OnlyListing
+pub mod AlongPaths

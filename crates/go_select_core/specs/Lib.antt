@@ -1,4 +1,5 @@
 pub mod Selections
+pub mod PathNames
 pub mod Laws
 pub mod mirrors
 pub mod embed_core

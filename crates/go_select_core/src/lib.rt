@@ -4,10 +4,12 @@
 //! The Go specification, "Selectors", "Struct types".
 #![tactic(auto)]
 
+mod along;
 mod laws;
 mod listing;
 mod names;
 
+pub use along::path_names;
 pub use go_level_core::embed_core::{Member, Owner};
 pub use go_level_core::{EmbedPath, Selected, select, select_behind_pointer};
 pub use laws::{
