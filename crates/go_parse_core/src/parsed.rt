@@ -20,39 +20,46 @@ use go_parse_types::{Ahead, Stop};
 use go_scan_core::{comments, scan};
 use go_text_core::Rule;
 use go_token_core::{Comment, ScanError};
-use go_tree_core::copy;
 use go_tree_nodes::File;
 use std::alloc::{AllocError, Global};
 use std::marker::Model;
+use std::sync::Arc;
 
 /// The greatest height of the parts of a declaration of the package block. The declaration is one node
 /// above them, so that no tree is higher than 200.
 const PART_HEIGHT: u32 = 199;
 
-/// A text that has a tree of height at most 200, with that tree. Contracts see it as its text, of which it
-/// is the only tree.
-pub struct Parsed {
+/// A text and its tree.
+#[derive(Drop)]
+struct ParsedContent {
     text: String,
     tree: File,
 }
 
+/// A text that has a tree of height at most 200, with that tree. It is a handle: what is copied has one content. Contracts see it as
+/// its text, of which it is the only tree.
+pub struct Parsed {
+    content: Arc<ParsedContent>,
+}
+
 impl Drop for Parsed {
     fn drop(self) {
-        let Parsed { text: _, tree: _ } = self;
+        let Parsed { content: _ } = self;
     }
 }
 
 impl Model for Parsed {
     ghost use Rattle.std.specs.Prelude.{List, ℕ, string_bytes};
+    ghost use Rattle.std.specs.Arc.{arc_value};
 
     ghost Value = { List ℕ };
 
     ghost use Rattle.go_tree_nodes.specs.Shapes.{file_of};
     ghost use Rattle.go_parse_core.specs.Parsing.{IsParse};
 
-    ghost view = { λ p. string_bytes p.text };
+    ghost view = { λ p. string_bytes (arc_value p.content).text };
 
-    ghost invariant = { λ p. IsParse (string_bytes p.text) (file_of p.tree) };
+    ghost invariant = { λ p. IsParse (string_bytes (arc_value p.content).text) (file_of (arc_value p.content).tree) };
 }
 
 impl Parsed {
@@ -60,7 +67,7 @@ impl Parsed {
     pub fn text(&self) -> &str
         ensures { result.now ≡ self.now }
     {
-        self.text.as_str()
+        self.content.text.as_str()
     }
 
     /// The tree of the text. Its spans are in bytes of the text.
@@ -71,16 +78,20 @@ impl Parsed {
         ensures placed { InOrder 0 (spell_file (file_of result.now)) (length self.now) }
         ensures few { length (file_occs (file_of result.now)) < 2 ^ 64 }
     {
-        &self.tree
+        &self.content.tree
     }
 
-    /// An equal value. The one error is want of memory.
-    pub fn copy(&self, alloc: Global) -> Result<Parsed, AllocError>
+    /// An equal value, over the same text and tree. It takes no memory.
+    ///
+    /// # Errors
+    ///
+    /// `AllocError` where the text has too many owners.
+    pub fn copy(&self, _alloc: Global) -> Result<Parsed, AllocError>
         ensures { IfOk result (λ p. p ≡ self.now) }
     {
-        let text = String::from_str(alloc, self.text.as_str())?;
-        let tree = copy(alloc, &self.tree)?;
-        Ok(Parsed { text, tree })
+        Ok(Parsed {
+            content: Arc::try_clone(&self.content)?,
+        })
     }
 
     /// The comments of the text in their order, with their spans in bytes of the text. The one error is want
@@ -91,7 +102,7 @@ impl Parsed {
         ensures spans { IfOk result (λ v. CommentsInOrder 0 v.items (length self.now)) }
         ensures slices { IfOk result (λ v. All (CommentHasItsText self.now) v.items) }
     {
-        match comments(alloc, self.text.as_str()) {
+        match comments(alloc, self.content.text.as_str()) {
             Ok(comments) => Ok(comments),
             Err(ScanError::Memory) => Err(AllocError),
             // A text with a tree has tokens.
@@ -170,5 +181,8 @@ pub fn parse(alloc: Global, text: String) -> Result<Parsed, ParseError>
     ensures read { IsRefusedAsRead (string_bytes text) result }
 {
     let tree = tree_of(alloc, text.as_str())?;
-    Ok(Parsed { text, tree })
+    match Arc::new(alloc, ParsedContent { text, tree }) {
+        Ok(content) => Ok(Parsed { content }),
+        Err(_) => Err(ParseError::Memory),
+    }
 }
