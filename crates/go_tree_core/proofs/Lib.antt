@@ -1,6 +1,8 @@
+pub mod Counting
 pub mod Covering
 pub mod OccLemmas
 pub mod Order
 pub mod Pieces
+pub mod Respelling
 pub mod Telling
 pub mod Visits

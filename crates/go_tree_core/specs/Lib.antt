@@ -1,4 +1,5 @@
 pub mod Laws
 pub mod Names
 pub mod Occurrences
+pub mod Renaming
 pub mod mirrors

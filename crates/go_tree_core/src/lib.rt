@@ -1,11 +1,12 @@
 //! The tree of a Go file, and its occurrences: the identifiers that are used, the imports and the calls.
-//! [`occurrences`] lists them all, [`at`] answers which one stands at a place.
+//! [`occurrences`] lists them all, [`at`] answers which one stands at a place, [`renamed`] gives one another spelling.
 #![tactic(auto)]
 
 mod expr_occurrences;
 mod file_occurrences;
 mod laws;
 mod occurrence;
+mod renaming;
 mod seek;
 mod stmt_occurrences;
 mod type_occurrences;
@@ -23,7 +24,8 @@ pub use go_tree_nodes::{
 };
 pub use laws::{
     calls_are_occurrences, imports_are_occurrences, names_are_used_or_declared,
-    occurrences_are_written,
+    occurrences_are_written, respelled_files_write_the_same,
 };
 pub use occurrence::{Context, Occ, OccId, Role};
+pub use renaming::renamed;
 pub use seek::at;
