@@ -21,7 +21,7 @@ pub use lists::{check_exprs, is_list};
 pub use looks::Exprs;
 pub use names::check_type_name;
 pub use notes::{note_fault, note_member};
-pub use places::{is_call, start};
+pub use places::{is_call, is_name, left_place, start, whole};
 pub use things::{Notes, Use};
 pub use types::{check_signature, check_type};
 pub use walk::{check_called, check_expr, check_operand};

@@ -42,8 +42,8 @@ fn before_place(place: Stand) -> Stand
     }
 }
 
-/// Whether it is a name alone.
-pub(crate) fn is_name(expr: &Expr) -> bool
+/// Whether an expression is a name alone: a name in parentheses is none.
+pub fn is_name(expr: &Expr) -> bool
     ensures { result ≡ places.is_name (shape expr.now) }
 {
     match expr {
@@ -60,8 +60,11 @@ pub(crate) fn is_name(expr: &Expr) -> bool
     }
 }
 
-/// The place left of a dot.
-pub(crate) fn left_place(place: Stand, expr: &Expr) -> Stand
+/// The place of the expression left of the dot of a selector at a place: before a dot a name alone may be a package, and of a type it has to be
+/// one; anything else is an operand.
+///
+/// The Go specification, "Qualified identifiers", "Selectors".
+pub fn left_place(place: Stand, expr: &Expr) -> Stand
     ensures { result ≡ places.left_place place (shape expr.now) }
 {
     match expr {
@@ -78,8 +81,8 @@ pub(crate) fn left_place(place: Stand, expr: &Expr) -> Stand
     }
 }
 
-/// How a selector as a whole is used.
-pub(crate) fn whole(place: Stand) -> Usage
+/// How a selector at a place is used as a whole: as a type, as what is called, or as a value.
+pub fn whole(place: Stand) -> Usage
     ensures { result ≡ places.whole place }
 {
     match place {

@@ -44,8 +44,9 @@ fn meaning_of<M: Meant>(locals: &[M], found: InScope) -> Result<Option<M>, Alloc
 }
 
 impl<'a, M> OpenNames<'a, M> {
-    /// Those of the open blocks, where each local means what stands at its number.
-    pub(crate) fn at(scopes: &'a Scopes<'a>, locals: &'a [M]) -> Self
+    /// Those of the open blocks of a function, then of the file, the package and the universe, where each local means what stands at its number.
+    /// A local whose number is that of none of these means nothing.
+    pub fn at(scopes: &'a Scopes<'a>, locals: &'a [M]) -> Self
         ensures scopes { result.scopes.now ≡ scopes.now }
         ensures locals { result.locals.now ≡ locals.now }
     {
