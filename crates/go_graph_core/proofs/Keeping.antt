@@ -4,14 +4,11 @@ use Rattle.std.specs.List.{AllByRecursion, filter}
 use Rattle.std.specs.List.Sorted.{IsStrictlySortedBy, IsPermutation}
 use Rattle.std.specs.Ordering.{match_ordering, is_eq}
 use Rattle.std.specs.Cmp.{both_ways}
-use Rattle.std.specs.Bool.{Decides}
-use Rattle.std.specs.Str.{bytes_eq}
 use Rattle.std.specs.declared.cmp.Ordering.{Ordering}
 use Rattle.std.specs.declared.cmp.Ordering.TheVariants.{Less, Equal, Greater}
 use Rattle.std.specs.Result.{OnErr}
 use Rattle.std.specs.BTreeMap.{insert_entry, is_at}
 use Rattle.std.specs.Map.{keys_of, remove_entry}
-use Rattle.std.proofs.lemmas.Bool.{and_parts, and_from}
 use Rattle.std.proofs.lemmas.Cmp.{nat_list_cmp_total, eq_by_cmp_equiv}
 use Rattle.std.proofs.lemmas.List.Elements.{All-cons, All-head, All-tail}
 use Rattle.std.proofs.lemmas.List.Sorted.{length_permutation}
@@ -24,8 +21,9 @@ use Rattle.std.specs.declared.string.String.{String}
 use lib.Dec.{eqb}
 use Rattle.go_text_core.proofs.Each.{true_or_false}
 use Rattle.go_path_core.specs.Path.{elements, IsPath, IsPrefix}
+use Rattle.go_path_core.proofs.Paths.{begins_is}
 use Rattle.go_graph_core.specs.Sources.{SourceModel}
-use Rattle.go_graph_core.specs.Workspaces.{PackageModel, by_bytes, files_at, IsWorkspace, IsPackage, AreAllRead, AreReadFrom, given_files, Puts, begins, is_path_inside, packages_inside, packages_outside, put_all, replaced, Replaces}
+use Rattle.go_graph_core.specs.Workspaces.{PackageModel, by_bytes, files_at, IsWorkspace, IsPackage, AreAllRead, AreReadFrom, given_files, Puts, is_path_inside, packages_inside, packages_outside, put_all, replaced, Replaces}
 use Rattle.go_graph_core.proofs.Contents.{placed_content}
 use Rattle.go_graph_core.proofs.Places.{IsOrdered, turned, equal_texts, same_text}
 
@@ -235,23 +233,8 @@ found_all base (p ∷ ps) a ordered =
 
 -- prefixes
 
-same_start : (e x : List ℕ) (a q : List (List ℕ)) → IsPrefix (e ∷ a) (x ∷ q) → (e ≡ x) × IsPrefix a q
-same_start e x a q h =
-    let first : e ≡ x = sym (ap (λ (l : List (List ℕ)). elim l [ [] ↦ x | y ∷ ys ↦ y ]) h.1) in
-    let more : q ≡ a ++ h.0 = ap (λ (l : List (List ℕ)). elim l [ [] ↦ q | y ∷ ys ↦ ys ]) h.1 in
-    (first, (h.0, more))
-
-pub begins-Decides : (a q : List (List ℕ)) → Decides (begins a q) (IsPrefix a q)
-begins-Decides [] q = ((λ h. (q, refl)), (λ h. refl))
-begins-Decides (e ∷ a) [] = ((λ h. cc), (λ h. let j : [] ≡ e ∷ (a ++ h.0) = h.1 in cc))
-begins-Decides (e ∷ a) (x ∷ q) =
-    let rest = begins-Decides a q in (
-      (λ h. let parts = and_parts (bytes_eq e x) (begins a q) h in let tail = rest.0 parts.1 in (tail.0, (λ i. sym ((bytes_eq-Decides e x).0 parts.0) i ∷ tail.1 i))),
-      (λ h. let parts = same_start e x a q h in and_from (bytes_eq e x) (begins a q) ((bytes_eq-Decides e x).1 parts.0) (rest.1 parts.1)),
-    )
-
 pub tests_inside : (own path : List ℕ) (b : Bool) → (b ≡ true → IsPrefix (elements own) (elements path)) → (IsPrefix (elements own) (elements path) → b ≡ true) → b ≡ is_path_inside own path
-tests_inside own path b to from = both_ways b (is_path_inside own path) (λ h. (begins-Decides (elements own) (elements path)).1 (to h)) (λ h. from ((begins-Decides (elements own) (elements path)).0 h))
+tests_inside own path b to from = both_ways b (is_path_inside own path) (λ h. (begins_is (elements own) (elements path)).1 (to h)) (λ h. from ((begins_is (elements own) (elements path)).0 h))
 
 -- what put and replace say
 
@@ -278,9 +261,9 @@ put_some old path given new (f ∷ fs) read some e = record {
 pub replaces : (own : List ℕ) (old from new : List PackageModel) → IsOrdered from → new ≡ replaced own old from → Replaces own old from new
 replaces own old from new ordered e = record {
   packages = e;
-  here = λ path pre. let test : is_path_inside own path ≡ true = (begins-Decides (elements own) (elements path)).1 pre in found path true test;
+  here = λ path pre. let test : is_path_inside own path ≡ true = (begins_is (elements own) (elements path)).1 pre in found path true test;
   others = λ path never. found path false (elim (true_or_false (is_path_inside own path)) [
-    | inl y ↦ absurd (never ((begins-Decides (elements own) (elements path)).0 y))
+    | inl y ↦ absurd (never ((begins_is (elements own) (elements path)).0 y))
     | inr n ↦ n
   ]);
 }

@@ -15,6 +15,7 @@ use Rattle.std.proofs.lemmas.Str.{IsUtf8-from_ascii}
 use Rattle.go_path_core.specs.Path.{elements, IsPath, IsElement, IsPathByte}
 use Rattle.go_graph_core.specs.Sources.{SourceModel}
 use Rattle.go_graph_core.specs.Workspaces.{PackageModel, by_bytes, IsWorkspace}
+use Rattle.go_graph_core.specs.ImportLaws.{HasOneNumber, HasOnePackage}
 use Rattle.go_graph_core.specs.Imports.{IsNumbered, HasNoPackage}
 use Rattle.go_graph_core.proofs.Assemblies.{none_passes}
 use Rattle.go_graph_core.proofs.Places.{same_text, some_item, path_below}
@@ -33,6 +34,21 @@ one_number ps path i j f g well a b lt =
     let same : by_bytes path path ≡ Equal = same_text path in
     let here : by_bytes path path ≡ Less = subst (λ (p : PackageModel). by_bytes path p.0 ≡ Less) y (subst (λ (p : PackageModel). by_bytes p.0 (get_or ps j d).0 ≡ Less) x less) in
     let no : Less ≡ Equal = sym here ∙ same in cc
+
+pub has_one_number : HasOneNumber
+has_one_number ps path i j f g well a b = elim (cases_lt i j) [
+  | inl lt ↦ absurd (one_number ps path i j f g well a b lt)
+  | inr ge ↦ elim (cases_lt j i) [
+    | inl lt ↦ absurd (one_number ps path j i g f well b a lt)
+    | inr le ↦ omega (arith, ge, le)
+  ]
+]
+
+pub has_one_package : HasOnePackage
+has_one_package ps path other i f g a b =
+    let same : ◌≡◌ {A = Option PackageModel} (Some (path, f)) (Some (other, g)) = sym a ∙ b in
+    let pair : ◌≡◌ {A = PackageModel} (path, f) (other, g) = cc in
+    (ap (λ (p : PackageModel). p.0) pair, ap (λ (p : PackageModel). p.1) pair)
 
 -- the number of a path's package, where a search through the paths finds it
 pub number_of_position : (ps : List PackageModel) (keys : List (List ℕ)) (text path : List ℕ) (r : Option ℕ) → keys ≡ keys_of ps → text ≡ path → r ≡ position (bytes_eq text) keys → MatchOption r (HasNoPackage ps path) (IsNumber ps path)

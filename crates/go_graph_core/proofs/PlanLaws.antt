@@ -13,7 +13,7 @@ use Rattle.go_graph_core.specs.Sources.{SourceModel}
 use Rattle.go_graph_core.specs.Workspaces.{PackageModel, IsPackage, IsWorkspace}
 use Rattle.go_graph_core.specs.Imports.{IsNoImport, IsJudged, IsOutcome, IsEdge, import_texts, edge}
 use Rattle.go_graph_core.specs.ImportLaws.{HasPlan}
-use Rattle.go_graph_core.specs.Plans.{plan_of}
+use Rattle.go_graph_core.specs.Plans.{plan_with}
 use Rattle.go_graph_core.specs.mirrors.Targets.{IsStanding, HaveStandings, is_assembled}
 use Rattle.go_graph_core.proofs.Orders.{has_order}
 use Rattle.go_graph_core.proofs.OutcomeLaws.{has_target, stands}
@@ -107,7 +107,7 @@ has_plan ps well =
     let standings = standings_of ps well.packages in
     let all = all_outcomes ps well in
     let sound : ℕ → Bool = is_assembled standings.0 in (
-      plan_of all.0 (filter sound order.0),
+      plan_with all.0 (filter sound order.0) g,
       record {
         many = as_many_partners ps (PackageHas ps) all.0 all.1;
         outcomes = λ at. by_package ps at (slice_get all.0 at.«package») (all.1 at.«package»);
@@ -117,5 +117,6 @@ has_plan ps well =
             let e : Edge = edge at.«package» i in
             let is : IsEdge ps e = record { at = at; q = outcome.q; text = outcome.text; there = outcome.there; from = refl; target = outcome.judged.0 } in
             order_after g order.0 sound e order.2 ((edges.1 e).0 is) (λ on. outcome.judged.1 (g, are, on)) j k lj lk x y;
+        edges = λ e. ((edges.1 e).1, (edges.1 e).0);
       },
     )

@@ -13,8 +13,8 @@ use Rattle.go_graph_core.specs.declared.imports.Standing.{Standing}
 use Rattle.go_graph_core.specs.Workspaces.{PackageModel, IsWorkspace}
 use Rattle.go_graph_core.specs.Imports.{IsTarget, IsNoImport, IsJudged, IsOutcome, IsEdge, edge}
 use Rattle.go_graph_core.specs.mirrors.Targets.{HaveStandings, AreTargets, ArePackageTargets, AreSettled, AreAllSettled, IsSettled, edges_from, is_assembled}
-use Rattle.go_graph_core.specs.Plans.{IsPlan, plan_of, outcome_at, outcomes_shown}
-use Rattle.go_graph_core.proofs.PlanEdges.{edge_at, import_back, import_on, has_edge, on_cycle, from_cycle}
+use Rattle.go_graph_core.specs.Plans.{IsPlan, plan_with, outcome_at, outcomes_shown}
+use Rattle.go_graph_core.proofs.PlanEdges.{edge_at, import_back, import_on, is_edge, has_edge, on_cycle, from_cycle}
 use Rattle.go_graph_core.proofs.PlanOrder.{order_once, order_each, order_after}
 use Rattle.go_graph_core.proofs.Zips.{zip_at, zip_back, zip_length, numbered_at, numbered_back, numbered_length}
 
@@ -88,7 +88,7 @@ at_place : {S : Type 0} (ps : List PackageModel) (ts outs : List (Packages S)) (
 at_place ps ts outs ranks at None well are ranking settled e = none_of ps ts outs ranks at are settled e
 at_place ps ts outs ranks at (Some o) well are ranking settled e = outcome_of ps ts outs ranks at o well are ranking settled e
 
-pub planned : {S : Type 0} (ps : List PackageModel) (standings : List Standing) (ts outs : List (Packages S)) (ranks numbers : List ℕ) → IsWorkspace ps → HaveStandings ps standings → AreTargets ps ts → IsRanking (edges_from 0 ts) ranks → IsPermutation (range_with_len 0 (length ps)) numbers → IsAfter (edges_from 0 ts) numbers → AreAllSettled ranks ts outs → IsPlan ps (plan_of (outcomes_shown outs) (filter (is_assembled standings) numbers))
+pub planned : {S : Type 0} (ps : List PackageModel) (standings : List Standing) (ts outs : List (Packages S)) (ranks numbers : List ℕ) → IsWorkspace ps → HaveStandings ps standings → AreTargets ps ts → IsRanking (edges_from 0 ts) ranks → IsPermutation (range_with_len 0 (length ps)) numbers → IsAfter (edges_from 0 ts) numbers → AreAllSettled ranks ts outs → IsPlan ps (plan_with (outcomes_shown outs) (filter (is_assembled standings) numbers) (edges_from 0 ts))
 planned ps standings ts outs ranks numbers well have are ranking same after settled = record {
   many = length-map outs (λ p. map (λ f. f.items) p.items) ∙ (sym (numbered_length (λ k ts os. AreSettled ranks k ts.items os.items) 0 ts outs settled) ∙ sym (zip_length (λ p os. ArePackageTargets ps p os.items) ps ts are));
   outcomes = λ at. at_place ps ts outs ranks at (outcome_at (outcomes_shown outs) at) well are ranking settled refl;
@@ -98,4 +98,5 @@ planned ps standings ts outs ranks numbers well have are ranking same after sett
       let e : Edge = edge at.«package» i in
       let is : IsEdge ps e = record { at = at; q = outcome.q; text = outcome.text; there = outcome.there; from = refl; target = outcome.judged.0 } in
       order_after (edges_from 0 ts) numbers (is_assembled standings) e after (has_edge ps ts e well are is) (λ on. outcome.judged.1 (on_cycle ps ts e are on)) j k lj lk x y;
+  edges = λ e. ((λ h. is_edge ps ts e are h), (λ h. has_edge ps ts e well are h));
 }

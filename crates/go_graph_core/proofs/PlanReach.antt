@@ -1,5 +1,5 @@
 -- What packages reach by passing imports.
-use Rattle.std.proofs.Common.{◌≡◌, ◌<◌, ℕ, List, length, get_or, map, All, Some, MatchOption, Result, Ok, Err, sym, ◌∙◌, subst, arith}
+use Rattle.std.proofs.Common.{◌≡◌, ◌<◌, ℕ, List, [], length, get_or, map, All, Some, MatchOption, Result, Ok, Err, sym, ◌∙◌, subst, arith}
 use Rattle.std.specs.List.{Contains}
 use Rattle.std.specs.Prelude.{IfOk}
 use Rattle.std.proofs.lemmas.List.{length-map}
@@ -9,13 +9,13 @@ use Rattle.go_cycle_core.specs.declared.edge.Edge.{Edge}
 use Rattle.go_cycle_core.specs.Cycle.{InRange}
 use Rattle.go_cycle_core.proofs.Walks.{by_more}
 use Rattle.go_reach_core.specs.Numbers.{Numbers}
-use Rattle.go_reach_core.specs.Reach.{ReachesByEdges, AreReachSets, EndsStandBefore}
+use Rattle.go_reach_core.specs.Reach.{ReachesByEdges, AreReachSets, AreStarts, EndsStandBefore}
 use Rattle.go_graph_core.specs.declared.imports.ImportAt.{ImportAt}
 use Rattle.go_graph_core.specs.declared.imports.ImportOutcome.{ImportOutcome}
 use Rattle.go_graph_core.specs.declared.imports.ImportOutcome.TheVariants.{Package}
 use Rattle.go_graph_core.specs.Workspaces.{PackageModel}
-use Rattle.go_graph_core.specs.Imports.{IsNoImport, IsOutcome, edge}
-use Rattle.go_graph_core.specs.Plans.{PlanModel, IsPlan, IsOrderly, IsPassing, AreReached, IsAssembledAt, plan_of, outcome_at, outcomes_shown}
+use Rattle.go_graph_core.specs.Imports.{IsNoImport, IsOutcome, IsEdge, edge}
+use Rattle.go_graph_core.specs.Plans.{PlanModel, IsPlan, IsOrderly, IsPassing, AreReached, AreImporters, IsAssembledAt, plan_of, outcome_at, outcomes_shown}
 use Rattle.go_graph_core.specs.mirrors.Targets.{edges_from}
 use Rattle.go_graph_core.proofs.PlanEdges.{Targets, edge_at, edge_from}
 use Rattle.go_graph_core.proofs.PlanLemmas.{shown, shows}
@@ -25,7 +25,7 @@ planned_at : (ps : List PackageModel) (plan : PlanModel) (at : ImportAt) (o : Im
 planned_at ps plan at o h e = subst (λ r. MatchOption r (IsNoImport ps at) (IsOutcome ps at)) e (h.outcomes at)
 
 -- a plan is in an order
-pub orderly : (ps : List PackageModel) (plan : PlanModel) → IsPlan ps plan → IsOrderly plan
+pub orderly : (ps : List PackageModel) (plan : PlanModel) → IsPlan ps plan → IsOrderly (plan_of plan.outcomes plan.order)
 orderly ps plan h = record {
   within = λ k d lt.
       let there = (h.each (get_or plan.order k d)).0 (Contains-get_or plan.order k d lt) in
@@ -39,6 +39,17 @@ orderly ps plan h = record {
       let there : IsAssembledAt ps e.to = (outcome.text, found.files, found.numbered, found.library.0) in
       ((h.each e.to).1 there, λ j k lj lk x y. h.after at e.to outcome j k lj lk (x ∙ sym passes.1) y);
 }
+
+-- the edges of a plan join packages
+pub edges_range : (ps : List PackageModel) (plan : PlanModel) → IsPlan ps plan → InRange (length plan.outcomes) plan.edges
+edges_range ps plan h k d lt =
+    let e : Edge = get_or plan.edges k d in
+    let is : IsEdge ps e = (h.edges e).0 (Contains-get_or plan.edges k d lt) in
+    let a : is.at.«package» < length ps = slice_get_within ps is.at.«package» (is.q, is.there.files) is.there.numbered in
+    let b : e.to < length ps = slice_get_within ps e.to (is.text, is.target.files) is.target.numbered in
+    let many = h.many in
+    let c : e.from < length plan.outcomes = omega (arith, a, is.from, many) in
+    (c, omega (arith, b, many))
 
 -- the edges of outcomes are the passing imports
 
@@ -83,6 +94,13 @@ pub are_reached : {S : Type 0} (outs : List (Targets S)) (order : List ℕ) (set
 are_reached outs order sets h i set at j = (
   (λ m. (edges_from 0 outs, (λ k d lt. passes outs order (get_or (edges_from 0 outs) k d) (Contains-get_or (edges_from 0 outs) k d lt)), (h i set at j).0 m)),
   (λ r. (h i set at j).1 (more_reach r.0 (edges_from 0 outs) (λ k d lt. has_passing outs order (get_or r.0 k d) (r.1 k d lt)) i j r.2)),
+)
+
+-- the starts of the edges of outcomes are the packages whose passing imports come to each
+pub are_importers : {S : Type 0} (outs : List (Targets S)) (rows : List (List ℕ)) → AreStarts (edges_from 0 outs) rows → AreImporters (plan_for outs []) rows
+are_importers outs rows h to row at from = (
+  (λ m. passes outs [] (edge from to) ((h to row at from).0 m)),
+  (λ p. (h to row at from).1 (has_passing outs [] (edge from to) p)),
 )
 
 -- what holds of a result that is there

@@ -1,5 +1,5 @@
 -- The packages of a workspace, in order of path, each with its files in order of name.
-use Rattle.std.specs.Prelude.{◌≡◌, ◌≢◌, ◌<◌, ℕ, Bool, true, false, ◌&&◌, not, List, [], ◌∷◌, map, length, Option, Some, None, All, string_bytes}
+use Rattle.std.specs.Prelude.{◌≡◌, ◌≢◌, ◌<◌, ℕ, Bool, not, List, [], ◌∷◌, map, length, Option, Some, None, All, string_bytes}
 use Rattle.std.specs.List.{fold, filter, IsDistinct}
 use Rattle.std.specs.List.Sorted.{IsStrictlySortedBy, IsPermutation}
 use Rattle.std.specs.Ordering.{nat_cmp}
@@ -10,7 +10,7 @@ use Rattle.std.specs.BTreeMap.{insert_entry, is_at}
 use Rattle.std.specs.Map.{keys_of, lookup, remove_entry}
 use Rattle.std.specs.Coded.{Coded, coded×, coded_list, coded_ℕ}
 use Rattle.std.specs.declared.string.String.{String}
-use Rattle.go_path_core.specs.Path.{elements, IsPath, IsPrefix}
+use Rattle.go_path_core.specs.Path.{elements, begins, IsPath, IsPrefix}
 use Rattle.go_graph_core.specs.Sources.{SourceModel, coded_source, IsRead, IsPlacedSource}
 
 -- a package: its path and its files
@@ -80,12 +80,6 @@ pub record Puts (old : List PackageModel) (path : List ℕ) (given : List (List 
   pub packages : new ≡ put_package old path files
   pub here : files_at new path ≡ put_files files
   pub others : (q : List ℕ) → q ≢ path → files_at new q ≡ files_at old q
-
--- whether the one list of elements begins the other
-abbrev pub begins : List (List ℕ) → List (List ℕ) → Bool
-begins [] q = true
-begins (e ∷ a) [] = false
-begins (e ∷ a) (x ∷ q) = bytes_eq e x && begins a q
 
 -- whether a path is the module's or lies below it
 abbrev pub is_path_inside : List ℕ → List ℕ → Bool

@@ -53,6 +53,19 @@ impl Model for Package {
 }
 
 impl Package {
+    /// The same package, once more. It takes no memory.
+    ///
+    /// # Errors
+    ///
+    /// `AllocError` where the package has too many owners.
+    pub fn share(&self) -> Result<Package, AllocError>
+        ensures { IfOk result (λ p. p ≡ self.now) }
+    {
+        Ok(Package {
+            source: self.source.share()?,
+        })
+    }
+
     /// The name of the package, which stands in each of its clauses.
     pub fn name(&self) -> &str
         ensures { IsPackageName (trees_of self.now.1) result.now }

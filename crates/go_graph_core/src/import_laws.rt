@@ -1,5 +1,5 @@
 //! Laws of what imports come to.
-ghost use Rattle.go_graph_core.specs.ImportLaws.{HasTarget, HasNoOtherTarget, HasOneOutcome, CyclesAreAssembled, HasListOfEdges, CyclesAreDecided, HasOutcome, HasPlan, TextsAreStrings, TextsAreOccurrences};
+ghost use Rattle.go_graph_core.specs.ImportLaws.{HasTarget, HasNoOtherTarget, HasOneOutcome, CyclesAreAssembled, HasListOfEdges, CyclesAreDecided, HasOutcome, HasPlan, TextsAreStrings, TextsAreOccurrences, HasOneNumber, HasOnePackage};
 
 /// A law, with nothing to run: cycles left aside, of the six cases, a package and the rules I1, I3, I2, I6 and I5,
 /// exactly one holds of an import, with one answer.
@@ -40,4 +40,10 @@ pub fn each_import_has_an_outcome()
 /// A law, with nothing to run: a workspace has a plan.
 pub fn each_workspace_has_a_plan()
     ensures { HasPlan }
+{}
+
+/// A law, with nothing to run: in a workspace a path has one number at most, and a number has one path and one package.
+pub fn one_number()
+    ensures number { HasOneNumber }
+    ensures package { HasOnePackage }
 {}

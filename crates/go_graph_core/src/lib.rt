@@ -17,7 +17,7 @@ mod workspace;
 pub use assembly::{KFault, Package, assemble};
 pub use import_laws::{
     cycles_are_assembled, cycles_are_decided, each_import_has_an_outcome,
-    each_workspace_has_a_plan, imports_are_occurrences, one_outcome, one_target,
+    each_workspace_has_a_plan, imports_are_occurrences, one_number, one_outcome, one_target,
 };
 pub use imports::{ImportAt, ImportOutcome};
 pub use laws::one_assembly;

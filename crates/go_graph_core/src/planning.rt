@@ -1,16 +1,18 @@
 //! The import plan of a workspace: what each import comes to, and an order of the packages.
-ghost use Rattle.std.specs.Prelude.{◌≡◌, ◌++◌, All, IfOk, OnOk, length};
+ghost use Rattle.std.specs.Prelude.{◌≡◌, ◌++◌, [], All, IfOk, OnOk, length, map};
 ghost use Rattle.std.specs.List.{AllZip, flat_map, filter};
-ghost use Rattle.go_graph_core.specs.Plans.{IsPlan, AreReached, outcome_at, outcomes_shown, plan_of};
+ghost use Rattle.go_cycle_core.specs.Cycle.{InRange};
+ghost use Rattle.go_graph_core.specs.Plans.{IsPlan, IsOrderly, AreImporters, AreReached, outcome_at, outcomes_shown, plan_of, plan_with};
 ghost use Rattle.go_graph_core.specs.mirrors.Targets.{IsSettled, AreSettled, AreAllSettled, edge_of, package_edges, edges_from, is_assembled};
 
 use crate::imports::{ImportAt, ImportOutcome, Standing, standings, targets};
 use crate::workspace::Workspace;
 use go_cycle_core::{Edge, Ranked, rank_and_order};
-use go_reach_core::{Reached, find_reached};
+use go_reach_core::{Reached, find_reached, starts_of};
 use go_text_core::Rule;
 use std::alloc::{AllocError, Global};
 use std::marker::Model;
+use std::sync::Arc;
 
 /// Adds the edges of a file of a package.
 fn add_edges(
@@ -123,33 +125,82 @@ fn assembled(
     Ok(order)
 }
 
-/// The import plan of a workspace. Contracts see it as the outcomes of the imports, by package, file and import,
-/// and the order.
-pub struct Plan {
+/// What is planned.
+#[derive(Drop)]
+struct PlanContent {
     outcomes: Vec<Vec<Vec<ImportOutcome>>>,
     order: Vec<usize>,
+    edges: Vec<Edge>,
+}
+
+/// The import plan of a workspace. It is a handle: what is shared has one content. Contracts see it as the outcomes of the
+/// imports, by package, file and import, the order, and the edges that decide which imports lie on a cycle.
+pub struct Plan {
+    content: Arc<PlanContent>,
 }
 
 impl Drop for Plan {
     fn drop(self) {
-        let Plan {
-            outcomes: _,
-            order: _,
-        } = self;
+        let Plan { content: _ } = self;
     }
 }
 
 impl Model for Plan {
-    ghost use Rattle.go_graph_core.specs.Plans.{PlanModel, plan_of, outcomes_shown, IsOrderly};
+    ghost use Rattle.std.specs.Prelude.{length};
+    ghost use Rattle.std.specs.Arc.{arc_value};
+    ghost use Rattle.go_cycle_core.specs.Cycle.{InRange};
+    ghost use Rattle.go_graph_core.specs.Plans.{PlanModel, plan_of, plan_with, outcomes_shown, IsOrderly};
 
     ghost Value = { PlanModel };
 
-    ghost view = { λ p. plan_of (outcomes_shown p.outcomes.items) p.order.items };
+    ghost view = { λ p. plan_with (outcomes_shown (arc_value p.content).outcomes.items) (arc_value p.content).order.items (arc_value p.content).edges.items };
 
-    ghost invariant = { λ p. IsOrderly (plan_of (outcomes_shown p.outcomes.items) p.order.items) };
+    ghost invariant = { λ p. IsOrderly (plan_of (outcomes_shown (arc_value p.content).outcomes.items) (arc_value p.content).order.items)
+        × InRange (length (arc_value p.content).outcomes.items) (arc_value p.content).edges.items };
+}
+
+/// For each package what it reaches by passing imports.
+fn reached_by(
+    alloc: Global,
+    outcomes: &[Vec<Vec<ImportOutcome>>],
+    order: &[usize],
+) -> Result<Reached, AllocError>
+    requires { IsOrderly (plan_of (outcomes_shown outcomes.now) order.now) }
+    ensures many { IfOk result (λ sets. length sets ≡ length outcomes.now) }
+    ensures bound { IfOk result (λ sets. All (λ s. s.bound ≡ length outcomes.now) sets) }
+    ensures sets { IfOk result (AreReached (plan_of (outcomes_shown outcomes.now) order.now)) }
+{
+    let edges = edges(alloc, outcomes)?;
+    find_reached(alloc, outcomes.len(), order, &edges)
+}
+
+/// For each package those whose passing imports come to it.
+fn importers_by(
+    alloc: Global,
+    outcomes: &[Vec<Vec<ImportOutcome>>],
+) -> Result<Vec<Vec<usize>>, AllocError>
+    requires { InRange (length outcomes.now) (edges_from 0 outcomes.now) }
+    ensures many { IfOk result (λ rows. length rows.items ≡ length outcomes.now) }
+    ensures rows { IfOk result (λ rows. AreImporters (plan_of (outcomes_shown outcomes.now) []) (map (λ r. r.items) rows.items)) }
+{
+    let edges = edges(alloc, outcomes)?;
+    starts_of(alloc, outcomes.len(), &edges)
 }
 
 impl Plan {
+    /// The same plan, once more. It takes no memory.
+    ///
+    /// # Errors
+    ///
+    /// `AllocError` where the plan has too many owners.
+    pub fn share(&self) -> Result<Plan, AllocError>
+        ensures { IfOk result (λ p. p ≡ self.now) }
+    {
+        Ok(Plan {
+            content: Arc::try_clone(&self.content)?,
+        })
+    }
+
     /// What the import at a place comes to: the package that it names, or the first of these rules that it breaks.
     /// `None` where there is no import.
     ///
@@ -162,7 +213,7 @@ impl Plan {
     pub fn outcome(&self, at: ImportAt) -> Option<ImportOutcome>
         ensures { result ≡ outcome_at self.now.outcomes at }
     {
-        let files = self.outcomes.get(at.package)?;
+        let files = self.content.outcomes.get(at.package)?;
         let imports = files.get(at.file)?;
         imports.get(at.import).copied()
     }
@@ -171,7 +222,18 @@ impl Plan {
     pub fn order(&self) -> &[usize]
         ensures { result.now ≡ self.now.order }
     {
-        self.order.as_slice()
+        self.content.order.as_slice()
+    }
+
+    /// The edges that decide which imports lie on a cycle: from the number of a package to that of each package that its
+    /// imports come to, cycles left aside, once for each import. An import that is refused by `Rule::I4` has an edge; one that
+    /// is refused by another rule has none.
+    pub fn edges(&self) -> &[Edge]
+        ensures edges { result.now ≡ self.now.edges }
+        // Each joins two packages.
+        ensures range { InRange (length self.now.outcomes) self.now.edges }
+    {
+        self.content.edges.as_slice()
     }
 
     /// For each package, by number, the packages that it reaches: those that a list of at least one passing import leads to from it.
@@ -185,17 +247,26 @@ impl Plan {
         ensures bound { IfOk result (λ sets. All (λ s. s.bound ≡ length self.now.outcomes) sets) }
         ensures sets { IfOk result (AreReached self.now) }
     {
-        let edges = edges(alloc, &self.outcomes)?;
-        find_reached(alloc, self.outcomes.len(), &self.order, &edges)
+        reached_by(alloc, &self.content.outcomes, &self.content.order)
+    }
+
+    /// For each package, by number, the numbers of the packages whose passing imports come to it, once for each such import.
+    /// The time is linear in packages and imports.
+    ///
+    /// # Errors
+    ///
+    /// `AllocError` for want of memory.
+    pub fn importers(&self, alloc: Global) -> Result<Vec<Vec<usize>>, AllocError>
+        ensures many { IfOk result (λ rows. length rows.items ≡ length self.now.outcomes) }
+        ensures rows { IfOk result (λ rows. AreImporters self.now (map (λ r. r.items) rows.items)) }
+    {
+        importers_by(alloc, &self.content.outcomes)
     }
 }
 
-/// What each import of a workspace comes to, and the assembled packages in an order.
-fn outcomes_and_order(
-    alloc: Global,
-    workspace: &Workspace,
-) -> Result<(Vec<Vec<Vec<ImportOutcome>>>, Vec<usize>), AllocError>
-    ensures { IfOk result (λ p. IsPlan workspace.now (plan_of (outcomes_shown p.0.items) p.1.items)) }
+/// What is planned for a workspace: what each import comes to, the assembled packages in an order, and the edges.
+fn plan_content(alloc: Global, workspace: &Workspace) -> Result<PlanContent, AllocError>
+    ensures { IfOk result (λ p. IsPlan workspace.now (plan_with (outcomes_shown p.outcomes.items) p.order.items p.edges.items)) }
 {
     let packages = workspace.packages();
     let standings = standings(alloc, packages)?;
@@ -204,7 +275,11 @@ fn outcomes_and_order(
     let ranked = rank_and_order(alloc, &edges, packages.len())?;
     let order = assembled(alloc, ranked.order(), &standings)?;
     settle(&ranked, &mut outcomes);
-    Ok((outcomes, order))
+    Ok(PlanContent {
+        outcomes,
+        order,
+        edges,
+    })
 }
 
 /// Plans the imports of a workspace: what each comes to, and an order in which the packages can be built.
@@ -220,6 +295,8 @@ fn outcomes_and_order(
 pub fn plan_imports(alloc: Global, workspace: &Workspace) -> Result<Plan, AllocError>
     ensures { IfOk result (IsPlan workspace.now) }
 {
-    let (outcomes, order) = outcomes_and_order(alloc, workspace)?;
-    Ok(Plan { outcomes, order })
+    let content = plan_content(alloc, workspace)?;
+    Ok(Plan {
+        content: Arc::new(alloc, content)?,
+    })
 }

@@ -98,6 +98,19 @@ impl SourceFile {
         Ok(SourceFile { content })
     }
 
+    /// The same file, once more. It takes no memory.
+    ///
+    /// # Errors
+    ///
+    /// `AllocError` where the file has too many owners.
+    pub fn share(&self) -> Result<SourceFile, AllocError>
+        ensures { IfOk result (λ f. f ≡ self.now) }
+    {
+        Ok(SourceFile {
+            content: Arc::try_clone(&self.content)?,
+        })
+    }
+
     /// The file's name.
     pub fn name(&self) -> &str
         ensures { result.now ≡ self.now.name }
