@@ -1,0 +1,11 @@
+pub mod InOrder
+pub mod Pieces
+pub mod Taking
+pub mod Members
+pub mod Objects
+pub mod NoFloats
+pub mod ByRefusal
+pub mod ByTable
+pub mod Fronts
+pub mod Noting
+pub mod Worked

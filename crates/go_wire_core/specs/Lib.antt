@@ -1,0 +1,10 @@
+pub mod Ends
+pub mod Histories
+pub mod Kinds
+pub mod Laws
+pub mod Lines
+pub mod Replies
+pub mod Requests
+pub mod Steps
+pub mod Table
+pub mod mirrors
