@@ -13,7 +13,6 @@ use Rattle.go_tree_nodes.specs.Trees.{FileTree}
 use Rattle.go_parse_types.specs.declared.stop.Stop.{Stop}
 use Rattle.go_parse_types.specs.declared.stop.Stop.TheVariants as stop
 use Rattle.go_parse_types.specs.mirrors.Giving.{Fails}
-use Rattle.go_parse_types.specs.mirrors.Marks.{Grammar, TooHigh}
 use Rattle.go_parse_core.specs.declared.error.ParseError.{ParseError}
 use Rattle.go_parse_core.specs.declared.error.ParseError.TheVariants as errors
 use Rattle.go_parse_core.specs.Correct.{HasTree, max_height}
