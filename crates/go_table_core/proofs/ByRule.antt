@@ -1,19 +1,17 @@
 -- The rules by which values are assignable.
-use Rattle.std.proofs.Common.{◌≡◌, ◌↔◌, ◌⊎◌, inl, inr, Bool, List, ◌++◌, Some, None, refl, sym, ap, ◌∙◌, subst}
+use Rattle.std.proofs.Common.{◌≡◌, ◌↔◌, ◌⊎◌, inl, inr, Bool, true, List, ◌++◌, Some, None, refl, sym, ap, ◌∙◌, subst}
 use Rattle.std.specs.Prelude.{IsTrue}
 use Rattle.go_decl_core.specs.declared.keys.DeclKey.{DeclKey}
 use Rattle.go_term_core.specs.Terms.{Term, NoType, Predeclared, ErrorType, Defined, PointerTo, StructOf, InterfaceOf}
 use Rattle.go_term_core.specs.Identity.{Identical}
 use Rattle.go_table_core.specs.Entries.{Entry, EntryLook, find_entry, term_in, underlying_in}
+use Rattle.go_table_core.specs.Underlying.{IdenticalUnder}
 use Rattle.go_table_core.specs.Assign.{AValue, ANil, IsNamed, IsInterface, IsPointer, IsType, IsValueAssignable, identical, alike, implements_it, IsTermAssignable}
 use Rattle.go_table_core.specs.Laws.{IsOneUnnamed, TakesUntyped, AssignabilityByRule, AddingKeeps}
+use Rattle.go_table_core.proofs.Underlying.{nothing_under}
 use Rattle.go_table_core.proofs.Finding.{or_else, find-append}
 
 -- what is identical to a type is one
-
-nothing_alone : (u : Term) → Identical u NoType → u ≡ NoType
-nothing_alone NoType h = refl
-nothing_alone _ h = absurd h
 
 type_moves : (look : EntryLook) (v t : Term) → Identical v t → IsType look v → IsType look t
 type_moves look NoType t h is none = is refl
@@ -30,8 +28,8 @@ type_moves look (StructOf p fs) _ h is none = h
 type_moves look (InterfaceOf p ms) (InterfaceOf q ns) h is none = absurd (cc)
 type_moves look (InterfaceOf p ms) _ h is none = h
 
-alike_moves : (look : EntryLook) (v t : Term) → Identical (underlying_in look v) (underlying_in look t) → IsType look v → IsType look t
-alike_moves look v t h is none = is (nothing_alone (underlying_in look v) (subst (λ (u : Term). Identical (underlying_in look v) u) none h))
+alike_moves : (look : EntryLook) (v t : Term) → IdenticalUnder true (underlying_in look v) (underlying_in look t) → IsType look v → IsType look t
+alike_moves look v t h is none = is (nothing_under (underlying_in look v) (subst (λ (u : Term). IdenticalUnder true (underlying_in look v) u) none h))
 
 -- an interface type and a pointer type are types
 interface_type : (u : Term) → IsInterface u → u ≡ NoType → ⊥
@@ -61,7 +59,7 @@ not_both v t h both = elim h [ inl v' ↦ v' both.0 | inr t' ↦ t' both.1 ]
 -- the rules for a value of a type
 
 abbrev ValueRules : EntryLook → Term → Term → Bool → Type 0
-ValueRules look v t implements = Identical v t ⊎ ((Identical (underlying_in look v) (underlying_in look t) × IsOneUnnamed v t) ⊎ (IsInterface (underlying_in look t) × IsTrue implements))
+ValueRules look v t implements = Identical v t ⊎ ((IdenticalUnder true (underlying_in look v) (underlying_in look t) × IsOneUnnamed v t) ⊎ (IsInterface (underlying_in look t) × IsTrue implements))
 
 value_by : (look : EntryLook) (v t : Term) (implements : Bool) → IsValueAssignable look v t (IsTrue implements) → ValueRules look v t implements
 value_by look v t implements (identical h) = inl h

@@ -3,6 +3,7 @@ pub mod Finding
 pub mod Searching
 pub mod Adding
 pub mod Spelled
+pub mod Underlying
 pub mod Meanings
 pub mod Reaching
 pub mod ByRule

@@ -8,6 +8,7 @@ use Rattle.go_term_core.specs.declared.term.Basic.TheVariants as basics
 use Rattle.go_term_core.specs.Terms.{Term, NoType, Predeclared, ErrorType, Defined, PointerTo, StructOf, InterfaceOf, term_keys}
 use Rattle.go_term_core.specs.Identity.{Identical}
 use Rattle.go_table_core.specs.Entries.{Entry, EntryLook, term_in, underlying_in, methods_in, declared_methods, members_keys}
+use Rattle.go_table_core.specs.Underlying.{IdenticalUnder}
 use Rattle.go_table_core.specs.Assign.{Assigned, AValue, ANil, AnInteger, AText, ABoolean, IsNamed, IsInterface, IsPointer, IsValueAssignable, identical, alike, implements_it, IsFitting, IsTermAssignable}
 use Rattle.go_table_core.specs.Laws.{IsReached, AgreeFrom, UnderlyingIsLocal, AssignedAgrees, AssignableIsLocal}
 
@@ -57,7 +58,7 @@ underlying_local = record { same = same_underlying; methods = same_methods; insi
 value_moves : (look other : EntryLook) (v t : Term) (implements : Type 0) → underlying_in look v ≡ underlying_in other v → underlying_in look t ≡ underlying_in other t → IsValueAssignable look v t implements → IsValueAssignable other v t implements
 value_moves look other v t implements vs ts (identical h) = identical h
 value_moves look other v t implements vs ts (alike h apart) =
-    alike (subst (λ (u : Term). Identical (underlying_in other v) u) ts (subst (λ (u : Term). Identical u (underlying_in look t)) vs h)) apart
+    alike (subst (λ (u : Term). IdenticalUnder true (underlying_in other v) u) ts (subst (λ (u : Term). IdenticalUnder true u (underlying_in look t)) vs h)) apart
 value_moves look other v t implements vs ts (implements_it i h) = implements_it (subst (λ (u : Term). IsInterface u) ts i) h
 
 -- the operand's underlying type is the same
@@ -113,16 +114,16 @@ value_refused look v t ut implements ts other foreign named (implements_it i h) 
 pub value_named : (look : EntryLook) (v t ut : Term) (implements : Type 0) → ut ≡ underlying_in look t → (Identical v t → ⊥) → (IsInterface ut × implements → ⊥) → IsNamed v × IsNamed t → IsTrue false ↔ Fits look v t implements
 value_named look v t ut implements ts other foreign named = (λ h. absurd (true≢false (sym h)), λ h. absurd (value_refused look v t ut implements ts other foreign named h.1))
 
-value_left : (look : EntryLook) (v t uv ut : Term) (implements : Type 0) → uv ≡ underlying_in look v → ut ≡ underlying_in look t → (Identical v t → ⊥) → (IsInterface ut × implements → ⊥) → IsValueAssignable look v t implements → Identical uv ut
+value_left : (look : EntryLook) (v t uv ut : Term) (implements : Type 0) → uv ≡ underlying_in look v → ut ≡ underlying_in look t → (Identical v t → ⊥) → (IsInterface ut × implements → ⊥) → IsValueAssignable look v t implements → IdenticalUnder true uv ut
 value_left look v t uv ut implements vs ts other foreign (identical h) = absurd (other h)
 value_left look v t uv ut implements vs ts other foreign (alike h apart) =
-    subst (λ (u : Term). Identical uv u) (sym ts) (subst (λ (u : Term). Identical u (underlying_in look t)) (sym vs) h)
+    subst (λ (u : Term). IdenticalUnder true uv u) (sym ts) (subst (λ (u : Term). IdenticalUnder true u (underlying_in look t)) (sym vs) h)
 value_left look v t uv ut implements vs ts other foreign (implements_it i h) = absurd (foreign (subst (λ (u : Term). IsInterface u) (sym ts) i, h))
 
-pub value_alike : (look : EntryLook) (v t uv ut : Term) (implements : Type 0) (r : Bool) → uv ≡ underlying_in look v → (uv ≡ NoType → ⊥) → ut ≡ underlying_in look t → (Identical v t → ⊥) → (IsInterface ut × implements → ⊥) → (IsNamed v × IsNamed t → ⊥) → (IsTrue r ↔ Identical uv ut)
+pub value_alike : (look : EntryLook) (v t uv ut : Term) (implements : Type 0) (r : Bool) → uv ≡ underlying_in look v → (uv ≡ NoType → ⊥) → ut ≡ underlying_in look t → (Identical v t → ⊥) → (IsInterface ut × implements → ⊥) → (IsNamed v × IsNamed t → ⊥) → (IsTrue r ↔ IdenticalUnder true uv ut)
     → IsTrue r ↔ Fits look v t implements
 value_alike look v t uv ut implements r vs some ts other foreign unnamed same = (
-  λ x. (λ none. some (vs ∙ none), alike (subst (λ (u : Term). Identical (underlying_in look v) u) ts (subst (λ (u : Term). Identical u ut) vs (same.0 x))) unnamed),
+  λ x. (λ none. some (vs ∙ none), alike (subst (λ (u : Term). IdenticalUnder true (underlying_in look v) u) ts (subst (λ (u : Term). IdenticalUnder true u ut) vs (same.0 x))) unnamed),
   λ h. same.1 (value_left look v t uv ut implements vs ts other foreign h.1),
 )
 

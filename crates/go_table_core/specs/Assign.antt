@@ -4,6 +4,7 @@ use Rattle.go_term_core.specs.declared.term.Basic.TheVariants as basics
 use Rattle.go_term_core.specs.Terms.{Term, NoType, Predeclared, ErrorType, Defined, PointerTo, StructOf, InterfaceOf}
 use Rattle.go_term_core.specs.Identity.{Identical}
 use Rattle.go_table_core.specs.Entries.{EntryLook, underlying_in}
+use Rattle.go_table_core.specs.Underlying.{IdenticalUnder}
 
 -- what is assigned: a value of a type, nil, or an untyped constant or boolean value
 pub data Assigned : Type 0 where
@@ -46,7 +47,7 @@ IsType look t = (underlying_in look t ≡ NoType) → ⊥
 -- a value of type v is assignable to t
 pub data IsValueAssignable (look : EntryLook) (v t : Term) (implements : Type 0) : Type 0 where
   identical : Identical v t → IsValueAssignable look v t implements
-  alike : Identical (underlying_in look v) (underlying_in look t) → ((IsNamed v × IsNamed t) → ⊥) → IsValueAssignable look v t implements
+  alike : IdenticalUnder true (underlying_in look v) (underlying_in look t) → ((IsNamed v × IsNamed t) → ⊥) → IsValueAssignable look v t implements
   implements_it : IsInterface (underlying_in look t) → implements → IsValueAssignable look v t implements
 
 abbrev pub IsFitting : EntryLook → Assigned → Term → Type 0 → Type 0

@@ -1,10 +1,11 @@
 -- Laws of tables of types.
-use Rattle.std.specs.Prelude.{◌≡◌, ◌⊎◌, ◌↔◌, Bool, IsTrue, List, [], ◌∷◌, ◌++◌, Some, None, Contains}
+use Rattle.std.specs.Prelude.{◌≡◌, ◌⊎◌, ◌↔◌, Bool, true, IsTrue, List, [], ◌∷◌, ◌++◌, Some, None, Contains}
 use Rattle.go_decl_core.specs.declared.keys.DeclKey.{DeclKey}
 use Rattle.go_term_core.specs.declared.term.Basic.TheVariants as basics
-use Rattle.go_term_core.specs.Terms.{Term, NoType, Predeclared, Defined, term_keys}
-use Rattle.go_term_core.specs.Identity.{Identical}
+use Rattle.go_term_core.specs.Terms.{Term, NoType, Predeclared, ErrorType, Defined, term_keys}
+use Rattle.go_term_core.specs.Identity.{Identical, IdenticalBy}
 use Rattle.go_table_core.specs.Entries.{Entry, EntryLook, find_entry, underlying_in, declared_methods, members_keys, entry_keys}
+use Rattle.go_table_core.specs.Underlying.{IsErrorInterface, IdenticalUnder}
 use Rattle.go_table_core.specs.Assign.{Assigned, AValue, ANil, AnInteger, AText, ABoolean, IsNamed, IsInterface, IsPointer, IsType, IsTermAssignable}
 
 -- the types on the list, each mentioned by the one before, lead from the types that are mentioned to k
@@ -67,7 +68,7 @@ TakesUntyped look basic t implements = (underlying_in look t ≡ basic) ⊎ (IsI
 pub record AssignabilityByRule : Type 0 where
   pub value : (look : EntryLook) (v t : Term) (implements : Bool) → IsType look v
       → IsTermAssignable look (AValue v) t (IsTrue implements)
-      ↔ (Identical v t ⊎ ((Identical (underlying_in look v) (underlying_in look t) × IsOneUnnamed v t) ⊎ (IsInterface (underlying_in look t) × IsTrue implements)))
+      ↔ (Identical v t ⊎ ((IdenticalUnder true (underlying_in look v) (underlying_in look t) × IsOneUnnamed v t) ⊎ (IsInterface (underlying_in look t) × IsTrue implements)))
   pub nil : (look : EntryLook) (t : Term) (implements : Bool) → IsTermAssignable look ANil t (IsTrue implements) ↔ (IsPointer (underlying_in look t) ⊎ IsInterface (underlying_in look t))
   pub integer : (look : EntryLook) (t : Term) (implements : Bool) → IsTermAssignable look AnInteger t (IsTrue implements) ↔ TakesUntyped look (Predeclared basics.Int) t implements
   pub text : (look : EntryLook) (t : Term) (implements : Bool) → IsTermAssignable look AText t (IsTrue implements) ↔ TakesUntyped look (Predeclared basics.Text) t implements
@@ -79,3 +80,15 @@ pub record AssignabilityByRule : Type 0 where
 pub record AddingKeeps : Type 0 where
   pub found : (es more : List Entry) (k : DeclKey) (e : Entry) → find_entry es k ≡ Some e → find_entry (es ++ more) k ≡ Some e
   pub added : (es more : List Entry) (k : DeclKey) → find_entry es k ≡ None → find_entry (es ++ more) k ≡ find_entry more k
+
+-- the underlying type of `error` is the interface type with the one method `Error() string`. So a type whose underlying type it is is alike to the types
+-- whose underlying type is `error`'s or an interface type with exactly that method, from both sides, whether tags count or not; of all others
+-- identity decides. `error` itself is identical to itself alone, as each named type
+pub record ErrorIsAnInterface : Type 0 where
+  pub left : (look : EntryLook) (tags : Bool) (t u : Term) → underlying_in look t ≡ ErrorType
+      → IdenticalUnder tags (underlying_in look t) (underlying_in look u) ↔ ((underlying_in look u ≡ ErrorType) ⊎ IsErrorInterface (underlying_in look u))
+  pub right : (look : EntryLook) (tags : Bool) (t u : Term) → underlying_in look u ≡ ErrorType
+      → IdenticalUnder tags (underlying_in look t) (underlying_in look u) ↔ ((underlying_in look t ≡ ErrorType) ⊎ IsErrorInterface (underlying_in look t))
+  pub others : (look : EntryLook) (tags : Bool) (t u : Term) → (underlying_in look t ≡ ErrorType → ⊥) → (underlying_in look u ≡ ErrorType → ⊥)
+      → IdenticalUnder tags (underlying_in look t) (underlying_in look u) ↔ IdenticalBy tags (underlying_in look t) (underlying_in look u)
+  pub itself : (t : Term) → Identical ErrorType t ↔ (t ≡ ErrorType)

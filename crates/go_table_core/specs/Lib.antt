@@ -4,6 +4,7 @@ pub mod codes
 pub mod Shown
 pub mod Methods
 pub mod Tables
+pub mod Underlying
 pub mod Assign
 pub mod Laws
 pub mod mirrors

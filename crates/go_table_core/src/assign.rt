@@ -7,6 +7,7 @@ ghost use Rattle.go_term_core.specs.Terms.{NoType, Predeclared};
 ghost use Rattle.go_table_core.specs.Assign.{AValue, IsNamed, is_named, IsInterface, IsPointer, IsFitting, IsTermAssignable};
 ghost use Rattle.go_table_core.specs.Shown.{assigned_shown};
 
+use crate::alike::identical_under;
 use crate::table::TypeTable;
 use go_settle_core::{Kind, kind_of};
 use go_term_core::{Basic, TypeTerm, identical};
@@ -107,7 +108,7 @@ fn takes_value(table: &TypeTable, value: &TypeTerm, target: &TypeTerm, implement
     if are_named(value, target) {
         return false;
     }
-    identical(own, underlying)
+    identical_under(own, underlying)
 }
 
 /// Whether a value may be assigned to a variable of a type. It takes no memory.

@@ -1,7 +1,7 @@
 //! Laws of tables of types.
-ghost use Rattle.go_table_core.specs.Laws.{UnderlyingIsLocal, ReachIsClosed, AssignabilityByRule, AssignableIsLocal, AssignableToItself, NothingToNoType, AddingKeeps};
+ghost use Rattle.go_table_core.specs.Laws.{UnderlyingIsLocal, ReachIsClosed, AssignabilityByRule, AssignableIsLocal, AssignableToItself, NothingToNoType, AddingKeeps, ErrorIsAnInterface};
 
-use go_term_core::identity_is_equivalence;
+use go_term_core::{identity_by_form, identity_is_equivalence};
 
 /// A law, with nothing to run: a type's underlying type and its methods are the same in two tables that have the same of all that
 /// the type reaches, and mention what it reaches alone.
@@ -43,3 +43,12 @@ pub fn nothing_is_assignable_to_no_type()
 pub fn adding_keeps()
     ensures { AddingKeeps }
 {}
+
+/// A law, with nothing to run: a type whose underlying type is that of `error` has an underlying type identical to that of exactly the types whose
+/// underlying type is that of `error` or an interface type with exactly the method `Error() string`; tags play no part. So the two are convertible to one another,
+/// and so are pointers to them. The Go specification, "Errors", "Underlying types".
+pub fn error_is_an_interface()
+    ensures { ErrorIsAnInterface }
+{
+    identity_by_form();
+}

@@ -4,6 +4,7 @@
 //! "Type declarations", "Underlying types", "Assignability".
 #![tactic(auto)]
 
+mod alike;
 mod assign;
 mod entry;
 mod fields;
@@ -11,12 +12,13 @@ mod kinds;
 mod laws;
 mod table;
 
+pub use alike::{identical_under, identical_under_but_for_tags};
 pub use assign::{Operand, assignable, is_named_type};
 pub use entry::{DeclaredMethod, DefinedType, TypeEntry};
 pub use fields::{FieldTable, StructField, StructFields, term_fields};
 pub use laws::{
     adding_keeps, assignability_by_rule, assignable_is_local, assignable_to_itself,
-    nothing_is_assignable_to_no_type, reach_is_closed, underlying_is_local,
+    error_is_an_interface, nothing_is_assignable_to_no_type, reach_is_closed, underlying_is_local,
 };
 pub use table::{Located, PackageTypes, TypeTable};
 

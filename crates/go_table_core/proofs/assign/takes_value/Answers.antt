@@ -27,7 +27,7 @@ returns-then-are_named c =
 
 pub returns : goal.returns
 returns c =
-    value_alike (find_entry c.args.table.now) (shape c.args.value.now) (shape c.args.target.now) (shape c.underlying-own.result.now) (shape c.underlying-underlying.result.now) (IsTrue c.args.implements) c.identical-2.result c.underlying-own.ensures
+    value_alike (find_entry c.args.table.now) (shape c.args.value.now) (shape c.args.target.now) (shape c.underlying-own.result.now) (shape c.underlying-underlying.result.now) (IsTrue c.args.implements) c.identical_under.result c.underlying-own.ensures
     (λ none. true≢false (sym (c.is_nothing.ensures.1 none) ∙ c.if-is_nothing.false)) c.underlying-underlying.ensures
     (λ same. true≢false (sym (c.identical.ensures.1 same) ∙ c.if-identical.false)) (λ h. true≢false (sym (c.is_implemented.ensures.1 h) ∙ c.if-is_implemented.false))
-    (λ h. true≢false (sym (c.are_named.ensures.1 h) ∙ c.if-are_named.false)) c.identical-2.ensures
+    (λ h. true≢false (sym (c.are_named.ensures.1 h) ∙ c.if-are_named.false)) c.identical_under.ensures
