@@ -7,8 +7,9 @@ use Rattle.go_term_core.specs.Terms.{Term, NoType, Predeclared, ErrorType, Defin
 use Rattle.go_term_core.specs.Identity.{IsMethod, method_count, IdenticalBy, SameFieldsBy, HasAllBy, SameSignBy, SameTermsBy}
 use Rattle.go_term_core.specs.mirrors.Alike.{HasAlike}
 use Rattle.go_table_core.specs.Entries.{same_id}
+use Rattle.go_table_core.specs.Underlying.{written_out, IdenticalUnder}
 use Rattle.go_mset_core.specs.embed_core.Ids.{same_id_is, same_id_from}
-use Rattle.go_decide_core.specs.Identity.{tags_agree, has_alike, identical_by, same_fields, has_all, same_sign, same_terms}
+use Rattle.go_decide_core.specs.Identity.{tags_agree, has_alike, identical_by, same_fields, has_all, same_sign, same_terms, identical_under_of}
 use Rattle.go_decide_core.specs.Laws.{IdentityIsDecided}
 use Rattle.go_decide_core.proofs.Tests.{both_decide, some_decide, never, decides_number, decides_flag, decides_tags, decides_basic, decides_key}
 use Rattle.go_constant_core.specs.Values.{bool_same}
@@ -84,5 +85,8 @@ module _ (tags : Bool) where
     decides_terms (ATerm t ts) NoTerm = never (λ h. h)
     decides_terms (ATerm t ts) (ATerm u us) = both_decide (identical_by tags t u) (same_terms tags ts us) (decides_by t u) (decides_terms ts us)
 
+pub decides_under : (tags : Bool) (t u : Term) → IsTrue (identical_under_of tags t u) ↔ IdenticalUnder tags t u
+decides_under tags t u = decides_by tags (written_out t) (written_out u)
+
 pub identity_decided : IdentityIsDecided
-identity_decided = record { identical = λ t u. decides_by true t u; but_for_tags = λ t u. decides_by false t u; signs = λ g h. decides_signs true g h }
+identity_decided = record { identical = λ t u. decides_by true t u; but_for_tags = λ t u. decides_by false t u; signs = λ g h. decides_signs true g h; under = decides_under }

@@ -5,17 +5,18 @@ use Rattle.go_term_core.specs.declared.term.Basic.TheVariants as basics
 use Rattle.go_term_core.specs.Terms.{Term, NoType, Predeclared, ErrorType, Defined, PointerTo, StructOf, InterfaceOf, Fields}
 use Rattle.go_term_core.specs.Identity.{Identical}
 use Rattle.go_table_core.specs.Entries.{EntryLook, find_entry, underlying_in, IsUnnamed}
+use Rattle.go_table_core.specs.Underlying.{IdenticalUnder}
 use Rattle.go_table_core.specs.Assign.{Assigned, AValue, ANil, AnInteger, AText, ABoolean, IsNamed, IsInterface, IsPointer, IsValueAssignable, identical, alike, implements_it, IsFitting, is_named}
 use Rattle.go_denote_core.specs.operand_core.declared.types.TypeForm.TheVariants as forms
 use Rattle.go_decide_core.specs.Rules.{form_under}
 use Rattle.go_mset_core.specs.Implementing.{Implements}
-use Rattle.go_decide_core.specs.Identity.{identical_of}
+use Rattle.go_decide_core.specs.Identity.{identical_of, identical_under_of}
 use Rattle.go_decide_core.specs.Conversion.{is_type_term}
 use Rattle.go_decide_core.specs.Implementing.{implements_of}
 use Rattle.go_decide_core.specs.Assigning.{assigned_type, is_interface, is_pointer, is_predeclared, value_fits, untyped_fits, is_fitting}
 use Rattle.go_decide_core.specs.Laws.{AssignabilityIsDecided, RulesAreDecided}
 use Rattle.go_decide_core.proofs.Tests.{both_decide, some_decide, never, decides_not, decides_basic}
-use Rattle.go_decide_core.proofs.Alike.{decides_by}
+use Rattle.go_decide_core.proofs.Alike.{decides_by, decides_under}
 use Rattle.go_decide_core.proofs.Converting.{decides_type, convertibility_decided}
 use Rattle.go_decide_core.proofs.Implementing.{implementation_decided}
 
@@ -58,13 +59,13 @@ decides_predeclared b (InterfaceOf path ms) = never (λ h. cc)
 module _ (look : EntryLook) (t : Term) (I : Type 0) (implements : Bool) (test : IsTrue implements ↔ I) where
   -- the rules for a value of a type
   abbrev ByRule : Term → Type 0
-  ByRule v = Identical v t ⊎ ((Identical (underlying_in look v) (underlying_in look t) × ((IsNamed v × IsNamed t) → ⊥)) ⊎ (IsInterface (underlying_in look t) × I))
+  ByRule v = Identical v t ⊎ ((IdenticalUnder true (underlying_in look v) (underlying_in look t) × ((IsNamed v × IsNamed t) → ⊥)) ⊎ (IsInterface (underlying_in look t) × I))
 
   by_rule : (v : Term) → IsTrue (value_fits look v t implements) ↔ ByRule v
   by_rule v =
-      some_decide (identical_of v t) ((identical_of (underlying_in look v) (underlying_in look t) && not (is_named v && is_named t)) || (is_interface (underlying_in look t) && implements)) (decides_by true v t)
-      (some_decide (identical_of (underlying_in look v) (underlying_in look t) && not (is_named v && is_named t)) (is_interface (underlying_in look t) && implements)
-      (both_decide (identical_of (underlying_in look v) (underlying_in look t)) (not (is_named v && is_named t)) (decides_by true (underlying_in look v) (underlying_in look t))
+      some_decide (identical_of v t) ((identical_under_of true (underlying_in look v) (underlying_in look t) && not (is_named v && is_named t)) || (is_interface (underlying_in look t) && implements)) (decides_by true v t)
+      (some_decide (identical_under_of true (underlying_in look v) (underlying_in look t) && not (is_named v && is_named t)) (is_interface (underlying_in look t) && implements)
+      (both_decide (identical_under_of true (underlying_in look v) (underlying_in look t)) (not (is_named v && is_named t)) (decides_under true (underlying_in look v) (underlying_in look t))
       (decides_not (is_named v && is_named t) (both_decide (is_named v) (is_named t) (decides_named v) (decides_named t))))
       (both_decide (is_interface (underlying_in look t)) implements (decides_interface (underlying_in look t)) test))
 

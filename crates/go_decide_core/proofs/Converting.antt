@@ -3,11 +3,11 @@ use Rattle.std.proofs.Common.{◌≡◌, ◌↔◌, false, IsTrue, ◌⊎◌, in
 use Rattle.go_term_core.specs.Terms.{Term, NoType, Predeclared, ErrorType, Defined, PointerTo, StructOf, InterfaceOf, is_no_type}
 use Rattle.go_table_core.specs.Entries.{EntryLook, underlying_in}
 use Rattle.go_table_core.specs.Assign.{IsType}
-use Rattle.go_decide_core.specs.Identity.{identical_but_for_tags_of}
+use Rattle.go_decide_core.specs.Identity.{identical_under_of}
 use Rattle.go_decide_core.specs.Conversion.{AreAlike, IsTermConvertible, alike, pointers, is_type_term, are_alike, pointers_alike, convertible_of}
 use Rattle.go_decide_core.specs.Laws.{ConvertibilityIsDecided}
 use Rattle.go_decide_core.proofs.Tests.{both_decide, some_decide, never, decides_not}
-use Rattle.go_decide_core.proofs.Alike.{decides_by}
+use Rattle.go_decide_core.proofs.Alike.{decides_under}
 
 decides_nothing : (t : Term) → IsTrue (is_no_type t) ↔ (t ≡ NoType)
 decides_nothing NoType = (λ h. refl, λ h. refl)
@@ -23,7 +23,7 @@ decides_type look t = decides_not (is_no_type (underlying_in look t)) (decides_n
 
 decides_alike : (look : EntryLook) (s t : Term) → IsTrue (are_alike look s t) ↔ AreAlike look s t
 decides_alike look s t =
-    let both = both_decide (is_type_term look s) (identical_but_for_tags_of (underlying_in look s) (underlying_in look t)) (decides_type look s) (decides_by false (underlying_in look s) (underlying_in look t)) in
+    let both = both_decide (is_type_term look s) (identical_under_of false (underlying_in look s) (underlying_in look t)) (decides_type look s) (decides_under false (underlying_in look s) (underlying_in look t)) in
     (λ h. let x = both.0 h in record { is_type = x.0; identical = x.1 }, λ h. both.1 (h.is_type, h.identical))
 
 -- two pointer types, with base types that are alike

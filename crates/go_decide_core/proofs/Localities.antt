@@ -14,7 +14,7 @@ use Rattle.go_mset_core.specs.level_core.Selectors.{IsRule}
 use Rattle.go_mset_core.specs.select_core.Local.{agree_back, denoted_there, local}
 use Rattle.go_mset_core.specs.select_core.Meanings.{one_answer}
 use Rattle.go_mset_core.proofs.Locality.{local as implementation_local}
-use Rattle.go_decide_core.specs.Identity.{identical_of, identical_but_for_tags_of}
+use Rattle.go_decide_core.specs.Identity.{identical_of, identical_under_of}
 use Rattle.go_decide_core.specs.Conversion.{is_type_term, are_alike, pointers_alike, convertible_of}
 use Rattle.go_decide_core.specs.Selecting.{Choice, selected_of}
 use Rattle.go_decide_core.specs.Implementing.{implements_of}
@@ -34,8 +34,8 @@ same_test false false p q both = refl
 
 alike_there : (look other : EntryLook) (s t : Term) → AgreeFrom look other s → AgreeFrom look other t → are_alike look s t ≡ are_alike other s t
 alike_there look other s t a b =
-    ap (λ u. not (is_no_type u) && identical_but_for_tags_of u (underlying_in look t)) (underlying_local.same look other s a)
-    ∙ ap (λ u. is_type_term other s && identical_but_for_tags_of (underlying_in other s) u) (underlying_local.same look other t b)
+    ap (λ u. not (is_no_type u) && identical_under_of false u (underlying_in look t)) (underlying_local.same look other s a)
+    ∙ ap (λ u. is_type_term other s && identical_under_of false (underlying_in other s) u) (underlying_local.same look other t b)
 
 pointers_there : (look other : EntryLook) (s t : Term) → AgreeFrom look other s → AgreeFrom look other t → pointers_alike look s t ≡ pointers_alike other s t
 pointers_there look other (PointerTo s) (PointerTo t) a b = alike_there look other s t a b
@@ -89,7 +89,7 @@ assigned_there look other ABoolean h = nothing_reached look other (Predeclared b
 -- what is fitting, by the underlying types
 abbrev fits_under : Term → Term → Assigned → Term → Bool → Bool
 fits_under uv ut (AValue v) t implements =
-    not (is_no_type uv) && (identical_of v t || ((identical_of uv ut && not (is_named v && is_named t)) || (is_interface ut && implements)))
+    not (is_no_type uv) && (identical_of v t || ((identical_under_of true uv ut && not (is_named v && is_named t)) || (is_interface ut && implements)))
 fits_under uv ut ANil t implements = is_pointer ut || is_interface ut
 fits_under uv ut AnInteger t implements = is_predeclared basics.Int ut || (is_interface ut && implements)
 fits_under uv ut AText t implements = is_predeclared basics.Text ut || (is_interface ut && implements)

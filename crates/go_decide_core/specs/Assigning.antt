@@ -6,7 +6,7 @@ use Rattle.go_term_core.specs.Terms.{Term, NoType, Predeclared, ErrorType, Defin
 use Rattle.go_table_core.specs.Entries.{Entry, EntryLook, find_entry, underlying_in}
 use Rattle.go_table_core.specs.Assign.{Assigned, AValue, ANil, AnInteger, AText, ABoolean, is_named}
 use Rattle.go_denote_core.specs.operand_core.Values.{is_basic}
-use Rattle.go_decide_core.specs.Identity.{identical_of}
+use Rattle.go_decide_core.specs.Identity.{identical_of, identical_under_of}
 use Rattle.go_decide_core.specs.Conversion.{is_type_term}
 use Rattle.go_decide_core.specs.Implementing.{implements_of}
 
@@ -48,7 +48,7 @@ is_predeclared b (InterfaceOf path ms) = false
 -- identical types, identical underlying types of which one is no name, or an interface type that is implemented
 abbrev pub value_fits : EntryLook → Term → Term → Bool → Bool
 value_fits look v t implements =
-    identical_of v t || ((identical_of (underlying_in look v) (underlying_in look t) && not (is_named v && is_named t)) || (is_interface (underlying_in look t) && implements))
+    identical_of v t || ((identical_under_of true (underlying_in look v) (underlying_in look t) && not (is_named v && is_named t)) || (is_interface (underlying_in look t) && implements))
 
 abbrev pub untyped_fits : EntryLook → Basic → Term → Bool → Bool
 untyped_fits look b t implements = is_predeclared b (underlying_in look t) || (is_interface (underlying_in look t) && implements)

@@ -4,6 +4,7 @@ use Rattle.std.specs.Str.{bytes_eq}
 use Rattle.go_term_core.specs.Terms.{Term, NoType, Predeclared, ErrorType, Defined, PointerTo, StructOf, InterfaceOf, Fields, NoField, AField, Methods, NoMethod, AMethod, Sign, SignOf, Terms, NoTerm, ATerm}
 use Rattle.go_term_core.specs.Identity.{method_count}
 use Rattle.go_table_core.specs.Entries.{same_key, same_id}
+use Rattle.go_table_core.specs.Underlying.{written_out}
 use Rattle.go_denote_core.specs.operand_core.Values.{is_basic}
 use Rattle.go_constant_core.specs.Values.{bool_same}
 
@@ -59,3 +60,7 @@ identical_but_for_tags_of t u = identical_by false t u
 
 abbrev pub same_sign_of : Sign → Sign → Bool
 same_sign_of g h = same_sign true g h
+
+-- underlying types that are identical, where tags count or do not; that of `error` is an interface type
+abbrev pub identical_under_of : Bool → Term → Term → Bool
+identical_under_of tags t u = identical_by tags (written_out t) (written_out u)

@@ -10,8 +10,9 @@ use Rattle.go_table_core.specs.Entries.{Entry, EntryLook, find_entry, underlying
 use Rattle.go_mset_core.specs.embed_core.Owners.{Found, AFieldOf, AMethodOf, AnInterfaces, TheErrorMethod}
 use Rattle.go_mset_core.specs.level_core.declared.search.Selected.{Selected}
 use Rattle.go_mset_core.specs.level_core.Selectors.{IsDenoted, IsRule, IsSelectorAnswer}
-use Rattle.go_decide_core.specs.Identity.{identical_of, identical_but_for_tags_of, same_sign_of}
+use Rattle.go_decide_core.specs.Identity.{identical_of, identical_but_for_tags_of, identical_under_of, same_sign_of}
 use Rattle.go_decide_core.specs.Conversion.{IsTermConvertible, convertible_of}
+use Rattle.go_table_core.specs.Underlying.{IdenticalUnder}
 use Rattle.go_table_core.specs.Assign.{Assigned, AValue, IsInterface, IsType, IsTermAssignable}
 use Rattle.go_denote_core.specs.operand_core.declared.types.TypeForm.TheVariants as forms
 use Rattle.go_table_core.specs.Laws.{AgreeFrom, AssignedAgrees}
@@ -26,6 +27,7 @@ pub record IdentityIsDecided : Type 0 where
   pub identical : (t u : Term) → IsTrue (identical_of t u) ↔ Identical t u
   pub but_for_tags : (t u : Term) → IsTrue (identical_but_for_tags_of t u) ↔ IdenticalButForTags t u
   pub signs : (g h : Sign) → IsTrue (same_sign_of g h) ↔ SameSign g h
+  pub under : (tags : Bool) (t u : Term) → IsTrue (identical_under_of tags t u) ↔ IdenticalUnder tags t u
 
 abbrev pub ConvertibilityIsDecided : Type 0
 ConvertibilityIsDecided = (look : EntryLook) (s t : Term) → IsTrue (convertible_of look s t) ↔ IsTermConvertible look s t

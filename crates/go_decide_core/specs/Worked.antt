@@ -66,6 +66,9 @@ mover = InterfaceOf p (AMethod (codes "Move") (sample_member_place 20) empty_sig
 abbrev pub keeper : Term
 keeper = InterfaceOf p (AMethod (codes "keep") (sample_member_place 21) empty_sign (AMethod (codes "Move") (sample_member_place 22) empty_sign NoMethod))
 
+abbrev pub failure : Term
+failure = InterfaceOf p (AMethod (codes "Error") (sample_member_place 26) error_sign NoMethod)
+
 -- type Point struct { x int; y int "t" }; func (p *Point) Move(); func (p Point) keep()
 -- type Label string; func (l Label) Error() string
 -- type Box struct { *Point; Label; *Box }
@@ -76,6 +79,8 @@ keeper = InterfaceOf p (AMethod (codes "keep") (sample_member_place 21) empty_si
 -- type Bad Missing
 -- type Far struct { Both; x bool }
 -- type Held struct { Mover; error }
+-- type Failure interface { Error() string }
+-- type Trouble error
 abbrev pub table : List Entry
 table =
     sample_entry 0 (codes "Point") (plane (codes "t")) (sample_member (codes "Move") 30 true empty_sign ∷ (sample_member (codes "keep") 31 false empty_sign ∷ []))
@@ -87,7 +92,9 @@ table =
     ∷ (sample_entry 6 (codes "Ptr") (PointerTo (sample_type 0)) []
     ∷ (sample_entry 7 (codes "Bad") NoType []
     ∷ (sample_entry 8 (codes "Far") (StructOf p (embedded (codes "Both") 19 (sample_type 4) (field (codes "x") 23 (Predeclared basics.Bool) NoField))) []
-    ∷ (sample_entry 9 (codes "Held") (StructOf p (embedded (codes "Mover") 24 (sample_type 5) (embedded (codes "error") 25 ErrorType NoField))) [] ∷ [])))))))))
+    ∷ (sample_entry 9 (codes "Held") (StructOf p (embedded (codes "Mover") 24 (sample_type 5) (embedded (codes "error") 25 ErrorType NoField))) []
+    ∷ (sample_entry 10 (codes "Failure") failure []
+    ∷ (sample_entry 11 (codes "Trouble") ErrorType [] ∷ [])))))))))))
 
 -- struct { x int; y int }, written in another package
 abbrev pub elsewhere : Term
@@ -114,6 +121,7 @@ pub record WorkedTypes : Type 0 where
   pub fewer_methods : identical_of mover keeper ≡ false
   pub signatures : same_sign_of error_sign (SignOf NoTerm (ATerm text_term NoTerm)) ≡ true
   pub turned_signature : same_sign_of error_sign (SignOf (ATerm text_term NoTerm) NoTerm) ≡ false
+  pub error_by_name : identical_of ErrorType failure ≡ false
   -- conversions
   pub text_of_label : convertible_of (find_entry table) (sample_type 1) text_term ≡ true
   pub label_of_text : convertible_of (find_entry table) text_term (sample_type 1) ≡ true
@@ -123,6 +131,11 @@ pub record WorkedTypes : Type 0 where
   pub other_fields : convertible_of (find_entry table) (sample_type 3) (sample_type 0) ≡ false
   pub none_to_none : convertible_of (find_entry table) (sample_type 7) (sample_type 7) ≡ false
   pub pointers_to_none : convertible_of (find_entry table) (PointerTo (sample_type 7)) (PointerTo NoType) ≡ false
+  pub pointer_to_error : convertible_of (find_entry table) (PointerTo (sample_type 10)) (PointerTo ErrorType) ≡ true
+  pub pointer_from_error : convertible_of (find_entry table) (PointerTo ErrorType) (PointerTo (sample_type 10)) ≡ true
+  pub pointers_through_error : convertible_of (find_entry table) (PointerTo (sample_type 11)) (PointerTo (sample_type 10)) ≡ true
+  pub pointer_to_other_methods : convertible_of (find_entry table) (PointerTo ErrorType) (PointerTo (sample_type 5)) ≡ false
+  pub two_stars_to_error : convertible_of (find_entry table) (PointerTo (PointerTo (sample_type 10))) (PointerTo (PointerTo ErrorType)) ≡ false
   -- assignability
   pub label_to_text : assignable_of table (AValue (sample_type 1)) text_term ≡ false
   pub constant_to_label : assignable_of table AText (sample_type 1) ≡ true
@@ -137,6 +150,7 @@ pub record WorkedTypes : Type 0 where
   pub method_by_value : assignable_of table (AValue (sample_type 0)) (sample_type 5) ≡ false
   pub label_to_error : assignable_of table (AValue (sample_type 1)) ErrorType ≡ true
   pub text_to_error : assignable_of table AText ErrorType ≡ false
+  pub error_to_literal : assignable_of table (AValue ErrorType) failure ≡ true
   pub boolean_to_any : assignable_of table ABoolean (InterfaceOf p NoMethod) ≡ true
   pub none_to_any : assignable_of table (AValue (sample_type 7)) (InterfaceOf p NoMethod) ≡ false
   pub none_to_itself : assignable_of table (AValue (sample_type 7)) (sample_type 7) ≡ false

@@ -2,8 +2,8 @@
 ghost use Rattle.go_decide_core.specs.Laws.{IdentityIsDecided, ConvertibilityIsDecided, SelectorsAreDecided, ImplementationIsDecided, AssignabilityIsDecided, RulesAreDecided, SelectionsAreDecided, DecisionsAreLocal};
 ghost use Rattle.go_decide_core.specs.Worked.{WorkedTypes, WorkedMembers};
 
-/// A law, with nothing to run: the functions that compare types and signatures say yes to those that are identical, and to no others; tags
-/// counted, and passed over.
+/// A law, with nothing to run: the functions that compare types, signatures and underlying types say yes to those that are identical, and to no
+/// others; tags counted, and passed over.
 ///
 /// The Go specification, "Type identity", "Conversions".
 pub fn identity_is_decided()

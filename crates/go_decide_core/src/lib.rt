@@ -42,5 +42,7 @@ pub mod settle_core {
 
 /// What the crates above name of `go_table_core`.
 pub mod table_core {
-    pub use go_table_core::{TypeTable, is_named_type};
+    pub use go_table_core::{
+        TypeTable, identical_under, identical_under_but_for_tags, is_named_type,
+    };
 }
