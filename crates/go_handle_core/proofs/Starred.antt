@@ -1,7 +1,7 @@
 -- Types under stars.
 use Rattle.std.proofs.Common.{◌≡◌, ◌↔◌, ℕ, zero, suc, ◌-◌, ◌<◌, ◌≤◌, Bool, true, false, IsTrue, refl, sym, ap, ◌∙◌, arith}
-use Rattle.go_term_core.specs.Terms.{Term, PointerTo}
-use Rattle.go_decide_core.specs.Identity.{identical_by}
+use Rattle.go_term_core.specs.Terms.{Term, NoType, Predeclared, ErrorType, Defined, PointerTo, StructOf, InterfaceOf}
+use Rattle.go_decide_core.specs.Identity.{identical_by, identical_under_of}
 use Rattle.go_handle_core.specs.Stars.{starred, star_count}
 
 -- two tests of one thing
@@ -37,6 +37,39 @@ level_left tags zero (suc n) a b l = absurd (omega (arith, l))
 level_left tags (suc m) (suc n) a b l =
     let less : suc m - suc n ≡ m - n = omega arith in
     ap (λ (k : ℕ). identical_by tags (starred k a) b) less ∙ level_left tags m n a b (omega (arith, l))
+
+-- a pointer type is no `error`, and identical to none
+
+pointer_first : (tags : Bool) (t u : Term) → identical_by tags (PointerTo t) u ≡ identical_under_of tags (PointerTo t) u
+pointer_first tags t NoType = refl
+pointer_first tags t (Predeclared b) = refl
+pointer_first tags t ErrorType = refl
+pointer_first tags t (Defined k) = refl
+pointer_first tags t (PointerTo u) = refl
+pointer_first tags t (StructOf path fs) = refl
+pointer_first tags t (InterfaceOf path ms) = refl
+
+pointer_last : (tags : Bool) (t u : Term) → identical_by tags u (PointerTo t) ≡ identical_under_of tags u (PointerTo t)
+pointer_last tags t NoType = refl
+pointer_last tags t (Predeclared b) = refl
+pointer_last tags t ErrorType = refl
+pointer_last tags t (Defined k) = refl
+pointer_last tags t (PointerTo u) = refl
+pointer_last tags t (StructOf path fs) = refl
+pointer_last tags t (InterfaceOf path ms) = refl
+
+pub starred_first : (tags : Bool) (m : ℕ) (a u : Term) → 0 < m → identical_by tags (starred m a) u ≡ identical_under_of tags (starred m a) u
+starred_first tags zero a u l = absurd (omega (arith, l))
+starred_first tags (suc m) a u l = pointer_first tags (starred m a) u
+
+pub starred_last : (tags : Bool) (n : ℕ) (t b : Term) → 0 < n → identical_by tags t (starred n b) ≡ identical_under_of tags t (starred n b)
+starred_last tags zero t b l = absurd (omega (arith, l))
+starred_last tags (suc n) t b l = pointer_last tags (starred n b) t
+
+pub no_stars : (tags : Bool) (m n : ℕ) (a b : Term) → m ≤ 0 → n ≤ 0 → identical_under_of tags a b ≡ identical_under_of tags (starred m a) (starred n b)
+no_stars tags zero zero a b k l = refl
+no_stars tags zero (suc n) a b k l = absurd (omega (arith, l))
+no_stars tags (suc m) n a b k l = absurd (omega (arith, k))
 
 -- they are counted
 pub stars_counted : (n : ℕ) (t : Term) → n ≤ star_count (starred n t)

@@ -3,12 +3,12 @@ ghost use Rattle.std.specs.Prelude.{◌≡◌, ◌&&◌, not, true, false, Match
 ghost use Rattle.go_term_core.specs.Shapes.{shape};
 ghost use Rattle.go_decide_core.specs.table_core.Entries.{find_entry, underlying_in};
 ghost use Rattle.go_decide_core.specs.table_core.Assign.{AValue, is_named};
-ghost use Rattle.go_decide_core.specs.Identity.{identical_of};
+ghost use Rattle.go_decide_core.specs.Identity.{identical_under_of};
 ghost use Rattle.go_decide_core.specs.Assigning.{is_interface, value_fits, assignable_of};
 ghost use Rattle.go_decide_core.specs.Implementing.{implements_of};
 
 use crate::conversion::is_type;
-use crate::identity::is_identical;
+use crate::identity::{is_identical, is_identical_under};
 use crate::implementing::is_implementing;
 use crate::types::TypeRef;
 use go_decide_core::settle_core::{Kind, kind_of};
@@ -38,9 +38,10 @@ fn interface<'a>(table: &'a TypeTable, t: &TypeRef<'a>) -> Option<&'a TypeTerm>
 
 // Whether two types have identical underlying types, and one of the two is not named.
 fn are_alike_unnamed<'a>(table: &'a TypeTable, a: &TypeRef<'a>, b: &TypeRef<'a>) -> bool
-    ensures { result ≡ identical_of (underlying_in (find_entry table.now) a.now) (underlying_in (find_entry table.now) b.now) && not (is_named a.now && is_named b.now) }
+    ensures { result ≡ identical_under_of true (underlying_in (find_entry table.now) a.now) (underlying_in (find_entry table.now) b.now) && not (is_named a.now && is_named b.now) }
 {
-    is_identical(&a.underlying(table), &b.underlying(table)) && !(is_named(a) && is_named(b))
+    is_identical_under(true, &a.underlying(table), &b.underlying(table))
+        && !(is_named(a) && is_named(b))
 }
 
 // Whether a value of a type fits a variable of another, where both are types.

@@ -4,7 +4,7 @@ ghost use Rattle.go_decide_core.specs.table_core.Entries.{find_entry};
 ghost use Rattle.go_term_core.specs.Terms.{is_no_type};
 ghost use Rattle.go_decide_core.specs.Conversion.{is_type_term, are_alike, pointers_alike, convertible_of};
 
-use crate::identity::is_identical_but_for_tags;
+use crate::identity::is_identical_under;
 use crate::types::TypeRef;
 use go_decide_core::settle_core::{Kind, kind_of};
 use go_decide_core::table_core::TypeTable;
@@ -27,7 +27,7 @@ pub fn is_type<'a>(table: &'a TypeTable, t: &TypeRef<'a>) -> bool
 fn are_alike<'a>(table: &'a TypeTable, a: &TypeRef<'a>, b: &TypeRef<'a>) -> bool
     ensures { result ≡ are_alike (find_entry table.now) a.now b.now }
 {
-    is_type(table, a) && is_identical_but_for_tags(&a.underlying(table), &b.underlying(table))
+    is_type(table, a) && is_identical_under(false, &a.underlying(table), &b.underlying(table))
 }
 
 // Whether two types are pointer types as they are written, and what lies under those they point to is alike but for tags.

@@ -1,10 +1,11 @@
 //! Identity of types under stars.
 ghost use Rattle.std.specs.Prelude.{◌≡◌};
 ghost use Rattle.go_term_core.specs.Shapes.{shape};
-ghost use Rattle.go_decide_core.specs.Identity.{identical_by, identical_of, identical_but_for_tags_of};
+ghost use Rattle.go_decide_core.specs.Identity.{identical_by, identical_of, identical_under_of};
 ghost use Rattle.go_handle_core.specs.Stars.{starred};
 
 use crate::types::TypeRef;
+use go_decide_core::table_core::{identical_under, identical_under_but_for_tags};
 use go_term_core::{TypeTerm, identical, identical_but_for_tags};
 
 // Whether two types as they stand are identical, where tags count or do not.
@@ -73,11 +74,36 @@ pub fn is_identical(a: &TypeRef<'_>, b: &TypeRef<'_>) -> bool
     same_starred(true, a.stars, a.term, b.stars, b.term)
 }
 
-/// Whether two types are identical but for tags of fields at any depth. It takes no memory.
-///
-/// The Go specification, "Conversions": "ignoring struct tags".
-pub(crate) fn is_identical_but_for_tags(a: &TypeRef<'_>, b: &TypeRef<'_>) -> bool
-    ensures { result ≡ identical_but_for_tags_of a.now b.now }
+// Whether two underlying types as they stand are identical, where tags count or do not.
+fn same_under(tags: bool, a: &TypeTerm, b: &TypeTerm) -> bool
+    ensures { result ≡ identical_under_of tags (shape a.now) (shape b.now) }
 {
-    same_starred(false, a.stars, a.term, b.stars, b.term)
+    if tags {
+        identical_under(a, b)
+    } else {
+        identical_under_but_for_tags(a, b)
+    }
+}
+
+// Whether two underlying types under stars are identical, where tags count or do not.
+fn same_starred_under(tags: bool, m: usize, a: &TypeTerm, n: usize, b: &TypeTerm) -> bool
+    ensures { result ≡ identical_under_of tags (starred m (shape a.now)) (starred n (shape b.now)) }
+{
+    if m > 0 {
+        return same_starred(tags, m, a, n, b);
+    }
+    if n > 0 {
+        return same_starred(tags, m, a, n, b);
+    }
+    same_under(tags, a, b)
+}
+
+/// Whether two underlying types are identical, where tags of fields at any depth count or do not. That of `error` is the interface type with
+/// its method alone. It takes no memory.
+///
+/// The Go specification, "Underlying types", "Errors", "Conversions": "ignoring struct tags".
+pub(crate) fn is_identical_under(tags: bool, a: &TypeRef<'_>, b: &TypeRef<'_>) -> bool
+    ensures { result ≡ identical_under_of tags a.now b.now }
+{
+    same_starred_under(tags, a.stars, a.term, b.stars, b.term)
 }
