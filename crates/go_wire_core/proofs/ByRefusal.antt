@@ -2,15 +2,14 @@
 use Rattle.std.proofs.Common.{◌≡◌, ◌≢◌, ◌⊎◌, inl, inr, ℕ, List, [], Bool, true, false, Option, Some, None, codes, bytes_eq, refl, sym, ap, subst, ◌∙◌}
 use Rattle.std.specs.Prelude.{option_and_then}
 use Rattle.std.proofs.lemmas.Slice.Eq.{bytes_eq-Decides}
-use Rattle.serde_json.specs.Data.{Data, Members, no_members, member, string}
+use Rattle.serde_json.specs.Data.{Members, no_members, member}
 use Rattle.serde_json.specs.Find.{as_str, get_member}
 use Rattle.go_text_core.specs.declared.rule.Rule.{Rule}
 use Rattle.go_text_core.specs.declared.rule.Rule.TheVariants.{V2, V3}
 use Rattle.go_wire_core.specs.declared.request.Command.{Command}
 use Rattle.go_wire_core.specs.declared.request.Command.TheVariants.{Open, Edit, Build, List as ListOf, Doc, Complete, Define, Close}
-use Rattle.go_wire_core.specs.declared.step.Step.TheVariants.{Ask, Refuse}
-use Rattle.go_wire_core.specs.declared.step.Step.{Step}
-use Rattle.go_wire_core.specs.Requests.{Reading, asked, asked_by, asked_of, docs, edits, finished, known, lists, named, object_of, opens, places, reading_of, session_of, step_of, without}
+use Rattle.go_wire_core.specs.declared.step.Step.TheVariants.{Refuse}
+use Rattle.go_wire_core.specs.Requests.{Reading, asked, asked_by, asked_of, docs, edits, finished, known, lists, named, object_of, opens, places, reading_of, session_of, without}
 use Rattle.go_wire_core.specs.Table.{AreOfNoCommand, IsBy, IsOfSession, NamesNoCommand, RefusesByTable, name_of}
 use Rattle.go_wire_core.proofs.ByTable.{and_then_is, session_is, session_there, text_back}
 

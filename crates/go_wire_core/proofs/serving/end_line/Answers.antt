@@ -16,5 +16,5 @@ returns-in-Err-clause-err g c =
     let short : length (c.args.begun.now.items ++ c.args.part.now) ≤ most_bytes = omega (arith, length-append c.args.begun.now.items c.args.part.now, c.requires.line.short) in
     let whole : c.as_slice.result.now ≡ c.args.begun.now.items ++ c.args.part.now = search rules in
     let stop =
-        subst (λ l. IsStop c.in-Err.end g.D.Desk.answers (steps_of c.args.numbered l) c.args.desk.now c.serve_line.new.desk (g.W.Write.contents c.args.writer.now) (g.W.Write.contents c.serve_line.new.writer)) whole c.in-Err.ensures.err in
+    subst (λ l. IsStop c.in-Err.end g.D.Desk.answers (steps_of c.args.numbered l) c.args.desk.now c.serve_line.new.desk (g.W.Write.contents c.args.writer.now) (g.W.Write.contents c.serve_line.new.writer)) whole c.in-Err.ensures.err in
     λ more. stop_ends g.D.Desk.answers c.in-Err.end c.args.numbered (c.args.begun.now.items ++ c.args.part.now) more c.args.desk.now c.serve_line.new.desk _ _ short stop
