@@ -2,9 +2,12 @@
 ghost use Rattle.std.specs.Prelude.{◌≡◌, ◌↔◌, ◌<◌, ℕ, [], All, IfOk, IsTrue, Some, length, map, slice_get};
 ghost use Rattle.std.specs.Option.{option_map};
 ghost use Rattle.go_summary_core.specs.Summaries.{IsOfOne};
+ghost use Rattle.go_summary_core.specs.Views.{PathsAreApart, types_told};
 
 use crate::list::SummaryList;
 use crate::summary::Summary;
+use crate::view::add_types;
+use go_table_core::TypeTable;
 use go_text_core::add;
 use std::alloc::{AllocError, Global};
 use std::marker::Model;
@@ -58,6 +61,23 @@ impl ReachedSummaries {
         ReachedSummaries::new(SummaryList::new(alloc), Vec::new(alloc))
     }
 
+    /// The same summaries once more: the list that they stand in is shared, their places are copied. The time is linear in the places, of which each
+    /// is a number.
+    ///
+    /// # Errors
+    ///
+    /// `AllocError` where memory is wanting.
+    pub fn share(&self, alloc: Global) -> Result<ReachedSummaries, AllocError>
+        ensures { IfOk result (λ r. r ≡ self.now) }
+    {
+        let shared = self.told.share(alloc)?;
+        let places = Vec::from_slice(alloc, &self.places)?;
+        Ok(ReachedSummaries {
+            told: shared,
+            places,
+        })
+    }
+
     /// How many summaries there are. Each of them is of one package.
     pub fn len(&self) -> usize
         ensures value { result ≡ length self.now }
@@ -93,6 +113,26 @@ impl ReachedSummaries {
             }
         }
         Ok(summaries)
+    }
+
+    /// The types of the packages, where each path is there once: one package's behind another's, in order. They are shared. The time is linear in the
+    /// packages.
+    ///
+    /// # Errors
+    ///
+    /// `AllocError` where memory is wanting.
+    pub fn types(&self, alloc: Global) -> Result<TypeTable, AllocError>
+        requires { PathsAreApart self.now }
+        ensures { IfOk result (λ t. t ≡ types_told self.now) }
+    {
+        let mut types = TypeTable::new(alloc);
+        for index in 0..self.len() {
+            match self.get(index) {
+                Some(summary) => add_types(&mut types, summary)?,
+                None => unreachable!(),
+            }
+        }
+        Ok(types)
     }
 
     /// Whether two are the same summaries in order, wherever they stand. It takes no memory; the time that it takes is linear in the one and in

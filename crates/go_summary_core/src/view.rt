@@ -29,7 +29,7 @@ impl Drop for View {
 }
 
 /// Adds the types of a package behind others.
-fn add_types(types: &mut TypeTable, summary: &Summary) -> Result<(), AllocError>
+pub(crate) fn add_types(types: &mut TypeTable, summary: &Summary) -> Result<(), AllocError>
     requires { AreOthers (path_of summary.now) types.old }
     ensures types { OnOk result (types.new ≡ types.old ++ summary.now.types.entries) }
     ensures own { IsOfOne summary.now }
