@@ -81,9 +81,9 @@ at_start = record {
 -- a place is no farther than there are bytes before it
 bounded : (before : List ℕ) (p : Position) → IsPosition before p → (p.line ≤ 1 + length before) × (p.column ≤ 1 + length before)
 bounded before p h = (
-    down p.line (ends_in before) (length before) h.line (count_by-le-length (λ b. b == 10) before),
-    within p.column (length before) (length h.lines) (length h.rest) h.column (ap length h.parts ∙ length-append h.lines h.rest),
-  )
+  down p.line (ends_in before) (length before) h.line (count_by-le-length (λ b. b == 10) before),
+  within p.column (length before) (length h.lines) (length h.rest) h.column (ap length h.parts ∙ length-append h.lines h.rest),
+)
   where
     down : (line k n : ℕ) → line ≡ 1 + k → k ≤ n → line ≤ 1 + n
     down line k n e h = omega arith
