@@ -1,9 +1,10 @@
 -- Faults that are written one behind another, each of the file in which it lies.
-use Rattle.std.proofs.Common.{◌≡◌, ◌∙◌, ℕ, ◌+◌, ◌<◌, ◌≤◌, Bool, List, [], ◌∷◌, ◌++◌, length, drop, get_or, take, append_assoc, All, Option, Some, None, Result, Ok, Err, OnOk, refl, sym, ap, subst}
+use Rattle.std.proofs.Common.{◌≡◌, ◌∙◌, ℕ, ◌+◌, ◌-◌, ◌<◌, ◌≤◌, Bool, List, [], ◌∷◌, ◌++◌, length, drop, get_or, take, append_assoc, All, Option, Some, None, Result, Ok, Err, OnOk, refl, sym, ap, subst, arith}
 use Rattle.std.specs.Prelude.{option_and_then, option_map, slice_get}
-use Rattle.std.proofs.lemmas.List.{append-nil, take_more, take_all}
+use Rattle.std.proofs.lemmas.List.{append-nil, length-drop, take_more, take_all}
 use Rattle.std.proofs.lemmas.Option.{none-some}
 use Rattle.std.proofs.Math.Seq.{take-add}
+use Rattle.go_text_core.specs.declared.rule.Rule.TheVariants.{L1}
 use Rattle.go_graph_core.specs.Workspaces.{PackageModel}
 use Rattle.go_snap_core.specs.declared.fault.PlacedFault.{PlacedFault}
 use Rattle.go_folder_core.specs.Folders.{joined_path}
@@ -29,11 +30,22 @@ source_there ps f h =
 pub lies_somewhere : (ps : List PackageModel) (f : PlacedFault) → LiesIn ps f → source_at ps f ≡ None → ⊥
 lies_somewhere ps f h none = none-some _ (sym none ∙ source_there ps f h)
 
+-- a fault of a list, as code reads it
+abbrev pub fault_at : List PlacedFault → ℕ → PlacedFault
+fault_at faults i = get_or faults i (record { «package» = 0; file = 0; offset = 0; rule = L1 })
+
 -- faults of one file are found in the same
 pub source_beside : (ps : List PackageModel) (f g : PlacedFault) → f.«package» ≡ g.«package» → f.file ≡ g.file → source_at ps f ≡ source_at ps g
 source_beside ps f g of_package of_file =
     ap (λ (n : ℕ). option_and_then (λ (p : PackageModel). option_map (λ s. (p.0, s)) (slice_get p.1 n)) (slice_get ps f.«package»)) of_file
     ∙ ap (λ (n : ℕ). option_and_then (λ (p : PackageModel). option_map (λ s. (p.0, s)) (slice_get p.1 g.file)) (slice_get ps n)) of_package
+
+-- so many of the faults behind the first ones
+pub within_rest : (faults : List PlacedFault) (i n : ℕ) → n ≤ length (drop i faults) → i ≤ length faults → i + n ≤ length faults
+within_rest faults i n few within = close i n (length faults) (subst (λ k. n ≤ k) (length-drop i faults) few) within
+  where
+    close : (i n k : ℕ) → n ≤ k - i → i ≤ k → i + n ≤ k
+    close i n k few within = omega arith
 
 -- the faults of a snapshot, as they are read
 pub lie_in_these : (ps qs : List PackageModel) (faults these : List PlacedFault) → qs ≡ ps → these ≡ faults → All (LiesIn ps) faults → All (LiesIn qs) these
@@ -41,7 +53,7 @@ lie_in_these ps qs faults these packages same h = subst (λ (fs : List PlacedFau
 
 -- the line of a fault
 module _ {X E : Type 0} (r : Result X E) (json : Bool) (own : List ℕ) (ps : List PackageModel) (f : PlacedFault) (path folder file text old new : List ℕ) (s : SourceModel) where
-  line_added : source_at ps f ≡ Some (path, s) → IsFolderOf own path folder → file ≡ joined_path folder s.name → text ≡ s.text → AddsFault json path file text f.offset f.rule old new → AddsLine json own ps f old new
+  pub line_added : source_at ps f ≡ Some (path, s) → IsFolderOf own path folder → file ≡ joined_path folder s.name → text ≡ s.text → AddsFault json path file text f.offset f.rule old new → AddsLine json own ps f old new
   line_added lies below named same h = (
     fault_text json path file h.at f.offset f.rule,
     record {

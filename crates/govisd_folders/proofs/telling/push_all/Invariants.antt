@@ -1,4 +1,4 @@
-use Rattle.std.proofs.Common.{◌-◌, ◌≤◌, ℕ, length, take}
+use Rattle.std.proofs.Common.{◌-◌, ◌≤◌, length, take}
 use Rattle.std.specs.Prelude.{string_bytes}
 use Rattle.govisd_folders.specs.Telling.{AddsLines}
 use Rattle.govisd_folders.proofs.telling.push_all.Given as goal
@@ -9,5 +9,5 @@ invariant-turns l = record {
   added : AddsLines l.json l.module_path l.workspace (take l.told l.faults) (string_bytes l.initial.out) (string_bytes l.out);
 }
 
-abbrev pub measure-turns : goal.measure-turns
-measure-turns l = length l.faults - l.told
+abbrev pub decreases-turns : goal.decreases-turns
+decreases-turns l = length l.faults - l.told
