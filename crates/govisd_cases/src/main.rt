@@ -2,11 +2,9 @@
 //!
 //! `govisd_cases KIND FILE.. [-- KIND FILE..]..` reads of each file a text, a table of cases or the archive of a workspace, and writes the answers of
 //! the kind before it in lines. The kinds for texts and tables are at the head of data/cases.txt, and those for snapshots of workspaces in
-//! `govisd_snapshot`. Of the kind `check` each file is a folder, which is checked as the module `example.com/FOLDER`. The status is 2 where there is no
-//! kind, and 1 where a file cannot be read.
+//! `govisd_snapshot`. The status is 2 where there is no kind, and 1 where a file cannot be read.
 #![tactic(auto)]
 
-use govisd_folders::{Order, check_folder};
 use govisd_show::Lines;
 use std::alloc::{AllocError, Global};
 use std::process::ExitCode;
@@ -33,24 +31,8 @@ fn answer(
     out.finish()
 }
 
-/// Writes what a check of a folder answers, what it says beside, and its status.
-fn show_check(rt: &HostRuntime, folder: &str) -> io::Result<()> {
-    let module_path = format!(in rt.alloc(); "example.com/{folder}")?;
-    let order = Order {
-        folder,
-        module_path: Some(module_path.as_str()),
-        json: false,
-    };
-    let answer = check_folder(rt, &order)?;
-    print!(rt; "{}{}status {}\n", answer.text, answer.said, answer.status)
-}
-
-/// Writes what is answered to a file, and gives its bytes: none of a folder.
+/// Writes what is answered to a file, and gives its bytes.
 fn show(rt: &HostRuntime, kind: &str, file: &str, last: &[u8]) -> io::Result<Vec<u8>> {
-    if kind == "check" {
-        show_check(rt, file)?;
-        return Ok(Vec::new(rt.alloc()));
-    }
     let bytes = fs::read(rt, file)?;
     let lines = answer(rt.alloc(), kind, file, bytes.as_slice(), last)?;
     print!(rt; "{lines}")?;
