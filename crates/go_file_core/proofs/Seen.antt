@@ -20,10 +20,10 @@ use Rattle.go_expr_core.specs.Laws.{AgreeOnIdents}
 use Rattle.go_expr_core.specs.Locality.{SameWritten}
 use Rattle.go_expr_core.proofs.Alike.{pieces, expressions_seen}
 use Rattle.go_top_core.specs.inline_core.Types.{InlineOf}
-use Rattle.go_top_core.specs.piece_core.Laws.{SamePiece, piece_idents}
+use Rattle.go_top_core.specs.piece_core.Laws.{SamePiece, SameOuter, piece_idents}
 use Rattle.go_local_core.specs.Pieces.{piece_types}
 use Rattle.go_top_core.specs.piece_core.Specifications.{spec_uses}
-use Rattle.go_top_core.specs.piece_core.Local.{pieces_local}
+use Rattle.go_top_core.specs.piece_core.Local.{pieces_local, outer_local}
 use Rattle.go_func_core.specs.env_core.Looks.{TheLooks, inline_rules}
 use Rattle.go_top_core.specs.Initial.{initial_rule, expr_initial_faults, list_initial_faults, values_initial_faults, initial_faults}
 use Rattle.go_top_core.specs.Tops.{top_spec_faults, value_decl_uses, value_decl_faults, type_spec_uses, type_decl_uses}
@@ -65,6 +65,11 @@ module _ (st : FileStand) (types : List (ℕ × InlineOf)) where
       pieces_local Term Sign Declaration (List ℕ) by_table by_names.find by_names.written (Spec k v) (agree (piece_idents (Spec k v)))
       (made (piece_types (Spec k v)) h)
 
+  outer_same : (k : ValueKind) (v : ValueSpecTree) → Seen (spec_types v) → SameOuter Term Sign Declaration (List ℕ) by_table by_names k v
+  outer_same k v h =
+      outer_local Term Sign Declaration (List ℕ) by_table by_names.find by_names.written k v (agree (piece_idents (Spec k v)))
+      (made (piece_types (Spec k v)) h)
+
   -- initialisers
 
   expr_same : (e : ExprTree) → Seen (expr_types e) → expr_initial_faults by_table e ≡ expr_initial_faults by_names e
@@ -94,7 +99,7 @@ module _ (st : FileStand) (types : List (ℕ × InlineOf)) where
   uses_same v h = (spec_same kinds.Var v h).uses
 
   faults_same : (k : ValueKind) (v : ValueSpecTree) → Seen (spec_types v) → top_spec_faults by_table k v ≡ top_spec_faults by_names k v
-  faults_same k v h = pieces _ _ _ _ ((spec_same k v h).faults [] false []) (initial_same k v h)
+  faults_same k v h = pieces _ _ _ _ (outer_same k v h).faults (initial_same k v h)
 
   lines_same : {B : Type 0} (f g : ValueSpecTree → List B) → ((v : ValueSpecTree) → Seen (spec_types v) → f v ≡ g v) → (ls : List (ValueSpecTree × Option Span))
       → Seen (flat_map (λ (l : ValueSpecTree × Option Span). spec_types l.0) ls) → flat_map (λ (l : ValueSpecTree × Option Span). f l.0) ls ≡ flat_map (λ (l : ValueSpecTree × Option Span). g l.0) ls

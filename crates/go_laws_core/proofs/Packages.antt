@@ -27,13 +27,12 @@ use Rattle.go_face_core.specs.Written as writing
 use Rattle.go_face_core.specs.Written.{WrittenOf, decls_of, face_found, file_written, same_decl_place, type_written, written_at, written_of, written_with}
 use Rattle.go_env_core.specs.Looks.{TheLooks}
 use Rattle.go_func_core.specs.Stands.{outer_looks}
-use Rattle.go_local_core.specs.Steps.{Spec}
-use Rattle.go_piece_core.specs.Pieces.{piece_values}
+use Rattle.go_piece_core.specs.Specifications.{outer_values}
 use Rattle.go_needs_core.specs.Needs.{EndsWithin, known_in, needed}
 use Rattle.go_value_core.specs.Initial.{initial}
 use Rattle.go_value_core.specs.Package as values
 use Rattle.go_value_core.specs.Package.{first_values, form_face, written_face}
-use Rattle.go_value_core.proofs.Owning.{specifications_alike}
+use Rattle.go_value_core.proofs.Owning.{outer_alike}
 use Rattle.go_value_core.proofs.Deciding.{needs_decide}
 use Rattle.go_answer_core.specs.Shown.{exported_decls, is_decl_listed, shown_among, shown_if}
 use Rattle.go_ready_core.specs.Laws.{package_placed}
@@ -44,7 +43,7 @@ use Rattle.go_ready_core.proofs.Values.{faces_same, needs_same}
 use Rattle.go_snap_core.specs.package_core.Checked.{AnswersOf, CheckedOf, IsChecked, IsFileChecked, imports_at, stand_at}
 use Rattle.go_near_core.specs.Near.{IfAny, NearOperand}
 use Rattle.go_near_core.proofs.Closing.{either}
-use Rattle.go_near_core.proofs.Pieces.{pieces_nearby}
+use Rattle.go_near_core.proofs.Pieces.{outer_nearby}
 use Rattle.go_whole_core.specs.Known.{BindsInside}
 use Rattle.go_whole_core.proofs.Values.{each_at, is_or_not, mapped_at}
 use Rattle.go_laws_core.proofs.Terms.{IsTermIn, settled_in, settled_sign_in, signature_in, term_in}
@@ -186,9 +185,9 @@ module _ (Inside : List ℕ → Type 0) where
 
       initial_in : (k : ValueKind) (v : ValueSpecTree) (i : ℕ) → IfAny (NearOperand (Near Inside)) (initial looks k v i)
       initial_in k v i =
-          subst (λ (l : List (Option (Operand Term))). IfAny (NearOperand (Near Inside)) (slice_index_or l i None)) (sym (specifications_alike looks k v))
-          (each_at (NearOperand (Near Inside)) (piece_values looks [] (Spec k v)) i
-          ((pieces_nearby (Near Inside) (Rest Inside) looks looks (outer_closed Inside (stand_in p es known n o) (stand known h n o)) (alike_itself (Near Inside) (Rest Inside) looks) (Spec k v)).near []))
+          subst (λ (l : List (Option (Operand Term))). IfAny (NearOperand (Near Inside)) (slice_index_or l i None)) (sym (outer_alike looks k v))
+          (each_at (NearOperand (Near Inside)) (outer_values looks k v) i
+          (outer_nearby (Near Inside) (Rest Inside) looks looks (outer_closed Inside (stand_in p es known n o) (stand known h n o)) (alike_itself (Near Inside) (Rest Inside) looks) k v).near)
 
       value_near : (w : Option TheFace) → IsAnyIn Inside w → (k : ValueKind) (t : Option TypeTree) (v : ValueSpecTree) (i : ℕ) → IsFaceIn Inside (values.value_face looks w k t v i)
       value_near w x value_kinds.Const t v i = initial_in value_kinds.Const v i

@@ -1,6 +1,7 @@
 -- A piece of a function is the same to look-ups that have the same of near things, and its names stand for near values.
 use Rattle.std.proofs.Common.{◌≡◌, ℕ, Bool, true, false, List, [], ◌∷◌, ◌++◌, map, refl, ap, ◌∙◌}
-use Rattle.std.specs.Prelude.{Option, Some, None, if◌then◌else◌, not, ◌==◌, length, replicate}
+use Rattle.std.specs.Prelude.{Option, Some, None, if◌then◌else◌, not, is_some, ◌&&◌, ◌==◌, length, replicate}
+use Rattle.std.specs.List.{list_all}
 use Rattle.go_text_core.specs.Text.{is_blank}
 use Rattle.go_text_core.specs.declared.span.Span.{Span}
 use Rattle.go_tree_nodes.specs.declared.names.Ident.{Ident}
@@ -22,7 +23,7 @@ use Rattle.go_statement_core.specs.declared.targets.Target.{Target}
 use Rattle.go_statement_core.specs.declared.targets.Target.TheVariants as targets
 use Rattle.go_statement_core.specs.Targets.{target_of}
 use Rattle.go_statement_core.specs.Assignments.{assignment_rule}
-use Rattle.go_statement_core.specs.Declarations.{declared_types, variables_rule, short_types}
+use Rattle.go_statement_core.specs.Declarations.{declared_types, variables_rule, is_initial, initial_argument, initials_rule, initial_types, short_types}
 use Rattle.go_statement_core.specs.Returns.{return_rule}
 use Rattle.go_statement_core.specs.Statements.{statement_rule, condition_rule}
 use Rattle.go_statement_core.specs.Updates.{update_rule, increment_rule}
@@ -40,13 +41,13 @@ use Rattle.go_piece_core.specs.Values.{variable, is_call_alone, list_start, behi
 use Rattle.go_piece_core.specs.Types.{type_faults, some_written_type, some_type_uses, some_type_faults}
 use Rattle.go_piece_core.specs.Targets.{target, target_uses, target_faults, targets_uses, targets_faults, old_target, short_target, flag_of, flags_behind, short_targets}
 use Rattle.go_piece_core.specs.Targets as lefts
-use Rattle.go_piece_core.specs.Specifications.{names_start, values_uses, values_faults, values_given, spec_faults, variables_faults, variable_types, constant_fault, each_constant_faults, constants_faults, constant_value, constant_values, own_faults, names_values}
+use Rattle.go_piece_core.specs.Specifications.{names_start, values_uses, values_faults, values_given, spec_faults, variables_faults, variable_types, constant_fault, each_constant_faults, constants_faults, constant_value, constant_values, own_faults, names_values, initials_faults, own_outer_faults, outer_faults, outer_values}
 use Rattle.go_piece_core.specs.Headers.{receiver_uses, receiver_type, some_starred, named_receiver, receiver_types, of_entry, entry_types, types_of_result, types_of_signature, params_faults, result_faults, signature_faults, header_types, returned_types}
 use Rattle.go_piece_core.specs.Statements.{callee_of, operand_argument, simple_uses, simple_faults, short_name_types}
 use Rattle.go_piece_core.specs.Pieces.{piece_uses, piece_faults, piece_values, simple_values}
 use Rattle.go_near_core.specs.Near.{NearRest, IfAny, NearOperand, NearArgument, NearDenoted}
 use Rattle.go_near_core.specs.Looks.{AreClosed, LooksAgree}
-use Rattle.go_near_core.specs.Pieces.{IsPieceNearby}
+use Rattle.go_near_core.specs.Pieces.{IsPieceNearby, IsOuterNearby}
 use Rattle.go_near_core.proofs.Closing.{either, argument_near, arguments_near}
 use Rattle.go_near_core.proofs.Agreeing.{arguments_same}
 use Rattle.go_near_core.proofs.Expressions.{ident_near, ident_same, named_near, named_same, written_near, written_same, denoted_near, denoted_same, name_uses, type_used, signature_used, used_same, operand_with, written_faults, faults_same}
@@ -267,6 +268,32 @@ module _ {T S D P : Type 0} (Near : T → Type 0) (Rest : NearRest S D) (looks o
       alike.types rules other_rules (some_written_type looks t) (length (idents xs)) (values_given looks es) (each_type Near rules other_rules law.types agree.types (values_given looks es))
       ∙ (λ j. declared_types other_rules (some_same t j) (length (idents xs)) (values_same es j))
 
+  -- outside functions what is no constant is refused
+
+  initial_near : (a : Argument T) → NearArgument Near a → NearArgument Near (initial_argument a)
+  initial_near arguments.Refused h = tt
+  initial_near arguments.Void h = tt
+  initial_near (arguments.«Value» o) h = either (NearArgument Near) (is_some o.constant) (arguments.«Value» o) arguments.Refused h tt
+
+  initials_near : (given : List (Argument T)) → Each (NearArgument Near) given → Each (NearArgument Near) (map initial_argument given)
+  initials_near [] h = tt
+  initials_near (a ∷ given) h = (initial_near a h.0, initials_near given h.1)
+
+  initials_break : (xs : Separated Ident) (t : Option TypeTree) (es : Option (Span × Separated ExprTree)) → initials_faults looks xs (some_written_type looks t) es ≡ initials_faults others xs (some_written_type others t) es
+  initials_break xs t None = refl
+  initials_break xs t (Some es) =
+      let initial : List (Argument T) = map initial_argument (given looks es.1) in
+      ap (fault_at (names_start xs))
+      (alike.variables rules other_rules (some_written_type looks t) (length (idents xs)) (is_call_alone es.1 && not (list_all is_initial (given looks es.1))) initial
+      (each_given Near rules other_rules law.types agree.types (type_if_written (some_written_type looks t)) initial (flat_near (some_written_type looks t) (some_near t)) (initials_near (given looks es.1) (given_near es.1)))
+      ∙ (λ j. initials_rule other_rules (some_same t j) (length (idents xs)) (is_call_alone es.1) (given_same es.1 j)))
+
+  initial_same : (n : ℕ) (t : Option TypeTree) (es : Option (Span × Separated ExprTree)) → initial_types rules (some_written_type looks t) n (values_given looks es) ≡ initial_types other_rules (some_written_type others t) n (values_given others es)
+  initial_same n t es =
+      let initial : List (Argument T) = map initial_argument (values_given looks es) in
+      alike.types rules other_rules (some_written_type looks t) n initial (each_type Near rules other_rules law.types agree.types initial)
+      ∙ (λ j. initial_types other_rules (some_same t j) n (values_same es j))
+
   answer_same : (t : Option TypeTree) (a : Argument T) → NearArgument Near a → constant_answer rules (some_written_type looks t) a ≡ constant_answer other_rules (some_written_type others t) a
   answer_same t a h =
       alike.constants rules other_rules (some_written_type looks t) a
@@ -319,6 +346,30 @@ module _ {T S D P : Type 0} (Near : T → Type 0) (Rest : NearRest S D) (looks o
   names_near kinds.Const xs t es = constant_values_near t (length (idents xs)) (values_given looks es) (values_near es)
   names_near kinds.Var xs t es =
       variables_near (variable_types looks xs (some_written_type looks t) es) (declared_near Near rules other_rules law.types agree.types (some_written_type looks t) (length (idents xs)) (values_given looks es) (some_near t) (values_near es))
+
+  -- specifications outside functions
+
+  outer_own : (k : ValueKind) (xs : Separated Ident) (t : Option TypeTree) (es : Option (Span × Separated ExprTree)) → own_outer_faults looks k xs (some_written_type looks t) es ≡ own_outer_faults others k xs (some_written_type others t) es
+  outer_own kinds.Const xs t es = constants_break xs t es
+  outer_own kinds.Var xs t es = initials_break xs t es
+
+  outer_breaks : (k : ValueKind) (v : ValueSpecTree) → outer_faults looks k v ≡ outer_faults others k v
+  outer_breaks k v = λ j. some_breaks v.type_expr j ++ (values_break v.values j ++ outer_own k v.names v.type_expr v.values j)
+
+  outer_same : (k : ValueKind) (v : ValueSpecTree) → outer_values looks k v ≡ outer_values others k v
+  outer_same kinds.Const v = names_same kinds.Const v.names v.type_expr v.values
+  outer_same kinds.Var v = ap (map variable) (initial_same (length (idents v.names)) v.type_expr v.values)
+
+  outer_near : (k : ValueKind) (v : ValueSpecTree) → Each (IfAny (NearOperand Near)) (outer_values looks k v)
+  outer_near kinds.Const v = names_near kinds.Const v.names v.type_expr v.values
+  outer_near kinds.Var v =
+      let n = length (idents v.names) in
+      let initial : List (Argument T) = map initial_argument (values_given looks v.values) in
+      variables_near (initial_types rules (some_written_type looks v.type_expr) n (values_given looks v.values))
+      (declared_near Near rules other_rules law.types agree.types (some_written_type looks v.type_expr) n initial (some_near v.type_expr) (initials_near (values_given looks v.values) (values_near v.values)))
+
+  pub outer_nearby : (k : ValueKind) (v : ValueSpecTree) → IsOuterNearby Near looks others k v
+  outer_nearby k v = record { near = outer_near k v; values = outer_same k v; faults = outer_breaks k v }
 
   -- targets
 

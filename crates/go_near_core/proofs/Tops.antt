@@ -17,7 +17,7 @@ use Rattle.go_piece_core.specs.Specifications.{spec_uses}
 use Rattle.go_near_core.specs.Near.{NearRest}
 use Rattle.go_near_core.specs.Looks.{AreClosed, LooksAgree}
 use Rattle.go_near_core.proofs.Expressions.{denoted_same, type_used}
-use Rattle.go_near_core.proofs.Pieces.{pieces_nearby}
+use Rattle.go_near_core.proofs.Pieces.{outer_nearby, pieces_nearby}
 
 flat_same : {A B : Type 0} (f g : A → List B) (xs : List A) → ((x : A) → f x ≡ g x) → flat_map f xs ≡ flat_map g xs
 flat_same f g xs h = λ j. flat_map (λ x. h x j) xs
@@ -45,7 +45,7 @@ module _ {T S D P : Type 0} (Near : T → Type 0) (Rest : NearRest S D) (looks o
   initial_same kinds.Var v = initial_values v.values
 
   top_same : (k : ValueKind) (v : ValueSpecTree) → top_spec_faults looks k v ≡ top_spec_faults others k v
-  top_same k v = λ j. (pieces_nearby Near Rest looks others law agree (Spec k v)).faults [] false [] tt j ++ initial_same k v j
+  top_same k v = λ j. (outer_nearby Near Rest looks others law agree k v).faults j ++ initial_same k v j
 
   pub values_break : (d : ValueTree) → value_decl_faults looks d ≡ value_decl_faults others d
   values_break d = specs_same (top_spec_faults looks d.kind) (top_spec_faults others d.kind) d.specs (top_same d.kind)

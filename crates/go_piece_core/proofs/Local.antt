@@ -9,7 +9,7 @@ use Rattle.go_tree_nodes.specs.declared.types.TypeName.TheVariants as type_names
 use Rattle.go_tree_nodes.specs.declared.decls.ValueKind.{ValueKind}
 use Rattle.go_tree_nodes.specs.declared.decls.ValueKind.TheVariants as kinds
 use Rattle.go_tree_nodes.specs.declared.files.Receiver.{Receiver}
-use Rattle.go_tree_nodes.specs.Trees.{Separated, One, Then, TypeTree, ExprTree, Integer, Text, Named, Paren, Unary, Binary, Select, Call, Literal, StructLiteral, NoItems, SignatureTree, ResultTree, ParamTrees, Signed, NoResult, OneResult, Results, NoParams, Param, SimpleTree, Alone, Step, Assign, Update, Define}
+use Rattle.go_tree_nodes.specs.Trees.{Separated, One, Then, TypeTree, ExprTree, ValueSpecTree, Integer, Text, Named, Paren, Unary, Binary, Select, Call, Literal, StructLiteral, NoItems, SignatureTree, ResultTree, ParamTrees, Signed, NoResult, OneResult, Results, NoParams, Param, SimpleTree, Alone, Step, Assign, Update, Define}
 use Rattle.go_tree_nodes.specs.WrittenTypes.{params_types, result_types, signature_types, some_type, values_types, simple_types, exprs_types, expr_types, items_types}
 use Rattle.go_open_core.specs.Blocks.{is_listed, list_name}
 use Rattle.go_walk_core.specs.Ends.{is_blank_target}
@@ -19,13 +19,14 @@ use Rattle.go_local_core.specs.Pieces.{piece_types}
 use Rattle.go_denote_core.specs.declared.things.Stand.TheVariants as stands
 use Rattle.go_denote_core.specs.declared.things.Denoted.{Denoted}
 use Rattle.go_denote_core.specs.declared.things.Denoted.TheVariants as denotes
+use Rattle.go_denote_core.specs.declared.things.Argument.{Argument}
 use Rattle.go_denote_core.specs.declared.things.Found.{Found}
 use Rattle.go_denote_core.specs.Arguments.{argument_of, arguments_of, is_free, single_rule}
 use Rattle.go_expr_core.specs.literal_core.Literals.{literal_type}
 use Rattle.go_statement_core.specs.declared.targets.Target.TheVariants as targets_are
 use Rattle.go_statement_core.specs.Targets.{target_of}
 use Rattle.go_statement_core.specs.Assignments.{assignment_rule}
-use Rattle.go_statement_core.specs.Declarations.{declared_types, variables_rule, short_types}
+use Rattle.go_statement_core.specs.Declarations.{declared_types, variables_rule, initials_rule, short_types}
 use Rattle.go_statement_core.specs.Constants.{constants_rule}
 use Rattle.go_statement_core.specs.Returns.{return_rule}
 use Rattle.go_statement_core.specs.Statements.{statement_rule, condition_rule}
@@ -46,12 +47,12 @@ use Rattle.std.proofs.Common.{append-nil}
 use Rattle.go_piece_core.specs.Values.{variable, is_call_alone, list_start, given, is_unknown}
 use Rattle.go_piece_core.specs.Types.{type_faults, some_written_type, some_type_uses, some_type_faults}
 use Rattle.go_piece_core.specs.Targets.{target, target_uses, target_faults, targets, targets_uses, targets_faults, old_target, short_target, flag_of, flags_behind, short_targets}
-use Rattle.go_piece_core.specs.Specifications.{names_start, values_uses, values_faults, values_given, variables_faults, each_constant_faults, constants_faults, constant_values, own_faults, names_values}
+use Rattle.go_piece_core.specs.Specifications.{names_start, values_uses, values_faults, values_given, variables_faults, each_constant_faults, constants_faults, constant_values, own_faults, names_values, initials_faults, own_outer_faults, outer_values_of}
 use Rattle.go_piece_core.specs.Headers.{receiver_uses, some_starred, named_receiver, receiver_types, of_entry, entry_types, types_of_result, types_of_signature, params_faults, result_faults, signature_faults}
 use Rattle.go_piece_core.specs.Statements.{callee_of, operand_argument, simple_uses, simple_faults}
 use Rattle.go_piece_core.specs.Pieces.{simple_values}
 use Rattle.go_piece_core.specs.Laws as laws
-use Rattle.go_piece_core.specs.Laws.{SamePiece, PiecesAreLocal}
+use Rattle.go_piece_core.specs.Laws.{SamePiece, SameOuter, PiecesAreLocal, OuterIsLocal}
 use Rattle.go_tree_nodes.specs.Idents.{type_name_idents, type_idents, signature_type_idents, result_type_idents, params_idents, expr_idents, items_idents, receiver_type_idents, some_type_idents, list_idents}
 use Rattle.go_walk_core.specs.PieceIdents.{values_idents, target_idents, targets_idents}
 
@@ -358,6 +359,31 @@ module _ {T S D P : Type 0} (looks : Looks T S D P) (find : List ℕ → ℕ →
             (ap (λ b. return_rule looks.types results has_names b (given looks es)) (unknown_same es s) ∙ ap (return_rule looks.types results has_names (is_unknown other es)) (given_same es s)));
         values = λ firsts. refl;
       }
+
+  own_outer_same : (kind : ValueKind) (xs : Separated Ident) (w w' : Option (Option T)) (v : Option (Span × Separated ExprTree)) → w ≡ w' → Both (values_idents v) (values_types v)
+      → own_outer_faults looks kind xs w v ≡ own_outer_faults other kind xs w' v
+  own_outer_same kinds.Const xs w w' v e h = own_same kinds.Const xs w w' v e h
+  own_outer_same kinds.Var xs w w' None e h = refl
+  own_outer_same kinds.Var xs w w' (Some v) e h =
+      ap (λ x. initials_faults looks xs x (Some v)) e
+      ∙ ap (λ g. fault_at (names_start xs) (initials_rule looks.types w' (length (outline.idents xs)) (is_call_alone v.1) g)) (given_same v.1 (list_same v.1 h))
+
+  outer_of_same : (kind : ValueKind) (n : ℕ) (w w' : Option (Option T)) (given given' : List (Argument T)) → w ≡ w' → given ≡ given'
+      → outer_values_of looks.types kind w n given ≡ outer_values_of looks.types kind w' n given'
+  outer_of_same kind n w w' given given' e g = ap (λ x. outer_values_of looks.types kind x n given) e ∙ ap (outer_values_of looks.types kind w' n) g
+
+  outer_same : (kind : ValueKind) (v : ValueSpecTree) → Both (laws.piece_idents (Spec kind v)) (piece_types (Spec kind v)) → SameOuter T S D P looks other kind v
+  outer_same kind v h =
+      let t = some_type_same v.type_expr (left (some_type_idents v.type_expr) (values_idents v.values) (some_type v.type_expr) (values_types v.values) h) in
+      let in_list = right (some_type_idents v.type_expr) (values_idents v.values) (some_type v.type_expr) (values_types v.values) h in
+      let s = values_same v.values in_list in
+      record {
+        faults = pieces _ _ _ _ t.2 (pieces _ _ _ _ s.2 (own_outer_same kind v.names (some_written_type looks v.type_expr) (some_written_type other v.type_expr) v.values t.0 in_list));
+        values = outer_of_same kind (length (outline.idents v.names)) (some_written_type looks v.type_expr) (some_written_type other v.type_expr) (values_given looks v.values) (values_given other v.values) t.0 s.0;
+      }
+
+pub outer_local : (T S D P : Type 0) → OuterIsLocal T S D P
+outer_local T S D P looks find written kind v h k = outer_same looks find written kind v (h, k)
 
 pub pieces_local : (T S D P : Type 0) → PiecesAreLocal T S D P
 pieces_local T S D P looks find written p h k = piece_same looks find written p (h, k)

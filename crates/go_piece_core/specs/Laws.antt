@@ -4,7 +4,8 @@
 -- specification, "Declarations and scope".
 use Rattle.std.specs.Prelude.{◌≡◌, ℕ, ⊤, Bool, List, [], ◌++◌, length, map, Option}
 use Rattle.go_tree_nodes.specs.declared.names.Ident.{Ident}
-use Rattle.go_tree_nodes.specs.Trees.{SimpleTree, Alone, Step, Assign, Update, Define, FuncTree}
+use Rattle.go_tree_nodes.specs.declared.decls.ValueKind.{ValueKind}
+use Rattle.go_tree_nodes.specs.Trees.{ValueSpecTree, SimpleTree, Alone, Step, Assign, Update, Define, FuncTree}
 use Rattle.go_tree_nodes.specs.Rules.{Wf, Wf_values, Wf_simple, Wf_some_exprs}
 use Rattle.go_tree_core.specs.declared.occurrence.Context.TheVariants as contexts
 use Rattle.go_tree_core.specs.declared.occurrence.Occ.{Occ}
@@ -23,6 +24,7 @@ use Rattle.go_expr_core.specs.Looks.{Looks, WrittenRules}
 use Rattle.go_expr_core.specs.Laws as expressions
 use Rattle.go_expr_core.specs.Locality.{SameWritten, seeing}
 use Rattle.go_piece_core.specs.Pieces.{piece_uses, piece_faults, piece_values}
+use Rattle.go_piece_core.specs.Specifications.{outer_faults, outer_values}
 use Rattle.go_local_core.specs.Pieces.{piece_declares, piece_types}
 use Rattle.go_tree_nodes.specs.Idents.{expr_idents, list_idents, receiver_type_idents, returned_idents, signature_type_idents, some_type_idents}
 use Rattle.go_walk_core.specs.PieceIdents.{targets_idents, values_idents}
@@ -90,6 +92,15 @@ pub record SamePiece (T S D P : Type 0) (looks other : Looks T S D P) (p : Piece
 abbrev pub PiecesAreLocal : (T S D P : Type 0) → Type 0
 PiecesAreLocal T S D P = (looks : Looks T S D P) (find : List ℕ → ℕ → Found T S D) (written : WrittenRules T) (p : Piece)
     → expressions.AgreeOnIdents looks.find find (piece_idents p) → SameWritten looks (seeing find written looks) (piece_types p) → SamePiece T S D P looks (seeing find written looks) p
+
+-- so it is of a specification outside functions
+pub record SameOuter (T S D P : Type 0) (looks other : Looks T S D P) (kind : ValueKind) (v : ValueSpecTree) : Type 0 where
+  pub faults : outer_faults looks kind v ≡ outer_faults other kind v
+  pub values : outer_values looks kind v ≡ outer_values other kind v
+
+abbrev pub OuterIsLocal : (T S D P : Type 0) → Type 0
+OuterIsLocal T S D P = (looks : Looks T S D P) (find : List ℕ → ℕ → Found T S D) (written : WrittenRules T) (kind : ValueKind) (v : ValueSpecTree)
+    → expressions.AgreeOnIdents looks.find find (piece_idents (Spec kind v)) → SameWritten looks (seeing find written looks) (piece_types (Spec kind v)) → SameOuter T S D P looks (seeing find written looks) kind v
 
 -- rules that are made of what pieces have, break and declare, by look-ups that are made of what names mean
 

@@ -14,7 +14,7 @@ use Rattle.go_operand_core.specs.declared.types.Operand.{Operand}
 use Rattle.go_operand_core.specs.TypeRules.{TypeRules}
 use Rattle.go_denote_core.specs.declared.things.Argument.{Argument}
 use Rattle.go_denote_core.specs.declared.things.Argument.TheVariants as arguments
-use Rattle.go_statement_core.specs.Declarations.{declared_types, variables_rule}
+use Rattle.go_statement_core.specs.Declarations.{declared_types, variables_rule, initials_rule, initial_types}
 use Rattle.go_statement_core.specs.Constants.{constants_rule, constant_answer}
 use Rattle.go_expr_core.specs.declared.things.Use.{Use}
 use Rattle.go_local_core.specs.declared.Fault.{Fault}
@@ -53,6 +53,12 @@ variables_faults looks xs written (Some es) = fault_at (names_start xs) (variabl
 
 abbrev pub variable_types : {T S D P : Type 0} → Looks T S D P → Separated Ident → Option (Option T) → Option (Span × Separated ExprTree) → List (Option T)
 variable_types looks xs written es = declared_types looks.types written (length (idents xs)) (values_given looks es)
+
+-- variables outside functions: what is no constant is refused
+
+abbrev pub initials_faults : {T S D P : Type 0} → Looks T S D P → Separated Ident → Option (Option T) → Option (Span × Separated ExprTree) → List Fault
+initials_faults looks xs written None = []
+initials_faults looks xs written (Some es) = fault_at (names_start xs) (initials_rule looks.types written (length (idents xs)) (is_call_alone es.1) (given looks es.1))
 
 -- constants
 
@@ -100,3 +106,21 @@ names_values looks kinds.Var xs written es = map variable (variable_types looks 
 
 abbrev pub spec_values : {T S D P : Type 0} → Looks T S D P → ValueKind → ValueSpecTree → List (Option (Operand T))
 spec_values looks kind v = names_values looks kind v.names (some_written_type looks v.type_expr) v.values
+
+-- outside functions
+
+abbrev pub own_outer_faults : {T S D P : Type 0} → Looks T S D P → ValueKind → Separated Ident → Option (Option T) → Option (Span × Separated ExprTree) → List Fault
+own_outer_faults looks kinds.Const xs written es = constants_faults looks xs written es
+own_outer_faults looks kinds.Var xs written es = initials_faults looks xs written es
+
+-- what a specification outside functions breaks, but for the rule of what is no constant
+abbrev pub outer_faults : {T S D P : Type 0} → Looks T S D P → ValueKind → ValueSpecTree → List Fault
+outer_faults looks kind v = some_type_faults looks v.type_expr ++ (values_faults looks v.values ++ own_outer_faults looks kind v.names (some_written_type looks v.type_expr) v.values)
+
+-- what each of so many names stands for there, by the type that is written and the values that are given
+abbrev pub outer_values_of : {T : Type 0} → TypeRules T → ValueKind → Option (Option T) → ℕ → List (Argument T) → List (Option (Operand T))
+outer_values_of rules kinds.Const written n given = constant_values rules written n given
+outer_values_of rules kinds.Var written n given = map variable (initial_types rules written n given)
+
+abbrev pub outer_values : {T S D P : Type 0} → Looks T S D P → ValueKind → ValueSpecTree → List (Option (Operand T))
+outer_values looks kind v = outer_values_of looks.types kind (some_written_type looks v.type_expr) (length (idents v.names)) (values_given looks v.values)

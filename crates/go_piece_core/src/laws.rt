@@ -1,6 +1,6 @@
 //! Laws of the pieces of functions.
 ghost use Rattle.go_piece_core.specs.Worked.{WorkedPieces};
-ghost use Rattle.go_piece_core.specs.Laws.{PiecesHaveOccurrences, NamesHaveValues, PiecesAreLocal, PiecesLookAtNames};
+ghost use Rattle.go_piece_core.specs.Laws.{PiecesHaveOccurrences, NamesHaveValues, OuterIsLocal, PiecesAreLocal, PiecesLookAtNames};
 
 /// A law, with nothing to run: what is noted of a piece stands where its occurrences stand, with their roles and in their order, so that
 /// each has exactly one outcome; and the occurrences of a function are those of its pieces.
@@ -17,6 +17,11 @@ pub fn names_have_values<T, S, D, P>()
 /// writes, make the same of it.
 pub fn pieces_are_local<T, S, D, P>()
     ensures { PiecesAreLocal T S D P }
+{}
+
+/// A law, with nothing to run: and so it is of a specification outside functions.
+pub fn outer_is_local<T, S, D, P>()
+    ensures { OuterIsLocal T S D P }
 {}
 
 /// A law, with nothing to run: rules that are made of what pieces have, break and declare look at the names of a piece alone, if what a

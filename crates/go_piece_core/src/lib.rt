@@ -19,10 +19,10 @@ mod variables;
 
 pub use headers::{check_header, function_results, has_named_results};
 pub use laws::{
-    names_have_values, pieces_are_local, pieces_have_occurrences, pieces_look_at_names,
-    worked_pieces,
+    names_have_values, outer_is_local, pieces_are_local, pieces_have_occurrences,
+    pieces_look_at_names, worked_pieces,
 };
-pub use pieces::{check_simple, check_spec};
+pub use pieces::{check_outer_spec, check_simple, check_spec};
 pub use returns::check_returned;
 pub use shorts::check_short;
 pub use statements::check_condition;

@@ -8,7 +8,7 @@ ghost use Rattle.go_piece_core.specs.Statements as statements;
 use crate::constants::check_constants;
 use crate::shorts::check_short;
 use crate::statements::{check_alone, check_assign, check_step, check_update};
-use crate::variables::check_variables;
+use crate::variables::{check_initials, check_variables};
 use go_expr_core::{Exprs, Notes};
 use go_operand_core::Operand;
 use go_tree_nodes::{Simple, ValueKind, ValueSpec};
@@ -37,6 +37,33 @@ pub fn check_spec<E: Exprs>(
     match kind {
         ValueKind::Const => check_constants(env, alloc, spec, notes),
         ValueKind::Var => check_variables(env, alloc, spec, notes),
+    }
+}
+
+/// Notes what a specification of constants or variables outside functions has and breaks, but for the rule of what is no constant.
+///
+/// As [`check_spec`] does, but that a value of a variable that is no constant is refused: it breaks no Y4 by what it is, and a call that
+/// stands alone none by how many values it has. The Go specification, "Constant declarations", "Variable declarations".
+///
+/// # Errors
+///
+/// `AllocError` where memory is wanting, or a text has too many owners; then some may be noted.
+pub fn check_outer_spec<E: Exprs>(
+    env: &E,
+    alloc: Global,
+    kind: ValueKind,
+    spec: &ValueSpec,
+    notes: &mut Notes<E::Decl, E::Path>,
+) -> Result<(), AllocError>
+    ensures uses { OnOk result (notes.new.uses.items ≡ notes.old.uses.items ++ specifications.spec_uses (everywhere (E.types env.now) (E.names env.now) (E.literals env.now) (E.written env.now)) (shape_value_spec spec.now)) }
+    ensures faults { OnOk result (notes.new.faults.items ≡ notes.old.faults.items ++ specifications.outer_faults (everywhere (E.types env.now) (E.names env.now) (E.literals env.now) (E.written env.now)) kind (shape_value_spec spec.now)) }
+{
+    match kind {
+        ValueKind::Const => {
+            check_constants(env, alloc, spec, notes)?;
+            Ok(())
+        }
+        ValueKind::Var => check_initials(env, alloc, spec, notes),
     }
 }
 

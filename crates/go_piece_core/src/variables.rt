@@ -8,11 +8,11 @@ ghost use Rattle.go_expr_core.specs.Looks.{everywhere};
 ghost use Rattle.go_piece_core.specs.Specifications as specifications;
 
 use crate::given::check_list;
-use crate::starts::names_start;
+use crate::starts::{is_lone_call, names_start};
 use crate::types::{check_some_type, variables};
 use go_expr_core::{Exprs, Notes, note_fault};
 use go_operand_core::Operand;
-use go_statement_core::{declared_types, variables_rule};
+use go_statement_core::{declared_types, initials_rule, variables_rule};
 use go_tree_nodes::{Idents, ValueSpec, Values};
 use std::alloc::{AllocError, Global};
 
@@ -50,6 +50,45 @@ fn give<E: Exprs>(
             declared_types(env, alloc, written, count, list)
         }
     }
+}
+
+// The list of a specification of variables outside functions, where one stands, by the type that is written.
+fn give_initials<E: Exprs>(
+    env: &E,
+    alloc: Global,
+    names: &Idents,
+    written: &Option<Option<E::Type>>,
+    values: &Option<Values>,
+    notes: &mut Notes<E::Decl, E::Path>,
+) -> Result<(), AllocError>
+    ensures uses { OnOk result (notes.new.uses.items ≡ notes.old.uses.items ++ specifications.values_uses (everywhere (E.types env.now) (E.names env.now) (E.literals env.now) (E.written env.now)) (shape_values values.now)) }
+    ensures faults { OnOk result (notes.new.faults.items ≡ notes.old.faults.items ++ (specifications.values_faults (everywhere (E.types env.now) (E.names env.now) (E.literals env.now) (E.written env.now)) (shape_values values.now) ++ specifications.initials_faults (everywhere (E.types env.now) (E.names env.now) (E.literals env.now) (E.written env.now)) (shape_idents names.now) written.now (shape_values values.now))) }
+{
+    let count = count_names(names);
+    match values {
+        None => Ok(()),
+        Some(values) => {
+            let exprs = &values.exprs;
+            let given = check_list(env, alloc, exprs, notes)?;
+            let is_call = is_lone_call(exprs);
+            let rule = initials_rule(env, alloc, written, count, is_call, given.values)?;
+            note_fault(&mut notes.faults, names_start(names), rule)
+        }
+    }
+}
+
+/// Checks a specification of variables outside functions.
+pub(crate) fn check_initials<E: Exprs>(
+    env: &E,
+    alloc: Global,
+    spec: &ValueSpec,
+    notes: &mut Notes<E::Decl, E::Path>,
+) -> Result<(), AllocError>
+    ensures uses { OnOk result (notes.new.uses.items ≡ notes.old.uses.items ++ specifications.spec_uses (everywhere (E.types env.now) (E.names env.now) (E.literals env.now) (E.written env.now)) (shape_value_spec spec.now)) }
+    ensures faults { OnOk result (notes.new.faults.items ≡ notes.old.faults.items ++ specifications.outer_faults (everywhere (E.types env.now) (E.names env.now) (E.literals env.now) (E.written env.now)) kinds.Var (shape_value_spec spec.now)) }
+{
+    let written = check_some_type(env, alloc, &spec.type_expr, notes)?;
+    give_initials(env, alloc, &spec.names, &written, &spec.values, notes)
 }
 
 /// Checks a specification of variables, and answers what they stand for: none for one without a type.

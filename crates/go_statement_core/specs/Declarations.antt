@@ -1,8 +1,8 @@
 -- The types of variables that are declared, and the rule of their declaration.
 --
--- docs/RULES.md, "Assignments, declarations, returns, statements". The Go specification, "Variable declarations", "Short variable
+-- docs/RULES.md, "Assignments, declarations, returns, statements", "Declarations outside functions". The Go specification, "Variable declarations", "Short variable
 -- declarations".
-use Rattle.std.specs.Prelude.{ℕ, Bool, ◌==◌, List, [], ◌∷◌, length, map, replicate, Option, Some, None, if◌then◌else◌}
+use Rattle.std.specs.Prelude.{ℕ, Bool, false, ◌&&◌, not, is_some, ◌==◌, List, [], ◌∷◌, length, map, replicate, Option, Some, None, if◌then◌else◌}
 use Rattle.std.specs.List.{list_all}
 use Rattle.go_text_core.specs.declared.rule.Rule.{Rule}
 use Rattle.go_text_core.specs.declared.rule.Rule.TheVariants.{Y4}
@@ -36,6 +36,31 @@ variables_rule rules written count is_free given =
     if is_free
     then None
     else (if count == length given then unless (list_all (takes_argument rules (declared_target written)) given) else Some Y4)
+
+-- outside functions
+
+-- a constant
+abbrev pub is_initial : {T : Type 0} → Argument T → Bool
+is_initial arguments.Refused = false
+is_initial arguments.Void = false
+is_initial (arguments.«Value» operand) = is_some operand.constant
+
+-- what a variable is given there: a constant; what is none is refused
+abbrev pub initial_argument : {T : Type 0} → Argument T → Argument T
+initial_argument arguments.Refused = arguments.Refused
+initial_argument arguments.Void = arguments.Refused
+initial_argument (arguments.«Value» operand) = if is_some operand.constant then arguments.«Value» operand else arguments.Refused
+
+-- the rule of variables there: nothing is known of the values where the only member of their list is a call that is no constant
+abbrev pub initials_rule : {T : Type 0} → TypeRules T → Option (Option T) → ℕ → Bool → List (Argument T) → Option Rule
+initials_rule rules written count is_lone_call given =
+    variables_rule rules written count (is_lone_call && not (list_all is_initial given)) (map initial_argument given)
+
+-- their types
+abbrev pub initial_types : {T : Type 0} → TypeRules T → Option (Option T) → ℕ → List (Argument T) → List (Option T)
+initial_types rules written count given = declared_types rules written count (map initial_argument given)
+
+-- short declarations
 
 -- a new variable has the type that it is given, and one that was declared before keeps its own
 abbrev pub type_after : {T : Type 0} → TypeRules T → Target T → Argument T → Option T

@@ -146,6 +146,80 @@ pub fn variables_rule<E: TypeLooks>(
     Ok(unless(takes_all(env, alloc, &target, given)?))
 }
 
+fn is_initial<T: Drop>(argument: &Argument<T>) -> bool
+    ensures { result ≡ declarations.is_initial argument.now }
+{
+    match argument {
+        Argument::Refused | Argument::Void => false,
+        Argument::Value(operand) => operand.constant.is_some(),
+    }
+}
+
+#[tactic(auto, using(crate::proofs::Turns::all_turn))]
+fn are_initial<T: Drop>(given: &[Argument<T>]) -> bool
+    ensures { result ≡ list_all declarations.is_initial given.now }
+{
+    for argument in given {
+        if !is_initial(argument) {
+            return false;
+        }
+    }
+    true
+}
+
+/// What a variable outside functions is given: the value, where it is a constant. What is none is refused, whatever it is: that it is no
+/// constant is its own rule.
+pub fn initial_argument<T: Drop>(argument: Argument<T>) -> Argument<T>
+    ensures { result ≡ declarations.initial_argument argument }
+{
+    match argument {
+        Argument::Value(operand) => {
+            if operand.constant.is_some() {
+                Argument::Value(operand)
+            } else {
+                Argument::Refused
+            }
+        }
+        Argument::Refused | Argument::Void => Argument::Refused,
+    }
+}
+
+fn initial_arguments<T: Drop>(
+    alloc: Global,
+    given: Vec<Argument<T>>,
+) -> Result<Vec<Argument<T>>, AllocError>
+    ensures { IfOk result (λ all. all.items ≡ map declarations.initial_argument given.items) }
+{
+    let mut all = Vec::with_capacity(alloc, given.len())?;
+    for argument in given {
+        all.push(initial_argument(argument))?;
+    }
+    Ok(all)
+}
+
+/// The rule that a specification of variables outside functions with a list of values breaks, if it breaks one: Y4.
+///
+/// As [`variables_rule`] says, but that a value that is no constant is refused: it breaks this rule by its count alone, and where it is a
+/// call that stands alone, by nothing.
+///
+/// # Errors
+///
+/// `AllocError` where memory is wanting.
+pub fn initials_rule<E: TypeLooks>(
+    env: &E,
+    alloc: Global,
+    written: &Option<Option<E::Type>>,
+    count: usize,
+    is_lone_call: bool,
+    given: Vec<Argument<E::Type>>,
+) -> Result<Option<Rule>, AllocError>
+    ensures { IfOk result (λ rule. rule ≡ declarations.initials_rule (E.types env.now) written.now count is_lone_call given.items) }
+{
+    let is_free = is_lone_call && !are_initial(&given);
+    let initial = initial_arguments(alloc, given)?;
+    variables_rule(env, alloc, written, count, is_free, &initial)
+}
+
 fn type_after<E: TypeLooks>(
     env: &E,
     target: &Target<E::Type>,

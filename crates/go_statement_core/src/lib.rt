@@ -19,7 +19,9 @@ mod updates;
 
 pub use assignments::assignment_rule;
 pub use constants::{ConstantAnswer, constant_answer, constants_rule};
-pub use declarations::{declared_types, short_types, some_type_again, variables_rule};
+pub use declarations::{
+    declared_types, initial_argument, initials_rule, short_types, some_type_again, variables_rule,
+};
 pub use laws::{
     assignments_stand, calls_stand, conditions_are_boolean, constants_are_declared, returns_stand,
     short_declarations, statements_are_local, targets_are_addressable, updates_stand,

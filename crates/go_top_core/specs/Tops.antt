@@ -9,7 +9,7 @@ use Rattle.go_expr_core.specs.declared.things.Use.{Use}
 use Rattle.go_local_core.specs.declared.Fault.{Fault}
 use Rattle.go_expr_core.specs.Looks.{Looks}
 use Rattle.go_expr_core.specs.TypeUses.{type_uses}
-use Rattle.go_piece_core.specs.Specifications.{spec_uses, spec_faults}
+use Rattle.go_piece_core.specs.Specifications.{spec_uses, outer_faults}
 use Rattle.go_inline_core.specs.Inline.{repeated_params}
 use Rattle.go_top_core.specs.Initial.{initial_faults}
 
@@ -17,7 +17,7 @@ use Rattle.go_top_core.specs.Initial.{initial_faults}
 
 -- what is amiss in a specification, and in its initialisers where it is one of variables
 abbrev pub top_spec_faults : {T S D P : Type 0} → Looks T S D P → ValueKind → ValueSpecTree → List Fault
-top_spec_faults looks kind v = spec_faults looks kind v ++ initial_faults looks kind v
+top_spec_faults looks kind v = outer_faults looks kind v ++ initial_faults looks kind v
 
 abbrev pub value_decl_uses : {T S D P : Type 0} → Looks T S D P → ValueTree → List (Use D P)
 value_decl_uses looks d = of_specs (spec_uses looks) d.specs

@@ -8,7 +8,7 @@ ghost use Rattle.go_top_core.specs.Tops as tops;
 
 use crate::initial::note_initials;
 use go_expr_core::{Exprs, Notes};
-use go_piece_core::check_spec;
+use go_piece_core::check_outer_spec;
 use go_tree_nodes::{ValueDecl, ValueKind, ValueLine, ValueSpec, ValueSpecs};
 use std::alloc::{AllocError, Global};
 
@@ -23,7 +23,7 @@ fn check_top_spec<E: Exprs>(
     ensures uses { OnOk result (notes.new.uses.items ≡ notes.old.uses.items ++ spec_uses (everywhere (E.types env.now) (E.names env.now) (E.literals env.now) (E.written env.now)) (shape_value_spec spec.now)) }
     ensures faults { OnOk result (notes.new.faults.items ≡ notes.old.faults.items ++ tops.top_spec_faults (everywhere (E.types env.now) (E.names env.now) (E.literals env.now) (E.written env.now)) kind (shape_value_spec spec.now)) }
 {
-    check_spec(env, alloc, kind, spec, notes)?;
+    check_outer_spec(env, alloc, kind, spec, notes)?;
     note_initials(env, alloc, kind, spec, &mut notes.faults)
 }
 
@@ -45,8 +45,8 @@ fn check_lines<E: Exprs>(
 }
 
 /// Notes what the identifiers and calls of a declaration of constants or variables outside functions have, in order of their places, and
-/// its faults: those of its specifications, and X1 at each initialiser of a variable that is not constant, be it refused or not. What names
-/// mean at the top of the file is what the environment says.
+/// its faults: those of its specifications, and X1 at each initialiser of a variable that is not constant, be it refused or not. Such an
+/// initialiser is a refused operand, and breaks no Y4. What names mean at the top of the file is what the environment says.
 ///
 /// # Errors
 ///

@@ -1,6 +1,7 @@
 -- What a name of a specification stands for follows from its own expression.
-use Rattle.std.proofs.Common.{◌≡◌, ℕ, zero, suc, ◌+◌, ◌-◌, ◌<◌, ◌≤◌, Bool, true, false, inl, inr, List, [], ◌∷◌, ◌==◌, map, replicate, length, get_or, slice_get, refl, sym, ap, subst, ◌∙◌, arith, if◌then◌else◌}
-use Rattle.std.specs.Prelude.{Option, Some, None, Result, IfOk, slice_index_or, nat_lt}
+use Rattle.std.proofs.Common.{◌≡◌, ℕ, zero, suc, ◌+◌, ◌-◌, ◌<◌, ◌≤◌, Bool, true, false, ◌&&◌, inl, inr, List, [], ◌∷◌, ◌==◌, map, replicate, length, get_or, slice_get, refl, sym, ap, subst, ◌∙◌, arith, if◌then◌else◌}
+use Rattle.std.specs.Prelude.{Option, Some, None, IsSome, is_some, Result, IfOk, slice_index_or, nat_lt}
+use Rattle.std.specs.List.{list_all}
 use Rattle.std.specs.Option.{option_map}
 use Rattle.std.proofs.lemmas.Bool.{cases_lt, eqb-true, eq-eqb}
 use Rattle.std.proofs.lemmas.Bool.Decides.{eqb_tells}
@@ -14,8 +15,9 @@ use Rattle.go_tree_nodes.specs.declared.decls.ValueKind.{ValueKind}
 use Rattle.go_tree_nodes.specs.declared.decls.ValueKind.TheVariants as kinds
 use Rattle.go_tree_nodes.specs.TypeShapes.{idents_from}
 use Rattle.go_tree_nodes.specs.Shapes.{shape, exprs_from}
-use Rattle.go_tree_nodes.specs.Trees.{Separated, One, Then, ExprTree, ValueSpecTree}
+use Rattle.go_tree_nodes.specs.Trees.{Separated, One, Then, TypeTree, ExprTree, ValueSpecTree}
 use Rattle.go_local_core.specs.Outline.{idents}
+use Rattle.go_constant_core.specs.declared.values.Constant.{Constant}
 use Rattle.go_operand_core.specs.declared.types.Operand.{Operand}
 use Rattle.go_operand_core.specs.TypeRules.{TypeRules}
 use Rattle.go_denote_core.specs.declared.things.Found.{Found}
@@ -26,7 +28,7 @@ use Rattle.go_denote_core.specs.declared.things.Argument.{Argument}
 use Rattle.go_denote_core.specs.declared.things.Argument.TheVariants as arguments
 use Rattle.go_denote_core.specs.Arguments.{argument_of, arguments_of}
 use Rattle.go_denote_core.specs.Look.{Look}
-use Rattle.go_statement_core.specs.Declarations.{given_type, declared_types}
+use Rattle.go_statement_core.specs.Declarations.{given_type, declared_types, is_initial, initial_argument, initial_types}
 use Rattle.go_expr_core.specs.Looks.{Looks, look_of_place}
 use Rattle.go_expr_core.specs.Places.{start}
 use Rattle.go_expr_core.specs.Denoting.{denoted}
@@ -35,6 +37,7 @@ use Rattle.go_expr_core.specs.Laws.{AgreeOnIdents, LooksAtNames, finding}
 use Rattle.go_expr_core.proofs.Alike.{needed_names}
 use Rattle.go_value_core.specs.Initial.{spec_name_count, some_written_type, values_given, variable, constant_value, constant_values, values_of, initialiser_values, initial, exprs, expr_in, expr_behind, expr_of, some_needed, initial_idents}
 use Rattle.go_piece_core.specs.Specifications as pieces
+use Rattle.go_value_core.specs.Laws.{SpecificationsAreAlike}
 use Rattle.go_value_core.specs.mirrors.Own.{one_of, is_one, is_alone, given_by, own_argument, type_from, value_from}
 
 -- counts
@@ -151,6 +154,19 @@ module _ {T : Type 0} (rules : TypeRules T) where
       let within : i < length (replicate {A = Option T} n None) = omega (arith, lt, length-replicate {A = Option T} n None) in
       get_or-map variable (replicate n None) i None None within ∙ ap variable (get_or-replicate {A = Option T} n i None None lt)
 
+  -- one of the values, of which each is a constant or refused
+  chosen_initial : (n i : ℕ) (given : List (Argument T)) → i < n → (b : Bool) → (n == length given) ≡ b
+      → (if b then get_or (map initial_argument given) i arguments.Refused else arguments.Refused) ≡ initial_argument (if b then get_or given i arguments.Refused else arguments.Refused)
+  chosen_initial n i given lt true h =
+      let inside : i < length given = omega (arith, lt, eqb-true n (length given) h) in
+      get_or-map initial_argument given i arguments.Refused arguments.Refused inside
+  chosen_initial n i given lt false h = refl
+
+  one_initial : (n i : ℕ) (given : List (Argument T)) → i < n → one_of n i (map initial_argument given) ≡ initial_argument (one_of n i given)
+  one_initial n i given lt =
+      ap (λ m. if n == m then get_or (map initial_argument given) i arguments.Refused else arguments.Refused) (length-map given initial_argument)
+      ∙ chosen_initial n i given lt (n == length given) refl
+
   typed_at : (n i : ℕ) (t : Option T) → i < n → get_or (map variable (replicate n t)) i None ≡ variable t
   typed_at n i t lt =
       let within : i < length (replicate n t) = omega (arith, lt, length-replicate n t) in
@@ -158,7 +174,9 @@ module _ {T : Type 0} (rules : TypeRules T) where
 
   pub value_at : (kind : ValueKind) (w : Option (Option T)) (n i : ℕ) (given : List (Argument T)) → i < n → get_or (values_of rules kind w n given) i None ≡ value_from rules kind w (one_of n i given)
   value_at kinds.Const w n i given lt = constant_at w n i given lt (n == length given) refl
-  value_at kinds.Var None n i given lt = variable_at n i given lt (n == length given) refl
+  value_at kinds.Var None n i given lt =
+      let initial_given : List (Argument T) = map initial_argument given in
+      variable_at n i initial_given lt (n == length initial_given) refl ∙ ap (λ a. variable (given_type rules a)) (one_initial n i given lt)
   value_at kinds.Var (Some t) n i given lt = typed_at n i t lt
 
   all_counted : (w : Option (Option T)) (n : ℕ) (given : List (Argument T)) (b : Bool) → (n == length given) ≡ b
@@ -172,7 +190,9 @@ module _ {T : Type 0} (rules : TypeRules T) where
 
   pub values_counted : (kind : ValueKind) (w : Option (Option T)) (n : ℕ) (given : List (Argument T)) → length (values_of rules kind w n given) ≡ n
   values_counted kinds.Const w n given = all_counted w n given (n == length given) refl
-  values_counted kinds.Var None n given = length-map (declared_types rules None n given) variable ∙ types_counted n given (n == length given) refl
+  values_counted kinds.Var None n given =
+      let initial_given : List (Argument T) = map initial_argument given in
+      length-map (declared_types rules None n initial_given) variable ∙ types_counted n initial_given (n == length initial_given) refl
   values_counted kinds.Var (Some t) n given = length-map (replicate n t) variable ∙ length-replicate n t
 
 -- a name
@@ -192,9 +212,34 @@ initial_past looks kind v i h =
 
 -- what the names of a specification stand for, inside functions and outside
 
-pub specifications_alike : {T S D P : Type 0} (looks : Looks T S D P) (kind : ValueKind) (v : ValueSpecTree) → initialiser_values looks kind v ≡ pieces.spec_values looks kind v
-specifications_alike looks kinds.Const v = refl
-specifications_alike looks kinds.Var v = refl
+pub outer_alike : {T S D P : Type 0} (looks : Looks T S D P) (kind : ValueKind) (v : ValueSpecTree) → initialiser_values looks kind v ≡ pieces.outer_values looks kind v
+outer_alike looks kinds.Const v = refl
+outer_alike looks kinds.Var v = refl
+
+kept_first : {T : Type 0} (o : Operand T) (k : Option Constant) (given : List (Argument T)) → (list_all is_initial given ≡ true → map initial_argument given ≡ given) → (is_some k && list_all is_initial given) ≡ true
+    → (if is_some k then arguments.«Value» o else arguments.Refused) ∷ map initial_argument given ≡ arguments.«Value» o ∷ given
+kept_first o (Some k) given rest h = ap (λ l. arguments.«Value» o ∷ l) (rest h)
+kept_first o None given rest h = absurd cc
+
+-- constants stay what they are
+pub all_kept : {T : Type 0} (given : List (Argument T)) → list_all is_initial given ≡ true → map initial_argument given ≡ given
+all_kept [] h = refl
+all_kept (arguments.Refused ∷ given) h = absurd cc
+all_kept (arguments.Void ∷ given) h = absurd cc
+all_kept (arguments.«Value» o ∷ given) h = kept_first o o.constant given (all_kept given) h
+
+typed_alike : {T S D P : Type 0} (looks : Looks T S D P) (t : Option TypeTree) (n : ℕ) (given : List (Argument T)) → IsSome t
+    → map variable (initial_types looks.types (some_written_type looks t) n given) ≡ map variable (declared_types looks.types (some_written_type looks t) n given)
+typed_alike looks None n given h = absurd cc
+typed_alike looks (Some t) n given h = refl
+
+pub specifications_alike : {T S D P : Type 0} → SpecificationsAreAlike T S D P
+specifications_alike = record {
+  outer = λ looks kind v. outer_alike looks kind v;
+  constants = λ looks v. refl;
+  variables = λ looks v h. ap (λ l. map variable (declared_types looks.types (some_written_type looks v.type_expr) (spec_name_count v) l)) (all_kept (values_given looks v.values) h);
+  written = λ looks v h. typed_alike looks v.type_expr (spec_name_count v) (values_given looks v.values) h;
+}
 
 -- it looks at the names that it needs
 

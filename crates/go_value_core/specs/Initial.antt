@@ -12,7 +12,7 @@ use Rattle.go_local_core.specs.Outline.{idents}
 use Rattle.go_operand_core.specs.declared.types.Operand.{Operand}
 use Rattle.go_operand_core.specs.TypeRules.{TypeRules}
 use Rattle.go_denote_core.specs.declared.things.Argument.{Argument}
-use Rattle.go_statement_core.specs.Declarations.{declared_types}
+use Rattle.go_statement_core.specs.Declarations.{initial_types}
 use Rattle.go_expr_core.specs.Looks.{Looks}
 use Rattle.go_expr_core.specs.Needed.{needed_idents}
 pub use Rattle.go_piece_core.specs.Types.{some_written_type}
@@ -27,10 +27,11 @@ spec_name_count v = length (idents v.names)
 
 -- what the names stand for
 
--- each name of a specification, by the type that is written and the values that are given
+-- each name of a specification, by the type that is written and the values that are given; what a variable is given that is no constant
+-- is refused
 abbrev pub values_of : {T : Type 0} → TypeRules T → ValueKind → Option (Option T) → ℕ → List (Argument T) → List (Option (Operand T))
 values_of rules kinds.Const written n given = constant_values rules written n given
-values_of rules kinds.Var written n given = map variable (declared_types rules written n given)
+values_of rules kinds.Var written n given = map variable (initial_types rules written n given)
 
 abbrev pub initialiser_values : {T S D P : Type 0} → Looks T S D P → ValueKind → ValueSpecTree → List (Option (Operand T))
 initialiser_values looks kind v = values_of looks.types kind (some_written_type looks v.type_expr) (spec_name_count v) (values_given looks v.values)

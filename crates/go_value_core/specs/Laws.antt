@@ -1,9 +1,12 @@
 -- Laws of the constants and variables of a package.
-use Rattle.std.specs.Prelude.{◌≡◌, ℕ, ⊤, List, [], ◌∷◌, Option, None, Contains}
+use Rattle.std.specs.Prelude.{◌≡◌, ℕ, ⊤, true, List, [], ◌∷◌, Option, None, IsSome, Contains}
+use Rattle.std.specs.List.{list_all}
 use Rattle.go_tree_nodes.specs.declared.decls.ValueKind.{ValueKind}
+use Rattle.go_tree_nodes.specs.declared.decls.ValueKind.TheVariants as kinds
 use Rattle.go_tree_nodes.specs.Trees.{ValueSpecTree}
 use Rattle.go_decl_core.specs.TopDecls.{FormTree, ValueForm, TypeForm, FuncForm}
 use Rattle.go_denote_core.specs.declared.things.Found.{Found}
+use Rattle.go_statement_core.specs.Declarations.{is_initial}
 use Rattle.go_expr_core.specs.Looks.{Looks}
 use Rattle.go_expr_core.specs.Laws.{AgreeOnIdents, LooksAtNames, finding}
 use Rattle.go_env_core.specs.face_core.Faces.{TheFace}
@@ -36,9 +39,14 @@ NeededNamesDecide T S D P = (looks : Looks T S D P) (find : List ℕ → ℕ →
     → LooksAtNames T looks.written → some_written_type looks v.type_expr ≡ some_written_type (finding find looks) v.type_expr → AgreeOnIdents looks.find find (initial_idents v i)
     → initial looks kind v i ≡ initial (finding find looks) kind v i
 
--- what the names of a specification stand for is what they stand for in a function
-abbrev pub SpecificationsAreAlike : (T S D P : Type 0) → Type 0
-SpecificationsAreAlike T S D P = (looks : Looks T S D P) (kind : ValueKind) (v : ValueSpecTree) → initialiser_values looks kind v ≡ pieces.spec_values looks kind v
+-- what the names of a specification stand for is what they stand for in a function, but that what a variable is given that is no constant
+-- is refused
+pub record SpecificationsAreAlike (T S D P : Type 0) : Type 0 where
+  pub outer : (looks : Looks T S D P) (kind : ValueKind) (v : ValueSpecTree) → initialiser_values looks kind v ≡ pieces.outer_values looks kind v
+  pub constants : (looks : Looks T S D P) (v : ValueSpecTree) → initialiser_values looks kinds.Const v ≡ pieces.spec_values looks kinds.Const v
+  pub variables : (looks : Looks T S D P) (v : ValueSpecTree) → list_all is_initial (pieces.values_given looks v.values) ≡ true → initialiser_values looks kinds.Var v ≡ pieces.spec_values looks kinds.Var v
+  -- with a written type it has this type
+  pub written : (looks : Looks T S D P) (v : ValueSpecTree) → IsSome v.type_expr → initialiser_values looks kinds.Var v ≡ pieces.spec_values looks kinds.Var v
 
 -- two declarations are the same, but that the trees of types and functions may differ
 abbrev pub FormsAlike : FormTree → FormTree → Type 0

@@ -12,7 +12,7 @@ use go_denote_core::{Argument, Denoted, Stand, argument_of, arguments_of};
 use go_expr_core::{Exprs, Notes, check_expr};
 use go_operand_core::Operand;
 use go_piece_core::variable;
-use go_statement_core::{constant_answer, declared_types};
+use go_statement_core::{constant_answer, declared_types, initial_argument};
 use go_tree_nodes::{Expr, TypeExpr, ValueKind, ValueSpec};
 use std::alloc::{AllocError, Global};
 
@@ -104,7 +104,7 @@ fn type_from<E: Exprs>(
     ensures { IfOk result (λ t. t ≡ own.type_from (E.types env.now) written.now given) }
 {
     let mut members = Vec::new(alloc);
-    members.push(given)?;
+    members.push(initial_argument(given))?;
     let mut types = declared_types(env, alloc, written, 1, &members)?;
     match types.pop() {
         None => Ok(None),
@@ -132,7 +132,8 @@ fn value_from<E: Exprs>(
 /// expression is checked, and what is noted of it is let go.
 ///
 /// Where there are as many expressions as names, each has its own; a call alone with several results stands for these. Else a constant is
-/// as one whose expression is refused, and a variable has its written type or none. The Go specification, "Constant declarations",
+/// as one whose expression is refused, and a variable has its written type or none. A value of a variable that is no constant is refused:
+/// such a variable has its written type or none. The Go specification, "Constant declarations",
 /// "Variable declarations".
 ///
 /// # Errors

@@ -24,7 +24,7 @@ pub fn needed_names_decide<T, S, D, P>()
 {}
 
 /// A law, with nothing to run: what the names of a specification outside functions stand for is what those of one inside a function do, where
-/// names mean the same.
+/// names mean the same, but that a variable without a written type has none where what it is given is no constant.
 pub fn specifications_are_alike<T, S, D, P>()
     ensures { SpecificationsAreAlike T S D P }
 {}

@@ -32,22 +32,21 @@ use Rattle.go_face_core.specs.Written.{WrittenOf, face_found, file_written, type
 use Rattle.go_near_core.specs.env_core.Looks.{TheLooks}
 use Rattle.go_near_core.specs.func_core.Stands.{outer_looks}
 use Rattle.go_needs_core.specs.Needs.{AreValues, EndsWithin, known_in, needed}
-use Rattle.go_local_core.specs.Steps.{Spec}
 use Rattle.go_scope_core.specs.Laws.{denotes}
 use Rattle.go_scope_core.specs.Models.{scopes_model}
 use Rattle.go_part_core.specs.value_core.Around.{LeadsBack}
 use Rattle.go_part_core.specs.value_core.Initial.{initial}
 use Rattle.go_part_core.specs.value_core.Package as values
 use Rattle.go_part_core.specs.value_core.Package.{first_values, form_face, written_face}
-use Rattle.go_part_core.specs.value_core.Owning.{specifications_alike}
+use Rattle.go_part_core.specs.value_core.Owning.{outer_alike}
 use Rattle.go_part_core.specs.value_core.Deciding.{needs_decide}
-use Rattle.go_near_core.specs.piece_core.Pieces.{piece_values}
+use Rattle.go_near_core.specs.piece_core.Specifications.{outer_values}
 use Rattle.go_near_core.specs.Near.{IfAny, NearValue, NearOperand}
-use Rattle.go_near_core.specs.Pieces.{IsPieceNearby}
+use Rattle.go_near_core.specs.Pieces.{IsOuterNearby}
 use Rattle.go_near_core.specs.Tables.{IsNear, near_rest}
 use Rattle.go_near_core.specs.Functions.{StandsAgree}
 use Rattle.go_near_core.proofs.Closing.{either}
-use Rattle.go_near_core.proofs.Pieces.{pieces_nearby}
+use Rattle.go_near_core.proofs.Pieces.{outer_nearby}
 use Rattle.go_near_core.proofs.Functions.{outer_closed, outer_agree}
 use Rattle.go_part_core.specs.ready_core.Laws.{package_placed}
 use Rattle.go_part_core.specs.ready_core.Packages.{PackageIn, scene_in, stand_in}
@@ -181,25 +180,25 @@ module _ (Inside : List ℕ → Type 0) where
       abbrev again : TheLooks
       again = outer_looks (stand_in there fs known n o)
 
-      piece : (k : ValueKind) (v : ValueSpecTree) → IsPieceNearby Near looks again (Spec k v)
+      piece : (k : ValueKind) (v : ValueSpecTree) → IsOuterNearby Near looks again k v
       piece k v =
           let law = stands known inside n o in
           let s = scene_in here es in
           let t = scene_in there fs in
           let top = file_meaning one.shows p.path p.blocks n in
           let under = file_meaning other.shows p.path p.blocks n in
-          pieces_nearby Near (near_rest (near_of Inside)) looks again
+          outer_nearby Near (near_rest (near_of Inside)) looks again
           (outer_closed (near_of Inside) (file_at p.path n o) s t known known top under law)
-          (outer_agree (near_of Inside) (file_at p.path n o) s t known known top under law) (Spec k v)
+          (outer_agree (near_of Inside) (file_at p.path n o) s t known known top under law) k v
 
       initial_near : (k : ValueKind) (v : ValueSpecTree) (i : ℕ) → IfAny (NearOperand Near) (initial looks k v i)
       initial_near k v i =
-          subst (λ (l : List (Option (Operand Term))). IfAny (NearOperand Near) (slice_index_or l i None)) (sym (specifications_alike looks k v))
-          (each_at (NearOperand Near) (piece_values looks [] (Spec k v)) i ((piece k v).near []))
+          subst (λ (l : List (Option (Operand Term))). IfAny (NearOperand Near) (slice_index_or l i None)) (sym (outer_alike looks k v))
+          (each_at (NearOperand Near) (outer_values looks k v) i (piece k v).near)
 
       initial_same : (k : ValueKind) (v : ValueSpecTree) (i : ℕ) → initial looks k v i ≡ initial again k v i
       initial_same k v i =
-          ap (λ (l : List (Option (Operand Term))). slice_index_or l i None) (specifications_alike looks k v ∙ ((piece k v).values [] ∙ sym (specifications_alike again k v)))
+          ap (λ (l : List (Option (Operand Term))). slice_index_or l i None) (outer_alike looks k v ∙ ((piece k v).values ∙ sym (outer_alike again k v)))
 
       value_near : (w : Option TheFace) → IsAnyInside Inside w → (k : ValueKind) (t : Option TypeTree) (v : ValueSpecTree) (i : ℕ) → IsFaceInside Inside (values.value_face looks w k t v i)
       value_near w h kinds.Const t v i = operand_inside (initial looks kinds.Const v i) (initial_near kinds.Const v i)

@@ -10,7 +10,7 @@ use Rattle.go_denote_core.specs.declared.things.Stand.TheVariants as stands
 use Rattle.go_denote_core.specs.declared.things.Argument.{Argument}
 use Rattle.go_denote_core.specs.declared.things.Argument.TheVariants as arguments
 use Rattle.go_denote_core.specs.Arguments.{argument_of, arguments_of}
-use Rattle.go_statement_core.specs.Declarations.{given_type}
+use Rattle.go_statement_core.specs.Declarations.{given_type, initial_argument}
 use Rattle.go_expr_core.specs.Looks.{Looks, look_of_place}
 use Rattle.go_expr_core.specs.Places.{start}
 use Rattle.go_expr_core.specs.Denoting.{denoted}
@@ -38,10 +38,10 @@ given_by looks n i false (Some e) = argument_of (denoted looks stands.«Value» 
 abbrev pub own_argument : {T S D P : Type 0} → Looks T S D P → ValueSpecTree → ℕ → Argument T
 own_argument looks v i = given_by looks (spec_name_count v) i (is_alone v.values) (expr_of v i)
 
--- the type of a variable, by the type that is written and its value
+-- the type of a variable, by the type that is written and its value, which is refused where it is no constant
 abbrev pub type_from : {T : Type 0} → TypeRules T → Option (Option T) → Argument T → Option T
 type_from rules (Some t) a = t
-type_from rules None a = given_type rules a
+type_from rules None a = given_type rules (initial_argument a)
 
 abbrev pub value_from : {T : Type 0} → TypeRules T → ValueKind → Option (Option T) → Argument T → Option (Operand T)
 value_from rules kinds.Const written a = constant_value rules written a
