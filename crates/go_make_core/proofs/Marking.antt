@@ -19,8 +19,8 @@ use Rattle.go_whole_core.proofs.Lists.{all_from_among, one_at, zip_of, zip_weake
 use Rattle.go_whole_core.proofs.Parts.{path_told, told_apart, told_once}
 use Rattle.go_whole_core.proofs.PartsWhole.{all_right}
 use Rattle.go_make_core.specs.Finding.{IsPartAt}
-use Rattle.go_make_core.specs.Keeping.{WasThere}
-use Rattle.go_make_core.specs.mirrors.Marking.{AllMarked, AreMarked, AreMarkedFor, IsMarked, LookAlike, WasTold}
+use Rattle.go_make_core.specs.Keeping.{AreMarked, AreMarkedFor, IsMarked, WasThere, WasTold}
+use Rattle.go_make_core.specs.mirrors.Marking.{AllMarked, LookAlike}
 use Rattle.go_make_core.proofs.Finding.{one_part_at}
 use Rattle.go_make_core.proofs.Telling.{nothing_at}
 

@@ -5,6 +5,7 @@ pub use Rattle.go_whole_core.specs.Entries as Entries
 pub use Rattle.go_whole_core.specs.Inputs as Inputs
 pub use Rattle.go_whole_core.specs.Known as Known
 pub use Rattle.go_whole_core.proofs.Lists as Lists
+pub use Rattle.go_whole_core.specs.Laws as Laws
 pub use Rattle.go_whole_core.specs.LocalLaws as LocalLaws
 pub use Rattle.go_whole_core.proofs.Making as Making
 pub use Rattle.go_whole_core.proofs.OneWhole as OneWhole

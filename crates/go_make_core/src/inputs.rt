@@ -7,7 +7,8 @@ ghost use Rattle.go_block_core.specs.Naming.{AreInFile, AreInPackage, IsGiven, i
 ghost use Rattle.go_block_core.specs.mirrors.Steps.{AreReady, AreReadyIn, HasExports, IsPlanned, IsReady, IsShownIn};
 ghost use Rattle.go_whole_core.specs.Inputs.{HasReached, IsInputAt};
 ghost use Rattle.go_whole_core.specs.mirrors.Steps.{AreToldBySet, exports_in};
-ghost use Rattle.go_make_core.specs.mirrors.Telling.{AreToldFor, AreToldOf, HavePlaces};
+ghost use Rattle.go_make_core.specs.Telling.{told_of};
+ghost use Rattle.go_make_core.specs.mirrors.Telling.{AreToldFor, AreToldOf};
 
 use crate::told::Told;
 use go_block_core::{Imported, import_specs};
@@ -97,8 +98,8 @@ fn told_to(
     number: usize,
     told: &Told,
 ) -> Result<ReachedSummaries, AllocError>
-    requires { AreToldFor reached.now told.now.summaries told.now.places.items number }
-    ensures { IfOk result (AreToldOf reached.now told.now.summaries told.now.places.items number) }
+    requires { AreToldFor reached.now told.now number }
+    ensures { IfOk result (AreToldOf reached.now told.now number) }
 {
     let Some(set) = reached.of(number) else {
         unreachable!()
@@ -118,9 +119,9 @@ fn given_to(
     told: &Told,
 ) -> Result<(Vec<Vec<Imported>>, ReachedSummaries), AllocError>
     requires imports { AreReady plan.now.outcomes (exports_in parts.now) number (trees_of «package».now.1) }
-    requires told { AreToldFor reached.now told.now.summaries told.now.places.items number }
+    requires told { AreToldFor reached.now told.now number }
     ensures imports { IfOk result (λ found. AreInPackage (IsPlanned plan.now.outcomes (exports_in parts.now)) number (trees_of «package».now.1) (map imported_in found.0.items)) }
-    ensures told { IfOk result (λ found. AreToldOf reached.now told.now.summaries told.now.places.items number found.1) }
+    ensures told { IfOk result (λ found. AreToldOf reached.now told.now number found.1) }
 {
     let imports = package_imports(alloc, plan, number, package, parts)?;
     let summaries = told_to(alloc, reached, number, told)?;
@@ -138,13 +139,16 @@ fn package_at(packages: &[PackageSource], number: usize) -> Result<Package, Allo
     }
 }
 
-/// What the part of the package of a number is made from, where these are the plan of its workspace, what packages reach by it, the parts of
-/// packages by their numbers, at least of those that this package reaches, and what the packages with parts tell.
+/// What the part of an assembled package is made from, by the number of the package, where these are the plan of its workspace, what packages reach by
+/// it, the parts of packages by their numbers, at least of those that this package reaches, and what the packages with parts tell. The summaries of the
+/// input are the parts' own, in order of number; they are shared.
+///
+/// The Go specification, "Import declarations".
 ///
 /// # Errors
 ///
 /// `AllocError` where memory is wanting.
-pub(crate) fn input_of(
+pub fn input_of(
     alloc: Global,
     workspace: &Workspace,
     plan: &Plan,
@@ -158,7 +162,7 @@ pub(crate) fn input_of(
     requires many { length reached.now ≡ length plan.now.outcomes }
     requires assembled { IsAssembledAt workspace.now number }
     requires parts { HasReached workspace.now parts.now number }
-    requires told { HavePlaces parts.now told.now.summaries told.now.places.items }
+    requires told { told.now ≡ told_of parts.now }
     ensures input { IfOk result (IsInputAt workspace.now parts.now number) }
     ensures told { IfOk result (λ i. AreToldBySet reached.now parts.now number i.reached) }
 {

@@ -6,11 +6,10 @@ ghost use Rattle.go_table_core.specs.Tables.{AreOthers};
 ghost use Rattle.go_summary_core.specs.Summaries.{path_of};
 ghost use Rattle.go_whole_core.specs.part_core.Parts.{PartModel};
 ghost use Rattle.go_whole_core.specs.Inputs.{AreParts};
-ghost use Rattle.go_make_core.specs.Keeping.{WasThere};
-ghost use Rattle.go_make_core.specs.mirrors.Marking.{AllMarked, AreMarkedFor, LookAlike, WasTold};
+ghost use Rattle.go_make_core.specs.Keeping.{AreMarkedFor, WasThere, WasTold};
+ghost use Rattle.go_make_core.specs.mirrors.Marking.{AllMarked, LookAlike};
 
 use crate::search::part_of;
-use crate::told::Told;
 use go_graph_core::Workspace;
 use go_reach_core::Reached;
 use go_summary_core::{ReachedSummaries, Summary, View};
@@ -71,23 +70,24 @@ fn look_alike(input: &PartInput, other: &PartInput, numbers: &[usize], marks: &[
         && input.package().source().is_same(other.package().source())
 }
 
-/// The part that was made of this input, if there is one among those of an earlier workspace. Of each package that the one of a number reaches it
-/// is known whether it tells what it told earlier.
+/// The part that was made of this input, if there is one among those of an earlier workspace. Of each package that the one of a number reaches a mark
+/// by its number says whether it tells what it told earlier (`is_told_again`), so that what is reached is not compared. The time is linear in the
+/// package and in what it reaches, but for what this tells.
 ///
 /// # Errors
 ///
 /// `AllocError` where memory is wanting.
-pub(crate) fn earlier_part<'a>(
+pub fn earlier_part<'a>(
     alloc: Global,
     reached: &Reached,
     number: usize,
     input: &PartInput,
-    told: &Told,
+    again: &[bool],
     sources: &Workspace,
     earlier: &'a [Option<Part>],
 ) -> Result<Option<&'a Part>, AllocError>
     requires own { AreAllRead input.now.source }
-    requires told { AreMarkedFor reached.now earlier.now told.now.again.items number input.now.reached }
+    requires again { AreMarkedFor reached.now earlier.now again.now number input.now.reached }
     requires earlier { AreParts sources.now earlier.now }
     ensures { IfOk result (λ found. MatchOption found ((p : PartModel) → WasThere earlier.now p → p.input ≡ input.now → ⊥) (λ p. WasThere earlier.now p.now × (p.now.input ≡ input.now))) }
 {
@@ -98,7 +98,7 @@ pub(crate) fn earlier_part<'a>(
         unreachable!()
     };
     let numbers = set.list(alloc)?;
-    if look_alike(input, part.input(), &numbers, told.again()) {
+    if look_alike(input, part.input(), &numbers, again) {
         Ok(Some(part))
     } else {
         Ok(None)
@@ -121,12 +121,9 @@ pub(crate) fn keep(part: &Part, seen: &mut View) -> Result<Part, AllocError>
     part.share()
 }
 
-/// Whether an earlier part tells what is told here. One part at most is compared: that of the same path.
-pub(crate) fn is_told_again(
-    summary: &Summary,
-    sources: &Workspace,
-    earlier: &[Option<Part>],
-) -> bool
+/// Whether a part of an earlier workspace tells what is told here. One part at most is compared: that of the same path. The time is linear in what the
+/// two tell, but for a logarithm of the packages.
+pub fn is_told_again(summary: &Summary, sources: &Workspace, earlier: &[Option<Part>]) -> bool
     requires { AreParts sources.now earlier.now }
     ensures { IsTrue result ↔ WasTold earlier.now summary.now }
 {

@@ -7,20 +7,27 @@
 mod inputs;
 mod kept;
 mod making;
+mod marks;
 mod search;
 mod told;
 
+pub use inputs::input_of;
+pub use kept::{earlier_part, is_told_again};
 pub use making::{parts_again, parts_of};
 pub use search::{package_of, part_of};
+pub use told::Told;
 
 /// What the crates above name of `go_part_core`.
 pub mod part_core {
     pub use go_whole_core::part_core::{
-        Part, PartInput, Parts, compile_part, one_part, part_has_occurrences,
+        Part, PartFile, PartInput, Parts, compile_part, one_part, part_has_its_path,
+        part_has_occurrences, types_of,
     };
 }
 
 /// What the crates above name of `go_whole_core`.
 pub mod whole_core {
-    pub use go_whole_core::{check_is_local, imports_bind_theirs, parts_are_whole};
+    pub use go_whole_core::{
+        check_is_local, imports_bind_theirs, inputs_stay, parts_are_whole, parts_come_in_order,
+    };
 }

@@ -1,5 +1,5 @@
 //! The parts of a workspace.
-ghost use Rattle.std.specs.Prelude.{◌≡◌, ◌↔◌, ◌<◌, ◌++◌, [], ◌∷◌, false, IfOk, IsTrue, None, OnOk, length, replicate, slice_set};
+ghost use Rattle.std.specs.Prelude.{◌≡◌, ◌↔◌, ◌<◌, ◌++◌, [], false, IfOk, IsTrue, None, OnOk, Some, length, replicate, slice_set};
 ghost use Rattle.go_graph_core.specs.Plans.{AreReached, IsPlan};
 ghost use Rattle.go_graph_core.specs.Workspaces.{IsWorkspace};
 ghost use Rattle.go_table_core.specs.Tables.{AreOthers};
@@ -9,12 +9,12 @@ ghost use Rattle.go_whole_core.specs.part_core.Inputs.{path_in};
 ghost use Rattle.go_whole_core.specs.part_core.Parts.{ContentOf, IsMade, IsPart, seen_with};
 ghost use Rattle.go_whole_core.specs.Inputs.{AreParts};
 ghost use Rattle.go_whole_core.specs.mirrors.Steps.{IsNext, IsRight};
-ghost use Rattle.go_make_core.specs.Keeping.{AreKept, WasThere};
-ghost use Rattle.go_make_core.specs.mirrors.Marking.{AreMarked, WasTold};
-ghost use Rattle.go_make_core.specs.mirrors.Telling.{HavePlaces};
+ghost use Rattle.go_make_core.specs.Keeping.{AreKept, AreMarked, WasThere, WasTold};
+ghost use Rattle.go_make_core.specs.Telling.{told_of};
 
 use crate::inputs::input_of;
 use crate::kept::{earlier_part, is_told_again, keep};
+use crate::marks::Marks;
 use crate::told::Told;
 use go_graph_core::{Plan, Workspace, plan_imports};
 use go_reach_core::Reached;
@@ -38,8 +38,8 @@ fn new_part(alloc: Global, input: PartInput, seen: &mut View) -> Result<Part, Al
     Ok(part)
 }
 
-/// The part of the package of a number, which is the next one of the plan, where these are the parts of those before it, this they tell, and this
-/// is seen of them; and whether it was there among the earlier parts. The types of the package are added to what is seen.
+/// The part of the package of a number, which is the next one of the plan, where these are the parts of those before it, this they tell, this is seen
+/// of them, and these tell what they told earlier; and whether it was there among the earlier parts. The types of the package are added to what is seen.
 fn next_part(
     alloc: Global,
     workspace: &Workspace,
@@ -49,6 +49,7 @@ fn next_part(
     parts: &[Option<Part>],
     told: &Told,
     seen: &mut View,
+    again: &[bool],
     sources: &Workspace,
     earlier: &[Option<Part>],
 ) -> Result<(Part, bool), AllocError>
@@ -56,8 +57,8 @@ fn next_part(
     requires plan { IsPlan workspace.now plan.now }
     requires reached { AreReached plan.now reached.now }
     requires many { length reached.now ≡ length plan.now.outcomes }
-    requires told { HavePlaces parts.now told.now.summaries told.now.places.items }
-    requires again { AreMarked earlier.now parts.now told.now.again.items }
+    requires told { told.now ≡ told_of parts.now }
+    requires again { AreMarked earlier.now parts.now again.now }
     requires next { IsNext workspace.now plan.now parts.now number seen.old.types seen.old.shown seen.old.faces }
     requires earlier { AreParts sources.now earlier.now }
     ensures right { IfOk result (λ p. IsRight workspace.now parts.now number p.0) }
@@ -69,7 +70,7 @@ fn next_part(
     check_is_local();
     imports_bind_theirs();
     let input = input_of(alloc, workspace, plan, reached, number, parts, told)?;
-    let found = earlier_part(alloc, reached, number, &input, told, sources, earlier)?;
+    let found = earlier_part(alloc, reached, number, &input, again, sources, earlier)?;
     match found {
         Some(part) => {
             let kept = keep(part, seen)?;
@@ -95,29 +96,17 @@ fn tells_again(part: &Part, kept: bool, sources: &Workspace, earlier: &[Option<P
 }
 
 /// Adds what the package of a number shows to what is seen, in which its types are, and what it tells to what is told.
-fn learn(
-    seen: &mut View,
-    told: &mut Told,
-    number: usize,
-    part: &Part,
-    again: bool,
-    kept: bool,
-) -> Result<(), AllocError>
-    requires places { number < length told.old.places.items }
-    requires again { number < length told.old.again.items }
-    requires kept { number < length told.old.kept.items }
+fn learn(seen: &mut View, told: &mut Told, number: usize, part: &Part) -> Result<(), AllocError>
+    requires { number < length told.old }
     ensures types { seen.new.types ≡ seen.old.types }
     ensures shown { OnOk result (seen.new.shown ≡ with_shown seen.old.shown part.now.content.summary.exports) }
     ensures faces { OnOk result (seen.new.faces ≡ with_faces seen.old.faces part.now.content.summary.faces) }
-    ensures summaries { OnOk result (told.new.summaries ≡ told.old.summaries ++ part.now.content.summary ∷ []) }
-    ensures places { OnOk result (told.new.places.items ≡ slice_set told.old.places.items number (length told.old.summaries)) }
-    ensures again { OnOk result (told.new.again.items ≡ slice_set told.old.again.items number again) }
-    ensures kept { OnOk result (told.new.kept.items ≡ slice_set told.old.kept.items number kept) }
+    ensures told { OnOk result (told.new ≡ slice_set told.old number (Some part.now.content.summary)) }
 {
     let summary = part.summary();
     seen.faces.add(summary.faces().share()?)?;
     seen.shown.add(summary.exports().share()?)?;
-    told.add(number, summary.share()?, again, kept)
+    told.add(number, summary.share()?)
 }
 
 /// Makes the parts of the assembled packages of a workspace, where there is none yet, and keeps of the earlier ones those whose inputs are the same.
@@ -128,19 +117,20 @@ fn make_all(
     earlier: &[Option<Part>],
     parts: &mut Parts,
     told: &mut Told,
+    marks: &mut Marks,
     seen: &mut View,
 ) -> Result<(), AllocError>
     requires well { IsWorkspace workspace.now }
     requires earlier { AreParts sources.now earlier.now }
     requires none { parts.old ≡ replicate (length workspace.now) None }
-    requires told { length told.old.places.items ≡ length workspace.now }
-    requires again { length told.old.again.items ≡ length workspace.now }
-    requires kept { told.old.kept.items ≡ replicate (length workspace.now) false }
+    requires told { told.old ≡ replicate (length workspace.now) None }
+    requires again { length marks.old.again.items ≡ length workspace.now }
+    requires kept { marks.old.kept.items ≡ replicate (length workspace.now) false }
     requires types { seen.old.types ≡ [] }
     requires shown { seen.old.shown ≡ [] }
     requires faces { seen.old.faces ≡ [] }
     ensures parts { OnOk result (AreParts workspace.now parts.new) }
-    ensures kept { OnOk result (AreKept earlier.now parts.new told.new.kept.items) }
+    ensures kept { OnOk result (AreKept earlier.now parts.new marks.new.kept.items) }
 {
     let plan = plan_imports(alloc, workspace)?;
     let reached = plan.reached(alloc)?;
@@ -154,11 +144,13 @@ fn make_all(
             parts.as_slice(),
             told,
             seen,
+            marks.again(),
             sources,
             earlier,
         )?;
         let again = tells_again(&part, kept, sources, earlier);
-        learn(seen, told, *number, &part, again, kept)?;
+        learn(seen, told, *number, &part)?;
+        marks.set(*number, again, kept);
         parts.put(*number, part);
     }
     Ok(())
@@ -172,18 +164,21 @@ fn make_seen(
     earlier: &[Option<Part>],
     parts: &mut Parts,
     told: &mut Told,
+    marks: &mut Marks,
 ) -> Result<(), AllocError>
     requires well { IsWorkspace workspace.now }
     requires earlier { AreParts sources.now earlier.now }
     requires none { parts.old ≡ replicate (length workspace.now) None }
-    requires told { length told.old.places.items ≡ length workspace.now }
-    requires again { length told.old.again.items ≡ length workspace.now }
-    requires kept { told.old.kept.items ≡ replicate (length workspace.now) false }
+    requires told { told.old ≡ replicate (length workspace.now) None }
+    requires again { length marks.old.again.items ≡ length workspace.now }
+    requires kept { marks.old.kept.items ≡ replicate (length workspace.now) false }
     ensures parts { OnOk result (AreParts workspace.now parts.new) }
-    ensures kept { OnOk result (AreKept earlier.now parts.new told.new.kept.items) }
+    ensures kept { OnOk result (AreKept earlier.now parts.new marks.new.kept.items) }
 {
     let mut seen = view_of(alloc, &[])?;
-    make_all(alloc, workspace, sources, earlier, parts, told, &mut seen)
+    make_all(
+        alloc, workspace, sources, earlier, parts, told, marks, &mut seen,
+    )
 }
 
 /// Makes them, where nothing is told yet. Says of each package whether its part was there.
@@ -200,8 +195,11 @@ fn make_told(
     ensures kept { IfOk result (λ kept. AreKept earlier.now parts.new kept.items) }
 {
     let mut told = Told::new(alloc, workspace.packages().len())?;
-    let made = make_seen(alloc, workspace, sources, earlier, parts, &mut told);
-    let kept = told.into_kept();
+    let mut marks = Marks::new(alloc, workspace.packages().len())?;
+    let made = make_seen(
+        alloc, workspace, sources, earlier, parts, &mut told, &mut marks,
+    );
+    let kept = marks.into_kept();
     made?;
     Ok(kept)
 }

@@ -1,33 +1,72 @@
-//! What the packages of a workspace tell, in the order in which they are made.
-ghost use Rattle.std.specs.Prelude.{◌≡◌, ◌<◌, ℕ, [], ◌∷◌, ◌++◌, All, IfOk, OnOk, Some, false, length, map, replicate, slice_get, slice_set};
-ghost use Rattle.std.specs.List.{AllZip};
+//! What the packages of a workspace tell, by their numbers.
+ghost use Rattle.std.specs.Prelude.{◌≡◌, ◌<◌, ℕ, IfOk, None, OnErr, OnOk, Some, length, replicate, slice_set};
+ghost use Rattle.std.specs.List.{AllZip, filter_map};
 ghost use Rattle.std.specs.List.Sorted.{IsStrictlyIncreasing};
-ghost use Rattle.go_make_core.specs.mirrors.Telling.{AreTold, IsToldAt};
+ghost use Rattle.go_make_core.specs.mirrors.Telling.{AreTold, IsToldAt, at_number};
 
 use go_reach_core::NumberSet;
 use go_summary_core::{ReachedSummaries, Summary, SummaryList};
 use go_text_core::add;
 use std::alloc::{AllocError, Global};
+use std::marker::Model;
 
-/// What packages tell, in the order in which they are made, and by the number of each its place there. What is told to a package is that list,
-/// shared, with the places of those that it reaches. By the number of each package stands also whether it tells what it told earlier, and whether
-/// its part was there.
-#[derive(Drop)]
-pub(crate) struct Told {
+/// What the packages of a workspace tell that are made, by the numbers of these. It is listed in the order in which it is added, and by the number of
+/// each package stands its place in this list: what is told to a package is the list, shared, with the places of those that it reaches. Contracts see
+/// by the number of each package what it tells, where it is added.
+pub struct Told {
     summaries: SummaryList,
-    places: Vec<usize>,
-    again: Vec<bool>,
-    kept: Vec<bool>,
+    places: Vec<Option<usize>>,
 }
 
-/// The places of the packages of these numbers.
-fn places_of(alloc: Global, numbers: &[usize], places: &[usize]) -> Result<Vec<usize>, AllocError>
-    requires { All (λ (n : ℕ). n < length places.now) numbers.now }
-    ensures { IfOk result (λ found. map Some found.items ≡ map (slice_get places.now) numbers.now) }
+impl Drop for Told {
+    fn drop(self) {
+        let Told {
+            summaries: _,
+            places: _,
+        } = self;
+    }
+}
+
+impl Model for Told {
+    ghost use Rattle.std.specs.Prelude.{List, Option};
+    ghost use Rattle.std.specs.Coded.{coded_list, coded_option};
+    ghost use Rattle.go_summary_core.specs.Summaries.{SummaryModel};
+    ghost use Rattle.go_summary_core.specs.codes.SummaryCodes.{coded_summary};
+    ghost use Rattle.go_make_core.specs.mirrors.Telling.{ArePlaces, by_places};
+
+    ghost Value = { List (Option SummaryModel) };
+
+    ghost coded = { coded_list (coded_option coded_summary) };
+
+    ghost view = { λ t. by_places t.summaries t.places.items };
+
+    ghost invariant = { λ t. ArePlaces t.summaries t.places.items };
+}
+
+// The place of a number, if it has one.
+fn place_at(places: &[Option<usize>], number: usize) -> Option<usize>
+    ensures { result ≡ at_number places.now number }
+{
+    match places.get(number) {
+        Some(place) => *place,
+        None => None,
+    }
+}
+
+// The places of those of these numbers that have one.
+fn places_of(
+    alloc: Global,
+    numbers: &[usize],
+    places: &[Option<usize>],
+) -> Result<Vec<usize>, AllocError>
+    ensures { IfOk result (λ found. found.items ≡ filter_map (at_number places.now) numbers.now) }
 {
     let mut found = Vec::with_capacity(alloc, numbers.len())?;
     for number in numbers {
-        add(&mut found, places[*number])?;
+        match place_at(places, *number) {
+            Some(place) => add(&mut found, place)?,
+            None => {}
+        }
     }
     Ok(found)
 }
@@ -38,79 +77,74 @@ impl Told {
     /// # Errors
     ///
     /// `AllocError` where memory is wanting.
-    pub(crate) fn new(alloc: Global, count: usize) -> Result<Told, AllocError>
-        ensures places { IfOk result (λ t. length t.places.items ≡ count) }
-        ensures again { IfOk result (λ t. length t.again.items ≡ count) }
-        ensures kept { IfOk result (λ t. t.kept.items ≡ replicate count false) }
+    pub fn new(alloc: Global, count: usize) -> Result<Told, AllocError>
+        ensures { IfOk result (λ t. t ≡ replicate count None) }
     {
-        let places = vec![in alloc; 0; count]?;
-        let again = vec![in alloc; false; count]?;
-        let kept = vec![in alloc; false; count]?;
+        let places = vec![in alloc; None; count]?;
         Ok(Told {
             summaries: SummaryList::new(alloc),
             places,
-            again,
-            kept,
         })
     }
 
-    /// Adds what the package of a number tells, with whether it told it earlier, and whether its part was there.
+    /// The same once more: what is told is shared, by pieces, and the places are copied. The time is linear in the packages.
     ///
     /// # Errors
     ///
     /// `AllocError` where memory is wanting.
-    pub(crate) fn add(
-        &mut self,
-        number: usize,
-        summary: Summary,
-        again: bool,
-        kept: bool,
-    ) -> Result<(), AllocError>
-        requires places { number < length self.old.places.items }
-        requires again { number < length self.old.again.items }
-        requires kept { number < length self.old.kept.items }
-        ensures summaries { OnOk result (self.new.summaries ≡ self.old.summaries ++ summary ∷ []) }
-        ensures places { OnOk result (self.new.places.items ≡ slice_set self.old.places.items number (length self.old.summaries)) }
-        ensures again { OnOk result (self.new.again.items ≡ slice_set self.old.again.items number again) }
-        ensures kept { OnOk result (self.new.kept.items ≡ slice_set self.old.kept.items number kept) }
+    pub fn copy(&self, alloc: Global) -> Result<Told, AllocError>
+        ensures { IfOk result (λ t. t ≡ self.now) }
+    {
+        let summaries = self.summaries.share(alloc)?;
+        let places = Vec::from_slice(alloc, &self.places)?;
+        Ok(Told { summaries, places })
+    }
+
+    /// Adds what the package of a number tells, in the place of what was told of it.
+    ///
+    /// # Errors
+    ///
+    /// `AllocError` where memory is wanting; all is as it was then.
+    pub fn add(&mut self, number: usize, summary: Summary) -> Result<(), AllocError>
+        requires { number < length self.old }
+        ensures added { OnOk result (self.new ≡ slice_set self.old number (Some summary)) }
+        ensures kept { OnErr result (self.new ≡ self.old) }
     {
         let place = self.summaries.len();
         self.summaries.push(summary)?;
-        self.places[number] = place;
-        self.again[number] = again;
-        self.kept[number] = kept;
+        self.places[number] = Some(place);
         Ok(())
     }
 
-    /// What the packages of a set tell, in order of number.
+    /// What `add` makes of this, beside it: so it can be made before a step that may take no memory, and be put in the place of this by that step.
+    /// What is told is shared. The time is that of `copy`.
+    ///
+    /// # Errors
+    ///
+    /// `AllocError` where memory is wanting.
+    pub fn with(&self, alloc: Global, number: usize, summary: Summary) -> Result<Told, AllocError>
+        requires { number < length self.now }
+        ensures { IfOk result (λ t. t ≡ slice_set self.now number (Some summary)) }
+    {
+        let mut told = self.copy(alloc)?;
+        told.add(number, summary)?;
+        Ok(told)
+    }
+
+    /// What the packages of a set tell, in order of number, each of which is told of.
     ///
     /// # Errors
     ///
     /// `AllocError` where memory is wanting.
     pub(crate) fn by(&self, alloc: Global, set: &NumberSet) -> Result<ReachedSummaries, AllocError>
-        requires { AreTold self.now.summaries self.now.places.items set.now.members }
+        requires { AreTold self.now set.now.members }
         ensures rising { IfOk result (λ _. IsStrictlyIncreasing set.now.members) }
-        ensures all { IfOk result (λ ss. AllZip (IsToldAt self.now.summaries self.now.places.items) set.now.members ss) }
+        ensures all { IfOk result (λ ss. AllZip (IsToldAt self.now) set.now.members ss) }
     {
         let numbers = set.list(alloc)?;
         let places = places_of(alloc, &numbers, &self.places)?;
         let summaries = self.summaries.share(alloc)?;
         let reached = ReachedSummaries::new(summaries, places);
         Ok(reached)
-    }
-
-    /// Of each package, by its number, whether it tells what it told earlier.
-    pub(crate) fn again(&self) -> &[bool]
-        ensures { result.now ≡ self.now.again.items }
-    {
-        self.again.as_slice()
-    }
-
-    /// Of each package, by its number, whether its part was there.
-    pub(crate) fn into_kept(self) -> Vec<bool>
-        ensures { result ≡ self.kept }
-    {
-        let Told { kept, .. } = self;
-        kept
     }
 }

@@ -5,7 +5,8 @@ use Rattle.go_tree_nodes.specs.Rules.{Wf_file}
 use Rattle.go_tree_core.specs.Occurrences.{file_occs}
 use Rattle.go_used_core.specs.expr_core.Laws.{use_place, occurrence_place}
 use Rattle.go_package_core.specs.ready_core.Packages.{trees_in}
-use Rattle.go_part_core.specs.Inputs.{InputModel, IsInput}
+use Rattle.go_summary_core.specs.Summaries.{path_of}
+use Rattle.go_part_core.specs.Inputs.{InputModel, IsInput, path_in}
 use Rattle.go_part_core.specs.Parts.{ContentOf, FileOf, IsPart}
 use Rattle.go_tree_nodes.specs.Spelling.{IsPlaced}
 
@@ -19,3 +20,7 @@ abbrev pub PartHasOccurrences : Type 0
 PartHasOccurrences =
     (i : InputModel) (c : ContentOf) → IsInput i → IsPart i c → (n : ℕ) (f : FileTree) (m : FileOf) → slice_get (trees_in i.source) n ≡ Some f → slice_get c.files n ≡ Some m
     → Wf_file f → map use_place m.answers.uses ≡ map occurrence_place (file_occs f)
+
+-- what a part tells is of the package that it is made of
+abbrev pub PartHasItsPath : Type 0
+PartHasItsPath = (i : InputModel) (c : ContentOf) → IsPart i c → path_of c.summary ≡ path_in i

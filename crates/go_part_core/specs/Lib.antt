@@ -1,5 +1,6 @@
 pub mod Inputs
 pub mod Laws
+pub mod PartCodes
 pub mod Parts
 pub mod Slots
 pub mod body_core

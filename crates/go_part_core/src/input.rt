@@ -6,6 +6,7 @@ ghost use Rattle.go_block_core.specs.Naming.{HaveOneEach, imported_in};
 ghost use Rattle.go_part_core.specs.Inputs.{AreOfOthers, IsInput, input_with, path_in};
 
 use crate::same::same_imports;
+use crate::shared::shared_imports;
 use go_block_core::Imported;
 use go_graph_core::Package;
 use go_path_core::ImportPath;
@@ -91,6 +92,23 @@ impl PartInput {
         Ok(PartInput {
             content: Arc::try_clone(&self.content)?,
         })
+    }
+
+    /// The input of another package of the same path, each file of which has as many imports as the file of this one in its place: what imports come
+    /// to and what is reached are as here, and shared. So what is made of a package with other trees is made over what this one sees.
+    ///
+    /// # Errors
+    ///
+    /// `AllocError` where memory is wanting.
+    pub fn with_package(&self, alloc: Global, source: Package) -> Result<PartInput, AllocError>
+        requires path { source.0 ≡ path_in self.now }
+        requires imports { HaveOneEach (trees_of source.1) self.now.imports }
+        ensures { IfOk result (λ i. i ≡ input_with source self.now.imports self.now.reached) }
+    {
+        let imports = shared_imports(alloc, self.imports())?;
+        let reached = self.reached().share(alloc)?;
+        let input = PartInput::new(alloc, source, imports, reached)?;
+        Ok(input)
     }
 
     /// The path of the package.

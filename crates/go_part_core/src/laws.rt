@@ -1,5 +1,5 @@
 //! Laws of parts, with nothing to run.
-ghost use Rattle.go_part_core.specs.Laws.{OnePart, PartHasOccurrences};
+ghost use Rattle.go_part_core.specs.Laws.{OnePart, PartHasItsPath, PartHasOccurrences};
 
 /// There is at most one part of an input whose files' tokens follow one another: blocks, what occurrences have, faults, locals and summary follow
 /// from the package, from what its imports come to, and from what the packages tell that it reaches.
@@ -11,4 +11,9 @@ pub fn one_part()
 /// exactly one outcome, and no other place has one.
 pub fn part_has_occurrences()
     ensures { PartHasOccurrences }
+{}
+
+/// What a part tells is of the package that it is made of: its summary has the path of its input.
+pub fn part_has_its_path()
+    ensures { PartHasItsPath }
 {}

@@ -1,5 +1,6 @@
 //! The part of a package.
 ghost use Rattle.std.specs.Prelude.{◌≡◌, ◌++◌, ◌∷◌, [], IfOk, OnOk};
+ghost use Rattle.go_summary_core.specs.Views.{types_told};
 ghost use Rattle.go_part_core.specs.Inputs.{path_in};
 ghost use Rattle.go_part_core.specs.Parts.{IsPart, part_content_shown, part_with};
 
@@ -7,6 +8,7 @@ use crate::content::{PackageContent, compile_over};
 use crate::input::PartInput;
 use go_path_core::ImportPath;
 use go_summary_core::{Summary, view_of};
+use go_table_core::TypeTable;
 use go_text_core::add;
 use std::alloc::{AllocError, Global};
 use std::marker::Model;
@@ -133,4 +135,23 @@ pub fn compile_part(alloc: Global, input: &PartInput) -> Result<Part, AllocError
     let shared = input.share()?;
     let part = Part::new(alloc, shared, content)?;
     Ok(part)
+}
+
+/// The types that a package sees: those of the packages that it reaches, one package's behind another's in the order of its input, and then its own.
+/// They are shared. The time is linear in the packages.
+///
+/// # Errors
+///
+/// `AllocError` where memory is wanting.
+pub fn types_of(alloc: Global, part: &Part) -> Result<TypeTable, AllocError>
+    ensures { IfOk result (λ t. t ≡ types_told part.now.input.reached ++ part.now.content.summary.types.entries) }
+{
+    // What the part tells is of the path of its input, and all of it of one package.
+    let _content = part.content();
+    let summary = part.summary();
+    let _path = summary.path();
+    let reached = part.input().reached();
+    let mut types = reached.types(alloc)?;
+    types.add(summary.types().share()?)?;
+    Ok(types)
 }

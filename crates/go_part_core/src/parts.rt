@@ -56,6 +56,27 @@ fn put_back(slot: Option<Part>, parts: &mut Vec<Part>)
     }
 }
 
+// What stands at the number of a package, once more: its part, if it has one, is shared.
+fn shared_slot(slot: &Option<Part>) -> Result<Option<Part>, AllocError>
+    ensures { IfOk result (λ shared. shared ≡ slot.now) }
+{
+    match slot {
+        Some(part) => Ok(Some(part.share()?)),
+        None => Ok(None),
+    }
+}
+
+// The parts of packages once more, by their numbers. Each is shared.
+fn shared_slots(alloc: Global, slots: &[Option<Part>]) -> Result<Vec<Option<Part>>, AllocError>
+    ensures { IfOk result (λ shared. shared.items ≡ slots.now) }
+{
+    let mut shared = Vec::with_capacity(alloc, slots.len())?;
+    for slot in slots {
+        add(&mut shared, shared_slot(slot)?)?;
+    }
+    Ok(shared)
+}
+
 impl Parts {
     /// No part, for so many packages.
     ///
@@ -67,6 +88,19 @@ impl Parts {
     {
         Ok(Parts {
             slots: no_parts(alloc, count)?,
+        })
+    }
+
+    /// The same parts once more, by the same numbers: each is shared. The time is linear in the numbers.
+    ///
+    /// # Errors
+    ///
+    /// `AllocError` where memory is wanting, or where a part has too many owners.
+    pub fn copy(&self, alloc: Global) -> Result<Parts, AllocError>
+        ensures { IfOk result (λ p. p ≡ self.now) }
+    {
+        Ok(Parts {
+            slots: shared_slots(alloc, &self.slots)?,
         })
     }
 

@@ -9,3 +9,4 @@ pub mod OneSnapshot
 pub mod Lying
 pub mod Placing
 pub mod Apart
+pub mod Filed

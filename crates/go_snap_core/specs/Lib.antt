@@ -1,6 +1,7 @@
 pub mod Faults
 pub mod Laws
 pub mod mirrors
+pub mod SnapshotCodes
 pub mod Snapshots
 pub mod locality_core
 pub mod emit_core

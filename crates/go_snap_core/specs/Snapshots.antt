@@ -1,15 +1,18 @@
 -- Snapshots of workspaces.
 --
 -- docs/RULES.md, "Whole workspaces".
-use Rattle.std.specs.Prelude.{◌≡◌, ℕ, List, Option, Some, map, slice_get}
+use Rattle.std.specs.Prelude.{◌≡◌, ℕ, List, Option, Some, Ok, All, map, slice_get}
 use Rattle.std.specs.List.{AllZip}
 use Rattle.std.specs.List.Sorted.{IsPermutation}
 use Rattle.std.specs.Option.{option_map}
+use Rattle.go_tree_nodes.specs.Shapes.{file_of}
+use Rattle.go_tree_nodes.specs.Trees.{FileTree}
 use Rattle.go_graph_core.specs.Sources.{SourceModel}
 use Rattle.go_graph_core.specs.Workspaces.{PackageModel}
 use Rattle.go_emit_core.specs.used_core.Used.{FileUse}
-use Rattle.go_make_core.specs.part_core.Parts.{ContentOf, FileOf, PartModel}
+use Rattle.go_make_core.specs.part_core.Parts.{ContentOf, FileOf, PartModel, file_shown}
 use Rattle.go_snap_core.specs.declared.fault.PlacedFault.{PlacedFault}
+use Rattle.go_snap_core.specs.declared.found.FileIn.{FileIn}
 use Rattle.go_snap_core.specs.Faults.{AreFaults}
 use Rattle.go_make_core.specs.whole_core.Inputs.{AreParts}
 use Rattle.go_make_core.specs.whole_core.Entries.{IsPartEntry}
@@ -57,3 +60,26 @@ pub record IsAnswerAt (ps : List PackageModel) (parts : List (Option PartModel))
   pub file : FileOf
   pub made : slice_get of_part.content.files number ≡ Some file
   pub answer : slice_get file.answers.uses n ≡ Some u
+
+-- a file of an assembled package: the part of the package, the number of the file there, its source and its tree, and what the part has of it
+pub record FoundFile : Type 0 where
+  pub of_part : PartModel
+  pub number : ℕ
+  pub source : SourceModel
+  pub tree : FileTree
+  pub made : FileOf
+
+abbrev pub file_in_shown : FileIn → FoundFile
+file_in_shown f = record { of_part = f.part.now; number = f.number; source = f.source.now; tree = file_of f.tree.now; made = file_shown f.made.now }
+
+-- it is the file of a name in the package of a path
+pub record IsFileAt (ps : List PackageModel) (parts : List (Option PartModel)) (path name : List ℕ) (f : FoundFile) : Type 0 where
+  pub in_workspace : IsPartAt ps parts path f.of_part
+  pub in_package : slice_get f.of_part.input.source.1 f.number ≡ Some f.source
+  pub named : f.source.name ≡ name
+  pub tree : f.source.content ≡ Ok f.tree
+  pub made : slice_get f.of_part.content.files f.number ≡ Some f.made
+
+-- no assembled package of the path has a file of the name
+abbrev pub HasNoFile : List PackageModel → List (Option PartModel) → List ℕ → List ℕ → Type 0
+HasNoFile ps parts path name = (p : PartModel) → IsPartAt ps parts path p → All (λ f. f.name ≡ name → ⊥) p.input.source.1

@@ -1,3 +1,4 @@
 -- What the crates above name of go_whole_core.
 pub use Rattle.go_make_core.specs.whole_core.Checks as Checks
 pub use Rattle.go_make_core.specs.whole_core.Inputs as Inputs
+pub use Rattle.go_make_core.specs.whole_core.Laws as Laws

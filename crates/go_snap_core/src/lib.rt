@@ -4,14 +4,18 @@
 #![tactic(auto)]
 
 mod fault;
+mod found;
 mod laws;
 mod making;
+mod shared;
 mod snapshot;
 
 pub use fault::PlacedFault;
+pub use found::FileIn;
 pub use laws::{faults_differ, faults_lie_in_files, one_snapshot, refusals_are_faults};
 pub use making::{Recompiled, compile, recompile};
-pub use snapshot::{Snapshot, join};
+pub use shared::SharedSnapshot;
+pub use snapshot::{Snapshot, join, join_parts};
 
 /// What the crates above name of `go_emit_core`.
 pub mod emit_core {
@@ -28,6 +32,7 @@ pub mod package_core {
 /// What the crates above name of `go_part_core`.
 pub mod part_core {
     pub use go_make_core::part_core::{
-        Part, PartInput, compile_part, one_part, part_has_occurrences,
+        Part, PartFile, PartInput, Parts, compile_part, one_part, part_has_its_path,
+        part_has_occurrences, types_of,
     };
 }

@@ -9,10 +9,11 @@ ghost use Rattle.go_make_core.specs.part_core.Parts.{PartModel};
 ghost use Rattle.go_make_core.specs.whole_core.Inputs.{AreParts};
 ghost use Rattle.go_object_core.specs.Objects.{object_shown};
 ghost use Rattle.go_emit_core.specs.Emitted.{objects_of};
-ghost use Rattle.go_snap_core.specs.Snapshots.{ArePartsOf, IsAnswerAt, IsPartAt, IsSnapshot, snapshot_with};
+ghost use Rattle.go_snap_core.specs.Snapshots.{ArePartsOf, HasNoFile, IsAnswerAt, IsFileAt, IsPartAt, IsSnapshot, file_in_shown, snapshot_with};
 ghost use Rattle.go_make_core.specs.part_core.Slots.{somes};
 
 use crate::fault::{PlacedFault, faults_of};
+use crate::found::FileIn;
 use go_emit_core::answer_core::{Answer, Site};
 use go_emit_core::emit_all;
 use go_graph_core::{PackageSource, SourceFile, Workspace};
@@ -83,7 +84,8 @@ impl Snapshot {
         }
     }
 
-    /// The workspace that the snapshot is of.
+    /// The workspace that the snapshot is of. Its clause `whole` says what every call on a snapshot rests on: the parts and the faults are what the trees
+    /// of all packages give.
     pub fn sources(&self) -> &Workspace
         ensures value { result.now ≡ self.now.sources }
         ensures whole { IsSnapshot self.now.sources self.now.parts self.now.faults }
@@ -132,6 +134,26 @@ impl Snapshot {
         let number = file_of(part.input().package().files(), file)?;
         let made = part.content().files.get(number)?;
         made.answers.answers.get(occurrence.0)
+    }
+
+    /// The file of a name in the assembled package of a path: its number in the package, its source with its tree, and what the part of the package has
+    /// of it. `None` where there is no such package, and where it has no file of that name. The time is logarithmic in the packages and in the files.
+    pub fn file(&self, path: &ImportPath, name: &str) -> Option<FileIn<'_>>
+        ensures { MatchOption result (HasNoFile self.now.sources self.now.parts path.now name.now) (λ f. IsFileAt self.now.sources self.now.parts path.now name.now (file_in_shown f)) }
+    {
+        let part = self.find(path)?;
+        let package = part.input().package();
+        let files = package.files();
+        let number = file_of(files, name)?;
+        let tree = package.tree(number);
+        let content = part.content();
+        Some(FileIn {
+            part,
+            number,
+            source: &files[number],
+            tree,
+            made: &content.files[number],
+        })
     }
 
     /// All faults: the rules that occurrences break, and those that are broken beside; by package, file, offset, and the bytes of the rule's
@@ -190,6 +212,31 @@ fn put_parts(packages: &[PackageSource], parts: &mut Vec<Part>, slots: &mut Part
     }
 }
 
+/// The snapshot of a workspace, of the parts of its assembled packages, by the numbers of these: what `compile` gives. It takes memory for the faults
+/// alone.
+///
+/// # Errors
+///
+/// The workspace and the parts, where memory is wanting.
+pub fn join_parts(
+    alloc: Global,
+    workspace: Workspace,
+    parts: Parts,
+) -> Result<Snapshot, (Workspace, Parts)>
+    requires { AreParts workspace parts }
+    ensures sources { IfOk result (λ s. s.sources ≡ workspace) }
+    ensures parts { IfOk result (λ s. s.parts ≡ parts) }
+    ensures given_back { IfErr result (λ back. (back.0 ≡ workspace) × (back.1 ≡ parts)) }
+{
+    parts_are_whole();
+    // Packages stand in order of path.
+    let _packages = workspace.packages();
+    match faults_of(alloc, &workspace, parts.as_slice()) {
+        Ok(faults) => Ok(Snapshot::new(workspace, parts, faults)),
+        Err(AllocError) => Err((workspace, parts)),
+    }
+}
+
 /// The snapshot of a workspace, of the parts of its assembled packages, each once, in any order: what `compile` gives.
 ///
 /// # Errors
@@ -205,17 +252,16 @@ pub fn join(
     ensures parts { IfOk result (λ s. IsPermutation parts.items (somes s.parts)) }
     ensures given_back { IfErr result (λ back. (back.0 ≡ workspace) × IsPermutation parts.items back.1.items) }
 {
-    parts_are_whole();
     let mut parts = parts;
     let Ok(mut slots) = Parts::none(alloc, workspace.packages().len()) else {
         return Err((workspace, parts));
     };
     put_parts(workspace.packages(), &mut parts, &mut slots);
-    match faults_of(alloc, &workspace, slots.as_slice()) {
-        Ok(faults) => Ok(Snapshot::new(workspace, slots, faults)),
-        Err(AllocError) => {
-            slots.take_back(&mut parts);
-            Err((workspace, parts))
+    match join_parts(alloc, workspace, slots) {
+        Ok(snapshot) => Ok(snapshot),
+        Err((given, unjoined)) => {
+            unjoined.take_back(&mut parts);
+            Err((given, parts))
         }
     }
 }

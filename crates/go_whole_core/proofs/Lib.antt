@@ -14,6 +14,7 @@ mod LedTo
 pub mod Parts
 pub mod PartsWhole
 mod Seeing
+pub mod Staying
 pub mod Theirs
 pub mod Told
 mod Types

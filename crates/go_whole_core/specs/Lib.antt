@@ -3,7 +3,6 @@ pub mod Inputs
 pub mod Known
 pub mod Laws
 pub mod LocalLaws
-pub mod Reached
 pub mod Whole
 pub mod mirrors
 pub mod face_core

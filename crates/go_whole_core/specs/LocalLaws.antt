@@ -9,7 +9,6 @@ use Rattle.go_block_core.specs.Naming.{package_named}
 use Rattle.go_part_core.specs.ready_core.Packages.{PackageIn}
 use Rattle.go_part_core.specs.package_core.Checked.{CheckedOf}
 use Rattle.go_whole_core.specs.Known.{CheckGives, KnownAlike, BindsInside, MentionsInside, GivesInside, IsImportedPath}
-use Rattle.go_whole_core.specs.Reached.{ReachesPath}
 use Rattle.go_tree_nodes.specs.Spelling.{IsPlaced}
 use Rattle.go_part_core.specs.Parts.{SeenOf}
 
@@ -30,21 +29,6 @@ pub record CheckIsLocal : Type 0 where
   pub same : (paths : List (List ℕ)) (p : PackageIn) (one other : SeenOf) (c : CheckedOf) → StandsAmong paths p one → KnownAlike (Contains paths) one other → CheckGives p one c → CheckGives p other c
   pub answer : (paths : List (List ℕ)) (p : PackageIn) (one other : SeenOf) (c d : CheckedOf) → StandsAmong paths p one → KnownAlike (Contains paths) one other → CheckGives p one c → CheckGives p other d → c ≡ d
   pub inside : (paths : List (List ℕ)) (p : PackageIn) (k : SeenOf) (c : CheckedOf) → StandsAmong paths p k → CheckGives p k c → GivesInside (Contains paths) c
-
--- what is reached
-
--- a package in a workspace of which it is known which packages import which, by imports that pass: what its imports bind is of packages that it
--- imports, and what is known of each package that it reaches mentions types of that package and of those which that one reaches
-pub record StandsWithin (imports : List (List ℕ × List ℕ)) (p : PackageIn) (k : SeenOf) : Type 0 where
-  pub placed : All IsPlaced p.trees
-  pub binds : BindsInside (λ path. Contains imports (p.path, path)) p.blocks
-  pub mentions : MentionsInside (ReachesPath imports p.path) (ReachesPath imports) k
-
--- where the same is known of the package and of those that it reaches, the check gives the same, and what it gives mentions types of these alone
-pub record OnlyReachedPackagesCount : Type 0 where
-  pub same : (imports : List (List ℕ × List ℕ)) (p : PackageIn) (one other : SeenOf) (c : CheckedOf) → StandsWithin imports p one → KnownAlike (ReachesPath imports p.path) one other → CheckGives p one c → CheckGives p other c
-  pub answer : (imports : List (List ℕ × List ℕ)) (p : PackageIn) (one other : SeenOf) (c d : CheckedOf) → StandsWithin imports p one → KnownAlike (ReachesPath imports p.path) one other → CheckGives p one c → CheckGives p other d → c ≡ d
-  pub inside : (imports : List (List ℕ × List ℕ)) (p : PackageIn) (k : SeenOf) (c : CheckedOf) → StandsWithin imports p k → CheckGives p k c → GivesInside (ReachesPath imports p.path) c
 
 -- what is bound
 

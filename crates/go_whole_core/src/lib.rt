@@ -8,13 +8,13 @@
 mod local;
 mod whole;
 
-pub use local::{check_is_local, imports_bind_theirs, only_reached_packages_count};
-pub use whole::{one_whole, parts_are_whole};
+pub use local::{check_is_local, imports_bind_theirs};
+pub use whole::{inputs_stay, one_whole, parts_are_whole, parts_come_in_order};
 
 /// What the crates above name of `go_part_core`.
 pub mod part_core {
     pub use go_part_core::{
-        Part, PartInput, Parts, compile_over, compile_part, one_part, part_has_occurrences,
-        same_imports,
+        Part, PartFile, PartInput, Parts, compile_over, compile_part, one_part, part_has_its_path,
+        part_has_occurrences, same_imports, types_of,
     };
 }

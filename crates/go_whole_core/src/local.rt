@@ -1,5 +1,5 @@
 //! Laws of what the check of a package looks at in other packages, with nothing to run.
-ghost use Rattle.go_whole_core.specs.LocalLaws.{CheckIsLocal, OnlyReachedPackagesCount, ImportsBindTheirs};
+ghost use Rattle.go_whole_core.specs.LocalLaws.{CheckIsLocal, ImportsBindTheirs};
 
 /// Where a package and some others lead to none beside themselves, its check gives the same whatever is known of packages beside these: its
 /// types and their faults, what its declarations are, what it shows, what each occurrence has, and the faults of its files. What it gives
@@ -8,14 +8,6 @@ ghost use Rattle.go_whole_core.specs.LocalLaws.{CheckIsLocal, OnlyReachedPackage
 /// The Go specification, "Packages", "Import declarations".
 pub fn check_is_local()
     ensures { CheckIsLocal }
-{}
-
-/// So in a workspace the packages that a package reaches by imports that pass, in any number of steps, decide what its check gives: two tables of
-/// types, two lists of what packages show and of what declarations are that have the same of these give the same.
-///
-/// The Go specification, "Packages", "Import declarations".
-pub fn only_reached_packages_count()
-    ensures { OnlyReachedPackagesCount }
 {}
 
 /// What the imports of a package bind in its files is a package that one of them comes to, or a declaration that such a package shows: so the

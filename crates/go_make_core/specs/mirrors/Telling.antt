@@ -1,35 +1,48 @@
--- What the packages that are made tell, in a list, and the place of each in it.
-use Rattle.std.specs.Prelude.{◌≡◌, ℕ, List, Option, Some, Contains, length, slice_get}
+-- What packages tell, in a list, and the place of each in it.
+use Rattle.std.specs.Prelude.{◌≡◌, ◌<◌, ℕ, List, Option, Some, None, Contains, length, map, slice_get}
 use Rattle.std.specs.List.{AllZip}
 use Rattle.std.specs.List.Sorted.{IsStrictlyIncreasing}
 use Rattle.go_reach_core.specs.Numbers.{Numbers}
 use Rattle.go_summary_core.specs.Summaries.{SummaryModel}
-use Rattle.go_whole_core.specs.part_core.Parts.{PartModel}
 
--- the package of a number has a place, and tells what stands there
-pub record IsToldAt (told : List SummaryModel) (places : List ℕ) (n : ℕ) (s : SummaryModel) : Type 0 where
-  pub place : ℕ
-  pub at : slice_get places n ≡ Some place
-  pub is : slice_get told place ≡ Some s
+-- what stands at a place, if there is one
+abbrev pub at_place : List SummaryModel → Option ℕ → Option SummaryModel
+at_place all None = None
+at_place all (Some place) = slice_get all place
 
--- what each part tells stands at the place of its number
-pub record HavePlaces (parts : List (Option PartModel)) (told : List SummaryModel) (places : List ℕ) : Type 0 where
-  pub many : length places ≡ length parts
-  pub told_at : (n : ℕ) (part : PartModel) → slice_get parts n ≡ Some (Some part) → IsToldAt told places n part.content.summary
+-- what stands at the place of each number
+abbrev pub by_places : List SummaryModel → List (Option ℕ) → List (Option SummaryModel)
+by_places all places = map (at_place all) places
 
--- each of these numbers has a place
-abbrev pub AreTold : List SummaryModel → List ℕ → List ℕ → Type 0
-AreTold told places numbers = (m : ℕ) → Contains numbers m → (s : SummaryModel) × IsToldAt told places m s
+-- something stands at each place
+abbrev pub ArePlaces : List SummaryModel → List (Option ℕ) → Type 0
+ArePlaces all places = (n place : ℕ) → slice_get places n ≡ Some (Some place) → place < length all
 
--- there is a set of what the package of a number reaches, and each of these has a place
-pub record AreToldFor (sets : List Numbers) (told : List SummaryModel) (places : List ℕ) (n : ℕ) : Type 0 where
+-- what a list has at a number, if it has something there
+abbrev pub if_some : {A : Type 0} → Option (Option A) → Option A
+if_some None = None
+if_some (Some o) = o
+
+abbrev pub at_number : {A : Type 0} → List (Option A) → ℕ → Option A
+at_number xs n = if_some (slice_get xs n)
+
+-- the package of a number tells this
+abbrev pub IsToldAt : List (Option SummaryModel) → ℕ → SummaryModel → Type 0
+IsToldAt told n s = slice_get told n ≡ Some (Some s)
+
+-- each of these numbers is told of
+abbrev pub AreTold : List (Option SummaryModel) → List ℕ → Type 0
+AreTold told numbers = (m : ℕ) → Contains numbers m → (s : SummaryModel) × IsToldAt told m s
+
+-- there is a set of what the package of a number reaches, and each of these is told of
+pub record AreToldFor (sets : List Numbers) (told : List (Option SummaryModel)) (n : ℕ) : Type 0 where
   pub set : Numbers
   pub there : slice_get sets n ≡ Some set
-  pub have : AreTold told places set.members
+  pub have : AreTold told set.members
 
 -- what the packages of the set of a number tell, in order of number
-pub record AreToldOf (sets : List Numbers) (told : List SummaryModel) (places : List ℕ) (n : ℕ) (ss : List SummaryModel) : Type 0 where
+pub record AreToldOf (sets : List Numbers) (told : List (Option SummaryModel)) (n : ℕ) (ss : List SummaryModel) : Type 0 where
   pub set : Numbers
   pub there : slice_get sets n ≡ Some set
   pub rising : IsStrictlyIncreasing set.members
-  pub all : AllZip (IsToldAt told places) set.members ss
+  pub all : AllZip (IsToldAt told) set.members ss

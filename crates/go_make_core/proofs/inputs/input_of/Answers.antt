@@ -25,7 +25,7 @@ given_to-requires-clause-imports c =
 pub given_to-requires-clause-told : goal.given_to-requires-clause-told
 given_to-requires-clause-told c =
     let there = reached_there c.args.workspace.now c.args.plan.now c.requires.plan c.args.parts.now c.args.number c.requires.parts c.args.reached.now c.packages-packages.ensures.well c.requires.reached c.requires.many c.requires.assembled in
-    told_for c.args.told.now.summaries c.args.told.now.places.items c.args.parts.now c.requires.told c.args.reached.now c.args.number there
+    told_for c.args.parts.now c.args.told.now c.requires.told c.args.reached.now c.args.number there
 
 pub new-requires-clause-imports : goal.new-requires-clause-imports
 new-requires-clause-imports c = have_one_each (IsPlanned c.args.plan.now.outcomes (exports_in c.args.parts.now)) c.args.number (trees_of c.in_ok-package.package.1) (map imported_in c.in_ok-imports.imports.items) c.in_ok-imports.ensures.imports
@@ -38,8 +38,7 @@ new-requires-clause-reached c =
     let ss = c.in_ok-imports.summaries in
     let well = c.packages-packages.ensures.well in
     let numbered : slice_get ps n ≡ Some p = ap (λ l. slice_get l n) (sym c.packages-packages.ensures.packages) ∙ c.in_ok-package.ensures in
-    let there = reached_there ps c.args.plan.now c.requires.plan c.args.parts.now n c.requires.parts c.args.reached.now well c.requires.reached c.requires.many c.requires.assembled in
-    let by_set = told_by_set c.args.told.now.summaries c.args.told.now.places.items c.args.parts.now c.requires.told c.args.reached.now n ss there c.in_ok-imports.ensures.told in
+    let by_set = told_by_set c.args.parts.now c.args.told.now c.requires.told c.args.reached.now n ss c.in_ok-imports.ensures.told in
     let told = told_is ps c.args.plan.now c.requires.plan c.args.parts.now n c.requires.parts c.args.reached.now ss well c.requires.reached by_set in
     record {
       apart = told_apart ps c.args.plan.now c.requires.plan c.args.parts.now n c.requires.parts ss well told;
@@ -53,8 +52,7 @@ returns-clause-told c =
     let sets = c.args.reached.now in
     let parts = c.args.parts.now in
     let ss = c.in_ok-imports.summaries in
-    let there = reached_there ps c.args.plan.now c.requires.plan parts n c.requires.parts sets c.packages-packages.ensures.well c.requires.reached c.requires.many c.requires.assembled in
-    let by_set = told_by_set c.args.told.now.summaries c.args.told.now.places.items parts c.requires.told sets n ss there c.in_ok-imports.ensures.told in
+    let by_set = told_by_set parts c.args.told.now c.requires.told sets n ss c.in_ok-imports.ensures.told in
     subst (AreToldBySet sets parts n) (sym (ap (λ (i : InputModel). i.reached) c.in_ok-input.ensures)) by_set
 
 pub returns-clause-input : goal.returns-clause-input
@@ -66,8 +64,7 @@ returns-clause-input c =
     let ss = c.in_ok-imports.summaries in
     let well = c.packages-packages.ensures.well in
     let numbered : slice_get ps n ≡ Some p = ap (λ l. slice_get l n) (sym c.packages-packages.ensures.packages) ∙ c.in_ok-package.ensures in
-    let there = reached_there ps c.args.plan.now c.requires.plan c.args.parts.now n c.requires.parts c.args.reached.now well c.requires.reached c.requires.many c.requires.assembled in
-    let by_set = told_by_set c.args.told.now.summaries c.args.told.now.places.items c.args.parts.now c.requires.told c.args.reached.now n ss there c.in_ok-imports.ensures.told in
+    let by_set = told_by_set c.args.parts.now c.args.told.now c.requires.told c.args.reached.now n ss c.in_ok-imports.ensures.told in
     let told = told_is ps c.args.plan.now c.requires.plan c.args.parts.now n c.requires.parts c.args.reached.now ss well c.requires.reached by_set in
     let comes = package_comes ps c.args.plan.now c.requires.plan c.args.parts.now n c.requires.parts p imported c.in_ok-imports.ensures.imports in
     let is = c.in_ok-input.ensures in

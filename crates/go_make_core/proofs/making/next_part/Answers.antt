@@ -18,8 +18,8 @@ input_of-requires-clause-parts c = next_reached c.args.workspace.now c.args.plan
 pub earlier_part-requires-clause-own : goal.earlier_part-requires-clause-own
 earlier_part-requires-clause-own c = all_at_place AreAllRead c.args.workspace.now c.args.number c.in_ok-input.input.source c.requires.well.read c.in_ok-input.ensures.input.numbered
 
-pub earlier_part-requires-clause-told : goal.earlier_part-requires-clause-told
-earlier_part-requires-clause-told c = marked_for c.args.earlier.now c.args.told.now.again.items c.args.parts.now c.args.reached.now c.args.number c.in_ok-input.input.reached c.requires.again c.in_ok-input.ensures.told
+pub earlier_part-requires-clause-again : goal.earlier_part-requires-clause-again
+earlier_part-requires-clause-again c = marked_for c.args.earlier.now c.args.again.now c.args.parts.now c.args.reached.now c.args.number c.in_ok-input.input.reached c.requires.again c.in_ok-input.ensures.told
 
 pub new_part-requires-clause-others : goal.new_part-requires-clause-others
 new_part-requires-clause-others c =
