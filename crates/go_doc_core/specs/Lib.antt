@@ -1,0 +1,3 @@
+pub mod DocComments
+pub mod Laws
+pub mod mirrors
