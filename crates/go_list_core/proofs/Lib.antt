@@ -1,0 +1,6 @@
+pub mod Added
+pub mod Judged
+pub mod Marking
+pub mod Numbering
+pub mod Picking
+pub mod Standings
