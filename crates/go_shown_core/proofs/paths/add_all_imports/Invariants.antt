@@ -1,0 +1,10 @@
+use Rattle.std.proofs.Common.{Vec, take}
+use Rattle.std.specs.List.{flat_map}
+use Rattle.std.specs.declared.alloc.Global.{Global}
+use Rattle.go_block_core.specs.declared.imports.Imported.{Imported}
+use Rattle.go_shown_core.specs.Shown.{MayBeShown, path_in, texts}
+use Rattle.go_shown_core.specs.mirrors.Adding.{AddsPicked}
+use Rattle.go_shown_core.proofs.paths.add_all_imports.Given as goal
+
+abbrev pub invariant-loop-imports : goal.invariant-loop-imports
+invariant-loop-imports l = AddsPicked (MayBeShown l.fn.from) (flat_map (λ (is : Vec Imported Global). flat_map path_in is.items) (take l.imports-index l.fn.files)) (texts l.fn.paths.items) (texts l.paths.items)
