@@ -1,0 +1,5 @@
+pub mod Declared
+pub mod Distinct
+pub mod Rising
+pub mod Showing
+pub mod Sorting
