@@ -1,0 +1,9 @@
+pub mod Deciding
+pub mod Declaring
+pub mod FileLists
+pub mod Finding
+pub mod NameLists
+pub mod Occurring
+pub mod States
+pub mod TreeLists
+pub mod Walking
