@@ -1,0 +1,16 @@
+//! From the objects of packages to a program that can be run: functions whose references are numbers, and which of them begin it.
+//!
+//! The Go specification, "Program initialization", "Program execution".
+#![tactic(auto)]
+
+mod edges;
+mod functions;
+mod linking;
+mod numbers;
+mod order;
+mod packages;
+mod places;
+mod reached;
+
+pub use linking::{Runnable, link};
+pub use places::{Place, Places};

@@ -1,0 +1,4 @@
+mod Taking
+mod Stepping
+mod Growing
+mod Bits

@@ -1,0 +1,6 @@
+pub mod Words
+pub mod Programs
+pub mod Machine
+pub mod Ends
+pub mod Laws
+pub mod mirrors

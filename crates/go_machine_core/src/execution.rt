@@ -1,0 +1,78 @@
+//! Whole runs.
+ghost use Rattle.std.specs.Prelude.{◌≡◌, map, IfOk, MatchOption, Some, None};
+ghost use Rattle.go_machine_core.specs.Ends.{ran_shown};
+ghost use Rattle.go_machine_core.specs.Machine.{all_begun, machine};
+ghost use Rattle.go_machine_core.specs.Programs.{linked_shown};
+ghost use Rattle.go_machine_core.specs.mirrors.Shown.{frames_shown};
+
+use crate::callers::Callers;
+use crate::frame::begin;
+use crate::linked::Linked;
+use crate::state::{End, State};
+use crate::steps::step;
+use std::alloc::{AllocError, Global};
+
+/// What a run came to.
+#[derive(Drop)]
+pub struct Ran {
+    pub end: End,
+    /// What was printed.
+    pub output: String,
+}
+
+// The functions that are to run one after another, the first of them the innermost: none where one is missing.
+fn begin_all(
+    alloc: Global,
+    program: &[Linked<'_>],
+    starts: &[usize],
+) -> Result<Option<Callers>, AllocError>
+    ensures { IfOk result (λ callers. MatchOption callers (all_begun (map linked_shown program.now) starts.now ≡ None) (λ frames. all_begun (map linked_shown program.now) starts.now ≡ Some (frames_shown program.now frames))) }
+{
+    let mut frames = Callers::new(alloc);
+    for number in (0..starts.len()).rev() {
+        let Some(frame) = begin(alloc, program, starts[number], Vec::new(alloc))? else {
+            return Ok(None);
+        };
+        frames.push(frame)?;
+    }
+    Ok(Some(frames))
+}
+
+/// Runs the functions of these numbers, one after another, in at most so many steps, one for each instruction. What memory a run takes is bounded by
+/// how deep its calls are and by what it prints.
+///
+/// # Errors
+///
+/// `AllocError` where memory is wanting.
+pub fn execute(
+    alloc: Global,
+    program: &[Linked<'_>],
+    starts: &[usize],
+    steps: u64,
+) -> Result<Ran, AllocError>
+    ensures { IfOk result (λ ran. ran_shown ran ≡ machine (map linked_shown program.now) starts.now steps) }
+{
+    let output = String::new(alloc);
+    let Some(mut callers) = begin_all(alloc, program, starts)? else {
+        let end = End::Stuck;
+        return Ok(Ran { end, output });
+    };
+    let Some(frame) = callers.pop() else {
+        let end = End::Ended;
+        return Ok(Ran { end, output });
+    };
+    let mut state = State {
+        frame,
+        callers,
+        output,
+    };
+    for _turn in 0..steps {
+        if let Some(end) = step(alloc, program, &mut state)? {
+            let output = state.output;
+            return Ok(Ran { end, output });
+        }
+    }
+    let end = End::Spent;
+    let output = state.output;
+    Ok(Ran { end, output })
+}
