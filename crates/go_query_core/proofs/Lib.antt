@@ -1,0 +1,5 @@
+pub mod Documented
+pub mod Importing
+pub mod Listed
+pub mod Reaching
+pub mod Using

@@ -1,0 +1,32 @@
+use Rattle.std.proofs.Common.{List, map, sym, ap, ◌∙◌, subst}
+use Rattle.go_graph_core.specs.Packages.{IsPackageName, trees_of}
+use Rattle.go_graph_core.specs.Sources.{SourceModel}
+use Rattle.go_graph_core.specs.Workspaces.{PackageModel}
+use Rattle.go_block_core.specs.Exports.{exported_names}
+use Rattle.go_block_core.specs.Holding.{package_block}
+use Rattle.go_symbol_core.specs.Symbols.{AreSymbols, symbol_shown}
+use Rattle.go_make_core.specs.part_core.Inputs.{InputModel}
+use Rattle.go_make_core.specs.summary_core.Summaries.{SummaryModel}
+use Rattle.go_query_core.proofs.Documented.{exported_are, exported_symbols_are}
+use Rattle.go_query_core.proofs.documenting.exported_doc.Goals as goal
+
+pub exported_symbols-requires : goal.exported_symbols-requires
+exported_symbols-requires c =
+    let part = c.args.part.now in
+    let source = c.package-package.ensures ∙ ap (λ (i : InputModel). i.source) c.input.ensures in
+    let names = ap (λ x. x.names) (c.exports-exports.ensures ∙ ap (λ (s : SummaryModel). s.exports) c.summary.ensures) in
+    names ∙ (exported_are part.input part.content c.content-content.ensures.made ∙ ap (λ (p : PackageModel). exported_names (package_block (trees_of p.1))) (sym source))
+
+pub returns-in-Ok-clause-ok : goal.returns-in-Ok-clause-ok
+returns-in-Ok-clause-ok c =
+    let part = c.args.part.now in
+    let source = c.package-package.ensures ∙ ap (λ (i : InputModel). i.source) c.input.ensures in
+    let files = ap (λ (p : PackageModel). p.1) source in
+    let names = ap (λ x. x.names) (c.exports-exports.ensures ∙ ap (λ (s : SummaryModel). s.exports) c.summary.ensures) in
+    let shown = map symbol_shown c.in-Ok.symbols.items in
+    let moved = subst (λ (l : List SourceModel). AreSymbols l c.exports-exports.result.now.names shown) files c.in-Ok.ensures in
+    record {
+      path = c.path.ensures;
+      name = subst (λ (l : List SourceModel). IsPackageName (trees_of l) c.name.result.now) files c.name.ensures;
+      symbols = exported_symbols_are part.input part.content c.content-content.ensures.made part.input.source.1 c.exports-exports.result.now.names shown names moved;
+    }

@@ -1,0 +1,32 @@
+use Rattle.std.proofs.Common.{ℕ, List, map, sym, ap, ◌∙◌, subst}
+use Rattle.go_decl_core.specs.declared.keys.DeclRef.{DeclRef}
+use Rattle.go_graph_core.specs.Packages.{IsPackageName, trees_of}
+use Rattle.go_graph_core.specs.Sources.{SourceModel}
+use Rattle.go_graph_core.specs.Workspaces.{PackageModel}
+use Rattle.go_block_core.specs.Holding.{package_block}
+use Rattle.go_symbol_core.specs.Symbols.{AreSymbols, symbol_shown}
+use Rattle.go_make_core.specs.part_core.Inputs.{InputModel}
+use Rattle.go_make_core.specs.part_core.Parts.{ContentOf}
+use Rattle.go_query_core.proofs.Documented.{names_are}
+use Rattle.go_query_core.proofs.documenting.own_doc.Goals as goal
+
+pub own_symbols-requires : goal.own_symbols-requires
+own_symbols-requires c =
+    let part = c.args.part.now in
+    let source = c.package-package.ensures ∙ ap (λ (i : InputModel). i.source) c.input.ensures in
+    let names = ap (λ (x : ContentOf). x.blocks.names) c.content-content.ensures.value in
+    names ∙ (names_are part.input part.content c.content-content.ensures.made ∙ ap (λ (p : PackageModel). package_block (trees_of p.1)) (sym source))
+
+pub returns-in-Ok-clause-ok : goal.returns-in-Ok-clause-ok
+returns-in-Ok-clause-ok c =
+    let part = c.args.part.now in
+    let source = c.package-package.ensures ∙ ap (λ (i : InputModel). i.source) c.input.ensures in
+    let files = ap (λ (p : PackageModel). p.1) source in
+    let names = ap (λ (x : ContentOf). x.blocks.names) c.content-content.ensures.value in
+    let shown = map symbol_shown c.in-Ok.symbols.items in
+    let moved = subst (λ (l : List SourceModel). AreSymbols l c.content-content.result.now.blocks.names shown) files c.in-Ok.ensures in
+    record {
+      path = c.path.ensures;
+      name = subst (λ (l : List SourceModel). IsPackageName (trees_of l) c.name.result.now) files c.name.ensures;
+      symbols = subst (λ (l : List (List ℕ × DeclRef)). AreSymbols part.input.source.1 l shown) names moved;
+    }

@@ -1,0 +1,16 @@
+-- Parts of snapshots by paths.
+use Rattle.std.specs.Prelude.{◌≡◌, ℕ, List, Some, slice_get}
+use Rattle.go_graph_core.specs.Imports.{IsNumbered}
+use Rattle.go_graph_core.specs.Sources.{SourceModel}
+use Rattle.go_make_core.specs.part_core.Parts.{PartModel}
+use Rattle.go_snap_core.specs.Snapshots.{SnapshotModel}
+
+-- the package of a path has this number and this part
+pub record IsPartOf (s : SnapshotModel) (path : List ℕ) (number : ℕ) (p : PartModel) : Type 0 where
+  pub files : List SourceModel
+  pub numbered : IsNumbered s.sources path number files
+  pub there : slice_get s.parts number ≡ Some (Some p)
+
+-- the package of a number has a part
+abbrev pub HasPart : SnapshotModel → ℕ → Type 0
+HasPart s number = (p : PartModel) × (slice_get s.parts number ≡ Some (Some p))

@@ -1,0 +1,9 @@
+-- What the occurrences of a file have.
+use Rattle.std.specs.Prelude.{◌≡◌, ◌<◌, ◌^◌, length}
+use Rattle.go_tree_core.specs.Occurrences.{file_occs}
+use Rattle.go_snap_core.specs.Snapshots.{FoundFile}
+
+-- each has one, and there are few enough for a number
+pub record HasOccurrences (f : FoundFile) : Type 0 where
+  pub many : length f.made.answers.uses ≡ length (file_occs f.tree)
+  pub few : length (file_occs f.tree) < 2 ^ 64
