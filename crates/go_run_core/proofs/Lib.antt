@@ -1,0 +1,4 @@
+mod Ones
+mod Behind
+mod Worked
+mod Telling

@@ -1,0 +1,70 @@
+//! Runs of programs.
+ghost use Rattle.std.specs.Prelude.{◌≡◌, ◌⊎◌, IfOk, IfErr, MatchOption, map};
+ghost use Rattle.go_object_core.specs.Objects.{object_shown};
+ghost use Rattle.go_machine_core.specs.Ends.{ran_shown};
+ghost use Rattle.go_link_core.specs.Linked.{HasNoMain, IsBeyond, program_of, runnable_shown};
+ghost use Rattle.go_run_core.specs.Runs.{GetsStuck, Gives, IsStuck, comes_to, run_shown};
+
+use crate::outcome::Run;
+use go_link_core::{Places, Runnable, link};
+use go_machine_core::{End, Ran, execute};
+use go_object_core::Object;
+use go_path_core::ImportPath;
+use go_text_core::Rule;
+use std::alloc::{AllocError, Global};
+
+// What a run came to, if no instruction lacked anything.
+fn told(ran: Ran) -> Option<Run>
+    ensures { MatchOption result (IsStuck (ran_shown ran)) (λ run. run_shown run ≡ ran_shown ran) }
+{
+    match ran.end {
+        End::Ended => Some(Run::Ended(ran.output)),
+        End::Panicked => Some(Run::Panicked(ran.output)),
+        End::Spent => Some(Run::Spent(ran.output)),
+        End::Stuck => None,
+    }
+}
+
+// What a program that can be run comes to.
+fn run_linked(alloc: Global, runnable: &Runnable<'_>, steps: u64) -> Result<Option<Run>, AllocError>
+    ensures { IfOk result (λ run. MatchOption run (IsStuck (comes_to (runnable_shown runnable.now) steps)) (λ run. run_shown run ≡ comes_to (runnable_shown runnable.now) steps)) }
+{
+    let ran = execute(alloc, &runnable.functions, &runnable.starts, steps)?;
+    let run = told(ran);
+    Ok(run)
+}
+
+/// Runs the package of a path in at most so many steps, one for each instruction, from the objects of it and of all that it reaches. Before its
+/// function `main` the `init` functions of the packages that it reaches by imports run, and its own: the packages one after another, each time the
+/// first in order of path whose imports are done, the functions of a package in their order. `Run::Spent` comes only where all steps were done.
+///
+/// What memory it takes is bounded by the objects, by how deep the calls are, and by what is printed.
+///
+/// # Errors
+///
+/// `Rule::J1` exactly where there is no object of the path, or its package is not called `main`, or has no function `main`; `Rule::J2` exactly where
+/// there is one, and a package that it reaches by imports has no object, or references lead, from `main` or from an `init` that runs, to a function of
+/// which no code is made; `Rule::M0` where memory is wanting; `Rule::Z1` where an instruction lacks what it asks for, as in objects that were not
+/// made of one workspace.
+pub fn run<D, P: Places<D>>(
+    alloc: Global,
+    places: &P,
+    objects: &[Object<D>],
+    main: &ImportPath,
+    steps: u64,
+) -> Result<Run, Rule>
+    ensures ok { IfOk result (λ run. Gives (program_of (P.place_of places.now) (map object_shown objects.now) main.now) steps (run_shown run)) }
+    ensures err { IfErr result (λ rule. (rule ≡ Rule.M0) ⊎ ((rule ≡ Rule.J1) × HasNoMain (program_of (P.place_of places.now) (map object_shown objects.now) main.now)) ⊎ ((rule ≡ Rule.J2) × IsBeyond (program_of (P.place_of places.now) (map object_shown objects.now) main.now)) ⊎ ((rule ≡ Rule.Z1) × GetsStuck (program_of (P.place_of places.now) (map object_shown objects.now) main.now) steps)) }
+{
+    let runnable = match link(alloc, places, objects, main) {
+        Ok(runnable) => runnable,
+        Err(rule) => return Err(rule),
+    };
+    let Ok(ran) = run_linked(alloc, &runnable, steps) else {
+        return Err(Rule::M0);
+    };
+    match ran {
+        Some(run) => Ok(run),
+        None => Err(Rule::Z1),
+    }
+}
