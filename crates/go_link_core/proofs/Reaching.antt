@@ -91,10 +91,10 @@ module _ (g : List Edge) (top : ℕ) (starts : List ℕ) (within : InRange top g
       by (e ∷ es) p = ⊎_elim
           (λ inside. (let b = (below e inside).0 in let same : e.from ≡ top = p.1 in absurd (omega (arith, same, b))))
           (λ outside. (let f = start_of starts e outside in
-              let s_is : f.0 ≡ e.to = ap (λ (x : Edge). x.to) f.2 in
-              let small : f.0 < top = below_of top starts f.0 low f.1 in
-              let small' : e.to < top = subst (λ x. x < top) s_is small in
-              (f.0, f.1, subst (λ x. Reaches g x k) (sym s_is) (es, from_inside es e.to k small' p.2))))
+          let s_is : f.0 ≡ e.to = ap (λ (x : Edge). x.to) f.2 in
+          let small : f.0 < top = below_of top starts f.0 low f.1 in
+          let small' : e.to < top = subst (λ x. x < top) s_is small in
+          (f.0, f.1, subst (λ x. Reaches g x k) (sym s_is) (es, from_inside es e.to k small' p.2))))
           (Contains-append_cases g (map (edge top) starts) e p.0)
 
   pub to_all : (k s : ℕ) → Contains starts s → Reaches g s k → Reaches all top k

@@ -55,7 +55,7 @@ pub order_more : {P : Type 0} (now : P → List ℕ) (paths : List P) (n m place
 order_more now paths n m place d path old new lt is there at e h =
     let h' : old ≡ order_from (map now paths) (n + 1) (map now (drop (n + 1) paths)) = subst (λ k. old ≡ order_from (map now paths) k (map now (drop k paths))) is h in
     let where_is : place ≡ prefix_len (λ k. is_before (slice_index_or (map now paths) k []) (slice_index_or (map now paths) n [])) old =
-        at ∙ ap (λ p. prefix_len (λ k. is_before (slice_index_or (map now paths) k []) p) old) (there ∙ path_there now paths n d lt) in
+    at ∙ ap (λ p. prefix_len (λ k. is_before (slice_index_or (map now paths) k []) p) old) (there ∙ path_there now paths n d lt) in
     e ∙ (ap (λ i. insert old i n) where_is ∙ (ap (placed (map now paths) n) h' ∙ sym (ap (λ l. order_from (map now paths) n (map now l)) (drop_more paths n d lt))))
 
 module _ (ps : List PackageOf) (n t m : ℕ) (done : List Bool) (waiting : List ℕ) (lt : t < n) (is : m ≡ t + 1) where

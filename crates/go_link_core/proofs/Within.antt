@@ -70,9 +70,10 @@ number_within places (Some p) k e = (let lt : k < 0 + length places = position_w
 module _ {D : Type 0} (place : D → Option PlaceModel) where
   callees_below : (fs : List (FunctionOf D)) (ds : List D) → IsRowBelow (length fs) (map (number_of place fs) ds)
   callees_below fs [] = tt
-  callees_below fs (d ∷ ds) =
-      (option_below (length fs) (number_of place fs d) (λ k e. (let lt : k < length (places_of place fs) = number_within (places_of place fs) (place d) k e in omega (arith, lt, length-map fs (λ (f : FunctionOf D). place f.declaration)))),
-      callees_below fs ds)
+  callees_below fs (d ∷ ds) = (
+    option_below (length fs) (number_of place fs d) (λ k e. (let lt : k < length (places_of place fs) = number_within (places_of place fs) (place d) k e in omega (arith, lt, length-map fs (λ (f : FunctionOf D). place f.declaration)))),
+    callees_below fs ds,
+  )
 
   functions_below : (fs gs : List (FunctionOf D)) → AreRowsBelow (length fs) (map (λ f. f.callees) (map (linked_of (number_of place fs)) gs))
   functions_below fs [] = tt
@@ -121,7 +122,7 @@ module _ {D : Type 0} where
       let parts : length (o.functions ++ all_functions os) ≡ length o.functions + length (all_functions os) = length-append o.functions (all_functions os) in
       let first : AreBelow (n + length o.functions) (numbers_called name n o.functions) = called_below name n o.functions in
       let here : AreBelow (n + length (all_functions (o ∷ os))) (names (package_of number n o)) = subst (λ ns. AreBelow (n + length (all_functions (o ∷ os))) ns) (sym (is n o))
-          (below_more (n + length o.functions) (n + length (all_functions (o ∷ os))) (numbers_called name n o.functions) (omega (arith, parts)) first) in
+      (below_more (n + length o.functions) (n + length (all_functions (o ∷ os))) (numbers_called name n o.functions) (omega (arith, parts)) first) in
       let rest : AreBelow (n + length o.functions + length (all_functions os)) (flat_map names (packages_from number (n + length o.functions) os)) = all_called_below name number names is (n + length o.functions) os in
       below_append (n + length (all_functions (o ∷ os))) (names (package_of number n o)) (flat_map names (packages_from number (n + length o.functions) os)) here
       (below_more (n + length o.functions + length (all_functions os)) (n + length (all_functions (o ∷ os))) (flat_map names (packages_from number (n + length o.functions) os)) (omega (arith, parts)) rest)
@@ -132,7 +133,7 @@ program_within {D} place os =
     let many : length fs ≡ length (functions_of place os) = sym (length-map fs (linked_of (number_of place fs))) in
     let zero : 0 + length fs ≡ length fs = omega arith in
     let from_zero : (names : PackageOf → List ℕ) → AreBelow (0 + length fs) (flat_map names (packages_of os)) → AreBelow (length fs) (flat_map names (packages_of os)) =
-        λ names h. subst (λ n. AreBelow n (flat_map names (packages_of os))) zero h in
+    λ names h. subst (λ n. AreBelow n (flat_map names (packages_of os))) zero h in
     let packages : length os ≡ length (packages_of os) = sym (packages_many (package_number os) 0 os) in
     record {
       callees = subst (λ n. AreRowsBelow n (map (λ f. f.callees) (functions_of place os))) many (functions_below place fs fs);

@@ -87,7 +87,11 @@ fn is_called<D>(function: &FunctionCode<D>, name: &str) -> bool
 }
 
 /// Adds a number, if it is one of those that are looked for.
-pub(crate) fn add_if(numbers: &mut Vec<usize>, is_one: bool, number: usize) -> Result<(), AllocError>
+pub(crate) fn add_if(
+    numbers: &mut Vec<usize>,
+    is_one: bool,
+    number: usize,
+) -> Result<(), AllocError>
     ensures { OnOk result (numbers.new.items ≡ numbers.old.items ++ number_if is_one number) }
 {
     if is_one {

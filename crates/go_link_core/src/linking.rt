@@ -73,7 +73,13 @@ fn add_object<'a, D, P: Places<D>>(
 ) -> Result<(), AllocError>
     ensures { OnOk result (layout_shown layout.new ≡ layout_more (λ d. found_in numbers.now.entries (P.place_of places.now d)) (numbered_path (spelled_places paths.now)) (layout_shown layout.old) (object_shown object.now)) }
 {
-    add_functions(alloc, &mut layout.functions, places, numbers, &object.functions)?;
+    add_functions(
+        alloc,
+        &mut layout.functions,
+        places,
+        numbers,
+        &object.functions,
+    )?;
     let first = layout.functions.len() - object.functions.len();
     let package = package_of(alloc, paths, first, object)?;
     layout.packages.push(package)?;

@@ -104,11 +104,7 @@ fn add_all(numbers: &mut Vec<usize>, more: &[usize]) -> Result<(), AllocError>
 }
 
 // Adds the functions `init` of a package.
-fn add_inits(
-    starts: &mut Vec<usize>,
-    packages: &[Package],
-    number: usize,
-) -> Result<(), AllocError>
+fn add_inits(starts: &mut Vec<usize>, packages: &[Package], number: usize) -> Result<(), AllocError>
     ensures { OnOk result (starts.new.items ≡ starts.old.items ++ inits_in (slice_get (map package_shown packages.now) number)) }
 {
     match packages.get(number) {

@@ -16,11 +16,7 @@ pub struct Linked<'a> {
 }
 
 /// The number of the function that a reference of a function is, both by their numbers.
-pub(crate) fn callee_of(
-    program: &[Linked<'_>],
-    function: usize,
-    reference: usize,
-) -> Option<usize>
+pub(crate) fn callee_of(program: &[Linked<'_>], function: usize, reference: usize) -> Option<usize>
     ensures { result ≡ callee (numbered program.now function) reference }
 {
     match program.get(function) {

@@ -37,7 +37,11 @@ fn write_rest(text: &mut String, letters: &[Word], words: &[i64]) -> Result<(), 
 }
 
 /// Writes a line.
-pub(crate) fn write_line(text: &mut String, letters: &[Word], words: &[i64]) -> Result<(), AllocError>
+pub(crate) fn write_line(
+    text: &mut String,
+    letters: &[Word],
+    words: &[i64],
+) -> Result<(), AllocError>
     requires { length letters.now ≡ length words.now }
     ensures { OnOk result ((line : List ℕ) × (line_text letters.now words.now ≡ Some line) × (string_bytes text.new ≡ string_bytes text.old ++ line)) }
 {

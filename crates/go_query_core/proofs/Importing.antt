@@ -1,16 +1,14 @@
 -- What the imports of a package come to.
-use Rattle.std.proofs.Common.{◌≡◌, ℕ, zero, suc, ◌+◌, ◌<◌, ◌⊎◌, inl, inr, List, [], ◌∷◌, ◌++◌, length, get_or, map, Option, Some, None, slice_get, refl, sym, ap, ◌∙◌, subst, arith}
-use Rattle.std.specs.Prelude.{◌↔◌, Contains, Err, IfOk, Ok, Result, option_map}
+use Rattle.std.proofs.Common.{◌≡◌, ℕ, zero, suc, ◌+◌, ◌<◌, inl, inr, List, [], ◌∷◌, length, get_or, map, Option, Some, slice_get, refl, sym, ap, ◌∙◌, subst, arith}
+use Rattle.std.specs.Prelude.{◌↔◌, Contains, Err, IfOk, Ok, Result}
 use Rattle.std.specs.List.Sorted.{IsStrictlySortedBy}
 use Rattle.std.specs.List.{flat_map}
 use Rattle.std.proofs.lemmas.List.Elements.{Contains-append_cases, Contains-append_left, Contains-append_right}
-use Rattle.std.proofs.lemmas.Option.{get_or_from_slice_get, same_Some, slice_get-map, slice_get_within}
-use Rattle.go_tree_nodes.specs.Terminals.{value_of}
-use Rattle.go_tree_nodes.specs.Trees.{FileTree, ImportSpecTree}
+use Rattle.std.proofs.lemmas.Option.{get_or_from_slice_get, same_Some, slice_get_within}
 use Rattle.go_graph_core.specs.declared.imports.ImportAt.{ImportAt}
 use Rattle.go_graph_core.specs.declared.imports.ImportOutcome.{ImportOutcome}
 use Rattle.go_graph_core.specs.declared.imports.ImportOutcome.TheVariants as outcomes
-use Rattle.go_graph_core.specs.Imports.{IsNumbered, IsOutcome, content_texts, import_texts}
+use Rattle.go_graph_core.specs.Imports.{content_texts, import_texts}
 use Rattle.go_graph_core.specs.Packages.{HasNoClause, trees_of}
 use Rattle.go_graph_core.specs.Sources.{SourceModel}
 use Rattle.go_graph_core.specs.Workspaces.{IsWorkspace, PackageModel, by_bytes}
@@ -23,7 +21,7 @@ use Rattle.go_block_core.specs.Exports.{ExportsModel}
 use Rattle.go_block_core.specs.Naming.{AreInFile, IsGiven, file_specs, import_at}
 use Rattle.go_block_core.proofs.NamingLemmas.{same_texts, text_of}
 use Rattle.go_make_core.specs.part_core.Parts.{PartModel}
-use Rattle.go_make_core.specs.whole_core.Inputs.{AreParts, ComesTo, Shown, Tells}
+use Rattle.go_make_core.specs.whole_core.Inputs.{AreParts, ComesTo, Shown}
 use Rattle.go_shown_core.specs.Shown.{MayBeShown, import_paths, path_in}
 use Rattle.go_whole_core.specs.Known.{IsImportedPath}
 use Rattle.go_whole_core.specs.mirrors.Steps.{AreRight, IsRight}

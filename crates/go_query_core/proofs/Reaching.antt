@@ -1,10 +1,9 @@
 -- What a package reaches.
-use Rattle.std.proofs.Common.{◌≡◌, ℕ, zero, suc, ◌+◌, ◌<◌, inl, inr, List, [], ◌∷◌, length, get_or, map, Option, Some, slice_get, refl, sym, ap, ◌∙◌, subst, arith}
+use Rattle.std.proofs.Common.{◌≡◌, ℕ, zero, suc, ◌+◌, ◌<◌, List, [], ◌∷◌, length, get_or, map, Option, Some, slice_get, refl, sym, ap, ◌∙◌, subst, arith}
 use Rattle.std.specs.Prelude.{◌↔◌, Contains}
-use Rattle.std.specs.List.{AllByRecursion, AllZip}
+use Rattle.std.specs.List.{AllZip}
 use Rattle.std.specs.List.Sorted.{IsStrictlyIncreasing, IsStrictlySortedBy}
 use Rattle.std.specs.Map.{keys_of}
-use Rattle.std.specs.Ordering.{nat_cmp}
 use Rattle.std.specs.declared.cmp.Ordering.TheVariants.{Less}
 use Rattle.std.proofs.lemmas.List.{length-map}
 use Rattle.std.proofs.lemmas.Map.Keys.{Less-from_sorted, sorted_from_all_adjacent}
@@ -14,7 +13,7 @@ use Rattle.go_graph_core.specs.Workspaces.{IsWorkspace, PackageModel, by_bytes}
 use Rattle.go_graph_core.proofs.Zips.{zip_at, zip_back, zip_length}
 use Rattle.go_make_core.specs.part_core.Parts.{PartModel}
 use Rattle.go_make_core.specs.summary_core.Summaries.{SummaryModel, path_of}
-use Rattle.go_make_core.specs.whole_core.Inputs.{AreParts, AreToldTo, ReachesPackage, Tells}
+use Rattle.go_make_core.specs.whole_core.Inputs.{AreParts, AreToldTo, Tells}
 use Rattle.go_whole_core.specs.mirrors.Steps.{AreRight, IsRight}
 use Rattle.go_whole_core.proofs.Parts.{path_told}
 use Rattle.go_whole_core.proofs.PartsWhole.{all_right}

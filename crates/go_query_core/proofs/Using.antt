@@ -1,5 +1,5 @@
 -- What is used at an offset of a file.
-use Rattle.std.proofs.Common.{◌≡◌, ℕ, ◌+◌, ◌<◌, ◌≤◌, ◌||◌, ◌⊎◌, inl, inr, Bool, true, false, List, ◌∷◌, length, drop, get_or, map, Option, Some, None, Ok, slice_get, refl, sym, ap, ◌∙◌, subst, arith}
+use Rattle.std.proofs.Common.{◌≡◌, ℕ, ◌+◌, ◌<◌, ◌≤◌, ◌||◌, ◌⊎◌, inl, inr, Bool, true, false, List, length, drop, get_or, Some, Ok, slice_get, sym, ap, ◌∙◌, subst}
 use Rattle.std.specs.Prelude.{◌↔◌, Err, IsTrue, Result, option_map}
 use Rattle.std.proofs.lemmas.Bool.{true≢false}
 use Rattle.go_text_core.specs.declared.rule.Rule.{Rule}
@@ -9,7 +9,7 @@ use Rattle.go_token_core.specs.declared.token.Token.{Token}
 use Rattle.go_scan_core.specs.Cutting.{tokens_of}
 use Rattle.std.specs.List.{list_any}
 use Rattle.std.proofs.lemmas.List.{drop_all, drop_more, length-map}
-use Rattle.std.proofs.lemmas.Option.{get_or_from_slice_get, same_Some, slice_get-get_or, slice_get-map, slice_get_within}
+use Rattle.std.proofs.lemmas.Option.{get_or_from_slice_get, slice_get-get_or, slice_get-map, slice_get_within}
 use Rattle.go_tree_nodes.specs.Trees.{FileTree}
 use Rattle.go_tree_core.specs.Occurrences.{CoversAt, NoneCovers, file_occs}
 use Rattle.go_denote_core.specs.declared.things.Outcome.TheVariants as outcomes
@@ -18,12 +18,11 @@ use Rattle.go_expr_core.specs.Laws.{occurrence_place, use_place}
 use Rattle.go_parse_core.specs.Parsing.{IsParse}
 use Rattle.go_graph_core.specs.Packages.{tree_shown, trees_of}
 use Rattle.go_graph_core.specs.Sources.{IsContent, IsRead, SourceModel}
-use Rattle.go_graph_core.specs.Workspaces.{IsWorkspace, PackageModel}
+use Rattle.go_graph_core.specs.Workspaces.{IsWorkspace}
 use Rattle.go_graph_core.proofs.Assemblies.{tree_at}
 use Rattle.go_emit_core.specs.ready_core.Packages.{trees_in}
 use Rattle.go_emit_core.specs.used_core.Used.{FileUse}
 use Rattle.go_make_core.specs.part_core.Inputs.{IsInput}
-use Rattle.go_make_core.specs.part_core.Parts.{PartModel}
 use Rattle.go_whole_core.proofs.PartsWhole.{all_right}
 use Rattle.go_snap_core.specs.part_core.Laws.{PartHasOccurrences}
 use Rattle.go_snap_core.specs.Snapshots.{FoundFile, HasNoFile, IsFileAt, IsSnapshot, SnapshotModel}

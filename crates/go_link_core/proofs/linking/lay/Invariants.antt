@@ -10,7 +10,7 @@ use Rattle.go_link_core.proofs.linking.lay.Given as goal
 abbrev pub invariant-loop-object : goal.invariant-loop-object
 invariant-loop-object g l = record {
   functions : map (linked_of (λ d. found_in l.numbers.entries (g.P.Places.place_of l.places d))) (all_functions (map object_shown l.objects))
-    ≡ map linked_shown l.layout.functions.items ++ map (linked_of (λ d. found_in l.numbers.entries (g.P.Places.place_of l.places d))) (all_functions (map object_shown (drop l.object-index l.objects)));
+      ≡ map linked_shown l.layout.functions.items ++ map (linked_of (λ d. found_in l.numbers.entries (g.P.Places.place_of l.places d))) (all_functions (map object_shown (drop l.object-index l.objects)));
   packages : packages_from (numbered_path (spelled_places l.paths)) 0 (map object_shown l.objects)
-    ≡ map package_shown l.layout.packages.items ++ packages_from (numbered_path (spelled_places l.paths)) (length (map linked_shown l.layout.functions.items)) (map object_shown (drop l.object-index l.objects));
+      ≡ map package_shown l.layout.packages.items ++ packages_from (numbered_path (spelled_places l.paths)) (length (map linked_shown l.layout.functions.items)) (map object_shown (drop l.object-index l.objects));
 }

@@ -23,15 +23,17 @@ begin-requires-clause-order g c =
     let os = map object_shown c.args.objects.now in
     let paths = map (λ (p : Bor (List ℕ)). p.now) c.deref.result.now in
     let packages = c.in_ok-layout.layout.packages.items in
-    let many : 0 + length paths ≡ length c.deref-4.result.now = omega (arith,
-        length-map c.deref.result.now (λ (p : Bor (List ℕ)). p.now),
-        ap length c.deref.ensures.value,
-        ap length c.in_ok-paths.ensures,
-        length-map c.in_ok-paths.paths.items (λ (p : Bor (List ℕ)). p.now),
-        length-map os (λ (o : ObjectOf g.row.D.Denot). o.path),
-        packages_many (package_number os) 0 os,
-        ap (λ (l : LayoutOf). length l.packages) c.in_ok-layout.ensures,
-        length-map packages package_shown,
-        ap length c.deref-4.ensures.value) in
+    let many : 0 + length paths ≡ length c.deref-4.result.now = omega (
+      arith,
+      length-map c.deref.result.now (λ (p : Bor (List ℕ)). p.now),
+      ap length c.deref.ensures.value,
+      ap length c.in_ok-paths.ensures,
+      length-map c.in_ok-paths.paths.items (λ (p : Bor (List ℕ)). p.now),
+      length-map os (λ (o : ObjectOf g.row.D.Denot). o.path),
+      packages_many (package_number os) 0 os,
+      ap (λ (l : LayoutOf). length l.packages) c.in_ok-layout.ensures,
+      length-map packages package_shown,
+      ap length c.deref-4.ensures.value,
+    ) in
     subst (λ (ns : List ℕ). AreBelow (length c.deref-4.result.now) ns) (sym (c.deref-5.ensures.value ∙ c.in_ok-order.ensures))
     (subst (λ (n : ℕ). AreBelow n (order_from paths 0 paths)) many (order_below paths 0 paths))

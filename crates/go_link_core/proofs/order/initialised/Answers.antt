@@ -33,7 +33,7 @@ returns-in_default c =
     let turn = c.loop-turn._turn in
     let lt : turn < length wanted = omega (arith, c.loop-turn-test.true, c.len-turn-end.ensures, ap length c.in_ok-waiting.ensures, c.in_ok-waiting.waiting.ok.0) in
     let first : None ≡ position_from (is_ready ps c.loop-turn.done.items) 0 c.loop-turn.waiting.items =
-        c.in_default.ensures ∙ (ap (λ d. position_from (is_ready ps d) 0 c.deref-in-loop-turn.result.now) c.deref.ensures.value ∙ ap (λ w. position_from (is_ready ps c.loop-turn.done.items) 0 w) c.deref-in-loop-turn.ensures.value) in
+    c.in_default.ensures ∙ (ap (λ d. position_from (is_ready ps d) 0 c.deref-in-loop-turn.result.now) c.deref.ensures.value ∙ ap (λ w. position_from (is_ready ps c.loop-turn.done.items) 0 w) c.deref-in-loop-turn.ensures.value) in
     let ends = turn_ends ps (length wanted) turn (turn + 1) c.loop-turn.done.items c.loop-turn.waiting.items lt refl first in
     sym (c.loop-turn.invariant.turns ∙ (ap (λ l. c.loop-turn.numbers.items ++ l) ends ∙ append-nil c.loop-turn.numbers.items))
 
@@ -41,7 +41,7 @@ pub remove-number-requires : goal.remove-number-requires
 remove-number-requires c =
     let ps = map package_shown c.args.packages.now in
     let first : Some c.in-Some.place ≡ position_from (is_ready ps c.loop-turn.done.items) 0 c.loop-turn.waiting.items =
-        c.in-Some.ensures ∙ (ap (λ d. position_from (is_ready ps d) 0 c.deref-in-loop-turn.result.now) c.deref.ensures.value ∙ ap (λ w. position_from (is_ready ps c.loop-turn.done.items) 0 w) c.deref-in-loop-turn.ensures.value) in
+    c.in-Some.ensures ∙ (ap (λ d. position_from (is_ready ps d) 0 c.deref-in-loop-turn.result.now) c.deref.ensures.value ∙ ap (λ w. position_from (is_ready ps c.loop-turn.done.items) 0 w) c.deref-in-loop-turn.ensures.value) in
     let lt = first_within (is_ready ps c.loop-turn.done.items) c.loop-turn.waiting.items c.in-Some.place first in
     omega (arith, lt, c.loop-turn.waiting.ok.0)
 
@@ -50,7 +50,7 @@ index_mut-requires c =
     let ps = map package_shown c.args.packages.now in
     let waiting = c.loop-turn.waiting.items in
     let first : Some c.in-Some.place ≡ position_from (is_ready ps c.loop-turn.done.items) 0 waiting =
-        c.in-Some.ensures ∙ (ap (λ d. position_from (is_ready ps d) 0 c.deref-in-loop-turn.result.now) c.deref.ensures.value ∙ ap (λ w. position_from (is_ready ps c.loop-turn.done.items) 0 w) c.deref-in-loop-turn.ensures.value) in
+    c.in-Some.ensures ∙ (ap (λ d. position_from (is_ready ps d) 0 c.deref-in-loop-turn.result.now) c.deref.ensures.value ∙ ap (λ w. position_from (is_ready ps c.loop-turn.done.items) 0 w) c.deref-in-loop-turn.ensures.value) in
     let lt = first_within (is_ready ps c.loop-turn.done.items) waiting c.in-Some.place first in
     let low = below_at (length c.args.packages.now) waiting c.in-Some.place 0 c.loop-turn.invariant.below lt in
     let is : c.remove-number.result ≡ get_or waiting c.in-Some.place 0 = c.remove-number.ensures.value ∙ at_any waiting c.in-Some.place c.remove-number.result 0 lt in
@@ -68,7 +68,7 @@ loop-turn-preserved c =
     let numbers = c.loop-turn.numbers.items in
     let within : turn < length wanted = omega (arith, c.loop-turn-test.true, c.len-turn-end.ensures, ap length c.in_ok-waiting.ensures, c.in_ok-waiting.waiting.ok.0) in
     let first : Some place ≡ position_from (is_ready ps done) 0 waiting =
-        c.in-Some.ensures ∙ (ap (λ d. position_from (is_ready ps d) 0 c.deref-in-loop-turn.result.now) c.deref.ensures.value ∙ ap (λ w. position_from (is_ready ps done) 0 w) c.deref-in-loop-turn.ensures.value) in
+    c.in-Some.ensures ∙ (ap (λ d. position_from (is_ready ps d) 0 c.deref-in-loop-turn.result.now) c.deref.ensures.value ∙ ap (λ w. position_from (is_ready ps done) 0 w) c.deref-in-loop-turn.ensures.value) in
     let lt = first_within (is_ready ps done) waiting place first in
     let is : number ≡ get_or waiting place 0 = c.remove-number.ensures.value ∙ at_any waiting place number 0 lt in
     record {

@@ -19,6 +19,6 @@ returns c =
     let fs = map linked_shown c.args.functions.now in
     let top = length c.args.functions.now in
     let both = outside_is fs c.args.starts.now top (length-map c.args.functions.now linked_shown) c.requires.below c.requires.starts c.deref.result.now
-        (c.deref.ensures.value ∙ (c.in_ok-add_starts.ensures ∙ ap (λ (g : List Edge). g ++ map (edge top) c.args.starts.now) c.in_ok-edges.ensures)) c.in_ok-marks.marks.items c.in_ok-marks.ensures.marks in
+    (c.deref.ensures.value ∙ (c.in_ok-add_starts.ensures ∙ ap (λ (g : List Edge). g ++ map (edge top) c.args.starts.now) c.in_ok-edges.ensures)) c.in_ok-marks.marks.items c.in_ok-marks.ensures.marks in
     let is = c.marked_outside-outside.ensures ∙ ap (λ (marks : List Bool). any_marked (λ (f : LinkedOf). is_outside f.code) fs marks) c.deref-2.ensures.value in
     (λ t. both.0 (sym is ∙ t), λ r. is ∙ both.1 r)

@@ -1,4 +1,3 @@
-use Rattle.std.proofs.Common.{inr}
 use Rattle.std.proofs.lemmas.Result.{IfErr-weaker, IfOk-weaker}
 use Rattle.go_snap_core.specs.Snapshots.{file_in_shown}
 use Rattle.go_query_core.proofs.Using.{defined_in, refused_in, unused_in}

@@ -10,6 +10,6 @@ pub returns : goal.returns
 returns c =
     let functions = c.args.runnable.now.functions.items in
     let is = c.in_ok-ran.ensures
-        ∙ (ap (λ (fs : List Linked). machine (map linked_shown fs) c.deref-2.result.now c.args.steps) c.deref.ensures.value
-        ∙ ap (λ (ns : List ℕ). machine (map linked_shown functions) ns c.args.steps) c.deref-2.ensures.value) in
+    ∙ (ap (λ (fs : List Linked). machine (map linked_shown fs) c.deref-2.result.now c.args.steps) c.deref.ensures.value
+    ∙ ap (λ (ns : List ℕ). machine (map linked_shown functions) ns c.args.steps) c.deref-2.ensures.value) in
     subst (λ (m : MachineRun). MatchOption c.told-run.result (IsStuck m) (λ run. run_shown run ≡ m)) is c.told-run.ensures
