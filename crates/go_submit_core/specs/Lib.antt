@@ -1,0 +1,7 @@
+pub mod Coding
+pub mod Laws
+pub mod Modules
+pub mod Published
+pub mod Submitted
+pub mod Trees
+pub mod mirrors

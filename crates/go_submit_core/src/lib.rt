@@ -1,0 +1,19 @@
+//! What sessions submit, and what was published of it: the packages of one module within the limits, submissions with their tickets, and the list of
+//! published batches, each with the snapshot of all that was published up to it.
+#![tactic(auto)]
+
+mod batches;
+mod laws;
+mod module_tree;
+mod modules;
+mod published;
+mod submission;
+mod tree_rules;
+
+pub use batches::Batches;
+pub use laws::{batches_replace, last_trees, one_worker, submissions_replace};
+pub use module_tree::ModuleTree;
+pub use modules::{add_module, add_trees, is_among, is_same_module};
+pub use published::PublishedBatch;
+pub use submission::{Submission, Submissions, Ticket, has_ticket};
+pub use tree_rules::{MAX_FILES, MAX_PACKAGES, MAX_TEXT};
