@@ -1,0 +1,5 @@
+pub mod Beginning
+pub mod Ordered
+pub mod Passing
+pub mod Slots
+pub mod Steps

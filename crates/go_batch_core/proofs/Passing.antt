@@ -1,0 +1,31 @@
+-- What imports lead to, by a plan and by the packages.
+use Rattle.std.proofs.Common.{◌≡◌, ◌<◌, ℕ, List, length, Option, Some, None, refl, sym, ap, ◌∙◌, subst}
+use Rattle.std.specs.Prelude.{MatchOption}
+use Rattle.std.proofs.lemmas.Option.{slice_get_within}
+use Rattle.go_cycle_core.specs.declared.edge.Edge.{Edge}
+use Rattle.go_graph_core.specs.declared.imports.ImportOutcome.{ImportOutcome}
+use Rattle.go_graph_core.specs.declared.imports.ImportOutcome.TheVariants.{Package}
+use Rattle.go_graph_core.specs.Imports.{IsNoImport, IsOutcome}
+use Rattle.go_graph_core.specs.Plans.{IsAssembledAt, IsPlan, PlanModel, outcome_at}
+use Rattle.go_graph_core.specs.Plans as plans
+use Rattle.go_graph_core.specs.Workspaces.{PackageModel, IsWorkspace}
+use Rattle.go_graph_core.proofs.OutcomeLaws.{has_one_outcome}
+use Rattle.go_whole_core.specs.Inputs.{IsPassingImport}
+
+pub passing_to : (ps : List PackageModel) (plan : PlanModel) (e : Edge) → IsPlan ps plan → plans.IsPassing plan e → IsPassingImport ps e
+passing_to ps plan e planned passing =
+    let at = passing.0 in
+    (at, passing.1, subst (λ (o : Option ImportOutcome). MatchOption o (IsNoImport ps at) (IsOutcome ps at)) passing.2 (planned.outcomes at))
+
+pub passing_from : (ps : List PackageModel) (plan : PlanModel) (e : Edge) → IsWorkspace ps → IsPlan ps plan → IsPassingImport ps e → plans.IsPassing plan e
+passing_from ps plan e well planned passing = (passing.0, passing.1, by (outcome_at plan.outcomes passing.0) refl)
+  where
+    by : (o : Option ImportOutcome) → outcome_at plan.outcomes passing.0 ≡ o → outcome_at plan.outcomes passing.0 ≡ Some (Package e.to)
+    by None is = absurd ((subst (λ (x : Option ImportOutcome). MatchOption x (IsNoImport ps passing.0) (IsOutcome ps passing.0)) is (planned.outcomes passing.0)) passing.2.q passing.2.text passing.2.there)
+    by (Some o) is = is ∙ ap Some (has_one_outcome ps passing.0 o (Package e.to) well (subst (λ (x : Option ImportOutcome). MatchOption x (IsNoImport ps passing.0) (IsOutcome ps passing.0)) is (planned.outcomes passing.0)) passing.2)
+
+pub passing_target : (ps : List PackageModel) (e : Edge) → IsPassingImport ps e → IsAssembledAt ps e.to
+passing_target ps e passing = (let found = passing.2.judged.0 in (passing.2.text, found.files, found.numbered, found.library.0))
+
+pub target_within : (ps : List PackageModel) (e : Edge) → IsPassingImport ps e → e.to < length ps
+target_within ps e passing = (let there = passing_target ps e passing in slice_get_within ps e.to (there.0, there.1) there.2)

@@ -1,0 +1,31 @@
+use Rattle.std.proofs.Common.{rules, ◌≡◌, ◌<◌, ◌≤◌, ◌+◌, ◌-◌, ℕ, List, Option, Some, None, true, false, length, map, set, refl, sym, ap, ◌∙◌, subst, arith}
+use Rattle.std.specs.Prelude.{slice_get, MatchOption}
+use Rattle.std.proofs.lemmas.Option.{slice_get_within, slice_get-get_or}
+use Rattle.go_graph_core.specs.Workspaces.{PackageModel, AreAllRead}
+use Rattle.go_part_core.specs.Parts.{PartModel}
+use Rattle.go_whole_core.specs.Inputs.{AreParts, HasReached, IsInputAt}
+use Rattle.go_make_core.specs.Telling.{told_of}
+use Rattle.go_batch_core.specs.declared.slot.Slot.{Slot}
+use Rattle.go_batch_core.specs.declared.slot.Slot.TheVariants.{NoAction, Untaken, Taken, Finished}
+use Rattle.go_batch_core.specs.declared.batch.Ending.{Ending}
+use Rattle.go_batch_core.specs.Batches.{Awaits, BatchModel, IsEnding, IsForeign, IsNext, IsReady, NoneReady, actions_left, batch_with, with_part, unfinished}
+use Rattle.go_batch_core.proofs.Steps.{assembled_at, has_reached}
+use Rattle.go_batch_core.proofs.batch.Batch.input_at.Goals as goal
+
+pub input_of-requires-clause-assembled : goal.input_of-requires-clause-assembled
+input_of-requires-clause-assembled c =
+    let i = c.self.inside in
+    let ready = subst (λ (b : BatchModel). IsReady b c.args.place) (sym c.self.view_is) c.requires in
+    assembled_at i.sources i.slots.items i.parts c.args.place c.self.invariant.right ready.untaken
+
+pub input_of-requires-clause-parts : goal.input_of-requires-clause-parts
+input_of-requires-clause-parts c =
+    let i = c.self.inside in
+    let ready = subst (λ (b : BatchModel). IsReady b c.args.place) (sym c.self.view_is) c.requires in
+    subst (λ (l : List (Option PartModel)). HasReached i.sources l c.args.place) (sym c.as_slice-parts.ensures) (has_reached c.parts_come_in_order.ensures i.sources i.slots.items i.parts c.args.place c.self.invariant.right ready.imports)
+
+pub returns : goal.returns
+returns c =
+    let i = c.self.inside in
+    let input = subst (λ (l : List (Option PartModel)). IsInputAt i.sources l c.args.place c.in_ok-input.input) c.as_slice-parts.ensures c.in_ok-input.ensures.input in
+    subst (λ (b : BatchModel). IsInputAt b.sources b.parts c.args.place c.in_ok-input.input) c.self.view_is input

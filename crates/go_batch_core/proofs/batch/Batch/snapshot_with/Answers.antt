@@ -1,0 +1,28 @@
+use Rattle.std.proofs.Common.{rules, ◌≡◌, ◌<◌, ◌≤◌, ◌+◌, ◌-◌, ℕ, List, Option, Some, None, true, false, length, map, set, refl, sym, ap, ◌∙◌, subst, arith}
+use Rattle.std.specs.Prelude.{slice_get, MatchOption}
+use Rattle.std.proofs.lemmas.Option.{slice_get_within, slice_get-get_or}
+use Rattle.go_graph_core.specs.Workspaces.{PackageModel, AreAllRead}
+use Rattle.go_part_core.specs.Parts.{PartModel}
+use Rattle.go_whole_core.specs.Inputs.{AreParts, HasReached, IsInputAt}
+use Rattle.go_make_core.specs.Telling.{told_of}
+use Rattle.go_batch_core.specs.declared.slot.Slot.{Slot}
+use Rattle.go_batch_core.specs.declared.slot.Slot.TheVariants.{NoAction, Untaken, Taken, Finished}
+use Rattle.go_batch_core.specs.declared.batch.Ending.{Ending}
+use Rattle.go_batch_core.specs.Batches.{Awaits, BatchModel, IsEnding, IsForeign, IsNext, IsReady, NoneReady, actions_left, batch_with, with_part, unfinished}
+use Rattle.go_part_core.specs.Parts.{IsPart}
+use Rattle.go_batch_core.proofs.Steps.{all_parts, right_finished, left_less}
+use Rattle.go_batch_core.proofs.batch.Batch.snapshot_with.Goals as goal
+
+pub joined-requires : goal.joined-requires
+joined-requires c =
+    let i = c.self.inside in
+    let p = c.args.part.now in
+    let number = c.requires.awaits.0 in
+    let taken : slice_get i.slots.items c.args.place ≡ Some (Taken number p.input) = subst (λ (b : BatchModel). Awaits b c.args.place number p) (sym c.self.view_is) c.requires.awaits.1 in
+    let one : unfinished i.slots.items ≡ 1 = ap actions_left c.self.view_is ∙ c.requires.last in
+    let none : unfinished (set i.slots.items c.args.place Finished) ≡ 0 = omega (arith, one, left_less i.slots.items c.args.place (Taken number p.input) Finished taken refl refl) in
+    let made : IsPart p.input p.content = subst (λ (q : PartModel). IsPart q.input q.content) c.get.ensures.value c.content-made.ensures.made in
+    let last : c.in_ok-last.last ≡ p = c.in_ok-last.ensures ∙ c.get-2.ensures.value in
+    let put : c.put.new.self ≡ set i.parts c.args.place (Some p) = c.put.ensures ∙ (λ k. set (c.in_ok-parts.ensures k) c.args.place (Some (last k))) in
+    subst (λ (ps : List PackageModel). AreParts ps c.put.new.self) (sym c.in_ok-sources.ensures.same) (subst (λ (l : List (Option PartModel)). AreParts i.sources l) (sym put)
+    (all_parts c.parts_come_in_order.ensures i.sources (set i.slots.items c.args.place Finished) (set i.parts c.args.place (Some p)) (right_finished c.inputs_stay.ensures i.sources i.slots.items i.parts c.args.place number p c.self.invariant.right taken made) none))

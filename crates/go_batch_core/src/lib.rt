@@ -1,0 +1,12 @@
+//! The running batch: the packages of a workspace by what is done with their actions, each of which is handed out behind those that it imports, with the
+//! input of its package, and is finished by a part of that input. When none is left, the parts are those of the workspace.
+#![tactic(auto)]
+
+mod batch;
+mod begin;
+mod read;
+mod slot;
+
+pub use batch::{Batch, Ending, Next};
+pub use read::{ReadInput, ReadPart, rebuild};
+pub use slot::Slot;

@@ -1,0 +1,157 @@
+//! Inputs and parts of packages whose files are as they are read.
+ghost use Rattle.std.specs.Prelude.{◌≡◌, ◌↔◌, IfOk, IfSome, IsTrue};
+ghost use Rattle.go_graph_core.specs.Workspaces.{AreAllRead};
+ghost use Rattle.go_part_core.specs.Parts.{IsPart};
+
+use go_part_core::{Part, PartInput, compile_part};
+use std::alloc::{AllocError, Global};
+use std::marker::Model;
+
+/// The input of a package each file of which has the content that its text has, as those of a workspace have. Contracts see the input.
+pub struct ReadInput {
+    input: PartInput,
+}
+
+impl Drop for ReadInput {
+    fn drop(self) {
+        let ReadInput { input: _ } = self;
+    }
+}
+
+impl Model for ReadInput {
+    ghost use Rattle.go_graph_core.specs.Workspaces.{AreAllRead};
+    ghost use Rattle.go_part_core.specs.Inputs.{InputModel, coded_input};
+
+    ghost Value = { InputModel };
+
+    ghost coded = { coded_input };
+
+    ghost view = { λ i. i.input };
+
+    ghost invariant = { λ i. AreAllRead i.input.source };
+}
+
+impl ReadInput {
+    /// An input whose files are as they are read.
+    pub fn new(input: PartInput) -> ReadInput
+        requires { AreAllRead input.source }
+        ensures { result ≡ input }
+    {
+        ReadInput { input }
+    }
+
+    /// The input.
+    pub fn get(&self) -> &PartInput
+        ensures value { result.now ≡ self.now }
+        ensures read { AreAllRead self.now.source }
+    {
+        &self.input
+    }
+}
+
+/// A part of a package each file of which has the content that its text has, as those of a workspace have. Contracts see the part.
+pub struct ReadPart {
+    part: Part,
+}
+
+impl Drop for ReadPart {
+    fn drop(self) {
+        let ReadPart { part: _ } = self;
+    }
+}
+
+impl Model for ReadPart {
+    ghost use Rattle.go_graph_core.specs.Workspaces.{AreAllRead};
+    ghost use Rattle.go_part_core.specs.Parts.{PartModel};
+    ghost use Rattle.go_batch_core.specs.Coding.{coded_part};
+
+    ghost Value = { PartModel };
+
+    ghost coded = { coded_part };
+
+    ghost view = { λ p. p.part };
+
+    ghost invariant = { λ p. AreAllRead p.part.input.source };
+}
+
+impl ReadPart {
+    /// A part whose package's files are as they are read.
+    pub fn new(part: Part) -> ReadPart
+        requires { AreAllRead part.input.source }
+        ensures { result ≡ part }
+    {
+        ReadPart { part }
+    }
+
+    /// The part.
+    pub fn get(&self) -> &Part
+        ensures value { result.now ≡ self.now }
+        ensures read { AreAllRead self.now.input.source }
+    {
+        &self.part
+    }
+
+    /// The same part once more. It takes no memory.
+    ///
+    /// # Errors
+    ///
+    /// `AllocError` where it has too many owners.
+    pub fn share(&self) -> Result<ReadPart, AllocError>
+        ensures { IfOk result (λ p. p ≡ self.now) }
+    {
+        Ok(ReadPart {
+            part: self.part.share()?,
+        })
+    }
+}
+
+// Whether a part was made of an input.
+fn is_made_of(part: &ReadPart, input: &ReadInput) -> bool
+    ensures { IsTrue result ↔ (part.now.input ≡ input.now) }
+{
+    part.get().input().is_same(input.get())
+}
+
+// An earlier part once more, where it was made of an input.
+fn earlier_of(input: &ReadInput, earlier: Option<&ReadPart>) -> Result<Option<ReadPart>, AllocError>
+    ensures { IfOk result (λ o. IfSome o (λ p. p.input ≡ input.now)) }
+{
+    let Some(part) = earlier else {
+        return Ok(None);
+    };
+    if is_made_of(part, input) {
+        Ok(Some(part.share()?))
+    } else {
+        Ok(None)
+    }
+}
+
+// A part of an input has what the input gives.
+fn is_made(part: &ReadPart, input: &ReadInput)
+    requires { part.now.input ≡ input.now }
+    ensures { IsPart input.now part.now.content }
+{
+    let _ = input;
+    let _made = part.get().content();
+}
+
+/// The part of an input: an earlier one, shared, where that was made of the same input, else one that is compiled.
+///
+/// # Errors
+///
+/// `AllocError` where memory is wanting.
+pub fn rebuild(
+    alloc: Global,
+    input: &ReadInput,
+    earlier: Option<&ReadPart>,
+) -> Result<ReadPart, AllocError>
+    ensures input { IfOk result (λ p. p.input ≡ input.now) }
+    ensures made { IfOk result (λ p. IsPart input.now p.content) }
+{
+    if let Some(part) = earlier_of(input, earlier)? {
+        is_made(&part, input);
+        return Ok(part);
+    }
+    let part = compile_part(alloc, input.get())?;
+    Ok(ReadPart::new(part))
+}

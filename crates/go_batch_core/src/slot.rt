@@ -1,0 +1,40 @@
+//! What is done with the action of a package.
+ghost use Rattle.std.specs.Prelude.{◌≡◌};
+ghost use Rattle.go_batch_core.specs.Batches.{is_left};
+ghost use Rattle.go_batch_core.specs.mirrors.Keeping.{mark_of};
+
+use go_part_core::PartInput;
+use go_turn_core::Mark;
+
+/// What is done with the action of a package.
+#[derive(Drop)]
+pub enum Slot {
+    /// The package is not assembled.
+    NoAction,
+    /// It is not taken yet.
+    Untaken,
+    /// It was taken under this number, with this input.
+    Taken(u64, PartInput),
+    /// Its part is there.
+    Finished,
+}
+
+impl Slot {
+    /// Whether the action is not finished.
+    pub fn is_left(&self) -> bool
+        ensures { result ≡ is_left self.now }
+    {
+        matches!(self, Slot::Untaken | Slot::Taken(_, _))
+    }
+
+    pub(crate) fn mark(&self) -> Mark
+        ensures { result ≡ mark_of self.now }
+    {
+        match self {
+            Slot::NoAction => Mark::Absent,
+            Slot::Untaken => Mark::Waiting,
+            Slot::Taken(_, _) => Mark::Taken,
+            Slot::Finished => Mark::Finished,
+        }
+    }
+}
