@@ -1,0 +1,4 @@
+pub mod Commits
+pub mod Growing
+pub mod Lists
+pub mod Runs

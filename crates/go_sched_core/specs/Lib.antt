@@ -1,0 +1,6 @@
+pub mod Coding
+pub mod Laws
+pub mod Prepared
+pub mod Service
+pub mod Steps
+pub mod mirrors

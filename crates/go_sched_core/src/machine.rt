@@ -1,0 +1,91 @@
+//! The state of the core.
+ghost use Rattle.std.specs.Prelude.{◌≡◌, ◌≤◌, IfErr, IfOk, length};
+ghost use Rattle.go_submit_core.specs.Published.{AreSound};
+ghost use Rattle.go_sched_core.specs.Service.{empty};
+
+use crate::event::Held;
+use crate::rules::MAX_SESSIONS;
+use crate::running::Running;
+use go_submit_core::{Batches, Submission};
+use go_text_core::Rule;
+use std::alloc::Global;
+use std::collections::LinkedList;
+use std::marker::Model;
+
+/// The service's state. Contracts see it as a `Service`.
+#[derive(Drop)]
+pub struct Core {
+    pub(crate) alloc: Global,
+    pub(crate) accepted: u64,
+    pub(crate) opened: u64,
+    pub(crate) held: Vec<Held>,
+    pub(crate) tickets: u64,
+    pub(crate) waiting: LinkedList<Submission>,
+    pub(crate) generations: u64,
+    pub(crate) actions: u64,
+    pub(crate) running: Option<Running>,
+    pub(crate) published: Batches,
+}
+
+impl Model for Core {
+    ghost use Rattle.std.specs.Prelude.{vec_capacity};
+    ghost use Rattle.go_sched_core.specs.Coding.{coded_service};
+    ghost use Rattle.go_sched_core.specs.Service.{Service};
+    ghost use Rattle.go_sched_core.specs.mirrors.Kept.{IsKept};
+
+    ghost Value = { Service };
+
+    ghost coded = { coded_service };
+
+    ghost view = { λ c. record { accepted = c.accepted; opened = c.opened; held = c.held.items; tickets = c.tickets; waiting = c.waiting; generations = c.generations; actions = c.actions; running = c.running; published = c.published } };
+
+    ghost invariant = { λ c. IsKept c.held.items (vec_capacity c.held) c.published c.running };
+}
+
+impl Core {
+    /// A core to which nothing happened.
+    ///
+    /// # Errors
+    ///
+    /// `Rule::M0` where memory is wanting.
+    pub fn new(alloc: Global) -> Result<Core, Rule>
+        ensures ok { IfOk result (λ c. c ≡ empty) }
+        ensures err { IfErr result (λ rule. rule ≡ Rule.M0) }
+    {
+        let (Ok(held), Ok(published)) = (
+            Vec::with_capacity(alloc, MAX_SESSIONS),
+            Batches::new(alloc),
+        ) else {
+            return Err(Rule::M0);
+        };
+        Ok(Core {
+            alloc,
+            accepted: 0,
+            opened: 0,
+            held,
+            tickets: 0,
+            waiting: LinkedList::new(alloc),
+            generations: 0,
+            actions: 0,
+            running: None,
+            published,
+        })
+    }
+
+    /// The published batches: each snapshot is the one of what was published up to it.
+    pub fn batches(&self) -> &Batches
+        ensures list { result.now ≡ self.now.published }
+        ensures sound { AreSound self.now.published }
+    {
+        let _last = self.published.last();
+        &self.published
+    }
+
+    /// How many sessions are open.
+    pub fn sessions(&self) -> usize
+        ensures count { result ≡ length self.now.held }
+        ensures few { length self.now.held ≤ 32 }
+    {
+        self.held.len()
+    }
+}

@@ -1,0 +1,130 @@
+//! A step in two: what it needs is made first, and the state changes without memory.
+ghost use Rattle.std.specs.Prelude.{◌≡◌, IfErr, IfOk, MatchOption, false, true};
+ghost use Rattle.go_submit_core.specs.Published.{BeginsWith};
+ghost use Rattle.go_sched_core.specs.Prepared.{IsAllowed};
+ghost use Rattle.go_sched_core.specs.Steps.{Step, accepts};
+
+use crate::change::Change;
+use crate::event::{Event, Reply};
+use crate::machine::Core;
+use go_submit_core::Batches;
+use std::marker::Model;
+
+/// A step that was prepared: all that it grows is made. Contracts see the state that it was prepared in, the event, and the published batches after it.
+#[derive(Drop)]
+pub struct Ready {
+    from: std::snapshot::Snapshot<Core>,
+    event: Event,
+    change: Change,
+}
+
+impl Model for Ready {
+    ghost use Rattle.go_sched_core.specs.Coding.{coded_prepared};
+    ghost use Rattle.go_sched_core.specs.Prepared.{Prepared, prepared_with};
+    ghost use Rattle.go_sched_core.specs.mirrors.Fitting.{Fits, batches_after};
+
+    ghost Value = { Prepared };
+
+    ghost coded = { coded_prepared };
+
+    ghost view = { λ r. prepared_with r.from.value r.event (batches_after r.from.value.published r.change) };
+
+    ghost invariant = { λ r. Fits r.from.value r.event r.change };
+}
+
+/// A step that was made: its event, and the reply to it.
+#[derive(Drop)]
+pub struct Committed {
+    pub event: Event,
+    pub reply: Reply,
+}
+
+impl Ready {
+    /// The published batches after the step, where it changes them.
+    #[tactic(auto, using(crate::proofs::Growing::fits_grow, crate::proofs::Growing::fits_allowed))]
+    pub fn batches(&self) -> Option<&Batches>
+        ensures value { MatchOption result (self.now.batches ≡ self.now.from.published) (λ b. b.now ≡ self.now.batches) }
+        ensures grow { BeginsWith self.now.batches self.now.from.published }
+        ensures allowed { IsAllowed self.now.from self.now.event }
+    {
+        match &self.change {
+            Change::PublishNew(batches) => Some(batches),
+            Change::PublishLast(batches) => Some(batches),
+            Change::Open(_) => None,
+            Change::Close(_) => None,
+            Change::Submit(_) => None,
+            Change::HandOut(_) => None,
+            Change::Begin(_, _) => None,
+            Change::Finish(_) => None,
+            Change::GiveBack => None,
+        }
+    }
+
+    /// The event that the step was prepared for.
+    pub fn event(&self) -> &Event
+        ensures { result.now ≡ self.now.event }
+    {
+        &self.event
+    }
+}
+
+impl Core {
+    /// Makes all that a step grows, and changes nothing.
+    ///
+    /// # Errors
+    ///
+    /// The reply, where the step is refused or there is nothing to do. The event is then gone.
+    pub fn prepare(&mut self, event: Event) -> Result<Ready, Reply>
+        ensures same { self.new ≡ self.old }
+        ensures ok { IfOk result (λ r. (r.from ≡ self.old) × (r.event ≡ event)) }
+        ensures err { IfErr result (λ reply. Step self.old event reply self.old × (accepts reply ≡ false)) }
+    {
+        let from = std::snapshot::Snapshot::of(&*self);
+        match self.change_of(&event) {
+            Ok(change) => Ok(Ready {
+                from,
+                event,
+                change,
+            }),
+            Err(reply) => Err(reply),
+        }
+    }
+
+    /// Makes a step that was prepared, and hands its event back. It takes no memory. No step came since `ready` was made.
+    pub fn commit_with_event(&mut self, ready: Ready) -> Committed
+        requires { ready.from ≡ self.old }
+        ensures step { Step self.old ready.event result.reply self.new }
+        ensures event { result.event ≡ ready.event }
+        ensures accepted { accepts result.reply ≡ true }
+        ensures published { self.new.published ≡ ready.batches }
+    {
+        let Ready {
+            from: _,
+            event,
+            change,
+        } = ready;
+        let reply = self.make(change, &event);
+        Committed { event, reply }
+    }
+
+    /// Makes a step that was prepared. It takes no memory. No step came since `ready` was made.
+    pub fn commit(&mut self, ready: Ready) -> Reply
+        requires { ready.from ≡ self.old }
+        ensures step { Step self.old ready.event result self.new }
+        ensures accepted { accepts result ≡ true }
+        ensures published { self.new.published ≡ ready.batches }
+    {
+        let Committed { event: _, reply } = self.commit_with_event(ready);
+        reply
+    }
+
+    /// One step.
+    pub fn step(&mut self, event: Event) -> Reply
+        ensures { Step self.old event result self.new }
+    {
+        match self.prepare(event) {
+            Ok(ready) => self.commit(ready),
+            Err(reply) => reply,
+        }
+    }
+}
