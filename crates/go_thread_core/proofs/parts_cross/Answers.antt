@@ -1,0 +1,9 @@
+use denote.Param.Send.{sendable}
+use Rattle.go_thread_core.proofs.parts_cross.Goals as goal
+use Rattle.go_thread_core.proofs.Crossing.{parts_row_send, parts_row_sync}
+
+pub is_shared_by_threads-requires-send-T : goal.is_shared_by_threads-requires-send-T
+is_shared_by_threads-requires-send-T c κs = search (parts_row_send, sendable)
+
+pub is_shared_by_threads-requires-sync-T : goal.is_shared_by_threads-requires-sync-T
+is_shared_by_threads-requires-sync-T c κs = search (parts_row_sync, sendable)
