@@ -5,7 +5,7 @@ use Rattle.std.specs.Option.{option_map, option_or}
 use Rattle.std.proofs.lemmas.List.{drop_more, drop_all}
 use Rattle.std.proofs.lemmas.List.Folds.{find-append}
 use Rattle.go_spot_core.specs.declared.spot.UsedName.{UsedName}
-use Rattle.go_spot_core.specs.Shown.{found_shown, used_shown}
+use Rattle.go_spot_core.specs.Shown.{found_shown}
 use Rattle.go_spot_core.specs.Used.{Used, begins_at, first_used}
 
 pub find_mapped : {A B : Type 0} (p : B → Bool) (g : A → B) (xs : List A) → find p (map g xs) ≡ option_map g (find (λ x. p (g x)) xs)

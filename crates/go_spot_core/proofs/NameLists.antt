@@ -1,12 +1,12 @@
 -- Lists of the locals that are open.
-use Rattle.std.proofs.Common.{◌≡◌, ℕ, ◌+◌, ◌-◌, ◌<◌, ◌≤◌, min, Bool, true, false, ◌||◌, ◌&&◌, not, List, [], ◌∷◌, ◌++◌, length, get_or, take, drop, map, Bor, refl, sym, ap, ◌∙◌, arith}
+use Rattle.std.proofs.Common.{◌≡◌, ℕ, ◌+◌, ◌-◌, ◌<◌, ◌≤◌, min, Bool, true, false, ◌||◌, ◌&&◌, not, List, [], ◌∷◌, ◌++◌, length, get_or, take, drop, Bor, sym, ap, ◌∙◌, arith}
 use Rattle.std.specs.Prelude.{if◌then◌else◌}
 use Rattle.std.specs.List.{list_any}
 use Rattle.std.specs.Str.{bytes_eq}
 use Rattle.go_text_core.specs.Text.{is_blank}
 use Rattle.std.proofs.lemmas.List.{drop_more, take_all, length-drop, take-map, drop-map, take_min, drop_min, map-append, length-map, take-append-le, drop-append-le}
 use Rattle.go_tree_nodes.specs.declared.names.Ident.{Ident}
-use Rattle.go_spot_core.specs.Blocks.{OpenBlock, opened}
+use Rattle.go_spot_core.specs.Blocks.{opened}
 use Rattle.go_spot_core.specs.Shown.{idents_shown}
 use Rattle.go_spot_core.specs.Opened.{is_new, with_ident}
 

@@ -1,9 +1,9 @@
 -- States of a search, one behind the other: what the walk rests on.
-use Rattle.std.proofs.Common.{◌≡◌, ℕ, ◌+◌, ◌<◌, ◌≤◌, Bool, true, false, List, [], ◌∷◌, ◌++◌, length, get_or, take, drop, Option, Some, None, refl, sym, ap, ◌∙◌, subst, arith}
-use Rattle.std.specs.Prelude.{is_some, find, map, if◌then◌else◌}
+use Rattle.std.proofs.Common.{◌≡◌, ℕ, ◌+◌, true, false, List, [], ◌∷◌, ◌++◌, length, take, drop, Option, Some, None, refl, sym, ap, ◌∙◌, subst, arith}
+use Rattle.std.specs.Prelude.{is_some}
 use Rattle.std.proofs.lemmas.Grind.{common_steps}
 use Rattle.std.specs.Option.{option_map, option_or}
-use Rattle.std.proofs.lemmas.List.{append_assoc, append-nil, drop_more, drop_all}
+use Rattle.std.proofs.lemmas.List.{append-nil}
 use Rattle.std.proofs.lemmas.List.Folds.{find-append}
 use Rattle.go_tree_nodes.specs.declared.names.Ident.{Ident}
 use Rattle.go_tree_nodes.specs.declared.stmts.«Simple» as declared_simple
@@ -18,9 +18,9 @@ use Rattle.go_spot_core.specs.declared.spot.UsedName.{UsedName}
 use Rattle.go_spot_core.proofs.Finding.{find_mapped}
 use Rattle.go_spot_core.specs.Blocks.{OpenBlock, opened}
 use Rattle.go_spot_core.specs.Shown.{used_shown, found_shown}
-use Rattle.go_spot_core.specs.Used.{Used, begins_at, first_used, piece_used, simple_used}
+use Rattle.go_spot_core.specs.Used.{begins_at, first_used, piece_used, simple_used}
 use Rattle.go_spot_core.specs.Opened.{OpenUsed, open_used, first_open, piece_opened, steps_opened, with_ident, with_idents}
-use Rattle.go_spot_core.specs.mirrors.Searching.{ahead, ahead_by, IsAhead, Leads, AreDeclared, Declares, Enters, LeavesTo, left_by}
+use Rattle.go_spot_core.specs.mirrors.Searching.{ahead_by, Leads, Declares, Enters, LeavesTo, left_by}
 
 -- the first of a piece, with what is open there
 pub piece_first : (start : ℕ) (xs : List Ident) (p : Piece) → first_open start (piece_opened xs p) ≡ option_map (open_used xs) (first_used start (piece_used p))
@@ -134,14 +134,6 @@ pub declares_same : (a b : Search) (xs ys : List Ident) → xs ≡ ys → Declar
 declares_same a b xs ys e h = subst (λ l. Declares a l b) e h
 
 -- pieces
-
--- where the identifier is found already, nothing happens any more
-pub found_stays : (a : Search) (f : Steps → Steps) → is_some a.found ≡ true → Leads a f a
-found_stays a f there = record { led = λ ok. record { memory = ok; start = refl; same = λ rest. stays a.start a.names a.found there (f rest) rest; outer = λ n. absurd (cc) } }
-  where
-    stays : (start : ℕ) (o : OpenBlock) (r : Option UsedName) → is_some r ≡ true → (one two : Steps) → ahead_by start o r one ≡ ahead_by start o r two
-    stays start o None h one two = absurd (cc)
-    stays start o (Some u) h one two = refl
 
 -- a piece that declares nothing is passed
 check_ahead : (start : ℕ) (o : OpenBlock) (fa fb : Option UsedName) (p : Piece) → is_some fa ≡ false → found_shown fb ≡ first_used start (piece_used p) → (rest : Steps) → ahead_by start o fa (Check p rest) ≡ ahead_by start o fb rest

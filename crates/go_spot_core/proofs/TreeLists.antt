@@ -1,5 +1,5 @@
 -- The identifiers that are used in what the program keeps in lists.
-use Rattle.std.proofs.Common.{◌≡◌, ℕ, ◌+◌, List, [], ◌∷◌, ◌++◌, map, refl, sym, ap, ◌∙◌, append-nil, append_assoc}
+use Rattle.std.proofs.Common.{◌≡◌, ℕ, ◌+◌, List, [], ◌∷◌, ◌++◌, map, refl, sym, ap, append-nil, append_assoc}
 use Rattle.std.specs.List.{flat_map}
 use Rattle.go_tree_nodes.specs.declared.types.FieldLine.{FieldLine}
 use Rattle.go_tree_nodes.specs.declared.types.Fields.{Fields}
@@ -11,7 +11,6 @@ use Rattle.go_tree_nodes.specs.declared.exprs.«Item» as declared_item
 use Rattle.go_tree_nodes.specs.declared.exprs.NextExpr.{NextExpr}
 use Rattle.go_tree_nodes.specs.declared.decls.ValueLine.{ValueLine}
 use Rattle.go_tree_nodes.specs.declared.decls.TypeLine.{TypeLine}
-use Rattle.go_tree_nodes.specs.Trees.{FieldTrees}
 use Rattle.go_tree_nodes.specs.TypeShapes.{shape_type, shape_signature, fields_before, fields_of, method_before, methods_of, params_of}
 use Rattle.go_tree_nodes.specs.Shapes.{shape, shape_key, items_of, exprs_from, shape_value_line, shape_type_line, shape_value_spec}
 use Rattle.go_denote_core.specs.declared.things.Stand.TheVariants as stands

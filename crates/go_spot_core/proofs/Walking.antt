@@ -1,5 +1,5 @@
 -- What is open on a walk and by the tree alone.
-use Rattle.std.proofs.Common.{◌≡◌, ℕ, suc, Bool, true, false, ◌&&◌, ◌||◌, not, List, [], ◌∷◌, ◌++◌, map, Option, refl, sym, ap, ◌∙◌, append_assoc, arith}
+use Rattle.std.proofs.Common.{◌≡◌, ℕ, suc, Bool, true, false, ◌&&◌, ◌||◌, not, List, [], ◌∷◌, ◌++◌, map, Option, refl, sym, ap, ◌∙◌, arith}
 use Rattle.std.specs.Prelude.{All, if◌then◌else◌}
 use Rattle.std.specs.List.{flat_map, list_any}
 use Rattle.std.specs.Str.{bytes_eq}
@@ -8,14 +8,13 @@ use Rattle.std.proofs.lemmas.Grind.{flat_map-append}
 use Rattle.std.proofs.lemmas.List.Elements.{All-cons, All-append}
 use Rattle.go_text_core.specs.Text.{is_blank}
 use Rattle.go_tree_nodes.specs.declared.names.Ident.{Ident}
-use Rattle.go_local_core.specs.Steps.{Piece, Steps, Done, Check, Declare, Inner}
+use Rattle.go_local_core.specs.Steps.{Steps, Done, Check, Declare, Inner}
 use Rattle.go_local_core.specs.Law.{Rules}
 use Rattle.go_local_core.specs.Outline.{func_steps, func_opens, func_closes}
 use Rattle.go_local_core.specs.mirrors.Walk.{Names, look_in, with_name, with_names, news, names_of, walk_out}
-use Rattle.go_local_core.specs.mirrors.Walk as walk
 use Rattle.go_spot_core.specs.Opened as tree
 use Rattle.go_spot_core.specs.Opened.{OpenUsed, piece_opened, steps_opened, with_ident, with_idents}
-use Rattle.go_spot_core.specs.Walks.{PieceAt, piece_at, pieces_at, OpenNamesAreWalked}
+use Rattle.go_spot_core.specs.Walks.{PieceAt, pieces_at, OpenNamesAreWalked}
 
 abbrev idents_names : List Ident → List (List ℕ)
 idents_names xs = map (λ x. x.name) xs

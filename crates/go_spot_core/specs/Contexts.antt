@@ -1,7 +1,7 @@
 -- The context of an identifier, by its spot: what its outcome depends on beside its spelling.
 --
 -- docs/RULES.md, "Occurrences", "Expressions: roles, order, faults of parts". The Go specification, "Selectors", "Composite literals".
-use Rattle.std.specs.Prelude.{ℕ, zero, suc, true, List, [], ◌∷◌, ◌++◌, nat_eq, Option, Some, None, find}
+use Rattle.std.specs.Prelude.{ℕ, zero, suc, true, List, [], ◌++◌, nat_eq, Option, Some, None, find}
 use Rattle.std.specs.List.{filter_map}
 use Rattle.std.specs.Option.{option_map}
 use Rattle.go_tree_nodes.specs.declared.names.Ident.{Ident}

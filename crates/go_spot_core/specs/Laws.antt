@@ -1,7 +1,7 @@
 -- What holds of the identifiers that are used and of their spots.
 --
 -- docs/RULES.md, "Occurrences", "Expressions: roles, order, faults of parts". The Go specification, "Declarations and scope".
-use Rattle.std.specs.Prelude.{◌≡◌, ℕ, ◌&&◌, List, nat_eq, map, filter, find, Option}
+use Rattle.std.specs.Prelude.{◌≡◌, ℕ, ◌&&◌, nat_eq, map, filter, find}
 use Rattle.std.specs.Option.{option_map}
 use Rattle.go_tree_nodes.specs.declared.usage.Usage.TheVariants as usages
 use Rattle.go_tree_nodes.specs.Trees.{FileTree}
@@ -14,7 +14,7 @@ use Rattle.go_local_core.specs.Steps.{Piece}
 use Rattle.go_expr_core.specs.Looks.{Looks}
 use Rattle.go_expr_core.specs.Places.{place_role}
 use Rattle.go_spot_core.specs.Used.{SpotTree, NameSpot, BehindSpot, BehindNameSpot, KeySpot, Used, first_used, piece_used}
-use Rattle.go_spot_core.specs.Opened.{FileUsed, file_names, first_name}
+use Rattle.go_spot_core.specs.Opened.{file_names, first_name}
 use Rattle.go_spot_core.specs.Contexts.{context_of_spot, in_its_context, identifiers_among, context_among}
 use Rattle.go_spot_core.specs.PieceSpots.{piece_spots}
 

@@ -1,5 +1,4 @@
 -- What contracts see of an identifier that is found in a file.
-use Rattle.std.specs.Prelude.{Option}
 use Rattle.std.specs.Option.{option_map}
 use Rattle.go_tree_nodes.specs.Shapes.{func_of}
 use Rattle.go_spot_core.specs.declared.spot.FoundSpot.{FoundSpot}

@@ -1,11 +1,11 @@
 //! The identifier of a file that begins at an offset, with its spot and the locals that are open there.
 ghost use Rattle.std.specs.Prelude.{◌≡◌, ◌++◌, false, Some, IfOk};
 ghost use Rattle.std.specs.Option.{option_map};
-ghost use Rattle.go_tree_nodes.specs.Shapes.{shape_value_specs, shape_type_specs, func_of, decl_of, top_of, file_of};
+ghost use Rattle.go_tree_nodes.specs.Shapes.{shape_value_specs, shape_type_specs, func_of, decl_of, file_of};
 ghost use Rattle.go_tree_nodes.specs.Trees.{of_specs};
 ghost use Rattle.go_spot_core.specs.Shown.{found_shown, used_shown};
 ghost use Rattle.go_spot_core.specs.Used.{first_used, spec_used, type_used};
-ghost use Rattle.go_spot_core.specs.Opened.{decl_names, tops_names, file_names, first_name, file_name, in_func, outside, func_opened, first_open};
+ghost use Rattle.go_spot_core.specs.Opened.{decl_names, file_names, first_name, file_name, in_func, outside, func_opened, first_open};
 ghost use Rattle.go_spot_core.specs.Spots.{spot_seen};
 
 use crate::pieces::in_spec;

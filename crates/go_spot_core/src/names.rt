@@ -1,5 +1,5 @@
 //! The locals that are open at a place of a function.
-ghost use Rattle.std.specs.Prelude.{◌≡◌, ◌≤◌, Bool, [], ◌++◌, length, take, drop, OnOk};
+ghost use Rattle.std.specs.Prelude.{◌≡◌, ◌≤◌, [], ◌++◌, length, take, drop, OnOk};
 ghost use Rattle.std.specs.List.{list_any};
 ghost use Rattle.std.specs.Str.{bytes_eq};
 ghost use Rattle.go_spot_core.specs.Blocks.{opened};

@@ -1,13 +1,9 @@
 //! The search through a function for the identifier that begins at an offset, with the locals that are open there.
-ghost use Rattle.std.specs.Prelude.{◌≡◌, false, [], ◌∷◌, ◌++◌, None, IfOk};
-ghost use Rattle.std.specs.Option.{option_map};
-ghost use Rattle.go_tree_nodes.specs.Shapes.{shape, shape_some_expr, shape_some_exprs, shape_value_spec, shape_value_specs, shape_simple, shape_some_simple, shape_init, shape_if, shape_for, shape_stmt, shape_loop, shape_branch, shape_else, lines_of, func_of};
+ghost use Rattle.std.specs.Prelude.{◌≡◌, [], ◌∷◌, None};
 ghost use Rattle.go_tree_nodes.specs.TypeShapes.{shape_idents, shape_names, shape_results, params_of};
-ghost use Rattle.go_local_core.specs.Steps.{Check, Declare, Condition, Given, Header, EachFirst};
-ghost use Rattle.go_local_core.specs.Outline.{idents, some_idents, param_idents, result_idents, receiver_idents, header_idents, spec_steps, specs_steps, simple_steps, some_simple_steps, init_steps, some_condition_steps, if_steps, for_steps, stmt_steps, branch_steps, else_steps, lines_steps};
+ghost use Rattle.go_local_core.specs.Outline.{idents, some_idents, param_idents, result_idents, receiver_idents};
 ghost use Rattle.go_spot_core.specs.Blocks.{opened};
-ghost use Rattle.go_spot_core.specs.Opened.{first_open, func_opened};
-ghost use Rattle.go_spot_core.specs.mirrors.Searching.{Leads, Declares, Enters, LeavesTo};
+ghost use Rattle.go_spot_core.specs.mirrors.Searching.{Declares, Enters, LeavesTo};
 
 use crate::names::OpenNames;
 use crate::spot::UsedName;

@@ -1,6 +1,5 @@
 //! The walk of a search through the steps of a function.
-ghost use Rattle.std.specs.Prelude.{◌≡◌, false, None, IfOk};
-ghost use Rattle.go_tree_nodes.specs.Shapes.{shape, shape_some_expr, shape_some_exprs, shape_value_spec, shape_value_specs, shape_simple, shape_some_simple, shape_init, shape_if, shape_for, shape_stmt, shape_loop, shape_branch, shape_else, lines_of, func_of};
+ghost use Rattle.go_tree_nodes.specs.Shapes.{shape, shape_some_expr, shape_some_exprs, shape_value_spec, shape_value_specs, shape_simple, shape_some_simple, shape_init, shape_if, shape_for, shape_stmt, shape_loop, shape_branch, shape_else, lines_of};
 ghost use Rattle.go_tree_nodes.specs.TypeShapes.{shape_signature};
 ghost use Rattle.go_local_core.specs.Steps.{Check, Declare, Condition, Given, Header, EachFirst};
 ghost use Rattle.go_local_core.specs.Outline.{header_idents, spec_steps, specs_steps, simple_steps, some_simple_steps, init_steps, some_condition_steps, if_steps, for_steps, stmt_steps, branch_steps, else_steps, lines_steps};

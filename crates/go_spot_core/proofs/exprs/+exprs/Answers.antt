@@ -12,7 +12,7 @@ use Rattle.go_denote_core.specs.declared.things.Stand.{Stand}
 use Rattle.go_denote_core.specs.declared.things.Stand.TheVariants as stands
 use Rattle.go_expr_core.specs.Places.{left_place, whole}
 use Rattle.go_spot_core.specs.Shown.{literal_shown}
-use Rattle.go_spot_core.specs.Used.{OfName, OfWritten, BehindSpot, Used, used, first_used, type_name_used, type_used, expr_used, key_used, args_used, elements_used}
+use Rattle.go_spot_core.specs.Used.{OfName, OfWritten, BehindSpot, used, first_used, type_name_used, type_used, expr_used, key_used, args_used, elements_used}
 use Rattle.go_spot_core.proofs.Finding.{in_front, not_in_front, front, behind, passed, hit}
 use Rattle.go_spot_core.proofs.TreeLists.{listed_args, one_arg, args_first, listed_elements, one_element, elements_first}
 use Rattle.go_spot_core.proofs.exprs.+exprs.Goals as goal

@@ -1,7 +1,6 @@
 use Rattle.std.proofs.Common.{refl, sym, ap, ◌∙◌}
 use Rattle.go_tree_nodes.specs.declared.types.Signature.{out-Signature}
-use Rattle.go_tree_nodes.specs.declared.types.Params.{out-Params}
-use Rattle.go_tree_nodes.specs.TypeShapes.{shape_type, shape_results, params_of}
+use Rattle.go_tree_nodes.specs.TypeShapes.{shape_type, shape_results}
 use Rattle.go_tree_nodes.proofs.TypeShapes.{shape_struct, shape_interface, listed_parts, signature_parts}
 use Rattle.go_spot_core.specs.Used.{first_used, type_used, signature_used, result_used}
 use Rattle.go_spot_core.proofs.Finding.{front, behind, passed, hit}
