@@ -1,0 +1,73 @@
+//! Runs of the packages of a workspace.
+ghost use Rattle.std.specs.Prelude.{◌≡◌, ◌⊎◌, IfOk, IfErr, map, option_map};
+ghost use Rattle.go_object_core.specs.Objects.{object_shown};
+ghost use Rattle.go_link_core.specs.Functions.{place_shown};
+ghost use Rattle.go_link_core.specs.Linked.{HasNoMain, IsBeyond, program_of};
+ghost use Rattle.go_run_core.specs.Runs.{GetsStuck, Gives, run_shown};
+ghost use Rattle.go_launch_core.specs.Located.{place_declared, place_in};
+
+use go_answer_core::Site;
+use go_handle_core::DeclSite;
+use go_link_core::{Place, Places};
+use go_object_core::Object;
+use go_path_core::ImportPath;
+use go_term_core::MemberPlace;
+use go_text_core::Rule;
+use std::alloc::Global;
+
+/// Where the declarations of a workspace are.
+#[derive(Clone, Copy)]
+pub struct SitePlaces;
+
+// The place of an identifier of the package of a path, if it is declared outside functions.
+fn place_in<'a>(path: &'a ImportPath, place: MemberPlace) -> Option<Place<'a>>
+    ensures { option_map place_shown result ≡ place_in path.now place }
+{
+    match place {
+        MemberPlace::Declared(decl) => Some(Place {
+            path: path.as_str(),
+            file: decl.file,
+            number: decl.number,
+        }),
+        MemberPlace::Local(_) => None,
+    }
+}
+
+impl Places<Site> for SitePlaces {
+    ghost use Rattle.go_launch_core.specs.Located.{place_declared};
+
+    ghost place_of = { λ s d. place_declared d };
+
+    fn place<'d>(&self, decl: &'d Site) -> Option<Place<'d>> {
+        match decl.decl().site() {
+            DeclSite::InFile(path, place) => place_in(path, place),
+            DeclSite::Universe(_) => None,
+            DeclSite::ErrorMethod => None,
+            DeclSite::Package(_) => None,
+        }
+    }
+}
+
+/// Runs the package of a path in at most so many steps, one for each instruction, from the objects of it and of all that it reaches. Before its
+/// function `main` the `init` functions of the packages that it reaches by imports run, and its own: the packages one after another, each time the
+/// first in order of path whose imports are done, the functions of a package in their order. `Run::Spent` comes only where all steps were done.
+///
+/// What memory it takes is bounded by the objects, by how deep the calls are, and by what is printed.
+///
+/// # Errors
+///
+/// `Rule::J1` exactly where there is no object of the path, or its package is not called `main`, or has no function `main`; `Rule::J2` exactly where
+/// there is one, and a package that it reaches by imports has no object, or references lead, from `main` or from an `init` that runs, to a function of
+/// which no code is made; `Rule::M0` where memory is wanting; `Rule::Z1` where an instruction lacks what it asks for, as in objects that were not
+/// made of one workspace.
+pub fn run(
+    alloc: Global,
+    objects: &[Object<Site>],
+    main: &ImportPath,
+    steps: u64,
+) -> Result<go_run_core::Run, Rule>
+    ensures ok { IfOk result (λ run. Gives (program_of place_declared (map object_shown objects.now) main.now) steps (run_shown run)) }
+    ensures err { IfErr result (λ rule. (rule ≡ Rule.M0) ⊎ ((rule ≡ Rule.J1) × HasNoMain (program_of place_declared (map object_shown objects.now) main.now)) ⊎ ((rule ≡ Rule.J2) × IsBeyond (program_of place_declared (map object_shown objects.now) main.now)) ⊎ ((rule ≡ Rule.Z1) × GetsStuck (program_of place_declared (map object_shown objects.now) main.now) steps)) }
+{
+    go_run_core::run(alloc, &SitePlaces, objects, main, steps)
+}

@@ -1,0 +1,7 @@
+//! Runs of the packages of a workspace, from their objects.
+#![tactic(auto)]
+
+mod launch;
+
+pub use go_run_core::Run;
+pub use launch::{SitePlaces, run};
