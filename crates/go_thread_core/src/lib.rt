@@ -2,6 +2,8 @@
 //! that gives such values to threads cites them.
 #![tactic(auto)]
 
+ghost use Rattle.go_thread_core.specs.Threads.{InputsCross, PartsCross, SharedSnapshotsCross, SinglePartsCross, SnapshotsCross, WorkspacesCross};
+
 use go_graph_core::Workspace;
 use go_part_core::{Part, PartInput, Parts};
 use go_snap_core::{SharedSnapshot, Snapshot};
@@ -10,31 +12,43 @@ use go_snap_core::{SharedSnapshot, Snapshot};
 fn is_shared_by_threads<T: Send + Sync>() {}
 
 /// Workspaces, with the trees of their files.
-pub fn workspaces_cross() {
+pub fn workspaces_cross()
+    ensures { WorkspacesCross }
+{
     is_shared_by_threads::<Workspace>();
 }
 
 /// What parts are made from.
-pub fn inputs_cross() {
+pub fn inputs_cross()
+    ensures { InputsCross }
+{
     is_shared_by_threads::<PartInput>();
 }
 
 /// A part.
-pub fn single_parts_cross() {
+pub fn single_parts_cross()
+    ensures { SinglePartsCross }
+{
     is_shared_by_threads::<Part>();
 }
 
 /// Parts by the numbers of their packages.
-pub fn parts_cross() {
+pub fn parts_cross()
+    ensures { PartsCross }
+{
     is_shared_by_threads::<Parts>();
 }
 
 /// Snapshots.
-pub fn snapshots_cross() {
+pub fn snapshots_cross()
+    ensures { SnapshotsCross }
+{
     is_shared_by_threads::<Snapshot>();
 }
 
 /// Snapshots that several hold.
-pub fn shared_snapshots_cross() {
+pub fn shared_snapshots_cross()
+    ensures { SharedSnapshotsCross }
+{
     is_shared_by_threads::<SharedSnapshot>();
 }

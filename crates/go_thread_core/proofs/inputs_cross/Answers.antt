@@ -7,3 +7,6 @@ is_shared_by_threads-requires-send-T c κs = search (input_row_send, sendable)
 
 pub is_shared_by_threads-requires-sync-T : goal.is_shared_by_threads-requires-sync-T
 is_shared_by_threads-requires-sync-T c κs = search (input_row_sync, sendable)
+
+pub returns : goal.returns
+returns c = (input_row_send, input_row_sync)

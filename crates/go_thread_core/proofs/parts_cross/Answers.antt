@@ -7,3 +7,6 @@ is_shared_by_threads-requires-send-T c κs = search (parts_row_send, sendable)
 
 pub is_shared_by_threads-requires-sync-T : goal.is_shared_by_threads-requires-sync-T
 is_shared_by_threads-requires-sync-T c κs = search (parts_row_sync, sendable)
+
+pub returns : goal.returns
+returns c = (parts_row_send, parts_row_sync)

@@ -7,3 +7,6 @@ is_shared_by_threads-requires-send-T c κs = search (shared_snapshot_row_send, s
 
 pub is_shared_by_threads-requires-sync-T : goal.is_shared_by_threads-requires-sync-T
 is_shared_by_threads-requires-sync-T c κs = search (shared_snapshot_row_sync, sendable)
+
+pub returns : goal.returns
+returns c = (shared_snapshot_row_send, shared_snapshot_row_sync)

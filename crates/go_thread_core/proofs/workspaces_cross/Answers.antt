@@ -7,3 +7,6 @@ is_shared_by_threads-requires-send-T c κs = search (workspace_row_send, sendabl
 
 pub is_shared_by_threads-requires-sync-T : goal.is_shared_by_threads-requires-sync-T
 is_shared_by_threads-requires-sync-T c κs = search (workspace_row_sync, sendable)
+
+pub returns : goal.returns
+returns c = (workspace_row_send, workspace_row_sync)

@@ -1,0 +1,26 @@
+-- What may go to a thread (`IsSend`), and be seen by several at one time (`IsSync`), as the logic has the two.
+use denote.Param.Send.{IsSend, IsSync}
+use Rattle.go_graph_core.specs.contracts.workspace.Workspace as workspace
+use Rattle.go_part_core.specs.contracts.input.PartInput as input
+use Rattle.go_part_core.specs.contracts.part.Part as part
+use Rattle.go_part_core.specs.contracts.parts.Parts as parts
+use Rattle.go_snap_core.specs.contracts.snapshot.Snapshot as snapshot
+use Rattle.go_snap_core.specs.contracts.shared.SharedSnapshot as shared_snapshot
+
+abbrev pub WorkspacesCross : Type 0
+WorkspacesCross = IsSend workspace.the_row × IsSync workspace.the_row
+
+abbrev pub InputsCross : Type 0
+InputsCross = IsSend input.the_row × IsSync input.the_row
+
+abbrev pub SinglePartsCross : Type 0
+SinglePartsCross = IsSend part.the_row × IsSync part.the_row
+
+abbrev pub PartsCross : Type 0
+PartsCross = IsSend parts.the_row × IsSync parts.the_row
+
+abbrev pub SnapshotsCross : Type 0
+SnapshotsCross = IsSend snapshot.the_row × IsSync snapshot.the_row
+
+abbrev pub SharedSnapshotsCross : Type 0
+SharedSnapshotsCross = IsSend shared_snapshot.the_row × IsSync shared_snapshot.the_row
