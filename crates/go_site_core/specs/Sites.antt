@@ -35,6 +35,11 @@ offset_among offsets (places.Local l) = Some l.offset
 abbrev pub with_offset : List ℕ → Option ℕ → Option (List ℕ × ℕ)
 with_offset name offset = option_map (λ o. (name, o)) offset
 
+-- the file of an identifier of a package with these files
+abbrev pub file_in : MemberPlace → Option (List SourceModel) → Option SourceModel
+file_in place None = None
+file_in place (Some files) = slice_get files (file_number place)
+
 -- the name of the file of an identifier, and its offset there
 abbrev pub located_at : MemberPlace → Option SourceModel → Option (List ℕ × ℕ)
 located_at place None = None
@@ -54,9 +59,21 @@ abbrev pub located_text : List ℕ → Option (List ℕ × ℕ) → List ℕ
 located_text path None = []
 located_text path (Some at) = path ++ (codes "/" ++ (at.0 ++ (codes ":" ++ decimal at.1)))
 
+-- the name of the file of a declaration of a workspace with these packages, and its offset there: none of what is not declared in a file, and none
+-- where there is no such package, file or number
+abbrev pub site_place : List PackageModel → Declaration → Option (List ℕ × ℕ)
+site_place ps (Universe predeclared) = None
+site_place ps OfError = None
+site_place ps (Package path) = None
+site_place ps (InFile path place) = place_of_site ps path place
+
+-- a declaration, which stands here where it is one of a file
+abbrev pub text_at : Declaration → Option (List ℕ × ℕ) → List ℕ
+text_at (Universe predeclared) at = codes "universe." ++ spelling_of predeclared
+text_at OfError at = codes "universe.error.Error"
+text_at (Package path) at = codes "package " ++ path
+text_at (InFile path place) at = located_text path at
+
 -- a declaration of a workspace with these packages
 abbrev pub site_text : List PackageModel → Declaration → List ℕ
-site_text ps (Universe predeclared) = codes "universe." ++ spelling_of predeclared
-site_text ps OfError = codes "universe.error.Error"
-site_text ps (Package path) = codes "package " ++ path
-site_text ps (InFile path place) = located_text path (place_of_site ps path place)
+site_text ps d = text_at d (site_place ps d)

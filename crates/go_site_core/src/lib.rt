@@ -3,6 +3,8 @@
 
 mod offsets;
 mod search;
+mod single;
 mod spelling;
 
+pub use single::{site_place, site_text_of};
 pub use spelling::SiteSpelling;

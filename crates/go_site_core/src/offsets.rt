@@ -18,8 +18,12 @@ fn place_offsets(alloc: Global, places: &Places) -> Result<Vec<usize>, AllocErro
     Ok(offsets)
 }
 
-// The offsets of the identifiers that a file declares outside function bodies, by their numbers; none where it has no tree.
-fn file_offsets(alloc: Global, file: &SourceFile) -> Result<Vec<usize>, AllocError>
+/// The offsets of the identifiers that a file declares outside function bodies, by their numbers; none where it has no tree.
+///
+/// # Errors
+///
+/// `AllocError` where memory is wanting.
+pub(crate) fn file_offsets(alloc: Global, file: &SourceFile) -> Result<Vec<usize>, AllocError>
     ensures { IfOk result (λ offsets. offsets.items ≡ offsets_in file.now.content) }
 {
     match file.tree() {

@@ -1,6 +1,6 @@
 //! How declarations of a workspace are written.
 ghost use Rattle.std.specs.Prelude.{◌≡◌, ◌++◌, Some, map, option_map, string_bytes, IfOk, OnOk};
-ghost use Rattle.go_site_core.specs.Sites.{file_number, held_items, place_of_site, located_in, offset_among, offsets_in, located_text, site_text, with_offset};
+ghost use Rattle.go_site_core.specs.Sites.{file_number, held_items, place_of_site, located_in, offset_among, offsets_in, located_text, site_place, site_text, text_at, with_offset};
 ghost use Rattle.go_handle_core.specs.Declarations.{site_shown};
 
 use crate::offsets::all_offsets;
@@ -45,7 +45,7 @@ impl<'w> Model for SiteSpelling<'w> {
 }
 
 // The number of the file of an identifier.
-fn file_number(place: MemberPlace) -> usize
+pub(crate) fn file_number(place: MemberPlace) -> usize
     ensures { result ≡ file_number place }
 {
     match place {
@@ -55,7 +55,7 @@ fn file_number(place: MemberPlace) -> usize
 }
 
 // The offset of an identifier of a file that declares identifiers at these offsets outside function bodies.
-fn offset_among(offsets: &[usize], place: MemberPlace) -> Option<usize>
+pub(crate) fn offset_among(offsets: &[usize], place: MemberPlace) -> Option<usize>
     ensures { result ≡ offset_among offsets.now place }
 {
     match place {
@@ -65,7 +65,7 @@ fn offset_among(offsets: &[usize], place: MemberPlace) -> Option<usize>
 }
 
 // The name of a file, and an offset in it, if there is one.
-fn at_offset(file: &SourceFile, offset: Option<usize>) -> Option<(&str, usize)>
+pub(crate) fn at_offset(file: &SourceFile, offset: Option<usize>) -> Option<(&str, usize)>
     ensures { option_map (λ at. (at.0.now, at.1)) result ≡ with_offset file.now.name offset }
 {
     match offset {
@@ -100,6 +100,31 @@ fn add_offset(text: &mut String, path: &str, name: &str, offset: usize) -> Resul
     write!(text, "{offset}")
 }
 
+// Adds a declaration, which stands here where it is one of a file.
+pub(crate) fn add_text(
+    text: &mut String,
+    site: DeclSite<'_>,
+    at: Option<(&str, usize)>,
+) -> Result<(), AllocError>
+    ensures { OnOk result (string_bytes text.new ≡ string_bytes text.old ++ text_at (site_shown site.entry) (option_map (λ at. (at.0.now, at.1)) at.entry)) }
+{
+    match site {
+        DeclSite::Universe(predeclared) => {
+            text.push_str("universe.")?;
+            text.push_str(predeclared.spelling())
+        }
+        DeclSite::ErrorMethod => text.push_str("universe.error.Error"),
+        DeclSite::Package(path) => {
+            text.push_str("package ")?;
+            text.push_str(path.as_str())
+        }
+        DeclSite::InFile(path, _) => match at {
+            Some((name, offset)) => add_offset(text, path.as_str(), name, offset),
+            None => Ok(()),
+        },
+    }
+}
+
 impl<'w> SiteSpelling<'w> {
     /// How the declarations of a workspace are written. The time is linear in what its files declare.
     ///
@@ -124,13 +149,13 @@ impl<'w> SiteSpelling<'w> {
         locate(source.files(), offsets.as_slice(), place)
     }
 
-    // Adds an identifier of the package of a path.
-    fn add_place(&self, text: &mut String, path: &str, place: MemberPlace) -> Result<(), AllocError>
-        ensures { OnOk result (string_bytes text.new ≡ string_bytes text.old ++ located_text path.now (place_of_site self.now path.now place)) }
+    // The name of the file of a declaration, and its offset there, where it is one of a file.
+    fn find_site(&self, site: DeclSite<'_>) -> Option<(&str, usize)>
+        ensures { option_map (λ at. (at.0.now, at.1)) result ≡ site_place self.now (site_shown site.entry) }
     {
-        match self.find(path, place) {
-            Some((name, offset)) => add_offset(text, path, name, offset),
-            None => Ok(()),
+        match site {
+            DeclSite::Universe(_) | DeclSite::ErrorMethod | DeclSite::Package(_) => None,
+            DeclSite::InFile(path, place) => self.find(path.as_str(), place),
         }
     }
 
@@ -143,18 +168,9 @@ impl<'w> SiteSpelling<'w> {
     pub fn add_site(&self, text: &mut String, site: &Site) -> Result<(), AllocError>
         ensures { OnOk result (string_bytes text.new ≡ string_bytes text.old ++ site_text self.now site.now) }
     {
-        match site.decl().site() {
-            DeclSite::Universe(predeclared) => {
-                text.push_str("universe.")?;
-                text.push_str(predeclared.spelling())
-            }
-            DeclSite::ErrorMethod => text.push_str("universe.error.Error"),
-            DeclSite::Package(path) => {
-                text.push_str("package ")?;
-                text.push_str(path.as_str())
-            }
-            DeclSite::InFile(path, place) => self.add_place(text, path.as_str(), place),
-        }
+        let site = site.decl().site();
+        let at = self.find_site(site);
+        add_text(text, site, at)
     }
 }
 
