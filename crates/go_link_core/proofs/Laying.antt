@@ -1,6 +1,6 @@
 -- How numbers are noted, and objects laid one behind another.
-use Rattle.std.proofs.Common.{◌≡◌, ℕ, zero, suc, ◌+◌, ◌<◌, ◌≤◌, Bool, true, false, ◌&&◌, cond, List, [], ◌∷◌, ◌++◌, length, map, drop, get_or, Option, Some, None, refl, sym, ap, ap₂, ◌∙◌, subst, arith, append_assoc, append-nil}
-use Rattle.std.specs.Prelude.{codes, option_map}
+use Rattle.std.proofs.Common.{◌≡◌, ℕ, zero, suc, ◌+◌, ◌-◌, ◌<◌, ◌≤◌, Bool, true, false, ◌&&◌, cond, List, [], ◌∷◌, ◌++◌, length, map, drop, get_or, Option, Some, None, refl, sym, ap, ap₂, ◌∙◌, subst, arith, append_assoc, append-nil}
+use Rattle.std.specs.Prelude.{codes, option_map, slice_get}
 use Rattle.std.specs.Str.{bytes_eq}
 use Rattle.std.specs.List.{position_from}
 use Rattle.std.proofs.lemmas.Cmp.{nat_eq_equiv}
@@ -102,3 +102,29 @@ path_numbers os ps h p = ap (option_map (λ s. s.first)) (h p)
 pub numbers_same : {D : Type 0} (place : D → Option PlaceModel) (fs : List (FunctionOf D)) (es : List (Place × ℕ)) (models : List (Option PlaceModel)) → AreNumbered es models → models ≡ places_of place fs
     → (d : D) → found_in es (place d) ≡ number_of place fs d
 numbers_same place fs es models h is d = h (place d) ∙ ap (λ ms. number_at ms (place d)) is
+
+-- what stands at a number of two lists, one behind the other
+slice_left : {A : Type 0} (xs ys : List A) (n : ℕ) → n < length xs → slice_get (xs ++ ys) n ≡ slice_get xs n
+slice_left [] ys n lt = absurd (omega (arith, lt))
+slice_left (x ∷ xs) ys zero lt = refl
+slice_left (x ∷ xs) ys (suc n) lt = slice_left xs ys n (omega (arith, lt))
+
+slice_right : {A : Type 0} (xs ys : List A) (n : ℕ) → length xs ≤ n → slice_get (xs ++ ys) n ≡ slice_get ys (n - length xs)
+slice_right [] ys n le = ap (λ k. slice_get ys k) (omega arith)
+slice_right (x ∷ xs) ys zero le = absurd (omega (arith, le))
+slice_right (x ∷ xs) ys (suc n) le =
+    let same : n - length xs ≡ suc n - length (x ∷ xs) = omega arith in
+    slice_right xs ys n (omega (arith, le)) ∙ ap (λ k. slice_get ys k) same
+
+-- the function of a number, object by object
+module _ {D X : Type 0} (shown : X → ObjectOf D) (xs : List X) (i : ℕ) (d : X) (lt : i < length xs) (rest : ℕ) (o : Option (FunctionOf D)) (h : o ≡ slice_get (all_functions (map shown (drop i xs))) rest) where
+  there_now : o ≡ slice_get ((shown (get_or xs i d)).functions ++ all_functions (map shown (drop (i + 1) xs))) rest
+  there_now = h ∙ ap (λ (l : List X). slice_get (all_functions (map shown l)) rest) (drop_more xs i d lt)
+
+  pub function_here : (f : Option (FunctionOf D)) → rest < length (shown (get_or xs i d)).functions → f ≡ slice_get (shown (get_or xs i d)).functions rest → f ≡ o
+  function_here f few is = is ∙ sym (there_now ∙ slice_left (shown (get_or xs i d)).functions (all_functions (map shown (drop (i + 1) xs))) rest few)
+
+  pub function_behind : (count : ℕ) → count ≡ length (shown (get_or xs i d)).functions → count ≤ rest → o ≡ slice_get (all_functions (map shown (drop (i + 1) xs))) (rest - count)
+  function_behind count many le =
+      there_now ∙ slice_right (shown (get_or xs i d)).functions (all_functions (map shown (drop (i + 1) xs))) rest (omega (arith, many, le))
+      ∙ ap (λ k. slice_get (all_functions (map shown (drop (i + 1) xs))) (rest - k)) (sym many)

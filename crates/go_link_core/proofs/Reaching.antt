@@ -1,6 +1,6 @@
 -- What is reached: by marks, by edges that are all the other way, and from a node that leads to each of several.
-use Rattle.std.proofs.Common.{◌≡◌, ℕ, zero, suc, ◌+◌, ◌<◌, ◌≤◌, ◌↔◌, Bool, true, false, cond, ◌&&◌, ◌||◌, List, [], ◌∷◌, ◌++◌, length, get_or, map, Option, Some, None, All, inl, inr, ⊎_elim, refl, sym, ap, ◌∙◌, subst, arith}
-use Rattle.std.specs.Prelude.{Contains, IfSome, slice_get}
+use Rattle.std.proofs.Common.{◌≡◌, ℕ, zero, suc, ◌+◌, ◌<◌, ◌≤◌, ◌↔◌, Bool, true, false, cond, ◌&&◌, ◌||◌, List, [], ◌∷◌, ◌++◌, length, get_or, map, Option, Some, None, All, inl, inr, ⊎_elim, refl, sym, ap, ap₂, ◌∙◌, subst, arith}
+use Rattle.std.specs.Prelude.{Contains, IfSome, MatchOption, slice_get}
 use Rattle.std.specs.List.{flat_map}
 use Rattle.std.proofs.lemmas.Bool.{true≢false}
 use Rattle.std.proofs.lemmas.List.{length-map}
@@ -11,8 +11,8 @@ use Rattle.go_cycle_core.specs.Cycle.{InRange, Leads, LeadTo, Reaches, reversed}
 use Rattle.go_cycle_core.proofs.Walks.{reaches_other_way, reaches_back, reversed_in_range}
 use Rattle.go_machine_core.specs.Programs.{LinkedOf}
 use Rattle.go_link_core.specs.Packages.{PackageOf}
-use Rattle.go_link_core.specs.Reaching.{AreReached, ReachesMissing, ReachesOutside, call_edges, edge, edge_if, edges_from, is_outside, lacks_object}
-use Rattle.go_link_core.specs.mirrors.Numbering.{AreBelow, AreRowsBelow, IsRowBelow, any_marked}
+use Rattle.go_link_core.specs.Reaching.{AreReached, IsFirstOutside, ReachesMissing, ReachesOutside, call_edges, edge, edge_if, edges_from, is_outside, lacks_object}
+use Rattle.go_link_core.specs.mirrors.Numbering.{AreBelow, AreRowsBelow, IsRowBelow, any_marked, first_marked, number_or}
 
 abbrev pub IsMarked : List Bool → ℕ → Type 0
 IsMarked marks n = get_or marks n false ≡ true
@@ -134,7 +134,49 @@ module _ {A : Type 0} (test : A → Bool) where
       ap (λ c. (c && test y) || any_marked test ys marks) m ∙ (ap (λ z. test z || any_marked test ys marks) same ∙ ap (λ c. c || any_marked test ys marks) t)
   marked_there (y ∷ ys) (b ∷ marks) (suc n) x is m t = ap (λ c. (b && test y) || c) (marked_there ys marks n x is m t) ∙ or_true (b && test y)
 
+-- the first of them
+pub record FirstMarked {A : Type 0} (test : A → Bool) (k : ℕ) (xs : List A) (marks : List Bool) (n : ℕ) : Type 0 where
+  pub one : MarkedOne test xs marks
+  pub here : k + one.number ≡ n
+  pub least : (other : MarkedOne test xs marks) → n ≤ k + other.number
+
+both_true : (a b : Bool) → (a && b) ≡ true → (a ≡ true) × (b ≡ true)
+both_true true b e = (refl, e)
+both_true false b e = cc
+
+module _ {A : Type 0} (test : A → Bool) where
+  pub none_marked : (k : ℕ) (xs : List A) (marks : List Bool) → first_marked test k xs marks ≡ None → any_marked test xs marks ≡ false
+  none_marked k [] marks e = refl
+  none_marked k (x ∷ xs) [] e = refl
+  none_marked k (x ∷ xs) (mark ∷ marks) e = by (mark && test x) e (none_marked (k + 1) xs marks)
+    where
+      by : (b : Bool) → number_or b k (first_marked test (k + 1) xs marks) ≡ None → (first_marked test (k + 1) xs marks ≡ None → any_marked test xs marks ≡ false) → (b || any_marked test xs marks) ≡ false
+      by true e ih = cc
+      by false e ih = ih e
+
+  later_least : (k : ℕ) (x : A) (xs : List A) (mark : Bool) (marks : List Bool) (n : ℕ) → (mark && test x) ≡ false → ((other : MarkedOne test xs marks) → n ≤ (k + 1) + other.number)
+      → (number : ℕ) (item : A) → slice_get (x ∷ xs) number ≡ Some item → IsMarked (mark ∷ marks) number → test item ≡ true → n ≤ k + number
+  later_least k x xs mark marks n off least zero item is m t =
+      let same : x ≡ item = cc in
+      let both : (mark && test x) ≡ true = ap₂ ◌&&◌ m (ap test same ∙ t) in
+      absurd (true≢false (sym both ∙ off))
+  later_least k x xs mark marks n off least (suc j) item is m t = omega (arith, least (record { number = j; item = item; is = is; marked = m; passes = t }))
+
+  pub first_found : (k : ℕ) (xs : List A) (marks : List Bool) (n : ℕ) → first_marked test k xs marks ≡ Some n → FirstMarked test k xs marks n
+  first_found k [] marks n e = cc
+  first_found k (x ∷ xs) [] n e = cc
+  first_found k (x ∷ xs) (mark ∷ marks) n e = by (mark && test x) refl e (first_found (k + 1) xs marks n)
+    where
+      by : (b : Bool) → (mark && test x) ≡ b → number_or b k (first_marked test (k + 1) xs marks) ≡ Some n → (first_marked test (k + 1) xs marks ≡ Some n → FirstMarked test (k + 1) xs marks n) → FirstMarked test k (x ∷ xs) (mark ∷ marks) n
+      by true t e ih = (let both = both_true mark (test x) t in let same : k ≡ n = cc in
+          record { one = record { number = 0; item = x; is = refl; marked = both.0; passes = both.1 }; here = omega (arith, same); least = λ other. omega (arith, same) })
+      by false t e ih = (let r = ih e in
+          record { one = record { number = suc r.one.number; item = r.one.item; is = r.one.is; marked = r.one.marked; passes = r.one.passes }; here = omega (arith, r.here); least = λ other. later_least k x xs mark marks n t r.least other.number other.item other.is other.marked other.passes })
+
 -- what cannot be run
+
+first_of : (fs : List LinkedOf) (starts : List ℕ) (n : ℕ) (there : ReachesOutside fs starts) → 0 + there.number ≡ n → ((other : ReachesOutside fs starts) → n ≤ 0 + other.number) → IsFirstOutside fs starts n
+first_of fs starts n there is least = record { there = there; here = omega (arith, is); first = λ other. omega (arith, least other) }
 
 option_more : (a b : ℕ) (o : Option ℕ) → a ≤ b → IfSome o (λ k. k < a) → IfSome o (λ k. k < b)
 option_more a b None le h = h
@@ -160,24 +202,35 @@ module _ (fs : List LinkedOf) (starts : List ℕ) (top : ℕ) (many : length fs 
       let calls = rows_in_range count 0 (map (λ f. f.callees) fs) le (rows_more top count (map (λ f. f.callees) fs) (omega (arith, more)) rows) in
       subst (λ g. InRange count g) (sym is) (All-append (IsWithin count) (call_edges fs) (map (edge top) starts) calls (starts_in_range top count starts more low))
 
-  pub outside_is : (marks : List Bool) → ((n : ℕ) → IsMarked marks n ↔ Reaches edges top n) → (any_marked (λ f. is_outside f.code) fs marks ≡ true) ↔ ReachesOutside fs starts
-  outside_is marks h = (there, back)
-    where
-      calls : InRange top (call_edges fs)
-      calls = rows_in_range top 0 (map (λ f. f.callees) fs) (omega (arith, many, length-map fs (λ (f : LinkedOf). f.callees))) rows
+  calls : InRange top (call_edges fs)
+  calls = rows_in_range top 0 (map (λ f. f.callees) fs) (omega (arith, many, length-map fs (λ (f : LinkedOf). f.callees))) rows
 
-      there : any_marked (λ f. is_outside f.code) fs marks ≡ true → ReachesOutside fs starts
-      there e =
-          let m = marked_found (λ (f : LinkedOf). is_outside f.code) fs marks e in
-          let lt : m.number < length fs = slice_get_within fs m.number m.item m.is in
-          let low' : m.number < top = omega (arith, lt, many) in
-          let r = from_top (call_edges fs) top starts calls m.number low' low (subst (λ g. Reaches g top m.number) is ((h m.number).0 m.marked)) in
-          record { start = r.0; number = m.number; function = m.item; begins = r.1; reached = r.2; is = m.is; outside = m.passes }
+  module _ (marks : List Bool) (h : (n : ℕ) → IsMarked marks n ↔ Reaches edges top n) where
+    abbrev outside_one : MarkedOne (λ (f : LinkedOf). is_outside f.code) fs marks → ReachesOutside fs starts
+    outside_one m =
+        let lt : m.number < length fs = slice_get_within fs m.number m.item m.is in
+        let low' : m.number < top = omega (arith, lt, many) in
+        let r = from_top (call_edges fs) top starts calls m.number low' low (subst (λ g. Reaches g top m.number) is ((h m.number).0 m.marked)) in
+        record { start = r.0; number = m.number; function = m.item; begins = r.1; reached = r.2; is = m.is; outside = m.passes }
 
-      back : ReachesOutside fs starts → any_marked (λ f. is_outside f.code) fs marks ≡ true
-      back r =
-          let reach : Reaches edges top r.number = subst (λ g. Reaches g top r.number) (sym is) (to_all (call_edges fs) top starts calls r.number r.start r.begins r.reached) in
-          marked_there (λ (f : LinkedOf). is_outside f.code) fs marks r.number r.function r.is ((h r.number).1 reach) r.outside
+    abbrev marked_one : ReachesOutside fs starts → MarkedOne (λ (f : LinkedOf). is_outside f.code) fs marks
+    marked_one r =
+        let reach : Reaches edges top r.number = subst (λ g. Reaches g top r.number) (sym is) (to_all (call_edges fs) top starts calls r.number r.start r.begins r.reached) in
+        record { number = r.number; item = r.function; is = r.is; marked = (h r.number).1 reach; passes = r.outside }
+
+    none_outside : first_marked (λ f. is_outside f.code) 0 fs marks ≡ None → ReachesOutside fs starts → ⊥
+    none_outside e r =
+        let m = marked_one r in
+        true≢false (sym (marked_there (λ (f : LinkedOf). is_outside f.code) fs marks m.number m.item m.is m.marked m.passes) ∙ none_marked (λ (f : LinkedOf). is_outside f.code) 0 fs marks e)
+
+    first_outside : (n : ℕ) → first_marked (λ f. is_outside f.code) 0 fs marks ≡ Some n → IsFirstOutside fs starts n
+    first_outside n e =
+        let r = first_found (λ (f : LinkedOf). is_outside f.code) 0 fs marks n e in
+        first_of fs starts n (outside_one r.one) r.here (λ other. r.least (marked_one other))
+
+    pub outside_is : (o : Option ℕ) → o ≡ first_marked (λ f. is_outside f.code) 0 fs marks → MatchOption o (¬ ReachesOutside fs starts) (IsFirstOutside fs starts)
+    outside_is None e = none_outside (sym e)
+    outside_is (Some n) e = first_outside n (sym e)
 
 pub missing_found : (ps : List PackageOf) (from : ℕ) (marks : List Bool) → AreReached ps from marks → any_marked lacks_object ps marks ≡ true → ReachesMissing ps from
 missing_found ps from marks h e =

@@ -1,12 +1,12 @@
 -- What can be run.
-use Rattle.std.specs.Prelude.{◌≡◌, ℕ, ◌⊎◌, Bool, List, map, Option, Some, None}
-use Rattle.go_object_core.specs.Objects.{ObjectOf}
+use Rattle.std.specs.Prelude.{◌≡◌, ℕ, ◌⊎◌, Bool, List, map, Option, Some, None, slice_get}
+use Rattle.go_object_core.specs.Objects.{FunctionOf, ObjectOf}
 use Rattle.go_machine_core.specs.Programs.{LinkedOf, linked_shown}
 use Rattle.go_link_core.specs.declared.linking.Entry.{Entry}
 use Rattle.go_link_core.specs.declared.linking.Runnable.{Runnable}
-use Rattle.go_link_core.specs.Functions.{PlaceModel, functions_of}
+use Rattle.go_link_core.specs.Functions.{PlaceModel, all_functions, functions_of}
 use Rattle.go_link_core.specs.Packages.{PackageOf, entry_in, package_number, packages_of, path_order}
-use Rattle.go_link_core.specs.Reaching.{AreReached, ReachesMissing, ReachesOutside}
+use Rattle.go_link_core.specs.Reaching.{AreReached, IsFirstOutside, ReachesMissing, ReachesOutside}
 use Rattle.go_link_core.specs.Order.{starts_of}
 
 -- a program: its functions, its packages, their numbers in the order of their paths, and the number of the package that is to be run, if it has an
@@ -55,3 +55,20 @@ pub record IsRunnable (p : ProgramOf) (r : RunnableOf) : Type 0 where
   pub begun : IsBegun p r
   pub whole : IsCut p → ⊥
   pub inside : ReachesOutside r.functions r.starts → ⊥
+
+-- all packages that are reached have objects, and the function of a number is the first that is reached and of which no code is made
+pub record IsLedOutside (p : ProgramOf) (number : ℕ) : Type 0 where
+  pub r : RunnableOf
+  pub begun : IsBegun p r
+  pub whole : IsCut p → ⊥
+  pub first : IsFirstOutside r.functions r.starts number
+
+-- the same, where the function is one of these objects
+pub record IsOutsideOf {D : Type 0} (p : ProgramOf) (os : List (ObjectOf D)) (f : FunctionOf D) : Type 0 where
+  pub number : ℕ
+  pub led : IsLedOutside p number
+  pub is : slice_get (all_functions os) number ≡ Some f
+
+-- no function is to blame: there is no `main`, or a package that is reached has no object, or the program can be run
+abbrev pub HasNoneOutside : ProgramOf → Type 0
+HasNoneOutside p = HasNoMain p ⊎ IsCut p ⊎ ((r : RunnableOf) × IsRunnable p r)

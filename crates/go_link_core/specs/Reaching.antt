@@ -1,7 +1,7 @@
 -- What a program reaches.
 --
 -- docs/RULES.md, "Stack code".
-use Rattle.std.specs.Prelude.{◌≡◌, ℕ, ◌+◌, ◌↔◌, Bool, true, false, List, [], ◌∷◌, ◌++◌, length, map, Option, Some, None, Contains, slice_get, slice_index_or}
+use Rattle.std.specs.Prelude.{◌≡◌, ◌≤◌, ℕ, ◌+◌, ◌↔◌, Bool, true, false, List, [], ◌∷◌, ◌++◌, length, map, Option, Some, None, Contains, slice_get, slice_index_or}
 use Rattle.std.specs.List.{flat_map}
 use Rattle.go_instruction_core.specs.declared.instruction.Instruction.{Instruction}
 use Rattle.go_instruction_core.specs.declared.instruction.Instruction.TheVariants as instructions
@@ -67,3 +67,9 @@ pub record ReachesOutside (fs : List LinkedOf) (starts : List ℕ) : Type 0 wher
   pub reached : Reaches (call_edges fs) start number
   pub is : slice_get fs number ≡ Some function
   pub outside : is_outside function.code ≡ true
+
+-- it is the first of such functions, in their order
+pub record IsFirstOutside (fs : List LinkedOf) (starts : List ℕ) (number : ℕ) : Type 0 where
+  pub there : ReachesOutside fs starts
+  pub here : there.number ≡ number
+  pub first : (other : ReachesOutside fs starts) → number ≤ other.number

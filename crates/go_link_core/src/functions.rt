@@ -1,5 +1,5 @@
 //! The functions of a program.
-ghost use Rattle.std.specs.Prelude.{◌≡◌, ◌≤◌, ◌+◌, ◌++◌, IfOk, OnOk, length, map, option_map};
+ghost use Rattle.std.specs.Prelude.{◌≡◌, ◌≤◌, ◌+◌, ◌++◌, IfOk, OnOk, length, map, option_map, slice_get};
 ghost use Rattle.std.specs.List.{flat_map};
 ghost use Rattle.go_object_core.specs.Objects.{function_shown, object_shown};
 ghost use Rattle.go_machine_core.specs.Programs.{linked_shown};
@@ -115,4 +115,29 @@ pub(crate) fn numbers_called<D>(
         add_if(&mut numbers, is_called(function, name), first + place)?;
     }
     Ok(numbers)
+}
+
+// The function of a number of an object.
+fn function_in<D>(object: &Object<D>, number: usize) -> Option<&FunctionCode<D>>
+    ensures { option_map (λ f. function_shown f.now) result ≡ slice_get (object_shown object.now).functions number }
+{
+    object.functions.get(number)
+}
+
+/// The function of a number, where those of all objects are numbered one behind another.
+pub(crate) fn function_at<'a, D>(
+    objects: &'a [Object<D>],
+    number: usize,
+) -> Option<&'a FunctionCode<D>>
+    ensures { option_map (λ f. function_shown f.now) result ≡ slice_get (all_functions (map object_shown objects.now)) number }
+{
+    let mut rest = number;
+    for object in objects {
+        let count = object.functions.len();
+        if rest < count {
+            return function_in(object, rest);
+        }
+        rest -= count;
+    }
+    None
 }

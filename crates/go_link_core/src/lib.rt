@@ -12,5 +12,5 @@ mod packages;
 mod places;
 mod reached;
 
-pub use linking::{Runnable, link};
+pub use linking::{Runnable, link, outside};
 pub use places::{Place, Places};

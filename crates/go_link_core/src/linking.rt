@@ -1,23 +1,23 @@
 //! What can be run.
-ghost use Rattle.std.specs.Prelude.{◌≡◌, ◌⊎◌, IfOk, IfErr, OnOk, length, map};
+ghost use Rattle.std.specs.Prelude.{◌≡◌, ◌⊎◌, IfOk, IfErr, MatchOption, OnOk, length, map};
 ghost use Rattle.go_index_core.specs.Spelled.{AreSpelled, places_of as spelled_places};
-ghost use Rattle.go_object_core.specs.Objects.{object_shown};
+ghost use Rattle.go_object_core.specs.Objects.{function_shown, object_shown};
 ghost use Rattle.go_machine_core.specs.Programs.{linked_shown};
 ghost use Rattle.go_link_core.specs.Functions.{all_functions, functions_of, linked_of};
 ghost use Rattle.go_link_core.specs.Packages.{entry_in, package_shown, packages_from, packages_of};
-ghost use Rattle.go_link_core.specs.Linked.{HasNoMain, IsBeyond, IsRunnable, program_of, runnable_shown};
+ghost use Rattle.go_link_core.specs.Linked.{HasNoMain, HasNoneOutside, IsBeyond, IsOutsideOf, IsRunnable, program_of, runnable_shown};
 ghost use Rattle.go_link_core.specs.mirrors.Layouts.{AreWithin, IsBeginning, IsLinking, layout_more, layout_of, layout_shown, program_with};
 ghost use Rattle.go_link_core.specs.mirrors.Numbering.{AreBelow, found_in, numbered_path};
 
-use crate::functions::{add_functions, places_of};
+use crate::functions::{add_functions, function_at, places_of};
 use crate::numbers::numbers_of;
 use crate::order::starts_of;
 use crate::packages::{Package, number_of, order_of, package_of, paths_of};
 use crate::places::{Place, Places};
-use crate::reached::{marked_lacks, reached_packages, reaches_outside};
+use crate::reached::{marked_lacks, outside_of, reached_packages};
 use go_index_core::Spellings;
 use go_machine_core::Linked;
-use go_object_core::Object;
+use go_object_core::{FunctionCode, Object};
 use go_path_core::ImportPath;
 use go_text_core::Rule;
 use indexmap::IndexMap;
@@ -49,8 +49,10 @@ pub(crate) struct Layout<'a> {
 pub(crate) enum Beginning {
     /// It has no `main`.
     NoMain,
-    /// It reaches what cannot be run.
-    Beyond,
+    /// A package that is reached has no object.
+    Cut,
+    /// The function of this number is the first that is reached and of which no code is made.
+    Outside(usize),
     /// The functions of these numbers, one after another.
     Starts(Vec<usize>),
 }
@@ -160,14 +162,14 @@ fn begin(
     let reached = reached_packages(alloc, packages, entry.root)?;
     let lacks = marked_lacks(packages, &reached);
     if lacks {
-        return Ok(Beginning::Beyond);
+        return Ok(Beginning::Cut);
     }
     let starts = starts_of(alloc, packages, order, &reached, entry.main)?;
-    let outside = reaches_outside(alloc, functions, &starts)?;
-    if outside {
-        return Ok(Beginning::Beyond);
+    let outside = outside_of(alloc, functions, &starts)?;
+    match outside {
+        Some(number) => Ok(Beginning::Outside(number)),
+        None => Ok(Beginning::Starts(starts)),
     }
-    Ok(Beginning::Starts(starts))
 }
 
 // What comes of the objects of a program.
@@ -201,6 +203,7 @@ fn linked<'a, D, P: Places<D>>(
 /// `Rule::J1` exactly where there is no object of the path, or its package is not called `main`, or has no function `main`; `Rule::J2` exactly where
 /// there is one, and a package that it reaches by imports has no object, or references lead, from `main` or from an `init` that runs, to a function of
 /// which no code is made; `Rule::M0` where memory is wanting.
+#[tactic(auto, using(crate::proofs::Settled::led_beyond))]
 pub fn link<'a, D, P: Places<D>>(
     alloc: Global,
     places: &P,
@@ -217,6 +220,30 @@ pub fn link<'a, D, P: Places<D>>(
     match linking.beginning {
         Beginning::Starts(starts) => Ok(Runnable { functions, starts }),
         Beginning::NoMain => Err(Rule::J1),
-        Beginning::Beyond => Err(Rule::J2),
+        Beginning::Cut => Err(Rule::J2),
+        Beginning::Outside(_) => Err(Rule::J2),
+    }
+}
+
+/// The function that keeps a program from being run whose packages all have objects: of those to which references lead, from `main` or from an `init`
+/// that runs, the first, in order of the objects, of which no code is made. The time that it takes is that of [`link`].
+///
+/// # Errors
+///
+/// `AllocError` where memory is wanting.
+pub fn outside<'a, D, P: Places<D>>(
+    alloc: Global,
+    places: &P,
+    objects: &'a [Object<D>],
+    main: &ImportPath,
+) -> Result<Option<&'a FunctionCode<D>>, AllocError>
+    ensures { IfOk result (λ found. MatchOption found (HasNoneOutside (program_of (P.place_of places.now) (map object_shown objects.now) main.now)) (λ f. IsOutsideOf (program_of (P.place_of places.now) (map object_shown objects.now) main.now) (map object_shown objects.now) (function_shown f.now))) }
+{
+    let linking = linked(alloc, places, objects, main)?;
+    match linking.beginning {
+        Beginning::Outside(number) => Ok(function_at(objects, number)),
+        Beginning::NoMain => Ok(None),
+        Beginning::Cut => Ok(None),
+        Beginning::Starts(_) => Ok(None),
     }
 }

@@ -1,10 +1,10 @@
 //! What a program reaches.
-ghost use Rattle.std.specs.Prelude.{◌≡◌, ◌<◌, ◌≤◌, ◌↔◌, ℕ, IfOk, true, false, length, map, slice_index_or};
+ghost use Rattle.std.specs.Prelude.{◌≡◌, ◌<◌, ◌≤◌, ◌↔◌, ℕ, IfOk, MatchOption, true, false, length, map, slice_index_or};
 ghost use Rattle.go_cycle_core.specs.Cycle.{InRange, Reaches};
 ghost use Rattle.go_machine_core.specs.Programs.{linked_shown};
 ghost use Rattle.go_link_core.specs.Packages.{package_shown};
-ghost use Rattle.go_link_core.specs.Reaching.{AreReached, ReachesOutside, has_none, is_outside, lacks_object};
-ghost use Rattle.go_link_core.specs.mirrors.Numbering.{AreBelow, AreRowsBelow, any_marked};
+ghost use Rattle.go_link_core.specs.Reaching.{AreReached, IsFirstOutside, ReachesOutside, has_none, is_outside, lacks_object};
+ghost use Rattle.go_link_core.specs.mirrors.Numbering.{AreBelow, AreRowsBelow, any_marked, first_marked};
 
 use crate::edges::{add_starts, call_edges, import_edges, reversed_edges};
 use crate::packages::Package;
@@ -78,28 +78,28 @@ fn is_outside(code: &[Instruction]) -> bool
     matches!(code, [Instruction::Outside])
 }
 
-// Whether no code is made of a function that bears a mark.
-fn marked_outside(functions: &[Linked<'_>], marks: &[bool]) -> bool
+// The number of the first function that bears a mark and of which no code is made.
+fn marked_outside(functions: &[Linked<'_>], marks: &[bool]) -> Option<usize>
     requires { length functions.now ≤ length marks.now }
-    ensures { result ≡ any_marked (λ f. is_outside f.code) (map linked_shown functions.now) marks.now }
+    ensures { result ≡ first_marked (λ f. is_outside f.code) 0 (map linked_shown functions.now) marks.now }
 {
     for (number, function) in functions.iter().enumerate() {
         if marks[number] && is_outside(function.code) {
-            return true;
+            return Some(number);
         }
     }
-    false
+    None
 }
 
-/// Whether references lead to a function of which no code is made, from one of those that begin the program.
-pub(crate) fn reaches_outside(
+/// The number of the first function of which no code is made and to which references lead, from one of those that begin the program.
+pub(crate) fn outside_of(
     alloc: Global,
     functions: &[Linked<'_>],
     starts: &[usize],
-) -> Result<bool, AllocError>
+) -> Result<Option<usize>, AllocError>
     requires below { AreRowsBelow (length functions.now) (map (λ f. f.callees) (map linked_shown functions.now)) }
     requires starts { AreBelow (length functions.now) starts.now }
-    ensures { IfOk result (λ outside. (outside ≡ true) ↔ ReachesOutside (map linked_shown functions.now) starts.now) }
+    ensures { IfOk result (λ outside. MatchOption outside (¬ ReachesOutside (map linked_shown functions.now) starts.now) (IsFirstOutside (map linked_shown functions.now) starts.now)) }
 {
     let source = functions.len();
     let mut edges = call_edges(alloc, functions)?;

@@ -9,7 +9,7 @@ use Rattle.go_link_core.specs.declared.linking.Beginning.TheVariants as beginnin
 use Rattle.go_link_core.specs.declared.linking.Layout.{Layout}
 use Rattle.go_link_core.specs.Functions.{PlaceModel, linked_of}
 use Rattle.go_link_core.specs.Packages.{PackageOf, package_shown, package_of}
-use Rattle.go_link_core.specs.Linked.{ProgramOf, RunnableOf, HasNoMain, IsBeyond, IsRunnable}
+use Rattle.go_link_core.specs.Linked.{ProgramOf, RunnableOf, HasNoMain, IsCut, IsLedOutside, IsRunnable}
 use Rattle.go_link_core.specs.mirrors.Numbering.{AreBelow, AreRowsBelow}
 
 -- functions and packages
@@ -44,7 +44,8 @@ runnable_with functions starts = record { functions = functions; starts = starts
 -- what begins a program
 abbrev pub IsBeginning : ProgramOf → Beginning → Type 0
 IsBeginning p beginnings.NoMain = HasNoMain p
-IsBeginning p beginnings.Beyond = IsBeyond p
+IsBeginning p beginnings.Cut = IsCut p
+IsBeginning p (beginnings.Outside number) = IsLedOutside p number
 IsBeginning p (beginnings.Starts starts) = IsRunnable p (runnable_with p.functions starts.items)
 
 -- the functions of a program, and what begins it

@@ -1,5 +1,5 @@
 -- Look-ups of numbers.
-use Rattle.std.specs.Prelude.{◌≡◌, ◌<◌, ℕ, Bool, false, ◌&&◌, ◌||◌, List, [], ◌∷◌, IfSome, Option, Some, None, option_map}
+use Rattle.std.specs.Prelude.{◌≡◌, ◌<◌, ◌+◌, ℕ, Bool, true, false, ◌&&◌, ◌||◌, List, [], ◌∷◌, IfSome, Option, Some, None, option_map}
 use Rattle.std.specs.Map.{lookup}
 use Rattle.go_index_core.specs.declared.spellings.Spelling.{Spelling}
 use Rattle.go_index_core.specs.Spelled.{spelled_in}
@@ -42,3 +42,14 @@ abbrev pub any_marked : {A : Type 0} → (A → Bool) → List A → List Bool �
 any_marked test [] marks = false
 any_marked test (x ∷ xs) [] = false
 any_marked test (x ∷ xs) (mark ∷ marks) = (mark && test x) || any_marked test xs marks
+
+-- this number, or else another one
+abbrev pub number_or : Bool → ℕ → Option ℕ → Option ℕ
+number_or true n other = Some n
+number_or false n other = other
+
+-- the number of the first that bears a mark and passes a test, where they are numbered from the n-th on
+abbrev pub first_marked : {A : Type 0} → (A → Bool) → ℕ → List A → List Bool → Option ℕ
+first_marked test n [] marks = None
+first_marked test n (x ∷ xs) [] = None
+first_marked test n (x ∷ xs) (mark ∷ marks) = number_or (mark && test x) n (first_marked test (n + 1) xs marks)

@@ -1,11 +1,11 @@
-use Rattle.std.proofs.Common.{◌≡◌, ◌++◌, List, length, map, ap, sym, subst, ◌∙◌, arith, true, Bool}
+use Rattle.std.proofs.Common.{◌≡◌, ◌++◌, List, length, map, ap, ◌∙◌, arith, Bool}
 use Rattle.std.proofs.lemmas.List.{length-map}
 use Rattle.go_cycle_core.specs.declared.edge.Edge.{Edge}
 use Rattle.go_machine_core.specs.Programs.{LinkedOf, linked_shown}
-use Rattle.go_link_core.specs.Reaching.{call_edges, edge, is_outside, ReachesOutside}
-use Rattle.go_link_core.specs.mirrors.Numbering.{any_marked}
+use Rattle.go_link_core.specs.Reaching.{edge, is_outside}
+use Rattle.go_link_core.specs.mirrors.Numbering.{first_marked}
 use Rattle.go_link_core.proofs.Reaching.{all_in_range, outside_is}
-use Rattle.go_link_core.proofs.reached.reaches_outside.Goals as goal
+use Rattle.go_link_core.proofs.reached.outside_of.Goals as goal
 
 pub reached_from-requires-clause-edges : goal.reached_from-requires-clause-edges
 reached_from-requires-clause-edges c =
@@ -18,7 +18,6 @@ pub returns : goal.returns
 returns c =
     let fs = map linked_shown c.args.functions.now in
     let top = length c.args.functions.now in
-    let both = outside_is fs c.args.starts.now top (length-map c.args.functions.now linked_shown) c.requires.below c.requires.starts c.deref.result.now
-    (c.deref.ensures.value ∙ (c.in_ok-add_starts.ensures ∙ ap (λ (g : List Edge). g ++ map (edge top) c.args.starts.now) c.in_ok-edges.ensures)) c.in_ok-marks.marks.items c.in_ok-marks.ensures.marks in
-    let is = c.marked_outside-outside.ensures ∙ ap (λ (marks : List Bool). any_marked (λ (f : LinkedOf). is_outside f.code) fs marks) c.deref-2.ensures.value in
-    (λ t. both.0 (sym is ∙ t), λ r. is ∙ both.1 r)
+    outside_is fs c.args.starts.now top (length-map c.args.functions.now linked_shown) c.requires.below c.requires.starts c.deref.result.now
+    (c.deref.ensures.value ∙ (c.in_ok-add_starts.ensures ∙ ap (λ (g : List Edge). g ++ map (edge top) c.args.starts.now) c.in_ok-edges.ensures)) c.in_ok-marks.marks.items c.in_ok-marks.ensures.marks
+    c.marked_outside-outside.result (c.marked_outside-outside.ensures ∙ ap (λ (marks : List Bool). first_marked (λ (f : LinkedOf). is_outside f.code) 0 fs marks) c.deref-2.ensures.value)
