@@ -1,0 +1,5 @@
+pub mod Keeping
+pub mod Leaving
+pub mod Chosen
+pub mod Keyed
+pub mod Ordering

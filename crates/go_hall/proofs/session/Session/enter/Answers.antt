@@ -1,0 +1,5 @@
+use Rattle.go_board_core.proofs.Grows.{sees}
+use Rattle.go_hall.proofs.session.Session.enter.Goals as goal
+
+pub enter_as-requires : goal.enter_as-requires
+enter_as-requires g c = sees _ _

@@ -1,0 +1,29 @@
+-- What sessions ask beside parts: listings, docs and definitions, by the snapshot of the last batch.
+use Rattle.std.specs.Prelude.{◌≡◌, ◌⊎◌, ℕ, List, Result, Ok, Err, string_bytes}
+use Rattle.std.specs.declared.alloc.Global.{Global}
+use Rattle.std.specs.declared.string.String.{String}
+use Rattle.go_text_core.specs.declared.rule.Rule.{Rule}
+use Rattle.go_text_core.specs.declared.rule.Rule.TheVariants.{M0, Q1}
+use Rattle.go_handle_core.specs.Declarations.{Declaration}
+use Rattle.go_site_core.specs.Sites.{site_text}
+use Rattle.go_snap_core.specs.Snapshots.{SnapshotModel}
+use Rattle.go_query_core.specs.Defining.{HasNoPart, IsDefinition, IsRefusal}
+use Rattle.go_query_core.specs.Documenting.{IsDoc, IsDocRefusal, doc_shown}
+use Rattle.go_query_core.specs.Listing.{IsListing}
+use Rattle.go_query_core.specs.declared.documenting.PackageDoc.{PackageDoc}
+use Rattle.go_query_core.specs.declared.listing.Listing.{Listing}
+
+-- the package of a path, and those that it could import
+abbrev pub IsListAnswer : List ℕ → SnapshotModel → Result Listing Rule → Type 0
+IsListAnswer path s (Ok l) = IsListing s path l.own l.importable.items
+IsListAnswer path s (Err rule) = (rule ≡ M0) ⊎ ((rule ≡ Q1) × HasNoPart s path)
+
+-- what the package of a path declares, as the package `from` sees it
+abbrev pub IsDocAnswer : List ℕ → List ℕ → SnapshotModel → Result PackageDoc Rule → Type 0
+IsDocAnswer from path s (Ok d) = IsDoc s from path (doc_shown d)
+IsDocAnswer from path s (Err rule) = (rule ≡ M0) ⊎ IsDocRefusal s from path rule
+
+-- how the declaration is written of the identifier that is used at an offset of a file
+abbrev pub IsDefineAnswer : List ℕ → List ℕ → ℕ → SnapshotModel → Result (String Global) Rule → Type 0
+IsDefineAnswer path file offset s (Ok text) = (site : Declaration) × IsDefinition s path file offset site × (string_bytes text ≡ site_text s.sources site)
+IsDefineAnswer path file offset s (Err rule) = (rule ≡ M0) ⊎ IsRefusal s path file offset rule

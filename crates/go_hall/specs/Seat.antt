@@ -1,0 +1,30 @@
+-- What a contract sees of a session.
+use Rattle.std.specs.Prelude.{ℕ, List, Option, Some, None}
+use Rattle.go_submit_core.specs.Trees.{TreeModel}
+use Rattle.go_sched_core.specs.declared.event.SessionId.{SessionId}
+use Rattle.go_submit_core.specs.declared.published.PublishedBatch.{PublishedBatch}
+use Rattle.go_board_core.specs.Views.{newcomer}
+use Rattle.go_board_core.specs.declared.rule.View.{View}
+
+-- the session's number, its draft, what it saw of the board and was told of it, and how often it submitted
+pub record Seat : Type 0 where
+  pub id : SessionId
+  pub draft : TreeModel
+  pub seen : List PublishedBatch
+  pub told : List PublishedBatch
+  pub submits : ℕ
+
+abbrev pub seat_with : SessionId → TreeModel → List PublishedBatch → List PublishedBatch → ℕ → Seat
+seat_with id draft seen told submits = record { id = id; draft = draft; seen = seen; told = told; submits = submits }
+
+abbrev pub view_by : {X : Type 0} → (X → View) → Option X → View
+view_by f None = newcomer
+view_by f (Some x) = f x
+
+-- what a contract sees of a look at the board: the module, and the batches on the board
+pub record Looked : Type 0 where
+  pub own : List ℕ
+  pub board : List PublishedBatch
+
+abbrev pub looked_with : List ℕ → List PublishedBatch → Looked
+looked_with own board = record { own = own; board = board }

@@ -1,0 +1,2 @@
+-- What loops keep.
+pub mod Adding

@@ -1,0 +1,129 @@
+//! The hall.
+ghost use Rattle.std.specs.Prelude.{◌≡◌, ◌+◌, ◌<◌, [], IfOk, OnErr, OnOk, length};
+ghost use Rattle.std.specs.List.{sum_by};
+ghost use Rattle.go_sched_core.specs.Service.{Service, empty};
+ghost use Rattle.go_submit_core.specs.Trees.{tree_with};
+ghost use Rattle.go_hall_core.specs.Counts.{opens_in, submits_in};
+ghost use Rattle.go_sched_core.specs.Steps.{Replay};
+
+use crate::session::Session;
+use go_board_core::BoardReader;
+use go_graph_core::Workspace;
+use go_hall_core::{Counted, Named, Submits};
+use go_path_core::Module;
+use go_sched_core::{Event, SessionId, TicketState};
+use go_submit_core::{ModuleTree, Ticket};
+use go_text_core::Rule;
+use std::alloc::Global;
+use std::sync::ledger::Blank;
+use std::sync::{Condvar, Mutex, Wait};
+
+/// The core, its history and the board, which sessions and workers share.
+#[derive(Drop)]
+pub struct Hall<L: Named> {
+    pub(crate) alloc: Global,
+    pub(crate) state: Mutex<Counted<L>>,
+    // Workers wait for something to do,
+    pub(crate) work: Condvar,
+    // and builds for their batch.
+    pub(crate) built: Condvar,
+}
+
+// Whether a submission may still be published.
+fn is_pending<L: Named>(state: &Counted<L>, ticket: Ticket) -> bool {
+    match state.ticket(ticket) {
+        Some(TicketState::Waiting) => !state.is_stopped(),
+        Some(TicketState::Running) => !state.is_stopped(),
+        _ => false,
+    }
+}
+
+impl<L: Named> Hall<L> {
+    /// A hall to which nothing happened, with a reader of the board for each session that may be open.
+    ///
+    /// # Errors
+    ///
+    /// `Rule::M0` where memory is wanting.
+    pub fn new(alloc: Global, blank: Blank) -> Result<Hall<L>, Rule>
+        requires { (blank.name ≡ L.name) × (blank.parts ≡ L.parts) × (L.all ≡ L.parts) × (1048576 < L.all) }
+    {
+        let state = Counted::new(alloc, blank)?;
+        Ok(Hall {
+            alloc,
+            state: Mutex::new(state),
+            work: Condvar::new(),
+            built: Condvar::new(),
+        })
+    }
+
+    /// Opens a session, whose draft is empty.
+    ///
+    /// # Errors
+    ///
+    /// What `HallState::open` answers.
+    pub fn open<R: Wait>(&self, rt: &R, own: Module) -> Result<Session<'_, L>, Rule>
+        ensures { IfOk result (λ s. (s.draft ≡ tree_with own []) × (s.submits ≡ 0)) }
+    {
+        let Ok(again) = own.share() else {
+            return Err(Rule::M0);
+        };
+        let draft = ModuleTree::make(self.alloc, again, Workspace::empty(self.alloc))?;
+        let (id, reader, mine) = self.state.lock(rt).open(own)?;
+        Ok(Session::new(self, self.alloc, id, draft, reader, mine))
+    }
+
+    /// From now on nothing is opened or submitted, workers end, and no build waits for its batch.
+    pub fn stop<R: Wait>(&self, rt: &R) {
+        self.state.lock(rt).stop();
+        self.work.notify_all();
+        self.built.notify_all();
+    }
+
+    /// The history: the events that the core accepted, in order. Handed what each session submitted, the counts add up to its submits.
+    pub fn end(self, all: Vec<Submits<L>>) -> Vec<Event>
+        requires { L.all ≡ L.parts }
+        ensures replays { (s : Service) × Replay empty result.items s }
+        ensures counts { length all.items ≡ opens_in result.items → sum_by (λ s. s.count) all.items ≡ submits_in result.items }
+    {
+        let Hall {
+            alloc: _,
+            state,
+            work: _,
+            built: _,
+        } = self;
+        state.into_inner().end(all)
+    }
+
+    // Submits a tree, and wakes the workers.
+    pub(crate) fn submit<R: Wait>(
+        &self,
+        rt: &R,
+        mine: &mut Submits<L>,
+        id: SessionId,
+        tree: ModuleTree,
+    ) -> Result<Ticket, Rule>
+        ensures counted { OnOk result (mine.new.count ≡ mine.old.count + 1) }
+        ensures refused { OnErr result (mine.new.count ≡ mine.old.count) }
+    {
+        let answer = self.state.lock(rt).submit(mine, id, tree);
+        self.work.notify_all();
+        answer
+    }
+
+    // Closes a session, which hands its reader back.
+    pub(crate) fn close<R: Wait>(&self, rt: &R, id: SessionId, reader: Option<BoardReader>) {
+        self.state.lock(rt).close(id, reader);
+    }
+
+    // Waits until a submission is published or given back, or the hall is stopped. The number of its batch.
+    pub(crate) fn published<R: Wait>(&self, rt: &R, ticket: Ticket) -> Result<u64, Rule> {
+        let state = self
+            .built
+            .wait_while(rt, self.state.lock(rt), |state| is_pending(state, ticket));
+        match state.ticket(ticket) {
+            Some(TicketState::Published(number)) => Ok(number),
+            Some(TicketState::GivenBack) => Err(Rule::M0),
+            _ => Err(Rule::H2),
+        }
+    }
+}

@@ -1,0 +1,20 @@
+//! A hall: sessions that edit, build and ask, workers that compile, and the core that they share under one lock. Sessions read what is published on a
+//! board with no lock.
+#![tactic(auto)]
+
+mod asked;
+mod draft;
+mod faults;
+mod hall;
+mod laws;
+mod places;
+mod session;
+mod shown;
+mod worker;
+
+pub use asked::Look;
+pub use faults::Fault;
+pub use hall::Hall;
+pub use laws::edits_change_one_file;
+pub use session::{Built, Session};
+pub use worker::{Gate, OpenGate, WorkEnd, work};

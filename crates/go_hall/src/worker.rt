@@ -1,0 +1,122 @@
+//! Workers.
+ghost use Rattle.std.specs.Prelude.{◌≡◌, IfErr, IfOk, IfSome};
+
+use crate::hall::Hall;
+use go_batch_core::{ReadPart, rebuild};
+use go_hall_core::Named;
+use go_sched_core::{Action, Reply};
+use go_text_core::Rule;
+use std::alloc::Global;
+use std::sync::{CondvarTimeouts, Wait};
+use std::thread::Threads;
+use std::time::{Clock, Duration};
+
+/// Does an action's work, with no lock held.
+pub trait Gate {
+    /// A part of the action's input, or `None` where the gate is closed.
+    ///
+    /// # Errors
+    ///
+    /// `Rule::M0` where memory is wanting.
+    fn part<R: Threads + Sync>(
+        &self,
+        rt: &R,
+        alloc: Global,
+        action: &Action,
+    ) -> Result<Option<ReadPart>, Rule>
+        ensures ok { IfOk result (λ o. IfSome o (λ p. p.input ≡ action.now.input)) }
+        ensures err { IfErr result (λ rule. rule ≡ Rule.M0) };
+}
+
+/// A gate that is never closed. Where the package was published with the same input, its part is the one of then; else it is compiled.
+#[derive(Clone, Copy)]
+pub struct OpenGate;
+
+impl Gate for OpenGate {
+    fn part<R: Threads + Sync>(
+        &self,
+        _rt: &R,
+        alloc: Global,
+        action: &Action,
+    ) -> Result<Option<ReadPart>, Rule> {
+        match rebuild(alloc, &action.input, action.earlier.as_ref()) {
+            Ok(part) => Ok(Some(part)),
+            Err(_) => Err(Rule::M0),
+        }
+    }
+}
+
+/// How a worker ends.
+#[derive(Clone, Copy, PartialEq, Eq, Debug)]
+pub enum WorkEnd {
+    /// The hall was stopped.
+    Stopped,
+    /// The gate was closed.
+    GateClosed,
+}
+
+// Waits for the next action. `None` where the hall is stopped. Where memory is wanting it tries again a millisecond later, or where something changed.
+fn next<L: Named, R: Wait + Clock>(rt: &R, hall: &Hall<L>) -> Option<Action> {
+    let mut state = hall.state.lock(rt);
+    for _ in rt.forever() {
+        if state.is_stopped() {
+            return None;
+        }
+        match state.take(rt) {
+            Reply::Act(action) => return Some(action),
+            Reply::Published(_) => hall.built.notify_all(),
+            Reply::Refused(_) => {
+                state = hall
+                    .work
+                    .wait_timeout(rt, state, Duration::from_millis(1))
+                    .0;
+            }
+            _ => state = hall.work.wait(rt, state),
+        }
+    }
+    unreachable!()
+}
+
+// Wakes all for whom the end of an action may change something: workers for the actions behind it, and builds for the batch.
+fn wake<L: Named>(hall: &Hall<L>) {
+    hall.work.notify_all();
+    hall.built.notify_all();
+}
+
+// Hands a part in. Where memory is wanting, its batch is given back.
+fn finish<L: Named, R: Wait>(rt: &R, hall: &Hall<L>, action: &Action, part: ReadPart) {
+    let mut state = hall.state.lock(rt);
+    if let Reply::Refused(Rule::M0) = state.finish(rt, action.number, part) {
+        state.give_back(action.generation);
+    }
+    drop(state);
+    wake(hall);
+}
+
+// Gives the batch of an action back.
+fn give_back<L: Named, R: Wait>(rt: &R, hall: &Hall<L>, action: &Action) {
+    hall.state.lock(rt).give_back(action.generation);
+    wake(hall);
+}
+
+/// Works until the hall is stopped or the gate is closed. Where the gate is closed or memory is wanting, the batch is given back.
+pub fn work<L: Named, G: Gate, R: Threads + Wait + Clock + Sync>(
+    rt: &R,
+    hall: &Hall<L>,
+    gate: &G,
+) -> WorkEnd {
+    for _ in rt.forever() {
+        let Some(action) = next(rt, hall) else {
+            return WorkEnd::Stopped;
+        };
+        match gate.part(rt, hall.alloc, &action) {
+            Ok(Some(part)) => finish(rt, hall, &action, part),
+            Ok(None) => {
+                give_back(rt, hall, &action);
+                return WorkEnd::GateClosed;
+            }
+            Err(_) => give_back(rt, hall, &action),
+        }
+    }
+    unreachable!()
+}

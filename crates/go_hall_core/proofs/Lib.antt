@@ -1,0 +1,5 @@
+pub mod Lengths
+pub mod Pushes
+pub mod Refusals
+pub mod Replays
+pub mod Rooms

@@ -1,0 +1,196 @@
+//! The lock's value, with the ledger of the submits.
+ghost use Rattle.std.specs.Prelude.{◌≡◌, ℕ, ◌<◌, ◌+◌, [], false, true, IfErr, IfOk, OnErr, OnOk, length};
+ghost use Rattle.std.specs.List.{sum_by};
+ghost use Rattle.go_sched_core.specs.Service.{Service, empty, open_rule, submit_rule};
+ghost use Rattle.go_sched_core.specs.Steps.{Replay};
+ghost use Rattle.go_hall_core.specs.Counts.{opens_in, submits_in};
+ghost use Rattle.go_hall_core.specs.Kept.{IsRefusal, Recorded};
+
+use crate::state::HallState;
+use go_batch_core::ReadPart;
+use go_board_core::BoardReader;
+use go_path_core::Module;
+use go_sched_core::{Event, Reply, SessionId, TicketState};
+use go_submit_core::{ModuleTree, Ticket};
+use go_text_core::Rule;
+use std::alloc::Global;
+use std::marker::{Brand, Model};
+use std::sync::Wait;
+use std::sync::ledger::{Blank, Book, Ledger, Share};
+
+/// The ledger of a hall's submits, with all its parts.
+pub trait Named: Ledger {
+    ghost all: { ℕ };
+}
+
+impl Named for Brand {
+    ghost all = { 0 };
+}
+
+/// How many submits a session made.
+#[derive(Drop)]
+pub struct Submits<L: Named> {
+    pub count: u64,
+    share: Share<L>,
+    ghost one_part: { share.parts ≡ 1 },
+    ghost counted: { share.amount ≡ count },
+}
+
+/// The lock's value, with the book of the submits and the parts that no session has. Contracts see what `HallState` keeps.
+#[derive(Drop)]
+pub struct Counted<L: Named> {
+    state: HallState,
+    book: Book<L>,
+    rest: Share<L>,
+}
+
+impl<L: Named> Model for Counted<L> {
+    ghost use Rattle.std.specs.Prelude.{◌≡◌, ◌+◌, ◌<◌};
+    ghost use Rattle.go_hall_core.specs.Counts.{opens_in, submits_in};
+    ghost use Rattle.go_hall_core.specs.Coding.{coded_kept};
+    ghost use Rattle.go_hall_core.specs.Kept.{Kept};
+
+    ghost Value = { Kept };
+
+    ghost coded = { coded_kept };
+
+    ghost view = { λ s. s.state };
+
+    ghost invariant = { λ s. (s.book.total ≡ submits_in s.state.history) × (s.rest.amount ≡ 0) × (s.rest.parts + opens_in s.state.history ≡ L.all) × (1048576 < L.all) };
+}
+
+impl<L: Named> Counted<L> {
+    /// # Errors
+    ///
+    /// `Rule::M0` where memory is wanting.
+    pub fn new(alloc: Global, blank: Blank) -> Result<Counted<L>, Rule>
+        requires { (blank.name ≡ L.name) × (blank.parts ≡ L.parts) × (L.all ≡ L.parts) × (1048576 < L.all) }
+        ensures ok { IfOk result (λ s. s ≡ record { service = empty; history = []; stopped = false }) }
+    {
+        let state = HallState::new(alloc)?;
+        let (book, rest) = blank.open::<L>();
+        Ok(Counted { state, book, rest })
+    }
+
+    /// As `HallState::open`, with a share of the submits.
+    ///
+    /// # Errors
+    ///
+    /// As `HallState::open`.
+    pub fn open(&mut self, own: Module) -> Result<(SessionId, BoardReader, Submits<L>), Rule>
+        ensures ok { IfOk result (λ p. (self.old.stopped ≡ false) × Recorded self.old (Event.Open own) (Reply.Opened p.0) self.new × (p.2.count ≡ 0)) }
+        ensures err { IfErr result (λ rule. (self.new ≡ self.old) × IsRefusal self.old.stopped (open_rule self.old.service own) rule) }
+    {
+        let (id, reader) = self.state.open(own)?;
+        let share = self.rest.split_off(1, 0);
+        Ok((id, reader, Submits { count: 0, share }))
+    }
+
+    // The same over a share alone.
+    #[tactic(auto, using(crate::proofs::Pushes::opens_push, crate::proofs::Pushes::submits_push))]
+    fn submit_in(
+        &mut self,
+        share: &mut Share<L>,
+        id: SessionId,
+        tree: ModuleTree,
+    ) -> Result<Ticket, Rule>
+        requires { 0 < share.old.parts }
+        ensures parts { share.new.parts ≡ share.old.parts }
+        ensures counted { OnOk result (share.new.amount ≡ share.old.amount + 1) }
+        ensures refused { OnErr result (share.new.amount ≡ share.old.amount) }
+        ensures ok { IfOk result (λ ticket. (self.old.stopped ≡ false) × Recorded self.old (Event.Submit id tree) (Reply.Submitted ticket) self.new) }
+        ensures err { IfErr result (λ rule. (self.new ≡ self.old) × IsRefusal self.old.stopped (submit_rule self.old.service id tree) rule) }
+    {
+        let ticket = self.state.submit(id, tree)?;
+        self.book.add(share, 1);
+        Ok(ticket)
+    }
+
+    /// As `HallState::submit`. It counts among the session's submits.
+    ///
+    /// # Errors
+    ///
+    /// As `HallState::submit`.
+    pub fn submit(
+        &mut self,
+        mine: &mut Submits<L>,
+        id: SessionId,
+        tree: ModuleTree,
+    ) -> Result<Ticket, Rule>
+        ensures counted { OnOk result (mine.new.count ≡ mine.old.count + 1) }
+        ensures refused { OnErr result (mine.new.count ≡ mine.old.count) }
+        ensures ok { IfOk result (λ ticket. (self.old.stopped ≡ false) × Recorded self.old (Event.Submit id tree) (Reply.Submitted ticket) self.new) }
+        ensures err { IfErr result (λ rule. (self.new ≡ self.old) × IsRefusal self.old.stopped (submit_rule self.old.service id tree) rule) }
+    {
+        let Submits { count, share } = mine;
+        if *count == u64::MAX {
+            return Err(Rule::M0);
+        }
+        let ticket = self.submit_in(share, id, tree)?;
+        *count += 1;
+        Ok(ticket)
+    }
+
+    /// As `HallState::close`.
+    pub fn close(&mut self, id: SessionId, reader: Option<BoardReader>) -> Reply
+        ensures { Recorded self.old (Event.Close id) result self.new }
+    {
+        self.state.close(id, reader)
+    }
+
+    /// As `HallState::take`.
+    pub fn take<R: Wait>(&mut self, rt: &R) -> Reply
+        ensures { Recorded self.old Event.Take result self.new }
+    {
+        self.state.take(rt)
+    }
+
+    /// As `HallState::finish`.
+    pub fn finish<R: Wait>(&mut self, rt: &R, number: u64, part: ReadPart) -> Reply
+        ensures { Recorded self.old (Event.Finish number part) result self.new }
+    {
+        self.state.finish(rt, number, part)
+    }
+
+    /// As `HallState::give_back`.
+    pub fn give_back(&mut self, generation: u64) -> Reply
+        ensures { Recorded self.old (Event.GiveBack generation) result self.new }
+    {
+        self.state.give_back(generation)
+    }
+
+    pub fn stop(&mut self)
+        ensures { self.new ≡ record self.old { stopped = true } }
+    {
+        self.state.stop();
+    }
+
+    pub fn is_stopped(&self) -> bool
+        ensures { result ≡ self.now.stopped }
+    {
+        self.state.is_stopped()
+    }
+
+    pub fn ticket(&self, ticket: Ticket) -> Option<TicketState> {
+        self.state.ticket(ticket)
+    }
+
+    /// The history. Handed the submits of each session, their counts add up to its submits.
+    pub fn end(self, all: Vec<Submits<L>>) -> Vec<Event>
+        requires { L.all ≡ L.parts }
+        ensures replays { (s : Service) × Replay empty result.items s }
+        ensures counts { length all.items ≡ opens_in result.items → sum_by (λ s. s.count) all.items ≡ submits_in result.items }
+    {
+        let Counted {
+            state,
+            mut book,
+            mut rest,
+        } = self;
+        for one in all {
+            let Submits { count: _, share } = one;
+            rest.merge(share);
+        }
+        book.audit(&mut rest);
+        state.end()
+    }
+}

@@ -1,0 +1,84 @@
+-- The names that could stand in place of an identifier: by the context of its occurrence and by what names mean where it stands.
+--
+-- docs/RULES.md, "Occurrences", "Names, selectors and calls in expressions". The Go specification, "Declarations and scope", "Selectors", "Qualified
+-- identifiers".
+use Rattle.std.specs.Prelude.{◌≡◌, ◌↔◌, ℕ, Bool, true, false, List, Option, Some, None, Contains, Vec, map, string_bytes}
+use Rattle.std.specs.List.Sorted.{IsStrictlySortedBy}
+use Rattle.std.specs.declared.alloc.Global.{Global}
+use Rattle.std.specs.declared.string.String.{String}
+use Rattle.go_graph_core.specs.Workspaces.{by_bytes}
+use Rattle.go_tree_nodes.specs.declared.names.Ident.{Ident}
+use Rattle.go_tree_nodes.specs.Trees.{TopTree, FileTree}
+use Rattle.go_term_core.specs.Terms.{Term}
+use Rattle.go_handle_core.specs.Declarations.{Declaration}
+use Rattle.go_local_core.specs.Binding.{NameLook}
+use Rattle.go_denote_core.specs.declared.things.Dot.TheVariants as dots
+use Rattle.go_expr_core.specs.Uses.{Context, NameAt, SelectorBehind, KeyAmong, Identifier, rule}
+use Rattle.go_env_core.specs.declared.meaning.Meaning.{Meaning}
+use Rattle.go_func_core.specs.Stands.{FileStand, looks_where}
+use Rattle.go_part_core.specs.Parts.{IsPart, PartModel, package_seen, seen_by}
+use Rattle.go_context_core.specs.Laws.{is_declared}
+use Rattle.go_spot_core.specs.Used.{Used}
+use Rattle.go_spot_core.specs.Contexts.{context_of_spot}
+use Rattle.go_spot_core.specs.Opened.{FileUsed}
+use Rattle.go_spelling_core.specs.Places.{placed_spot, tops_places}
+use Rattle.go_spelling_core.specs.Laws.{checked_stand}
+
+abbrev pub TheContext : Type 0
+TheContext = Context Term Declaration
+
+-- the context of an identifier with its spot, where names mean this
+abbrev pub context_at : FileStand → NameLook Meaning → Used → TheContext
+context_at st names u = context_of_spot (looks_where st names) u.spot
+
+-- an identifier with its spot is one of those of the declarations of a file, and names mean this where it stands
+pub record IsPlaceOf (st : FileStand) (ds : List TopTree) (u : FileUsed) (names : NameLook Meaning) : Type 0 where
+  pub there : Contains (tops_places st ds) (placed_spot names (Identifier (context_at st names u.used) u.used.ident))
+
+-- in a context, in place of an identifier, exactly these names have a declaration: in byte order, each once
+pub record AreNamesFor (st : FileStand) (names : NameLook Meaning) (c : TheContext) (x : Ident) (found : List (List ℕ)) : Type 0 where
+  pub rising : IsStrictlySortedBy by_bytes found
+  pub each : (m : List ℕ) → Contains found m ↔ (is_declared (rule (looks_where st names) c x.span.start m) ≡ true)
+
+-- where the file of a number and a tree of a part is checked
+abbrev pub stand_of : (p : PartModel) → IsPart p.input p.content → ℕ → FileTree → FileStand
+stand_of p made n f = checked_stand (package_seen p.input p.content.blocks (seen_by p.input)) (seen_by p.input).types made.checked n f
+
+-- exactly these names have a declaration in place of an identifier of this file
+pub record AreNamesAt (p : PartModel) (n : ℕ) (f : FileTree) (u : FileUsed) (found : List (List ℕ)) : Type 0 where
+  pub made : IsPart p.input p.content
+  pub names : NameLook Meaning
+  pub place : IsPlaceOf (stand_of p made n f) f.decls u names
+  pub are : AreNamesFor (stand_of p made n f) names (context_at (stand_of p made n f) names u.used) u.used.ident found
+
+-- what a name has there depends on a type: behind a value, or behind what denotes nothing that has members, and for the key of an element
+abbrev pub is_of_types : {T D : Type 0} → Context T D → Bool
+is_of_types (NameAt p) = false
+is_of_types (SelectorBehind u (dots.«Package» d)) = false
+is_of_types (SelectorBehind u dots.Refused) = false
+is_of_types (SelectorBehind u dots.Untyped) = true
+is_of_types (SelectorBehind u (dots.«Value» o)) = true
+is_of_types (KeyAmong k) = true
+
+pub record IsOfTypes (p : PartModel) (n : ℕ) (f : FileTree) (u : FileUsed) : Type 0 where
+  pub made : IsPart p.input p.content
+  pub names : NameLook Meaning
+  pub place : IsPlaceOf (stand_of p made n f) f.decls u names
+  pub of_types : is_of_types (context_at (stand_of p made n f) names u.used) ≡ true
+
+-- names for an identifier whose context depends on no type
+pub record AreFoundAt (p : PartModel) (n : ℕ) (f : FileTree) (u : FileUsed) (found : List (List ℕ)) : Type 0 where
+  pub made : IsPart p.input p.content
+  pub names : NameLook Meaning
+  pub place : IsPlaceOf (stand_of p made n f) f.decls u names
+  pub of_names : is_of_types (context_at (stand_of p made n f) names u.used) ≡ false
+  pub are : AreNamesFor (stand_of p made n f) names (context_at (stand_of p made n f) names u.used) u.used.ident found
+
+-- exactly the names that have a declaration there, or none where what a name has depends on a type
+abbrev pub Completes : PartModel → ℕ → FileTree → FileUsed → Option (List (List ℕ)) → Type 0
+Completes p n f u (Some found) = AreFoundAt p n f u found
+Completes p n f u None = IsOfTypes p n f u
+
+-- names that are answered
+abbrev pub texts_of : Vec (String Global) Global → List (List ℕ)
+texts_of names = map string_bytes names.items
