@@ -1,3 +1,0 @@
-mod Many
-mod Zips
-mod Opening
